@@ -1,0 +1,10 @@
+pub mod Steps
+pub mod Maps
+pub mod Linked
+pub mod Kept
+pub mod Varints
+pub mod Sections
+pub mod Again
+pub mod Takes
+pub mod Written
+pub mod Faults

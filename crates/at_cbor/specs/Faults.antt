@@ -1,0 +1,164 @@
+-- What each fault says of the bytes at its place, and of what stands in front of it.
+-- (Heads by RFC 8949, section 3. The rules are those of the DAG-CBOR specification; in which order they are asked is this project's own.)
+use Rattle.std.specs.Prelude.{◌≡◌, ◌≢◌, ⊤, ◌⊎◌, ℕ, ◌+◌, ◌-◌, ◌*◌, ◌/◌, ◌%◌, ◌^◌, ◌<◌, ◌≤◌, List, [], ◌∷◌, ◌++◌, length, take, Option, Some, None, Bool, true, false, ◌==◌, if◌then◌else◌}
+use Rattle.std.specs.Int.{Width, w8, w16, w32, w64, byte_len, to_be_bytes}
+use Rattle.std.specs.Str.{is_utf8}
+use Rattle.at_cid.specs.Link.{is_link}
+use Rattle.at_cbor.specs.declared.fault.Cause.{Cause}
+use Rattle.at_cbor.specs.declared.head.Head.{Head}
+use Rattle.at_cbor.specs.Item.{Item, items_of, fields_of, is_above, last_key}
+use Rattle.at_cbor.specs.Spelling.{front_of, tail_of, text_spelling, items_spelling, fields_spelling, head_spelling, HeadFits, IsText, ItemsFit, FieldsFit}
+
+-- ---- heads: a first byte of 32 * major type + low five bits, and the argument that these announce
+
+-- how wide the argument behind the first byte is, where it isn't in the low five bits themselves
+abbrev pub wide_for : ℕ → Option Width
+wide_for info = if info == 24 then Some w8 else (if info == 25 then Some w16 else (if info == 26 then Some w32 else (if info == 27 then Some w64 else None)))
+
+abbrev pub wide_len : Option Width → ℕ
+wide_len None = 0
+wide_len (Some w) = byte_len w
+
+abbrev pub argument_len : ℕ → ℕ
+argument_len info = wide_len (wide_for info)
+
+-- nothing is there, or the argument is cut by the end of the input
+abbrev pub IsCut : List ℕ → Type 0
+IsCut [] = ⊤
+IsCut (first ∷ rest) = length rest < argument_len (first % 32)
+
+-- the low five bits are 28 to 31
+abbrev pub IsReserved : List ℕ → Type 0
+IsReserved [] = ⊥
+IsReserved (first ∷ rest) = 28 ≤ first % 32
+
+-- a whole head of major type 7 that is neither false, true nor null
+abbrev pub IsOtherSimple : List ℕ → Type 0
+IsOtherSimple [] = ⊥
+IsOtherSimple (first ∷ rest) = (first / 32 ≡ 7) × (argument_len (first % 32) ≤ length rest) × (first % 32 < 28) × (first ≢ 244) × (first ≢ 245) × (first ≢ 246)
+
+-- an argument for which fewer bytes would do
+abbrev pub IsLongForm : List ℕ → Type 0
+IsLongForm here = (major : ℕ) × (info : ℕ) × (w : Width) × (n : ℕ) × (rest : List ℕ) × (major < 7) × (wide_for info ≡ Some w) × (here ≡ (32 * major + info) ∷ (to_be_bytes w n ++ rest)) × (length (tail_of n) < byte_len w)
+
+-- an integer of 2^63 or more, or below -2^63
+abbrev pub IsOutOfRange : List ℕ → Type 0
+IsOutOfRange here = (major : ℕ) × (n : ℕ) × (rest : List ℕ) × (major < 2) × (n < 2 ^ 64) × (here ≡ front_of major n ++ rest) × (2 ^ 63 ≤ n)
+
+-- what has to stand behind tag 42: the front of a byte string of 37 bytes, a 0, and a link
+abbrev pub IsTagged : List ℕ → Type 0
+IsTagged body = (link : List ℕ) × (is_link link ≡ true) × (body ≡ 88 ∷ 37 ∷ 0 ∷ link)
+
+-- the 39 bytes behind a tag, or as many of them as are there, may be such, with others behind them
+abbrev pub MayBeTagged : List ℕ → Type 0
+MayBeTagged behind = (more : List ℕ) × IsTagged (take 39 behind ++ more)
+
+abbrev pub IsOtherTag : List ℕ → Type 0
+IsOtherTag here = (n : ℕ) × (rest : List ℕ) × (n < 2 ^ 64) × (here ≡ front_of 6 n ++ rest) × (n ≢ 42)
+
+abbrev pub IsTagOfNone : List ℕ → Type 0
+IsTagOfNone here = (rest : List ℕ) × (here ≡ front_of 6 42 ++ rest) × (MayBeTagged rest → ⊥)
+
+abbrev pub IsTagCut : List ℕ → Type 0
+IsTagCut here = (rest : List ℕ) × (here ≡ front_of 6 42 ++ rest) × (length rest < 39) × MayBeTagged rest
+
+-- the rules of heads
+abbrev pub BreaksHead : Cause → List ℕ → Type 0
+BreaksHead Cause.Short here = IsCut here ⊎ IsTagCut here
+BreaksHead Cause.Indefinite here = IsReserved here
+BreaksHead Cause.BadSimple here = IsOtherSimple here
+BreaksHead Cause.NotShortest here = IsLongForm here
+BreaksHead Cause.IntRange here = IsOutOfRange here
+BreaksHead Cause.BadTag here = IsOtherTag here ⊎ IsTagOfNone here
+BreaksHead Cause.KeyOrder here = ⊥
+BreaksHead Cause.TooDeep here = ⊥
+BreaksHead Cause.BadText here = ⊥
+
+-- ---- values and keys
+
+-- a byte string (major type 2) or a text (3) that runs past the end
+abbrev pub IsStringCut : ℕ → List ℕ → Type 0
+IsStringCut major here = (n : ℕ) × (rest : List ℕ) × (n < 2 ^ 64) × (here ≡ front_of major n ++ rest) × (length rest < n)
+
+-- a whole text that isn't UTF-8
+abbrev pub IsNoUtf8 : List ℕ → Type 0
+IsNoUtf8 here = (text : List ℕ) × (rest : List ℕ) × (length text < 2 ^ 64) × (here ≡ text_spelling text ++ rest) × (is_utf8 text ≡ false)
+
+-- a list or a map
+abbrev pub IsContainer : List ℕ → Type 0
+IsContainer here = (n : ℕ) × (rest : List ℕ) × (n < 2 ^ 64) × ((here ≡ front_of 4 n ++ rest) ⊎ (here ≡ front_of 5 n ++ rest))
+
+abbrev pub IsTextHead : Head → Bool
+IsTextHead (Head.Text n) = true
+IsTextHead head = false
+
+-- a head that keeps the rules, of what is no text
+abbrev pub IsNoText : List ℕ → Type 0
+IsNoText here = (head : Head) × (rest : List ℕ) × HeadFits head × (here ≡ head_spelling head ++ rest) × (IsTextHead head ≡ false)
+
+-- a text that isn't above the key before it
+abbrev pub IsLowKey : Option (List ℕ) → List ℕ → Type 0
+IsLowKey before here = (key : List ℕ) × (rest : List ℕ) × IsText key × (here ≡ text_spelling key ++ rest) × (is_above before key ≡ false)
+
+-- what is wrong where a value is due, inside which so many lists and maps may be in one another
+abbrev pub BreaksValue : ℕ → Cause → List ℕ → Type 0
+BreaksValue depth Cause.Short here = BreaksHead Cause.Short here ⊎ (IsStringCut 2 here ⊎ IsStringCut 3 here)
+BreaksValue depth Cause.BadText here = IsNoUtf8 here
+BreaksValue depth Cause.TooDeep here = (depth ≡ 0) × IsContainer here
+BreaksValue depth cause here = BreaksHead cause here
+
+-- what is wrong where a key is due, behind the key before it
+abbrev pub BreaksKey : Option (List ℕ) → Cause → List ℕ → Type 0
+BreaksKey before Cause.Short here = BreaksHead Cause.Short here ⊎ IsStringCut 3 here
+BreaksKey before Cause.BadText here = IsNoUtf8 here
+BreaksKey before Cause.KeyOrder here = IsNoText here ⊎ IsLowKey before here
+BreaksKey before cause here = BreaksHead cause here
+
+-- ---- what stands in front: lists and maps that are not at their end, and what was read of them
+
+pub data Open : Type 0 where
+  -- a list of so many items, of which these were read
+  in_list : ℕ → List Item → Open
+  -- a map of so many fields, of which these were read, and the key of the next
+  in_map : ℕ → List (List ℕ × Item) → List ℕ → Open
+
+abbrev pub open_spelling : Open → List ℕ
+open_spelling (in_list n is) = front_of 4 n ++ items_spelling (items_of is)
+open_spelling (in_map n fs key) = front_of 5 n ++ (fields_spelling (fields_of fs) ++ text_spelling key)
+
+-- they fit, with so much depth inside, and one more is due
+abbrev pub OpenFits : Open → ℕ → Type 0
+OpenFits (in_list n is) depth = (length is < n) × (n < 2 ^ 64) × ItemsFit (items_of is) depth
+OpenFits (in_map n fs key) depth = (length fs < n) × (n < 2 ^ 64) × FieldsFit (fields_of fs) None depth × IsText key × (is_above (last_key fs) key ≡ true)
+
+-- each in the one before it
+abbrev pub opened : List Open → List ℕ
+opened [] = []
+opened (o ∷ os) = open_spelling o ++ opened os
+
+abbrev pub AreOpen : List Open → ℕ → Type 0
+AreOpen [] depth = ⊤
+AreOpen (o ∷ os) depth = (0 < depth) × OpenFits o (depth - 1) × AreOpen os (depth - 1)
+
+-- ---- the fault of an input that no item begins
+
+-- a value is due, and what is here is none
+abbrev pub IsNoValue : ℕ → List ℕ → Cause → List ℕ → Type 0
+IsNoValue depth bytes cause here = (os : List Open) × AreOpen os depth × (bytes ≡ opened os ++ here) × BreaksValue (depth - length os) cause here
+
+-- a key of a map of n fields is due, behind the fields fs, and what is here is none
+abbrev pub IsNoKey : ℕ → List ℕ → Cause → List ℕ → Type 0
+IsNoKey depth bytes cause here = (os : List Open) × (n : ℕ) × (fs : List (List ℕ × Item)) × AreOpen os depth × (length os < depth) × (length fs < n) × (n < 2 ^ 64) × FieldsFit (fields_of fs) None (depth - length os - 1)
+    × (bytes ≡ opened os ++ (front_of 5 n ++ (fields_spelling (fields_of fs) ++ here))) × BreaksKey (last_key fs) cause here
+
+abbrev pub IsFaultyAt : ℕ → List ℕ → Cause → List ℕ → Type 0
+IsFaultyAt depth bytes cause here = IsNoValue depth bytes cause here ⊎ IsNoKey depth bytes cause here
+
+-- All in front of the place keeps the rules, and what stands there breaks this one.
+abbrev pub IsFaulty : List ℕ → Cause → ℕ → Type 0
+IsFaulty bytes cause place = (here : List ℕ) × (place + length here ≡ length bytes) × IsFaultyAt 64 bytes cause here
+
+-- what a fault says of the bytes; the want of memory says nothing
+abbrev pub Blames : List ℕ → Option (Cause × ℕ) → Type 0
+Blames bytes None = ⊤
+Blames bytes (Some f) = IsFaulty bytes f.0 f.1

@@ -1,0 +1,23 @@
+-- What holds of all spellings.
+use Rattle.std.specs.Prelude.{◌≡◌, ◌↔◌, ℕ, true, List, ◌++◌, length, drop, Ok}
+use Rattle.at_cid.specs.Link.{IsBytes}
+use Rattle.at_cbor.specs.Decoding.{decoded}
+use Rattle.at_cbor.specs.Equal.{item_eq}
+use Rattle.at_cbor.specs.Item.{Item}
+use Rattle.at_cbor.specs.Spelling.{spelling, Fits}
+
+-- Where the same bytes are two spellings with something behind each, both are of one item: no item has two spellings, no two items have one, and no item's spelling begins another's.
+abbrev pub OneSpelling : Type 0
+OneSpelling = (i j : Item) (depth : ℕ) (behind other : List ℕ) → Fits i depth → Fits j depth → spelling i ++ behind ≡ spelling j ++ other → (i ≡ j) × (behind ≡ other)
+
+-- so many bytes are the spelling of an item that has at most 64 lists and maps in one another
+abbrev pub IsFront : List ℕ → Item → ℕ → Type 0
+IsFront bytes i n = Fits i 64 × (n ≡ length (spelling i)) × (bytes ≡ spelling i ++ drop n bytes)
+
+-- An item is read exactly where its spelling stands in front.
+abbrev pub ReadsFronts : Type 0
+ReadsFronts = (bytes : List ℕ) (i : Item) (n : ℕ) → IsBytes bytes → (decoded bytes ≡ Ok (i, n)) ↔ IsFront bytes i n
+
+-- The test of equality tells items apart.
+abbrev pub EqualIsSame : Type 0
+EqualIsSame = (i j : Item) → (item_eq i j ≡ true) ↔ (i ≡ j)

@@ -1,0 +1,13 @@
+pub mod Item
+pub mod ItemCode
+pub mod View
+pub mod Kinds
+pub mod Equal
+pub mod EqualLaws
+pub mod Falls
+pub mod Heads
+pub mod Reading
+pub mod Spelling
+pub mod Decoding
+pub mod Laws
+pub mod Faults

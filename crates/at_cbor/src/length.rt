@@ -1,0 +1,96 @@
+//! The length of a spelling, without writing it.
+
+ghost use Rattle.std.specs.Prelude.{◌≡◌, ◌-◌, ◌^◌, ◌+◌, length, map, min};
+ghost use Rattle.at_cbor.specs.Item.{Item, items_of, fields_of};
+ghost use Rattle.at_cbor.specs.Spelling.{front_of, text_spelling, spelling, items_spelling, fields_spelling};
+ghost use Rattle.at_cbor.specs.View.{item_of, pair_of};
+
+use crate::value::Value;
+use at_cid::Words;
+
+// The length of a major type and its argument, in the shortest form.
+#[tactic(auto, unfolding(crate::specs::Spelling::tail_of))]
+fn front_len(n: u64) -> u64
+    ensures { result ≡ length (front_of 0 n) }
+{
+    if n < 24 {
+        1
+    } else if n < 1 << 8 {
+        2
+    } else if n < 1 << 16 {
+        3
+    } else if n < 1 << 32 {
+        5
+    } else {
+        9
+    }
+}
+
+// The length of a byte string or a text of so many bytes, with its front.
+fn string_len(count: usize) -> u64
+    ensures { result ≡ min (length (front_of 0 count) + count) (2 ^ 64 - 1) }
+{
+    front_len(count as u64).saturating_add(count as u64)
+}
+
+fn int_len(number: i64) -> u64
+    ensures { result ≡ length (spelling (Item.int number)) }
+{
+    if number >= 0 {
+        front_len(number as u64)
+    } else {
+        front_len((-1 - number) as u64)
+    }
+}
+
+/// How many bytes the spelling of a value has, or the greatest `u64` where that is less. Takes no memory.
+pub fn spelled_len(value: &Value) -> u64
+    ensures { result ≡ min (length (spelling (item_of value.now))) (2 ^ 64 - 1) }
+{
+    value_len(value)
+}
+
+#[cycle(len)]
+fn value_len(value: &Value) -> u64
+    ensures { result ≡ min (length (spelling (item_of value.now))) (2 ^ 64 - 1) }
+{
+    match value {
+        Value::Int(number) => int_len(*number),
+        Value::Bytes(bytes) => string_len(bytes.len()),
+        Value::Text(text) => string_len(text.len()),
+        Value::List(values) => {
+            let front = front_len(values.len() as u64);
+            front.saturating_add(values_len(values.as_slice()))
+        }
+        Value::Map(fields) => {
+            let front = front_len(fields.len() as u64);
+            front.saturating_add(fields_len(fields.as_slice()))
+        }
+        Value::Link(link) => 5 + link.as_bytes().len() as u64,
+        Value::Bool(_) => 1,
+        Value::Null => 1,
+    }
+}
+
+#[cycle(len)]
+fn values_len(values: &[Value]) -> u64
+    ensures { result ≡ min (length (items_spelling (items_of (map item_of values.now)))) (2 ^ 64 - 1) }
+{
+    let mut sum: u64 = 0;
+    for value in values {
+        sum = sum.saturating_add(value_len(value));
+    }
+    sum
+}
+
+#[cycle(len)]
+fn fields_len(fields: &[(Words, Value)]) -> u64
+    ensures { result ≡ min (length (fields_spelling (fields_of (map pair_of fields.now)))) (2 ^ 64 - 1) }
+{
+    let mut sum: u64 = 0;
+    for (key, value) in fields {
+        sum = sum.saturating_add(string_len(key.len()));
+        sum = sum.saturating_add(value_len(value));
+    }
+    sum
+}

@@ -1,0 +1,34 @@
+//! DAG-CBOR: values, and their one spelling in bytes. What is read is exactly what is spelled so, and each input that no
+//! value begins has one fault at one place.
+#![tactic(auto)]
+
+mod copying;
+mod decoding;
+mod encoding;
+mod equality;
+mod fault;
+mod head;
+mod kinds;
+mod laws;
+mod length;
+mod lookup;
+mod reading;
+mod value;
+mod writing;
+
+pub use decoding::{DEPTH, decode};
+pub use encoding::encode;
+pub use fault::CborFault;
+pub use laws::{equal_is_same, reads_what_is_spelled, spelling_tells_item};
+pub use length::spelled_len;
+pub use lookup::field;
+pub use value::{Fields, Value, Values};
+pub use writing::{
+    write_bool, write_bytes, write_int, write_link, write_list_front, write_map_front, write_null,
+    write_text, write_value,
+};
+
+#[cfg(test)]
+mod tests;
+#[cfg(test)]
+mod vectors;

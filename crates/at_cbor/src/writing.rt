@@ -1,0 +1,163 @@
+//! The spelling of values, added to bytes piece by piece.
+
+ghost use Rattle.std.specs.Prelude.{◌≡◌, ◌++◌, ◌<◌, ◌∷◌, [], length, map, true, false, None, OnOk};
+ghost use Rattle.at_cbor.specs.Item.{Item, items_of, fields_of, are_ascending};
+ghost use Rattle.at_cbor.specs.Spelling.{front_of, text_spelling, spelling, items_spelling, fields_spelling, IsText, IsSpellable, AreSpellable, AreFieldsSpellable};
+ghost use Rattle.at_cbor.specs.View.{item_of, pair_of};
+
+use crate::value::Value;
+use at_cid::{Cid, Memory, Octets, Words};
+
+/// Writes a major type and its argument, in the shortest form.
+#[tactic(auto, unfolding(crate::specs::Spelling::info_of, crate::specs::Spelling::tail_of))]
+fn write_front(out: &mut Octets, major: u8, n: u64) -> Result<(), Memory>
+    requires { major < 7 }
+    ensures { OnOk result (out.new ≡ out.old ++ front_of major n) }
+{
+    if n < 24 {
+        out.push(32 * major + n as u8)
+    } else if n < 1 << 8 {
+        out.push(32 * major + 24)?;
+        out.push(n as u8)
+    } else if n < 1 << 16 {
+        out.push(32 * major + 25)?;
+        out.extend(&(n as u16).to_be_bytes())
+    } else if n < 1 << 32 {
+        out.push(32 * major + 26)?;
+        out.extend(&(n as u32).to_be_bytes())
+    } else {
+        out.push(32 * major + 27)?;
+        out.extend(&n.to_be_bytes())
+    }
+}
+
+/// Adds an integer. Where memory is wanted, what was added of it stays.
+pub fn write_int(out: &mut Octets, number: i64) -> Result<(), Memory>
+    ensures { OnOk result (out.new ≡ out.old ++ spelling (Item.int number)) }
+{
+    if number >= 0 {
+        write_front(out, 0, number as u64)
+    } else {
+        write_front(out, 1, (-1 - number) as u64)
+    }
+}
+
+/// Adds a string of bytes. Where memory is wanted, what was added of it stays.
+pub fn write_bytes(out: &mut Octets, bytes: &[u8]) -> Result<(), Memory>
+    ensures { OnOk result (out.new ≡ out.old ++ spelling (Item.bytes bytes.now)) }
+{
+    write_front(out, 2, bytes.len() as u64)?;
+    out.extend(bytes)
+}
+
+/// Adds a text. A key of a map is spelled as a text too. Where memory is wanted, what was added of it stays.
+pub fn write_text(out: &mut Octets, text: &str) -> Result<(), Memory>
+    ensures { OnOk result (out.new ≡ out.old ++ text_spelling text.now) }
+{
+    write_front(out, 3, text.len() as u64)?;
+    out.extend(text.as_bytes())
+}
+
+/// Adds the front of a list of so many values, which are to follow.
+pub fn write_list_front(out: &mut Octets, count: usize) -> Result<(), Memory>
+    ensures { OnOk result (out.new ≡ out.old ++ front_of 4 count) }
+{
+    write_front(out, 4, count as u64)
+}
+
+/// Adds the front of a map of so many fields, of which each key and its value are to follow.
+pub fn write_map_front(out: &mut Octets, count: usize) -> Result<(), Memory>
+    ensures { OnOk result (out.new ≡ out.old ++ front_of 5 count) }
+{
+    write_front(out, 5, count as u64)
+}
+
+/// Adds a link. Where memory is wanted, what was added of it stays.
+pub fn write_link(out: &mut Octets, link: &Cid) -> Result<(), Memory>
+    ensures written { OnOk result (out.new ≡ out.old ++ spelling (Item.link link.now)) }
+    ensures spellable { OnOk result (IsSpellable (Item.link link.now)) }
+{
+    out.extend(&[0xd8, 0x2a, 0x58, 0x25, 0])?;
+    out.extend(link.as_bytes())
+}
+
+/// Adds true or false.
+pub fn write_bool(out: &mut Octets, truth: bool) -> Result<(), Memory>
+    ensures { OnOk result (out.new ≡ out.old ++ spelling (Item.bool truth)) }
+{
+    if truth {
+        out.push(0xf5)
+    } else {
+        out.push(0xf4)
+    }
+}
+
+/// Adds null.
+pub fn write_null(out: &mut Octets) -> Result<(), Memory>
+    ensures { OnOk result (out.new ≡ out.old ++ spelling Item.null) }
+{
+    out.push(0xf6)
+}
+
+/// Adds a value. Where memory is wanted, what was added of it stays.
+pub fn write_value(out: &mut Octets, value: &Value) -> Result<(), Memory>
+    ensures written { OnOk result (out.new ≡ out.old ++ spelling (item_of value.now)) }
+    ensures spellable { OnOk result (IsSpellable (item_of value.now)) }
+{
+    put_value(out, value)
+}
+
+// A text that is a value or a key, and what its type says of it.
+fn put_words(out: &mut Octets, text: &Words) -> Result<(), Memory>
+    ensures written { OnOk result (out.new ≡ out.old ++ text_spelling text.now) }
+    ensures text { OnOk result (IsText text.now) }
+{
+    write_text(out, text.as_str())
+}
+
+#[cycle(write)]
+fn put_value(out: &mut Octets, value: &Value) -> Result<(), Memory>
+    ensures written { OnOk result (out.new ≡ out.old ++ spelling (item_of value.now)) }
+    ensures spellable { OnOk result (IsSpellable (item_of value.now)) }
+{
+    match value {
+        Value::Int(number) => write_int(out, *number),
+        Value::Bytes(bytes) => write_bytes(out, bytes.as_slice()),
+        Value::Text(text) => put_words(out, text),
+        Value::List(values) => {
+            write_list_front(out, values.len())?;
+            put_values(out, values.as_slice())
+        }
+        Value::Map(fields) => {
+            write_map_front(out, fields.len())?;
+            put_fields(out, fields.as_slice())
+        }
+        Value::Link(link) => write_link(out, link),
+        Value::Bool(truth) => write_bool(out, *truth),
+        Value::Null => write_null(out),
+    }
+}
+
+#[cycle(write)]
+fn put_values(out: &mut Octets, values: &[Value]) -> Result<(), Memory>
+    ensures written { OnOk result (out.new ≡ out.old ++ items_spelling (items_of (map item_of values.now))) }
+    ensures spellable { OnOk result (AreSpellable (map item_of values.now)) }
+{
+    for value in values {
+        put_value(out, value)?;
+    }
+    Ok(())
+}
+
+#[cycle(write)]
+fn put_fields(out: &mut Octets, fields: &[(Words, Value)]) -> Result<(), Memory>
+    requires { are_ascending None (map pair_of fields.now) ≡ true }
+    ensures written { OnOk result (out.new ≡ out.old ++ fields_spelling (fields_of (map pair_of fields.now))) }
+    ensures spellable { OnOk result (AreFieldsSpellable (map pair_of fields.now)) }
+{
+    for (key, value) in fields {
+        put_words(out, key)?;
+        put_value(out, value)?;
+    }
+    Ok(())
+}

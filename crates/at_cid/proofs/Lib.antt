@@ -1,0 +1,7 @@
+pub mod Links
+pub mod Bits
+pub mod Bytes
+pub mod Order
+pub mod Texts
+pub mod Utf8
+pub mod Laws

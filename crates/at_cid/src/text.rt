@@ -1,0 +1,129 @@
+//! A link as text.
+
+ghost use Rattle.std.specs.Prelude.{◌≡◌, ◌≢◌, ◌<◌, ℕ, List, length, map, IsTrue, MatchOption};
+ghost use Rattle.std.specs.List.{range_with_len};
+ghost use Rattle.at_cid.specs.Link.{is_link, IsBytes};
+ghost use Rattle.at_cid.specs.Text.{letter_of, digit_of, five_bits, bits_of_pair, letter_at, text_of, octet_at, octets_of};
+
+use crate::cid::{Cid, parse_binary};
+use crate::octets::tell_bytes;
+
+/// How many bytes a link's text has.
+pub const TEXT_LEN: usize = 59;
+
+fn letter(bits: u8) -> u8
+    requires { bits < 32 }
+    ensures { result ≡ letter_of bits }
+{
+    if bits < 26 { b'a' + bits } else { bits + 24 }
+}
+
+fn digit(letter: u8) -> u8
+    ensures value { result ≡ digit_of letter }
+    ensures below { result < 32 }
+{
+    match letter {
+        b'a'..=b'z' => letter - b'a',
+        b'2'..=b'7' => letter - 24,
+        _ => 0,
+    }
+}
+
+// The five bits from the bit at 5 * k on, which lie in two bytes.
+#[tactic(auto, unfolding(crate::specs::Text::bits_of_pair))]
+fn bits_of_pair(bytes: &[u8; 36], k: usize) -> u8
+    requires { k < 58 }
+    ensures value { result ≡ bits_of_pair bytes.now k }
+    ensures below { result < 32 }
+{
+    let at = 5 * k / 8;
+    let low = if at < 35 { bytes[at + 1] } else { 0 };
+    let pair = u32::from(bytes[at]) * 256 + u32::from(low);
+    ((pair >> (11 - 5 * k % 8) as u32) % 32) as u8
+}
+
+#[tactic(auto, using(crate::proofs::Bits::bits_in_two))]
+fn bits_at(bytes: &[u8; 36], k: usize) -> u8
+    requires { k < 58 }
+    ensures value { result ≡ five_bits bytes.now k }
+    ensures below { result < 32 }
+{
+    tell_bytes(bytes);
+    bits_of_pair(bytes, k)
+}
+
+#[tactic(auto, unfolding(crate::specs::Text::letter_at))]
+fn letter_of_place(bytes: &[u8; 36], k: usize) -> u8
+    requires { k < 58 }
+    ensures { result ≡ letter_at bytes.now k }
+{
+    letter(bits_at(bytes, k))
+}
+
+fn letters(bytes: &[u8; 36]) -> [u8; 58]
+    ensures { result ≡ map (letter_at bytes.now) (range_with_len 0 58) }
+{
+    let mut letters = [0; 58];
+    for k in 0..58 {
+        letters[k] = letter_of_place(bytes, k);
+    }
+    letters
+}
+
+// The eight bits from the bit at 8 * i on, of those that the letters stand for.
+#[tactic(auto, unfolding(crate::specs::Text::octet_at))]
+fn octet(text: &[u8], i: usize) -> u8
+    requires long { length text.now ≡ TEXT_LEN }
+    requires within { i < 36 }
+    ensures { result ≡ octet_at text.now i }
+{
+    let at = 8 * i / 5 + 1;
+    let third = if at < 57 { digit(text[at + 2]) } else { 0 };
+    let bits = u32::from(digit(text[at])) * 1024
+        + u32::from(digit(text[at + 1])) * 32
+        + u32::from(third);
+    ((bits >> (7 - 8 * i % 5) as u32) % 256) as u8
+}
+
+fn octets(text: &[u8]) -> [u8; 36]
+    requires { length text.now ≡ TEXT_LEN }
+    ensures { result ≡ octets_of text.now }
+{
+    let mut octets = [0; 36];
+    for i in 0..36 {
+        octets[i] = octet(text, i);
+    }
+    octets
+}
+
+impl Cid {
+    /// Writes the text: `b`, and the base32 of the 36 bytes in lower case without padding (RFC 4648). Takes no memory.
+    pub fn write_text(&self, out: &mut [u8; 59])
+        ensures { out.new ≡ text_of self.now }
+    {
+        out[0] = b'b';
+        out[1..].copy_from_slice(&letters(self.as_bytes()));
+    }
+}
+
+/// The link that the bytes are the text of. Each link has one text: upper case, padding or a last letter whose two
+/// unused bits aren't 0 spell none.
+pub fn parse_text(text: &[u8]) -> Option<Cid>
+    ensures { MatchOption result
+        ((link : List ℕ) → IsTrue (is_link link) → IsBytes link → text.now ≢ text_of link)
+        (λ link. text.now ≡ text_of link) }
+{
+    if text.len() != TEXT_LEN {
+        return None;
+    }
+    let Some(link) = parse_binary(&octets(text)) else {
+        return None;
+    };
+    let mut spelled = [0; 59];
+    link.write_text(&mut spelled);
+    if spelled.as_slice() == text {
+        Some(link)
+    } else {
+        None
+    }
+}

@@ -1,0 +1,58 @@
+-- The commit object that a block is.
+use Rattle.std.specs.Prelude.{◌≡◌, ⊤, ℕ, pos, List, length, ◌==◌, nat_lt, if◌then◌else◌, Option, Some, None, Result, Ok, Err}
+use Rattle.std.specs.Ordering.{int_eq}
+use Rattle.at_cid.specs.Memory.{Gives}
+use Rattle.at_cbor.specs.Item.{Item, Fields}
+use Rattle.at_cbor.specs.declared.value.Value.{Value}
+use Rattle.at_cbor.specs.View.{item_of}
+use Rattle.at_cbor.specs.Decoding.{decoded}
+use Rattle.at_cbor.specs.Spelling.{spelling}
+use Rattle.at_commit.specs.Fields.{Object, object_of}
+use Rattle.at_commit.specs.Signed.{unsigned_of}
+use Rattle.at_commit.specs.declared.commit.Commit.{Commit}
+use Rattle.at_commit.specs.declared.fault.CommitFault.{CommitFault}
+
+-- the item that was read, where nothing is behind it
+abbrev pub filling : {F : Type 0} → ℕ → Result (Item × ℕ) F → Option Item
+filling n (Ok found) = if found.1 == n then Some found.0 else None
+filling n (Err flaw) = None
+
+-- the item that fills the block
+unfoldable pub item_in : List ℕ → Option Item
+item_in block = filling (length block) (decoded block)
+
+-- the commit that fields of version 3 are, signed without `sig`
+abbrev pub commit_from : Fields → Option Object → Result Commit CommitFault
+commit_from fields (Some object) =
+    if int_eq object.version (pos 3) then Ok (record { did = object.did; rev = object.rev; data_root = object.data_root; sig = object.sig; unsigned = spelling (Item.map (unsigned_of fields)) })
+    else Err CommitFault.Version
+commit_from _ None = Err CommitFault.Form
+
+unfoldable pub commit_in : Fields → Result Commit CommitFault
+commit_in fields = commit_from fields (object_of fields)
+
+abbrev pub commit_at : Option Item → Result Commit CommitFault
+commit_at (Some (Item.map fields)) = commit_in fields
+commit_at i = Err CommitFault.Form
+
+-- The commit that the block is, or what is wrong with it. The version is looked at where all else has its form.
+unfoldable pub commit_of : List ℕ → Result Commit CommitFault
+commit_of block = if nat_lt 8192 (length block) then Err CommitFault.TooLong else commit_at (item_in block)
+
+-- what a fault says of the block: nothing where memory was wanted
+abbrev pub fault_of : CommitFault → Option CommitFault
+fault_of CommitFault.Form = Some CommitFault.Form
+fault_of CommitFault.Version = Some CommitFault.Version
+fault_of CommitFault.TooLong = Some CommitFault.TooLong
+fault_of CommitFault.Memory = None
+
+-- the result is this answer, unless memory was wanted
+abbrev pub ReadsAs : Result Commit CommitFault → Result Commit CommitFault → Type 0
+ReadsAs result answer = Gives (λ commit. commit) fault_of result answer
+
+-- the item was read, or nothing fills the block as an item, unless memory was wanted
+abbrev pub ReadsItem : Result Value CommitFault → Option Item → Type 0
+ReadsItem (Ok value) found = found ≡ Some (item_of value)
+ReadsItem (Err CommitFault.Form) found = found ≡ None
+ReadsItem (Err CommitFault.Memory) found = ⊤
+ReadsItem (Err fault) found = ⊥

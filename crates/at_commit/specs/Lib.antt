@@ -1,0 +1,4 @@
+pub mod Fields
+pub mod Signed
+pub mod Commit
+pub mod Parts

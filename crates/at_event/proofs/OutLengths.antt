@@ -1,0 +1,240 @@
+-- How long an outgoing frame is, by the length of the payload that came in.
+use Rattle.std.proofs.Common.{◌≡◌, ℕ, ◌+◌, ◌-◌, ◌<◌, ◌≤◌, ◌^◌, ◌⊎◌, inl, inr, Bool, true, false, cond, ltb, eqb, ◌&&◌, min, List, [], ◌∷◌, ◌++◌, length, Option, Some, None, codes, pos, negsuc, refl, sym, ap, subst, ◌∙◌, arith, Less, Equal}
+use Rattle.std.specs.Int.{w16, w32, w64, to_be_bytes}
+use Rattle.std.specs.Ordering.{is_lt}
+use Rattle.std.specs.Str.{bytes_eq}
+use Rattle.std.proofs.lemmas.Bool.{or_cases, cases_lt, le-ltb, ltb-true, eqb-true, and_parts, false_from_ne_true}
+use Rattle.std.proofs.lemmas.List.{length-append}
+use Rattle.std.proofs.lemmas.Slice.Eq.{bytes_eq-Decides}
+use Rattle.std.proofs.Math.Nat.{min-eq_left, min-eq_right, min-le_left, min-le_right}
+use Rattle.at_cid.specs.Order.{key_cmp}
+use Rattle.at_cid.proofs.Order.{cmp_trans, cmp_same}
+use Rattle.at_cbor.specs.Item.{Item, Fields, no_fields, field, is_above}
+use Rattle.at_cbor.specs.Kinds.{value_of, field_of}
+use Rattle.at_cbor.specs.Spelling.{front_of, tail_of, text_spelling, fields_count, spelling, fields_spelling, Fits, FieldsFit}
+use Rattle.at_event.specs.declared.kind.EventKind.{EventKind}
+use Rattle.at_event.specs.Events.{IsEvent}
+use Rattle.at_event.specs.Forms.{◌>>=◌, number_in, number_of}
+use Rattle.at_event.specs.Seen.{Seen}
+use Rattle.at_event.specs.Table.{seq_of, kind_of}
+use Rattle.at_event.specs.Writing.{name_of, header_of, number_item, with_value, with_seq, message_of, out_of}
+use Rattle.at_event.proofs.Renumbered.{with_value_count}
+
+-- ---- a key comes once
+
+abbrev Above : List ℕ → List ℕ → Type 0
+Above a b = (length a < length b) ⊎ ((length a ≡ length b) × (key_cmp a b ≡ Less))
+
+is_less : (a b : List ℕ) → is_lt (key_cmp a b) ≡ true → key_cmp a b ≡ Less
+is_less a b h = elim (key_cmp a b) as (λ o. is_lt o ≡ true → o ≡ Less) [ Less ↦ λ _. refl | _ ↦ λ p. absurd cc ] h
+
+above_parts : (a b : List ℕ) → is_above (Some a) b ≡ true → Above a b
+above_parts a b h =
+    elim (or_cases (ltb (length a) (length b)) (eqb (length a) (length b) && is_lt (key_cmp a b)) h) [
+      | inl p ↦ inl (ltb-true (length a) (length b) p)
+      | inr p ↦ let both = and_parts (eqb (length a) (length b)) (is_lt (key_cmp a b)) p in inr (eqb-true (length a) (length b) both.0, is_less a b both.1)
+    ]
+
+above_trans : (a b c : List ℕ) → Above a b → Above b c → Above a c
+above_trans a b c (inl p) (inl q) = inl (omega arith)
+above_trans a b c (inl p) (inr q) = inl (omega (arith, q.0))
+above_trans a b c (inr p) (inl q) = inl (omega (arith, p.0))
+above_trans a b c (inr p) (inr q) = inr (p.0 ∙ q.0, cmp_trans a b c p.1 q.1)
+
+above_itself : (a : List ℕ) → Above a a → ⊥
+above_itself a (inl p) = omega arith
+above_itself a (inr p) = let no : Equal ≡ Less = sym (cmp_same a) ∙ p.1 in cc
+
+above_other : (a b : List ℕ) → Above a b → bytes_eq b a ≡ false
+above_other a b h = false_from_ne_true (bytes_eq b a) (λ p. above_itself a (subst (Above a) ((bytes_eq-Decides b a).0 p) h))
+
+kept_if : (b : Bool) (i j : Item) → b ≡ false → cond b i j ≡ j
+kept_if b i j h = rw h refl
+
+-- fields behind a key of that name have no other
+none_behind : (name : List ℕ) (i : Item) (before : List ℕ) (fs : Fields) (depth : ℕ) → FieldsFit fs (Some before) depth → (before ≡ name) ⊎ Above name before → with_value name i fs ≡ fs
+none_behind name i before no_fields depth fits behind = refl
+none_behind name i before (field k j fs) depth fits behind =
+    let next = above_parts before k fits.1 in
+    let above : Above name k = elim behind [ inl e ↦ subst (λ (b : List ℕ). Above b k) e next | inr h ↦ above_trans name before k h next ] in
+    ap (λ (x : Item). field k x (with_value name i fs)) (kept_if (bytes_eq k name) i j (above_other name k above)) ∙ ap (field k j) (none_behind name i k fs depth fits.3 (inr above))
+
+-- ---- the payload
+
+some_same : {A : Type 0} (x y : A) → Some x ≡ Some y → x ≡ y
+some_same x y e = cc
+
+field_length : (k : List ℕ) (i : Item) (fs : Fields) → length (fields_spelling (field k i fs)) ≡ length (text_spelling k) + length (spelling i) + length (fields_spelling fs)
+field_length k i fs = omega (arith, length-append (text_spelling k) (spelling i ++ fields_spelling fs), length-append (spelling i) (fields_spelling fs))
+
+-- one field, whose key is the name or is not
+swapped_field : (b : Bool) (k : List ℕ) (i j l : Item) (fs put : Fields) (others : Option Item) → cond b (Some l) others ≡ Some j → (b ≡ true → put ≡ fs)
+    → (others ≡ Some j → length (fields_spelling put) + length (spelling j) ≡ length (fields_spelling fs) + length (spelling i))
+    → length (fields_spelling (field k (cond b i l) put)) + length (spelling j) ≡ length (fields_spelling (field k l fs)) + length (spelling i)
+swapped_field true k i j l fs put others e none more =
+    omega (arith, field_length k i put, field_length k l fs, ap (λ (x : Item). length (spelling x)) (some_same l j e), ap (λ (x : Fields). length (fields_spelling x)) (none refl))
+swapped_field false k i j l fs put others e none more = omega (arith, field_length k l put, field_length k l fs, more e)
+
+swapped : (name : List ℕ) (i j : Item) (before : Option (List ℕ)) (fs : Fields) (depth : ℕ) → FieldsFit fs before depth → value_of fs name ≡ Some j
+    → length (fields_spelling (with_value name i fs)) + length (spelling j) ≡ length (fields_spelling fs) + length (spelling i)
+swapped name i j before no_fields depth fits e = absurd cc
+swapped name i j before (field k l fs) depth fits e =
+    swapped_field (bytes_eq k name) k i j l fs (with_value name i fs) (value_of fs name) e
+    (λ same. none_behind name i k fs depth fits.3 (inl ((bytes_eq-Decides k name).0 same)))
+    (λ later. swapped name i j (Some k) fs depth fits.3 later)
+
+-- ---- the number
+
+number_is : (n m : ℕ) → number_of (pos n) ≡ Some m → (n ≡ m) × (n < 2 ^ 53)
+number_is n m e =
+    let tested = elim (ltb n (2 ^ 53)) as (λ b. cond b (Some n) None ≡ Some m → (b ≡ true) × (n ≡ m)) [ true ↦ λ p. (refl, some_same n m p) | false ↦ λ p. absurd cc ] e in
+    (tested.1, ltb-true n (2 ^ 53) tested.0)
+
+read_number : (i : Item) (m : ℕ) → number_in i ≡ Some m → (i ≡ number_item m) × (m < 2 ^ 53)
+unfolding number_in
+read_number (Item.int (pos n)) m e = let is = number_is n m e in (ap number_item is.0, omega (arith, is.0, is.1))
+read_number (Item.int (negsuc n)) m e = absurd cc
+read_number (Item.bytes bs) m e = absurd cc
+read_number (Item.text bs) m e = absurd cc
+read_number (Item.list is) m e = absurd cc
+read_number (Item.map fs) m e = absurd cc
+read_number (Item.link bs) m e = absurd cc
+read_number (Item.bool b) m e = absurd cc
+read_number Item.null m e = absurd cc
+
+read_some : (o : Option Item) (m : ℕ) → (o >>= number_in) ≡ Some m → (o ≡ Some (number_item m)) × (m < 2 ^ 53)
+read_some (Some i) m e = let is = read_number i m e in (ap Some is.0, is.1)
+read_some None m e = absurd cc
+
+pub number_there : (payload : Item) (m : ℕ) → seq_of payload ≡ Some m → (field_of payload (codes "seq") ≡ Some (number_item m)) × (m < 2 ^ 53)
+unfolding seq_of
+number_there payload m e = read_some (field_of payload (codes "seq")) m e
+
+contained_or : (b : Bool) (k : List ℕ) (j l : Item) (fs : Fields) (others : Option Item) → cond b (Some l) others ≡ Some j → (others ≡ Some j → length (spelling j) ≤ length (fields_spelling fs)) → length (spelling j) ≤ length (fields_spelling (field k l fs))
+contained_or true k j l fs others e more = omega (arith, field_length k l fs, ap (λ (x : Item). length (spelling x)) (some_same l j e))
+contained_or false k j l fs others e more = omega (arith, field_length k l fs, more e)
+
+contained : (name : List ℕ) (j : Item) (fs : Fields) → value_of fs name ≡ Some j → length (spelling j) ≤ length (fields_spelling fs)
+contained name j no_fields e = absurd cc
+contained name j (field k l fs) e = contained_or (bytes_eq k name) k j l fs (value_of fs name) e (contained name j fs)
+
+map_length : (fs : Fields) → length (spelling (Item.map fs)) ≡ length (front_of 5 (fields_count fs)) + length (fields_spelling fs)
+map_length fs = length-append (front_of 5 (fields_count fs)) (fields_spelling fs)
+
+number_contained : (payload : Item) (m : ℕ) → field_of payload (codes "seq") ≡ Some (number_item m) → length (spelling (number_item m)) ≤ length (spelling payload)
+number_contained (Item.map fs) m e = omega (arith, map_length fs, contained (codes "seq") (number_item m) fs e)
+number_contained (Item.int z) m e = absurd cc
+number_contained (Item.bytes bs) m e = absurd cc
+number_contained (Item.text bs) m e = absurd cc
+number_contained (Item.list is) m e = absurd cc
+number_contained (Item.link bs) m e = absurd cc
+number_contained (Item.bool b) m e = absurd cc
+number_contained Item.null m e = absurd cc
+
+seq_swapped : (payload : Item) (n m depth : ℕ) → Fits payload depth → field_of payload (codes "seq") ≡ Some (number_item m)
+    → length (spelling (with_seq n payload)) + length (spelling (number_item m)) ≡ length (spelling payload) + length (spelling (number_item n))
+seq_swapped (Item.map fs) n m depth fits e =
+    omega (arith, map_length fs, map_length (with_value (codes "seq") (number_item n) fs), ap (λ (k : ℕ). length (front_of 5 k)) (with_value_count (codes "seq") (number_item n) fs), swapped (codes "seq") (number_item n) (number_item m) None fs (depth - 1) fits.2 e)
+seq_swapped (Item.int z) n m depth fits e = absurd cc
+seq_swapped (Item.bytes bs) n m depth fits e = absurd cc
+seq_swapped (Item.text bs) n m depth fits e = absurd cc
+seq_swapped (Item.list is) n m depth fits e = absurd cc
+seq_swapped (Item.link bs) n m depth fits e = absurd cc
+seq_swapped (Item.bool b) n m depth fits e = absurd cc
+seq_swapped Item.null n m depth fits e = absurd cc
+
+header_length : (kind : EventKind) → length (spelling (header_of kind)) ≡ length (name_of kind) + 8
+unfolding tail_of
+header_length EventKind.Commit = refl
+header_length EventKind.Sync = refl
+header_length EventKind.Identity = refl
+header_length EventKind.Account = refl
+
+-- the length of the frame of an event under a number
+frame_length : (event : Seen) (n : ℕ) → IsEvent event
+    → length (out_of event n) + length (spelling (number_item event.seq)) ≡ length (spelling event.payload) + length (spelling (number_item n)) + (length (name_of (kind_of event.body)) + 8)
+unfolding out_of message_of
+frame_length event n h =
+    let there = number_there event.payload event.seq h.number in
+    omega (arith, length-append (spelling (header_of (kind_of event.body))) (spelling (with_seq n event.payload)), header_length (kind_of event.body), seq_swapped event.payload n event.seq 64 h.fits there.0)
+
+-- ---- nine bytes
+
+short_or : (b : Bool) (x y : List ℕ) → length x ≤ 8 → length y ≤ 8 → length (cond b x y) ≤ 8
+short_or true x y p q = p
+short_or false x y p q = q
+
+tail_most : (n : ℕ) → length (tail_of n) ≤ 8
+unfolding tail_of
+tail_most n =
+    short_or (ltb n 24) [] _ (omega arith)
+    (short_or (ltb n (2 ^ 8)) (n ∷ []) _ (omega arith)
+    (short_or (ltb n (2 ^ 16)) (to_be_bytes w16 n) _ (omega arith)
+    (short_or (ltb n (2 ^ 32)) (to_be_bytes w32 n) (to_be_bytes w64 n) (omega arith) (omega arith))))
+
+number_most : (n : ℕ) → length (spelling (number_item n)) ≤ 9
+number_most n = omega (arith, tail_most n)
+
+number_nine : (n : ℕ) → 2 ^ 32 ≤ n → length (spelling (number_item n)) ≡ 9
+unfolding tail_of
+number_nine n h = rw (le-ltb n 24 (omega (arith, h)), le-ltb n (2 ^ 8) (omega (arith, h)), le-ltb n (2 ^ 16) (omega (arith, h)), le-ltb n (2 ^ 32) h) refl
+
+min_cases : (a b : ℕ) → ((a ≤ b) × (min a b ≡ a)) ⊎ ((b ≤ a) × (min a b ≡ b))
+min_cases a b = elim (cases_lt b a) [ inl lt ↦ inr (omega (arith, lt), min-eq_right (omega (arith, lt))) | inr le ↦ inl (le, min-eq_left le) ]
+
+abbrev most_number : ℕ
+most_number = 2 ^ 64 - 1
+
+old_is : (old q : ℕ) → q ≡ min old most_number → old ≤ 9 → q ≡ old
+old_is old q q_is small = q_is ∙ min-eq_left (omega (arith, small))
+
+is_within : (payload old p q : ℕ) → p ≡ min payload most_number → q ≡ min old most_number → old ≤ 9 → old ≤ payload → q ≤ p
+is_within payload old p q p_is q_is small inside =
+    let q_old = old_is old q q_is small in
+    elim (min_cases payload most_number) [ inl c ↦ omega (arith, c.1, p_is, q_old, inside) | inr c ↦ omega (arith, c.1, p_is, q_old, small) ]
+
+-- The sum that is taken, where payload is the length of the payload, old that of its number, new that of the other, and frame that of the frame.
+module _ (payload old new names frame : ℕ) (p q r : ℕ) (p_is : p ≡ min payload most_number) (q_is : q ≡ min old most_number) (r_is : r ≡ min (p - q + (9 + (names + 8))) most_number) (small : old ≤ 9) (inside : old ≤ payload) (parts : frame + old ≡ payload + new + (names + 8)) where
+  q_old : q ≡ old
+  q_old = old_is old q q_is small
+
+  sum_nine : new ≡ 9 → r ≡ min frame most_number
+  sum_nine nine =
+      elim (min_cases payload most_number) [
+        | inl c ↦
+            let same : p - q + (9 + (names + 8)) ≡ frame = omega (arith, c.1, p_is, q_old, parts, nine, inside) in
+            r_is ∙ ap (λ (n : ℕ). min n most_number) same
+        | inr c ↦
+            let full : r ≡ most_number = r_is ∙ min-eq_right (omega (arith, c.1, p_is, q_old, small)) in
+            full ∙ sym (min-eq_right (omega (arith, c.0, parts, nine, small)))
+      ]
+
+  sum_most : new ≤ 9 → min frame most_number ≤ r
+  sum_most most =
+      elim (min_cases (p - q + (9 + (names + 8))) most_number) [
+        | inl d ↦
+            elim (min_cases payload most_number) [
+              | inl c ↦ omega (arith, min-le_left frame most_number, c.1, p_is, q_old, parts, most, inside, d.1, r_is)
+              | inr c ↦ omega (arith, min-le_right frame most_number, c.1, p_is, q_old, small, d.1, r_is)
+            ]
+        | inr d ↦ omega (arith, min-le_right frame most_number, d.1, r_is)
+      ]
+
+module _ (event : Seen) (h : IsEvent event) (p q : ℕ) (p_is : p ≡ min (length (spelling event.payload)) most_number) (q_is : q ≡ min (length (spelling (number_item event.seq))) most_number) where
+  inside_of : length (spelling (number_item event.seq)) ≤ length (spelling event.payload)
+  inside_of = number_contained event.payload event.seq (number_there event.payload event.seq h.number).0
+
+  pub number_within : q ≤ p
+  number_within = is_within (length (spelling event.payload)) (length (spelling (number_item event.seq))) p q p_is q_is (number_most event.seq) inside_of
+
+module _ (event : Seen) (h : IsEvent event) (names p q r : ℕ) (p_is : p ≡ min (length (spelling event.payload)) most_number) (q_is : q ≡ min (length (spelling (number_item event.seq))) most_number) (names_is : names ≡ length (name_of (kind_of event.body))) (r_is : r ≡ min (p - q + (9 + (names + 8))) most_number) where
+  parts_of : (n : ℕ) → length (out_of event n) + length (spelling (number_item event.seq)) ≡ length (spelling event.payload) + length (spelling (number_item n)) + (names + 8)
+  parts_of n = omega (arith, frame_length event n h, names_is)
+
+  pub nine_bytes : (n : ℕ) → 2 ^ 32 ≤ n → r ≡ min (length (out_of event n)) most_number
+  nine_bytes n least =
+      sum_nine (length (spelling event.payload)) (length (spelling (number_item event.seq))) (length (spelling (number_item n))) names (length (out_of event n)) p q r p_is q_is r_is (number_most event.seq) (inside_of event h p q p_is q_is) (parts_of n) (number_nine n least)
+
+  pub most_bytes : (n : ℕ) → min (length (out_of event n)) most_number ≤ r
+  most_bytes n =
+      sum_most (length (spelling event.payload)) (length (spelling (number_item event.seq))) (length (spelling (number_item n))) names (length (out_of event n)) p q r p_is q_is r_is (number_most event.seq) (inside_of event h p q p_is q_is) (parts_of n) (number_most n)

@@ -1,0 +1,19 @@
+-- What an event owes its payload.
+use Rattle.std.specs.Prelude.{◌≡◌, Some}
+use Rattle.at_cbor.specs.Spelling.{Fits}
+use Rattle.at_cbor.specs.View.{item_of}
+use Rattle.at_event.specs.declared.event.Event.TheInside.{Inside}
+use Rattle.at_event.specs.Seen.{Seen}
+use Rattle.at_event.specs.Table.{event_of, seq_of, kind_of}
+
+-- The payload is a map with at most 64 lists and maps in one another, from which all other fields are read.
+pub record IsEvent (event : Seen) : Type 0 where
+  pub fits : Fits event.payload 64
+  pub number : seq_of event.payload ≡ Some event.seq
+  pub read : event_of (kind_of event.body) event.seq event.payload ≡ Some event
+
+abbrev pub seen_of : Inside → Seen
+seen_of a = record { seq = a.seq; did = a.did; time = a.time; body = a.body; payload = item_of a.payload }
+
+abbrev pub IsInside : Inside → Type 0
+IsInside a = IsEvent (seen_of a)

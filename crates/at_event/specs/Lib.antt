@@ -1,0 +1,9 @@
+pub mod Seen
+pub mod Refusals
+pub mod Forms
+pub mod Table
+pub mod Events
+pub mod Frames
+pub mod Flaws
+pub mod Writing
+pub mod Laws

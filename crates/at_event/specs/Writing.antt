@@ -1,0 +1,87 @@
+-- The frames that go out: Event Stream specification, and the Lexicon `com.atproto.sync.subscribeRepos`.
+use Rattle.std.specs.Prelude.{ℕ, ◌^◌, ◌-◌, pos, List, ◌++◌, length, min, Bool, if◌then◌else◌, Option, Some, None, codes}
+use Rattle.std.specs.Str.{bytes_eq}
+use Rattle.at_cbor.specs.Item.{Item, Fields, no_fields, field}
+use Rattle.at_cbor.specs.Spelling.{spelling, fields_spelling}
+use Rattle.at_syntax.specs.Tid.{digits_of}
+use Rattle.at_event.specs.declared.event.Body.{Body}
+use Rattle.at_event.specs.declared.kind.EventKind.{EventKind}
+use Rattle.at_event.specs.Seen.{Seen}
+use Rattle.at_event.specs.Table.{kind_of}
+
+-- how a header names an event
+abbrev pub name_of : EventKind → List ℕ
+name_of EventKind.Commit = codes "#commit"
+name_of EventKind.Sync = codes "#sync"
+name_of EventKind.Identity = codes "#identity"
+name_of EventKind.Account = codes "#account"
+
+-- the header `{t, op}`
+abbrev pub header_of : EventKind → Item
+header_of kind = Item.map (field (codes "t") (Item.text (name_of kind)) (field (codes "op") (Item.int (pos 1)) no_fields))
+
+-- the message of a kind of event with a payload
+unfoldable pub message_of : EventKind → Item → List ℕ
+message_of kind payload = spelling (header_of kind) ++ spelling payload
+
+-- a key and its value
+abbrev pub field_spelling : List ℕ → Item → List ℕ
+field_spelling key value = fields_spelling (field key value no_fields)
+
+-- one field, with its value replaced where it has this key
+abbrev pub field_with : List ℕ → Item → List ℕ → Item → Fields
+field_with name value k i = field k (if bytes_eq k name then value else i) no_fields
+
+-- the fields, with the value of this key replaced
+abbrev pub with_value : List ℕ → Item → Fields → Fields
+with_value name value no_fields = no_fields
+with_value name value (field k i fs) = field k (if bytes_eq k name then value else i) (with_value name value fs)
+
+abbrev pub number_item : ℕ → Item
+number_item n = Item.int (pos n)
+
+-- the payload, with its `seq` replaced
+abbrev pub with_seq : ℕ → Item → Item
+with_seq n (Item.map fs) = Item.map (with_value (codes "seq") (number_item n) fs)
+with_seq n i = i
+
+-- the event under another number
+abbrev pub numbered : Seen → ℕ → Seen
+numbered event n = record { seq = n; did = event.did; time = event.time; body = event.body; payload = with_seq n event.payload }
+
+-- the frame in which an event goes out under a number
+unfoldable pub out_of : Seen → ℕ → List ℕ
+out_of event n = message_of (kind_of event.body) (with_seq n event.payload)
+
+-- how long that frame is where the number takes nine bytes, as the greatest does; at most the greatest number of 64 bits
+unfoldable pub out_length : Seen → ℕ
+out_length event = min (length (out_of event (2 ^ 53 - 1))) (2 ^ 64 - 1)
+
+-- the payload of a `#sync` of the relay's own
+unfoldable pub sync_payload : List ℕ → ℕ → List ℕ → List ℕ → ℕ → Item
+sync_payload did rev blocks time seq =
+    Item.map (field (codes "did") (Item.text did)
+    (field (codes "rev") (Item.text (digits_of rev))
+    (field (codes "seq") (number_item seq)
+    (field (codes "time") (Item.text time)
+    (field (codes "blocks") (Item.bytes blocks) no_fields)))))
+
+-- `status`, where there is one
+abbrev pub status_field : Option (List ℕ) → Fields
+status_field (Some status) = field (codes "status") (Item.text status) no_fields
+status_field None = no_fields
+
+-- the payload of an `#account` of the relay's own
+unfoldable pub account_payload : List ℕ → Bool → Option (List ℕ) → List ℕ → ℕ → Item
+account_payload did active status time seq =
+    Item.map (field (codes "did") (Item.text did)
+    (field (codes "seq") (number_item seq)
+    (field (codes "time") (Item.text time)
+    (field (codes "active") (Item.bool active) (status_field status)))))
+
+-- these events as they are read
+abbrev pub sync_seen : List ℕ → ℕ → List ℕ → List ℕ → ℕ → Seen
+sync_seen did rev blocks time seq = record { seq = seq; did = did; time = time; body = Body.Sync (record { did = did; rev = rev; blocks = blocks }); payload = sync_payload did rev blocks time seq }
+
+abbrev pub account_seen : List ℕ → Bool → Option (List ℕ) → List ℕ → ℕ → Seen
+account_seen did active status time seq = record { seq = seq; did = did; time = time; body = Body.Account (record { active = active; status = status }); payload = account_payload did active status time seq }

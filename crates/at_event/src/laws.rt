@@ -1,0 +1,14 @@
+//! Laws of frames, each the contract of a function that does nothing.
+
+ghost use Rattle.at_event.specs.Laws.{FramesAreRenumbered, PayloadsAreMaps};
+
+/// An outgoing frame is read as its event, under its number, and that event under another number has the frame that
+/// the first one has under it.
+pub fn frames_are_renumbered()
+    ensures { FramesAreRenumbered }
+{}
+
+/// The payload of an event is a map, with at most 64 lists and maps in one another.
+pub fn payloads_are_maps()
+    ensures { PayloadsAreMaps }
+{}

@@ -1,0 +1,32 @@
+//! The frames of a host's stream: what a message says, the events that a relay passes on, and its own events.
+#![tactic(auto)]
+
+mod event;
+mod flaw;
+mod forms;
+mod frame;
+mod head;
+mod kind;
+mod laws;
+mod ops;
+mod own;
+mod reading;
+mod refusal;
+mod table;
+mod writing;
+
+pub use event::{AccountEvent, Body, CommitEvent, Event, SyncEvent};
+pub use frame::{Frame, FrameFault};
+pub use head::Head;
+pub use kind::EventKind;
+pub use laws::{frames_are_renumbered, payloads_are_maps};
+pub use ops::{Action, EventOp, EventOps};
+pub use own::{account_frame, sync_frame};
+pub use reading::read_frame;
+pub use refusal::Refusal;
+pub use writing::{out_frame, out_len};
+
+#[cfg(test)]
+mod tests;
+#[cfg(test)]
+mod vectors;

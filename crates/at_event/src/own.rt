@@ -1,0 +1,182 @@
+//! The relay's own events.
+
+ghost use Rattle.std.specs.Prelude.{◌≡◌, ◌++◌, ◌^◌, ◌<◌, ◌≤◌, length, option_map, OnOk, IfOk, IfSome, Ok, IsTrue};
+ghost use Rattle.std.specs.Str.{IsUtf8};
+ghost use Rattle.at_cbor.specs.Item.{Item};
+ghost use Rattle.at_cbor.specs.Spelling.{spelling, IsString};
+ghost use Rattle.at_syntax.specs.Did.{is_did};
+ghost use Rattle.at_syntax.specs.Tid.{digits_of};
+ghost use Rattle.at_event.specs.declared.frame.Frame.{Frame};
+ghost use Rattle.at_event.specs.declared.kind.EventKind.{EventKind};
+ghost use Rattle.at_event.specs.Frames.{frame_of};
+ghost use Rattle.at_event.specs.Writing.{field_spelling, number_item, message_of, sync_payload, sync_seen, account_payload, account_seen};
+
+use crate::kind::EventKind;
+use crate::writing::{write_header, write_number};
+use at_cbor::{write_bool, write_bytes, write_map_front, write_text};
+use at_cid::{Memory, Octets};
+use at_syntax::{TID_LEN, Tid};
+use std::alloc::Global;
+
+// What the type of a text says of it.
+fn tell_text(text: &str)
+    ensures string { IsString text.now }
+    ensures utf8 { IsUtf8 text.now }
+{}
+
+// What the type of a text, where there is one, says of it.
+fn tell_status(status: Option<&str>)
+    ensures string { IfSome status.entry (λ text. IsString text.now) }
+    ensures utf8 { IfSome status.entry (λ text. IsUtf8 text.now) }
+{
+    if let Some(text) = status {
+        tell_text(text);
+    }
+}
+
+// What the type of a slice of bytes says of it.
+fn tell_bytes(bytes: &[u8])
+    ensures { IsString bytes.now }
+{}
+
+// What the type of a TID says of it.
+fn tell_tid(tid: Tid)
+    ensures { tid < 2 ^ 64 }
+{
+    tid.value();
+}
+
+fn write_text_field(out: &mut Octets, key: &str, text: &str) -> Result<(), Memory>
+    ensures { OnOk result (out.new ≡ out.old ++ field_spelling key.now (Item.text text.now)) }
+{
+    write_text(out, key)?;
+    write_text(out, text)
+}
+
+fn write_tid_field(out: &mut Octets, key: &str, tid: Tid) -> Result<(), Memory>
+    ensures { OnOk result (out.new ≡ out.old ++ field_spelling key.now (Item.text (digits_of tid))) }
+{
+    tell_tid(tid);
+    let mut digits = [0; TID_LEN];
+    tid.write(&mut digits);
+    let Ok(text) = std::str::from_utf8(&digits) else {
+        unreachable!()
+    };
+    write_text_field(out, key, text)
+}
+
+fn write_number_field(out: &mut Octets, key: &str, number: u64) -> Result<(), Memory>
+    requires { number < 2 ^ 53 }
+    ensures { OnOk result (out.new ≡ out.old ++ field_spelling key.now (number_item number)) }
+{
+    write_text(out, key)?;
+    write_number(out, number)
+}
+
+fn write_bytes_field(out: &mut Octets, key: &str, bytes: &[u8]) -> Result<(), Memory>
+    ensures { OnOk result (out.new ≡ out.old ++ field_spelling key.now (Item.bytes bytes.now)) }
+{
+    write_text(out, key)?;
+    write_bytes(out, bytes)
+}
+
+fn write_bool_field(out: &mut Octets, key: &str, truth: bool) -> Result<(), Memory>
+    ensures { OnOk result (out.new ≡ out.old ++ field_spelling key.now (Item.bool truth)) }
+{
+    write_text(out, key)?;
+    write_bool(out, truth)
+}
+
+#[tactic(auto, unfolding(crate::specs::Writing::sync_payload))]
+fn write_sync(
+    out: &mut Octets,
+    did: &str,
+    rev: Tid,
+    blocks: &[u8],
+    time: &str,
+    seq: u64,
+) -> Result<(), Memory>
+    requires { seq < 2 ^ 53 }
+    ensures { OnOk result (out.new ≡ out.old ++ spelling (sync_payload did.now rev blocks.now time.now seq)) }
+{
+    write_map_front(out, 5)?;
+    write_text_field(out, "did", did)?;
+    write_tid_field(out, "rev", rev)?;
+    write_number_field(out, "seq", seq)?;
+    write_text_field(out, "time", time)?;
+    write_bytes_field(out, "blocks", blocks)?;
+    Ok(())
+}
+
+#[tactic(auto, unfolding(crate::specs::Writing::account_payload))]
+fn write_account(
+    out: &mut Octets,
+    did: &str,
+    active: bool,
+    status: Option<&str>,
+    time: &str,
+    seq: u64,
+) -> Result<(), Memory>
+    requires { seq < 2 ^ 53 }
+    ensures { OnOk result (out.new ≡ out.old ++ spelling (account_payload did.now active (option_map (λ text. text.now) status.entry) time.now seq)) }
+{
+    write_map_front(out, if status.is_some() { 5 } else { 4 })?;
+    write_text_field(out, "did", did)?;
+    write_number_field(out, "seq", seq)?;
+    write_text_field(out, "time", time)?;
+    write_bool_field(out, "active", active)?;
+    if let Some(status) = status {
+        write_text_field(out, "status", status)?;
+    }
+    Ok(())
+}
+
+/// The frame of a `#sync` of the relay's own: the account's repository is at this revision, and `blocks` is a CAR with
+/// its commit object.
+#[tactic(auto, unfolding(crate::specs::Writing::message_of))]
+pub fn sync_frame(
+    alloc: Global,
+    did: &str,
+    rev: Tid,
+    blocks: &[u8],
+    time: &str,
+    seq: u64,
+) -> Result<Octets, Memory>
+    requires { seq < 2 ^ 53 }
+    ensures spelled { IfOk result (λ bytes. bytes ≡ message_of EventKind.Sync (sync_payload did.now rev blocks.now time.now seq)) }
+    // It is read back as that event, where the DID is one and the time has at most 64 bytes.
+    ensures again { IfOk result (λ bytes. IsTrue (is_did did.now) → length time.now ≤ 64 → frame_of bytes ≡ Ok (Frame.Event (sync_seen did.now rev blocks.now time.now seq))) }
+{
+    tell_text(did);
+    tell_tid(rev);
+    tell_bytes(blocks);
+    tell_text(time);
+    let mut out = Octets::new(alloc);
+    write_header(&mut out, EventKind::Sync)?;
+    write_sync(&mut out, did, rev, blocks, time, seq)?;
+    Ok(out)
+}
+
+/// The frame of an `#account` of the relay's own: whether the account is active, and why not.
+#[tactic(auto, unfolding(crate::specs::Writing::message_of))]
+pub fn account_frame(
+    alloc: Global,
+    did: &str,
+    active: bool,
+    status: Option<&str>,
+    time: &str,
+    seq: u64,
+) -> Result<Octets, Memory>
+    requires { seq < 2 ^ 53 }
+    ensures spelled { IfOk result (λ bytes. bytes ≡ message_of EventKind.Account (account_payload did.now active (option_map (λ text. text.now) status.entry) time.now seq)) }
+    // It is read back as that event, where the DID is one and the status and the time have at most 64 bytes.
+    ensures again { IfOk result (λ bytes. IsTrue (is_did did.now) → IfSome status.entry (λ text. length text.now ≤ 64) → length time.now ≤ 64 → frame_of bytes ≡ Ok (Frame.Event (account_seen did.now active (option_map (λ text. text.now) status.entry) time.now seq))) }
+{
+    tell_text(did);
+    tell_text(time);
+    tell_status(status);
+    let mut out = Octets::new(alloc);
+    write_header(&mut out, EventKind::Account)?;
+    write_account(&mut out, did, active, status, time, seq)?;
+    Ok(out)
+}

@@ -1,0 +1,141 @@
+//! The frame that a message is.
+
+ghost use Rattle.std.specs.Prelude.{◌≡◌, ◌≤◌, length, IfOk, Some};
+ghost use Rattle.at_cbor.specs.Spelling.{Fits};
+ghost use Rattle.at_cbor.specs.View.{item_of};
+ghost use Rattle.at_event.specs.Flaws.{Reads};
+ghost use Rattle.at_event.specs.Frames.{item_in, items_in, named, heading_of, event_frame, announced, frame_of, ReadsAs, ReadsItem, ReadsItems};
+ghost use Rattle.at_event.specs.Table.{event_of, seq_of};
+
+use crate::event::Event;
+use crate::flaw::Flaw;
+use crate::forms::{number, required_did, required_short_text};
+use crate::frame::{Frame, FrameFault};
+use crate::kind::{EventKind, Heading};
+use crate::table::{did_key, read_body};
+use at_cbor::{CborFault, Value, decode, field};
+use std::alloc::Global;
+
+fn read_item(alloc: Global, bytes: &[u8]) -> Result<(Value, usize), FrameFault>
+    ensures item { ReadsItem result (item_in bytes.now) }
+    ensures within { IfOk result (λ x. x.1 ≤ length bytes.now) }
+    ensures fits { IfOk result (λ x. Fits (item_of x.0) 64) }
+{
+    match decode(alloc, bytes) {
+        Ok(found) => Ok(found),
+        Err(CborFault::Memory) => Err(FrameFault::Memory),
+        Err(_) => Err(FrameFault::BadFrame),
+    }
+}
+
+#[tactic(auto, unfolding(crate::specs::Frames::items_in))]
+fn read_items(alloc: Global, message: &[u8]) -> Result<(Value, Value), FrameFault>
+    ensures items { ReadsItems result (items_in message.now) }
+    ensures fits { IfOk result (λ x. Fits (item_of x.1) 64) }
+{
+    let (header, len) = read_item(alloc, message)?;
+    let rest = &message[len..];
+    let (payload, rest_len) = read_item(alloc, rest)?;
+    if rest_len == rest.len() {
+        Ok((header, payload))
+    } else {
+        Err(FrameFault::BadFrame)
+    }
+}
+
+#[tactic(auto, unfolding(crate::specs::Frames::named))]
+fn named(text: &str) -> Heading
+    ensures { result ≡ named text.now }
+{
+    match text {
+        "#commit" => Heading::Event(EventKind::Commit),
+        "#sync" => Heading::Event(EventKind::Sync),
+        "#identity" => Heading::Event(EventKind::Identity),
+        "#account" => Heading::Event(EventKind::Account),
+        "#info" => Heading::Info,
+        _ => Heading::Unknown,
+    }
+}
+
+#[tactic(auto, unfolding(crate::specs::Frames::heading_of))]
+fn heading(header: &Value) -> Option<Heading>
+    ensures { result ≡ heading_of (item_of header.now) }
+{
+    match field(header, "op")?.as_int()? {
+        1 => Some(named(field(header, "t")?.as_text()?.as_str())),
+        -1 => Some(Heading::Error),
+        _ => Some(Heading::Unknown),
+    }
+}
+
+#[tactic(auto, unfolding(crate::specs::Table::seq_of))]
+fn seq(payload: &Value) -> Option<u64>
+    ensures { result ≡ seq_of (item_of payload.now) }
+{
+    number(field(payload, "seq")?)
+}
+
+#[tactic(auto, unfolding(crate::specs::Table::event_of))]
+fn read_event(alloc: Global, kind: EventKind, seq: u64, payload: Value) -> Result<Event, Flaw>
+    requires fits { Fits (item_of payload) 64 }
+    requires number { seq_of (item_of payload) ≡ Some seq }
+    ensures { Reads (λ event. event) result (event_of kind seq (item_of payload)) }
+{
+    let did = required_did(&payload, did_key(kind))?;
+    let time = required_short_text(&payload, "time")?;
+    let body = read_body(alloc, kind, &payload)?;
+    Ok(Event {
+        seq,
+        did,
+        time,
+        body,
+        payload,
+    })
+}
+
+#[tactic(auto, unfolding(crate::specs::Frames::event_frame))]
+fn read_numbered(alloc: Global, kind: EventKind, payload: Value) -> Result<Frame, FrameFault>
+    requires { Fits (item_of payload) 64 }
+    ensures { ReadsAs result (event_frame kind (item_of payload)) }
+{
+    let Some(seq) = seq(&payload) else {
+        return Err(FrameFault::NoSeq);
+    };
+    match read_event(alloc, kind, seq, payload) {
+        Ok(event) => Ok(Frame::Event(event)),
+        Err(Flaw::BadField) => Ok(Frame::Faulty(seq)),
+        Err(Flaw::Memory) => Err(FrameFault::Memory),
+    }
+}
+
+#[tactic(auto, unfolding(crate::specs::Frames::announced))]
+fn read_announced(alloc: Global, heading: Heading, payload: Value) -> Result<Frame, FrameFault>
+    requires { Fits (item_of payload) 64 }
+    ensures { ReadsAs result (announced heading (item_of payload)) }
+{
+    match heading {
+        Heading::Event(kind) => read_numbered(alloc, kind, payload),
+        Heading::Info => Ok(Frame::Info),
+        Heading::Error => Ok(Frame::Error),
+        Heading::Unknown => Ok(Frame::Unknown),
+    }
+}
+
+/// The frame that a message is (Event Stream specification; Lexicon `com.atproto.sync.subscribeRepos`).
+///
+/// `BadFrame`: the message isn't a header and a payload, both maps, with nothing behind them; or the
+/// header's `op` is no integer, or is 1 where `t` is no text. `NoSeq`: an event's `seq` isn't an integer
+/// from 0 to 2^53 - 1. An event with another field that is missing or of another form is `Faulty`.
+#[tactic(auto, unfolding(crate::specs::Frames::frame_of))]
+pub fn read_frame(alloc: Global, message: &[u8]) -> Result<Frame, FrameFault>
+    ensures { ReadsAs result (frame_of message.now) }
+{
+    let (header, payload) = read_items(alloc, message)?;
+    let Some(heading) = heading(&header) else {
+        return Err(FrameFault::BadFrame);
+    };
+    if payload.as_map().is_none() {
+        return Err(FrameFault::BadFrame);
+    }
+    read_announced(alloc, heading, payload)
+}

@@ -1,0 +1,142 @@
+//! Events, read from the fields of their payloads.
+
+ghost use Rattle.std.specs.Prelude.{◌≡◌, map, IfOk};
+ghost use Rattle.at_cbor.specs.View.{item_of};
+ghost use Rattle.at_event.specs.Table.{action_of, op_of, ops_of, ops_in, too_big_in, commit_of, sync_of, account_of, body_of, did_key, kind_of};
+ghost use Rattle.at_event.specs.Flaws.{Reads};
+
+use crate::event::{AccountEvent, Body, CommitEvent, SyncEvent};
+use crate::flaw::Flaw;
+use crate::forms::{
+    bytes, list, node, optional_link, optional_node, optional_short_text, optional_tid, required,
+    required_did, text, tid, truth,
+};
+use crate::kind::EventKind;
+use crate::ops::{Action, EventOp, EventOps};
+use at_cbor::{Value, Values, field};
+use std::alloc::Global;
+
+fn action(text: &str) -> Action
+    ensures { result ≡ action_of text.now }
+{
+    match text {
+        "create" => Action::Create,
+        "update" => Action::Update,
+        "delete" => Action::Delete,
+        _ => Action::Other,
+    }
+}
+
+#[tactic(auto, unfolding(crate::specs::Table::op_of))]
+fn read_op(fields: &Value) -> Result<EventOp, Flaw>
+    ensures { Reads (λ op. op) result (op_of (item_of fields.now)) }
+{
+    let action = action(text(required(fields, "action")?)?.as_str());
+    let path = text(required(fields, "path")?)?;
+    let cid = optional_link(fields, "cid")?;
+    let prev = optional_link(fields, "prev")?;
+    Ok(EventOp {
+        action,
+        path: path.try_clone()?,
+        cid,
+        prev,
+    })
+}
+
+fn read_ops(alloc: Global, values: &[Value]) -> Result<EventOps, Flaw>
+    ensures { Reads (λ ops. ops) result (ops_of (map item_of values.now)) }
+{
+    let mut ops = EventOps::new(alloc);
+    for value in values {
+        ops.push(read_op(value)?)?;
+    }
+    Ok(ops)
+}
+
+#[tactic(auto, unfolding(crate::specs::Table::too_big_in))]
+fn too_big(fields: &Value) -> Result<bool, Flaw>
+    ensures { Reads (λ truth. truth) result (too_big_in (item_of fields.now)) }
+{
+    match field(fields, "tooBig") {
+        Some(value) => truth(value),
+        None => Ok(false),
+    }
+}
+
+#[tactic(auto, unfolding(crate::specs::Table::ops_in))]
+fn read_list(alloc: Global, value: &Value) -> Result<EventOps, Flaw>
+    ensures { Reads (λ ops. ops) result (ops_in (item_of value.now)) }
+{
+    read_ops(alloc, list(value)?.as_slice())
+}
+
+#[tactic(auto, unfolding(crate::specs::Table::commit_of))]
+fn read_commit(alloc: Global, fields: &Value) -> Result<CommitEvent, Flaw>
+    ensures { Reads (λ commit. commit) result (commit_of (item_of fields.now)) }
+{
+    let repo = required_did(fields, "repo")?;
+    let rev = tid(required(fields, "rev")?)?;
+    let since = optional_tid(fields, "since")?;
+    let prev_data = optional_node(fields, "prevData")?;
+    let commit = node(required(fields, "commit")?)?;
+    let too_big = too_big(fields)?;
+    let blocks = bytes(required(fields, "blocks")?)?;
+    let ops = read_list(alloc, required(fields, "ops")?)?;
+    Ok(CommitEvent {
+        repo,
+        rev,
+        since,
+        prev_data,
+        commit,
+        too_big,
+        blocks: blocks.try_clone()?,
+        ops,
+    })
+}
+
+#[tactic(auto, unfolding(crate::specs::Table::sync_of))]
+fn read_sync(fields: &Value) -> Result<SyncEvent, Flaw>
+    ensures { Reads (λ sync. sync) result (sync_of (item_of fields.now)) }
+{
+    let did = required_did(fields, "did")?;
+    let rev = tid(required(fields, "rev")?)?;
+    let blocks = bytes(required(fields, "blocks")?)?;
+    Ok(SyncEvent {
+        did,
+        rev,
+        blocks: blocks.try_clone()?,
+    })
+}
+
+#[tactic(auto, unfolding(crate::specs::Table::account_of))]
+fn read_account(fields: &Value) -> Result<AccountEvent, Flaw>
+    ensures { Reads (λ account. account) result (account_of (item_of fields.now)) }
+{
+    let active = truth(required(fields, "active")?)?;
+    let status = optional_short_text(fields, "status")?;
+    Ok(AccountEvent { active, status })
+}
+
+/// What an event of this kind says.
+#[tactic(auto, unfolding(crate::specs::Table::body_of))]
+pub fn read_body(alloc: Global, kind: EventKind, fields: &Value) -> Result<Body, Flaw>
+    ensures body { Reads (λ body. body) result (body_of kind (item_of fields.now)) }
+    ensures kind { IfOk result (λ body. kind_of body ≡ kind) }
+{
+    match kind {
+        EventKind::Commit => Ok(Body::Commit(read_commit(alloc, fields)?)),
+        EventKind::Sync => Ok(Body::Sync(read_sync(fields)?)),
+        EventKind::Identity => Ok(Body::Identity),
+        EventKind::Account => Ok(Body::Account(read_account(fields)?)),
+    }
+}
+
+/// The key under which an event has its DID.
+pub fn did_key(kind: EventKind) -> &'static str
+    ensures { result.now ≡ did_key kind }
+{
+    match kind {
+        EventKind::Commit => "repo",
+        EventKind::Sync | EventKind::Identity | EventKind::Account => "did",
+    }
+}

@@ -1,0 +1,124 @@
+//! The frames in which events go out.
+
+ghost use Rattle.std.specs.Prelude.{◌≡◌, ◌++◌, ◌-◌, ◌^◌, ◌<◌, ◌≤◌, ℕ, map, length, codes, min, OnOk, IfOk, Ok};
+ghost use Rattle.at_cbor.specs.Item.{fields_of};
+ghost use Rattle.at_cbor.specs.Spelling.{spelling, fields_spelling};
+ghost use Rattle.at_cbor.specs.View.{item_of, pair_of};
+ghost use Rattle.at_event.specs.declared.frame.Frame.{Frame};
+ghost use Rattle.at_event.specs.Frames.{frame_of};
+ghost use Rattle.at_event.specs.Writing.{name_of, header_of, number_item, with_value, with_seq, field_with, numbered, out_of, out_length};
+
+use crate::event::Event;
+use crate::kind::EventKind;
+use at_cbor::{Value, spelled_len, write_int, write_map_front, write_text, write_value};
+use at_cid::{Memory, Octets, Words};
+use std::alloc::Global;
+
+fn name(kind: EventKind) -> &'static str
+    ensures { result.now ≡ name_of kind }
+{
+    match kind {
+        EventKind::Commit => "#commit",
+        EventKind::Sync => "#sync",
+        EventKind::Identity => "#identity",
+        EventKind::Account => "#account",
+    }
+}
+
+/// Adds the header of an event.
+pub fn write_header(out: &mut Octets, kind: EventKind) -> Result<(), Memory>
+    ensures { OnOk result (out.new ≡ out.old ++ spelling (header_of kind)) }
+{
+    write_map_front(out, 2)?;
+    write_text(out, "t")?;
+    write_text(out, name(kind))?;
+    write_text(out, "op")?;
+    write_int(out, 1)
+}
+
+/// Adds an event's number.
+pub fn write_number(out: &mut Octets, seq: u64) -> Result<(), Memory>
+    requires { seq < 2 ^ 53 }
+    ensures { OnOk result (out.new ≡ out.old ++ spelling (number_item seq)) }
+{
+    write_int(out, seq as i64)
+}
+
+fn write_field(out: &mut Octets, key: &Words, value: &Value, seq: u64) -> Result<(), Memory>
+    requires { seq < 2 ^ 53 }
+    ensures { OnOk result (out.new ≡ out.old ++ fields_spelling (field_with (codes "seq") (number_item seq) key.now (item_of value.now))) }
+{
+    write_text(out, key.as_str())?;
+    if key.as_str() == "seq" {
+        write_number(out, seq)
+    } else {
+        write_value(out, value)
+    }
+}
+
+fn write_fields(out: &mut Octets, fields: &[(Words, Value)], seq: u64) -> Result<(), Memory>
+    requires { seq < 2 ^ 53 }
+    ensures { OnOk result (out.new ≡ out.old ++ fields_spelling (with_value (codes "seq") (number_item seq) (fields_of (map pair_of fields.now)))) }
+{
+    for (key, value) in fields {
+        write_field(out, key, value, seq)?;
+    }
+    Ok(())
+}
+
+fn write_payload(out: &mut Octets, payload: &Value, seq: u64) -> Result<(), Memory>
+    requires { seq < 2 ^ 53 }
+    ensures { OnOk result (out.new ≡ out.old ++ spelling (with_seq seq (item_of payload.now))) }
+{
+    match payload {
+        Value::Map(fields) => {
+            write_map_front(out, fields.len())?;
+            write_fields(out, fields.as_slice(), seq)
+        }
+        // No event has such a payload.
+        other => write_value(out, other),
+    }
+}
+
+#[tactic(auto, unfolding(crate::specs::Writing::out_of, crate::specs::Writing::message_of))]
+fn write_event(out: &mut Octets, event: &Event, seq: u64) -> Result<(), Memory>
+    requires { seq < 2 ^ 53 }
+    ensures { OnOk result (out.new ≡ out.old ++ out_of event.now seq) }
+{
+    write_header(out, event.kind())?;
+    write_payload(out, &event.payload, seq)
+}
+
+/// The frame in which an event goes out under a number: its payload with `seq` replaced, behind the header `{t, op}`.
+pub fn out_frame(alloc: Global, event: &Event, seq: u64) -> Result<Octets, Memory>
+    requires { seq < 2 ^ 53 }
+    ensures spelled { IfOk result (λ bytes. bytes ≡ out_of event.now seq) }
+    // It is read back as the same event, under the number.
+    ensures again { IfOk result (λ bytes. frame_of bytes ≡ Ok (Frame.Event (numbered event.now seq))) }
+{
+    event.kind();
+    let mut out = Octets::new(alloc);
+    write_event(&mut out, event, seq)?;
+    Ok(out)
+}
+
+fn number_len(seq: u64) -> u64
+    requires { seq < 2 ^ 53 }
+    ensures { result ≡ min (length (spelling (number_item seq))) (2 ^ 64 - 1) }
+{
+    spelled_len(&Value::Int(seq as i64))
+}
+
+/// How long the frame of an event is where its number takes nine bytes, as each from 2^32 does; at most `u64::MAX`.
+/// Takes no memory.
+pub fn out_len(event: &Event) -> u64
+    ensures value { result ≡ out_length event.now }
+    ensures nine { (n : ℕ) → 2 ^ 32 ≤ n → n < 2 ^ 53 → result ≡ min (length (out_of event.now n)) (2 ^ 64 - 1) }
+    // No frame of the event is longer.
+    ensures most { (n : ℕ) → n < 2 ^ 53 → min (length (out_of event.now n)) (2 ^ 64 - 1) ≤ result }
+{
+    let header = name(event.kind()).len() as u64 + 8;
+    let number = number_len(event.seq);
+    let payload = spelled_len(&event.payload);
+    (payload - number).saturating_add(9 + header)
+}

@@ -1,0 +1,4 @@
+pub mod Splits
+pub mod Dids
+pub mod Paths
+pub mod Tids

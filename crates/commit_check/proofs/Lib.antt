@@ -1,0 +1,6 @@
+pub mod Differing
+pub mod Keys
+pub mod Apart
+pub mod Objects
+pub mod Steps
+pub mod Accepting

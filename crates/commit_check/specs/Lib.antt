@@ -1,0 +1,6 @@
+pub mod Opening
+pub mod Table
+pub mod Refusing
+pub mod Step
+pub mod Linking
+pub mod Checking

@@ -1,0 +1,25 @@
+-- What a failed check says.
+use Rattle.std.specs.Prelude.{◌≡◌, ⊤, ℕ, List, true, false, Option, Some, None}
+use Rattle.at_event.specs.declared.event.CommitEvent.{CommitEvent}
+use Rattle.at_event.specs.declared.refusal.Refusal.{Refusal}
+use Rattle.at_commit.specs.Commit.{commit_of}
+use Rattle.commit_check.specs.declared.fault.CheckFault.{CheckFault}
+use Rattle.commit_check.specs.Opening.{CarResult, is_malformed, has_wrong_digest, object_of}
+
+-- this refusal was shown, unless memory was wanted
+abbrev pub IsShown : Option Refusal → CheckFault → Type 0
+IsShown shown (CheckFault.Refused refusal) = shown ≡ Some refusal
+IsShown shown CheckFault.Memory = ⊤
+
+-- the CAR doesn't read, unless memory was wanted
+abbrev pub IsUnread : CarResult → CheckFault → Type 0
+IsUnread car (CheckFault.Refused Refusal.BadCar) = is_malformed car ≡ true
+IsUnread car (CheckFault.Refused Refusal.WrongDigest) = (is_malformed car ≡ false) × (has_wrong_digest car ≡ true)
+IsUnread car (CheckFault.Refused refusal) = ⊥
+IsUnread car CheckFault.Memory = ⊤
+
+-- the block is no commit object, unless memory was wanted
+abbrev pub IsNoObject : List ℕ → CheckFault → Type 0
+IsNoObject block (CheckFault.Refused Refusal.BadCommit) = object_of (commit_of block) ≡ None
+IsNoObject block (CheckFault.Refused refusal) = ⊥
+IsNoObject block CheckFault.Memory = ⊤

@@ -1,0 +1,92 @@
+//! What the fields of a commit event show.
+
+ghost use Rattle.std.specs.Prelude.{◌≡◌, IfOk, map, None, length};
+ghost use Rattle.std.specs.List.{list_all};
+ghost use Rattle.commit_check.specs.Table.{field_lines, first_of, has_path, is_op, is_stale, paths_of};
+ghost use Rattle.mst_view.specs.HoleLinks.{all_differ};
+
+use at_cid::Memory;
+use at_event::{Action, CommitEvent, EventOp, Refusal};
+use at_syntax::{Tid, path_ok};
+use std::alloc::Global;
+use std::collections::BTreeSet;
+
+/// The most bytes of `blocks`, own.
+const MOST_BLOCK_BYTES: usize = 2_000_000;
+/// The most operations, own.
+const MOST_OPS: usize = 200;
+
+fn are_paths(ops: &[EventOp]) -> bool
+    ensures { result ≡ list_all has_path ops.now }
+{
+    ops.iter().all(|op| path_ok(op.path.as_str()))
+}
+
+/// Whether the links of an operation fit its action: a create has a `cid` and no `prev`, an update a `cid`, a delete no `cid`.
+fn is_op(op: &EventOp) -> bool
+    ensures { result ≡ is_op op.entry.now }
+{
+    match op.action {
+        Action::Create => op.cid.is_some() && op.prev.is_none(),
+        Action::Update => op.cid.is_some(),
+        Action::Delete => op.cid.is_none(),
+        Action::Other => false,
+    }
+}
+
+fn are_ops(ops: &[EventOp]) -> bool
+    ensures { result ≡ list_all is_op ops.now }
+{
+    ops.iter().all(is_op)
+}
+
+/// Whether no path stands twice: a search tree holds those behind the one at hand.
+fn paths_differ(alloc: Global, ops: &[EventOp]) -> Result<bool, Memory>
+    ensures { IfOk result (λ differ. differ ≡ all_differ (paths_of ops.now)) }
+{
+    let mut seen = BTreeSet::new(alloc);
+    let mut left = ops.len();
+    while left > 0 {
+        left -= 1;
+        if !seen.insert(ops[left].path.as_bytes())? {
+            return Ok(false);
+        }
+    }
+    Ok(true)
+}
+
+/// The first refusal that the fields show.
+pub(crate) fn field_refusal(alloc: Global, event: &CommitEvent) -> Result<Option<Refusal>, Memory>
+    ensures { IfOk result (λ refusal. refusal ≡ first_of (field_lines event.now)) }
+{
+    let ops = event.ops.as_slice();
+    if event.too_big {
+        return Ok(Some(Refusal::TooBig));
+    }
+    if event.blocks.len() > MOST_BLOCK_BYTES {
+        return Ok(Some(Refusal::BlocksTooLong));
+    }
+    if ops.len() > MOST_OPS {
+        return Ok(Some(Refusal::TooManyOps));
+    }
+    if !are_paths(ops) {
+        return Ok(Some(Refusal::BadPath));
+    }
+    if !paths_differ(alloc, ops)? {
+        return Ok(Some(Refusal::RepeatedPath));
+    }
+    if !are_ops(ops) {
+        return Ok(Some(Refusal::BadOp));
+    }
+    Ok(None)
+}
+
+/// Whether the revision isn't above the last one.
+pub(crate) fn is_stale(last: Option<Tid>, rev: Tid) -> bool
+    ensures { result ≡ is_stale last rev }
+{
+    match last {
+        Some(last) => rev <= last,
+        None => false,
+    }
+}

@@ -1,0 +1,10 @@
+pub mod Append
+pub mod BodyAt
+pub mod Fronts
+pub mod BothDisks
+pub mod Reading
+pub mod Reopening
+pub mod Searching
+pub mod Sides
+pub mod Unique
+pub mod Unmade

@@ -1,0 +1,6 @@
+pub mod Crash
+pub mod Image
+pub mod Log
+pub mod Opening
+pub mod Pick
+pub mod SideOf

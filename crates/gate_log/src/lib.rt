@@ -1,0 +1,22 @@
+//! A log of bodies on a disk, each behind a gate that is opened once the body is durable.
+#![tactic(auto)]
+
+mod bodies;
+mod ending;
+mod fault;
+mod format;
+mod front;
+mod laws;
+mod log;
+mod making;
+mod pairs;
+mod picking;
+mod records;
+mod steps;
+
+pub use fault::LogFault;
+pub use format::Format;
+pub use laws::{faults_are_no_images, images_have_one_list};
+pub use log::Log;
+pub use pairs::open_pair;
+pub use picking::{Side, pick};

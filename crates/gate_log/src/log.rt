@@ -1,0 +1,233 @@
+// The log itself: its end on the disk, and the room in which records are put together.
+ghost use Rattle.std.specs.Prelude.{◌≡◌, ◌≤◌, ◌<◌, ◌+◌, ◌^◌, ◌↔◌, ◌++◌, ◌∷◌, [], List, ℕ, false, max, length, vec_capacity, IsTrue, IfOk, OnOk, OnErr};
+ghost use Rattle.at_cid.specs.Counts.{Rose};
+ghost use Rattle.relay_disk.specs.Disk.{Goes, Same};
+ghost use Rattle.relay_disk.specs.Moments.{LeavesOnly};
+ghost use Rattle.gate_log.specs.Image.{made, front, generation, IsImage, IsUnmade, IsBadAt, behind_gate};
+ghost use Rattle.gate_log.specs.Crash.{IsImageOfOne, IsBeforeOrAfter, IsNew, LeavesImages, LeavesNew};
+ghost use Rattle.gate_log.specs.Log.{Holds, IsOn};
+
+use crate::bodies::{read_body, read_length};
+use crate::ending::find_or_make;
+use crate::steps::add_record;
+use crate::{Format, LogFault};
+use at_cid::{Memory, Octets};
+use relay_disk::Disk;
+use std::alloc::Global;
+use std::marker::Model;
+
+/// The bytes of a record that aren't its gate and its body: the length, and the closed gate behind it.
+const RECORD_REST: usize = 5;
+
+/// A log on a disk, which is handed to each call.
+///
+/// A log is a front and records. A record is a gate, four bytes of body length, the highest first, and the
+/// body. A gate is open exactly where it is 1, and the records are those up to the first closed gate.
+#[derive(Drop)]
+pub struct Log {
+    format: Format,
+    end: u64,
+    most: u64,
+    spare: u64,
+    is_open: bool,
+    room: Vec<u8>,
+}
+
+impl Model for Log {
+    ghost use Rattle.std.specs.Prelude.{◌≤◌, ◌<◌, ◌+◌, ◌^◌, vec_capacity};
+    ghost use Rattle.gate_log.specs.Log.{LogState};
+
+    ghost Value = { LogState };
+
+    ghost view = { λ l. record { format = l.format; end = l.end; most = l.most; spare = l.spare; is_open = l.is_open } };
+
+    ghost invariant = { λ l. (l.spare + 5 ≤ vec_capacity l.room) × (l.end < 2 ^ 63) × (l.most ≤ 2 ^ 62) };
+}
+
+// Puts a record together but for its gate, in room that is there.
+fn put_record(room: &mut Vec<u8>, body: &[u8])
+    requires room { length body.now + 5 ≤ vec_capacity room.old }
+    requires short { length body.now < 2 ^ 32 }
+    ensures record { room.new.items ≡ behind_gate body.now ++ 0 ∷ [] }
+    ensures capacity { vec_capacity room.old ≤ vec_capacity room.new }
+{
+    room.clear();
+    let _ = room.extend_from_slice(&(body.len() as u32).to_be_bytes());
+    let _ = room.extend_from_slice(body);
+    let _ = room.push(0);
+}
+
+impl Log {
+    /// Opens the log of a disk, which is made where it is unmade. No record is to end past `most`, which is in
+    /// bytes.
+    pub fn open<D: Disk>(alloc: Global, disk: &mut D, most: u64) -> Result<Log, LogFault>
+        requires { most ≤ 2 ^ 62 }
+        ensures log { IfOk result (λ log. (log.most ≡ most) × IsTrue log.is_open) }
+
+        // Its bodies are those of the disk.
+        ensures holds { IfOk result (λ log. IsTrue D.tells → (bodies : List (List ℕ))
+            × IsImage bodies (D.view disk.old).content × Holds bodies log (D.view disk.new)) }
+
+        ensures on { IfOk result (λ log. IsTrue D.tells → IsOn (D.view disk.new) log) }
+
+        // A crash at any moment of the call leaves an image of one of the lists that one before could leave.
+        ensures moments { IsTrue D.tells → LeavesImages (D.view disk.old)
+            → LeavesOnly (IsImageOfOne (D.view disk.old)) (D.view disk.old) (D.view disk.new) }
+
+        // Only an unmade disk is written, and a crash on the way leaves a log without bodies.
+        ensures reads { IsTrue D.tells → (IsUnmade (D.view disk.old).content → ⊥) → Goes Same (D.view disk.old) (D.view disk.new) }
+        ensures makes { IsTrue D.tells → IsUnmade (D.view disk.old).content → LeavesNew (D.view disk.old)
+            → LeavesOnly IsNew (D.view disk.old) (D.view disk.new) }
+
+        ensures bad_log { (p : ℕ) → result ≡ Err (LogFault.BadLog p) → IsTrue D.tells → IsBadAt p (D.view disk.old).content }
+        ensures disk { result ≡ Err LogFault.Disk → Rose (D.view disk.old).faults (D.view disk.new).faults }
+        ensures memory { result ≡ Err LogFault.Memory → disk.new ≡ disk.old }
+        ensures no_full { (e : ℕ) → result ≡ Err (LogFault.Full e) → ⊥ }
+    {
+        let mut room = Vec::new(alloc);
+        if room.reserve(RECORD_REST).is_err() {
+            return Err(LogFault::Memory);
+        }
+        let ending = find_or_make(disk)?;
+        Ok(Log {
+            format: ending.format,
+            end: ending.end,
+            most,
+            spare: 0,
+            is_open: true,
+            room,
+        })
+    }
+
+    /// Makes room for a body of so many bytes.
+    pub fn reserve(&mut self, len: u32) -> Result<(), Memory>
+        ensures ok { OnOk result (self.new ≡ record self.old { spare = max self.old.spare len }) }
+        ensures err { OnErr result (self.new ≡ self.old) }
+        ensures same { self.new ≡ record self.old { spare = self.new.spare } }
+    {
+        let len = len as u64;
+        if len <= self.spare {
+            return Ok(());
+        }
+        let more = len as usize + RECORD_REST;
+        self.room.clear();
+        self.room.reserve(more)?;
+        self.spare = len;
+        Ok(())
+    }
+
+    /// The length of the longest body for which there is room. An append leaves it as it is.
+    pub fn spare(&self) -> u64
+        ensures { result ≡ self.now.spare }
+    {
+        self.spare
+    }
+
+    /// The place of the first record's gate.
+    pub fn first(&self) -> u64
+        ensures { result ≡ length (front self.now.format) }
+    {
+        self.format.first()
+    }
+
+    /// The place of the closed gate behind the records, where the next one goes.
+    pub fn end(&self) -> u64
+        ensures { result ≡ self.now.end }
+    {
+        self.end
+    }
+
+    /// The generation, which is 0 in the first format.
+    pub fn generation(&self) -> u64
+        ensures { result ≡ generation self.now.format }
+    {
+        self.format.generation()
+    }
+
+    /// Whether no append has failed since it was opened.
+    pub fn is_open(&self) -> bool
+        ensures { result ≡ self.now.is_open }
+    {
+        self.is_open
+    }
+
+    /// Adds a body, and answers its place. At `Ok` it is durable. At `Disk` the log is closed, and the disk has to
+    /// be opened again. It takes no memory: the record is put together in the reserved room.
+    pub fn append<D: Disk>(&mut self, disk: &mut D, body: &[u8]) -> Result<u64, LogFault>
+        requires open { IsTrue self.old.is_open }
+        requires on { IsTrue D.tells → IsOn (D.view disk.old) self.old }
+        requires short { length body.now < 2 ^ 32 }
+        requires room { length body.now ≤ self.old.spare }
+
+        ensures place { IfOk result (λ place. place ≡ self.old.end) }
+        ensures log { OnOk result (self.new ≡ record self.old { end = self.old.end + 5 + length body.now }) }
+        ensures added { OnOk result (IsTrue D.tells → (bodies : List (List ℕ)) → Holds bodies self.old (D.view disk.old)
+            → Holds (bodies ++ body.now ∷ []) self.new (D.view disk.new)) }
+
+        ensures on { OnOk result (IsTrue D.tells → IsOn (D.view disk.new) self.new) }
+
+        // A crash at any moment of the call leaves the bodies, with the new one or without.
+        ensures moments { IsTrue D.tells → (bodies : List (List ℕ)) → Holds bodies self.old (D.view disk.old)
+            → LeavesOnly (IsBeforeOrAfter self.old.format bodies body.now) (D.view disk.old) (D.view disk.new) }
+
+        ensures disk { result ≡ Err LogFault.Disk → Rose (D.view disk.old).faults (D.view disk.new).faults × (self.new.is_open ≡ false) }
+        ensures full { (e : ℕ) → (result ≡ Err (LogFault.Full e)) ↔ ((e ≡ self.old.end + 6 + length body.now) × (self.old.most < e)) }
+        ensures untouched { (e : ℕ) → result ≡ Err (LogFault.Full e) → (self.new ≡ self.old) × (disk.new ≡ disk.old) }
+        ensures no_bad_log { (p : ℕ) → result ≡ Err (LogFault.BadLog p) → ⊥ }
+        ensures no_memory { result ≡ Err LogFault.Memory → ⊥ }
+    {
+        let gate = self.end;
+        let end = gate + (body.len() + RECORD_REST) as u64;
+        if end + 1 > self.most {
+            return Err(LogFault::Full(end + 1));
+        }
+        put_record(&mut self.room, body);
+        match add_record(disk, self.format, gate, &self.room) {
+            Ok(()) => {
+                self.end = end;
+                Ok(gate)
+            }
+            Err(_) => {
+                self.is_open = false;
+                Err(LogFault::Disk)
+            }
+        }
+    }
+
+    /// The body at the place of its gate, and the place of the next gate. Where no body stands at the place, it
+    /// answers `BadLog` with the place, or bytes that stand there.
+    pub fn read<D: Disk>(
+        &self,
+        alloc: Global,
+        disk: &mut D,
+        place: u64,
+    ) -> Result<(Octets, u64), LogFault>
+        requires on { IsTrue D.tells → IsOn (D.view disk.old) self.now }
+        requires below { place < self.now.end }
+
+        // At the place of a body it gives this body.
+        ensures body { IfOk result (λ found. IsTrue D.tells → (before : List (List ℕ)) (body : List ℕ) (after : List (List ℕ))
+            → Holds (before ++ body ∷ after) self.now (D.view disk.old) → place ≡ length (made self.now.format before)
+            → (found.0 ≡ body) × (found.1 ≡ place + 5 + length body)) }
+        ensures bad_log { (p : ℕ) → result ≡ Err (LogFault.BadLog p) → IsTrue D.tells
+            → (before : List (List ℕ)) (body : List ℕ) (after : List (List ℕ))
+            → Holds (before ++ body ∷ after) self.now (D.view disk.old) → place ≡ length (made self.now.format before) → ⊥ }
+        ensures bad_place { (p : ℕ) → result ≡ Err (LogFault.BadLog p) → p ≡ place }
+        ensures goes { Goes Same (D.view disk.old) (D.view disk.new) }
+        ensures disk { result ≡ Err LogFault.Disk → Rose (D.view disk.old).faults (D.view disk.new).faults }
+        ensures no_full { (e : ℕ) → result ≡ Err (LogFault.Full e) → ⊥ }
+    {
+        if self.end - place < RECORD_REST as u64 {
+            return Err(LogFault::BadLog(place));
+        }
+        let Some(len) = read_length(disk, place)? else {
+            return Err(LogFault::BadLog(place));
+        };
+        let next = place + RECORD_REST as u64 + len as u64;
+        if next > self.end {
+            return Err(LogFault::BadLog(place));
+        }
+        let body = read_body(alloc, disk, place + RECORD_REST as u64, len as usize)?;
+        Ok((Octets::from_vec(body), next))
+    }
+}

@@ -1,0 +1,5 @@
+use Rattle.mst_law.proofs.Links.{covering}
+use Rattle.mst_law.proofs.law.covering_law.Goals as goal
+
+pub returns : goal.returns
+returns c = covering

@@ -1,0 +1,17 @@
+pub mod Places
+pub mod Fills
+pub mod Replay
+pub mod Kept
+pub mod Laid
+pub mod Undo
+pub mod Puts
+pub mod Judged
+pub mod Firsts
+pub mod Clashes
+pub mod Exact
+pub mod Commute
+pub mod Formed
+pub mod Seen
+pub mod Answering
+pub mod Zeros
+pub mod Alike

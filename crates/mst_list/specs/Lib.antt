@@ -1,0 +1,5 @@
+pub mod Height
+pub mod Lists
+pub mod Edits
+pub mod Faults
+pub mod Laws

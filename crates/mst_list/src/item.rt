@@ -1,0 +1,52 @@
+//! One item of a list.
+
+ghost use Rattle.std.specs.Prelude.{◌≡◌, ◌↔◌, ◌≤◌, IfOk, IsTrue, length};
+ghost use Rattle.at_cid.specs.Link.{IsBytes, IsLink, IsNodeLink};
+ghost use Rattle.mst_list.specs.Lists.{IsKey, IsFormed};
+
+use at_cid::{Cid, Kind, Memory, Octets};
+use std::alloc::Global;
+
+/// A key with the link of its record; or a hole, which is a subtree that is known by its link alone, with the layer of
+/// its top node.
+#[derive(Debug, Drop, PartialEq, Eq)]
+pub enum Item {
+    Key(Octets, Cid),
+    Hole(u8, Cid),
+}
+
+/// Whether a key has 1 to 830 bytes (own limit: the longest path of a record).
+pub(crate) fn is_key(key: &Octets) -> bool
+    ensures { IsTrue result ↔ IsKey key.now }
+{
+    let bytes = key.as_slice();
+    !bytes.is_empty() && bytes.len() <= 830
+}
+
+impl Item {
+    /// Whether a key has 1 to 830 bytes, or a hole's link is of kind Node.
+    pub fn is_formed(&self) -> bool
+        ensures { IsTrue result ↔ IsFormed self.now }
+    {
+        match self {
+            Item::Key(key, value) => {
+                value.as_bytes();
+                is_key(key)
+            }
+            Item::Hole(_, link) => {
+                link.as_bytes();
+                link.kind() == Kind::Node
+            }
+        }
+    }
+
+    /// The same item once more.
+    pub fn try_clone(&self) -> Result<Item, Memory>
+        ensures { IfOk result (λ made. made ≡ self.now) }
+    {
+        Ok(match self {
+            Item::Key(key, value) => Item::Key(key.try_clone()?, *value),
+            Item::Hole(layer, link) => Item::Hole(*layer, *link),
+        })
+    }
+}

@@ -1,0 +1,32 @@
+//! Lists of a repository's keys, in which a subtree that isn't at hand is a hole: heights of keys, and the playing and
+//! undoing of a commit's operations.
+#![tactic(auto)]
+
+mod editing;
+mod guarding;
+mod heights;
+mod item;
+mod item_list;
+mod judging;
+mod law;
+mod op;
+mod op_list;
+mod playing;
+mod scanning;
+mod undoing;
+
+pub use guarding::guarded;
+pub use heights::height;
+pub use item::Item;
+pub use item_list::ItemList;
+pub use judging::{Verdict, weigh};
+pub use law::{edit_law, undoing_order_law, visible_law};
+pub use op::Op;
+pub use op_list::OpList;
+pub use playing::{PlayFault, play};
+pub use undoing::{UndoFault, undo_list};
+
+#[cfg(test)]
+mod tables;
+#[cfg(test)]
+mod tests;

@@ -1,0 +1,35 @@
+//! One operation of a commit.
+
+ghost use Rattle.std.specs.Prelude.{◌≡◌, ◌↔◌, IsTrue};
+ghost use Rattle.at_cid.specs.Link.{IsLinkOrNone};
+ghost use Rattle.mst_list.specs.Edits.{IsFormedOp};
+
+use crate::item::is_key;
+use at_cid::{Cid, Octets};
+
+/// What a commit does to one key: a create has only `now`, a delete only `was`, and an update both.
+#[derive(Debug, Drop, PartialEq, Eq)]
+pub struct Op {
+    pub key: Octets,
+    pub was: Option<Cid>,
+    pub now: Option<Cid>,
+}
+
+fn tell_link(link: &Option<Cid>)
+    ensures { IsLinkOrNone link.now }
+{
+    if let Some(link) = link {
+        link.as_bytes();
+    }
+}
+
+impl Op {
+    /// Whether the key has 1 to 830 bytes, and `was` or `now` is there.
+    pub fn is_formed(&self) -> bool
+        ensures { IsTrue result ↔ IsFormedOp self.entry.now }
+    {
+        tell_link(&self.was);
+        tell_link(&self.now);
+        is_key(&self.key) && (self.was.is_some() || self.now.is_some())
+    }
+}

@@ -1,0 +1,17 @@
+pub mod Spelling
+pub mod Links
+pub mod Layers
+pub mod Cuts
+pub mod Filling
+pub mod Telling
+pub mod Once
+pub mod Tops
+pub mod Joins
+pub mod Parts
+pub mod Lies
+pub mod Told
+pub mod Readers
+pub mod Rests
+pub mod Writes
+pub mod Finding
+pub mod EmptyTree

@@ -1,0 +1,10 @@
+pub mod Passes
+pub mod Finds
+pub mod Gives
+pub mod Spelled
+pub mod Steps
+pub mod Tops
+pub mod HoleLinks
+pub mod Heights
+pub mod Forms
+pub mod NoView

@@ -1,0 +1,121 @@
+-- What the tests of a node say.
+use Rattle.std.proofs.Common.{◌≡◌, ℕ, zero, suc, eqb, cond, Bool, true, false, ◌&&◌, List, [], ◌∷◌, refl, sym, Less, Equal, Greater, Option, Some, None, Result, Ok, Err, ◌⊎◌, inl, inr, arith}
+use Rattle.mst_list.specs.declared.item.Item.{Item}
+use Rattle.mst_list.specs.declared.item.Item.TheVariants.{Key, Hole}
+use Rattle.at_cid.specs.Order.{key_cmp}
+use Rattle.mst_list.specs.Height.{height}
+use Rattle.mst_list.specs.Lists.{NoHoleOf, HolesDiffer}
+use Rattle.mst_list.specs.Edits.{by_order}
+use Rattle.at_cid.proofs.Order.{cmp_same, cmp_exact}
+use Rattle.mst_node.specs.declared.entry.Entry.{Entry}
+use Rattle.mst_node.specs.Nodes.{Node, AreFormedEntries, EntriesAscend}
+use Rattle.mst_node.specs.NodeFaults.{AreEntriesAt}
+use Rattle.mst_node.specs.Covers.{IsOver, IsUnder}
+use Rattle.mst_node.proofs.Layers.{eqb_yes, eqb_same, eqb_not}
+use Rattle.mst_view.specs.Reading.{go_on, is_less, is_over, is_under, may_hang, entries_fit, block_of, or_hole}
+use Rattle.mst_view.specs.HoleLinks.{absent, all_differ, hole_links}
+
+pub both_true : (a b : Bool) → a && b ≡ true → (a ≡ true) × (b ≡ true)
+both_true true b e = (refl, e)
+both_true false b e = absurd (cc)
+
+pub less_true : (j k : List ℕ) → is_less j k ≡ true → key_cmp j k ≡ Less
+less_true j k h =
+    elim (key_cmp j k) as (λ o. by_order o true false false ≡ true → o ≡ Less) [ Less ↦ λ e. refl | Equal ↦ λ e. absurd (cc) | Greater ↦ λ e. absurd (cc) ] h
+
+pub over_true : (low : Option (List ℕ)) (k : List ℕ) → is_over low k ≡ true → IsOver low k
+over_true None k h = tt
+over_true (Some j) k h = less_true j k h
+
+pub under_true : (k : List ℕ) (high : Option (List ℕ)) → is_under k high ≡ true → IsUnder k high
+under_true k None h = tt
+under_true k (Some j) h = less_true k j h
+
+pub true_over : (low : Option (List ℕ)) (k : List ℕ) → IsOver low k → is_over low k ≡ true
+true_over None k h = refl
+true_over (Some j) k h = rw h refl
+
+pub true_under : (k : List ℕ) (high : Option (List ℕ)) → IsUnder k high → is_under k high ≡ true
+true_under k None h = refl
+true_under k (Some j) h = rw h refl
+
+pub hang_true : (h : ℕ) (c : Option (List ℕ)) → may_hang h c ≡ true → h ≡ 0 → c ≡ None
+hang_true h None e z = refl
+hang_true h (Some c) e z = let on : eqb h 0 ≡ true = rw z refl in absurd (cc)
+
+pub true_hang : (h : ℕ) (c : Option (List ℕ)) → (h ≡ 0 → c ≡ None) → may_hang h c ≡ true
+true_hang h None f = refl
+true_hang zero (Some c) f = let bad = f refl in absurd (cc)
+true_hang (suc h) (Some c) f = rw (eqb_not (suc h) 0 (omega arith)) refl
+
+-- the test of entries
+pub fit_true : (h : ℕ) (low high : Option (List ℕ)) (es : List Entry) → AreFormedEntries es → entries_fit h low high es ≡ true → AreEntriesAt h low high es
+fit_true h low high [] f e = tt
+fit_true h low high (x ∷ es) f e =
+    let p = both_true (eqb (height x.key) h && (is_over low x.key && (is_under x.key high && may_hang h x.right))) (entries_fit h (Some x.key) high es) e in
+    let q = both_true (eqb (height x.key) h) (is_over low x.key && (is_under x.key high && may_hang h x.right)) p.0 in
+    let r = both_true (is_over low x.key) (is_under x.key high && may_hang h x.right) q.1 in
+    let s = both_true (is_under x.key high) (may_hang h x.right) r.1 in (
+      record { key = f.0.0; value = f.0.1; right = f.0.2; at = eqb_yes (height x.key) h q.0; over = over_true low x.key r.0; under = under_true x.key high s.0; lowest = hang_true h x.right s.1 },
+      fit_true h (Some x.key) high es f.1 p.1,
+    )
+
+pub true_fit : (h : ℕ) (low high : Option (List ℕ)) (es : List Entry) → AreEntriesAt h low high es → entries_fit h low high es ≡ true
+true_fit h low high [] a = refl
+true_fit h low high (x ∷ es) a =
+    let at : eqb (height x.key) h ≡ true = rw a.0.at (eqb_same h) in
+    rw (at, true_over low x.key a.0.over, true_under x.key high a.0.under, true_hang h x.right a.0.lowest) (true_fit h (Some x.key) high es a.1)
+
+pub formed_of : (h : ℕ) (low high : Option (List ℕ)) (es : List Entry) → AreEntriesAt h low high es → AreFormedEntries es
+formed_of h low high [] a = tt
+formed_of h low high (x ∷ es) a = ((a.0.key, a.0.value, a.0.right), formed_of h (Some x.key) high es a.1)
+
+pub ascend_of : (h : ℕ) (low high : Option (List ℕ)) (es : List Entry) → AreEntriesAt h low high es → EntriesAscend low es
+ascend_of h low high [] a = tt
+ascend_of h low high (x ∷ es) a = (a.0.over, ascend_of h (Some x.key) high es a.1)
+
+pub over_none : (low : Option (List ℕ)) (es : List Entry) → EntriesAscend low es → EntriesAscend None es
+over_none low [] a = tt
+over_none low (x ∷ es) a = (tt, a.1)
+
+-- the test of holes
+pub no_hole_true : (c : List ℕ) (F : List Item) → absent c (hole_links F) ≡ true → NoHoleOf c F
+no_hole_true c [] e = tt
+no_hole_true c (Key k v ∷ F) e = no_hole_true c F e
+no_hole_true c (Hole l d ∷ F) e =
+    let p = both_true (by_order (key_cmp c d) true false true) (absent c (hole_links F)) e in
+    (λ same. let tied : key_cmp c d ≡ Equal = rw same (cmp_same d) in let on : by_order (key_cmp c d) true false true ≡ false = rw tied refl in absurd (let first = p.0 in cc), no_hole_true c F p.1)
+
+pub differ_true : (F : List Item) → all_differ (hole_links F) ≡ true → HolesDiffer F
+differ_true [] e = tt
+differ_true (Key k v ∷ F) e = differ_true F e
+differ_true (Hole l c ∷ F) e = let p = both_true (absent c (hole_links F)) (all_differ (hole_links F)) e in (no_hole_true c F p.0, differ_true F p.1)
+
+pub true_no_hole : (c : List ℕ) (F : List Item) → NoHoleOf c F → absent c (hole_links F) ≡ true
+true_no_hole c [] h = refl
+true_no_hole c (Key k v ∷ F) h = true_no_hole c F h
+true_no_hole c (Hole l d ∷ F) h =
+    let other : by_order (key_cmp c d) true false true ≡ true = elim (key_cmp c d) as (λ o. key_cmp c d ≡ o → by_order o true false true ≡ true) [ Less ↦ λ e. refl | Equal ↦ λ e. absurd (h.0 (cmp_exact c d e)) | Greater ↦ λ e. refl ] refl in
+    rw other (true_no_hole c F h.1)
+
+pub true_differ : (F : List Item) → HolesDiffer F → all_differ (hole_links F) ≡ true
+true_differ [] h = refl
+true_differ (Key k v ∷ F) h = true_differ F h
+true_differ (Hole l c ∷ F) h = rw (true_no_hole c F h.0) (true_differ F h.1)
+
+-- steps that went well
+pub went_on : {A X F : Type 0} (r : Result A F) (f : A → Result X F) (y : X) → go_on r f ≡ Ok y → (x : A) × (r ≡ Ok x) × (f x ≡ Ok y)
+went_on (Ok x) f y e = (x, refl, e)
+went_on (Err z) f y e = absurd (cc)
+
+pub passed : (passes : Node → Bool) (parts : Node → Result (List Item) (List ℕ)) (c : List ℕ) (o : Option Node) (F : List Item) → block_of passes parts c o ≡ Ok F → (n : Node) × (o ≡ Some n) × (passes n ≡ true) × (parts n ≡ Ok F)
+passed passes parts c None F e = absurd (cc)
+passed passes parts c (Some n) F e = go (passes n) refl e
+  where
+    go : (b : Bool) → passes n ≡ b → cond b (parts n) (Err c) ≡ Ok F → (m : Node) × (Some n ≡ Some m) × (passes m ≡ true) × (parts m ≡ Ok F)
+    go true p g = (n, refl, p, g)
+    go false p g = absurd (cc)
+
+pub there_or_hole : (h : ℕ) (c : List ℕ) (inside : List ℕ → Result (List Item) (List ℕ)) (o : Option (List ℕ)) (F : List Item) → or_hole h c inside o ≡ Ok F → ((o ≡ None) × (F ≡ Hole h c ∷ [])) ⊎ ((b : List ℕ) × (o ≡ Some b) × (inside b ≡ Ok F))
+there_or_hole h c inside None F e = inl (refl, let same : Hole h c ∷ [] ≡ F = cc in sym same)
+there_or_hole h c inside (Some b) F e = inr (b, refl, e)

@@ -1,0 +1,51 @@
+-- Top nodes.
+use Rattle.std.proofs.Common.{◌≡◌, ℕ, true, ◌&&◌, List, [], ◌∷◌, refl, sym, ap, ◌∙◌, Option, Some, None, Ok}
+use Rattle.std.specs.FinMap as map
+use Rattle.std.specs.FinMap.{FinMap}
+use Rattle.at_cid.specs.Link.{IsNodeLink}
+use Rattle.mst_list.specs.declared.item.Item.{Item}
+use Rattle.at_cid.specs.Order.{key_cmp}
+use Rattle.mst_list.specs.Lists.{IsWellLaid}
+use Rattle.mst_node.specs.declared.entry.Entry.{Entry}
+use Rattle.mst_node.specs.NodeBytes.{node_bytes}
+use Rattle.mst_node.specs.Trees.{top_layer}
+use Rattle.mst_node.specs.Nodes.{IsChildLink, Node, IsSoundReader}
+use Rattle.mst_node.specs.NodeFaults.{AreEntriesAt, layer_of}
+use Rattle.mst_view.specs.Reading.{may_hang, may_top, top_fits, entries_fit, parts_of, part_at, tree_at}
+use Rattle.mst_view.proofs.Passes.{both_true, fit_true, hang_true}
+use Rattle.mst_view.proofs.Gives.{tree_told}
+use Rattle.mst_node.specs.Covers.{AreUnderNodeLinks}
+use Rattle.mst_view.specs.HoleLinks.{all_differ, hole_links}
+
+module _ (read : List ℕ → Option Node) (sound : IsSoundReader read) (B : FinMap key_cmp (List ℕ)) (under : AreUnderNodeLinks B) where
+  -- what is known of a top node that passes
+  pub record IsTopKnown (b : List ℕ) (left : Option (List ℕ)) (es : List Entry) : Type 0 where
+    pub spelled : b ≡ node_bytes left es
+    pub kind : IsChildLink left
+    pub entries : AreEntriesAt (layer_of es) None None es
+    pub lowest : layer_of es ≡ 0 → left ≡ None
+
+  pub top_known : (b : List ℕ) (left : Option (List ℕ)) (es : List Entry) → read b ≡ Some (left, es) → top_fits (left, es) ≡ true → IsTopKnown b left es
+  top_known b left es e f =
+      let g = sound.gives b (left, es) e in
+      let p = both_true (may_hang (layer_of es) left && may_top (left, es)) (entries_fit (layer_of es) None None es) f in
+      let q = both_true (may_hang (layer_of es) left) (may_top (left, es)) p.0 in
+      record { spelled = g.0; kind = g.1; entries = fit_true (layer_of es) None None es g.2 p.1; lowest = hang_true (layer_of es) left q.0 }
+
+  pub tree_of : (r b : List ℕ) (n : Node) (F : List Item) → read b ≡ Some n → top_fits n ≡ true → parts_of (part_at read B (layer_of n.1)) None None n ≡ Ok F → all_differ (hole_links F) ≡ true → tree_at read B r b ≡ Ok F
+  tree_of r b n F e f p d = rw (e, f, p, d) refl
+
+  low_part : (low high : Option (List ℕ)) (c : Option (List ℕ)) → part_at read B 0 low high c ≡ Ok []
+  unfolding part_at
+  low_part low high c = refl
+
+  pub empty_tree : (r b : List ℕ) (left : Option (List ℕ)) (es : List Entry) → read b ≡ Some (left, es) → top_fits (left, es) ≡ true → es ≡ [] → tree_at read B r b ≡ Ok []
+  empty_tree r b left [] e f n = rw (e, f, low_part None None left) refl
+  empty_tree r b left (x ∷ es) e f n = absurd (cc)
+
+  pub laid_top : (r b : List ℕ) (n : Node) (F : List Item) → IsNodeLink r → map.get B r ≡ Some b → read b ≡ Some n → tree_at read B r b ≡ Ok F → IsWellLaid F × (top_layer F ≡ layer_of n.1)
+  laid_top r b n F kind at e t =
+      let g = tree_told read sound B under r b F kind at t in
+      let same : Some n ≡ Some g.node = sym e ∙ g.reads in
+      let one : n ≡ g.node = cc in
+      (g.view.well_laid, g.layer ∙ ap (λ (x : Node). layer_of x.1) (sym one))

@@ -1,0 +1,28 @@
+use Rattle.std.proofs.Common.{length, ◌-◌, ◌≡◌, ◌++◌, ◌+◌, ◌*◌, ◌≤◌, drop}
+use Rattle.std.specs.Prelude.{option_map}
+use Rattle.mst_view.specs.Reading.{part_at, rights_of}
+use Rattle.mst_view.specs.Layered.{AllAt, rest_items, entries_of}
+use Rattle.mst_view.proofs.reading.+read.Given as goal
+use Rattle.mst_node.specs.Reading.{node_of}
+use Rattle.mst_view.specs.Steps.{with_front, AllHang}
+
+abbrev pub decreases-read_below : goal.decreases-read_below
+decreases-read_below l = 3 * l.layer
+
+abbrev pub decreases-read_rest : goal.decreases-read_rest
+decreases-read_rest l = 3 * l.layer + 1
+
+abbrev pub decreases-read_parts : goal.decreases-read_parts
+decreases-read_parts l = 3 * l.layer + 2
+
+abbrev pub invariant-read_rest-loop-i : goal.invariant-read_rest-loop-i
+invariant-read_rest-loop-i l = record {
+  in_range : l.i ≤ length l.entries;
+  at : AllAt l.layer l.rest.items;
+  hang : AllHang l.layer (drop l.i l.entries);
+  keeps : entries_of l.rest.items ++ drop l.i l.entries ≡ l.entries;
+  reads : with_front (rest_items l.layer l.rest.items) (rights_of (part_at node_of l.blocks l.layer) (option_map (λ k. k.now) l.high) (drop l.i l.entries)) ≡ rights_of (part_at node_of l.blocks l.layer) (option_map (λ k. k.now) l.high) l.entries;
+}
+
+abbrev pub decreases-read_rest-loop-i : goal.decreases-read_rest-loop-i
+decreases-read_rest-loop-i l = length l.entries - l.i

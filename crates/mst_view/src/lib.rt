@@ -1,0 +1,24 @@
+//! Trees of a repository in which subtrees that aren't at hand are holes: read from blocks, seen as lists with holes,
+//! taken apart and put together, and their links.
+#![tactic(auto)]
+
+mod branch;
+mod copying;
+mod fitting;
+mod holes;
+mod law;
+mod link;
+mod listing;
+mod reading;
+mod stub_tree;
+mod viewing;
+
+pub use branch::{Below, Branch, Part, Rest};
+pub use law::view_law;
+pub use stub_tree::StubTree;
+pub use viewing::{ViewFault, view};
+
+#[cfg(test)]
+mod tables;
+#[cfg(test)]
+mod tests;

@@ -1,0 +1,166 @@
+//! Reading trees from blocks.
+
+ghost use Rattle.std.specs.Prelude.{◌≡◌, IfOk, Some, None, true, option_map};
+ghost use Rattle.at_cid.specs.Link.{cid};
+ghost use Rattle.at_cid.specs.Memory.{Gives};
+ghost use Rattle.mst_node.specs.NodeBytes.{node_bytes};
+ghost use Rattle.mst_node.specs.Nodes.{IsChildLink};
+ghost use Rattle.mst_node.specs.NodeFaults.{next_bound};
+ghost use Rattle.mst_node.specs.Reading.{node_of};
+ghost use Rattle.mst_node.specs.Trees.{spell};
+ghost use Rattle.mst_view.specs.Layered.{LiesBelow, IsAtLayer, AllAt, below_items, rest_items, below_link, entries_of};
+ghost use Rattle.mst_view.specs.Reading.{is_some_node, parts_of, part_at, rights_of};
+ghost use Rattle.mst_view.specs.Steps.{AllHang, link_at_fault};
+ghost use Rattle.mst_view.specs.declared.reading.ReadFault.{ReadFault};
+
+use crate::branch::{Below, Branch, Part, Rest};
+use crate::fitting::node_fits;
+use at_car::Blocks;
+use at_cid::{Cid, Memory};
+use mst_node::{Entry, NodeFault, read_node};
+use std::alloc::{AllocError, AllocFailed, Global};
+
+/// Why a tree can't be read.
+#[derive(Debug, Drop)]
+pub(crate) enum ReadFault {
+    /// The block under this link is no node, or may not stand at its place.
+    BadNode(Cid),
+    Memory,
+}
+
+impl From<Memory> for ReadFault {
+    ghost from_gives = { λ _ fault. fault ≡ ReadFault.Memory };
+
+    fn from(_e: Memory) -> ReadFault {
+        ReadFault::Memory
+    }
+}
+
+impl<T: Drop> From<AllocFailed<T>> for ReadFault {
+    ghost from_gives = { λ _ fault. fault ≡ ReadFault.Memory };
+
+    fn from(_e: AllocFailed<T>) -> ReadFault {
+        ReadFault::Memory
+    }
+}
+
+fn next_key<'a>(high: Option<&'a [u8]>, entries: &'a [Entry]) -> Option<&'a [u8]>
+    ensures { option_map (λ k. k.now) result ≡ next_bound (option_map (λ k. k.now) high.entry) entries.now }
+{
+    match entries.first() {
+        Some(entry) => Some(entry.key.as_slice()),
+        None => high,
+    }
+}
+
+/// What hangs under a link below a layer, between two keys.
+#[cycle(read)]
+fn read_below(
+    alloc: Global,
+    blocks: &Blocks,
+    layer: u8,
+    low: Option<&[u8]>,
+    high: Option<&[u8]>,
+    link: Option<Cid>,
+) -> Result<Below, ReadFault>
+    requires kind { IsChildLink link }
+    requires lowest { layer ≡ 0 → link ≡ None }
+    ensures gives { Gives (below_items layer) link_at_fault result (part_at node_of blocks.now layer (option_map (λ k. k.now) low.entry) (option_map (λ k. k.now) high.entry) link) }
+    ensures lies { IfOk result (LiesBelow layer) }
+    ensures keeps { IfOk result (λ below. below_link below ≡ link) }
+{
+    let Some(link) = link else {
+        return Ok(Below::Empty);
+    };
+    let Some(block) = blocks.get(&link) else {
+        return Ok(Below::Hole(link));
+    };
+    let node = match read_node(alloc, block) {
+        Ok(node) => node,
+        Err(NodeFault::BadNode) => return Err(ReadFault::BadNode(link)),
+        Err(NodeFault::Memory) => return Err(ReadFault::Memory),
+    };
+    let inner = layer - 1;
+    if !node_fits(inner, low, high, &node) {
+        return Err(ReadFault::BadNode(link));
+    }
+    let branch = read_parts(
+        alloc,
+        blocks,
+        inner,
+        low,
+        high,
+        node.left,
+        node.entries.as_slice(),
+        link,
+    )?;
+    Ok(Below::Tree(Box::new(alloc, branch)?))
+}
+
+/// The entries of a node at a layer with what hangs to their right, up to a key.
+#[cycle(read)]
+fn read_rest(
+    alloc: Global,
+    blocks: &Blocks,
+    layer: u8,
+    high: Option<&[u8]>,
+    entries: &[Entry],
+) -> Result<Rest, ReadFault>
+    requires hang { AllHang layer entries.now }
+    ensures gives { Gives (λ rest. rest_items layer rest.items) link_at_fault result (rights_of (part_at node_of blocks.now layer) (option_map (λ k. k.now) high.entry) entries.now) }
+    ensures at { IfOk result (λ rest. AllAt layer rest.items) }
+    ensures keeps { IfOk result (λ rest. entries_of rest.items ≡ entries.now) }
+{
+    let mut rest = Vec::new(alloc);
+    let mut i = 0;
+    while i < entries.len() {
+        let entry = &entries[i];
+        let key = entry.key.try_clone()?;
+        let below = read_below(
+            alloc,
+            blocks,
+            layer,
+            Some(entry.key.as_slice()),
+            next_key(high, &entries[i + 1..]),
+            entry.right,
+        )?;
+        rest.push(Part {
+            key,
+            value: entry.value,
+            below,
+        })?;
+        i += 1;
+    }
+    Ok(rest)
+}
+
+/// The node at a layer, between two keys, that the block under a link spells.
+#[cycle(read)]
+pub(crate) fn read_parts(
+    alloc: Global,
+    blocks: &Blocks,
+    layer: u8,
+    low: Option<&[u8]>,
+    high: Option<&[u8]>,
+    left: Option<Cid>,
+    entries: &[Entry],
+    link: Cid,
+) -> Result<Branch, ReadFault>
+    requires kind { IsChildLink left }
+    requires lowest { layer ≡ 0 → left ≡ None }
+    requires hang { AllHang layer entries.now }
+    requires link_is { link ≡ cid (node_bytes left entries.now) }
+    ensures gives { Gives (λ branch. branch.items) link_at_fault result (parts_of (part_at node_of blocks.now layer) (option_map (λ k. k.now) low.entry) (option_map (λ k. k.now) high.entry) (left, entries.now)) }
+    ensures layer { IfOk result (λ branch. branch.layer ≡ layer) }
+    ensures link { IfOk result (λ branch. cid (spell branch.layer branch.items) ≡ link) }
+    ensures at { is_some_node (left, entries.now) ≡ true → IfOk result IsAtLayer }
+{
+    let first = read_below(alloc, blocks, layer, low, next_key(high, entries), left)?;
+    let rest = read_rest(alloc, blocks, layer, high, entries)?;
+    Ok(Branch {
+        layer,
+        link: Some(link),
+        first,
+        rest,
+    })
+}

@@ -1,0 +1,81 @@
+-- The commands, by the words that each is spelled with.
+use Rattle.std.specs.Prelude.{◌≡◌, ℕ, ◌≤◌, ◌-◌, ◌^◌, List, [], ◌∷◌, IsTrue, length, codes, decimal, ⊤}
+use Rattle.at_syntax.specs.Did.{is_did}
+use Rattle.at_syntax.specs.Host.{is_host}
+use Rattle.relay_cli.specs.declared.verb.Verb.{Verb}
+use Rattle.relay_cli.specs.declared.command.Command.{Command}
+
+-- the first word
+abbrev pub name_of : Verb → List ℕ
+name_of Verb.Check = codes "check"
+name_of Verb.Ingest = codes "ingest"
+name_of Verb.Follow = codes "follow"
+name_of Verb.Replay = codes "replay"
+name_of Verb.Serve = codes "serve"
+name_of Verb.Account = codes "account"
+name_of Verb.Hosts = codes "hosts"
+name_of Verb.Takedown = codes "takedown"
+name_of Verb.Restore = codes "restore"
+name_of Verb.Sync = codes "sync"
+name_of Verb.Trial = codes "trial"
+
+abbrev pub verb_of : Command → Verb
+verb_of Command.Check = Verb.Check
+verb_of Command.Ingest = Verb.Ingest
+verb_of (Command.Follow host count) = Verb.Follow
+verb_of (Command.Replay cursor) = Verb.Replay
+verb_of (Command.Serve count) = Verb.Serve
+verb_of (Command.Account did) = Verb.Account
+verb_of Command.Hosts = Verb.Hosts
+verb_of (Command.Takedown did time) = Verb.Takedown
+verb_of (Command.Restore did time) = Verb.Restore
+verb_of (Command.Sync did time) = Verb.Sync
+verb_of (Command.Trial start count) = Verb.Trial
+
+-- the words behind the first; numbers in decimal, without sign and without zeros in front
+abbrev pub rest_of : Command → List (List ℕ)
+rest_of Command.Check = []
+rest_of Command.Ingest = []
+rest_of (Command.Follow host count) = host ∷ decimal count ∷ []
+rest_of (Command.Replay cursor) = decimal cursor ∷ []
+rest_of (Command.Serve count) = decimal count ∷ []
+rest_of (Command.Account did) = did ∷ []
+rest_of Command.Hosts = []
+rest_of (Command.Takedown did time) = did ∷ time ∷ []
+rest_of (Command.Restore did time) = did ∷ time ∷ []
+rest_of (Command.Sync did time) = did ∷ time ∷ []
+rest_of (Command.Trial start count) = decimal start ∷ decimal count ∷ []
+
+pub record IsNumber (least most n : ℕ) : Type 0 where
+  pub from_least : least ≤ n
+  pub to_most : n ≤ most
+
+-- a time is passed on as it is, in 1 to 64 bytes
+pub record IsTime (time : List ℕ) : Type 0 where
+  pub some : 1 ≤ length time
+  pub short : length time ≤ 64
+
+-- each argument is in its range, or of its form
+abbrev pub IsInForm : Command → Type 0
+IsInForm Command.Check = ⊤
+IsInForm Command.Ingest = ⊤
+IsInForm (Command.Follow host count) = IsTrue (is_host host) × IsNumber 1 1000000 count
+IsInForm (Command.Replay cursor) = IsNumber 0 (2 ^ 53 - 1) cursor
+IsInForm (Command.Serve count) = IsNumber 1 1000000 count
+IsInForm (Command.Account did) = IsTrue (is_did did)
+IsInForm Command.Hosts = ⊤
+IsInForm (Command.Takedown did time) = IsTrue (is_did did) × IsTime time
+IsInForm (Command.Restore did time) = IsTrue (is_did did) × IsTime time
+IsInForm (Command.Sync did time) = IsTrue (is_did did) × IsTime time
+IsInForm (Command.Trial start count) = IsNumber 0 (2 ^ 53 - 1) start × IsNumber 1 100000 count
+
+-- the command has this first word and these words behind it
+pub record IsOf (verb : Verb) (rest : List (List ℕ)) (command : Command) : Type 0 where
+  pub verb_is : verb_of command ≡ verb
+  pub rest_are : rest_of command ≡ rest
+  pub in_form : IsInForm command
+
+-- the words are this command
+pub record IsSpelled (words : List (List ℕ)) (command : Command) : Type 0 where
+  pub words_are : words ≡ name_of (verb_of command) ∷ rest_of command
+  pub in_form : IsInForm command

@@ -1,0 +1,5 @@
+pub mod Commands
+pub mod Statuses
+pub mod Report
+pub mod Verdicts
+pub mod Runs

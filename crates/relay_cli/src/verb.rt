@@ -1,0 +1,50 @@
+//! The first word of a command.
+ghost use Rattle.std.specs.Prelude.{◌≡◌, ◌≢◌, MatchOption};
+ghost use Rattle.relay_cli.specs.Commands.{name_of};
+
+/// Which command the words are of.
+#[derive(Clone, Copy, Debug, PartialEq, Eq)]
+pub enum Verb {
+    Check,
+    Ingest,
+    Follow,
+    Replay,
+    Serve,
+    Account,
+    Hosts,
+    Takedown,
+    Restore,
+    Sync,
+    Trial,
+}
+
+/// The command that a first word is of.
+pub fn verb_from(word: &str) -> Option<Verb>
+    ensures { MatchOption result ((verb : Verb) → word.now ≢ name_of verb) (λ verb. word.now ≡ name_of verb) }
+{
+    if word == "check" {
+        Some(Verb::Check)
+    } else if word == "ingest" {
+        Some(Verb::Ingest)
+    } else if word == "follow" {
+        Some(Verb::Follow)
+    } else if word == "replay" {
+        Some(Verb::Replay)
+    } else if word == "serve" {
+        Some(Verb::Serve)
+    } else if word == "account" {
+        Some(Verb::Account)
+    } else if word == "hosts" {
+        Some(Verb::Hosts)
+    } else if word == "takedown" {
+        Some(Verb::Takedown)
+    } else if word == "restore" {
+        Some(Verb::Restore)
+    } else if word == "sync" {
+        Some(Verb::Sync)
+    } else if word == "trial" {
+        Some(Verb::Trial)
+    } else {
+        None
+    }
+}

@@ -1,0 +1,110 @@
+-- How a run of calls goes on.
+use Rattle.std.proofs.Common.{◌∙◌, length, inl, inr, ⊎_elim, ℕ, List, refl, sym, subst, arith}
+use Rattle.std.proofs.lemmas.List.{take_all}
+use Rattle.relay_disk.specs.Disk.{View, Goes, IsDisk, IsSettled, Torn, Cut, Same}
+use Rattle.relay_disk.specs.Moments.{LeavesOnly, PairLeavesOnly, PartOf}
+
+-- one call, before and after which a crash leaves what has P
+pub one_call : (P : List ℕ → Type 0) (part : List ℕ → List ℕ → Type 0) (old new : View) → IsDisk old → Goes part old new
+    → ((c : List ℕ) → old.may_leave c → P c) → ((c : List ℕ) → new.may_leave c → P c) → LeavesOnly P old new
+one_call P part old new disk goes before after = record {
+  later = goes.later;
+  each = λ c left. ⊎_elim (λ was. before c (disk.only_now c was)) (after c) (goes.nothing_else old.moment c (omega arith) left);
+  before = λ t c le left. ⊎_elim (λ was. inl was) (λ now. inr (after c now)) (goes.nothing_else t c le left);
+}
+
+-- no call
+pub no_call : (P : List ℕ → Type 0) (old : View) → IsDisk old → ((c : List ℕ) → old.may_leave c → P c) → LeavesOnly P old old
+no_call P old disk before = record {
+  later = omega arith;
+  each = λ c left. before c (disk.only_now c left);
+  before = λ t c le left. inl left;
+}
+
+-- one run after another
+pub joined : (P : List ℕ → Type 0) (old mid new : View) → LeavesOnly P old mid → LeavesOnly P mid new → LeavesOnly P old new
+joined P old mid new first second = record {
+  later = omega (arith, first.later, second.later);
+  each = λ c left. ⊎_elim (first.each c) (λ has. has) (second.before old.moment c first.later left);
+  before = λ t c le left. ⊎_elim (first.before t c le) (λ has. inr has) (second.before t c (omega (arith, le, first.later)) left);
+}
+
+-- what has P has Q
+pub weaker : (P Q : List ℕ → Type 0) (old new : View) → LeavesOnly P old new → ((c : List ℕ) → P c → Q c) → LeavesOnly Q old new
+weaker P Q old new run also = record {
+  later = run.later;
+  each = λ c left. also c (run.each c left);
+  before = λ t c le left. ⊎_elim (λ was. inl was) (λ has. inr (also c has)) (run.before t c le left);
+}
+
+-- what a crash may leave after such a call it could leave before
+pub unchanged : (old new : View) → Goes Same old new → (c : List ℕ) → new.may_leave c → old.may_leave c
+unchanged old new goes c now =
+    let from = goes.follows c now in
+    subst old.may_leave (sym from.2) from.1
+
+-- a call that does nothing to the bytes, after others
+pub still : (P : List ℕ → Type 0) (old mid new : View) → IsDisk mid → LeavesOnly P old mid → ((c : List ℕ) → mid.may_leave c → P c) → Goes Same mid new → LeavesOnly P old new
+still P old mid new disk run has goes = joined P old mid new run (one_call P Same mid new disk goes has (λ c now. has c (unchanged mid new goes c now)))
+
+-- a write that was not done at all
+pub untorn : (place n : ℕ) (bytes : List ℕ) → Torn place n bytes bytes
+untorn place n bytes = record { before = refl; after = refl; no_shorter = omega arith; no_longer = omega arith }
+
+-- a cut that was not done at all
+pub uncut : (size : ℕ) (old : List ℕ) → Cut size old old
+uncut size old = record { no_shorter = omega arith; front = sym (take_all (length old) old (omega arith)) }
+
+-- a write leaves a part of it
+pub write_leaves : (place n : ℕ) (old new : View) → IsDisk old → Goes (Torn place n) old new → LeavesOnly (PartOf (Torn place n) old) old new
+write_leaves place n old new disk goes =
+    one_call (PartOf (Torn place n) old) (Torn place n) old new disk goes (λ c was. (c, was, untorn place n c)) goes.follows
+
+-- a cut leaves a part of it
+pub cut_leaves : (size : ℕ) (old new : View) → IsDisk old → Goes (Cut size) old new → LeavesOnly (PartOf (Cut size) old) old new
+cut_leaves size old new disk goes =
+    one_call (PartOf (Cut size) old) (Cut size) old new disk goes (λ c was. (c, was, uncut size c)) goes.follows
+
+-- calls that do nothing to the bytes, one after another
+pub still_again : (old mid new : View) → IsDisk old → Goes Same old mid → Goes Same mid new → Goes Same old new
+still_again old mid new disk first second = record {
+  content = second.content ∙ first.content;
+  follows = λ c left.
+      let from = second.follows c left in
+      let back = first.follows from.0 from.1 in
+      (back.0, back.1, from.2 ∙ back.2);
+  later = omega (arith, first.later, second.later);
+  nothing_else = λ t c le left. ⊎_elim
+      (λ was. ⊎_elim (λ early. inl early) (λ then. inl (disk.counts_now t c le (unchanged old mid first c then))) (first.nothing_else t c le was))
+      (λ now. inr now)
+      (second.nothing_else t c (omega (arith, le, first.later)) left);
+  keeps = λ t c le was. second.keeps t c (omega (arith, le, first.later)) (first.keeps t c le was);
+  counts = omega (arith, first.counts, second.counts);
+}
+
+-- and none at all
+pub still_here : (v : View) → Goes Same v v
+still_here v = record {
+  content = refl;
+  follows = λ c left. (c, left, refl);
+  later = omega arith;
+  nothing_else = λ t c le left. inl left;
+  keeps = λ t c le was. was;
+  counts = omega arith;
+}
+
+-- a settled disk stays settled
+pub settled_still : (bytes : List ℕ) (old new : View) → IsSettled old bytes → Goes Same old new → IsSettled new bytes
+settled_still bytes old new settled goes = record {
+  content = goes.content ∙ settled.content;
+  only = λ c left. settled.only c (unchanged old new goes c left);
+}
+
+-- what holds of each moment holds of this one
+pub now_too : (P : List ℕ → Type 0) (old new : View) → IsDisk new → LeavesOnly P old new → (c : List ℕ) → new.may_leave c → P c
+now_too P old new disk run c left = run.each c (disk.counts_now old.moment c run.later left)
+
+-- two runs, each on a disk of its own
+pub pair_of : (P Q : List ℕ → Type 0) (R : List ℕ → List ℕ → Type 0) (one one_now two two_now : View) → LeavesOnly P one one_now → LeavesOnly Q two two_now
+    → ((c d : List ℕ) → P c → Q d → R c d) → PairLeavesOnly R one one_now two two_now
+pair_of P Q R one one_now two two_now first second both c d left beside = both c d (first.each c left) (second.each d beside)

@@ -1,0 +1,18 @@
+-- What contracts see of a disk with a fuse.
+use Rattle.std.specs.Prelude.{◌≡◌, ℕ, ◌-◌, Result, IsErr}
+use Rattle.relay_disk.specs.declared.fuse.FuseDisk.{FuseDisk}
+use Rattle.relay_disk.specs.declared.disk.Failed.{Failed}
+
+-- the disk to which the calls go
+abbrev pub inner : {D : Type 0} → FuseDisk D → D
+inner f = f.disk
+
+-- how many calls it passes on yet
+abbrev pub passes_left : {D : Type 0} → FuseDisk D → ℕ
+passes_left f = f.passes
+
+-- A call: one pass fewer. Where there is none left, the call fails and the disk isn't touched.
+pub record Burns {D T : Type 0} (result : Result T Failed) (old new : FuseDisk D) : Type 0 where
+  pub fewer : passes_left new ≡ passes_left old - 1
+  pub fails : passes_left old ≡ 0 → IsErr result
+  pub untouched : passes_left old ≡ 0 → inner new ≡ inner old

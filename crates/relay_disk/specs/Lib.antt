@@ -1,0 +1,10 @@
+pub mod Disk
+pub mod Fuse
+pub mod FuseView
+pub mod Memory
+pub mod MemoryView
+pub mod Moments
+pub mod Ranges
+pub mod Untold
+pub mod Works
+pub mod Worst

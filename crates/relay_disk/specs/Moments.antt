@@ -1,0 +1,19 @@
+-- What crashes leave over a run of calls.
+use Rattle.std.specs.Prelude.{◌⊎◌, ◌≤◌, ℕ, List}
+use Rattle.relay_disk.specs.Disk.{View}
+
+-- A crash at any moment since old leaves bytes that have P.
+pub record LeavesOnly (P : List ℕ → Type 0) (old new : View) : Type 0 where
+  pub later : old.moment ≤ new.moment
+  pub each : (c : List ℕ) → new.left_since old.moment c → P c
+  -- for a run that began earlier
+  pub before : (t : ℕ) (c : List ℕ) → t ≤ old.moment → new.left_since t c → old.left_since t c ⊎ P c
+
+-- what a crash leaves of a call on something that a crash could leave before it
+abbrev pub PartOf : (List ℕ → List ℕ → Type 0) → View → List ℕ → Type 0
+PartOf part old c = (d : List ℕ) × old.may_leave d × part d c
+
+-- Two disks have no common clock: whatever a crash at a moment since the start left on the one, beside whatever a
+-- crash at a moment since the start left on the other, the two have P.
+abbrev pub PairLeavesOnly : (List ℕ → List ℕ → Type 0) → View → View → View → View → Type 0
+PairLeavesOnly P one one_now two two_now = (c d : List ℕ) → one_now.left_since one.moment c → two_now.left_since two.moment d → P c d

@@ -1,0 +1,4 @@
+pub mod Streams
+pub mod Moments
+pub mod Calls
+pub mod Memory

@@ -1,0 +1,32 @@
+//! What the relay reads from and writes to, and the clock that it asks: traits that say what each
+//! object holds, forms in memory that tell it, and forms over the machine that don't.
+#![tactic(auto)]
+
+mod clock;
+mod failed;
+mod list_clock;
+mod memory_sink;
+mod memory_source;
+mod reader_source;
+mod reading;
+mod sink;
+mod source;
+mod system_clock;
+mod writer_sink;
+mod writing;
+
+pub use clock::{Clock, LAST_MOMENT};
+pub use failed::Failed;
+pub use list_clock::ListClock;
+pub use memory_sink::MemorySink;
+pub use memory_source::MemorySource;
+pub use reader_source::ReaderSource;
+pub use reading::{ReadFault, read_to_end};
+pub use sink::Sink;
+pub use source::Source;
+pub use system_clock::SystemClock;
+pub use writer_sink::WriterSink;
+pub use writing::write_all;
+
+#[cfg(test)]
+mod tests;
