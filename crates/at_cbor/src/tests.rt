@@ -193,3 +193,38 @@ fn asked_by_kind(rt: HostRuntime) -> Result<(), Fail> {
     }
     Ok(())
 }
+
+// A front, and behind it one byte again and again, up to a length.
+fn filled(rt: &HostRuntime, front: &[u8], byte: u8, length: usize) -> Result<Vec<u8>, Fail> {
+    let mut bytes = Vec::from_slice(rt.alloc(), front)?;
+    bytes.resize(length, byte)?;
+    Ok(bytes)
+}
+
+#[test]
+fn a_list_of_a_million_items(rt: HostRuntime) -> Result<(), Fail> {
+    let bytes = filled(&rt, &[0x9a, 0x00, 0x0f, 0x42, 0x40], 0x17, 1_000_005)?;
+    let (value, len) = decode(rt.alloc(), &bytes)?;
+    assert_eq!(rt; len, 1_000_005);
+    let Some(values) = value.as_list() else {
+        return Err("no list".into());
+    };
+    assert_eq!(rt; values.len(), 1_000_000);
+    let Some(last) = values.get(999_999) else {
+        return Err("no last value".into());
+    };
+    assert_eq!(rt; last.as_int(), Some(23));
+    Ok(())
+}
+
+#[test]
+fn a_string_of_8_mib(rt: HostRuntime) -> Result<(), Fail> {
+    let bytes = filled(&rt, &[0x5a, 0x00, 0x80, 0x00, 0x00], 0xff, 8_388_613)?;
+    let (value, len) = decode(rt.alloc(), &bytes)?;
+    assert_eq!(rt; len, 8_388_613);
+    let Some(string) = value.as_bytes() else {
+        return Err("no bytes".into());
+    };
+    assert!(rt; string.len() == 8_388_608 && string.as_slice().last() == Some(&0xff));
+    Ok(())
+}
