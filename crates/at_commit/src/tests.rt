@@ -24,8 +24,15 @@ fn good_objects(rt: HostRuntime) -> Result<(), Fail> {
 #[test]
 fn faulty_objects(rt: HostRuntime) {
     for (block, fault) in FAULTY {
-        assert!(rt; read(rt.alloc(), block).err() == Some(fault));
+        assert_eq!(rt; read(rt.alloc(), block).err(), Some(fault));
     }
+}
+
+fn add_zeros(block: &mut Vec<u8>, zeros: usize) -> Result<(), AllocError> {
+    for _ in 0..zeros {
+        block.push(0)?;
+    }
+    Ok(())
 }
 
 /// An object with a field of some zeros that it does not need.
@@ -37,9 +44,7 @@ fn padded(
 ) -> Result<Vec<u8>, AllocError> {
     let mut block = Vec::from_slice(rt.alloc(), b"\xa7cdidkdid:plc:adacpadY")?;
     block.extend_from_slice(&len)?;
-    for _ in 0..zeros {
-        block.push(0)?;
-    }
+    add_zeros(&mut block, zeros)?;
     block.extend_from_slice(
         b"crevm2222222222223csigD\x00\x00\x00\x00ddata\xd8*X%\x00\x01q\x12 \x9d\xfe\xfea\xddv\xea=\xca\xe5\x028\x80\xb0\x83y\xd5z\xdf H-o\xdb\xe2u\x92\x89\xf6Gg{dprev\xf6gversion",
     )?;
@@ -56,10 +61,27 @@ fn long_objects(rt: HostRuntime) -> Result<(), Fail> {
         b"Ra\xdf9!\x9a\x9c\xcb{\x8a\xd7\x1a\xf7\xff%\x9f\xb2k\x10.8\xe5y\xbc\x00o\x8e<\xbdJO\x92";
     assert_eq!(rt; commit.digest().as_slice(), digest.as_slice());
     let other = padded(&rt, [0x1f, 0x90], 8080, 2)?;
-    assert!(rt; read(rt.alloc(), other.as_slice()).err() == Some(CommitFault::Version));
+    assert_eq!(rt;
+        read(rt.alloc(), other.as_slice()).err(),
+        Some(CommitFault::Version)
+    );
     for version in [2, 3] {
         let longer = padded(&rt, [0x1f, 0x91], 8081, version)?;
-        assert!(rt; read(rt.alloc(), longer.as_slice()).err() == Some(CommitFault::TooLong));
+        assert_eq!(rt;
+            read(rt.alloc(), longer.as_slice()).err(),
+            Some(CommitFault::TooLong)
+        );
     }
+    let mut zeros = Vec::new(rt.alloc());
+    add_zeros(&mut zeros, LONGEST_BLOCK)?;
+    assert_eq!(rt;
+        read(rt.alloc(), zeros.as_slice()).err(),
+        Some(CommitFault::Form)
+    );
+    add_zeros(&mut zeros, 1)?;
+    assert_eq!(rt;
+        read(rt.alloc(), zeros.as_slice()).err(),
+        Some(CommitFault::TooLong)
+    );
     Ok(())
 }

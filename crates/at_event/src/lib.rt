@@ -27,6 +27,8 @@ pub use refusal::Refusal;
 pub use writing::{out_frame, out_len};
 
 #[cfg(test)]
+mod damaged;
+#[cfg(test)]
 mod tests;
 #[cfg(test)]
 mod vectors;

@@ -1,4 +1,5 @@
 use super::*;
+use crate::damaged::{COMMIT_EDITS, SHORT, SYNC, SYNC_EDITS};
 use crate::vectors::{COMMIT_FIELDS, COMMITS, MESSAGES, OTHERS, Verdict};
 use at_cid::{Memory, Octets, cid_of};
 use at_syntax::Tid;
@@ -44,6 +45,48 @@ fn fields_of_commits(rt: HostRuntime) -> Result<(), Fail> {
 #[test]
 fn fields_of_other_events(rt: HostRuntime) {
     for (message, verdict) in OTHERS {
+        assert_eq!(rt; read_as(&rt, message), verdict);
+    }
+}
+
+// The bytes with some of them, at a place, replaced.
+fn edited(
+    rt: &HostRuntime,
+    bytes: &[u8],
+    place: usize,
+    gone: usize,
+    put: &[u8],
+) -> Result<Octets, Fail> {
+    let front = bytes.get(..place).ok_or("a place")?;
+    let rest = bytes.get(place.saturating_add(gone)..).ok_or("a place")?;
+    let mut message = Octets::from_slice(rt.alloc(), front)?;
+    message.extend(put)?;
+    message.extend(rest)?;
+    Ok(message)
+}
+
+#[test]
+fn damaged_syncs(rt: HostRuntime) -> Result<(), Fail> {
+    for (place, gone, put, verdict) in SYNC_EDITS {
+        let message = edited(&rt, SYNC, place, gone, put)?;
+        assert_eq!(rt; (place, read_as(&rt, message.as_slice())), (place, verdict));
+    }
+    Ok(())
+}
+
+#[test]
+fn damaged_commits(rt: HostRuntime) -> Result<(), Fail> {
+    let commit = commit_with(&rt, COMMIT_FIELDS.len(), b"\x00")?;
+    for (place, gone, put, verdict) in COMMIT_EDITS {
+        let message = edited(&rt, commit.as_slice(), place, gone, put)?;
+        assert_eq!(rt; (place, read_as(&rt, message.as_slice())), (place, verdict));
+    }
+    Ok(())
+}
+
+#[test]
+fn short_messages(rt: HostRuntime) {
+    for (message, verdict) in SHORT {
         assert_eq!(rt; read_as(&rt, message), verdict);
     }
 }
@@ -142,8 +185,24 @@ fn refusals(rt: HostRuntime) {
     let link = cid_of(b"");
     for (refusal, code, name) in [
         (Refusal::BadEvent, 1, "BadEvent"),
+        (Refusal::NotHome, 2, "NotHome"),
+        (Refusal::Inactive, 3, "Inactive"),
+        (Refusal::TakenDown, 4, "TakenDown"),
+        (Refusal::TooBig, 5, "TooBig"),
+        (Refusal::BlocksTooLong, 6, "BlocksTooLong"),
+        (Refusal::TooManyOps, 7, "TooManyOps"),
+        (Refusal::BadPath, 8, "BadPath"),
+        (Refusal::RepeatedPath, 9, "RepeatedPath"),
+        (Refusal::BadOp, 10, "BadOp"),
+        (Refusal::Stale, 11, "Stale"),
+        (Refusal::BadCar, 12, "BadCar"),
         (Refusal::WrongRoot, 13, "WrongRoot"),
         (Refusal::WrongDigest, 14, "WrongDigest"),
+        (Refusal::NoCommit, 15, "NoCommit"),
+        (Refusal::BadCommit, 16, "BadCommit"),
+        (Refusal::OtherCommit, 17, "OtherCommit"),
+        (Refusal::BadSignature, 18, "BadSignature"),
+        (Refusal::Gap, 19, "Gap"),
         (Refusal::BadNode(link), 20, "BadNode"),
         (Refusal::OtherOp(0), 21, "OtherOp"),
         (Refusal::NotCovered(1), 22, "NotCovered"),
@@ -151,7 +210,12 @@ fn refusals(rt: HostRuntime) {
         (Refusal::TooLong, 24, "TooLong"),
         (Refusal::FutureRev, 25, "FutureRev"),
         (Refusal::NotCommit, 30, "NotCommit"),
+        (Refusal::AlreadyDown, 31, "AlreadyDown"),
+        (Refusal::NotDown, 32, "NotDown"),
+        (Refusal::NoRepository, 33, "NoRepository"),
         (Refusal::RepositoryRefused(5), 34, "RepositoryRefused"),
+        (Refusal::NothingToCut, 35, "NothingToCut"),
+        (Refusal::PastEnd, 36, "PastEnd"),
         (Refusal::LastCut, 37, "LastCut"),
     ] {
         assert_eq!(rt; refusal.code(), code);

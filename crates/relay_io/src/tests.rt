@@ -83,8 +83,9 @@ fn a_sink(rt: HostRuntime) {
     }
 }
 
-fn asked(rt: &HostRuntime) -> Result<[Result<u64, Failed>; 6], Memory> {
-    let mut clock = ListClock::new(rt.alloc(), &[5, 7], &[2, 5])?;
+// What a clock of two moments answers to six calls.
+fn asked(rt: &HostRuntime, failing: &[u64]) -> Result<[Result<u64, Failed>; 6], Memory> {
+    let mut clock = ListClock::new(rt.alloc(), &[5, 7], failing)?;
     Ok([
         clock.now(),
         clock.now(),
@@ -97,8 +98,20 @@ fn asked(rt: &HostRuntime) -> Result<[Result<u64, Failed>; 6], Memory> {
 
 #[test]
 fn a_clock(rt: HostRuntime) {
-    let want = [Ok(5), Err(Failed), Ok(7), Ok(7), Err(Failed), Ok(7)];
-    assert_eq!(rt; asked(&rt), Ok(want));
+    let fault = Err(Failed);
+    for (failing, want) in [
+        ([0, 0], [Ok(5), Ok(7), Ok(7), Ok(7), Ok(7), Ok(7)]),
+        ([1, 0], [fault, Ok(5), Ok(7), Ok(7), Ok(7), Ok(7)]),
+        ([2, 0], [Ok(5), fault, Ok(7), Ok(7), Ok(7), Ok(7)]),
+        ([3, 0], [Ok(5), Ok(7), fault, Ok(7), Ok(7), Ok(7)]),
+        ([4, 0], [Ok(5), Ok(7), Ok(7), fault, Ok(7), Ok(7)]),
+        ([5, 0], [Ok(5), Ok(7), Ok(7), Ok(7), fault, Ok(7)]),
+        ([6, 0], [Ok(5), Ok(7), Ok(7), Ok(7), Ok(7), fault]),
+        ([7, 0], [Ok(5), Ok(7), Ok(7), Ok(7), Ok(7), Ok(7)]),
+        ([2, 5], [Ok(5), fault, Ok(7), Ok(7), fault, Ok(7)]),
+    ] {
+        assert_eq!(rt; (failing, asked(&rt, &failing)), (failing, Ok(want)));
+    }
     let mut machine = SystemClock::new(&rt);
     let late = machine
         .now()
