@@ -34,7 +34,7 @@ fn link_or_none(number: u8) -> Result<Option<Cid>, Fail> {
         return Ok(None);
     }
     let text = LINKS
-        .get(usize::from(number) - 1)
+        .get(usize::from(number).saturating_sub(1))
         .ok_or("the number of a link")?;
     Ok(Some(link_of(text)?))
 }
@@ -110,7 +110,10 @@ fn is_undone(
     }
     match undo(rt.alloc(), tree, ops) {
         Ok(left) => Ok(name == "Undone" && root_of(rt, &left)? == link_of(root)?),
-        Err(fault) => Ok(told(fault)? == (name, at)),
+        Err(fault) => {
+            let (told_name, told_at) = told(fault)?;
+            Ok(told_name == name && told_at == at)
+        }
     }
 }
 

@@ -1,7 +1,5 @@
 //! Undoing on trees and on lists, side by side.
 
-ghost use Rattle.std.specs.Prelude.{◌<◌};
-
 use super::spelled::{put_block, put_tree, view_of};
 use super::{push_op, root_of, told};
 use crate::{are_apart, undo};
@@ -23,7 +21,7 @@ fn name_if(is_alike: bool, name: &'static str) -> &'static str {
     if is_alike { name } else { "different" }
 }
 
-/// How undoing on a tree and on its list end, where they end alike.
+/// How undoing on a tree and on its list both end, or "different" where they don't end alike.
 pub fn ends(rt: &HostRuntime, tree: StubTree, ops: &OpList) -> Result<&'static str, Fail> {
     if !are_apart(ops) {
         return Err("operations on different keys".into());
@@ -42,16 +40,17 @@ pub fn ends(rt: &HostRuntime, tree: StubTree, ops: &OpList) -> Result<&'static s
             let (name, at) = told(fault)?;
             match expected {
                 Ok(_) => Ok("different"),
-                Err(fault) => Ok(name_if(told(fault)? == (name, at), name)),
+                Err(fault) => {
+                    let (other, place) = told(fault)?;
+                    Ok(name_if(other == name && place == at, name))
+                }
             }
         }
     }
 }
 
 // Numbers that follow one another without a plan (a linear congruence).
-fn next(seed: &mut u32) -> u32
-    ensures { result < 65536 }
-{
+fn next(seed: &mut u32) -> u32 {
     *seed = seed.wrapping_mul(1664525).wrapping_add(1013904223);
     *seed / 65536
 }
@@ -103,8 +102,9 @@ fn operation(seed: &mut u32) -> (Option<Cid>, Option<Cid>, bool) {
 fn generate(rt: &HostRuntime, seed: &mut u32) -> Result<(ItemList, OpList), Fail> {
     let mut list = ItemList::new(rt.alloc());
     let mut ops = OpList::new(rt.alloc());
-    for place in 0..next(seed) % 40 {
-        let number = place * 600 + next(seed) % 600;
+    let count = next(seed) % 40;
+    for place in 0..count {
+        let number = place.wrapping_mul(600).wrapping_add(next(seed) % 600);
         let (was, now, is_held) = operation(seed);
         if is_held {
             push_key(rt, &mut list, number, cid_of(b"now"))?;
@@ -125,7 +125,8 @@ fn with_some(
     root: Cid,
 ) -> Result<(), Fail> {
     for (link, block) in blocks.iter() {
-        if *link == root || next(seed) % 6 >= share {
+        let chance = next(seed) % 6;
+        if *link == root || chance >= share {
             put_block(some, *link, block.as_slice())?;
         }
     }
@@ -149,15 +150,18 @@ fn round(rt: &HostRuntime, seed: &mut u32) -> Result<&'static str, Fail> {
 #[test]
 fn trees_and_lists_alike(rt: HostRuntime) -> Result<(), Fail> {
     let mut seed = 1;
-    let mut undone = 0;
-    let mut others = 0;
-    let mut uncovered = 0;
+    let mut undone: u32 = 0;
+    let mut others: u32 = 0;
+    let mut uncovered: u32 = 0;
     for number in 0..150 {
-        match round(&rt, &mut seed)? {
-            "Undone" => undone = u32::wrapping_add(undone, 1),
-            "OtherOp" => others = u32::wrapping_add(others, 1),
-            "NotCovered" => uncovered = u32::wrapping_add(uncovered, 1),
-            end => assert!(rt; end == "", "in round {number}"),
+        let end = round(&rt, &mut seed)?;
+        assert!(rt; end != "different", "in round {number}");
+        if end == "Undone" {
+            undone = undone.wrapping_add(1);
+        } else if end == "OtherOp" {
+            others = others.wrapping_add(1);
+        } else {
+            uncovered = uncovered.wrapping_add(1);
         }
     }
     assert!(rt;

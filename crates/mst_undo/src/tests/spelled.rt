@@ -12,48 +12,35 @@ use std::test::Fail;
 
 /// Puts a block under a link of it.
 pub fn put_block(blocks: &mut Blocks, link: Cid, block: &[u8]) -> Result<(), Fail> {
-    if !link.is_of(block) {
-        return Err("a link of the block".into());
-    }
-    blocks.put(link, block).ok().ok_or("memory")?;
-    Ok(())
-}
-
-// What a node has so far, from left to right.
-#[derive(Drop)]
-struct Run {
-    left: Option<Cid>,
-    entries: Vec<Entry>,
-}
-
-fn no_run(rt: &HostRuntime) -> Run {
-    Run {
-        left: None,
-        entries: Vec::new(rt.alloc()),
+    if link.is_of(block) {
+        blocks.put(link, block).ok().ok_or("memory")?;
+        Ok(())
+    } else {
+        Err("a link of the block".into())
     }
 }
 
-fn set_below(run: &mut Run, link: Cid) {
-    match run.entries.last_mut() {
+// Puts the link of what lies behind a node's last key, or before its first one.
+fn set_below(left: &mut Option<Cid>, entries: &mut Vec<Entry>, link: Cid) {
+    match entries.last_mut() {
         Some(entry) => entry.right = Some(link),
-        None => run.left = Some(link),
+        None => *left = Some(link),
     }
 }
 
-// Puts the node of a run at a layer behind the items, where it has anything: a subtree is spelled as a hole.
+// Puts the node of what stands at a layer behind the items, where anything does: a subtree is spelled as a hole.
 fn close(
     rt: &HostRuntime,
     blocks: &mut Blocks,
     layer: u8,
-    run: &Run,
+    left: &Option<Cid>,
+    entries: &[Entry],
     items: &mut Vec<Item>,
 ) -> Result<(), Fail> {
-    if run.left.is_none() && run.entries.is_empty() {
+    if left.is_none() && entries.len() == 0 {
         return Ok(());
     }
-    let block = spell_node(rt.alloc(), &run.left, run.entries.as_slice())
-        .ok()
-        .ok_or("memory")?;
+    let block = spell_node(rt.alloc(), left, entries).ok().ok_or("memory")?;
     let link = cid_of(block.as_slice());
     put_block(blocks, link, block.as_slice())?;
     items.push(Item::Hole(layer, link))?;
@@ -68,18 +55,21 @@ fn belongs(layer: u8, item: &Item) -> bool {
     }
 }
 
-fn extend(run: &mut Run, item: Item) -> Result<(), Fail> {
+fn extend(left: &mut Option<Cid>, entries: &mut Vec<Entry>, item: Item) -> Result<(), Fail> {
     match item {
         Item::Key(key, value) => {
-            run.entries.push(Entry {
+            entries.push(Entry {
                 key,
                 value,
                 right: None,
             })?;
+            Ok(())
         }
-        Item::Hole(_, link) => set_below(run, link),
+        Item::Hole(_, link) => {
+            set_below(left, entries, link);
+            Ok(())
+        }
     }
-    Ok(())
 }
 
 // The items with the nodes of a layer spelled, those below it being spelled.
@@ -90,17 +80,19 @@ fn raised(
     items: Vec<Item>,
 ) -> Result<Vec<Item>, Fail> {
     let mut spelled = Vec::new(rt.alloc());
-    let mut run = no_run(rt);
+    let mut left = None;
+    let mut entries = Vec::new(rt.alloc());
     for item in items {
         if belongs(layer, &item) {
-            extend(&mut run, item)?;
+            extend(&mut left, &mut entries, item)?;
         } else {
-            close(rt, blocks, layer, &run, &mut spelled)?;
-            run = no_run(rt);
+            close(rt, blocks, layer, &left, entries.as_slice(), &mut spelled)?;
+            left = None;
+            entries = Vec::new(rt.alloc());
             spelled.push(item)?;
         }
     }
-    close(rt, blocks, layer, &run, &mut spelled)?;
+    close(rt, blocks, layer, &left, entries.as_slice(), &mut spelled)?;
     Ok(spelled)
 }
 
