@@ -2,6 +2,7 @@ pub mod Append
 pub mod BodyAt
 pub mod Fronts
 pub mod BothDisks
+pub mod OneSide
 pub mod Reading
 pub mod Reopening
 pub mod Searching

@@ -31,6 +31,10 @@ abbrev pub of_side : Side → List ℕ → List ℕ → List ℕ
 of_side One one two = one
 of_side Two one two = two
 
+abbrev pub other_side : Side → Side
+other_side One = Two
+other_side Two = One
+
 -- The bytes of two disks are an image of these bodies: so are those of the side that is picked.
 abbrev pub IsPairImage : List (List ℕ) → List ℕ → List ℕ → Type 0
 IsPairImage bodies one two = (side : Side) × IsPicked one two side × IsImage bodies (of_side side one two)
@@ -39,6 +43,10 @@ IsPairImage bodies one two = (side : Side) × IsPicked one two side × IsImage b
 abbrev pub view_of_side : Side → View → View → View
 view_of_side One one two = one
 view_of_side Two one two = two
+
+-- This side is picked of each pair that a crash may leave.
+abbrev pub LeavesSide : Side → View → View → Type 0
+LeavesSide side one two = (c d : List ℕ) → one.may_leave c → two.may_leave d → IsPicked c d side
 
 -- A crash may leave a pair of images of these bodies.
 abbrev pub MayBePair : View → View → List (List ℕ) → Type 0

@@ -60,6 +60,8 @@ pub fn find_or_make<D: Disk>(disk: &mut D) -> Result<Ending, LogFault>
     ensures makes { IsTrue D.tells → IsUnmade (D.view disk.old).content → LeavesNew (D.view disk.old)
         → LeavesOnly IsNew (D.view disk.old) (D.view disk.new) }
 
+    ensures made { IfOk result (λ found. IsTrue D.tells → IsUnmade (D.view disk.old).content → found.format ≡ Format.One) }
+
     ensures failed { result ≡ Err LogFault.Disk → Rose (D.view disk.old).faults (D.view disk.new).faults }
     ensures no_full { (e : ℕ) → result ≡ Err (LogFault.Full e) → ⊥ }
     ensures no_memory { result ≡ Err LogFault.Memory → ⊥ }

@@ -16,7 +16,13 @@ mod steps;
 
 pub use fault::LogFault;
 pub use format::Format;
-pub use laws::{faults_are_no_images, images_have_one_list};
+pub use laws::{
+    faults_are_no_images, faults_are_no_pairs, faults_have_one_place, images_have_one_list,
+    pairs_have_one_list,
+};
 pub use log::Log;
 pub use pairs::open_pair;
 pub use picking::{Side, pick};
+
+#[cfg(test)]
+mod tests;

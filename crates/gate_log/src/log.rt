@@ -79,6 +79,8 @@ impl Log {
         ensures makes { IsTrue D.tells → IsUnmade (D.view disk.old).content → LeavesNew (D.view disk.old)
             → LeavesOnly IsNew (D.view disk.old) (D.view disk.new) }
 
+        ensures made { IfOk result (λ log. IsTrue D.tells → IsUnmade (D.view disk.old).content → log.format ≡ Format.One) }
+
         ensures bad_log { (p : ℕ) → result ≡ Err (LogFault.BadLog p) → IsTrue D.tells → IsBadAt p (D.view disk.old).content }
         ensures disk { result ≡ Err LogFault.Disk → Rose (D.view disk.old).faults (D.view disk.new).faults }
         ensures memory { result ≡ Err LogFault.Memory → disk.new ≡ disk.old }
@@ -170,7 +172,8 @@ impl Log {
         ensures moments { IsTrue D.tells → (bodies : List (List ℕ)) → Holds bodies self.old (D.view disk.old)
             → LeavesOnly (IsBeforeOrAfter self.old.format bodies body.now) (D.view disk.old) (D.view disk.new) }
 
-        ensures disk { result ≡ Err LogFault.Disk → Rose (D.view disk.old).faults (D.view disk.new).faults × (self.new.is_open ≡ false) }
+        ensures disk { result ≡ Err LogFault.Disk → Rose (D.view disk.old).faults (D.view disk.new).faults
+            × (self.new ≡ record self.old { is_open = false }) }
         ensures full { (e : ℕ) → (result ≡ Err (LogFault.Full e)) ↔ ((e ≡ self.old.end + 6 + length body.now) × (self.old.most < e)) }
         ensures untouched { (e : ℕ) → result ≡ Err (LogFault.Full e) → (self.new ≡ self.old) × (disk.new ≡ disk.old) }
         ensures no_bad_log { (p : ℕ) → result ≡ Err (LogFault.BadLog p) → ⊥ }

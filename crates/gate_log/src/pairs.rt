@@ -1,11 +1,13 @@
 // Opening the log of a pair of disks.
 ghost use Rattle.std.specs.Prelude.{◌≤◌, ◌^◌, ◌≡◌, ◌⊎◌, ℕ, List, IsTrue, IfOk};
 ghost use Rattle.at_cid.specs.Counts.{Rose};
+ghost use Rattle.relay_disk.specs.Disk.{Goes, Same};
 ghost use Rattle.relay_disk.specs.Moments.{PairLeavesOnly};
+ghost use Rattle.gate_log.specs.Image.{IsUnmade};
 ghost use Rattle.gate_log.specs.Log.{Holds};
-ghost use Rattle.gate_log.specs.Pick.{IsPairImage, IsPairImageOfOne, LeavesPairImages, IsBadPairAt, view_of_side};
+ghost use Rattle.gate_log.specs.Pick.{IsPairImage, IsPairImageOfOne, LeavesPairImages, LeavesSide, IsBadPairAt, other_side, of_side, view_of_side};
 
-use crate::{Log, LogFault, Side, pick};
+use crate::{Format, Log, LogFault, Side, pick};
 use relay_disk::Disk;
 use std::alloc::Global;
 
@@ -18,11 +20,20 @@ pub fn open_pair<D: Disk>(
     most: u64,
 ) -> Result<(Side, Log), LogFault>
     requires { most ≤ 2 ^ 62 }
+    ensures log { IfOk result (λ found. (found.1.most ≡ most) × IsTrue found.1.is_open) }
 
     // Its bodies are those of the pair.
     ensures holds { IfOk result (λ found. IsTrue D.tells → (bodies : List (List ℕ))
         × IsPairImage bodies (D.view one.old).content (D.view two.old).content
         × Holds bodies found.1 (view_of_side found.0 (D.view one.new) (D.view two.new))) }
+
+    // Its side is picked of all that a crash now may leave. The other side was only read.
+    ensures side { IfOk result (λ found. IsTrue D.tells → LeavesSide found.0 (D.view one.new) (D.view two.new)) }
+    ensures beside { IfOk result (λ found. Goes Same (view_of_side (other_side found.0) (D.view one.old) (D.view two.old))
+        (view_of_side (other_side found.0) (D.view one.new) (D.view two.new))) }
+
+    ensures made { IfOk result (λ found. IsTrue D.tells
+        → IsUnmade (of_side found.0 (D.view one.old).content (D.view two.old).content) → found.1.format ≡ Format.One) }
 
     // The two disks have no common clock: whatever moments of the call a crash strikes them at, it leaves an image
     // of one of the lists that one before could leave.
