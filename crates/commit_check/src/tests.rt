@@ -8,7 +8,7 @@ use at_cid::{Cid, Memory, parse_binary, parse_text};
 use at_event::{Body, CommitEvent, Event, Frame, FrameFault, Refusal, read_frame};
 use cases::{ALONE, TOGETHER, TREES, Told};
 use message::{Change, Message, event, expect, last, said};
-use messages::{LAST_FRONT, LAST_ZEROS, LONGER_FRONT, MESSAGES};
+use messages::{EMPTY_ROOT, FIRST, FIRST_ROOT, LAST_FRONT, LAST_ZEROS, LONGER_FRONT, MESSAGES};
 use pieces::{BEFORE, COMMIT_LINK, DATA, DIGEST};
 use std::test::Fail;
 
@@ -175,8 +175,7 @@ fn messages_of_hosts(rt: HostRuntime) {
 
 // What the first message comes to with one more block in its CAR: so many zeros, behind the front of its section.
 fn with_zeros(rt: &HostRuntime, front: &[u8], zeros: usize) -> Result<Option<Answer>, Memory> {
-    let (frame, ..) = MESSAGES[0];
-    match read_frame(rt.alloc(), frame) {
+    match read_frame(rt.alloc(), FIRST) {
         Ok(Frame::Event(event)) => checked_longer(rt, event, front, zeros),
         Err(FrameFault::Memory) => Err(Memory),
         _ => Ok(None),
@@ -201,12 +200,11 @@ fn checked_longer(
 
 #[test]
 fn blocks_at_their_limit(rt: HostRuntime) {
-    let (_, _, _, first, second) = MESSAGES[0];
-    let first = parse_text(first.as_bytes());
-    let second = parse_text(second.as_bytes());
+    let from = parse_text(EMPTY_ROOT.as_bytes());
+    let to = parse_text(FIRST_ROOT.as_bytes());
     assert_eq!(rt;
         with_zeros(&rt, LAST_FRONT, LAST_ZEROS),
-        Ok(Some((0, 1, first, second)))
+        Ok(Some((0, 1, from, to)))
     );
     let longer = with_zeros(&rt, LONGER_FRONT, LAST_ZEROS + 1);
     assert_eq!(rt; longer, Ok(Some((6, 0, None, None))));

@@ -33,8 +33,8 @@ pub const ALONE: &[Plain] = &[
     (&[], 0, 0),
     (&[TooBig], 5, 5),
     (&[Zeros], 6, 6),
-    (&[Ops(&[]), Deletes(200), Root(BEFORE_200)], 0, 0),
-    (&[Ops(&[]), Deletes(201), Root(BEFORE_201)], 7, 7),
+    (&[Ops(&[]), Deletes(1200), Root(BEFORE_200)], 0, 0),
+    (&[Ops(&[]), Deletes(1201), Root(BEFORE_201)], 7, 7),
     (
         &[Ops(&[(Delete, NO_PATH, NONE, V4)]), Root(BEFORE_NO_PATH)],
         8,
@@ -124,8 +124,8 @@ pub const ALONE: &[Plain] = &[
 /// Two that follow on each other in the order.
 pub const TOGETHER: &[Plain] = &[
     (&[TooBig, Zeros], 5, 5),
-    (&[Zeros, Deletes(200)], 6, 6),
-    (&[Ops(&[(Delete, NO_PATH, NONE, V4)]), Deletes(200)], 7, 7),
+    (&[Zeros, Deletes(1200)], 6, 6),
+    (&[Ops(&[(Delete, NO_PATH, NONE, V4)]), Deletes(1200)], 7, 7),
     (
         &[Ops(&[
             (Delete, NO_PATH, NONE, V4),

@@ -29,7 +29,7 @@ pub enum Change {
     Zeros,
     /// Other operations.
     Ops(&'static [OpRow]),
-    /// As many deletions of other records, behind the operations.
+    /// Deletions of the records from number 1000 on up to this one, behind the operations.
     Deletes(u32),
     /// Another `repo`.
     Repo(&'static str),
@@ -132,15 +132,12 @@ fn op(rt: &HostRuntime, row: OpRow) -> Result<EventOp, Memory> {
     })
 }
 
-/// The deletion of a record, each number one of another.
+/// The deletion of the record of a number.
 fn delete(rt: &HostRuntime, number: u32) -> Result<EventOp, Memory> {
-    let mut path = Words::from_str(rt.alloc(), "app.example.row/1")?;
-    for place in [100, 10, 1] {
-        path.push(char::from(b'0' + (number / place % 10) as u8))?;
-    }
+    let path = format!(in rt.alloc(); "app.example.row/{number}");
     Ok(EventOp {
         action: Action::Delete,
-        path,
+        path: Words::from_string(path.ok().ok_or(Memory)?),
         cid: None,
         prev: parse_binary(V4),
     })
@@ -151,7 +148,7 @@ fn ops(rt: &HostRuntime, message: &Message) -> Result<EventOps, Memory> {
     for row in message.ops {
         ops.push(op(rt, *row)?)?;
     }
-    for number in 0..message.deletes {
+    for number in 1000..message.deletes {
         ops.push(delete(rt, number)?)?;
     }
     Ok(ops)
@@ -191,7 +188,8 @@ fn head(rev: &str, root: &[u8]) -> Option<Head> {
 
 /// The last revision of the account.
 pub fn last(message: &Message) -> Option<Tid> {
-    match message.account {
+    let account = message.account;
+    match account {
         Account::New => None,
         Account::Good(rev, _) | Account::Lost(rev) => Tid::parse(rev),
     }
@@ -199,7 +197,8 @@ pub fn last(message: &Message) -> Option<Tid> {
 
 /// What is expected of the account.
 pub fn expect(message: &Message) -> Option<Expect> {
-    match message.account {
+    let account = message.account;
+    match account {
         Account::New => Some(Expect::Start),
         Account::Good(rev, root) => head(rev, root).map(Expect::After),
         Account::Lost(_) => Some(Expect::Lost),
