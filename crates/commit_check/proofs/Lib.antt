@@ -4,3 +4,4 @@ pub mod Apart
 pub mod Objects
 pub mod Steps
 pub mod Accepting
+pub mod Unjudged

@@ -1,10 +1,20 @@
 -- What a failed check says.
-use Rattle.std.specs.Prelude.{◌≡◌, ⊤, ℕ, List, true, false, Option, Some, None}
+use Rattle.std.specs.Prelude.{◌≡◌, ⊤, ℕ, List, Bool, true, false, Option, Some, None}
 use Rattle.at_event.specs.declared.event.CommitEvent.{CommitEvent}
 use Rattle.at_event.specs.declared.refusal.Refusal.{Refusal}
 use Rattle.at_commit.specs.Commit.{commit_of}
 use Rattle.commit_check.specs.declared.fault.CheckFault.{CheckFault}
 use Rattle.commit_check.specs.Opening.{CarResult, is_malformed, has_wrong_digest, object_of}
+
+-- the refusals that judges alone show: the host isn't the account's home, and the signature is bad
+abbrev pub is_judged : Refusal → Bool
+is_judged Refusal.NotHome = true
+is_judged Refusal.BadSignature = true
+is_judged other = false
+
+abbrev pub IsUnjudged : CheckFault → Type 0
+IsUnjudged (CheckFault.Refused refusal) = is_judged refusal ≡ false
+IsUnjudged CheckFault.Memory = ⊤
 
 -- this refusal was shown, unless memory was wanted
 abbrev pub IsShown : Option Refusal → CheckFault → Type 0

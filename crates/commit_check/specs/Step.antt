@@ -96,11 +96,16 @@ StopsAt (op ∷ ops) blocks former later refusal = ⊥
 abbrev pub Stops : CommitEvent → BlockMap → List ℕ → List ℕ → Refusal → Type 0
 Stops e blocks former later refusal = StopsAt (edits_of e) blocks former later refusal
 
+-- the blocks that a step names: those of the view with the operations undone, and none without operations
+abbrev pub named : List Op → List Item → List (List ℕ)
+named [] F = []
+named (op ∷ ops) F = nodes (undone F (op ∷ ops))
+
 -- Soundness: on every map whose tree has the former root, the operations play, and they give a map whose tree has the later root,
--- unless different blocks of that map's tree and of the undone view share a digest.
+-- unless different blocks of that map's tree and of those that the step names share a digest.
 abbrev pub ReplaysBy : List Op → BlockMap → List ℕ → List ℕ → Type 0
 ReplaysBy ops blocks former later = (s : List Item) → IsMap s → root s ≡ former
-    → ((F : List Item) → IsView blocks later F → Distinct (nodes s ++ nodes (undone F ops)))
+    → ((F : List Item) → IsView blocks later F → Distinct (nodes s ++ named ops F))
     → (t : List Item) × Plays s ops t × (root t ≡ later)
 
 -- the operations play from a map with the former root to one with the later root, whose cover the blocks hold

@@ -5,8 +5,10 @@ ghost use Rattle.std.specs.List.{list_any};
 ghost use Rattle.at_cid.specs.Link.{IsNodeLink};
 ghost use Rattle.mst_list.specs.Edits.{AllAgree, AreApart, IsGuarded, undone};
 ghost use Rattle.mst_node.specs.Trees.{IsView};
-ghost use Rattle.commit_check.specs.Linking.{bad_tree, IsBadView, IsMemory, IsNoRoot, IsNoUndoing, IsNoWayBack, IsRootBefore, IsStop, IsStopBy, IsUnlinked};
+ghost use Rattle.commit_check.specs.Linking.{bad_tree, IsBadView, IsCoveredAfter, IsLinked, IsMemory, IsNoRoot, IsNoUndoing, IsNoWayBack, IsRootBefore, IsStop, IsStopBy, IsUnlinked};
 ghost use Rattle.commit_check.specs.Opening.{IsOpened};
+ghost use Rattle.commit_check.specs.Refusing.{IsUnjudged};
+ghost use Rattle.commit_check.specs.declared.expect.Expect.{Expect};
 ghost use Rattle.commit_check.specs.Step.{edits_of, IsCoveredBy, Leads, LeadsBack, LeadsBy, ReplaysBy, is_data, is_gap, is_rev, lacks_prev, root_before, strays};
 ghost use Rattle.commit_check.specs.Table.{field_lines, first_of};
 
@@ -203,6 +205,7 @@ pub(crate) fn lead_back(
 /// It is refused with the first of these that applies: a gap before it, or a change that doesn't say of what; a tree whose
 /// block is missing or at fault; an operation that the tree doesn't show; one that the blocks don't cover; another root
 /// after undoing the operations than the expected one.
+#[tactic(auto, using(crate::proofs::Unjudged::by_gap))]
 pub fn link(
     alloc: Global,
     event: &CommitEvent,
@@ -214,6 +217,11 @@ pub fn link(
     ensures follows { OnOk result (is_gap event.now expect.now ≡ false) }
     ensures leads { OnOk result (Leads event.now opened.now.car.blocks (root_before expect.now) opened.now.head.data_root) }
     ensures refused { IfErr result (IsUnlinked event.now opened.now expect.now) }
+    ensures only { IsLinked event.now opened.now expect.now → IfErr result IsMemory }
+    ensures known { OnOk result (expect.now ≢ Expect.Lost) }
+    ensures unjudged { IfErr result IsUnjudged }
+    ensures replays { OnOk result (ReplaysBy (edits_of event.now) opened.now.car.blocks (root_before expect.now) opened.now.head.data_root) }
+    ensures covered { IsCoveredAfter event.now opened.now expect.now → IfErr result IsMemory }
 {
     if strays(event, expect) || some_lacks_prev(event.ops.as_slice()) {
         return Err(CheckFault::Refused(Refusal::Gap));

@@ -4,7 +4,7 @@ ghost use Rattle.std.specs.Prelude.{◌≡◌, IfOk, IfErr, OnOk, Some, None, Ok
 ghost use Rattle.at_car.specs.Car.{car_of};
 ghost use Rattle.at_commit.specs.Commit.{commit_of};
 ghost use Rattle.commit_check.specs.Opening.{IsOpened, begins_with, is_of_event, object_in, object_of};
-ghost use Rattle.commit_check.specs.Refusing.{IsNoObject, IsShown, IsUnread};
+ghost use Rattle.commit_check.specs.Refusing.{IsNoObject, IsShown, IsUnjudged, IsUnread};
 ghost use Rattle.commit_check.specs.Table.{block_lines, first_of, lines_of, open_lines};
 
 use crate::fault::CheckFault;
@@ -113,6 +113,7 @@ fn open_blocks(alloc: Global, event: &CommitEvent) -> Result<Opened, CheckFault>
 /// 200 operations; a path that is none; a path that stands twice; an operation whose links don't fit its action; a
 /// revision that isn't above `last`; a CAR that doesn't read; a block that isn't its link's; a first root that isn't the
 /// commit; a root whose block is missing; a block that is no commit object; a commit of another account or revision.
+#[tactic(auto, using(crate::proofs::Unjudged::shown_unjudged))]
 pub fn open_commit(
     alloc: Global,
     event: &CommitEvent,
@@ -121,6 +122,7 @@ pub fn open_commit(
     ensures shown { OnOk result (first_of (open_lines event.now last) ≡ None) }
     ensures opened { IfOk result (λ opened. IsOpened event.now opened) }
     ensures refused { IfErr result (IsShown (first_of (open_lines event.now last))) }
+    ensures unjudged { IfErr result IsUnjudged }
 {
     if let Some(refusal) = field_refusal(alloc, event)? {
         return refused(refusal);
