@@ -11,7 +11,7 @@ use Rattle.mst_node.specs.Trees.{IsView}
 use Rattle.commit_check.specs.declared.expect.Expect.{Expect}
 use Rattle.commit_check.specs.declared.fault.CheckFault.{CheckFault}
 use Rattle.commit_check.specs.declared.opened.Opened.{Opened}
-use Rattle.commit_check.specs.Step.{edits_of, IsBadTree, IsCoveredBy, Leads, LeadsBack, Stops, StopsAt, is_gap, root_before}
+use Rattle.commit_check.specs.Step.{edits_of, IsBadTree, LeadsBack, Stops, StopsAt, is_gap, root_before}
 
 -- why there is no view, as a refusal
 abbrev pub bad_tree : ViewFault → CheckFault
@@ -62,16 +62,6 @@ IsStopBy ops blocks former later CheckFault.Memory = ⊤
 
 abbrev pub IsStop : CommitEvent → BlockMap → List ℕ → List ℕ → CheckFault → Type 0
 IsStop e blocks former later fault = IsStopBy (edits_of e) blocks former later fault
-
--- the event follows on what is expected, and its blocks show the step from there
-pub record IsLinked (e : CommitEvent) (o : Opened) (expect : Expect) : Type 0 where
-  pub no_gap : is_gap e expect ≡ false
-  pub leads : Leads e o.car.blocks (root_before expect) o.head.data_root
-
--- the event follows on what is expected, and its operations play from a map with the root of before to one with its `data`, whose cover its blocks hold
-pub record IsCoveredAfter (e : CommitEvent) (o : Opened) (expect : Expect) : Type 0 where
-  pub no_gap : is_gap e expect ≡ false
-  pub covered : IsCoveredBy (edits_of e) o.car.blocks (root_before expect) o.head.data_root
 
 -- why the commit isn't linked to what is expected: the first refusal that applies, unless memory was wanted
 abbrev pub IsUnlinked : CommitEvent → Opened → Expect → CheckFault → Type 0

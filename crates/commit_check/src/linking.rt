@@ -5,7 +5,7 @@ ghost use Rattle.std.specs.List.{list_any};
 ghost use Rattle.at_cid.specs.Link.{IsNodeLink};
 ghost use Rattle.mst_list.specs.Edits.{AllAgree, AreApart, IsGuarded, undone};
 ghost use Rattle.mst_node.specs.Trees.{IsView};
-ghost use Rattle.commit_check.specs.Linking.{bad_tree, IsBadView, IsCoveredAfter, IsLinked, IsMemory, IsNoRoot, IsNoUndoing, IsNoWayBack, IsRootBefore, IsStop, IsStopBy, IsUnlinked};
+ghost use Rattle.commit_check.specs.Linking.{bad_tree, IsBadView, IsMemory, IsNoRoot, IsNoUndoing, IsNoWayBack, IsRootBefore, IsStop, IsStopBy, IsUnlinked};
 ghost use Rattle.commit_check.specs.Opening.{IsOpened};
 ghost use Rattle.commit_check.specs.Refusing.{IsUnjudged};
 ghost use Rattle.commit_check.specs.declared.expect.Expect.{Expect};
@@ -217,11 +217,11 @@ pub fn link(
     ensures follows { OnOk result (is_gap event.now expect.now ≡ false) }
     ensures leads { OnOk result (Leads event.now opened.now.car.blocks (root_before expect.now) opened.now.head.data_root) }
     ensures refused { IfErr result (IsUnlinked event.now opened.now expect.now) }
-    ensures only { IsLinked event.now opened.now expect.now → IfErr result IsMemory }
+    ensures only { is_gap event.now expect.now ≡ false → Leads event.now opened.now.car.blocks (root_before expect.now) opened.now.head.data_root → IfErr result IsMemory }
     ensures known { OnOk result (expect.now ≢ Expect.Lost) }
     ensures unjudged { IfErr result IsUnjudged }
     ensures replays { OnOk result (ReplaysBy (edits_of event.now) opened.now.car.blocks (root_before expect.now) opened.now.head.data_root) }
-    ensures covered { IsCoveredAfter event.now opened.now expect.now → IfErr result IsMemory }
+    ensures covered { is_gap event.now expect.now ≡ false → IsCoveredBy (edits_of event.now) opened.now.car.blocks (root_before expect.now) opened.now.head.data_root → IfErr result IsMemory }
 {
     if strays(event, expect) || some_lacks_prev(event.ops.as_slice()) {
         return Err(CheckFault::Refused(Refusal::Gap));

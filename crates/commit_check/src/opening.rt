@@ -113,7 +113,7 @@ fn open_blocks(alloc: Global, event: &CommitEvent) -> Result<Opened, CheckFault>
 /// 200 operations; a path that is none; a path that stands twice; an operation whose links don't fit its action; a
 /// revision that isn't above `last`; a CAR that doesn't read; a block that isn't its link's; a first root that isn't the
 /// commit; a root whose block is missing; a block that is no commit object; a commit of another account or revision.
-#[tactic(auto, using(crate::proofs::Unjudged::shown_unjudged))]
+#[tactic(auto, using(crate::proofs::Unjudged::by_lines))]
 pub fn open_commit(
     alloc: Global,
     event: &CommitEvent,

@@ -8,7 +8,7 @@ use at_cid::{Cid, Memory, parse_binary, parse_text};
 use at_event::{Body, CommitEvent, Event, Frame, FrameFault, Refusal, read_frame};
 use cases::{ALONE, TOGETHER, TREES, Told};
 use message::{Change, Message, event, expect, last, said};
-use messages::{EMPTY_ROOT, FIRST, FIRST_ROOT, LAST_FRONT, LAST_ZEROS, LONGER_FRONT, MESSAGES};
+use messages::MESSAGES;
 use pieces::{BEFORE, COMMIT_LINK, DATA, DIGEST};
 use std::test::Fail;
 
@@ -99,23 +99,24 @@ fn refusals_in_their_order(rt: HostRuntime) {
     }
 }
 
-// Whether a message comes to the same by itself; where it is accepted, that is all that is compared.
-fn is_same_alone(rt: &HostRuntime, changes: &[Change], wanted: Answer) -> Result<bool, Memory> {
-    let alone = checked(rt, changes)?;
-    let (code, ..) = alone;
+// An answer without the roots of a message that is accepted.
+fn without_roots(answer: Result<Answer, Memory>) -> Result<Answer, Memory> {
+    let (code, place, first, second) = answer?;
     Ok(if code == 0 {
-        wanted == ACCEPTED
+        ACCEPTED
     } else {
-        alone == wanted
+        (code, place, first, second)
     })
 }
 
 #[test]
 fn what_trees_decide(rt: HostRuntime) {
     for (i, (changes, wanted)) in TREES.iter().enumerate() {
-        let wanted = told(*wanted);
-        assert_eq!(rt; (i, followed(&rt, changes)), (i, Ok(wanted)));
-        assert_eq!(rt; (i, is_same_alone(&rt, changes, wanted)), (i, Ok(true)));
+        assert_eq!(rt; (i, followed(&rt, changes)), (i, Ok(told(*wanted))));
+        assert_eq!(rt;
+            (i, without_roots(checked(&rt, changes))),
+            (i, Ok(told(*wanted)))
+        );
     }
 }
 
@@ -171,41 +172,4 @@ fn messages_of_hosts(rt: HostRuntime) {
         let wanted = (*code, *count, first, second);
         assert_eq!(rt; (i, checked_frame(&rt, frame)), (i, Ok(Some(wanted))));
     }
-}
-
-// What the first message comes to with one more block in its CAR: so many zeros, behind the front of its section.
-fn with_zeros(rt: &HostRuntime, front: &[u8], zeros: usize) -> Result<Option<Answer>, Memory> {
-    match read_frame(rt.alloc(), FIRST) {
-        Ok(Frame::Event(event)) => checked_longer(rt, event, front, zeros),
-        Err(FrameFault::Memory) => Err(Memory),
-        _ => Ok(None),
-    }
-}
-
-fn checked_longer(
-    rt: &HostRuntime,
-    event: Event,
-    front: &[u8],
-    zeros: usize,
-) -> Result<Option<Answer>, Memory> {
-    let Body::Commit(commit) = event.body else {
-        return Ok(None);
-    };
-    let mut commit = commit;
-    let block = Vec::from_elem(rt.alloc(), 0u8, zeros)?;
-    commit.blocks.extend(front)?;
-    commit.blocks.extend(block.as_slice())?;
-    Ok(Some(checked_event(rt, &commit)?))
-}
-
-#[test]
-fn blocks_at_their_limit(rt: HostRuntime) {
-    let from = parse_text(EMPTY_ROOT.as_bytes());
-    let to = parse_text(FIRST_ROOT.as_bytes());
-    assert_eq!(rt;
-        with_zeros(&rt, LAST_FRONT, LAST_ZEROS),
-        Ok(Some((0, 1, from, to)))
-    );
-    let longer = with_zeros(&rt, LONGER_FRONT, LAST_ZEROS + 1);
-    assert_eq!(rt; longer, Ok(Some((6, 0, None, None))));
 }

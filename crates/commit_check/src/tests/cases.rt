@@ -32,7 +32,8 @@ const NO_PATH: &str = "app.example.show/..";
 pub const ALONE: &[Plain] = &[
     (&[], 0, 0),
     (&[TooBig], 5, 5),
-    (&[Zeros], 6, 6),
+    (&[Zeros(FRONT, ZEROS)], 0, 0),
+    (&[Zeros(LONGER_FRONT, LONGER_ZEROS)], 6, 6),
     (&[Ops(&[]), Deletes(1200), Root(BEFORE_200)], 0, 0),
     (&[Ops(&[]), Deletes(1201), Root(BEFORE_201)], 7, 7),
     (
@@ -123,8 +124,8 @@ pub const ALONE: &[Plain] = &[
 
 /// Two that follow on each other in the order.
 pub const TOGETHER: &[Plain] = &[
-    (&[TooBig, Zeros], 5, 5),
-    (&[Zeros, Deletes(1200)], 6, 6),
+    (&[TooBig, Zeros(LONGER_FRONT, LONGER_ZEROS)], 5, 5),
+    (&[Zeros(LONGER_FRONT, LONGER_ZEROS), Deletes(1200)], 6, 6),
     (&[Ops(&[(Delete, NO_PATH, NONE, V4)]), Deletes(1200)], 7, 7),
     (
         &[Ops(&[

@@ -1,6 +1,6 @@
 //! A message that is accepted, and what may be changed of it and its account.
 
-use crate::tests::pieces::{BEFORE, COMMIT, COMMIT_LINK, FRONT, HEADER, RIGHT, TOP, V4, ZEROS};
+use crate::tests::pieces::{BEFORE, COMMIT, COMMIT_LINK, HEADER, RIGHT, TOP, V4};
 use crate::{CheckFault, Expect};
 use at_cid::{Cid, Memory, Octets, Words, parse_binary};
 use at_event::{Action, CommitEvent, EventOp, EventOps, Head};
@@ -25,8 +25,8 @@ pub enum Account {
 pub enum Change {
     /// The host left operations out.
     TooBig,
-    /// A Raw block of zeros brings the CAR to 2,000,001 bytes.
-    Zeros,
+    /// A Raw block of as many zeros behind the CAR, and the front of its section.
+    Zeros(&'static [u8], usize),
     /// Other operations.
     Ops(&'static [OpRow]),
     /// Deletions of the records from number 1000 on up to this one, behind the operations.
@@ -53,7 +53,8 @@ pub enum Change {
 #[derive(Clone, Copy)]
 pub struct Message {
     too_big: bool,
-    zeros: bool,
+    front: &'static [u8],
+    zeros: usize,
     ops: &'static [OpRow],
     deletes: u32,
     repo: &'static str,
@@ -69,7 +70,8 @@ pub struct Message {
 pub fn said(changes: &[Change]) -> Message {
     let mut message = Message {
         too_big: false,
-        zeros: false,
+        front: b"",
+        zeros: 0,
         ops: &[(Action::Delete, "app.example.row/0007", b"", V4)],
         deletes: 0,
         repo: "did:plc:ada",
@@ -90,7 +92,10 @@ fn changed(message: Message, change: Change) -> Message {
     let mut message = message;
     match change {
         Change::TooBig => message.too_big = true,
-        Change::Zeros => message.zeros = true,
+        Change::Zeros(front, zeros) => {
+            message.front = front;
+            message.zeros = zeros;
+        }
         Change::Ops(ops) => message.ops = ops,
         Change::Deletes(deletes) => message.deletes = deletes,
         Change::Repo(repo) => message.repo = repo,
@@ -114,11 +119,9 @@ fn car(rt: &HostRuntime, message: &Message) -> Result<Octets, Memory> {
     for piece in message.blocks {
         car.extend(piece)?;
     }
-    if message.zeros {
-        let zeros = Vec::from_elem(rt.alloc(), 0u8, ZEROS)?;
-        car.extend(FRONT)?;
-        car.extend(zeros.as_slice())?;
-    }
+    let zeros = Vec::from_elem(rt.alloc(), 0u8, message.zeros)?;
+    car.extend(message.front)?;
+    car.extend(zeros.as_slice())?;
     Ok(car)
 }
 

@@ -4,32 +4,29 @@
 /// number, the place of an operation, and the links that it names.
 pub type Row = (&'static [u8], u8, u32, &'static str, &'static str);
 
-/// A first commit that creates one record.
-pub const FIRST: &[u8] = b"\xa2atg#commitbop\x01\xabcops\x81\xa3ccid\xd8*X%\0\x01q\x12 \xc5\x86>\
-    \x9e<zcGi\x09S\x80\x93\xd5L\08\xe8\x97\xda-\xbah\xf4\x86D:Q\xb6\x1a3\xbfdpathtapp.example.row/\
-    0000factionfcreatecrevm2222222222223cseq\x01drepokdid:plc:adadtimet2025-01-01T00:00:00Zeblobs\
-    \x80esince\xf6fblocksY\x01|:\xa2eroots\x81\xd8*X%\0\x01q\x12 \xd5N\xdb\xf0OK\x82\x86\xc3\x01\
-    \x9a`\x81\xe6R\x8b\xa3S+{\x99\xccM-J\xb8\xd0\xbe\xb9V]Hgversion\x01\xca\x01\x01q\x12 \xd5N\xdb\
-    \xf0OK\x82\x86\xc3\x01\x9a`\x81\xe6R\x8b\xa3S+{\x99\xccM-J\xb8\xd0\xbe\xb9V]H\xa6cdidkdid:plc:\
-    adacrevm2222222222223csigX@\0\0\0\0\0\0\0\0\0\0\0\0\0\0\0\0\0\0\0\0\0\0\0\0\0\0\0\0\0\0\0\0\0\
-    \0\0\0\0\0\0\0\0\0\0\0\0\0\0\0\0\0\0\0\0\0\0\0\0\0\0\0\0\0\0\0ddata\xd8*X%\0\x01q\x12 \xadR\
-    \xed\x85J\x96h\xe1\x0bT\x96\xf2\xf9\xef\xa0\x017\xcb#\xc1Y]\xa99bv\x8d\xb7l\x1dC\xfddprev\xf6g\
-    version\x03t\x01q\x12 \xadR\xed\x85J\x96h\xe1\x0bT\x96\xf2\xf9\xef\xa0\x017\xcb#\xc1Y]\xa99bv\
-    \x8d\xb7l\x1dC\xfd\xa2ae\x81\xa4akTapp.example.row/0000ap\0at\xf6av\xd8*X%\0\x01q\x12 \xc5\x86\
-    >\x9e<zcGi\x09S\x80\x93\xd5L\08\xe8\x97\xda-\xbah\xf4\x86D:Q\xb6\x1a3\xbfal\xf6fcommit\xd8*X%\
-    \0\x01q\x12 \xd5N\xdb\xf0OK\x82\x86\xc3\x01\x9a`\x81\xe6R\x8b\xa3S+{\x99\xccM-J\xb8\xd0\xbe\
-    \xb9V]Hfrebase\xf4ftooBig\xf4";
-
-/// The root of no records.
-pub const EMPTY_ROOT: &str = "bafyreie5737gdxlw5i64vzichcalba3z2v5n6icifvx5xytvske7mr3hpm";
-
-/// The root of that record.
-pub const FIRST_ROOT: &str = "bafyreifnklwyksuwndqqwvew6l467iabg7fshqkzlwutsytwrw3wyhkd7u";
-
 /// The messages.
 pub const MESSAGES: &[Row] = &[
     // A first commit.
-    (FIRST, 0, 1, EMPTY_ROOT, FIRST_ROOT),
+    (
+        b"\xa2atg#commitbop\x01\xabcops\x81\xa3ccid\xd8*X%\0\x01q\x12 \xc5\x86>\x9e<zcGi\x09S\x80\
+        \x93\xd5L\08\xe8\x97\xda-\xbah\xf4\x86D:Q\xb6\x1a3\xbfdpathtapp.example.row/0000factionfcr\
+        eatecrevm2222222222223cseq\x01drepokdid:plc:adadtimet2025-01-01T00:00:00Zeblobs\x80esince\
+        \xf6fblocksY\x01|:\xa2eroots\x81\xd8*X%\0\x01q\x12 \xd5N\xdb\xf0OK\x82\x86\xc3\x01\x9a`\
+        \x81\xe6R\x8b\xa3S+{\x99\xccM-J\xb8\xd0\xbe\xb9V]Hgversion\x01\xca\x01\x01q\x12 \xd5N\xdb\
+        \xf0OK\x82\x86\xc3\x01\x9a`\x81\xe6R\x8b\xa3S+{\x99\xccM-J\xb8\xd0\xbe\xb9V]H\xa6cdidkdid:\
+        plc:adacrevm2222222222223csigX@\0\0\0\0\0\0\0\0\0\0\0\0\0\0\0\0\0\0\0\0\0\0\0\0\0\0\0\0\0\
+        \0\0\0\0\0\0\0\0\0\0\0\0\0\0\0\0\0\0\0\0\0\0\0\0\0\0\0\0\0\0\0\0\0\0\0ddata\xd8*X%\0\x01q\
+        \x12 \xadR\xed\x85J\x96h\xe1\x0bT\x96\xf2\xf9\xef\xa0\x017\xcb#\xc1Y]\xa99bv\x8d\xb7l\x1dC\
+        \xfddprev\xf6gversion\x03t\x01q\x12 \xadR\xed\x85J\x96h\xe1\x0bT\x96\xf2\xf9\xef\xa0\x017\
+        \xcb#\xc1Y]\xa99bv\x8d\xb7l\x1dC\xfd\xa2ae\x81\xa4akTapp.example.row/0000ap\0at\xf6av\xd8*\
+        X%\0\x01q\x12 \xc5\x86>\x9e<zcGi\x09S\x80\x93\xd5L\08\xe8\x97\xda-\xbah\xf4\x86D:Q\xb6\x1a\
+        3\xbfal\xf6fcommit\xd8*X%\0\x01q\x12 \xd5N\xdb\xf0OK\x82\x86\xc3\x01\x9a`\x81\xe6R\x8b\xa3\
+        S+{\x99\xccM-J\xb8\xd0\xbe\xb9V]Hfrebase\xf4ftooBig\xf4",
+        0,
+        1,
+        "bafyreie5737gdxlw5i64vzichcalba3z2v5n6icifvx5xytvske7mr3hpm",
+        "bafyreifnklwyksuwndqqwvew6l467iabg7fshqkzlwutsytwrw3wyhkd7u",
+    ),
     // A commit without operations.
     (
         b"\xa2atg#commitbop\x01\xaccops\x80crevm2222222222224cseq\x02drepokdid:plc:adadtimet2025-0\
@@ -91,7 +88,7 @@ pub const MESSAGES: &[Row] = &[
         oBig\xf4",
         0,
         2,
-        EMPTY_ROOT,
+        "bafyreie5737gdxlw5i64vzichcalba3z2v5n6icifvx5xytvske7mr3hpm",
         "bafyreiewubtkx3uecix3zbabvjnop67m2rxzqunn6ujtwv2yvlcqtfcadu",
     ),
     // Two keys eight layers apart, the node of layer 4 left out.
@@ -428,14 +425,3 @@ pub const MESSAGES: &[Row] = &[
         "",
     ),
 ];
-
-/// The front of a section that brings the CAR of the first message to 2,000,000 bytes.
-pub const LAST_FRONT: &[u8] = b"\x81\x86z\x01U\x12 ?\x84/\x86ei\x92r\xb9xSr\x8fj\x092Qu\x1c\xb7\
-    \xc9A<\xf9\xdd\xa1\xdd\xfc\x80\xb41G";
-
-/// How many zeros its block has.
-pub const LAST_ZEROS: usize = 1_999_581;
-
-/// The front of a section with one zero more.
-pub const LONGER_FRONT: &[u8] = b"\x82\x86z\x01U\x12 \xde\xc8Fo\x93\x12chE\xd1\xd1\0\xda\x07\"v\
-    \xfb\xb2Z\x9f\x96\xfetV\xef\x85\xad\x8a\xe9\x10\x0ak";
