@@ -2,7 +2,9 @@
 //! A key of a row is the end of its text, a hole has the empty key, and links are numbered from 1 on, 0 being none.
 
 pub mod commits;
-pub mod undoing;
+pub mod disagreeing;
+pub mod uncovered;
+pub mod undone;
 
 /// An item with its key, the layer of a hole, and its link; or an operation with its key, what was and what is now.
 pub type Row = (&'static str, u8, u8);

@@ -1,6 +1,11 @@
 use super::*;
 use crate::tables::commits::COMMITS;
-use crate::tables::undoing::UNDOING;
+use crate::tables::disagreeing::{ONE_DISAGREES, ONE_OF_SEVERAL_DISAGREES};
+use crate::tables::uncovered::{
+    CREATE_BEFORE_ANOTHER_UNCOVERED, CREATE_BEFORE_TWO_UNCOVERED, DELETE_FIRST_UNCOVERED,
+    LATER_OF_SEVERAL_UNCOVERED, ONE_UNCOVERED, UPDATE_FIRST_UNCOVERED,
+};
+use crate::tables::undone::{ONE_UNDONE, SEVERAL_UNDONE};
 use crate::tables::{Commit, LINKS, Row, Undoing};
 use at_car::Blocks;
 use at_cid::{Cid, Octets, cid_of, parse_text};
@@ -136,8 +141,65 @@ fn first_not_undone(rt: &HostRuntime, rows: &[Undoing]) -> Result<Option<usize>,
 }
 
 #[test]
-fn undoes(rt: HostRuntime) -> Result<(), Fail> {
-    assert_eq!(rt; first_not_undone(&rt, &UNDOING)?, None);
+fn one_operation_undone(rt: HostRuntime) -> Result<(), Fail> {
+    assert_eq!(rt; first_not_undone(&rt, &ONE_UNDONE)?, None);
+    Ok(())
+}
+
+#[test]
+fn several_operations_undone(rt: HostRuntime) -> Result<(), Fail> {
+    assert_eq!(rt; first_not_undone(&rt, &SEVERAL_UNDONE)?, None);
+    Ok(())
+}
+
+#[test]
+fn one_operation_disagrees(rt: HostRuntime) -> Result<(), Fail> {
+    assert_eq!(rt; first_not_undone(&rt, &ONE_DISAGREES)?, None);
+    Ok(())
+}
+
+#[test]
+fn one_of_several_operations_disagrees(rt: HostRuntime) -> Result<(), Fail> {
+    assert_eq!(rt; first_not_undone(&rt, &ONE_OF_SEVERAL_DISAGREES)?, None);
+    Ok(())
+}
+
+#[test]
+fn one_operation_is_uncovered(rt: HostRuntime) -> Result<(), Fail> {
+    assert_eq!(rt; first_not_undone(&rt, &ONE_UNCOVERED)?, None);
+    Ok(())
+}
+
+#[test]
+fn a_create_before_another_operation_is_uncovered(rt: HostRuntime) -> Result<(), Fail> {
+    assert_eq!(rt;
+        first_not_undone(&rt, &CREATE_BEFORE_ANOTHER_UNCOVERED)?,
+        None
+    );
+    Ok(())
+}
+
+#[test]
+fn a_create_before_two_operations_is_uncovered(rt: HostRuntime) -> Result<(), Fail> {
+    assert_eq!(rt; first_not_undone(&rt, &CREATE_BEFORE_TWO_UNCOVERED)?, None);
+    Ok(())
+}
+
+#[test]
+fn an_update_before_others_is_uncovered(rt: HostRuntime) -> Result<(), Fail> {
+    assert_eq!(rt; first_not_undone(&rt, &UPDATE_FIRST_UNCOVERED)?, None);
+    Ok(())
+}
+
+#[test]
+fn a_delete_before_others_is_uncovered(rt: HostRuntime) -> Result<(), Fail> {
+    assert_eq!(rt; first_not_undone(&rt, &DELETE_FIRST_UNCOVERED)?, None);
+    Ok(())
+}
+
+#[test]
+fn a_later_one_of_several_operations_is_uncovered(rt: HostRuntime) -> Result<(), Fail> {
+    assert_eq!(rt; first_not_undone(&rt, &LATER_OF_SEVERAL_UNCOVERED)?, None);
     Ok(())
 }
 
