@@ -71,19 +71,11 @@ fn ops_of(rt: &HostRuntime, rows: &[OpRow]) -> Result<OpList, Fail> {
 }
 
 fn undone(rt: &HostRuntime, list: &ItemList, ops: &OpList) -> Result<ItemList, Fail> {
-    Ok(
-        undo_list(rt.alloc(), list, ops)
-            .ok()
-            .ok_or("operations that can be undone")?,
-    )
+    Ok(undo_list(rt.alloc(), list, ops)?)
 }
 
 fn played(rt: &HostRuntime, list: &ItemList, ops: &OpList) -> Result<ItemList, Fail> {
-    Ok(
-        play(rt.alloc(), list, ops)
-            .ok()
-            .ok_or("operations that play")?,
-    )
+    Ok(play(rt.alloc(), list, ops)?)
 }
 
 // Whether a map fills a list and has its root, and neither is so of another map.
@@ -179,7 +171,7 @@ fn covers(rt: HostRuntime) -> Result<(), Fail> {
 }
 
 fn node_of(rt: &HostRuntime, block: &[u8]) -> Result<Node, Fail> {
-    Ok(read_node(rt.alloc(), block).ok().ok_or("a node")?)
+    Ok(read_node(rt.alloc(), block)?)
 }
 
 fn add_keys(list: &mut ItemList, node: &Node) -> Result<(), Fail> {
@@ -203,10 +195,11 @@ fn creates(rt: &HostRuntime, node: &Node) -> Result<OpList, Fail> {
     Ok(ops)
 }
 
-fn is_uncovered(rt: &HostRuntime, list: &ItemList, ops: &OpList) -> bool {
+fn is_uncovered(rt: &HostRuntime, list: &ItemList, ops: &OpList) -> Result<bool, Fail> {
     match undo_list(rt.alloc(), list, ops) {
-        Err(UndoFault::NotCovered(i)) => i == 0,
-        _ => false,
+        Err(UndoFault::Memory) => Err(Fail::from(UndoFault::Memory)),
+        Err(fault) => Ok(fault == UndoFault::NotCovered(0)),
+        Ok(_) => Ok(false),
     }
 }
 
@@ -226,7 +219,7 @@ fn a_key_over_a_hidden_subtree(rt: HostRuntime) -> Result<(), Fail> {
     assert_eq!(rt; Some(root_of(&rt, &list)?), link_of(TOP_LINK));
     assert_eq!(rt; Some(root_of(&rt, &former_map)?), link_of(HIDDEN_LINK));
     assert!(rt; fills(&rt, &former_map, &former_list)?);
-    assert!(rt; !guarded(&list, &ops) && is_uncovered(&rt, &list, &ops));
+    assert!(rt; !guarded(&list, &ops) && is_uncovered(&rt, &list, &ops)?);
     let map = played(&rt, &former_map, &ops)?;
     assert!(rt; map.len() == 3 && is_map(map.as_slice()) && !fills(&rt, &map, &list)?);
     assert!(rt; Some(root_of(&rt, &map)?) != link_of(TOP_LINK));

@@ -4,6 +4,7 @@
 pub mod commits;
 pub mod disagreeing;
 pub mod uncovered;
+pub mod uncovered_among_several;
 pub mod undone;
 
 /// An item with its key, the layer of a hole, and its link; or an operation with its key, what was and what is now.

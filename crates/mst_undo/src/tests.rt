@@ -1,9 +1,10 @@
 use super::*;
 use crate::tables::commits::COMMITS;
 use crate::tables::disagreeing::{ONE_DISAGREES, ONE_OF_SEVERAL_DISAGREES};
-use crate::tables::uncovered::{
-    CREATE_BEFORE_ANOTHER_UNCOVERED, CREATE_BEFORE_TWO_UNCOVERED, DELETE_FIRST_UNCOVERED,
-    LATER_OF_SEVERAL_UNCOVERED, ONE_UNCOVERED, UPDATE_FIRST_UNCOVERED,
+use crate::tables::uncovered::{CREATE_BEFORE_ANOTHER_UNCOVERED, ONE_UNCOVERED};
+use crate::tables::uncovered_among_several::{
+    CREATE_BEFORE_TWO_UNCOVERED, DELETE_FIRST_UNCOVERED, LATER_OF_SEVERAL_UNCOVERED,
+    UPDATE_FIRST_UNCOVERED,
 };
 use crate::tables::undone::{ONE_UNDONE, SEVERAL_UNDONE};
 use crate::tables::{Commit, LINKS, Row, Undoing};

@@ -1,5 +1,5 @@
 // A disk on one file, which tells nothing of its content.
-ghost use Rattle.std.specs.Prelude.{false};
+ghost use Rattle.std.specs.Prelude.{◌≡◌, false};
 ghost use Rattle.relay_disk.specs.Untold.{untold, untold_disk};
 
 use crate::counts::{counted, fail};
@@ -73,7 +73,12 @@ pub struct FileDisk<R: Files> {
 }
 
 impl<R: Files> FileDisk<R> {
-    pub fn new(rt: R, path: String) -> Self {
+    /// The disk on the file at this path, without faults so far. Nothing is opened yet.
+    pub fn new(rt: R, path: String) -> Self
+        ensures rt { result.file.rt ≡ rt }
+        ensures path { result.file.path ≡ path }
+        ensures faults { result.faults ≡ 0 }
+    {
         FileDisk {
             file: LazyFile {
                 rt,
