@@ -2,7 +2,7 @@
 use Rattle.std.proofs.Common.{◌≡◌, ℕ, zero, suc, ◌+◌, ◌-◌, ◌*◌, ◌/◌, ◌%◌, ◌^◌, ◌<◌, ◌≤◌, ◌⊎◌, inl, inr, pos, negsuc, Bool, true, false, cond, ltb, leb, eqb, ◌&&◌, ◌||◌, List, [], ◌∷◌, ◌++◌, length, take, drop, Option, Some, None, Result, Ok, Err, refl, sym, ap, subst, ◌∙◌, append_assoc, arith}
 use Rattle.std.specs.Int.{Width, w8, w16, w32, w64, byte_len, from_be_bytes}
 use Rattle.std.proofs.Math.ListN.{replicate}
-use Rattle.std.proofs.lemmas.Bool.{cases_lt, ltb-true, ltb-false, eqb-true, eqb-false}
+use Rattle.std.proofs.lemmas.Bool.{and_parts, or_cases, or_parts, cases_lt, ltb-true, ltb-false, eqb-true, eqb-false}
 use Rattle.std.proofs.lemmas.Bool.Decides.{nat_tests}
 use Rattle.std.proofs.lemmas.List.{append-nil, take_all, take-append-drop, length-append, length-take, length-replicate}
 use Rattle.at_cid.specs.Link.{IsBytes, is_link, link_at, prefix_of}
@@ -13,7 +13,7 @@ use Rattle.at_cbor.specs.declared.head.Head.{Head}
 use Rattle.at_cbor.specs.Heads.{Flaw, wide_at, argument_at, least_of, agrees, begins_link, link_behind, whole_link, tagged, simple_of, major_of, argued, head_at}
 use Rattle.at_cbor.specs.Spelling.{tail_of, front_of}
 use Rattle.at_cbor.specs.Faults.{argument_len, wide_for, MayBeTagged, BreaksHead, IsLongForm}
-use Rattle.at_cbor.proofs.Steps.{both_true, chosen}
+use Rattle.at_cbor.proofs.Steps.{chosen}
 use Rattle.at_cbor.proofs.Fronts.{IsWide, wide8, wide16, wide32, wide64, wide_takes, form_0, form_1, form_2, form_3, argument_takes}
 use Rattle.at_cbor.proofs.HeadLaws.{tagged_again}
 
@@ -123,14 +123,6 @@ long_form first bytes a other fits e least =
 
 -- ---- tags
 
-either_true : (a b : Bool) → (a || b) ≡ true → (a ≡ true) ⊎ (b ≡ true)
-either_true true b e = inl refl
-either_true false b e = inr e
-
-neither : (a b : Bool) → (a || b) ≡ false → (a ≡ false) × (b ≡ false)
-neither true b e = absurd cc
-neither false b e = (refl, e)
-
 -- of two lists one of which begins the other, both go on to the same
 pub record Joins (xs ys : List ℕ) : Type 0 where
   pub more : List ℕ
@@ -142,7 +134,7 @@ agreed_join : (xs ys : List ℕ) → agrees xs ys ≡ true → Joins xs ys
 agreed_join [] ys e = record { more = ys; behind = []; same = sym (append-nil ys); short = omega arith }
 agreed_join (x ∷ xs) [] e = record { more = []; behind = x ∷ xs; same = append-nil (x ∷ xs); short = omega arith }
 agreed_join (x ∷ xs) (y ∷ ys) e =
-    let parts = both_true (eqb x y) (agrees xs ys) e in
+    let parts = and_parts (eqb x y) (agrees xs ys) e in
     let others = agreed_join xs ys parts.1 in
     record { more = others.more; behind = others.behind; same = ap (λ (n : ℕ). n ∷ (xs ++ others.more)) (eqb-true x y parts.0) ∙ ap (λ (l : List ℕ). y ∷ l) others.same; short = omega (arith, others.short) }
 
@@ -183,7 +175,7 @@ raw_link digest len = ap (λ (n : ℕ). eqb n 32) len
 
 begun : (behind : List ℕ) → length behind < 39 → begins_link behind ≡ true → MayBeTagged behind
 begun behind short e =
-    elim (either_true (agrees behind (88 ∷ 37 ∷ 0 ∷ prefix_of Node)) (agrees behind (88 ∷ 37 ∷ 0 ∷ prefix_of Raw)) e) [
+    elim (or_cases (agrees behind (88 ∷ 37 ∷ 0 ∷ prefix_of Node)) (agrees behind (88 ∷ 37 ∷ 0 ∷ prefix_of Raw)) e) [
       | inl h ↦ may_be 113 behind node_link short h
       | inr h ↦ may_be 85 behind raw_link short h
     ]
@@ -201,16 +193,16 @@ prefixed (a ∷ []) h = absurd cc
 prefixed (a ∷ b ∷ []) h = absurd cc
 prefixed (a ∷ b ∷ c ∷ []) h = absurd cc
 prefixed (a ∷ b ∷ c ∷ d ∷ digest) h =
-    let t5 = both_true (eqb a 1 && (eqb b 113 || eqb b 85) && eqb c 18 && eqb d 32) (eqb (length digest) 32) h in
-    let t4 = both_true (eqb a 1 && (eqb b 113 || eqb b 85) && eqb c 18) (eqb d 32) t5.0 in
-    let t3 = both_true (eqb a 1 && (eqb b 113 || eqb b 85)) (eqb c 18) t4.0 in
-    let t2 = both_true (eqb a 1) (eqb b 113 || eqb b 85) t3.0 in
-    let known : (b ≡ 113) ⊎ (b ≡ 85) = elim (either_true (eqb b 113) (eqb b 85) t2.1) [ inl p ↦ inl (eqb-true b 113 p) | inr p ↦ inr (eqb-true b 85 p) ] in
+    let t5 = and_parts (eqb a 1 && (eqb b 113 || eqb b 85) && eqb c 18 && eqb d 32) (eqb (length digest) 32) h in
+    let t4 = and_parts (eqb a 1 && (eqb b 113 || eqb b 85) && eqb c 18) (eqb d 32) t5.0 in
+    let t3 = and_parts (eqb a 1 && (eqb b 113 || eqb b 85)) (eqb c 18) t4.0 in
+    let t2 = and_parts (eqb a 1) (eqb b 113 || eqb b 85) t3.0 in
+    let known : (b ≡ 113) ⊎ (b ≡ 85) = elim (or_cases (eqb b 113) (eqb b 85) t2.1) [ inl p ↦ inl (eqb-true b 113 p) | inr p ↦ inr (eqb-true b 85 p) ] in
     record { digest = digest; codec = b; known = known; parts = rw (eqb-true a 1 t2.0, eqb-true c 18 t3.1, eqb-true d 32 t4.1) refl }
 
 not_begun : (behind : List ℕ) → length behind < 39 → begins_link behind ≡ false → MayBeTagged behind → ⊥
 not_begun behind short e may =
-    let tests = neither (agrees behind (88 ∷ 37 ∷ 0 ∷ prefix_of Node)) (agrees behind (88 ∷ 37 ∷ 0 ∷ prefix_of Raw)) e in
+    let tests = or_parts (agrees behind (88 ∷ 37 ∷ 0 ∷ prefix_of Node)) (agrees behind (88 ∷ 37 ∷ 0 ∷ prefix_of Raw)) e in
     let p = prefixed may.1.0 may.1.1 in
     let joined : behind ++ may.0 ≡ 88 ∷ 37 ∷ 0 ∷ 1 ∷ p.codec ∷ 18 ∷ 32 ∷ p.digest = ap (λ (l : List ℕ). l ++ may.0) (sym (take_all 39 behind (omega (arith, short)))) ∙ may.1.2 ∙ ap (λ (l : List ℕ). 88 ∷ 37 ∷ 0 ∷ l) p.parts in
     elim p.known [

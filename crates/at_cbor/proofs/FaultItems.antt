@@ -226,6 +226,10 @@ abbrev InsideFaults : Option (List ℕ → Reading Item) → ℕ → Type 0
 InsideFaults None depth = depth ≡ 0
 InsideFaults (Some r) depth = (0 < depth) × Sound r (depth - 1) × Faults r (depth - 1)
 
+-- what is read is no fault
+no_fault : {d : Flaw} {x : Item × List ℕ} → (let s : Reading Item = Ok x in s) ≡ Err d → ⊥
+no_fault h = cc
+
 list_faults : (inside : Option (List ℕ → Reading Item)) (depth left n : ℕ) (rest : List ℕ) (d : Flaw) → InsideFaults inside depth → left ≡ length (front_of 4 n ++ rest) → n < 2 ^ 64 → IsBytes rest → list_of inside left n rest ≡ Err d → IsFault depth (front_of 4 n ++ rest) d
 list_faults None depth left n rest d none here below fits e = own_as depth _ (Cause.TooDeep, left) d (err_is (Cause.TooDeep, left) d e) here (none, (n, rest, below, inl refl))
 list_faults (Some r) depth left n rest d given here below fits e =
@@ -237,9 +241,6 @@ list_faults (Some r) depth left n rest d given here below fits e =
           subst (λ (l : List ℕ). IsFault depth l d) (sym parts) (deeper (in_list n part.read) depth part.after d given.0 (part.fewer, below, part.fit) fault)
       | inr f ↦ absurd (no_fault f.2)
     ]
-  where
-    no_fault : {x : Item × List ℕ} → (let s : Reading Item = Ok x in s) ≡ Err d → ⊥
-    no_fault h = cc
 
 map_faults : (inside : Option (List ℕ → Reading Item)) (depth left n : ℕ) (rest : List ℕ) (d : Flaw) → InsideFaults inside depth → left ≡ length (front_of 5 n ++ rest) → n < 2 ^ 64 → IsBytes rest → map_of inside left n rest ≡ Err d → IsFault depth (front_of 5 n ++ rest) d
 map_faults None depth left n rest d none here below fits e = own_as depth _ (Cause.TooDeep, left) d (err_is (Cause.TooDeep, left) d e) here (none, (n, rest, below, inr refl))
@@ -267,9 +268,6 @@ map_faults (Some r) depth left n rest d given here below fits e =
           ]
       | inr f ↦ absurd (no_fault f.2)
     ]
-  where
-    no_fault : {x : Item × List ℕ} → (let s : Reading Item = Ok x in s) ≡ Err d → ⊥
-    no_fault h = cc
 
 body_faults : (inside : Option (List ℕ → Reading Item)) (depth left : ℕ) (head : Head) (rest : List ℕ) (d : Flaw) → InsideFaults inside depth → left ≡ length (head_spelling head ++ rest) → HeadFits head → IsBytes rest → body_of inside left head rest ≡ Err d → IsFault depth (head_spelling head ++ rest) d
 unfolding body_of

@@ -1,6 +1,6 @@
 -- A head that is read is the head that was written, and what was written is read again.
 use Rattle.std.proofs.Common.{◌≡◌, ℕ, zero, suc, ◌+◌, ◌*◌, ◌/◌, ◌%◌, ◌^◌, ◌<◌, ◌≤◌, pos, negsuc, Bool, true, false, cond, ltb, leb, eqb, ◌&&◌, List, [], ◌∷◌, ◌++◌, length, get_or, take, drop, Option, Some, None, Result, Ok, Err, refl, sym, ap, subst, ◌∙◌, arith, inl, inr}
-use Rattle.std.proofs.lemmas.Bool.{ltb-true, lt-ltb, eqb-true}
+use Rattle.std.proofs.lemmas.Bool.{and_parts, ltb-true, lt-ltb, eqb-true}
 use Rattle.std.proofs.lemmas.Bool.Decides.{nat_tests}
 use Rattle.std.proofs.lemmas.List.{take-append-drop, take_at, drop_at, drop-drop, length-append}
 use Rattle.at_cid.specs.Link.{IsBytes, is_link, link_at}
@@ -9,7 +9,7 @@ use Rattle.at_cbor.specs.declared.fault.Cause.{Cause}
 use Rattle.at_cbor.specs.declared.head.Head.{Head}
 use Rattle.at_cbor.specs.Heads.{Flaw, argument_at, least_of, begins_link, link_behind, whole_link, tagged, simple_of, major_of, argued, head_at}
 use Rattle.at_cbor.specs.Spelling.{info_of, tail_of, front_of, bool_spelling, link_spelling, head_spelling, HeadFits}
-use Rattle.at_cbor.proofs.Steps.{guard_ok, passed_ok, chosen, ok_is, both_true, IsBytes-drop, IsBytes-take, Takes}
+use Rattle.at_cbor.proofs.Steps.{guard_ok, passed_ok, chosen, ok_is, IsBytes-drop, IsBytes-take, Takes}
 use Rattle.at_cbor.proofs.Fronts.{argument_takes, argument_is_low, argument_again}
 
 -- the bytes begin with this head, and go on with the rest
@@ -42,8 +42,8 @@ whole_takes left bytes x fits long e =
     let second = eqb (get_or bytes 1 0) 37 in
     let third = eqb (get_or bytes 2 0) 0 in
     let t = passed_ok (first && second && third) (Cause.BadTag, left) (link_behind left (link_at (drop 3 bytes)) (drop 39 bytes)) x e in
-    let two = both_true (first && second) third t.0 in
-    let one = both_true first second two.0 in
+    let two = and_parts (first && second) third t.0 in
+    let one = and_parts first second two.0 in
     let cells = three_cells bytes long (eqb-true _ _ one.0) (eqb-true _ _ one.1) (eqb-true _ _ two.1) in
     let g = behind_takes left (link_at (drop 3 bytes)) (drop 39 bytes) x t.1 in
     let link : List ℕ = g.0 in

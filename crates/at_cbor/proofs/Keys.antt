@@ -1,7 +1,8 @@
 -- Keys that ascend.
-use Rattle.std.proofs.Common.{◌≡◌, ℕ, zero, suc, ◌-◌, ◌<◌, Bool, true, ◌&&◌, List, [], ◌∷◌, ◌++◌, length, map, take, get_or, Option, Some, None, Ok, refl, sym, ap, subst, ◌∙◌, arith}
+use Rattle.std.proofs.Common.{◌≡◌, ℕ, zero, suc, ◌-◌, ◌<◌, true, List, [], ◌∷◌, ◌++◌, length, map, take, get_or, Option, Some, None, Ok, refl, sym, ap, subst, ◌∙◌, arith}
 use Rattle.std.specs.Prelude.{slice_get, option_map}
 use Rattle.std.proofs.lemmas.List.{map_push}
+use Rattle.std.proofs.lemmas.Bool.{and_from, and_parts}
 use Rattle.at_cbor.specs.declared.fault.Cause.{Cause}
 use Rattle.at_cbor.specs.declared.head.Head.{Head}
 use Rattle.at_cbor.specs.declared.value.Value.{Value}
@@ -9,10 +10,7 @@ use Rattle.at_cbor.specs.Heads.{head_at}
 use Rattle.at_cbor.specs.Item.{Item, last_key, is_above, are_ascending}
 use Rattle.at_cbor.specs.Reading.{text_at, key_of, key_at}
 use Rattle.at_cbor.specs.View.{pair_of}
-use Rattle.at_cbor.proofs.Steps.{bind_ok, passed_ok, ok_is, both_true}
-
-are_both : (a b : Bool) → a ≡ true → b ≡ true → (a && b) ≡ true
-are_both a b p q = rw (p, q) refl
+use Rattle.at_cbor.proofs.Steps.{bind_ok, passed_ok, ok_is}
 
 abbrev pub last_or : Option (List ℕ) → List (List ℕ × Item) → Option (List ℕ)
 last_or before [] = before
@@ -34,10 +32,10 @@ last_of_all [] = refl
 last_of_all (f ∷ fs) = last_is f fs
 
 ascending_push : (before : Option (List ℕ)) (fs : List (List ℕ × Item)) (f : List ℕ × Item) → are_ascending before fs ≡ true → is_above (last_or before fs) f.0 ≡ true → are_ascending before (fs ++ f ∷ []) ≡ true
-ascending_push before [] f h above = are_both (is_above before f.0) true above refl
+ascending_push before [] f h above = and_from (is_above before f.0) true above refl
 ascending_push before (g ∷ fs) f h above =
-    let parts = both_true (is_above before g.0) (are_ascending (Some g.0) fs) h in
-    are_both (is_above before g.0) (are_ascending (Some g.0) (fs ++ f ∷ [])) parts.0 (ascending_push (Some g.0) fs f parts.1 above)
+    let parts = and_parts (is_above before g.0) (are_ascending (Some g.0) fs) h in
+    and_from (is_above before g.0) (are_ascending (Some g.0) (fs ++ f ∷ [])) parts.0 (ascending_push (Some g.0) fs f parts.1 above)
 
 -- a field behind the others leaves the keys ascending
 pub push_ascends : (old new : List (List ℕ × Value)) (seen : List (List ℕ × Item)) (f : List ℕ × Value) → new ≡ old ++ f ∷ [] → map pair_of old ≡ seen → are_ascending None (map pair_of old) ≡ true → is_above (last_key seen) f.0 ≡ true
@@ -49,8 +47,8 @@ push_ascends old new seen f pushed named ascending above =
 
 above_before : (before : Option (List ℕ)) (fs : List (List ℕ × Value)) (k : ℕ) (d : List ℕ × Value) → k < length fs → are_ascending before (map pair_of fs) ≡ true → is_above (last_or before (map pair_of (take k fs))) (get_or fs k d).0 ≡ true
 above_before before [] k d h ascending = absurd (omega arith)
-above_before before (f ∷ fs) zero d h ascending = (both_true (is_above before f.0) (are_ascending (Some f.0) (map pair_of fs)) ascending).0
-above_before before (f ∷ fs) (suc k) d h ascending = above_before (Some f.0) fs k d (omega arith) (both_true (is_above before f.0) (are_ascending (Some f.0) (map pair_of fs)) ascending).1
+above_before before (f ∷ fs) zero d h ascending = (and_parts (is_above before f.0) (are_ascending (Some f.0) (map pair_of fs)) ascending).0
+above_before before (f ∷ fs) (suc k) d h ascending = above_before (Some f.0) fs k d (omega arith) (and_parts (is_above before f.0) (are_ascending (Some f.0) (map pair_of fs)) ascending).1
 
 -- of fields whose keys ascend, the next one's key is above those before it
 pub next_above : (made : List (List ℕ × Item)) (fs : List (List ℕ × Value)) (k : ℕ) (f : List ℕ × Value) (key : List ℕ) → made ≡ map pair_of (take k fs) → k < length fs → f ≡ get_or fs k f → key ≡ f.0 → are_ascending None (map pair_of fs) ≡ true

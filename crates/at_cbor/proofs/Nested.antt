@@ -1,10 +1,10 @@
 -- What is written has a spelling at each depth at which it is nested.
 use Rattle.std.proofs.Common.{◌≡◌, ℕ, zero, suc, ◌-◌, ◌<◌, ◌≤◌, ◌^◌, true, List, [], ◌∷◌, length, map, get_or, Option, Some, None, refl, subst, ◌∙◌, arith}
+use Rattle.std.proofs.lemmas.Bool.{and_parts}
 use Rattle.at_cbor.specs.declared.value.Value.{Value}
 use Rattle.at_cbor.specs.Item.{Item, items_of, fields_of, is_above, are_ascending}
 use Rattle.at_cbor.specs.Spelling.{fields_nesting, IsText, FieldsFit, IsSpellable, AreSpellable, AreFieldsSpellable}
 use Rattle.at_cbor.specs.View.{item_of, pair_of}
-use Rattle.at_cbor.proofs.Steps.{both_true}
 use Rattle.at_cbor.proofs.Writes.{items_counted, fields_counted}
 
 any_default : {A : Type 0} (xs : List A) (k : ℕ) (d e : A) → k < length xs → get_or xs k d ≡ get_or xs k e
@@ -39,7 +39,7 @@ fields_from : (before : Option (List ℕ)) (fs : List (List ℕ × Value)) → F
 fields_from before [] each ascending depth h = tt
 fields_from before (f ∷ fs) each ascending depth h =
     let first = each 0 (omega arith) f in
-    let order = both_true (is_above before f.0) (are_ascending (Some f.0) (map pair_of fs)) ascending in
+    let order = and_parts (is_above before f.0) (are_ascending (Some f.0) (map pair_of fs)) ascending in
     (first.0, order.0, first.1 depth (omega (arith, h)), fields_from (Some f.0) fs (λ k lt. each (suc k) (omega (arith, lt))) order.1 depth (omega (arith, h)))
 
 pub fields_spellable : (fs : List (List ℕ × Value)) → FieldsBefore fs (length fs) → are_ascending None (map pair_of fs) ≡ true → AreFieldsSpellable (map pair_of fs)

@@ -1,19 +1,13 @@
 -- Items that are tested equal are the same.
-use Rattle.std.specs.Prelude.{◌≡◌, Bool, true, false, ◌&&◌, refl}
+use Rattle.std.specs.Prelude.{◌≡◌, true, ◌&&◌, refl}
 use Rattle.std.proofs.Common.{ap}
 use Rattle.std.specs.Bool.{Decides}
 use Rattle.std.specs.Cmp.{IsEquivalence, decided, booleans_Decides}
 use Rattle.std.proofs.lemmas.Bool.Decides.{Decides-int_eq}
 use Rattle.std.proofs.lemmas.Slice.Eq.{bytes_eq-Decides}
+use Rattle.std.proofs.lemmas.Bool.{and_from, and_parts}
 use Rattle.at_cbor.specs.Equal.{item_eq, items_eq, fields_eq}
 use Rattle.at_cbor.specs.Item.{Item, Items, no_items, item, Fields, no_fields, field}
-
-both : (a b : Bool) → (a && b) ≡ true → (a ≡ true) × (b ≡ true)
-both true b e = (refl, e)
-both false b e = absurd cc
-
-joined : (a b : Bool) → a ≡ true → b ≡ true → (a && b) ≡ true
-joined a b p q = rw (p, q) refl
 
 mutual
   item_is : (i j : Item) → item_eq i j ≡ true → i ≡ j
@@ -30,7 +24,7 @@ mutual
   items_are : (is js : Items) → items_eq is js ≡ true → is ≡ js
   items_are no_items no_items e = refl
   items_are (item i is) (item j js) e =
-      let parts = both (item_eq i j) (items_eq is js) e in
+      let parts = and_parts (item_eq i j) (items_eq is js) e in
       let first : i ≡ j = item_is i j parts.0 in
       let others : is ≡ js = items_are is js parts.1 in
       cc
@@ -39,8 +33,8 @@ mutual
   fields_are : (fs gs : Fields) → fields_eq fs gs ≡ true → fs ≡ gs
   fields_are no_fields no_fields e = refl
   fields_are (field k i fs) (field l j gs) e =
-      let parts = both _ (item_eq i j && fields_eq fs gs) e in
-      let more = both (item_eq i j) (fields_eq fs gs) parts.1 in
+      let parts = and_parts _ (item_eq i j && fields_eq fs gs) e in
+      let more = and_parts (item_eq i j) (fields_eq fs gs) parts.1 in
       let key : k ≡ l = (bytes_eq-Decides k l).0 parts.0 in
       let value : i ≡ j = item_is i j more.0 in
       let others : fs ≡ gs = fields_are fs gs more.1 in
@@ -60,11 +54,11 @@ mutual
 
   items_same : (is : Items) → items_eq is is ≡ true
   items_same no_items = refl
-  items_same (item i is) = joined (item_eq i i) (items_eq is is) (item_same i) (items_same is)
+  items_same (item i is) = and_from (item_eq i i) (items_eq is is) (item_same i) (items_same is)
 
   fields_same : (fs : Fields) → fields_eq fs fs ≡ true
   fields_same no_fields = refl
-  fields_same (field k i fs) = joined _ _ ((bytes_eq-Decides k k).1 refl) (joined (item_eq i i) (fields_eq fs fs) (item_same i) (fields_same fs))
+  fields_same (field k i fs) = and_from _ _ ((bytes_eq-Decides k k).1 refl) (and_from (item_eq i i) (fields_eq fs fs) (item_same i) (fields_same fs))
 
 equal_if : (i j : Item) → i ≡ j → item_eq i j ≡ true
 equal_if i j e = rw e (item_same j)

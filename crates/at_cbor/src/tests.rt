@@ -143,10 +143,15 @@ fn pieces(rt: &HostRuntime) -> Result<Octets, Fail> {
     Ok(bytes)
 }
 
+// The same, as RFC 8949 and the DAG-CBOR specification spell it.
+const SPELLED: &str =
+    "a163616c6c8737581807070707070707070707070707070707070707070707070762c3a980d82a58250001711220e3b0c44298fc1c149afbf4c8996fb92427ae41e4649b934ca495991b7852b855f5f6";
+
 #[test]
 fn written_and_read_again(rt: HostRuntime) -> Result<(), Fail> {
     let value = each_kind(&rt)?;
     let bytes = pieces(&rt)?;
+    assert!(rt; bytes.as_slice() == input(&rt, SPELLED)?.as_slice());
     let mut written = Octets::new(rt.alloc());
     write_value(&mut written, &value)?;
     assert!(rt; written == bytes && spelled_len(&value) == bytes.len() as u64);

@@ -1,6 +1,6 @@
 //! The spelling of values, added to bytes piece by piece.
 
-ghost use Rattle.std.specs.Prelude.{◌≡◌, ◌++◌, ◌<◌, ◌∷◌, [], length, map, true, false, None, OnOk};
+ghost use Rattle.std.specs.Prelude.{◌≡◌, ◌++◌, ◌<◌, ◌∷◌, [], length, map, take, true, false, None, OnOk, OnErr};
 ghost use Rattle.at_cbor.specs.Item.{Item, items_of, fields_of, are_ascending};
 ghost use Rattle.at_cbor.specs.Spelling.{front_of, text_spelling, spelling, items_spelling, fields_spelling, IsText, IsSpellable, AreSpellable, AreFieldsSpellable};
 ghost use Rattle.at_cbor.specs.View.{item_of, pair_of};
@@ -12,7 +12,8 @@ use at_cid::{Cid, Memory, Octets, Words};
 #[tactic(auto, unfolding(crate::specs::Spelling::info_of, crate::specs::Spelling::tail_of))]
 fn write_front(out: &mut Octets, major: u8, n: u64) -> Result<(), Memory>
     requires { major < 7 }
-    ensures { OnOk result (out.new ≡ out.old ++ front_of major n) }
+    ensures written { OnOk result (out.new ≡ out.old ++ front_of major n) }
+    ensures err { OnErr result (take (length out.old) out.new ≡ out.old) }
 {
     if n < 24 {
         out.push(32 * major + n as u8)
@@ -31,9 +32,10 @@ fn write_front(out: &mut Octets, major: u8, n: u64) -> Result<(), Memory>
     }
 }
 
-/// Adds an integer. Where memory is wanted, what was added of it stays.
+/// Adds an integer. Where memory is wanted, what was there stays in front.
 pub fn write_int(out: &mut Octets, number: i64) -> Result<(), Memory>
-    ensures { OnOk result (out.new ≡ out.old ++ spelling (Item.int number)) }
+    ensures written { OnOk result (out.new ≡ out.old ++ spelling (Item.int number)) }
+    ensures err { OnErr result (take (length out.old) out.new ≡ out.old) }
 {
     if number >= 0 {
         write_front(out, 0, number as u64)
@@ -42,40 +44,46 @@ pub fn write_int(out: &mut Octets, number: i64) -> Result<(), Memory>
     }
 }
 
-/// Adds a string of bytes. Where memory is wanted, what was added of it stays.
+/// Adds a string of bytes. Where memory is wanted, what was there stays in front.
 pub fn write_bytes(out: &mut Octets, bytes: &[u8]) -> Result<(), Memory>
-    ensures { OnOk result (out.new ≡ out.old ++ spelling (Item.bytes bytes.now)) }
+    ensures written { OnOk result (out.new ≡ out.old ++ spelling (Item.bytes bytes.now)) }
+    ensures err { OnErr result (take (length out.old) out.new ≡ out.old) }
 {
     write_front(out, 2, bytes.len() as u64)?;
     out.extend(bytes)
 }
 
-/// Adds a text. A key of a map is spelled as a text too. Where memory is wanted, what was added of it stays.
+/// Adds a text. A key of a map is spelled as a text too. Where memory is wanted, what was there stays in front.
 pub fn write_text(out: &mut Octets, text: &str) -> Result<(), Memory>
-    ensures { OnOk result (out.new ≡ out.old ++ text_spelling text.now) }
+    ensures written { OnOk result (out.new ≡ out.old ++ text_spelling text.now) }
+    ensures err { OnErr result (take (length out.old) out.new ≡ out.old) }
 {
     write_front(out, 3, text.len() as u64)?;
     out.extend(text.as_bytes())
 }
 
-/// Adds the front of a list of so many values, which are to follow.
+/// Adds the front of a list of so many values, which are to follow. Where memory is wanted, what was there stays in front.
 pub fn write_list_front(out: &mut Octets, count: usize) -> Result<(), Memory>
-    ensures { OnOk result (out.new ≡ out.old ++ front_of 4 count) }
+    ensures written { OnOk result (out.new ≡ out.old ++ front_of 4 count) }
+    ensures err { OnErr result (take (length out.old) out.new ≡ out.old) }
 {
     write_front(out, 4, count as u64)
 }
 
-/// Adds the front of a map of so many fields, of which each key and its value are to follow.
+/// Adds the front of a map of so many fields, of which each key and its value are to follow. Where memory is wanted, what was
+/// there stays in front.
 pub fn write_map_front(out: &mut Octets, count: usize) -> Result<(), Memory>
-    ensures { OnOk result (out.new ≡ out.old ++ front_of 5 count) }
+    ensures written { OnOk result (out.new ≡ out.old ++ front_of 5 count) }
+    ensures err { OnErr result (take (length out.old) out.new ≡ out.old) }
 {
     write_front(out, 5, count as u64)
 }
 
-/// Adds a link. Where memory is wanted, what was added of it stays.
+/// Adds a link. Where memory is wanted, what was there stays in front.
 pub fn write_link(out: &mut Octets, link: &Cid) -> Result<(), Memory>
     ensures written { OnOk result (out.new ≡ out.old ++ spelling (Item.link link.now)) }
     ensures spellable { OnOk result (IsSpellable (Item.link link.now)) }
+    ensures err { OnErr result (take (length out.old) out.new ≡ out.old) }
 {
     out.extend(&[0xd8, 0x2a, 0x58, 0x25, 0])?;
     out.extend(link.as_bytes())
@@ -83,7 +91,8 @@ pub fn write_link(out: &mut Octets, link: &Cid) -> Result<(), Memory>
 
 /// Adds true or false.
 pub fn write_bool(out: &mut Octets, truth: bool) -> Result<(), Memory>
-    ensures { OnOk result (out.new ≡ out.old ++ spelling (Item.bool truth)) }
+    ensures written { OnOk result (out.new ≡ out.old ++ spelling (Item.bool truth)) }
+    ensures err { OnErr result (take (length out.old) out.new ≡ out.old) }
 {
     if truth {
         out.push(0xf5)
@@ -94,15 +103,17 @@ pub fn write_bool(out: &mut Octets, truth: bool) -> Result<(), Memory>
 
 /// Adds null.
 pub fn write_null(out: &mut Octets) -> Result<(), Memory>
-    ensures { OnOk result (out.new ≡ out.old ++ spelling Item.null) }
+    ensures written { OnOk result (out.new ≡ out.old ++ spelling Item.null) }
+    ensures err { OnErr result (take (length out.old) out.new ≡ out.old) }
 {
     out.push(0xf6)
 }
 
-/// Adds a value. Where memory is wanted, what was added of it stays.
+/// Adds a value. Where memory is wanted, what was there stays in front.
 pub fn write_value(out: &mut Octets, value: &Value) -> Result<(), Memory>
     ensures written { OnOk result (out.new ≡ out.old ++ spelling (item_of value.now)) }
     ensures spellable { OnOk result (IsSpellable (item_of value.now)) }
+    ensures err { OnErr result (take (length out.old) out.new ≡ out.old) }
 {
     put_value(out, value)
 }
@@ -111,6 +122,7 @@ pub fn write_value(out: &mut Octets, value: &Value) -> Result<(), Memory>
 fn put_words(out: &mut Octets, text: &Words) -> Result<(), Memory>
     ensures written { OnOk result (out.new ≡ out.old ++ text_spelling text.now) }
     ensures text { OnOk result (IsText text.now) }
+    ensures err { OnErr result (take (length out.old) out.new ≡ out.old) }
 {
     write_text(out, text.as_str())
 }
@@ -119,6 +131,7 @@ fn put_words(out: &mut Octets, text: &Words) -> Result<(), Memory>
 fn put_value(out: &mut Octets, value: &Value) -> Result<(), Memory>
     ensures written { OnOk result (out.new ≡ out.old ++ spelling (item_of value.now)) }
     ensures spellable { OnOk result (IsSpellable (item_of value.now)) }
+    ensures err { OnErr result (take (length out.old) out.new ≡ out.old) }
 {
     match value {
         Value::Int(number) => write_int(out, *number),
@@ -142,6 +155,7 @@ fn put_value(out: &mut Octets, value: &Value) -> Result<(), Memory>
 fn put_values(out: &mut Octets, values: &[Value]) -> Result<(), Memory>
     ensures written { OnOk result (out.new ≡ out.old ++ items_spelling (items_of (map item_of values.now))) }
     ensures spellable { OnOk result (AreSpellable (map item_of values.now)) }
+    ensures err { OnErr result (take (length out.old) out.new ≡ out.old) }
 {
     for value in values {
         put_value(out, value)?;
@@ -154,6 +168,7 @@ fn put_fields(out: &mut Octets, fields: &[(Words, Value)]) -> Result<(), Memory>
     requires { are_ascending None (map pair_of fields.now) ≡ true }
     ensures written { OnOk result (out.new ≡ out.old ++ fields_spelling (fields_of (map pair_of fields.now))) }
     ensures spellable { OnOk result (AreFieldsSpellable (map pair_of fields.now)) }
+    ensures err { OnErr result (take (length out.old) out.new ≡ out.old) }
 {
     for (key, value) in fields {
         put_words(out, key)?;

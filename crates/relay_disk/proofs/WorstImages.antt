@@ -1,6 +1,7 @@
 -- The images that a disk in memory offers are what a crash may leave.
 use Rattle.std.proofs.Common.{◌≡◌, ◌⊎◌, inl, inr, ⊎_elim, ℕ, zero, suc, ◌+◌, ◌-◌, ◌≤◌, ◌<◌, Bool, true, false, cond, ◌||◌, ◌&&◌, nat_le, nat_lt, List, [], ◌∷◌, ◌++◌, length, take, drop, get_or, refl, sym, ◌∙◌, ap, subst, arith, length-drop}
 use Rattle.std.proofs.lemmas.List.{length-take-le}
+use Rattle.std.proofs.lemmas.Bool.{or_cases, or_parts}
 use Rattle.std.proofs.lemmas.Bool.Decides.{nat_tests}
 use Rattle.relay_disk.specs.Works.{Work, wrote, cut_to, synced, Moment, opened, next, after, possible}
 use Rattle.relay_disk.specs.Ranges.{IsCovered, IsUnsynced, AreInside}
@@ -41,23 +42,15 @@ within_yes i place len is = grind (arith, nat_tests)
 within_no : (i place len : ℕ) → (nat_le place i && nat_lt i (place + len)) ≡ false → (place ≤ i) × (i < place + len) → ⊥
 within_no i place len is both = grind (arith, nat_tests)
 
-or_true : (a b : Bool) → (a || b) ≡ true → (a ≡ true) ⊎ (b ≡ true)
-or_true true b is = inl refl
-or_true false b is = inr is
-
-or_false : (a b : Bool) → (a || b) ≡ false → (a ≡ false) × (b ≡ false)
-or_false true b is = absurd (cc)
-or_false false b is = (refl, is)
-
 agrees-push : (i place len : ℕ) (bytes : List ℕ) (test : Bool) (works : List Work) → length bytes ≡ len → Agrees i test works
     → Agrees i (test || (nat_le place i && nat_lt i (place + len))) (works ++ wrote place bytes ∷ [])
 agrees-push i place len bytes test works long so_far = record {
   yes = λ is. ⊎_elim
       (λ before. covered_left i works (wrote place bytes ∷ []) (so_far.yes before))
       (λ here. let found = within_yes i place len here in covered_right i works (wrote place bytes ∷ []) (inl (found.0, omega (arith, found.1, long))))
-      (or_true test (nat_le place i && nat_lt i (place + len)) is);
+      (or_cases test (nat_le place i && nat_lt i (place + len)) is);
   no = λ is covered.
-      let neither = or_false test (nat_le place i && nat_lt i (place + len)) is in
+      let neither = or_parts test (nat_le place i && nat_lt i (place + len)) is in
       ⊎_elim (λ before. so_far.no neither.0 before)
       (⊎_elim (λ here. within_no i place len neither.1 (here.0, omega (arith, here.1, long))) (λ none. none))
       (covered_split i works (wrote place bytes ∷ []) covered);
