@@ -1,0 +1,5 @@
+pub mod Ends
+pub mod HeadFaults
+pub mod ItemFaults
+pub mod CarFaults
+pub mod OneAnswer
