@@ -16,10 +16,17 @@ use Rattle.mst_node.proofs.Layers.{keys_under_top, holes_within}
 use Rattle.mst_node.proofs.Links.{first_formed, link_formed}
 use Rattle.mst_node.proofs.Parts.{IsPart, IsHolePart, IsNodePart, kind_of, first_part_of, there_first, there_last}
 use Rattle.mst_node.proofs.Joins.{rest_part, two_parts}
-use Rattle.mst_node.proofs.Lies.{LiesIn, no_lower, entries_fit, first_lies, not_empty, layer_is, no_left, all_under_end, all_over_end, over_of_above}
+use Rattle.mst_node.proofs.Tops.{has_top}
+use Rattle.mst_node.proofs.Lies.{LiesIn, no_lower, entries_fit, first_lies, not_empty, all_under_end, all_over_end, over_of_above}
 use Rattle.mst_view.specs.Reading.{go_on, may_hang, is_some_node, may_top, node_fits, top_fits, block_of, or_hole, parts_of, rights_of, part_at, top_of, tree_at}
 use Rattle.mst_view.specs.Reading as reading
+use Rattle.mst_view.specs.Laws.{IsWalk}
+use Rattle.mst_view.proofs.Steps.{at_zero}
 use Rattle.mst_view.proofs.Passes.{true_fit, true_hang, true_differ, formed_of, ascend_of, over_none}
+
+walk_of : (B : FinMap key_cmp (List ℕ)) (r : List ℕ) (F : List Item) → IsView B r F → IsWalk B r F
+walk_of B r F v =
+    record { formed = v.well_laid.formed; ascends = v.well_laid.ascends; neighbours = v.well_laid.neighbours; no_lone_hole = v.well_laid.no_lone_hole; root_is = v.root_is; there = v.there; holes = v.holes }
 
 module _ (read : List ℕ → Option Node) (reader : IsReader read) (B : FinMap key_cmp (List ℕ)) where
   abbrev PartsFound : ℕ → Type 0
@@ -56,7 +63,7 @@ module _ (read : List ℕ → Option Node) (reader : IsReader read) (B : FinMap 
       let a = entries_fit h low high P f l in let es = entries_at (part_link h) h P in
       reader.reads (part_link h (first_part h P)) es (link_formed h (first_part h P) (first_formed h P f)) (formed_of h low high es a) (over_none low es (ascend_of h low high es a))
 
-  some_node : (left : Option (List ℕ)) (es : List Entry) → (left ≡ None → es ≢ []) → is_some_node (left, es) ≡ true
+  pub some_node : (left : Option (List ℕ)) (es : List Entry) → (left ≡ None → es ≢ []) → is_some_node (left, es) ≡ true
   some_node None [] f = absurd (f refl refl)
   some_node None (e ∷ es) f = refl
   some_node (Some c) es f = refl
@@ -83,12 +90,8 @@ module _ (read : List ℕ → Option Node) (reader : IsReader read) (B : FinMap 
   unfolding part_at
   block_found h low high c b F e g = rw e g
 
-  low_found : (low high : Option (List ℕ)) (c : Option (List ℕ)) → part_at read B zero low high c ≡ Ok []
-  unfolding part_at
-  low_found low high c = refl
-
   pub all_found : (h : ℕ) → PartsFound h
-  all_found zero low high [] p l t = low_found low high (part_link zero [])
+  all_found zero low high [] p l t = at_zero read B low high (part_link zero [])
   all_found zero low high (Key k v ∷ P) p l t = let low = p.keys.0 in absurd (omega arith)
   all_found zero low high (Hole m c ∷ P) p l t = let low = p.holes.0 in absurd (omega arith)
   all_found (suc h) low high [] p l t = nothing_found h low high
@@ -102,26 +105,37 @@ module _ (read : List ℕ → Option Node) (reader : IsReader read) (B : FinMap 
           let c = cid (spell h (x ∷ P)) in
           ap (part_at read B (suc h) low high) k.link ∙ block_found h low high c (spell h (x ∷ P)) (x ∷ P) k.there.0 (more c k.part k.there)
 
-  may_top_of : (left : Option (List ℕ)) (es : List Entry) → (es ≡ [] → left ≡ None) → may_top (left, es) ≡ true
+  pub may_top_of : (left : Option (List ℕ)) (es : List Entry) → (es ≡ [] → left ≡ None) → may_top (left, es) ≡ true
   may_top_of None es f = refl
   may_top_of (Some c) [] f = let bad = f refl in absurd (cc)
   may_top_of (Some c) (e ∷ es) f = refl
 
-  pub view_found : (r b : List ℕ) (F : List Item) → map.get B r ≡ Some b → IsView B r F → tree_at read B r b ≡ Ok F
-  view_found r b F at v =
+  -- the top node of a walk
+  pub walk_node : (r : List ℕ) (F : List Item) → IsWalk B r F → let es = entries_at (part_link (top_layer F)) (top_layer F) F in (layer_of es ≡ top_layer F) × (es ≡ [] → part_link (top_layer F) (first_part (top_layer F) F) ≡ None)
+  unfolding part_link
+  walk_node r [] w = (refl, λ e. refl)
+  walk_node r (x ∷ F) w =
+      let t = has_top x F w.neighbours w.no_lone_hole in let is = t.entries (part_link (top_layer (x ∷ F))) in
+      (ap layer_of is ∙ t.height_is, λ e. absurd (cc))
+
+  pub walk_found : (r b : List ℕ) (F : List Item) → map.get B r ≡ Some b → IsWalk B r F → top_of read B r b ≡ Ok F
+  walk_found r b F at v =
       let h = top_layer F in let left = part_link h (first_part h F) in let es = entries_at (part_link h) h F in
-      let lies : LiesIn None None F = record { ascends = v.well_laid.ascends; over = all_over_end F; under = all_under_end F } in
+      let lies : LiesIn None None F = record { ascends = v.ascends; over = all_over_end F; under = all_under_end F } in
       let keys = keys_under_top F h (omega arith) in
-      let part : IsPart B (suc h) h F = record { keys = keys; holes = holes_within h F keys v.well_laid.neighbours v.well_laid.no_lone_hole; near = v.well_laid.neighbours; formed = v.well_laid.formed; missing = v.holes } in
+      let part : IsPart B (suc h) h F = record { keys = keys; holes = holes_within h F keys v.neighbours v.no_lone_hole; near = v.neighbours; formed = v.formed; missing = v.holes } in
       let block : b ≡ spell h F = let is = v.there.0 in let same = ap (map.get B) v.root_is in cc in
-      let layer : layer_of es ≡ h = layer_is F v.well_laid in
+      let layer : layer_of es ≡ h = (walk_node r F v).0 in
       let X = part_nodes h (first_part h F) in let Y = right_nodes (part_nodes h) h F in
       let hang : may_hang h left ≡ true = true_hang h left (no_lower h (first_part h F)) in
-      let top : may_top (left, es) ≡ true = may_top_of left es (no_left F v.well_laid) in
-      let fit : reading.entries_fit h None None es ≡ true = true_fit h None None es (entries_fit h None None F v.well_laid.formed lies) in
+      let top : may_top (left, es) ≡ true = may_top_of left es (walk_node r F v).1 in
+      let fit : reading.entries_fit h None None es ≡ true = true_fit h None None es (entries_fit h None None F v.formed lies) in
       let parts : parts_of (part_at read B h) None None (left, es) ≡ Ok F = parts_found h (all_found h) None None F part lies (there_first B X Y v.there.1) (there_last B X Y v.there.1) in
-      let known : read b ≡ Some (left, es) = ap read block ∙ node_read h None None F v.well_laid.formed lies in
-      rw (known, layer, hang, top, fit, parts, true_differ F v.well_laid.holes_differ) refl
+      let known : read b ≡ Some (left, es) = ap read block ∙ node_read h None None F v.formed lies in
+      rw (known, layer, hang, top, fit, parts) refl
+
+  pub view_found : (r b : List ℕ) (F : List Item) → map.get B r ≡ Some b → IsView B r F → tree_at read B r b ≡ Ok F
+  view_found r b F at v = rw (walk_found r b F at (walk_of B r F v), true_differ F v.well_laid.holes_differ) refl
 
   -- where the reading gives a link, no list is a view
   pub fault_no_view : (r b f : List ℕ) (F : List Item) → map.get B r ≡ Some b → tree_at read B r b ≡ Err f → IsView B r F → ⊥

@@ -27,6 +27,7 @@ use Rattle.mst_view.specs.Reading.{go_on, may_hang, is_some_node, may_top, node_
 use Rattle.mst_view.specs.Reading as reading
 use Rattle.mst_view.proofs.Passes.{both_true, fit_true, hang_true, differ_true, went_on, passed, there_or_hole}
 use Rattle.mst_view.specs.HoleLinks.{all_differ, hole_links}
+use Rattle.mst_view.specs.Laws.{IsWalk}
 
 -- lists that are put together
 pub keys_joined : (m : ℕ) (A G : List Item) → KeysUnder m A → KeysUnder m G → KeysUnder m (A ++ G)
@@ -324,50 +325,65 @@ module _ (read : List ℕ → Option Node) (reader : IsSoundReader read) (B : Fi
   no_first h (None, []) [] m k o l z = refl
   no_first h (None, []) (x ∷ first) m k o l z = absurd (linked h x first k o l)
 
-  -- a view, and its node at the top
+  -- what is read is a view, but for the links of its holes, and of it the node at the top
   pub record IsGiven (r b : List ℕ) (F : List Item) : Type 0 where
-    pub view : IsView B r F
+    pub walk : IsWalk B r F
     pub node : Node
     pub reads : read b ≡ Some node
     pub layer : top_layer F ≡ layer_of node.1
 
-  pub tree_told : (r b : List ℕ) (F : List Item) → IsNodeLink r → map.get B r ≡ Some b → tree_at read B r b ≡ Ok F → IsGiven r b F
-  tree_told r b F kind at e =
+  pub walk_given : (r b : List ℕ) (G : List Item) → IsNodeLink r → map.get B r ≡ Some b → top_of read B r b ≡ Ok G → IsGiven r b G
+  walk_given r b G kind at e =
+      let s = passed top_fits (λ n. parts_of (part_at read B (layer_of n.1)) None None n) r (read b) G e in
+      let n = s.0 in let h = layer_of n.1 in
+      let g = reader.gives b n s.1 in
+      let t = both_true (may_hang h n.0 && may_top n) (reading.entries_fit h None None n.1) s.2 in
+      let u = both_true (may_hang h n.0) (may_top n) t.0 in
+      let fit = fit_true h None None n.1 g.2 t.1 in
+      let f = node_given h (all_given h) None None n G g.1 (hang_true h n.0 u.0) fit s.3 in
+      let spelled : spell h G ≡ b = ap (λ l. node_bytes l (entries_at (part_link h) h G)) f.left ∙ ap (node_bytes n.0) f.entries ∙ sym g.0 in
+      let link : r ≡ cid (spell h G) = under r b kind at ∙ ap cid (sym spelled) in
+      let there : map.get B (cid (spell h G)) ≡ Some (spell h G) = ap (map.get B) (sym link) ∙ at ∙ ap Some (sym spelled) in
+      let none : n.1 ≡ [] → f.first ≡ [] = no_first h n f.first u.1 f.first_keys f.first_holes f.first_link in
+      let K : List Item → Type 0 = λ z. KeysUnder (suc h) z in
+      let layer : top_layer G ≡ h = ap top_layer f.is ∙ top_is n.1 f.first f.rest fit f.headed (subst K f.is f.part.keys) none in
+      let L : List Item → Type 0 = λ z. NoLoneHole z in let N : ℕ → Type 0 = λ m. AllThere B (nodes_at m G) in
+      record {
+        node = n;
+        reads = s.1;
+        layer = layer;
+        walk = record {
+          formed = f.part.formed;
+          ascends = f.lies.ascends;
+          neighbours = f.part.near;
+          no_lone_hole = subst L (sym f.is) (lone n.1 f.first f.rest f.headed none);
+          root_is = ap (λ m. cid (spell m G)) layer ∙ sym link;
+          there = subst N (sym layer) (there, f.there);
+          holes = f.part.missing;
+        };
+      }
+
+  -- the reading ends with what is read at the top, where the links of its holes differ
+  pub top_read : (r b : List ℕ) (F : List Item) → tree_at read B r b ≡ Ok F → (top_of read B r b ≡ Ok F) × (all_differ (hole_links F) ≡ true)
+  top_read r b F e =
       let s = went_on (top_of read B r b) (λ G. cond (all_differ (hole_links G)) (Ok G) (Err r)) F e in
       let d = differ_told s.0 s.2 in
-      let R : List Item → Type 0 = λ z. IsGiven r b z in
-      subst R d.0 (top_given s.0 d.1 (passed top_fits (λ n. parts_of (part_at read B (layer_of n.1)) None None n) r (read b) s.0 s.1))
+      let R : List Item → Type 0 = λ z. (top_of read B r b ≡ Ok z) × (all_differ (hole_links z) ≡ true) in
+      subst R d.0 (s.1, d.1)
     where
       differ_told : (G : List Item) → cond (all_differ (hole_links G)) (Ok G) (Err r) ≡ Ok F → (G ≡ F) × (all_differ (hole_links G) ≡ true)
       differ_told G g =
           elim (all_differ (hole_links G)) as (λ t. all_differ (hole_links G) ≡ t → cond t (Ok G) (Err r) ≡ Ok F → (G ≡ F) × (all_differ (hole_links G) ≡ true)) [ true ↦ λ p q. (cc, p) | false ↦ λ p q. absurd (cc) ] refl g
 
-      top_given : (G : List Item) → all_differ (hole_links G) ≡ true → (n : Node) × (read b ≡ Some n) × (top_fits n ≡ true) × (parts_of (part_at read B (layer_of n.1)) None None n ≡ Ok G) → IsGiven r b G
-      top_given G differ s =
-          let n = s.0 in let h = layer_of n.1 in
-          let g = reader.gives b n s.1 in
-          let t = both_true (may_hang h n.0 && may_top n) (reading.entries_fit h None None n.1) s.2 in
-          let u = both_true (may_hang h n.0) (may_top n) t.0 in
-          let fit = fit_true h None None n.1 g.2 t.1 in
-          let f = node_given h (all_given h) None None n G g.1 (hang_true h n.0 u.0) fit s.3 in
-          let spelled : spell h G ≡ b = ap (λ l. node_bytes l (entries_at (part_link h) h G)) f.left ∙ ap (node_bytes n.0) f.entries ∙ sym g.0 in
-          let link : r ≡ cid (spell h G) = under r b kind at ∙ ap cid (sym spelled) in
-          let there : map.get B (cid (spell h G)) ≡ Some (spell h G) = ap (map.get B) (sym link) ∙ at ∙ ap Some (sym spelled) in
-          let none : n.1 ≡ [] → f.first ≡ [] = no_first h n f.first u.1 f.first_keys f.first_holes f.first_link in
-          let K : List Item → Type 0 = λ z. KeysUnder (suc h) z in
-          let layer : top_layer G ≡ h = ap top_layer f.is ∙ top_is n.1 f.first f.rest fit f.headed (subst K f.is f.part.keys) none in
-          let L : List Item → Type 0 = λ z. NoLoneHole z in let N : ℕ → Type 0 = λ m. AllThere B (nodes_at m G) in
-          record {
-            node = n;
-            reads = s.1;
-            layer = layer;
-            view = record {
-              well_laid = record { formed = f.part.formed; ascends = f.lies.ascends; holes_differ = differ_true G differ; neighbours = f.part.near; no_lone_hole = subst L (sym f.is) (lone n.1 f.first f.rest f.headed none) };
-              root_is = ap (λ m. cid (spell m G)) layer ∙ sym link;
-              there = subst N (sym layer) (there, f.there);
-              holes = f.part.missing;
-            };
-          }
+  pub tree_told : (r b : List ℕ) (F : List Item) → IsNodeLink r → map.get B r ≡ Some b → tree_at read B r b ≡ Ok F → IsGiven r b F
+  tree_told r b F kind at e = walk_given r b F kind at (top_read r b F e).0
 
   pub tree_given : (r b : List ℕ) (F : List Item) → IsNodeLink r → map.get B r ≡ Some b → tree_at read B r b ≡ Ok F → IsView B r F
-  tree_given r b F kind at e = (tree_told r b F kind at e).view
+  tree_given r b F kind at e =
+      let w = (tree_told r b F kind at e).walk in
+      record {
+        well_laid = record { formed = w.formed; ascends = w.ascends; holes_differ = differ_true F (top_read r b F e).1; neighbours = w.neighbours; no_lone_hole = w.no_lone_hole };
+        root_is = w.root_is;
+        there = w.there;
+        holes = w.holes;
+      }

@@ -1,5 +1,5 @@
 -- What the tests of a node say.
-use Rattle.std.proofs.Common.{◌≡◌, ℕ, zero, suc, eqb, cond, Bool, true, false, ◌&&◌, List, [], ◌∷◌, refl, sym, Less, Equal, Greater, Option, Some, None, Result, Ok, Err, ◌⊎◌, inl, inr, arith}
+use Rattle.std.proofs.Common.{◌≡◌, ℕ, zero, suc, eqb, cond, Bool, true, false, ◌&&◌, List, [], ◌∷◌, refl, sym, ap, Less, Equal, Greater, Option, Some, None, Result, Ok, Err, ◌⊎◌, inl, inr, arith}
 use Rattle.mst_list.specs.declared.item.Item.{Item}
 use Rattle.mst_list.specs.declared.item.Item.TheVariants.{Key, Hole}
 use Rattle.at_cid.specs.Order.{key_cmp}
@@ -115,6 +115,30 @@ passed passes parts c (Some n) F e = go (passes n) refl e
     go : (b : Bool) → passes n ≡ b → cond b (parts n) (Err c) ≡ Ok F → (m : Node) × (Some n ≡ Some m) × (passes m ≡ true) × (parts m ≡ Ok F)
     go true p g = (n, refl, p, g)
     go false p g = absurd (cc)
+
+-- steps that went wrong
+pub went_wrong : {A X F : Type 0} (r : Result A F) (f : A → Result X F) (e : F) → go_on r f ≡ Err e → (r ≡ Err e) ⊎ ((x : A) × (r ≡ Ok x) × (f x ≡ Err e))
+went_wrong (Ok x) f e h = inr (x, refl, h)
+went_wrong (Err z) f e h = inl (let same : z ≡ e = cc in ap Err same)
+
+pub stopped : (passes : Node → Bool) (parts : Node → Result (List Item) (List ℕ)) (c : List ℕ) (o : Option Node) (f : List ℕ) → block_of passes parts c o ≡ Err f
+    → (((n : Node) → o ≡ Some n → passes n ≡ true → ⊥) × (f ≡ c)) ⊎ ((n : Node) × (o ≡ Some n) × (passes n ≡ true) × (parts n ≡ Err f))
+stopped passes parts c None f e = inl (λ n is p. absurd (cc), let same : c ≡ f = cc in sym same)
+stopped passes parts c (Some n) f e = go (passes n) refl e
+  where
+    go : (b : Bool) → passes n ≡ b → cond b (parts n) (Err c) ≡ Err f → (((m : Node) → Some n ≡ Some m → passes m ≡ true → ⊥) × (f ≡ c)) ⊎ ((m : Node) × (Some n ≡ Some m) × (passes m ≡ true) × (parts m ≡ Err f))
+    go true p g = inr (n, refl, p, g)
+    go false p g = inl (λ m is q. let one : n ≡ m = cc in let same = ap passes one in absurd (cc), let same : c ≡ f = cc in sym same)
+
+-- a hole is no fault
+pub there_at_fault : (h : ℕ) (c : List ℕ) (inside : List ℕ → Result (List Item) (List ℕ)) (o : Option (List ℕ)) (f : List ℕ) → or_hole h c inside o ≡ Err f → (b : List ℕ) × (o ≡ Some b) × (inside b ≡ Err f)
+there_at_fault h c inside None f e = absurd (cc)
+there_at_fault h c inside (Some b) f e = (b, refl, e)
+
+-- a result is one or the other
+pub either : {A F : Type 0} (r : Result A F) → ((x : A) × (r ≡ Ok x)) ⊎ ((e : F) × (r ≡ Err e))
+either (Ok x) = inl (x, refl)
+either (Err e) = inr (e, refl)
 
 pub there_or_hole : (h : ℕ) (c : List ℕ) (inside : List ℕ → Result (List Item) (List ℕ)) (o : Option (List ℕ)) (F : List Item) → or_hole h c inside o ≡ Ok F → ((o ≡ None) × (F ≡ Hole h c ∷ [])) ⊎ ((b : List ℕ) × (o ≡ Some b) × (inside b ≡ Ok F))
 there_or_hole h c inside None F e = inl (refl, let same : Hole h c ∷ [] ≡ F = cc in sym same)

@@ -39,6 +39,10 @@ above_zero zero o c f e = let bad = f refl in absurd (cc)
 above_zero (suc h) o c f e = omega arith
 
 module _ (r : List ℕ → Option Node) (B : FinMap key_cmp (List ℕ)) where
+  pub at_zero : (low high c : Option (List ℕ)) → part_at r B zero low high c ≡ Ok []
+  unfolding part_at
+  at_zero low high c = refl
+
   pub at_none : (h : ℕ) (low high : Option (List ℕ)) → part_at r B h low high None ≡ Ok []
   unfolding part_at
   at_none zero low high = refl

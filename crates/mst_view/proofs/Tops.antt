@@ -12,8 +12,9 @@ use Rattle.mst_node.specs.Trees.{top_layer}
 use Rattle.mst_node.specs.Nodes.{IsChildLink, Node, IsSoundReader}
 use Rattle.mst_node.specs.NodeFaults.{AreEntriesAt, layer_of}
 use Rattle.mst_view.specs.Reading.{may_hang, may_top, top_fits, entries_fit, parts_of, part_at, tree_at}
+use Rattle.mst_view.proofs.Steps.{at_zero}
 use Rattle.mst_view.proofs.Passes.{both_true, fit_true, hang_true}
-use Rattle.mst_view.proofs.Gives.{tree_told}
+use Rattle.mst_view.proofs.Gives.{tree_given, tree_told}
 use Rattle.mst_node.specs.Covers.{AreUnderNodeLinks}
 use Rattle.mst_view.specs.HoleLinks.{all_differ, hole_links}
 
@@ -35,12 +36,8 @@ module _ (read : List ℕ → Option Node) (sound : IsSoundReader read) (B : Fin
   pub tree_of : (r b : List ℕ) (n : Node) (F : List Item) → read b ≡ Some n → top_fits n ≡ true → parts_of (part_at read B (layer_of n.1)) None None n ≡ Ok F → all_differ (hole_links F) ≡ true → tree_at read B r b ≡ Ok F
   tree_of r b n F e f p d = rw (e, f, p, d) refl
 
-  low_part : (low high : Option (List ℕ)) (c : Option (List ℕ)) → part_at read B 0 low high c ≡ Ok []
-  unfolding part_at
-  low_part low high c = refl
-
   pub empty_tree : (r b : List ℕ) (left : Option (List ℕ)) (es : List Entry) → read b ≡ Some (left, es) → top_fits (left, es) ≡ true → es ≡ [] → tree_at read B r b ≡ Ok []
-  empty_tree r b left [] e f n = rw (e, f, low_part None None left) refl
+  empty_tree r b left [] e f n = rw (e, f, at_zero read B None None left) refl
   empty_tree r b left (x ∷ es) e f n = absurd (cc)
 
   pub laid_top : (r b : List ℕ) (n : Node) (F : List Item) → IsNodeLink r → map.get B r ≡ Some b → read b ≡ Some n → tree_at read B r b ≡ Ok F → IsWellLaid F × (top_layer F ≡ layer_of n.1)
@@ -48,4 +45,4 @@ module _ (read : List ℕ → Option Node) (sound : IsSoundReader read) (B : Fin
       let g = tree_told read sound B under r b F kind at t in
       let same : Some n ≡ Some g.node = sym e ∙ g.reads in
       let one : n ≡ g.node = cc in
-      (g.view.well_laid, g.layer ∙ ap (λ (x : Node). layer_of x.1) (sym one))
+      ((tree_given read sound B under r b F kind at t).well_laid, g.layer ∙ ap (λ (x : Node). layer_of x.1) (sym one))

@@ -6,4 +6,5 @@ pub mod Reading
 pub mod Steps
 pub mod StubTree
 pub mod ViewFault
+pub mod FirstFault
 pub mod Laws

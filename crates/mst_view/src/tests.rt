@@ -3,8 +3,11 @@ ghost use Rattle.at_cid.specs.Link.{IsNodeLink};
 
 use super::*;
 use crate::tables::faults::FAULTS;
+use crate::tables::large_trees::LARGE_TREES;
+use crate::tables::missing::MISSING_ROOTS;
+use crate::tables::small_trees::SMALL_TREES;
 use crate::tables::trees::TREES;
-use crate::tables::{Row, Viewing};
+use crate::tables::{LINKS, Row, Viewing};
 use at_car::Blocks;
 use at_cid::{Cid, Kind, Octets, cid_of, parse_text};
 use mst_list::Item;
@@ -54,7 +57,10 @@ fn blocks_of(rt: &HostRuntime, texts: &[&str]) -> Result<Blocks, Fail> {
 }
 
 fn is_row(item: &Item, row: Row) -> Result<bool, Fail> {
-    let (name, height, text) = row;
+    let (name, height, number) = row;
+    let text = LINKS
+        .get(usize::from(number).saturating_sub(1))
+        .ok_or("the number of a link")?;
     let expected = link_of(text)?;
     Ok(match item {
         Item::Key(key, value) => key.as_slice() == name.as_bytes() && *value == expected,
@@ -74,14 +80,37 @@ fn are_rows(items: &[Item], rows: &[Row]) -> Result<bool, Fail> {
     Ok(true)
 }
 
-// Whether a tree holds the rows, as it stands, copied and put together again, and has the root.
+// The tree with the link of its top forgotten, so that the top has to be spelled.
+fn without_link(tree: StubTree) -> StubTree {
+    match tree.into_top() {
+        None => StubTree::from_top(None),
+        Some(top) => {
+            let Branch {
+                layer,
+                first,
+                rest,
+                ..
+            } = top;
+            StubTree::from_top(Some(Branch {
+                layer,
+                link: None,
+                first,
+                rest,
+            }))
+        }
+    }
+}
+
+// Whether a tree holds the rows, as it stands, copied and put together again, and has the root, kept or spelled.
 fn holds(rt: &HostRuntime, tree: StubTree, root: Cid, rows: &[Row]) -> Result<bool, Fail> {
     let copied = tree.try_clone(rt.alloc()).ok().ok_or("memory")?;
-    let again = StubTree::from_top(tree.into_top());
+    let again = without_link(tree);
     let list = again.list(rt.alloc()).ok().ok_or("memory")?;
     let copy = copied.list(rt.alloc()).ok().ok_or("memory")?;
-    let link = copied.top_link(rt.alloc()).ok().ok_or("memory")?;
-    Ok(link == root && are_rows(list.as_slice(), rows)? && are_rows(copy.as_slice(), rows)?)
+    let kept = copied.top_link(rt.alloc()).ok().ok_or("memory")?;
+    let spelled = again.top_link(rt.alloc()).ok().ok_or("memory")?;
+    let has_root = kept == root && spelled == root;
+    Ok(has_root && are_rows(list.as_slice(), rows)? && are_rows(copy.as_slice(), rows)?)
 }
 
 fn seen(rt: &HostRuntime, blocks: &Blocks, root: Cid) -> Result<Result<StubTree, ViewFault>, Fail> {
@@ -124,8 +153,31 @@ fn first_not_viewed(rt: &HostRuntime, rows: &[Viewing]) -> Result<Option<usize>,
 }
 
 #[test]
-fn views(rt: HostRuntime) -> Result<(), Fail> {
+fn blocks_at_fault(rt: HostRuntime) -> Result<(), Fail> {
     assert_eq!(rt; first_not_viewed(&rt, &FAULTS)?, None);
+    Ok(())
+}
+
+#[test]
+fn roots_that_are_missing(rt: HostRuntime) -> Result<(), Fail> {
+    assert_eq!(rt; first_not_viewed(&rt, &MISSING_ROOTS)?, None);
+    Ok(())
+}
+
+#[test]
+fn views_of_few_items(rt: HostRuntime) -> Result<(), Fail> {
+    assert_eq!(rt; first_not_viewed(&rt, &SMALL_TREES)?, None);
+    Ok(())
+}
+
+#[test]
+fn views(rt: HostRuntime) -> Result<(), Fail> {
     assert_eq!(rt; first_not_viewed(&rt, &TREES)?, None);
+    Ok(())
+}
+
+#[test]
+fn views_of_many_items(rt: HostRuntime) -> Result<(), Fail> {
+    assert_eq!(rt; first_not_viewed(&rt, &LARGE_TREES)?, None);
     Ok(())
 }

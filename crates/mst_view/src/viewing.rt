@@ -97,7 +97,7 @@ fn view_at(alloc: Global, blocks: &Blocks, root: Cid) -> Result<StubTree, ViewFa
 /// The tree of the blocks at a root, whose link is of kind Node: each node is spelled by its block, and a link whose
 /// block isn't there is a hole.
 ///
-/// It goes down at most 129 layers, reads no node with keys twice, and takes memory in proportion to the blocks.
+/// It goes down at most 129 layers, holds no node with keys twice, and takes memory in proportion to the blocks.
 pub fn view(alloc: Global, blocks: &Blocks, root: &Cid) -> Result<StubTree, ViewFault>
     requires { IsNodeLink root.now }
     ensures view { IfOk result (λ tree. IsView blocks.now root.now tree) }

@@ -1,8 +1,8 @@
-//! Blocks that hold no view.
+//! Blocks that hold no view, since one is at fault.
 
 use super::Viewing;
 
-pub const FAULTS: [Viewing; 25] = [
+pub const FAULTS: [Viewing; 22] = [
     (
         "bafyreifamc252vmysatcasrj644y6vja3d44mjwvwlfzlj2ppx57cr535y",
         &[
@@ -187,13 +187,6 @@ pub const FAULTS: [Viewing; 25] = [
         &[],
     ),
     (
-        "bafyreie5737gdxlw5i64vzichcalba3z2v5n6icifvx5xytvske7mr3hpm",
-        &[],
-        "NoBlock",
-        "bafyreie5737gdxlw5i64vzichcalba3z2v5n6icifvx5xytvske7mr3hpm",
-        &[],
-    ),
-    (
         "bafyreiajtrkr77mpak2kcpwqead6rwzjg4hud4ms6jrfjajjq2avcoiqxa",
         &[
             "a2616581a4616b546170702e6578616d706c652e726f772f303030386170006174d82a58250001711220c19a797fa1fd590cd2e5b42d1cf5f246e29b91684e2f87404b81dc345c7a56a06176d82a582500017112207fc2bf00f02b6c2509aaf3480ad21c36e76bccab83b1e4d28fb59c624a56d776616cd82a58250001711220a060b5dd55989026204a29f7398f5520d8f9c626d5b2cb95a74f7dfbf147bbee",
@@ -225,30 +218,6 @@ pub const FAULTS: [Viewing; 25] = [
         ],
         "BadNode",
         "bafyreigbtj4x7ip5legnfznufuopl4sg4knzc2cof6duas4b3q2fy6swua",
-        &[],
-    ),
-    (
-        "bafyreicj63s6gis4qzu3lxhq6r2w3k5thhvlunqjxly6odp7anj532wkke",
-        &[
-            "a2616581a4616b546170702e6578616d706c652e726f772f303030366170006174f66176d82a58250001711220cb7390fc904c2f90f15237860e973c3fd728c534fd83cbcd1015704d59d59409616cf6",
-            "a2616580616cd82a58250001711220da0a6a1c540439d1b21bb17f0c1aa8d7522d02d18887aa1165de3e02470d23cc",
-            "a2616582a4616b546170702e6578616d706c652e726f772f303031356170006174f66176d82a582500017112209f3428e12c9cc58601198c4fb23b5b9c13b46103ac94e72e66104731b2448ae9a4616b4232396170126174f66176d82a5825000171122003c1ceb3cf94fb8090b13fc55d7bfb9f1ad7c7ec09fed7fedc140af19e3072e8616cf6",
-            "a2616581a4616b546170702e6578616d706c652e726f772f303034336170006174f66176d82a58250001711220cb7390fc904c2f90f15237860e973c3fd728c534fd83cbcd1015704d59d59409616cd82a58250001711220ca9ed86d06e43e96de1657c1f5c7cb5533200b89ad47bf33909038734ccd313d",
-        ],
-        "NoBlock",
-        "bafyreicj63s6gis4qzu3lxhq6r2w3k5thhvlunqjxly6odp7anj532wkke",
-        &[],
-    ),
-    (
-        "bafyreielvkjfuhavvrd23fmn2kasvdm3hubcwyhdjog5cw43buy4s7ti7y",
-        &[
-            "a2616581a4616b546170702e6578616d706c652e726f772f303033326170006174f66176d82a58250001711220c7ad4befe022e64f0a53c1e91a18e28d16b1e1fa1d5cb485ae269b0a215046de616cf6",
-            "a2616580616cd82a58250001711220b7c1852bf0ce51b67e6a3dacc3cc6bc39113e2ddb979ec6a8574e3a4d59b875e",
-            "a2616581a4616b546170702e6578616d706c652e726f772f303030306170006174f66176d82a58250001711220c7ad4befe022e64f0a53c1e91a18e28d16b1e1fa1d5cb485ae269b0a215046de616cf6",
-            "a2616581a4616b546170702e6578616d706c652e726f772f303035396170006174f66176d82a58250001711220c7ad4befe022e64f0a53c1e91a18e28d16b1e1fa1d5cb485ae269b0a215046de616cf6",
-        ],
-        "NoBlock",
-        "bafyreielvkjfuhavvrd23fmn2kasvdm3hubcwyhdjog5cw43buy4s7ti7y",
         &[],
     ),
 ];

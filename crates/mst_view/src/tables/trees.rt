@@ -1,28 +1,8 @@
-//! Blocks that hold a view.
+//! Blocks that hold a view of three or four items.
 
 use super::Viewing;
 
-pub const TREES: [Viewing; 17] = [
-    (
-        "bafyreifamc252vmysatcasrj644y6vja3d44mjwvwlfzlj2ppx57cr535y",
-        &[
-            "a2616581a4616b546170702e6578616d706c652e726f772f303030356170006174f66176d82a58250001711220c5863e9e3c7a63476909538093d54c0038e897da2dba68f486443a51b61a33bf616cd82a582500017112209dfefe61dd76ea3dcae5023880b08379d57adf20482d6fdbe2759289f647677b",
-        ],
-        "Viewed",
-        "",
-        &[
-            (
-                "",
-                0,
-                "bafyreie5737gdxlw5i64vzichcalba3z2v5n6icifvx5xytvske7mr3hpm",
-            ),
-            (
-                "app.example.row/0005",
-                0,
-                "bafyreigfqy7j4pd2mndwscktqcj5ktaahdujpwrnxjupjbsehji3mgrtx4",
-            ),
-        ],
-    ),
+pub const TREES: [Viewing; 8] = [
     (
         "bafyreieqtbqhescj2nszzz4azxneg3jwkgr4si4zmjhvmztgrovcochp54",
         &[
@@ -33,21 +13,9 @@ pub const TREES: [Viewing; 17] = [
         "Viewed",
         "",
         &[
-            (
-                "app.example.row/0000",
-                0,
-                "bafyreigfqy7j4pd2mndwscktqcj5ktaahdujpwrnxjupjbsehji3mgrtx4",
-            ),
-            (
-                "app.example.row/0005",
-                0,
-                "bafyreid7yk7qb4blnqsqtkxtjafnehbw45v4zk4dwhsnfd5vtrreuvwxoy",
-            ),
-            (
-                "app.example.row/0006",
-                0,
-                "bafyreigfqy7j4pd2mndwscktqcj5ktaahdujpwrnxjupjbsehji3mgrtx4",
-            ),
+            ("app.example.row/0000", 0, 2),
+            ("app.example.row/0005", 0, 10),
+            ("app.example.row/0006", 0, 2),
         ],
     ),
     (
@@ -59,72 +27,10 @@ pub const TREES: [Viewing; 17] = [
         "Viewed",
         "",
         &[
-            (
-                "",
-                0,
-                "bafyreifnklwyksuwndqqwvew6l467iabg7fshqkzlwutsytwrw3wyhkd7u",
-            ),
-            (
-                "app.example.row/0005",
-                0,
-                "bafyreid7yk7qb4blnqsqtkxtjafnehbw45v4zk4dwhsnfd5vtrreuvwxoy",
-            ),
-            (
-                "app.example.row/0006",
-                0,
-                "bafyreigfqy7j4pd2mndwscktqcj5ktaahdujpwrnxjupjbsehji3mgrtx4",
-            ),
+            ("", 0, 20),
+            ("app.example.row/0005", 0, 10),
+            ("app.example.row/0006", 0, 2),
         ],
-    ),
-    (
-        "bafyreifwjkzq4dg2hrtujwlprwvrjtcxqbmzf7kesejqvii5bavykpslrm",
-        &[
-            "a2616580616cd82a582500017112206bf2e79e513c24ebc2e393dbfc5638a4d29ade216d1d4d06c1008693363bb07d",
-            "a2616580616cd82a582500017112201785cfc3bc6ac7738e8b38cdccd1af12563c2b9070e07af336a1bf8c0f772b6a",
-            "a2616581a4616b546170702e6578616d706c652e726f772f303034386170006174f66176d82a58250001711220c5863e9e3c7a63476909538093d54c0038e897da2dba68f486443a51b61a33bf616cd82a58250001711220558b01431803ff096c16a3d8a7b9295a09a0a1c763aae14fce488c8c282f36ba",
-        ],
-        "Viewed",
-        "",
-        &[
-            (
-                "",
-                0,
-                "bafyreiaxqxh4hpdky5zy5czyzxgndlysky6cxedq4b5pgnvbx6ga65zlni",
-            ),
-            (
-                "app.example.row/0048",
-                0,
-                "bafyreigfqy7j4pd2mndwscktqcj5ktaahdujpwrnxjupjbsehji3mgrtx4",
-            ),
-        ],
-    ),
-    (
-        "bafyreifwjkzq4dg2hrtujwlprwvrjtcxqbmzf7kesejqvii5bavykpslrm",
-        &[
-            "a2616580616cd82a582500017112206bf2e79e513c24ebc2e393dbfc5638a4d29ade216d1d4d06c1008693363bb07d",
-            "a2616581a4616b546170702e6578616d706c652e726f772f303034386170006174f66176d82a58250001711220c5863e9e3c7a63476909538093d54c0038e897da2dba68f486443a51b61a33bf616cd82a58250001711220558b01431803ff096c16a3d8a7b9295a09a0a1c763aae14fce488c8c282f36ba",
-        ],
-        "Viewed",
-        "",
-        &[
-            (
-                "",
-                1,
-                "bafyreidl6ltz4uj4etv4fy4t3p6fmofe2knn4ilndvgqnqiaq2jtmo5qpu",
-            ),
-            (
-                "app.example.row/0048",
-                0,
-                "bafyreigfqy7j4pd2mndwscktqcj5ktaahdujpwrnxjupjbsehji3mgrtx4",
-            ),
-        ],
-    ),
-    (
-        "bafyreie5737gdxlw5i64vzichcalba3z2v5n6icifvx5xytvske7mr3hpm",
-        &["a2616580616cf6"],
-        "Viewed",
-        "",
-        &[],
     ),
     (
         "bafyreiasi42hwqf2muqn6jzwpkrthdrktlbkug6tuf65cg3joi5ohekjxe",
@@ -135,54 +41,36 @@ pub const TREES: [Viewing; 17] = [
         "Viewed",
         "",
         &[
-            (
-                "app.example.row/0005",
-                0,
-                "bafyreibyljq4x5wrvvven5mumspwtmrsdg7meceqnskwpga7vpg43zdqsq",
-            ),
-            (
-                "app.example.row/0013",
-                0,
-                "bafyreierpbpgbgot3qp4p4th6gxeix4jennz6caxvqo3qfvlzkctqbmadq",
-            ),
-            (
-                "",
-                0,
-                "bafyreidhwks25md35ieow54b4kti2r26equ7pgtjk2gsikrlgbwquyatwi",
-            ),
-            (
-                "app.example.row/0020",
-                0,
-                "bafyreighvvf67ybc4zhquu6b5enbryunc2y6d6q5ls2illrgtmfccucg3y",
-            ),
+            ("app.example.row/0005", 0, 5),
+            ("app.example.row/0013", 0, 21),
+            ("", 0, 22),
+            ("app.example.row/0020", 0, 6),
         ],
     ),
     (
-        "bafyreidekonnvfsiuoovmovesy2skoixwwn6znmqlruwobyjgvxat6rqpi",
+        "bafyreiasq54samrm3t6zdfel2bdgmmhdcmsrlph3dogdkatf2smi4yosmm",
         &[
-            "a2616581a4616b546170702e6578616d706c652e726f772f303035306170006174f66176d82a58250001711220385a61cbf6d1ad6a46f594649f69b23219bec208906c9567981fabcdcde47094616cf6",
+            "a2616580616cd82a58250001711220f8bd6134563633592f545f40e7cb53ac527dc7da8ca7d744b97efc19076e5c49",
+            "a2616582a4616b546170702e6578616d706c652e726f772f303030356170006174f66176d82a58250001711220b000d284da844211ba64c760e17e53f90b86a160b84d4cf001667f04adea2c28a4616b4231336170126174d82a58250001711220ba2f4a01ccd9885858f4d67d40b50efb658be221f6aaf5f539e90a9c469223136176d82a58250001711220c7ad4befe022e64f0a53c1e91a18e28d16b1e1fa1d5cb485ae269b0a215046de616cd82a58250001711220629e66d95ccc0b780a471ca99e6c223fcb264a3d940fc0c93e341f22fd653453",
+            "a2616580616cd82a58250001711220f5f270f43f995d5386374a3b76b560ac33eb7cf7ecda2b1915c261b37e928aba",
+            "a2616581a4616b546170702e6578616d706c652e726f772f303031336170006174f66176d82a582500017112209f3428e12c9cc58601198c4fb23b5b9c13b46103ac94e72e66104731b2448ae9616cd82a582500017112206c91223c9210033d6f8c2c6685e0e39865cdbeefd670f9f32108b1f04c01c228",
+            "a2616581a4616b581f6170702e62736b792e666565642e706f73742f3961646562313635383832636170006174d82a58250001711220aeb04b6a8ce6977a1390920f3c7001c176612e974b8839b5e0215f0c7c9ca0d46176d82a5825000171122003c1ceb3cf94fb8090b13fc55d7bfb9f1ad7c7ec09fed7fedc140af19e3072e8616cf6",
+            "a2616581a4616b546170702e6578616d706c652e726f772f303030346170006174f66176d82a582500017112207fc2bf00f02b6c2509aaf3480ad21c36e76bccab83b1e4d28fb59c624a56d776616cf6",
+            "a2616581a4616b546170702e6578616d706c652e726f772f303030346170006174f66176d82a58250001711220b000d284da844211ba64c760e17e53f90b86a160b84d4cf001667f04adea2c28616cf6",
+            "a2616580616cd82a582500017112200fd78f3408c66c386c1eb106bd5da5ffc379ce3e6898f63549492c49e77bc830",
+            "a2616581a4616b546170702e6578616d706c652e726f772f303034396170006174f66176d82a58250001711220cb7390fc904c2f90f15237860e973c3fd728c534fd83cbcd1015704d59d59409616cf6",
+            "a2616580616cd82a58250001711220314b27eb3f00c140c479355208a138c5dff1bffbc8febaecc373aea7361109bd",
+            "a2616580616cd82a58250001711220cf7ffe88a69ee1a1651d2a921a30702c2d5e465477d825faeedf5fa2d01562e2",
+            "a2616580616cd82a5825000171122028822772112baeeb2467e5066809562bbbf63436fdbaa41794296814c84b1d05",
         ],
         "Viewed",
         "",
-        &[(
-            "app.example.row/0050",
-            0,
-            "bafyreibyljq4x5wrvvven5mumspwtmrsdg7meceqnskwpga7vpg43zdqsq",
-        )],
-    ),
-    (
-        "bafyreie5737gdxlw5i64vzichcalba3z2v5n6icifvx5xytvske7mr3hpm",
         &[
-            "a2616581a4616b546170702e6578616d706c652e726f772f303030366170006174f66176d82a582500017112207fc2bf00f02b6c2509aaf3480ad21c36e76bccab83b1e4d28fb59c624a56d776616cf6",
-            "a2616580616cd82a58250001711220f7c8fc7da313f194d4d88b70e73eed8fc724017bcf982c0c9673b4d55cf87355",
-            "a2616581a4616b546170702e6578616d706c652e726f772f303032306170006174d82a5825000171122050e8fae21c3ae934db03480540efb81bb0263db7ddbff120e9201c52a050e97d6176d82a58250001711220b000d284da844211ba64c760e17e53f90b86a160b84d4cf001667f04adea2c28616cd82a58250001711220b9a77cf48c14b7b7c795bf1c9a54716d7fefb525ca107bbd08c0ab7946af4b61",
-            "a2616580616cf6",
-            "a2616580616cd82a582500017112204915fa1297fda17674ef34fd1d4f4ee5314d1ba4efa7f31d132673190538dc9b",
-            "a2616581a4616b546170702e6578616d706c652e726f772f303033306170006174f66176d82a58250001711220b000d284da844211ba64c760e17e53f90b86a160b84d4cf001667f04adea2c28616cf6",
+            ("app.example.row/0004", 0, 10),
+            ("app.example.row/0005", 0, 23),
+            ("app.example.row/0013", 0, 6),
+            ("app.example.row/0049", 0, 14),
         ],
-        "Viewed",
-        "",
-        &[],
     ),
     (
         "bafyreieracjxknulkj3nlirxma4csdx4wmlhbufzcx3qnqhhgesra456vi",
@@ -192,21 +80,9 @@ pub const TREES: [Viewing; 17] = [
         "Viewed",
         "",
         &[
-            (
-                "app.example.row/0000",
-                0,
-                "bafyreifqadjijwueiii3uzghmdqx4u7zbodkcyfyjvgpaalgp4ck32rmfa",
-            ),
-            (
-                "app.example.row/0050",
-                0,
-                "bafyreiglooipzecmf6ipcurxqyhjopb724umknh5qpf42eavobgvtvmube",
-            ),
-            (
-                "app.example.row/0060",
-                0,
-                "bafyreiglooipzecmf6ipcurxqyhjopb724umknh5qpf42eavobgvtvmube",
-            ),
+            ("app.example.row/0000", 0, 23),
+            ("app.example.row/0050", 0, 14),
+            ("app.example.row/0060", 0, 14),
         ],
     ),
     (
@@ -217,134 +93,42 @@ pub const TREES: [Viewing; 17] = [
         "Viewed",
         "",
         &[
-            (
-                "app.example.row/0004",
-                0,
-                "bafyreierpbpgbgot3qp4p4th6gxeix4jennz6caxvqo3qfvlzkctqbmadq",
-            ),
-            (
-                "app.example.row/0030",
-                0,
-                "bafyreiadyhhlht4u7oajbmj7yvoxx647dll4p3aj73l75xaublyz4mds5a",
-            ),
-            (
-                "app.example.row/0050",
-                0,
-                "bafyreierpbpgbgot3qp4p4th6gxeix4jennz6caxvqo3qfvlzkctqbmadq",
-            ),
+            ("app.example.row/0004", 0, 21),
+            ("app.example.row/0030", 0, 16),
+            ("app.example.row/0050", 0, 21),
         ],
     ),
     (
-        "bafyreiacbxwoqzkhlxtv6y4d7jenfxsp6aajqlpme6ko6adlkcug56z2au",
+        "bafyreif2ogd63ps3efut42spqi4opmi5ibo4o7u7desnvhb77nwm7szk6u",
         &[
-            "a2616581a4616b581f6170702e62736b792e666565642e706f73742f3435343339376534343065636170006174d82a582500017112201b67ef3dec7c2f247bad78ccbb602703668f2f2b63894cac4cea4cdb491894306176d82a582500017112207fc2bf00f02b6c2509aaf3480ad21c36e76bccab83b1e4d28fb59c624a56d776616cf6",
-            "a2616580616cd82a582500017112207f48e26b8270422c328841af62c640299f51eeed0b4380f19a384f84a1547a0c",
-            "a2616582a4616b546170702e6578616d706c652e726f772f303030346170006174f66176d82a582500017112209f3428e12c9cc58601198c4fb23b5b9c13b46103ac94e72e66104731b2448ae9a4616b4232316170126174f66176d82a5825000171122003c1ceb3cf94fb8090b13fc55d7bfb9f1ad7c7ec09fed7fedc140af19e3072e8616cf6",
-            "a2616580616cd82a582500017112206721fb1df0a21f7eb237965e9d6339f4f9b3ca7cc8449af1eb6ada67d2908467",
+            "a2616581a4616b546170702e6578616d706c652e726f772f303030366170006174f66176d82a5825000171122091785e6099d3dc1fc7f267f1ae445f89235b9f0817ac1db816abca853805801c616cf6",
+            "a2616580616cd82a5825000171122038b8c3867237f0f2112b6cd34538727b80a0b66e9ab6c5ed59d742d827251a53",
+            "a2616580616cd82a58250001711220da2c28e04eb25d8aa65e106c471169de4044cfd42a3b642af7357d546130dfb9",
+            "a2616581a4616b546170702e6578616d706c652e726f772f303032306170006174d82a582500017112207a614d5d27c4b1ebae3d92c7d25f715ceb18b29df759450dc2e503235130fc6d6176d82a5825000171122003c1ceb3cf94fb8090b13fc55d7bfb9f1ad7c7ec09fed7fedc140af19e3072e8616cd82a582500017112203c940c178f9ee0b1b775e7b99d08481fb9c424ece02155c7ee1ee65aa4a8c2ce",
+            "a2616581a4616b546170702e6578616d706c652e726f772f303034346170006174f66176d82a5825000171122091785e6099d3dc1fc7f267f1ae445f89235b9f0817ac1db816abca853805801c616cf6",
         ],
         "Viewed",
         "",
         &[
-            (
-                "app.bsky.feed.post/454397e440ec",
-                0,
-                "bafyreid7yk7qb4blnqsqtkxtjafnehbw45v4zk4dwhsnfd5vtrreuvwxoy",
-            ),
-            (
-                "",
-                2,
-                "bafyreid7jdrgxatqiiwdfccbv5rmmqbjt5i653ilioapdgryj6ckcvd2bq",
-            ),
+            ("app.example.row/0006", 0, 21),
+            ("app.example.row/0020", 0, 16),
+            ("app.example.row/0044", 0, 21),
         ],
     ),
     (
-        "bafyreiaq4urxurdyvqkhgqe5nb5swuhflrowrpo2rf2vpz6kqcmlnlru34",
+        "bafyreighd3q6nf4wlsgoi7yjybg7ilcowoxpi4q5imptpkz653fwvnixpq",
         &[
-            "a2616581a4616b546170702e6578616d706c652e726f772f303031356170006174f66176d82a582500017112209f3428e12c9cc58601198c4fb23b5b9c13b46103ac94e72e66104731b2448ae9616cf6",
-            "a2616583a4616b546170702e6578616d706c652e726f772f303031356170006174f66176d82a582500017112207fc2bf00f02b6c2509aaf3480ad21c36e76bccab83b1e4d28fb59c624a56d776a4616b4232396170126174f66176d82a582500017112207fc2bf00f02b6c2509aaf3480ad21c36e76bccab83b1e4d28fb59c624a56d776a4616b4234396170126174f66176d82a582500017112209f3428e12c9cc58601198c4fb23b5b9c13b46103ac94e72e66104731b2448ae9616cf6",
-        ],
-        "Viewed",
-        "",
-        &[(
-            "app.example.row/0015",
-            0,
-            "bafyreie7gquocle4ywdacgmmj6zdww44co2gca5mstts4zqqi4y3erek5e",
-        )],
-    ),
-    (
-        "bafyreihfot3dg3s25ofuruseluyrpzda4yzxbnxwjresfjyhybboq4qzda",
-        &[
-            "a2616580616cd82a5825000171122079966f9d189bd74d127543e57eefaf400a85644ae4a7cfcd4023bd4a7bbce2a0",
-            "a2616581a4616b546170702e6578616d706c652e726f772f303034386170006174f66176d82a58250001711220cb7390fc904c2f90f15237860e973c3fd728c534fd83cbcd1015704d59d59409616cd82a58250001711220e60386ab649f1aabeb12690a9de3db689724fc1eb4ec6efa0b061e48851c8081",
-            "a2616580616cd82a582500017112204b523993542b762adbe807a2dc37803dad70cbe073805fddca852a9f822cad40",
+            "a2616581a4616b546170702e6578616d706c652e726f772f303034396170006174f66176d82a58250001711220b000d284da844211ba64c760e17e53f90b86a160b84d4cf001667f04adea2c28616cf6",
+            "a2616581a4616b546170702e6578616d706c652e726f772f303030356170006174d82a58250001711220dab1c2582e43d1b86256cef1893b02637a44fa072770360a07d8330378f768f56176d82a58250001711220c7ad4befe022e64f0a53c1e91a18e28d16b1e1fa1d5cb485ae269b0a215046de616cf6",
+            "a2616581a4616b546170702e6578616d706c652e726f772f303030356170006174d82a582500017112203c637313146ac44a3f710fafaeda7c97bcb5325d59f6eb46a6976713239c70b46176d82a582500017112209f3428e12c9cc58601198c4fb23b5b9c13b46103ac94e72e66104731b2448ae9616cd82a582500017112200777f2a8ba262e0d5fdb1fff89aa61f7ab3e94c1a940ef254531b774249153bb",
+            "a2616582a4616b546170702e6578616d706c652e726f772f303032316170006174f66176d82a5825000171122003c1ceb3cf94fb8090b13fc55d7bfb9f1ad7c7ec09fed7fedc140af19e3072e8a4616b41396170136174f66176d82a582500017112209f3428e12c9cc58601198c4fb23b5b9c13b46103ac94e72e66104731b2448ae9616cf6",
         ],
         "Viewed",
         "",
         &[
-            (
-                "",
-                0,
-                "bafyreidzszxz2ge325gre5kd4v7o7l2abkcwisxeu7h42qbdxvfhxphcua",
-            ),
-            (
-                "app.example.row/0048",
-                0,
-                "bafyreiglooipzecmf6ipcurxqyhjopb724umknh5qpf42eavobgvtvmube",
-            ),
+            ("", 0, 24),
+            ("app.example.row/0005", 0, 12),
+            ("app.example.row/0049", 0, 23),
         ],
-    ),
-    (
-        "bafyreihwf7lboeirlsxpbvggvs7cwf6nfmoixhkhm5ncpvc2tc4jh2ip2y",
-        &[
-            "a2616581a4616b546170702e6578616d706c652e726f772f303034336170006174f66176d82a5825000171122091785e6099d3dc1fc7f267f1ae445f89235b9f0817ac1db816abca853805801c616cd82a58250001711220e6c896517aac346ad0dbb506123938b7debe1510a0a1c46f43cc9e1f6f21ab8f",
-            "a2616582a4616b546170702e6578616d706c652e726f772f303030306170006174f66176d82a582500017112207fc2bf00f02b6c2509aaf3480ad21c36e76bccab83b1e4d28fb59c624a56d776a4616b41366170136174f66176d82a58250001711220c5863e9e3c7a63476909538093d54c0038e897da2dba68f486443a51b61a33bf616cf6",
-            "a2616580616cd82a58250001711220bedc4748a40e53cbdf59ab710687c6189d0d90a356d083245519833a0e0f0624",
-            "a2616581a4616b546170702e6578616d706c652e726f772f303035396170006174d82a582500017112202d731aa80fcc6c42826c66ccaaf391b69d5f02bed578b2881502eb21e6cd8e386176d82a58250001711220c5863e9e3c7a63476909538093d54c0038e897da2dba68f486443a51b61a33bf616cf6",
-        ],
-        "Viewed",
-        "",
-        &[
-            (
-                "app.example.row/0059",
-                0,
-                "bafyreigfqy7j4pd2mndwscktqcj5ktaahdujpwrnxjupjbsehji3mgrtx4",
-            ),
-            (
-                "",
-                0,
-                "bafyreibnomnkqd6mnrbie3dgzsvphenwtvpqfpwvpcziqfic5mq6ntmoha",
-            ),
-        ],
-    ),
-    (
-        "bafyreiaylzj3lqgl5vovt3mrl36jt4ykuk22sbneqced33rouge4wkoe2e",
-        &[
-            "a2616581a4616b546170702e6578616d706c652e726f772f303030326170006174f66176d82a5825000171122003c1ceb3cf94fb8090b13fc55d7bfb9f1ad7c7ec09fed7fedc140af19e3072e8616cf6",
-        ],
-        "Viewed",
-        "",
-        &[(
-            "app.example.row/0002",
-            0,
-            "bafyreiadyhhlht4u7oajbmj7yvoxx647dll4p3aj73l75xaublyz4mds5a",
-        )],
-    ),
-    (
-        "bafyreibboa6mrh32io45xpwjk3u4hub2ie72fjqa7axtk2pgkidembz34u",
-        &[
-            "a2616580616cd82a5825000171122062c9a6860b071748250a5324a8278d74497ee9c8fe4a44fa7e81bea29773e083",
-            "a2616580616cd82a582500017112205ad11fcd4487fc0e4a5790b86a674fce5544dd9d594367e8349905c7c15d6f07",
-            "a2616580616cd82a5825000171122012eda33af2f541030761476e9c62002db829cc3c29de13282a647af6c1401d93",
-            "a2616580616cd82a582500017112207dba7d2e0967f37a4d21381819a00baa0cd7d4e6ac6e5a634466b93736753715",
-            "a2616582a4616b546170702e6578616d706c652e726f772f303032396170006174f66176d82a582500017112207fc2bf00f02b6c2509aaf3480ad21c36e76bccab83b1e4d28fb59c624a56d776a4616b4234346170126174f66176d82a58250001711220c7ad4befe022e64f0a53c1e91a18e28d16b1e1fa1d5cb485ae269b0a215046de616cf6",
-            "a2616580616cd82a58250001711220ef6ea7f4bfc44a7c1ee2cc48c5f4d1e1cbe2bf38147d32a471341b7c15497efe",
-            "a2616580616cd82a582500017112207e5e667d1b47a7673ee8f0eaa8f59c38e7c0700f7b3f809ad063263e3f16b060",
-            "a2616580616cd82a58250001711220d0e67f85e08a86b1819b3b8ec043c7cdcfc514ad386a9df404980e0e8d2d927b",
-            "a2616581a4616b581f6170702e62736b792e666565642e706f73742f3435343339376534343065636170006174f66176d82a5825000171122091785e6099d3dc1fc7f267f1ae445f89235b9f0817ac1db816abca853805801c616cf6",
-            "a2616580616cd82a582500017112207b35cf3e26a9880b1d89722495176c40c9260000ff8b369f156a5ff3cac1fc83",
-        ],
-        "NoBlock",
-        "bafyreibboa6mrh32io45xpwjk3u4hub2ie72fjqa7axtk2pgkidembz34u",
-        &[],
     ),
 ];
