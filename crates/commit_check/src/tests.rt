@@ -140,12 +140,9 @@ fn is_opened(rt: &HostRuntime) -> Result<(bool, bool, bool, bool), CheckFault> {
 }
 
 #[test]
-fn what_is_opened(rt: HostRuntime) {
-    let Ok(parts) = is_opened(&rt) else {
-        assert!(rt; false, "the message is opened");
-        return;
-    };
-    assert_eq!(rt; parts, (true, true, true, true));
+fn what_is_opened(rt: HostRuntime) -> Result<(), Fail> {
+    assert_eq!(rt; is_opened(&rt)?, (true, true, true, true));
+    Ok(())
 }
 
 // What the commit event of a frame comes to by itself; None where the frame has none.
