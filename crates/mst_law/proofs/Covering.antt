@@ -212,7 +212,7 @@ pub has_view : (B : FinMap key_cmp (List ℕ)) (t : List Item) → IsMap t → A
 has_view B t m under distinct at =
     let S = nodes t in let T = spelled t in let h = top_layer t in
     let d : Distinct S = λ a b i j e. distinct a b (inr i) (inr j) e in
-    let alike : (c b a : List ℕ) → map.get B c ≡ Some b → IsAmong a S → sha256 b ≡ sha256 a → b ≡ a = λ c b a g i e. distinct b a (inl (c, g)) (inr i) e in
+    let alike : (c b a : List ℕ) → IsNodeLink c → map.get B c ≡ Some b → IsAmong a S → sha256 b ≡ sha256 a → b ≡ a = λ c b a n g i e. distinct b a (inl (c, n, g)) (inr i) e in
     let F = pruned_node S d B under alike h t in
     let N = node_pruned S d B under alike h (parts_pruned S d B under alike h) t m (keys_under_top t h (omega arith)) (λ b i. i) at in
     let K = node_known S d B under alike T h (parts_known S d B under alike T h) None None t m.keys_only

@@ -3,7 +3,7 @@ use Rattle.std.proofs.Common.{◌≡◌, ◌≢◌, ℕ, zero, suc, ◌<◌, ◌
 use Rattle.std.specs.FinMap as map
 use Rattle.std.specs.FinMap.{FinMap}
 use Rattle.sha2.specs.Sha256.{sha256}
-use Rattle.at_cid.specs.Link.{cid}
+use Rattle.at_cid.specs.Link.{IsNodeLink, cid}
 use Rattle.at_cid.proofs.Bytes.{cid_is_link}
 use Rattle.at_cid.specs.Order.{key_cmp}
 use Rattle.at_cid.proofs.Order.{cmp_same}
@@ -66,14 +66,14 @@ never_both k (Hole l c ∷ A) B low g h = never_both k A B low g h
 never_both k [] B low g h = absurd g
 
 module _ (S : List (List ℕ)) (distinct : Distinct S) (B : FinMap key_cmp (List ℕ)) (under : AreUnderNodeLinks B)
-    (alike : (c b a : List ℕ) → map.get B c ≡ Some b → IsAmong a S → sha256 b ≡ sha256 a → b ≡ a) where
+    (alike : (c b a : List ℕ) → IsNodeLink c → map.get B c ≡ Some b → IsAmong a S → sha256 b ≡ sha256 a → b ≡ a) where
   -- a block of the tree whose link is there is there
   is_there : (a : List ℕ) → IsAmong a S → is_some (map.get B (cid a)) ≡ true → IsThere B a
   is_there a i e = go (map.get B (cid a)) refl e
     where
       go : (o : Option (List ℕ)) → map.get B (cid a) ≡ o → is_some o ≡ true → map.get B (cid a) ≡ Some a
       go None h e = absurd (cc)
-      go (Some b) h e = h ∙ ap Some (alike (cid a) b a h i (sym (cid_same a b (under (cid a) b (cid_is_link a) h))))
+      go (Some b) h e = h ∙ ap Some (alike (cid a) b a (cid_is_link a) h i (sym (cid_same a b (under (cid a) b (cid_is_link a) h))))
 
   -- the map with holes
   abbrev pub pruned_rights : (List Item → List Item) → ℕ → List Item → List Item
