@@ -22,6 +22,7 @@ use Rattle.mst_node.specs.Covers.{AreDistinct, AreUnderNodeLinks, HoldsCover, Ho
 use Rattle.mst_node.specs.Trees.{AllThere, Distinct, Fills, Holds, HolesUnder, IsAmong, IsView, first_part, nodes, nodes_at, root, spell, top_layer}
 use Rattle.mst_node.proofs.Filling.{one_root, top_alike}
 use Rattle.mst_node.proofs.Layers.{keys_under_top, top_at_most}
+use Rattle.mst_law.specs.Laws.{IsCoveredBy, IsStep}
 use Rattle.mst_law.proofs.Known.{HolesKnown, no_gap_hole, no_hole_next, node_known, one_first, one_last, parts_known}
 use Rattle.mst_law.proofs.Pruned.{HasKey, above_of, has_first, has_last, node_pruned, parts_pruned, pruned_node}
 
@@ -224,19 +225,17 @@ has_view B t m under distinct at =
     record { list = F; is_view = record { well_laid = w; root_is = sym (one_root F t w N.filled); there = subst W top N.there; holes = N.missing }; filled = N.filled; known = K }
 
 -- the covering law
-pub record IsCovered (B : FinMap key_cmp (List ℕ)) (s t : List Item) (ops : List Op) : Type 0 where
-  pub list : List Item
-  pub is_view : IsView B (root t) list
-  pub fills : Fills t list
-  pub guarded : IsGuarded list ops
-  pub agrees : AllAgree list ops
-  pub one_root : root (undone list ops) ≡ root s
-
-pub covered : (B : FinMap key_cmp (List ℕ)) (s t : List Item) (op : Op) (ops : List Op) → IsMap s → AreFormedOps (op ∷ ops) → AreApart (op ∷ ops) → Plays s (op ∷ ops) t → HoldsCover B t (op ∷ ops) → AreUnderNodeLinks B → AreDistinct B t → IsCovered B s t (op ∷ ops)
+pub covered : (B : FinMap key_cmp (List ℕ)) (s t : List Item) (op : Op) (ops : List Op) → IsMap s → AreFormedOps (op ∷ ops) → AreApart (op ∷ ops) → Plays s (op ∷ ops) t → HoldsCover B t (op ∷ ops) → AreUnderNodeLinks B → AreDistinct B t → (F : List Item) × IsCoveredBy B s t (op ∷ ops) F
 covered B s t op ops m forms apart plays cover under distinct =
     let mt = map_played (op ∷ ops) s t forms m plays in
     let V = has_view B t mt under distinct (cover.0.0 (record { low = None; high = None; block = spell (top_layer t) t }) (inl refl) tt tt) in
     let left = all_left (op ∷ ops) s t forms apart m plays in
     let guard = all_guarded B V.list t V.is_view.well_laid mt V.filled V.known (op ∷ ops) cover left in
     let back = undone_by_play Holds V.list s t (op ∷ ops) V.is_view.well_laid forms apart guard m mt plays V.filled in
-    record { list = V.list; is_view = V.is_view; fills = record { is_map = mt; filled = V.filled }; guarded = guard; agrees = all_agree Holds V.list t (op ∷ ops) V.is_view.well_laid mt V.filled guard left; one_root = sym (one_root (undone V.list (op ∷ ops)) s back.0 back.1) }
+    let step : IsStep B (root s) (root t) (op ∷ ops) V.list = record {
+      is_view = V.is_view;
+      agrees = all_agree Holds V.list t (op ∷ ops) V.is_view.well_laid mt V.filled guard left;
+      guarded = guard;
+      leads_back = sym (one_root (undone V.list (op ∷ ops)) s back.0 back.1);
+    } in
+    (V.list, record { step = step; fills = record { is_map = mt; filled = V.filled } })

@@ -22,13 +22,17 @@ ReplayLaw = (F s : List Item) (ops : List Op) → IsWellLaid F → AreFormedOps 
 abbrev pub OneRootLaw : Type 0
 OneRootLaw = (F s : List Item) → IsWellLaid F → Fills s F → root s ≡ root F
 
--- A view of the blocks at the root of t that t fills, on which the operations are guarded, and from which they lead back to the root of s.
-pub record IsCoveredBy (B : FinMap key_cmp (List ℕ)) (s t : List Item) (ops : List Op) (F : List Item) : Type 0 where
-  pub is_view : IsView B (root t) F
-  pub fills : Fills t F
-  pub guarded : IsGuarded F ops
+-- A step of a repository: the blocks have a view at the later root with which the operations agree, on which they are guarded, and from which they lead back to the former root.
+pub record IsStep (B : FinMap key_cmp (List ℕ)) (former later : List ℕ) (ops : List Op) (F : List Item) : Type 0 where
+  pub is_view : IsView B later F
   pub agrees : AllAgree F ops
-  pub root_is : root (undone F ops) ≡ root s
+  pub guarded : IsGuarded F ops
+  pub leads_back : root (undone F ops) ≡ former
+
+-- A step from the root of s to the root of t, on a view that t fills.
+pub record IsCoveredBy (B : FinMap key_cmp (List ℕ)) (s t : List Item) (ops : List Op) (F : List Item) : Type 0 where
+  pub step : IsStep B (root s) (root t) ops F
+  pub fills : Fills t F
 
 -- Where operations play on s and give t, and the blocks hold the cover of t and them, there is such a view, unless different blocks share a digest.
 abbrev pub CoveringLaw : Type 0
@@ -41,13 +45,6 @@ OneViewLaw = (B : FinMap key_cmp (List ℕ)) (r : List ℕ) (F G : List Item) �
 -- Where a block is at fault, no list is a view.
 abbrev pub FaultLaw : Type 0
 FaultLaw = (B : FinMap key_cmp (List ℕ)) (r f : List ℕ) (F : List Item) → HasTopFault B r f → IsView B r F → ⊥
-
--- A step of a repository: the blocks have a view at the later root with which the operations agree, on which they are guarded, and from which they lead back to the former root.
-pub record IsStep (B : FinMap key_cmp (List ℕ)) (former later : List ℕ) (ops : List Op) (F : List Item) : Type 0 where
-  pub is_view : IsView B later F
-  pub agrees : AllAgree F ops
-  pub guarded : IsGuarded F ops
-  pub leads_back : root (undone F ops) ≡ former
 
 -- Soundness of a link: on every map with the former root, linked operations play, and give a map with the later root, unless different blocks of that map's tree and of the undone view share a digest.
 abbrev pub SoundLinkLaw : Type 0
