@@ -29,5 +29,5 @@ pub sound_link : (B : FinMap key_cmp (List ℕ)) (former later : List ℕ) (ops 
 sound_link B former later ops F s link forms apart m e d =
     let v = link.is_view in
     let w = (kept F ops v.well_laid forms apart link.agrees link.guarded).well_laid in
-    let R = replayed Holds F s ops v.well_laid forms apart link.agrees link.guarded m (filling_law (undone F ops) s w m (e ∙ sym link.leads_back) d) in
+    let R = replayed Holds F s ops v.well_laid apart link.agrees link.guarded m (filling_law (undone F ops) s w m (e ∙ sym link.leads_back) d) in
     (R.result, R.plays, one_root F R.result v.well_laid R.fills ∙ v.root_is)

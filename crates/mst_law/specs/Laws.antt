@@ -16,7 +16,7 @@ FillingLaw = (U s : List Item) → IsWellLaid U → IsMap s → root s ≡ root 
 
 -- What fills a guarded list with its operations undone plays to what fills the list.
 abbrev pub ReplayLaw : Type 0
-ReplayLaw = (F s : List Item) (ops : List Op) → IsWellLaid F → AreFormedOps ops → AreApart ops → AllAgree F ops → IsGuarded F ops → Fills s (undone F ops) → (t : List Item) × Plays s ops t × Fills t F
+ReplayLaw = (F s : List Item) (ops : List Op) → IsWellLaid F → AreApart ops → AllAgree F ops → IsGuarded F ops → Fills s (undone F ops) → (t : List Item) × Plays s ops t × Fills t F
 
 -- A well-laid list and a map that fills it have one root.
 abbrev pub OneRootLaw : Type 0
