@@ -14,7 +14,7 @@ use Rattle.mst_node.specs.Covers.{HoldsCover, AreUnderNodeLinks, AreDistinct}
 abbrev pub FillingLaw : Type 0
 FillingLaw = (U s : List Item) → IsWellLaid U → IsMap s → root s ≡ root U → Distinct (nodes s ++ nodes U) → Fills s U
 
--- What fills a guarded list with its operations undone plays to what fills the list.
+-- What fills a well-laid list with its operations undone, which are on different keys, agree with the list and are guarded on it, plays to what fills the list.
 abbrev pub ReplayLaw : Type 0
 ReplayLaw = (F s : List Item) (ops : List Op) → IsWellLaid F → AreApart ops → AllAgree F ops → IsGuarded F ops → Fills s (undone F ops) → (t : List Item) × Plays s ops t × Fills t F
 
@@ -34,7 +34,7 @@ pub record IsCoveredBy (B : FinMap key_cmp (List ℕ)) (s t : List Item) (ops : 
   pub step : IsStep B (root s) (root t) ops F
   pub fills : Fills t F
 
--- Where operations play on s and give t, and the blocks hold the cover of t and them, there is such a view, unless different blocks share a digest.
+-- Where operations, at least one and on different keys, play on s and give t, and the blocks hold the cover of t and them, there is such a view, unless different blocks share a digest: blocks under links of kind Node, and those of the tree of t.
 abbrev pub CoveringLaw : Type 0
 CoveringLaw = (B : FinMap key_cmp (List ℕ)) (s t : List Item) (ops : List Op) → IsMap s → AreFormedOps ops → AreApart ops → ops ≢ [] → Plays s ops t → HoldsCover B t ops → AreUnderNodeLinks B → AreDistinct B t → (F : List Item) × IsCoveredBy B s t ops F
 
@@ -46,12 +46,12 @@ OneViewLaw = (B : FinMap key_cmp (List ℕ)) (r : List ℕ) (F G : List Item) �
 abbrev pub FaultLaw : Type 0
 FaultLaw = (B : FinMap key_cmp (List ℕ)) (r f : List ℕ) (F : List Item) → HasTopFault B r f → IsView B r F → ⊥
 
--- Soundness of a link: on every map with the former root, linked operations play, and give a map with the later root, unless different blocks of that map's tree and of the undone view share a digest.
+-- Soundness of a link: on every map with the former root, linked operations on different keys play, and give a map with the later root, unless different blocks of that map's tree and of the undone view share a digest.
 abbrev pub SoundLinkLaw : Type 0
 SoundLinkLaw = (B : FinMap key_cmp (List ℕ)) (former later : List ℕ) (ops : List Op) (F s : List Item) → IsStep B former later ops F → AreFormedOps ops → AreApart ops
     → IsMap s → root s ≡ former → Distinct (nodes s ++ nodes (undone F ops)) → (t : List Item) × Plays s ops t × (root t ≡ later)
 
--- Completeness of a link: operations that play and whose cover the blocks hold are linked.
+-- Completeness of a link: operations, at least one and on different keys, that play and whose cover the blocks hold are linked, unless different blocks share a digest.
 abbrev pub CompleteLinkLaw : Type 0
 CompleteLinkLaw = (B : FinMap key_cmp (List ℕ)) (s t : List Item) (ops : List Op) → IsMap s → AreFormedOps ops → AreApart ops → ops ≢ [] → Plays s ops t → HoldsCover B t ops → AreUnderNodeLinks B → AreDistinct B t
     → (F : List Item) × IsStep B (root s) (root t) ops F
