@@ -6,7 +6,7 @@ use Rattle.sha2.specs.Sha256.{sha256}
 use Rattle.at_cid.specs.Link.{IsNodeLink}
 use Rattle.at_cid.specs.Order.{key_cmp}
 use Rattle.at_cid.proofs.Bytes.{cid_is_link}
-use Rattle.at_cid.proofs.Order.{cmp_same, cmp_trans}
+use Rattle.at_cid.proofs.Order.{cmp_same}
 use Rattle.mst_list.specs.Edits.{AllAgree, AreApart, AreFormedOps, EndsInHole, Filled, GuardedBy, IsClear, IsGuarded, Plays, StartsWithHole, after, before, by_order, put, undone, value_at, with_value}
 use Rattle.mst_list.specs.Lists.{AllAbove, AreFormed, Ascends, IsMap, IsWellLaid, KeysOnly, NoLoneHole}
 use Rattle.mst_list.specs.declared.item.Item.{Item}
@@ -17,6 +17,7 @@ use Rattle.mst_list.proofs.Judged.{beside, hidden}
 use Rattle.mst_list.proofs.Kept.{above_after, no_value, value_back, value_front}
 use Rattle.mst_list.proofs.Places.{AllBelow, after_placed, before_placed, below_before, rebuilt}
 use Rattle.mst_list.proofs.Puts.{visible}
+use Rattle.mst_list.proofs.Replay.{all_below_up}
 use Rattle.mst_list.proofs.Undo.{AllLeft, all_agree, all_left, around, map_put, undone_by_play, value_filled_at}
 use Rattle.mst_node.specs.Covers.{AreDistinct, AreUnderNodeLinks, HoldsCover, HoldsWay, HoldsWayTo, IsThere, bound_at, first_key, last_key, part_spelled, right_spelled, spelled}
 use Rattle.mst_node.specs.Trees.{AllThere, Distinct, Fills, Holds, HolesUnder, IsAmong, IsView, first_part, nodes, nodes_at, root, spell, top_layer}
@@ -178,14 +179,9 @@ module _ (B : FinMap key_cmp (List ℕ)) (F t : List Item) (w : IsWellLaid F) (m
             let K : List Item → Type 0 = λ x. HasKey h.key x in
             let some = has_value h.key t mt.ascends (subst K (sym r.is) (has_last h.key a (Key k v ∷ b) (inr h.inside))) in
             let less = above_of k h.key b parts.2.0 h.inside in
-            seen h.key held some (ap (value_at h.key) whole ∙ value_back h.key (before k F) (Key k v ∷ after k F) (below_up k h.key (before k F) less (below_before k F)) ∙ past h.key v less h.hidden);
+            seen h.key held some (ap (value_at h.key) whole ∙ value_back h.key (before k F) (Key k v ∷ after k F) (all_below_up k h.key (before k F) less (below_before k F)) ∙ past h.key v less h.hidden);
       }
     where
-      below_up : (k p : List ℕ) (A : List Item) → key_cmp k p ≡ Less → AllBelow k A → AllBelow p A
-      below_up k p [] e h = tt
-      below_up k p (Key i x ∷ A) e h = (cmp_trans i k p h.0 e, below_up k p A e h.1)
-      below_up k p (Hole l c ∷ A) e h = below_up k p A e h
-
       past : (p v : List ℕ) → key_cmp k p ≡ Less → value_at p (after k F) ≡ None → value_at p (Key k v ∷ after k F) ≡ None
       past p v e n = rw e n
 
