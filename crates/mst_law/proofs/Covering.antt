@@ -6,7 +6,7 @@ use Rattle.sha2.specs.Sha256.{sha256}
 use Rattle.at_cid.specs.Link.{IsNodeLink}
 use Rattle.at_cid.specs.Order.{key_cmp}
 use Rattle.at_cid.proofs.Bytes.{cid_is_link}
-use Rattle.at_cid.proofs.Order.{cmp_same, cmp_trans}
+use Rattle.at_cid.proofs.Order.{cmp_same}
 use Rattle.mst_list.specs.Edits.{AllAgree, AreApart, AreFormedOps, EndsInHole, Filled, GuardedBy, IsClear, IsGuarded, Plays, StartsWithHole, after, before, by_order, put, undone, value_at, with_value}
 use Rattle.mst_list.specs.Lists.{AllAbove, AreFormed, Ascends, IsMap, IsWellLaid, KeysOnly, NoLoneHole}
 use Rattle.mst_list.specs.declared.item.Item.{Item}
@@ -17,11 +17,13 @@ use Rattle.mst_list.proofs.Judged.{beside, hidden}
 use Rattle.mst_list.proofs.Kept.{above_after, no_value, value_back, value_front}
 use Rattle.mst_list.proofs.Places.{AllBelow, after_placed, before_placed, below_before, rebuilt}
 use Rattle.mst_list.proofs.Puts.{visible}
+use Rattle.mst_list.proofs.Replay.{all_below_up}
 use Rattle.mst_list.proofs.Undo.{AllLeft, all_agree, all_left, around, map_put, undone_by_play, value_filled_at}
 use Rattle.mst_node.specs.Covers.{AreDistinct, AreUnderNodeLinks, HoldsCover, HoldsWay, HoldsWayTo, IsThere, bound_at, first_key, last_key, part_spelled, right_spelled, spelled}
 use Rattle.mst_node.specs.Trees.{AllThere, Distinct, Fills, Holds, HolesUnder, IsAmong, IsView, first_part, nodes, nodes_at, root, spell, top_layer}
 use Rattle.mst_node.proofs.Filling.{one_root, top_alike}
 use Rattle.mst_node.proofs.Layers.{keys_under_top, top_at_most}
+use Rattle.mst_law.specs.Laws.{IsCoveredBy, IsStep}
 use Rattle.mst_law.proofs.Known.{HolesKnown, no_gap_hole, no_hole_next, node_known, one_first, one_last, parts_known}
 use Rattle.mst_law.proofs.Pruned.{HasKey, above_of, has_first, has_last, node_pruned, parts_pruned, pruned_node}
 
@@ -177,14 +179,9 @@ module _ (B : FinMap key_cmp (List ℕ)) (F t : List Item) (w : IsWellLaid F) (m
             let K : List Item → Type 0 = λ x. HasKey h.key x in
             let some = has_value h.key t mt.ascends (subst K (sym r.is) (has_last h.key a (Key k v ∷ b) (inr h.inside))) in
             let less = above_of k h.key b parts.2.0 h.inside in
-            seen h.key held some (ap (value_at h.key) whole ∙ value_back h.key (before k F) (Key k v ∷ after k F) (below_up k h.key (before k F) less (below_before k F)) ∙ past h.key v less h.hidden);
+            seen h.key held some (ap (value_at h.key) whole ∙ value_back h.key (before k F) (Key k v ∷ after k F) (all_below_up k h.key (before k F) less (below_before k F)) ∙ past h.key v less h.hidden);
       }
     where
-      below_up : (k p : List ℕ) (A : List Item) → key_cmp k p ≡ Less → AllBelow k A → AllBelow p A
-      below_up k p [] e h = tt
-      below_up k p (Key i x ∷ A) e h = (cmp_trans i k p h.0 e, below_up k p A e h.1)
-      below_up k p (Hole l c ∷ A) e h = below_up k p A e h
-
       past : (p v : List ℕ) → key_cmp k p ≡ Less → value_at p (after k F) ≡ None → value_at p (Key k v ∷ after k F) ≡ None
       past p v e n = rw e n
 
@@ -212,7 +209,7 @@ pub has_view : (B : FinMap key_cmp (List ℕ)) (t : List Item) → IsMap t → A
 has_view B t m under distinct at =
     let S = nodes t in let T = spelled t in let h = top_layer t in
     let d : Distinct S = λ a b i j e. distinct a b (inr i) (inr j) e in
-    let alike : (c b a : List ℕ) → map.get B c ≡ Some b → IsAmong a S → sha256 b ≡ sha256 a → b ≡ a = λ c b a g i e. distinct b a (inl (c, g)) (inr i) e in
+    let alike : (c b a : List ℕ) → IsNodeLink c → map.get B c ≡ Some b → IsAmong a S → sha256 b ≡ sha256 a → b ≡ a = λ c b a n g i e. distinct b a (inl (c, n, g)) (inr i) e in
     let F = pruned_node S d B under alike h t in
     let N = node_pruned S d B under alike h (parts_pruned S d B under alike h) t m (keys_under_top t h (omega arith)) (λ b i. i) at in
     let K = node_known S d B under alike T h (parts_known S d B under alike T h) None None t m.keys_only
@@ -224,19 +221,17 @@ has_view B t m under distinct at =
     record { list = F; is_view = record { well_laid = w; root_is = sym (one_root F t w N.filled); there = subst W top N.there; holes = N.missing }; filled = N.filled; known = K }
 
 -- the covering law
-pub record IsCovered (B : FinMap key_cmp (List ℕ)) (s t : List Item) (ops : List Op) : Type 0 where
-  pub list : List Item
-  pub is_view : IsView B (root t) list
-  pub fills : Fills t list
-  pub guarded : IsGuarded list ops
-  pub agrees : AllAgree list ops
-  pub one_root : root (undone list ops) ≡ root s
-
-pub covered : (B : FinMap key_cmp (List ℕ)) (s t : List Item) (op : Op) (ops : List Op) → IsMap s → AreFormedOps (op ∷ ops) → AreApart (op ∷ ops) → Plays s (op ∷ ops) t → HoldsCover B t (op ∷ ops) → AreUnderNodeLinks B → AreDistinct B t → IsCovered B s t (op ∷ ops)
+pub covered : (B : FinMap key_cmp (List ℕ)) (s t : List Item) (op : Op) (ops : List Op) → IsMap s → AreFormedOps (op ∷ ops) → AreApart (op ∷ ops) → Plays s (op ∷ ops) t → HoldsCover B t (op ∷ ops) → AreUnderNodeLinks B → AreDistinct B t → (F : List Item) × IsCoveredBy B s t (op ∷ ops) F
 covered B s t op ops m forms apart plays cover under distinct =
     let mt = map_played (op ∷ ops) s t forms m plays in
     let V = has_view B t mt under distinct (cover.0.0 (record { low = None; high = None; block = spell (top_layer t) t }) (inl refl) tt tt) in
     let left = all_left (op ∷ ops) s t forms apart m plays in
     let guard = all_guarded B V.list t V.is_view.well_laid mt V.filled V.known (op ∷ ops) cover left in
     let back = undone_by_play Holds V.list s t (op ∷ ops) V.is_view.well_laid forms apart guard m mt plays V.filled in
-    record { list = V.list; is_view = V.is_view; fills = record { is_map = mt; filled = V.filled }; guarded = guard; agrees = all_agree Holds V.list t (op ∷ ops) V.is_view.well_laid mt V.filled guard left; one_root = sym (one_root (undone V.list (op ∷ ops)) s back.0 back.1) }
+    let step : IsStep B (root s) (root t) (op ∷ ops) V.list = record {
+      is_view = V.is_view;
+      agrees = all_agree Holds V.list t (op ∷ ops) V.is_view.well_laid mt V.filled guard left;
+      guarded = guard;
+      leads_back = sym (one_root (undone V.list (op ∷ ops)) s back.0 back.1);
+    } in
+    (V.list, record { step = step; fills = record { is_map = mt; filled = V.filled } })

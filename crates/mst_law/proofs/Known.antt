@@ -3,7 +3,7 @@ use Rattle.std.proofs.Common.{◌≡◌, ◌≢◌, ℕ, zero, suc, ◌<◌, ◌
 use Rattle.std.specs.FinMap as map
 use Rattle.std.specs.FinMap.{FinMap}
 use Rattle.sha2.specs.Sha256.{sha256}
-use Rattle.at_cid.specs.Link.{cid}
+use Rattle.at_cid.specs.Link.{IsNodeLink, cid}
 use Rattle.at_cid.specs.Order.{key_cmp}
 use Rattle.at_cid.proofs.Order.{cmp_below}
 use Rattle.mst_list.specs.Edits.{EndsInHole, StartsWithHole, after, before, by_order, value_at}
@@ -112,7 +112,7 @@ no_hole_next k (Key j v ∷ F) n h =
     ] n h
 
 module _ (S : List (List ℕ)) (distinct : Distinct S) (B : FinMap key_cmp (List ℕ)) (under : AreUnderNodeLinks B)
-    (alike : (c b a : List ℕ) → map.get B c ≡ Some b → IsAmong a S → sha256 b ≡ sha256 a → b ≡ a) (T : List Spelled) where
+    (alike : (c b a : List ℕ) → IsNodeLink c → map.get B c ≡ Some b → IsAmong a S → sha256 b ≡ sha256 a → b ≡ a) (T : List Spelled) where
   abbrev part : ℕ → List Item → List Item
   part h P = pruned_part S distinct B under alike h P
 

@@ -69,6 +69,10 @@ module _ (B : FinMap key_cmp (List ℕ)) where
   unfolding part_link
   empty_part h x Q e = absurd (cc)
 
+  -- a link that isn't there is not that of a block that is there
+  never : (c b : List ℕ) → Some c ≡ Some (cid b) → map.get B c ≡ None → map.get B (cid b) ≡ Some b → ⊥
+  never c b e m t = let one : c ≡ cid b = cc in let same = ap (map.get B) one in absurd (cc)
+
   pub parts_one : (h : ℕ) → PartsOne h
   parts_one zero [] [] p q wp wq e = refl
   parts_one zero (Key k v ∷ P) Q p q wp wq e = let low = p.keys.0 in absurd (omega arith)
@@ -84,13 +88,7 @@ module _ (B : FinMap key_cmp (List ℕ)) where
           → (IsPart B (suc h) h (x ∷ P) → IsPart B (suc h) h (y ∷ Q) → AllThere B (nodes_at h (x ∷ P)) → AllThere B (nodes_at h (y ∷ Q)) → cid (spell h (x ∷ P)) ≡ cid (spell h (y ∷ Q)) → x ∷ P ≡ y ∷ Q) → x ∷ P ≡ y ∷ Q
       go (inl a) (inl b) more = let link : Some a.link ≡ Some b.link = sym a.part_is ∙ e ∙ b.part_is in let one : a.link ≡ b.link = cc in a.is ∙ ap (λ c. Hole h c ∷ []) one ∙ sym b.is
       go (inl a) (inr b) more = absurd (never a.link (spell h (y ∷ Q)) (sym a.part_is ∙ e ∙ b.link) a.missing b.there.0)
-        where
-          never : (c b : List ℕ) → Some c ≡ Some (cid b) → map.get B c ≡ None → map.get B (cid b) ≡ Some b → ⊥
-          never c b e m t = let one : c ≡ cid b = cc in let same = ap (map.get B) one in absurd (cc)
       go (inr a) (inl b) more = absurd (never b.link (spell h (x ∷ P)) (sym b.part_is ∙ sym e ∙ a.link) b.missing a.there.0)
-        where
-          never : (c b : List ℕ) → Some c ≡ Some (cid b) → map.get B c ≡ None → map.get B (cid b) ≡ Some b → ⊥
-          never c b e m t = let one : c ≡ cid b = cc in let same = ap (map.get B) one in absurd (cc)
       go (inr a) (inr b) more = let one : Some (cid (spell h (x ∷ P))) ≡ Some (cid (spell h (y ∷ Q))) = sym a.link ∙ e ∙ b.link in more a.part b.part a.there b.there (cc)
 
   -- a view, but for the links of its holes, which may be alike

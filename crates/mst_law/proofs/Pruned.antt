@@ -3,7 +3,7 @@ use Rattle.std.proofs.Common.{◌≡◌, ◌≢◌, ℕ, zero, suc, ◌<◌, ◌
 use Rattle.std.specs.FinMap as map
 use Rattle.std.specs.FinMap.{FinMap}
 use Rattle.sha2.specs.Sha256.{sha256}
-use Rattle.at_cid.specs.Link.{cid}
+use Rattle.at_cid.specs.Link.{IsNodeLink, cid}
 use Rattle.at_cid.proofs.Bytes.{cid_is_link}
 use Rattle.at_cid.specs.Order.{key_cmp}
 use Rattle.at_cid.proofs.Order.{cmp_same}
@@ -14,14 +14,14 @@ use Rattle.mst_list.specs.declared.item.Item.{Item}
 use Rattle.mst_list.specs.declared.item.Item.TheVariants.{Hole, Key}
 use Rattle.mst_list.proofs.Fills.{IsBelow, filled_join, is_below_parts}
 use Rattle.mst_node.specs.Covers.{AreUnderNodeLinks, IsThere, spelled}
-use Rattle.mst_node.specs.Trees.{AllThere, Distinct, Holds, HolesUnder, IsAmong, IsUpTo, KeysUnder, NoHoleThere, first_part, nodes_at, part_nodes, right_nodes, spell}
+use Rattle.mst_node.specs.Trees.{AllThere, Distinct, Holds, HolesUnder, IsAmong, KeysUnder, NoHoleThere, first_part, nodes_at, part_nodes, right_nodes, spell}
 use Rattle.mst_node.proofs.Cuts.{first_map}
 use Rattle.mst_node.proofs.Filling.{links_alike, node_filled}
 use Rattle.mst_node.proofs.Joins.{StartsAt, first_joined, holes_joined, holes_more, lead_joined, lead_part, missing_joined, near_joined, rest_part, rights_joined, there_joined, there_part, two_parts}
 use Rattle.mst_node.proofs.Layers.{eqb_same, eqb_yes, first_keys}
 use Rattle.mst_node.proofs.Links.{cid_same}
 use Rattle.mst_node.proofs.Once.{one_map}
-use Rattle.mst_node.proofs.Telling.{IsWithin, among_first, among_last}
+use Rattle.mst_node.proofs.Telling.{IsWithin, among_first, among_last, keys_up_to}
 
 -- the keys of a list are those of what fills it
 pub keys_of_filled : (h : ℕ) (F P : List Item) → Filled Holds F P → KeysUnder h P → KeysUnder h F
@@ -66,14 +66,14 @@ never_both k (Hole l c ∷ A) B low g h = never_both k A B low g h
 never_both k [] B low g h = absurd g
 
 module _ (S : List (List ℕ)) (distinct : Distinct S) (B : FinMap key_cmp (List ℕ)) (under : AreUnderNodeLinks B)
-    (alike : (c b a : List ℕ) → map.get B c ≡ Some b → IsAmong a S → sha256 b ≡ sha256 a → b ≡ a) where
+    (alike : (c b a : List ℕ) → IsNodeLink c → map.get B c ≡ Some b → IsAmong a S → sha256 b ≡ sha256 a → b ≡ a) where
   -- a block of the tree whose link is there is there
   is_there : (a : List ℕ) → IsAmong a S → is_some (map.get B (cid a)) ≡ true → IsThere B a
   is_there a i e = go (map.get B (cid a)) refl e
     where
       go : (o : Option (List ℕ)) → map.get B (cid a) ≡ o → is_some o ≡ true → map.get B (cid a) ≡ Some a
       go None h e = absurd (cc)
-      go (Some b) h e = h ∙ ap Some (alike (cid a) b a h i (sym (cid_same a b (under (cid a) b (cid_is_link a) h))))
+      go (Some b) h e = h ∙ ap Some (alike (cid a) b a (cid_is_link a) h i (sym (cid_same a b (under (cid a) b (cid_is_link a) h))))
 
   -- the map with holes
   abbrev pub pruned_rights : (List Item → List Item) → ℕ → List Item → List Item
@@ -254,11 +254,6 @@ module _ (S : List (List ℕ)) (distinct : Distinct S) (B : FinMap key_cmp (List
   none_of None e = refl
   none_of (Some b) e = absurd (cc)
 
-  up_to : (h : ℕ) (p : List Item) → KeysUnder (suc h) p → IsUpTo h p
-  up_to h [] k = tt
-  up_to h (Key j v ∷ p) k = (let low = k.0 in omega arith, up_to h p k.1)
-  up_to h (Hole l c ∷ p) k = up_to h p k
-
   -- a hole in the place of a part
   hole_pruned : (h : ℕ) (k v : List ℕ) (P : List Item) → IsMap (Key k v ∷ P) → KeysUnder (suc h) (Key k v ∷ P) → IsWithin (nodes_at h (Key k v ∷ P)) S → map.get B (cid (spell h (Key k v ∷ P))) ≡ None
       → IsPruned (suc h) (Key k v ∷ P) (Hole h (cid (spell h (Key k v ∷ P))) ∷ [])
@@ -267,7 +262,7 @@ module _ (S : List (List ℕ)) (distinct : Distinct S) (B : FinMap key_cmp (List
       let c = cid (spell h (Key k v ∷ P)) in
       let T : Bool → Type 0 = λ b. AllThere B (cond b [] (nodes_at h (Hole h c ∷ []))) in
       record {
-        filled = (Key k v ∷ P, [], sym (append-nil (Key k v ∷ P)), record { is_map = m; some = omega arith; up_to = up_to h (Key k v ∷ P) keys; spelled = refl }, refl);
+        filled = (Key k v ∷ P, [], sym (append-nil (Key k v ∷ P)), record { is_map = m; some = omega arith; up_to = keys_up_to h (Key k v ∷ P) keys; spelled = refl }, refl);
         holes = (omega arith, tt);
         near = (tt, tt);
         from = (record { key = k; value = v; rest = P; layer = h; is_map = m; keys = keys; within = w; link = refl; inside = inl refl }, tt);

@@ -7,7 +7,7 @@ pub fn filling_law()
     ensures { FillingLaw }
 {}
 
-/// The replay law: what fills a guarded list with its operations undone plays to what fills the list.
+/// The replay law: what fills a guarded list with its operations undone, on different keys, plays to what fills the list.
 pub fn replay_law()
     ensures { ReplayLaw }
 {}
@@ -17,7 +17,8 @@ pub fn one_root_law()
     ensures { OneRootLaw }
 {}
 
-/// The covering law: where the blocks on the ways to the operations' keys are there, there is a guarded view.
+/// The covering law: where operations, at least one and on different keys, play from map to map and their cover is there,
+/// there is a view that the later map fills and from which they lead back, unless different blocks share a digest.
 pub fn covering_law()
     ensures { CoveringLaw }
 {}
@@ -32,12 +33,14 @@ pub fn fault_law()
     ensures { FaultLaw }
 {}
 
-/// Soundness of a link: linked operations play on every map with the former root and give the later one.
+/// Soundness of a link: linked operations on different keys play on every map with the former root and give one with the
+/// later root, unless different blocks share a digest.
 pub fn sound_link_law()
     ensures { SoundLinkLaw }
 {}
 
-/// Completeness of a link: operations that play and whose cover is there are linked.
+/// Completeness of a link: operations, at least one and on different keys, that play and whose cover is there are linked,
+/// unless different blocks share a digest.
 pub fn complete_link_law()
     ensures { CompleteLinkLaw }
 {}

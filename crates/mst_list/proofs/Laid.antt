@@ -6,7 +6,7 @@ use Rattle.mst_list.specs.declared.op.Op.{Op}
 use Rattle.mst_list.specs.Lists.{Ascends, Neighbours, MayLead, MayMeet, NoHoleOf, HolesDiffer, NoLoneHole, AreFormed, IsMap, IsWellLaid}
 use Rattle.mst_list.specs.Edits.{before, after, value_at, with_value, put, Filled, EndsInHole, StartsWithHole, IsClear, GuardedBy, IsGuarded, AllAgree, IsNewTo, AreApart, AreFormedOps, undone, Plays}
 use Rattle.mst_list.proofs.Places.{StartsAbove, rebuilt, below_before}
-use Rattle.mst_list.proofs.Fills.{ascends_last, is_below_parts, formed_value, formed_edited}
+use Rattle.mst_list.proofs.Fills.{ascends_last, is_below_parts, formed_parts, formed_value, formed_edited}
 use Rattle.mst_list.proofs.Replay.{after_starts, value_ascends, played}
 use Rattle.mst_list.proofs.Kept.{above_after, value_other, clear_other}
 
@@ -98,30 +98,45 @@ clear_of_guard k None now F at g = (λ e. g, λ e. g)
 clear_of_guard k (Some v) None F at g = (λ e. g at, λ e. g at)
 clear_of_guard k (Some v) (Some w) F at g = (λ e. absurd (cc), λ e. absurd (cc))
 
+-- an operation undone in a list leaves its order
+reordered : (j : List ℕ) (was now : Option (List ℕ)) (G : List Item) → Ascends G → Neighbours G → value_at j G ≡ now → (was ≡ None → IsClear j G) → (now ≡ None → IsClear j G)
+    → Ascends (put j was G) × Neighbours (put j was G) × ((k : List ℕ) → k ≢ j → value_at k (put j was G) ≡ value_at k G) × ((k : List ℕ) → k ≢ j → IsClear k G → IsClear k (put j was G))
+reordered j was now G up near at p q =
+    let A = before j G in let B = after j G in
+    let whole : A ++ (with_value j now ++ B) ≡ G = rw (← at) (rebuilt j G) in
+    let low = below_before j G in
+    let high = above_after j G up in
+    let U : List Item → Type 0 = λ x. Ascends x in
+    let parts = is_below_parts A (with_value j now ++ B) (subst U (sym whole) up) in
+    let p' : was ≡ None → (EndsInHole A → ⊥) × (StartsWithHole B → ⊥) = λ e. ((p e).no_hole_before, (p e).no_hole_after) in
+    let q' : now ≡ None → (EndsInHole A → ⊥) × (StartsWithHole B → ⊥) = λ e. ((q e).no_hole_before, (q e).no_hole_after) in
+    let cw : was ≡ None → (EndsInHole A → ⊥) × StartsAbove j B = λ e. ((p e).no_hole_before, after_starts j G up (p e).no_hole_after) in
+    let cn : now ≡ None → (EndsInHole A → ⊥) × StartsAbove j B = λ e. ((q e).no_hole_before, after_starts j G up (q e).no_hole_after) in
+    let N : List Item → Type 0 = λ x. Neighbours x in (
+      value_ascends j was A B low high parts.0 (ascends_last (with_value j now) B parts.2),
+      near_edited j was now A B p' q' (subst N (sym whole) near),
+      λ k ne. value_other k j A B was now low high ne ∙ ap (value_at k) whole,
+      λ k ne c. let C : List Item → Type 0 = λ x. IsClear k x in clear_other k j A B was now low high cw cn ne (subst C (sym whole) c),
+    )
+
 -- an operation undone in a well-laid list
 pub edited : (j : List ℕ) (was now : Option (List ℕ)) (G : List Item) → AreFormed (with_value j was) → IsWellLaid G → value_at j G ≡ now → (was ≡ None → IsClear j G) → (now ≡ None → IsClear j G)
     → IsWellLaid (put j was G) × ((k : List ℕ) → k ≢ j → value_at k (put j was G) ≡ value_at k G) × ((k : List ℕ) → k ≢ j → IsClear k G → IsClear k (put j was G))
 edited j was now G form w at p q =
+    let E = reordered j was now G w.ascends w.neighbours at p q in
     let A = before j G in let B = after j G in
     let whole : A ++ (with_value j now ++ B) ≡ G = rw (← at) (rebuilt j G) in
-    let low = below_before j G in
-    let high = above_after j G w.ascends in
-    let up = is_below_parts A (with_value j now ++ B) (let P : List Item → Type 0 = λ x. Ascends x in subst P (sym whole) w.ascends) in
-    let p' : was ≡ None → (EndsInHole A → ⊥) × (StartsWithHole B → ⊥) = λ e. ((p e).no_hole_before, (p e).no_hole_after) in
-    let q' : now ≡ None → (EndsInHole A → ⊥) × (StartsWithHole B → ⊥) = λ e. ((q e).no_hole_before, (q e).no_hole_after) in
-    let cw : was ≡ None → (EndsInHole A → ⊥) × StartsAbove j B = λ e. ((p e).no_hole_before, after_starts j G w.ascends (p e).no_hole_after) in
-    let cn : now ≡ None → (EndsInHole A → ⊥) × StartsAbove j B = λ e. ((q e).no_hole_before, after_starts j G w.ascends (q e).no_hole_after) in
-    let N : List Item → Type 0 = λ x. Neighbours x in let H : List Item → Type 0 = λ x. HolesDiffer x in
+    let H : List Item → Type 0 = λ x. HolesDiffer x in
     let D : List Item → Type 0 = λ x. AreFormed x in (
       record {
         formed = formed_edited j now was A B form (subst D (sym whole) w.formed);
-        ascends = value_ascends j was A B low high up.0 (ascends_last (with_value j now) B up.2);
+        ascends = E.0;
         holes_differ = holes_edited j was now A B (subst H (sym whole) w.holes_differ);
-        neighbours = near_edited j was now A B p' q' (subst N (sym whole) w.neighbours);
-        no_lone_hole = lone_edited j was A B p';
+        neighbours = E.1;
+        no_lone_hole = lone_edited j was A B (λ e. ((p e).no_hole_before, (p e).no_hole_after));
       },
-      λ k ne. value_other k j A B was now low high ne ∙ ap (value_at k) whole,
-      λ k ne c. let C : List Item → Type 0 = λ x. IsClear k x in clear_other k j A B was now low high cw cn ne (subst C (sym whole) c),
+      E.2,
+      E.3,
     )
 
 pub kept : (F : List Item) (ops : List Op) → IsWellLaid F → AreFormedOps ops → AreApart ops → AllAgree F ops → IsGuarded F ops → IsKept F ops (undone F ops)
@@ -132,6 +147,28 @@ kept F (op ∷ ops) w forms apart agree guard =
     let E = edited op.key op.was op.now (undone F ops) (formed_value op.key op.was forms.0.0 forms.0.1) K.well_laid (K.value op.key apart.0 ∙ agree.0) (λ e. K.clear op.key apart.0 (c.0 e)) (λ e. K.clear op.key apart.0 (c.1 e)) in
     record { well_laid = E.0; value = λ k h. E.1 k h.0 ∙ K.value k h.1; clear = λ k h g. E.2 k h.0 (K.clear k h.1 g) }
 
+-- the order of a list after the edits
+pub record IsOrdered (F : List Item) (ops : List Op) (G : List Item) : Type 0 where
+  pub ascends : Ascends G
+  pub neighbours : Neighbours G
+  pub value : (k : List ℕ) → IsNewTo k ops → value_at k G ≡ value_at k F
+  pub clear : (k : List ℕ) → IsNewTo k ops → IsClear k F → IsClear k G
+
+pub ordered : (F : List Item) (ops : List Op) → Ascends F → Neighbours F → AreApart ops → AllAgree F ops → IsGuarded F ops → IsOrdered F ops (undone F ops)
+ordered F [] up near apart agree guard = record { ascends = up; neighbours = near; value = λ k h. refl; clear = λ k h c. c }
+ordered F (op ∷ ops) up near apart agree guard =
+    let O = ordered F ops up near apart.1 agree.1 guard.1 in
+    let c = clear_of_guard op.key op.was op.now F agree.0 guard.0 in
+    let E = reordered op.key op.was op.now (undone F ops) O.ascends O.neighbours (O.value op.key apart.0 ∙ agree.0) (λ e. O.clear op.key apart.0 (c.0 e)) (λ e. O.clear op.key apart.0 (c.1 e)) in
+    record { ascends = E.0; neighbours = E.1; value = λ k h. E.2 k h.0 ∙ O.value k h.1; clear = λ k h g. E.3 k h.0 (O.clear k h.1 g) }
+
+-- a value that a list has is formed as the list is
+formed_at : (k : List ℕ) (o : Option (List ℕ)) (F : List Item) → AreFormed F → value_at k F ≡ o → AreFormed (with_value k o)
+formed_at k o F form at =
+    let whole : before k F ++ (with_value k o ++ after k F) ≡ F = rw (← at) (rebuilt k F) in
+    let D : List Item → Type 0 = λ x. AreFormed x in
+    (formed_parts (with_value k o) (after k F) (formed_parts (before k F) (with_value k o ++ after k F) (subst D (sym whole) form)).1).0
+
 -- the replay law, for whatever the holes may hold
 pub record IsReplayed (holds : ℕ → List ℕ → List Item → Type 0) (F s : List Item) (ops : List Op) : Type 0 where
   pub result : List Item
@@ -139,11 +176,11 @@ pub record IsReplayed (holds : ℕ → List ℕ → List Item → Type 0) (F s :
   pub is_map : IsMap result
   pub fills : Filled holds F result
 
-pub replayed : (holds : ℕ → List ℕ → List Item → Type 0) (F s : List Item) (ops : List Op) → IsWellLaid F → AreFormedOps ops → AreApart ops → AllAgree F ops → IsGuarded F ops → IsMap s → Filled holds (undone F ops) s → IsReplayed holds F s ops
-replayed holds F s [] w forms apart agree guard m f = record { result = s; plays = refl; is_map = m; fills = f }
-replayed holds F s (op ∷ ops) w forms apart agree guard m f =
-    let K = kept F ops w forms.1 apart.1 agree.1 guard.1 in
+pub replayed : (holds : ℕ → List ℕ → List Item → Type 0) (F s : List Item) (ops : List Op) → IsWellLaid F → AreApart ops → AllAgree F ops → IsGuarded F ops → IsMap s → Filled holds (undone F ops) s → IsReplayed holds F s ops
+replayed holds F s [] w apart agree guard m f = record { result = s; plays = refl; is_map = m; fills = f }
+replayed holds F s (op ∷ ops) w apart agree guard m f =
+    let O = ordered F ops w.ascends w.neighbours apart.1 agree.1 guard.1 in
     let c = clear_of_guard op.key op.was op.now F agree.0 guard.0 in
-    let P = played holds (undone F ops) s op.key op.was op.now (formed_value op.key op.now forms.0.0 forms.0.2) K.well_laid.ascends K.well_laid.neighbours (K.value op.key apart.0 ∙ agree.0) (λ e. K.clear op.key apart.0 (c.0 e)) m f in
-    let R = replayed holds F (put op.key op.now s) ops w forms.1 apart.1 agree.1 guard.1 P.is_map P.fills in
+    let P = played holds (undone F ops) s op.key op.was op.now (formed_at op.key op.now F w.formed agree.0) O.ascends O.neighbours (O.value op.key apart.0 ∙ agree.0) (λ e. O.clear op.key apart.0 (c.0 e)) m f in
+    let R = replayed holds F (put op.key op.now s) ops w apart.1 agree.1 guard.1 P.is_map P.fills in
     record { result = R.result; plays = (P.agrees, R.plays); is_map = R.is_map; fills = R.fills }

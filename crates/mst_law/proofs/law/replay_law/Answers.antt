@@ -3,6 +3,6 @@ use Rattle.mst_node.specs.Trees.{Holds}
 use Rattle.mst_law.proofs.law.replay_law.Goals as goal
 
 pub returns : goal.returns
-returns c = λ F s ops w forms apart agree guard f.
-    let r = replayed Holds F s ops w forms apart agree guard f.is_map f.filled in
+returns c = λ F s ops w apart agree guard f.
+    let r = replayed Holds F s ops w apart agree guard f.is_map f.filled in
     (r.result, r.plays, record { is_map = r.is_map; filled = r.fills })
