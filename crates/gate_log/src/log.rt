@@ -83,6 +83,7 @@ impl Log {
 
         ensures bad_log { (p : ℕ) → result ≡ Err (LogFault.BadLog p) → IsTrue D.tells → IsBadAt p (D.view disk.old).content }
         ensures disk { result ≡ Err LogFault.Disk → Rose (D.view disk.old).faults (D.view disk.new).faults }
+        ensures counts { (D.view disk.old).faults ≤ (D.view disk.new).faults }
         ensures memory { result ≡ Err LogFault.Memory → disk.new ≡ disk.old }
         ensures no_full { (e : ℕ) → result ≡ Err (LogFault.Full e) → ⊥ }
     {
@@ -174,6 +175,7 @@ impl Log {
 
         ensures disk { result ≡ Err LogFault.Disk → Rose (D.view disk.old).faults (D.view disk.new).faults
             × (self.new ≡ record self.old { is_open = false }) }
+        ensures counts { (D.view disk.old).faults ≤ (D.view disk.new).faults }
         ensures full { (e : ℕ) → (result ≡ Err (LogFault.Full e)) ↔ ((e ≡ self.old.end + 6 + length body.now) × (self.old.most < e)) }
         ensures untouched { (e : ℕ) → result ≡ Err (LogFault.Full e) → (self.new ≡ self.old) × (disk.new ≡ disk.old) }
         ensures no_bad_log { (p : ℕ) → result ≡ Err (LogFault.BadLog p) → ⊥ }

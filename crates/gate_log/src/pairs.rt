@@ -45,6 +45,8 @@ pub fn open_pair<D: Disk>(
         → IsBadPairAt p (D.view one.old).content (D.view two.old).content }
     ensures disk { result ≡ Err LogFault.Disk → Rose (D.view one.old).faults (D.view one.new).faults
         ⊎ Rose (D.view two.old).faults (D.view two.new).faults }
+    ensures counts { ((D.view one.old).faults ≤ (D.view one.new).faults)
+        × ((D.view two.old).faults ≤ (D.view two.new).faults) }
     ensures no_full { (e : ℕ) → result ≡ Err (LogFault.Full e) → ⊥ }
 {
     match pick(one, two)? {
