@@ -214,11 +214,18 @@ impl Log {
         ensures body { IfOk result (λ found. IsTrue D.tells → (before : List (List ℕ)) (body : List ℕ) (after : List (List ℕ))
             → Holds (before ++ body ∷ after) self.now (D.view disk.old) → place ≡ length (made self.now.format before)
             → (found.0 ≡ body) × (found.1 ≡ place + 5 + length body)) }
+        ensures next { IfOk result (λ found. (place < found.1) × (found.1 ≤ self.now.end)) }
         ensures bad_log { (p : ℕ) → result ≡ Err (LogFault.BadLog p) → IsTrue D.tells
             → (before : List (List ℕ)) (body : List ℕ) (after : List (List ℕ))
             → Holds (before ++ body ∷ after) self.now (D.view disk.old) → place ≡ length (made self.now.format before) → ⊥ }
         ensures bad_place { (p : ℕ) → result ≡ Err (LogFault.BadLog p) → p ≡ place }
+
+        // Whatever it answers, the disk holds the bodies that it held.
         ensures goes { Goes Same (D.view disk.old) (D.view disk.new) }
+        ensures holds { IsTrue D.tells → (bodies : List (List ℕ)) → Holds bodies self.now (D.view disk.old)
+            → Holds bodies self.now (D.view disk.new) }
+        ensures on { IsTrue D.tells → IsOn (D.view disk.new) self.now }
+
         ensures disk { result ≡ Err LogFault.Disk → Rose (D.view disk.old).faults (D.view disk.new).faults }
         ensures no_full { (e : ℕ) → result ≡ Err (LogFault.Full e) → ⊥ }
     {
