@@ -108,7 +108,7 @@ one_place place other bytes (inr one) (inr two) =
     (same_behind bytes one.format two.format one.bodies two.bodies one.tail two.tail one.has_front two.has_front one.split two.split) in
     one.behind ∙ ap (λ (f : Format). length (made f one.bodies)) format ∙ ap (λ (bs : List (List ℕ)). length (made two.format bs)) bodies ∙ sym two.behind
 
--- bytes are an image of some list, or they show a fault at a place, and never both
+-- An image shows no fault.
 pub image_or_bad : (bodies : List (List ℕ)) (place : ℕ) (bytes : List ℕ) → IsImage bodies bytes → IsBadAt place bytes → ⊥
 image_or_bad bodies place bytes (inl unmade) (inl bad) = ⊎_elim
     (λ shut. ⊎_elim (λ few. absurd (omega (arith, shut.long))) (λ ten. absurd (omega (arith, shut.long, ten.0))) unmade.0)

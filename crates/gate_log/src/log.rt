@@ -147,7 +147,7 @@ impl Log {
         self.format.generation()
     }
 
-    /// Whether no append has failed since it was opened.
+    /// Whether no append has answered `Disk` since it was opened.
     pub fn is_open(&self) -> bool
         ensures { result ≡ self.now.is_open }
     {
@@ -200,7 +200,7 @@ impl Log {
     }
 
     /// The body at the place of its gate, and the place of the next gate. Where no body stands at the place, it
-    /// answers `BadLog` with the place, or bytes that stand there.
+    /// answers `BadLog` with the place, or something of which nothing is said.
     pub fn read<D: Disk>(
         &self,
         alloc: Global,
