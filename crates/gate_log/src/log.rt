@@ -200,7 +200,7 @@ impl Log {
     }
 
     /// The body at the place of its gate, and the place of the next gate. Where no body stands at the place, it
-    /// answers `BadLog` with the place, or something of which nothing is said.
+    /// answers `BadLog` with the place, or a body of which nothing is said.
     pub fn read<D: Disk>(
         &self,
         alloc: Global,
