@@ -3,4 +3,3 @@ pub mod Image
 pub mod Log
 pub mod Opening
 pub mod Pick
-pub mod SideOf

@@ -18,7 +18,7 @@ pub use fault::LogFault;
 pub use format::Format;
 pub use laws::{
     faults_are_no_images, faults_are_no_pairs, faults_have_one_place, images_have_one_list,
-    pairs_have_one_list,
+    pairs_have_one_list, pairs_have_one_place, picked_logs_stay_picked,
 };
 pub use log::Log;
 pub use pairs::open_pair;

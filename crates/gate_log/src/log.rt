@@ -83,6 +83,7 @@ impl Log {
 
         ensures bad_log { (p : ℕ) → result ≡ Err (LogFault.BadLog p) → IsTrue D.tells → IsBadAt p (D.view disk.old).content }
         ensures disk { result ≡ Err LogFault.Disk → Rose (D.view disk.old).faults (D.view disk.new).faults }
+        ensures counts { (D.view disk.old).faults ≤ (D.view disk.new).faults }
         ensures memory { result ≡ Err LogFault.Memory → disk.new ≡ disk.old }
         ensures no_full { (e : ℕ) → result ≡ Err (LogFault.Full e) → ⊥ }
     {
@@ -146,7 +147,7 @@ impl Log {
         self.format.generation()
     }
 
-    /// Whether no append has failed since it was opened.
+    /// Whether no append has answered `Disk` since it was opened.
     pub fn is_open(&self) -> bool
         ensures { result ≡ self.now.is_open }
     {
@@ -174,6 +175,7 @@ impl Log {
 
         ensures disk { result ≡ Err LogFault.Disk → Rose (D.view disk.old).faults (D.view disk.new).faults
             × (self.new ≡ record self.old { is_open = false }) }
+        ensures counts { (D.view disk.old).faults ≤ (D.view disk.new).faults }
         ensures full { (e : ℕ) → (result ≡ Err (LogFault.Full e)) ↔ ((e ≡ self.old.end + 6 + length body.now) × (self.old.most < e)) }
         ensures untouched { (e : ℕ) → result ≡ Err (LogFault.Full e) → (self.new ≡ self.old) × (disk.new ≡ disk.old) }
         ensures no_bad_log { (p : ℕ) → result ≡ Err (LogFault.BadLog p) → ⊥ }
@@ -198,7 +200,7 @@ impl Log {
     }
 
     /// The body at the place of its gate, and the place of the next gate. Where no body stands at the place, it
-    /// answers `BadLog` with the place, or bytes that stand there.
+    /// answers `BadLog` with the place, or a body of which nothing is said.
     pub fn read<D: Disk>(
         &self,
         alloc: Global,
@@ -212,11 +214,18 @@ impl Log {
         ensures body { IfOk result (λ found. IsTrue D.tells → (before : List (List ℕ)) (body : List ℕ) (after : List (List ℕ))
             → Holds (before ++ body ∷ after) self.now (D.view disk.old) → place ≡ length (made self.now.format before)
             → (found.0 ≡ body) × (found.1 ≡ place + 5 + length body)) }
+        ensures next { IfOk result (λ found. (place < found.1) × (found.1 ≤ self.now.end)) }
         ensures bad_log { (p : ℕ) → result ≡ Err (LogFault.BadLog p) → IsTrue D.tells
             → (before : List (List ℕ)) (body : List ℕ) (after : List (List ℕ))
             → Holds (before ++ body ∷ after) self.now (D.view disk.old) → place ≡ length (made self.now.format before) → ⊥ }
         ensures bad_place { (p : ℕ) → result ≡ Err (LogFault.BadLog p) → p ≡ place }
+
+        // Whatever it answers, the disk holds the bodies that it held.
         ensures goes { Goes Same (D.view disk.old) (D.view disk.new) }
+        ensures holds { IsTrue D.tells → (bodies : List (List ℕ)) → Holds bodies self.now (D.view disk.old)
+            → Holds bodies self.now (D.view disk.new) }
+        ensures on { IsTrue D.tells → IsOn (D.view disk.new) self.now }
+
         ensures disk { result ≡ Err LogFault.Disk → Rose (D.view disk.old).faults (D.view disk.new).faults }
         ensures no_full { (e : ℕ) → result ≡ Err (LogFault.Full e) → ⊥ }
     {

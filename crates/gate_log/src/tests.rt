@@ -1,4 +1,7 @@
 // Logs on disks in memory: what bytes they are, and what they are after each call.
+ghost use Rattle.std.specs.Prelude.{IsTrue};
+ghost use Rattle.gate_log.specs.Log.{IsOn};
+
 mod logs;
 mod picks;
 mod stops;
@@ -47,7 +50,31 @@ fn body_at<D: Disk>(alloc: Global, disk: &mut D, place: u64) -> Result<(Octets, 
     log.read(alloc, disk, place)
 }
 
-// Whether a disk has a log of these bodies, each with the place of its gate, and the closed gate at this place.
+// Whether a log has these bodies, each with the place of its gate, and the closed gate at this place.
+fn has_bodies<D: Disk>(
+    alloc: Global,
+    log: &Log,
+    disk: &mut D,
+    bodies: &[(u64, &[u8])],
+    end: u64,
+) -> Result<bool, LogFault>
+    requires { IsTrue D.tells → IsOn (D.view disk.old) log.now }
+{
+    let mut next = log.first();
+    for (place, body) in bodies {
+        if next >= log.end() {
+            return Ok(false);
+        }
+        let (found, behind) = log.read(alloc, disk, next)?;
+        if next != *place || found.as_slice() != *body {
+            return Ok(false);
+        }
+        next = behind;
+    }
+    Ok(next == end && log.end() == end)
+}
+
+// Whether a disk has a log of these bodies.
 fn holds<D: Disk>(
     alloc: Global,
     disk: &mut D,
@@ -55,15 +82,7 @@ fn holds<D: Disk>(
     end: u64,
 ) -> Result<bool, LogFault> {
     let log = Log::open(alloc, disk, MOST)?;
-    let mut next = log.first();
-    for (place, body) in bodies {
-        let (found, behind) = body_at(alloc, disk, next)?;
-        if next != *place || found.as_slice() != *body {
-            return Ok(false);
-        }
-        next = behind;
-    }
-    Ok(next == end && log.end() == end)
+    has_bodies(alloc, &log, disk, bodies, end)
 }
 
 #[test]
@@ -151,6 +170,23 @@ fn a_log_is_made_behind_a_cut(rt: HostRuntime) -> Result<(), Fail> {
 }
 
 #[test]
+fn opening_reads_heads_and_no_bodies(rt: HostRuntime) -> Result<(), Fail> {
+    let alloc = rt.alloc();
+    let mut disk = disk_of(alloc, WITH_ABC)?;
+    Log::open(alloc, &mut disk, MOST)?;
+    let calls = [
+        Call::Sync,
+        Call::Size,
+        Call::Read(0, 9),
+        Call::Read(9, 1),
+        Call::Read(10, 4),
+        Call::Read(17, 1),
+    ];
+    assert_eq!(rt; disk.calls(), calls.as_slice());
+    Ok(())
+}
+
+#[test]
 fn bodies_are_added(rt: HostRuntime) -> Result<(), Fail> {
     let alloc = rt.alloc();
     let mut disk = disk_of(alloc, &MADE)?;
@@ -175,6 +211,8 @@ fn bodies_are_added(rt: HostRuntime) -> Result<(), Fail> {
     let third = log.append(&mut disk, b"defg")?;
     assert_eq!(rt; (second, third, log.end(), log.spare()), (17, 22, 31, 4));
     assert!(rt; log.is_open());
+    let (body, next) = log.read(alloc, &mut disk, third)?;
+    assert_eq!(rt; (body.as_slice(), next), (b"defg".as_slice(), 31));
     let bodies: [(u64, &[u8]); 3] = [(9, b"abc"), (17, b""), (22, b"defg")];
     assert!(rt; holds(alloc, &mut disk, &bodies, 31)?);
     Ok(())
