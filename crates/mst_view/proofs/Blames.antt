@@ -16,7 +16,8 @@ use Rattle.mst_view.specs.HoleLinks.{all_differ, hole_links}
 use Rattle.mst_view.specs.Laws.{HasDoubledHole}
 use Rattle.mst_view.specs.Reading.{go_on, may_hang, is_some_node, may_top, node_fits, top_fits, block_of, or_hole, parts_of, rights_of, part_at, top_of, tree_at}
 use Rattle.mst_view.specs.Reading as reading
-use Rattle.mst_view.proofs.Passes.{both_true, fit_true, true_fit, hang_true, true_hang, formed_of, ascend_of, over_none, differ_true, true_differ, went_on, went_wrong, passed, stopped, there_at_fault, either}
+use Rattle.mst_node.proofs.Told.{both_true}
+use Rattle.mst_view.proofs.Passes.{fit_true, true_fit, hang_true, true_hang, formed_of, ascend_of, over_none, differ_true, true_differ, went_on, went_wrong, passed, stopped, there_at_fault, either}
 use Rattle.mst_view.proofs.Finds.{some_node, may_top_of, walk_found}
 use Rattle.mst_view.proofs.Gives.{walk_given}
 use Rattle.mst_view.proofs.Steps.{at_none, at_zero, block_fit}

@@ -25,7 +25,8 @@ use Rattle.mst_node.proofs.Layers.{top_under}
 use Rattle.mst_node.proofs.Lies.{LiesIn, AllOver, AllUnder, over_of_above, linked}
 use Rattle.mst_view.specs.Reading.{go_on, may_hang, is_some_node, may_top, node_fits, top_fits, block_of, or_hole, parts_of, rights_of, part_at, top_of, tree_at}
 use Rattle.mst_view.specs.Reading as reading
-use Rattle.mst_view.proofs.Passes.{both_true, fit_true, hang_true, differ_true, went_on, passed, there_or_hole}
+use Rattle.mst_node.proofs.Told.{both_true}
+use Rattle.mst_view.proofs.Passes.{fit_true, hang_true, differ_true, went_on, passed, there_or_hole}
 use Rattle.mst_view.specs.HoleLinks.{all_differ, hole_links}
 use Rattle.mst_view.specs.Laws.{IsWalk}
 

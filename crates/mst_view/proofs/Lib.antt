@@ -9,3 +9,4 @@ pub mod Heights
 pub mod Forms
 pub mod NoView
 pub mod Blames
+pub mod Sizes

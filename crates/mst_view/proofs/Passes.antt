@@ -11,13 +11,11 @@ use Rattle.mst_node.specs.declared.entry.Entry.{Entry}
 use Rattle.mst_node.specs.Nodes.{Node, AreFormedEntries, EntriesAscend}
 use Rattle.mst_node.specs.NodeFaults.{AreEntriesAt}
 use Rattle.mst_node.specs.Covers.{IsOver, IsUnder}
+use Rattle.mst_node.specs.Reading.{is_over}
 use Rattle.mst_node.proofs.Layers.{eqb_yes, eqb_same, eqb_not}
-use Rattle.mst_view.specs.Reading.{go_on, is_less, is_over, is_under, may_hang, entries_fit, block_of, or_hole}
+use Rattle.mst_node.proofs.Told.{both_true}
+use Rattle.mst_view.specs.Reading.{go_on, is_less, is_under, may_hang, entries_fit, block_of, or_hole}
 use Rattle.mst_view.specs.HoleLinks.{absent, all_differ, hole_links}
-
-pub both_true : (a b : Bool) → a && b ≡ true → (a ≡ true) × (b ≡ true)
-both_true true b e = (refl, e)
-both_true false b e = absurd (cc)
 
 pub less_true : (j k : List ℕ) → is_less j k ≡ true → key_cmp j k ≡ Less
 less_true j k h =

@@ -13,7 +13,8 @@ use Rattle.mst_node.specs.Nodes.{IsChildLink, Node, IsSoundReader}
 use Rattle.mst_node.specs.NodeFaults.{AreEntriesAt, layer_of}
 use Rattle.mst_view.specs.Reading.{may_hang, may_top, top_fits, entries_fit, parts_of, part_at, tree_at}
 use Rattle.mst_view.proofs.Steps.{at_zero}
-use Rattle.mst_view.proofs.Passes.{both_true, fit_true, hang_true}
+use Rattle.mst_node.proofs.Told.{both_true}
+use Rattle.mst_view.proofs.Passes.{fit_true, hang_true}
 use Rattle.mst_view.proofs.Gives.{tree_given, tree_told}
 use Rattle.mst_node.specs.Covers.{AreUnderNodeLinks}
 use Rattle.mst_view.specs.HoleLinks.{all_differ, hole_links}

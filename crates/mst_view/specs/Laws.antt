@@ -1,5 +1,5 @@
--- The law of views.
-use Rattle.std.specs.Prelude.{◌≡◌, ℕ, ◌⊎◌, List, Some, Ok, Err}
+-- The laws of views.
+use Rattle.std.specs.Prelude.{◌≡◌, ℕ, ◌≤◌, ◌⊎◌, List, Some, Ok, Err, length}
 use Rattle.std.specs.FinMap as map
 use Rattle.std.specs.FinMap.{FinMap}
 use Rattle.at_cid.specs.Link.{IsNodeLink}
@@ -38,3 +38,7 @@ pub record GivesViews (B : FinMap key_cmp (List ℕ)) (r b : List ℕ) : Type 0 
 
 abbrev pub ViewLaw : Type 0
 ViewLaw = (B : FinMap key_cmp (List ℕ)) (r b : List ℕ) → AreUnderNodeLinks B → IsNodeLink r → map.get B r ≡ Some b → GivesViews B r b
+
+-- A view has at most as many nodes as there are blocks.
+abbrev pub ViewSizeLaw : Type 0
+ViewSizeLaw = (B : FinMap key_cmp (List ℕ)) (r : List ℕ) (F : List Item) → IsView B r F → length (nodes F) ≤ map.len B

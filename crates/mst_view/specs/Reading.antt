@@ -10,6 +10,7 @@ use Rattle.mst_list.specs.Edits.{by_order}
 use Rattle.mst_node.specs.declared.entry.Entry.{Entry}
 use Rattle.mst_node.specs.NodeFaults.{next_bound, layer_of}
 use Rattle.mst_node.specs.Nodes.{Node}
+use Rattle.mst_node.specs.Reading.{is_over}
 use Rattle.mst_view.specs.HoleLinks.{hole_links, all_differ}
 
 -- a later step, where the step before gave something
@@ -20,10 +21,6 @@ go_on (Err e) f = Err e
 -- two keys are in order
 abbrev pub is_less : List ℕ → List ℕ → Bool
 is_less j k = by_order (key_cmp j k) true false false
-
-abbrev pub is_over : Option (List ℕ) → List ℕ → Bool
-is_over None k = true
-is_over (Some j) k = is_less j k
 
 abbrev pub is_under : List ℕ → Option (List ℕ) → Bool
 is_under k None = true

@@ -14,7 +14,7 @@ mod stub_tree;
 mod viewing;
 
 pub use branch::{Below, Branch, Part, Rest};
-pub use law::view_law;
+pub use law::{view_law, view_size_law};
 pub use stub_tree::StubTree;
 pub use viewing::{ViewFault, view};
 

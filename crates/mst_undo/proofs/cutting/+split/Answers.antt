@@ -7,7 +7,8 @@ use Rattle.mst_view.specs.declared.branch.Part.{Part}
 use Rattle.mst_view.specs.Layered.{AllAt, below_items, rest_items}
 use Rattle.mst_undo.specs.Cuts.{part_upto, IsCut}
 use Rattle.mst_undo.proofs.Places.{StartsOver}
-use Rattle.mst_undo.proofs.Splits.{all_at_parts, all_at_end, upto_over, ascends_first, ascends_part, cut_none, cut_same, cut_inside, upto_last}
+use Rattle.mst_view.proofs.Steps.{at_pushed}
+use Rattle.mst_undo.proofs.Splits.{all_at_parts, upto_over, ascends_first, ascends_part, cut_none, cut_same, cut_inside, upto_last}
 use Rattle.mst_undo.proofs.cutting.+split.Goals as goal
 
 pub split-split_below-requires : goal.split-split_below-requires
@@ -62,7 +63,7 @@ split-made-requires-in-Less-clause-all_at t c =
     sym (take-append-drop c.upto-at.result parts) ∙ ap (λ x. x ++ drop c.upto-at.result parts) (sym c.in_ok-upper.ensures.items ∙ c.in-Some.ensures.items) ∙ ap (λ x. (L ++ q ∷ []) ++ x) (sym c.in_ok-upper.ensures.tail) in
     let W : List Part → Type 0 = λ x. AllAt h x in
     let all = all_at_parts h (L ++ q ∷ []) R (subst W whole c.branch.invariant.all_at) in let low = all_at_parts h L (q ∷ []) all.0 in
-    subst W (sym c.in_ok-push-in-Less.ensures.items) (all_at_end h L (record { key = q.key; value = q.value; below = c.in_ok-x-in-Less.x }) low.0 low.1.0 c.in_ok-x-in-Less.ensures.left_lies)
+    subst W (sym c.in_ok-push-in-Less.ensures.items) (at_pushed h L (record { key = q.key; value = q.value; below = c.in_ok-x-in-Less.x }) low.0 low.1.0 c.in_ok-x-in-Less.ensures.left_lies)
 
 pub split-made-requires-in-Less-2-clause-all_at : goal.split-made-requires-in-Less-2-clause-all_at
 split-made-requires-in-Less-2-clause-all_at t c =

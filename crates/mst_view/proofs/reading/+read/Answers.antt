@@ -13,7 +13,8 @@ use Rattle.mst_node.proofs.Spelling.{entry_of}
 use Rattle.mst_view.specs.Value.{Layered}
 use Rattle.mst_view.specs.declared.branch.Part.{Part}
 use Rattle.mst_view.specs.Layered.{AllAt, below_items, rest_items, below_link, entries_of}
-use Rattle.mst_view.proofs.Passes.{both_true, hang_true, fit_true}
+use Rattle.mst_node.proofs.Told.{both_true}
+use Rattle.mst_view.proofs.Passes.{hang_true, fit_true}
 use Rattle.mst_view.proofs.Spelled.{at_layer}
 use Rattle.mst_view.proofs.Steps.{sound, nodes_under, above_zero, at_none, at_hole, at_block, block_bad, block_unfit, block_fit, hang_of, at_pushed, entries_pushed, reads_on, fails_on, link_of_parts, some_items}
 use Rattle.mst_view.proofs.reading.+read.Goals as goal
