@@ -1,23 +1,27 @@
 -- What leads from one root to another, and what doesn't.
-use Rattle.std.proofs.Common.{◌≡◌, ◌≢◌, ℕ, List, [], ◌∷◌, ◌++◌, Ok, Err, Some, None, ◌⊎◌, inl, inr, refl, sym, ap, subst, ◌∙◌}
-use Rattle.std.specs.FinMap as map
+use Rattle.std.proofs.Common.{◌≡◌, ◌≢◌, ℕ, List, [], ◌∷◌, Result, Ok, Err, ◌⊎◌, inl, inr, refl, sym, ap, subst, ◌∙◌}
 use Rattle.at_car.specs.Blocks.{BlockMap, AreLinked}
 use Rattle.at_car.proofs.Linked.{node_link}
 use Rattle.at_event.specs.declared.refusal.Refusal.{Refusal}
 use Rattle.mst_list.specs.declared.item.Item.{Item}
 use Rattle.mst_list.specs.declared.op.Op.{Op}
 use Rattle.mst_list.specs.declared.undoing.UndoFault.{UndoFault}
-use Rattle.mst_list.specs.Edits.{AllAgree, AreApart, AreFormedOps, IsGuarded, undone}
-use Rattle.mst_list.specs.Faults.{IsCaused}
-use Rattle.mst_list.proofs.Answering.{fault_exact}
+use Rattle.mst_list.specs.Edits.{AreApart, AreFormedOps, undone}
+use Rattle.mst_list.specs.Faults.{IsUndone}
+use Rattle.mst_list.proofs.Answering.{fault_exact, undone_exact}
+use Rattle.mst_list.proofs.Firsts.{all_fine_of}
 use Rattle.mst_node.specs.Covers.{AreUnderNodeLinks}
-use Rattle.mst_node.specs.Trees.{root, nodes, Distinct, IsView}
+use Rattle.mst_node.specs.Reading.{node_of}
+use Rattle.mst_node.specs.Trees.{root, IsView}
+use Rattle.mst_node.proofs.Readers.{node_of_is_reader}
+use Rattle.mst_view.specs.Reading.{tree_at}
+use Rattle.mst_view.proofs.Finds.{fault_no_view, no_block}
 use Rattle.mst_law.specs.Laws.{IsStep}
 use Rattle.mst_law.proofs.Links.{sound_link, complete_link}
 use Rattle.mst_law.proofs.OneView.{one_view}
 use Rattle.commit_check.specs.declared.fault.CheckFault.{CheckFault}
-use Rattle.commit_check.specs.Linking.{IsMemory, IsNoRoot, IsNoWayBack, IsRootBefore, IsStopBy}
-use Rattle.commit_check.specs.Step.{IsBadTree, IsCoveredBy, LeadsBack, LeadsBy, ReplaysBy, StopsAt}
+use Rattle.commit_check.specs.Linking.{IsMemory, IsNoRoot, IsRootBefore, IsStopBy}
+use Rattle.commit_check.specs.Step.{IsBadTree, IsCoveredBy, LeadsBy, ReplaysBy, StopsAt}
 
 under_links : (blocks : BlockMap) → AreLinked blocks → AreUnderNodeLinks blocks
 under_links blocks linked = λ c b node e. node_link c b (linked c b e) node.node
@@ -37,25 +41,105 @@ complete_by (op ∷ ops) blocks former later linked formed apart c =
     let Q : List ℕ → Type 0 = λ r. IsStep blocks former r (op ∷ ops) step.0 in
     (step.0, subst Q c.later_root (subst P c.former_root step.1))
 
--- the root that undoing leads back to is the only one
-back_once : (ops : List Op) (blocks : BlockMap) (former other later : List ℕ) → LeadsBack blocks later ops other → (F : List Item) → IsStep blocks former later ops F → other ≡ former
-back_once ops blocks former other later back F step =
-    let one : back.list ≡ F = one_view blocks later back.list F back.step.is_view step.is_view in
-    sym back.step.leads_back ∙ (ap (λ (G : List Item). root (undone G ops)) one ∙ step.leads_back)
+-- a block at fault leaves no view, and one alone is told
 
--- an operation at fault excludes a step
-no_fault : (ops : List Op) (blocks : BlockMap) (former later : List ℕ) (fault : UndoFault) → fault ≢ UndoFault.Memory → (G : List Item) → IsView blocks later G → IsCaused G ops fault → (F : List Item) → IsStep blocks former later ops F → ⊥
-no_fault ops blocks former later (UndoFault.OtherOp i) some G view caused F step =
-    let one : F ≡ G = one_view blocks later F G step.is_view view in
-    let A : List Item → Type 0 = λ x. AllAgree x ops in let B : List Item → Type 0 = λ x. IsGuarded x ops in
-    let clash : Ok (undone G ops) ≡ Err (UndoFault.OtherOp i) = fault_exact G ops (UndoFault.OtherOp i) caused (Ok (undone G ops)) (subst A one step.agrees, subst B one step.guarded, refl) in
-    absurd (cc)
-no_fault ops blocks former later (UndoFault.NotCovered i) some G view caused F step =
-    let one : F ≡ G = one_view blocks later F G step.is_view view in
-    let A : List Item → Type 0 = λ x. AllAgree x ops in let B : List Item → Type 0 = λ x. IsGuarded x ops in
-    let clash : Ok (undone G ops) ≡ Err (UndoFault.NotCovered i) = fault_exact G ops (UndoFault.NotCovered i) caused (Ok (undone G ops)) (subst A one step.agrees, subst B one step.guarded, refl) in
-    absurd (cc)
-no_fault ops blocks former later UndoFault.Memory some G view caused F step = absurd (some refl)
+bad_no_view : (blocks : BlockMap) (later link : List ℕ) (F : List Item) → IsBadTree blocks later link → IsView blocks later F → ⊥
+bad_no_view blocks later link F (inl gone) view = no_block blocks later F gone.1 view
+bad_no_view blocks later link F (inr bad) view = fault_no_view node_of node_of_is_reader blocks later bad.0 link F bad.1 bad.2 view
+
+err_once : {X : Type 0} (r : Result X (List ℕ)) (one other : List ℕ) → r ≡ Err one → r ≡ Err other → one ≡ other
+err_once r one other p q = cc
+
+bad_once : (blocks : BlockMap) (later one other : List ℕ) → IsBadTree blocks later one → IsBadTree blocks later other → one ≡ other
+bad_once blocks later one other (inl a) (inl b) = a.0 ∙ sym b.0
+bad_once blocks later one other (inl a) (inr b) = let gone = a.1 in let there = b.1 in absurd (cc)
+bad_once blocks later one other (inr a) (inl b) = let there = a.1 in let gone = b.1 in absurd (cc)
+bad_once blocks later one other (inr a) (inr b) =
+    let p = a.1 in let q = b.1 in
+    let same : a.0 ≡ b.0 = cc in
+    let P : List ℕ → Type 0 = λ x. tree_at node_of blocks later x ≡ Err one in
+    err_once (tree_at node_of blocks later b.0) one other (subst P same a.2) b.2
+
+-- undoing on a view has one answer
+
+undone_once : (F : List Item) (ops : List Op) (a b : Result (List Item) UndoFault) → IsUndone F ops a → IsUndone F ops b → a ≡ b
+undone_once F ops (Ok G) b one other = sym (undone_exact F G ops (all_fine_of F ops one.0 one.1) one.2 b other)
+undone_once F ops (Err (UndoFault.OtherOp i)) b one other = sym (fault_exact F ops (UndoFault.OtherOp i) one b other)
+undone_once F ops (Err (UndoFault.NotCovered i)) b one other = sym (fault_exact F ops (UndoFault.NotCovered i) one b other)
+undone_once F ops (Err UndoFault.Memory) b one other = absurd one
+
+one_answer : (ops : List Op) (blocks : BlockMap) (later : List ℕ) (F G : List Item) (a b : Result (List Item) UndoFault) → IsView blocks later F → IsView blocks later G → IsUndone F ops a → IsUndone G ops b → a ≡ b
+one_answer ops blocks later F G a b v w p q =
+    let P : List Item → Type 0 = λ x. IsUndone x ops a in
+    undone_once G ops a b (subst P (one_view blocks later F G v w) p) q
+
+-- a stop is a block at fault, or an answer of undoing on the view
+
+abbrev IsBad : BlockMap → List ℕ → Refusal → Type 0
+IsBad blocks later refusal = (link : List ℕ) × (refusal ≡ Refusal.BadNode link) × IsBadTree blocks later link
+
+abbrev told : List ℕ → Result (List Item) UndoFault → Refusal
+told former (Ok G) = Refusal.OtherData former (root G)
+told former (Err (UndoFault.OtherOp i)) = Refusal.OtherOp i
+told former (Err (UndoFault.NotCovered i)) = Refusal.NotCovered i
+told former (Err UndoFault.Memory) = Refusal.Gap
+
+record IsSeen (ops : List Op) (blocks : BlockMap) (former later : List ℕ) (refusal : Refusal) : Type 0 where
+  list : List Item
+  is_view : IsView blocks later list
+  answer : Result (List Item) UndoFault
+  is_undone : IsUndone list ops answer
+  other : (G : List Item) → answer ≡ Ok G → root G ≢ former
+  is_told : refusal ≡ told former answer
+
+sorted : (op : Op) (ops : List Op) (blocks : BlockMap) (former later : List ℕ) (refusal : Refusal) → StopsAt (op ∷ ops) blocks former later refusal → IsBad blocks later refusal ⊎ IsSeen (op ∷ ops) blocks former later refusal
+sorted op ops blocks former later (Refusal.BadNode link) stops = inl (link, refl, stops)
+sorted op ops blocks former later (Refusal.OtherOp i) stops =
+    inr (record { list = stops.0; is_view = stops.1; answer = Err (UndoFault.OtherOp i); is_undone = stops.2; other = λ G e. absurd (cc); is_told = refl })
+sorted op ops blocks former later (Refusal.NotCovered i) stops =
+    inr (record { list = stops.0; is_view = stops.1; answer = Err (UndoFault.NotCovered i); is_undone = stops.2; other = λ G e. absurd (cc); is_told = refl })
+sorted op ops blocks former later (Refusal.OtherData want got) stops =
+    let back = stops.1 in let before = undone back.list (op ∷ ops) in
+    inr (record {
+      list = back.list;
+      is_view = back.step.is_view;
+      answer = Ok before;
+      is_undone = (back.step.agrees, back.step.guarded, refl);
+      other = λ G e same. stops.2 (sym back.step.leads_back ∙ (ap root (let one : before ≡ G = cc in one) ∙ same));
+      is_told = ap (λ x. Refusal.OtherData x got) stops.0 ∙ ap (λ x. Refusal.OtherData former x) (sym back.step.leads_back);
+    })
+sorted op ops blocks former later refusal stops = absurd stops
+
+once : (ops : List Op) (blocks : BlockMap) (former later : List ℕ) (one other : Refusal) → IsBad blocks later one ⊎ IsSeen ops blocks former later one → IsBad blocks later other ⊎ IsSeen ops blocks former later other → one ≡ other
+once ops blocks former later one other (inl a) (inl b) = a.1 ∙ (ap (λ x. Refusal.BadNode x) (bad_once blocks later a.0 b.0 a.2 b.2) ∙ sym b.1)
+once ops blocks former later one other (inl a) (inr b) = absurd (bad_no_view blocks later a.0 b.list a.2 b.is_view)
+once ops blocks former later one other (inr a) (inl b) = absurd (bad_no_view blocks later b.0 a.list b.2 a.is_view)
+once ops blocks former later one other (inr a) (inr b) =
+    a.is_told ∙ (ap (told former) (one_answer ops blocks later a.list b.list a.answer b.answer a.is_view b.is_view a.is_undone b.is_undone) ∙ sym b.is_told)
+
+unseen : (ops : List Op) (blocks : BlockMap) (former later : List ℕ) (refusal : Refusal) (F : List Item) → IsStep blocks former later ops F → IsBad blocks later refusal ⊎ IsSeen ops blocks former later refusal → ⊥
+unseen ops blocks former later refusal F step (inl bad) = bad_no_view blocks later bad.0 F bad.2 step.is_view
+unseen ops blocks former later refusal F step (inr seen) =
+    seen.other (undone F ops) (one_answer ops blocks later seen.list F seen.answer (Ok (undone F ops)) seen.is_view step.is_view seen.is_undone (step.agrees, step.guarded, refl)) step.leads_back
+
+-- at most one refusal stops operations, and none those that lead back
+
+still_told : (blocks : BlockMap) (former later : List ℕ) (refusal : Refusal) → StopsAt [] blocks former later refusal → refusal ≡ Refusal.OtherData former later
+still_told blocks former later (Refusal.OtherData want got) stops = ap (λ x. Refusal.OtherData x got) stops.0 ∙ ap (λ x. Refusal.OtherData former x) stops.1
+still_told blocks former later refusal stops = absurd stops
+
+pub stops_once : (ops : List Op) (blocks : BlockMap) (former later : List ℕ) (one other : Refusal) → StopsAt ops blocks former later one → StopsAt ops blocks former later other → one ≡ other
+stops_once [] blocks former later one other a b = still_told blocks former later one a ∙ sym (still_told blocks former later other b)
+stops_once (op ∷ ops) blocks former later one other a b = once (op ∷ ops) blocks former later one other (sorted op ops blocks former later one a) (sorted op ops blocks former later other b)
+
+pub not_stopped : (ops : List Op) (blocks : BlockMap) (former later : List ℕ) (refusal : Refusal) → LeadsBy ops blocks former later → StopsAt ops blocks former later refusal → ⊥
+not_stopped [] blocks former later (Refusal.OtherData want got) leads stops = stops.2 leads
+not_stopped [] blocks former later refusal leads stops = absurd stops
+not_stopped (op ∷ ops) blocks former later refusal leads stops = unseen (op ∷ ops) blocks former later refusal leads.0 leads.1 (sorted op ops blocks former later refusal stops)
+
+only_stopped : (ops : List Op) (blocks : BlockMap) (former later : List ℕ) (fault : CheckFault) → IsStopBy ops blocks former later fault → LeadsBy ops blocks former later → IsMemory fault
+only_stopped ops blocks former later CheckFault.Memory stop leads = tt
+only_stopped ops blocks former later (CheckFault.Refused refusal) stop leads = absurd (not_stopped ops blocks former later refusal leads stop)
 
 -- the root before the operations decides
 
@@ -77,7 +161,7 @@ stopped ops blocks former later before fault back e other =
 pub unrooted : (ops : List Op) (blocks : BlockMap) (former later : List ℕ) (fault : CheckFault) → IsNoRoot blocks later ops fault → IsStopBy ops blocks former later fault
 unrooted [] blocks former later fault none = absurd none
 unrooted (op ∷ ops) blocks former later CheckFault.Memory none = tt
-unrooted (op ∷ ops) blocks former later (CheckFault.Refused (Refusal.BadNode link)) none = none.0
+unrooted (op ∷ ops) blocks former later (CheckFault.Refused (Refusal.BadNode link)) none = none
 unrooted (op ∷ ops) blocks former later (CheckFault.Refused (Refusal.OtherOp i)) none = none
 unrooted (op ∷ ops) blocks former later (CheckFault.Refused (Refusal.NotCovered i)) none = none
 unrooted (op ∷ ops) blocks former later (CheckFault.Refused refusal) none = absurd none
@@ -85,15 +169,9 @@ unrooted (op ∷ ops) blocks former later (CheckFault.Refused refusal) none = ab
 -- what leads back isn't stopped
 
 pub only_rooted : (ops : List Op) (blocks : BlockMap) (former later before : List ℕ) → IsRootBefore blocks later ops before → before ≢ former → LeadsBy ops blocks former later → ⊥
-only_rooted [] blocks former later before back other leads = other (back ∙ leads)
-only_rooted (op ∷ ops) blocks former later before back other leads = other (back_once (op ∷ ops) blocks former before later back leads.0 leads.1)
+only_rooted ops blocks former later before back other leads = not_stopped ops blocks former later (Refusal.OtherData former before) leads (stopped_by ops blocks former later before back other)
 
 pub only_unrooted : (ops : List Op) (blocks : BlockMap) (former later : List ℕ) (fault : CheckFault) → IsNoRoot blocks later ops fault → LeadsBy ops blocks former later → IsMemory fault
-only_unrooted [] blocks former later fault none leads = absurd none
-only_unrooted (op ∷ ops) blocks former later CheckFault.Memory none leads = tt
-only_unrooted (op ∷ ops) blocks former later (CheckFault.Refused (Refusal.BadNode link)) none leads = none.1 leads.0 leads.1.is_view
-only_unrooted (op ∷ ops) blocks former later (CheckFault.Refused (Refusal.OtherOp i)) none leads = no_fault (op ∷ ops) blocks former later (UndoFault.OtherOp i) (λ e. absurd (cc)) none.0 none.1 none.2 leads.0 leads.1
-only_unrooted (op ∷ ops) blocks former later (CheckFault.Refused (Refusal.NotCovered i)) none leads = no_fault (op ∷ ops) blocks former later (UndoFault.NotCovered i) (λ e. absurd (cc)) none.0 none.1 none.2 leads.0 leads.1
-only_unrooted (op ∷ ops) blocks former later (CheckFault.Refused refusal) none leads = absurd none
+only_unrooted ops blocks former later fault none leads = only_stopped ops blocks former later fault (unrooted ops blocks former later fault none) leads
 
 pub ruleset by_root = (led, stopped, unrooted, only_rooted, only_unrooted, sound_by, complete_by)

@@ -1,5 +1,5 @@
 -- A check of one commit shows no refusal that is a judge's, and follows no lost account.
-use Rattle.std.proofs.Common.{◌≡◌, ◌≢◌, ℕ, List, [], ◌∷◌, Bool, true, false, cond, Option, Some, None, refl, sym, ap, ◌∙◌}
+use Rattle.std.proofs.Common.{◌≡◌, ◌≢◌, ℕ, List, [], ◌∷◌, Bool, true, false, cond, Option, Some, refl, sym, ap, ◌∙◌}
 use Rattle.std.proofs.lemmas.Bool.{false≢true}
 use Rattle.at_car.specs.Blocks.{BlockMap}
 use Rattle.at_event.specs.declared.event.CommitEvent.{CommitEvent}

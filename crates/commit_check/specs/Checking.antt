@@ -1,13 +1,11 @@
 -- What the check of a commit by itself accepts, and what that says of repositories.
-use Rattle.std.specs.Prelude.{◌≡◌, ◌≢◌, ◌⊎◌, ⊤, ℕ, List, [], ◌++◌, length, Bool, true, false, not, ◌&&◌, ◌||◌, is_some, Option, Some, None, Result, Ok, Err}
+use Rattle.std.specs.Prelude.{◌≡◌, ⊤, ℕ, List, Bool, false, not, ◌&&◌, ◌||◌, is_some, Option, Some, None}
 use Rattle.std.specs.List.{list_any}
-use Rattle.at_car.specs.Blocks.{BlockMap}
-use Rattle.at_commit.specs.declared.commit.Commit.{Commit}
 use Rattle.at_event.specs.declared.event.CommitEvent.{CommitEvent}
 use Rattle.at_event.specs.declared.refusal.Refusal.{Refusal}
 use Rattle.commit_check.specs.declared.fault.CheckFault.{CheckFault}
-use Rattle.commit_check.specs.Opening.{car_in, object_in}
-use Rattle.commit_check.specs.Step.{empty_root, edits_of, lacks_prev, IsCoveredBy, Leads, ReplaysBy, Stops}
+use Rattle.commit_check.specs.Order.{Holds, IsFirstRefusal}
+use Rattle.commit_check.specs.Step.{empty_root, edits_of, lacks_prev, IsCoveredBy, Leads, ReplaysBy}
 use Rattle.commit_check.specs.Table.{first_of, open_lines}
 
 -- the root that the operations start from: the event's own `prevData`, or the empty tree
@@ -22,14 +20,6 @@ start_of e = start_in e.prev_data
 abbrev pub has_gap : CommitEvent → Bool
 has_gap e = (is_some e.since && not (is_some e.prev_data)) || list_any lacks_prev e.ops
 
--- the CAR of an event, and the commit object under its first root
-pub record Holds (e : CommitEvent) : Type 0 where
-  pub roots : List (List ℕ)
-  pub blocks : BlockMap
-  pub commit : Commit
-  pub car : car_in e ≡ Ok (roots, blocks)
-  pub object : object_in (car_in e) e.commit ≡ Some commit
-
 -- no refusal applies: the commit leads from the root that it states to its `data`
 pub record IsAccepted (e : CommitEvent) (from to : List ℕ) : Type 0 where
   pub shown : first_of (open_lines e None) ≡ None
@@ -39,19 +29,9 @@ pub record IsAccepted (e : CommitEvent) (from to : List ℕ) : Type 0 where
   pub to_is : to ≡ holds.commit.data_root
   pub leads : Leads e holds.blocks from to
 
--- the first refusal that applies
-pub record IsStopped (e : CommitEvent) (refusal : Refusal) : Type 0 where
-  pub shown : first_of (open_lines e None) ≡ None
-  pub no_gap : has_gap e ≡ false
-  pub holds : Holds e
-  pub stops : Stops e holds.blocks (start_of e) holds.commit.data_root refusal
-
-pub record IsAfterGap (e : CommitEvent) : Type 0 where
-  pub shown : first_of (open_lines e None) ≡ None
-  pub gap : has_gap e ≡ true
-
+-- the first refusal that applies, none being stale
 abbrev pub IsRefusedWith : CommitEvent → Refusal → Type 0
-IsRefusedWith e refusal = (first_of (open_lines e None) ≡ Some refusal) ⊎ (IsAfterGap e × (refusal ≡ Refusal.Gap)) ⊎ IsStopped e refusal
+IsRefusedWith e refusal = IsFirstRefusal e None (has_gap e) (start_of e) refusal
 
 -- why the check fails
 abbrev pub IsRefused : CommitEvent → CheckFault → Type 0

@@ -2,5 +2,6 @@ pub mod Opening
 pub mod Table
 pub mod Refusing
 pub mod Step
+pub mod Order
 pub mod Linking
 pub mod Checking

@@ -1,5 +1,5 @@
 -- What a failed link says.
-use Rattle.std.specs.Prelude.{◌≡◌, ◌⊎◌, ⊤, ℕ, List, [], ◌∷◌, true, false}
+use Rattle.std.specs.Prelude.{◌≡◌, ⊤, ℕ, List, [], ◌∷◌}
 use Rattle.at_car.specs.Blocks.{BlockMap}
 use Rattle.at_event.specs.declared.event.CommitEvent.{CommitEvent}
 use Rattle.at_event.specs.declared.refusal.Refusal.{Refusal}
@@ -11,7 +11,8 @@ use Rattle.mst_node.specs.Trees.{IsView}
 use Rattle.commit_check.specs.declared.expect.Expect.{Expect}
 use Rattle.commit_check.specs.declared.fault.CheckFault.{CheckFault}
 use Rattle.commit_check.specs.declared.opened.Opened.{Opened}
-use Rattle.commit_check.specs.Step.{edits_of, IsBadTree, LeadsBack, Stops, StopsAt, is_gap, root_before}
+use Rattle.commit_check.specs.Order.{StopsPast}
+use Rattle.commit_check.specs.Step.{edits_of, IsBadTree, LeadsBack, StopsAt, is_gap, root_before}
 
 -- why there is no view, as a refusal
 abbrev pub bad_tree : ViewFault → CheckFault
@@ -19,9 +20,9 @@ bad_tree (ViewFault.NoBlock link) = CheckFault.Refused (Refusal.BadNode link)
 bad_tree (ViewFault.BadNode link) = CheckFault.Refused (Refusal.BadNode link)
 bad_tree ViewFault.Memory = CheckFault.Memory
 
--- the tree has a block at fault, unless memory was wanted
+-- why there is no view, unless memory was wanted
 abbrev pub IsBadView : BlockMap → List ℕ → CheckFault → Type 0
-IsBadView blocks later (CheckFault.Refused (Refusal.BadNode link)) = IsBadTree blocks later link × ((F : List Item) → IsView blocks later F → ⊥)
+IsBadView blocks later (CheckFault.Refused (Refusal.BadNode link)) = IsBadTree blocks later link
 IsBadView blocks later (CheckFault.Refused other) = ⊥
 IsBadView blocks later CheckFault.Memory = ⊤
 
@@ -34,7 +35,7 @@ IsNoUndoing F ops CheckFault.Memory = ⊤
 
 -- why no root is found before the operations, unless memory was wanted
 abbrev pub IsNoWayBack : BlockMap → List ℕ → List Op → CheckFault → Type 0
-IsNoWayBack blocks later ops (CheckFault.Refused (Refusal.BadNode link)) = IsBadTree blocks later link × ((F : List Item) → IsView blocks later F → ⊥)
+IsNoWayBack blocks later ops (CheckFault.Refused (Refusal.BadNode link)) = IsBadTree blocks later link
 IsNoWayBack blocks later ops (CheckFault.Refused (Refusal.OtherOp i)) = (F : List Item) × IsView blocks later F × IsFirst Disagrees F ops i
 IsNoWayBack blocks later ops (CheckFault.Refused (Refusal.NotCovered i)) = (F : List Item) × IsView blocks later F × IsFirst IsUncovered F ops i
 IsNoWayBack blocks later ops (CheckFault.Refused other) = ⊥
@@ -65,7 +66,5 @@ IsStop e blocks former later fault = IsStopBy (edits_of e) blocks former later f
 
 -- why the commit isn't linked to what is expected: the first refusal that applies, unless memory was wanted
 abbrev pub IsUnlinked : CommitEvent → Opened → Expect → CheckFault → Type 0
-IsUnlinked e o expect (CheckFault.Refused refusal) =
-    ((is_gap e expect ≡ true) × (refusal ≡ Refusal.Gap))
-    ⊎ ((is_gap e expect ≡ false) × Stops e o.car.blocks (root_before expect) o.head.data_root refusal)
+IsUnlinked e o expect (CheckFault.Refused refusal) = StopsPast (is_gap e expect) e o.car.blocks (root_before expect) o.head.data_root refusal
 IsUnlinked e o expect CheckFault.Memory = ⊤

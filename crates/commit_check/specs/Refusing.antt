@@ -1,6 +1,5 @@
 -- What a failed check says.
-use Rattle.std.specs.Prelude.{◌≡◌, ⊤, ℕ, List, Bool, true, false, Option, Some, None}
-use Rattle.at_event.specs.declared.event.CommitEvent.{CommitEvent}
+use Rattle.std.specs.Prelude.{◌≡◌, ⊤, ℕ, List, Bool, true, false, Option, Some, None, Result, Ok, Err}
 use Rattle.at_event.specs.declared.refusal.Refusal.{Refusal}
 use Rattle.at_commit.specs.Commit.{commit_of}
 use Rattle.commit_check.specs.declared.fault.CheckFault.{CheckFault}
@@ -20,6 +19,11 @@ IsUnjudged CheckFault.Memory = ⊤
 abbrev pub IsShown : Option Refusal → CheckFault → Type 0
 IsShown shown (CheckFault.Refused refusal) = shown ≡ Some refusal
 IsShown shown CheckFault.Memory = ⊤
+
+-- this refusal is told, unless memory was wanted
+abbrev pub RefusesWith : {X : Type 0} → Refusal → Result X CheckFault → Type 0
+RefusesWith refusal (Ok x) = ⊥
+RefusesWith refusal (Err fault) = IsShown (Some refusal) fault
 
 -- the CAR doesn't read, unless memory was wanted
 abbrev pub IsUnread : CarResult → CheckFault → Type 0

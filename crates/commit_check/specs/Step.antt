@@ -5,7 +5,6 @@ use Rattle.std.specs.List.{list_any}
 use Rattle.std.specs.Str.{bytes_eq}
 use Rattle.at_car.specs.Blocks.{BlockMap}
 use Rattle.at_event.specs.declared.event.CommitEvent.{CommitEvent}
-use Rattle.at_event.specs.declared.head.Head.{Head}
 use Rattle.at_event.specs.declared.ops.Action.{Action}
 use Rattle.at_event.specs.declared.ops.EventOp.{EventOp}
 use Rattle.at_event.specs.declared.refusal.Refusal.{Refusal}
@@ -37,7 +36,7 @@ abbrev pub is_change : Action → Bool
 is_change Action.Create = false
 is_change Action.Update = true
 is_change Action.Delete = true
-is_change Action.Other = true
+is_change Action.Other = false
 
 abbrev pub lacks_prev : EventOp → Bool
 lacks_prev op = is_change op.action && not (is_some op.prev)

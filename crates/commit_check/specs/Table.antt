@@ -1,5 +1,5 @@
 -- The refusals of a commit that its message shows by itself, in their order.
-use Rattle.std.specs.Prelude.{ℕ, List, [], ◌∷◌, ◌++◌, length, map, Bool, true, false, not, ◌&&◌, nat_lt, if◌then◌else◌, is_some, is_none, Option, Some, None}
+use Rattle.std.specs.Prelude.{ℕ, List, [], ◌∷◌, ◌++◌, length, map, Bool, false, not, ◌&&◌, nat_lt, if◌then◌else◌, is_some, Option, Some, None}
 use Rattle.std.specs.List.{list_all}
 use Rattle.at_syntax.specs.Path.{is_path}
 use Rattle.at_event.specs.declared.event.CommitEvent.{CommitEvent}

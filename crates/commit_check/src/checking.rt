@@ -2,7 +2,9 @@
 
 ghost use Rattle.std.specs.Prelude.{◌≡◌, IfOk, IfErr, List, ℕ, length};
 ghost use Rattle.commit_check.specs.Linking.{IsMemory};
-ghost use Rattle.commit_check.specs.Checking.{IsAccepted, IsCovered, IsRefused, Replays, has_gap, start_of};
+ghost use Rattle.commit_check.specs.Checking.{IsAccepted, IsCovered, IsRefused, IsRefusedWith, Replays, has_gap, start_of};
+ghost use Rattle.commit_check.specs.Refusing.{RefusesWith};
+ghost use Rattle.at_event.specs.declared.refusal.Refusal.{Refusal};
 
 use crate::checked::Checked;
 use crate::fault::CheckFault;
@@ -38,6 +40,7 @@ pub fn check(alloc: Global, event: &CommitEvent) -> Result<Checked, CheckFault>
     ensures accepted { IfOk result (λ checked. IsAccepted event.now checked.from checked.to) }
     ensures counted { IfOk result (λ checked. checked.ops ≡ length event.now.ops) }
     ensures refused { IfErr result (IsRefused event.now) }
+    ensures exact { (refusal : Refusal) → IsRefusedWith event.now refusal → RefusesWith refusal result }
     ensures only { (from to : List ℕ) → IsAccepted event.now from to → IfErr result IsMemory }
     ensures replays { IfOk result (λ checked. Replays event.now checked.from checked.to) }
     ensures covered { IsCovered event.now → IfErr result IsMemory }

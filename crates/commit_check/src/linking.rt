@@ -7,7 +7,9 @@ ghost use Rattle.mst_list.specs.Edits.{AllAgree, AreApart, IsGuarded, undone};
 ghost use Rattle.mst_node.specs.Trees.{IsView};
 ghost use Rattle.commit_check.specs.Linking.{bad_tree, IsBadView, IsMemory, IsNoRoot, IsNoUndoing, IsNoWayBack, IsRootBefore, IsStop, IsStopBy, IsUnlinked};
 ghost use Rattle.commit_check.specs.Opening.{IsOpened};
-ghost use Rattle.commit_check.specs.Refusing.{IsUnjudged};
+ghost use Rattle.commit_check.specs.Refusing.{IsUnjudged, RefusesWith};
+ghost use Rattle.at_event.specs.declared.refusal.Refusal.{Refusal};
+ghost use Rattle.commit_check.specs.declared.fault.CheckFault.{CheckFault};
 ghost use Rattle.commit_check.specs.declared.expect.Expect.{Expect};
 ghost use Rattle.commit_check.specs.Step.{edits_of, IsCoveredBy, Leads, LeadsBack, LeadsBy, ReplaysBy, is_data, is_gap, is_rev, lacks_prev, root_before, strays};
 ghost use Rattle.commit_check.specs.Table.{field_lines, first_of};
@@ -48,7 +50,10 @@ fn is_data(prev_data: Option<Cid>, root: Cid) -> bool
 fn lacks_prev(op: &EventOp) -> bool
     ensures { result ≡ lacks_prev op.entry.now }
 {
-    op.action != Action::Create && op.prev.is_none()
+    match op.action {
+        Action::Update | Action::Delete => op.prev.is_none(),
+        Action::Create | Action::Other => false,
+    }
 }
 
 pub(crate) fn some_lacks_prev(ops: &[EventOp]) -> bool
@@ -205,7 +210,7 @@ pub(crate) fn lead_back(
 /// It is refused with the first of these that applies: a gap before it, or a change that doesn't say of what; a tree whose
 /// block is missing or at fault; an operation that the tree doesn't show; one that the blocks don't cover; another root
 /// after undoing the operations than the expected one.
-#[tactic(auto, using(crate::proofs::Unjudged::by_gap))]
+#[tactic(auto, using(crate::proofs::Unjudged::by_gap, crate::proofs::Exact::by_link))]
 pub fn link(
     alloc: Global,
     event: &CommitEvent,
@@ -218,6 +223,7 @@ pub fn link(
     ensures leads { OnOk result (Leads event.now opened.now.car.blocks (root_before expect.now) opened.now.head.data_root) }
     ensures refused { IfErr result (IsUnlinked event.now opened.now expect.now) }
     ensures only { is_gap event.now expect.now ≡ false → Leads event.now opened.now.car.blocks (root_before expect.now) opened.now.head.data_root → IfErr result IsMemory }
+    ensures exact { (refusal : Refusal) → IsUnlinked event.now opened.now expect.now (CheckFault.Refused refusal) → RefusesWith refusal result }
     ensures known { OnOk result (expect.now ≢ Expect.Lost) }
     ensures unjudged { IfErr result IsUnjudged }
     ensures replays { OnOk result (ReplaysBy (edits_of event.now) opened.now.car.blocks (root_before expect.now) opened.now.head.data_root) }

@@ -161,6 +161,42 @@ fn checked_body(rt: &HostRuntime, event: &Event) -> Result<Option<Answer>, Memor
     Ok(Some(checked_event(rt, commit)?))
 }
 
+fn link_event(rt: &HostRuntime, event: &CommitEvent, expect: &Expect) -> Result<(), CheckFault> {
+    let opened = open_commit(rt.alloc(), event, None)?;
+    link(rt.alloc(), event, &opened, expect)
+}
+
+fn linked_body(rt: &HostRuntime, event: &Event, expect: &Expect) -> Result<Option<Answer>, Memory> {
+    let Body::Commit(commit) = &event.body else {
+        return Ok(None);
+    };
+    match link_event(rt, commit, expect) {
+        Ok(()) => Ok(Some(ACCEPTED)),
+        Err(fault) => Ok(Some(fault_answer(fault)?)),
+    }
+}
+
+// What the first message, a first commit, comes to with what is expected of its account; None where it is no commit event.
+fn linked_first(rt: &HostRuntime, expect: &Expect) -> Result<Option<Answer>, Memory> {
+    let Some((frame, ..)) = MESSAGES.first() else {
+        return Ok(None);
+    };
+    match read_frame(rt.alloc(), frame) {
+        Ok(Frame::Event(event)) => linked_body(rt, &event, expect),
+        Err(FrameFault::Memory) => Err(Memory),
+        _ => Ok(None),
+    }
+}
+
+#[test]
+fn a_first_commit_by_its_account(rt: HostRuntime) {
+    assert_eq!(rt; linked_first(&rt, &Expect::Start), Ok(Some(ACCEPTED)));
+    assert_eq!(rt;
+        linked_first(&rt, &Expect::Lost),
+        Ok(Some((19, 0, None, None)))
+    );
+}
+
 #[test]
 fn messages_of_hosts(rt: HostRuntime) {
     for (i, (frame, code, count, first, second)) in MESSAGES.iter().enumerate() {

@@ -1,5 +1,5 @@
 -- The verdict on one message by itself.
-use Rattle.std.specs.Prelude.{◌≡◌, ◌⊎◌, ℕ, List, length, Bool, true, false, nat_lt, Result, Ok, Err}
+use Rattle.std.specs.Prelude.{◌≡◌, ℕ, List, length, Bool, true, false, nat_lt, Result, Ok, Err}
 use Rattle.at_event.specs.declared.event.Body.{Body}
 use Rattle.at_event.specs.declared.event.CommitEvent.{CommitEvent}
 use Rattle.at_event.specs.declared.frame.Frame.{Frame}
@@ -12,11 +12,11 @@ use Rattle.commit_check.specs.Checking.{IsAccepted, IsCovered, IsRefusedWith, Re
 use Rattle.relay_cli.specs.declared.verdict.Verdict.{Verdict}
 
 -- A commit is accepted where no refusal applies, and then its operations replay on every map with the root that they start from.
--- It is refused with the first refusal that applies; a commit to which none applies isn't, nor one whose operations play and whose
--- blocks cover them.
+-- It is refused with the first refusal that applies, and with no other; a commit to which none applies isn't, nor one whose
+-- operations play and whose blocks cover them.
 abbrev pub JudgesCommit : CommitEvent → Verdict → Type 0
-JudgesCommit e (Verdict.Accepted from to ops) = IsAccepted e from to × Replays e from to × (ops ≡ length e.ops)
-JudgesCommit e (Verdict.Refused refusal) = IsRefusedWith e refusal × ((from to : List ℕ) → IsAccepted e from to → ⊥) × (IsCovered e → ⊥)
+JudgesCommit e (Verdict.Accepted from to ops) = IsAccepted e from to × Replays e from to × (ops ≡ length e.ops) × ((refusal : Refusal) → IsRefusedWith e refusal → ⊥)
+JudgesCommit e (Verdict.Refused refusal) = IsRefusedWith e refusal × ((other : Refusal) → IsRefusedWith e other → other ≡ refusal) × ((from to : List ℕ) → IsAccepted e from to → ⊥) × (IsCovered e → ⊥)
 
 -- no frame of the event's has room in the stream, own: 4,194,304 bytes, the number taking nine
 abbrev pub is_too_long : Seen → Bool

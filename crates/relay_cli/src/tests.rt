@@ -94,6 +94,23 @@ fn failing_calls(rt: HostRuntime) {
     assert_eq!(rt; failing(&rt, 6, 4), Ok((Status::Done, 134)));
 }
 
+#[test]
+fn codes(rt: HostRuntime) {
+    for (status, code) in [
+        (Status::Done, 0u8),
+        (Status::Usage, 2),
+        (Status::ReadFault, 3),
+        (Status::WriteFault, 4),
+        (Status::TooLong, 13),
+        (Status::Memory, 14),
+        (Status::Refused(1), 15),
+        (Status::Refused(30), 15),
+        (Status::NotBuilt, 16),
+    ] {
+        assert_eq!(rt; (status, status.code()), (status, code));
+    }
+}
+
 fn ended(rt: &HostRuntime, words: &[&str]) -> Result<Status, Memory> {
     let mut kept = Vec::new(rt.alloc());
     for word in words {

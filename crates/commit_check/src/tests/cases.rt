@@ -120,6 +120,8 @@ pub const ALONE: &[Plain] = &[
     (&[Ops(&[(Update, KEY_C, V3, NONE)])], 19, 19),
     // The first commit of an account, which doesn't say that it starts from nothing.
     (&[Before(New), Since(""), PrevData(b"")], 23, 23),
+    // The same, where it says that it starts from the empty tree.
+    (&[Before(New), Since(""), PrevData(EMPTY)], 23, 23),
 ];
 
 /// Two that follow on each other in the order.

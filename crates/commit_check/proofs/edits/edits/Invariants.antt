@@ -1,4 +1,4 @@
-use Rattle.std.proofs.Common.{◌≡◌, ℕ, List, map, take}
+use Rattle.std.proofs.Common.{◌≡◌, map, take}
 use Rattle.commit_check.specs.Step.{edit_of}
 use Rattle.commit_check.proofs.edits.edits.Given as goal
 

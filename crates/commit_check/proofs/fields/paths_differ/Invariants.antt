@@ -1,4 +1,4 @@
-use Rattle.std.proofs.Common.{◌≡◌, ℕ, ◌≤◌, List, length, drop, true, not, nat_cmp}
+use Rattle.std.proofs.Common.{◌≡◌, ◌≤◌, length, drop, true, not, nat_cmp}
 use Rattle.std.specs.BTreeSet.{contains}
 use Rattle.std.specs.Cmp.Lexicographic.{slice_cmp}
 use Rattle.commit_check.specs.Table.{paths_of}

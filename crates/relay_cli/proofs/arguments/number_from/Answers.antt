@@ -1,4 +1,4 @@
-use Rattle.std.proofs.Common.{◌≡◌, ℕ, ◌<◌, ◌≤◌, ◌^◌, Ok, arith, refl, true}
+use Rattle.std.proofs.Common.{◌≡◌, ◌<◌, ◌≤◌, ◌^◌, Ok, arith, refl, true}
 use Rattle.std.proofs.lemmas.Fmt.{parse-decimal}
 use Rattle.at_cid.proofs.Links.{same_iff}
 use Rattle.relay_cli.proofs.arguments.number_from.Goals as goal

@@ -3,4 +3,4 @@ use Rattle.relay_cli.proofs.judging.judge_commit.Goals as goal
 
 pub returns-in-Err-Refused : goal.returns-in-Err-Refused
 returns-in-Err-Refused c =
-    judged c.args.event.now c.in-Err-Refused.field-0 c.in-Err-Refused.refusal c.in-Err-Refused.field-0-is c.in-Err-Refused.ensures.refused c.in-Err-Refused.ensures.only c.in-Err-Refused.ensures.covered
+    judged c.args.event.now c.in-Err-Refused.field-0 c.in-Err-Refused.refusal c.in-Err-Refused.field-0-is c.in-Err-Refused.ensures.refused c.in-Err-Refused.ensures.exact c.in-Err-Refused.ensures.only c.in-Err-Refused.ensures.covered

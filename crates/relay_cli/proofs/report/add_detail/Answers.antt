@@ -1,4 +1,4 @@
-use Rattle.std.proofs.Common.{◌≡◌, ◌++◌, sym, ap, ◌∙◌, codes}
+use Rattle.std.proofs.Common.{◌++◌, sym, ap, ◌∙◌, codes}
 use Rattle.at_cid.specs.Text.{text_of}
 use Rattle.relay_cli.specs.Report.{detail_of}
 use Rattle.relay_cli.proofs.Lines.{joined}
