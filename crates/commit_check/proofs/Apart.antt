@@ -1,13 +1,12 @@
 -- Different paths make different keys.
 use Rattle.std.proofs.Common.{◌≡◌, ◌≢◌, ℕ, Bool, true, false, not, cond, Option, Some, None, List, [], ◌∷◌, map, refl, sym, ap, subst, ◌∙◌, Ordering, Equal}
-use Rattle.std.proofs.lemmas.Bool.{false≢true}
+use Rattle.std.proofs.lemmas.Bool.{and_parts, false≢true}
 use Rattle.at_cid.specs.Order.{key_cmp}
 use Rattle.at_cid.proofs.Order.{cmp_same}
 use Rattle.at_event.specs.declared.ops.EventOp.{EventOp}
 use Rattle.mst_list.specs.declared.op.Op.{Op}
 use Rattle.mst_list.specs.Edits.{by_order, AreApart, IsNewTo}
 use Rattle.mst_view.specs.HoleLinks.{absent, all_differ}
-use Rattle.mst_view.proofs.Passes.{both_true}
 use Rattle.commit_check.specs.Step.{edit_of}
 use Rattle.at_event.specs.declared.event.CommitEvent.{CommitEvent}
 use Rattle.at_event.specs.declared.refusal.Refusal.{Refusal}
@@ -21,13 +20,13 @@ differs k j h e =
 new_to : (k : List ℕ) (ops : List EventOp) → absent k (paths_of ops) ≡ true → IsNewTo k (map edit_of ops)
 new_to k [] h = tt
 new_to k (op ∷ ops) h =
-    let both = both_true (by_order (key_cmp k op.path) true false true) (absent k (paths_of ops)) h in
+    let both = and_parts (by_order (key_cmp k op.path) true false true) (absent k (paths_of ops)) h in
     (differs k op.path both.0, new_to k ops both.1)
 
 pub apart : (ops : List EventOp) → all_differ (paths_of ops) ≡ true → AreApart (map edit_of ops)
 apart [] h = tt
 apart (op ∷ ops) h =
-    let both = both_true (absent op.path (paths_of ops)) (all_differ (paths_of ops)) h in
+    let both = and_parts (absent op.path (paths_of ops)) (all_differ (paths_of ops)) h in
     (new_to op.path ops both.0, apart ops both.1)
 
 -- where no refusal is shown, no condition applies
