@@ -1,7 +1,7 @@
 -- One call more among those that a disk in memory records.
 use Rattle.std.proofs.Common.{◌≡◌, ℕ, ◌+◌, ◌≤◌, List, [], ◌∷◌, ◌++◌, length, take, drop, refl, sym, ◌∙◌, ap, subst, arith, append-nil, length-append, length-drop}
 use Rattle.std.proofs.lemmas.List.{take-append-le, drop-append-le, take_all}
-use Rattle.relay_disk.specs.Disk.{Goes, Same}
+use Rattle.relay_disk.specs.Disk.{View, Goes, Same, IsAsBefore}
 use Rattle.relay_disk.specs.Works.{Work, wrote, cut_to, synced, Moment, opened, next, after, view_of}
 use Rattle.relay_disk.specs.Ranges.{AreInside}
 use Rattle.relay_disk.proofs.Works.{after-push, not_done}
@@ -99,3 +99,17 @@ wrote_whole place bytes = ap (λ (l : List ℕ). wrote place l ∷ []) (take_all
 -- after a sync a crash leaves the content
 pub synced_only : (before now : Moment) → next before synced ≡ now → (c : List ℕ) → now.may_leave c → c ≡ now.content
 synced_only before now is = subst (λ (m : Moment). (c : List ℕ) → m.may_leave c → c ≡ m.content) is (λ c same. same)
+
+-- where nothing was recorded, nothing has changed
+pub nothing_recorded : (first : List ℕ) (calls calls' : List Call) (bytes bytes' : List ℕ) (faults : ℕ) → calls' ≡ calls → bytes' ≡ bytes
+    → IsAsBefore (view_of first (works_of calls bytes) faults) (view_of first (works_of calls' bytes') faults)
+nothing_recorded first calls calls' bytes bytes' faults same_calls same_bytes =
+    let same : works_of calls' bytes' ≡ works_of calls bytes = (λ i. works_of (same_calls i) (same_bytes i)) in
+    let view : List Work → View = λ ws. view_of first ws faults in
+    subst (λ (ws : List Work). IsAsBefore (view (works_of calls bytes)) (view ws)) (sym same) (record {
+      content = refl;
+      may_leave = λ c. (λ left. left, λ left. left);
+      moment = refl;
+      left_since = λ t c. (λ left. left, λ left. left);
+      faults = refl;
+    })

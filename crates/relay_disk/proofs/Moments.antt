@@ -1,7 +1,7 @@
 -- How a run of calls goes on.
 use Rattle.std.proofs.Common.{◌∙◌, length, inl, inr, ⊎_elim, ℕ, List, refl, sym, subst, arith}
 use Rattle.std.proofs.lemmas.List.{take_all}
-use Rattle.relay_disk.specs.Disk.{View, Goes, IsDisk, IsSettled, Torn, Cut, Same}
+use Rattle.relay_disk.specs.Disk.{View, Goes, IsAsBefore, IsDisk, IsSettled, Torn, Cut, Same}
 use Rattle.relay_disk.specs.Moments.{LeavesOnly, PairLeavesOnly, PartOf}
 
 -- one call, before and after which a crash leaves what has P
@@ -93,6 +93,17 @@ still_here v = record {
   counts = omega arith;
 }
 
+-- where nothing has changed, nothing was done
+pub as_before_goes : (old new : View) → IsAsBefore old new → Goes Same old new
+as_before_goes old new same = record {
+  content = same.content;
+  follows = λ c left. (c, (same.may_leave c).0 left, refl);
+  later = omega (arith, same.moment);
+  nothing_else = λ t c le left. inl ((same.left_since t c).0 left);
+  keeps = λ t c le was. (same.left_since t c).1 was;
+  counts = omega (arith, same.faults);
+}
+
 -- a settled disk stays settled
 pub settled_still : (bytes : List ℕ) (old new : View) → IsSettled old bytes → Goes Same old new → IsSettled new bytes
 settled_still bytes old new settled goes = record {
@@ -104,7 +115,63 @@ settled_still bytes old new settled goes = record {
 pub now_too : (P : List ℕ → Type 0) (old new : View) → IsDisk new → LeavesOnly P old new → (c : List ℕ) → new.may_leave c → P c
 now_too P old new disk run c left = run.each c (disk.counts_now old.moment c run.later left)
 
+-- what crashes leave of a disk that is only read is what one could leave before
+pub read_left : (old new : View) → IsDisk old → Goes Same old new → (c : List ℕ) → new.left_since old.moment c → old.may_leave c
+read_left old new disk goes c left =
+    ⊎_elim (λ was. disk.only_now c was) (λ now. unchanged old new goes c now) (goes.nothing_else old.moment c (omega arith) left)
+
 -- two runs, each on a disk of its own
 pub pair_of : (P Q : List ℕ → Type 0) (R : List ℕ → List ℕ → Type 0) (one one_now two two_now : View) → LeavesOnly P one one_now → LeavesOnly Q two two_now
     → ((c d : List ℕ) → P c → Q d → R c d) → PairLeavesOnly R one one_now two two_now
-pair_of P Q R one one_now two two_now first second both c d left beside = both c d (first.each c left) (second.each d beside)
+pair_of P Q R one one_now two two_now first second both = record {
+  one_later = first.later;
+  two_later = second.later;
+  each = λ c d left beside. both c d (first.each c left) (second.each d beside);
+}
+
+-- a run of both, and then one on the first alone
+pub pair_then_one : (P R : List ℕ → List ℕ → Type 0) (Q : List ℕ → Type 0) (one mid one_now two two_now : View) → PairLeavesOnly P one mid two two_now → LeavesOnly Q mid one_now
+    → ((c d : List ℕ) → P c d → R c d) → ((c d : List ℕ) → Q c → two_now.left_since two.moment d → R c d) → PairLeavesOnly R one one_now two two_now
+pair_then_one P R Q one mid one_now two two_now run more before behind = record {
+  one_later = omega (arith, run.one_later, more.later);
+  two_later = run.two_later;
+  each = λ c d left beside. ⊎_elim (λ was. before c d (run.each c d was beside)) (λ has. behind c d has beside) (more.before one.moment c run.one_later left);
+}
+
+-- or on the second
+pub pair_then_two : (P R : List ℕ → List ℕ → Type 0) (Q : List ℕ → Type 0) (one one_now two mid two_now : View) → PairLeavesOnly P one one_now two mid → LeavesOnly Q mid two_now
+    → ((c d : List ℕ) → P c d → R c d) → ((c d : List ℕ) → one_now.left_since one.moment c → Q d → R c d) → PairLeavesOnly R one one_now two two_now
+pair_then_two P R Q one one_now two mid two_now run more before behind = record {
+  one_later = run.one_later;
+  two_later = omega (arith, run.two_later, more.later);
+  each = λ c d left beside. ⊎_elim (λ was. before c d (run.each c d left was)) (λ has. behind c d left has) (more.before two.moment d run.two_later beside);
+}
+
+-- a run of both, and then the first is only read
+pub pair_still_one : (P : List ℕ → List ℕ → Type 0) (one mid one_now two two_now : View) → IsDisk mid → PairLeavesOnly P one mid two two_now → Goes Same mid one_now → PairLeavesOnly P one one_now two two_now
+pair_still_one P one mid one_now two two_now disk run goes = record {
+  one_later = omega (arith, run.one_later, goes.later);
+  two_later = run.two_later;
+  each = λ c d left beside. run.each c d (⊎_elim (λ was. was) (λ now. disk.counts_now one.moment c run.one_later (unchanged mid one_now goes c now)) (goes.nothing_else one.moment c run.one_later left)) beside;
+}
+
+-- or the second
+pub pair_still_two : (P : List ℕ → List ℕ → Type 0) (one one_now two mid two_now : View) → IsDisk mid → PairLeavesOnly P one one_now two mid → Goes Same mid two_now → PairLeavesOnly P one one_now two two_now
+pair_still_two P one one_now two mid two_now disk run goes = record {
+  one_later = run.one_later;
+  two_later = omega (arith, run.two_later, goes.later);
+  each = λ c d left beside. run.each c d left (⊎_elim (λ was. was) (λ now. disk.counts_now two.moment d run.two_later (unchanged mid two_now goes d now)) (goes.nothing_else two.moment d run.two_later beside));
+}
+
+-- what holds of each pair holds of what crashes now may leave
+pub pair_now_too : (P : List ℕ → List ℕ → Type 0) (one one_now two two_now : View) → IsDisk one_now → IsDisk two_now → PairLeavesOnly P one one_now two two_now
+    → (c d : List ℕ) → one_now.may_leave c → two_now.may_leave d → P c d
+pair_now_too P one one_now two two_now first second run c d left beside = run.each c d (first.counts_now one.moment c run.one_later left) (second.counts_now two.moment d run.two_later beside)
+
+-- a weaker word for the pairs
+pub pair_weaker : (P R : List ℕ → List ℕ → Type 0) (one one_now two two_now : View) → PairLeavesOnly P one one_now two two_now → ((c d : List ℕ) → P c d → R c d) → PairLeavesOnly R one one_now two two_now
+pair_weaker P R one one_now two two_now run also = record {
+  one_later = run.one_later;
+  two_later = run.two_later;
+  each = λ c d left beside. also c d (run.each c d left beside);
+}

@@ -10,7 +10,7 @@ use Rattle.relay_disk.specs.Worst.{IsInverted, IsWorst}
 use Rattle.relay_disk.specs.declared.call.Call.{Call}
 use Rattle.relay_disk.specs.declared.call.Call.TheVariants.{Size, Read, Write, Cut, Sync}
 use Rattle.relay_disk.proofs.RangeLaws.{parts_are_within}
-use Rattle.relay_disk.proofs.AnyBytes.{any_bytes_where_written, synced_left}
+use Rattle.relay_disk.proofs.AnyBytes.{ranges_left, synced_left}
 use Rattle.relay_disk.proofs.SinceSync.{from_sync, unsynced_since}
 
 covered_left : (i : ℕ) (works more : List Work) → IsCovered i works → IsCovered i (works ++ more)
@@ -117,9 +117,11 @@ module _ (first : List ℕ) (calls : List Call) (pieces : List ℕ) where
       let from = after (opened m.settled) m.since in
       let possible_from : from.may_leave m.content = subst (λ (n : Moment). n.may_leave m.content) whole content_left in
       let within = parts_are_within m.settled m.since none inside m.content possible_from in
-      let size : length image ≡ length from.content = inverted.size ∙ ap (λ (n : Moment). length n.content) whole in
-      let left : from.may_leave image = any_bytes_where_written m.settled m.since none inside image size
-      (λ i short here out. inverted.elsewhere i (omega (arith, inverted.size, short)) out ∙ within.same i (omega (arith, inverted.size, short)) here out) in
+      let left : from.may_leave image = ranges_left m.settled m.since none inside image (record {
+        no_shorter = omega (arith, inverted.size, within.no_shorter);
+        no_longer = omega (arith, inverted.size, within.no_longer);
+        same = λ i short here out. inverted.elsewhere i (omega (arith, inverted.size, short)) out ∙ within.same i (omega (arith, inverted.size, short)) here out;
+      }) in
       subst (λ (n : Moment). n.may_leave image) (sym whole) left
 
   pub is_inverted : total calls ≡ length pieces → IsInverted m.content m.since (inverted_from 0 calls m.content)

@@ -1,5 +1,5 @@
 -- A disk as contracts see it, what its calls do, and what a crash may leave of them.
-use Rattle.std.specs.Prelude.{◌≡◌, ◌⊎◌, ◌+◌, ◌≤◌, ℕ, min, max, List, ◌++◌, length, take, drop}
+use Rattle.std.specs.Prelude.{◌≡◌, ◌⊎◌, ◌↔◌, ◌+◌, ◌≤◌, ℕ, min, max, List, ◌++◌, length, take, drop}
 
 -- A disk at one moment.
 pub record View : Type 1 where
@@ -44,6 +44,14 @@ pub record Goes (part : List ℕ → List ℕ → Type 0) (old new : View) : Typ
   pub nothing_else : (t : ℕ) (c : List ℕ) → t ≤ old.moment → new.left_since t c → old.left_since t c ⊎ new.may_leave c
   pub keeps : (t : ℕ) (c : List ℕ) → t ≤ old.moment → old.left_since t c → new.left_since t c
   pub counts : old.faults ≤ new.faults
+
+-- Nothing of the disk has changed.
+pub record IsAsBefore (old new : View) : Type 0 where
+  pub content : new.content ≡ old.content
+  pub may_leave : (c : List ℕ) → new.may_leave c ↔ old.may_leave c
+  pub moment : new.moment ≡ old.moment
+  pub left_since : (t : ℕ) (c : List ℕ) → new.left_since t c ↔ old.left_since t c
+  pub faults : new.faults ≡ old.faults
 
 -- a crash leaves the content and nothing else
 abbrev pub IsSynced : View → Type 0

@@ -15,5 +15,7 @@ PartOf part old c = (d : List ℕ) × old.may_leave d × part d c
 
 -- Two disks have no common clock: whatever a crash at a moment since the start left on the one, beside whatever a
 -- crash at a moment since the start left on the other, the two have P.
-abbrev pub PairLeavesOnly : (List ℕ → List ℕ → Type 0) → View → View → View → View → Type 0
-PairLeavesOnly P one one_now two two_now = (c d : List ℕ) → one_now.left_since one.moment c → two_now.left_since two.moment d → P c d
+pub record PairLeavesOnly (P : List ℕ → List ℕ → Type 0) (one one_now two two_now : View) : Type 0 where
+  pub one_later : one.moment ≤ one_now.moment
+  pub two_later : two.moment ≤ two_now.moment
+  pub each : (c d : List ℕ) → one_now.left_since one.moment c → two_now.left_since two.moment d → P c d

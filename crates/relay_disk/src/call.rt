@@ -1,4 +1,4 @@
-// The calls of a disk, as a disk in memory records them.
+//! The calls of a disk, as a disk in memory records them.
 ghost use Rattle.std.specs.Prelude.{◌≡◌, ◌+◌, ◌&&◌, nat_le, nat_lt, false};
 ghost use Rattle.relay_disk.specs.Memory.{covered_after};
 

@@ -1,4 +1,4 @@
-// Counts of faults.
+//! Counts of faults.
 ghost use Rattle.std.specs.Prelude.{◌≡◌, ◌≤◌, IsErr, OnErr};
 ghost use Rattle.at_cid.specs.Counts.{Rose};
 

@@ -1,4 +1,4 @@
-// The disk, as the log sees it.
+//! The disk, as the log sees it.
 ghost use Rattle.std.specs.Prelude.{◌≡◌, ◌≤◌, ◌<◌, ◌+◌, ◌^◌, List, ℕ, Bool, length, take, drop, IsTrue, IfOk, OnOk, OnErr};
 ghost use Rattle.at_cid.specs.Counts.{Rose};
 ghost use Rattle.relay_disk.specs.Disk.{View, Goes, Same, Torn, Cut, IsDisk, IsSynced, written};

@@ -1,92 +1,41 @@
-// A disk on one file, which tells nothing of its content.
-ghost use Rattle.std.specs.Prelude.{◌≡◌, false};
+//! A disk on one file, which tells nothing of its content.
+ghost use Rattle.std.specs.Prelude.{◌≡◌, ◌≤◌, ◌<◌, ◌+◌, ◌^◌, ◌++◌, ◌∷◌, [], false, length, take, drop, IsTrue, IfOk, OnOk, OnErr};
+ghost use Rattle.at_cid.specs.Counts.{Rose};
+ghost use Rattle.relay_disk.specs.Disk.{Goes, Same, Torn, Cut, IsSynced, written};
 ghost use Rattle.relay_disk.specs.Untold.{untold, untold_disk};
 
 use crate::counts::{counted, fail};
-use crate::{Disk, Failed};
-use std::fs::{OpenFile, OpenOptions};
+use crate::{Call, Disk, Failed, FileCalls, LazyFile};
 use std::io;
 use std::os::unix::fs::FileExt;
 use std::rt::Files;
 
-// A file that is opened where it is used first.
+/// A disk on one file. A call answers `Failed` where the file does, and where a place or a size isn't inside.
 #[derive(Drop)]
-struct LazyFile<R: Files> {
-    rt: R,
-    path: String,
-    file: Option<R::File>,
-}
-
-impl<R: Files> LazyFile<R> {
-    fn opened(&mut self) -> io::Result<&R::File> {
-        if self.file.is_none() {
-            let mut how = OpenOptions::new();
-            how.read(true).write(true).create(true);
-            self.file = Some(how.open(&self.rt, &self.path)?);
-        }
-        match &self.file {
-            Some(file) => Ok(file),
-            None => Err(io::Error::from(io::ErrorKind::NotFound)),
-        }
-    }
-}
-
-impl<R: Files> LazyFile<R>
-where
-    R::File: FileExt,
-{
-    fn size(&mut self) -> io::Result<u64> {
-        Ok(self.opened()?.metadata()?.len())
-    }
-
-    fn read(&mut self, place: u64, room: &mut [u8]) -> io::Result<()> {
-        self.opened()?.read_exact_at(room, place)
-    }
-
-    fn write_at(&mut self, place: u64, piece: &[u8]) -> io::Result<()> {
-        self.check_inside(place)?;
-        self.opened()?.write_all_at(piece, place)
-    }
-
-    fn cut(&mut self, size: u64) -> io::Result<()> {
-        self.check_inside(size)?;
-        self.opened()?.set_len(size)
-    }
-
-    fn sync(&mut self) -> io::Result<()> {
-        self.opened()?.sync_all()
-    }
-
-    fn check_inside(&mut self, place: u64) -> io::Result<()> {
-        if self.size()? < place {
-            return Err(io::Error::from(io::ErrorKind::InvalidInput));
-        }
-        Ok(())
-    }
-}
-
-/// One file, opened at the first call.
-#[derive(Drop)]
-pub struct FileDisk<R: Files> {
-    file: LazyFile<R>,
+pub struct FileDisk<F: FileCalls> {
+    file: F,
     faults: u64,
 }
 
-impl<R: Files> FileDisk<R> {
-    /// The disk on the file at this path, without faults so far. Nothing is opened yet.
-    pub fn new(rt: R, path: String) -> Self
-        ensures rt { result.file.rt ≡ rt }
-        ensures path { result.file.path ≡ path }
+impl<F: FileCalls> FileDisk<F> {
+    /// The disk on a file, without faults so far.
+    pub fn on(file: F) -> Self
+        ensures file { result.file ≡ file }
         ensures faults { result.faults ≡ 0 }
     {
-        FileDisk {
-            file: LazyFile {
-                rt,
-                path,
-                file: None,
-            },
-            faults: 0,
-        }
+        FileDisk { file, faults: 0 }
+    }
+}
+
+impl<R: Files> FileDisk<LazyFile<R>>
+where
+    R::File: FileExt,
+{
+    /// The disk on the file at this path, without faults so far. Nothing is opened yet.
+    pub fn new(rt: R, path: String) -> Self
+        ensures { result.faults ≡ 0 }
+    {
+        FileDisk::on(LazyFile::new(rt, path))
     }
 }
 
@@ -95,39 +44,87 @@ fn answered<T>(answer: io::Result<T>) -> Result<T, Failed> {
     answer.map_err(|_| Failed)
 }
 
-impl<R: Files> Disk for FileDisk<R>
-where
-    R::File: FileExt,
+// Fails where a place is past the end.
+fn check_inside<F: FileCalls>(file: &mut F, place: u64) -> Result<(), Failed>
+    ensures { IsTrue F.tells → F.made file.new ≡ F.made file.old ++ Call.Size ∷ [] }
 {
+    if answered(file.size())? < place {
+        return Err(Failed);
+    }
+    Ok(())
+}
+
+fn write_inside<F: FileCalls>(file: &mut F, place: u64, piece: &[u8]) -> Result<(), Failed>
+    ensures { OnOk result (IsTrue F.tells → F.made file.new ≡ F.made file.old ++ Call.Size ∷ (Call.Write place (length piece.now) ∷ [])) }
+{
+    check_inside(file, place)?;
+    answered(file.write_at(place, piece))
+}
+
+fn cut_inside<F: FileCalls>(file: &mut F, size: u64) -> Result<(), Failed>
+    ensures { OnOk result (IsTrue F.tells → F.made file.new ≡ F.made file.old ++ Call.Size ∷ (Call.Cut size ∷ [])) }
+{
+    check_inside(file, size)?;
+    answered(file.cut(size))
+}
+
+impl<F: FileCalls> Disk for FileDisk<F> {
     ghost tells = { false };
 
     ghost view = { λ d. untold d.faults };
 
     ghost is_disk = { λ d. untold_disk d.faults };
 
-    fn size(&mut self) -> Result<u64, Failed> {
+    fn size(&mut self) -> Result<u64, Failed>
+        ensures size { IfOk result (λ size. IsTrue false → size ≡ length (untold self.old.faults).content) }
+        ensures below { IfOk result (λ size. size < 2 ^ 63) }
+        ensures goes { Goes Same (untold self.old.faults) (untold self.new.faults) }
+        ensures failed { OnErr result (Rose self.old.faults self.new.faults) }
+        ensures calls { IsTrue F.tells → F.made self.new.file ≡ F.made self.old.file ++ Call.Size ∷ [] }
+    {
         match self.file.size() {
             Ok(size) if size < 1 << 63 => Ok(size),
             _ => fail(&mut self.faults),
         }
     }
 
-    fn read(&mut self, place: u64, room: &mut [u8]) -> Result<(), Failed> {
+    fn read(&mut self, place: u64, room: &mut [u8]) -> Result<(), Failed>
+        ensures bytes { OnOk result (IsTrue false → room.new ≡ take (length room.old) (drop place (untold self.old.faults).content)) }
+        ensures goes { Goes Same (untold self.old.faults) (untold self.new.faults) }
+        ensures failed { OnErr result (Rose self.old.faults self.new.faults) }
+        ensures calls { IsTrue F.tells → F.made self.new.file ≡ F.made self.old.file ++ Call.Read place (length room.old) ∷ [] }
+    {
         let answer = answered(self.file.read(place, room));
         counted(&mut self.faults, answer)
     }
 
-    fn write_at(&mut self, place: u64, piece: &[u8]) -> Result<(), Failed> {
-        let answer = answered(self.file.write_at(place, piece));
+    fn write_at(&mut self, place: u64, piece: &[u8]) -> Result<(), Failed>
+        requires { place + length piece.now < 2 ^ 63 }
+        ensures ok { OnOk result (IsTrue false → (untold self.new.faults).content ≡ written place piece.now (untold self.old.faults).content) }
+        ensures goes { Goes (Torn place (length piece.now)) (untold self.old.faults) (untold self.new.faults) }
+        ensures failed { OnErr result (Rose self.old.faults self.new.faults) }
+        ensures calls { OnOk result (IsTrue F.tells → F.made self.new.file ≡ F.made self.old.file ++ Call.Size ∷ (Call.Write place (length piece.now) ∷ [])) }
+    {
+        let answer = write_inside(&mut self.file, place, piece);
         counted(&mut self.faults, answer)
     }
 
-    fn cut(&mut self, size: u64) -> Result<(), Failed> {
-        let answer = answered(self.file.cut(size));
+    fn cut(&mut self, size: u64) -> Result<(), Failed>
+        ensures ok { OnOk result (IsTrue false → (untold self.new.faults).content ≡ take size (untold self.old.faults).content) }
+        ensures goes { Goes (Cut size) (untold self.old.faults) (untold self.new.faults) }
+        ensures failed { OnErr result (Rose self.old.faults self.new.faults) }
+        ensures calls { OnOk result (IsTrue F.tells → F.made self.new.file ≡ F.made self.old.file ++ Call.Size ∷ (Call.Cut size ∷ [])) }
+    {
+        let answer = cut_inside(&mut self.file, size);
         counted(&mut self.faults, answer)
     }
 
-    fn sync(&mut self) -> Result<(), Failed> {
+    fn sync(&mut self) -> Result<(), Failed>
+        ensures ok { OnOk result (IsTrue false → IsSynced (untold self.new.faults)) }
+        ensures goes { Goes Same (untold self.old.faults) (untold self.new.faults) }
+        ensures failed { OnErr result (Rose self.old.faults self.new.faults) }
+        ensures calls { IsTrue F.tells → F.made self.new.file ≡ F.made self.old.file ++ Call.Sync ∷ [] }
+    {
         let answer = answered(self.file.sync());
         counted(&mut self.faults, answer)
     }

@@ -5,18 +5,23 @@ mod call;
 mod counts;
 mod disk;
 mod file;
+mod file_calls;
 mod fuse;
+mod laws;
+mod lazy_file;
 mod memory;
-mod model;
+mod passes;
 mod room;
 mod worst;
 
 pub use call::Call;
 pub use disk::{Disk, Failed};
 pub use file::FileDisk;
+pub use file_calls::FileCalls;
 pub use fuse::FuseDisk;
+pub use laws::{parts_are_within_ranges, ranges_are_left_by_parts};
+pub use lazy_file::LazyFile;
 pub use memory::MemoryDisk;
-pub use model::parts_are_within_ranges;
 
 #[cfg(test)]
 mod tests;

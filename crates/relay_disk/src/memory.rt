@@ -1,4 +1,4 @@
-// A disk in memory. It records the calls that were done, and fails where it is told to.
+//! A disk in memory. It records the calls that were done, and fails where it is told to.
 ghost use Rattle.std.specs.Prelude.{◌≡◌, ◌≤◌, ◌<◌, ◌+◌, ◌-◌, ◌^◌, ◌↔◌, ◌++◌, ◌∷◌, [], true, length, take, drop, vec_len, vec_capacity, IsErr, IsTrue, IfOk, OnOk, OnErr};
 ghost use Rattle.at_cid.specs.Counts.{Rose};
 ghost use Rattle.relay_disk.specs.Disk.{written};
@@ -71,7 +71,7 @@ fn settle(settled: &mut Vec<u8>, content: &[u8])
 }
 
 impl MemoryDisk {
-    ghost use Rattle.relay_disk.specs.Disk.{IsSettled};
+    ghost use Rattle.relay_disk.specs.Disk.{Goes, Same, IsAsBefore, IsSettled};
     ghost use Rattle.relay_disk.specs.MemoryView.{memory_view, calls_of, failing as failing_numbers, taken, spare_calls, spare_bytes};
 
     /// A disk with this content, synced, whose calls with these numbers fail. The first call has the number 1.
@@ -80,6 +80,7 @@ impl MemoryDisk {
         ensures failing { IfOk result (λ disk. failing_numbers disk ≡ failing.now) }
         ensures taken { IfOk result (λ disk. taken disk ≡ 0) }
         ensures calls { IfOk result (λ disk. calls_of disk ≡ []) }
+        ensures faults { IfOk result (λ disk. (memory_view disk).faults ≡ 0) }
     {
         let failures = Failures::new(alloc, failing)?;
         let room = Room {
@@ -97,7 +98,7 @@ impl MemoryDisk {
         })
     }
 
-    /// Makes room for so many calls more, and for so many bytes in their writes.
+    /// Makes room for so many calls more, and for so many bytes in their writes. It is no call of the disk.
     pub fn reserve(&mut self, calls: usize, bytes: usize) -> Result<(), Memory>
         ensures calls { OnOk result (calls ≤ spare_calls self.new) }
         ensures bytes { OnOk result (bytes ≤ spare_bytes self.new) }
@@ -105,6 +106,10 @@ impl MemoryDisk {
         ensures taken { taken self.new ≡ taken self.old }
         ensures content { (memory_view self.new).content ≡ (memory_view self.old).content }
         ensures recorded { calls_of self.new ≡ calls_of self.old }
+        ensures kept_calls { spare_calls self.old ≤ spare_calls self.new }
+        ensures kept_bytes { spare_bytes self.old ≤ spare_bytes self.new }
+        ensures as_before { IsAsBefore (memory_view self.old) (memory_view self.new) }
+        ensures goes { Goes Same (memory_view self.old) (memory_view self.new) }
     {
         let calls = calls.max(self.room.calls);
         let bytes = bytes.max(self.room.bytes);

@@ -1,4 +1,4 @@
-// What a disk in memory has left, and where it is to fail.
+//! What a disk in memory has left, and where it is to fail.
 ghost use Rattle.std.specs.Prelude.{◌≡◌, ◌≤◌, ◌<◌, ◌+◌, ◌-◌, ◌^◌, ◌↔◌, ◌⊎◌, min, IsErr, OnOk, OnErr, Contains};
 ghost use Rattle.at_cid.specs.Counts.{Rose};
 

@@ -1,4 +1,4 @@
-// The images that a disk in memory offers as the worst cases of a crash.
+//! The images that a disk in memory offers as the worst cases of a crash.
 ghost use Rattle.std.specs.Prelude.{◌≡◌, ◌<◌, ◌↔◌, false, [], IfOk, IfSome, IsNone, length};
 ghost use Rattle.relay_disk.specs.Disk.{IsSettled};
 ghost use Rattle.relay_disk.specs.MemoryView.{memory_view, moment_of, calls_of, failing, taken};
@@ -36,6 +36,7 @@ impl MemoryDisk {
         ensures left { IfOk result (λ found. IfSome found (λ disk. (memory_view self.now).may_leave (memory_view disk).content)) }
         ensures settled { IfOk result (λ found. IfSome found (λ disk. IsSettled (memory_view disk) (memory_view disk).content)) }
         ensures fresh { IfOk result (λ found. IfSome found (λ disk. (failing disk ≡ []) × (taken disk ≡ 0) × (calls_of disk ≡ []))) }
+        ensures faults { IfOk result (λ found. IfSome found (λ disk. (memory_view disk).faults ≡ 0)) }
     {
         let image = match i {
             0 => Vec::from_slice(alloc, &self.content)?,
