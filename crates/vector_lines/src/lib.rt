@@ -2,11 +2,13 @@
 //! begins with `#` is a remark. Bytes are hexadecimal, `-` stands for none, and `<XX x N>` for N bytes XX.
 #![tactic(auto)]
 
+mod links;
 mod runs;
 mod subject;
 mod suite;
 mod words;
 
+pub use links::{add_link, link};
 pub use runs::expanded;
 pub use subject::Subject;
 pub use suite::Suite;
