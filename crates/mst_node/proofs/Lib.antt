@@ -15,3 +15,8 @@ pub mod Rests
 pub mod Writes
 pub mod Finding
 pub mod EmptyTree
+pub mod Passes
+pub mod Steps
+pub mod Finds
+pub mod Gives
+pub mod Blames

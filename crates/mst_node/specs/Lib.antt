@@ -5,3 +5,6 @@ pub mod Covers
 pub mod NodeFaults
 pub mod Reading
 pub mod Laws
+pub mod Fits
+pub mod FirstFault
+pub mod TreeReading

@@ -4,7 +4,6 @@
 
 mod branch;
 mod copying;
-mod fitting;
 mod holes;
 mod law;
 mod link;
