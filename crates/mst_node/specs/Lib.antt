@@ -4,4 +4,5 @@ pub mod Trees
 pub mod Covers
 pub mod NodeFaults
 pub mod Reading
+pub mod Taking
 pub mod Laws
