@@ -17,3 +17,4 @@ pub mod Nested
 pub mod Equal
 pub mod Lengths
 pub mod Depths
+pub mod Taken

@@ -9,5 +9,7 @@ pub mod Heads
 pub mod Reading
 pub mod Spelling
 pub mod Decoding
+pub mod Taking
+pub mod TakingLaws
 pub mod Laws
 pub mod Faults

@@ -13,19 +13,23 @@ mod laws;
 mod length;
 mod lookup;
 mod reading;
+mod taking;
 mod value;
 mod writing;
 
 pub use decoding::{DEPTH, decode};
 pub use encoding::encode;
 pub use fault::CborFault;
-pub use laws::{equal_is_same, reads_what_is_spelled, spelling_tells_item};
+pub use laws::{equal_is_same, reads_what_is_spelled, spelling_tells_item, takes_what_is_spelled};
 pub use length::spelled_len;
 pub use lookup::field;
+pub use taking::{
+    decode_whole, take_bytes, take_child, take_item, take_link, take_list_front, take_number,
+};
 pub use value::{Fields, Value, Values};
 pub use writing::{
     write_bool, write_bytes, write_int, write_link, write_list_front, write_map_front, write_null,
-    write_text, write_value,
+    write_number, write_text, write_value,
 };
 
 #[cfg(test)]

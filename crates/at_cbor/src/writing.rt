@@ -35,6 +35,7 @@ fn write_front(out: &mut Octets, major: u8, n: u64) -> Result<(), Memory>
 /// Adds an integer. Where memory is wanted, what was there stays in front.
 pub fn write_int(out: &mut Octets, number: i64) -> Result<(), Memory>
     ensures written { OnOk result (out.new ≡ out.old ++ spelling (Item.int number)) }
+    ensures spellable { OnOk result (IsSpellable (Item.int number)) }
     ensures err { OnErr result (take (length out.old) out.new ≡ out.old) }
 {
     if number >= 0 {
@@ -47,6 +48,7 @@ pub fn write_int(out: &mut Octets, number: i64) -> Result<(), Memory>
 /// Adds a string of bytes. Where memory is wanted, what was there stays in front.
 pub fn write_bytes(out: &mut Octets, bytes: &[u8]) -> Result<(), Memory>
     ensures written { OnOk result (out.new ≡ out.old ++ spelling (Item.bytes bytes.now)) }
+    ensures spellable { OnOk result (IsSpellable (Item.bytes bytes.now)) }
     ensures err { OnErr result (take (length out.old) out.new ≡ out.old) }
 {
     write_front(out, 2, bytes.len() as u64)?;
@@ -54,12 +56,22 @@ pub fn write_bytes(out: &mut Octets, bytes: &[u8]) -> Result<(), Memory>
 }
 
 /// Adds a text. A key of a map is spelled as a text too. Where memory is wanted, what was there stays in front.
+#[tactic(auto, using(crate::proofs::Texts::tests_of_text))]
 pub fn write_text(out: &mut Octets, text: &str) -> Result<(), Memory>
     ensures written { OnOk result (out.new ≡ out.old ++ text_spelling text.now) }
+    ensures spellable { OnOk result (IsSpellable (Item.text text.now)) }
     ensures err { OnErr result (take (length out.old) out.new ≡ out.old) }
 {
     write_front(out, 3, text.len() as u64)?;
     out.extend(text.as_bytes())
+}
+
+/// Adds an unsigned number, up to 2^64 - 1. Where memory is wanted, what was there stays in front.
+pub fn write_number(out: &mut Octets, number: u64) -> Result<(), Memory>
+    ensures written { OnOk result (out.new ≡ out.old ++ front_of 0 number) }
+    ensures err { OnErr result (take (length out.old) out.new ≡ out.old) }
+{
+    write_front(out, 0, number)
 }
 
 /// Adds the front of a list of so many values, which are to follow. Where memory is wanted, what was there stays in front.

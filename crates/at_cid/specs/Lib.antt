@@ -4,4 +4,5 @@ pub mod Memory
 pub mod Order
 pub mod OrderLaws
 pub mod Counts
+pub mod Distinct
 pub mod Laws

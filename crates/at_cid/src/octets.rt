@@ -113,6 +113,13 @@ impl Octets {
         Ok(())
     }
 
+    /// Drops all bytes and keeps their room. Takes no memory.
+    pub fn clear(&mut self)
+        ensures { self.new ≡ [] }
+    {
+        self.bytes.clear();
+    }
+
     /// The same bytes once more.
     pub fn try_clone(&self) -> Result<Octets, Memory>
         ensures { IfOk result (λ made. made ≡ self.now) }

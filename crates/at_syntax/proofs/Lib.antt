@@ -2,3 +2,4 @@ pub mod Splits
 pub mod Dids
 pub mod Paths
 pub mod Tids
+pub mod Texts

@@ -143,10 +143,10 @@ value_again value h =
     let none : 0 ≡ value / 32 ^ 13 = omega arith in
     ap value_of (digits_spelled value) ∙ ap (λ (m : ℕ). number_from_digits_after 32 m (map digit_of (spelled 13 value))) none ∙ number_spelled 13 value
 
-digits_known : (value : ℕ) → list_all is_tid_character (digits_of value) ≡ true
+pub digits_known : (value : ℕ) → list_all is_tid_character (digits_of value) ≡ true
 digits_known value = ap (list_all is_tid_character) (digits_spelled value) ∙ spelled_known 13 value
 
-length-digits_of : (value : ℕ) → length (digits_of value) ≡ 13
+pub length-digits_of : (value : ℕ) → length (digits_of value) ≡ 13
 length-digits_of value = ap length (digits_spelled value) ∙ length-spelled 13 value
 
 first_digit : (value : ℕ) → value < 2 ^ 64 → is_first_character (get_or (digits_of value) 0 0) ≡ true

@@ -106,9 +106,17 @@ impl Tid {
         }
     }
 
+    /// The TID of a value.
+    pub fn from_value(value: u64) -> Tid
+        ensures { result ≡ value }
+    {
+        Tid { value }
+    }
+
     /// Its value. Divided by 1,024, it is microseconds since 1970; the rest is a clock id.
     pub fn value(&self) -> u64
-        ensures { result ≡ self.now }
+        ensures value { result ≡ self.now }
+        ensures below { self.now < 2 ^ 64 }
     {
         self.value
     }
@@ -120,5 +128,16 @@ impl Tid {
         for place in 0..TID_LEN {
             out[place] = character_at(self.value, place);
         }
+    }
+
+    /// Writes its 13 characters, which are the text that it gives.
+    pub fn write_text<'a>(&self, out: &'a mut [u8; TID_LEN]) -> &'a str
+        ensures { result.now ≡ digits_of self.now }
+    {
+        self.write(out);
+        let Ok(text) = str::from_utf8(out) else {
+            unreachable!()
+        };
+        text
     }
 }

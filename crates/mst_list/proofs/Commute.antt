@@ -5,14 +5,14 @@ use Rattle.mst_list.specs.declared.item.Item.TheVariants.{Key, Hole}
 use Rattle.mst_list.specs.declared.op.Op.{Op}
 use Rattle.at_cid.specs.Order.{key_cmp}
 use Rattle.mst_list.specs.Lists.{IsWellLaid}
-use Rattle.mst_list.specs.Edits.{by_order, before, after, value_at, with_value, put, IsClear, GuardedBy, IsGuarded, AllAgree, IsNewTo, AreApart, AreFormedOps, undone}
+use Rattle.mst_list.specs.Edits.{by_order, before, after, value_at, with_value, put, IsGuarded, AllAgree, IsNewTo, AreApart, AreFormedOps, undone}
 use Rattle.at_cid.proofs.Order.{cmp_trans, cmp_same, cmp_exact, cmp_below}
 use Rattle.mst_list.proofs.Places.{AllBelow, StartsAbove, rebuilt, below_before, before_placed, after_placed}
-use Rattle.mst_list.proofs.Fills.{formed_value}
 use Rattle.mst_list.proofs.Replay.{all_below_up, all_below_join, after_starts}
-use Rattle.mst_list.specs.Laws.{undone_on}
+use Rattle.mst_list.specs.Laws.{UndoingOrderLaw}
 use Rattle.mst_list.proofs.Kept.{before_front, after_front}
-use Rattle.mst_list.proofs.Laid.{kept, clear_of_guard, edited}
+use Rattle.mst_list.proofs.Laid.{kept, clear_of_guard}
+use Rattle.mst_list.proofs.Orders.{order_keeps}
 
 before_at : (k : List ℕ) (o : Option (List ℕ)) (A B : List Item) → AllBelow k A → (o ≡ None → StartsAbove k B) → before k (A ++ (with_value k o ++ B)) ≡ A
 before_at k None A B low high = before_placed k None A B low (high refl)
@@ -78,47 +78,51 @@ commute k j o p G ne now_k was_k now_j was_j = go (key_cmp k j) refl
     go Equal e = absurd (ne (cmp_exact k j e))
     go Greater e = sym (low_high j k p o G (cmp_below k j e) (λ q is n. now_k (sym is ∙ n)) was_k)
 
-new_apart : (k : List ℕ) (ops : List Op) → IsNewTo k ops → IsNewTo k ops
-new_apart k ops h = h
+-- what undoing asks of operations
+record CanUndo (F : List Item) (ops : List Op) : Type 0 where
+  formed : AreFormedOps ops
+  apart : AreApart ops
+  agree : AllAgree F ops
+  guard : IsGuarded F ops
 
--- an edit of a key of none of the operations may come before or after them
-moved : (k : List ℕ) (was now : Option (List ℕ)) (F : List Item) (ops : List Op) → IsWellLaid F → AreFormedOps ops → AreApart ops → AllAgree F ops → IsGuarded F ops → IsNewTo k ops
-    → value_at k F ≡ now → (was ≡ None → IsClear k F) → (now ≡ None → IsClear k F) → undone (put k was F) ops ≡ put k was (undone F ops)
-moved k was now F [] w forms apart agree guard new at p q = refl
-moved k was now F (op ∷ ops) w forms apart agree guard new at p q =
-    let more = moved k was now F ops w forms.1 apart.1 agree.1 guard.1 new.1 at p q in
-    let K = kept F ops w forms.1 apart.1 agree.1 guard.1 in let G = undone F ops in
-    let c = clear_of_guard op.key op.was op.now F agree.0 guard.0 in
+-- two neighbours exchanged
+new_exchanged : (k : List ℕ) (A : List Op) (x y : Op) (B : List Op) → IsNewTo k (A ++ (x ∷ (y ∷ B))) → IsNewTo k (A ++ (y ∷ (x ∷ B)))
+new_exchanged k [] x y B h = (h.1.0, (h.0, h.1.1))
+new_exchanged k (a ∷ A) x y B h = (h.0, new_exchanged k A x y B h.1)
+
+formed_exchanged : (A : List Op) (x y : Op) (B : List Op) → AreFormedOps (A ++ (x ∷ (y ∷ B))) → AreFormedOps (A ++ (y ∷ (x ∷ B)))
+formed_exchanged [] x y B h = (h.1.0, (h.0, h.1.1))
+formed_exchanged (a ∷ A) x y B h = (h.0, formed_exchanged A x y B h.1)
+
+apart_exchanged : (A : List Op) (x y : Op) (B : List Op) → AreApart (A ++ (x ∷ (y ∷ B))) → AreApart (A ++ (y ∷ (x ∷ B)))
+apart_exchanged [] x y B h = ((λ e. h.0.0 (sym e), h.1.0), (h.0.1, h.1.1))
+apart_exchanged (a ∷ A) x y B h = (new_exchanged a.key A x y B h.0, apart_exchanged A x y B h.1)
+
+agree_exchanged : (F : List Item) (A : List Op) (x y : Op) (B : List Op) → AllAgree F (A ++ (x ∷ (y ∷ B))) → AllAgree F (A ++ (y ∷ (x ∷ B)))
+agree_exchanged F [] x y B h = (h.1.0, (h.0, h.1.1))
+agree_exchanged F (a ∷ A) x y B h = (h.0, agree_exchanged F A x y B h.1)
+
+guard_exchanged : (F : List Item) (A : List Op) (x y : Op) (B : List Op) → IsGuarded F (A ++ (x ∷ (y ∷ B))) → IsGuarded F (A ++ (y ∷ (x ∷ B)))
+guard_exchanged F [] x y B h = (h.1.0, (h.0, h.1.1))
+guard_exchanged F (a ∷ A) x y B h = (h.0, guard_exchanged F A x y B h.1)
+
+can_exchanged : (F : List Item) (A : List Op) (x y : Op) (B : List Op) → CanUndo F (A ++ (x ∷ (y ∷ B))) → CanUndo F (A ++ (y ∷ (x ∷ B)))
+can_exchanged F A x y B c = record { formed = formed_exchanged A x y B c.formed; apart = apart_exchanged A x y B c.apart; agree = agree_exchanged F A x y B c.agree; guard = guard_exchanged F A x y B c.guard }
+
+-- which of two neighbours is undone first doesn't matter
+undone_exchanged : (F : List Item) (A : List Op) (x y : Op) (B : List Op) → IsWellLaid F → CanUndo F (A ++ (x ∷ (y ∷ B))) → undone F (A ++ (y ∷ (x ∷ B))) ≡ undone F (A ++ (x ∷ (y ∷ B)))
+undone_exchanged F (a ∷ A) x y B w c = ap (put a.key a.was) (undone_exchanged F A x y B w (record { formed = c.formed.1; apart = c.apart.1; agree = c.agree.1; guard = c.guard.1 }))
+undone_exchanged F [] x y B w c =
+    let K = kept F B w c.formed.1.1 c.apart.1.1 c.agree.1.1 c.guard.1.1 in let G = undone F B in
     let up = K.well_laid.ascends in
-    let at_k = K.value k new.1 ∙ at in let at_j = K.value op.key apart.0 ∙ agree.0 in
-    ap (put op.key op.was) more
-    ∙ commute k op.key was op.was G new.0
-    (λ n. after_starts k G up (K.clear k new.1 (q (sym at_k ∙ n))).no_hole_after) (λ e. after_starts k G up (K.clear k new.1 (p e)).no_hole_after)
-    (λ n. after_starts op.key G up (K.clear op.key apart.0 (c.1 (sym at_j ∙ n))).no_hole_after) (λ e. after_starts op.key G up (K.clear op.key apart.0 (c.0 e)).no_hole_after)
-
--- what holds of the other keys after an edit at j
-still_agree : (j : List ℕ) (F G : List Item) (ops : List Op) → IsNewTo j ops → ((k : List ℕ) → k ≢ j → value_at k G ≡ value_at k F) → AllAgree F ops → AllAgree G ops
-still_agree j F G [] new same agree = tt
-still_agree j F G (op ∷ ops) new same agree = (same op.key (λ e. new.0 (sym e)) ∙ agree.0, still_agree j F G ops new.1 same agree.1)
-
-still_guarded : (j : List ℕ) (F G : List Item) (ops : List Op) → IsNewTo j ops → ((k : List ℕ) → k ≢ j → value_at k G ≡ value_at k F) → ((k : List ℕ) → k ≢ j → IsClear k F → IsClear k G) → IsGuarded F ops → IsGuarded G ops
-still_guarded j F G [] new same clear guard = tt
-still_guarded j F G (op ∷ ops) new same clear guard = (one op.was op.now guard.0, still_guarded j F G ops new.1 same clear guard.1)
-  where
-    other : op.key ≢ j
-    other e = new.0 (sym e)
-
-    one : (was now : Option (List ℕ)) → GuardedBy op.key was now F → GuardedBy op.key was now G
-    one (Some v) (Some w) g = λ n. g (sym (same op.key other) ∙ n)
-    one None now g = clear op.key other g
-    one (Some v) None g = λ n. clear op.key other (g (sym (same op.key other) ∙ n))
+    let new_x = c.apart.0.1 in let new_y = c.apart.1.0 in
+    let cx = clear_of_guard x.key x.was x.now F c.agree.0 c.guard.0 in let cy = clear_of_guard y.key y.was y.now F c.agree.1.0 c.guard.1.0 in
+    let at_x = K.value x.key new_x ∙ c.agree.0 in let at_y = K.value y.key new_y ∙ c.agree.1.0 in
+    commute x.key y.key x.was y.was G c.apart.0.0
+    (λ n. after_starts x.key G up (K.clear x.key new_x (cx.1 (sym at_x ∙ n))).no_hole_after) (λ e. after_starts x.key G up (K.clear x.key new_x (cx.0 e)).no_hole_after)
+    (λ n. after_starts y.key G up (K.clear y.key new_y (cy.1 (sym at_y ∙ n))).no_hole_after) (λ e. after_starts y.key G up (K.clear y.key new_y (cy.0 e)).no_hole_after)
 
 -- the order of undoing doesn't matter
-pub any_order : (F : List Item) (ops : List Op) → IsWellLaid F → AreFormedOps ops → AreApart ops → AllAgree F ops → IsGuarded F ops → undone_on F ops ≡ undone F ops
-any_order F [] w forms apart agree guard = refl
-any_order F (op ∷ ops) w forms apart agree guard =
-    let c = clear_of_guard op.key op.was op.now F agree.0 guard.0 in
-    let E = edited op.key op.was op.now F (formed_value op.key op.was forms.0.0 forms.0.1) w agree.0 c.0 c.1 in
-    let F' = put op.key op.was F in
-    any_order F' ops E.0 forms.1 apart.1 (still_agree op.key F F' ops apart.0 E.1 agree.1) (still_guarded op.key F F' ops apart.0 E.1 E.2 guard.1)
-    ∙ moved op.key op.was op.now F ops w forms.1 apart.1 agree.1 guard.1 apart.0 agree.0 c.0 c.1
+pub any_order : UndoingOrderLaw
+any_order F ops reordered w formed apart agree guard same =
+    (order_keeps (λ (l : List Op). CanUndo F l × (undone F l ≡ undone F ops)) (λ A x y B h. (can_exchanged F A x y B h.0, undone_exchanged F A x y B w h.0 ∙ h.1)) ops reordered same (record { formed = formed; apart = apart; agree = agree; guard = guard }, refl)).1

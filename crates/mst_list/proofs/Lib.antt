@@ -9,6 +9,7 @@ pub mod Judged
 pub mod Firsts
 pub mod Clashes
 pub mod Exact
+pub mod Orders
 pub mod Commute
 pub mod Formed
 pub mod Seen

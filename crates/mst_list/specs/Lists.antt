@@ -1,6 +1,7 @@
 -- Lists with holes, and maps. (Repository specification, MST structure. A hole is a subtree that is known by its link alone.)
 use Rattle.std.specs.Prelude.{◌≡◌, ◌≢◌, ℕ, ◌<◌, ◌≤◌, List, [], ◌∷◌, length}
 use Rattle.std.specs.declared.cmp.Ordering.TheVariants.{Less}
+use Rattle.mst_list.specs.declared.item.TheConstants.{MOST_KEY_BYTES}
 use Rattle.mst_list.specs.declared.item.Item.{Item}
 use Rattle.mst_list.specs.declared.item.Item.TheVariants.{Key, Hole}
 use Rattle.at_cid.specs.Link.{IsBytes, IsLink, IsNodeLink}
@@ -59,10 +60,10 @@ abbrev pub NoLoneHole : List Item → Type 0
 NoLoneHole (Hole l c ∷ []) = ⊥
 NoLoneHole _ = Unit {0}
 
--- a key has 1 to 830 bytes
+-- a key has 1 byte to the most bytes of a key
 pub record IsKey (k : List ℕ) : Type 0 where
   pub least : 1 ≤ length k
-  pub most : length k ≤ 830
+  pub most : length k ≤ MOST_KEY_BYTES
   pub bytes : IsBytes k
 
 -- keys and links have their forms; the link of a hole is of kind Node, since a subtree is a node

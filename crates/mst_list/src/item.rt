@@ -15,16 +15,19 @@ pub enum Item {
     Hole(u8, Cid),
 }
 
-/// Whether a key has 1 to 830 bytes (own limit: the longest path of a record).
+/// The most bytes of a key (own limit: the longest path of a record).
+pub const MOST_KEY_BYTES: usize = 830;
+
+/// Whether a key has 1 to [`MOST_KEY_BYTES`] bytes.
 pub(crate) fn is_key(key: &Octets) -> bool
     ensures { IsTrue result ↔ IsKey key.now }
 {
     let bytes = key.as_slice();
-    !bytes.is_empty() && bytes.len() <= 830
+    !bytes.is_empty() && bytes.len() <= MOST_KEY_BYTES
 }
 
 impl Item {
-    /// Whether a key has 1 to 830 bytes, or a hole's link is of kind Node.
+    /// Whether a key has 1 to [`MOST_KEY_BYTES`] bytes, or a hole's link is of kind Node.
     pub fn is_formed(&self) -> bool
         ensures { IsTrue result ↔ IsFormed self.now }
     {

@@ -8,7 +8,7 @@ use at_cid::Memory;
 use std::alloc::Global;
 use std::marker::Model;
 
-/// Keys, and holes between them. A key has 1 to 830 bytes, and the link of a hole is of kind Node.
+/// Keys, and holes between them. A key has 1 to [`MOST_KEY_BYTES`](crate::MOST_KEY_BYTES) bytes, and the link of a hole is of kind Node.
 #[derive(Debug, Drop)]
 pub struct ItemList {
     pub(crate) items: Vec<Item>,

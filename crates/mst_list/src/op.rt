@@ -24,7 +24,7 @@ fn tell_link(link: &Option<Cid>)
 }
 
 impl Op {
-    /// Whether the key has 1 to 830 bytes, and `was` or `now` is there.
+    /// Whether the key has 1 to [`MOST_KEY_BYTES`](crate::MOST_KEY_BYTES) bytes, and `was` or `now` is there.
     pub fn is_formed(&self) -> bool
         ensures { IsTrue result ↔ IsFormedOp self.entry.now }
     {

@@ -8,7 +8,7 @@ use at_cid::Memory;
 use std::alloc::Global;
 use std::marker::Model;
 
-/// Fewer than 2^32 operations, in order. Each has a key of 1 to 830 bytes, and does something.
+/// Fewer than 2^32 operations, in order. Each has a key of 1 to [`MOST_KEY_BYTES`](crate::MOST_KEY_BYTES) bytes, and does something.
 #[derive(Debug, Drop)]
 pub struct OpList {
     pub(crate) ops: Vec<Op>,

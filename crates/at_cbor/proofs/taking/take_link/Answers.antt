@@ -1,0 +1,5 @@
+use Rattle.at_cbor.proofs.Taken.{link_long}
+use Rattle.at_cbor.proofs.taking.take_link.Goals as goal
+
+pub split_at-requires : goal.split_at-requires
+split_at-requires c = link_long c.in-Some.rest.now c.in-Some-parse_binary.link c.in-Some-parse_binary.ensures

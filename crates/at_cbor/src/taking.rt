@@ -1,0 +1,125 @@
+//! Pieces taken from the front of some bytes, each with what stands behind it. Nothing is taken where the piece doesn't
+//! stand in front in its one spelling.
+
+ghost use Rattle.std.specs.Prelude.{◌≡◌, ◌∷◌, [], IfOk, option_map};
+ghost use Rattle.at_cbor.specs.Taking.{behind, number_at, string_at, link_from_front, child_at, item_from_front, whole_item};
+ghost use Rattle.at_cbor.specs.View.{item_of};
+
+use crate::decoding::DEPTH;
+use crate::fault::Stop;
+use crate::head::{argument, least};
+use crate::reading::read_item;
+use crate::value::Value;
+use at_cid::{Cid, Kind, Memory, parse_binary};
+use std::alloc::Global;
+
+/// The bytes behind the front of a link: tag 42, the head of a byte string of 37 bytes, and its first byte.
+#[tactic(auto, unfolding(crate::specs::Taking::behind))]
+fn take_link_front(bytes: &[u8]) -> Option<&[u8]>
+    ensures { option_map (λ rest. rest.now) result ≡ behind (0xd8 ∷ 0x2a ∷ 0x58 ∷ 0x25 ∷ 0x00 ∷ []) bytes.now }
+{
+    match bytes {
+        [0xd8, 0x2a, 0x58, 0x25, 0x00, rest @ ..] => Some(rest),
+        _ => None,
+    }
+}
+
+/// The argument, below 2^64, of a head of this major type in its shortest form (RFC 8949, section 3).
+#[tactic(auto, unfolding(crate::specs::Taking::number_at))]
+pub fn take_number(major: u8, bytes: &[u8]) -> Option<(u64, &[u8])>
+    ensures { option_map (λ x. (x.0, x.1.now)) result ≡ number_at major bytes.now }
+{
+    let [first, rest @ ..] = bytes else {
+        return None;
+    };
+    let info = *first % 32;
+    if *first / 32 != major || info >= 28 {
+        return None;
+    }
+    let Some((number, rest)) = argument(info, rest) else {
+        return None;
+    };
+    if number < least(info) {
+        return None;
+    }
+    Some((number, rest))
+}
+
+/// How many items the list at the front has, and the bytes behind its head, where they begin.
+pub fn take_list_front(bytes: &[u8]) -> Option<(u64, &[u8])>
+    ensures { option_map (λ x. (x.0, x.1.now)) result ≡ number_at 4 bytes.now }
+{
+    take_number(4, bytes)
+}
+
+/// The byte string at the front.
+#[tactic(auto, unfolding(crate::specs::Taking::string_at))]
+pub fn take_bytes(bytes: &[u8]) -> Option<(&[u8], &[u8])>
+    ensures { option_map (λ x. (x.0.now, x.1.now)) result ≡ string_at bytes.now }
+{
+    let Some((n, rest)) = take_number(2, bytes) else {
+        return None;
+    };
+    let n = n as usize;
+    if rest.len() < n {
+        return None;
+    }
+    Some(rest.split_at(n))
+}
+
+/// The link at the front.
+#[tactic(auto, unfolding(crate::specs::Taking::link_from_front))]
+pub fn take_link(bytes: &[u8]) -> Option<(Cid, &[u8])>
+    ensures { option_map (λ x. (x.0, x.1.now)) result ≡ link_from_front bytes.now }
+{
+    let Some(rest) = take_link_front(bytes) else {
+        return None;
+    };
+    let Some(link) = parse_binary(rest) else {
+        return None;
+    };
+    Some((link, rest.split_at(36).1))
+}
+
+/// The link of kind Node at the front, or none where null stands there.
+#[tactic(auto, unfolding(crate::specs::Taking::child_at))]
+pub fn take_child(bytes: &[u8]) -> Option<(Option<Cid>, &[u8])>
+    ensures { option_map (λ x. (x.0, x.1.now)) result ≡ child_at bytes.now }
+{
+    let [first, behind_null @ ..] = bytes else {
+        return None;
+    };
+    if *first == 0xf6 {
+        return Some((None, behind_null));
+    }
+    let Some((link, rest)) = take_link(bytes) else {
+        return None;
+    };
+    if link.kind() != Kind::Node {
+        return None;
+    }
+    Some((Some(link), rest))
+}
+
+/// The item at the front, in which at most 64 lists and maps are in one another.
+#[tactic(auto, unfolding(crate::specs::Taking::item_from_front))]
+pub fn take_item(alloc: Global, bytes: &[u8]) -> Result<Option<(Value, &[u8])>, Memory>
+    ensures { IfOk result (λ taken. option_map (λ x. (item_of x.0, x.1.now)) taken ≡ item_from_front bytes.now) }
+{
+    match read_item(alloc, DEPTH, bytes) {
+        Ok(taken) => Ok(Some(taken)),
+        Err(Stop::Wanting) => Err(Memory),
+        Err(Stop::At(_, _)) => Ok(None),
+    }
+}
+
+/// The item that fills the bytes: they are its one spelling, and at most 64 lists and maps are in one another in it.
+#[tactic(auto, unfolding(crate::specs::Taking::whole_item))]
+pub fn decode_whole(alloc: Global, bytes: &[u8]) -> Result<Option<Value>, Memory>
+    ensures { IfOk result (λ whole. option_map item_of whole ≡ whole_item bytes.now) }
+{
+    match take_item(alloc, bytes)? {
+        Some((value, [])) => Ok(Some(value)),
+        _ => Ok(None),
+    }
+}
