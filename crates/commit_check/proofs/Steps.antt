@@ -14,8 +14,7 @@ use Rattle.mst_node.specs.Covers.{AreUnderNodeLinks}
 use Rattle.mst_node.specs.Reading.{node_of}
 use Rattle.mst_node.specs.Trees.{root, IsView}
 use Rattle.mst_node.proofs.Readers.{node_of_is_reader}
-use Rattle.mst_view.specs.Reading.{tree_at}
-use Rattle.mst_view.proofs.Finds.{fault_no_view, no_block}
+use Rattle.mst_view.proofs.TreeAt.{fault_no_view, fault_once, fault_there, no_block}
 use Rattle.mst_law.specs.Laws.{IsStep}
 use Rattle.mst_law.proofs.Links.{sound_link, complete_link}
 use Rattle.mst_law.proofs.OneView.{one_view}
@@ -45,20 +44,13 @@ complete_by (op ∷ ops) blocks former later linked formed apart c =
 
 bad_no_view : (blocks : BlockMap) (later link : List ℕ) (F : List Item) → IsBadTree blocks later link → IsView blocks later F → ⊥
 bad_no_view blocks later link F (inl gone) view = no_block blocks later F gone.1 view
-bad_no_view blocks later link F (inr bad) view = fault_no_view node_of node_of_is_reader blocks later bad.0 link F bad.1 bad.2 view
-
-err_once : {X : Type 0} (r : Result X (List ℕ)) (one other : List ℕ) → r ≡ Err one → r ≡ Err other → one ≡ other
-err_once r one other p q = cc
+bad_no_view blocks later link F (inr bad) view = fault_no_view blocks later link F bad view
 
 bad_once : (blocks : BlockMap) (later one other : List ℕ) → IsBadTree blocks later one → IsBadTree blocks later other → one ≡ other
 bad_once blocks later one other (inl a) (inl b) = a.0 ∙ sym b.0
-bad_once blocks later one other (inl a) (inr b) = let gone = a.1 in let there = b.1 in absurd (cc)
-bad_once blocks later one other (inr a) (inl b) = let there = a.1 in let gone = b.1 in absurd (cc)
-bad_once blocks later one other (inr a) (inr b) =
-    let p = a.1 in let q = b.1 in
-    let same : a.0 ≡ b.0 = cc in
-    let P : List ℕ → Type 0 = λ x. tree_at node_of blocks later x ≡ Err one in
-    err_once (tree_at node_of blocks later b.0) one other (subst P same a.2) b.2
+bad_once blocks later one other (inl a) (inr b) = let gone = a.1 in let there = (fault_there blocks later other b).1 in absurd (cc)
+bad_once blocks later one other (inr a) (inl b) = let there = (fault_there blocks later one a).1 in let gone = b.1 in absurd (cc)
+bad_once blocks later one other (inr a) (inr b) = fault_once blocks later one other a b
 
 -- undoing on a view has one answer
 

@@ -16,7 +16,7 @@ use Rattle.mst_list.specs.Faults.{Disagrees, IsUncovered, IsFirst}
 use Rattle.mst_node.specs.Reading.{node_of}
 use Rattle.mst_node.specs.Covers.{HoldsCover, AreDistinct}
 use Rattle.mst_node.specs.Trees.{root, nodes, Distinct, IsView}
-use Rattle.mst_view.specs.Reading.{tree_at}
+use Rattle.mst_view.specs.ViewFault.{IsAtFault}
 use Rattle.mst_law.specs.Laws.{IsStep}
 use Rattle.commit_check.specs.declared.expect.Expect.{Expect}
 
@@ -73,9 +73,9 @@ LeadsBy (op ∷ ops) blocks former later = (F : List Item) × IsStep blocks form
 abbrev pub Leads : CommitEvent → BlockMap → List ℕ → List ℕ → Type 0
 Leads e blocks former later = LeadsBy (edits_of e) blocks former later
 
--- the block of `data` is missing, or the block under the link is the first one at fault
+-- the block of `data` is missing, or the link is that of the first block at fault
 abbrev pub IsBadTree : BlockMap → List ℕ → List ℕ → Type 0
-IsBadTree blocks later link = ((link ≡ later) × (finite.get blocks later ≡ None)) ⊎ ((block : List ℕ) × (finite.get blocks later ≡ Some block) × (tree_at node_of blocks later block ≡ Err link))
+IsBadTree blocks later link = ((link ≡ later) × (finite.get blocks later ≡ None)) ⊎ IsAtFault blocks later link
 
 -- undoing the operations on the blocks' view leads back to this root
 pub record LeadsBack (blocks : BlockMap) (later : List ℕ) (ops : List Op) (former : List ℕ) : Type 0 where

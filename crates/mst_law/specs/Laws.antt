@@ -7,7 +7,7 @@ use Rattle.mst_list.specs.declared.op.Op.{Op}
 use Rattle.mst_list.specs.Lists.{IsWellLaid, IsMap}
 use Rattle.mst_list.specs.Edits.{undone, Plays, IsGuarded, AllAgree, AreApart, AreFormedOps}
 use Rattle.mst_node.specs.Trees.{root, nodes, Distinct, Fills, IsView}
-use Rattle.mst_node.specs.NodeFaults.{HasTopFault}
+use Rattle.mst_node.specs.FirstFault.{HasTopFault, in_part}
 use Rattle.mst_node.specs.Covers.{HoldsCover, AreUnderNodeLinks, AreDistinct}
 
 -- A map with the root of a well-laid list is the list with each hole filled, unless different blocks of the two trees share a digest.
@@ -44,7 +44,7 @@ OneViewLaw = (B : FinMap key_cmp (List ℕ)) (r : List ℕ) (F G : List Item) �
 
 -- Where a block is at fault, no list is a view.
 abbrev pub FaultLaw : Type 0
-FaultLaw = (B : FinMap key_cmp (List ℕ)) (r f : List ℕ) (F : List Item) → HasTopFault B r f → IsView B r F → ⊥
+FaultLaw = (B : FinMap key_cmp (List ℕ)) (r f : List ℕ) (F : List Item) → HasTopFault in_part B r f → IsView B r F → ⊥
 
 -- Soundness of a link: on every map with the former root, linked operations on different keys play, and give a map whose tree has the later root, unless different blocks of that map's tree and of the undone view share a digest.
 abbrev pub SoundLinkLaw : Type 0

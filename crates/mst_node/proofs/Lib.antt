@@ -17,3 +17,8 @@ pub mod Follows
 pub mod Spelled
 pub mod Rounds
 pub mod Lengths
+pub mod Passes
+pub mod Steps
+pub mod Finds
+pub mod Gives
+pub mod Blames

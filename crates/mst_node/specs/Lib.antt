@@ -6,3 +6,6 @@ pub mod NodeFaults
 pub mod Reading
 pub mod Taking
 pub mod Laws
+pub mod Fits
+pub mod FirstFault
+pub mod TreeReading

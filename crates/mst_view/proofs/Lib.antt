@@ -1,6 +1,5 @@
-pub mod Passes
-pub mod Finds
-pub mod Gives
+pub mod Doubled
+pub mod TreeAt
 pub mod Spelled
 pub mod Steps
 pub mod Tops
@@ -8,5 +7,4 @@ pub mod HoleLinks
 pub mod Heights
 pub mod Forms
 pub mod NoView
-pub mod Blames
 pub mod Sizes

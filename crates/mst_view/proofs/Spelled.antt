@@ -14,7 +14,7 @@ use Rattle.mst_view.specs.Layered.{IsAtLayer, LiesBelow, AllAt, below_items, res
 use Rattle.mst_view.specs.declared.branch.Below.{Below}
 use Rattle.mst_view.specs.declared.branch.Below.TheVariants.{Empty, Hole as Stub, Tree}
 use Rattle.mst_view.specs.declared.branch.Part.{Part}
-use Rattle.mst_view.proofs.Gives.{tree_link, entries_joined, keys_joined, keys_up}
+use Rattle.mst_node.proofs.Gives.{tree_link, entries_joined, keys_joined, keys_up}
 
 pub below_keys : (h : ℕ) (b : Below) → LiesBelow h b → KeysUnder h (below_items h b)
 below_keys h Empty l = tt

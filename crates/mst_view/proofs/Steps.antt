@@ -1,20 +1,20 @@
 -- Steps of a reading.
-use Rattle.std.proofs.Common.{◌≡◌, ℕ, zero, suc, ◌-◌, ◌<◌, Bool, true, false, List, [], ◌∷◌, ◌++◌, length, get_or, refl, sym, ap, ◌∙◌, Option, Some, None, Result, Ok, Err, arith, append_assoc, append-nil, length-append}
-use Rattle.std.specs.FinMap as map
+use Rattle.std.proofs.Common.{◌≡◌, ℕ, zero, suc, ◌<◌, true, List, [], ◌∷◌, ◌++◌, length, get_or, refl, sym, ap, ◌∙◌, Option, Some, None, Result, Ok, Err, arith, append_assoc, append-nil, length-append}
 use Rattle.std.specs.FinMap.{FinMap}
 use Rattle.at_cid.specs.Link.{cid}
 use Rattle.at_car.specs.Blocks.{AreLinked}
 use Rattle.at_car.proofs.Linked.{node_link}
 use Rattle.mst_node.specs.Covers.{AreUnderNodeLinks}
 use Rattle.mst_list.specs.declared.item.Item.{Item}
-use Rattle.mst_list.specs.declared.item.Item.TheVariants.{Key, Hole}
+use Rattle.mst_list.specs.declared.item.Item.TheVariants.{Key}
 use Rattle.at_cid.specs.Order.{key_cmp}
 use Rattle.mst_list.specs.Height.{height}
 use Rattle.mst_node.specs.declared.entry.Entry.{Entry}
 use Rattle.mst_node.specs.NodeBytes.{node_bytes}
-use Rattle.mst_node.specs.Nodes.{Node, IsSoundReader}
+use Rattle.mst_node.specs.Nodes.{IsSoundReader}
 use Rattle.mst_node.specs.NodeFaults.{AreEntriesAt, next_bound}
-use Rattle.mst_view.specs.Reading.{go_on, is_some_node, node_fits, block_of, parts_of, rights_of, part_at}
+use Rattle.mst_node.specs.Fits.{is_some_node}
+use Rattle.mst_node.specs.TreeReading.{go_on, rights_of}
 use Rattle.mst_node.specs.Trees.{spell}
 use Rattle.mst_node.proofs.Readers.{node_of_is_reader}
 use Rattle.mst_view.proofs.Spelled.{spelled_node}
@@ -37,35 +37,6 @@ nodes_under B linked c b kind at = node_link c b (linked c b at) kind.node
 pub above_zero : (h : ℕ) (o : Option (List ℕ)) (c : List ℕ) → (h ≡ 0 → o ≡ None) → o ≡ Some c → 0 < h
 above_zero zero o c f e = let bad = f refl in absurd (cc)
 above_zero (suc h) o c f e = omega arith
-
-module _ (r : List ℕ → Option Node) (B : FinMap key_cmp (List ℕ)) where
-  pub at_zero : (low high c : Option (List ℕ)) → part_at r B zero low high c ≡ Ok []
-  unfolding part_at
-  at_zero low high c = refl
-
-  pub at_none : (h : ℕ) (low high : Option (List ℕ)) → part_at r B h low high None ≡ Ok []
-  unfolding part_at
-  at_none zero low high = refl
-  at_none (suc h) low high = refl
-
-  pub at_hole : (h : ℕ) (low high : Option (List ℕ)) (c : List ℕ) → 0 < h → map.get B c ≡ None → part_at r B h low high (Some c) ≡ Ok (Hole (h - 1) c ∷ [])
-  unfolding part_at
-  at_hole zero low high c n e = absurd (omega arith)
-  at_hole (suc h) low high c n e = let one : suc h - 1 ≡ h = omega arith in rw (e, one) refl
-
-  pub at_block : (h : ℕ) (low high : Option (List ℕ)) (c b : List ℕ) → 0 < h → map.get B c ≡ Some b → part_at r B h low high (Some c) ≡ block_of (node_fits (h - 1) low high) (parts_of (part_at r B (h - 1)) low high) c (r b)
-  unfolding part_at
-  at_block zero low high c b n e = absurd (omega arith)
-  at_block (suc h) low high c b n e = let one : suc h - 1 ≡ h = omega arith in rw (e, one) refl
-
-pub block_bad : (passes : Node → Bool) (parts : Node → Result (List Item) (List ℕ)) (c : List ℕ) (o : Option Node) → o ≡ None → block_of passes parts c o ≡ Err c
-block_bad passes parts c o e = rw e refl
-
-pub block_unfit : (passes : Node → Bool) (parts : Node → Result (List Item) (List ℕ)) (c : List ℕ) (o : Option Node) (n : Node) → o ≡ Some n → passes n ≡ false → block_of passes parts c o ≡ Err c
-block_unfit passes parts c o n e f = rw (e, f) refl
-
-pub block_fit : (passes : Node → Bool) (parts : Node → Result (List Item) (List ℕ)) (c : List ℕ) (o : Option Node) (n : Node) → o ≡ Some n → passes n ≡ true → block_of passes parts c o ≡ parts n
-block_fit passes parts c o n e f = rw (e, f) refl
 
 pub hang_of : (h : ℕ) (low high : Option (List ℕ)) (es : List Entry) → AreEntriesAt h low high es → AllHang h es
 hang_of h low high [] a = tt

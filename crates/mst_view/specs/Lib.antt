@@ -2,9 +2,7 @@ pub mod Value
 pub mod Layered
 pub mod Falls
 pub mod HoleLinks
-pub mod Reading
 pub mod Steps
 pub mod StubTree
 pub mod ViewFault
-pub mod FirstFault
 pub mod Laws

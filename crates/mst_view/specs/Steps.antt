@@ -4,7 +4,7 @@ use Rattle.mst_list.specs.declared.item.Item.{Item}
 use Rattle.mst_list.specs.Height.{height}
 use Rattle.mst_node.specs.declared.entry.Entry.{Entry}
 use Rattle.mst_node.specs.Nodes.{IsChildLink}
-use Rattle.mst_view.specs.Reading.{go_on}
+use Rattle.mst_node.specs.TreeReading.{go_on}
 use Rattle.mst_view.specs.declared.reading.ReadFault.{ReadFault}
 
 -- the link of the block at fault; the want of memory is no fault of a block

@@ -5,19 +5,19 @@ ghost use Rattle.at_cid.specs.Link.{cid};
 ghost use Rattle.at_cid.specs.Memory.{Gives};
 ghost use Rattle.mst_node.specs.NodeBytes.{node_bytes};
 ghost use Rattle.mst_node.specs.Nodes.{IsChildLink};
-ghost use Rattle.mst_node.specs.NodeFaults.{next_bound};
 ghost use Rattle.mst_node.specs.Reading.{node_of};
 ghost use Rattle.mst_node.specs.Trees.{spell};
 ghost use Rattle.mst_view.specs.Layered.{LiesBelow, IsAtLayer, AllAt, below_items, rest_items, below_link, entries_of};
-ghost use Rattle.mst_view.specs.Reading.{is_some_node, parts_of, part_at, rights_of};
+ghost use Rattle.mst_node.specs.FirstFault.{in_part};
+ghost use Rattle.mst_node.specs.Fits.{is_some_node};
+ghost use Rattle.mst_node.specs.TreeReading.{parts_of, part_at, rights_of};
 ghost use Rattle.mst_view.specs.Steps.{AllHang, link_at_fault};
 ghost use Rattle.mst_view.specs.declared.reading.ReadFault.{ReadFault};
 
 use crate::branch::{Below, Branch, Part, Rest};
-use crate::fitting::node_fits;
 use at_car::Blocks;
 use at_cid::{Cid, Memory};
-use mst_node::{Entry, NodeFault, read_node};
+use mst_node::{Entry, NodeFault, next_key, node_fits, read_node};
 use std::alloc::{AllocError, AllocFailed, Global};
 
 /// Why a tree can't be read.
@@ -44,15 +44,6 @@ impl<T: Drop> From<AllocFailed<T>> for ReadFault {
     }
 }
 
-fn next_key<'a>(high: Option<&'a [u8]>, entries: &'a [Entry]) -> Option<&'a [u8]>
-    ensures { option_map (λ k. k.now) result ≡ next_bound (option_map (λ k. k.now) high.entry) entries.now }
-{
-    match entries.first() {
-        Some(entry) => Some(entry.key.as_slice()),
-        None => high,
-    }
-}
-
 /// What hangs under a link below a layer, between two keys.
 #[cycle(read)]
 fn read_below(
@@ -65,7 +56,7 @@ fn read_below(
 ) -> Result<Below, ReadFault>
     requires kind { IsChildLink link }
     requires lowest { layer ≡ 0 → link ≡ None }
-    ensures gives { Gives (below_items layer) link_at_fault result (part_at node_of blocks.now layer (option_map (λ k. k.now) low.entry) (option_map (λ k. k.now) high.entry) link) }
+    ensures gives { Gives (below_items layer) link_at_fault result (part_at in_part node_of blocks.now layer (option_map (λ k. k.now) low.entry) (option_map (λ k. k.now) high.entry) link) }
     ensures lies { IfOk result (LiesBelow layer) }
     ensures keeps { IfOk result (λ below. below_link below ≡ link) }
 {
@@ -107,7 +98,7 @@ fn read_rest(
     entries: &[Entry],
 ) -> Result<Rest, ReadFault>
     requires hang { AllHang layer entries.now }
-    ensures gives { Gives (λ rest. rest_items layer rest.items) link_at_fault result (rights_of (part_at node_of blocks.now layer) (option_map (λ k. k.now) high.entry) entries.now) }
+    ensures gives { Gives (λ rest. rest_items layer rest.items) link_at_fault result (rights_of (part_at in_part node_of blocks.now layer) (option_map (λ k. k.now) high.entry) entries.now) }
     ensures at { IfOk result (λ rest. AllAt layer rest.items) }
     ensures keeps { IfOk result (λ rest. entries_of rest.items ≡ entries.now) }
 {
@@ -150,7 +141,7 @@ pub(crate) fn read_parts(
     requires lowest { layer ≡ 0 → left ≡ None }
     requires hang { AllHang layer entries.now }
     requires link_is { link ≡ cid (node_bytes left entries.now) }
-    ensures gives { Gives (λ branch. branch.items) link_at_fault result (parts_of (part_at node_of blocks.now layer) (option_map (λ k. k.now) low.entry) (option_map (λ k. k.now) high.entry) (left, entries.now)) }
+    ensures gives { Gives (λ branch. branch.items) link_at_fault result (parts_of (part_at in_part node_of blocks.now layer) (option_map (λ k. k.now) low.entry) (option_map (λ k. k.now) high.entry) (left, entries.now)) }
     ensures layer { IfOk result (λ branch. branch.layer ≡ layer) }
     ensures link { IfOk result (λ branch. cid (spell branch.layer branch.items) ≡ link) }
     ensures at { is_some_node (left, entries.now) ≡ true → IfOk result IsAtLayer }

@@ -5,16 +5,15 @@ ghost use Rattle.std.specs.FinMap as map;
 ghost use Rattle.at_cid.specs.Link.{IsNodeLink};
 ghost use Rattle.mst_node.specs.Trees.{IsView};
 ghost use Rattle.mst_node.specs.Reading.{node_of};
-ghost use Rattle.mst_view.specs.Reading.{layer_of_node, top_fits};
+ghost use Rattle.mst_node.specs.Fits.{layer_of_node, top_fits};
 ghost use Rattle.mst_view.specs.ViewFault.{IsViewFault, HasNoView, fault_of};
 
-use crate::fitting::{layer_of, top_fits};
 use crate::holes::holes_differ;
 use crate::reading::{ReadFault, read_parts};
 use crate::stub_tree::StubTree;
 use at_car::Blocks;
 use at_cid::Cid;
-use mst_node::{Node, NodeFault, read_node};
+use mst_node::{Node, NodeFault, layer_of, read_node, top_fits};
 use std::alloc::Global;
 use thiserror::Error;
 

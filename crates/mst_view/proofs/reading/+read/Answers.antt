@@ -7,16 +7,19 @@ use Rattle.mst_node.specs.declared.entry.Entry.{Entry}
 use Rattle.mst_node.specs.NodeBytes.{node_bytes}
 use Rattle.mst_node.specs.Nodes.{IsChildLink}
 use Rattle.mst_node.specs.NodeFaults.{next_bound}
-use Rattle.mst_view.specs.Reading.{may_hang, is_some_node, entries_fit, node_fits, parts_of, part_at, rights_of}
+use Rattle.mst_node.specs.FirstFault.{in_part}
+use Rattle.mst_node.specs.Fits.{may_hang, is_some_node, entries_fit, node_fits}
+use Rattle.mst_node.specs.TreeReading.{parts_of, part_at, rights_of}
 use Rattle.mst_list.specs.Height.{height}
 use Rattle.mst_node.proofs.Spelling.{entry_of}
 use Rattle.mst_view.specs.Value.{Layered}
 use Rattle.mst_view.specs.declared.branch.Part.{Part}
 use Rattle.mst_view.specs.Layered.{AllAt, below_items, rest_items, below_link, entries_of}
 use Rattle.mst_node.proofs.Told.{both_true}
-use Rattle.mst_view.proofs.Passes.{hang_true, fit_true}
+use Rattle.mst_node.proofs.Passes.{hang_true, fit_true}
 use Rattle.mst_view.proofs.Spelled.{at_layer}
-use Rattle.mst_view.proofs.Steps.{sound, nodes_under, above_zero, at_none, at_hole, at_block, block_bad, block_unfit, block_fit, hang_of, at_pushed, entries_pushed, reads_on, fails_on, link_of_parts, some_items}
+use Rattle.mst_node.proofs.Steps.{at_none, at_hole, at_block, block_bad, block_unfit, block_fit}
+use Rattle.mst_view.proofs.Steps.{sound, nodes_under, above_zero, hang_of, at_pushed, entries_pushed, reads_on, fails_on, link_of_parts, some_items}
 use Rattle.mst_view.proofs.reading.+read.Goals as goal
 use Rattle.mst_node.specs.Reading.{node_of}
 use Rattle.mst_view.specs.Steps.{AllHang, link_at_fault, with_front}
@@ -24,27 +27,27 @@ use Rattle.mst_view.specs.Steps.{AllHang, link_at_fault, with_front}
 pub read_below-returns-in_default-clause-gives : goal.read_below-returns-in_default-clause-gives
 read_below-returns-in_default-clause-gives t c =
     let low = option_map (λ k. k.now) c.args.low in let high = option_map (λ k. k.now) c.args.high in
-    ap (part_at node_of c.args.blocks.now c.args.layer low high) c.in_default.is ∙ at_none node_of c.args.blocks.now c.args.layer low high
+    ap (part_at in_part node_of c.args.blocks.now c.args.layer low high) c.in_default.is ∙ at_none in_part node_of c.args.blocks.now c.args.layer low high
 
 pub read_below-returns-in_default-get-clause-gives : goal.read_below-returns-in_default-get-clause-gives
 read_below-returns-in_default-get-clause-gives t c =
     let low = option_map (λ k. k.now) c.args.low in let high = option_map (λ k. k.now) c.args.high in
-    ap (part_at node_of c.args.blocks.now c.args.layer low high) c.in-Some.is
+    ap (part_at in_part node_of c.args.blocks.now c.args.layer low high) c.in-Some.is
     ∙ at_hole node_of c.args.blocks.now c.args.layer low high c.in-Some.link (above_zero c.args.layer c.args.link c.in-Some.link c.requires.lowest c.in-Some.is) (sym c.in_default-get.ensures.is)
 
 pub read_below-returns-in-Err-BadNode-clause-gives : goal.read_below-returns-in-Err-BadNode-clause-gives
 read_below-returns-in-Err-BadNode-clause-gives t c =
     let low = option_map (λ k. k.now) c.args.low in let high = option_map (λ k. k.now) c.args.high in let h = c.args.layer in let B = c.args.blocks.now in let b = c.in-Some-get.block.now in
-    ap (part_at node_of B h low high) c.in-Some.is
-    ∙ at_block node_of B h low high c.in-Some.link b (above_zero h c.args.link c.in-Some.link c.requires.lowest c.in-Some.is) (sym c.in-Some-get.ensures.is)
-    ∙ block_bad (node_fits (h - 1) low high) (parts_of (part_at node_of B (h - 1)) low high) c.in-Some.link (node_of b) (c.in-Err-BadNode.ensures.none c.in-Err-BadNode.field-0-is)
+    ap (part_at in_part node_of B h low high) c.in-Some.is
+    ∙ at_block in_part node_of B h low high c.in-Some.link b (above_zero h c.args.link c.in-Some.link c.requires.lowest c.in-Some.is) (sym c.in-Some-get.ensures.is)
+    ∙ block_bad (node_fits (h - 1) low high) (parts_of (part_at in_part node_of B (h - 1)) low high) c.in-Some.link (node_of b) (c.in-Err-BadNode.ensures.none c.in-Err-BadNode.field-0-is)
 
 pub read_below-returns-then-not-node_fits-clause-gives : goal.read_below-returns-then-not-node_fits-clause-gives
 read_below-returns-then-not-node_fits-clause-gives t c =
     let low = option_map (λ k. k.now) c.args.low in let high = option_map (λ k. k.now) c.args.high in let h = c.args.layer in let B = c.args.blocks.now in let b = c.in-Some-get.block.now in
-    ap (part_at node_of B h low high) c.in-Some.is
-    ∙ at_block node_of B h low high c.in-Some.link b (above_zero h c.args.link c.in-Some.link c.requires.lowest c.in-Some.is) (sym c.in-Some-get.ensures.is)
-    ∙ block_unfit (node_fits (h - 1) low high) (parts_of (part_at node_of B (h - 1)) low high) c.in-Some.link (node_of b) c.in-Ok.node c.in-Ok.ensures.told (sym c.node_fits.ensures ∙ c.if-not-node_fits.true)
+    ap (part_at in_part node_of B h low high) c.in-Some.is
+    ∙ at_block in_part node_of B h low high c.in-Some.link b (above_zero h c.args.link c.in-Some.link c.requires.lowest c.in-Some.is) (sym c.in-Some-get.ensures.is)
+    ∙ block_unfit (node_fits (h - 1) low high) (parts_of (part_at in_part node_of B (h - 1)) low high) c.in-Some.link (node_of b) c.in-Ok.node c.in-Ok.ensures.told (sym c.node_fits.ensures ∙ c.if-not-node_fits.true)
 
 pub read_below-read_parts-requires : goal.read_below-read_parts-requires
 read_below-read_parts-requires t c =
@@ -79,13 +82,13 @@ read_below-returns-in_err-branch-clause-gives t c =
     let node_is : (left, es) ≡ c.in-Ok.node = c.node.view_is in
     let reads : node_of b ≡ Some (left, es) = c.in-Ok.ensures.told ∙ ap Some (sym node_is) in
     let fits : node_fits (h - 1) low high (left, es) ≡ true = ap (node_fits (h - 1) low high) node_is ∙ sym c.node_fits.ensures ∙ c.if-not-node_fits.false in
-    let whole : part_at node_of B h low high c.args.link ≡ parts_of (part_at node_of B (h - 1)) low high (left, c.as_slice.result.now) =
-    ap (part_at node_of B h low high) c.in-Some.is
-    ∙ at_block node_of B h low high c.in-Some.link b (above_zero h c.args.link c.in-Some.link c.requires.lowest c.in-Some.is) (sym c.in-Some-get.ensures.is)
-    ∙ block_fit (node_fits (h - 1) low high) (parts_of (part_at node_of B (h - 1)) low high) c.in-Some.link (node_of b) (left, es) reads fits
-    ∙ ap (λ x. parts_of (part_at node_of B (h - 1)) low high (left, x)) (sym c.as_slice.ensures) in
+    let whole : part_at in_part node_of B h low high c.args.link ≡ parts_of (part_at in_part node_of B (h - 1)) low high (left, c.as_slice.result.now) =
+    ap (part_at in_part node_of B h low high) c.in-Some.is
+    ∙ at_block in_part node_of B h low high c.in-Some.link b (above_zero h c.args.link c.in-Some.link c.requires.lowest c.in-Some.is) (sym c.in-Some-get.ensures.is)
+    ∙ block_fit (node_fits (h - 1) low high) (parts_of (part_at in_part node_of B (h - 1)) low high) c.in-Some.link (node_of b) (left, es) reads fits
+    ∙ ap (λ x. parts_of (part_at in_part node_of B (h - 1)) low high (left, x)) (sym c.as_slice.ensures) in
     let p = err_from_is_err_and c.from_residual.result c.from_residual.ensures.1 in
-    rw (p.1, p.2) (fails_on (link_at_fault c.in_err-branch.field-0.0) (part_at node_of B h low high c.args.link) (parts_of (part_at node_of B (h - 1)) low high (left, c.as_slice.result.now)) whole c.in_err-branch.ensures.gives)
+    rw (p.1, p.2) (fails_on (link_at_fault c.in_err-branch.field-0.0) (part_at in_part node_of B h low high c.args.link) (parts_of (part_at in_part node_of B (h - 1)) low high (left, c.as_slice.result.now)) whole c.in_err-branch.ensures.gives)
 
 pub read_below-returns-clause-gives : goal.read_below-returns-clause-gives
 read_below-returns-clause-gives t c =
@@ -94,11 +97,11 @@ read_below-returns-clause-gives t c =
     let node_is : (left, es) ≡ c.in-Ok.node = c.node.view_is in
     let reads : node_of b ≡ Some (left, es) = c.in-Ok.ensures.told ∙ ap Some (sym node_is) in
     let fits : node_fits (h - 1) low high (left, es) ≡ true = ap (node_fits (h - 1) low high) node_is ∙ sym c.node_fits.ensures ∙ c.if-not-node_fits.false in
-    let whole : part_at node_of B h low high c.args.link ≡ parts_of (part_at node_of B (h - 1)) low high (left, c.as_slice.result.now) =
-    ap (part_at node_of B h low high) c.in-Some.is
-    ∙ at_block node_of B h low high c.in-Some.link b (above_zero h c.args.link c.in-Some.link c.requires.lowest c.in-Some.is) (sym c.in-Some-get.ensures.is)
-    ∙ block_fit (node_fits (h - 1) low high) (parts_of (part_at node_of B (h - 1)) low high) c.in-Some.link (node_of b) (left, es) reads fits
-    ∙ ap (λ x. parts_of (part_at node_of B (h - 1)) low high (left, x)) (sym c.as_slice.ensures) in
+    let whole : part_at in_part node_of B h low high c.args.link ≡ parts_of (part_at in_part node_of B (h - 1)) low high (left, c.as_slice.result.now) =
+    ap (part_at in_part node_of B h low high) c.in-Some.is
+    ∙ at_block in_part node_of B h low high c.in-Some.link b (above_zero h c.args.link c.in-Some.link c.requires.lowest c.in-Some.is) (sym c.in-Some-get.ensures.is)
+    ∙ block_fit (node_fits (h - 1) low high) (parts_of (part_at in_part node_of B (h - 1)) low high) c.in-Some.link (node_of b) (left, es) reads fits
+    ∙ ap (λ x. parts_of (part_at in_part node_of B (h - 1)) low high (left, x)) (sym c.as_slice.ensures) in
     whole ∙ c.in_ok-branch.ensures.gives ∙ ap (λ (v : Layered). Ok v.items) (sym c.in_ok-new.ensures.ok)
 
 pub read_parts-invariant_of-result : goal.read_parts-invariant_of-result
@@ -129,16 +132,16 @@ read_rest-loop-i-preserved t c =
     let H : List Entry → Type 0 = λ x. AllHang h x in let hang = subst H here c.loop-i.invariant.hang in
     let A : List Part → Type 0 = λ x. AllAt h x in
     let next : option_map (λ k. k.now) c.next_key.result ≡ next_bound high more = (rw add-one at c.next_key.ensures) ∙ ap (next_bound high) (take_all (length es - suc i) more (let long = length-drop (suc i) es in omega arith)) in
-    let one : part_at node_of B h (Some e.key) (next_bound high more) e.right ≡ Ok (below_items h below) =
-    ap (λ k. part_at node_of B h (Some k) (next_bound high more) e.right) (sym c.as_slice.ensures.value) ∙ ap (λ x. part_at node_of B h (Some c.as_slice.result.now) x e.right) (sym next) ∙ c.in_ok-below.ensures.gives in
+    let one : part_at in_part node_of B h (Some e.key) (next_bound high more) e.right ≡ Ok (below_items h below) =
+    ap (λ k. part_at in_part node_of B h (Some k) (next_bound high more) e.right) (sym c.as_slice.ensures.value) ∙ ap (λ x. part_at in_part node_of B h (Some c.as_slice.result.now) x e.right) (sym next) ∙ c.in_ok-below.ensures.gives in
     let same : entry_of key e.value (below_link below) ≡ e = ap (λ k. entry_of k e.value (below_link below)) copied ∙ ap (λ r. entry_of e.key e.value r) c.in_ok-below.ensures.keeps in
     rw add-one (record {
       in_range = let low = c.loop-i-test.true in omega arith;
       at = subst A (sym pushed) (at_pushed h rest p c.loop-i.invariant.at (ap height copied ∙ hang.0.0) c.in_ok-below.ensures.lies);
       hang = hang.1;
       keeps = ap (λ x. entries_of x ++ more) pushed ∙ entries_pushed rest p more ∙ ap (λ x. entries_of rest ++ (x ∷ more)) same ∙ ap (λ x. entries_of rest ++ x) (sym here) ∙ c.loop-i.invariant.keeps;
-      reads = ap (λ x. with_front (rest_items h x) (rights_of (part_at node_of B h) high more)) pushed
-          ∙ reads_on (part_at node_of B h) h high rest p e more copied refl one
-          ∙ ap (λ x. with_front (rest_items h rest) (rights_of (part_at node_of B h) high x)) (sym here)
+      reads = ap (λ x. with_front (rest_items h x) (rights_of (part_at in_part node_of B h) high more)) pushed
+          ∙ reads_on (part_at in_part node_of B h) h high rest p e more copied refl one
+          ∙ ap (λ x. with_front (rest_items h rest) (rights_of (part_at in_part node_of B h) high x)) (sym here)
           ∙ c.loop-i.invariant.reads;
     })

@@ -1,6 +1,7 @@
 use Rattle.std.proofs.Common.{length, ◌-◌, ◌≡◌, ◌++◌, ◌+◌, ◌*◌, ◌≤◌, drop}
 use Rattle.std.specs.Prelude.{option_map}
-use Rattle.mst_view.specs.Reading.{part_at, rights_of}
+use Rattle.mst_node.specs.FirstFault.{in_part}
+use Rattle.mst_node.specs.TreeReading.{part_at, rights_of}
 use Rattle.mst_view.specs.Layered.{AllAt, rest_items, entries_of}
 use Rattle.mst_view.proofs.reading.+read.Given as goal
 use Rattle.mst_node.specs.Reading.{node_of}
@@ -21,7 +22,7 @@ invariant-read_rest-loop-i l = record {
   at : AllAt l.layer l.rest.items;
   hang : AllHang l.layer (drop l.i l.entries);
   keeps : entries_of l.rest.items ++ drop l.i l.entries ≡ l.entries;
-  reads : with_front (rest_items l.layer l.rest.items) (rights_of (part_at node_of l.blocks l.layer) (option_map (λ k. k.now) l.high) (drop l.i l.entries)) ≡ rights_of (part_at node_of l.blocks l.layer) (option_map (λ k. k.now) l.high) l.entries;
+  reads : with_front (rest_items l.layer l.rest.items) (rights_of (part_at in_part node_of l.blocks l.layer) (option_map (λ k. k.now) l.high) (drop l.i l.entries)) ≡ rights_of (part_at in_part node_of l.blocks l.layer) (option_map (λ k. k.now) l.high) l.entries;
 }
 
 abbrev pub decreases-read_rest-loop-i : goal.decreases-read_rest-loop-i

@@ -6,10 +6,15 @@ use Rattle.mst_node.specs.NodeBytes.{node_bytes}
 use Rattle.mst_node.specs.Trees.{IsView}
 use Rattle.mst_node.specs.NodeFaults.{layer_of}
 use Rattle.mst_node.specs.Reading.{node_of}
-use Rattle.mst_view.specs.Reading.{layer_of_node, top_fits, parts_of, part_at, tree_at}
-use Rattle.mst_view.proofs.Steps.{sound, nodes_under, hang_of}
-use Rattle.mst_view.proofs.Gives.{tree_given}
-use Rattle.mst_view.proofs.Tops.{top_known, tree_of, empty_tree, laid_top}
+use Rattle.mst_node.specs.FirstFault.{in_part}
+use Rattle.mst_node.specs.Fits.{layer_of_node, top_fits}
+use Rattle.mst_node.specs.TreeReading.{parts_of, part_at}
+use Rattle.mst_view.specs.Steps.{link_at_fault}
+use Rattle.mst_view.specs.ViewFault.{IsViewFault}
+use Rattle.mst_view.specs.declared.viewing.ViewFault.{ViewFault}
+use Rattle.mst_view.proofs.Steps.{sound, nodes_under, hang_of, fails_on}
+use Rattle.mst_view.proofs.TreeAt.{tree_at, tree_given}
+use Rattle.mst_view.proofs.Tops.{top_known, tree_of, empty_tree, laid_top, parts_told, doubled_told}
 use Rattle.mst_view.proofs.viewing.view_node.Goals as goal
 
 nil_of : (xs : List Entry) → length xs ≡ 0 → xs ≡ []
@@ -57,8 +62,8 @@ from_top-requires-in-Ok-true c =
     let B = c.args.blocks.now in let r = c.args.root in let left = c.node.inside.left in let es = c.node.inside.entries in let there = c.requires.there in let F = c.in-Ok.branch.items in
     let node_is : (left, es) ≡ c.args.node.now = c.node.view_is in let under = nodes_under B c.tell_linked.ensures in
     let layer : c.args.layer ≡ layer_of es = c.requires.layer ∙ ap layer_of_node (sym node_is) in
-    let parts : parts_of (part_at node_of B (layer_of es)) None None (left, es) ≡ Ok F =
-    ap (λ m. parts_of (part_at node_of B m) None None (left, es)) (sym layer) ∙ ap (λ x. parts_of (part_at node_of B c.args.layer) None None (left, x)) (sym c.as_slice-entries.ensures) ∙ c.in-Ok.ensures.gives in
+    let parts : parts_of (part_at in_part node_of B (layer_of es)) None None (left, es) ≡ Ok F =
+    ap (λ m. parts_of (part_at in_part node_of B m) None None (left, es)) (sym layer) ∙ ap (λ x. parts_of (part_at in_part node_of B c.args.layer) None None (left, x)) (sym c.as_slice-entries.ensures) ∙ c.in-Ok.ensures.gives in
     let reads = there.2 ∙ ap Some (sym node_is) in
     let tree : tree_at node_of B r there.0 ≡ Ok F = tree_of node_of sound B under r there.0 (left, es) F reads (ap top_fits node_is ∙ c.requires.fits) parts (sym c.in-Ok-true.ensures ∙ c.in-Ok-true.field-0-test) in
     let g = laid_top node_of sound B under r there.0 (left, es) F c.requires.kind there.1 reads tree in
@@ -69,8 +74,29 @@ returns-in-Ok-true-clause-view c =
     let B = c.args.blocks.now in let r = c.args.root in let left = c.node.inside.left in let es = c.node.inside.entries in let there = c.requires.there in let F = c.in-Ok.branch.items in
     let node_is : (left, es) ≡ c.args.node.now = c.node.view_is in let under = nodes_under B c.tell_linked.ensures in
     let layer : c.args.layer ≡ layer_of es = c.requires.layer ∙ ap layer_of_node (sym node_is) in
-    let parts : parts_of (part_at node_of B (layer_of es)) None None (left, es) ≡ Ok F =
-    ap (λ m. parts_of (part_at node_of B m) None None (left, es)) (sym layer) ∙ ap (λ x. parts_of (part_at node_of B c.args.layer) None None (left, x)) (sym c.as_slice-entries.ensures) ∙ c.in-Ok.ensures.gives in
+    let parts : parts_of (part_at in_part node_of B (layer_of es)) None None (left, es) ≡ Ok F =
+    ap (λ m. parts_of (part_at in_part node_of B m) None None (left, es)) (sym layer) ∙ ap (λ x. parts_of (part_at in_part node_of B c.args.layer) None None (left, x)) (sym c.as_slice-entries.ensures) ∙ c.in-Ok.ensures.gives in
     let tree : tree_at node_of B r there.0 ≡ Ok F = tree_of node_of sound B under r there.0 (left, es) F (there.2 ∙ ap Some (sym node_is)) (ap top_fits node_is ∙ c.requires.fits) parts (sym c.in-Ok-true.ensures ∙ c.in-Ok-true.field-0-test) in
     let V : List Item → Type 0 = λ x. IsView B r x in
     subst V (sym c.from_top-in-Ok-true.ensures) (tree_given node_of sound B under r there.0 F c.requires.kind there.1 tree)
+
+pub returns-in-Err-clause-fault : goal.returns-in-Err-clause-fault
+returns-in-Err-clause-fault c =
+    let B = c.args.blocks.now in let r = c.args.root in let left = c.node.inside.left in let es = c.node.inside.entries in let there = c.requires.there in
+    let node_is : (left, es) ≡ c.args.node.now = c.node.view_is in
+    let layer : c.args.layer ≡ layer_of es = c.requires.layer ∙ ap layer_of_node (sym node_is) in
+    let whole : parts_of (part_at in_part node_of B (layer_of es)) None None (left, es) ≡ parts_of (part_at in_part node_of B c.args.layer) None None (left, c.as_slice-entries.result.now) =
+    ap (λ m. parts_of (part_at in_part node_of B m) None None (left, es)) (sym layer) ∙ ap (λ x. parts_of (part_at in_part node_of B c.args.layer) None None (left, x)) (sym c.as_slice-entries.ensures) in
+    let told = parts_told B (nodes_under B c.tell_linked.ensures) r there.0 c.requires.kind there.1 (left, es) c.in-Err.fault (there.2 ∙ ap Some (sym node_is)) (ap top_fits node_is ∙ c.requires.fits)
+    (fails_on (link_at_fault c.in-Err.fault) (parts_of (part_at in_part node_of B (layer_of es)) None None (left, es)) (parts_of (part_at in_part node_of B c.args.layer) None None (left, c.as_slice-entries.result.now)) whole c.in-Err.ensures.gives) in
+    let V : ViewFault → Type 0 = λ x. IsViewFault B r x in
+    subst V (sym c.fault_of.ensures) told
+
+pub returns-in-Ok-false-clause-fault : goal.returns-in-Ok-false-clause-fault
+returns-in-Ok-false-clause-fault c =
+    let B = c.args.blocks.now in let r = c.args.root in let left = c.node.inside.left in let es = c.node.inside.entries in let there = c.requires.there in let F = c.in-Ok.branch.items in
+    let node_is : (left, es) ≡ c.args.node.now = c.node.view_is in
+    let layer : c.args.layer ≡ layer_of es = c.requires.layer ∙ ap layer_of_node (sym node_is) in
+    let parts : parts_of (part_at in_part node_of B (layer_of es)) None None (left, es) ≡ Ok F =
+    ap (λ m. parts_of (part_at in_part node_of B m) None None (left, es)) (sym layer) ∙ ap (λ x. parts_of (part_at in_part node_of B c.args.layer) None None (left, x)) (sym c.as_slice-entries.ensures) ∙ c.in-Ok.ensures.gives in
+    doubled_told B (nodes_under B c.tell_linked.ensures) r there.0 c.requires.kind there.1 (left, es) F (there.2 ∙ ap Some (sym node_is)) (ap top_fits node_is ∙ c.requires.fits) parts (sym c.in-Ok-false.ensures ∙ c.in-Ok-false.field-0-test)

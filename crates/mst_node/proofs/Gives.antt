@@ -1,5 +1,5 @@
 -- What the reading gives is a view.
-use Rattle.std.proofs.Common.{◌≡◌, ℕ, zero, suc, ◌<◌, ◌≤◌, eqb, cond, true, false, ◌&&◌, List, [], ◌∷◌, ◌++◌, length, refl, sym, ap, ◌∙◌, subst, Option, Some, None, Ok, Err, ◌⊎◌, inl, inr, arith}
+use Rattle.std.proofs.Common.{◌≡◌, ℕ, zero, suc, ◌<◌, ◌≤◌, eqb, true, ◌&&◌, List, [], ◌∷◌, ◌++◌, length, refl, sym, ap, ◌∙◌, subst, Option, Some, None, Ok, ◌⊎◌, inl, inr, arith}
 use Rattle.std.specs.FinMap as map
 use Rattle.std.specs.FinMap.{FinMap}
 use Rattle.at_cid.specs.Link.{cid, IsNodeLink}
@@ -13,7 +13,7 @@ use Rattle.mst_list.proofs.Places.{AllBelow}
 use Rattle.mst_list.proofs.Fills.{all_above_join, ascends_join, is_below_of, formed_join, IsBelow}
 use Rattle.mst_node.specs.declared.entry.Entry.{Entry}
 use Rattle.mst_node.specs.NodeBytes.{node_bytes}
-use Rattle.mst_node.specs.Trees.{first_part, entries_at, part_link, spell, right_nodes, part_nodes, nodes_at, top_layer, AllThere, IsView, KeysUnder, HolesUnder}
+use Rattle.mst_node.specs.Trees.{first_part, entries_at, part_link, spell, right_nodes, part_nodes, nodes_at, top_layer, AllThere, IsWalk, KeysUnder, HolesUnder}
 use Rattle.mst_node.specs.Covers.{IsOver, IsUnder, AreUnderNodeLinks}
 use Rattle.mst_node.specs.Nodes.{IsChildLink, Node, IsSoundReader}
 use Rattle.mst_node.specs.NodeFaults.{AreEntriesAt, next_bound, layer_of}
@@ -23,12 +23,12 @@ use Rattle.mst_node.proofs.Parts.{IsPart}
 use Rattle.mst_node.proofs.Joins.{StartsAt, near_joined, lead_part, lead_joined, holes_joined, first_joined, rights_joined, there_joined, missing_joined, there_part}
 use Rattle.mst_node.proofs.Layers.{top_under}
 use Rattle.mst_node.proofs.Lies.{LiesIn, AllOver, AllUnder, over_of_above, linked}
-use Rattle.mst_view.specs.Reading.{go_on, may_hang, is_some_node, may_top, node_fits, top_fits, block_of, or_hole, parts_of, rights_of, part_at, top_of, tree_at}
-use Rattle.mst_view.specs.Reading as reading
+use Rattle.mst_node.specs.FirstFault.{in_part}
+use Rattle.mst_node.specs.Fits.{may_hang, is_some_node, may_top, node_fits, top_fits}
+use Rattle.mst_node.specs.TreeReading.{go_on, block_of, or_missing, parts_of, rights_of, part_at, top_of}
+use Rattle.mst_node.specs.Fits as fits
 use Rattle.mst_node.proofs.Told.{both_true}
-use Rattle.mst_view.proofs.Passes.{fit_true, hang_true, differ_true, went_on, passed, there_or_hole}
-use Rattle.mst_view.specs.HoleLinks.{all_differ, hole_links}
-use Rattle.mst_view.specs.Laws.{IsWalk}
+use Rattle.mst_node.proofs.Passes.{fit_true, hang_true, went_on, passed, there_or_hole}
 
 -- lists that are put together
 pub keys_joined : (m : ℕ) (A G : List Item) → KeysUnder m A → KeysUnder m G → KeysUnder m (A ++ G)
@@ -126,7 +126,7 @@ module _ (read : List ℕ → Option Node) (reader : IsSoundReader read) (B : Fi
     pub link : part_link h P ≡ c
 
   abbrev PartsGiven : ℕ → Type 0
-  PartsGiven h = (low high : Option (List ℕ)) (c : Option (List ℕ)) (P : List Item) → IsChildLink c → (h ≡ 0 → c ≡ None) → part_at read B h low high c ≡ Ok P → IsFound h low high c P
+  PartsGiven h = (low high : Option (List ℕ)) (c : Option (List ℕ)) (P : List Item) → IsChildLink c → (h ≡ 0 → c ≡ None) → part_at in_part read B h low high c ≡ Ok P → IsFound h low high c P
 
   -- what is said of the list from the first entry on
   pub record IsFoundRest (h : ℕ) (low high : Option (List ℕ)) (es : List Entry) (G : List Item) : Type 0 where
@@ -137,12 +137,12 @@ module _ (read : List ℕ → Option Node) (reader : IsSoundReader read) (B : Fi
     pub starts : StartsAt h G
     pub headed : IsHeaded es G
 
-  rests_given : (h : ℕ) → PartsGiven h → (low high : Option (List ℕ)) (es : List Entry) (G : List Item) → AreEntriesAt h low high es → rights_of (part_at read B h) high es ≡ Ok G → IsFoundRest h low high es G
+  rests_given : (h : ℕ) → PartsGiven h → (low high : Option (List ℕ)) (es : List Entry) (G : List Item) → AreEntriesAt h low high es → rights_of (part_at in_part read B h) high es ≡ Ok G → IsFoundRest h low high es G
   rests_given h ih low high [] G a e =
       let is : G ≡ [] = cc in let R : List Item → Type 0 = λ x. IsFoundRest h low high [] x in
       subst R (sym is) (record { part = record { keys = tt; holes = tt; near = tt; formed = tt; missing = tt }; lies = record { ascends = tt; over = tt; under = tt }; there = tt; entries = refl; starts = tt; headed = refl })
   rests_given h ih low high (x ∷ es) G a e =
-      let below = part_at read B h in
+      let below = part_at in_part read B h in
       let s = went_on (below (Some x.key) (next_bound high es) x.right) (λ P. go_on (rights_of below high es) (λ T. Ok (Key x.key x.value ∷ (P ++ T)))) G e in
       let t = went_on (rights_of below high es) (λ T. Ok (Key x.key x.value ∷ (s.0 ++ T))) G s.2 in
       let P = s.0 in let T = t.0 in
@@ -190,9 +190,9 @@ module _ (read : List ℕ → Option Node) (reader : IsSoundReader read) (B : Fi
     pub first_holes : HolesUnder h first
     pub headed : IsHeaded n.1 rest
 
-  node_given : (h : ℕ) → PartsGiven h → (low high : Option (List ℕ)) (n : Node) (F : List Item) → IsChildLink n.0 → (h ≡ 0 → n.0 ≡ None) → AreEntriesAt h low high n.1 → parts_of (part_at read B h) low high n ≡ Ok F → IsFoundNode h low high n F
+  node_given : (h : ℕ) → PartsGiven h → (low high : Option (List ℕ)) (n : Node) (F : List Item) → IsChildLink n.0 → (h ≡ 0 → n.0 ≡ None) → AreEntriesAt h low high n.1 → parts_of (part_at in_part read B h) low high n ≡ Ok F → IsFoundNode h low high n F
   node_given h ih low high n F kind lowest a e =
-      let below = part_at read B h in let es = n.1 in
+      let below = part_at in_part read B h in let es = n.1 in
       let s = went_on (below low (next_bound high es) n.0) (λ P. go_on (rights_of below high es) (λ T. Ok (P ++ T))) F e in
       let t = went_on (rights_of below high es) (λ T. Ok (s.0 ++ T)) F s.2 in
       let P = s.0 in let T = t.0 in
@@ -235,12 +235,12 @@ module _ (read : List ℕ → Option Node) (reader : IsSoundReader read) (B : Fi
   some_length h (None, e ∷ es) [] rest s l k = let R : List Item → Type 0 = λ z. 0 < length z in subst R (sym k.1) (omega arith)
 
   block_given : (h : ℕ) → PartsGiven h → (low high : Option (List ℕ)) (c b : List ℕ) (F : List Item) → IsNodeLink c → map.get B c ≡ Some b
-      → block_of (node_fits h low high) (parts_of (part_at read B h) low high) c (read b) ≡ Ok F → IsFound (suc h) low high (Some c) F
+      → block_of (node_fits h low high) (parts_of (part_at in_part read B h) low high) c (read b) ≡ Ok F → IsFound (suc h) low high (Some c) F
   block_given h ih low high c b F kind at e =
-      let s = passed (node_fits h low high) (parts_of (part_at read B h) low high) c (read b) F e in
+      let s = passed (node_fits h low high) (parts_of (part_at in_part read B h) low high) c (read b) F e in
       let n = s.0 in
       let g = reader.gives b n s.1 in
-      let t = both_true (may_hang h n.0 && is_some_node n) (reading.entries_fit h low high n.1) s.2 in
+      let t = both_true (may_hang h n.0 && is_some_node n) (fits.entries_fit h low high n.1) s.2 in
       let u = both_true (may_hang h n.0) (is_some_node n) t.0 in
       let f = node_given h ih low high n F g.1 (hang_true h n.0 u.0) (fit_true h low high n.1 g.2 t.1) s.3 in
       let long : 0 < length F = let R : List Item → Type 0 = λ z. 0 < length z in subst R (sym f.is) (some_length h n f.first f.rest u.1 f.first_link f.headed) in
@@ -275,16 +275,16 @@ module _ (read : List ℕ → Option Node) (reader : IsSoundReader read) (B : Fi
   nothing_given zero low high = record { part = record { keys = tt; holes = tt; near = tt; formed = tt; missing = tt }; lies = record { ascends = tt; over = tt; under = tt }; there = tt; link = refl }
   nothing_given (suc h) low high = record { part = record { keys = tt; holes = tt; near = tt; formed = tt; missing = tt }; lies = record { ascends = tt; over = tt; under = tt }; there = tt; link = refl }
 
-  at_zero : (low high : Option (List ℕ)) (c : Option (List ℕ)) (P : List Item) → part_at read B zero low high c ≡ Ok P → P ≡ []
+  at_zero : (low high : Option (List ℕ)) (c : Option (List ℕ)) (P : List Item) → part_at in_part read B zero low high c ≡ Ok P → P ≡ []
   unfolding part_at
   at_zero low high c P e = cc
 
-  at_none : (h : ℕ) (low high : Option (List ℕ)) (P : List Item) → part_at read B (suc h) low high None ≡ Ok P → P ≡ []
+  at_none : (h : ℕ) (low high : Option (List ℕ)) (P : List Item) → part_at in_part read B (suc h) low high None ≡ Ok P → P ≡ []
   unfolding part_at
   at_none h low high P e = cc
 
-  at_some : (h : ℕ) (low high : Option (List ℕ)) (c : List ℕ) (P : List Item) → part_at read B (suc h) low high (Some c) ≡ Ok P
-      → or_hole h c (λ b. block_of (node_fits h low high) (parts_of (part_at read B h) low high) c (read b)) (map.get B c) ≡ Ok P
+  at_some : (h : ℕ) (low high : Option (List ℕ)) (c : List ℕ) (P : List Item) → part_at in_part read B (suc h) low high (Some c) ≡ Ok P
+      → or_missing in_part h c (λ b. block_of (node_fits h low high) (parts_of (part_at in_part read B h) low high) c (read b)) (map.get B c) ≡ Ok P
   unfolding part_at
   at_some h low high c P e = e
 
@@ -292,10 +292,10 @@ module _ (read : List ℕ → Option Node) (reader : IsSoundReader read) (B : Fi
   all_given zero low high None P kind lowest e = let R : List Item → Type 0 = λ z. IsFound zero low high None z in subst R (sym (at_zero low high None P e)) (nothing_given zero low high)
   all_given zero low high (Some c) P kind lowest e = let bad = lowest refl in absurd (cc)
   all_given (suc h) low high None P kind lowest e = let R : List Item → Type 0 = λ z. IsFound (suc h) low high None z in subst R (sym (at_none h low high P e)) (nothing_given (suc h) low high)
-  all_given (suc h) low high (Some c) P kind lowest e = go (there_or_hole h c (λ b. block_of (node_fits h low high) (parts_of (part_at read B h) low high) c (read b)) (map.get B c) P (at_some h low high c P e)) (λ b at g. block_given h (all_given h) low high c b P kind at g)
+  all_given (suc h) low high (Some c) P kind lowest e = go (there_or_hole h c (λ b. block_of (node_fits h low high) (parts_of (part_at in_part read B h) low high) c (read b)) (map.get B c) P (at_some h low high c P e)) (λ b at g. block_given h (all_given h) low high c b P kind at g)
     where
-      go : ((map.get B c ≡ None) × (P ≡ Hole h c ∷ [])) ⊎ ((b : List ℕ) × (map.get B c ≡ Some b) × (block_of (node_fits h low high) (parts_of (part_at read B h) low high) c (read b) ≡ Ok P))
-          → ((b : List ℕ) → map.get B c ≡ Some b → block_of (node_fits h low high) (parts_of (part_at read B h) low high) c (read b) ≡ Ok P → IsFound (suc h) low high (Some c) P)
+      go : ((map.get B c ≡ None) × (P ≡ Hole h c ∷ [])) ⊎ ((b : List ℕ) × (map.get B c ≡ Some b) × (block_of (node_fits h low high) (parts_of (part_at in_part read B h) low high) c (read b) ≡ Ok P))
+          → ((b : List ℕ) → map.get B c ≡ Some b → block_of (node_fits h low high) (parts_of (part_at in_part read B h) low high) c (read b) ≡ Ok P → IsFound (suc h) low high (Some c) P)
           → IsFound (suc h) low high (Some c) P
       go (inl g) more = let R : List Item → Type 0 = λ z. IsFound (suc h) low high (Some c) z in subst R (sym g.1) (hole_given h low high c kind g.0)
       go (inr g) more = more g.0 g.1 g.2
@@ -333,12 +333,12 @@ module _ (read : List ℕ → Option Node) (reader : IsSoundReader read) (B : Fi
     pub reads : read b ≡ Some node
     pub layer : top_layer F ≡ layer_of node.1
 
-  pub walk_given : (r b : List ℕ) (G : List Item) → IsNodeLink r → map.get B r ≡ Some b → top_of read B r b ≡ Ok G → IsGiven r b G
+  pub walk_given : (r b : List ℕ) (G : List Item) → IsNodeLink r → map.get B r ≡ Some b → top_of in_part read B r b ≡ Ok G → IsGiven r b G
   walk_given r b G kind at e =
-      let s = passed top_fits (λ n. parts_of (part_at read B (layer_of n.1)) None None n) r (read b) G e in
+      let s = passed top_fits (λ n. parts_of (part_at in_part read B (layer_of n.1)) None None n) r (read b) G e in
       let n = s.0 in let h = layer_of n.1 in
       let g = reader.gives b n s.1 in
-      let t = both_true (may_hang h n.0 && may_top n) (reading.entries_fit h None None n.1) s.2 in
+      let t = both_true (may_hang h n.0 && may_top n) (fits.entries_fit h None None n.1) s.2 in
       let u = both_true (may_hang h n.0) (may_top n) t.0 in
       let fit = fit_true h None None n.1 g.2 t.1 in
       let f = node_given h (all_given h) None None n G g.1 (hang_true h n.0 u.0) fit s.3 in
@@ -362,29 +362,4 @@ module _ (read : List ℕ → Option Node) (reader : IsSoundReader read) (B : Fi
           there = subst N (sym layer) (there, f.there);
           holes = f.part.missing;
         };
-      }
-
-  -- the reading ends with what is read at the top, where the links of its holes differ
-  pub top_read : (r b : List ℕ) (F : List Item) → tree_at read B r b ≡ Ok F → (top_of read B r b ≡ Ok F) × (all_differ (hole_links F) ≡ true)
-  top_read r b F e =
-      let s = went_on (top_of read B r b) (λ G. cond (all_differ (hole_links G)) (Ok G) (Err r)) F e in
-      let d = differ_told s.0 s.2 in
-      let R : List Item → Type 0 = λ z. (top_of read B r b ≡ Ok z) × (all_differ (hole_links z) ≡ true) in
-      subst R d.0 (s.1, d.1)
-    where
-      differ_told : (G : List Item) → cond (all_differ (hole_links G)) (Ok G) (Err r) ≡ Ok F → (G ≡ F) × (all_differ (hole_links G) ≡ true)
-      differ_told G g =
-          elim (all_differ (hole_links G)) as (λ t. all_differ (hole_links G) ≡ t → cond t (Ok G) (Err r) ≡ Ok F → (G ≡ F) × (all_differ (hole_links G) ≡ true)) [ true ↦ λ p q. (cc, p) | false ↦ λ p q. absurd (cc) ] refl g
-
-  pub tree_told : (r b : List ℕ) (F : List Item) → IsNodeLink r → map.get B r ≡ Some b → tree_at read B r b ≡ Ok F → IsGiven r b F
-  tree_told r b F kind at e = walk_given r b F kind at (top_read r b F e).0
-
-  pub tree_given : (r b : List ℕ) (F : List Item) → IsNodeLink r → map.get B r ≡ Some b → tree_at read B r b ≡ Ok F → IsView B r F
-  tree_given r b F kind at e =
-      let w = (tree_told r b F kind at e).walk in
-      record {
-        well_laid = record { formed = w.formed; ascends = w.ascends; holes_differ = differ_true F (top_read r b F e).1; neighbours = w.neighbours; no_lone_hole = w.no_lone_hole };
-        root_is = w.root_is;
-        there = w.there;
-        holes = w.holes;
       }

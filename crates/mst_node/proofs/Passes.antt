@@ -1,37 +1,26 @@
 -- What the tests of a node say.
 use Rattle.std.proofs.Common.{◌≡◌, ℕ, zero, suc, eqb, cond, Bool, true, false, ◌&&◌, List, [], ◌∷◌, refl, sym, ap, Less, Equal, Greater, Option, Some, None, Result, Ok, Err, ◌⊎◌, inl, inr, arith}
 use Rattle.mst_list.specs.declared.item.Item.{Item}
-use Rattle.mst_list.specs.declared.item.Item.TheVariants.{Key, Hole}
+use Rattle.mst_list.specs.declared.item.Item.TheVariants.{Hole}
 use Rattle.at_cid.specs.Order.{key_cmp}
 use Rattle.mst_list.specs.Height.{height}
-use Rattle.mst_list.specs.Lists.{NoHoleOf, HolesDiffer}
 use Rattle.mst_list.specs.Edits.{by_order}
-use Rattle.at_cid.proofs.Order.{cmp_same, cmp_exact}
 use Rattle.mst_node.specs.declared.entry.Entry.{Entry}
 use Rattle.mst_node.specs.Nodes.{Node, AreFormedEntries, EntriesAscend}
 use Rattle.mst_node.specs.NodeFaults.{AreEntriesAt}
 use Rattle.mst_node.specs.Covers.{IsOver, IsUnder}
 use Rattle.mst_node.specs.Reading.{is_over}
 use Rattle.mst_node.proofs.Layers.{eqb_yes, eqb_same, eqb_not}
-use Rattle.mst_node.proofs.Told.{both_true}
-use Rattle.mst_view.specs.Reading.{go_on, is_less, is_under, may_hang, entries_fit, block_of, or_hole}
-use Rattle.mst_view.specs.HoleLinks.{absent, all_differ, hole_links}
-
-pub less_true : (j k : List ℕ) → is_less j k ≡ true → key_cmp j k ≡ Less
-less_true j k h =
-    elim (key_cmp j k) as (λ o. by_order o true false false ≡ true → o ≡ Less) [ Less ↦ λ e. refl | Equal ↦ λ e. absurd (cc) | Greater ↦ λ e. absurd (cc) ] h
-
-pub over_true : (low : Option (List ℕ)) (k : List ℕ) → is_over low k ≡ true → IsOver low k
-over_true None k h = tt
-over_true (Some j) k h = less_true j k h
+use Rattle.mst_node.proofs.Told.{both_true, less_of, over_true, true_over}
+use Rattle.mst_node.specs.FirstFault.{Extent, in_part, in_whole, IsMissing}
+use Rattle.mst_node.specs.Fits.{is_less, is_under, may_hang, entries_fit}
+use Rattle.mst_node.specs.TreeReading.{go_on, block_of, or_missing}
+use Rattle.std.specs.FinMap as map
+use Rattle.std.specs.FinMap.{FinMap}
 
 pub under_true : (k : List ℕ) (high : Option (List ℕ)) → is_under k high ≡ true → IsUnder k high
 under_true k None h = tt
-under_true k (Some j) h = less_true k j h
-
-pub true_over : (low : Option (List ℕ)) (k : List ℕ) → IsOver low k → is_over low k ≡ true
-true_over None k h = refl
-true_over (Some j) k h = rw h refl
+under_true k (Some j) h = less_of (key_cmp k j) h
 
 pub true_under : (k : List ℕ) (high : Option (List ℕ)) → IsUnder k high → is_under k high ≡ true
 true_under k None h = refl
@@ -76,31 +65,6 @@ pub over_none : (low : Option (List ℕ)) (es : List Entry) → EntriesAscend lo
 over_none low [] a = tt
 over_none low (x ∷ es) a = (tt, a.1)
 
--- the test of holes
-pub no_hole_true : (c : List ℕ) (F : List Item) → absent c (hole_links F) ≡ true → NoHoleOf c F
-no_hole_true c [] e = tt
-no_hole_true c (Key k v ∷ F) e = no_hole_true c F e
-no_hole_true c (Hole l d ∷ F) e =
-    let p = both_true (by_order (key_cmp c d) true false true) (absent c (hole_links F)) e in
-    (λ same. let tied : key_cmp c d ≡ Equal = rw same (cmp_same d) in let on : by_order (key_cmp c d) true false true ≡ false = rw tied refl in absurd (let first = p.0 in cc), no_hole_true c F p.1)
-
-pub differ_true : (F : List Item) → all_differ (hole_links F) ≡ true → HolesDiffer F
-differ_true [] e = tt
-differ_true (Key k v ∷ F) e = differ_true F e
-differ_true (Hole l c ∷ F) e = let p = both_true (absent c (hole_links F)) (all_differ (hole_links F)) e in (no_hole_true c F p.0, differ_true F p.1)
-
-pub true_no_hole : (c : List ℕ) (F : List Item) → NoHoleOf c F → absent c (hole_links F) ≡ true
-true_no_hole c [] h = refl
-true_no_hole c (Key k v ∷ F) h = true_no_hole c F h
-true_no_hole c (Hole l d ∷ F) h =
-    let other : by_order (key_cmp c d) true false true ≡ true = elim (key_cmp c d) as (λ o. key_cmp c d ≡ o → by_order o true false true ≡ true) [ Less ↦ λ e. refl | Equal ↦ λ e. absurd (h.0 (cmp_exact c d e)) | Greater ↦ λ e. refl ] refl in
-    rw other (true_no_hole c F h.1)
-
-pub true_differ : (F : List Item) → HolesDiffer F → all_differ (hole_links F) ≡ true
-true_differ [] h = refl
-true_differ (Key k v ∷ F) h = true_differ F h
-true_differ (Hole l c ∷ F) h = rw (true_no_hole c F h.0) (true_differ F h.1)
-
 -- steps that went well
 pub went_on : {A X F : Type 0} (r : Result A F) (f : A → Result X F) (y : X) → go_on r f ≡ Ok y → (x : A) × (r ≡ Ok x) × (f x ≡ Ok y)
 went_on (Ok x) f y e = (x, refl, e)
@@ -128,16 +92,25 @@ stopped passes parts c (Some n) f e = go (passes n) refl e
     go true p g = inr (n, refl, p, g)
     go false p g = inl (λ m is q. let one : n ≡ m = cc in let same = ap passes one in absurd (cc), let same : c ≡ f = cc in sym same)
 
--- a hole is no fault
-pub there_at_fault : (h : ℕ) (c : List ℕ) (inside : List ℕ → Result (List Item) (List ℕ)) (o : Option (List ℕ)) (f : List ℕ) → or_hole h c inside o ≡ Err f → (b : List ℕ) × (o ≡ Some b) × (inside b ≡ Err f)
-there_at_fault h c inside None f e = absurd (cc)
-there_at_fault h c inside (Some b) f e = (b, refl, e)
+-- a block that isn't there, or one that is and of which nothing is read
+pub missing_or_there : (extent : Extent) (B : FinMap key_cmp (List ℕ)) (h : ℕ) (c : List ℕ) (inside : List ℕ → Result (List Item) (List ℕ)) (f : List ℕ) → or_missing extent h c inside (map.get B c) ≡ Err f → IsMissing extent B c f ⊎ ((b : List ℕ) × (map.get B c ≡ Some b) × (inside b ≡ Err f))
+missing_or_there extent B h c inside f e = go extent (map.get B c) refl e
+  where
+    go : (x : Extent) (o : Option (List ℕ)) → map.get B c ≡ o → or_missing x h c inside o ≡ Err f → IsMissing x B c f ⊎ ((b : List ℕ) × (map.get B c ≡ Some b) × (inside b ≡ Err f))
+    go in_part None at g = absurd (cc)
+    go in_whole None at g = inl (at, let same : c ≡ f = cc in sym same)
+    go x (Some b) at g = inr (b, at, g)
+
+-- where a block is missing nothing is read
+pub missing_err : (extent : Extent) (B : FinMap key_cmp (List ℕ)) (h : ℕ) (c : List ℕ) (inside : List ℕ → Result (List Item) (List ℕ)) (f : List ℕ) → IsMissing extent B c f → or_missing extent h c inside (map.get B c) ≡ Err f
+missing_err in_part B h c inside f e = absurd e
+missing_err in_whole B h c inside f e = rw e.0 (ap Err (sym e.1))
 
 -- a result is one or the other
 pub either : {A F : Type 0} (r : Result A F) → ((x : A) × (r ≡ Ok x)) ⊎ ((e : F) × (r ≡ Err e))
 either (Ok x) = inl (x, refl)
 either (Err e) = inr (e, refl)
 
-pub there_or_hole : (h : ℕ) (c : List ℕ) (inside : List ℕ → Result (List Item) (List ℕ)) (o : Option (List ℕ)) (F : List Item) → or_hole h c inside o ≡ Ok F → ((o ≡ None) × (F ≡ Hole h c ∷ [])) ⊎ ((b : List ℕ) × (o ≡ Some b) × (inside b ≡ Ok F))
+pub there_or_hole : (h : ℕ) (c : List ℕ) (inside : List ℕ → Result (List Item) (List ℕ)) (o : Option (List ℕ)) (F : List Item) → or_missing in_part h c inside o ≡ Ok F → ((o ≡ None) × (F ≡ Hole h c ∷ [])) ⊎ ((b : List ℕ) × (o ≡ Some b) × (inside b ≡ Ok F))
 there_or_hole h c inside None F e = inl (refl, let same : Hole h c ∷ [] ≡ F = cc in sym same)
 there_or_hole h c inside (Some b) F e = inr (b, refl, e)
