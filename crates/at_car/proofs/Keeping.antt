@@ -8,11 +8,7 @@ use Rattle.at_cid.specs.OrderLaws.{key_total}
 use Rattle.at_cid.proofs.Order.{cmp_exact}
 use Rattle.at_car.specs.Blocks.{BlockMap, kept}
 use Rattle.at_car.specs.Sections.{Section}
-
--- the map with the blocks of all the sections
-abbrev pub all_kept : BlockMap → List Section → BlockMap
-all_kept m [] = m
-all_kept m (s ∷ ss) = all_kept (kept m s.0 s.1) ss
+use Rattle.at_car.specs.Merging.{all_kept}
 
 -- what is there, or else the other
 abbrev or_else : Option (List ℕ) → Option (List ℕ) → Option (List ℕ)
@@ -42,7 +38,7 @@ get_kept q k v m =
       | false ↦ get-insert key_total m k v q
     ]
 
-tied : (q k : List ℕ) (m : BlockMap) → eq_by_cmp key_cmp q k ≡ true → get m k ≡ get m q
+pub tied : (q k : List ℕ) (m : BlockMap) → eq_by_cmp key_cmp q k ≡ true → get m k ≡ get m q
 tied q k m =
     elim (key_cmp q k) as (λ o. key_cmp q k ≡ o → is_eq o ≡ true → get m k ≡ get m q) [
       | Less ↦ λ o e. absurd cc

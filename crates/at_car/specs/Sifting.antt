@@ -1,0 +1,35 @@
+-- What is kept of blocks.
+use Rattle.std.specs.Prelude.{◌≡◌, ℕ, Bool, true, false, not, if◌then◌else◌, List, Option, Some, None}
+use Rattle.std.specs.FinMap as map
+use Rattle.std.specs.Str.{bytes_eq}
+use Rattle.at_car.specs.Blocks.{BlockMap}
+use Rattle.at_car.specs.Links.{has}
+use Rattle.at_car.specs.declared.sifting.Sifted.{Sifted}
+
+-- the block, where it is one that is kept
+abbrev pub picked : (List ℕ → Bool) → Option (List ℕ) → Option (List ℕ)
+picked picks None = None
+picked picks (Some b) = if picks b then Some b else None
+
+-- there is a block, and it isn't kept
+abbrev pub is_passed : (List ℕ → Bool) → Option (List ℕ) → Bool
+is_passed picks None = false
+is_passed picks (Some b) = not (picks b)
+
+-- the root's block, where it is there
+abbrev pub block_at : Option (List ℕ) → BlockMap → Option (List ℕ)
+block_at None blocks = None
+block_at (Some c) blocks = map.get blocks c
+
+abbrev pub is_root : Option (List ℕ) → List ℕ → Bool
+is_root None c = false
+is_root (Some r) c = bytes_eq r c
+
+-- what is held of the blocks, by a root and the choice of those that are kept
+pub record IsSifted (picks : List ℕ → Bool) (root : Option (List ℕ)) (blocks : BlockMap) (first : Option (List ℕ)) (nodes : BlockMap) (others : List (List ℕ)) : Type 0 where
+  pub first_is : first ≡ block_at root blocks
+  pub nodes_are : (c : List ℕ) → map.get nodes c ≡ picked picks (map.get blocks c)
+  pub others_are : (c : List ℕ) → has others c ≡ is_passed picks (map.get blocks c)
+
+abbrev pub Holds : (List ℕ → Bool) → Option (List ℕ) → BlockMap → Sifted → Type 0
+Holds picks root blocks sifted = IsSifted picks root blocks sifted.first sifted.nodes sifted.others

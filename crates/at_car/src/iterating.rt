@@ -1,0 +1,42 @@
+//! The blocks of a map, one after the other.
+
+ghost use Rattle.std.specs.Prelude.{◌≡◌, length, map};
+ghost use Rattle.std.specs.Iterator.{at_most};
+ghost use Rattle.std.specs.Map.Iter.{TakesFirst, deref_pair};
+ghost use Rattle.at_car.specs.Places.{laid, AreWithin};
+
+use crate::place::{Place, bytes_at};
+use at_cid::Cid;
+use std::collections::btree_map::Iter;
+use std::marker::Model;
+
+/// The links of some blocks, each with its block, in ascending order of the links.
+#[derive(Drop)]
+pub struct BlockIter<'a> {
+    pub(crate) buffer: &'a [u8],
+    pub(crate) places: Iter<'a, Cid, Place>,
+}
+
+impl<'a> Model for BlockIter<'a> {
+    ghost use Rattle.std.specs.Prelude.{List, ℕ, length, map};
+    ghost use Rattle.at_car.specs.Places.{laid, AreWithin};
+
+    ghost Value = { List (List ℕ × List ℕ) };
+
+    ghost view = { λ a. map (laid a.buffer.now) a.places };
+
+    ghost invariant = { λ a. AreWithin (length a.buffer.now) a.places };
+}
+
+impl<'a> Iterator for BlockIter<'a> {
+    type Item = (&'a Cid, &'a [u8]);
+
+    ghost next_gives = { TakesFirst deref_pair };
+
+    ghost remaining = { λ s. at_most (length s) };
+
+    fn next(&mut self) -> Option<(&'a Cid, &'a [u8])> {
+        let (link, place) = self.places.next()?;
+        Some((link, bytes_at(self.buffer, place)))
+    }
+}
