@@ -75,8 +75,13 @@ impl Ord for Cid {
 
     ghost matches_eq = { key_ties };
 
+    // Links of one kind differ in their digests alone.
     fn cmp(&self, other: &Cid) -> Ordering {
-        compare(&self.bytes, &other.bytes)
+        if self.bytes[1] == other.bytes[1] {
+            compare(self.digest(), other.digest())
+        } else {
+            compare(&self.bytes, &other.bytes)
+        }
     }
 }
 

@@ -1,30 +1,24 @@
 -- What a commit that was read keeps: its root is a link of kind Node, and its account a DID.
-use Rattle.std.proofs.Common.{◌≡◌, ℕ, ℤ, Bool, true, false, cond, List, length, Option, Some, None, Result, Ok, Err, eqb, refl, sym, ap, ◌∙◌, subst}
-use Rattle.std.specs.Prelude.{pos, codes, nat_lt}
+use Rattle.std.proofs.Common.{◌≡◌, ◌≤◌, ℕ, ℤ, Bool, true, false, cond, List, length, Option, Some, None, Result, Ok, Err, refl, sym, ap, ◌∙◌, subst, arith}
+use Rattle.std.specs.Prelude.{pos, codes, nat_lt, IfOk, IsTrue}
 use Rattle.std.specs.Ordering.{int_eq}
-use Rattle.at_cid.specs.Link.{IsBytes, IsNodeLink, kind_of}
-use Rattle.at_cid.specs.declared.cid.Kind.{Kind}
-use Rattle.at_cid.specs.declared.cid.Kind.TheVariants.{Node, Raw}
+use Rattle.std.proofs.lemmas.Bool.Decides.{nat_tests}
+use Rattle.at_cid.specs.Link.{IsBytes, IsNodeLink}
 use Rattle.at_cbor.specs.Item.{Item, Fields}
-use Rattle.at_cbor.specs.Kinds.{int_in, bytes_in, text_in, value_of}
+use Rattle.at_cbor.specs.Kinds.{int_in, bytes_in, value_of}
 use Rattle.at_cbor.specs.Spelling.{Fits, spelling}
-use Rattle.at_cbor.specs.Decoding.{decoded}
-use Rattle.at_cbor.proofs.Decoded.{read_front}
+use Rattle.at_cbor.specs.Taking.{◌>>=◌, whole_item}
 use Rattle.at_cbor.proofs.Inside.{value_fits}
+use Rattle.at_cbor.proofs.Taken.{whole_takes, whole_again}
 use Rattle.at_syntax.specs.Did.{is_did}
-use Rattle.at_commit.specs.Fields.{◌>>=◌, Object, object_of, did_in, tid_in, node_in, of_node, is_previous}
+use Rattle.at_form.specs.Forms.{did_in, tid_in, node_in}
+use Rattle.at_form.proofs.Held.{some_same, step_from, did_held, node_held}
+use Rattle.at_commit.specs.Fields.{Object, object_of, is_previous}
 use Rattle.at_commit.specs.Signed.{unsigned_of}
-use Rattle.at_commit.specs.Commit.{filling, item_in, commit_from, commit_in, commit_at, commit_of}
+use Rattle.at_commit.specs.Commit.{commit_from, commit_in, commit_at, commit_of, IsCommitIn, ReadsAs}
 use Rattle.at_commit.specs.declared.commit.Commit.{Commit}
 use Rattle.at_commit.specs.declared.fault.CommitFault.{CommitFault}
-
-some_same : {A : Type 0} (x y : A) → Some x ≡ Some y → x ≡ y
-some_same x y e = cc
-
--- what a step was taken from
-found : {A B : Type 0} (x : Option A) (f : A → Option B) (b : B) → (x >>= f) ≡ Some b → (a : A) × (x ≡ Some a) × (f a ≡ Some b)
-found (Some a) f b e = (a, refl, e)
-found None f b e = absurd cc
+use Rattle.at_commit.specs.declared.reading.TheConstants.{LONGEST_BLOCK}
 
 record Kept (named : Option (List ℕ)) (root : Option (List ℕ)) (o : Object) : Type 0 where
   did : named ≡ Some o.did
@@ -48,31 +42,6 @@ unfolding object_of
 object_kept fields o e =
     kept (value_of fields (codes "did") >>= did_in) (value_of fields (codes "version") >>= int_in) (value_of fields (codes "data") >>= node_in) (value_of fields (codes "rev") >>= tid_in)
     (value_of fields (codes "sig") >>= bytes_in) (is_previous (value_of fields (codes "prev"))) o e
-
-of_node_kept : (kind : Kind) (link c : List ℕ) → of_node kind link ≡ Some c → (kind ≡ Node) × (link ≡ c)
-of_node_kept Node link c e = (refl, some_same link c e)
-of_node_kept Raw link c e = absurd cc
-
-node_kept : (i : Item) (depth : ℕ) (c : List ℕ) → node_in i ≡ Some c → Fits i depth → IsNodeLink c
-unfolding node_in
-node_kept (Item.link bs) depth c e fits =
-    let both = of_node_kept (kind_of bs) bs c e in
-    subst IsNodeLink both.1 (record { link = fits.0; bytes = fits.1; node = both.0 })
-node_kept (Item.int z) depth c e fits = absurd cc
-node_kept (Item.bytes bs) depth c e fits = absurd cc
-node_kept (Item.text bs) depth c e fits = absurd cc
-node_kept (Item.list is) depth c e fits = absurd cc
-node_kept (Item.map fs) depth c e fits = absurd cc
-node_kept (Item.bool b) depth c e fits = absurd cc
-node_kept Item.null depth c e fits = absurd cc
-
-did_if : (test : Bool) (text did : List ℕ) → test ≡ is_did text → cond test (Some text) None ≡ Some did → is_did did ≡ true
-did_if true text did known e = ap is_did (sym (some_same text did e)) ∙ sym known
-did_if false text did known e = absurd cc
-
-did_kept : (i : Item) (did : List ℕ) → did_in i ≡ Some did → is_did did ≡ true
-unfolding did_in
-did_kept i did e = let text = found (text_in i) (λ (text : List ℕ). cond (is_did text) (Some text) None) did e in did_if (is_did text.0) text.0 did refl text.2
 
 record Read (fields : Fields) (c : Commit) : Type 0 where
   object : Object
@@ -117,36 +86,49 @@ short_enough : (test : Bool) (answer : Result Commit CommitFault) (c : Commit) �
 short_enough true answer c e = absurd cc
 short_enough false answer c e = e
 
-filled_if : (test : Bool) (j i : Item) → cond test (Some j) None ≡ Some i → j ≡ i
-filled_if true j i e = some_same j i e
-filled_if false j i e = absurd cc
-
-filled : {F : Type 0} (n : ℕ) (r : Result (Item × ℕ) F) (i : Item) → filling n r ≡ Some i → (k : ℕ) × (r ≡ Ok (i, k))
-filled n (Ok (j, k)) i e = (k, ap (λ (x : Item). Ok (x, k)) (filled_if (eqb k n) j i e))
-filled n (Err flaw) i e = absurd cc
-
-item_fits : (block : List ℕ) (i : Item) → IsBytes block → item_in block ≡ Some i → Fits i 64
-unfolding item_in
-item_fits block i bytes e = let r = filled (length block) (decoded block) i e in (read_front block i r.0 bytes r.1).0
-
 -- the fields of the map that a block is
-read_of : (block : List ℕ) (c : Commit) → commit_of block ≡ Ok c → (fields : Fields) × (item_in block ≡ Some (Item.map fields)) × Read fields c
+read_of : (block : List ℕ) (c : Commit) → commit_of block ≡ Ok c → (fields : Fields) × (whole_item block ≡ Some (Item.map fields)) × (commit_in fields ≡ Ok c)
 unfolding commit_of
-read_of block c e =
-    let at = read_at (item_in block) c (short_enough (nat_lt 8192 (length block)) (commit_at (item_in block)) c e) in
-    (at.0, at.1, read_in at.0 c at.2)
+read_of block c e = read_at (whole_item block) c (short_enough (nat_lt LONGEST_BLOCK (length block)) (commit_at (whole_item block)) c e)
+
+commit_read : (block : List ℕ) (c : Commit) → IsBytes block → commit_of block ≡ Ok c → IsCommitIn block c
+commit_read block c bytes e =
+    let of = read_of block c e in
+    let whole = whole_takes (Item.map of.0) block bytes of.1 in
+    record { fields = of.0; form = whole.0; spelled = whole.1; says = of.2 }
 
 pub data_is_node : (block : List ℕ) (c : Commit) → IsBytes block → commit_of block ≡ Ok c → IsNodeLink c.data_root
 data_is_node block c bytes e =
-    let of = read_of block c e in
-    let r = of.2 in
-    let root = found (value_of of.0 (codes "data")) node_in r.object.data_root (object_kept of.0 r.object r.formed).data_root in
-    let fits = item_fits block (Item.map of.0) bytes of.1 in
-    subst IsNodeLink (sym r.data_root) (node_kept root.0 63 r.object.data_root root.2 (value_fits of.0 None 63 (codes "data") root.0 fits.2 root.1))
+    let in_block = commit_read block c bytes e in
+    let fields = in_block.fields in
+    let r = read_in fields c in_block.says in
+    let root = step_from (value_of fields (codes "data")) node_in r.object.data_root (object_kept fields r.object r.formed).data_root in
+    subst IsNodeLink (sym r.data_root) (node_held root.0 63 r.object.data_root root.2 (value_fits fields None 63 (codes "data") root.0 in_block.form.2 root.1))
 
 pub did_is_did : (block : List ℕ) (c : Commit) → commit_of block ≡ Ok c → is_did c.did ≡ true
 did_is_did block c e =
     let of = read_of block c e in
-    let r = of.2 in
-    let did = found (value_of of.0 (codes "did")) did_in r.object.did (object_kept of.0 r.object r.formed).did in
-    ap is_did r.did ∙ did_kept did.0 r.object.did did.2
+    let r = read_in of.0 c of.2 in
+    let did = step_from (value_of of.0 (codes "did")) did_in r.object.did (object_kept of.0 r.object r.formed).did in
+    subst (λ (d : List ℕ). is_did d ≡ true) (sym r.did) (did_held did.0 r.object.did did.2)
+
+-- ---- what an answer says
+
+module _ (block : List ℕ) (bytes : IsBytes block) where
+  pub answer_whole : (r : Result Commit CommitFault) → ReadsAs r (commit_of block) → IfOk r (IsCommitIn block)
+  answer_whole (Ok c) e = commit_read block c bytes e
+  answer_whole (Err f) e = tt
+
+  pub answer_data : (r : Result Commit CommitFault) → ReadsAs r (commit_of block) → IfOk r (λ c. IsNodeLink c.data_root)
+  answer_data (Ok c) e = data_is_node block c bytes e
+  answer_data (Err f) e = tt
+
+  pub answer_did : (r : Result Commit CommitFault) → ReadsAs r (commit_of block) → IfOk r (λ c. IsTrue (is_did c.did))
+  answer_did (Ok c) e = did_is_did block c e
+  answer_did (Err f) e = tt
+
+pub answer_only : (block : List ℕ) (r : Result Commit CommitFault) (i : Item) → ReadsAs r (commit_of block) → Fits i 64 → block ≡ spelling i → length block ≤ LONGEST_BLOCK → ReadsAs r (commit_at (Some i))
+unfolding commit_of
+answer_only block r i given fits e short =
+    let long : nat_lt LONGEST_BLOCK (length block) ≡ false = grind (arith, nat_tests, short) in
+    subst (ReadsAs r) (ap (λ t. cond t (Err CommitFault.TooLong) (commit_at (whole_item block))) long ∙ ap commit_at (ap whole_item e ∙ whole_again i fits)) given

@@ -1,25 +1,15 @@
 -- The commit object that a block is.
-use Rattle.std.specs.Prelude.{◌≡◌, ⊤, ℕ, pos, List, length, ◌==◌, nat_lt, if◌then◌else◌, Option, Some, None, Result, Ok, Err}
+use Rattle.std.specs.Prelude.{◌≡◌, ℕ, pos, List, length, nat_lt, if◌then◌else◌, Option, Some, None, Result, Ok, Err}
 use Rattle.std.specs.Ordering.{int_eq}
 use Rattle.at_cid.specs.Memory.{Gives}
 use Rattle.at_cbor.specs.Item.{Item, Fields}
-use Rattle.at_cbor.specs.declared.value.Value.{Value}
-use Rattle.at_cbor.specs.View.{item_of}
-use Rattle.at_cbor.specs.Decoding.{decoded}
-use Rattle.at_cbor.specs.Spelling.{spelling}
+use Rattle.at_cbor.specs.Spelling.{spelling, Fits}
+use Rattle.at_cbor.specs.Taking.{whole_item}
 use Rattle.at_commit.specs.Fields.{Object, object_of}
 use Rattle.at_commit.specs.Signed.{unsigned_of}
 use Rattle.at_commit.specs.declared.commit.Commit.{Commit}
 use Rattle.at_commit.specs.declared.fault.CommitFault.{CommitFault}
-
--- the item that was read, where nothing is behind it
-abbrev pub filling : {F : Type 0} → ℕ → Result (Item × ℕ) F → Option Item
-filling n (Ok found) = if found.1 == n then Some found.0 else None
-filling n (Err flaw) = None
-
--- the item that fills the block
-unfoldable pub item_in : List ℕ → Option Item
-item_in block = filling (length block) (decoded block)
+use Rattle.at_commit.specs.declared.reading.TheConstants.{LONGEST_BLOCK}
 
 -- the commit that fields of version 3 are, signed without `sig`
 abbrev pub commit_from : Fields → Option Object → Result Commit CommitFault
@@ -37,7 +27,7 @@ commit_at i = Err CommitFault.Form
 
 -- The commit that the block is, or what is wrong with it. The version is looked at where all else has its form.
 unfoldable pub commit_of : List ℕ → Result Commit CommitFault
-commit_of block = if nat_lt 8192 (length block) then Err CommitFault.TooLong else commit_at (item_in block)
+commit_of block = if nat_lt LONGEST_BLOCK (length block) then Err CommitFault.TooLong else commit_at (whole_item block)
 
 -- what a fault says of the block: nothing where memory was wanted
 abbrev pub fault_of : CommitFault → Option CommitFault
@@ -50,9 +40,9 @@ fault_of CommitFault.Memory = None
 abbrev pub ReadsAs : Result Commit CommitFault → Result Commit CommitFault → Type 0
 ReadsAs result answer = Gives (λ commit. commit) fault_of result answer
 
--- the item was read, or nothing fills the block as an item, unless memory was wanted
-abbrev pub ReadsItem : Result Value CommitFault → Option Item → Type 0
-ReadsItem (Ok value) found = found ≡ Some (item_of value)
-ReadsItem (Err CommitFault.Form) found = found ≡ None
-ReadsItem (Err CommitFault.Memory) found = ⊤
-ReadsItem (Err fault) found = ⊥
+-- The block is the one spelling of a map, and the commit is what its fields say.
+pub record IsCommitIn (block : List ℕ) (commit : Commit) : Type 0 where
+  pub fields : Fields
+  pub form : Fits (Item.map fields) 64
+  pub spelled : block ≡ spelling (Item.map fields)
+  pub says : commit_in fields ≡ Ok commit

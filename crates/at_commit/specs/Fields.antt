@@ -1,33 +1,9 @@
 -- The fields of a commit object, as the AT Protocol's Repository specification has them ("Commit Objects").
 use Rattle.std.specs.Prelude.{ℕ, ℤ, List, Bool, true, ◌||◌, if◌then◌else◌, Option, Some, None, codes, is_some}
-use Rattle.at_cid.specs.Link.{kind_of}
-use Rattle.at_cid.specs.declared.cid.Kind.{Kind}
-use Rattle.at_cid.specs.declared.cid.Kind.TheVariants.{Node, Raw}
 use Rattle.at_cbor.specs.Item.{Item, Fields}
-use Rattle.at_cbor.specs.Kinds.{int_in, bytes_in, text_in, link_in, null_in, value_of}
-use Rattle.at_syntax.specs.Did.{is_did}
-use Rattle.at_syntax.specs.Tid.{tid_of}
-
-infixl 10 ◌>>=◌
-abbrev pub ◌>>=◌ : {A B : Type 0} → Option A → (A → Option B) → Option B
-(Some x) >>= f = f x
-None >>= f = None
-
--- a text that is a DID
-unfoldable pub did_in : Item → Option (List ℕ)
-did_in i = text_in i >>= λ text. if is_did text then Some text else None
-
--- the value of a text that is a TID
-unfoldable pub tid_in : Item → Option ℕ
-tid_in i = text_in i >>= tid_of
-
-abbrev pub of_node : Kind → List ℕ → Option (List ℕ)
-of_node Node link = Some link
-of_node Raw link = None
-
--- a link of kind Node
-unfoldable pub node_in : Item → Option (List ℕ)
-node_in i = link_in i >>= λ link. of_node (kind_of link) link
+use Rattle.at_cbor.specs.Kinds.{int_in, bytes_in, link_in, null_in, value_of}
+use Rattle.at_cbor.specs.Taking.{◌>>=◌}
+use Rattle.at_form.specs.Forms.{did_in, tid_in, node_in}
 
 -- a link, null or nothing
 unfoldable pub is_previous : Option Item → Bool

@@ -1,33 +1,24 @@
 //! The commit object that a block is.
 
-ghost use Rattle.std.specs.Prelude.{◌≡◌, ◌≢◌, ◌↔◌, ◌<◌, length, Err};
-ghost use Rattle.at_cbor.specs.Item.{fields_of};
-ghost use Rattle.at_commit.specs.Commit.{item_in, commit_in, commit_of, ReadsAs, ReadsItem};
+ghost use Rattle.std.specs.Prelude.{◌≡◌, ◌≢◌, ◌↔◌, ◌<◌, ◌≤◌, length, Err, Some, IfOk, IsTrue};
+ghost use Rattle.at_cid.specs.Link.{IsNodeLink};
+ghost use Rattle.at_cbor.specs.Item.{Item, fields_of};
+ghost use Rattle.at_cbor.specs.Spelling.{Fits, spelling};
+ghost use Rattle.at_syntax.specs.Did.{is_did};
+ghost use Rattle.at_commit.specs.Commit.{commit_at, commit_in, commit_of, IsCommitIn, ReadsAs};
 
 use crate::commit::Commit;
 use crate::fault::CommitFault;
 use crate::fields::parts_of;
 use crate::signing::unsigned;
-use at_cbor::{CborFault, Fields, Value, decode};
+use at_cbor::{Fields, Value, decode_whole};
 use std::alloc::Global;
 
-/// How many bytes the block of a commit object has at most.
-pub const LONGEST_BLOCK: usize = 8192;
+/// How many bytes the block of a commit object has at most (own limit).
+pub const LONGEST_BLOCK: usize = 8_192;
 
 /// The version of commit objects that is read.
 const VERSION: i64 = 3;
-
-/// The item that fills the block.
-#[tactic(auto, unfolding(crate::specs::Commit::item_in))]
-fn read_item(alloc: Global, block: &[u8]) -> Result<Value, CommitFault>
-    ensures { ReadsItem result (item_in block.now) }
-{
-    match decode(alloc, block) {
-        Ok((item, len)) if len == block.len() => Ok(item),
-        Err(CborFault::Memory) => Err(CommitFault::Memory),
-        _ => Err(CommitFault::Form),
-    }
-}
 
 /// The commit that the fields of a map are.
 #[tactic(auto, unfolding(crate::specs::Commit::commit_in))]
@@ -57,16 +48,28 @@ fn read_commit(alloc: Global, fields: &Fields) -> Result<Commit, CommitFault>
 /// `TooLong` where the block has more than 8,192 bytes; else `Form` where it isn't of this form,
 /// whatever its version; else `Version` where that isn't 3. `Memory` may stand in place of each
 /// answer but `TooLong`.
-#[tactic(auto, unfolding(crate::specs::Commit::commit_of))]
 pub fn read(alloc: Global, block: &[u8]) -> Result<Commit, CommitFault>
+    ensures commit { ReadsAs result (commit_of block.now) }
+    ensures too_long { (result ≡ Err CommitFault.TooLong) ↔ (LONGEST_BLOCK < length block.now) }
+    // What is read is spelled so, and what is spelled so is read.
+    ensures whole { IfOk result (IsCommitIn block.now) }
+    ensures only { (i : Item) → Fits i 64 → block.now ≡ spelling i → length block.now ≤ LONGEST_BLOCK → ReadsAs result (commit_at (Some i)) }
+    ensures data { IfOk result (λ commit. IsNodeLink commit.data_root) }
+    ensures did { IfOk result (λ commit. IsTrue (is_did commit.did)) }
+{
+    read_block(alloc, block)
+}
+
+#[tactic(auto, unfolding(crate::specs::Commit::commit_of))]
+fn read_block(alloc: Global, block: &[u8]) -> Result<Commit, CommitFault>
     ensures commit { ReadsAs result (commit_of block.now) }
     ensures too_long { (result ≡ Err CommitFault.TooLong) ↔ (LONGEST_BLOCK < length block.now) }
 {
     if block.len() > LONGEST_BLOCK {
         return Err(CommitFault::TooLong);
     }
-    match read_item(alloc, block)? {
-        Value::Map(fields) => read_commit(alloc, &fields),
+    match decode_whole(alloc, block)? {
+        Some(Value::Map(fields)) => read_commit(alloc, &fields),
         _ => Err(CommitFault::Form),
     }
 }
