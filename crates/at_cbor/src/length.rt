@@ -8,9 +8,10 @@ ghost use Rattle.at_cbor.specs.View.{item_of, pair_of};
 use crate::value::Value;
 use at_cid::Words;
 
-// The length of a major type and its argument, in the shortest form.
+/// How many bytes a head has: a major type and its argument in the shortest form (RFC 8949, section 3). It is the same for
+/// each major type.
 #[tactic(auto, unfolding(crate::specs::Spelling::tail_of))]
-fn front_len(n: u64) -> u64
+pub fn front_len(n: u64) -> u64
     ensures { result ≡ length (front_of 0 n) }
 {
     if n < 24 {
@@ -26,8 +27,8 @@ fn front_len(n: u64) -> u64
     }
 }
 
-// The length of a byte string or a text of so many bytes, with its front.
-fn string_len(count: usize) -> u64
+/// How many bytes a byte string or a text of so many bytes has with its head, or the greatest `u64` where that is less.
+pub fn string_len(count: usize) -> u64
     ensures { result ≡ min (length (front_of 0 count) + count) (2 ^ 64 - 1) }
 {
     front_len(count as u64).saturating_add(count as u64)

@@ -21,7 +21,7 @@ pub use decoding::{DEPTH, decode};
 pub use encoding::encode;
 pub use fault::CborFault;
 pub use laws::{equal_is_same, reads_what_is_spelled, spelling_tells_item, takes_what_is_spelled};
-pub use length::spelled_len;
+pub use length::{front_len, spelled_len, string_len};
 pub use lookup::field;
 pub use taking::{
     decode_whole, take_bytes, take_child, take_item, take_link, take_list_front, take_number,

@@ -27,7 +27,7 @@ under_links blocks linked = λ c b node e. node_link c b (linked c b e) node.nod
 
 -- a step replays on maps
 pub sound_by : (ops : List Op) (blocks : BlockMap) (former later : List ℕ) → AreFormedOps ops → AreApart ops → LeadsBy ops blocks former later → ReplaysBy ops blocks former later
-sound_by [] blocks former later formed apart leads = λ s m is distinct. (s, refl, is ∙ sym leads)
+sound_by [] blocks former later formed apart leads = λ s m is distinct. (s, m, refl, is ∙ sym leads)
 sound_by (op ∷ ops) blocks former later formed apart leads = λ s m is distinct. sound_link blocks former later (op ∷ ops) leads.0 s leads.1 formed apart m is (distinct leads.0 leads.1.is_view)
 
 -- operations that are covered lead from root to root

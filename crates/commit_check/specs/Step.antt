@@ -100,12 +100,12 @@ abbrev pub named : List Op → List Item → List (List ℕ)
 named [] F = []
 named (op ∷ ops) F = nodes (undone F (op ∷ ops))
 
--- Soundness: on every map whose tree has the former root, the operations play, and they give a map whose tree has the later root,
+-- Soundness: on every map whose tree has the former root, the operations play, and what they give is a map whose tree has the later root,
 -- unless different blocks of that map's tree and of those that the step names share a digest.
 abbrev pub ReplaysBy : List Op → BlockMap → List ℕ → List ℕ → Type 0
 ReplaysBy ops blocks former later = (s : List Item) → IsMap s → root s ≡ former
     → ((F : List Item) → IsView blocks later F → Distinct (nodes s ++ named ops F))
-    → (t : List Item) × Plays s ops t × (root t ≡ later)
+    → (t : List Item) × IsMap t × Plays s ops t × (root t ≡ later)
 
 -- the operations play from a map with the former root to one with the later root, whose cover the blocks hold
 pub record IsCoveredBy (ops : List Op) (blocks : BlockMap) (former later : List ℕ) : Type 0 where

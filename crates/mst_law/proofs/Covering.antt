@@ -19,7 +19,7 @@ use Rattle.mst_list.proofs.Places.{AllBelow, after_placed, before_placed, below_
 use Rattle.mst_list.proofs.Puts.{visible}
 use Rattle.mst_list.proofs.Replay.{all_below_up}
 use Rattle.mst_list.proofs.Undo.{AllLeft, all_agree, all_left, around, map_put, undone_by_play, value_filled_at}
-use Rattle.mst_node.specs.Covers.{AreDistinct, AreUnderNodeLinks, HoldsCover, HoldsWay, HoldsWayTo, IsThere, bound_at, first_key, last_key, part_spelled, right_spelled, spelled}
+use Rattle.mst_node.specs.Covers.{AreDistinct, AreUnderNodeLinks, HoldsCover, IsInCoverOf, IsOnWay, IsOnWayTo, IsThere, bound_at, first_key, last_key, part_spelled, right_spelled, spelled}
 use Rattle.mst_node.specs.Trees.{AllThere, Distinct, Fills, Holds, HolesUnder, IsAmong, IsView, first_part, nodes, nodes_at, root, spell, top_layer}
 use Rattle.mst_node.proofs.Filling.{one_root, top_alike}
 use Rattle.mst_node.proofs.Layers.{keys_under_top, top_at_most}
@@ -139,14 +139,22 @@ first_hidden (Hole l c ∷ A) a f starts u = go f.0 f.3.is_map.keys_only f.3.som
         let R : List Item → Type 0 = λ x. HasKey j x in
         record { key = j; is = ap first_key e; inside = subst R (sym e) (inl refl); hidden = no_value j A (above_of_filled j A f.1 f.4 (all_above_parts j g f.1 u'.0).1) }
 
-map_played : (ops : List Op) (s t : List Item) → AreFormedOps ops → IsMap s → Plays s ops t → IsMap t
+-- a map is played to a map
+pub map_played : (ops : List Op) (s t : List Item) → AreFormedOps ops → IsMap s → Plays s ops t → IsMap t
 map_played [] s t forms m p = let R : List Item → Type 0 = λ x. IsMap x in subst R (sym p) m
 map_played (op ∷ ops) s t forms m p = map_played ops (put op.key op.now s) t forms.1 (map_put op.key op.now s (formed_value op.key op.now forms.0.0 forms.0.2) m) p.1
+
+-- each block on the way to a key is there
+abbrev HoldsWay : FinMap key_cmp (List ℕ) → List Item → List ℕ → Type 0
+HoldsWay B t k = (b : List ℕ) → IsOnWay t k b → IsThere B b
+
+abbrev HoldsWayTo : FinMap key_cmp (List ℕ) → List Item → Option (List ℕ) → Type 0
+HoldsWayTo B t o = (b : List ℕ) → IsOnWayTo t o b → IsThere B b
 
 -- what is known of a view
 module _ (B : FinMap key_cmp (List ℕ)) (F t : List Item) (w : IsWellLaid F) (mt : IsMap t) (f : Filled Holds F t) (known : HolesKnown B (spelled t) None None F) where
   gap_clear : (k : List ℕ) → HoldsWay B t k → value_at k F ≡ None → IsClear k F
-  gap_clear k held none = record { no_hole_before = no_gap_hole B (spelled t) k None None F held known tt tt none; no_hole_after = no_hole_next k F none }
+  gap_clear k held none = record { no_hole_before = no_gap_hole B (spelled t) k None None F (λ e i over under. held e.block (e, i, over, under, refl)) known tt tt none; no_hole_after = no_hole_next k F none }
 
   -- a key of the map whose way is held is visible
   seen : (k : List ℕ) → HoldsWay B t k → value_at k t ≢ None → value_at k F ≢ None
@@ -196,7 +204,9 @@ module _ (B : FinMap key_cmp (List ℕ)) (F t : List Item) (w : IsWellLaid F) (m
 
   pub all_guarded : (ops : List Op) → HoldsCover B t ops → AllLeft t ops → IsGuarded F ops
   all_guarded [] c left = tt
-  all_guarded (op ∷ ops) c left = (guard op.key op.was op.now c.0.0 c.0.1 left.0, all_guarded ops c.1 left.1)
+  all_guarded (op ∷ ops) c left =
+      let own : (b : List ℕ) → IsInCoverOf t op b → IsThere B b = λ b i. c b (inl i) in
+      (guard op.key op.was op.now (λ b i. own b (inl i)) (λ new. (λ b i. own b (inr (new, inl i)), λ b i. own b (inr (new, inr i)))) left.0, all_guarded ops (λ b i. c b (inr i)) left.1)
 
 -- a view of the tree with what is there
 pub record HasView (B : FinMap key_cmp (List ℕ)) (t : List Item) : Type 0 where
@@ -224,7 +234,7 @@ has_view B t m under distinct at =
 pub covered : (B : FinMap key_cmp (List ℕ)) (s t : List Item) (op : Op) (ops : List Op) → IsMap s → AreFormedOps (op ∷ ops) → AreApart (op ∷ ops) → Plays s (op ∷ ops) t → HoldsCover B t (op ∷ ops) → AreUnderNodeLinks B → AreDistinct B t → (F : List Item) × IsCoveredBy B s t (op ∷ ops) F
 covered B s t op ops m forms apart plays cover under distinct =
     let mt = map_played (op ∷ ops) s t forms m plays in
-    let V = has_view B t mt under distinct (cover.0.0 (record { low = None; high = None; block = spell (top_layer t) t }) (inl refl) tt tt) in
+    let V = has_view B t mt under distinct (cover (spell (top_layer t) t) (inl (inl (record { low = None; high = None; block = spell (top_layer t) t }, inl refl, tt, tt, refl)))) in
     let left = all_left (op ∷ ops) s t forms apart m plays in
     let guard = all_guarded B V.list t V.is_view.well_laid mt V.filled V.known (op ∷ ops) cover left in
     let back = undone_by_play Holds V.list s t (op ∷ ops) V.is_view.well_laid forms apart guard m mt plays V.filled in

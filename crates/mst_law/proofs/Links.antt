@@ -25,9 +25,9 @@ complete_link B s t ops m forms apart some plays cover under distinct =
     (c.0, c.1.step)
 
 pub sound_link : (B : FinMap key_cmp (List ℕ)) (former later : List ℕ) (ops : List Op) (F s : List Item) → IsStep B former later ops F → AreFormedOps ops → AreApart ops
-    → IsMap s → root s ≡ former → Distinct (nodes s ++ nodes (undone F ops)) → (t : List Item) × Plays s ops t × (root t ≡ later)
+    → IsMap s → root s ≡ former → Distinct (nodes s ++ nodes (undone F ops)) → (t : List Item) × IsMap t × Plays s ops t × (root t ≡ later)
 sound_link B former later ops F s link forms apart m e d =
     let v = link.is_view in
     let w = (kept F ops v.well_laid forms apart link.agrees link.guarded).well_laid in
     let R = replayed Holds F s ops v.well_laid apart link.agrees link.guarded m (filling_law (undone F ops) s w m (e ∙ sym link.leads_back) d) in
-    (R.result, R.plays, one_root F R.result v.well_laid R.fills ∙ v.root_is)
+    (R.result, R.is_map, R.plays, one_root F R.result v.well_laid R.fills ∙ v.root_is)

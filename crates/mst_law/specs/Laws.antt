@@ -46,10 +46,10 @@ OneViewLaw = (B : FinMap key_cmp (List ℕ)) (r : List ℕ) (F G : List Item) �
 abbrev pub FaultLaw : Type 0
 FaultLaw = (B : FinMap key_cmp (List ℕ)) (r f : List ℕ) (F : List Item) → HasTopFault in_part B r f → IsView B r F → ⊥
 
--- Soundness of a link: on every map with the former root, linked operations on different keys play, and give a map with the later root, unless different blocks of that map's tree and of the undone view share a digest.
+-- Soundness of a link: on every map with the former root, linked operations on different keys play, and give a map whose tree has the later root, unless different blocks of that map's tree and of the undone view share a digest.
 abbrev pub SoundLinkLaw : Type 0
 SoundLinkLaw = (B : FinMap key_cmp (List ℕ)) (former later : List ℕ) (ops : List Op) (F s : List Item) → IsStep B former later ops F → AreFormedOps ops → AreApart ops
-    → IsMap s → root s ≡ former → Distinct (nodes s ++ nodes (undone F ops)) → (t : List Item) × Plays s ops t × (root t ≡ later)
+    → IsMap s → root s ≡ former → Distinct (nodes s ++ nodes (undone F ops)) → (t : List Item) × IsMap t × Plays s ops t × (root t ≡ later)
 
 -- Completeness of a link: operations, at least one and on different keys, that play and whose cover the blocks hold are linked, unless different blocks share a digest.
 abbrev pub CompleteLinkLaw : Type 0

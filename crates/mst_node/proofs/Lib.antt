@@ -11,10 +11,12 @@ pub mod Parts
 pub mod Lies
 pub mod Told
 pub mod Readers
-pub mod Rests
 pub mod Writes
-pub mod Finding
 pub mod EmptyTree
+pub mod Follows
+pub mod Spelled
+pub mod Rounds
+pub mod Lengths
 pub mod Passes
 pub mod Steps
 pub mod Finds

@@ -11,28 +11,16 @@ use Rattle.mst_node.specs.NodeFaults.{AreEntriesAt}
 use Rattle.mst_node.specs.Covers.{IsOver, IsUnder}
 use Rattle.mst_node.specs.Reading.{is_over}
 use Rattle.mst_node.proofs.Layers.{eqb_yes, eqb_same, eqb_not}
-use Rattle.mst_node.proofs.Told.{both_true}
+use Rattle.mst_node.proofs.Told.{both_true, less_of, over_true, true_over}
 use Rattle.mst_node.specs.FirstFault.{Extent, in_part, in_whole, IsMissing}
 use Rattle.mst_node.specs.Fits.{is_less, is_under, may_hang, entries_fit}
 use Rattle.mst_node.specs.TreeReading.{go_on, block_of, or_missing}
 use Rattle.std.specs.FinMap as map
 use Rattle.std.specs.FinMap.{FinMap}
 
-pub less_true : (j k : List ℕ) → is_less j k ≡ true → key_cmp j k ≡ Less
-less_true j k h =
-    elim (key_cmp j k) as (λ o. by_order o true false false ≡ true → o ≡ Less) [ Less ↦ λ e. refl | Equal ↦ λ e. absurd (cc) | Greater ↦ λ e. absurd (cc) ] h
-
-pub over_true : (low : Option (List ℕ)) (k : List ℕ) → is_over low k ≡ true → IsOver low k
-over_true None k h = tt
-over_true (Some j) k h = less_true j k h
-
 pub under_true : (k : List ℕ) (high : Option (List ℕ)) → is_under k high ≡ true → IsUnder k high
 under_true k None h = tt
-under_true k (Some j) h = less_true k j h
-
-pub true_over : (low : Option (List ℕ)) (k : List ℕ) → IsOver low k → is_over low k ≡ true
-true_over None k h = refl
-true_over (Some j) k h = rw h refl
+under_true k (Some j) h = less_of (key_cmp k j) h
 
 pub true_under : (k : List ℕ) (high : Option (List ℕ)) → IsUnder k high → is_under k high ≡ true
 true_under k None h = refl

@@ -4,6 +4,7 @@ pub mod Trees
 pub mod Covers
 pub mod NodeFaults
 pub mod Reading
+pub mod Taking
 pub mod Laws
 pub mod Fits
 pub mod FirstFault

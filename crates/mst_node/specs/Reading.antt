@@ -1,19 +1,15 @@
 -- The node that a block spells, told from its bytes: what would be its parts are read, and it is the node where it is spelled so.
 -- (The law of reading says that this is the node that the block spells, where there is one.)
-use Rattle.std.specs.Prelude.{◌≡◌, ℕ, zero, suc, ◌+◌, ◌-◌, ℤ, pos, negsuc, Bool, true, false, ◌&&◌, ◌==◌, nat_lt, nat_le, if◌then◌else◌, List, [], ◌∷◌, ◌++◌, length, take, drop, slice_index, Option, Some, None, Result, Ok, Err, unwrap_or, option_map, ⊤}
+use Rattle.std.specs.Prelude.{ℕ, zero, suc, ◌+◌, ◌-◌, pos, Bool, true, false, ◌&&◌, ◌==◌, nat_lt, nat_le, if◌then◌else◌, List, [], ◌∷◌, ◌++◌, length, take, drop, slice_index, Option, Some, None, Ok, Err, unwrap_or}
 use Rattle.std.specs.Str.{bytes_eq}
 use Rattle.at_cid.specs.Link.{is_link}
 use Rattle.at_cid.specs.Order.{key_cmp}
 use Rattle.at_cbor.specs.Item.{Item}
-use Rattle.at_cbor.specs.Kinds.{field_of, null_in, link_in, int_in}
+use Rattle.at_cbor.specs.Kinds.{field_of}
 use Rattle.at_cbor.specs.Reading.{Reading, item_at}
-use Rattle.at_cbor.specs.Decoding.{decoded}
-use Rattle.at_cbor.specs.View.{item_of}
-use Rattle.at_cbor.specs.declared.fault.Cause.{Cause}
-use Rattle.at_cbor.specs.declared.value.Value.{Value}
+use Rattle.mst_list.specs.declared.item.TheConstants.{MOST_KEY_BYTES}
 use Rattle.mst_list.specs.Edits.{by_order}
 use Rattle.mst_node.specs.declared.entry.Entry.{Entry}
-use Rattle.mst_node.specs.declared.fault.NodeFault.{NodeFault}
 use Rattle.mst_node.specs.NodeBytes.{node_bytes}
 use Rattle.mst_node.specs.Nodes.{Node}
 
@@ -22,9 +18,9 @@ abbrev pub all_bytes : List ℕ → Bool
 all_bytes [] = true
 all_bytes (b ∷ bs) = nat_lt b 256 && all_bytes bs
 
--- a key has 1 to 830 bytes
+-- a key has 1 byte to the most bytes of a key
 abbrev pub is_key : List ℕ → Bool
-is_key k = nat_le 1 (length k) && (nat_le (length k) 830 && all_bytes k)
+is_key k = nat_le 1 (length k) && (nat_le (length k) MOST_KEY_BYTES && all_bytes k)
 
 -- a link of either kind
 abbrev pub is_any_link : List ℕ → Bool
@@ -98,39 +94,7 @@ parts_from block =
 unfoldable pub node_of : List ℕ → Option Node
 node_of block = let n = parts_from block in if is_node n && bytes_eq (node_bytes n.0 n.1) block then Some n else None
 
--- the link that an item is, or none where it is null
-abbrev pub child_in : Item → Option (Option (List ℕ))
-child_in i = if null_in i then Some None else option_map Some (link_in i)
-
--- the natural number that an item is
-abbrev pub natural_in : Option ℤ → Option ℕ
-natural_in (Some (pos n)) = Some n
-natural_in (Some (negsuc n)) = None
-natural_in None = None
-
-abbrev pub count_in : Item → Option ℕ
-count_in i = natural_in (int_in i)
-
 -- the key of the last entry, behind the key `last`
 abbrev pub key_before : List ℕ → List Entry → List ℕ
 key_before last [] = last
 key_before last (e ∷ es) = key_before e.key es
-
--- the item at the front of the bytes, and its length, where there is one
-abbrev pub found_in : Result (Item × ℕ) (Cause × ℕ) → Option (Item × ℕ)
-found_in (Ok x) = Some x
-found_in (Err e) = None
-
-abbrev pub item_in : List ℕ → Option (Item × ℕ)
-item_in bytes = found_in (decoded bytes)
-
-abbrev pub ReadsItem : Result (Value × ℕ) NodeFault → Option (Item × ℕ) → Type 0
-ReadsItem (Ok x) found = found ≡ Some (item_of x.0, x.1)
-ReadsItem (Err NodeFault.BadNode) found = found ≡ None
-ReadsItem (Err NodeFault.Memory) found = ⊤
-
--- what the call returned, seen by view, is this, unless memory was wanted
-abbrev pub Finds : {X Y : Type 0} → (X → Y) → Result X NodeFault → Y → Type 0
-Finds view (Ok x) y = view x ≡ y
-Finds view (Err NodeFault.BadNode) y = ⊥
-Finds view (Err NodeFault.Memory) y = ⊤

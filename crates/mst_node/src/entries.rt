@@ -1,6 +1,6 @@
 //! The entries of a node.
 
-ghost use Rattle.std.specs.Prelude.{◌≡◌, ◌∷◌, ◌++◌, [], length, ◌==◌, slice_get, option_map, OnOk, OnErr};
+ghost use Rattle.std.specs.Prelude.{◌≡◌, ◌∷◌, ◌++◌, [], length, ◌==◌, slice_get, option_map, IfOk, OnOk, OnErr};
 
 use crate::entry::Entry;
 use at_cid::Memory;
@@ -30,6 +30,21 @@ impl Entries {
         Entries {
             entries: Vec::new(alloc),
         }
+    }
+
+    /// No entries, with room for so many.
+    pub(crate) fn with_room(alloc: Global, room: usize) -> Result<Entries, Memory>
+        ensures { IfOk result (λ entries. entries ≡ []) }
+    {
+        let entries = Vec::with_capacity(alloc, room)?;
+        Ok(Entries { entries })
+    }
+
+    /// The vector of the entries, each with its own key: what a walk that takes them over goes along. Takes no memory.
+    pub fn into_vec(self) -> Vec<Entry>
+        ensures { result.items ≡ self }
+    {
+        self.entries
     }
 
     /// The entries.

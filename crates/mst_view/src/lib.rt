@@ -5,7 +5,7 @@
 mod branch;
 mod copying;
 mod holes;
-mod law;
+mod laws;
 mod link;
 mod listing;
 mod reading;
@@ -13,7 +13,7 @@ mod stub_tree;
 mod viewing;
 
 pub use branch::{Below, Branch, Part, Rest};
-pub use law::{view_law, view_size_law};
+pub use laws::{view_law, view_size_law};
 pub use stub_tree::StubTree;
 pub use viewing::{ViewFault, view};
 

@@ -1,5 +1,5 @@
 use Rattle.mst_law.proofs.Links.{covering}
-use Rattle.mst_law.proofs.law.covering_law.Goals as goal
+use Rattle.mst_law.proofs.laws.covering_law.Goals as goal
 
 pub returns : goal.returns
 returns c = covering

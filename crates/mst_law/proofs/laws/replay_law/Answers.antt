@@ -1,6 +1,6 @@
 use Rattle.mst_list.proofs.Laid.{replayed}
 use Rattle.mst_node.specs.Trees.{Holds}
-use Rattle.mst_law.proofs.law.replay_law.Goals as goal
+use Rattle.mst_law.proofs.laws.replay_law.Goals as goal
 
 pub returns : goal.returns
 returns c = λ F s ops w apart agree guard f.

@@ -1,6 +1,6 @@
 use Rattle.std.proofs.Common.{[], sym, ◌∙◌}
-use Rattle.mst_node.proofs.Rests.{last_before}
-use Rattle.mst_node.proofs.reading.last_key.Goals as goal
+use Rattle.mst_node.proofs.Rounds.{last_before}
+use Rattle.mst_node.proofs.taking.last_key.Goals as goal
 
 pub returns-in-Some : goal.returns-in-Some
 returns-in-Some c = c.as_slice.ensures.value ∙ last_before [] c.args.entries.now c.in-Some.entry.now (sym c.in-Some.ensures.value)

@@ -1,5 +1,5 @@
 use Rattle.mst_view.proofs.TreeAt.{fault_no_view, fault_once, view_once, view_or_fault}
-use Rattle.mst_view.proofs.law.view_law.Goals as goal
+use Rattle.mst_view.proofs.laws.view_law.Goals as goal
 
 pub returns : goal.returns
 returns c = λ B r b under kind at. record {

@@ -1,0 +1,206 @@
+//! The parts of a node, taken from its block from left to right.
+
+ghost use Rattle.std.specs.Prelude.{◌≡◌, ◌≤◌, ◌∷◌, ◌++◌, [], Some, length, take, option_map, IfOk};
+ghost use Rattle.at_cbor.specs.Taking.{behind, number_at};
+ghost use Rattle.mst_node.specs.Reading.{key_before};
+ghost use Rattle.mst_node.specs.Taking.{IsTaken, parts_of, parts_at, goes_above, may_follow, entry_at, entries_at, front_at, end_at, node_at};
+
+use crate::entries::Entries;
+use crate::entry::Entry;
+use crate::fault::NodeFault;
+use at_cbor::{take_bytes, take_child, take_link, take_list_front, take_number};
+use at_cid::{Cid, Memory, Octets};
+use mst_list::MOST_KEY_BYTES;
+use std::alloc::Global;
+
+/// The bytes behind a text of one letter.
+#[tactic(auto, unfolding(at_cbor::specs::Taking::behind))]
+fn take_letter(letter: u8, bytes: &[u8]) -> Option<&[u8]>
+    ensures { option_map (λ rest. rest.now) result ≡ behind (0x61 ∷ letter ∷ []) bytes.now }
+{
+    match bytes {
+        [0x61, found, rest @ ..] if *found == letter => Some(rest),
+        _ => None,
+    }
+}
+
+/// The bytes behind the head of a map and a text of one letter, its first key.
+#[tactic(auto, unfolding(at_cbor::specs::Taking::behind))]
+fn take_map_front(head: u8, letter: u8, bytes: &[u8]) -> Option<&[u8]>
+    ensures { option_map (λ rest. rest.now) result ≡ behind (head ∷ 0x61 ∷ letter ∷ []) bytes.now }
+{
+    match bytes {
+        [first, rest @ ..] if *first == head => take_letter(letter, rest),
+        _ => None,
+    }
+}
+
+/// What an entry's block says: what of its key isn't shared with the key before, how much is, and its links.
+#[derive(Drop)]
+struct Parts<'a> {
+    tail: &'a [u8],
+    count: usize,
+    right: Option<Cid>,
+    value: Cid,
+}
+
+/// The parts of the entry at the front.
+#[tactic(auto, unfolding(crate::specs::Taking::parts_at))]
+fn take_parts(bytes: &[u8]) -> Option<(Parts, &[u8])>
+    ensures { option_map (λ x. (parts_of x.0.tail.now x.0.count x.0.right x.0.value, x.1.now)) result ≡ parts_at bytes.now }
+{
+    let Some(rest) = take_map_front(0xa4, b'k', bytes) else {
+        return None;
+    };
+    let Some((tail, rest)) = take_bytes(rest) else {
+        return None;
+    };
+    let Some(rest) = take_letter(b'p', rest) else {
+        return None;
+    };
+    let Some((count, rest)) = take_number(0, rest) else {
+        return None;
+    };
+    let Some(rest) = take_letter(b't', rest) else {
+        return None;
+    };
+    let Some((right, rest)) = take_child(rest) else {
+        return None;
+    };
+    let Some(rest) = take_letter(b'v', rest) else {
+        return None;
+    };
+    let Some((value, rest)) = take_link(rest) else {
+        return None;
+    };
+    let parts = Parts {
+        tail,
+        count: count as usize,
+        right,
+        value,
+    };
+    Some((parts, rest))
+}
+
+/// Whether a key goes on where another ends, or its first byte that isn't shared is greater.
+fn goes_above(other: &[u8], tail: &[u8]) -> bool
+    ensures { result ≡ goes_above other.now tail.now }
+{
+    let [y, ..] = tail else {
+        return false;
+    };
+    let [x, ..] = other else {
+        return true;
+    };
+    *x < *y
+}
+
+/// Whether so many bytes of the key before and these others are a key above it that shares no more with it.
+fn may_follow(last: &[u8], count: usize, tail: &[u8]) -> bool
+    ensures { result ≡ may_follow last.now count tail.now }
+{
+    count <= last.len()
+        && tail.len() <= MOST_KEY_BYTES
+        && count <= MOST_KEY_BYTES - tail.len()
+        && goes_above(last.split_at(count).1, tail)
+}
+
+/// So many bytes of the key before, and these others, in exactly the room that they need.
+fn key_of(alloc: Global, last: &[u8], count: usize, tail: &[u8]) -> Result<Octets, Memory>
+    requires shared { count ≤ length last.now }
+    requires short { length tail.now ≤ MOST_KEY_BYTES }
+    requires low { count ≤ MOST_KEY_BYTES }
+    ensures { IfOk result (λ key. key ≡ take count last.now ++ tail.now) }
+{
+    let mut key = Vec::with_capacity(alloc, count + tail.len())?;
+    key.extend_from_slice(last.split_at(count).0)?;
+    key.extend_from_slice(tail)?;
+    Ok(Octets::from_vec(key))
+}
+
+/// The entry at the front, behind a key.
+#[tactic(auto, unfolding(crate::specs::Taking::entry_at))]
+fn take_entry<'a>(
+    alloc: Global,
+    last: &[u8],
+    bytes: &'a [u8],
+) -> Result<(Entry, &'a [u8]), NodeFault>
+    ensures { IsTaken (λ x. (x.0, x.1.now)) result (entry_at last.now bytes.now) }
+{
+    let Some((parts, rest)) = take_parts(bytes) else {
+        return Err(NodeFault::BadNode);
+    };
+    if !may_follow(last, parts.count, parts.tail) {
+        return Err(NodeFault::BadNode);
+    }
+    let key = key_of(alloc, last, parts.count, parts.tail)?;
+    let entry = Entry {
+        key,
+        value: parts.value,
+        right: parts.right,
+    };
+    Ok((entry, rest))
+}
+
+fn last_key(entries: &[Entry]) -> &[u8]
+    ensures { result.now ≡ key_before [] entries.now }
+{
+    match entries.last() {
+        Some(entry) => entry.key.as_slice(),
+        None => &[],
+    }
+}
+
+/// The fewest bytes of an entry: its map with four names, a key of one byte, 0, null and a link.
+const FEWEST_ENTRY_BYTES: usize = 54;
+
+/// So many entries at the front. A claimed count takes no more room than the bytes can hold entries.
+fn take_entries(alloc: Global, count: usize, bytes: &[u8]) -> Result<(Entries, &[u8]), NodeFault>
+    ensures { IsTaken (λ x. (x.0, x.1.now)) result (entries_at count [] bytes.now) }
+{
+    let room = count.min(bytes.len() / FEWEST_ENTRY_BYTES);
+    let mut entries = Entries::with_room(alloc, room)?;
+    let mut rest = bytes;
+    'entries: for _ in 0..count {
+        let (entry, after) = take_entry(alloc, last_key(entries.as_slice()), rest)?;
+        entries.push(entry)?;
+        rest = after;
+    }
+    Ok((entries, rest))
+}
+
+/// How many entries a node has, and the bytes behind its front.
+#[tactic(auto, unfolding(crate::specs::Taking::front_at))]
+fn take_front(bytes: &[u8]) -> Option<(u64, &[u8])>
+    ensures { option_map (λ x. (x.0, x.1.now)) result ≡ front_at bytes.now }
+{
+    let rest = take_map_front(0xa2, b'e', bytes)?;
+    take_list_front(rest)
+}
+
+/// The link to the left, which ends a node.
+#[tactic(auto, unfolding(crate::specs::Taking::end_at))]
+fn take_end(bytes: &[u8]) -> Option<Option<Cid>>
+    ensures { result ≡ end_at bytes.now }
+{
+    let rest = take_letter(b'l', bytes)?;
+    match take_child(rest) {
+        Some((left, [])) => Some(left),
+        _ => None,
+    }
+}
+
+/// The link to the left and the entries of the node that fills a block.
+#[tactic(auto, unfolding(crate::specs::Taking::node_at))]
+pub fn take_node(alloc: Global, block: &[u8]) -> Result<(Option<Cid>, Entries), NodeFault>
+    ensures { IsTaken (λ x. (x.0, x.1)) result (node_at block.now) }
+{
+    let Some((count, rest)) = take_front(block) else {
+        return Err(NodeFault::BadNode);
+    };
+    let (entries, rest) = take_entries(alloc, count as usize, rest)?;
+    let Some(left) = take_end(rest) else {
+        return Err(NodeFault::BadNode);
+    };
+    Ok((left, entries))
+}
