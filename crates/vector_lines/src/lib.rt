@@ -1,0 +1,15 @@
+//! Rows of text files that are compared with what a library says of them: one row a line, `input = answer`; a line that
+//! begins with `#` is a remark. Bytes are hexadecimal, `-` stands for none, and `<XX x N>` for N bytes XX.
+#![tactic(auto)]
+
+mod links;
+mod runs;
+mod subject;
+mod suite;
+mod words;
+
+pub use links::{add_link, link};
+pub use runs::expanded;
+pub use subject::Subject;
+pub use suite::Suite;
+pub use words::{add_bytes, add_list, bytes};
