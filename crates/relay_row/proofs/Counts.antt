@@ -1,0 +1,30 @@
+-- The fronts of lists: what is read of one is spelled so, and read again.
+use Rattle.std.proofs.Common.{◌≡◌, ℕ, suc, ◌+◌, ◌-◌, ◌*◌, ◌^◌, ◌≤◌, ◌<◌, ◌⊎◌, inl, inr, Bool, true, false, cond, ◌&&◌, List, [], ◌∷◌, ◌++◌, length, Option, Some, None, refl, sym, ap, ◌∙◌, subst, arith, leb, ltb, eqb}
+use Rattle.std.proofs.lemmas.Bool.{lt-ltb, le-leb, ltb-true, leb-true, eqb-true, and_parts, cases_lt}
+use Rattle.at_cid.specs.Link.{IsBytes}
+use Rattle.at_cbor.specs.Item.{Item, items_of}
+use Rattle.at_cbor.specs.Spelling.{front_of, items_spelling, items_count}
+use Rattle.at_cbor.proofs.Taken.{number_takes, number_again as front_again}
+use Rattle.relay_row.specs.Readers.{Reading, fail, count_at}
+use Rattle.relay_row.proofs.Steps.{Sound}
+
+pub count_sound : Sound (front_of 4) count_at
+unfolding count_at
+count_sound bytes n rest ok e = (number_takes 4 bytes (n, rest) ok e).0
+
+pub count_again : (n : ℕ) (rest : List ℕ) → n < 2 ^ 64 → count_at (front_of 4 n ++ rest) ≡ Some (n, rest)
+unfolding count_at
+count_again n rest h = front_again 4 n rest h
+
+pub items_count_is : (is : List Item) → items_count (items_of is) ≡ length is
+items_count_is [] = refl
+items_count_is (i ∷ is) = ap suc (items_count_is is)
+
+-- which of two readers a test chose
+pub chosen_at : {A : Type 0} (b : Bool) (r q : Reading A) (bytes : List ℕ) (y : A × List ℕ) → (cond b r q) bytes ≡ Some y → ((b ≡ true) × (r bytes ≡ Some y)) ⊎ ((b ≡ false) × (q bytes ≡ Some y))
+chosen_at true r q bytes y e = inl (refl, e)
+chosen_at false r q bytes y e = inr (refl, e)
+
+pub passed_at : {A : Type 0} (b : Bool) (r : Reading A) (bytes : List ℕ) (y : A × List ℕ) → (cond b r fail) bytes ≡ Some y → (b ≡ true) × (r bytes ≡ Some y)
+passed_at true r bytes y e = (refl, e)
+passed_at false r bytes y e = absurd cc

@@ -1,0 +1,11 @@
+pub mod Loops
+pub mod Steps
+pub mod Atoms
+pub mod Counts
+pub mod Found
+pub mod FoundRows
+pub mod Bytes
+pub mod Again
+pub mod AgainRows
+pub mod Bodies
+pub mod Journals

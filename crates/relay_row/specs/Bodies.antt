@@ -1,0 +1,28 @@
+-- Rows, and lists of them, as bytes.
+use Rattle.std.specs.Prelude.{◌≡◌, ℕ, ◌≤◌, List, [], ◌∷◌, ◌++◌, length, true}
+use Rattle.std.specs.List.{list_all}
+use Rattle.at_cbor.specs.Spelling.{front_of, spelling}
+use Rattle.relay_row.specs.declared.limits.TheConstants.{MOST_ROWS}
+use Rattle.relay_row.specs.declared.row.Row.{Row}
+use Rattle.relay_row.specs.Items.{list, row_items}
+use Rattle.relay_row.specs.Rules.{is_row}
+
+-- a row's one spelling: the DAG-CBOR list of its items
+unfoldable pub row_spelling : Row → List ℕ
+row_spelling row = spelling (list (row_items row))
+
+-- rows, one behind the other
+abbrev pub spelled : List Row → List ℕ
+spelled [] = []
+spelled (row ∷ rows) = row_spelling row ++ spelled rows
+
+-- a body: the DAG-CBOR list of the rows
+unfoldable pub body_of : List Row → List ℕ
+body_of rows = front_of 4 (length rows) ++ spelled rows
+
+-- The body is the one of these rows, of which there are 1 to 64, each well formed.
+pub record IsBody (rows : List Row) (body : List ℕ) : Type 0 where
+  pub some : 1 ≤ length rows
+  pub few : length rows ≤ MOST_ROWS
+  pub formed : list_all is_row rows ≡ true
+  pub made : body ≡ body_of rows

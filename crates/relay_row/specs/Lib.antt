@@ -1,0 +1,9 @@
+pub mod Items
+pub mod Rules
+pub mod Bodies
+pub mod Readers
+pub mod Reading
+pub mod Answers
+pub mod Laws
+pub mod Journal
+pub mod Folds

@@ -1,0 +1,23 @@
+//! Laws of bodies, folds and journals, each the contract of a function that does nothing.
+
+ghost use Rattle.relay_row.specs.Laws.{BodiesTellRows, RowsJoin, FoldsJoin, JournalsGrow};
+
+/// No body is that of two lists of rows.
+pub fn bodies_tell_rows()
+    ensures { BodiesTellRows }
+{}
+
+/// Rows behind rows are spelled behind them.
+pub fn rows_join()
+    ensures { RowsJoin }
+{}
+
+/// The fold of a journal in two halves is the fold of the whole.
+pub fn folds_join()
+    ensures { FoldsJoin }
+{}
+
+/// Which rows a journal grows by.
+pub fn journals_grow()
+    ensures { JournalsGrow }
+{}

@@ -1,0 +1,245 @@
+//! What rows are made of, read item by item.
+
+ghost use Rattle.std.specs.Prelude.{◌≡◌, ◌<◌};
+ghost use Rattle.relay_row.specs.Readers.{Reads};
+ghost use Rattle.relay_row.specs.Reading.{head_at, whole_items_at, whole_at, plain, one_detail, two_details, detail_at, account_effect, effect_of, effect_at, number_or_whole, fetched_at, repo_of, repo_at, moment_at};
+
+use crate::carried::CarriedRepo;
+use crate::fault::RowFault;
+use crate::fetched::{Fetched, Whole};
+use crate::items::{
+    read_bool, read_bytes, read_count, read_link, read_null_or_rev, read_null_or_text, read_number,
+    read_place, read_rev,
+};
+use crate::reader::Reader;
+use crate::taken::Effect;
+use at_event::{Head, Refusal};
+
+#[tactic(auto, unfolding(crate::specs::Reading::head_at))]
+pub fn read_head(reader: &mut Reader) -> Result<Head, RowFault>
+    ensures { Reads (λ x. (x, reader.new.rest.now)) result (head_at reader.old.rest.now) }
+{
+    let rev = read_rev(reader)?;
+    let data_root = read_link(reader)?;
+    let commit = read_link(reader)?;
+    Ok(Head {
+        rev,
+        data_root,
+        commit,
+    })
+}
+
+#[tactic(auto, unfolding(crate::specs::Reading::whole_items_at))]
+fn read_whole_items(reader: &mut Reader) -> Result<Whole, RowFault>
+    ensures { Reads (λ x. (x, reader.new.rest.now)) result (whole_items_at reader.old.rest.now) }
+{
+    let seq = read_number(reader)?;
+    let head = read_head(reader)?;
+    let records = read_number(reader)?;
+    let message = read_bytes(reader)?;
+    Ok(Whole {
+        seq,
+        head,
+        records,
+        message,
+    })
+}
+
+#[tactic(auto, unfolding(crate::specs::Reading::whole_at))]
+pub fn read_whole(reader: &mut Reader) -> Result<Whole, RowFault>
+    ensures { Reads (λ x. (x, reader.new.rest.now)) result (whole_at reader.old.rest.now) }
+{
+    let count = read_count(reader)?;
+    if count == 6 {
+        read_whole_items(reader)
+    } else {
+        Err(RowFault::BadRow)
+    }
+}
+
+#[tactic(auto, unfolding(crate::specs::Reading::plain))]
+fn plain(code: u8) -> Option<Option<Refusal>>
+    ensures { result ≡ plain code }
+{
+    match code {
+        0 => Some(None),
+        1 => Some(Some(Refusal::BadEvent)),
+        2 => Some(Some(Refusal::NotHome)),
+        3 => Some(Some(Refusal::Inactive)),
+        4 => Some(Some(Refusal::TakenDown)),
+        5 => Some(Some(Refusal::TooBig)),
+        6 => Some(Some(Refusal::BlocksTooLong)),
+        7 => Some(Some(Refusal::TooManyOps)),
+        8 => Some(Some(Refusal::BadPath)),
+        9 => Some(Some(Refusal::RepeatedPath)),
+        10 => Some(Some(Refusal::BadOp)),
+        11 => Some(Some(Refusal::Stale)),
+        12 => Some(Some(Refusal::BadCar)),
+        13 => Some(Some(Refusal::WrongRoot)),
+        14 => Some(Some(Refusal::WrongDigest)),
+        15 => Some(Some(Refusal::NoCommit)),
+        16 => Some(Some(Refusal::BadCommit)),
+        17 => Some(Some(Refusal::OtherCommit)),
+        18 => Some(Some(Refusal::BadSignature)),
+        19 => Some(Some(Refusal::Gap)),
+        24 => Some(Some(Refusal::TooLong)),
+        25 => Some(Some(Refusal::FutureRev)),
+        _ => None,
+    }
+}
+
+#[tactic(auto, unfolding(crate::specs::Reading::one_detail))]
+fn read_one_detail(reader: &mut Reader, code: u8) -> Result<Option<Refusal>, RowFault>
+    ensures { Reads (λ x. (x, reader.new.rest.now)) result (one_detail code reader.old.rest.now) }
+{
+    match code {
+        20 => {
+            let link = read_link(reader)?;
+            Ok(Some(Refusal::BadNode(link)))
+        }
+        21 => {
+            let place = read_place(reader)?;
+            Ok(Some(Refusal::OtherOp(place)))
+        }
+        22 => {
+            let place = read_place(reader)?;
+            Ok(Some(Refusal::NotCovered(place)))
+        }
+        _ => Err(RowFault::BadRow),
+    }
+}
+
+#[tactic(auto, unfolding(crate::specs::Reading::two_details))]
+fn read_two_details(reader: &mut Reader, code: u8) -> Result<Option<Refusal>, RowFault>
+    ensures { Reads (λ x. (x, reader.new.rest.now)) result (two_details code reader.old.rest.now) }
+{
+    if code != 23 {
+        return Err(RowFault::BadRow);
+    }
+    let want = read_link(reader)?;
+    let got = read_link(reader)?;
+    Ok(Some(Refusal::OtherData(want, got)))
+}
+
+#[tactic(auto, unfolding(crate::specs::Reading::detail_at))]
+pub fn read_detail(reader: &mut Reader, code: u8) -> Result<Option<Refusal>, RowFault>
+    ensures { Reads (λ x. (x, reader.new.rest.now)) result (detail_at code reader.old.rest.now) }
+{
+    let count = read_count(reader)?;
+    match count {
+        0 => match plain(code) {
+            Some(refusal) => Ok(refusal),
+            None => Err(RowFault::BadRow),
+        },
+        1 => read_one_detail(reader, code),
+        2 => read_two_details(reader, code),
+        _ => Err(RowFault::BadRow),
+    }
+}
+
+#[tactic(auto, unfolding(crate::specs::Reading::account_effect))]
+fn read_account_effect(reader: &mut Reader) -> Result<Effect, RowFault>
+    ensures { Reads (λ x. (x, reader.new.rest.now)) result (account_effect reader.old.rest.now) }
+{
+    let active = read_bool(reader)?;
+    let status = read_null_or_text(reader)?;
+    Ok(Effect::Account(active, status))
+}
+
+fn read_effect_items(reader: &mut Reader, count: u64) -> Result<Effect, RowFault>
+    ensures { Reads (λ x. (x, reader.new.rest.now)) result (effect_of count reader.old.rest.now) }
+{
+    match count {
+        3 => {
+            let head = read_head(reader)?;
+            Ok(Effect::Repo(head))
+        }
+        2 => read_account_effect(reader),
+        _ => Err(RowFault::BadRow),
+    }
+}
+
+#[tactic(auto, unfolding(crate::specs::Reading::effect_at))]
+pub fn read_effect(reader: &mut Reader) -> Result<Effect, RowFault>
+    ensures { Reads (λ x. (x, reader.new.rest.now)) result (effect_at reader.old.rest.now) }
+{
+    let [first, rest @ ..] = reader.rest else {
+        return Err(RowFault::BadRow);
+    };
+    if *first == 246 {
+        reader.rest = rest;
+        return Ok(Effect::Nothing);
+    }
+    let count = read_count(reader)?;
+    read_effect_items(reader, count)
+}
+
+#[tactic(auto, unfolding(crate::specs::Reading::fetched_at))]
+pub fn read_fetched(reader: &mut Reader) -> Result<Fetched, RowFault>
+    ensures { Reads (λ x. (x, reader.new.rest.now)) result (fetched_at reader.old.rest.now) }
+{
+    let [first, rest @ ..] = reader.rest else {
+        return Err(RowFault::BadRow);
+    };
+    if *first == 246 {
+        reader.rest = rest;
+        return Ok(Fetched::NotAsked);
+    }
+    if *first == 0 {
+        reader.rest = rest;
+        return Ok(Fetched::Absent);
+    }
+    if *first < 24 {
+        reader.rest = rest;
+        return Ok(Fetched::Refused(*first));
+    }
+    let whole = read_whole(reader)?;
+    Ok(Fetched::Whole(whole))
+}
+
+fn read_repo_items(reader: &mut Reader, count: u64) -> Result<CarriedRepo, RowFault>
+    ensures { Reads (λ x. (x, reader.new.rest.now)) result (repo_of count reader.old.rest.now) }
+{
+    match count {
+        3 => {
+            let head = read_head(reader)?;
+            Ok(CarriedRepo::Good(head))
+        }
+        1 => {
+            let rev = read_null_or_rev(reader)?;
+            Ok(CarriedRepo::Lost(rev))
+        }
+        _ => Err(RowFault::BadRow),
+    }
+}
+
+#[tactic(auto, unfolding(crate::specs::Reading::repo_at))]
+pub fn read_repo(reader: &mut Reader) -> Result<CarriedRepo, RowFault>
+    ensures { Reads (λ x. (x, reader.new.rest.now)) result (repo_at reader.old.rest.now) }
+{
+    let [first, rest @ ..] = reader.rest else {
+        return Err(RowFault::BadRow);
+    };
+    if *first == 246 {
+        reader.rest = rest;
+        return Ok(CarriedRepo::Missing);
+    }
+    let count = read_count(reader)?;
+    read_repo_items(reader, count)
+}
+
+/// A moment behind so many items, where there is one more.
+#[tactic(auto, unfolding(crate::specs::Reading::moment_at))]
+pub fn read_moment(reader: &mut Reader, others: u64, count: u64) -> Result<Option<u64>, RowFault>
+    requires { others < 24 }
+    ensures { Reads (λ x. (x, reader.new.rest.now)) result (moment_at others count reader.old.rest.now) }
+{
+    if count == others {
+        return Ok(None);
+    }
+    if count != others + 1 {
+        return Err(RowFault::BadRow);
+    }
+    let moment = read_number(reader)?;
+    Ok(Some(moment))
+}

@@ -1,0 +1,310 @@
+//! The spelling of rows, added to bytes piece by piece.
+
+ghost use Rattle.std.specs.Prelude.{◌≡◌, ◌++◌, ◌+◌, ◌<◌, ◌≤◌, ◌^◌, ◌∷◌, [], length, Some, IfOk, OnOk};
+ghost use Rattle.at_cbor.specs.Item.{Item, items_of};
+ghost use Rattle.at_cbor.specs.Spelling.{front_of, spelling, items_spelling};
+ghost use Rattle.relay_row.specs.Bodies.{row_spelling, spelled, body_of};
+ghost use Rattle.relay_row.specs.Items.{number, rev_text, list, or_null, if_there, head_items, whole_items, code, detail_items, effect_item, fetched_item, repo_item, carried_items, row_items};
+ghost use Rattle.relay_row.specs.declared.row.Row.{Row};
+
+use crate::carried::{Carried, CarriedAccount, CarriedRepo};
+use crate::fetched::{Fetched, Whole};
+use crate::operated::Operated;
+use crate::row::Row;
+use crate::rows::Rows;
+use crate::taken::{Effect, Taken};
+use at_cbor::{
+    write_bool, write_bytes, write_link, write_list_front, write_null, write_number, write_text,
+};
+use at_cid::{Memory, Octets, Words};
+use at_event::{Head, Refusal};
+use at_syntax::{TID_LEN, Tid};
+use std::alloc::Global;
+
+fn write_rev(out: &mut Octets, rev: Tid) -> Result<(), Memory>
+    ensures { OnOk result (out.new ≡ out.old ++ spelling (rev_text rev)) }
+{
+    let mut digits = [0; TID_LEN];
+    write_text(out, rev.write_text(&mut digits))
+}
+
+fn write_head(out: &mut Octets, head: &Head) -> Result<(), Memory>
+    ensures { OnOk result (out.new ≡ out.old ++ items_spelling (items_of (head_items head.now))) }
+{
+    write_rev(out, head.rev)?;
+    write_link(out, &head.data_root)?;
+    write_link(out, &head.commit)
+}
+
+fn write_whole(out: &mut Octets, whole: &Whole) -> Result<(), Memory>
+    ensures { OnOk result (out.new ≡ out.old ++ spelling (list (whole_items whole.now))) }
+{
+    write_list_front(out, 6)?;
+    write_number(out, whole.seq)?;
+    write_head(out, &whole.head)?;
+    write_number(out, whole.records)?;
+    write_bytes(out, whole.message.as_slice())
+}
+
+fn write_code(out: &mut Octets, refusal: &Option<Refusal>) -> Result<(), Memory>
+    ensures { OnOk result (out.new ≡ out.old ++ spelling (number (code refusal.now))) }
+{
+    match refusal {
+        Some(refusal) => write_number(out, u64::from(refusal.code())),
+        None => write_number(out, 0),
+    }
+}
+
+fn write_refusal(out: &mut Octets, refusal: &Refusal) -> Result<(), Memory>
+    ensures { OnOk result (out.new ≡ out.old ++ spelling (list (detail_items (Some refusal.now)))) }
+{
+    match refusal {
+        Refusal::BadNode(link) => {
+            write_list_front(out, 1)?;
+            write_link(out, link)
+        }
+        Refusal::OtherOp(place) | Refusal::NotCovered(place) => {
+            write_list_front(out, 1)?;
+            write_number(out, u64::from(*place))
+        }
+        Refusal::OtherData(want, got) => {
+            write_list_front(out, 2)?;
+            write_link(out, want)?;
+            write_link(out, got)
+        }
+        _ => write_list_front(out, 0),
+    }
+}
+
+fn write_detail(out: &mut Octets, refusal: &Option<Refusal>) -> Result<(), Memory>
+    ensures { OnOk result (out.new ≡ out.old ++ spelling (list (detail_items refusal.now))) }
+{
+    match refusal {
+        Some(refusal) => write_refusal(out, refusal),
+        None => write_list_front(out, 0),
+    }
+}
+
+fn write_status(out: &mut Octets, status: &Option<Words>) -> Result<(), Memory>
+    ensures { OnOk result (out.new ≡ out.old ++ spelling (or_null Item.text status.now)) }
+{
+    match status {
+        Some(status) => write_text(out, status.as_str()),
+        None => write_null(out),
+    }
+}
+
+fn write_effect(out: &mut Octets, effect: &Effect) -> Result<(), Memory>
+    ensures { OnOk result (out.new ≡ out.old ++ spelling (effect_item effect.now)) }
+{
+    match effect {
+        Effect::Nothing => write_null(out),
+        Effect::Repo(head) => {
+            write_list_front(out, 3)?;
+            write_head(out, head)
+        }
+        Effect::Account(active, status) => {
+            write_list_front(out, 2)?;
+            write_bool(out, *active)?;
+            write_status(out, status)
+        }
+    }
+}
+
+fn write_fetched(out: &mut Octets, fetched: &Fetched) -> Result<(), Memory>
+    ensures { OnOk result (out.new ≡ out.old ++ spelling (fetched_item fetched.now)) }
+{
+    match fetched {
+        Fetched::NotAsked => write_null(out),
+        Fetched::Absent => write_number(out, 0),
+        Fetched::Refused(number) => write_number(out, u64::from(*number)),
+        Fetched::Whole(whole) => write_whole(out, whole),
+    }
+}
+
+fn write_null_or_rev(out: &mut Octets, rev: Option<Tid>) -> Result<(), Memory>
+    ensures { OnOk result (out.new ≡ out.old ++ spelling (or_null rev_text rev)) }
+{
+    match rev {
+        Some(rev) => write_rev(out, rev),
+        None => write_null(out),
+    }
+}
+
+fn write_repo(out: &mut Octets, repo: &CarriedRepo) -> Result<(), Memory>
+    ensures { OnOk result (out.new ≡ out.old ++ spelling (repo_item repo.now)) }
+{
+    match repo {
+        CarriedRepo::Missing => write_null(out),
+        CarriedRepo::Good(head) => {
+            write_list_front(out, 3)?;
+            write_head(out, head)
+        }
+        CarriedRepo::Lost(rev) => {
+            write_list_front(out, 1)?;
+            write_null_or_rev(out, *rev)
+        }
+    }
+}
+
+fn write_moment(out: &mut Octets, moment: Option<u64>) -> Result<(), Memory>
+    ensures { OnOk result (out.new ≡ out.old ++ items_spelling (items_of (if_there number moment))) }
+{
+    match moment {
+        Some(moment) => write_number(out, moment),
+        None => Ok(()),
+    }
+}
+
+// The front of a list of so many items, and one more where there is a moment.
+fn write_front(out: &mut Octets, others: usize, moment: Option<u64>) -> Result<(), Memory>
+    requires { others < 24 }
+    ensures { OnOk result (out.new ≡ out.old ++ front_of 4 (others + length (if_there number moment))) }
+{
+    match moment {
+        Some(_) => write_list_front(out, others + 1),
+        None => write_list_front(out, others),
+    }
+}
+
+// Whose message it is.
+fn write_source(out: &mut Octets, taken: &Taken) -> Result<(), Memory>
+    ensures { OnOk result (out.new ≡ out.old ++ items_spelling (items_of (number 1 ∷ Item.text taken.now.host ∷ number taken.now.host_seq ∷ Item.text taken.now.did ∷ number taken.now.kind ∷ []))) }
+{
+    write_number(out, 1)?;
+    write_text(out, taken.host.as_str())?;
+    write_number(out, taken.host_seq)?;
+    write_text(out, taken.did.as_str())?;
+    write_number(out, u64::from(taken.kind))
+}
+
+// What was decided, and what goes out.
+fn write_decision(out: &mut Octets, taken: &Taken) -> Result<(), Memory>
+    ensures { OnOk result (out.new ≡ out.old ++ items_spelling (items_of (number (code taken.now.refusal) ∷ list (detail_items taken.now.refusal) ∷ number taken.now.seq ∷ Item.bytes taken.now.message ∷ []))) }
+{
+    write_code(out, &taken.refusal)?;
+    write_detail(out, &taken.refusal)?;
+    write_number(out, taken.seq)?;
+    write_bytes(out, taken.message.as_slice())
+}
+
+// What follows from it, and when it was.
+fn write_outcome(out: &mut Octets, taken: &Taken) -> Result<(), Memory>
+    ensures { OnOk result (out.new ≡ out.old ++ items_spelling (items_of (effect_item taken.now.effect ∷ fetched_item taken.now.fetched ∷ if_there number taken.now.moment))) }
+{
+    write_effect(out, &taken.effect)?;
+    write_fetched(out, &taken.fetched)?;
+    write_moment(out, taken.moment)
+}
+
+fn write_taken(out: &mut Octets, taken: &Taken) -> Result<(), Memory>
+    ensures { OnOk result (out.new ≡ out.old ++ spelling (list (row_items (Row.Taken taken.now)))) }
+{
+    write_front(out, 11, taken.moment)?;
+    write_source(out, taken)?;
+    write_decision(out, taken)?;
+    write_outcome(out, taken)
+}
+
+fn write_synced(
+    out: &mut Octets,
+    did: &Words,
+    whole: &Whole,
+    moment: Option<u64>,
+) -> Result<(), Memory>
+    ensures { OnOk result (out.new ≡ out.old ++ spelling (list (row_items (Row.Synced did.now whole.now moment)))) }
+{
+    write_front(out, 3, moment)?;
+    write_number(out, 2)?;
+    write_text(out, did.as_str())?;
+    write_whole(out, whole)?;
+    write_moment(out, moment)
+}
+
+fn write_operated(out: &mut Octets, operated: &Operated) -> Result<(), Memory>
+    ensures { OnOk result (out.new ≡ out.old ++ spelling (list (row_items (Row.Operated operated.now)))) }
+{
+    write_front(out, 5, operated.moment)?;
+    write_number(out, 3)?;
+    write_text(out, operated.did.as_str())?;
+    write_bool(out, operated.down)?;
+    write_number(out, operated.seq)?;
+    write_bytes(out, operated.message.as_slice())?;
+    write_moment(out, operated.moment)
+}
+
+fn write_account(out: &mut Octets, account: &CarriedAccount) -> Result<(), Memory>
+    ensures { OnOk result (out.new ≡ out.old ++ items_spelling (items_of (Item.text account.now.did ∷ Item.bool account.now.active ∷ or_null Item.text account.now.status ∷ Item.bool account.now.down ∷ repo_item account.now.repo ∷ []))) }
+{
+    write_text(out, account.did.as_str())?;
+    write_bool(out, account.active)?;
+    write_status(out, &account.status)?;
+    write_bool(out, account.down)?;
+    write_repo(out, &account.repo)
+}
+
+fn write_carried_front(out: &mut Octets, count: usize, which: u64) -> Result<(), Memory>
+    ensures { OnOk result (out.new ≡ out.old ++ (front_of 4 count ++ (spelling (number 4) ++ spelling (number which)))) }
+{
+    write_list_front(out, count)?;
+    write_number(out, 4)?;
+    write_number(out, which)
+}
+
+fn write_carried(out: &mut Octets, carried: &Carried) -> Result<(), Memory>
+    ensures { OnOk result (out.new ≡ out.old ++ spelling (list (carried_items carried.now))) }
+{
+    match carried {
+        Carried::Last(seq) => {
+            write_carried_front(out, 3, 0)?;
+            write_number(out, *seq)
+        }
+        Carried::Host(host, cursor) => {
+            write_carried_front(out, 4, 1)?;
+            write_text(out, host.as_str())?;
+            write_number(out, *cursor)
+        }
+        Carried::Account(account) => {
+            write_carried_front(out, 7, 2)?;
+            write_account(out, account)
+        }
+    }
+}
+
+/// Adds the one spelling of a row.
+#[tactic(auto, unfolding(crate::specs::Bodies::row_spelling))]
+pub fn write_row(out: &mut Octets, row: &Row) -> Result<(), Memory>
+    ensures { OnOk result (out.new ≡ out.old ++ row_spelling row.now) }
+{
+    match row {
+        Row::Taken(taken) => write_taken(out, taken),
+        Row::Synced(did, whole, moment) => write_synced(out, did, whole, *moment),
+        Row::Operated(operated) => write_operated(out, operated),
+        Row::Carried(carried) => write_carried(out, carried),
+    }
+}
+
+/// Adds rows, one behind the other, without the front of a list.
+pub fn write_spelled(out: &mut Octets, rows: &[Row]) -> Result<(), Memory>
+    ensures { OnOk result (out.new ≡ out.old ++ spelled rows.now) }
+{
+    let mut rest = rows;
+    'rows: loop {
+        let [row, others @ ..] = rest else {
+            return Ok(());
+        };
+        write_row(out, row)?;
+        rest = others;
+    }
+}
+
+/// The body of rows.
+#[tactic(auto, unfolding(crate::specs::Bodies::body_of))]
+pub fn write_rows(alloc: Global, rows: &Rows) -> Result<Octets, Memory>
+    ensures { IfOk result (λ body. body ≡ body_of rows.now) }
+{
+    let mut out = Octets::new(alloc);
+    write_list_front(&mut out, rows.len())?;
+    write_spelled(&mut out, rows.as_slice())?;
+    Ok(out)
+}
