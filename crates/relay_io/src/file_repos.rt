@@ -16,7 +16,7 @@ pub struct FileRepos<R: Files> {
     rt: R,
     alloc: Global,
     folder: String,
-    open: Option<R::File>,
+    opened: Option<R::File>,
     faults: u64,
 }
 
@@ -25,14 +25,14 @@ impl<R: Files> FileRepos<R> {
     pub fn new(rt: R, alloc: Global, folder: String) -> Self
         ensures rt { result.rt ≡ rt }
         ensures folder { result.folder ≡ folder }
-        ensures closed { result.open ≡ None }
+        ensures closed { result.opened ≡ None }
         ensures faults { result.faults ≡ 0 }
     {
         FileRepos {
             rt,
             alloc,
             folder,
-            open: None,
+            opened: None,
             faults: 0,
         }
     }
@@ -63,13 +63,13 @@ where
     ghost faults = { λ repos. repos.faults };
 
     fn open(&mut self, did: &str) -> Result<bool, ReposFault> {
-        self.open = None;
+        self.opened = None;
         let Ok(path) = self.path(did) else {
             return Err(ReposFault::Memory);
         };
         match fs::open(&self.rt, &path) {
             Ok(file) => {
-                self.open = Some(file);
+                self.opened = Some(file);
                 Ok(true)
             }
             Err(error) if error.kind() == ErrorKind::NotFound => Ok(false),
@@ -81,7 +81,7 @@ where
     }
 
     fn read(&mut self, room: &mut [u8]) -> Result<usize, Failed> {
-        let Some(file) = &mut self.open else {
+        let Some(file) = &mut self.opened else {
             return Ok(0);
         };
         match file.read(room) {
