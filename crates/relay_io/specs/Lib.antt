@@ -2,3 +2,9 @@ pub mod Streams
 pub mod Moments
 pub mod Calls
 pub mod Memory
+pub mod Messages
+pub mod Guests
+pub mod MemoryMessages
+pub mod MemoryGuests
+pub mod Repositories
+pub mod MemoryRepos

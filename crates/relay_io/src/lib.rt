@@ -3,12 +3,20 @@
 #![tactic(auto)]
 
 mod clock;
+mod copying;
+mod door;
 mod failed;
+mod feed;
+mod file_repos;
 mod list_clock;
+mod memory_door;
+mod memory_feed;
+mod memory_repos;
 mod memory_sink;
 mod memory_source;
 mod reader_source;
 mod reading;
+mod repos;
 mod sink;
 mod source;
 mod system_clock;
@@ -16,12 +24,19 @@ mod writer_sink;
 mod writing;
 
 pub use clock::{Clock, LAST_MOMENT};
+pub use door::{Door, DoorFault, Guest, Turn};
 pub use failed::Failed;
+pub use feed::{Feed, FeedFault, LONGEST_MESSAGE};
+pub use file_repos::FileRepos;
 pub use list_clock::ListClock;
+pub use memory_door::MemoryDoor;
+pub use memory_feed::MemoryFeed;
+pub use memory_repos::{MemoryRepos, Repository};
 pub use memory_sink::MemorySink;
 pub use memory_source::MemorySource;
 pub use reader_source::ReaderSource;
 pub use reading::{ReadFault, read_to_end};
+pub use repos::{Repos, ReposFault};
 pub use sink::Sink;
 pub use source::Source;
 pub use system_clock::SystemClock;
