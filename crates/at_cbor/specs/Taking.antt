@@ -1,6 +1,6 @@
 -- Pieces at the front of some bytes: each with what stands behind it, or nothing where it doesn't stand in front.
 -- (The laws of taking say that what is taken is what is spelled there.)
-use Rattle.std.specs.Prelude.{ℕ, ◌/◌, ◌%◌, ◌&&◌, ◌==◌, nat_lt, if◌then◌else◌, List, [], ◌∷◌, length, take, drop, slice_index, Option, Some, None, Result, Ok, Err}
+use Rattle.std.specs.Prelude.{ℕ, ◌/◌, ◌%◌, ◌&&◌, ◌==◌, nat_lt, if◌then◌else◌, List, [], ◌∷◌, length, take, drop, slice_index, Option, Some, None, Ok, Err}
 use Rattle.at_cid.specs.Link.{link_at}
 use Rattle.at_cbor.specs.Heads.{argument_at, least_of}
 use Rattle.at_cbor.specs.Item.{Item}
