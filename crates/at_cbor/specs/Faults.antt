@@ -35,7 +35,7 @@ IsReserved (first ∷ rest) = 28 ≤ first % 32
 -- a whole head of major type 7 that is neither false, true nor null
 abbrev pub IsOtherSimple : List ℕ → Type 0
 IsOtherSimple [] = ⊥
-IsOtherSimple (first ∷ rest) = (first / 32 ≡ 7) × (argument_len (first % 32) ≤ length rest) × (first % 32 < 28) × (first ≢ 244) × (first ≢ 245) × (first ≢ 246)
+IsOtherSimple (first ∷ rest) = (first / 32 ≡ 7) × (argument_len (first % 32) ≤ length rest) × (first % 32 < 28) × (first ≢ 0xf4) × (first ≢ 0xf5) × (first ≢ 0xf6)
 
 -- an argument for which fewer bytes would do
 abbrev pub IsLongForm : List ℕ → Type 0
@@ -47,7 +47,7 @@ IsOutOfRange here = (major : ℕ) × (n : ℕ) × (rest : List ℕ) × (major < 
 
 -- what has to stand behind tag 42: the front of a byte string of 37 bytes, a 0, and a link
 abbrev pub IsTagged : List ℕ → Type 0
-IsTagged body = (link : List ℕ) × (is_link link ≡ true) × (body ≡ 88 ∷ 37 ∷ 0 ∷ link)
+IsTagged body = (link : List ℕ) × (is_link link ≡ true) × (body ≡ 0x58 ∷ 0x25 ∷ 0 ∷ link)
 
 -- the 39 bytes behind a tag, or as many of them as are there, may be such, with others behind them
 abbrev pub MayBeTagged : List ℕ → Type 0

@@ -12,7 +12,7 @@ Flaw = Cause × ℕ
 
 -- what is wrong, where memory wasn't wanted
 abbrev pub flaw_of : Stop → Option Flaw
-flaw_of Stop.Wanting = None
+flaw_of Stop.Memory = None
 flaw_of (Stop.At cause left) = Some (cause, left)
 
 -- a number of so many bytes, and the bytes behind it
@@ -45,7 +45,7 @@ agrees (x ∷ xs) (y ∷ ys) = x == y && agrees xs ys
 
 -- too few bytes for a link behind its tag, and so far as in front of one
 abbrev pub begins_link : List ℕ → Bool
-begins_link bytes = agrees bytes (88 ∷ 37 ∷ 0 ∷ prefix_of Node) || agrees bytes (88 ∷ 37 ∷ 0 ∷ prefix_of Raw)
+begins_link bytes = agrees bytes (0x58 ∷ 0x25 ∷ 0 ∷ prefix_of Node) || agrees bytes (0x58 ∷ 0x25 ∷ 0 ∷ prefix_of Raw)
 
 abbrev pub link_behind : ℕ → Option (List ℕ) → List ℕ → Result (Head × List ℕ) Flaw
 link_behind left None rest = Err (Cause.BadTag, left)
@@ -54,7 +54,7 @@ link_behind left (Some link) rest = Ok (Head.Link link, rest)
 -- the link in the 39 bytes behind its tag: the head of 37 bytes, a 0, and the link
 unfoldable pub whole_link : ℕ → List ℕ → Result (Head × List ℕ) Flaw
 whole_link left bytes =
-    if slice_index bytes 0 == 88 && slice_index bytes 1 == 37 && slice_index bytes 2 == 0 then link_behind left (link_at (drop 3 bytes)) (drop 39 bytes)
+    if slice_index bytes 0 == 0x58 && slice_index bytes 1 == 0x25 && slice_index bytes 2 == 0 then link_behind left (link_at (drop 3 bytes)) (drop 39 bytes)
     else Err (Cause.BadTag, left)
 
 unfoldable pub tagged : ℕ → List ℕ → Result (Head × List ℕ) Flaw
@@ -65,9 +65,9 @@ tagged left bytes =
 -- what the byte of a simple value says
 abbrev pub simple_of : ℕ → ℕ → List ℕ → Result (Head × List ℕ) Flaw
 simple_of first left rest =
-    if first == 244 then Ok (Head.Bool false, rest)
-    else (if first == 245 then Ok (Head.Bool true, rest)
-    else (if first == 246 then Ok (Head.Null, rest)
+    if first == 0xf4 then Ok (Head.Bool false, rest)
+    else (if first == 0xf5 then Ok (Head.Bool true, rest)
+    else (if first == 0xf6 then Ok (Head.Null, rest)
     else Err (Cause.BadSimple, left)))
 
 -- what an argument says under a major type

@@ -2,6 +2,7 @@
 use Rattle.std.specs.Prelude.{◌≡◌, ◌↔◌, ℕ, true, List, ◌++◌, length, drop, Ok}
 use Rattle.at_cid.specs.Link.{IsBytes}
 use Rattle.at_cbor.specs.Decoding.{decoded}
+use Rattle.at_cbor.specs.declared.decoding.TheConstants.{DEPTH}
 use Rattle.at_cbor.specs.Equal.{item_eq}
 use Rattle.at_cbor.specs.Item.{Item}
 use Rattle.at_cbor.specs.Spelling.{spelling, Fits}
@@ -10,9 +11,9 @@ use Rattle.at_cbor.specs.Spelling.{spelling, Fits}
 abbrev pub OneSpelling : Type 0
 OneSpelling = (i j : Item) (depth : ℕ) (behind other : List ℕ) → Fits i depth → Fits j depth → spelling i ++ behind ≡ spelling j ++ other → (i ≡ j) × (behind ≡ other)
 
--- so many bytes are the spelling of an item that has at most 64 lists and maps in one another
+-- so many bytes are the spelling of an item, in which no more lists and maps are in one another than may be
 abbrev pub IsFront : List ℕ → Item → ℕ → Type 0
-IsFront bytes i n = Fits i 64 × (n ≡ length (spelling i)) × (bytes ≡ spelling i ++ drop n bytes)
+IsFront bytes i n = Fits i DEPTH × (n ≡ length (spelling i)) × (bytes ≡ spelling i ++ drop n bytes)
 
 -- An item is read exactly where its spelling stands in front.
 abbrev pub ReadsFronts : Type 0

@@ -30,15 +30,15 @@ int_spelling (pos n) = front_of 0 n
 int_spelling (negsuc n) = front_of 1 n
 
 abbrev pub bool_spelling : Bool → List ℕ
-bool_spelling false = 244 ∷ []
-bool_spelling true = 245 ∷ []
+bool_spelling false = 0xf4 ∷ []
+bool_spelling true = 0xf5 ∷ []
 
 abbrev pub text_spelling : List ℕ → List ℕ
 text_spelling text = front_of 3 (length text) ++ text
 
 -- tag 42, and the link in a byte string behind a 0
 abbrev pub link_spelling : List ℕ → List ℕ
-link_spelling link = 216 ∷ 42 ∷ 88 ∷ 37 ∷ 0 ∷ link
+link_spelling link = 0xd8 ∷ 0x2a ∷ 0x58 ∷ 0x25 ∷ 0 ∷ link
 
 abbrev pub items_count : Items → ℕ
 items_count no_items = 0
@@ -57,7 +57,7 @@ abbrev mutual
   spelling (Item.map fs) = front_of 5 (fields_count fs) ++ fields_spelling fs
   spelling (Item.link bs) = link_spelling bs
   spelling (Item.bool b) = bool_spelling b
-  spelling Item.null = 246 ∷ []
+  spelling Item.null = 0xf6 ∷ []
 
   pub items_spelling : Items → List ℕ
   items_spelling no_items = []

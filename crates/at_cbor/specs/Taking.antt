@@ -5,6 +5,7 @@ use Rattle.at_cid.specs.Link.{link_at}
 use Rattle.at_cbor.specs.Heads.{argument_at, least_of}
 use Rattle.at_cbor.specs.Item.{Item}
 use Rattle.at_cbor.specs.Reading.{Reading, item_at}
+use Rattle.at_cbor.specs.declared.decoding.TheConstants.{DEPTH}
 
 infixl 10 ◌>>=◌
 abbrev pub ◌>>=◌ : {A B : Type 0} → Option A → (A → Option B) → Option B
@@ -65,9 +66,9 @@ abbrev pub found : {A : Type 0} → Reading A → Taking A
 found (Ok x) = Some x
 found (Err flaw) = None
 
--- an item that has at most 64 lists and maps in one another
+-- an item, in which no more lists and maps are in one another than may be
 unfoldable pub item_from_front : List ℕ → Taking Item
-item_from_front bytes = found (item_at 64 bytes)
+item_from_front bytes = found (item_at DEPTH bytes)
 
 -- the item that fills the bytes
 unfoldable pub whole_item : List ℕ → Option Item

@@ -2,6 +2,7 @@
 use Rattle.std.specs.Prelude.{◌≡◌, ◌↔◌, ℕ, ◌<◌, ◌^◌, List, ◌++◌, length, Option, Some}
 use Rattle.at_cid.specs.Link.{IsBytes, IsLink, IsNodeLinkOrNone}
 use Rattle.at_cbor.specs.Item.{Item}
+use Rattle.at_cbor.specs.declared.decoding.TheConstants.{DEPTH}
 use Rattle.at_cbor.specs.Spelling.{front_of, spelling, Fits}
 use Rattle.at_cbor.specs.Taking.{behind, number_at, string_at, link_from_front, link_item, child_at, item_from_front, whole_item}
 
@@ -21,8 +22,8 @@ abbrev pub TakesChildren : Type 0
 TakesChildren = (link : Option (List ℕ)) (bytes rest : List ℕ) → IsBytes bytes → (child_at bytes ≡ Some (link, rest)) ↔ (IsNodeLinkOrNone link × (bytes ≡ spelling (link_item link) ++ rest))
 
 abbrev pub TakesItems : Type 0
-TakesItems = (i : Item) (bytes rest : List ℕ) → IsBytes bytes → (item_from_front bytes ≡ Some (i, rest)) ↔ (Fits i 64 × (bytes ≡ spelling i ++ rest))
+TakesItems = (i : Item) (bytes rest : List ℕ) → IsBytes bytes → (item_from_front bytes ≡ Some (i, rest)) ↔ (Fits i DEPTH × (bytes ≡ spelling i ++ rest))
 
 -- One item fills the bytes exactly where they are its spelling.
 abbrev pub TakesWholes : Type 0
-TakesWholes = (i : Item) (bytes : List ℕ) → IsBytes bytes → (whole_item bytes ≡ Some i) ↔ (Fits i 64 × (bytes ≡ spelling i))
+TakesWholes = (i : Item) (bytes : List ℕ) → IsBytes bytes → (whole_item bytes ≡ Some i) ↔ (Fits i DEPTH × (bytes ≡ spelling i))

@@ -37,7 +37,7 @@ fn whole(alloc: Global, bytes: &[u8]) -> Result<(Value, usize), CborFault>
 {
     match read_item(alloc, DEPTH, bytes) {
         Ok((value, rest)) => Ok((value, bytes.len() - rest.len())),
-        Err(Stop::Wanting) => Err(CborFault::Memory),
+        Err(Stop::Memory) => Err(CborFault::Memory),
         Err(Stop::At(cause, left)) => Err(fault_at(cause, bytes.len() - left)),
     }
 }

@@ -27,7 +27,7 @@ impl Value {
     {
         match self {
             Value::Bytes(bytes) => {
-                bytes.as_slice();
+                bytes.tell_bytes();
                 Some(bytes)
             }
             _ => None,
@@ -42,7 +42,7 @@ impl Value {
     {
         match self {
             Value::Text(text) => {
-                text.as_bytes();
+                text.tell_text();
                 Some(text)
             }
             _ => None,
@@ -79,7 +79,7 @@ impl Value {
     {
         match self {
             Value::Link(link) => {
-                link.as_bytes();
+                link.tell_link();
                 Some(*link)
             }
             _ => None,

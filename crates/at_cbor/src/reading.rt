@@ -140,6 +140,7 @@ fn read_values(alloc: Global, depth: u8, count: u64, bytes: &[u8]) -> Result<(Va
     let mut rest = bytes;
     'values: for _ in 0..count {
         let (value, after) = read_item(alloc, depth, rest)?;
+        values.make_room(count)?;
         values.push(value)?;
         rest = after;
     }
@@ -155,6 +156,7 @@ fn read_fields(alloc: Global, depth: u8, count: u64, bytes: &[u8]) -> Result<(Fi
     'fields: for _ in 0..count {
         let (key, after) = read_key(alloc, &fields, rest)?;
         let (value, after) = read_item(alloc, depth, after)?;
+        fields.make_room(count)?;
         fields.push(key, value)?;
         rest = after;
     }

@@ -108,7 +108,7 @@ pub fn take_item(alloc: Global, bytes: &[u8]) -> Result<Option<(Value, &[u8])>, 
 {
     match read_item(alloc, DEPTH, bytes) {
         Ok(taken) => Ok(Some(taken)),
-        Err(Stop::Wanting) => Err(Memory),
+        Err(Stop::Memory) => Err(Memory),
         Err(Stop::At(_, _)) => Ok(None),
     }
 }

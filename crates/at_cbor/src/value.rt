@@ -86,6 +86,20 @@ impl Model for Fields {
     ghost size_decreases = { λ a h. omega (arith, fields_fall a.fields.items) };
 }
 
+/// Room for so few is made at once.
+const FEW: usize = 4;
+
+// How many more to make room for where `count` are there, there is room for `room`, and there are to be `most` in the end.
+// As many again as are there, so that a number that an input claims costs no more than what it holds, and never more than
+// are to come.
+fn room_for(count: usize, room: usize, most: u64) -> usize {
+    if count < room {
+        0
+    } else {
+        count.max(FEW).min((most as usize).saturating_sub(count))
+    }
+}
+
 impl Values {
     ghost use Rattle.std.specs.Prelude.{◌≡◌, ◌==◌, ◌∷◌, ◌++◌, [], length, map, slice_get, option_map, OnOk, OnErr};
     ghost use Rattle.at_cbor.specs.View.{item_of};
@@ -125,6 +139,15 @@ impl Values {
         ensures { map item_of result.now ≡ self.now }
     {
         self.values.as_slice()
+    }
+
+    /// Makes room for one more value at least, of `most` that there are to be in the end.
+    pub(crate) fn make_room(&mut self, most: u64) -> Result<(), Memory>
+        ensures { self.new ≡ self.old }
+    {
+        let more = room_for(self.values.len(), self.values.capacity(), most);
+        self.values.reserve_exact(more)?;
+        Ok(())
     }
 
     /// Adds a value behind the others.
@@ -198,6 +221,15 @@ impl Fields {
             return true;
         };
         comes_after(last, key)
+    }
+
+    /// Makes room for one more field at least, of `most` that there are to be in the end.
+    pub(crate) fn make_room(&mut self, most: u64) -> Result<(), Memory>
+        ensures { self.new ≡ self.old }
+    {
+        let more = room_for(self.fields.len(), self.fields.capacity(), most);
+        self.fields.reserve_exact(more)?;
+        Ok(())
     }
 
     /// Adds a field behind the others.

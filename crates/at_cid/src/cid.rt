@@ -3,7 +3,7 @@
 ghost use Rattle.std.specs.Prelude.{◌≡◌, ◌↔◌, IsTrue, Some, nat_eq, refl};
 ghost use Rattle.std.specs.Cmp.{partial_equiv_from_equiv};
 ghost use Rattle.std.specs.Cmp.Lexicographic.{nat_list_eq_equiv, pointwise};
-ghost use Rattle.at_cid.specs.Link.{is_link, IsBytes, cid, link_at, kind_of, digest_of};
+ghost use Rattle.at_cid.specs.Link.{is_link, IsBytes, IsLink, cid, link_at, kind_of, digest_of};
 ghost use Rattle.at_cid.specs.Order.{key_cmp};
 ghost use Rattle.at_cid.specs.OrderLaws.{key_po, key_total, key_ties};
 ghost use Rattle.sha2.specs.Sha256.{sha256};
@@ -120,6 +120,13 @@ impl Cid {
     {
         tell_bytes(&self.bytes);
         &self.bytes
+    }
+
+    /// Tells that its bytes have the form of a link.
+    pub fn tell_link(&self)
+        ensures { IsLink self.now }
+    {
+        let _bytes = self.as_bytes();
     }
 
     /// What it names.

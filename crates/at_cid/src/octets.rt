@@ -120,6 +120,13 @@ impl Octets {
         self.bytes.clear();
     }
 
+    /// Tells that each of them is a byte.
+    pub fn tell_bytes(&self)
+        ensures { IsBytes self.now }
+    {
+        tell_bytes(self.bytes.as_slice());
+    }
+
     /// The same bytes once more.
     pub fn try_clone(&self) -> Result<Octets, Memory>
         ensures { IfOk result (λ made. made ≡ self.now) }

@@ -129,6 +129,14 @@ impl Words {
         Ok(())
     }
 
+    /// Tells that it is UTF-8, and that each of its bytes is one.
+    pub fn tell_text(&self)
+        ensures utf8 { is_utf8 self.now ≡ true }
+        ensures bytes { IsBytes self.now }
+    {
+        let _text = self.as_bytes();
+    }
+
     /// The same text once more.
     pub fn try_clone(&self) -> Result<Words, Memory>
         ensures { IfOk result (λ made. made ≡ self.now) }

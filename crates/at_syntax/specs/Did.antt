@@ -3,6 +3,7 @@ use Rattle.std.specs.Prelude.{◌≡◌, ℕ, ◌-◌, ◌<◌, ◌≤◌, List,
 use Rattle.std.specs.List.{list_all, before_first, after_first}
 use Rattle.std.specs.Str.{bytes_eq}
 use Rattle.at_syntax.specs.Characters.{is_lower, is_alphanumeric}
+use Rattle.at_syntax.specs.declared.did.TheConstants.{LONGEST_DID}
 
 -- what an identifier may end with: a letter, a digit, `.`, `_` or `-`
 abbrev pub is_final_character : ℕ → Bool
@@ -22,7 +23,7 @@ pub record IsDid (text : List ℕ) : Type 0 where
   pub method_letters : IsTrue (list_all is_lower method)
   pub front_characters : IsTrue (list_all is_identifier_character front)
   pub final_character : IsTrue (is_final_character final)
-  pub short : length text ≤ 2048
+  pub short : length text ≤ LONGEST_DID
 
 -- the same as a test, by the first two colons
 
@@ -52,4 +53,4 @@ abbrev pub is_named : List ℕ → List ℕ → Bool
 is_named scheme rest = bytes_eq scheme (codes "did") && is_method (before_first is_colon rest) && is_identifier (after_first is_colon rest)
 
 unfoldable pub is_did : List ℕ → Bool
-is_did text = nat_le (length text) 2048 && is_named (scheme_of text) (after_first is_colon text)
+is_did text = nat_le (length text) LONGEST_DID && is_named (scheme_of text) (after_first is_colon text)

@@ -3,6 +3,7 @@ use Rattle.std.specs.Prelude.{◌≡◌, ℕ, List, ◌++◌, length, Bool, not,
 use Rattle.std.specs.List.{list_all, before_first, after_first}
 use Rattle.std.specs.Str.{bytes_eq}
 use Rattle.at_syntax.specs.Characters.{is_alphanumeric}
+use Rattle.at_syntax.specs.declared.path.TheConstants.{LONGEST_COLLECTION, LONGEST_RECORD_KEY}
 
 -- what a collection is made of: letters, digits, `.` and `-`
 abbrev pub is_collection_character : ℕ → Bool
@@ -12,13 +13,13 @@ is_collection_character c = is_alphanumeric c || c == 46 || c == 45
 abbrev pub is_record_key_character : ℕ → Bool
 is_record_key_character c = is_alphanumeric c || c == 95 || c == 126 || c == 46 || c == 58 || c == 45
 
--- 1 to 317 characters of a collection, whose segments aren't looked at
+-- 1 to as many characters of a collection as it has at most, whose segments aren't looked at
 abbrev pub is_collection : List ℕ → Bool
-is_collection text = nat_lt 0 (length text) && nat_le (length text) 317 && list_all is_collection_character text
+is_collection text = nat_lt 0 (length text) && nat_le (length text) LONGEST_COLLECTION && list_all is_collection_character text
 
--- 1 to 512 characters of a record key, but neither `.` nor `..`
+-- 1 to as many characters of a record key as it has at most, but neither `.` nor `..`
 abbrev pub is_record_key : List ℕ → Bool
-is_record_key text = nat_lt 0 (length text) && nat_le (length text) 512 && list_all is_record_key_character text && not (bytes_eq text (codes ".")) && not (bytes_eq text (codes ".."))
+is_record_key text = nat_lt 0 (length text) && nat_le (length text) LONGEST_RECORD_KEY && list_all is_record_key_character text && not (bytes_eq text (codes ".")) && not (bytes_eq text (codes ".."))
 
 -- the text is a path
 pub record IsPath (text : List ℕ) : Type 0 where

@@ -3,6 +3,7 @@ use Rattle.std.specs.Prelude.{◌≡◌, ℕ, ◌+◌, ◌-◌, ◌/◌, ◌%◌
 use Rattle.std.specs.List.{list_all, range_with_len}
 use Rattle.std.specs.Int.Digits.{number_from_digits}
 use Rattle.at_syntax.specs.Characters.{is_between, is_lower}
+use Rattle.at_syntax.specs.declared.tid.TheConstants.{TID_LEN}
 
 -- the alphabet: `2` to `7`, and then `a` to `z`
 abbrev pub is_tid_character : ℕ → Bool
@@ -14,13 +15,13 @@ is_first_character c = is_between 50 55 c || is_between 97 106 c
 
 -- the text is a TID
 pub record IsTid (text : List ℕ) : Type 0 where
-  pub long : length text ≡ 13
+  pub long : length text ≡ TID_LEN
   pub first : IsTrue (is_first_character (slice_index text 0))
   pub characters : IsTrue (list_all is_tid_character text)
 
 -- the same as a test
 unfoldable pub is_tid : List ℕ → Bool
-is_tid text = length text == 13 && is_first_character (slice_index text 0) && list_all is_tid_character text
+is_tid text = length text == TID_LEN && is_first_character (slice_index text 0) && list_all is_tid_character text
 
 -- the character of a digit below 32
 abbrev pub character_of : ℕ → ℕ
@@ -38,9 +39,9 @@ value_of text = number_from_digits 32 (map digit_of text)
 unfoldable pub character_at : ℕ → ℕ → ℕ
 character_at value place = character_of (value / 32 ^ (12 - place) % 32)
 
--- the 13 characters of a number below 2^64
+-- the characters of a number below 2^64
 unfoldable pub digits_of : ℕ → List ℕ
-digits_of value = map (character_at value) (range_with_len 0 13)
+digits_of value = map (character_at value) (range_with_len 0 TID_LEN)
 
 -- the number of a text that is a TID
 unfoldable pub tid_of : List ℕ → Option ℕ

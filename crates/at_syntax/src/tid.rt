@@ -121,6 +121,13 @@ impl Tid {
         self.value
     }
 
+    /// Tells that its value has 64 bits.
+    pub fn tell_value(&self)
+        ensures { self.now < 2 ^ 64 }
+    {
+        let _value = self.value();
+    }
+
     /// Writes its 13 characters.
     pub fn write(&self, out: &mut [u8; 13])
         ensures { out.new ≡ digits_of self.now }
