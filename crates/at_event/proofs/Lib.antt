@@ -6,3 +6,4 @@ pub mod Messages
 pub mod Texts
 pub mod OwnEvents
 pub mod OutLengths
+pub mod Formed

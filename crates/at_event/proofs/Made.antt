@@ -5,7 +5,7 @@ use Rattle.at_cbor.specs.Spelling.{Fits}
 use Rattle.at_event.specs.declared.event.Body.{Body}
 use Rattle.at_event.specs.declared.kind.EventKind.{EventKind}
 use Rattle.at_event.specs.Events.{IsEvent}
-use Rattle.at_event.specs.Forms.{did_in, short_text_in, required}
+use Rattle.at_form.specs.Forms.{did_in, short_text_in, required}
 use Rattle.at_event.specs.Table.{event_of, seq_of, body_of, did_key, kind_of}
 
 pub is_event : (kind : EventKind) (seq : ℕ) (did time : List ℕ) (body : Body) (payload : Item) → Fits payload 64 → seq_of payload ≡ Some seq

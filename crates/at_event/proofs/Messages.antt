@@ -1,18 +1,18 @@
 -- A message that is written is read as it was meant.
-use Rattle.std.proofs.Common.{◌≡◌, ℕ, ◌+◌, ◌<◌, ◌^◌, List, [], ◌++◌, length, drop, Some, Ok, codes, refl, sym, ap, ◌∙◌, lit<}
-use Rattle.std.proofs.lemmas.Bool.{eq-eqb}
-use Rattle.std.proofs.lemmas.List.{length-append, append-nil}
-use Rattle.std.proofs.Math.Seq.{drop-append_seam}
+use Rattle.std.proofs.Common.{◌≡◌, ℕ, ◌<◌, ◌^◌, List, [], ◌++◌, Some, Ok, codes, refl, ap, ◌∙◌, subst, lit<}
+use Rattle.at_cid.specs.Link.{IsBytes}
 use Rattle.at_cbor.specs.Item.{Item}
 use Rattle.at_cbor.specs.Kinds.{map_in}
 use Rattle.at_cbor.specs.Spelling.{spelling, IsText, Fits}
-use Rattle.at_cbor.proofs.Decoded.{decoded_again}
+use Rattle.at_cbor.specs.Taking.{◌>>=◌, item_from_front, whole_item}
+use Rattle.at_cbor.proofs.Taken.{item_taken, item_taken_again, whole_takes, whole_again}
 use Rattle.at_cbor.proofs.Depths.{fits_nested}
+use Rattle.at_form.proofs.Held.{some_same, step_from}
 use Rattle.at_event.specs.declared.frame.Frame.{Frame}
 use Rattle.at_event.specs.declared.kind.EventKind.{EventKind}
 use Rattle.at_event.specs.declared.kind.Heading.{Heading}
 use Rattle.at_event.specs.Events.{IsEvent}
-use Rattle.at_event.specs.Frames.{read_in, item_in, items_in, named, heading_of, frame_of, announced, event_frame}
+use Rattle.at_event.specs.Frames.{items_in, IsMessage, named, heading_of, frame_of, announced, event_frame}
 use Rattle.at_event.specs.Seen.{Seen}
 use Rattle.at_event.specs.Table.{seq_of, kind_of}
 use Rattle.at_event.specs.Writing.{name_of, header_of, message_of, numbered, out_of}
@@ -40,18 +40,26 @@ heading_read EventKind.Account = refl
 
 -- ---- the two items
 
-item_read : (i : Item) (rest : List ℕ) → Fits i 64 → item_in (spelling i ++ rest) ≡ Some (i, length (spelling i))
-item_read i rest fits = ap read_in (decoded_again i rest fits)
-
-item_read_alone : (i : Item) → Fits i 64 → item_in (spelling i) ≡ Some (i, length (spelling i))
-item_read_alone i fits = ap item_in (sym (append-nil (spelling i))) ∙ item_read i [] fits
-
 items_read : (h p : Item) → Fits h 64 → Fits p 64 → items_in (spelling h ++ spelling p) ≡ Some (h, p)
 unfolding items_in
-items_read h p fits_h fits_p =
-    let rest : drop (length (spelling h)) (spelling h ++ spelling p) ≡ spelling p = drop-append_seam (spelling h) (spelling p) in
-    let all = eq-eqb (length (spelling h) + length (spelling p)) (length (spelling h ++ spelling p)) (sym (length-append (spelling h) (spelling p))) in
-    rw (item_read h (spelling p) fits_h, rest, item_read_alone p fits_p, all) refl
+items_read h p fits_h fits_p = rw (item_taken_again h (spelling p) fits_h, whole_again p fits_p) refl
+
+pub message_read : (message : List ℕ) (header payload : Item) → IsMessage message header payload → items_in message ≡ Some (header, payload)
+message_read message header payload h = ap items_in h.spelled ∙ items_read header payload h.header_form h.payload_form
+
+-- what is read of a message is spelled there
+pub items_taken : (message : List ℕ) (x : Item × Item) → IsBytes message → items_in message ≡ Some x → IsMessage message x.0 x.1
+unfolding items_in
+items_taken message x bytes e =
+    let header = step_from (item_from_front message) (λ header. whole_item header.1 >>= λ payload. Some (header.0, payload)) x e in
+    let payload = step_from (whole_item header.0.1) (λ payload. Some (header.0.0, payload)) x header.2 in
+    let front = item_taken message header.0 bytes header.1 in
+    let rest = whole_takes payload.0 header.0.1 front.0.rest_fits payload.1 in
+    subst (λ (y : Item × Item). IsMessage message y.0 y.1) (some_same (header.0.0, payload.0) x payload.2) (record {
+      header_form = front.1;
+      payload_form = rest.0;
+      spelled = front.0.parts ∙ ap (λ (l : List ℕ). spelling header.0.0 ++ l) rest.1;
+    })
 
 -- a payload whose number is read is a map
 numbered_is_map : (payload : Item) (n : ℕ) → seq_of payload ≡ Some n → (fs : List (List ℕ × Item)) × (map_in payload ≡ Some fs)

@@ -14,7 +14,9 @@ use Rattle.at_cbor.specs.Kinds.{value_of, field_of}
 use Rattle.at_cbor.specs.Spelling.{front_of, tail_of, text_spelling, fields_count, spelling, fields_spelling, Fits, FieldsFit}
 use Rattle.at_event.specs.declared.kind.EventKind.{EventKind}
 use Rattle.at_event.specs.Events.{IsEvent}
-use Rattle.at_event.specs.Forms.{◌>>=◌, number_in, number_of}
+use Rattle.at_cbor.specs.Taking.{◌>>=◌}
+use Rattle.at_form.specs.declared.forms.TheConstants.{NUMBERS}
+use Rattle.at_form.specs.Forms.{number_in, number_of}
 use Rattle.at_event.specs.Seen.{Seen}
 use Rattle.at_event.specs.Table.{seq_of, kind_of}
 use Rattle.at_event.specs.Writing.{name_of, header_of, number_item, with_value, with_seq, message_of, out_of}
@@ -87,8 +89,8 @@ swapped name i j before (field k l fs) depth fits e =
 
 number_is : (n m : ℕ) → number_of (pos n) ≡ Some m → (n ≡ m) × (n < 2 ^ 53)
 number_is n m e =
-    let tested = elim (ltb n (2 ^ 53)) as (λ b. cond b (Some n) None ≡ Some m → (b ≡ true) × (n ≡ m)) [ true ↦ λ p. (refl, some_same n m p) | false ↦ λ p. absurd cc ] e in
-    (tested.1, ltb-true n (2 ^ 53) tested.0)
+    let tested = elim (ltb n NUMBERS) as (λ b. cond b (Some n) None ≡ Some m → (b ≡ true) × (n ≡ m)) [ true ↦ λ p. (refl, some_same n m p) | false ↦ λ p. absurd cc ] e in
+    (tested.1, ltb-true n NUMBERS tested.0)
 
 read_number : (i : Item) (m : ℕ) → number_in i ≡ Some m → (i ≡ number_item m) × (m < 2 ^ 53)
 unfolding number_in

@@ -12,7 +12,8 @@ use Rattle.at_syntax.proofs.Tids.{written_read}
 use Rattle.at_event.specs.declared.frame.Frame.{Frame}
 use Rattle.at_event.specs.declared.kind.EventKind.{EventKind}
 use Rattle.at_event.specs.Events.{IsEvent}
-use Rattle.at_event.specs.Forms.{did_in, tid_in, short_text_in, given, number_in}
+use Rattle.at_form.specs.declared.forms.TheConstants.{LONGEST_SHORT_TEXT, NUMBERS}
+use Rattle.at_form.specs.Forms.{did_in, tid_in, short_text_in, given, number_in}
 use Rattle.at_event.specs.Frames.{frame_of}
 use Rattle.at_event.specs.Table.{seq_of, event_of, body_of, sync_of, account_of}
 use Rattle.at_event.specs.Writing.{message_of, sync_payload, sync_seen, account_payload, account_seen}
@@ -52,8 +53,8 @@ module _ (did : List ℕ) (rev : ℕ) (blocks time : List ℕ) (seq : ℕ) (did_
             ),
           ),
         );
-        number = rw (lt-ltb seq (2 ^ 53) seq_fits) refl;
-        read = rw (did_is, le-leb (length time) 64 short, written_read rev rev_fits) refl;
+        number = rw (lt-ltb seq NUMBERS seq_fits) refl;
+        read = rw (did_is, le-leb (length time) LONGEST_SHORT_TEXT short, written_read rev rev_fits) refl;
       }
 
   pub sync_again : frame_of (message_of EventKind.Sync (sync_payload did rev blocks time seq)) ≡ Ok (Frame.Event (sync_seen did rev blocks time seq))
@@ -98,8 +99,8 @@ module _ (did : List ℕ) (active : Bool) (time : List ℕ) (seq : ℕ) (did_str
             ),
           ),
         );
-        number = rw (lt-ltb seq (2 ^ 53) seq_fits) refl;
-        read = rw (did_is, le-leb (length time) 64 short, le-leb (length status) 64 is.1) refl;
+        number = rw (lt-ltb seq NUMBERS seq_fits) refl;
+        read = rw (did_is, le-leb (length time) LONGEST_SHORT_TEXT short, le-leb (length status) LONGEST_SHORT_TEXT is.1) refl;
       }
   account_is_event None is =
       record {
@@ -123,8 +124,8 @@ module _ (did : List ℕ) (active : Bool) (time : List ℕ) (seq : ℕ) (did_str
             ),
           ),
         );
-        number = rw (lt-ltb seq (2 ^ 53) seq_fits) refl;
-        read = rw (did_is, le-leb (length time) 64 short) refl;
+        number = rw (lt-ltb seq NUMBERS seq_fits) refl;
+        read = rw (did_is, le-leb (length time) LONGEST_SHORT_TEXT short) refl;
       }
 
   pub account_again : (status : Option (Bor (List ℕ))) → IfSome status (λ text. IsString text.now) → IfSome status (λ text. IsUtf8 text.now) → IfSome status (λ text. length text.now ≤ 64)

@@ -6,7 +6,7 @@ use Rattle.at_cbor.specs.View.{item_of}
 use Rattle.at_event.specs.declared.flaw.Flaw.{Flaw}
 use Rattle.at_event.specs.declared.ops.EventOp.{EventOp}
 use Rattle.at_event.specs.Flaws.{Reads}
-use Rattle.at_event.specs.Forms.{◌>>=◌}
+use Rattle.at_cbor.specs.Taking.{◌>>=◌}
 use Rattle.at_event.specs.Table.{op_of, ops_of}
 
 -- these operations, and then those

@@ -9,7 +9,9 @@ use Rattle.at_cbor.specs.Spelling.{fields_count, Fits, FieldsFit}
 use Rattle.at_event.specs.declared.event.Body.{Body}
 use Rattle.at_event.specs.declared.kind.EventKind.{EventKind}
 use Rattle.at_event.specs.Events.{IsEvent}
-use Rattle.at_event.specs.Forms.{◌>>=◌, required, optional, given, not_null, formed, number_in, did_in, tid_in, short_text_in, node_in}
+use Rattle.at_cbor.specs.Taking.{◌>>=◌}
+use Rattle.at_form.specs.declared.forms.TheConstants.{NUMBERS}
+use Rattle.at_form.specs.Forms.{required, optional, given, not_null, formed, number_in, did_in, tid_in, short_text_in, node_in}
 use Rattle.at_event.specs.Seen.{Seen}
 use Rattle.at_event.specs.Table.{seq_of, ops_in, flag_of, too_big_in, commit_of, sync_of, account_of, body_of, did_key, event_of, kind_of}
 use Rattle.at_event.specs.Writing.{number_item, with_value, with_seq, numbered, out_of}
@@ -136,7 +138,7 @@ field_put n Item.null i e = absurd cc
 
 number_item_in : (n : ℕ) → n < 2 ^ 53 → number_in (number_item n) ≡ Some n
 unfolding number_in
-number_item_in n lt = rw (lt-ltb n (2 ^ 53) lt) refl
+number_item_in n lt = rw (lt-ltb n NUMBERS lt) refl
 
 pub seq_put : (n m : ℕ) (payload : Item) → n < 2 ^ 53 → seq_of payload ≡ Some m → seq_of (with_seq n payload) ≡ Some n
 unfolding seq_of

@@ -40,9 +40,6 @@ characters_ascii (c ∷ text) h =
 digits_tid : (value : ℕ) → value < 2 ^ 64 → IsTid (digits_of value)
 digits_tid value h = (texts_known (digits_of value)).1 (value, h, refl)
 
-pub digits_utf8 : (value : ℕ) → value < 2 ^ 64 → IsUtf8 (digits_of value)
-digits_utf8 value h = ascii_utf8 (digits_of value) (characters_ascii (digits_of value) (digits_tid value h).characters)
-
 pub digits_text : (value : ℕ) → value < 2 ^ 64 → IsText (digits_of value)
 digits_text value h =
     let is = digits_tid value h in

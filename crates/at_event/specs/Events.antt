@@ -1,14 +1,15 @@
 -- What an event owes its payload.
 use Rattle.std.specs.Prelude.{◌≡◌, Some}
+use Rattle.at_cbor.specs.declared.decoding.TheConstants.{DEPTH}
 use Rattle.at_cbor.specs.Spelling.{Fits}
 use Rattle.at_cbor.specs.View.{item_of}
 use Rattle.at_event.specs.declared.event.Event.TheInside.{Inside}
 use Rattle.at_event.specs.Seen.{Seen}
 use Rattle.at_event.specs.Table.{event_of, seq_of, kind_of}
 
--- The payload is a map with at most 64 lists and maps in one another, from which all other fields are read.
+-- The payload is a map with no more lists and maps in one another than may be, from which all other fields are read.
 pub record IsEvent (event : Seen) : Type 0 where
-  pub fits : Fits event.payload 64
+  pub fits : Fits event.payload DEPTH
   pub number : seq_of event.payload ≡ Some event.seq
   pub read : event_of (kind_of event.body) event.seq event.payload ≡ Some event
 

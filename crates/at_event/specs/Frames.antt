@@ -1,36 +1,32 @@
 -- Which frame a message is: Event Stream specification, and the Lexicon `com.atproto.sync.subscribeRepos`.
-use Rattle.std.specs.Prelude.{◌≡◌, ⊤, ℕ, ◌+◌, ◌==◌, ℤ, pos, negsuc, List, length, drop, if◌then◌else◌, Option, Some, None, Result, Ok, Err, codes}
+use Rattle.std.specs.Prelude.{◌≡◌, ℕ, ◌==◌, ℤ, pos, negsuc, List, ◌++◌, if◌then◌else◌, Option, Some, None, Result, Ok, Err, codes}
 use Rattle.std.specs.Str.{bytes_eq}
 use Rattle.at_cid.specs.Memory.{Gives}
-use Rattle.at_cbor.specs.declared.fault.Cause.{Cause}
-use Rattle.at_cbor.specs.Decoding.{decoded}
-use Rattle.at_cbor.specs.declared.value.Value.{Value}
+use Rattle.at_cbor.specs.declared.decoding.TheConstants.{DEPTH}
 use Rattle.at_cbor.specs.Item.{Item}
 use Rattle.at_cbor.specs.Kinds.{int_in, text_in, map_in}
-use Rattle.at_cbor.specs.View.{item_of}
+use Rattle.at_cbor.specs.Spelling.{spelling, Fits}
+use Rattle.at_cbor.specs.Taking.{◌>>=◌, item_from_front, whole_item}
+use Rattle.at_form.specs.Forms.{required}
 use Rattle.at_event.specs.declared.frame.Frame.{Frame}
 use Rattle.at_event.specs.declared.frame.FrameFault.{FrameFault}
 use Rattle.at_event.specs.declared.kind.EventKind.{EventKind}
 use Rattle.at_event.specs.declared.kind.Heading.{Heading}
-use Rattle.at_event.specs.Forms.{◌>>=◌, required}
 use Rattle.at_event.specs.Seen.{Seen}
 use Rattle.at_event.specs.Table.{event_of, seq_of}
-
--- what was read, where something was
-abbrev pub read_in : Result (Item × ℕ) (Cause × ℕ) → Option (Item × ℕ)
-read_in (Ok x) = Some x
-read_in (Err e) = None
-
--- the item in front, and its length
-abbrev pub item_in : List ℕ → Option (Item × ℕ)
-item_in bytes = read_in (decoded bytes)
 
 -- the header and the payload that a message is, with nothing behind them
 unfoldable pub items_in : List ℕ → Option (Item × Item)
 items_in message = do
-  header ← item_in message
-  payload ← item_in (drop header.1 message)
-  if header.1 + payload.1 == length message then Some (header.0, payload.0) else None
+  header ← item_from_front message
+  payload ← whole_item header.1
+  Some (header.0, payload)
+
+-- the message is the spelling of the header, and behind it that of the payload
+pub record IsMessage (message : List ℕ) (header payload : Item) : Type 0 where
+  pub header_form : Fits header DEPTH
+  pub payload_form : Fits payload DEPTH
+  pub spelled : message ≡ spelling header ++ spelling payload
 
 -- the kind of message that `t` names
 unfoldable pub named : List ℕ → Heading
@@ -93,15 +89,9 @@ cause_of FrameFault.Memory = None
 abbrev pub ReadsAs : Result Frame FrameFault → Result Frame FrameFault → Type 0
 ReadsAs result answer = Gives (λ frame. frame) cause_of result answer
 
--- The item in front was read, and nothing where there is none, unless memory was wanted.
-abbrev pub ReadsItem : Result (Value × ℕ) FrameFault → Option (Item × ℕ) → Type 0
-ReadsItem (Ok x) found = found ≡ Some (item_of x.0, x.1)
-ReadsItem (Err FrameFault.BadFrame) found = found ≡ None
-ReadsItem (Err FrameFault.NoSeq) found = ⊥
-ReadsItem (Err FrameFault.Memory) found = ⊤
-
-abbrev pub ReadsItems : Result (Value × Value) FrameFault → Option (Item × Item) → Type 0
-ReadsItems (Ok x) found = found ≡ Some (item_of x.0, item_of x.1)
-ReadsItems (Err FrameFault.BadFrame) found = found ≡ None
-ReadsItems (Err FrameFault.NoSeq) found = ⊥
-ReadsItems (Err FrameFault.Memory) found = ⊤
+-- The message is the spellings of two items, and the frame is what they say.
+pub record IsFrameOf (message : List ℕ) (frame : Frame) : Type 0 where
+  pub header : Item
+  pub payload : Item
+  pub items : IsMessage message header payload
+  pub says : framed (Some (header, payload)) ≡ Ok frame

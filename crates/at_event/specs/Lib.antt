@@ -1,8 +1,8 @@
 pub mod Seen
 pub mod Refusals
-pub mod Forms
 pub mod Table
 pub mod Events
+pub mod Formed
 pub mod Frames
 pub mod Flaws
 pub mod Writing

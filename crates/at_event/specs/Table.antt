@@ -10,7 +10,8 @@ use Rattle.at_event.specs.declared.event.SyncEvent.{SyncEvent}
 use Rattle.at_event.specs.declared.kind.EventKind.{EventKind}
 use Rattle.at_event.specs.declared.ops.Action.{Action}
 use Rattle.at_event.specs.declared.ops.EventOp.{EventOp}
-use Rattle.at_event.specs.Forms.{◌>>=◌, did_in, tid_in, short_text_in, node_in, number_in, optional, required}
+use Rattle.at_cbor.specs.Taking.{◌>>=◌}
+use Rattle.at_form.specs.Forms.{did_in, tid_in, short_text_in, node_in, number_in, optional, required}
 use Rattle.at_event.specs.Seen.{Seen}
 
 abbrev pub action_of : List ℕ → Action

@@ -4,6 +4,7 @@ use Rattle.std.specs.Str.{bytes_eq}
 use Rattle.at_cbor.specs.Item.{Item, Fields, no_fields, field}
 use Rattle.at_cbor.specs.Spelling.{spelling, fields_spelling}
 use Rattle.at_syntax.specs.Tid.{digits_of}
+use Rattle.at_form.specs.declared.forms.TheConstants.{NUMBERS}
 use Rattle.at_event.specs.declared.event.Body.{Body}
 use Rattle.at_event.specs.declared.kind.EventKind.{EventKind}
 use Rattle.at_event.specs.Seen.{Seen}
@@ -55,7 +56,7 @@ out_of event n = message_of (kind_of event.body) (with_seq n event.payload)
 
 -- how long that frame is where the number takes nine bytes, as the greatest does; at most the greatest number of 64 bits
 unfoldable pub out_length : Seen → ℕ
-out_length event = min (length (out_of event (2 ^ 53 - 1))) (2 ^ 64 - 1)
+out_length event = min (length (out_of event (NUMBERS - 1))) (2 ^ 64 - 1)
 
 -- the payload of a `#sync` of the relay's own
 unfoldable pub sync_payload : List ℕ → ℕ → List ℕ → List ℕ → ℕ → Item

@@ -1,38 +1,22 @@
 //! Fields of a map, each in its form.
 
-ghost use Rattle.std.specs.Prelude.{◌≡◌, option_map};
+ghost use Rattle.std.specs.Prelude.{◌≡◌};
 ghost use Rattle.at_cbor.specs.Kinds.{bytes_in, text_in, list_in, link_in, bool_in, field_of};
 ghost use Rattle.at_cbor.specs.View.{item_of};
-ghost use Rattle.at_event.specs.Forms.{did_in, tid_in, short_text_in, node_in, number_in, given, optional, required};
+ghost use Rattle.at_form.specs.Forms.{did_in, tid_in, short_text_in, node_in, optional, required};
 ghost use Rattle.at_event.specs.Flaws.{Reads};
 
 use crate::flaw::Flaw;
 use at_cbor::{Value, Values, field};
-use at_cid::{Cid, Kind, Octets, Words};
-use at_syntax::{Tid, did_ok};
-
-/// How many bytes a time or a status has at most.
-const MOST_TEXT: usize = 64;
-
-/// Numbers are below this.
-pub const NUMBERS: u64 = 1 << 53;
+use at_cid::{Cid, Octets, Words};
+use at_form::given;
+use at_syntax::Tid;
 
 /// The value of a key.
 pub fn required<'a>(fields: &'a Value, name: &str) -> Result<&'a Value, Flaw>
     ensures { Reads (λ value. item_of value.now) result (field_of (item_of fields.now) name.now) }
 {
     field(fields, name).ok_or(Flaw::BadField)
-}
-
-/// The value of a key, unless it is null.
-#[tactic(auto, unfolding(crate::specs::Forms::given))]
-pub fn given<'a>(fields: &'a Value, name: &str) -> Option<&'a Value>
-    ensures { option_map (λ value. item_of value.now) result ≡ given (item_of fields.now) name.now }
-{
-    match field(fields, name) {
-        Some(value) if value.is_null() => None,
-        found => found,
-    }
 }
 
 /// A text.
@@ -43,53 +27,31 @@ pub fn text(value: &Value) -> Result<&Words, Flaw>
 }
 
 /// A text that is a DID.
-#[tactic(auto, unfolding(crate::specs::Forms::did_in))]
 pub fn did(value: &Value) -> Result<&Words, Flaw>
     ensures { Reads (λ text. text.now) result (did_in (item_of value.now)) }
 {
-    match value.as_text() {
-        Some(text) if did_ok(text.as_str()) => Ok(text),
-        _ => Err(Flaw::BadField),
-    }
+    at_form::did(value).ok_or(Flaw::BadField)
 }
 
 /// A text that is a TID.
-#[tactic(auto, unfolding(crate::specs::Forms::tid_in))]
 pub fn tid(value: &Value) -> Result<Tid, Flaw>
     ensures { Reads (λ tid. tid) result (tid_in (item_of value.now)) }
 {
-    let text = text(value)?;
-    Tid::parse(text.as_str()).ok_or(Flaw::BadField)
+    at_form::tid(value).ok_or(Flaw::BadField)
 }
 
 /// A text of at most 64 bytes.
-#[tactic(auto, unfolding(crate::specs::Forms::short_text_in))]
 pub fn short_text(value: &Value) -> Result<&Words, Flaw>
     ensures { Reads (λ text. text.now) result (short_text_in (item_of value.now)) }
 {
-    match value.as_text() {
-        Some(text) if text.len() <= MOST_TEXT => Ok(text),
-        _ => Err(Flaw::BadField),
-    }
-}
-
-/// A link.
-pub fn link(value: &Value) -> Result<Cid, Flaw>
-    ensures { Reads (λ link. link) result (link_in (item_of value.now)) }
-{
-    value.as_link().ok_or(Flaw::BadField)
+    at_form::short_text(value).ok_or(Flaw::BadField)
 }
 
 /// A link of kind Node.
-#[tactic(auto, unfolding(crate::specs::Forms::node_in))]
 pub fn node(value: &Value) -> Result<Cid, Flaw>
     ensures { Reads (λ link. link) result (node_in (item_of value.now)) }
 {
-    let link = link(value)?;
-    match link.kind() {
-        Kind::Node => Ok(link),
-        Kind::Raw => Err(Flaw::BadField),
-    }
+    at_form::node(value).ok_or(Flaw::BadField)
 }
 
 /// Bytes.
@@ -113,17 +75,6 @@ pub fn truth(value: &Value) -> Result<bool, Flaw>
     value.as_bool().ok_or(Flaw::BadField)
 }
 
-/// An integer from 0 to 2^53 - 1.
-#[tactic(auto, unfolding(crate::specs::Forms::number_in))]
-pub fn number(value: &Value) -> Option<u64>
-    ensures { result ≡ number_in (item_of value.now) }
-{
-    match value.as_int() {
-        Some(number) if number >= 0 && (number as u64) < NUMBERS => Some(number as u64),
-        _ => None,
-    }
-}
-
 /// A copy of a DID.
 pub fn required_did(fields: &Value, name: &str) -> Result<Words, Flaw>
     ensures { Reads (λ text. text) result (required did_in (item_of fields.now) name.now) }
@@ -142,30 +93,21 @@ pub fn required_short_text(fields: &Value, name: &str) -> Result<Words, Flaw>
 pub fn optional_tid(fields: &Value, name: &str) -> Result<Option<Tid>, Flaw>
     ensures { Reads (λ found. found) result (optional tid_in (item_of fields.now) name.now) }
 {
-    match given(fields, name) {
-        Some(value) => Ok(Some(tid(value)?)),
-        None => Ok(None),
-    }
+    at_form::optional_tid(fields, name).ok_or(Flaw::BadField)
 }
 
 /// A link, or nothing where the key is null or absent.
 pub fn optional_link(fields: &Value, name: &str) -> Result<Option<Cid>, Flaw>
     ensures { Reads (λ found. found) result (optional link_in (item_of fields.now) name.now) }
 {
-    match given(fields, name) {
-        Some(value) => Ok(Some(link(value)?)),
-        None => Ok(None),
-    }
+    at_form::optional_link(fields, name).ok_or(Flaw::BadField)
 }
 
 /// A link of kind Node, or nothing where the key is null or absent.
 pub fn optional_node(fields: &Value, name: &str) -> Result<Option<Cid>, Flaw>
     ensures { Reads (λ found. found) result (optional node_in (item_of fields.now) name.now) }
 {
-    match given(fields, name) {
-        Some(value) => Ok(Some(node(value)?)),
-        None => Ok(None),
-    }
+    at_form::optional_node(fields, name).ok_or(Flaw::BadField)
 }
 
 /// A copy of a text of at most 64 bytes, or nothing where the key is null or absent.

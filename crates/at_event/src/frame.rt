@@ -1,6 +1,10 @@
 //! What a message of a stream is.
 
+ghost use Rattle.std.specs.Prelude.{◌≡◌};
+ghost use Rattle.at_event.specs.declared.frame.FrameFault.TheVariants.{Memory as Wanting};
+
 use crate::event::Event;
+use at_cid::Memory;
 use thiserror::Error;
 
 /// What a message says.
@@ -30,4 +34,12 @@ pub enum FrameFault {
     /// Memory was wanted.
     #[error("out of memory")]
     Memory,
+}
+
+impl From<Memory> for FrameFault {
+    ghost from_gives = { λ _ e. e ≡ Wanting };
+
+    fn from(_e: Memory) -> FrameFault {
+        FrameFault::Memory
+    }
 }

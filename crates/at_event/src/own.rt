@@ -6,6 +6,7 @@ ghost use Rattle.at_cbor.specs.Item.{Item};
 ghost use Rattle.at_cbor.specs.Spelling.{spelling, IsString};
 ghost use Rattle.at_syntax.specs.Did.{is_did};
 ghost use Rattle.at_syntax.specs.Tid.{digits_of};
+ghost use Rattle.at_form.specs.declared.forms.TheConstants.{LONGEST_SHORT_TEXT, NUMBERS};
 ghost use Rattle.at_event.specs.declared.frame.Frame.{Frame};
 ghost use Rattle.at_event.specs.declared.kind.EventKind.{EventKind};
 ghost use Rattle.at_event.specs.Frames.{frame_of};
@@ -56,17 +57,12 @@ fn write_text_field(out: &mut Octets, key: &str, text: &str) -> Result<(), Memor
 fn write_tid_field(out: &mut Octets, key: &str, tid: Tid) -> Result<(), Memory>
     ensures { OnOk result (out.new ≡ out.old ++ field_spelling key.now (Item.text (digits_of tid))) }
 {
-    tell_tid(tid);
     let mut digits = [0; TID_LEN];
-    tid.write(&mut digits);
-    let Ok(text) = std::str::from_utf8(&digits) else {
-        unreachable!()
-    };
-    write_text_field(out, key, text)
+    write_text_field(out, key, tid.write_text(&mut digits))
 }
 
 fn write_number_field(out: &mut Octets, key: &str, number: u64) -> Result<(), Memory>
-    requires { number < 2 ^ 53 }
+    requires { number < NUMBERS }
     ensures { OnOk result (out.new ≡ out.old ++ field_spelling key.now (number_item number)) }
 {
     write_text(out, key)?;
@@ -96,7 +92,7 @@ fn write_sync(
     time: &str,
     seq: u64,
 ) -> Result<(), Memory>
-    requires { seq < 2 ^ 53 }
+    requires { seq < NUMBERS }
     ensures { OnOk result (out.new ≡ out.old ++ spelling (sync_payload did.now rev blocks.now time.now seq)) }
 {
     write_map_front(out, 5)?;
@@ -117,7 +113,7 @@ fn write_account(
     time: &str,
     seq: u64,
 ) -> Result<(), Memory>
-    requires { seq < 2 ^ 53 }
+    requires { seq < NUMBERS }
     ensures { OnOk result (out.new ≡ out.old ++ spelling (account_payload did.now active (option_map (λ text. text.now) status.entry) time.now seq)) }
 {
     write_map_front(out, if status.is_some() { 5 } else { 4 })?;
@@ -142,10 +138,10 @@ pub fn sync_frame(
     time: &str,
     seq: u64,
 ) -> Result<Octets, Memory>
-    requires { seq < 2 ^ 53 }
+    requires { seq < NUMBERS }
     ensures spelled { IfOk result (λ bytes. bytes ≡ message_of EventKind.Sync (sync_payload did.now rev blocks.now time.now seq)) }
     // It is read back as that event, where the DID is one and the time has at most 64 bytes.
-    ensures again { IfOk result (λ bytes. IsTrue (is_did did.now) → length time.now ≤ 64 → frame_of bytes ≡ Ok (Frame.Event (sync_seen did.now rev blocks.now time.now seq))) }
+    ensures again { IfOk result (λ bytes. IsTrue (is_did did.now) → length time.now ≤ LONGEST_SHORT_TEXT → frame_of bytes ≡ Ok (Frame.Event (sync_seen did.now rev blocks.now time.now seq))) }
 {
     tell_text(did);
     tell_tid(rev);
@@ -167,10 +163,10 @@ pub fn account_frame(
     time: &str,
     seq: u64,
 ) -> Result<Octets, Memory>
-    requires { seq < 2 ^ 53 }
+    requires { seq < NUMBERS }
     ensures spelled { IfOk result (λ bytes. bytes ≡ message_of EventKind.Account (account_payload did.now active (option_map (λ text. text.now) status.entry) time.now seq)) }
     // It is read back as that event, where the DID is one and the status and the time have at most 64 bytes.
-    ensures again { IfOk result (λ bytes. IsTrue (is_did did.now) → IfSome status.entry (λ text. length text.now ≤ 64) → length time.now ≤ 64 → frame_of bytes ≡ Ok (Frame.Event (account_seen did.now active (option_map (λ text. text.now) status.entry) time.now seq))) }
+    ensures again { IfOk result (λ bytes. IsTrue (is_did did.now) → IfSome status.entry (λ text. length text.now ≤ LONGEST_SHORT_TEXT) → length time.now ≤ LONGEST_SHORT_TEXT → frame_of bytes ≡ Ok (Frame.Event (account_seen did.now active (option_map (λ text. text.now) status.entry) time.now seq))) }
 {
     tell_text(did);
     tell_text(time);

@@ -1,45 +1,38 @@
 //! The frame that a message is.
 
-ghost use Rattle.std.specs.Prelude.{◌≡◌, ◌≤◌, length, IfOk, Some};
+ghost use Rattle.std.specs.Prelude.{◌≡◌, option_map, IfOk, IfSome, Some};
+ghost use Rattle.at_cbor.specs.Item.{Item};
+ghost use Rattle.at_cbor.specs.declared.decoding.TheConstants.{DEPTH};
 ghost use Rattle.at_cbor.specs.Spelling.{Fits};
 ghost use Rattle.at_cbor.specs.View.{item_of};
 ghost use Rattle.at_event.specs.Flaws.{Reads};
-ghost use Rattle.at_event.specs.Frames.{item_in, items_in, named, heading_of, event_frame, announced, frame_of, ReadsAs, ReadsItem, ReadsItems};
+ghost use Rattle.at_event.specs.Formed.{IsFormedFrame};
+ghost use Rattle.at_event.specs.Frames.{items_in, named, heading_of, event_frame, announced, framed, frame_of, IsMessage, IsFrameOf, ReadsAs};
 ghost use Rattle.at_event.specs.Table.{event_of, seq_of};
 
 use crate::event::Event;
 use crate::flaw::Flaw;
-use crate::forms::{number, required_did, required_short_text};
+use crate::forms::{required_did, required_short_text};
 use crate::frame::{Frame, FrameFault};
 use crate::kind::{EventKind, Heading};
 use crate::table::{did_key, read_body};
-use at_cbor::{CborFault, Value, decode, field};
+use at_cbor::{Value, decode_whole, field, take_item};
+use at_cid::Memory;
+use at_form::number;
 use std::alloc::Global;
 
-fn read_item(alloc: Global, bytes: &[u8]) -> Result<(Value, usize), FrameFault>
-    ensures item { ReadsItem result (item_in bytes.now) }
-    ensures within { IfOk result (λ x. x.1 ≤ length bytes.now) }
-    ensures fits { IfOk result (λ x. Fits (item_of x.0) 64) }
-{
-    match decode(alloc, bytes) {
-        Ok(found) => Ok(found),
-        Err(CborFault::Memory) => Err(FrameFault::Memory),
-        Err(_) => Err(FrameFault::BadFrame),
-    }
-}
-
+/// The header and the payload that the message is.
 #[tactic(auto, unfolding(crate::specs::Frames::items_in))]
-fn read_items(alloc: Global, message: &[u8]) -> Result<(Value, Value), FrameFault>
-    ensures items { ReadsItems result (items_in message.now) }
-    ensures fits { IfOk result (λ x. Fits (item_of x.1) 64) }
+fn read_items(alloc: Global, message: &[u8]) -> Result<Option<(Value, Value)>, Memory>
+    ensures items { IfOk result (λ found. option_map (λ x. (item_of x.0, item_of x.1)) found ≡ items_in message.now) }
+    ensures fits { IfOk result (λ found. IfSome found (λ x. Fits (item_of x.1) DEPTH)) }
 {
-    let (header, len) = read_item(alloc, message)?;
-    let rest = &message[len..];
-    let (payload, rest_len) = read_item(alloc, rest)?;
-    if rest_len == rest.len() {
-        Ok((header, payload))
-    } else {
-        Err(FrameFault::BadFrame)
+    let Some((header, rest)) = take_item(alloc, message)? else {
+        return Ok(None);
+    };
+    match decode_whole(alloc, rest)? {
+        Some(payload) => Ok(Some((header, payload))),
+        None => Ok(None),
     }
 }
 
@@ -77,7 +70,7 @@ fn seq(payload: &Value) -> Option<u64>
 
 #[tactic(auto, unfolding(crate::specs::Table::event_of))]
 fn read_event(alloc: Global, kind: EventKind, seq: u64, payload: Value) -> Result<Event, Flaw>
-    requires fits { Fits (item_of payload) 64 }
+    requires fits { Fits (item_of payload) DEPTH }
     requires number { seq_of (item_of payload) ≡ Some seq }
     ensures { Reads (λ event. event) result (event_of kind seq (item_of payload)) }
 {
@@ -95,7 +88,7 @@ fn read_event(alloc: Global, kind: EventKind, seq: u64, payload: Value) -> Resul
 
 #[tactic(auto, unfolding(crate::specs::Frames::event_frame))]
 fn read_numbered(alloc: Global, kind: EventKind, payload: Value) -> Result<Frame, FrameFault>
-    requires { Fits (item_of payload) 64 }
+    requires { Fits (item_of payload) DEPTH }
     ensures { ReadsAs result (event_frame kind (item_of payload)) }
 {
     let Some(seq) = seq(&payload) else {
@@ -110,7 +103,7 @@ fn read_numbered(alloc: Global, kind: EventKind, payload: Value) -> Result<Frame
 
 #[tactic(auto, unfolding(crate::specs::Frames::announced))]
 fn read_announced(alloc: Global, heading: Heading, payload: Value) -> Result<Frame, FrameFault>
-    requires { Fits (item_of payload) 64 }
+    requires { Fits (item_of payload) DEPTH }
     ensures { ReadsAs result (announced heading (item_of payload)) }
 {
     match heading {
@@ -121,16 +114,13 @@ fn read_announced(alloc: Global, heading: Heading, payload: Value) -> Result<Fra
     }
 }
 
-/// The frame that a message is (Event Stream specification; Lexicon `com.atproto.sync.subscribeRepos`).
-///
-/// `BadFrame`: the message isn't a header and a payload, both maps, with nothing behind them; or the
-/// header's `op` is no integer, or is 1 where `t` is no text. `NoSeq`: an event's `seq` isn't an integer
-/// from 0 to 2^53 - 1. An event with another field that is missing or of another form is `Faulty`.
 #[tactic(auto, unfolding(crate::specs::Frames::frame_of))]
-pub fn read_frame(alloc: Global, message: &[u8]) -> Result<Frame, FrameFault>
+fn read_message(alloc: Global, message: &[u8]) -> Result<Frame, FrameFault>
     ensures { ReadsAs result (frame_of message.now) }
 {
-    let (header, payload) = read_items(alloc, message)?;
+    let Some((header, payload)) = read_items(alloc, message)? else {
+        return Err(FrameFault::BadFrame);
+    };
     let Some(heading) = heading(&header) else {
         return Err(FrameFault::BadFrame);
     };
@@ -138,4 +128,20 @@ pub fn read_frame(alloc: Global, message: &[u8]) -> Result<Frame, FrameFault>
         return Err(FrameFault::BadFrame);
     }
     read_announced(alloc, heading, payload)
+}
+
+/// The frame that a message is (Event Stream specification; Lexicon `com.atproto.sync.subscribeRepos`).
+///
+/// `BadFrame`: the message isn't a header and a payload, both maps, with nothing behind them; or the
+/// header's `op` is no integer, or is 1 where `t` is no text. `NoSeq`: an event's `seq` isn't an integer
+/// from 0 to 2^53 - 1. An event with another field that is missing or of another form is `Faulty`.
+pub fn read_frame(alloc: Global, message: &[u8]) -> Result<Frame, FrameFault>
+    // The message is spelled so, and a message that is spelled so is read.
+    ensures whole { IfOk result (IsFrameOf message.now) }
+    ensures only { (header payload : Item) → IsMessage message.now header payload → ReadsAs result (framed (Some (header, payload))) }
+    // The fields of an event have their forms.
+    ensures formed { IfOk result IsFormedFrame }
+    ensures exact { ReadsAs result (frame_of message.now) }
+{
+    read_message(alloc, message)
 }

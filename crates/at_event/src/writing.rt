@@ -4,6 +4,7 @@ ghost use Rattle.std.specs.Prelude.{◌≡◌, ◌++◌, ◌-◌, ◌^◌, ◌<�
 ghost use Rattle.at_cbor.specs.Item.{fields_of};
 ghost use Rattle.at_cbor.specs.Spelling.{spelling, fields_spelling};
 ghost use Rattle.at_cbor.specs.View.{item_of, pair_of};
+ghost use Rattle.at_form.specs.declared.forms.TheConstants.{NUMBERS};
 ghost use Rattle.at_event.specs.declared.frame.Frame.{Frame};
 ghost use Rattle.at_event.specs.Frames.{frame_of};
 ghost use Rattle.at_event.specs.Writing.{name_of, header_of, number_item, with_value, with_seq, field_with, numbered, out_of, out_length};
@@ -38,14 +39,14 @@ pub fn write_header(out: &mut Octets, kind: EventKind) -> Result<(), Memory>
 
 /// Adds an event's number.
 pub fn write_number(out: &mut Octets, seq: u64) -> Result<(), Memory>
-    requires { seq < 2 ^ 53 }
+    requires { seq < NUMBERS }
     ensures { OnOk result (out.new ≡ out.old ++ spelling (number_item seq)) }
 {
     write_int(out, seq as i64)
 }
 
 fn write_field(out: &mut Octets, key: &Words, value: &Value, seq: u64) -> Result<(), Memory>
-    requires { seq < 2 ^ 53 }
+    requires { seq < NUMBERS }
     ensures { OnOk result (out.new ≡ out.old ++ fields_spelling (field_with (codes "seq") (number_item seq) key.now (item_of value.now))) }
 {
     write_text(out, key.as_str())?;
@@ -57,7 +58,7 @@ fn write_field(out: &mut Octets, key: &Words, value: &Value, seq: u64) -> Result
 }
 
 fn write_fields(out: &mut Octets, fields: &[(Words, Value)], seq: u64) -> Result<(), Memory>
-    requires { seq < 2 ^ 53 }
+    requires { seq < NUMBERS }
     ensures { OnOk result (out.new ≡ out.old ++ fields_spelling (with_value (codes "seq") (number_item seq) (fields_of (map pair_of fields.now)))) }
 {
     for (key, value) in fields {
@@ -67,7 +68,7 @@ fn write_fields(out: &mut Octets, fields: &[(Words, Value)], seq: u64) -> Result
 }
 
 fn write_payload(out: &mut Octets, payload: &Value, seq: u64) -> Result<(), Memory>
-    requires { seq < 2 ^ 53 }
+    requires { seq < NUMBERS }
     ensures { OnOk result (out.new ≡ out.old ++ spelling (with_seq seq (item_of payload.now))) }
 {
     match payload {
@@ -82,7 +83,7 @@ fn write_payload(out: &mut Octets, payload: &Value, seq: u64) -> Result<(), Memo
 
 #[tactic(auto, unfolding(crate::specs::Writing::out_of, crate::specs::Writing::message_of))]
 fn write_event(out: &mut Octets, event: &Event, seq: u64) -> Result<(), Memory>
-    requires { seq < 2 ^ 53 }
+    requires { seq < NUMBERS }
     ensures { OnOk result (out.new ≡ out.old ++ out_of event.now seq) }
 {
     write_header(out, event.kind())?;
@@ -91,7 +92,7 @@ fn write_event(out: &mut Octets, event: &Event, seq: u64) -> Result<(), Memory>
 
 /// The frame in which an event goes out under a number: its payload with `seq` replaced, behind the header `{t, op}`.
 pub fn out_frame(alloc: Global, event: &Event, seq: u64) -> Result<Octets, Memory>
-    requires { seq < 2 ^ 53 }
+    requires { seq < NUMBERS }
     ensures spelled { IfOk result (λ bytes. bytes ≡ out_of event.now seq) }
     // It is read back as the same event, under the number.
     ensures again { IfOk result (λ bytes. frame_of bytes ≡ Ok (Frame.Event (numbered event.now seq))) }
@@ -103,7 +104,7 @@ pub fn out_frame(alloc: Global, event: &Event, seq: u64) -> Result<Octets, Memor
 }
 
 fn number_len(seq: u64) -> u64
-    requires { seq < 2 ^ 53 }
+    requires { seq < NUMBERS }
     ensures { result ≡ min (length (spelling (number_item seq))) (2 ^ 64 - 1) }
 {
     spelled_len(&Value::Int(seq as i64))
@@ -113,9 +114,9 @@ fn number_len(seq: u64) -> u64
 /// Takes no memory.
 pub fn out_len(event: &Event) -> u64
     ensures value { result ≡ out_length event.now }
-    ensures nine { (n : ℕ) → 2 ^ 32 ≤ n → n < 2 ^ 53 → result ≡ min (length (out_of event.now n)) (2 ^ 64 - 1) }
+    ensures nine { (n : ℕ) → 2 ^ 32 ≤ n → n < NUMBERS → result ≡ min (length (out_of event.now n)) (2 ^ 64 - 1) }
     // No frame of the event is longer.
-    ensures most { (n : ℕ) → n < 2 ^ 53 → min (length (out_of event.now n)) (2 ^ 64 - 1) ≤ result }
+    ensures most { (n : ℕ) → n < NUMBERS → min (length (out_of event.now n)) (2 ^ 64 - 1) ≤ result }
 {
     let header = name(event.kind()).len() as u64 + 8;
     let number = number_len(event.seq);

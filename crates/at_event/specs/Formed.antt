@@ -1,0 +1,41 @@
+-- The forms of an event's fields.
+use Rattle.std.specs.Prelude.{◌≡◌, ⊤, ◌<◌, ◌≤◌, ℕ, List, length, IsTrue, Option, Some, None}
+use Rattle.at_cid.specs.Link.{IsNodeLink, IsNodeLinkOrNone}
+use Rattle.at_syntax.specs.Did.{is_did}
+use Rattle.at_form.specs.declared.forms.TheConstants.{LONGEST_SHORT_TEXT, NUMBERS}
+use Rattle.at_event.specs.declared.event.Body.{Body}
+use Rattle.at_event.specs.declared.event.CommitEvent.{CommitEvent}
+use Rattle.at_event.specs.declared.frame.Frame.{Frame}
+use Rattle.at_event.specs.Seen.{Seen}
+
+-- a short text, where there is one
+abbrev pub IsShortOrNone : Option (List ℕ) → Type 0
+IsShortOrNone None = ⊤
+IsShortOrNone (Some text) = length text ≤ LONGEST_SHORT_TEXT
+
+-- a commit of the account of this DID
+pub record IsCommitOf (did : List ℕ) (event : CommitEvent) : Type 0 where
+  pub repo : event.repo ≡ did
+  pub prev_data : IsNodeLinkOrNone event.prev_data
+  pub commit : IsNodeLink event.commit
+
+-- what an event of the account of this DID says
+abbrev pub IsBodyOf : List ℕ → Body → Type 0
+IsBodyOf did (Body.Commit commit) = IsCommitOf did commit
+IsBodyOf did (Body.Sync sync) = sync.did ≡ did
+IsBodyOf did Body.Identity = ⊤
+IsBodyOf did (Body.Account account) = IsShortOrNone account.status
+
+pub record IsFormed (event : Seen) : Type 0 where
+  pub seq : event.seq < NUMBERS
+  pub did : IsTrue (is_did event.did)
+  pub time : length event.time ≤ LONGEST_SHORT_TEXT
+  pub body : IsBodyOf event.did event.body
+
+-- the same of the event that a frame is, where it is one
+abbrev pub IsFormedFrame : Frame → Type 0
+IsFormedFrame (Frame.Event event) = IsFormed event
+IsFormedFrame (Frame.Faulty seq) = seq < NUMBERS
+IsFormedFrame Frame.Info = ⊤
+IsFormedFrame Frame.Error = ⊤
+IsFormedFrame Frame.Unknown = ⊤
