@@ -3,23 +3,13 @@
 ghost use Rattle.std.specs.Prelude.{◌≡◌, ◌≤◌, IfOk, map, true, false, length};
 ghost use Rattle.std.specs.List.{list_all, list_any};
 ghost use Rattle.commit_check.specs.Step.{edit_of, lacks_prev};
-ghost use Rattle.at_cid.specs.Link.{IsLinkOrNone};
 ghost use Rattle.mst_list.specs.Edits.{IsFormedOp};
 ghost use Rattle.commit_check.specs.Table.{has_path, is_op};
 
-use at_cid::{Cid, Memory, Octets};
+use at_cid::{Memory, Octets};
 use at_event::EventOp;
-use mst_list::{Op, OpList};
+use mst_list::{Op, OpList, tell_link};
 use std::alloc::Global;
-
-// A link has its form.
-fn tell_link(link: &Option<Cid>)
-    ensures { IsLinkOrNone link.now }
-{
-    if let Some(link) = link {
-        link.as_bytes();
-    }
-}
 
 /// One operation, whose path becomes a key.
 #[tactic(auto, using(crate::proofs::Keys::path_key, crate::proofs::Keys::acts))]

@@ -33,11 +33,11 @@ impl Item {
     {
         match self {
             Item::Key(key, value) => {
-                value.as_bytes();
+                value.tell_link();
                 is_key(key)
             }
             Item::Hole(_, link) => {
-                link.as_bytes();
+                link.tell_link();
                 link.kind() == Kind::Node
             }
         }

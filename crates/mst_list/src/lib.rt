@@ -21,7 +21,7 @@ pub use item::{Item, MOST_KEY_BYTES};
 pub use item_list::ItemList;
 pub use judging::{Verdict, weigh};
 pub use laws::{edit_law, undoing_order_law, visible_law};
-pub use op::Op;
+pub use op::{Op, tell_link};
 pub use op_list::OpList;
 pub use playing::{PlayFault, play};
 pub use undoing::{UndoFault, undo_list};

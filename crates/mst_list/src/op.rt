@@ -15,11 +15,12 @@ pub struct Op {
     pub now: Option<Cid>,
 }
 
-fn tell_link(link: &Option<Cid>)
+/// Tells that a link has its form, where there is one.
+pub fn tell_link(link: &Option<Cid>)
     ensures { IsLinkOrNone link.now }
 {
     if let Some(link) = link {
-        link.as_bytes();
+        link.tell_link();
     }
 }
 
