@@ -1,8 +1,17 @@
 -- Operations that are undone by halves.
-use Rattle.std.proofs.Common.{◌≡◌, ◌≢◌, ℕ, zero, suc, ◌<◌, ◌≤◌, List, [], ◌∷◌, ◌++◌, length, get_or, Bool, true, false, refl, sym, ap, ◌∙◌, subst, Ordering, Less, Equal, Greater, Option, Some, None, arith, append_assoc}
+use Rattle.std.proofs.Common.{◌≡◌, ℕ, suc, ◌<◌, ◌≤◌, List, [], ◌∷◌, ◌++◌, length, get_or, Bool, false, refl, sym, ap, ◌∙◌, subst, Ordering, Less, Equal, Greater, Option, Some, None, arith, append_assoc}
 use Rattle.std.specs.Prelude.{IsPermutation}
 use Rattle.std.specs.Ordering.{is_lt}
 use Rattle.std.proofs.lemmas.List.Sorted.{IsPermutation-append, IsPermutation-append_comm, IsPermutation-append_left, IsPermutation-refl, IsPermutation-trans}
+use Rattle.std.proofs.lemmas.List.Sorted.{sorted_far}
+use Rattle.std.proofs.lemmas.List.MinMax.{ranks_by}
+use Rattle.std.proofs.lemmas.Fn.{always_returns_same}
+use Rattle.std.specs.Cmp.{IsStrictWeakOrder}
+use Rattle.std.specs.Fn.{Called, ComparesAs}
+use Rattle.std.specs.List.Sorted.{IsSortedBy}
+use denote.Ref.{Bor}
+use denote.Param.Members.{Mut}
+use Rattle.at_cid.specs.OrderLaws.{key_total}
 use Rattle.at_cid.specs.Order.{key_cmp}
 use Rattle.at_cid.proofs.Order.{cmp_trans, cmp_exact, cmp_below}
 use Rattle.mst_list.specs.declared.item.Item.{Item}
@@ -70,6 +79,16 @@ pub rising : (xs : List Op) → ((i j : ℕ) (d : Op) → i ≤ j → j < length
 rising [] far apart = tt
 rising (x ∷ xs) far apart =
     (above_first x xs (λ j d low. far 0 (suc j) d (omega arith) (omega arith)) apart.0, rising xs (λ i j d le low. far (suc i) (suc j) d (omega arith) (omega arith)) apart.1)
+
+-- what a sort by keys gives, where they differ
+pub sorted_rising : {F : Type 0} {g : Mut F (Bor Op × (Bor Op × Unit {0})) Ordering} {f : F} (xs : List Op)
+    → ((lt : Op → Op → Bool) → IsStrictWeakOrder lt → ComparesAs g lt f → IsSortedBy lt xs)
+    → ((a : Bor Op × (Bor Op × Unit {0})) (r : Ordering) (f' : F) → Called g f a r f' → (r ≡ key_cmp a.0.now.key a.1.0.now.key) × (f' ≡ f)) → AreApart xs → OpsAscend xs
+sorted_rising {g = g} {f = f} xs up h apart =
+    let lt : Op → Op → Bool = λ a b. is_lt (key_cmp a.key b.key) in
+    let ranks : IsStrictWeakOrder lt = ranks_by key_total (λ (op : Op). op.key) in
+    let sorted : IsSortedBy lt xs = up lt ranks (always_returns_same g (λ a r. is_lt r ≡ is_lt (key_cmp a.0.now.key a.1.0.now.key)) f (λ a r f' k. (ap is_lt (h a r f' k).0, (h a r f' k).1))) in
+    rising xs (λ i j d le low. sorted_far lt ranks xs sorted i j d le low) apart
 
 -- edits of a list in two parts
 put_front : (k : List ℕ) (o : Option (List ℕ)) (A Y : List Item) → StartsAbove k Y → put k o (A ++ Y) ≡ put k o A ++ Y
