@@ -1,6 +1,6 @@
 //! Bytes that grow, seen in contracts as the list of them.
 
-ghost use Rattle.std.specs.Prelude.{◌≡◌, List, ℕ, [], ◌∷◌, ◌++◌, length, ◌==◌, nat_eq, OnErr, OnOk, IfOk};
+ghost use Rattle.std.specs.Prelude.{◌≡◌, ◌≤◌, ◌+◌, List, ℕ, [], ◌∷◌, ◌++◌, length, take, drop, ◌==◌, nat_eq, OnErr, OnOk, IfOk};
 ghost use Rattle.std.specs.Cmp.{partial_equiv_from_equiv};
 ghost use Rattle.std.specs.Cmp.Lexicographic.{nat_list_eq_equiv, pointwise};
 ghost use Rattle.at_cid.specs.Link.{IsBytes};
@@ -125,6 +125,14 @@ impl Octets {
         ensures { IsBytes self.now }
     {
         tell_bytes(self.bytes.as_slice());
+    }
+
+    /// Writes bytes over those from a place on. Takes no memory.
+    pub fn overwrite(&mut self, place: usize, bytes: &[u8])
+        requires { place + length bytes.now ≤ length self.old }
+        ensures { self.new ≡ take place self.old ++ bytes.now ++ drop (place + length bytes.now) self.old }
+    {
+        self.bytes[place..place + bytes.len()].copy_from_slice(bytes);
     }
 
     /// The same bytes once more.
