@@ -31,8 +31,3 @@ pub use writing::{
     write_bool, write_bytes, write_int, write_link, write_list_front, write_map_front, write_null,
     write_number, write_text, write_value,
 };
-
-#[cfg(test)]
-mod tests;
-#[cfg(test)]
-mod vectors;

@@ -21,6 +21,3 @@ pub use memory::Memory;
 pub use octets::Octets;
 pub use text::{TEXT_LEN, parse_text};
 pub use words::Words;
-
-#[cfg(test)]
-mod tests;

@@ -10,8 +10,3 @@ mod signing;
 pub use commit::Commit;
 pub use fault::CommitFault;
 pub use reading::{LONGEST_BLOCK, read};
-
-#[cfg(test)]
-mod tests;
-#[cfg(test)]
-mod vectors;

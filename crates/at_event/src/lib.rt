@@ -25,10 +25,3 @@ pub use own::{account_frame, sync_frame};
 pub use reading::read_frame;
 pub use refusal::Refusal;
 pub use writing::{out_frame, out_len};
-
-#[cfg(test)]
-mod damaged;
-#[cfg(test)]
-mod tests;
-#[cfg(test)]
-mod vectors;

@@ -13,6 +13,3 @@ pub use host::{LONGEST_HOST, host_ok};
 pub use laws::{texts_are_tids, tids_order_as_texts, written_tids_are_read};
 pub use path::{LONGEST_COLLECTION, LONGEST_RECORD_KEY, path_ok};
 pub use tid::{TID_LEN, Tid};
-
-#[cfg(test)]
-mod tests;

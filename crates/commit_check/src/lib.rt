@@ -19,6 +19,3 @@ pub use fault::CheckFault;
 pub use linking::link;
 pub use opened::Opened;
 pub use opening::open_commit;
-
-#[cfg(test)]
-mod tests;

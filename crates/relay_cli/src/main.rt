@@ -19,9 +19,6 @@ pub use status::Status;
 use std::env;
 use std::process::ExitCode;
 
-#[cfg(test)]
-mod tests;
-
 fn main(rt: HostRuntime) -> ExitCode {
     let Ok(mut given) = env::args(&rt) else {
         return ExitCode::from(Status::Memory.code());

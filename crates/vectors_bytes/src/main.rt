@@ -1,0 +1,47 @@
+//! The outside rows, and our own, on links, DAG-CBOR, names, CARs, commit objects and frames: each file of `data/` against
+//! what the libraries answer. The words of a run name the files that it compares; without words it compares all.
+#![tactic(auto)]
+
+mod cars;
+mod commits;
+mod events;
+mod frames;
+mod items;
+mod links;
+mod lists;
+mod names;
+mod numbers;
+mod pieces;
+mod refusals;
+mod telling;
+mod written;
+
+use anyhow::Result;
+use std::process::ExitCode;
+use vector_lines::Suite;
+
+fn main(rt: HostRuntime) -> ExitCode {
+    Suite::end(&rt, compared(&rt))
+}
+
+fn compared(rt: &HostRuntime) -> Result<Suite> {
+    let mut suite = Suite::new(rt)?;
+    suite.file(rt, "links", &links::Links)?;
+    suite.file(rt, "own_links", &links::Links)?;
+    suite.file(rt, "own_lists", &lists::Lists)?;
+    suite.file(rt, "cbor_faults", &items::Items)?;
+    suite.file(rt, "own_items", &items::Items)?;
+    suite.file(rt, "own_pieces", &pieces::Pieces)?;
+    suite.file(rt, "names", &names::Names)?;
+    suite.file(rt, "own_names", &names::Names)?;
+    suite.file(rt, "car_faults", &cars::Cars)?;
+    suite.file(rt, "own_cars", &written::Written)?;
+    suite.file(rt, "commit_objects", &commits::Commits)?;
+    suite.file(rt, "frames", &frames::Frames)?;
+    suite.file(rt, "own_frames", &frames::Frames)?;
+    suite.file(rt, "own_numbers", &numbers::Numbers)?;
+    suite.file(rt, "own_commit_events", &telling::Telling)?;
+    suite.file(rt, "own_events", &events::Events)?;
+    suite.file(rt, "refusals", &refusals::Refusals)?;
+    Ok(suite)
+}
