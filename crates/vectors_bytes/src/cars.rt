@@ -21,7 +21,7 @@ impl Subject for Cars {
         let mut links = Vec::new(alloc);
         for (link, block) in car.blocks.iter() {
             ensure!(
-                car.blocks.get(link) == Some(block.as_slice()),
+                car.blocks.get(link) == Some(block),
                 "the block of its link"
             );
             links.push(*link)?;
