@@ -1,9 +1,8 @@
-use Rattle.std.proofs.Common.{◌≡◌, ℕ, List, refl, sym, ap, ◌∙◌, subst, arith, true, false, Some}
+use Rattle.std.proofs.Common.{◌≡◌, ℕ, List, sym, ap, ◌∙◌, subst, arith, true, false}
 use Rattle.std.specs.Option.{is_some}
 use Rattle.std.proofs.lemmas.Result.{err_from_is_err_and}
 use Rattle.std.specs.FinMap.{contains_key, insert}
-use Rattle.at_cid.specs.Link.{IsBytes}
-use Rattle.at_car.proofs.Places.{AreKept, Puts, nothing_put, put_absent, put_there, has_laid}
+use Rattle.at_car.proofs.Places.{AreKept, nothing_put, put_absent, put_there, has_laid}
 use Rattle.at_car.proofs.blocks.Blocks.put.Goals as goal
 
 pub invariant_of-self : goal.invariant_of-self
