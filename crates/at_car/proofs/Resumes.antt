@@ -1,22 +1,22 @@
 -- Reading on.
-use Rattle.std.proofs.Common.{◌≡◌, ℕ, suc, ◌+◌, ◌-◌, ◌<◌, ◌≤◌, List, [], ◌∷◌, ◌++◌, length, true, false, cond, ltb, ◌/◌, ◌%◌, take, drop, Option, Some, None, Result, Ok, Err, refl, ap, sym, ◌∙◌, subst, arith, append_assoc}
+use Rattle.std.proofs.Common.{◌≡◌, ℕ, ◌+◌, ◌-◌, ◌<◌, ◌≤◌, List, [], ◌∷◌, ◌++◌, length, true, false, cond, ltb, ◌/◌, ◌%◌, drop, Some, None, Result, Ok, Err, refl, ap, sym, ◌∙◌, arith}
 use Rattle.std.specs.FinMap as map
-use Rattle.std.proofs.lemmas.List.{length-append, append-nil}
+use Rattle.std.proofs.lemmas.List.{length-append}
 use Rattle.at_cid.specs.Link.{IsBytes}
 use Rattle.at_car.specs.declared.fault.CarFault.{CarFault}
 use Rattle.at_car.specs.Blocks.{BlockMap, kept}
-use Rattle.at_car.specs.Car.{behind, car_of, blocks_in}
+use Rattle.at_car.specs.Car.{behind, car_of}
 use Rattle.at_car.specs.Form.{header_bytes, section_bytes}
 use Rattle.at_car.specs.Header.{header_at}
 use Rattle.at_car.specs.Varint.{groups, varint}
 use Rattle.at_cbor.specs.Spelling.{spelling}
-use Rattle.at_car.specs.Sections.{◌>>=◌, Section, section_at, sections_in, sections_at}
+use Rattle.at_car.specs.Sections.{◌>>=◌, Section, section_at, sections_in}
 use Rattle.at_car.specs.Merging.{merged}
 use Rattle.at_car.proofs.Sections.{merged_first, merged_next, merged_fails, merged_last, section_shorter}
 use Rattle.at_car.proofs.Takes.{header_takes, section_takes}
 use Rattle.at_car.specs.Cuts.{is_cut}
 use Rattle.at_car.specs.Standing.{resumed}
-use Rattle.at_car.proofs.Extends.{further, further_ok, header_further, section_further, header_cut, section_cut, some_bytes, drop_front}
+use Rattle.at_car.proofs.Extends.{further, further_ok, header_further, section_further, header_cut, section_cut, some_bytes}
 
 with_roots : List (List ℕ) → Result BlockMap CarFault → Result (List (List ℕ) × BlockMap) CarFault
 with_roots roots r = r >>= λ all. Ok (roots, all)

@@ -1,7 +1,8 @@
 -- A tree of links as a list.
-use Rattle.std.proofs.Common.{◌≡◌, ℕ, List, [], ◌∷◌, Bool, true, false, cond, refl, sym, ap, ◌∙◌}
+use Rattle.std.proofs.Common.{◌≡◌, ℕ, List, [], ◌∷◌, true, false, cond, refl, sym, ap, ◌∙◌}
 use Rattle.std.specs.Prelude.{◌||◌}
 use Rattle.std.specs.List.{list_any}
+use Rattle.std.specs.List.Sorted.{IsStrictlySortedBy}
 use Rattle.std.specs.Ordering.{is_eq, eq_by_cmp}
 use Rattle.std.specs.Cmp.{eq_by_cmp_equiv}
 use Rattle.std.specs.BTreeMap.{is_at}
@@ -23,3 +24,8 @@ has_inserted old new link h c =
     ∙ ap (λ b. cond b true (list_any (is_at ((cmp-value).it c)) old)) (ap is_eq (link_cmp link c) ∙ (eq_by_cmp_equiv key_total).symm link c)
     ∙ ap (cond (eq_by_cmp key_cmp c link) true) (has_found c old)
     ∙ elim (eq_by_cmp key_cmp c link) as (λ t. cond t true (has old c) ≡ (t || has old c)) [ true ↦ refl | false ↦ refl ]
+
+-- the keys of a tree ascend
+pub keys_ascend : (links : List (List ℕ)) → IsStrictlySortedBy (cmp-value).it links → IsStrictlySortedBy key_cmp links
+unfolding key_cmp
+keys_ascend links h = h

@@ -1,8 +1,7 @@
 -- Blocks, sifted one after the other.
-use Rattle.std.proofs.Common.{◌≡◌, ℕ, List, [], ◌∷◌, Bool, true, false, cond, Option, Some, None, Less, Equal, Greater, refl, sym, ap, ◌∙◌, subst}
+use Rattle.std.proofs.Common.{◌≡◌, ℕ, List, Bool, true, false, cond, Option, Some, None, Less, Equal, Greater, refl, sym, ap, ◌∙◌}
 use Rattle.std.specs.Prelude.{is_some, not, ◌||◌}
 use Rattle.std.specs.Ordering.{is_eq, eq_by_cmp}
-use Rattle.std.specs.FinMap as map
 use Rattle.std.specs.FinMap.{get, contains_key, insert, get-insert}
 use Rattle.at_cid.specs.Order.{key_cmp}
 use Rattle.at_cid.specs.OrderLaws.{key_total}

@@ -8,7 +8,7 @@ use Rattle.at_cid.specs.Order.{key_cmp}
 use Rattle.at_cid.specs.Memory.{Fails}
 use Rattle.at_car.specs.declared.fault.CarFault.{CarFault}
 use Rattle.at_car.specs.Blocks.{BlockMap, kept}
-use Rattle.at_car.specs.Sections.{Section, section_at}
+use Rattle.at_car.specs.Sections.{section_at}
 use Rattle.at_car.proofs.Sections.{section_shorter}
 use Rattle.at_car.specs.Car.{fault_of, car_of}
 use Rattle.at_car.specs.Header.{header_at}

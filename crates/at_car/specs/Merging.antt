@@ -1,5 +1,5 @@
 -- Sections, put one after the other behind the blocks that are there.
-use Rattle.std.specs.Prelude.{List, [], ◌∷◌, Result, Ok, Err}
+use Rattle.std.specs.Prelude.{List, [], ◌∷◌, Result, Ok}
 use Rattle.at_car.specs.declared.fault.CarFault.{CarFault}
 use Rattle.at_car.specs.Blocks.{BlockMap, kept}
 use Rattle.at_car.specs.Sections.{◌>>=◌, Section}

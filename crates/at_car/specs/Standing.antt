@@ -3,7 +3,7 @@ use Rattle.std.specs.Prelude.{◌≡◌, ℕ, ◌+◌, ◌<◌, ◌≤◌, Bool,
 use Rattle.std.specs.FinMap as map
 use Rattle.at_car.specs.declared.fault.CarFault.{CarFault}
 use Rattle.at_car.specs.Blocks.{BlockMap}
-use Rattle.at_car.specs.Car.{fault_of, car_of}
+use Rattle.at_car.specs.Car.{car_of}
 use Rattle.at_car.specs.Sections.{◌>>=◌, sections_in}
 use Rattle.at_car.specs.Merging.{merged}
 use Rattle.at_car.specs.Cuts.{is_cut}

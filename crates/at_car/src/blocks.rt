@@ -3,7 +3,7 @@
 ghost use Rattle.std.specs.Prelude.{◌≡◌, ℕ, List, option_map, IfOk, IfSome, OnOk, OnErr};
 ghost use Rattle.std.specs.FinMap as map;
 ghost use Rattle.sha2.specs.Sha256.{sha256};
-ghost use Rattle.at_cid.specs.Link.{digest_of, IsBytes, IsLink};
+ghost use Rattle.at_cid.specs.Link.{digest_of, IsBytes};
 ghost use Rattle.at_car.specs.Blocks.{kept, AreLinked};
 
 use crate::iterating::BlockIter;
@@ -99,7 +99,7 @@ impl Blocks {
         ensures ok { OnOk result (self.new ≡ kept self.old cid block.now) }
         ensures err { OnErr result (self.new ≡ self.old) }
     {
-        tell_link(&cid);
+        cid.tell_link();
         let place = lay(&mut self.buffer, block)?;
         match self.places.insert(cid, place)? {
             Some(first) => {
@@ -116,11 +116,4 @@ impl Blocks {
     {
         let _ = &self.places;
     }
-}
-
-// What the type of a link says of its bytes.
-pub(crate) fn tell_link(cid: &Cid)
-    ensures { IsLink cid.now }
-{
-    cid.as_bytes();
 }

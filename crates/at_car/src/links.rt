@@ -1,6 +1,8 @@
 //! Links, each once.
 
-ghost use Rattle.std.specs.Prelude.{◌≡◌, ◌||◌, ℕ, List, [], OnOk, OnErr};
+ghost use Rattle.std.specs.Prelude.{◌≡◌, ◌||◌, ℕ, List, [], length, OnOk, OnErr};
+ghost use Rattle.std.specs.List.Sorted.{IsStrictlySortedBy};
+ghost use Rattle.at_cid.specs.Order.{key_cmp};
 ghost use Rattle.at_car.specs.Links.{has, is_same};
 
 use at_cid::{Cid, Memory};
@@ -30,6 +32,15 @@ impl Links {
         Links {
             links: BTreeSet::new(alloc),
         }
+    }
+
+    /// How many links there are.
+    pub fn len(&self) -> usize
+        ensures len { result ≡ length self.now }
+        // No link stands twice.
+        ensures ascending { IsStrictlySortedBy key_cmp self.now }
+    {
+        self.links.len()
     }
 
     /// Whether a link is there.

@@ -1,5 +1,5 @@
 -- Laws of the order of bytes.
-use Rattle.std.proofs.Common.{◌≡◌, ℕ, List, [], ◌∷◌, length, true, false, refl, sym, ap, ◌∙◌, subst, arith, Less, Equal, Greater}
+use Rattle.std.proofs.Common.{◌≡◌, ℕ, List, [], ◌∷◌, length, true, refl, sym, ap, ◌∙◌, arith, Less, Equal, Greater}
 use Rattle.std.specs.Prelude.{◌==◌, ◌&&◌, ◌||◌, slice_index}
 use Rattle.std.proofs.lemmas.Bool.{false≢true}
 use Rattle.std.proofs.lemmas.Bool.Decides.{nat_tests}

@@ -2,6 +2,7 @@
 use Rattle.std.specs.Prelude.{◌≡◌, ℕ, pos, List, length, nat_lt, if◌then◌else◌, Option, Some, None, Result, Ok, Err}
 use Rattle.std.specs.Ordering.{int_eq}
 use Rattle.at_cid.specs.Memory.{Gives}
+use Rattle.at_cbor.specs.declared.decoding.TheConstants.{DEPTH}
 use Rattle.at_cbor.specs.Item.{Item, Fields}
 use Rattle.at_cbor.specs.Spelling.{spelling, Fits}
 use Rattle.at_cbor.specs.Taking.{whole_item}
@@ -43,6 +44,6 @@ ReadsAs result answer = Gives (λ commit. commit) fault_of result answer
 -- The block is the one spelling of a map, and the commit is what its fields say.
 pub record IsCommitIn (block : List ℕ) (commit : Commit) : Type 0 where
   pub fields : Fields
-  pub form : Fits (Item.map fields) 64
+  pub form : Fits (Item.map fields) DEPTH
   pub spelled : block ≡ spelling (Item.map fields)
   pub says : commit_in fields ≡ Ok commit

@@ -3,6 +3,7 @@
 ghost use Rattle.std.specs.Prelude.{◌≡◌, ◌≢◌, ◌↔◌, ◌<◌, ◌≤◌, length, Err, Some, IfOk, IsTrue};
 ghost use Rattle.at_cid.specs.Link.{IsNodeLink};
 ghost use Rattle.at_cbor.specs.Item.{Item, fields_of};
+ghost use Rattle.at_cbor.specs.declared.decoding.TheConstants.{DEPTH};
 ghost use Rattle.at_cbor.specs.Spelling.{Fits, spelling};
 ghost use Rattle.at_syntax.specs.Did.{is_did};
 ghost use Rattle.at_commit.specs.Commit.{commit_at, commit_in, commit_of, IsCommitIn, ReadsAs};
@@ -53,7 +54,7 @@ pub fn read(alloc: Global, block: &[u8]) -> Result<Commit, CommitFault>
     ensures too_long { (result ≡ Err CommitFault.TooLong) ↔ (LONGEST_BLOCK < length block.now) }
     // What is read is spelled so, and what is spelled so is read.
     ensures whole { IfOk result (IsCommitIn block.now) }
-    ensures only { (i : Item) → Fits i 64 → block.now ≡ spelling i → length block.now ≤ LONGEST_BLOCK → ReadsAs result (commit_at (Some i)) }
+    ensures only { (i : Item) → Fits i DEPTH → block.now ≡ spelling i → length block.now ≤ LONGEST_BLOCK → ReadsAs result (commit_at (Some i)) }
     ensures data { IfOk result (λ commit. IsNodeLink commit.data_root) }
     ensures did { IfOk result (λ commit. IsTrue (is_did commit.did)) }
 {

@@ -4,7 +4,7 @@ use Rattle.std.specs.Prelude.{⊤, option_map, IsTrue, IfOk}
 use Rattle.at_cid.specs.Link.{IsBytes, IsNodeLink, IsNodeLinkOrNone}
 use Rattle.at_cbor.specs.Item.{Item}
 use Rattle.at_cbor.specs.Kinds.{bytes_in, bool_in, map_in, null_in, field_of}
-use Rattle.at_cbor.specs.Spelling.{Fits, spelling}
+use Rattle.at_cbor.specs.Spelling.{Fits}
 use Rattle.at_cbor.specs.Taking.{◌>>=◌}
 use Rattle.at_cbor.proofs.Inside.{field_fits}
 use Rattle.at_syntax.specs.Did.{is_did}
@@ -20,8 +20,7 @@ use Rattle.at_event.specs.declared.frame.FrameFault.{FrameFault}
 use Rattle.at_event.specs.declared.kind.EventKind.{EventKind}
 use Rattle.at_event.specs.declared.kind.Heading.{Heading}
 use Rattle.at_event.specs.declared.ops.EventOp.{EventOp}
-use Rattle.at_event.specs.Events.{IsEvent}
-use Rattle.at_event.specs.Formed.{IsShortOrNone, IsCommitOf, IsBodyOf, IsFormed, IsFormedFrame}
+use Rattle.at_event.specs.Formed.{IsShortOrNone, IsCommitOf, IsBodyOf, IsFormedFrame}
 use Rattle.at_event.specs.Frames.{items_in, formed_frame, numbered_frame, event_frame, announced, heading_of, headed, framed, frame_of, IsMessage, IsFrameOf, ReadsAs}
 use Rattle.at_event.specs.Laws.{EventsAreFormed}
 use Rattle.at_event.specs.Seen.{Seen}

@@ -1,5 +1,5 @@
 -- A message that is written is read as it was meant.
-use Rattle.std.proofs.Common.{◌≡◌, ℕ, ◌<◌, ◌^◌, List, [], ◌++◌, Some, Ok, codes, refl, ap, ◌∙◌, subst, lit<}
+use Rattle.std.proofs.Common.{◌≡◌, ℕ, ◌<◌, ◌^◌, List, ◌++◌, Some, Ok, codes, refl, ap, ◌∙◌, subst, lit<}
 use Rattle.at_cid.specs.Link.{IsBytes}
 use Rattle.at_cbor.specs.Item.{Item}
 use Rattle.at_cbor.specs.Kinds.{map_in}

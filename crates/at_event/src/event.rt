@@ -98,6 +98,13 @@ impl Event {
     ghost use Rattle.at_event.specs.Events.{IsEvent};
     ghost use Rattle.at_event.specs.Table.{kind_of};
 
+    /// Tells what each event owes its payload.
+    pub fn tell_event(&self)
+        ensures { IsEvent self.now }
+    {
+        let _kind = self.kind();
+    }
+
     /// Its kind.
     pub fn kind(&self) -> EventKind
         ensures value { result ≡ kind_of self.now.body }

@@ -40,13 +40,6 @@ fn tell_bytes(bytes: &[u8])
     ensures { IsString bytes.now }
 {}
 
-// What the type of a TID says of it.
-fn tell_tid(tid: Tid)
-    ensures { tid < 2 ^ 64 }
-{
-    tid.value();
-}
-
 fn write_text_field(out: &mut Octets, key: &str, text: &str) -> Result<(), Memory>
     ensures { OnOk result (out.new ≡ out.old ++ field_spelling key.now (Item.text text.now)) }
 {
@@ -144,7 +137,7 @@ pub fn sync_frame(
     ensures again { IfOk result (λ bytes. IsTrue (is_did did.now) → length time.now ≤ LONGEST_SHORT_TEXT → frame_of bytes ≡ Ok (Frame.Event (sync_seen did.now rev blocks.now time.now seq))) }
 {
     tell_text(did);
-    tell_tid(rev);
+    rev.tell_value();
     tell_bytes(blocks);
     tell_text(time);
     let mut out = Octets::new(alloc);

@@ -97,7 +97,7 @@ pub fn out_frame(alloc: Global, event: &Event, seq: u64) -> Result<Octets, Memor
     // It is read back as the same event, under the number.
     ensures again { IfOk result (λ bytes. frame_of bytes ≡ Ok (Frame.Event (numbered event.now seq))) }
 {
-    event.kind();
+    event.tell_event();
     let mut out = Octets::new(alloc);
     write_event(&mut out, event, seq)?;
     Ok(out)

@@ -1,17 +1,17 @@
 -- What a field that has its form says.
-use Rattle.std.proofs.Common.{◌≡◌, ◌<◌, ◌≤◌, ℕ, ℤ, List, length, true, false, cond, leb, ltb, Option, Some, None, refl, sym, ap, ◌∙◌, subst, arith}
-use Rattle.std.specs.Prelude.{pos, negsuc, option_map, IsTrue}
+use Rattle.std.proofs.Common.{◌≡◌, ◌<◌, ◌≤◌, ℕ, ℤ, List, length, true, false, cond, leb, ltb, Option, Some, None, refl, subst}
+use Rattle.std.specs.Prelude.{pos, negsuc, IsTrue}
 use Rattle.std.proofs.lemmas.Bool.{ltb-true, leb-true}
 use Rattle.at_cid.specs.Link.{IsNodeLink, kind_of}
 use Rattle.at_cid.specs.declared.cid.Kind.{Kind}
 use Rattle.at_cid.specs.declared.cid.Kind.TheVariants.{Node, Raw}
 use Rattle.at_cbor.specs.Item.{Item}
-use Rattle.at_cbor.specs.Kinds.{int_in, text_in, link_in, field_of}
+use Rattle.at_cbor.specs.Kinds.{int_in, text_in}
 use Rattle.at_cbor.specs.Spelling.{Fits}
 use Rattle.at_cbor.specs.Taking.{◌>>=◌}
 use Rattle.at_syntax.specs.Did.{is_did}
 use Rattle.at_form.specs.declared.forms.TheConstants.{LONGEST_SHORT_TEXT, NUMBERS}
-use Rattle.at_form.specs.Forms.{did_in, tid_in, short_text_in, of_node, node_in, number_of, number_in, formed, given, optional, required}
+use Rattle.at_form.specs.Forms.{did_in, short_text_in, of_node, node_in, number_of, number_in}
 
 pub some_same : {A : Type 0} (x y : A) → Some x ≡ Some y → x ≡ y
 some_same x y e = cc

@@ -1,6 +1,5 @@
 use Rattle.std.proofs.Common.{◌≡◌, ℕ, List, ◌++◌, drop, refl, sym, ap, ◌∙◌}
 use Rattle.std.proofs.lemmas.Result.{err_from_is_err_and}
-use Rattle.at_car.specs.Standing.{left_of}
 use Rattle.at_car.proofs.Standings.{piece_held, same_stands}
 use Rattle.at_car.proofs.advancing.hold.Goals as goal
 

@@ -1,4 +1,4 @@
-use Rattle.std.proofs.Common.{◌≡◌, ℕ, List, length, drop, refl, sym, ap, ◌∙◌, arith}
+use Rattle.std.proofs.Common.{drop, refl, ap, ◌∙◌, arith}
 use Rattle.at_car.specs.Standing.{left_of}
 use Rattle.at_car.proofs.Extends.{some_bytes}
 use Rattle.at_car.proofs.Standings.{same_stands, section_next}

@@ -1,4 +1,4 @@
-use Rattle.std.proofs.Common.{◌≡◌, refl, sym, ap, ◌∙◌, arith}
+use Rattle.std.proofs.Common.{arith}
 use Rattle.at_car.proofs.Standings.{section_stopped, section_took}
 use Rattle.at_car.proofs.advancing.take_section.Goals as goal
 

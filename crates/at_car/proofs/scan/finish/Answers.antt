@@ -1,6 +1,5 @@
-use Rattle.std.proofs.Common.{◌≡◌, ◌-◌, ◌≤◌, ℕ, List, length, drop, refl, sym, ap, ◌∙◌, Some, None, arith}
+use Rattle.std.proofs.Common.{arith}
 use Rattle.std.proofs.lemmas.List.{length-drop}
-use Rattle.at_car.specs.Standing.{left_of}
 use Rattle.at_car.proofs.Standings.{end_fault, end_header, end_cut, end_whole}
 use Rattle.at_car.proofs.scan.finish.Goals as goal
 

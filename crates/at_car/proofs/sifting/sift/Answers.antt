@@ -1,7 +1,4 @@
-use Rattle.std.proofs.Common.{◌≡◌, Bool, true, false, List, Option, Some, None, ℕ, refl, sym, ap, ◌∙◌, subst, cond}
-use Rattle.std.specs.Prelude.{is_some}
-use Rattle.at_car.specs.Blocks.{BlockMap, kept}
-use Rattle.at_car.specs.Sifting.{IsSifted, Holds}
+use Rattle.std.proofs.Common.{sym, ap, ◌∙◌, cond}
 use Rattle.at_car.proofs.Sifts.{sift_next}
 use Rattle.at_car.proofs.sifting.sift.Goals as goal
 

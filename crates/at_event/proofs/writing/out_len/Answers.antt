@@ -1,4 +1,4 @@
-use Rattle.std.proofs.Common.{◌≤◌, ◌^◌, ◌-◌, min, length, ap, ◌∙◌, lit≤}
+use Rattle.std.proofs.Common.{◌^◌, ◌-◌, min, length, ap, ◌∙◌, lit≤}
 use Rattle.at_cbor.specs.Spelling.{spelling}
 use Rattle.at_event.specs.Writing.{name_of, number_item, out_length}
 use Rattle.at_event.proofs.OutLengths.{number_there, number_within, nine_bytes, most_bytes}
