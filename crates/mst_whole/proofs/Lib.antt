@@ -1,0 +1,4 @@
+pub mod Steps
+pub mod Views
+pub mod Walked
+pub mod Keeps
