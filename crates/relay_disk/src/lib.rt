@@ -17,6 +17,3 @@ pub use file::FileDisk;
 pub use fuse::FuseDisk;
 pub use memory::MemoryDisk;
 pub use model::parts_are_within_ranges;
-
-#[cfg(test)]
-mod tests;
