@@ -7,8 +7,3 @@ pub use laws::{
     complete_link_law, covering_law, fault_law, filling_law, one_root_law, one_view_law,
     replay_law, sound_link_law,
 };
-
-#[cfg(test)]
-mod tables;
-#[cfg(test)]
-mod tests;

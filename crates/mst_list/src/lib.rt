@@ -25,8 +25,3 @@ pub use op::{Op, tell_link};
 pub use op_list::OpList;
 pub use playing::{PlayFault, play};
 pub use undoing::{UndoFault, undo_list};
-
-#[cfg(test)]
-mod tables;
-#[cfg(test)]
-mod tests;

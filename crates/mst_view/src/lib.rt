@@ -16,8 +16,3 @@ pub use branch::{Below, Branch, Part, Rest};
 pub use laws::{view_law, view_size_law};
 pub use stub_tree::StubTree;
 pub use viewing::{ViewFault, view};
-
-#[cfg(test)]
-mod tables;
-#[cfg(test)]
-mod tests;

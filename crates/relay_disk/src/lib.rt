@@ -22,6 +22,3 @@ pub use fuse::FuseDisk;
 pub use laws::{parts_are_within_ranges, ranges_are_left_by_parts};
 pub use lazy_file::LazyFile;
 pub use memory::MemoryDisk;
-
-#[cfg(test)]
-mod tests;

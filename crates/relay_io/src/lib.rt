@@ -42,6 +42,3 @@ pub use source::Source;
 pub use system_clock::SystemClock;
 pub use writer_sink::WriterSink;
 pub use writing::write_all;
-
-#[cfg(test)]
-mod tests;

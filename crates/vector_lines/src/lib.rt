@@ -3,12 +3,14 @@
 #![tactic(auto)]
 
 mod links;
+mod memory;
 mod runs;
 mod subject;
 mod suite;
 mod words;
 
 pub use links::{add_link, link};
+pub use memory::had;
 pub use runs::expanded;
 pub use subject::Subject;
 pub use suite::Suite;

@@ -1,0 +1,12 @@
+//! The want of memory.
+
+use anyhow::{Result, bail};
+use at_cid::Memory;
+
+/// What a call gave that fails for want of memory alone.
+pub fn had<T>(answer: Result<T, Memory>) -> Result<T> {
+    match answer {
+        Ok(value) => Ok(value),
+        Err(Memory) => bail!("out of memory"),
+    }
+}

@@ -1,0 +1,62 @@
+//! Appending to a log, and what it holds.
+
+ghost use Rattle.std.specs.Prelude.{◌≡◌, ℕ, IsTrue, OnOk};
+ghost use Rattle.gate_log.specs.Log.{IsOn};
+ghost use Rattle.gate_log.specs.declared.fault.LogFault.{LogFault};
+
+use crate::texts::{MOST, log_fault};
+use anyhow::Result;
+use gate_log::{Log, LogFault};
+use relay_disk::Disk;
+use std::alloc::Global;
+use vector_lines::add_bytes;
+
+/// More bodies than any log of a row has.
+const MANY: u32 = 1000;
+
+/// Makes room for a body, and appends it to an open log.
+pub fn append<D: Disk>(log: &mut Log, disk: &mut D, body: &[u8]) -> Result<u64, LogFault>
+    requires { IsTrue D.tells → IsOn (D.view disk.old) log.old }
+    ensures on { OnOk result (IsTrue D.tells → IsOn (D.view disk.new) log.new) }
+    ensures full { (e : ℕ) → result ≡ Err (LogFault.Full e) → IsTrue D.tells → IsOn (D.view disk.new) log.new }
+{
+    let Ok(len) = u32::try_from(body.len()) else {
+        return Err(LogFault::Memory);
+    };
+    if log.reserve(len).is_err() || !log.is_open() {
+        return Err(LogFault::Memory);
+    }
+    log.append(disk, body)
+}
+
+/// The end of a log, and its bodies, each with the place of its gate.
+pub fn bodies<D: Disk>(alloc: Global, log: &Log, disk: &mut D) -> Result<String>
+    requires { IsTrue D.tells → IsOn (D.view disk.old) log.now }
+{
+    let mut text = format!(in alloc; "end {} bodies", log.end())?;
+    let mut next = log.first();
+    if next >= log.end() {
+        text.push_str(" -")?;
+    }
+    'records: for _ in 0..MANY {
+        if next >= log.end() {
+            break;
+        }
+        let (body, behind) = match log.read(alloc, disk, next) {
+            Ok(found) => found,
+            Err(fault) => return log_fault(alloc, fault),
+        };
+        write!(&mut text, " {next}:")?;
+        add_bytes(&mut text, body.as_slice())?;
+        next = behind;
+    }
+    Ok(text)
+}
+
+/// What the log of a disk holds, which is made where it is unmade.
+pub fn held<D: Disk>(alloc: Global, disk: &mut D) -> Result<String> {
+    match Log::open(alloc, disk, MOST) {
+        Ok(log) => bodies(alloc, &log, disk),
+        Err(fault) => log_fault(alloc, fault),
+    }
+}

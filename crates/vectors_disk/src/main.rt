@@ -1,0 +1,62 @@
+//! Compares what the crates of streams, disks and logs answer with the rows of text files, with each call failing in turn.
+#![tactic(auto)]
+
+mod appends;
+mod clocks;
+mod disks;
+mod files;
+mod logging;
+mod logs;
+mod pairs;
+mod picks;
+mod reads;
+mod scripts;
+mod sinks;
+mod sources;
+mod stops;
+mod streams;
+mod texts;
+mod words;
+mod worst;
+
+use anyhow::Result;
+use appends::{Appends, LogCalls};
+use clocks::{Clocks, Moments};
+use disks::Disks;
+use files::{FileDisks, FileLogs};
+use logs::Logs;
+use pairs::Pairs;
+use picks::Picks;
+use reads::Reads;
+use sinks::Sinks;
+use sources::Sources;
+use std::process::ExitCode;
+use stops::Stops;
+use streams::Streams;
+use vector_lines::Suite;
+use worst::Worst;
+
+fn compared(rt: &HostRuntime) -> Result<Suite> {
+    let mut suite = Suite::new(rt)?;
+    suite.file(rt, "sources", &Sources)?;
+    suite.file(rt, "sinks", &Sinks)?;
+    suite.file(rt, "streams", &Streams)?;
+    suite.file(rt, "clocks", &Clocks)?;
+    suite.file(rt, "moments", &Moments { rt })?;
+    suite.file(rt, "disks", &Disks)?;
+    suite.file(rt, "worst", &Worst)?;
+    suite.file(rt, "file_disks", &FileDisks { rt })?;
+    suite.file(rt, "logs", &Logs)?;
+    suite.file(rt, "picks", &Picks)?;
+    suite.file(rt, "appends", &Appends)?;
+    suite.file(rt, "log_calls", &LogCalls)?;
+    suite.file(rt, "reads", &Reads)?;
+    suite.file(rt, "stops", &Stops)?;
+    suite.file(rt, "pairs", &Pairs)?;
+    suite.file(rt, "file_logs", &FileLogs { rt })?;
+    Ok(suite)
+}
+
+fn main(rt: HostRuntime) -> ExitCode {
+    Suite::end(&rt, compared(&rt))
+}

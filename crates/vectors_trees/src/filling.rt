@@ -1,0 +1,76 @@
+//! Maps that fill lists, by the definition: each hole stands for items whose tree has the hole's link.
+
+ghost use Rattle.std.specs.Prelude.{◌≤◌, length};
+
+use crate::trees::{copied, layers_of, subtree};
+use anyhow::Result;
+use at_car::Blocks;
+use at_cid::compare;
+use mst_list::{Item, ItemList};
+use std::alloc::Global;
+use std::cmp::Ordering;
+
+/// Whether the items are keys in order.
+pub fn is_map(items: &[Item]) -> bool {
+    let mut last: &[u8] = &[];
+    for item in items {
+        match item {
+            Item::Key(key, _) => {
+                if compare(last, key.as_slice()) != Ordering::Less {
+                    return false;
+                }
+                last = key.as_slice();
+            }
+            Item::Hole(..) => return false,
+        }
+    }
+    true
+}
+
+// How many items of a map stand before the key that is next in the list.
+fn count_before(items: &[Item], next: Option<&Item>) -> usize
+    ensures { result ≤ length items.now }
+{
+    for (i, item) in items.iter().enumerate() {
+        if Some(item) == next {
+            return i;
+        }
+    }
+    items.len()
+}
+
+// How many items of a map may stand for the item of a list, of which the next one is given.
+fn reach(items: &[Item], item: &Item, next: Option<&Item>) -> usize
+    ensures { result ≤ length items.now }
+{
+    match item {
+        Item::Key(..) => items.len().min(1),
+        Item::Hole(..) => count_before(items, next),
+    }
+}
+
+// Whether the items are what an item of a list may stand for.
+fn stand_for(alloc: Global, items: &[Item], item: &Item) -> Result<bool> {
+    match item {
+        Item::Key(..) => Ok(items.first() == Some(item)),
+        Item::Hole(layer, link) => {
+            let layers = layer.saturating_add(1);
+            let mut blocks = Blocks::new(alloc);
+            let tree = subtree(alloc, &mut blocks, layers, copied(alloc, items)?, &[])?;
+            Ok(layers_of(items) <= layers && tree.link == Some(*link))
+        }
+    }
+}
+
+/// Whether a map is the list with each hole filled.
+pub fn fills(alloc: Global, map: &ItemList, list: &ItemList) -> Result<bool> {
+    let mut rest = map.as_slice();
+    for (i, item) in list.as_slice().iter().enumerate() {
+        let (front, behind) = rest.split_at(reach(rest, item, list.get(i + 1)));
+        if !stand_for(alloc, front, item)? {
+            return Ok(false);
+        }
+        rest = behind;
+    }
+    Ok(rest.is_empty() && is_map(map.as_slice()))
+}

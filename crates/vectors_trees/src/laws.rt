@@ -1,0 +1,43 @@
+//! The laws of trees at an instance: a list, a map that fills it, and operations that can be undone on both.
+
+use crate::filling::fills;
+use crate::trees::root_of;
+use anyhow::Result;
+use at_cid::Cid;
+use mst_list::{ItemList, OpList, guarded, play, undo_list};
+use std::alloc::Global;
+
+// Whether a map fills a list and has its root, and another map so exactly where it is the same.
+fn is_told(alloc: Global, map: &ItemList, other: &ItemList, list: &ItemList) -> Result<bool> {
+    let root = root_of(alloc, list)?;
+    let is_same = other.as_slice() == map.as_slice();
+    let is_root = root_of(alloc, other)? == root;
+    Ok(
+        fills(alloc, map, list)?
+            && root_of(alloc, map)? == root
+            && fills(alloc, other, list)? == is_same
+            && is_root == is_same,
+    )
+}
+
+/// The root of a list with operations undone, where the laws hold of it and of a map that fills the list: the map that was
+/// before fills the list that was before, the operations play from map to map, and roots tell the maps of each list apart.
+pub fn former_root(
+    alloc: Global,
+    list: &ItemList,
+    map: &ItemList,
+    ops: &OpList,
+) -> Result<Option<Cid>> {
+    let former_list = undo_list(alloc, list, ops)?;
+    let former_map = undo_list(alloc, map, ops)?;
+    let again = play(alloc, &former_map, ops)?;
+    if guarded(list, ops)
+        && again.as_slice() == map.as_slice()
+        && is_told(alloc, map, &former_map, list)?
+        && is_told(alloc, &former_map, map, &former_list)?
+    {
+        Ok(Some(root_of(alloc, &former_list)?))
+    } else {
+        Ok(None)
+    }
+}

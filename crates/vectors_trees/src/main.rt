@@ -1,0 +1,57 @@
+//! Compares what the crates of lists, nodes, views and undoing answer with the rows of text files: what others answer, and
+//! what the definitions of trees say.
+#![tactic(auto)]
+
+mod covers;
+mod filling;
+mod fills;
+mod heights;
+mod laws;
+mod nodes;
+mod parts;
+mod playing;
+mod replays;
+mod roots;
+mod rounds;
+mod shown;
+mod spelled;
+mod trees;
+mod undoing;
+mod views;
+mod words;
+
+use anyhow::Result;
+use covers::Covers;
+use fills::Fills;
+use heights::Heights;
+use nodes::Nodes;
+use parts::Parts;
+use playing::Playing;
+use replays::Replays;
+use roots::Roots;
+use rounds::Rounds;
+use std::process::ExitCode;
+use undoing::{Commits, Undoing};
+use vector_lines::Suite;
+use views::Views;
+
+fn compared(rt: &HostRuntime) -> Result<Suite> {
+    let mut suite = Suite::new(rt)?;
+    suite.file(rt, "heights", &Heights)?;
+    suite.file(rt, "nodes", &Nodes)?;
+    suite.file(rt, "parts", &Parts)?;
+    suite.file(rt, "roots", &Roots)?;
+    suite.file(rt, "views", &Views)?;
+    suite.file(rt, "undo", &Undoing)?;
+    suite.file(rt, "commits", &Commits)?;
+    suite.file(rt, "play", &Playing)?;
+    suite.file(rt, "fills", &Fills)?;
+    suite.file(rt, "replays", &Replays)?;
+    suite.file(rt, "cover", &Covers)?;
+    suite.file(rt, "rounds", &Rounds)?;
+    Ok(suite)
+}
+
+fn main(rt: HostRuntime) -> ExitCode {
+    Suite::end(&rt, compared(&rt))
+}

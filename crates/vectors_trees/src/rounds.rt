@@ -1,0 +1,121 @@
+//! `SEED ROUNDS = alike, of each ending more than 5`: undoing generated operations on trees with holes and on their lists.
+
+use crate::shown::seen;
+use crate::trees::put_tree;
+use crate::undoing::{undone_list, undone_tree};
+use crate::words::{add_operation, put_block};
+use anyhow::{Context, Result};
+use at_car::Blocks;
+use at_cid::{Cid, Octets, cid_of};
+use mst_list::{Item, ItemList, Op, OpList};
+use std::alloc::Global;
+use vector_lines::{Subject, had};
+
+pub struct Rounds;
+
+/// The fewest rounds of each ending.
+const FEWEST: u32 = 6;
+
+// Numbers that follow one another without a plan (a linear congruence).
+fn next(seed: &mut u32) -> u32 {
+    *seed = seed.wrapping_mul(1664525).wrapping_add(1013904223);
+    *seed / 65536
+}
+
+fn numbered_key(alloc: Global, number: u32) -> Result<Octets> {
+    let text = format!(in alloc; "app.example.row/{:05}", number % 100000)?;
+    had(Octets::from_slice(alloc, text.as_bytes()))
+}
+
+// What an operation did at a key: what was, what is now, and whether the map holds it.
+fn operation(seed: &mut u32) -> (Option<Cid>, Option<Cid>, bool) {
+    let was = cid_of(b"was");
+    let now = cid_of(b"now");
+    match next(seed) % 40 {
+        0 | 1 => (Some(was), None, false),
+        2 | 3 => (None, Some(now), true),
+        4 | 5 => (Some(was), Some(now), true),
+        // The map doesn't show what the operation left.
+        6 => (None, Some(now), next(seed) % 3 != 0),
+        7 => (Some(was), None, next(seed) % 3 == 0),
+        _ => (None, None, true),
+    }
+}
+
+// A map, and operations at some of its keys and at others, most of which it agrees with.
+fn generated(alloc: Global, seed: &mut u32) -> Result<(ItemList, OpList)> {
+    let mut list = ItemList::new(alloc);
+    let mut ops = OpList::new(alloc);
+    let count = next(seed) % 40;
+    for place in 0..count {
+        let number = place.wrapping_mul(600).wrapping_add(next(seed) % 600);
+        let (was, now, is_held) = operation(seed);
+        if is_held {
+            let item = Item::Key(numbered_key(alloc, number)?, cid_of(b"now"));
+            if item.is_formed() {
+                had(list.push(item))?;
+            }
+        }
+        if was.is_some() || now.is_some() {
+            let key = numbered_key(alloc, number)?;
+            add_operation(&mut ops, Op { key, was, now })?;
+        }
+    }
+    Ok((list, ops))
+}
+
+// The root's block, and as many of the others as the share says, of which 6 is none.
+fn some_of(
+    alloc: Global,
+    seed: &mut u32,
+    share: u32,
+    blocks: &Blocks,
+    root: Cid,
+) -> Result<Blocks> {
+    let mut some = Blocks::new(alloc);
+    for (link, block) in blocks.iter() {
+        let chance = next(seed) % 6;
+        if *link == root || chance >= share {
+            put_block(&mut some, block.as_slice())?;
+        }
+    }
+    Ok(some)
+}
+
+// How undoing ends on a generated tree and on its list.
+fn round(alloc: Global, seed: &mut u32) -> Result<(String, String)> {
+    let (map, ops) = generated(alloc, seed)?;
+    let mut blocks = Blocks::new(alloc);
+    let root = put_tree(alloc, &mut blocks, &map)?;
+    let share = next(seed) % 4;
+    let some = some_of(alloc, seed, share, &blocks, root)?;
+    let tree = seen(alloc, &some, root)??;
+    let list = had(tree.list(alloc))?;
+    let on_list = undone_list(alloc, &list, &ops)?;
+    Ok((undone_tree(alloc, tree, &ops)?, on_list))
+}
+
+impl Subject for Rounds {
+    fn answer(&self, alloc: Global, input: &str) -> Result<String> {
+        let (seed, rounds) = input.split_once(' ').context("a seed and rounds")?;
+        let mut seed = seed.parse::<u32>()?;
+        let (mut undone, mut others, mut uncovered) = (0u32, 0u32, 0u32);
+        for number in 0..rounds.parse::<u32>()? {
+            let (on_tree, on_list) = round(alloc, &mut seed)?;
+            if on_tree.as_str() != on_list.as_str() {
+                return Ok(format!(in alloc; "in round {number} {on_tree} and {on_list}")?);
+            }
+            if on_tree.starts_with("ok") {
+                undone = undone.saturating_add(1);
+            } else if on_tree.starts_with("OtherOp") {
+                others = others.saturating_add(1);
+            } else {
+                uncovered = uncovered.saturating_add(1);
+            }
+        }
+        if undone.min(others).min(uncovered) < FEWEST {
+            return Ok(format!(in alloc; "{undone} {others} {uncovered}")?);
+        }
+        Ok("alike, of each ending more than 5".to_string(alloc)?)
+    }
+}

@@ -1,0 +1,68 @@
+//! What blocks under some links show of a map's tree.
+
+ghost use Rattle.std.specs.Prelude.{IsTrue};
+ghost use Rattle.at_cid.specs.Link.{IsNodeLink};
+
+use crate::trees::{copied, layers_of, put_tree, subtree};
+use crate::words::put_block;
+use anyhow::{Result, bail};
+use at_car::Blocks;
+use at_cid::{Cid, Kind};
+use mst_list::ItemList;
+use mst_view::{StubTree, ViewFault, view};
+use std::alloc::Global;
+use vector_lines::had;
+
+fn is_node_link(link: &Cid) -> bool
+    ensures { IsTrue result → IsNodeLink link.now }
+{
+    link.as_bytes();
+    link.kind() == Kind::Node
+}
+
+/// What is seen of blocks at a root, whose link is of kind Node.
+pub fn seen(alloc: Global, blocks: &Blocks, root: Cid) -> Result<Result<StubTree, ViewFault>> {
+    if !is_node_link(&root) {
+        bail!("a root of kind Node");
+    }
+    Ok(view(alloc, blocks, &root))
+}
+
+/// The tree of a list, read from its own blocks.
+pub fn tree_of(alloc: Global, list: &ItemList) -> Result<StubTree> {
+    let mut blocks = Blocks::new(alloc);
+    let root = put_tree(alloc, &mut blocks, list)?;
+    Ok(seen(alloc, &blocks, root)??)
+}
+
+/// Those blocks whose links are among some.
+pub fn blocks_under(alloc: Global, blocks: &Blocks, links: &[Cid]) -> Result<Blocks> {
+    let mut some = Blocks::new(alloc);
+    for link in links {
+        if let Some(block) = blocks.get(link) {
+            put_block(&mut some, block)?;
+        }
+    }
+    Ok(some)
+}
+
+/// The list that the blocks under some links show of a map's tree, by the definition.
+pub fn list_shown(alloc: Global, map: &ItemList, links: &[Cid]) -> Result<ItemList> {
+    let mut blocks = Blocks::new(alloc);
+    let items = map.as_slice();
+    let tree = subtree(
+        alloc,
+        &mut blocks,
+        layers_of(items),
+        copied(alloc, items)?,
+        links,
+    )?;
+    let mut list = ItemList::new(alloc);
+    for item in tree.seen {
+        if !item.is_formed() {
+            bail!("a formed item");
+        }
+        had(list.push(item))?;
+    }
+    Ok(list)
+}
