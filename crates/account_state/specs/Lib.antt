@@ -1,0 +1,4 @@
+pub mod State
+pub mod Folds
+pub mod Entries
+pub mod Laws

@@ -1,0 +1,233 @@
+//! One account.
+
+ghost use Rattle.std.specs.Prelude.{◌≡◌, Some, None, true, option_map, if◌then◌else◌};
+ghost use Rattle.std.specs.Option.{unwrap_or};
+ghost use Rattle.account_state.specs.declared.repo.Repo.{Repo};
+ghost use Rattle.account_state.specs.Folds.{fresh, effected, last_rev, lost, refetched, taken_by, repo_carried, carried_as, moved};
+ghost use Rattle.account_state.specs.State.{state_of, known};
+
+use crate::links::Links;
+use crate::repo::Repo;
+use at_cid::Words;
+use at_event::{Head, Refusal};
+use at_syntax::Tid;
+use relay_row::{Carried, CarriedAccount, CarriedRepo, Effect, Fetched, Row, Taken, loses};
+use std::alloc::Global;
+
+/// An account, as the rows of a journal leave it.
+///
+/// A relay keeps one for each DID that it has heard of, so its parts lie close together.
+#[derive(Debug, Drop)]
+pub struct Account {
+    status: Words,
+    rev: Tid,
+    links: Links,
+    has_status: bool,
+    active: bool,
+    down: bool,
+    named: bool,
+}
+
+impl Account {
+    /// Room for an account that no row names.
+    pub(crate) fn unnamed(alloc: Global) -> Account
+        ensures { known result ≡ None }
+    {
+        Account {
+            status: Words::new(alloc),
+            rev: Tid::from_value(0),
+            links: Links::Missing,
+            has_status: false,
+            active: true,
+            down: false,
+            named: false,
+        }
+    }
+
+    /// Whether a row names it.
+    pub(crate) fn is_named(&self) -> bool
+        ensures { result ≡ self.now.named }
+    {
+        self.named
+    }
+
+    /// Whether its host serves the repository.
+    pub fn is_active(&self) -> bool
+        ensures { result ≡ (state_of self.now).active }
+    {
+        self.active
+    }
+
+    /// What its host last said of it, where it said something.
+    pub fn status(&self) -> Option<&str>
+        ensures { option_map (λ text. text.now) result ≡ (state_of self.now).status }
+    {
+        if self.has_status {
+            Some(self.status.as_str())
+        } else {
+            None
+        }
+    }
+
+    /// Whether the operator took it down.
+    pub fn is_down(&self) -> bool
+        ensures { result ≡ (state_of self.now).down }
+    {
+        self.down
+    }
+
+    /// Its repository.
+    pub fn repo(&self) -> Repo
+        ensures { result ≡ (state_of self.now).repo }
+    {
+        match self.links {
+            Links::Missing => Repo::Missing,
+            Links::Good(data_root, commit) => Repo::Good(Head {
+                rev: self.rev,
+                data_root,
+                commit,
+            }),
+            Links::Lost => Repo::Lost(Some(self.rev)),
+            Links::LostAtStart => Repo::Lost(None),
+        }
+    }
+
+    // A row names it. Until then it was as an account that none names.
+    fn name(&mut self)
+        ensures state { state_of self.new ≡ (if self.old.named then state_of self.old else fresh) }
+        ensures named { self.new.named ≡ true }
+    {
+        if !self.named {
+            self.active = true;
+            self.has_status = false;
+            self.down = false;
+            self.links = Links::Missing;
+            self.named = true;
+        }
+    }
+
+    fn set_head(&mut self, head: Head)
+        ensures state { state_of self.new ≡ record (state_of self.old) { repo = Repo.Good head } }
+        ensures named { self.new.named ≡ self.old.named }
+    {
+        self.rev = head.rev;
+        self.links = Links::Good(head.data_root, head.commit);
+    }
+
+    fn set_status(&mut self, active: bool, status: Option<Words>)
+        ensures state { state_of self.new ≡ record (state_of self.old) { active = active; status = status } }
+        ensures named { self.new.named ≡ self.old.named }
+    {
+        self.active = active;
+        match status {
+            Some(text) => {
+                self.status = text;
+                self.has_status = true;
+            }
+            None => self.has_status = false,
+        }
+    }
+
+    // Commits were lost behind the last revision.
+    fn lose(&mut self)
+        ensures state { state_of self.new ≡ record (state_of self.old) { repo = Repo.Lost (last_rev (state_of self.old).repo) } }
+        ensures named { self.new.named ≡ self.old.named }
+    {
+        self.links = match self.links {
+            Links::Missing | Links::LostAtStart => Links::LostAtStart,
+            Links::Good(_, _) | Links::Lost => Links::Lost,
+        };
+    }
+
+    fn take_effect(&mut self, effect: Effect)
+        ensures state { state_of self.new ≡ effected (state_of self.old) effect }
+        ensures named { self.new.named ≡ self.old.named }
+    {
+        match effect {
+            Effect::Nothing => {}
+            Effect::Repo(head) => self.set_head(head),
+            Effect::Account(active, status) => self.set_status(active, status),
+        }
+    }
+
+    fn take_refusal(&mut self, refusal: &Option<Refusal>)
+        ensures state { state_of self.new ≡ lost (state_of self.old) refusal.now }
+        ensures named { self.new.named ≡ self.old.named }
+    {
+        if let Some(refusal) = refusal {
+            if loses(refusal) {
+                self.lose();
+            }
+        }
+    }
+
+    fn take_fetched(&mut self, fetched: &Fetched)
+        ensures state { state_of self.new ≡ refetched (state_of self.old) fetched.now }
+        ensures named { self.new.named ≡ self.old.named }
+    {
+        match fetched {
+            Fetched::Whole(whole) => self.set_head(whole.head),
+            Fetched::NotAsked | Fetched::Absent | Fetched::Refused(_) => {}
+        }
+    }
+
+    fn take_message(&mut self, taken: Taken)
+        ensures state { state_of self.new ≡ taken_by (state_of self.old) taken }
+        ensures named { self.new.named ≡ self.old.named }
+    {
+        let Taken {
+            effect,
+            refusal,
+            fetched,
+            ..
+        } = taken;
+        self.take_effect(effect);
+        self.take_refusal(&refusal);
+        self.take_fetched(&fetched);
+    }
+
+    fn carry_repo(&mut self, repo: CarriedRepo)
+        ensures state { state_of self.new ≡ record (state_of self.old) { repo = repo_carried repo } }
+        ensures named { self.new.named ≡ self.old.named }
+    {
+        match repo {
+            CarriedRepo::Missing => self.links = Links::Missing,
+            CarriedRepo::Good(head) => self.set_head(head),
+            CarriedRepo::Lost(None) => self.links = Links::LostAtStart,
+            CarriedRepo::Lost(Some(rev)) => {
+                self.rev = rev;
+                self.links = Links::Lost;
+            }
+        }
+    }
+
+    fn carry(&mut self, carried: CarriedAccount)
+        ensures state { state_of self.new ≡ carried_as carried }
+        ensures named { self.new.named ≡ self.old.named }
+    {
+        let CarriedAccount {
+            active,
+            status,
+            down,
+            repo,
+            ..
+        } = carried;
+        self.set_status(active, status);
+        self.down = down;
+        self.carry_repo(repo);
+    }
+
+    /// A row names it and moves it. Takes no memory.
+    pub(crate) fn follow(&mut self, row: Row)
+        ensures { known self.new ≡ Some (moved (unwrap_or (known self.old) fresh) row) }
+    {
+        self.name();
+        match row {
+            Row::Taken(taken) => self.take_message(taken),
+            Row::Synced(_, whole, _) => self.set_head(whole.head),
+            Row::Operated(operated) => self.down = operated.down,
+            Row::Carried(Carried::Account(carried)) => self.carry(carried),
+            Row::Carried(Carried::Last(_)) | Row::Carried(Carried::Host(_, _)) => {}
+        }
+    }
+}

@@ -1,0 +1,8 @@
+//! Laws of accounts, each the contract of a function that does nothing.
+
+ghost use Rattle.account_state.specs.Laws.{AccountsJoin};
+
+/// The account behind a journal in two halves.
+pub fn accounts_join()
+    ensures { AccountsJoin }
+{}
