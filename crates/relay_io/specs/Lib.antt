@@ -4,6 +4,7 @@ pub mod Calls
 pub mod Memory
 pub mod Messages
 pub mod Guests
+pub mod Numbering
 pub mod MemoryMessages
 pub mod MemoryGuests
 pub mod Repositories

@@ -30,7 +30,7 @@ pub use feed::{Feed, FeedFault, LONGEST_MESSAGE};
 pub use file_repos::FileRepos;
 pub use list_clock::ListClock;
 pub use memory_door::MemoryDoor;
-pub use memory_feed::MemoryFeed;
+pub use memory_feed::{MemoryFeed, Numbered};
 pub use memory_repos::{MemoryRepos, Repository};
 pub use memory_sink::MemorySink;
 pub use memory_source::MemorySource;
