@@ -1,0 +1,5 @@
+pub mod Stages
+pub mod Holding
+pub mod Agreeing
+pub mod Asking
+pub mod Showing

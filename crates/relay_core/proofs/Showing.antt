@@ -1,0 +1,121 @@
+-- Why the answers that a row shows make that row.
+use Rattle.std.proofs.Common.{◌≡◌, ℕ, ◌+◌, Bool, true, false, not, List, [], Option, Some, None, refl, ap, ◌∙◌, cond, subst}
+use Rattle.std.specs.Prelude.{nat_lt, Result, Ok, Err}
+use Rattle.at_event.specs.Seen.{Seen}
+use Rattle.at_event.specs.Refusals.{code_of}
+use Rattle.at_event.specs.Writing.{out_length}
+use Rattle.at_event.specs.declared.event.Body.{Body}
+use Rattle.at_event.specs.declared.frame.Frame.{Frame}
+use Rattle.at_event.specs.declared.head.Head.{Head}
+use Rattle.at_event.specs.declared.refusal.Refusal.{Refusal}
+use Rattle.relay_row.specs.Rules.{loses}
+use Rattle.relay_row.specs.declared.fetched.Fetched.{Fetched}
+use Rattle.account_state.specs.State.{State}
+use Rattle.account_state.specs.Folds.{last_rev}
+use Rattle.relay_core.specs.Decide.{Checks, Outside, Found, absent, unfit, found, made, sync_message, answers, as_result, first, or_later, decision_for, refusal_of, decided_event}
+use Rattle.relay_core.specs.Laws.{IsAside, AreAside, IsReadBack, RowsShow}
+use Rattle.relay_core.specs.Rows.{effect_of, own_effect, fetched_of, event_taken}
+use Rattle.relay_core.specs.Shown.{shows_home, shows_verdict, block_in, found_in, shown}
+use Rattle.relay_core.specs.Table.{Line, when, is_ahead, refusal_in, event_lines, body_lines, is_held}
+use Rattle.relay_core.specs.declared.limits.TheConstants.{LONGEST_MESSAGE}
+
+-- the table of a commit: the first of these
+abbrev pub table : Option Refusal → Bool → Option Refusal → Option Refusal → Option Refusal → Option Refusal → Bool → Option Refusal → Option Refusal
+table l b i d o u v k = or_later l (or_later (when (not b) Refusal.NotHome) (or_later i (or_later d (or_later o (or_later u (or_later (when (not v) Refusal.BadSignature) (or_later k None)))))))
+
+table_again : (l : Option Refusal) (b : Bool) (i d o u : Option Refusal) (v : Bool) (k : Option Refusal) → IsAside l → IsAside i → IsAside d → IsAside o → IsAside u → IsAside k
+    → table l (shows_home (table l b i d o u v k)) i d o u (shows_verdict (table l b i d o u v k)) k ≡ table l b i d o u v k
+table_again (Some r) b i d o u v k hl hi hd ho hu hk = refl
+table_again None false i d o u v k hl hi hd ho hu hk = refl
+table_again None true (Some r) d o u v k hl hi hd ho hu hk = rw hi.0 refl
+table_again None true None (Some r) o u v k hl hi hd ho hu hk = rw hd.0 refl
+table_again None true None None (Some r) u v k hl hi hd ho hu hk = rw ho.0 refl
+table_again None true None None None (Some r) v k hl hi hd ho hu hk = rw hu.0 refl
+table_again None true None None None None false k hl hi hd ho hu hk = refl
+table_again None true None None None None true (Some r) hl hi hd ho hu hk = rw (hk.0, hk.1) refl
+table_again None true None None None None true None hl hi hd ho hu hk = refl
+
+short : Option Refusal → Bool → Option Refusal → Option Refusal
+short l b d = or_later l (or_later (when (not b) Refusal.NotHome) (or_later d None))
+
+short_again : (l : Option Refusal) (b : Bool) (d : Option Refusal) → IsAside l → IsAside d → short l (shows_home (short l b d)) d ≡ short l b d
+unfolding short
+short_again (Some r) b d hl hd = refl
+short_again None false d hl hd = refl
+short_again None true (Some r) hl hd = rw hd.0 refl
+short_again None true None hl hd = refl
+
+when_aside : (b : Bool) (r : Refusal) → IsAside (Some r) → IsAside (when b r)
+when_aside true r h = h
+when_aside false r h = (refl, refl)
+
+opens_aside : (x : Result Head Refusal) → ((r : Refusal) → x ≡ Err r → IsAside (Some r)) → IsAside (refusal_in x)
+opens_aside (Ok h) f = (refl, refl)
+opens_aside (Err r) f = f r refl
+
+links_aside : (x : Option Refusal) → ((r : Refusal) → x ≡ Some r → IsAside (Some r)) → IsAside (refusal_in (as_result x))
+links_aside None f = (refl, refl)
+links_aside (Some r) f = f r refl
+
+-- the answers with another home and verdict
+told_so : Outside → Option Refusal → Outside
+told_so o q = record { moment = o.moment; home = shows_home q; verdict = shows_verdict q; fetched = o.fetched }
+
+body_refusal : Checks → State → Seen → Body → Outside → Option Refusal
+body_refusal checks a e body o = or_later (when (nat_lt LONGEST_MESSAGE (out_length e)) Refusal.TooLong) (first (body_lines a body (answers checks 0 a e o)))
+
+body_again : (checks : Checks) → AreAside checks → (a : State) (e : Seen) (body : Body) (o : Outside) → body_refusal checks a e body (told_so o (body_refusal checks a e body o)) ≡ body_refusal checks a e body o
+unfolding short told_so body_refusal
+body_again checks aside a e (Body.Commit c) o =
+    table_again (when (nat_lt LONGEST_MESSAGE (out_length e)) Refusal.TooLong) o.home (when (not a.active) Refusal.Inactive) (when a.down Refusal.TakenDown) (refusal_in (checks.opens e (last_rev a.repo))) (when (is_ahead c.rev (Some o.moment)) Refusal.FutureRev) o.verdict (refusal_in (as_result (checks.links e a.repo)))
+    (when_aside _ Refusal.TooLong (refl, refl)) (when_aside _ Refusal.Inactive (refl, refl)) (when_aside _ Refusal.TakenDown (refl, refl))
+    (opens_aside (checks.opens e (last_rev a.repo)) (aside.opens e (last_rev a.repo))) (when_aside _ Refusal.FutureRev (refl, refl)) (links_aside (checks.links e a.repo) (aside.links e a.repo))
+body_again checks aside a e (Body.Sync s) o =
+    table_again (when (nat_lt LONGEST_MESSAGE (out_length e)) Refusal.TooLong) o.home (when (not a.active) Refusal.Inactive) (when a.down Refusal.TakenDown) (refusal_in (checks.opens e (last_rev a.repo))) (when (is_ahead s.rev (Some o.moment)) Refusal.FutureRev) o.verdict None
+    (when_aside _ Refusal.TooLong (refl, refl)) (when_aside _ Refusal.Inactive (refl, refl)) (when_aside _ Refusal.TakenDown (refl, refl))
+    (opens_aside (checks.opens e (last_rev a.repo)) (aside.opens e (last_rev a.repo))) (when_aside _ Refusal.FutureRev (refl, refl)) (refl, refl)
+body_again checks aside a e Body.Identity o = short_again (when (nat_lt LONGEST_MESSAGE (out_length e)) Refusal.TooLong) o.home (when a.down Refusal.TakenDown) (when_aside _ Refusal.TooLong (refl, refl)) (when_aside _ Refusal.TakenDown (refl, refl))
+body_again checks aside a e (Body.Account b) o = short_again (when (nat_lt LONGEST_MESSAGE (out_length e)) Refusal.TooLong) o.home None (when_aside _ Refusal.TooLong (refl, refl)) (refl, refl)
+
+-- the refusal doesn't hang on what was fetched
+lines_free : (checks : Checks) (a : State) (e : Seen) (body : Body) (m : ℕ) (y v : Bool) (f g : Found) → body_lines a body (answers checks 0 a e (record { moment = m; home = y; verdict = v; fetched = f })) ≡ body_lines a body (answers checks 0 a e (record { moment = m; home = y; verdict = v; fetched = g }))
+lines_free checks a e (Body.Commit c) m y v f g = refl
+lines_free checks a e (Body.Sync s) m y v f g = refl
+lines_free checks a e Body.Identity m y v f g = refl
+lines_free checks a e (Body.Account b) m y v f g = refl
+
+again : (checks : Checks) → AreAside checks → (a : State) (e : Seen) (o : Outside) (q : Option Refusal) (f : Found) → refusal_of checks a e o ≡ q
+    → refusal_of checks a e (record { moment = o.moment; home = shows_home q; verdict = shows_verdict q; fetched = f }) ≡ q
+unfolding told_so body_refusal
+again checks aside a e o q f h =
+    let P : Option Refusal → Type 0 = λ p. body_refusal checks a e e.body (told_so o p) ≡ p in
+    ap (λ (lines : List Line). or_later (when (nat_lt LONGEST_MESSAGE (out_length e)) Refusal.TooLong) (first lines)) (lines_free checks a e e.body o.moment (shows_home q) (shows_verdict q) f o.fetched)
+    ∙ subst P h (body_again checks aside a e e.body o)
+
+effect_free : (checks : Checks) (n : ℕ) (a : State) (e : Seen) (body : Body) (o p : Outside) → effect_of body (answers checks n a e o) ≡ effect_of body (answers checks n a e p)
+effect_free checks n a e (Body.Commit c) o p = refl
+effect_free checks n a e (Body.Sync s) o p = refl
+effect_free checks n a e Body.Identity o p = refl
+effect_free checks n a e (Body.Account b) o p = refl
+
+made_again : (n : ℕ) (e : Seen) (f : Found) → IsReadBack n e f → made n e (found_in (made n e f)) ≡ made n e f
+made_again n e absent back = refl
+made_again n e (unfit i) back = refl
+made_again n e (found head records block) back =
+    ap (λ (b : List ℕ). Fetched.Whole (record { seq = n + 1; head = head; records = records; message = sync_message e.did e.time head b (n + 1) })) (back head records block refl)
+
+fetched_again : (n : ℕ) (e : Seen) (r : Refusal) (f : Found) → IsReadBack n e f → fetched_of (Some r) (Some (made n e (found_in (fetched_of (Some r) (Some (made n e f)))))) ≡ fetched_of (Some r) (Some (made n e f))
+fetched_again n e r f back =
+    elim (loses (code_of r)) as (λ b. cond b (made n e (found_in (cond b (made n e f) Fetched.NotAsked))) Fetched.NotAsked ≡ cond b (made n e f) Fetched.NotAsked) [ true ↦ made_again n e f back | false ↦ refl ]
+
+by_refusal : (checks : Checks) → AreAside checks → (n : ℕ) (a : State) (host : List ℕ) (e : Seen) (o : Outside) → IsReadBack n e o.fetched → (q : Option Refusal) → refusal_of checks a e o ≡ q
+    → decided_event checks n a host e (shown (event_taken n host e (decision_for a e.body o.fetched q) (answers checks n a e o))) ≡ event_taken n host e (decision_for a e.body o.fetched q) (answers checks n a e o)
+by_refusal checks aside n a host e o back None h =
+    rw (again checks aside a e o None absent h)
+    (let effect = effect_free checks n a e e.body (record { moment = o.moment; home = true; verdict = true; fetched = absent }) o in cc)
+by_refusal checks aside n a host e o back (Some r) h =
+    rw (again checks aside a e o (Some r) (found_in (fetched_of (Some r) (Some (made n e o.fetched)))) h)
+    (let fetched = fetched_again n e r o.fetched back in cc)
+
+pub rows_show : RowsShow
+rows_show checks aside n a host e o back = by_refusal checks aside n a host e o back (refusal_of checks a e o) refl

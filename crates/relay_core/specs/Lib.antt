@@ -1,0 +1,10 @@
+pub mod Stages
+pub mod Entries
+pub mod Table
+pub mod Rows
+pub mod Decide
+pub mod Shown
+pub mod Runs
+pub mod Operating
+pub mod Laws
+pub mod Report

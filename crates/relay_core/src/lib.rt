@@ -1,0 +1,23 @@
+//! What a relay decides of a message, and the state by which it decides: a pure decision, which
+//! asks for what it needs to know one question at a time.
+#![tactic(auto)]
+
+mod answers;
+mod deciding;
+mod decision;
+mod following;
+mod journal_state;
+mod laws;
+mod limits;
+mod made_row;
+mod operating;
+mod stage;
+mod standing;
+mod state;
+
+pub use answers::{Answers, Question};
+pub use decision::{Decision, Next, Pass};
+pub use journal_state::Core;
+pub use laws::{asks_once, next_decides, rows_show};
+pub use limits::{LONGEST_MESSAGE, MOST_AHEAD};
+pub use operating::fetch_refusal;
