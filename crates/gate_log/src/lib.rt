@@ -26,6 +26,3 @@ pub use laws::{
 pub use log::Log;
 pub use pairs::open_pair;
 pub use picking::{Side, pick};
-
-#[cfg(test)]
-mod tests;
