@@ -1,5 +1,5 @@
 -- A body that is put together behind the place of what stands ahead of it.
-use Rattle.std.proofs.Common.{◌≡◌, ℕ, ◌+◌, ◌≤◌, List, ◌++◌, length, take, drop, refl, sym, ◌∙◌, ap, arith, append_assoc, length-append}
+use Rattle.std.proofs.Common.{◌≡◌, ℕ, ◌+◌, ◌≤◌, List, ◌++◌, length, take, drop, sym, ◌∙◌, ap, arith, append_assoc, length-append}
 use Rattle.std.proofs.lemmas.List.{take_at, drop_at, drop-drop, length-take-le, drop-append-le}
 use Rattle.relay_disk.specs.Disk.{written}
 use Rattle.gate_log.specs.Drafts.{body_in}

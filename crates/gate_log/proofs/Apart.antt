@@ -1,5 +1,5 @@
 -- A write, and a closed gate that is written behind it apart.
-use Rattle.std.proofs.Common.{◌≡◌, ℕ, ◌+◌, ◌≤◌, List, [], ◌∷◌, ◌++◌, length, take, drop, refl, sym, ◌∙◌, ap, subst, arith, append_assoc, length-append}
+use Rattle.std.proofs.Common.{◌≡◌, ℕ, ◌+◌, ◌≤◌, List, [], ◌∷◌, ◌++◌, length, take, drop, sym, ◌∙◌, ap, arith, append_assoc, length-append}
 use Rattle.std.proofs.lemmas.List.{take_at, take-take, drop_at, drop-drop, length-take-le}
 use Rattle.relay_disk.specs.Disk.{View, Goes, IsDisk, Torn, written}
 use Rattle.relay_disk.specs.Moments.{LeavesOnly, PartOf}

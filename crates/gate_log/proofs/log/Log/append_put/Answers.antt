@@ -1,4 +1,4 @@
-use Rattle.std.proofs.Common.{rules, ◌≡◌, Err, ℕ, [], ◌∷◌, ◌++◌, ◌+◌, ◌-◌, length, drop, ◌∙◌, sym, subst, arith, length-append, length-drop}
+use Rattle.std.proofs.Common.{rules, ◌≡◌, Err, ℕ, [], ◌∷◌, ◌++◌, ◌+◌, ◌-◌, length, drop, sym, subst, arith, length-append, length-drop}
 use Rattle.gate_log.specs.declared.fault.LogFault.TheVariants.{Full}
 use Rattle.gate_log.specs.Log.{LogState, Holds}
 use Rattle.gate_log.specs.Crash.{Stands}
