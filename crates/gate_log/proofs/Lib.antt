@@ -1,8 +1,11 @@
+pub mod Ahead
+pub mod Apart
 pub mod Append
 pub mod BodyAt
 pub mod Fronts
 pub mod BothDisks
 pub mod OneSide
+pub mod Places
 pub mod Reading
 pub mod Reopening
 pub mod Searching

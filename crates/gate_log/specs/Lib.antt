@@ -1,4 +1,5 @@
 pub mod Crash
+pub mod Drafts
 pub mod Image
 pub mod Log
 pub mod Opening

@@ -2,6 +2,7 @@
 #![tactic(auto)]
 
 mod bodies;
+mod drafts;
 mod ending;
 mod fault;
 mod format;
@@ -14,11 +15,13 @@ mod picking;
 mod records;
 mod steps;
 
+pub use drafts::{AHEAD, HEAD, begin};
 pub use fault::LogFault;
 pub use format::Format;
 pub use laws::{
-    faults_are_no_images, faults_are_no_pairs, faults_have_one_place, images_have_one_list,
-    pairs_have_one_list, pairs_have_one_place, picked_logs_stay_picked,
+    equal_fronts_give_the_same_side, faults_are_no_images, faults_are_no_pairs,
+    faults_have_one_place, images_have_one_list, pairs_have_one_list, pairs_have_one_place,
+    picked_logs_stay_picked,
 };
 pub use log::Log;
 pub use pairs::open_pair;

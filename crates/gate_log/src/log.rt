@@ -1,13 +1,15 @@
-// The log itself: its end on the disk, and the room in which records are put together.
+//! The log itself: its end on the disk, and the room in which records are put together.
 ghost use Rattle.std.specs.Prelude.{◌≡◌, ◌≤◌, ◌<◌, ◌+◌, ◌^◌, ◌↔◌, ◌++◌, ◌∷◌, [], List, ℕ, false, max, length, vec_capacity, IsTrue, IfOk, OnOk, OnErr};
 ghost use Rattle.at_cid.specs.Counts.{Rose};
-ghost use Rattle.relay_disk.specs.Disk.{Goes, Same};
+ghost use Rattle.relay_disk.specs.Disk.{Goes, Same, IsSynced};
 ghost use Rattle.relay_disk.specs.Moments.{LeavesOnly};
-ghost use Rattle.gate_log.specs.Image.{made, front, generation, IsImage, IsUnmade, IsBadAt, behind_gate};
+ghost use Rattle.gate_log.specs.Image.{generation, IsImage, IsUnmade, IsBadAt, behind_gate};
 ghost use Rattle.gate_log.specs.Crash.{IsImageOfOne, IsBeforeOrAfter, IsNew, LeavesImages, LeavesNew};
-ghost use Rattle.gate_log.specs.Log.{Holds, IsOn};
+ghost use Rattle.gate_log.specs.Log.{Holds, IsOn, place_behind};
+ghost use Rattle.gate_log.specs.Drafts.{body_in};
 
 use crate::bodies::{read_body, read_length};
+use crate::drafts::{AHEAD, HEAD, add_from_room, lay_ahead};
 use crate::ending::find_or_make;
 use crate::steps::add_record;
 use crate::{Format, LogFault};
@@ -81,6 +83,8 @@ impl Log {
 
         ensures made { IfOk result (λ log. IsTrue D.tells → IsUnmade (D.view disk.old).content → log.format ≡ Format.One) }
 
+        ensures synced { OnOk result (IsTrue D.tells → IsSynced (D.view disk.new)) }
+        ensures later { (D.view disk.old).moment ≤ (D.view disk.new).moment }
         ensures bad_log { (p : ℕ) → result ≡ Err (LogFault.BadLog p) → IsTrue D.tells → IsBadAt p (D.view disk.old).content }
         ensures disk { result ≡ Err LogFault.Disk → Rose (D.view disk.old).faults (D.view disk.new).faults }
         ensures counts { (D.view disk.old).faults ≤ (D.view disk.new).faults }
@@ -128,16 +132,40 @@ impl Log {
 
     /// The place of the first record's gate.
     pub fn first(&self) -> u64
-        ensures { result ≡ length (front self.now.format) }
+        ensures { result ≡ place_behind self.now [] }
     {
         self.format.first()
     }
 
     /// The place of the closed gate behind the records, where the next one goes.
     pub fn end(&self) -> u64
-        ensures { result ≡ self.now.end }
+        ensures end { result ≡ self.now.end }
+        ensures below { result < 2 ^ 63 }
     {
         self.end
+    }
+
+    /// No record ends past this place.
+    pub fn most(&self) -> u64
+        ensures most { result ≡ self.now.most }
+        ensures below { result ≤ 2 ^ 62 }
+    {
+        self.most
+    }
+
+    /// Whether a body of so many bytes can be added. If it can't, this is what `append` answers.
+    pub fn fits(&self, len: u32) -> Result<(), LogFault>
+        ensures full { (e : ℕ) → (result ≡ Err (LogFault.Full e)) ↔ ((e ≡ self.now.end + 6 + len) × (self.now.most < e)) }
+        ensures ok { OnOk result (self.now.end + 6 + len ≤ self.now.most) }
+        ensures no_disk { result ≡ Err LogFault.Disk → ⊥ }
+        ensures no_bad_log { (p : ℕ) → result ≡ Err (LogFault.BadLog p) → ⊥ }
+        ensures no_memory { result ≡ Err LogFault.Memory → ⊥ }
+    {
+        let end = self.end + RECORD_REST as u64 + len as u64 + 1;
+        if end > self.most {
+            return Err(LogFault::Full(end));
+        }
+        Ok(())
     }
 
     /// The generation, which is 0 in the first format.
@@ -181,11 +209,9 @@ impl Log {
         ensures no_bad_log { (p : ℕ) → result ≡ Err (LogFault.BadLog p) → ⊥ }
         ensures no_memory { result ≡ Err LogFault.Memory → ⊥ }
     {
+        self.fits(body.len() as u32)?;
         let gate = self.end;
         let end = gate + (body.len() + RECORD_REST) as u64;
-        if end + 1 > self.most {
-            return Err(LogFault::Full(end + 1));
-        }
         put_record(&mut self.room, body);
         match add_record(disk, self.format, gate, &self.room) {
             Ok(()) => {
@@ -193,6 +219,63 @@ impl Log {
                 Ok(gate)
             }
             Err(_) => {
+                self.is_open = false;
+                Err(LogFault::Disk)
+            }
+        }
+    }
+
+    /// Adds a body that was put together in a room, behind `AHEAD` bytes, and has this head in front. It is as if
+    /// `append` were given that body, but that it is written from where it stands. The room is empty afterwards,
+    /// unless the log is full.
+    pub fn append_put<D: Disk>(
+        &mut self,
+        disk: &mut D,
+        head: &[u8],
+        room: &mut Octets,
+    ) -> Result<u64, LogFault>
+        requires open { IsTrue self.old.is_open }
+        requires on { IsTrue D.tells → IsOn (D.view disk.old) self.old }
+        requires begun { AHEAD ≤ length room.old }
+        requires head { length head.now ≤ HEAD }
+        requires short { length (body_in head.now room.old) < 2 ^ 32 }
+
+        ensures place { IfOk result (λ place. place ≡ self.old.end) }
+        ensures log { OnOk result (self.new ≡ record self.old { end = self.old.end + 5 + length (body_in head.now room.old) }) }
+        ensures added { OnOk result (IsTrue D.tells → (bodies : List (List ℕ)) → Holds bodies self.old (D.view disk.old)
+            → Holds (bodies ++ body_in head.now room.old ∷ []) self.new (D.view disk.new)) }
+
+        ensures on { OnOk result (IsTrue D.tells → IsOn (D.view disk.new) self.new) }
+
+        // A crash at any moment of the call leaves the bodies, with the new one or without.
+        ensures moments { IsTrue D.tells → (bodies : List (List ℕ)) → Holds bodies self.old (D.view disk.old)
+            → LeavesOnly (IsBeforeOrAfter self.old.format bodies (body_in head.now room.old)) (D.view disk.old) (D.view disk.new) }
+
+        ensures disk { result ≡ Err LogFault.Disk → Rose (D.view disk.old).faults (D.view disk.new).faults
+            × (self.new ≡ record self.old { is_open = false }) }
+        ensures counts { (D.view disk.old).faults ≤ (D.view disk.new).faults }
+        ensures full { (e : ℕ) → (result ≡ Err (LogFault.Full e))
+            ↔ ((e ≡ self.old.end + 6 + length (body_in head.now room.old)) × (self.old.most < e)) }
+        ensures untouched { (e : ℕ) → result ≡ Err (LogFault.Full e)
+            → (self.new ≡ self.old) × (disk.new ≡ disk.old) × (room.new ≡ room.old) }
+        ensures used { OnOk result (room.new ≡ []) }
+        ensures dropped { result ≡ Err LogFault.Disk → room.new ≡ [] }
+        ensures no_bad_log { (p : ℕ) → result ≡ Err (LogFault.BadLog p) → ⊥ }
+        ensures no_memory { result ≡ Err LogFault.Memory → ⊥ }
+    {
+        let len = head.len() + room.len() - AHEAD;
+        self.fits(len as u32)?;
+        let gate = self.end;
+        let end = gate + (len + RECORD_REST) as u64;
+        let start = lay_ahead(head, room);
+        match add_from_room(disk, self.format, gate, room, start) {
+            Ok(()) => {
+                room.clear();
+                self.end = end;
+                Ok(gate)
+            }
+            Err(_) => {
+                room.clear();
                 self.is_open = false;
                 Err(LogFault::Disk)
             }
@@ -212,12 +295,12 @@ impl Log {
 
         // At the place of a body it gives this body.
         ensures body { IfOk result (λ found. IsTrue D.tells → (before : List (List ℕ)) (body : List ℕ) (after : List (List ℕ))
-            → Holds (before ++ body ∷ after) self.now (D.view disk.old) → place ≡ length (made self.now.format before)
+            → Holds (before ++ body ∷ after) self.now (D.view disk.old) → place ≡ place_behind self.now before
             → (found.0 ≡ body) × (found.1 ≡ place + 5 + length body)) }
         ensures next { IfOk result (λ found. (place < found.1) × (found.1 ≤ self.now.end)) }
         ensures bad_log { (p : ℕ) → result ≡ Err (LogFault.BadLog p) → IsTrue D.tells
             → (before : List (List ℕ)) (body : List ℕ) (after : List (List ℕ))
-            → Holds (before ++ body ∷ after) self.now (D.view disk.old) → place ≡ length (made self.now.format before) → ⊥ }
+            → Holds (before ++ body ∷ after) self.now (D.view disk.old) → place ≡ place_behind self.now before → ⊥ }
         ensures bad_place { (p : ℕ) → result ≡ Err (LogFault.BadLog p) → p ≡ place }
 
         // Whatever it answers, the disk holds the bodies that it held.

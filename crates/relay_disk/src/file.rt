@@ -33,7 +33,9 @@ where
 {
     /// The disk on the file at this path, without faults so far. Nothing is opened yet.
     pub fn new(rt: R, path: String) -> Self
-        ensures { result.faults ≡ 0 }
+        ensures rt { result.file.rt ≡ rt }
+        ensures path { result.file.path ≡ path }
+        ensures faults { result.faults ≡ 0 }
     {
         FileDisk::on(LazyFile::new(rt, path))
     }

@@ -17,7 +17,10 @@ pub struct LazyFile<R: Files> {
 
 impl<R: Files> LazyFile<R> {
     /// The file at this path. Nothing is opened yet.
-    pub fn new(rt: R, path: String) -> Self {
+    pub fn new(rt: R, path: String) -> Self
+        ensures rt { result.rt ≡ rt }
+        ensures path { result.path ≡ path }
+    {
         LazyFile {
             rt,
             path,
