@@ -76,7 +76,7 @@ fn some_of(
     for (link, block) in blocks.iter() {
         let chance = next(seed) % 6;
         if *link == root || chance >= share {
-            put_block(&mut some, block.as_slice())?;
+            put_block(&mut some, block)?;
         }
     }
     Ok(some)
