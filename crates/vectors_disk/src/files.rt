@@ -7,7 +7,7 @@ use crate::texts::MOST;
 use crate::words::pieces;
 use anyhow::{Context, Result};
 use gate_log::Log;
-use relay_disk::{Disk, Failed, FileDisk};
+use relay_disk::{Disk, Failed, FileDisk, LazyFile};
 use std::alloc::Global;
 use std::fs;
 use vector_lines::{Subject, add_bytes};
@@ -25,7 +25,7 @@ pub struct FileLogs<'a> {
 /// The file, which is removed before and behind each row.
 const PATH: &str = "disk.bin";
 
-fn file_disk<'a>(rt: &'a HostRuntime) -> Result<FileDisk<&'a HostRuntime>> {
+fn file_disk<'a>(rt: &'a HostRuntime) -> Result<FileDisk<LazyFile<&'a HostRuntime>>> {
     Ok(FileDisk::new(rt, PATH.to_string(rt.alloc())?))
 }
 
