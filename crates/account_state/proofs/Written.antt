@@ -62,8 +62,8 @@ module _ (m n : Table) (did : List ℕ) (a : Box Account) (u : UpdatesBy string_
       let names_it : names did (did_in row) ≡ true = and_from (not (bytes_eq did [])) (bytes_eq did (did_in row)) (not_empty did full) (is_text did (did_in row) is) in
       let before : known x ≡ known_in (get_by_text m did) = ap (λ (y : Account). known y) same ∙ ap (λ (o : Option (Box Account)). known_in o) there in
       let here : known a.value ≡ entry_after did (known_in (get_by_text m did)) row =
-          moves ∙ ap (λ (o : Option State). Some (moved (unwrap_or o fresh) row)) before
-          ∙ sym (ap (λ (c : Bool). cond c (Some (moved (unwrap_or (known_in (get_by_text m did)) fresh) row)) (known_in (get_by_text m did))) names_it) in
+      moves ∙ ap (λ (o : Option State). Some (moved (unwrap_or o fresh) row)) before
+      ∙ sym (ap (λ (c : Bool). cond c (Some (moved (unwrap_or (known_in (get_by_text m did)) fresh) row)) (known_in (get_by_text m did))) names_it) in
       ap (λ (o : Option (Box Account)). known_in o) (found name)
       ∙ (elim (bytes_eq did name) as (λ c. bytes_eq did name ≡ c → known_in (cond c (Some a) (get_by_text m name)) ≡ entry_after name (known_in (get_by_text m name)) row) [
         | true ↦ λ t. subst (λ (text : List ℕ). known a.value ≡ entry_after text (known_in (get_by_text m text)) row) (same_text did name t) here

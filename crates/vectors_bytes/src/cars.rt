@@ -20,10 +20,7 @@ impl Subject for Cars {
         text.push_str(" blocks ")?;
         let mut links = Vec::new(alloc);
         for (link, block) in car.blocks.iter() {
-            ensure!(
-                car.blocks.get(link) == Some(block),
-                "the block of its link"
-            );
+            ensure!(car.blocks.get(link) == Some(block), "the block of its link");
             links.push(*link)?;
         }
         ensure!(car.blocks.len() == links.len(), "as many as are told");
