@@ -3,6 +3,7 @@ use Rattle.std.proofs.Common.{◌≡◌, ℕ, zero, suc, ◌-◌, ◌^◌, ◌<�
 use Rattle.std.specs.Str.{is_utf8}
 use Rattle.std.proofs.lemmas.Bool.{ltb-true}
 use Rattle.at_cid.specs.Link.{IsBytes}
+use Rattle.at_cbor.specs.declared.major.Major.{Major}
 use Rattle.at_cbor.specs.declared.fault.Cause.{Cause}
 use Rattle.at_cbor.specs.declared.head.Head.{Head}
 use Rattle.at_cbor.specs.Item.{Item, items_of, fields_of, is_above, last_key}
@@ -33,7 +34,7 @@ string_faults left n rest d e =
     ]
 
 text_faults : (left n : ℕ) (rest : List ℕ) (d : Flaw) → n < 2 ^ 64 → IsBytes rest → text_at left n rest ≡ Err d
-    → (((Cause.Short, left) ≡ d) × (length rest < n)) ⊎ (((Cause.BadText, left) ≡ d) × IsNoUtf8 (front_of 3 n ++ rest))
+    → (((Cause.Short, left) ≡ d) × (length rest < n)) ⊎ (((Cause.BadText, left) ≡ d) × IsNoUtf8 (front_of Major.Text n ++ rest))
 unfolding text_at
 text_faults left n rest d below fits e =
     elim (bind_err (string_at left n rest) (λ s. cond (is_utf8 s.0) (Ok s) (Err (Cause.BadText, left))) d e) [
@@ -42,7 +43,7 @@ text_faults left n rest d below fits e =
         | inl (t, g) ↦ absurd cc
         | inr (t, g) ↦
             let taken = string_takes left n rest f.0 fits f.1 in
-            inr (err_is (Cause.BadText, left) d g, (f.0.0, f.0.1, omega (arith, taken.1, below), (behind_front 3 n rest f.0 taken).parts, t))
+            inr (err_is (Cause.BadText, left) d g, (f.0.0, f.0.1, omega (arith, taken.1, below), (behind_front Major.Text n rest f.0 taken).parts, t))
       ]
     ]
 
@@ -70,15 +71,15 @@ unfolding key_of
 key_of_faults before left (Head.Text n) rest d here fits holds e =
     elim (bind_err (text_at left n rest) (λ k. cond (is_above before k.0) (Ok k) (Err (Cause.KeyOrder, left))) d e) [
       | inl f ↦ elim (text_faults left n rest d holds fits f) [
-        | inl g ↦ subst (IsKeyFault before (front_of 3 n ++ rest)) g.0 (here, inr (n, rest, holds, refl, g.1))
-        | inr g ↦ subst (IsKeyFault before (front_of 3 n ++ rest)) g.0 (here, g.1)
+        | inl g ↦ subst (IsKeyFault before (front_of Major.Text n ++ rest)) g.0 (here, inr (n, rest, holds, refl, g.1))
+        | inr g ↦ subst (IsKeyFault before (front_of Major.Text n ++ rest)) g.0 (here, g.1)
       ]
       | inr f ↦ elim (chosen (is_above before f.0.0) (Ok f.0) (Err (Cause.KeyOrder, left)) (Err d) f.2) [
         | inl (t, g) ↦ absurd cc
         | inr (t, g) ↦
             let taken = text_takes left n rest f.0 fits f.1 in
             let text : IsText f.0.0 = ((omega (arith, taken.0.1, holds), taken.0.2), taken.1) in
-            subst (IsKeyFault before (front_of 3 n ++ rest)) (err_is (Cause.KeyOrder, left) d g) (here, inr (f.0.0, f.0.1, text, (behind_front 3 n rest f.0 taken.0).parts, t))
+            subst (IsKeyFault before (front_of Major.Text n ++ rest)) (err_is (Cause.KeyOrder, left) d g) (here, inr (f.0.0, f.0.1, text, (behind_front Major.Text n rest f.0 taken.0).parts, t))
       ]
     ]
 key_of_faults before left (Head.Int z) rest d here fits holds e = no_text before left _ d here (Head.Int z, rest, holds, refl, refl) e
@@ -140,7 +141,7 @@ deeper o depth rest d some fits fault = (
         inl (o ∷ v.0, (some, fits, v.1), put v.0 fault.0 v.2, subst (λ (k : ℕ). BreaksValue k d.0 fault.0) left v.3)
     | inr v ↦
         let left : depth - 1 - length v.0 - 1 ≡ depth - length (o ∷ v.0) - 1 = omega arith in
-        inr (o ∷ v.0, v.1, v.2, (some, fits, v.3), omega (arith, v.4), v.5, v.6, subst (λ (k : ℕ). FieldsFit (fields_of v.2) None k) left v.7, put v.0 (front_of 5 v.1 ++ (fields_spelling (fields_of v.2) ++ fault.0)) v.8, v.9)
+        inr (o ∷ v.0, v.1, v.2, (some, fits, v.3), omega (arith, v.4), v.5, v.6, subst (λ (k : ℕ). FieldsFit (fields_of v.2) None k) left v.7, put v.0 (front_of Major.Map v.1 ++ (fields_spelling (fields_of v.2) ++ fault.0)) v.8, v.9)
   ],
 )
   where
@@ -230,26 +231,26 @@ InsideFaults (Some r) depth = (0 < depth) × Sound r (depth - 1) × Faults r (de
 no_fault : {d : Flaw} {x : Item × List ℕ} → (let s : Reading Item = Ok x in s) ≡ Err d → ⊥
 no_fault h = cc
 
-list_faults : (inside : Option (List ℕ → Reading Item)) (depth left n : ℕ) (rest : List ℕ) (d : Flaw) → InsideFaults inside depth → left ≡ length (front_of 4 n ++ rest) → n < 2 ^ 64 → IsBytes rest → list_of inside left n rest ≡ Err d → IsFault depth (front_of 4 n ++ rest) d
+list_faults : (inside : Option (List ℕ → Reading Item)) (depth left n : ℕ) (rest : List ℕ) (d : Flaw) → InsideFaults inside depth → left ≡ length (front_of Major.List n ++ rest) → n < 2 ^ 64 → IsBytes rest → list_of inside left n rest ≡ Err d → IsFault depth (front_of Major.List n ++ rest) d
 list_faults None depth left n rest d none here below fits e = own_as depth _ (Cause.TooDeep, left) d (err_is (Cause.TooDeep, left) d e) here (none, (n, rest, below, inl refl))
 list_faults (Some r) depth left n rest d given here below fits e =
     elim (bind_err (items_at r n rest) (λ is. Ok (Item.list (items_of is.0), is.1)) d e) [
       | inl f ↦
           let part = items_fault r (depth - 1) given.1 n rest d fits f in
           let fault = given.2 part.after d part.taken.rest_fits part.fails in
-          let parts : front_of 4 n ++ rest ≡ open_spelling (in_list n part.read) ++ part.after = ap (λ (l : List ℕ). front_of 4 n ++ l) part.taken.parts ∙ sym (append_assoc (front_of 4 n) (items_spelling (items_of part.read)) part.after) in
+          let parts : front_of Major.List n ++ rest ≡ open_spelling (in_list n part.read) ++ part.after = ap (λ (l : List ℕ). front_of Major.List n ++ l) part.taken.parts ∙ sym (append_assoc (front_of Major.List n) (items_spelling (items_of part.read)) part.after) in
           subst (λ (l : List ℕ). IsFault depth l d) (sym parts) (deeper (in_list n part.read) depth part.after d given.0 (part.fewer, below, part.fit) fault)
       | inr f ↦ absurd (no_fault f.2)
     ]
 
-map_faults : (inside : Option (List ℕ → Reading Item)) (depth left n : ℕ) (rest : List ℕ) (d : Flaw) → InsideFaults inside depth → left ≡ length (front_of 5 n ++ rest) → n < 2 ^ 64 → IsBytes rest → map_of inside left n rest ≡ Err d → IsFault depth (front_of 5 n ++ rest) d
+map_faults : (inside : Option (List ℕ → Reading Item)) (depth left n : ℕ) (rest : List ℕ) (d : Flaw) → InsideFaults inside depth → left ≡ length (front_of Major.Map n ++ rest) → n < 2 ^ 64 → IsBytes rest → map_of inside left n rest ≡ Err d → IsFault depth (front_of Major.Map n ++ rest) d
 map_faults None depth left n rest d none here below fits e = own_as depth _ (Cause.TooDeep, left) d (err_is (Cause.TooDeep, left) d e) here (none, (n, rest, below, inr refl))
 map_faults (Some r) depth left n rest d given here below fits e =
     elim (bind_err (fields_at r None n rest) (λ fs. Ok (Item.map (fields_of fs.0), fs.1)) d e) [
       | inl f ↦
           let part = fields_fault r (depth - 1) given.1 None n rest d fits f in
           let last : last_or None part.read ≡ last_key part.read = last_of_all part.read in
-          let read : front_of 5 n ++ rest ≡ front_of 5 n ++ (fields_spelling (fields_of part.read) ++ part.after) = ap (λ (l : List ℕ). front_of 5 n ++ l) part.taken.parts in
+          let read : front_of Major.Map n ++ rest ≡ front_of Major.Map n ++ (fields_spelling (fields_of part.read) ++ part.after) = ap (λ (l : List ℕ). front_of Major.Map n ++ l) part.taken.parts in
           elim part.fails [
             | inl g ↦
                 let key = key_faults (last_key part.read) part.after d part.taken.rest_fits (ap (λ (k : Option (List ℕ)). key_at k part.after) (sym last) ∙ g) in
@@ -259,11 +260,11 @@ map_faults (Some r) depth left n rest d given here below fits e =
                 let key = key_takes (last_key part.read) part.after g.0 part.taken.rest_fits (ap (λ (k : Option (List ℕ)). key_at k part.after) (sym last) ∙ g.1) in
                 let fault = given.2 g.0.1 d key.0.rest_fits g.2 in
                 let o : Open = in_map n part.read g.0.0 in
-                let parts : front_of 5 n ++ rest ≡ open_spelling (in_map n part.read g.0.0) ++ g.0.1 =
+                let parts : front_of Major.Map n ++ rest ≡ open_spelling (in_map n part.read g.0.0) ++ g.0.1 =
                 read
-                ∙ ap (λ (l : List ℕ). front_of 5 n ++ (fields_spelling (fields_of part.read) ++ l)) key.0.parts
-                ∙ ap (λ (l : List ℕ). front_of 5 n ++ l) (sym (append_assoc (fields_spelling (fields_of part.read)) (text_spelling g.0.0) g.0.1))
-                ∙ sym (append_assoc (front_of 5 n) (fields_spelling (fields_of part.read) ++ text_spelling g.0.0) g.0.1) in
+                ∙ ap (λ (l : List ℕ). front_of Major.Map n ++ (fields_spelling (fields_of part.read) ++ l)) key.0.parts
+                ∙ ap (λ (l : List ℕ). front_of Major.Map n ++ l) (sym (append_assoc (fields_spelling (fields_of part.read)) (text_spelling g.0.0) g.0.1))
+                ∙ sym (append_assoc (front_of Major.Map n) (fields_spelling (fields_of part.read) ++ text_spelling g.0.0) g.0.1) in
                 subst (λ (l : List ℕ). IsFault depth l d) (sym parts) (deeper (in_map n part.read g.0.0) depth g.0.1 d given.0 (part.fewer, below, part.fit, key.1, key.2) fault)
           ]
       | inr f ↦ absurd (no_fault f.2)

@@ -3,6 +3,7 @@ use Rattle.std.proofs.Common.{◌≡◌, ℕ, zero, suc, ◌-◌, ◌<◌, true,
 use Rattle.std.specs.Str.{is_utf8}
 use Rattle.std.proofs.lemmas.Bool.{le-ltb}
 use Rattle.std.proofs.lemmas.List.{length-append, take_at, drop_at}
+use Rattle.at_cbor.specs.declared.major.Major.{Major}
 use Rattle.at_cbor.specs.declared.head.Head.{Head}
 use Rattle.at_cbor.specs.Item.{Item, Items, no_items, item, Fields, no_fields, field, items_list, fields_list}
 use Rattle.at_cbor.specs.Heads.{head_at}
@@ -30,7 +31,7 @@ after_head head behind f answer holds e = ap (λ (r : Reading Head). r >>= f) (h
 key_again : (before : Option (List ℕ)) (key rest : List ℕ) → IsText key → is_above before key ≡ true → key_at before (text_spelling key ++ rest) ≡ Ok (key, rest)
 unfolding key_at key_of
 key_again before key rest fits above =
-    let grouped : text_spelling key ++ rest ≡ front_of 3 (length key) ++ (key ++ rest) = append_assoc (front_of 3 (length key)) key rest in
+    let grouped : text_spelling key ++ rest ≡ front_of Major.Text (length key) ++ (key ++ rest) = append_assoc (front_of Major.Text (length key)) key rest in
     ap (key_at before) grouped
     ∙ after_head (Head.Text (length key)) (key ++ rest) _ (Ok (key, rest)) fits.0.0 (rw (text_again _ key rest fits.1, above) refl)
 
@@ -76,16 +77,16 @@ body_again : (inside : Option (List ℕ → Reading Item)) (depth : ℕ) → Ins
 unfolding body_of
 body_again inside depth complete (Item.int z) rest fits = after_head (Head.Int z) rest _ (Ok (Item.int z, rest)) fits refl
 body_again inside depth complete (Item.bytes bs) rest fits =
-    ap (reading_of inside) (append_assoc (front_of 2 (length bs)) bs rest)
+    ap (reading_of inside) (append_assoc (front_of Major.Bytes (length bs)) bs rest)
     ∙ after_head (Head.Bytes (length bs)) (bs ++ rest) _ (Ok (Item.bytes bs, rest)) fits.0 (rw (string_again _ bs rest) refl)
 body_again inside depth complete (Item.text bs) rest fits =
-    ap (reading_of inside) (append_assoc (front_of 3 (length bs)) bs rest)
+    ap (reading_of inside) (append_assoc (front_of Major.Text (length bs)) bs rest)
     ∙ after_head (Head.Text (length bs)) (bs ++ rest) _ (Ok (Item.text bs, rest)) fits.0.0 (rw (text_again _ bs rest fits.1) refl)
 body_again inside depth complete (Item.list is) rest fits =
-    ap (reading_of inside) (append_assoc (front_of 4 (items_count is)) (items_spelling is) rest)
+    ap (reading_of inside) (append_assoc (front_of Major.List (items_count is)) (items_spelling is) rest)
     ∙ after_head (Head.List (items_count is)) (items_spelling is ++ rest) _ (Ok (Item.list is, rest)) fits.1 (list_again inside depth _ is rest complete fits.0 fits.2)
 body_again inside depth complete (Item.map fs) rest fits =
-    ap (reading_of inside) (append_assoc (front_of 5 (fields_count fs)) (fields_spelling fs) rest)
+    ap (reading_of inside) (append_assoc (front_of Major.Map (fields_count fs)) (fields_spelling fs) rest)
     ∙ after_head (Head.Map (fields_count fs)) (fields_spelling fs ++ rest) _ (Ok (Item.map fs, rest)) fits.1 (map_again inside depth _ fs rest complete fits.0 fits.2)
 body_again inside depth complete (Item.link link) rest fits = after_head (Head.Link link) rest _ (Ok (Item.link link, rest)) fits refl
 body_again inside depth complete (Item.bool b) rest fits = after_head (Head.Bool b) rest _ (Ok (Item.bool b, rest)) tt refl

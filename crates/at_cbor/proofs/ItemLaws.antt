@@ -5,6 +5,7 @@ use Rattle.std.specs.Str.{is_utf8}
 use Rattle.std.proofs.lemmas.Bool.{ltb-false}
 use Rattle.std.proofs.lemmas.List.{take-append-drop, length-take}
 use Rattle.at_cid.specs.Link.{IsBytes}
+use Rattle.at_cbor.specs.declared.major.Major.{Major}
 use Rattle.at_cbor.specs.declared.fault.Cause.{Cause}
 use Rattle.at_cbor.specs.declared.head.Head.{Head}
 use Rattle.at_cbor.specs.Item.{Item, items_of, fields_of}
@@ -41,7 +42,7 @@ abbrev pub IsKey : Option (List ℕ) → List ℕ → List ℕ × List ℕ → T
 IsKey before bytes x = Takes bytes (text_spelling x.0) x.1 × IsText x.0 × (is_above before x.0 ≡ true)
 
 -- a front that says how long the text behind it is
-pub behind_front : (major n : ℕ) (bytes : List ℕ) (x : List ℕ × List ℕ) → IsTaken bytes n x → Takes (front_of major n ++ bytes) (front_of major (length x.0) ++ x.0) x.1
+pub behind_front : (major : Major) (n : ℕ) (bytes : List ℕ) (x : List ℕ × List ℕ) → IsTaken bytes n x → Takes (front_of major n ++ bytes) (front_of major (length x.0) ++ x.0) x.1
 behind_front major n bytes x taken =
     let front : front_of major n ≡ front_of major (length x.0) = ap (front_of major) (sym taken.1) in
     record {
@@ -55,8 +56,8 @@ key_of_takes before left (Head.Text n) rest x fits holds e =
     let s = bind_ok (text_at left n rest) _ x e in
     let t = passed_ok (is_above before s.0.0) (Cause.KeyOrder, left) (Ok s.0) x s.2 in
     let taken = text_takes left n rest s.0 fits s.1 in
-    let made : IsKey before (front_of 3 n ++ rest) s.0 = (behind_front 3 n rest s.0 taken.0, ((omega (arith, taken.0.1, holds), taken.0.2), taken.1), t.0) in
-    subst (IsKey before (front_of 3 n ++ rest)) (ok_is s.0 x t.1) made
+    let made : IsKey before (front_of Major.Text n ++ rest) s.0 = (behind_front Major.Text n rest s.0 taken.0, ((omega (arith, taken.0.1, holds), taken.0.2), taken.1), t.0) in
+    subst (IsKey before (front_of Major.Text n ++ rest)) (ok_is s.0 x t.1) made
 key_of_takes before left (Head.Int z) rest x fits holds e = absurd cc
 key_of_takes before left (Head.Bytes n) rest x fits holds e = absurd cc
 key_of_takes before left (Head.List n) rest x fits holds e = absurd cc
@@ -119,7 +120,7 @@ InsideSound None depth = ⊤
 InsideSound (Some r) depth = (0 < depth) × Sound r (depth - 1)
 
 -- a front that says how many items or fields are behind it
-behind_count : (major n count : ℕ) (bytes text rest : List ℕ) → count ≡ n → Takes bytes text rest → Takes (front_of major n ++ bytes) (front_of major count ++ text) rest
+behind_count : (major : Major) (n count : ℕ) (bytes text rest : List ℕ) → count ≡ n → Takes bytes text rest → Takes (front_of major n ++ bytes) (front_of major count ++ text) rest
 behind_count major n count bytes text rest same taken =
     let front : front_of major n ≡ front_of major count = ap (front_of major) (sym same) in
     record {
@@ -127,23 +128,23 @@ behind_count major n count bytes text rest same taken =
       rest_fits = taken.rest_fits;
     }
 
-list_takes : (inside : Option (List ℕ → Reading Item)) (depth left n : ℕ) (rest : List ℕ) (x : Item × List ℕ) → InsideSound inside depth → IsBytes rest → n < 2 ^ 64 → list_of inside left n rest ≡ Ok x → IsItem depth (front_of 4 n ++ rest) x
+list_takes : (inside : Option (List ℕ → Reading Item)) (depth left n : ℕ) (rest : List ℕ) (x : Item × List ℕ) → InsideSound inside depth → IsBytes rest → n < 2 ^ 64 → list_of inside left n rest ≡ Ok x → IsItem depth (front_of Major.List n ++ rest) x
 list_takes None depth left n rest x sound fits below e = absurd cc
 list_takes (Some r) depth left n rest x sound fits below e =
     let s = bind_ok (items_at r n rest) _ x e in
     let items = items_take r (depth - 1) sound.1 n rest s.0 fits s.1 in
-    let made : IsItem depth (front_of 4 n ++ rest) (Item.list (items_of s.0.0), s.0.1) =
-    (behind_count 4 n (items_count (items_of s.0.0)) rest (items_spelling (items_of s.0.0)) s.0.1 items.1 items.0, (sound.0, omega (arith, items.1, below), items.2)) in
-    subst (IsItem depth (front_of 4 n ++ rest)) (ok_is (Item.list (items_of s.0.0), s.0.1) x s.2) made
+    let made : IsItem depth (front_of Major.List n ++ rest) (Item.list (items_of s.0.0), s.0.1) =
+    (behind_count Major.List n (items_count (items_of s.0.0)) rest (items_spelling (items_of s.0.0)) s.0.1 items.1 items.0, (sound.0, omega (arith, items.1, below), items.2)) in
+    subst (IsItem depth (front_of Major.List n ++ rest)) (ok_is (Item.list (items_of s.0.0), s.0.1) x s.2) made
 
-map_takes : (inside : Option (List ℕ → Reading Item)) (depth left n : ℕ) (rest : List ℕ) (x : Item × List ℕ) → InsideSound inside depth → IsBytes rest → n < 2 ^ 64 → map_of inside left n rest ≡ Ok x → IsItem depth (front_of 5 n ++ rest) x
+map_takes : (inside : Option (List ℕ → Reading Item)) (depth left n : ℕ) (rest : List ℕ) (x : Item × List ℕ) → InsideSound inside depth → IsBytes rest → n < 2 ^ 64 → map_of inside left n rest ≡ Ok x → IsItem depth (front_of Major.Map n ++ rest) x
 map_takes None depth left n rest x sound fits below e = absurd cc
 map_takes (Some r) depth left n rest x sound fits below e =
     let s = bind_ok (fields_at r None n rest) _ x e in
     let fields = fields_take r (depth - 1) sound.1 None n rest s.0 fits s.1 in
-    let made : IsItem depth (front_of 5 n ++ rest) (Item.map (fields_of s.0.0), s.0.1) =
-    (behind_count 5 n (fields_count (fields_of s.0.0)) rest (fields_spelling (fields_of s.0.0)) s.0.1 fields.1 fields.0, (sound.0, omega (arith, fields.1, below), fields.2)) in
-    subst (IsItem depth (front_of 5 n ++ rest)) (ok_is (Item.map (fields_of s.0.0), s.0.1) x s.2) made
+    let made : IsItem depth (front_of Major.Map n ++ rest) (Item.map (fields_of s.0.0), s.0.1) =
+    (behind_count Major.Map n (fields_count (fields_of s.0.0)) rest (fields_spelling (fields_of s.0.0)) s.0.1 fields.1 fields.0, (sound.0, omega (arith, fields.1, below), fields.2)) in
+    subst (IsItem depth (front_of Major.Map n ++ rest)) (ok_is (Item.map (fields_of s.0.0), s.0.1) x s.2) made
 
 -- an item that is all head
 plain_takes : (depth : ℕ) (head : Head) (made : Item) (rest : List ℕ) (x : Item × List ℕ) → IsBytes rest → spelling made ≡ head_spelling head → Fits made depth → (let r : Reading Item = Ok (made, rest) in r) ≡ Ok x → IsItem depth (head_spelling head ++ rest) x
@@ -156,13 +157,13 @@ body_takes inside depth left (Head.Int z) rest x sound fits holds e = plain_take
 body_takes inside depth left (Head.Bytes n) rest x sound fits holds e =
     let s = bind_ok (string_at left n rest) _ x e in
     let taken = string_takes left n rest s.0 fits s.1 in
-    let made : IsItem depth (front_of 2 n ++ rest) (Item.bytes s.0.0, s.0.1) = (behind_front 2 n rest s.0 taken, (omega (arith, taken.1, holds), taken.2)) in
-    subst (IsItem depth (front_of 2 n ++ rest)) (ok_is (Item.bytes s.0.0, s.0.1) x s.2) made
+    let made : IsItem depth (front_of Major.Bytes n ++ rest) (Item.bytes s.0.0, s.0.1) = (behind_front Major.Bytes n rest s.0 taken, (omega (arith, taken.1, holds), taken.2)) in
+    subst (IsItem depth (front_of Major.Bytes n ++ rest)) (ok_is (Item.bytes s.0.0, s.0.1) x s.2) made
 body_takes inside depth left (Head.Text n) rest x sound fits holds e =
     let s = bind_ok (text_at left n rest) _ x e in
     let taken = text_takes left n rest s.0 fits s.1 in
-    let made : IsItem depth (front_of 3 n ++ rest) (Item.text s.0.0, s.0.1) = (behind_front 3 n rest s.0 taken.0, ((omega (arith, taken.0.1, holds), taken.0.2), taken.1)) in
-    subst (IsItem depth (front_of 3 n ++ rest)) (ok_is (Item.text s.0.0, s.0.1) x s.2) made
+    let made : IsItem depth (front_of Major.Text n ++ rest) (Item.text s.0.0, s.0.1) = (behind_front Major.Text n rest s.0 taken.0, ((omega (arith, taken.0.1, holds), taken.0.2), taken.1)) in
+    subst (IsItem depth (front_of Major.Text n ++ rest)) (ok_is (Item.text s.0.0, s.0.1) x s.2) made
 body_takes inside depth left (Head.List n) rest x sound fits holds e = list_takes inside depth left n rest x sound fits holds e
 body_takes inside depth left (Head.Map n) rest x sound fits holds e = map_takes inside depth left n rest x sound fits holds e
 body_takes inside depth left (Head.Link link) rest x sound fits holds e = plain_takes depth (Head.Link link) (Item.link link) rest x fits refl holds e

@@ -4,6 +4,7 @@ pub mod Texts
 pub mod Loops
 pub mod Steps
 pub mod Fronts
+pub mod Majors
 pub mod HeadLaws
 pub mod FaultHeads
 pub mod FaultItems

@@ -7,8 +7,10 @@ use Rattle.std.proofs.lemmas.Option.{same_Some}
 use Rattle.at_cid.specs.Link.{IsBytes, IsLink, IsNodeLinkOrNone, is_link, link_at, kind_of}
 use Rattle.at_cid.specs.declared.cid.Kind.TheVariants.{Node, Raw}
 use Rattle.at_cid.proofs.Links.{link_length, link_at_short}
+use Rattle.at_cbor.specs.declared.major.Major.{Major}
 use Rattle.at_cbor.specs.Item.{Item}
 use Rattle.at_cbor.specs.Heads.{argument_at, least_of}
+use Rattle.at_cbor.specs.Majors.{number_of}
 use Rattle.at_cbor.specs.Reading.{Reading, item_at}
 use Rattle.at_cbor.specs.Spelling.{info_of, front_of, link_spelling, spelling, Fits}
 use Rattle.at_cbor.specs.Taking.{◌>>=◌, Taking, behind, all_of, shortest, number_at, string_of, string_at, linked, link_from_front, link_item, child_at, found, item_from_front, whole_item}
@@ -55,27 +57,27 @@ shortest_found least (Some a) x e =
     let t = unheld (ltb a.0 least) (Some a) x e in
     let same : a ≡ x = same_Some a x t.1 in (t.1, ap (λ (y : ℕ × List ℕ). ltb y.0 least) (sym same) ∙ t.0)
 
-pub number_takes : (major : ℕ) (bytes : List ℕ) (x : ℕ × List ℕ) → IsBytes bytes → number_at major bytes ≡ Some x → Takes bytes (front_of major x.0) x.1 × (x.0 < 2 ^ 64)
+pub number_takes : (major : Major) (bytes : List ℕ) (x : ℕ × List ℕ) → IsBytes bytes → number_at major bytes ≡ Some x → Takes bytes (front_of major x.0) x.1 × (x.0 < 2 ^ 64)
 unfolding number_at
 number_takes major [] x fits e = absurd cc
 number_takes major (first ∷ bytes) x fits e =
-    let t = held (eqb (first / 32) major && ltb (first % 32) 28) (shortest (least_of (first % 32)) (argument_at (first % 32) bytes)) x e in
-    let b = and_parts (eqb (first / 32) major) (ltb (first % 32) 28) t.0 in
+    let t = held (eqb (first / 32) (number_of major) && ltb (first % 32) 28) (shortest (least_of (first % 32)) (argument_at (first % 32) bytes)) x e in
+    let b = and_parts (eqb (first / 32) (number_of major)) (ltb (first % 32) 28) t.0 in
     let s = shortest_found (least_of (first % 32)) (argument_at (first % 32) bytes) x t.1 in
     let a = argument_takes (first % 32) bytes x (ltb-true (first % 32) 28 b.1) (λ i. fits (suc i)) s.0 s.1 in
-    let high : first / 32 ≡ major = eqb-true (first / 32) major b.0 in
+    let high : first / 32 ≡ number_of major = eqb-true (first / 32) (number_of major) b.0 in
     let low : first % 32 ≡ info_of x.0 = a.info_is in
-    let head : first ≡ 32 * major + info_of x.0 = omega arith in
-    (record { parts = ap (λ (n : ℕ). n ∷ bytes) head ∙ ap (λ (l : List ℕ). (32 * major + info_of x.0) ∷ l) a.taken.parts; rest_fits = a.taken.rest_fits }, a.below)
+    let head : first ≡ 32 * number_of major + info_of x.0 = omega arith in
+    (record { parts = ap (λ (n : ℕ). n ∷ bytes) head ∙ ap (λ (l : List ℕ). (32 * number_of major + info_of x.0) ∷ l) a.taken.parts; rest_fits = a.taken.rest_fits }, a.below)
 
-pub number_again : (major n : ℕ) (rest : List ℕ) → n < 2 ^ 64 → number_at major (front_of major n ++ rest) ≡ Some (n, rest)
+pub number_again : (major : Major) (n : ℕ) (rest : List ℕ) → n < 2 ^ 64 → number_at major (front_of major n ++ rest) ≡ Some (n, rest)
 unfolding number_at
 number_again major n rest below =
     let reads = argument_again n rest below in
-    let low : (32 * major + info_of n) % 32 ≡ info_of n = omega (arith, reads.info_below) in
-    let high : (32 * major + info_of n) / 32 ≡ major = omega (arith, reads.info_below) in
+    let low : (32 * number_of major + info_of n) % 32 ≡ info_of n = omega (arith, reads.info_below) in
+    let high : (32 * number_of major + info_of n) / 32 ≡ number_of major = omega (arith, reads.info_below) in
     let small : ltb (info_of n) 28 ≡ true = lt-ltb (info_of n) 28 reads.info_below in
-    let same : eqb major major ≡ true = grind (arith, nat_tests) in
+    let same : eqb (number_of major) (number_of major) ≡ true = grind (arith, nat_tests) in
     rw (low, high, same, small, reads.found, reads.shortest) refl
 
 string_found : (n : ℕ) (bytes : List ℕ) (x : List ℕ × List ℕ) → IsBytes bytes → string_of n bytes ≡ Some x → Takes bytes x.0 x.1 × (length x.0 ≡ n) × IsBytes x.0
@@ -88,24 +90,24 @@ string_found n bytes x fits e =
 pub string_takes : (bytes : List ℕ) (x : List ℕ × List ℕ) → IsBytes bytes → string_at bytes ≡ Some x → Takes bytes (spelling (Item.bytes x.0)) x.1 × IsBytes x.0
 unfolding string_at
 string_takes bytes x fits e =
-    let n = bind_some (number_at 2 bytes) _ x e in
-    let head = number_takes 2 bytes n.0 fits n.1 in
+    let n = bind_some (number_at Major.Bytes bytes) _ x e in
+    let head = number_takes Major.Bytes bytes n.0 fits n.1 in
     let s = string_found n.0.0 n.0.1 x head.0.rest_fits n.2 in
-    let front : front_of 2 n.0.0 ≡ front_of 2 (length x.0) = ap (front_of 2) (sym s.1) in
-    (record { parts = head.0.parts ∙ ap (λ (l : List ℕ). l ++ n.0.1) front ∙ ap (λ (l : List ℕ). front_of 2 (length x.0) ++ l) s.0.parts ∙ sym (append_assoc (front_of 2 (length x.0)) x.0 x.1); rest_fits = s.0.rest_fits }, s.2)
+    let front : front_of Major.Bytes n.0.0 ≡ front_of Major.Bytes (length x.0) = ap (front_of Major.Bytes) (sym s.1) in
+    (record { parts = head.0.parts ∙ ap (λ (l : List ℕ). l ++ n.0.1) front ∙ ap (λ (l : List ℕ). front_of Major.Bytes (length x.0) ++ l) s.0.parts ∙ sym (append_assoc (front_of Major.Bytes (length x.0)) x.0 x.1); rest_fits = s.0.rest_fits }, s.2)
 
 pub string_short : (bytes : List ℕ) (x : List ℕ × List ℕ) → IsBytes bytes → string_at bytes ≡ Some x → length x.0 < 2 ^ 64
 unfolding string_at
 string_short bytes x fits e =
-    let n = bind_some (number_at 2 bytes) _ x e in
-    let head = number_takes 2 bytes n.0 fits n.1 in
+    let n = bind_some (number_at Major.Bytes bytes) _ x e in
+    let head = number_takes Major.Bytes bytes n.0 fits n.1 in
     let s = string_found n.0.0 n.0.1 x head.0.rest_fits n.2 in
     omega (arith, s.1, head.1)
 
 pub string_again : (text rest : List ℕ) → length text < 2 ^ 64 → string_at (spelling (Item.bytes text) ++ rest) ≡ Some (text, rest)
 unfolding string_at
 string_again text rest below =
-    let read : number_at 2 (spelling (Item.bytes text) ++ rest) ≡ Some (length text, text ++ rest) = ap (number_at 2) (append_assoc (front_of 2 (length text)) text rest) ∙ number_again 2 (length text) (text ++ rest) below in
+    let read : number_at Major.Bytes (spelling (Item.bytes text) ++ rest) ≡ Some (length text, text ++ rest) = ap (number_at Major.Bytes) (append_assoc (front_of Major.Bytes (length text)) text rest) ∙ number_again Major.Bytes (length text) (text ++ rest) below in
     let long : ltb (length (text ++ rest)) (length text) ≡ false = le-ltb _ _ (omega (arith, length-append text rest)) in
     rw (read, long, take_at text rest (length text) refl, drop_at text rest (length text) refl) refl
 

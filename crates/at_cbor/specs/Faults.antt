@@ -1,12 +1,15 @@
 -- What each fault says of the bytes at its place, and of what stands in front of it.
 -- (Heads by RFC 8949, section 3. The rules are those of the DAG-CBOR specification; in which order they are asked is this project's own.)
-use Rattle.std.specs.Prelude.{◌≡◌, ◌≢◌, ⊤, ◌⊎◌, ℕ, ◌+◌, ◌-◌, ◌*◌, ◌/◌, ◌%◌, ◌^◌, ◌<◌, ◌≤◌, List, [], ◌∷◌, ◌++◌, length, take, Option, Some, None, Bool, true, false, ◌==◌, if◌then◌else◌}
+use Rattle.std.specs.Prelude.{◌≡◌, ◌≢◌, ⊤, ◌⊎◌, ℕ, ◌+◌, ◌-◌, ◌*◌, ◌%◌, ◌^◌, ◌<◌, ◌≤◌, List, [], ◌∷◌, ◌++◌, length, take, Option, Some, None, IfSome, Bool, true, false, ◌==◌, if◌then◌else◌}
 use Rattle.std.specs.Int.{Width, w8, w16, w32, w64, byte_len, to_be_bytes}
 use Rattle.std.specs.Str.{is_utf8}
 use Rattle.at_cid.specs.Link.{is_link}
+use Rattle.at_cbor.specs.declared.major.Major.{Major}
 use Rattle.at_cbor.specs.declared.fault.Cause.{Cause}
 use Rattle.at_cbor.specs.declared.head.Head.{Head}
 use Rattle.at_cbor.specs.Item.{Item, items_of, fields_of, is_above, last_key}
+use Rattle.at_cbor.specs.Majors.{number_of, major_in}
+use Rattle.at_cbor.specs.declared.decoding.TheConstants.{DEPTH}
 use Rattle.at_cbor.specs.Spelling.{front_of, tail_of, text_spelling, items_spelling, fields_spelling, head_spelling, HeadFits, IsText, ItemsFit, FieldsFit}
 
 -- ---- heads: a first byte of 32 * major type + low five bits, and the argument that these announce
@@ -35,32 +38,32 @@ IsReserved (first ∷ rest) = 28 ≤ first % 32
 -- a whole head of major type 7 that is neither false, true nor null
 abbrev pub IsOtherSimple : List ℕ → Type 0
 IsOtherSimple [] = ⊥
-IsOtherSimple (first ∷ rest) = (first / 32 ≡ 7) × (argument_len (first % 32) ≤ length rest) × (first % 32 < 28) × (first ≢ 0xf4) × (first ≢ 0xf5) × (first ≢ 0xf6)
+IsOtherSimple (first ∷ rest) = (major_in first ≡ Major.Simple) × (argument_len (first % 32) ≤ length rest) × (first % 32 < 28) × (first ≢ 0xf4) × (first ≢ 0xf5) × (first ≢ 0xf6)
 
 -- an argument for which fewer bytes would do
 abbrev pub IsLongForm : List ℕ → Type 0
-IsLongForm here = (major : ℕ) × (info : ℕ) × (w : Width) × (n : ℕ) × (rest : List ℕ) × (major < 7) × (wide_for info ≡ Some w) × (here ≡ (32 * major + info) ∷ (to_be_bytes w n ++ rest)) × (length (tail_of n) < byte_len w)
+IsLongForm here = (major : Major) × (info : ℕ) × (w : Width) × (n : ℕ) × (rest : List ℕ) × (major ≢ Major.Simple) × (wide_for info ≡ Some w) × (here ≡ (32 * number_of major + info) ∷ (to_be_bytes w n ++ rest)) × (length (tail_of n) < byte_len w)
 
 -- an integer of 2^63 or more, or below -2^63
 abbrev pub IsOutOfRange : List ℕ → Type 0
-IsOutOfRange here = (major : ℕ) × (n : ℕ) × (rest : List ℕ) × (major < 2) × (n < 2 ^ 64) × (here ≡ front_of major n ++ rest) × (2 ^ 63 ≤ n)
+IsOutOfRange here = (n : ℕ) × (rest : List ℕ) × (n < 2 ^ 64) × ((here ≡ front_of Major.Unsigned n ++ rest) ⊎ (here ≡ front_of Major.Negative n ++ rest)) × (2 ^ 63 ≤ n)
 
 -- what has to stand behind tag 42: the front of a byte string of 37 bytes, a 0, and a link
 abbrev pub IsTagged : List ℕ → Type 0
-IsTagged body = (link : List ℕ) × (is_link link ≡ true) × (body ≡ 0x58 ∷ 0x25 ∷ 0 ∷ link)
+IsTagged body = (link : List ℕ) × (is_link link ≡ true) × (body ≡ 0x58 ∷ 0x25 ∷ 0x00 ∷ link)
 
 -- the 39 bytes behind a tag, or as many of them as are there, may be such, with others behind them
 abbrev pub MayBeTagged : List ℕ → Type 0
 MayBeTagged behind = (more : List ℕ) × IsTagged (take 39 behind ++ more)
 
 abbrev pub IsOtherTag : List ℕ → Type 0
-IsOtherTag here = (n : ℕ) × (rest : List ℕ) × (n < 2 ^ 64) × (here ≡ front_of 6 n ++ rest) × (n ≢ 42)
+IsOtherTag here = (n : ℕ) × (rest : List ℕ) × (n < 2 ^ 64) × (here ≡ front_of Major.Tag n ++ rest) × (n ≢ 42)
 
 abbrev pub IsTagOfNone : List ℕ → Type 0
-IsTagOfNone here = (rest : List ℕ) × (here ≡ front_of 6 42 ++ rest) × (MayBeTagged rest → ⊥)
+IsTagOfNone here = (rest : List ℕ) × (here ≡ front_of Major.Tag 42 ++ rest) × (MayBeTagged rest → ⊥)
 
 abbrev pub IsTagCut : List ℕ → Type 0
-IsTagCut here = (rest : List ℕ) × (here ≡ front_of 6 42 ++ rest) × (length rest < 39) × MayBeTagged rest
+IsTagCut here = (rest : List ℕ) × (here ≡ front_of Major.Tag 42 ++ rest) × (length rest < 39) × MayBeTagged rest
 
 -- the rules of heads
 abbrev pub BreaksHead : Cause → List ℕ → Type 0
@@ -76,8 +79,8 @@ BreaksHead Cause.BadText here = ⊥
 
 -- ---- values and keys
 
--- a byte string (major type 2) or a text (3) that runs past the end
-abbrev pub IsStringCut : ℕ → List ℕ → Type 0
+-- a byte string or a text, by its major type, that runs past the end
+abbrev pub IsStringCut : Major → List ℕ → Type 0
 IsStringCut major here = (n : ℕ) × (rest : List ℕ) × (n < 2 ^ 64) × (here ≡ front_of major n ++ rest) × (length rest < n)
 
 -- a whole text that isn't UTF-8
@@ -86,7 +89,7 @@ IsNoUtf8 here = (text : List ℕ) × (rest : List ℕ) × (length text < 2 ^ 64)
 
 -- a list or a map
 abbrev pub IsContainer : List ℕ → Type 0
-IsContainer here = (n : ℕ) × (rest : List ℕ) × (n < 2 ^ 64) × ((here ≡ front_of 4 n ++ rest) ⊎ (here ≡ front_of 5 n ++ rest))
+IsContainer here = (n : ℕ) × (rest : List ℕ) × (n < 2 ^ 64) × ((here ≡ front_of Major.List n ++ rest) ⊎ (here ≡ front_of Major.Map n ++ rest))
 
 abbrev pub IsTextHead : Head → Bool
 IsTextHead (Head.Text n) = true
@@ -102,14 +105,14 @@ IsLowKey before here = (key : List ℕ) × (rest : List ℕ) × IsText key × (h
 
 -- what is wrong where a value is due, inside which so many lists and maps may be in one another
 abbrev pub BreaksValue : ℕ → Cause → List ℕ → Type 0
-BreaksValue depth Cause.Short here = BreaksHead Cause.Short here ⊎ (IsStringCut 2 here ⊎ IsStringCut 3 here)
+BreaksValue depth Cause.Short here = BreaksHead Cause.Short here ⊎ (IsStringCut Major.Bytes here ⊎ IsStringCut Major.Text here)
 BreaksValue depth Cause.BadText here = IsNoUtf8 here
 BreaksValue depth Cause.TooDeep here = (depth ≡ 0) × IsContainer here
 BreaksValue depth cause here = BreaksHead cause here
 
 -- what is wrong where a key is due, behind the key before it
 abbrev pub BreaksKey : Option (List ℕ) → Cause → List ℕ → Type 0
-BreaksKey before Cause.Short here = BreaksHead Cause.Short here ⊎ IsStringCut 3 here
+BreaksKey before Cause.Short here = BreaksHead Cause.Short here ⊎ IsStringCut Major.Text here
 BreaksKey before Cause.BadText here = IsNoUtf8 here
 BreaksKey before Cause.KeyOrder here = IsNoText here ⊎ IsLowKey before here
 BreaksKey before cause here = BreaksHead cause here
@@ -123,8 +126,8 @@ pub data Open : Type 0 where
   in_map : ℕ → List (List ℕ × Item) → List ℕ → Open
 
 abbrev pub open_spelling : Open → List ℕ
-open_spelling (in_list n is) = front_of 4 n ++ items_spelling (items_of is)
-open_spelling (in_map n fs key) = front_of 5 n ++ (fields_spelling (fields_of fs) ++ text_spelling key)
+open_spelling (in_list n is) = front_of Major.List n ++ items_spelling (items_of is)
+open_spelling (in_map n fs key) = front_of Major.Map n ++ (fields_spelling (fields_of fs) ++ text_spelling key)
 
 -- they fit, with so much depth inside, and one more is due
 abbrev pub OpenFits : Open → ℕ → Type 0
@@ -149,16 +152,15 @@ IsNoValue depth bytes cause here = (os : List Open) × AreOpen os depth × (byte
 -- a key of a map of n fields is due, behind the fields fs, and what is here is none
 abbrev pub IsNoKey : ℕ → List ℕ → Cause → List ℕ → Type 0
 IsNoKey depth bytes cause here = (os : List Open) × (n : ℕ) × (fs : List (List ℕ × Item)) × AreOpen os depth × (length os < depth) × (length fs < n) × (n < 2 ^ 64) × FieldsFit (fields_of fs) None (depth - length os - 1)
-    × (bytes ≡ opened os ++ (front_of 5 n ++ (fields_spelling (fields_of fs) ++ here))) × BreaksKey (last_key fs) cause here
+    × (bytes ≡ opened os ++ (front_of Major.Map n ++ (fields_spelling (fields_of fs) ++ here))) × BreaksKey (last_key fs) cause here
 
 abbrev pub IsFaultyAt : ℕ → List ℕ → Cause → List ℕ → Type 0
 IsFaultyAt depth bytes cause here = IsNoValue depth bytes cause here ⊎ IsNoKey depth bytes cause here
 
 -- All in front of the place keeps the rules, and what stands there breaks this one.
 abbrev pub IsFaulty : List ℕ → Cause → ℕ → Type 0
-IsFaulty bytes cause place = (here : List ℕ) × (place + length here ≡ length bytes) × IsFaultyAt 64 bytes cause here
+IsFaulty bytes cause place = (here : List ℕ) × (place + length here ≡ length bytes) × IsFaultyAt DEPTH bytes cause here
 
 -- what a fault says of the bytes; the want of memory says nothing
 abbrev pub Blames : List ℕ → Option (Cause × ℕ) → Type 0
-Blames bytes None = ⊤
-Blames bytes (Some f) = IsFaulty bytes f.0 f.1
+Blames bytes fault = IfSome fault (λ f. IsFaulty bytes f.0 f.1)

@@ -5,6 +5,7 @@ pub mod Kinds
 pub mod Equal
 pub mod EqualLaws
 pub mod Falls
+pub mod Majors
 pub mod Heads
 pub mod Reading
 pub mod Spelling

@@ -4,9 +4,11 @@ use Rattle.std.specs.Prelude.{◌≡◌, ⊤, ℕ, suc, ◌+◌, ◌-◌, ◌*�
 use Rattle.std.specs.Str.{is_utf8}
 use Rattle.std.specs.Int.{w16, w32, w64, to_be_bytes}
 use Rattle.at_cid.specs.Link.{is_link, IsBytes}
+use Rattle.at_cbor.specs.declared.major.Major.{Major}
 use Rattle.at_cbor.specs.Item.{items_of, fields_of, Item, Items, no_items, item, Fields, no_fields, field}
 use Rattle.at_cbor.specs.Item.{is_above}
 use Rattle.at_cbor.specs.declared.head.Head.{Head}
+use Rattle.at_cbor.specs.Majors.{number_of}
 
 -- the low five bits of the first byte, for an argument in its shortest form
 unfoldable pub info_of : ℕ → ℕ
@@ -22,23 +24,23 @@ tail_of n =
     else to_be_bytes w64 n)))
 
 -- a major type and its argument
-abbrev pub front_of : ℕ → ℕ → List ℕ
-front_of major n = (32 * major + info_of n) ∷ tail_of n
+abbrev pub front_of : Major → ℕ → List ℕ
+front_of major n = (32 * number_of major + info_of n) ∷ tail_of n
 
 abbrev pub int_spelling : ℤ → List ℕ
-int_spelling (pos n) = front_of 0 n
-int_spelling (negsuc n) = front_of 1 n
+int_spelling (pos n) = front_of Major.Unsigned n
+int_spelling (negsuc n) = front_of Major.Negative n
 
 abbrev pub bool_spelling : Bool → List ℕ
 bool_spelling false = 0xf4 ∷ []
 bool_spelling true = 0xf5 ∷ []
 
 abbrev pub text_spelling : List ℕ → List ℕ
-text_spelling text = front_of 3 (length text) ++ text
+text_spelling text = front_of Major.Text (length text) ++ text
 
 -- tag 42, and the link in a byte string behind a 0
 abbrev pub link_spelling : List ℕ → List ℕ
-link_spelling link = 0xd8 ∷ 0x2a ∷ 0x58 ∷ 0x25 ∷ 0 ∷ link
+link_spelling link = 0xd8 ∷ 0x2a ∷ 0x58 ∷ 0x25 ∷ 0x00 ∷ link
 
 abbrev pub items_count : Items → ℕ
 items_count no_items = 0
@@ -51,10 +53,10 @@ fields_count (field k i fs) = suc (fields_count fs)
 abbrev mutual
   pub spelling : Item → List ℕ
   spelling (Item.int z) = int_spelling z
-  spelling (Item.bytes bs) = front_of 2 (length bs) ++ bs
+  spelling (Item.bytes bs) = front_of Major.Bytes (length bs) ++ bs
   spelling (Item.text bs) = text_spelling bs
-  spelling (Item.list is) = front_of 4 (items_count is) ++ items_spelling is
-  spelling (Item.map fs) = front_of 5 (fields_count fs) ++ fields_spelling fs
+  spelling (Item.list is) = front_of Major.List (items_count is) ++ items_spelling is
+  spelling (Item.map fs) = front_of Major.Map (fields_count fs) ++ fields_spelling fs
   spelling (Item.link bs) = link_spelling bs
   spelling (Item.bool b) = bool_spelling b
   spelling Item.null = 0xf6 ∷ []
@@ -130,13 +132,13 @@ AreFieldsSpellable fs = (depth : ℕ) → fields_nesting (fields_of fs) ≤ dept
 -- a head that keeps the rules, with its argument or its link
 abbrev pub head_spelling : Head → List ℕ
 head_spelling (Head.Int z) = int_spelling z
-head_spelling (Head.Bytes n) = front_of 2 n
-head_spelling (Head.Text n) = front_of 3 n
-head_spelling (Head.List n) = front_of 4 n
-head_spelling (Head.Map n) = front_of 5 n
+head_spelling (Head.Bytes n) = front_of Major.Bytes n
+head_spelling (Head.Text n) = front_of Major.Text n
+head_spelling (Head.List n) = front_of Major.List n
+head_spelling (Head.Map n) = front_of Major.Map n
 head_spelling (Head.Link link) = link_spelling link
 head_spelling (Head.Bool b) = bool_spelling b
-head_spelling Head.Null = 246 ∷ []
+head_spelling Head.Null = 0xf6 ∷ []
 
 abbrev pub HeadFits : Head → Type 0
 HeadFits (Head.Int z) = IsInt z

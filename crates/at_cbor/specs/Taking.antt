@@ -2,8 +2,10 @@
 -- (The laws of taking say that what is taken is what is spelled there.)
 use Rattle.std.specs.Prelude.{ℕ, ◌/◌, ◌%◌, ◌&&◌, ◌==◌, nat_lt, if◌then◌else◌, List, [], ◌∷◌, length, take, drop, slice_index, Option, Some, None, Ok, Err}
 use Rattle.at_cid.specs.Link.{link_at}
+use Rattle.at_cbor.specs.declared.major.Major.{Major}
 use Rattle.at_cbor.specs.Heads.{argument_at, least_of}
 use Rattle.at_cbor.specs.Item.{Item}
+use Rattle.at_cbor.specs.Majors.{number_of}
 use Rattle.at_cbor.specs.Reading.{Reading, item_at}
 use Rattle.at_cbor.specs.declared.decoding.TheConstants.{DEPTH}
 
@@ -32,9 +34,9 @@ shortest least None = None
 shortest least (Some a) = if nat_lt a.0 least then None else Some a
 
 -- the number that a head of a major type tells in its shortest form
-unfoldable pub number_at : ℕ → List ℕ → Taking ℕ
+unfoldable pub number_at : Major → List ℕ → Taking ℕ
 number_at major [] = None
-number_at major (first ∷ bytes) = if first / 32 == major && nat_lt (first % 32) 28 then shortest (least_of (first % 32)) (argument_at (first % 32) bytes) else None
+number_at major (first ∷ bytes) = if first / 32 == number_of major && nat_lt (first % 32) 28 then shortest (least_of (first % 32)) (argument_at (first % 32) bytes) else None
 
 -- so many bytes
 abbrev pub string_of : ℕ → List ℕ → Taking (List ℕ)
@@ -42,7 +44,7 @@ string_of n bytes = if nat_lt (length bytes) n then None else Some (take n bytes
 
 -- a byte string
 unfoldable pub string_at : List ℕ → Taking (List ℕ)
-string_at bytes = number_at 2 bytes >>= λ n. string_of n.0 n.1
+string_at bytes = number_at Major.Bytes bytes >>= λ n. string_of n.0 n.1
 
 abbrev pub linked : Option (List ℕ) → List ℕ → Taking (List ℕ)
 linked None rest = None

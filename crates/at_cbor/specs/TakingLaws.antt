@@ -2,6 +2,7 @@
 use Rattle.std.specs.Prelude.{◌≡◌, ◌↔◌, ℕ, ◌<◌, ◌^◌, List, ◌++◌, length, Option, Some}
 use Rattle.at_cid.specs.Link.{IsBytes, IsLink, IsNodeLinkOrNone}
 use Rattle.at_cbor.specs.Item.{Item}
+use Rattle.at_cbor.specs.declared.major.Major.{Major}
 use Rattle.at_cbor.specs.declared.decoding.TheConstants.{DEPTH}
 use Rattle.at_cbor.specs.Spelling.{front_of, spelling, Fits}
 use Rattle.at_cbor.specs.Taking.{behind, number_at, string_at, link_from_front, link_item, child_at, item_from_front, whole_item}
@@ -10,7 +11,7 @@ abbrev pub TakesFronts : Type 0
 TakesFronts = (front bytes rest : List ℕ) → (behind front bytes ≡ Some rest) ↔ (bytes ≡ front ++ rest)
 
 abbrev pub TakesNumbers : Type 0
-TakesNumbers = (major n : ℕ) (bytes rest : List ℕ) → IsBytes bytes → (number_at major bytes ≡ Some (n, rest)) ↔ ((n < 2 ^ 64) × (bytes ≡ front_of major n ++ rest))
+TakesNumbers = (major : Major) (n : ℕ) (bytes rest : List ℕ) → IsBytes bytes → (number_at major bytes ≡ Some (n, rest)) ↔ ((n < 2 ^ 64) × (bytes ≡ front_of major n ++ rest))
 
 abbrev pub TakesStrings : Type 0
 TakesStrings = (string bytes rest : List ℕ) → IsBytes bytes → (string_at bytes ≡ Some (string, rest)) ↔ ((length string < 2 ^ 64) × (bytes ≡ spelling (Item.bytes string) ++ rest))

@@ -8,6 +8,7 @@ ghost use Rattle.at_cbor.specs.Spelling.{spelling, nesting, Fits};
 ghost use Rattle.at_cbor.specs.View.{item_of};
 
 use crate::fault::{Cause, CborFault, Stop};
+use crate::reader::Reader;
 use crate::reading::read_item;
 use crate::value::Value;
 use std::alloc::Global;
@@ -35,8 +36,9 @@ fn fault_at(cause: Cause, place: usize) -> CborFault
 fn whole(alloc: Global, bytes: &[u8]) -> Result<(Value, usize), CborFault>
     ensures { Decodes result (decoded bytes.now) }
 {
-    match read_item(alloc, DEPTH, bytes) {
-        Ok((value, rest)) => Ok((value, bytes.len() - rest.len())),
+    let mut reader = Reader::new(bytes);
+    match read_item(alloc, DEPTH, &mut reader) {
+        Ok(value) => Ok((value, bytes.len() - reader.rest().len())),
         Err(Stop::Memory) => Err(CborFault::Memory),
         Err(Stop::At(cause, left)) => Err(fault_at(cause, bytes.len() - left)),
     }

@@ -1,6 +1,7 @@
 //! The length of a spelling, without writing it.
 
 ghost use Rattle.std.specs.Prelude.{◌≡◌, ◌-◌, ◌^◌, ◌+◌, length, map, min};
+ghost use Rattle.at_cbor.specs.declared.major.Major.{Major};
 ghost use Rattle.at_cbor.specs.Item.{Item, items_of, fields_of};
 ghost use Rattle.at_cbor.specs.Spelling.{front_of, text_spelling, spelling, items_spelling, fields_spelling};
 ghost use Rattle.at_cbor.specs.View.{item_of, pair_of};
@@ -12,7 +13,7 @@ use at_cid::Words;
 /// each major type.
 #[tactic(auto, unfolding(crate::specs::Spelling::tail_of))]
 pub fn front_len(n: u64) -> u64
-    ensures { result ≡ length (front_of 0 n) }
+    ensures { result ≡ length (front_of Major.Unsigned n) }
 {
     if n < 24 {
         1
@@ -29,7 +30,7 @@ pub fn front_len(n: u64) -> u64
 
 /// How many bytes a byte string or a text of so many bytes has with its head, or the greatest `u64` where that is less.
 pub fn string_len(count: usize) -> u64
-    ensures { result ≡ min (length (front_of 0 count) + count) (2 ^ 64 - 1) }
+    ensures { result ≡ min (length (front_of Major.Unsigned count) + count) (2 ^ 64 - 1) }
 {
     front_len(count as u64).saturating_add(count as u64)
 }

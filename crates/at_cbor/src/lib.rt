@@ -12,6 +12,8 @@ mod kinds;
 mod laws;
 mod length;
 mod lookup;
+mod major;
+mod reader;
 mod reading;
 mod taking;
 mod value;
@@ -23,6 +25,7 @@ pub use fault::CborFault;
 pub use laws::{equal_is_same, reads_what_is_spelled, spelling_tells_item, takes_what_is_spelled};
 pub use length::{front_len, spelled_len, string_len};
 pub use lookup::field;
+pub use major::Major;
 pub use taking::{
     decode_whole, take_bytes, take_child, take_item, take_link, take_list_front, take_number,
 };

@@ -1,6 +1,6 @@
 //! Items, read from left to right.
 
-ghost use Rattle.std.specs.Prelude.{◌≡◌, length, option_map, MatchOption, true, false, None};
+ghost use Rattle.std.specs.Prelude.{◌≡◌, length, MatchOption, true, false, None};
 ghost use Rattle.std.specs.Str.{is_utf8};
 ghost use Rattle.at_cid.specs.Memory.{Gives};
 ghost use Rattle.at_cbor.specs.Heads.{flaw_of, head_at};
@@ -10,19 +10,21 @@ ghost use Rattle.at_cbor.specs.View.{item_of, pair_of};
 
 use crate::fault::{Cause, Stop};
 use crate::head::{Head, read_head};
+use crate::reader::Reader;
 use crate::value::{Fields, Value, Values};
 use at_cid::{Octets, Words};
 use std::alloc::Global;
 
+/// The string of so many bytes behind its head.
 #[tactic(auto, unfolding(crate::specs::Reading::string_at))]
-fn string(left: usize, n: u64, bytes: &[u8]) -> Result<(&[u8], &[u8]), Stop>
-    ensures { Gives (λ x. (x.0.now, x.1.now)) flaw_of result (string_at left n bytes.now) }
+fn read_string<'a>(reader: &mut Reader<'a>, count: u64) -> Result<&'a [u8], Stop>
+    ensures string { Gives (λ string. (string.now, reader.new.rest.now)) flaw_of result (string_at reader.old.left count reader.old.rest.now) }
+    ensures left { reader.new.left ≡ reader.old.left }
 {
-    let n = n as usize;
-    if bytes.len() < n {
-        return Err(Stop::At(Cause::Short, left));
+    match reader.sub(count as usize) {
+        Some(string) => Ok(string),
+        None => Err(reader.flaw(Cause::Short)),
     }
-    Ok(bytes.split_at(n))
 }
 
 /// The text that the bytes spell.
@@ -36,129 +38,101 @@ fn text_of(bytes: &[u8]) -> Option<&str>
     }
 }
 
+/// The text of so many bytes behind its head.
 #[tactic(auto, unfolding(crate::specs::Reading::text_at))]
-fn words(alloc: Global, left: usize, n: u64, bytes: &[u8]) -> Result<(Words, &[u8]), Stop>
-    ensures { Gives (λ x. (x.0, x.1.now)) flaw_of result (text_at left n bytes.now) }
+fn read_text(alloc: Global, reader: &mut Reader, count: u64) -> Result<Words, Stop>
+    ensures text { Gives (λ text. (text, reader.new.rest.now)) flaw_of result (text_at reader.old.left count reader.old.rest.now) }
+    ensures left { reader.new.left ≡ reader.old.left }
 {
-    let (text, rest) = string(left, n, bytes)?;
-    let Some(text) = text_of(text) else {
-        return Err(Stop::At(Cause::BadText, left));
+    let string = read_string(reader, count)?;
+    let Some(text) = text_of(string) else {
+        return Err(reader.flaw(Cause::BadText));
     };
-    Ok((Words::from_str(alloc, text)?, rest))
+    Ok(Words::from_str(alloc, text)?)
 }
 
+/// The key behind its head, which comes behind those of the fields.
 #[tactic(auto, unfolding(crate::specs::Reading::key_of))]
-fn key_behind<'a>(
+fn read_key_of(
     alloc: Global,
     fields: &Fields,
-    left: usize,
+    reader: &mut Reader,
     head: Head,
-    bytes: &'a [u8],
-) -> Result<(Words, &'a [u8]), Stop>
-    ensures { Gives (λ x. (x.0, x.1.now)) flaw_of result (key_of (last_key fields.now) left head bytes.now) }
+) -> Result<Words, Stop>
+    ensures { Gives (λ key. (key, reader.new.rest.now)) flaw_of result (key_of (last_key fields.now) reader.old.left head reader.old.rest.now) }
 {
-    let Head::Text(n) = head else {
-        return Err(Stop::At(Cause::KeyOrder, left));
+    let Head::Text(count) = head else {
+        return Err(reader.flaw(Cause::KeyOrder));
     };
-    let (key, rest) = words(alloc, left, n, bytes)?;
+    let key = read_text(alloc, reader, count)?;
     if !fields.admits(&key) {
-        return Err(Stop::At(Cause::KeyOrder, left));
+        return Err(reader.flaw(Cause::KeyOrder));
     }
-    Ok((key, rest))
+    Ok(key)
 }
 
 #[tactic(auto, unfolding(crate::specs::Reading::key_at))]
-fn read_key<'a>(alloc: Global, fields: &Fields, bytes: &'a [u8]) -> Result<(Words, &'a [u8]), Stop>
-    ensures { Gives (λ x. (x.0, x.1.now)) flaw_of result (key_at (last_key fields.now) bytes.now) }
+fn read_key(alloc: Global, fields: &Fields, reader: &mut Reader) -> Result<Words, Stop>
+    ensures { Gives (λ key. (key, reader.new.rest.now)) flaw_of result (key_at (last_key fields.now) reader.old.rest.now) }
 {
-    let (head, rest) = match read_head(bytes) {
-        Ok(found) => found,
-        Err(stop) => return Err(stop),
-    };
-    key_behind(alloc, fields, bytes.len(), head, rest)
+    let head = read_head(reader)?;
+    read_key_of(alloc, fields, reader, head)
 }
 
-/// The item at the front of the bytes, which has at most so many lists and maps in one another.
+/// The item at the front, which has at most so many lists and maps in one another.
 #[cycle(read)]
 #[tactic(auto, using(crate::proofs::Loops::item_at_is))]
-pub(crate) fn read_item(alloc: Global, depth: u8, bytes: &[u8]) -> Result<(Value, &[u8]), Stop>
-    ensures { Gives (λ x. (item_of x.0, x.1.now)) flaw_of result (item_at depth bytes.now) }
+pub(crate) fn read_item(alloc: Global, depth: u8, reader: &mut Reader) -> Result<Value, Stop>
+    ensures { Gives (λ value. (item_of value, reader.new.rest.now)) flaw_of result (item_at depth reader.old.rest.now) }
 {
-    let (head, rest) = match read_head(bytes) {
-        Ok(found) => found,
-        Err(stop) => return Err(stop),
-    };
-    read_body(alloc, depth, bytes.len(), head, rest)
+    let head = read_head(reader)?;
+    read_body(alloc, depth, reader, head)
 }
 
 #[cycle(read)]
 #[tactic(auto, unfolding(crate::specs::Reading::body_of))]
-fn read_body(
-    alloc: Global,
-    depth: u8,
-    left: usize,
-    head: Head,
-    bytes: &[u8],
-) -> Result<(Value, &[u8]), Stop>
-    ensures { Gives (λ x. (item_of x.0, x.1.now)) flaw_of result (body_of (inside depth) left head bytes.now) }
+fn read_body(alloc: Global, depth: u8, reader: &mut Reader, head: Head) -> Result<Value, Stop>
+    ensures { Gives (λ value. (item_of value, reader.new.rest.now)) flaw_of result (body_of (inside depth) reader.old.left head reader.old.rest.now) }
 {
     match head {
-        Head::Int(n) => Ok((Value::Int(n), bytes)),
-        Head::Bytes(n) => {
-            let (string, rest) = string(left, n, bytes)?;
-            Ok((Value::Bytes(Octets::from_slice(alloc, string)?), rest))
+        Head::Int(number) => Ok(Value::Int(number)),
+        Head::Bytes(count) => {
+            let string = read_string(reader, count)?;
+            Ok(Value::Bytes(Octets::from_slice(alloc, string)?))
         }
-        Head::Text(n) => {
-            let (text, rest) = words(alloc, left, n, bytes)?;
-            Ok((Value::Text(text), rest))
-        }
-        Head::List(n) => {
-            if depth == 0 {
-                return Err(Stop::At(Cause::TooDeep, left));
-            }
-            let (values, rest) = read_values(alloc, depth - 1, n, bytes)?;
-            Ok((Value::List(values), rest))
-        }
-        Head::Map(n) => {
-            if depth == 0 {
-                return Err(Stop::At(Cause::TooDeep, left));
-            }
-            let (fields, rest) = read_fields(alloc, depth - 1, n, bytes)?;
-            Ok((Value::Map(fields), rest))
-        }
-        Head::Link(link) => Ok((Value::Link(link), bytes)),
-        Head::Bool(b) => Ok((Value::Bool(b), bytes)),
-        Head::Null => Ok((Value::Null, bytes)),
+        Head::Text(count) => Ok(Value::Text(read_text(alloc, reader, count)?)),
+        Head::List(_) | Head::Map(_) if depth == 0 => Err(reader.flaw(Cause::TooDeep)),
+        Head::List(count) => Ok(Value::List(read_values(alloc, depth - 1, reader, count)?)),
+        Head::Map(count) => Ok(Value::Map(read_fields(alloc, depth - 1, reader, count)?)),
+        Head::Link(link) => Ok(Value::Link(link)),
+        Head::Bool(truth) => Ok(Value::Bool(truth)),
+        Head::Null => Ok(Value::Null),
     }
 }
 
 #[cycle(read)]
-fn read_values(alloc: Global, depth: u8, count: u64, bytes: &[u8]) -> Result<(Values, &[u8]), Stop>
-    ensures { Gives (λ x. (x.0, x.1.now)) flaw_of result (items_at (item_at depth) count bytes.now) }
+fn read_values(alloc: Global, depth: u8, reader: &mut Reader, count: u64) -> Result<Values, Stop>
+    ensures { Gives (λ values. (values, reader.new.rest.now)) flaw_of result (items_at (item_at depth) count reader.old.rest.now) }
 {
     let mut values = Values::new(alloc);
-    let mut rest = bytes;
     'values: for _ in 0..count {
-        let (value, after) = read_item(alloc, depth, rest)?;
+        let value = read_item(alloc, depth, reader)?;
         values.make_room(count)?;
         values.push(value)?;
-        rest = after;
     }
-    Ok((values, rest))
+    Ok(values)
 }
 
 #[cycle(read)]
-fn read_fields(alloc: Global, depth: u8, count: u64, bytes: &[u8]) -> Result<(Fields, &[u8]), Stop>
-    ensures { Gives (λ x. (x.0, x.1.now)) flaw_of result (fields_at (item_at depth) None count bytes.now) }
+fn read_fields(alloc: Global, depth: u8, reader: &mut Reader, count: u64) -> Result<Fields, Stop>
+    ensures { Gives (λ fields. (fields, reader.new.rest.now)) flaw_of result (fields_at (item_at depth) None count reader.old.rest.now) }
 {
     let mut fields = Fields::new(alloc);
-    let mut rest = bytes;
     'fields: for _ in 0..count {
-        let (key, after) = read_key(alloc, &fields, rest)?;
-        let (value, after) = read_item(alloc, depth, after)?;
+        let key = read_key(alloc, &fields, reader)?;
+        let value = read_item(alloc, depth, reader)?;
         fields.make_room(count)?;
         fields.push(key, value)?;
-        rest = after;
     }
-    Ok((fields, rest))
+    Ok(fields)
 }

@@ -2,12 +2,15 @@
 //! stand in front in its one spelling.
 
 ghost use Rattle.std.specs.Prelude.{◌≡◌, ◌∷◌, [], IfOk, option_map};
+ghost use Rattle.at_cbor.specs.declared.major.Major.{Major};
 ghost use Rattle.at_cbor.specs.Taking.{behind, number_at, string_at, link_from_front, child_at, item_from_front, whole_item};
 ghost use Rattle.at_cbor.specs.View.{item_of};
 
 use crate::decoding::DEPTH;
 use crate::fault::Stop;
-use crate::head::{argument, least};
+use crate::head::{least, read_argument};
+use crate::major::Major;
+use crate::reader::Reader;
 use crate::reading::read_item;
 use crate::value::Value;
 use at_cid::{Cid, Kind, Memory, parse_binary};
@@ -24,32 +27,37 @@ fn take_link_front(bytes: &[u8]) -> Option<&[u8]>
     }
 }
 
-/// The argument, below 2^64, of a head of this major type in its shortest form (RFC 8949, section 3).
+/// The argument of a head of this major type in its shortest form.
 #[tactic(auto, unfolding(crate::specs::Taking::number_at))]
-pub fn take_number(major: u8, bytes: &[u8]) -> Option<(u64, &[u8])>
-    ensures { option_map (λ x. (x.0, x.1.now)) result ≡ number_at major bytes.now }
+fn read_number(reader: &mut Reader, major: Major) -> Option<u64>
+    ensures { option_map (λ n. (n, reader.new.rest.now)) result ≡ number_at major reader.old.rest.now }
 {
-    let [first, rest @ ..] = bytes else {
-        return None;
-    };
-    let info = *first % 32;
-    if *first / 32 != major || info >= 28 {
+    let first = reader.byte()?;
+    let info = first % 32;
+    if first / 32 != major.number() || info >= 28 {
         return None;
     }
-    let Some((number, rest)) = argument(info, rest) else {
-        return None;
-    };
+    let number = read_argument(reader, info)?;
     if number < least(info) {
         return None;
     }
-    Some((number, rest))
+    Some(number)
+}
+
+/// The argument, below 2^64, of a head of this major type in its shortest form (RFC 8949, section 3).
+pub fn take_number(major: Major, bytes: &[u8]) -> Option<(u64, &[u8])>
+    ensures { option_map (λ x. (x.0, x.1.now)) result ≡ number_at major bytes.now }
+{
+    let mut reader = Reader::new(bytes);
+    let number = read_number(&mut reader, major)?;
+    Some((number, reader.rest()))
 }
 
 /// How many items the list at the front has, and the bytes behind its head, where they begin.
 pub fn take_list_front(bytes: &[u8]) -> Option<(u64, &[u8])>
-    ensures { option_map (λ x. (x.0, x.1.now)) result ≡ number_at 4 bytes.now }
+    ensures { option_map (λ x. (x.0, x.1.now)) result ≡ number_at Major.List bytes.now }
 {
-    take_number(4, bytes)
+    take_number(Major::List, bytes)
 }
 
 /// The byte string at the front.
@@ -57,14 +65,10 @@ pub fn take_list_front(bytes: &[u8]) -> Option<(u64, &[u8])>
 pub fn take_bytes(bytes: &[u8]) -> Option<(&[u8], &[u8])>
     ensures { option_map (λ x. (x.0.now, x.1.now)) result ≡ string_at bytes.now }
 {
-    let Some((n, rest)) = take_number(2, bytes) else {
-        return None;
-    };
-    let n = n as usize;
-    if rest.len() < n {
-        return None;
-    }
-    Some(rest.split_at(n))
+    let mut reader = Reader::new(bytes);
+    let count = read_number(&mut reader, Major::Bytes)?;
+    let string = reader.sub(count as usize)?;
+    Some((string, reader.rest()))
 }
 
 /// The link at the front.
@@ -106,8 +110,9 @@ pub fn take_child(bytes: &[u8]) -> Option<(Option<Cid>, &[u8])>
 pub fn take_item(alloc: Global, bytes: &[u8]) -> Result<Option<(Value, &[u8])>, Memory>
     ensures { IfOk result (λ taken. option_map (λ x. (item_of x.0, x.1.now)) taken ≡ item_from_front bytes.now) }
 {
-    match read_item(alloc, DEPTH, bytes) {
-        Ok(taken) => Ok(Some(taken)),
+    let mut reader = Reader::new(bytes);
+    match read_item(alloc, DEPTH, &mut reader) {
+        Ok(value) => Ok(Some((value, reader.rest()))),
         Err(Stop::Memory) => Err(Memory),
         Err(Stop::At(_, _)) => Ok(None),
     }

@@ -1,33 +1,35 @@
 //! The spelling of values, added to bytes piece by piece.
 
 ghost use Rattle.std.specs.Prelude.{◌≡◌, ◌++◌, ◌<◌, ◌∷◌, [], length, map, take, true, false, None, OnOk, OnErr};
+ghost use Rattle.at_cbor.specs.declared.major.Major.{Major};
 ghost use Rattle.at_cbor.specs.Item.{Item, items_of, fields_of, are_ascending};
 ghost use Rattle.at_cbor.specs.Spelling.{front_of, text_spelling, spelling, items_spelling, fields_spelling, IsText, IsSpellable, AreSpellable, AreFieldsSpellable};
 ghost use Rattle.at_cbor.specs.View.{item_of, pair_of};
 
+use crate::major::Major;
 use crate::value::Value;
 use at_cid::{Cid, Memory, Octets, Words};
 
 /// Writes a major type and its argument, in the shortest form.
 #[tactic(auto, unfolding(crate::specs::Spelling::info_of, crate::specs::Spelling::tail_of))]
-fn write_front(out: &mut Octets, major: u8, n: u64) -> Result<(), Memory>
-    requires { major < 7 }
+fn write_front(out: &mut Octets, major: Major, n: u64) -> Result<(), Memory>
     ensures written { OnOk result (out.new ≡ out.old ++ front_of major n) }
     ensures err { OnErr result (take (length out.old) out.new ≡ out.old) }
 {
+    let high = 32 * major.number();
     if n < 24 {
-        out.push(32 * major + n as u8)
+        out.push(high + n as u8)
     } else if n < 1 << 8 {
-        out.push(32 * major + 24)?;
+        out.push(high + 24)?;
         out.push(n as u8)
     } else if n < 1 << 16 {
-        out.push(32 * major + 25)?;
+        out.push(high + 25)?;
         out.extend(&(n as u16).to_be_bytes())
     } else if n < 1 << 32 {
-        out.push(32 * major + 26)?;
+        out.push(high + 26)?;
         out.extend(&(n as u32).to_be_bytes())
     } else {
-        out.push(32 * major + 27)?;
+        out.push(high + 27)?;
         out.extend(&n.to_be_bytes())
     }
 }
@@ -39,9 +41,9 @@ pub fn write_int(out: &mut Octets, number: i64) -> Result<(), Memory>
     ensures err { OnErr result (take (length out.old) out.new ≡ out.old) }
 {
     if number >= 0 {
-        write_front(out, 0, number as u64)
+        write_front(out, Major::Unsigned, number as u64)
     } else {
-        write_front(out, 1, (-1 - number) as u64)
+        write_front(out, Major::Negative, (-1 - number) as u64)
     }
 }
 
@@ -51,7 +53,7 @@ pub fn write_bytes(out: &mut Octets, bytes: &[u8]) -> Result<(), Memory>
     ensures spellable { OnOk result (IsSpellable (Item.bytes bytes.now)) }
     ensures err { OnErr result (take (length out.old) out.new ≡ out.old) }
 {
-    write_front(out, 2, bytes.len() as u64)?;
+    write_front(out, Major::Bytes, bytes.len() as u64)?;
     out.extend(bytes)
 }
 
@@ -62,33 +64,33 @@ pub fn write_text(out: &mut Octets, text: &str) -> Result<(), Memory>
     ensures spellable { OnOk result (IsSpellable (Item.text text.now)) }
     ensures err { OnErr result (take (length out.old) out.new ≡ out.old) }
 {
-    write_front(out, 3, text.len() as u64)?;
+    write_front(out, Major::Text, text.len() as u64)?;
     out.extend(text.as_bytes())
 }
 
 /// Adds an unsigned number, up to 2^64 - 1. Where memory is wanted, what was there stays in front.
 pub fn write_number(out: &mut Octets, number: u64) -> Result<(), Memory>
-    ensures written { OnOk result (out.new ≡ out.old ++ front_of 0 number) }
+    ensures written { OnOk result (out.new ≡ out.old ++ front_of Major.Unsigned number) }
     ensures err { OnErr result (take (length out.old) out.new ≡ out.old) }
 {
-    write_front(out, 0, number)
+    write_front(out, Major::Unsigned, number)
 }
 
 /// Adds the front of a list of so many values, which are to follow. Where memory is wanted, what was there stays in front.
 pub fn write_list_front(out: &mut Octets, count: usize) -> Result<(), Memory>
-    ensures written { OnOk result (out.new ≡ out.old ++ front_of 4 count) }
+    ensures written { OnOk result (out.new ≡ out.old ++ front_of Major.List count) }
     ensures err { OnErr result (take (length out.old) out.new ≡ out.old) }
 {
-    write_front(out, 4, count as u64)
+    write_front(out, Major::List, count as u64)
 }
 
 /// Adds the front of a map of so many fields, of which each key and its value are to follow. Where memory is wanted, what was
 /// there stays in front.
 pub fn write_map_front(out: &mut Octets, count: usize) -> Result<(), Memory>
-    ensures written { OnOk result (out.new ≡ out.old ++ front_of 5 count) }
+    ensures written { OnOk result (out.new ≡ out.old ++ front_of Major.Map count) }
     ensures err { OnErr result (take (length out.old) out.new ≡ out.old) }
 {
-    write_front(out, 5, count as u64)
+    write_front(out, Major::Map, count as u64)
 }
 
 /// Adds a link. Where memory is wanted, what was there stays in front.

@@ -1,0 +1,87 @@
+//! Bytes that are read from left to right.
+
+ghost use Rattle.std.specs.Prelude.{◌≡◌, ◌∷◌, ◌<◌, ◌≤◌, [], length, take, drop, MatchOption};
+ghost use Rattle.at_cbor.specs.declared.fault.Stop.{Stop};
+
+use crate::fault::{Cause, Stop};
+
+/// The bytes that are still to be read, and how many there were where the last head begins.
+#[derive(Debug, Drop)]
+pub(crate) struct Reader<'a> {
+    rest: &'a [u8],
+    left: usize,
+}
+
+impl<'a> Reader<'a> {
+    /// Nothing was read yet.
+    pub(crate) fn new(bytes: &'a [u8]) -> Reader<'a>
+        ensures rest { result.rest.now ≡ bytes.now }
+        ensures left { result.left ≡ length bytes.now }
+    {
+        Reader {
+            rest: bytes,
+            left: bytes.len(),
+        }
+    }
+
+    /// A head begins here.
+    pub(crate) fn mark(&mut self)
+        ensures rest { self.new.rest.now ≡ self.old.rest.now }
+        ensures left { self.new.left ≡ length self.old.rest.now }
+    {
+        self.left = self.rest.len();
+    }
+
+    /// The next byte.
+    pub(crate) fn byte(&mut self) -> Option<u8>
+        ensures byte { MatchOption result (self.old.rest.now ≡ []) (λ byte. self.old.rest.now ≡ byte ∷ self.new.rest.now) }
+        ensures left { self.new.left ≡ self.old.left }
+    {
+        let [byte, rest @ ..] = self.rest else {
+            return None;
+        };
+        self.rest = rest;
+        Some(*byte)
+    }
+
+    /// The next bytes, as an array.
+    pub(crate) fn take<const N: usize>(&mut self) -> Option<[u8; N]>
+        ensures bytes { MatchOption result
+            (length self.old.rest.now < N)
+            (λ bytes. (N ≤ length self.old.rest.now) × (bytes ≡ take N self.old.rest.now) × (self.new.rest.now ≡ drop N self.old.rest.now)) }
+        ensures left { self.new.left ≡ self.old.left }
+    {
+        let (bytes, rest) = self.rest.split_first_chunk::<N>()?;
+        self.rest = rest;
+        Some(*bytes)
+    }
+
+    /// So many of the next bytes.
+    pub(crate) fn sub(&mut self, count: usize) -> Option<&'a [u8]>
+        ensures bytes { MatchOption result
+            (length self.old.rest.now < count)
+            (λ bytes. (count ≤ length self.old.rest.now) × (bytes.now ≡ take count self.old.rest.now) × (self.new.rest.now ≡ drop count self.old.rest.now)) }
+        ensures left { self.new.left ≡ self.old.left }
+    {
+        if self.rest.len() < count {
+            return None;
+        }
+        let (bytes, rest) = self.rest.split_at(count);
+        self.rest = rest;
+        Some(bytes)
+    }
+
+    /// The bytes that are still to be read.
+    pub(crate) fn rest(&self) -> &'a [u8]
+        ensures { result.now ≡ self.now.rest.now }
+    {
+        self.rest
+    }
+
+    /// What is wrong with the last head.
+    pub(crate) fn flaw(&self, cause: Cause) -> Stop
+        ensures { result ≡ Stop.At cause self.now.left }
+    {
+        Stop::At(cause, self.left)
+    }
+}
