@@ -3,6 +3,7 @@ use Rattle.std.proofs.Common.{◌≡◌, ℕ, suc, ◌+◌, ◌<◌, ◌≤◌, 
 use Rattle.std.proofs.lemmas.List.{drop_more, drop_all, append-nil}
 use Rattle.std.specs.List.{filter}
 use Rattle.std.specs.Int.{from_bool}
+use Rattle.at_cbor.specs.declared.major.Major.{Major}
 use Rattle.at_cbor.specs.declared.value.Value.{Value}
 use Rattle.at_cbor.specs.Item.{Item, fields_of, fields_list}
 use Rattle.at_cbor.specs.Spelling.{front_of, text_spelling, spelling, fields_count, fields_spelling}
@@ -71,13 +72,13 @@ few_signed (f ∷ fields) = few_if (is_signed (pair_of f)) (pair_of f) (signed f
 
 -- the front of the map without `sig`, and its fields
 pub unsigned_spelled : (front whole : List ℕ) (count : ℕ) (written : List (List ℕ × Value)) (fields : List (List ℕ × Item)) → map pair_of written ≡ fields → count ≡ length (signed written)
-    → front ≡ [] ++ front_of 5 count → whole ≡ front ++ signed_fields written → whole ≡ spelling (Item.map (unsigned_of (fields_of fields)))
+    → front ≡ [] ++ front_of Major.Map count → whole ≡ front ++ signed_fields written → whole ≡ spelling (Item.map (unsigned_of (fields_of fields)))
 unsigned_spelled front whole count written fields same counted put all =
     let kept = filter is_signed fields in
     let named : signed written ≡ kept = ap (filter is_signed) same in
     let listed : fields_list (fields_of fields) ≡ fields = fields_same fields in
     let number : count ≡ fields_count (fields_of kept) = counted ∙ ap (λ (fs : List (List ℕ × Item)). length fs) named ∙ sym (fields_counted kept) in
     all ∙ ap (λ (l : List ℕ). l ++ signed_fields written) put
-    ∙ ap (λ (n : ℕ). front_of 5 n ++ signed_fields written) number
-    ∙ ap (λ (fs : List (List ℕ × Item)). front_of 5 (fields_count (fields_of kept)) ++ fields_spelling (fields_of fs)) named
+    ∙ ap (λ (n : ℕ). front_of Major.Map n ++ signed_fields written) number
+    ∙ ap (λ (fs : List (List ℕ × Item)). front_of Major.Map (fields_count (fields_of kept)) ++ fields_spelling (fields_of fs)) named
     ∙ ap (λ (fs : List (List ℕ × Item)). spelling (Item.map (fields_of (filter is_signed fs)))) (sym listed)

@@ -9,6 +9,7 @@ use Rattle.std.proofs.lemmas.Slice.Eq.{bytes_eq-Decides}
 use Rattle.std.proofs.Math.Nat.{min-eq_left, min-eq_right, min-le_left, min-le_right}
 use Rattle.at_cid.specs.Order.{key_cmp}
 use Rattle.at_cid.proofs.Order.{cmp_trans, cmp_same}
+use Rattle.at_cbor.specs.declared.major.Major.{Major}
 use Rattle.at_cbor.specs.Item.{Item, Fields, no_fields, field, is_above}
 use Rattle.at_cbor.specs.Kinds.{value_of, field_of}
 use Rattle.at_cbor.specs.Spelling.{front_of, tail_of, text_spelling, fields_count, spelling, fields_spelling, Fits, FieldsFit}
@@ -120,8 +121,8 @@ contained : (name : List ℕ) (j : Item) (fs : Fields) → value_of fs name ≡ 
 contained name j no_fields e = absurd cc
 contained name j (field k l fs) e = contained_or (bytes_eq k name) k j l fs (value_of fs name) e (contained name j fs)
 
-map_length : (fs : Fields) → length (spelling (Item.map fs)) ≡ length (front_of 5 (fields_count fs)) + length (fields_spelling fs)
-map_length fs = length-append (front_of 5 (fields_count fs)) (fields_spelling fs)
+map_length : (fs : Fields) → length (spelling (Item.map fs)) ≡ length (front_of Major.Map (fields_count fs)) + length (fields_spelling fs)
+map_length fs = length-append (front_of Major.Map (fields_count fs)) (fields_spelling fs)
 
 number_contained : (payload : Item) (m : ℕ) → field_of payload (codes "seq") ≡ Some (number_item m) → length (spelling (number_item m)) ≤ length (spelling payload)
 number_contained (Item.map fs) m e = omega (arith, map_length fs, contained (codes "seq") (number_item m) fs e)
@@ -136,7 +137,7 @@ number_contained Item.null m e = absurd cc
 seq_swapped : (payload : Item) (n m depth : ℕ) → Fits payload depth → field_of payload (codes "seq") ≡ Some (number_item m)
     → length (spelling (with_seq n payload)) + length (spelling (number_item m)) ≡ length (spelling payload) + length (spelling (number_item n))
 seq_swapped (Item.map fs) n m depth fits e =
-    omega (arith, map_length fs, map_length (with_value (codes "seq") (number_item n) fs), ap (λ (k : ℕ). length (front_of 5 k)) (with_value_count (codes "seq") (number_item n) fs), swapped (codes "seq") (number_item n) (number_item m) None fs (depth - 1) fits.2 e)
+    omega (arith, map_length fs, map_length (with_value (codes "seq") (number_item n) fs), ap (λ (k : ℕ). length (front_of Major.Map k)) (with_value_count (codes "seq") (number_item n) fs), swapped (codes "seq") (number_item n) (number_item m) None fs (depth - 1) fits.2 e)
 seq_swapped (Item.int z) n m depth fits e = absurd cc
 seq_swapped (Item.bytes bs) n m depth fits e = absurd cc
 seq_swapped (Item.text bs) n m depth fits e = absurd cc

@@ -2,6 +2,7 @@
 use Rattle.std.proofs.Common.{◌≡◌, ℕ, ◌+◌, ◌<◌, ◌≤◌, List, [], ◌∷◌, ◌++◌, length, map, drop, get_or, codes, cond, sym, ap, ◌∙◌, append_assoc}
 use Rattle.std.specs.Str.{bytes_eq}
 use Rattle.std.proofs.lemmas.List.{append-nil, drop_more, drop_all}
+use Rattle.at_cbor.specs.declared.major.Major.{Major}
 use Rattle.at_cbor.specs.declared.value.Value.{Value}
 use Rattle.at_cbor.specs.Item.{Item, fields_of}
 use Rattle.at_cbor.specs.Spelling.{front_of, text_spelling, fields_count, spelling, fields_spelling}
@@ -37,12 +38,12 @@ pub fields_written : (seq : ℕ) (old out : List ℕ) (fs : List (List ℕ × Va
 fields_written seq old out fs k le so_far = sym (append-nil out) ∙ ap (λ (l : List (List ℕ × Value)). out ++ renumbered_spelling seq l) (sym (drop_all k fs le)) ∙ so_far
 
 -- the front of a map and its fields were written
-pub payload_written : (seq : ℕ) (old mid new : List ℕ) (vs : List (List ℕ × Value)) (fs : List (List ℕ × Item)) (n : ℕ) → mid ≡ old ++ front_of 5 n → n ≡ length fs → map pair_of vs ≡ fs → new ≡ mid ++ renumbered_spelling seq vs
+pub payload_written : (seq : ℕ) (old mid new : List ℕ) (vs : List (List ℕ × Value)) (fs : List (List ℕ × Item)) (n : ℕ) → mid ≡ old ++ front_of Major.Map n → n ≡ length fs → map pair_of vs ≡ fs → new ≡ mid ++ renumbered_spelling seq vs
     → new ≡ old ++ spelling (with_seq seq (Item.map (fields_of fs)))
 payload_written seq old mid new vs fs n first counted seen second =
     let count : n ≡ fields_count (with_value (codes "seq") (number_item seq) (fields_of fs)) = counted ∙ sym (fields_counted fs) ∙ sym (with_value_count (codes "seq") (number_item seq) (fields_of fs)) in
     second
     ∙ ap (λ (l : List ℕ). l ++ renumbered_spelling seq vs) first
-    ∙ append_assoc old (front_of 5 n) (renumbered_spelling seq vs)
-    ∙ ap (λ (k : ℕ). old ++ (front_of 5 k ++ renumbered_spelling seq vs)) count
-    ∙ ap (λ (l : List (List ℕ × Item)). old ++ (front_of 5 (fields_count (with_value (codes "seq") (number_item seq) (fields_of fs))) ++ fields_spelling (with_value (codes "seq") (number_item seq) (fields_of l)))) seen
+    ∙ append_assoc old (front_of Major.Map n) (renumbered_spelling seq vs)
+    ∙ ap (λ (k : ℕ). old ++ (front_of Major.Map k ++ renumbered_spelling seq vs)) count
+    ∙ ap (λ (l : List (List ℕ × Item)). old ++ (front_of Major.Map (fields_count (with_value (codes "seq") (number_item seq) (fields_of fs))) ++ fields_spelling (with_value (codes "seq") (number_item seq) (fields_of l)))) seen

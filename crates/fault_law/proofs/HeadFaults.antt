@@ -1,5 +1,5 @@
 -- A head that breaks a rule is read as that fault.
-use Rattle.std.proofs.Common.{◌≡◌, ℕ, zero, suc, ◌+◌, ◌*◌, ◌/◌, ◌%◌, ◌^◌, ◌<◌, ◌≤◌, ◌⊎◌, inl, inr, pos, negsuc, Bool, true, false, cond, ltb, leb, eqb, List, [], ◌∷◌, ◌++◌, length, take, drop, Option, Some, None, Ok, Err, refl, sym, ap, subst, ◌∙◌, arith}
+use Rattle.std.proofs.Common.{◌≡◌, ℕ, ◌+◌, ◌*◌, ◌%◌, ◌^◌, ◌<◌, ◌≤◌, ◌⊎◌, inl, inr, pos, negsuc, Bool, true, false, cond, ltb, leb, eqb, List, [], ◌∷◌, ◌++◌, length, take, drop, Option, Some, None, Ok, Err, refl, sym, ap, subst, ◌∙◌, arith}
 use Rattle.std.specs.Prelude.{◌≢◌}
 use Rattle.std.specs.Int.{Width, w8, w16, w32, w64, byte_len, from_be_bytes, to_be_bytes}
 use Rattle.std.proofs.lemmas.Bool.{cases_lt, lt-ltb, le-ltb, eqb-true}
@@ -7,14 +7,17 @@ use Rattle.std.proofs.lemmas.Bool.Decides.{nat_tests}
 use Rattle.std.proofs.lemmas.List.{append-nil, take_at, drop_at, length-append}
 use Rattle.at_cid.specs.Link.{IsBytes, is_link, link_at}
 use Rattle.at_cid.proofs.Links.{link_length}
+use Rattle.at_cbor.specs.declared.major.Major.{Major}
 use Rattle.at_cbor.specs.declared.fault.Cause.{Cause}
 use Rattle.at_cbor.specs.declared.head.Head.{Head}
 use Rattle.at_cbor.specs.Heads.{Flaw, wide_at, argument_at, least_of, begins_link, link_behind, whole_link, tagged, major_of, argued, head_at}
+use Rattle.at_cbor.specs.Majors.{number_of}
 use Rattle.at_cbor.specs.Spelling.{info_of, tail_of, front_of}
 use Rattle.at_cbor.specs.Faults.{wide_for, wide_len, IsCut, IsReserved, IsOtherSimple, IsLongForm, IsOutOfRange, MayBeTagged, BreaksHead}
 use Rattle.at_cbor.proofs.Steps.{chosen}
 use Rattle.at_cbor.proofs.Fronts.{IsWide, wide8, wide16, wide32, wide64, form_1, form_2, form_3, argument_again}
-use Rattle.at_cbor.proofs.HeadLaws.{IsHead, front_42, head_takes}
+use Rattle.at_cbor.proofs.HeadLaws.{IsHead, front_42, head_takes, front_again}
+use Rattle.at_cbor.proofs.Majors.{major_again, long_for}
 use Rattle.at_cbor.proofs.FaultHeads.{err_is, head_faults}
 
 -- the head is read as this fault, with all of the bytes left
@@ -73,16 +76,15 @@ reserved_fails (first ∷ bytes) h =
     ap (argued first (length (first ∷ bytes))) found ∙ rw test refl
 
 simple_fails : (here : List ℕ) → IsOtherSimple here → HeadFails Cause.BadSimple here
-unfolding head_at argued
+unfolding head_at argued major_of
 simple_fails [] h = absurd h
 simple_fails (first ∷ bytes) h =
     let found = there_by (wide_for (first % 32)) (first % 32) bytes h.1 in
     let definite : leb 28 (first % 32) ≡ false = grind (arith, nat_tests, h.2) in
-    let seven : eqb (first / 32) 7 ≡ true = grind (arith, nat_tests, h.0) in
-    let a : eqb first 244 ≡ false = grind (arith, nat_tests, h.3) in
-    let b : eqb first 245 ≡ false = grind (arith, nat_tests, h.4) in
-    let d : eqb first 246 ≡ false = grind (arith, nat_tests, h.5) in
-    ap (argued first (length (first ∷ bytes))) (argument_is (first % 32) bytes ∙ found.1) ∙ rw (definite, seven, a, b, d) refl
+    let a : eqb first 0xf4 ≡ false = grind (arith, nat_tests, h.3) in
+    let b : eqb first 0xf5 ≡ false = grind (arith, nat_tests, h.4) in
+    let d : eqb first 0xf6 ≡ false = grind (arith, nat_tests, h.5) in
+    ap (argued first (length (first ∷ bytes))) (argument_is (first % 32) bytes ∙ found.1) ∙ rw (definite, h.0, a, b, d) refl
 
 -- ---- forms that are longer than needed
 
@@ -117,33 +119,29 @@ wide_again w limit wide n rest lt =
     let long : ltb (length (to_be_bytes w n ++ rest)) (byte_len w) ≡ false = le-ltb _ _ (omega (arith, length-append (to_be_bytes w n) rest)) in
     rw (long, take_at (to_be_bytes w n) rest (byte_len w) len, drop_at (to_be_bytes w n) rest (byte_len w) len, wide.again n lt) refl
 
--- the parts of a first byte
-low_bits : (major info : ℕ) → info < 32 → (32 * major + info) % 32 ≡ info
-low_bits major info h = omega (arith, h)
-
-high_bits : (major info : ℕ) → info < 32 → (32 * major + info) / 32 ≡ major
-high_bits major info h = omega (arith, h)
+-- the low five bits of a first byte
+low_bits : (high info : ℕ) → info < 32 → (32 * high + info) % 32 ≡ info
+low_bits high info h = omega (arith, h)
 
 long_in : (w : Width) (k low limit : ℕ) → IsWide w limit → wide_for k ≡ Some w → k < 28 → least_of k ≡ low → low ≤ limit → IsBelow w low
-    → (major n : ℕ) (rest : List ℕ) → major < 7 → length (tail_of n) < byte_len w → HeadFails Cause.NotShortest ((32 * major + k) ∷ (to_be_bytes w n ++ rest))
+    → (major : Major) (n : ℕ) (rest : List ℕ) → major ≢ Major.Simple → length (tail_of n) < byte_len w → HeadFails Cause.NotShortest ((32 * number_of major + k) ∷ (to_be_bytes w n ++ rest))
 unfolding head_at argued
 long_in w k low limit wide form small least within below major n rest other shorter =
     let lt : n < low = below n shorter in
-    let info : (32 * major + k) % 32 ≡ k = low_bits major k (omega (arith, small)) in
-    let high : (32 * major + k) / 32 ≡ major = high_bits major k (omega (arith, small)) in
-    let found : argument_at ((32 * major + k) % 32) (to_be_bytes w n ++ rest) ≡ Some (n, rest) =
+    let info : (32 * number_of major + k) % 32 ≡ k = low_bits (number_of major) k (omega (arith, small)) in
+    let high = major_again major k (omega (arith, small)) in
+    let found : argument_at ((32 * number_of major + k) % 32) (to_be_bytes w n ++ rest) ≡ Some (n, rest) =
     ap (λ (i : ℕ). argument_at i (to_be_bytes w n ++ rest)) info ∙ argument_is k (to_be_bytes w n ++ rest) ∙ ap (λ (o : Option Width). by_width o k (to_be_bytes w n ++ rest)) form ∙ wide_again w limit wide n rest (omega (arith, lt, within)) in
     let definite : leb 28 k ≡ false = grind (arith, nat_tests, small) in
-    let seven : eqb major 7 ≡ false = grind (arith, nat_tests, other) in
-    let test : ltb n (least_of k) ≡ true = lt-ltb n (least_of k) (omega (arith, lt, least)) in
-    ap (argued (32 * major + k) (length ((32 * major + k) ∷ (to_be_bytes w n ++ rest)))) found ∙ rw (info, high, definite, seven, test) refl
+    let test = long_for major k n other (lt-ltb n (least_of k) (omega (arith, lt, least))) in
+    ap (argued (32 * number_of major + k) (length ((32 * number_of major + k) ∷ (to_be_bytes w n ++ rest)))) found ∙ rw (info, high, definite, test) refl
 
 -- which low five bits announce a width
 some_is : {A : Type 0} (x y : A) → (let o : Option A = Some x in o) ≡ Some y → x ≡ y
 some_is x y e = cc
 
 abbrev LongFails : ℕ → Width → Type 0
-LongFails info w = (major n : ℕ) (rest : List ℕ) → major < 7 → length (tail_of n) < byte_len w → HeadFails Cause.NotShortest ((32 * major + info) ∷ (to_be_bytes w n ++ rest))
+LongFails info w = (major : Major) (n : ℕ) (rest : List ℕ) → major ≢ Major.Simple → length (tail_of n) < byte_len w → HeadFails Cause.NotShortest ((32 * number_of major + info) ∷ (to_be_bytes w n ++ rest))
 
 long_as : (info k : ℕ) (v w : Width) → eqb info k ≡ true → Some v ≡ Some w → LongFails k v → LongFails info w
 long_as info k v w t e h = subst (λ (x : Width). LongFails info x) (some_is v w e) (subst (λ (i : ℕ). LongFails i v) (sym (eqb-true info k t)) h)
@@ -169,42 +167,24 @@ long_fails here (major, info, w, n, rest, other, form, parts, shorter) = subst (
 
 -- ---- integers
 
--- a major type and its argument are read as what they say
-pub front_read : (major n : ℕ) (rest : List ℕ) → major < 7 → n < 2 ^ 64 → head_at (front_of major n ++ rest) ≡ major_of major (length (front_of major n ++ rest)) n rest
-unfolding head_at argued
-front_read major n rest other below =
-    let reads = argument_again n rest below in
-    let small : info_of n < 28 = reads.info_below in
-    let low : (32 * major + info_of n) % 32 ≡ info_of n = low_bits major (info_of n) (omega (arith, small)) in
-    let high : (32 * major + info_of n) / 32 ≡ major = high_bits major (info_of n) (omega (arith, small)) in
-    let definite : leb 28 (info_of n) ≡ false = grind (arith, nat_tests, small) in
-    let seven : eqb major 7 ≡ false = grind (arith, nat_tests, other) in
-    ap (argued (32 * major + info_of n) (length (front_of major n ++ rest))) (ap (λ (i : ℕ). argument_at i (tail_of n ++ rest)) low ∙ reads.found)
-    ∙ rw (low, high, definite, seven, reads.shortest) refl
-
-major_range : (major left n : ℕ) (rest : List ℕ) → major < 2 → 2 ^ 63 ≤ n → major_of major left n rest ≡ Err (Cause.IntRange, left)
-unfolding major_of
-major_range zero left n rest m h = rw (le-ltb n (2 ^ 63) h) refl
-major_range (suc zero) left n rest m h = rw (le-ltb n (2 ^ 63) h) refl
-major_range (suc (suc major)) left n rest m h = absurd (omega (arith, m))
-
 range_fails : (here : List ℕ) → IsOutOfRange here → HeadFails Cause.IntRange here
-range_fails here (major, n, rest, signed, below, parts, large) =
-    subst (HeadFails Cause.IntRange) (sym parts) (front_read major n rest (omega (arith, signed)) below ∙ major_range major (length (front_of major n ++ rest)) n rest signed large)
+unfolding major_of
+range_fails here (n, rest, below, inl parts, large) = subst (HeadFails Cause.IntRange) (sym parts) (front_again Major.Unsigned n rest below ∙ rw (le-ltb n (2 ^ 63) large) refl)
+range_fails here (n, rest, below, inr parts, large) = subst (HeadFails Cause.IntRange) (sym parts) (front_again Major.Negative n rest below ∙ rw (le-ltb n (2 ^ 63) large) refl)
 
 -- ---- tags
 
-tag_read : (n : ℕ) (rest : List ℕ) → n < 2 ^ 64 → n ≢ 42 → HeadFails Cause.BadTag (front_of 6 n ++ rest)
+tag_read : (n : ℕ) (rest : List ℕ) → n < 2 ^ 64 → n ≢ 42 → HeadFails Cause.BadTag (front_of Major.Tag n ++ rest)
 unfolding major_of
 tag_read n rest below other =
     let test : eqb n 42 ≡ false = grind (arith, nat_tests, other) in
-    front_read 6 n rest (omega arith) below ∙ rw test refl
+    front_again Major.Tag n rest below ∙ rw test refl
 
 some_first : (a b : ℕ) (xs ys : List ℕ) → (let o : Option (ℕ × List ℕ) = Some (a, xs) in o) ≡ Some (b, ys) → (a ≡ b) × (xs ≡ ys)
 some_first a b xs ys e = let same = some_is (a, xs) (b, ys) e in (ap (λ (x : ℕ × List ℕ). x.0) same, ap (λ (x : ℕ × List ℕ). x.1) same)
 
 -- a tag and what is behind it are told from their bytes
-one_tag : (n : ℕ) (behind rest : List ℕ) → n < 2 ^ 64 → front_of 6 42 ++ behind ≡ front_of 6 n ++ rest → (42 ≡ n) × (behind ≡ rest)
+one_tag : (n : ℕ) (behind rest : List ℕ) → n < 2 ^ 64 → front_of Major.Tag 42 ++ behind ≡ front_of Major.Tag n ++ rest → (42 ≡ n) × (behind ≡ rest)
 one_tag n behind rest below e =
     let here = argument_again 42 behind (omega arith) in
     let there = argument_again n rest below in
@@ -236,51 +216,51 @@ tag_flaws left behind d e =
 abbrev IsLinked : List ℕ → Type 0
 IsLinked behind = (39 ≤ length behind) × MayBeTagged behind
 
-linked : (behind link rest : List ℕ) → is_link link ≡ true → front_of 6 42 ++ behind ≡ 216 ∷ 42 ∷ 88 ∷ 37 ∷ 0 ∷ (link ++ rest) → IsLinked behind
+linked : (behind link rest : List ℕ) → is_link link ≡ true → front_of Major.Tag 42 ++ behind ≡ 0xd8 ∷ 0x2a ∷ 0x58 ∷ 0x25 ∷ 0x00 ∷ (link ++ rest) → IsLinked behind
 linked behind link rest is e =
-    let all : 216 ∷ 42 ∷ behind ≡ 216 ∷ 42 ∷ 88 ∷ 37 ∷ 0 ∷ (link ++ rest) = ap (λ (l : List ℕ). l ++ behind) (sym front_42) ∙ e in
-    let parts : behind ≡ 88 ∷ 37 ∷ 0 ∷ (link ++ rest) = cc in
+    let all : 0xd8 ∷ 0x2a ∷ behind ≡ 0xd8 ∷ 0x2a ∷ 0x58 ∷ 0x25 ∷ 0x00 ∷ (link ++ rest) = ap (λ (l : List ℕ). l ++ behind) (sym front_42) ∙ e in
+    let parts : behind ≡ 0x58 ∷ 0x25 ∷ 0x00 ∷ (link ++ rest) = cc in
     let len : length link ≡ 36 = link_length link is in
-    let front : take 39 behind ++ [] ≡ 88 ∷ 37 ∷ 0 ∷ link = append-nil (take 39 behind) ∙ ap (take 39) parts ∙ take_at (88 ∷ 37 ∷ 0 ∷ link) rest 39 (omega (arith, len)) in
+    let front : take 39 behind ++ [] ≡ 0x58 ∷ 0x25 ∷ 0x00 ∷ link = append-nil (take 39 behind) ∙ ap (take 39) parts ∙ take_at (0x58 ∷ 0x25 ∷ 0x00 ∷ link) rest 39 (omega (arith, len)) in
     (omega (arith, ap (λ (l : List ℕ). length l) parts, length-append link rest, len), ([], (link, is, front)))
 
 -- a first byte that is none of a tag
 first_is : (a b : ℕ) (xs ys : List ℕ) → a ∷ xs ≡ b ∷ ys → a ≡ b
 first_is a b xs ys e = cc
 
-other_first : (major n : ℕ) (behind rest : List ℕ) → major < 6 → n < 2 ^ 64 → front_of 6 42 ++ behind ≡ front_of major n ++ rest → ⊥
+other_first : (major : Major) (n : ℕ) (behind rest : List ℕ) → number_of major < 6 → n < 2 ^ 64 → front_of Major.Tag 42 ++ behind ≡ front_of major n ++ rest → ⊥
 other_first major n behind rest m below e =
     let here = argument_again 42 behind (omega arith) in
     let there = argument_again n rest below in
-    absurd (omega (arith, m, here.info_below, there.info_below, first_is (32 * 6 + info_of 42) (32 * major + info_of n) (tail_of 42 ++ behind) (tail_of n ++ rest) e))
+    absurd (omega (arith, m, here.info_below, there.info_below, first_is (32 * 6 + info_of 42) (32 * number_of major + info_of n) (tail_of 42 ++ behind) (tail_of n ++ rest) e))
 
-link_read : (behind : List ℕ) (x : Head × List ℕ) → IsHead (front_of 6 42 ++ behind) x → IsLinked behind
-link_read behind (Head.Int (pos n), rest) h = absurd (other_first 0 n behind rest (omega arith) (omega (arith, h.1)) h.0.parts)
-link_read behind (Head.Int (negsuc n), rest) h = absurd (other_first 1 n behind rest (omega arith) (omega (arith, h.1)) h.0.parts)
-link_read behind (Head.Bytes n, rest) h = absurd (other_first 2 n behind rest (omega arith) h.1 h.0.parts)
-link_read behind (Head.Text n, rest) h = absurd (other_first 3 n behind rest (omega arith) h.1 h.0.parts)
-link_read behind (Head.List n, rest) h = absurd (other_first 4 n behind rest (omega arith) h.1 h.0.parts)
-link_read behind (Head.Map n, rest) h = absurd (other_first 5 n behind rest (omega arith) h.1 h.0.parts)
+link_read : (behind : List ℕ) (x : Head × List ℕ) → IsHead (front_of Major.Tag 42 ++ behind) x → IsLinked behind
+link_read behind (Head.Int (pos n), rest) h = absurd (other_first Major.Unsigned n behind rest (omega arith) (omega (arith, h.1)) h.0.parts)
+link_read behind (Head.Int (negsuc n), rest) h = absurd (other_first Major.Negative n behind rest (omega arith) (omega (arith, h.1)) h.0.parts)
+link_read behind (Head.Bytes n, rest) h = absurd (other_first Major.Bytes n behind rest (omega arith) h.1 h.0.parts)
+link_read behind (Head.Text n, rest) h = absurd (other_first Major.Text n behind rest (omega arith) h.1 h.0.parts)
+link_read behind (Head.List n, rest) h = absurd (other_first Major.List n behind rest (omega arith) h.1 h.0.parts)
+link_read behind (Head.Map n, rest) h = absurd (other_first Major.Map n behind rest (omega arith) h.1 h.0.parts)
 link_read behind (Head.Link link, rest) h = linked behind link rest h.1.0 h.0.parts
-link_read behind (Head.Bool false, rest) h = absurd (omega (arith, first_is 216 244 (42 ∷ behind) rest (ap (λ (l : List ℕ). l ++ behind) (sym front_42) ∙ h.0.parts)))
-link_read behind (Head.Bool true, rest) h = absurd (omega (arith, first_is 216 245 (42 ∷ behind) rest (ap (λ (l : List ℕ). l ++ behind) (sym front_42) ∙ h.0.parts)))
-link_read behind (Head.Null, rest) h = absurd (omega (arith, first_is 216 246 (42 ∷ behind) rest (ap (λ (l : List ℕ). l ++ behind) (sym front_42) ∙ h.0.parts)))
+link_read behind (Head.Bool false, rest) h = absurd (omega (arith, first_is 0xd8 0xf4 (0x2a ∷ behind) rest (ap (λ (l : List ℕ). l ++ behind) (sym front_42) ∙ h.0.parts)))
+link_read behind (Head.Bool true, rest) h = absurd (omega (arith, first_is 0xd8 0xf5 (0x2a ∷ behind) rest (ap (λ (l : List ℕ). l ++ behind) (sym front_42) ∙ h.0.parts)))
+link_read behind (Head.Null, rest) h = absurd (omega (arith, first_is 0xd8 0xf6 (0x2a ∷ behind) rest (ap (λ (l : List ℕ). l ++ behind) (sym front_42) ∙ h.0.parts)))
 
-module _ (behind : List ℕ) (fits : IsBytes (front_of 6 42 ++ behind)) where
+module _ (behind : List ℕ) (fits : IsBytes (front_of Major.Tag 42 ++ behind)) where
   abbrev left : ℕ
-  left = length (front_of 6 42 ++ behind)
+  left = length (front_of Major.Tag 42 ++ behind)
 
-  behind_read : head_at (front_of 6 42 ++ behind) ≡ tagged left behind
+  behind_read : head_at (front_of Major.Tag 42 ++ behind) ≡ tagged left behind
   unfolding major_of
-  behind_read = front_read 6 42 behind (omega arith) (omega arith)
+  behind_read = front_again Major.Tag 42 behind (omega arith)
 
-  not_cut : IsCut (front_of 6 42 ++ behind) → ⊥
+  not_cut : IsCut (front_of Major.Tag 42 ++ behind) → ⊥
   unfolding info_of tail_of
   not_cut cut = absurd (omega (arith, cut))
 
   -- a short tag may be one of a link, and another is none
   short_may : tagged left behind ≡ Err (Cause.Short, left) → (length behind < 39) × MayBeTagged behind
-  short_may e = elim (head_faults (front_of 6 42 ++ behind) (Cause.Short, left) fits (behind_read ∙ e)).1 [
+  short_may e = elim (head_faults (front_of Major.Tag 42 ++ behind) (Cause.Short, left) fits (behind_read ∙ e)).1 [
     | inl cut ↦ absurd (not_cut cut)
     | inr (rest, parts, short, may) ↦
         let same : rest ≡ behind = sym (one_tag 42 behind rest (omega arith) parts).1 in
@@ -288,23 +268,23 @@ module _ (behind : List ℕ) (fits : IsBytes (front_of 6 42 ++ behind)) where
   ]
 
   bad_may_not : tagged left behind ≡ Err (Cause.BadTag, left) → MayBeTagged behind → ⊥
-  bad_may_not e may = elim (head_faults (front_of 6 42 ++ behind) (Cause.BadTag, left) fits (behind_read ∙ e)).1 [
+  bad_may_not e may = elim (head_faults (front_of Major.Tag 42 ++ behind) (Cause.BadTag, left) fits (behind_read ∙ e)).1 [
     | inl (n, rest, below, parts, other) ↦ absurd (other (sym (one_tag n behind rest below parts).0))
     | inr (rest, parts, none) ↦ absurd (none (subst MayBeTagged (one_tag 42 behind rest (omega arith) parts).1 may))
   ]
 
-  none_read : (MayBeTagged behind → ⊥) → HeadFails Cause.BadTag (front_of 6 42 ++ behind)
+  none_read : (MayBeTagged behind → ⊥) → HeadFails Cause.BadTag (front_of Major.Tag 42 ++ behind)
   none_read none = behind_read ∙ elim (tagged left behind) as (λ r. tagged left behind ≡ r → r ≡ Err (Cause.BadTag, left)) [
-    | Ok x ↦ λ e. absurd (none (link_read behind x (head_takes (front_of 6 42 ++ behind) x fits (behind_read ∙ e))).1)
+    | Ok x ↦ λ e. absurd (none (link_read behind x (head_takes (front_of Major.Tag 42 ++ behind) x fits (behind_read ∙ e))).1)
     | Err d ↦ λ e. elim (tag_flaws left behind d e) [
       | inl f ↦ absurd (none (short_may (e ∙ ap (λ (g : Flaw). Err g) (sym f))).1)
       | inr f ↦ ap (λ (g : Flaw). Err g) (sym f)
     ]
   ] refl
 
-  cut_read : length behind < 39 → MayBeTagged behind → HeadFails Cause.Short (front_of 6 42 ++ behind)
+  cut_read : length behind < 39 → MayBeTagged behind → HeadFails Cause.Short (front_of Major.Tag 42 ++ behind)
   cut_read short may = behind_read ∙ elim (tagged left behind) as (λ r. tagged left behind ≡ r → r ≡ Err (Cause.Short, left)) [
-    | Ok x ↦ λ e. absurd (omega (arith, short, (link_read behind x (head_takes (front_of 6 42 ++ behind) x fits (behind_read ∙ e))).0))
+    | Ok x ↦ λ e. absurd (omega (arith, short, (link_read behind x (head_takes (front_of Major.Tag 42 ++ behind) x fits (behind_read ∙ e))).0))
     | Err d ↦ λ e. elim (tag_flaws left behind d e) [
       | inl f ↦ ap (λ (g : Flaw). Err g) (sym f)
       | inr f ↦ absurd (bad_may_not (e ∙ ap (λ (g : Flaw). Err g) (sym f)) may)

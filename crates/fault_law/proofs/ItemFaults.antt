@@ -4,6 +4,7 @@ use Rattle.std.specs.Str.{is_utf8}
 use Rattle.std.proofs.lemmas.Bool.{lt-ltb, le-ltb}
 use Rattle.std.proofs.lemmas.List.{length-append, take_at, drop_at}
 use Rattle.at_cid.specs.Link.{IsBytes}
+use Rattle.at_cbor.specs.declared.major.Major.{Major}
 use Rattle.at_cbor.specs.declared.fault.Cause.{Cause}
 use Rattle.at_cbor.specs.declared.head.Head.{Head}
 use Rattle.at_cbor.specs.Item.{Item, items_of, fields_of, is_above, last_key}
@@ -59,19 +60,19 @@ key_head_fails before here cause fits h = ap (λ (r : Reading Head). r >>= λ x.
 
 -- a text's head, and what the reader of the key makes of the text
 key_text : (before : Option (List ℕ)) (n : ℕ) (behind : List ℕ) (answer : Reading (List ℕ)) → n < 2 ^ 64
-    → (text_at (length (front_of 3 n ++ behind)) n behind >>= λ k. cond (is_above before k.0) (Ok k) (Err (Cause.KeyOrder, length (front_of 3 n ++ behind)))) ≡ answer → key_at before (front_of 3 n ++ behind) ≡ answer
+    → (text_at (length (front_of Major.Text n ++ behind)) n behind >>= λ k. cond (is_above before k.0) (Ok k) (Err (Cause.KeyOrder, length (front_of Major.Text n ++ behind)))) ≡ answer → key_at before (front_of Major.Text n ++ behind) ≡ answer
 unfolding key_at key_of
-key_text before n behind answer below e = after_head (Head.Text n) behind (λ x. key_of before (length (front_of 3 n ++ behind)) x.0 x.1) answer below e
+key_text before n behind answer below e = after_head (Head.Text n) behind (λ x. key_of before (length (front_of Major.Text n ++ behind)) x.0 x.1) answer below e
 
 key_cut_fails : (before : Option (List ℕ)) (here : List ℕ) → IsStringCut 3 here → KeyFails before Cause.Short here
 key_cut_fails before here (n, rest, below, parts, short) =
-    subst (KeyFails before Cause.Short) (sym parts) (key_text before n rest _ below (rw (text_cut (length (front_of 3 n ++ rest)) n rest short) refl))
+    subst (KeyFails before Cause.Short) (sym parts) (key_text before n rest _ below (rw (text_cut (length (front_of Major.Text n ++ rest)) n rest short) refl))
 
 -- a whole text where a key is due
 text_key : (before : Option (List ℕ)) (text rest : List ℕ) (answer : Reading (List ℕ)) → length text < 2 ^ 64
     → (text_at (length (text_spelling text ++ rest)) (length text) (text ++ rest) >>= λ k. cond (is_above before k.0) (Ok k) (Err (Cause.KeyOrder, length (text_spelling text ++ rest)))) ≡ answer → key_at before (text_spelling text ++ rest) ≡ answer
 text_key before text rest answer below e =
-    let grouped : text_spelling text ++ rest ≡ front_of 3 (length text) ++ (text ++ rest) = append_assoc (front_of 3 (length text)) text rest in
+    let grouped : text_spelling text ++ rest ≡ front_of Major.Text (length text) ++ (text ++ rest) = append_assoc (front_of Major.Text (length text)) text rest in
     ap (key_at before) grouped
     ∙ key_text before (length text) (text ++ rest) answer below (subst (λ (left : ℕ). (text_at left (length text) (text ++ rest) >>= λ k. cond (is_above before k.0) (Ok k) (Err (Cause.KeyOrder, left))) ≡ answer) (ap (λ (l : List ℕ). length l) grouped) e)
 
@@ -132,18 +133,18 @@ value_behind depth head behind answer holds e =
 bytes_cut_fails : (depth : ℕ) (here : List ℕ) → IsStringCut 2 here → ValueFails depth Cause.Short here
 unfolding body_of
 bytes_cut_fails depth here (n, rest, below, parts, short) =
-    subst (ValueFails depth Cause.Short) (sym parts) (value_behind depth (Head.Bytes n) rest _ below (rw (string_cut (length (front_of 2 n ++ rest)) n rest short) refl))
+    subst (ValueFails depth Cause.Short) (sym parts) (value_behind depth (Head.Bytes n) rest _ below (rw (string_cut (length (front_of Major.Bytes n ++ rest)) n rest short) refl))
 
 text_cut_fails : (depth : ℕ) (here : List ℕ) → IsStringCut 3 here → ValueFails depth Cause.Short here
 unfolding body_of
 text_cut_fails depth here (n, rest, below, parts, short) =
-    subst (ValueFails depth Cause.Short) (sym parts) (value_behind depth (Head.Text n) rest _ below (rw (text_cut (length (front_of 3 n ++ rest)) n rest short) refl))
+    subst (ValueFails depth Cause.Short) (sym parts) (value_behind depth (Head.Text n) rest _ below (rw (text_cut (length (front_of Major.Text n ++ rest)) n rest short) refl))
 
 utf8_fails : (depth : ℕ) (here : List ℕ) → IsNoUtf8 here → ValueFails depth Cause.BadText here
 unfolding body_of
 utf8_fails depth here (text, rest, below, parts, bad) =
-    let grouped : here ≡ front_of 3 (length text) ++ (text ++ rest) = parts ∙ append_assoc (front_of 3 (length text)) text rest in
-    subst (ValueFails depth Cause.BadText) (sym grouped) (value_behind depth (Head.Text (length text)) (text ++ rest) _ below (rw (text_bad (length (front_of 3 (length text) ++ (text ++ rest))) text rest bad) refl))
+    let grouped : here ≡ front_of Major.Text (length text) ++ (text ++ rest) = parts ∙ append_assoc (front_of Major.Text (length text)) text rest in
+    subst (ValueFails depth Cause.BadText) (sym grouped) (value_behind depth (Head.Text (length text)) (text ++ rest) _ below (rw (text_bad (length (front_of Major.Text (length text) ++ (text ++ rest))) text rest bad) refl))
 
 deep_fails : (here : List ℕ) → IsContainer here → ValueFails 0 Cause.TooDeep here
 unfolding body_of
@@ -196,7 +197,7 @@ module _ (depth : ℕ) where
   value_stops before key rest d text above e n = rw (key_again before key rest text above, e) refl
 
   -- a map that stops behind the fields that were read
-  map_stops : (n : ℕ) (fs : List (List ℕ × Item)) (rest : List ℕ) (d : Flaw) → length fs < n → n < 2 ^ 64 → FieldsFit (fields_of fs) None depth → FieldsStop (last_key fs) rest d → item_at (suc depth) (front_of 5 n ++ (fields_spelling (fields_of fs) ++ rest)) ≡ Err d
+  map_stops : (n : ℕ) (fs : List (List ℕ × Item)) (rest : List ℕ) (d : Flaw) → length fs < n → n < 2 ^ 64 → FieldsFit (fields_of fs) None depth → FieldsStop (last_key fs) rest d → item_at (suc depth) (front_of Major.Map n ++ (fields_spelling (fields_of fs) ++ rest)) ≡ Err d
   unfolding body_of
   map_stops n fs rest d fewer below fit stop =
       let stopped : fields_at (item_at depth) None n (fields_spelling (fields_of fs) ++ rest) ≡ Err d = fields_stop None n fs rest d fewer fit (subst (λ (k : Option (List ℕ)). FieldsStop k rest d) (sym (last_of_all fs)) stop) in
@@ -206,10 +207,10 @@ module _ (depth : ℕ) where
   open_fails : (o : Open) (rest : List ℕ) (d : Flaw) → OpenFits o depth → item_at depth rest ≡ Err d → item_at (suc depth) (open_spelling o ++ rest) ≡ Err d
   unfolding body_of
   open_fails (in_list n is) rest d (fewer, below, fit) e =
-      ap (item_at (suc depth)) (append_assoc (front_of 4 n) (items_spelling (items_of is)) rest)
+      ap (item_at (suc depth)) (append_assoc (front_of Major.List n) (items_spelling (items_of is)) rest)
       ∙ value_behind (suc depth) (Head.List n) (items_spelling (items_of is) ++ rest) (Err d) below (rw (items_stop n is rest d fewer fit e) refl)
   open_fails (in_map n fs key) rest d (fewer, below, fit, text, above) e =
-      ap (item_at (suc depth)) (append_assoc (front_of 5 n) (fields_spelling (fields_of fs) ++ text_spelling key) rest ∙ ap (λ (l : List ℕ). front_of 5 n ++ l) (append_assoc (fields_spelling (fields_of fs)) (text_spelling key) rest))
+      ap (item_at (suc depth)) (append_assoc (front_of Major.Map n) (fields_spelling (fields_of fs) ++ text_spelling key) rest ∙ ap (λ (l : List ℕ). front_of Major.Map n ++ l) (append_assoc (fields_spelling (fields_of fs)) (text_spelling key) rest))
       ∙ map_stops n fs (text_spelling key ++ rest) d fewer below fit (value_stops (last_key fs) key rest d text above e)
 
 -- each of the lists and maps fails as what is due inside the last
@@ -230,14 +231,14 @@ faulty_at : (depth : ℕ) (bytes here : List ℕ) (cause : Cause) → IsBytes by
 faulty_at depth bytes here cause fits (inl (os, are, parts, breaks)) =
     ap (item_at depth) parts ∙ opened_fail os depth here (cause, length here) are (value_fails (depth - length os) here cause (ends_in_bytes bytes (opened os) here fits parts) breaks)
 faulty_at depth bytes here cause fits (inr (os, n, fs, are, room, fewer, below, fit, parts, breaks)) =
-    let map_fits : IsBytes (front_of 5 n ++ (fields_spelling (fields_of fs) ++ here)) = ends_in_bytes bytes (opened os) _ fits parts in
-    let fields_fits : IsBytes (fields_spelling (fields_of fs) ++ here) = ends_in_bytes _ (front_of 5 n) _ map_fits refl in
+    let map_fits : IsBytes (front_of Major.Map n ++ (fields_spelling (fields_of fs) ++ here)) = ends_in_bytes bytes (opened os) _ fits parts in
+    let fields_fits : IsBytes (fields_spelling (fields_of fs) ++ here) = ends_in_bytes _ (front_of Major.Map n) _ map_fits refl in
     let here_fits : IsBytes here = ends_in_bytes _ (fields_spelling (fields_of fs)) here fields_fits refl in
     let inside_one : suc (depth - length os - 1) ≡ depth - length os = omega (arith, room) in
     let stops = key_stops (depth - length os - 1) (last_key fs) here (cause, length here) (key_fails (last_key fs) here cause here_fits breaks) in
-    let fails : item_at (depth - length os) (front_of 5 n ++ (fields_spelling (fields_of fs) ++ here)) ≡ Err (cause, length here) =
-    subst (λ (k : ℕ). item_at k (front_of 5 n ++ (fields_spelling (fields_of fs) ++ here)) ≡ Err (cause, length here)) inside_one (map_stops (depth - length os - 1) n fs here (cause, length here) fewer below fit stops) in
-    ap (item_at depth) parts ∙ opened_fail os depth (front_of 5 n ++ (fields_spelling (fields_of fs) ++ here)) (cause, length here) are fails
+    let fails : item_at (depth - length os) (front_of Major.Map n ++ (fields_spelling (fields_of fs) ++ here)) ≡ Err (cause, length here) =
+    subst (λ (k : ℕ). item_at k (front_of Major.Map n ++ (fields_spelling (fields_of fs) ++ here)) ≡ Err (cause, length here)) inside_one (map_stops (depth - length os - 1) n fs here (cause, length here) fewer below fit stops) in
+    ap (item_at depth) parts ∙ opened_fail os depth (front_of Major.Map n ++ (fields_spelling (fields_of fs) ++ here)) (cause, length here) are fails
 
 pub fault_read : (bytes : List ℕ) (cause : Cause) (place : ℕ) → IsBytes bytes → IsFaulty bytes cause place → decoded bytes ≡ Err (cause, place)
 unfolding decoded

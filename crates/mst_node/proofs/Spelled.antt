@@ -4,6 +4,7 @@ use Rattle.std.proofs.lemmas.List.{length-take}
 use Rattle.std.proofs.lemmas.Option.{same_Some}
 use Rattle.at_cid.specs.Link.{IsBytes, IsLink, is_link}
 use Rattle.at_cid.specs.Order.{key_cmp}
+use Rattle.at_cbor.specs.declared.major.Major.{Major}
 use Rattle.at_cbor.specs.Item.{Item, items_of}
 use Rattle.at_cbor.specs.Spelling.{info_of, tail_of, front_of, link_spelling, spelling, items_spelling, items_count}
 use Rattle.at_cbor.proofs.Steps.{IsBytes-take, Takes, Takes-then}
@@ -25,7 +26,7 @@ use Rattle.mst_node.proofs.Follows.{Follows, test_follows, follows_test}
 -- the bytes of an entry's parts, with what stands behind them
 abbrev pub parts_before : Parts → List ℕ → List ℕ
 parts_before p rest =
-    0xa4 ∷ 0x61 ∷ 0x6b ∷ (spelling (Item.bytes p.tail) ++ (0x61 ∷ 0x70 ∷ (front_of 0 p.count ++ (0x61 ∷ 0x74 ∷ (spelling (link_item p.right) ++ (0x61 ∷ 0x76 ∷ (link_spelling p.value ++ rest)))))))
+    0xa4 ∷ 0x61 ∷ 0x6b ∷ (spelling (Item.bytes p.tail) ++ (0x61 ∷ 0x70 ∷ (front_of Major.Unsigned p.count ++ (0x61 ∷ 0x74 ∷ (spelling (link_item p.right) ++ (0x61 ∷ 0x76 ∷ (link_spelling p.value ++ rest)))))))
 
 record TakesParts (bytes : List ℕ) (x : Parts × List ℕ) : Type 0 where
   pub parts : bytes ≡ parts_before x.0 x.1
@@ -40,14 +41,14 @@ parts_take bytes x fits e =
     let a = bind_some (behind (0xa4 ∷ 0x61 ∷ 0x6b ∷ []) bytes) _ x e in let ta = behind_takes _ bytes a.0 fits a.1 in
     let k = bind_some (string_at a.0) _ x a.2 in let tk = string_takes a.0 k.0 ta.rest_fits k.1 in
     let b = bind_some (behind (0x61 ∷ 0x70 ∷ []) k.0.1) _ x k.2 in let tb = behind_takes _ k.0.1 b.0 tk.0.rest_fits b.1 in
-    let p = bind_some (number_at 0 b.0) _ x b.2 in let tp = number_takes 0 b.0 p.0 tb.rest_fits p.1 in
+    let p = bind_some (number_at Major.Unsigned b.0) _ x b.2 in let tp = number_takes Major.Unsigned b.0 p.0 tb.rest_fits p.1 in
     let c = bind_some (behind (0x61 ∷ 0x74 ∷ []) p.0.1) _ x p.2 in let tc = behind_takes _ p.0.1 c.0 tp.0.rest_fits c.1 in
     let t = bind_some (child_at c.0) _ x c.2 in let tt = child_takes c.0 t.0 tc.rest_fits t.1 in
     let d = bind_some (behind (0x61 ∷ 0x76 ∷ []) t.0.1) _ x t.2 in let td = behind_takes _ t.0.1 d.0 tt.0.rest_fits d.1 in
     let v = bind_some (link_from_front d.0) _ x d.2 in let tv = link_takes d.0 v.0 td.rest_fits v.1 in
     subst (TakesParts bytes) (same_Some (parts_of k.0.0 p.0.0 t.0.0 v.0.0, v.0.1) x v.2) (record {
       parts = ta.parts ∙ ap (λ (l : List ℕ). 0xa4 ∷ 0x61 ∷ 0x6b ∷ l) (tk.0.parts ∙ ap (λ (l : List ℕ). spelling (Item.bytes k.0.0) ++ l) (tb.parts ∙ ap (λ (l : List ℕ). 0x61 ∷ 0x70 ∷ l)
-          (tp.0.parts ∙ ap (λ (l : List ℕ). front_of 0 p.0.0 ++ l) (tc.parts ∙ ap (λ (l : List ℕ). 0x61 ∷ 0x74 ∷ l)
+          (tp.0.parts ∙ ap (λ (l : List ℕ). front_of Major.Unsigned p.0.0 ++ l) (tc.parts ∙ ap (λ (l : List ℕ). 0x61 ∷ 0x74 ∷ l)
           (tt.0.parts ∙ ap (λ (l : List ℕ). spelling (link_item t.0.0) ++ l) (td.parts ∙ ap (λ (l : List ℕ). 0x61 ∷ 0x76 ∷ l) tv.0.parts))))));
       rest_fits = tv.0.rest_fits;
       tail = tk.1;
@@ -60,7 +61,7 @@ unfolding parts_at behind
 parts_again p rest short low right value =
     let d : List ℕ = link_spelling p.value ++ rest in
     let c : List ℕ = spelling (link_item p.right) ++ (0x61 ∷ 0x76 ∷ (link_spelling p.value ++ rest)) in
-    rw (string_again p.tail _ short, number_again 0 p.count _ low, child_again p.right _ right, link_again p.value rest value) refl
+    rw (string_again p.tail _ short, number_again Major.Unsigned p.count _ low, child_again p.right _ right, link_again p.value rest value) refl
 
 -- the parts of an entry, behind a key
 abbrev pub parts_in : List ℕ → Entry → Parts
@@ -72,7 +73,7 @@ regroup k p t v rest = simp (append_assoc, append-nil)
 pub entry_parts : (last : List ℕ) (e : Entry) (rest : List ℕ) → spelling (entry_item last e) ++ rest ≡ parts_before (parts_in last e) rest
 unfolding info_of tail_of
 entry_parts last e rest =
-    ap (λ (l : List ℕ). 0xa4 ∷ 0x61 ∷ 0x6b ∷ l) (regroup (spelling (Item.bytes (drop (shared last e.key) e.key))) (front_of 0 (shared last e.key)) (spelling (link_item e.right)) (link_spelling e.value) rest)
+    ap (λ (l : List ℕ). 0xa4 ∷ 0x61 ∷ 0x6b ∷ l) (regroup (spelling (Item.bytes (drop (shared last e.key) e.key))) (front_of Major.Unsigned (shared last e.key)) (spelling (link_item e.right)) (link_spelling e.value) rest)
 
 -- ---- entries
 
@@ -170,8 +171,8 @@ pub node_take : (block : List ℕ) (n : Node) → IsBytes block → node_at bloc
 unfolding node_at front_at end_at
 node_take block n fits e =
     let c = bind_some (front_at block) _ n e in
-    let f = bind_some (behind (0xa2 ∷ 0x61 ∷ 0x65 ∷ []) block) (number_at 4) c.0 c.1 in let tf = behind_takes _ block f.0 fits f.1 in
-    let tc = number_takes 4 f.0 c.0 tf.rest_fits f.2 in
+    let f = bind_some (behind (0xa2 ∷ 0x61 ∷ 0x65 ∷ []) block) (number_at Major.List) c.0 c.1 in let tf = behind_takes _ block f.0 fits f.1 in
+    let tc = number_takes Major.List f.0 c.0 tf.rest_fits f.2 in
     let es = bind_some (entries_at c.0.0 [] c.0.1) _ n c.2 in let te = entries_take c.0.0 [] c.0.1 es.0 (λ i. omega arith) tc.0.rest_fits es.1 in
     let l = bind_some (end_at es.0.1) _ n es.2 in
     let b = bind_some (behind (0x61 ∷ 0x6c ∷ []) es.0.1) _ l.0 l.1 in let tb = behind_takes _ es.0.1 b.0 te.taken.rest_fits b.1 in
@@ -181,8 +182,8 @@ node_take block n fits e =
     let count : c.0.0 ≡ items_count (items_of (entry_items [] es.0.0)) = sym te.count ∙ sym (entries_counted [] es.0.0) in
     let last : b.0 ≡ spelling (link_item k.0.0) ++ [] = tk.0.parts ∙ ap (λ (r : List ℕ). spelling (link_item k.0.0) ++ r) all.0 in
     let whole : block ≡ node_bytes k.0.0 es.0.0 =
-    tf.parts ∙ ap (λ (r : List ℕ). 0xa2 ∷ 0x61 ∷ 0x65 ∷ r) (tc.0.parts ∙ ap (λ (m : ℕ). front_of 4 m ++ c.0.1) count
-    ∙ ap (λ (r : List ℕ). front_of 4 (items_count (items_of (entry_items [] es.0.0))) ++ r) (te.taken.parts
+    tf.parts ∙ ap (λ (r : List ℕ). 0xa2 ∷ 0x61 ∷ 0x65 ∷ r) (tc.0.parts ∙ ap (λ (m : ℕ). front_of Major.List m ++ c.0.1) count
+    ∙ ap (λ (r : List ℕ). front_of Major.List (items_count (items_of (entry_items [] es.0.0))) ++ r) (te.taken.parts
     ∙ ap (λ (r : List ℕ). items_spelling (items_of (entry_items [] es.0.0)) ++ r) (tb.parts ∙ ap (λ (r : List ℕ). 0x61 ∷ 0x6c ∷ r) last))) ∙ sym (node_parts k.0.0 es.0.0) in
     subst (Spells block) (left_is ∙ same_Some (l.0, es.0.0) n l.2) (record { is_node = record { left_link = tk.1; formed = te.formed; ascend = to_none es.0.0 te.ascend }; spelled = whole })
 
@@ -193,7 +194,7 @@ node_again left es is low =
     let counted = entries_counted [] es in
     let read : entries_at (items_count (items_of (entry_items [] es))) [] (items_spelling (items_of (entry_items [] es)) ++ (0x61 ∷ end_bytes left)) ≡ Some (es, 0x61 ∷ end_bytes left) =
     ap (λ (n : ℕ). entries_at n [] (B ++ (0x61 ∷ end_bytes left))) counted ∙ entries_again [] es (0x61 ∷ end_bytes left) is.formed (from_none es is.formed is.ascend) in
-    ap node_at (node_parts left es) ∙ rw (number_again 4 c (B ++ (0x61 ∷ end_bytes left)) (omega arith), read, child_again left [] is.left_link) refl
+    ap node_at (node_parts left es) ∙ rw (number_again Major.List c (B ++ (0x61 ∷ end_bytes left)) (omega arith), read, child_again left [] is.left_link) refl
 
 -- where no node is taken from a block, it spells none
 pub untaken : (f : NodeFault) (block : List ℕ) (n : Node) → length block < 2 ^ 64 → IsTaken (λ (x : Node). x) (Err f) (node_at block) → f ≡ NodeFault.BadNode → Spells block n → ⊥

@@ -1,6 +1,7 @@
 -- What a node is taken from: its pieces at the front of bytes, each with what stands behind it, or nothing where it doesn't stand
 -- in front. (That what is taken is exactly what is spelled is proved in proofs/Spelled.antt.)
 use Rattle.std.specs.Prelude.{◌≡◌, ⊤, ℕ, zero, suc, ◌-◌, Bool, true, false, ◌&&◌, nat_lt, nat_le, if◌then◌else◌, List, [], ◌∷◌, ◌++◌, length, take, drop, Option, Some, None, Result, Ok, Err}
+use Rattle.at_cbor.specs.declared.major.Major.{Major}
 use Rattle.at_cbor.specs.Taking.{◌>>=◌, Taking, behind, all_of, number_at, string_at, link_from_front, child_at}
 use Rattle.mst_list.specs.declared.item.TheConstants.{MOST_KEY_BYTES}
 use Rattle.mst_node.specs.declared.entry.Entry.{Entry}
@@ -22,7 +23,7 @@ parts_at bytes = do
   a ← behind (0xa4 ∷ 0x61 ∷ 0x6b ∷ []) bytes
   k ← string_at a
   b ← behind (0x61 ∷ 0x70 ∷ []) k.1
-  p ← number_at 0 b
+  p ← number_at Major.Unsigned b
   c ← behind (0x61 ∷ 0x74 ∷ []) p.1
   t ← child_at c
   d ← behind (0x61 ∷ 0x76 ∷ []) t.1
@@ -56,7 +57,7 @@ entries_at (suc n) last bytes = do
 
 -- how many entries the node has, and the bytes behind its front
 unfoldable pub front_at : List ℕ → Taking ℕ
-front_at bytes = behind (0xa2 ∷ 0x61 ∷ 0x65 ∷ []) bytes >>= number_at 4
+front_at bytes = behind (0xa2 ∷ 0x61 ∷ 0x65 ∷ []) bytes >>= number_at Major.List
 
 -- the link to the left, which ends the node
 unfoldable pub end_at : List ℕ → Option (Option (List ℕ))

@@ -8,7 +8,7 @@ ghost use Rattle.mst_node.specs.Taking.{IsTaken, parts_of, parts_at, goes_above,
 use crate::entries::Entries;
 use crate::entry::Entry;
 use crate::fault::NodeFault;
-use at_cbor::{take_bytes, take_child, take_link, take_list_front, take_number};
+use at_cbor::{Major, take_bytes, take_child, take_link, take_list_front, take_number};
 use at_cid::{Cid, Memory, Octets};
 use mst_list::MOST_KEY_BYTES;
 use std::alloc::Global;
@@ -58,7 +58,7 @@ fn take_parts(bytes: &[u8]) -> Option<(Parts, &[u8])>
     let Some(rest) = take_letter(b'p', rest) else {
         return None;
     };
-    let Some((count, rest)) = take_number(0, rest) else {
+    let Some((count, rest)) = take_number(Major::Unsigned, rest) else {
         return None;
     };
     let Some(rest) = take_letter(b't', rest) else {

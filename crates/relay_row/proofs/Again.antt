@@ -4,6 +4,7 @@ use Rattle.std.proofs.lemmas.Bool.{ltb-true, leb-true, eqb-true, eq-eqb, lt-ltb,
 use Rattle.std.proofs.lemmas.Bool.Decides.{nat_tests, eqb_tells}
 use Rattle.std.specs.Str.{is_utf8}
 use Rattle.at_cid.specs.Link.{IsBytes, is_link, kind_of}
+use Rattle.at_cbor.specs.declared.major.Major.{Major}
 use Rattle.at_cbor.specs.Item.{Item, items_of}
 use Rattle.at_cbor.specs.Spelling.{front_of, spelling, items_spelling, info_of, tail_of, IsText, IsString}
 use Rattle.at_cbor.proofs.Fronts.{form_0}
@@ -32,11 +33,11 @@ pub then_is : (is : List Item) (rest : List ℕ) → spell is ++ rest ≡ then_s
 then_is [] rest = refl
 then_is (i ∷ is) rest = append_assoc (spelling i) (spell is) rest ∙ ap (λ (t : List ℕ). spelling i ++ t) (then_is is rest)
 
-pub list_then : (is : List Item) (rest : List ℕ) → spelling (list is) ++ rest ≡ front_of 4 (length is) ++ then_spell is rest
+pub list_then : (is : List Item) (rest : List ℕ) → spelling (list is) ++ rest ≡ front_of Major.List (length is) ++ then_spell is rest
 list_then is rest =
-    ap (λ (n : ℕ). (front_of 4 n ++ spell is) ++ rest) (items_count_is is)
-    ∙ append_assoc (front_of 4 (length is)) (spell is) rest
-    ∙ ap (λ (t : List ℕ). front_of 4 (length is) ++ t) (then_is is rest)
+    ap (λ (n : ℕ). (front_of Major.List n ++ spell is) ++ rest) (items_count_is is)
+    ∙ append_assoc (front_of Major.List (length is)) (spell is) rest
+    ∙ ap (λ (t : List ℕ). front_of Major.List (length is) ++ t) (then_is is rest)
 
 pub go : {A B : Type 0} {o : Option (A × List ℕ)} (f : A → Reading B) {x : A} {rest : List ℕ} {answer : Option (B × List ℕ)} → o ≡ Some (x, rest) → f x rest ≡ answer → behind o f ≡ answer
 go f e h = rw e h
@@ -179,7 +180,7 @@ differs a b other = elim (eqb_tells a b) [ inl h ↦ absurd (other h.1) | inr h 
 list_not_null : (n : ℕ) → n < 24 → eqb (32 * 4 + info_of n) 246 ≡ false
 list_not_null n h = rw (form_0 n h).0 (differs (32 * 4 + n) 246 (λ e. omega (arith, e)))
 
-null_or_list : {A : Type 0} (x : A) (r : Reading A) (is : List Item) (rest : List ℕ) (answer : Option (A × List ℕ)) → length is < 24 → r (front_of 4 (length is) ++ then_spell is rest) ≡ answer → or_null_at x r (spelling (list is) ++ rest) ≡ answer
+null_or_list : {A : Type 0} (x : A) (r : Reading A) (is : List Item) (rest : List ℕ) (answer : Option (A × List ℕ)) → length is < 24 → r (front_of Major.List (length is) ++ then_spell is rest) ≡ answer → or_null_at x r (spelling (list is) ++ rest) ≡ answer
 null_or_list {A} x r is rest answer short e =
     subst (λ (bytes : List ℕ). or_null_at x r bytes ≡ answer) (sym (list_then is rest)) (rw (list_not_null (length is) short) e)
 
@@ -223,7 +224,7 @@ fetched_again timed (Fetched.Refused n) rest is =
     let form = form_0 n small.1 in
     rw (form.0, form.1) (refused_again (32 * 0 + n) n rest (omega arith) small.0 small.1)
 fetched_again timed (Fetched.Whole w) rest is =
-    let whole : whole_at (front_of 4 6 ++ then_spell (whole_items w) rest) ≡ Some (w, rest) = sym (ap whole_at (list_then (whole_items w) rest)) ∙ whole_again w rest is in
+    let whole : whole_at (front_of Major.List 6 ++ then_spell (whole_items w) rest) ≡ Some (w, rest) = sym (ap whole_at (list_then (whole_items w) rest)) ∙ whole_again w rest is in
     null_or_list Fetched.NotAsked number_or_whole (whole_items w) rest _ (lit< tt) (not_number (32 * 4 + info_of 6) _ w rest (rw (form_0 6 (lit< tt)).0 refl) (rw (form_0 6 (lit< tt)).0 refl) whole)
 
 abbrev pub FitsRepo : CarriedRepo → Type 0

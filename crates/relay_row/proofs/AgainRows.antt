@@ -5,6 +5,7 @@ use Rattle.std.specs.Bool.{beq}
 use Rattle.std.proofs.lemmas.Bool.{ltb-true, leb-true, eqb-true, eq-eqb, lt-ltb, le-leb, and_parts, and_from}
 use Rattle.std.proofs.lemmas.Bool.Decides.{nat_tests}
 use Rattle.std.proofs.lemmas.List.{append-nil}
+use Rattle.at_cbor.specs.declared.major.Major.{Major}
 use Rattle.at_cbor.specs.Item.{Item}
 use Rattle.at_cbor.specs.Spelling.{front_of, spelling, IsText}
 use Rattle.at_syntax.specs.Did.{is_did, is_named, scheme_of}
@@ -291,15 +292,15 @@ rows_again (row ∷ rows) rest h =
 abbrev count_then : Reading (List Row)
 count_then bytes = behind (count_at bytes) few
 
-found_all : (rows : List Row) (body : List ℕ) → IsBody rows body → rows_in (front_of 4 (length rows) ++ (spelled rows ++ [])) ≡ Some rows
+found_all : (rows : List Row) (body : List ℕ) → IsBody rows body → rows_in (front_of Major.List (length rows) ++ (spelled rows ++ [])) ≡ Some rows
 unfolding rows_in
 found_all rows body is =
-    let all : (count_then (front_of 4 (length rows) ++ (spelled rows ++ []))) ≡ Some (rows, []) =
+    let all : (count_then (front_of Major.List (length rows) ++ (spelled rows ++ []))) ≡ Some (rows, []) =
     go few (count_again (length rows) (spelled rows ++ []) (omega (arith, is.few))) (rw (le-leb 1 (length rows) is.some, le-leb (length rows) 64 is.few) (rows_again rows [] is.formed)) in
     ap all_of all
 
 pub body_again : (rows : List Row) (body : List ℕ) → IsBody rows body → rows_in body ≡ Some rows
 unfolding rows_in body_of
 body_again rows body is =
-    let whole : (front_of 4 (length rows) ++ (spelled rows ++ [])) ≡ body = ap (λ (t : List ℕ). front_of 4 (length rows) ++ t) (append-nil (spelled rows)) ∙ sym is.made in
+    let whole : (front_of Major.List (length rows) ++ (spelled rows ++ [])) ≡ body = ap (λ (t : List ℕ). front_of Major.List (length rows) ++ t) (append-nil (spelled rows)) ∙ sym is.made in
     subst (λ (bytes : List ℕ). rows_in bytes ≡ Some rows) whole (found_all rows body is)

@@ -2,19 +2,20 @@
 use Rattle.std.proofs.Common.{◌≡◌, ℕ, suc, ◌+◌, ◌-◌, ◌*◌, ◌^◌, ◌≤◌, ◌<◌, ◌⊎◌, inl, inr, Bool, true, false, cond, ◌&&◌, List, [], ◌∷◌, ◌++◌, length, Option, Some, None, refl, sym, ap, ◌∙◌, subst, arith, leb, ltb, eqb}
 use Rattle.std.proofs.lemmas.Bool.{lt-ltb, le-leb, ltb-true, leb-true, eqb-true, and_parts, cases_lt}
 use Rattle.at_cid.specs.Link.{IsBytes}
+use Rattle.at_cbor.specs.declared.major.Major.{Major}
 use Rattle.at_cbor.specs.Item.{Item, items_of}
 use Rattle.at_cbor.specs.Spelling.{front_of, items_spelling, items_count}
 use Rattle.at_cbor.proofs.Taken.{number_takes, number_again as front_again}
 use Rattle.relay_row.specs.Readers.{Reading, fail, count_at}
 use Rattle.relay_row.proofs.Steps.{Sound}
 
-pub count_sound : Sound (front_of 4) count_at
+pub count_sound : Sound (front_of Major.List) count_at
 unfolding count_at
-count_sound bytes n rest ok e = (number_takes 4 bytes (n, rest) ok e).0
+count_sound bytes n rest ok e = (number_takes Major.List bytes (n, rest) ok e).0
 
-pub count_again : (n : ℕ) (rest : List ℕ) → n < 2 ^ 64 → count_at (front_of 4 n ++ rest) ≡ Some (n, rest)
+pub count_again : (n : ℕ) (rest : List ℕ) → n < 2 ^ 64 → count_at (front_of Major.List n ++ rest) ≡ Some (n, rest)
 unfolding count_at
-count_again n rest h = front_again 4 n rest h
+count_again n rest h = front_again Major.List n rest h
 
 pub items_count_is : (is : List Item) → items_count (items_of is) ≡ length is
 items_count_is [] = refl

@@ -2,6 +2,7 @@
 use Rattle.std.proofs.Common.{◌≡◌, ℕ, suc, ◌+◌, ◌-◌, ◌*◌, ◌≤◌, ◌<◌, ◌⊎◌, inl, inr, Bool, true, false, cond, ◌&&◌, List, [], ◌∷◌, ◌++◌, length, Option, Some, None, refl, sym, ap, ◌∙◌, subst, arith, leb, ltb, eqb, append_assoc}
 use Rattle.std.proofs.lemmas.Bool.{ltb-true, leb-true, eqb-true, and_parts}
 use Rattle.at_cid.specs.Link.{IsBytes}
+use Rattle.at_cbor.specs.declared.major.Major.{Major}
 use Rattle.at_cbor.specs.Item.{Item, items_of}
 use Rattle.at_cbor.specs.Spelling.{front_of, spelling, items_spelling, items_count, info_of, tail_of}
 use Rattle.at_cbor.proofs.Steps.{Takes, Takes-then, chosen}
@@ -60,9 +61,9 @@ whole_items_sound bytes w rest ok e =
     finish (λ x left. Takes bytes (spell (whole_items x)) left) _ _ w rest s.next (and p.takes tail)
 
 -- a list's front, and its items
-pub list_taken : (bytes : List ℕ) (n : ℕ) (mid : List ℕ) (is : List Item) (rest : List ℕ) → Takes bytes (front_of 4 n) mid → n ≡ length is → Takes mid (spell is) rest → Takes bytes (spelling (list is)) rest
+pub list_taken : (bytes : List ℕ) (n : ℕ) (mid : List ℕ) (is : List Item) (rest : List ℕ) → Takes bytes (front_of Major.List n) mid → n ≡ length is → Takes mid (spell is) rest → Takes bytes (spelling (list is)) rest
 list_taken bytes n mid is rest p len q =
-    subst (λ (m : ℕ). Takes bytes (front_of 4 m ++ spell is) rest) (len ∙ sym (items_count_is is)) (and p q)
+    subst (λ (m : ℕ). Takes bytes (front_of Major.List m ++ spell is) rest) (len ∙ sym (items_count_is is)) (and p q)
 
 pub whole_sound : Sound (λ w. spelling (list (whole_items w))) whole_at
 unfolding whole_at

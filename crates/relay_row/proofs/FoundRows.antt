@@ -4,6 +4,7 @@ use Rattle.std.specs.List.{list_all}
 use Rattle.std.proofs.lemmas.List.{append-nil}
 use Rattle.std.proofs.lemmas.Bool.{ltb-true, leb-true, eqb-true, and_parts, and_from}
 use Rattle.at_cid.specs.Link.{IsBytes}
+use Rattle.at_cbor.specs.declared.major.Major.{Major}
 use Rattle.at_cbor.specs.Item.{Item}
 use Rattle.at_cbor.specs.Spelling.{front_of, spelling}
 use Rattle.at_cbor.proofs.Steps.{Takes}
@@ -207,5 +208,5 @@ body_sound body rows ok e =
       some = omega (arith, leb-true 1 count.found bounds.0, taken.count);
       few = omega (arith, leb-true count.found 64 bounds.1, taken.count);
       formed = taken.formed;
-      made = (and count.takes taken.takes).parts ∙ append-nil _ ∙ ap (λ (n : ℕ). front_of 4 n ++ spelled rows) (sym taken.count);
+      made = (and count.takes taken.takes).parts ∙ append-nil _ ∙ ap (λ (n : ℕ). front_of Major.List n ++ spelled rows) (sym taken.count);
     }

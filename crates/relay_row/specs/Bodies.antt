@@ -1,6 +1,7 @@
 -- Rows, and lists of them, as bytes.
 use Rattle.std.specs.Prelude.{◌≡◌, ℕ, ◌≤◌, List, [], ◌∷◌, ◌++◌, length, true}
 use Rattle.std.specs.List.{list_all}
+use Rattle.at_cbor.specs.declared.major.Major.{Major}
 use Rattle.at_cbor.specs.Spelling.{front_of, spelling}
 use Rattle.relay_row.specs.declared.limits.TheConstants.{MOST_ROWS}
 use Rattle.relay_row.specs.declared.row.Row.{Row}
@@ -18,7 +19,7 @@ spelled (row ∷ rows) = row_spelling row ++ spelled rows
 
 -- a body: the DAG-CBOR list of the rows
 unfoldable pub body_of : List Row → List ℕ
-body_of rows = front_of 4 (length rows) ++ spelled rows
+body_of rows = front_of Major.List (length rows) ++ spelled rows
 
 -- The body is the one of these rows, of which there are 1 to 64, each well formed.
 pub record IsBody (rows : List Row) (body : List ℕ) : Type 0 where

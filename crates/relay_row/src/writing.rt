@@ -1,6 +1,7 @@
 //! The spelling of rows, added to bytes piece by piece.
 
 ghost use Rattle.std.specs.Prelude.{◌≡◌, ◌++◌, ◌+◌, ◌<◌, ◌≤◌, ◌^◌, ◌∷◌, [], length, Some, IfOk, OnOk};
+ghost use Rattle.at_cbor.specs.declared.major.Major.{Major};
 ghost use Rattle.at_cbor.specs.Item.{Item, items_of};
 ghost use Rattle.at_cbor.specs.Spelling.{front_of, spelling, items_spelling};
 ghost use Rattle.relay_row.specs.Bodies.{row_spelling, spelled, body_of};
@@ -159,7 +160,7 @@ fn write_moment(out: &mut Octets, moment: Option<u64>) -> Result<(), Memory>
 // The front of a list of so many items, and one more where there is a moment.
 fn write_front(out: &mut Octets, others: usize, moment: Option<u64>) -> Result<(), Memory>
     requires { others < 24 }
-    ensures { OnOk result (out.new ≡ out.old ++ front_of 4 (others + length (if_there number moment))) }
+    ensures { OnOk result (out.new ≡ out.old ++ front_of Major.List (others + length (if_there number moment))) }
 {
     match moment {
         Some(_) => write_list_front(out, others + 1),
@@ -244,7 +245,7 @@ fn write_account(out: &mut Octets, account: &CarriedAccount) -> Result<(), Memor
 }
 
 fn write_carried_front(out: &mut Octets, count: usize, which: u64) -> Result<(), Memory>
-    ensures { OnOk result (out.new ≡ out.old ++ (front_of 4 count ++ (spelling (number 4) ++ spelling (number which)))) }
+    ensures { OnOk result (out.new ≡ out.old ++ (front_of Major.List count ++ (spelling (number 4) ++ spelling (number which)))) }
 {
     write_list_front(out, count)?;
     write_number(out, 4)?;
