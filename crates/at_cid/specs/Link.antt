@@ -2,6 +2,7 @@
 -- (CIDv1, with the multicodec of DAG-CBOR or of raw bytes, and the multihash of SHA-256 with 32 bytes.)
 use Rattle.std.specs.Prelude.{ℕ, List, [], ◌∷◌, ◌++◌, length, take, drop, slice_index, Bool, false, ◌&&◌, ◌||◌, ◌==◌, ◌≡◌, ◌<◌, if◌then◌else◌, IsTrue, Option, Some, None}
 use Rattle.sha2.specs.Sha256.{sha256}
+use Rattle.at_cid.specs.declared.cid.TheConstants.{DIGEST_LEN, LINK_LEN}
 use Rattle.at_cid.specs.declared.cid.Kind.{Kind}
 use Rattle.at_cid.specs.declared.cid.Kind.TheVariants.{Node, Raw}
 
@@ -16,7 +17,7 @@ codec_of Raw = 0x55
 
 -- the four bytes in front of a digest
 abbrev pub prefix_of : Kind → List ℕ
-prefix_of kind = 1 ∷ codec_of kind ∷ 0x12 ∷ 0x20 ∷ []
+prefix_of kind = 0x01 ∷ codec_of kind ∷ 0x12 ∷ 0x20 ∷ []
 
 -- the link of kind Node over a block
 unfoldable pub cid : List ℕ → List ℕ
@@ -28,11 +29,11 @@ is_link [] = false
 is_link (a ∷ []) = false
 is_link (a ∷ b ∷ []) = false
 is_link (a ∷ b ∷ c ∷ []) = false
-is_link (a ∷ b ∷ c ∷ d ∷ digest) = a == 1 && (b == 0x71 || b == 0x55) && c == 0x12 && d == 0x20 && length digest == 32
+is_link (a ∷ b ∷ c ∷ d ∷ digest) = a == 0x01 && (b == 0x71 || b == 0x55) && c == 0x12 && d == 0x20 && length digest == DIGEST_LEN
 
--- the link in the first 36 bytes, where they have its form
+-- the link in the first bytes, as many as a link has, where they have its form
 abbrev pub link_at : List ℕ → Option (List ℕ)
-link_at bytes = if is_link (take 36 bytes) then Some (take 36 bytes) else None
+link_at bytes = if is_link (take LINK_LEN bytes) then Some (take LINK_LEN bytes) else None
 
 -- the kind that a link's second byte names
 abbrev pub kind_of : List ℕ → Kind

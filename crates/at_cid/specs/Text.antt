@@ -1,6 +1,8 @@
 -- A link as text: `b`, and the base32 of RFC 4648 in lower case, without padding.
 use Rattle.std.specs.Prelude.{ℕ, ◌+◌, ◌-◌, ◌*◌, ◌/◌, ◌%◌, ◌^◌, List, ◌∷◌, map, slice_index, nat_lt, ◌&&◌, nat_le, if◌then◌else◌}
 use Rattle.std.specs.List.{range_with_len}
+use Rattle.at_cid.specs.declared.cid.TheConstants.{LINK_LEN}
+use Rattle.at_cid.specs.declared.text.TheConstants.{LETTERS}
 
 -- the letter of five bits: `a` to `z`, and then `2` to `7`
 abbrev pub letter_of : ℕ → ℕ
@@ -22,9 +24,9 @@ bits_of_pair bytes k = (slice_index bytes (5 * k / 8) * 256 + slice_index bytes 
 unfoldable pub letter_at : List ℕ → ℕ → ℕ
 letter_at bytes k = letter_of (five_bits bytes k)
 
--- the text of a link's 36 bytes
+-- the text of a link's bytes
 abbrev pub text_of : List ℕ → List ℕ
-text_of bytes = 98 ∷ map (letter_at bytes) (range_with_len 0 58)
+text_of bytes = 98 ∷ map (letter_at bytes) (range_with_len 0 LETTERS)
 
 -- the five bits of a letter, and 0 for what is none
 abbrev pub digit_of : ℕ → ℕ
@@ -35,6 +37,6 @@ unfoldable pub octet_at : List ℕ → ℕ → ℕ
 octet_at text i = let at = 8 * i / 5 + 1 in
     (digit_of (slice_index text at) * 1024 + digit_of (slice_index text (at + 1)) * 32 + digit_of (slice_index text (at + 2))) / 2 ^ (7 - 8 * i % 5) % 256
 
--- the 36 bytes that the letters stand for
+-- the bytes of a link that the letters stand for
 abbrev pub octets_of : List ℕ → List ℕ
-octets_of text = map (octet_at text) (range_with_len 0 36)
+octets_of text = map (octet_at text) (range_with_len 0 LINK_LEN)

@@ -14,6 +14,12 @@ use sha2::{Digest, Sha256};
 use std::cmp::Ordering;
 use std::marker::Model;
 
+/// How many bytes a link has.
+pub const LINK_LEN: usize = 36;
+
+/// How many bytes its digest has, which is its end.
+pub const DIGEST_LEN: usize = 32;
+
 /// What a link names.
 #[derive(Clone, Copy, Debug, PartialEq, Eq)]
 pub enum Kind {
@@ -26,7 +32,7 @@ pub enum Kind {
 /// A link (CIDv1, SHA-256), seen in contracts as its 36 bytes, by which links are also ordered.
 #[derive(Clone, Copy, Debug)]
 pub struct Cid {
-    bytes: [u8; 36],
+    bytes: [u8; LINK_LEN],
 }
 
 impl Model for Cid {
@@ -91,8 +97,8 @@ pub fn cid_of(block: &[u8]) -> Cid
     ensures { result ≡ cid block.now }
 {
     let digest = Sha256::digest(block);
-    let mut bytes = [0; 36];
-    bytes[..4].copy_from_slice(&[1, 0x71, 0x12, 0x20]);
+    let mut bytes = [0; LINK_LEN];
+    bytes[..4].copy_from_slice(&[0x01, 0x71, 0x12, 0x20]);
     bytes[4..].copy_from_slice(&digest);
     Cid { bytes }
 }
@@ -102,18 +108,18 @@ pub fn cid_of(block: &[u8]) -> Cid
 pub fn parse_binary(bytes: &[u8]) -> Option<Cid>
     ensures { result ≡ link_at bytes.now }
 {
-    let Some((front, _)) = bytes.split_first_chunk::<36>() else {
+    let Some((front, _)) = bytes.split_first_chunk::<LINK_LEN>() else {
         return None;
     };
     match front {
-        [1, 0x71 | 0x55, 0x12, 0x20, ..] => Some(Cid { bytes: *front }),
+        [0x01, 0x71 | 0x55, 0x12, 0x20, ..] => Some(Cid { bytes: *front }),
         _ => None,
     }
 }
 
 impl Cid {
     /// The 36 bytes.
-    pub fn as_bytes(&self) -> &[u8; 36]
+    pub fn as_bytes(&self) -> &[u8; LINK_LEN]
         ensures value { result.now ≡ self.now }
         ensures link { IsTrue (is_link self.now) }
         ensures bytes { IsBytes self.now }

@@ -12,7 +12,7 @@ mod octets;
 mod text;
 mod words;
 
-pub use cid::{Cid, Kind, cid_of, parse_binary};
+pub use cid::{Cid, DIGEST_LEN, Kind, LINK_LEN, cid_of, parse_binary};
 pub use cids::Cids;
 pub use comparing::compare;
 pub use failures::Failures;

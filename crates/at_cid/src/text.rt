@@ -5,11 +5,14 @@ ghost use Rattle.std.specs.List.{range_with_len};
 ghost use Rattle.at_cid.specs.Link.{is_link, IsBytes};
 ghost use Rattle.at_cid.specs.Text.{letter_of, digit_of, five_bits, bits_of_pair, letter_at, text_of, octet_at, octets_of};
 
-use crate::cid::{Cid, parse_binary};
+use crate::cid::{Cid, LINK_LEN, parse_binary};
 use crate::octets::tell_bytes;
 
 /// How many bytes a link's text has.
 pub const TEXT_LEN: usize = 59;
+
+/// How many of them are letters of five bits, behind the `b`.
+const LETTERS: usize = 58;
 
 fn letter(bits: u8) -> u8
     requires { bits < 32 }
@@ -31,20 +34,20 @@ fn digit(letter: u8) -> u8
 
 // The five bits from the bit at 5 * k on, which lie in two bytes.
 #[tactic(auto, unfolding(crate::specs::Text::bits_of_pair))]
-fn bits_of_pair(bytes: &[u8; 36], k: usize) -> u8
-    requires { k < 58 }
+fn bits_of_pair(bytes: &[u8; LINK_LEN], k: usize) -> u8
+    requires { k < LETTERS }
     ensures value { result ≡ bits_of_pair bytes.now k }
     ensures below { result < 32 }
 {
     let at = 5 * k / 8;
-    let low = if at < 35 { bytes[at + 1] } else { 0 };
+    let low = if at < LINK_LEN - 1 { bytes[at + 1] } else { 0 };
     let pair = u32::from(bytes[at]) * 256 + u32::from(low);
     ((pair >> (11 - 5 * k % 8) as u32) % 32) as u8
 }
 
 #[tactic(auto, using(crate::proofs::Bits::bits_in_two))]
-fn bits_at(bytes: &[u8; 36], k: usize) -> u8
-    requires { k < 58 }
+fn bits_at(bytes: &[u8; LINK_LEN], k: usize) -> u8
+    requires { k < LETTERS }
     ensures value { result ≡ five_bits bytes.now k }
     ensures below { result < 32 }
 {
@@ -53,18 +56,18 @@ fn bits_at(bytes: &[u8; 36], k: usize) -> u8
 }
 
 #[tactic(auto, unfolding(crate::specs::Text::letter_at))]
-fn letter_of_place(bytes: &[u8; 36], k: usize) -> u8
-    requires { k < 58 }
+fn letter_of_place(bytes: &[u8; LINK_LEN], k: usize) -> u8
+    requires { k < LETTERS }
     ensures { result ≡ letter_at bytes.now k }
 {
     letter(bits_at(bytes, k))
 }
 
-fn letters(bytes: &[u8; 36]) -> [u8; 58]
-    ensures { result ≡ map (letter_at bytes.now) (range_with_len 0 58) }
+fn letters(bytes: &[u8; LINK_LEN]) -> [u8; LETTERS]
+    ensures { result ≡ map (letter_at bytes.now) (range_with_len 0 LETTERS) }
 {
-    let mut letters = [0; 58];
-    for k in 0..58 {
+    let mut letters = [0; LETTERS];
+    for k in 0..LETTERS {
         letters[k] = letter_of_place(bytes, k);
     }
     letters
@@ -74,23 +77,27 @@ fn letters(bytes: &[u8; 36]) -> [u8; 58]
 #[tactic(auto, unfolding(crate::specs::Text::octet_at))]
 fn octet(text: &[u8], i: usize) -> u8
     requires long { length text.now ≡ TEXT_LEN }
-    requires within { i < 36 }
+    requires within { i < LINK_LEN }
     ensures { result ≡ octet_at text.now i }
 {
     let at = 8 * i / 5 + 1;
-    let third = if at < 57 { digit(text[at + 2]) } else { 0 };
+    let third = if at < LETTERS - 1 {
+        digit(text[at + 2])
+    } else {
+        0
+    };
     let bits = u32::from(digit(text[at])) * 1024
         + u32::from(digit(text[at + 1])) * 32
         + u32::from(third);
     ((bits >> (7 - 8 * i % 5) as u32) % 256) as u8
 }
 
-fn octets(text: &[u8]) -> [u8; 36]
+fn octets(text: &[u8]) -> [u8; LINK_LEN]
     requires { length text.now ≡ TEXT_LEN }
     ensures { result ≡ octets_of text.now }
 {
-    let mut octets = [0; 36];
-    for i in 0..36 {
+    let mut octets = [0; LINK_LEN];
+    for i in 0..LINK_LEN {
         octets[i] = octet(text, i);
     }
     octets
@@ -98,7 +105,7 @@ fn octets(text: &[u8]) -> [u8; 36]
 
 impl Cid {
     /// Writes the text: `b`, and the base32 of the 36 bytes in lower case without padding (RFC 4648). Takes no memory.
-    pub fn write_text(&self, out: &mut [u8; 59])
+    pub fn write_text(&self, out: &mut [u8; TEXT_LEN])
         ensures { out.new ≡ text_of self.now }
     {
         out[0] = b'b';
@@ -119,7 +126,7 @@ pub fn parse_text(text: &[u8]) -> Option<Cid>
     let Some(link) = parse_binary(&octets(text)) else {
         return None;
     };
-    let mut spelled = [0; 59];
+    let mut spelled = [0; TEXT_LEN];
     link.write_text(&mut spelled);
     if spelled.as_slice() == text {
         Some(link)
