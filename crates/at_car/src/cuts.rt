@@ -3,7 +3,7 @@
 ghost use Rattle.std.specs.Prelude.{◌≡◌};
 ghost use Rattle.at_car.specs.Cuts.{number_open, is_cut};
 
-use crate::varint::read_varint;
+use crate::varint::{LONGEST_VARINT, read_varint};
 
 /// Whether a number of at most so many groups goes on behind the bytes.
 #[tactic(auto, unfolding(crate::specs::Cuts::number_open))]
@@ -27,7 +27,7 @@ fn is_open(most: u8, bytes: &[u8]) -> bool
 pub(crate) fn is_cut(bytes: &[u8]) -> bool
     ensures { result ≡ is_cut bytes.now }
 {
-    if is_open(9, bytes) {
+    if is_open(LONGEST_VARINT, bytes) {
         return true;
     }
     match read_varint(bytes) {

@@ -1,9 +1,10 @@
 -- What each fault says of the bytes at its place, and of what stands in front of it.
 -- (Heads by RFC 8949, section 3. The rules are those of the DAG-CBOR specification; in which order they are asked is this project's own.)
-use Rattle.std.specs.Prelude.{◌≡◌, ◌≢◌, ⊤, ◌⊎◌, ℕ, ◌+◌, ◌-◌, ◌*◌, ◌%◌, ◌^◌, ◌<◌, ◌≤◌, List, [], ◌∷◌, ◌++◌, length, take, Option, Some, None, IfSome, Bool, true, false, ◌==◌, if◌then◌else◌}
+use Rattle.std.specs.Prelude.{◌≡◌, ◌≢◌, ⊤, ◌⊎◌, ℕ, ◌+◌, ◌-◌, ◌*◌, ◌%◌, ◌<◌, ◌≤◌, List, [], ◌∷◌, ◌++◌, length, take, Option, Some, None, IfSome, Bool, true, false, ◌==◌, if◌then◌else◌}
 use Rattle.std.specs.Int.{Width, w8, w16, w32, w64, byte_len, to_be_bytes}
 use Rattle.std.specs.Str.{is_utf8}
 use Rattle.at_cid.specs.Link.{is_link}
+use Rattle.at_cbor.specs.declared.limits.TheConstants.{ARGUMENTS, INTEGERS, TAGGED_LEN}
 use Rattle.at_cbor.specs.declared.major.Major.{Major}
 use Rattle.at_cbor.specs.declared.fault.Cause.{Cause}
 use Rattle.at_cbor.specs.declared.head.Head.{Head}
@@ -46,7 +47,7 @@ IsLongForm here = (major : Major) × (info : ℕ) × (w : Width) × (n : ℕ) ×
 
 -- an integer of 2^63 or more, or below -2^63
 abbrev pub IsOutOfRange : List ℕ → Type 0
-IsOutOfRange here = (n : ℕ) × (rest : List ℕ) × (n < 2 ^ 64) × ((here ≡ front_of Major.Unsigned n ++ rest) ⊎ (here ≡ front_of Major.Negative n ++ rest)) × (2 ^ 63 ≤ n)
+IsOutOfRange here = (n : ℕ) × (rest : List ℕ) × (n < ARGUMENTS) × ((here ≡ front_of Major.Unsigned n ++ rest) ⊎ (here ≡ front_of Major.Negative n ++ rest)) × (INTEGERS ≤ n)
 
 -- what has to stand behind tag 42: the front of a byte string of 37 bytes, a 0, and a link
 abbrev pub IsTagged : List ℕ → Type 0
@@ -54,16 +55,16 @@ IsTagged body = (link : List ℕ) × (is_link link ≡ true) × (body ≡ 0x58 �
 
 -- the 39 bytes behind a tag, or as many of them as are there, may be such, with others behind them
 abbrev pub MayBeTagged : List ℕ → Type 0
-MayBeTagged behind = (more : List ℕ) × IsTagged (take 39 behind ++ more)
+MayBeTagged behind = (more : List ℕ) × IsTagged (take TAGGED_LEN behind ++ more)
 
 abbrev pub IsOtherTag : List ℕ → Type 0
-IsOtherTag here = (n : ℕ) × (rest : List ℕ) × (n < 2 ^ 64) × (here ≡ front_of Major.Tag n ++ rest) × (n ≢ 42)
+IsOtherTag here = (n : ℕ) × (rest : List ℕ) × (n < ARGUMENTS) × (here ≡ front_of Major.Tag n ++ rest) × (n ≢ 42)
 
 abbrev pub IsTagOfNone : List ℕ → Type 0
 IsTagOfNone here = (rest : List ℕ) × (here ≡ front_of Major.Tag 42 ++ rest) × (MayBeTagged rest → ⊥)
 
 abbrev pub IsTagCut : List ℕ → Type 0
-IsTagCut here = (rest : List ℕ) × (here ≡ front_of Major.Tag 42 ++ rest) × (length rest < 39) × MayBeTagged rest
+IsTagCut here = (rest : List ℕ) × (here ≡ front_of Major.Tag 42 ++ rest) × (length rest < TAGGED_LEN) × MayBeTagged rest
 
 -- the rules of heads
 abbrev pub BreaksHead : Cause → List ℕ → Type 0
@@ -81,15 +82,15 @@ BreaksHead Cause.BadText here = ⊥
 
 -- a byte string or a text, by its major type, that runs past the end
 abbrev pub IsStringCut : Major → List ℕ → Type 0
-IsStringCut major here = (n : ℕ) × (rest : List ℕ) × (n < 2 ^ 64) × (here ≡ front_of major n ++ rest) × (length rest < n)
+IsStringCut major here = (n : ℕ) × (rest : List ℕ) × (n < ARGUMENTS) × (here ≡ front_of major n ++ rest) × (length rest < n)
 
 -- a whole text that isn't UTF-8
 abbrev pub IsNoUtf8 : List ℕ → Type 0
-IsNoUtf8 here = (text : List ℕ) × (rest : List ℕ) × (length text < 2 ^ 64) × (here ≡ text_spelling text ++ rest) × (is_utf8 text ≡ false)
+IsNoUtf8 here = (text : List ℕ) × (rest : List ℕ) × (length text < ARGUMENTS) × (here ≡ text_spelling text ++ rest) × (is_utf8 text ≡ false)
 
 -- a list or a map
 abbrev pub IsContainer : List ℕ → Type 0
-IsContainer here = (n : ℕ) × (rest : List ℕ) × (n < 2 ^ 64) × ((here ≡ front_of Major.List n ++ rest) ⊎ (here ≡ front_of Major.Map n ++ rest))
+IsContainer here = (n : ℕ) × (rest : List ℕ) × (n < ARGUMENTS) × ((here ≡ front_of Major.List n ++ rest) ⊎ (here ≡ front_of Major.Map n ++ rest))
 
 abbrev pub IsTextHead : Head → Bool
 IsTextHead (Head.Text n) = true
@@ -131,8 +132,8 @@ open_spelling (in_map n fs key) = front_of Major.Map n ++ (fields_spelling (fiel
 
 -- they fit, with so much depth inside, and one more is due
 abbrev pub OpenFits : Open → ℕ → Type 0
-OpenFits (in_list n is) depth = (length is < n) × (n < 2 ^ 64) × ItemsFit (items_of is) depth
-OpenFits (in_map n fs key) depth = (length fs < n) × (n < 2 ^ 64) × FieldsFit (fields_of fs) None depth × IsText key × (is_above (last_key fs) key ≡ true)
+OpenFits (in_list n is) depth = (length is < n) × (n < ARGUMENTS) × ItemsFit (items_of is) depth
+OpenFits (in_map n fs key) depth = (length fs < n) × (n < ARGUMENTS) × FieldsFit (fields_of fs) None depth × IsText key × (is_above (last_key fs) key ≡ true)
 
 -- each in the one before it
 abbrev pub opened : List Open → List ℕ
@@ -151,7 +152,7 @@ IsNoValue depth bytes cause here = (os : List Open) × AreOpen os depth × (byte
 
 -- a key of a map of n fields is due, behind the fields fs, and what is here is none
 abbrev pub IsNoKey : ℕ → List ℕ → Cause → List ℕ → Type 0
-IsNoKey depth bytes cause here = (os : List Open) × (n : ℕ) × (fs : List (List ℕ × Item)) × AreOpen os depth × (length os < depth) × (length fs < n) × (n < 2 ^ 64) × FieldsFit (fields_of fs) None (depth - length os - 1)
+IsNoKey depth bytes cause here = (os : List Open) × (n : ℕ) × (fs : List (List ℕ × Item)) × AreOpen os depth × (length os < depth) × (length fs < n) × (n < ARGUMENTS) × FieldsFit (fields_of fs) None (depth - length os - 1)
     × (bytes ≡ opened os ++ (front_of Major.Map n ++ (fields_spelling (fields_of fs) ++ here))) × BreaksKey (last_key fs) cause here
 
 abbrev pub IsFaultyAt : ℕ → List ℕ → Cause → List ℕ → Type 0

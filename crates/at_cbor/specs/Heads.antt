@@ -3,6 +3,7 @@ use Rattle.std.specs.Prelude.{ℕ, ◌%◌, ◌^◌, pos, negsuc, List, [], ◌�
 use Rattle.std.specs.Int.{Width, w8, w16, w32, w64, byte_len, from_be_bytes}
 use Rattle.at_cid.specs.Link.{prefix_of, link_at}
 use Rattle.at_cid.specs.declared.cid.Kind.TheVariants.{Node, Raw}
+use Rattle.at_cbor.specs.declared.limits.TheConstants.{INTEGERS, TAGGED_LEN}
 use Rattle.at_cbor.specs.declared.fault.Cause.{Cause}
 use Rattle.at_cbor.specs.declared.fault.Stop.{Stop}
 use Rattle.at_cbor.specs.declared.head.Head.{Head}
@@ -56,12 +57,12 @@ link_behind left (Some link) rest = Ok (Head.Link link, rest)
 -- the link in the 39 bytes behind its tag: the head of a byte string of 37 bytes, a 0, and the link
 unfoldable pub whole_link : ℕ → List ℕ → Result (Head × List ℕ) Flaw
 whole_link left bytes =
-    if slice_index bytes 0 == 0x58 && slice_index bytes 1 == 0x25 && slice_index bytes 2 == 0x00 then link_behind left (link_at (drop 3 bytes)) (drop 39 bytes)
+    if slice_index bytes 0 == 0x58 && slice_index bytes 1 == 0x25 && slice_index bytes 2 == 0x00 then link_behind left (link_at (drop 3 bytes)) (drop TAGGED_LEN bytes)
     else Err (Cause.BadTag, left)
 
 unfoldable pub tagged : ℕ → List ℕ → Result (Head × List ℕ) Flaw
 tagged left bytes =
-    if nat_le 39 (length bytes) then whole_link left bytes
+    if nat_le TAGGED_LEN (length bytes) then whole_link left bytes
     else (if begins_link bytes then Err (Cause.Short, left) else Err (Cause.BadTag, left))
 
 -- what the byte of a simple value says
@@ -79,8 +80,8 @@ is_long major info n = nat_lt n (least_of info)
 
 -- what a first byte of this major type and an argument say
 unfoldable pub major_of : Major → ℕ → ℕ → ℕ → List ℕ → Result (Head × List ℕ) Flaw
-major_of Major.Unsigned first left n rest = if nat_lt n (2 ^ 63) then Ok (Head.Int (pos n), rest) else Err (Cause.IntRange, left)
-major_of Major.Negative first left n rest = if nat_lt n (2 ^ 63) then Ok (Head.Int (negsuc n), rest) else Err (Cause.IntRange, left)
+major_of Major.Unsigned first left n rest = if nat_lt n INTEGERS then Ok (Head.Int (pos n), rest) else Err (Cause.IntRange, left)
+major_of Major.Negative first left n rest = if nat_lt n INTEGERS then Ok (Head.Int (negsuc n), rest) else Err (Cause.IntRange, left)
 major_of Major.Bytes first left n rest = Ok (Head.Bytes n, rest)
 major_of Major.Text first left n rest = Ok (Head.Text n, rest)
 major_of Major.List first left n rest = Ok (Head.List n, rest)

@@ -4,6 +4,7 @@ use Rattle.std.specs.Prelude.{◌≡◌, ⊤, ℕ, suc, ◌+◌, ◌-◌, ◌*�
 use Rattle.std.specs.Str.{is_utf8}
 use Rattle.std.specs.Int.{w16, w32, w64, to_be_bytes}
 use Rattle.at_cid.specs.Link.{is_link, IsBytes}
+use Rattle.at_cbor.specs.declared.limits.TheConstants.{ARGUMENTS, INTEGERS}
 use Rattle.at_cbor.specs.declared.major.Major.{Major}
 use Rattle.at_cbor.specs.Item.{items_of, fields_of, Item, Items, no_items, item, Fields, no_fields, field}
 use Rattle.at_cbor.specs.Item.{is_above}
@@ -90,11 +91,11 @@ abbrev mutual
   fields_nesting (field k i fs) = max (nesting i) (fields_nesting fs)
 
 abbrev pub IsInt : ℤ → Type 0
-IsInt (pos n) = n < 2 ^ 63
-IsInt (negsuc n) = n < 2 ^ 63
+IsInt (pos n) = n < INTEGERS
+IsInt (negsuc n) = n < INTEGERS
 
 abbrev pub IsString : List ℕ → Type 0
-IsString bytes = (length bytes < 2 ^ 64) × IsBytes bytes
+IsString bytes = (length bytes < ARGUMENTS) × IsBytes bytes
 
 abbrev pub IsText : List ℕ → Type 0
 IsText bytes = IsString bytes × (is_utf8 bytes ≡ true)
@@ -105,8 +106,8 @@ abbrev mutual
   Fits (Item.int z) depth = IsInt z
   Fits (Item.bytes bs) depth = IsString bs
   Fits (Item.text bs) depth = IsText bs
-  Fits (Item.list is) depth = (0 < depth) × (items_count is < 2 ^ 64) × ItemsFit is (depth - 1)
-  Fits (Item.map fs) depth = (0 < depth) × (fields_count fs < 2 ^ 64) × FieldsFit fs None (depth - 1)
+  Fits (Item.list is) depth = (0 < depth) × (items_count is < ARGUMENTS) × ItemsFit is (depth - 1)
+  Fits (Item.map fs) depth = (0 < depth) × (fields_count fs < ARGUMENTS) × FieldsFit fs None (depth - 1)
   Fits (Item.link bs) depth = (is_link bs ≡ true) × IsBytes bs
   Fits (Item.bool b) depth = ⊤
   Fits Item.null depth = ⊤
@@ -142,10 +143,10 @@ head_spelling Head.Null = 0xf6 ∷ []
 
 abbrev pub HeadFits : Head → Type 0
 HeadFits (Head.Int z) = IsInt z
-HeadFits (Head.Bytes n) = n < 2 ^ 64
-HeadFits (Head.Text n) = n < 2 ^ 64
-HeadFits (Head.List n) = n < 2 ^ 64
-HeadFits (Head.Map n) = n < 2 ^ 64
+HeadFits (Head.Bytes n) = n < ARGUMENTS
+HeadFits (Head.Text n) = n < ARGUMENTS
+HeadFits (Head.List n) = n < ARGUMENTS
+HeadFits (Head.Map n) = n < ARGUMENTS
 HeadFits (Head.Link link) = (is_link link ≡ true) × IsBytes link
 HeadFits (Head.Bool b) = ⊤
 HeadFits Head.Null = ⊤

@@ -2,6 +2,7 @@
 -- (The laws of taking say that what is taken is what is spelled there.)
 use Rattle.std.specs.Prelude.{ℕ, ◌/◌, ◌%◌, ◌&&◌, ◌==◌, nat_lt, if◌then◌else◌, List, [], ◌∷◌, length, take, drop, slice_index, Option, Some, None, Ok, Err}
 use Rattle.at_cid.specs.Link.{link_at}
+use Rattle.at_cid.specs.declared.cid.TheConstants.{LINK_LEN}
 use Rattle.at_cbor.specs.declared.major.Major.{Major}
 use Rattle.at_cbor.specs.Heads.{argument_at, least_of}
 use Rattle.at_cbor.specs.Item.{Item}
@@ -52,7 +53,7 @@ linked (Some c) rest = Some (c, rest)
 
 -- a link
 unfoldable pub link_from_front : List ℕ → Taking (List ℕ)
-link_from_front bytes = behind (0xd8 ∷ 0x2a ∷ 0x58 ∷ 0x25 ∷ 0x00 ∷ []) bytes >>= λ b. linked (link_at b) (drop 36 b)
+link_from_front bytes = behind (0xd8 ∷ 0x2a ∷ 0x58 ∷ 0x25 ∷ 0x00 ∷ []) bytes >>= λ b. linked (link_at b) (drop LINK_LEN b)
 
 -- the item that is a link, or null where there is none
 abbrev pub link_item : Option (List ℕ) → Item

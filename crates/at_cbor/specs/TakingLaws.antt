@@ -1,6 +1,7 @@
 -- What is taken from the front of bytes is what is spelled there: each law says it both ways.
-use Rattle.std.specs.Prelude.{◌≡◌, ◌↔◌, ℕ, ◌<◌, ◌^◌, List, ◌++◌, length, Option, Some}
+use Rattle.std.specs.Prelude.{◌≡◌, ◌↔◌, ℕ, ◌<◌, List, ◌++◌, length, Option, Some}
 use Rattle.at_cid.specs.Link.{IsBytes, IsLink, IsNodeLinkOrNone}
+use Rattle.at_cbor.specs.declared.limits.TheConstants.{ARGUMENTS}
 use Rattle.at_cbor.specs.Item.{Item}
 use Rattle.at_cbor.specs.declared.major.Major.{Major}
 use Rattle.at_cbor.specs.declared.decoding.TheConstants.{DEPTH}
@@ -11,10 +12,10 @@ abbrev pub TakesFronts : Type 0
 TakesFronts = (front bytes rest : List ℕ) → (behind front bytes ≡ Some rest) ↔ (bytes ≡ front ++ rest)
 
 abbrev pub TakesNumbers : Type 0
-TakesNumbers = (major : Major) (n : ℕ) (bytes rest : List ℕ) → IsBytes bytes → (number_at major bytes ≡ Some (n, rest)) ↔ ((n < 2 ^ 64) × (bytes ≡ front_of major n ++ rest))
+TakesNumbers = (major : Major) (n : ℕ) (bytes rest : List ℕ) → IsBytes bytes → (number_at major bytes ≡ Some (n, rest)) ↔ ((n < ARGUMENTS) × (bytes ≡ front_of major n ++ rest))
 
 abbrev pub TakesStrings : Type 0
-TakesStrings = (string bytes rest : List ℕ) → IsBytes bytes → (string_at bytes ≡ Some (string, rest)) ↔ ((length string < 2 ^ 64) × (bytes ≡ spelling (Item.bytes string) ++ rest))
+TakesStrings = (string bytes rest : List ℕ) → IsBytes bytes → (string_at bytes ≡ Some (string, rest)) ↔ ((length string < ARGUMENTS) × (bytes ≡ spelling (Item.bytes string) ++ rest))
 
 abbrev pub TakesLinks : Type 0
 TakesLinks = (link bytes rest : List ℕ) → IsBytes bytes → (link_from_front bytes ≡ Some (link, rest)) ↔ (IsLink link × (bytes ≡ spelling (Item.link link) ++ rest))

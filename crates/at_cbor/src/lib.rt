@@ -11,6 +11,7 @@ mod head;
 mod kinds;
 mod laws;
 mod length;
+mod limits;
 mod lookup;
 mod major;
 mod reader;

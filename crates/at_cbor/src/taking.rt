@@ -13,7 +13,7 @@ use crate::major::Major;
 use crate::reader::Reader;
 use crate::reading::read_item;
 use crate::value::Value;
-use at_cid::{Cid, Kind, Memory, parse_binary};
+use at_cid::{Cid, Kind, LINK_LEN, Memory, parse_binary};
 use std::alloc::Global;
 
 /// The bytes behind the front of a link: tag 42, the head of a byte string of 37 bytes, and its first byte.
@@ -82,7 +82,7 @@ pub fn take_link(bytes: &[u8]) -> Option<(Cid, &[u8])>
     let Some(link) = parse_binary(rest) else {
         return None;
     };
-    Some((link, rest.split_at(36).1))
+    Some((link, rest.split_at(LINK_LEN).1))
 }
 
 /// The link of kind Node at the front, or none where null stands there.

@@ -1,7 +1,7 @@
 //! Why a block is no commit object.
 
 ghost use Rattle.std.specs.Prelude.{◌≡◌};
-ghost use Rattle.at_commit.specs.declared.fault.CommitFault.TheVariants.{Memory as Wanting};
+ghost use Rattle.at_commit.specs.declared.fault.CommitFault.{CommitFault};
 
 use at_cbor::CborFault;
 use at_cid::Memory;
@@ -26,7 +26,7 @@ pub enum CommitFault {
 }
 
 impl From<Memory> for CommitFault {
-    ghost from_gives = { λ _ e. e ≡ Wanting };
+    ghost from_gives = { λ _ e. e ≡ CommitFault.Memory };
 
     fn from(_e: Memory) -> CommitFault {
         CommitFault::Memory

@@ -1,7 +1,7 @@
 //! What a message of a stream is.
 
 ghost use Rattle.std.specs.Prelude.{◌≡◌};
-ghost use Rattle.at_event.specs.declared.frame.FrameFault.TheVariants.{Memory as Wanting};
+ghost use Rattle.at_event.specs.declared.frame.FrameFault.{FrameFault};
 
 use crate::event::Event;
 use at_cid::Memory;
@@ -37,7 +37,7 @@ pub enum FrameFault {
 }
 
 impl From<Memory> for FrameFault {
-    ghost from_gives = { λ _ e. e ≡ Wanting };
+    ghost from_gives = { λ _ e. e ≡ FrameFault.Memory };
 
     fn from(_e: Memory) -> FrameFault {
         FrameFault::Memory

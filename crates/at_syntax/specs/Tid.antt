@@ -37,7 +37,7 @@ value_of text = number_from_digits 32 (map digit_of text)
 
 -- the character at a place, counted from 0
 unfoldable pub character_at : ℕ → ℕ → ℕ
-character_at value place = character_of (value / 32 ^ (12 - place) % 32)
+character_at value place = character_of (value / 32 ^ (TID_LEN - 1 - place) % 32)
 
 -- the characters of a number below 2^64
 unfoldable pub digits_of : ℕ → List ℕ

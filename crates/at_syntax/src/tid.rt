@@ -129,7 +129,7 @@ impl Tid {
     }
 
     /// Writes its 13 characters.
-    pub fn write(&self, out: &mut [u8; 13])
+    pub fn write(&self, out: &mut [u8; TID_LEN])
         ensures { out.new ≡ digits_of self.now }
     {
         for place in 0..TID_LEN {
