@@ -146,8 +146,8 @@ LongFails info w = (major : Major) (n : ℕ) (rest : List ℕ) → major ≢ Maj
 long_as : (info k : ℕ) (v w : Width) → eqb info k ≡ true → Some v ≡ Some w → LongFails k v → LongFails info w
 long_as info k v w t e h = subst (λ (x : Width). LongFails info x) (some_is v w e) (subst (λ (i : ℕ). LongFails i v) (sym (eqb-true info k t)) h)
 
-long_for : (info : ℕ) (w : Width) → wide_for info ≡ Some w → LongFails info w
-long_for info w e =
+long_by : (info : ℕ) (w : Width) → wide_for info ≡ Some w → LongFails info w
+long_by info w e =
     elim (chosen (eqb info 24) (Some w8) _ (Some w) e) [
       | inl (t, f) ↦ long_as info 24 w8 w t f (long_in w8 24 24 (2 ^ 8) wide8 refl (omega arith) refl (omega arith) (below_of w8 24 tail_1))
       | inr (t, e25) ↦ elim (chosen (eqb info 25) (Some w16) _ (Some w) e25) [
@@ -163,7 +163,7 @@ long_for info w e =
     ]
 
 long_fails : (here : List ℕ) → IsLongForm here → HeadFails Cause.NotShortest here
-long_fails here (major, info, w, n, rest, other, form, parts, shorter) = subst (HeadFails Cause.NotShortest) (sym parts) (long_for info w form major n rest other shorter)
+long_fails here (major, info, w, n, rest, other, form, parts, shorter) = subst (HeadFails Cause.NotShortest) (sym parts) (long_by info w form major n rest other shorter)
 
 -- ---- integers
 

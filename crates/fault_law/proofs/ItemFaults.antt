@@ -64,7 +64,7 @@ key_text : (before : Option (List ℕ)) (n : ℕ) (behind : List ℕ) (answer : 
 unfolding key_at key_of
 key_text before n behind answer below e = after_head (Head.Text n) behind (λ x. key_of before (length (front_of Major.Text n ++ behind)) x.0 x.1) answer below e
 
-key_cut_fails : (before : Option (List ℕ)) (here : List ℕ) → IsStringCut 3 here → KeyFails before Cause.Short here
+key_cut_fails : (before : Option (List ℕ)) (here : List ℕ) → IsStringCut Major.Text here → KeyFails before Cause.Short here
 key_cut_fails before here (n, rest, below, parts, short) =
     subst (KeyFails before Cause.Short) (sym parts) (key_text before n rest _ below (rw (text_cut (length (front_of Major.Text n ++ rest)) n rest short) refl))
 
@@ -130,12 +130,12 @@ value_behind : (depth : ℕ) (head : Head) (behind : List ℕ) (answer : Reading
 value_behind depth head behind answer holds e =
     item_at_is depth (head_spelling head ++ behind) ∙ after_head head behind (λ x. body_of (inside depth) (length (head_spelling head ++ behind)) x.0 x.1) answer holds e
 
-bytes_cut_fails : (depth : ℕ) (here : List ℕ) → IsStringCut 2 here → ValueFails depth Cause.Short here
+bytes_cut_fails : (depth : ℕ) (here : List ℕ) → IsStringCut Major.Bytes here → ValueFails depth Cause.Short here
 unfolding body_of
 bytes_cut_fails depth here (n, rest, below, parts, short) =
     subst (ValueFails depth Cause.Short) (sym parts) (value_behind depth (Head.Bytes n) rest _ below (rw (string_cut (length (front_of Major.Bytes n ++ rest)) n rest short) refl))
 
-text_cut_fails : (depth : ℕ) (here : List ℕ) → IsStringCut 3 here → ValueFails depth Cause.Short here
+text_cut_fails : (depth : ℕ) (here : List ℕ) → IsStringCut Major.Text here → ValueFails depth Cause.Short here
 unfolding body_of
 text_cut_fails depth here (n, rest, below, parts, short) =
     subst (ValueFails depth Cause.Short) (sym parts) (value_behind depth (Head.Text n) rest _ below (rw (text_cut (length (front_of Major.Text n ++ rest)) n rest short) refl))
