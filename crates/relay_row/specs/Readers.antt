@@ -2,6 +2,7 @@
 use Rattle.std.specs.Prelude.{◌≡◌, ⊤, ℕ, pos, negsuc, ℤ, List, [], ◌∷◌, Bool, ◌==◌, nat_lt, if◌then◌else◌, Option, Some, None, option_map, Result, Ok, Err}
 use Rattle.at_cbor.specs.Item.{Item}
 use Rattle.at_cbor.specs.Kinds.{int_in, text_in, bytes_in, bool_in, link_in}
+use Rattle.at_cbor.specs.declared.major.Major.{Major}
 use Rattle.at_cbor.specs.Taking.{item_from_front, number_at as front_at}
 use Rattle.at_syntax.specs.Tid.{tid_of}
 use Rattle.relay_row.specs.declared.fault.RowFault.{RowFault}
@@ -104,7 +105,7 @@ null_or_text_at = formed (null_or text_in)
 
 -- the front of a list: how many items follow
 unfoldable pub count_at : Reading ℕ
-count_at bytes = front_at 4 bytes
+count_at bytes = front_at Major.List bytes
 
 -- null, which stands for this, or what the reader reads
 abbrev pub or_null_at : {A : Type 0} → A → Reading A → Reading A
