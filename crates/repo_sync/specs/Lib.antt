@@ -1,0 +1,5 @@
+pub mod Faults
+pub mod Repository
+pub mod Checks
+pub mod Laws
+pub mod Scans
