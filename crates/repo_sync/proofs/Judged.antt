@@ -12,9 +12,10 @@ use Rattle.at_commit.specs.Commit.{commit_of}
 use Rattle.at_commit.specs.declared.commit.Commit.{Commit}
 use Rattle.mst_whole.specs.Walks.{is_node_block, HasKeys, IsWalkFault}
 use Rattle.mst_whole.specs.declared.walking.WalkFault.{WalkFault}
+use Rattle.event_checks.specs.Opening.{CarResult, block_in}
 use Rattle.repo_sync.specs.Checks.{IsRefused}
 use Rattle.repo_sync.specs.Faults.{of_walk}
-use Rattle.repo_sync.specs.Repository.{CarResult, commit_lines, first_block, first_of, found_of, is_read, lines, Holds, IsTorn, IsWhole}
+use Rattle.repo_sync.specs.Repository.{commit_lines, first_of, found_of, is_read, lines, Holds, IsTorn, IsWhole}
 use Rattle.repo_sync.specs.Scans.{HoldsKept, IsTornAt, JudgesAs, Scans}
 use Rattle.repo_sync.specs.declared.fault.RepoFault.{RepoFault}
 use Rattle.repo_sync.specs.declared.found.Found.{Found}
@@ -28,7 +29,7 @@ shorter n l = elim (ltb MOST_REPOSITORY_BYTES n) as (λ t. ltb MOST_REPOSITORY_B
 
 -- what the lines tell, by whether the bytes are too long and what they read as
 told_by : List ℕ → Option ℕ → Bool → CarResult → Option RepoFault
-told_by did least long car = cond long (Some RepoFault.TooLong) (cond (not (is_read car)) (Some RepoFault.BadCar) (first_of (commit_lines did least (first_block car))))
+told_by did least long car = cond long (Some RepoFault.TooLong) (cond (not (is_read car)) (Some RepoFault.BadCar) (first_of (commit_lines did least (block_in car))))
 
 module _ (did : List ℕ) (least : Option ℕ) (bytes : List ℕ) where
   told_long : MOST_REPOSITORY_BYTES < length bytes → first_of (lines did least bytes) ≡ Some RepoFault.TooLong

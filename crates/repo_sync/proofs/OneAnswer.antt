@@ -8,9 +8,10 @@ use Rattle.mst_whole.specs.Counting.{walked}
 use Rattle.mst_whole.specs.Walks.{IsWalked}
 use Rattle.mst_whole.specs.declared.walking.WalkFault.{WalkFault}
 use Rattle.mst_whole.proofs.Walked.{answer_is}
+use Rattle.event_checks.specs.Opening.{CarResult}
 use Rattle.repo_sync.specs.Checks.{ChecksExactly, IsRefused}
 use Rattle.repo_sync.specs.Faults.{of_walk}
-use Rattle.repo_sync.specs.Repository.{CarResult, first_of, found_of, lines, Holds, IsAnswer, IsWhole}
+use Rattle.repo_sync.specs.Repository.{first_of, found_of, lines, Holds, IsAnswer, IsWhole}
 use Rattle.repo_sync.specs.declared.fault.RepoFault.{RepoFault}
 use Rattle.repo_sync.specs.declared.found.Found.{Found}
 

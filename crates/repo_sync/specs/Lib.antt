@@ -3,3 +3,4 @@ pub mod Repository
 pub mod Checks
 pub mod Laws
 pub mod Scans
+pub mod Sync

@@ -6,39 +6,19 @@ use Rattle.std.specs.Str.{bytes_eq}
 use Rattle.sha2.specs.Sha256.{sha256}
 use Rattle.at_car.specs.Blocks.{BlockMap}
 use Rattle.at_car.specs.Car.{car_of}
-use Rattle.at_car.specs.Sifting.{block_at}
 use Rattle.at_car.specs.Standing.{root_of}
-use Rattle.at_car.specs.declared.fault.CarFault.{CarFault}
 use Rattle.at_commit.specs.Commit.{commit_of}
 use Rattle.at_commit.specs.declared.commit.Commit.{Commit}
-use Rattle.at_commit.specs.declared.fault.CommitFault.{CommitFault}
+use Rattle.event_checks.specs.Opening.{CarResult, block_in, object_in_block}
 use Rattle.mst_whole.specs.Walks.{HasKeys, IsWalkFault}
 use Rattle.mst_whole.specs.declared.walking.WalkFault.{WalkFault}
 use Rattle.repo_sync.specs.declared.fault.RepoFault.{RepoFault}
 use Rattle.repo_sync.specs.declared.found.Found.{Found}
 use Rattle.repo_sync.specs.declared.limits.TheConstants.{MOST_REPOSITORY_BYTES}
 
--- the roots and the blocks, or the first fault
-abbrev pub CarResult : Type 0
-CarResult = Result (List (List ℕ) × BlockMap) CarFault
-
 abbrev pub is_read : CarResult → Bool
 is_read (Ok car) = true
 is_read (Err fault) = false
-
--- the block under the first root
-abbrev pub first_block : CarResult → Option (List ℕ)
-first_block (Ok car) = block_at (root_of car.0) car.1
-first_block (Err fault) = None
-
--- the commit object that a block is
-abbrev pub object_of : Result Commit CommitFault → Option Commit
-object_of (Ok commit) = Some commit
-object_of (Err fault) = None
-
-abbrev pub object_in : Option (List ℕ) → Option Commit
-object_in None = None
-object_in (Some block) = object_of (commit_of block)
 
 -- the commit object is the account's
 abbrev pub is_of : List ℕ → Option Commit → Bool
@@ -67,9 +47,9 @@ first_of (line ∷ lines) = if line.1 then Some line.0 else first_of lines
 abbrev pub commit_lines : List ℕ → Option ℕ → Option (List ℕ) → List Line
 commit_lines did least block =
     (RepoFault.NoCommit, not (is_some block))
-    ∷ (RepoFault.BadCommit, not (is_some (object_in block)))
-    ∷ (RepoFault.OtherDid, not (is_of did (object_in block)))
-    ∷ (RepoFault.Lagging (rev_in (object_in block)), lags least (rev_in (object_in block)))
+    ∷ (RepoFault.BadCommit, not (is_some (object_in_block block)))
+    ∷ (RepoFault.OtherDid, not (is_of did (object_in_block block)))
+    ∷ (RepoFault.Lagging (rev_in (object_in_block block)), lags least (rev_in (object_in_block block)))
     ∷ []
 
 -- what the bytes show before the tree is looked at, in order
@@ -77,7 +57,7 @@ abbrev pub lines : List ℕ → Option ℕ → List ℕ → List Line
 lines did least bytes =
     (RepoFault.TooLong, nat_lt MOST_REPOSITORY_BYTES (length bytes))
     ∷ (RepoFault.BadCar, not (is_read (car_of bytes)))
-    ∷ commit_lines did least (first_block (car_of bytes))
+    ∷ commit_lines did least (block_in (car_of bytes))
 
 -- the bytes hold a commit object under their first root
 pub record Holds (bytes : List ℕ) : Type 0 where

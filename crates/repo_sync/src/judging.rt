@@ -7,15 +7,15 @@ ghost use Rattle.at_car.specs.Finishing.{IsKeptOf};
 ghost use Rattle.at_car.specs.Standing.{root_of};
 ghost use Rattle.at_commit.specs.Commit.{commit_of};
 ghost use Rattle.mst_whole.specs.Walks.{is_node_block, HasKeys};
-ghost use Rattle.repo_sync.specs.Repository.{commit_lines, first_of, found_of, lags, object_of};
+ghost use Rattle.event_checks.specs.Opening.{object_of};
+ghost use Rattle.repo_sync.specs.Repository.{commit_lines, first_of, lags};
 ghost use Rattle.repo_sync.specs.Scans.{IsNoObject, IsShown, IsTornAt, JudgesAs};
 
 use crate::fault::RepoFault;
-use crate::found::Found;
+use crate::found::{Found, found_in};
 use at_car::Kept;
-use at_cid::{Cid, Cids, Memory, Octets};
+use at_cid::{Cid, Cids};
 use at_commit::{Commit, CommitFault};
-use at_event::Head;
 use at_syntax::Tid;
 use mst_whole::{MOST_KEYS, walk_kept};
 use std::alloc::Global;
@@ -87,26 +87,6 @@ fn count_records(alloc: Global, kept: &Kept, root: &Cid) -> Result<u64, RepoFaul
     }
 }
 
-/// What was found, with so many records.
-fn found(link: Cid, block: &Octets, commit: Commit, records: u64) -> Result<Found, Memory>
-    ensures { IfOk result (λ found. found ≡ found_of link block.now commit records) }
-{
-    let head = Head {
-        rev: commit.rev,
-        data_root: commit.data_root,
-        commit: link,
-    };
-    let digest = commit.digest();
-    let block = block.try_clone()?;
-    Ok(Found {
-        head,
-        digest,
-        sig: commit.sig,
-        block,
-        records,
-    })
-}
-
 /// What is kept of a repository shows.
 pub(crate) fn judge(
     alloc: Global,
@@ -126,5 +106,5 @@ pub(crate) fn judge(
     };
     let commit = find_commit(alloc, block.as_slice(), did, least)?;
     let records = count_records(alloc, kept, &commit.data_root)?;
-    Ok(found(link, block, commit, records)?)
+    Ok(found_in(link, block.try_clone()?, commit, records))
 }

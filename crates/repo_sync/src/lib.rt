@@ -9,9 +9,12 @@ mod laws;
 mod limits;
 mod repository;
 mod scanning;
+mod syncing;
 
+pub use event_checks::OpenFault;
 pub use fault::RepoFault;
 pub use found::Found;
 pub use laws::one_answer;
 pub use limits::MOST_REPOSITORY_BYTES;
 pub use repository::check_repo;
+pub use syncing::check_sync;
