@@ -2,3 +2,4 @@ pub mod Steps
 pub mod Views
 pub mod Walked
 pub mod Keeps
+pub mod KeptKeys

@@ -53,7 +53,7 @@ fault_given B r (Err (WalkFault.BadNode c)) g = fault_is B r (WalkFault.BadNode 
 fault_given B r (Err WalkFault.Memory) g = tt
 
 -- the answer of a walk is what is counted
-answer_is : (B : FinMap key_cmp (List ℕ)) (r : List ℕ) (answer : Result ℕ WalkFault) → IsWalked B r answer → walked B r ≡ answer
+pub answer_is : (B : FinMap key_cmp (List ℕ)) (r : List ℕ) (answer : Result ℕ WalkFault) → IsWalked B r answer → walked B r ≡ answer
 answer_is B r (Ok n) (F, view, keys, is) = ap (λ x. told B (count x)) (whole_found B r F view keys) ∙ ap Ok (sym is)
 answer_is B r (Err (WalkFault.NoBlock c)) (gone, first) = ap (λ x. told B (count x)) (top_named node_of node_of_is_reader in_whole B r c first) ∙ ap (λ o. Err (fault_at c o)) gone
 answer_is B r (Err (WalkFault.BadNode c)) (there, first) = ap (λ x. told B (count x)) (top_named node_of node_of_is_reader in_whole B r c first) ∙ ap (λ o. Err (fault_at c o)) there.1

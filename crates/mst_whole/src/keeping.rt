@@ -1,10 +1,10 @@
 //! Walks over what was kept of a CAR that came in pieces.
 
-ghost use Rattle.std.specs.Prelude.{◌≡◌, ◌≤◌, ◌||◌, is_some, ℕ, List, IfOk, IfErr};
+ghost use Rattle.std.specs.Prelude.{◌≡◌, ◌≤◌, ◌||◌, is_some, ℕ, List, IfOk, IfErr, Ok};
 ghost use Rattle.std.specs.FinMap as map;
 ghost use Rattle.at_cid.specs.Link.{IsNodeLink};
 ghost use Rattle.at_cid.specs.Memory.{Gives};
-ghost use Rattle.at_car.specs.Blocks.{AreLinked, BlockMap};
+ghost use Rattle.at_car.specs.Blocks.{BlockMap};
 ghost use Rattle.at_car.specs.Finishing.{IsKeptOf};
 ghost use Rattle.at_car.specs.Links.{has};
 ghost use Rattle.mst_whole.specs.Counting.{fault_in, kept_fault_of, walked};
@@ -67,6 +67,7 @@ fn fault_of(kept: &Kept, fault: CountFault) -> WalkFault
 
 fn walk_at(alloc: Global, kept: &Kept, root: Cid) -> Result<u64, WalkFault>
     ensures walked { (blocks : BlockMap) → IsKeptOf is_node_block blocks kept.now → Gives (λ n. n) cause_of result (walked blocks root) }
+    ensures nodes { IfOk result (λ n. walked kept.now.nodes root ≡ Ok n) }
     ensures most { IfOk result (λ n. n ≤ MOST_KEYS) }
 {
     match count_all(alloc, &kept.nodes, root) {
@@ -77,10 +78,11 @@ fn walk_at(alloc: Global, kept: &Kept, root: Cid) -> Result<u64, WalkFault>
 
 /// What [`crate::walk`] answers on all the blocks of which this is kept by a [`NodeSieve`].
 pub fn walk_kept(alloc: Global, kept: &Kept, root: &Cid) -> Result<u64, WalkFault>
-    ensures whole { (blocks : BlockMap) → IsKeptOf is_node_block blocks kept.now → AreLinked blocks → IsNodeLink root.now → IfOk result (HasKeys blocks root.now) }
+    ensures whole { (blocks : BlockMap) → IsKeptOf is_node_block blocks kept.now → IsNodeLink root.now → IfOk result (HasKeys blocks root.now) }
     ensures fault { (blocks : BlockMap) → IsKeptOf is_node_block blocks kept.now → IfErr result (IsWalkFault blocks root.now) }
     ensures exact { (blocks : BlockMap) → IsKeptOf is_node_block blocks kept.now → WalksExactly blocks root.now result }
     ensures most { IfOk result (λ n. n ≤ MOST_KEYS) }
 {
+    kept.nodes.tell_linked();
     walk_at(alloc, kept, *root)
 }

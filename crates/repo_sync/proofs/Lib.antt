@@ -1,0 +1,4 @@
+pub mod Judged
+pub mod OneAnswer
+pub mod Pieces
+pub mod Synced

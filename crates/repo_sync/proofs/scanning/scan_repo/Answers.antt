@@ -1,0 +1,23 @@
+use Rattle.std.proofs.Common.{◌++◌, ◌∙◌, arith, length-append}
+use Rattle.repo_sync.proofs.Pieces.{ended, joined}
+use Rattle.repo_sync.proofs.scanning.scan_repo.Goals as goal
+
+pub returns-then-count-eq0-clause-scanned : goal.returns-then-count-eq0-clause-scanned
+returns-then-count-eq0-clause-scanned g c = λ told.
+    let was = c.pieces.invariant.bytes in let came = c.in_ok-count.ensures.moved in
+    ended c.finish.result (g.R.Repos.left c.args.repos.now) was.0 came.0 (g.R.Repos.left c.pieces.repos) (g.R.Repos.left c.take_piece.new.repos)
+    (was.3 told) (came.2 told) (c.in_ok-count.ensures.end told c.if-count-eq0.true) (omega (arith, was.1, c.pieces.invariant.most)) (c.finish.ensures (was.0 ++ came.0) (came.3 was.0 was.2))
+
+pub pieces-preserved : goal.pieces-preserved
+pieces-preserved g c =
+    let was = c.pieces.invariant.bytes in let came = c.in_ok-count.ensures.moved in
+    record {
+      bytes = (
+        was.0 ++ came.0,
+        length-append was.0 came.0 ∙ omega (arith, was.1, came.1),
+        came.3 was.0 was.2,
+        λ told. joined (g.R.Repos.left c.args.repos.now) was.0 came.0 (g.R.Repos.left c.pieces.repos) (g.R.Repos.left c.take_piece.new.repos) (was.3 told) (came.2 told),
+      );
+      most = omega (arith, c.if-given-gt-MOST_REPOSITORY_BYTES.false);
+      steady = c.in_ok-count.ensures.steady (λ e. absurd (cc)) ∙ c.pieces.invariant.steady;
+    }
