@@ -1,5 +1,5 @@
-//! Compares what the feeds, doors, repositories and streams of memory and of files answer with the rows of text files, with
-//! each call failing in turn.
+//! Compares what the feeds, doors, repositories and streams of memory and of files answer, and what is read of tapes, with the
+//! rows of text files, with each call failing in turn.
 #![tactic(auto)]
 
 mod doors;
@@ -10,6 +10,7 @@ mod reading;
 mod repositories;
 mod sinks;
 mod sources;
+mod tapes;
 mod words;
 
 use anyhow::Result;
@@ -21,6 +22,7 @@ use repositories::{Pieces, Repositories};
 use sinks::SinkCalls;
 use sources::SourceCalls;
 use std::process::ExitCode;
+use tapes::{LongRecords, TapeCalls, Tapes};
 use vector_lines::Suite;
 
 fn compared(rt: &HostRuntime) -> Result<Suite> {
@@ -33,6 +35,10 @@ fn compared(rt: &HostRuntime) -> Result<Suite> {
     suite.file(rt, "repositories", &Repositories)?;
     suite.file(rt, "pieces", &Pieces)?;
     suite.file(rt, "file_repositories", &FileRepositories { rt })?;
+    suite.file(rt, "tapes", &Tapes)?;
+    suite.file(rt, "own_tapes", &Tapes)?;
+    suite.file(rt, "tape_calls", &TapeCalls)?;
+    suite.file(rt, "long_records", &LongRecords)?;
     Ok(suite)
 }
 
