@@ -1,0 +1,5 @@
+pub mod Names
+pub mod Windows
+pub mod Fronts
+pub mod Lawful
+pub mod Nexts
