@@ -4,14 +4,18 @@
 
 mod links;
 mod memory;
+mod reading;
 mod runs;
 mod subject;
 mod suite;
+mod telling;
 mod words;
 
 pub use links::{add_link, link};
 pub use memory::had;
+pub use reading::{number, parted};
 pub use runs::expanded;
 pub use subject::Subject;
 pub use suite::Suite;
+pub use telling::{add, add_number, said};
 pub use words::{add_bytes, add_list, bytes};

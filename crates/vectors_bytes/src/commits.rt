@@ -1,10 +1,10 @@
 //! Commit objects.
 
-use anyhow::{Context, Result, bail, ensure};
+use anyhow::{Result, bail, ensure};
 use at_commit::{Commit, CommitFault, read};
-use at_syntax::TID_LEN;
+use at_syntax::{TID_LEN, Tid};
 use std::alloc::Global;
-use vector_lines::{Subject, add_bytes, add_link, bytes};
+use vector_lines::{Subject, add, add_bytes, add_link, bytes, had, said};
 
 pub struct Commits;
 
@@ -20,19 +20,26 @@ impl Subject for Commits {
 
 // What a commit object says.
 fn told(alloc: Global, commit: &Commit) -> Result<String> {
-    let copy = commit.try_clone().ok().context("memory")?;
+    let copy = had(commit.try_clone())?;
     ensure!(copy.unsigned == commit.unsigned, "the copy is another");
-    let mut text = String::from_str(alloc, "ok did ")?;
-    text.push_str(copy.did.as_str())?;
-    text.push_str(" rev ")?;
-    let mut rev = [0; TID_LEN];
-    copy.rev.write(&mut rev);
-    text.push_str(str::from_utf8(&rev)?)?;
-    text.push_str(" data ")?;
+    let mut text = said(alloc, "ok did ")?;
+    add(&mut text, copy.did.as_str())?;
+    add_rev(&mut text, copy.rev)?;
+    add(&mut text, " data ")?;
     add_link(&mut text, &copy.data_root)?;
-    text.push_str(" sig ")?;
-    add_bytes(&mut text, copy.sig.as_slice())?;
-    text.push_str(" digest ")?;
-    add_bytes(&mut text, &copy.digest())?;
+    add_sig(&mut text, &copy)?;
     Ok(text)
+}
+
+fn add_rev(text: &mut String, rev: Tid) -> Result<()> {
+    let mut letters = [0; TID_LEN];
+    add(text, " rev ")?;
+    add(text, rev.write_text(&mut letters))
+}
+
+fn add_sig(text: &mut String, commit: &Commit) -> Result<()> {
+    add(text, " sig ")?;
+    add_bytes(text, commit.sig.as_slice())?;
+    add(text, " digest ")?;
+    add_bytes(text, &commit.digest())
 }

@@ -5,26 +5,17 @@ use at_cid::Octets;
 use at_event::{account_frame, sync_frame};
 use at_syntax::Tid;
 use std::alloc::Global;
-use vector_lines::{Subject, add_bytes, bytes};
+use vector_lines::{Subject, add_bytes, bytes, had, number, parted};
 
 pub struct Events;
 
 impl Subject for Events {
     // `sync SEQ DID TIME REV BLOCKS` or `account SEQ DID TIME ACTIVE STATUS`: the message.
     fn answer(&self, alloc: Global, input: &str) -> Result<String> {
-        let words: Vec<&str> = input.split(' ').collect(alloc)?;
-        let [kind, seq, did, time, more, last] = words.as_slice() else {
-            bail!("six words");
-        };
-        let seq = seq.parse::<u64>()?;
-        ensure!(seq < 1 << 53, "a number of a stream");
-        let frame = match *kind {
-            "sync" => sync(alloc, seq, did, time, more, last)?,
-            "account" => {
-                let status = if *last == "-" { None } else { Some(*last) };
-                let frame = account_frame(alloc, did, *more == "active", status, time, seq);
-                frame.ok().context("memory")?
-            }
+        let (kind, rest) = parted(input, " ")?;
+        let frame = match kind {
+            "sync" => sync(alloc, &event(rest)?)?,
+            "account" => account(alloc, &event(rest)?)?,
             _ => bail!("no word of events"),
         };
         let mut text = String::new(alloc);
@@ -33,10 +24,47 @@ impl Subject for Events {
     }
 }
 
-fn sync(alloc: Global, seq: u64, did: &str, time: &str, rev: &str, blocks: &str) -> Result<Octets> {
+// The words of an event.
+#[derive(Drop)]
+struct Words<'a> {
+    seq: u64,
+    did: &'a str,
+    time: &'a str,
+    more: &'a str,
+    last: &'a str,
+}
+
+fn event(words: &str) -> Result<Words<'_>> {
+    let (seq, rest) = parted(words, " ")?;
+    let (did, rest) = parted(rest, " ")?;
+    let (time, rest) = parted(rest, " ")?;
+    let (more, last) = parted(rest, " ")?;
+    Ok(Words {
+        seq: number(seq)?,
+        did,
+        time,
+        more,
+        last,
+    })
+}
+
+fn sync(alloc: Global, words: &Words<'_>) -> Result<Octets> {
+    let seq = words.seq;
     ensure!(seq < 1 << 53, "a number of a stream");
-    let rev = Tid::parse(rev).context("a TID")?;
-    let blocks = bytes(alloc, blocks)?;
-    let frame = sync_frame(alloc, did, rev, blocks.as_slice(), time, seq);
-    frame.ok().context("memory")
+    let rev = Tid::parse(words.more).context("a TID")?;
+    let blocks = bytes(alloc, words.last)?;
+    let blocks = blocks.as_slice();
+    had(sync_frame(alloc, words.did, rev, blocks, words.time, seq))
+}
+
+fn account(alloc: Global, words: &Words<'_>) -> Result<Octets> {
+    let seq = words.seq;
+    ensure!(seq < 1 << 53, "a number of a stream");
+    let active = words.more == "active";
+    let status = if words.last == "-" {
+        None
+    } else {
+        Some(words.last)
+    };
+    had(account_frame(alloc, words.did, active, status, words.time, seq))
 }

@@ -3,7 +3,7 @@
 use anyhow::{Result, bail};
 use at_event::{Event, EventKind, Frame, FrameFault, out_len, read_frame};
 use std::alloc::Global;
-use vector_lines::{Subject, bytes};
+use vector_lines::{Subject, add, add_number, bytes, said};
 
 pub struct Frames;
 
@@ -11,7 +11,7 @@ impl Subject for Frames {
     fn answer(&self, alloc: Global, input: &str) -> Result<String> {
         let word = match read_frame(alloc, bytes(alloc, input)?.as_slice()) {
             Ok(Frame::Event(event)) => return told(alloc, &event),
-            Ok(Frame::Faulty(seq)) => return Ok(format!(in alloc; "Faulty({seq})")?),
+            Ok(Frame::Faulty(seq)) => return faulty(alloc, seq),
             Ok(Frame::Info) => "Info",
             Ok(Frame::Error) => "Error",
             Ok(Frame::Unknown) => "Unknown",
@@ -19,8 +19,15 @@ impl Subject for Frames {
             Err(FrameFault::NoSeq) => "NoSeq",
             Err(FrameFault::Memory) => bail!("memory"),
         };
-        Ok(String::from_str(alloc, word)?)
+        said(alloc, word)
     }
+}
+
+fn faulty(alloc: Global, seq: u64) -> Result<String> {
+    let mut text = said(alloc, "Faulty(")?;
+    add_number(&mut text, seq)?;
+    add(&mut text, ")")?;
+    Ok(text)
 }
 
 fn told(alloc: Global, event: &Event) -> Result<String> {
@@ -30,8 +37,13 @@ fn told(alloc: Global, event: &Event) -> Result<String> {
         EventKind::Identity => "identity",
         EventKind::Account => "account",
     };
-    let seq = event.seq;
-    let did = event.did.as_str();
-    let len = out_len(event);
-    Ok(format!(in alloc; "Event {kind} seq {seq} did {did} out_len {len}")?)
+    let mut text = said(alloc, "Event ")?;
+    add(&mut text, kind)?;
+    add(&mut text, " seq ")?;
+    add_number(&mut text, event.seq)?;
+    add(&mut text, " did ")?;
+    add(&mut text, event.did.as_str())?;
+    add(&mut text, " out_len ")?;
+    add_number(&mut text, out_len(event))?;
+    Ok(text)
 }

@@ -1,35 +1,41 @@
 //! The DAG-CBOR item at the front of bytes.
 
-use anyhow::{Context, Result, bail, ensure};
+use anyhow::{Result, bail, ensure};
 use at_cbor::{CborFault, Value, decode, encode, spelled_len};
 use std::alloc::Global;
-use vector_lines::{Subject, bytes};
+use vector_lines::{Subject, add, add_number, bytes, had, said};
 
 pub struct Items;
 
 impl Subject for Items {
     fn answer(&self, alloc: Global, input: &str) -> Result<String> {
         let given = bytes(alloc, input)?;
-        match decode(alloc, given.as_slice()) {
-            Ok((value, len)) => {
-                let written = encode(alloc, &value).ok().context("memory")?;
-                ensure!(
-                    Some(written.as_slice()) == given.get(..len),
-                    "another spelling"
-                );
-                ensure!(is_copied(alloc, &value, len)?, "another copy");
-                let kind = kind(&value);
-                Ok(format!(in alloc; "{kind} {len}")?)
-            }
+        let (value, len) = match decode(alloc, given.as_slice()) {
+            Ok(found) => found,
             Err(CborFault::Memory) => bail!("memory"),
-            Err(fault) => Ok(format!(in alloc; "{fault:?}")?),
-        }
+            Err(fault) => return Ok(format!(in alloc; "{fault:?}")?),
+        };
+        let written = had(encode(alloc, &value))?;
+        ensure!(
+            Some(written.as_slice()) == given.get(..len),
+            "another spelling"
+        );
+        told(alloc, &value, len)
     }
+}
+
+// The kind of a value and the length of its spelling, where a copy is the same.
+fn told(alloc: Global, value: &Value, len: usize) -> Result<String> {
+    ensure!(is_copied(alloc, value, len)?, "another copy");
+    let mut text = said(alloc, kind(value))?;
+    add(&mut text, " ")?;
+    add_number(&mut text, len as u64)?;
+    Ok(text)
 }
 
 // Whether a copy is the same, and has a spelling of that length.
 fn is_copied(alloc: Global, value: &Value, len: usize) -> Result<bool> {
-    let copy = value.try_clone(alloc).ok().context("memory")?;
+    let copy = had(value.try_clone(alloc))?;
     Ok(copy == *value && spelled_len(value) == len as u64)
 }
 
@@ -48,7 +54,9 @@ fn kind(value: &Value) -> &'static str {
         "Link"
     } else if value.as_bool().is_some() {
         "Bool"
-    } else {
+    } else if value.is_null() {
         "Null"
+    } else {
+        "no kind"
     }
 }

@@ -5,7 +5,9 @@
 mod cars;
 mod commits;
 mod events;
+mod forms;
 mod frames;
+mod fronts;
 mod items;
 mod links;
 mod lists;
@@ -13,6 +15,8 @@ mod names;
 mod numbers;
 mod pieces;
 mod refusals;
+mod scans;
+mod spelled;
 mod telling;
 mod written;
 
@@ -32,9 +36,12 @@ fn compared(rt: &HostRuntime) -> Result<Suite> {
     suite.file(rt, "cbor_faults", &items::Items)?;
     suite.file(rt, "own_items", &items::Items)?;
     suite.file(rt, "own_pieces", &pieces::Pieces)?;
+    suite.file(rt, "own_fronts", &fronts::Fronts)?;
+    suite.file(rt, "own_forms", &forms::Forms)?;
     suite.file(rt, "names", &names::Names)?;
     suite.file(rt, "own_names", &names::Names)?;
     suite.file(rt, "car_faults", &cars::Cars)?;
+    suite.file(rt, "car_faults", &scans::Scans)?;
     suite.file(rt, "own_cars", &written::Written)?;
     suite.file(rt, "commit_objects", &commits::Commits)?;
     suite.file(rt, "frames", &frames::Frames)?;

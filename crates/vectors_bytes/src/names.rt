@@ -4,31 +4,43 @@ use anyhow::{Context, Result, bail, ensure};
 use at_syntax::{TID_LEN, Tid, did_ok, host_ok, method, path_ok};
 use std::alloc::Global;
 use std::cmp::Ordering;
-use vector_lines::{Subject, bytes};
+use vector_lines::{Subject, add_number, bytes, number, parted, said};
 
 pub struct Names;
 
 impl Subject for Names {
     fn answer(&self, alloc: Global, input: &str) -> Result<String> {
-        let (word, digits) = input.split_once(' ').context("a word and a text")?;
-        if word == "order" {
-            return order(alloc, digits);
-        }
-        let name = bytes(alloc, digits)?;
-        let text = str::from_utf8(name.as_slice())?;
+        let (word, rest) = parted(input, " ")?;
         match word {
-            "did" => told(alloc, did_ok(text)),
-            "path" => told(alloc, path_ok(text)),
-            "host" => told(alloc, host_ok(text)),
-            "tid" => tid(alloc, text),
-            "method" => method_of(alloc, text),
-            _ => bail!("no word of names"),
+            "order" => order(alloc, rest),
+            "value" => of_value(alloc, number(rest)?),
+            _ => {
+                let name = bytes(alloc, rest)?;
+                named(alloc, word, str::from_utf8(name.as_slice())?)
+            }
         }
     }
 }
 
+fn named(alloc: Global, word: &str, text: &str) -> Result<String> {
+    match word {
+        "did" => told(alloc, did_ok(text)),
+        "path" => told(alloc, path_ok(text)),
+        "host" => told(alloc, host_ok(text)),
+        "tid" => tid(alloc, text),
+        "method" => method_of(alloc, text),
+        _ => bail!("no word of names"),
+    }
+}
+
 fn told(alloc: Global, ok: bool) -> Result<String> {
-    Ok(String::from_str(alloc, if ok { "ok" } else { "no" })?)
+    said(alloc, if ok { "ok" } else { "no" })
+}
+
+// The text of the TID of a value.
+fn of_value(alloc: Global, value: u64) -> Result<String> {
+    let mut letters = [0; TID_LEN];
+    said(alloc, Tid::from_value(value).write_text(&mut letters))
 }
 
 fn tid(alloc: Global, text: &str) -> Result<String> {
@@ -41,23 +53,27 @@ fn tid(alloc: Global, text: &str) -> Result<String> {
         written.as_slice() == text.as_bytes(),
         "the TID is written otherwise"
     );
-    let value = tid.value();
-    Ok(format!(in alloc; "{value}")?)
+    let mut text = String::new(alloc);
+    add_number(&mut text, tid.value())?;
+    Ok(text)
 }
 
 fn method_of(alloc: Global, text: &str) -> Result<String> {
     ensure!(did_ok(text), "a DID");
-    Ok(String::from_str(alloc, method(text))?)
+    said(alloc, method(text))
+}
+
+fn parsed(text: &str) -> Result<Tid> {
+    Tid::parse(text).context("a TID")
 }
 
 // The order of two TIDs.
 fn order(alloc: Global, texts: &str) -> Result<String> {
-    let (left, right) = texts.split_once(' ').context("two TIDs")?;
-    let left = Tid::parse(left).context("a TID")?;
-    let word = match left.cmp(&Tid::parse(right).context("a TID")?) {
+    let (left, right) = parted(texts, " ")?;
+    let word = match parsed(left)?.cmp(&parsed(right)?) {
         Ordering::Less => "less",
         Ordering::Equal => "equal",
         Ordering::Greater => "greater",
     };
-    Ok(String::from_str(alloc, word)?)
+    said(alloc, word)
 }

@@ -1,120 +1,147 @@
 //! DAG-CBOR put together: single items, and maps and lists that are read and put together anew.
 
+use crate::spelled::spelled;
 use anyhow::{Context, Result, bail, ensure};
 use at_cbor::{
     Fields, Value, Values, decode, field, write_bool, write_bytes, write_int, write_link,
-    write_list_front, write_map_front, write_null, write_text, write_value,
+    write_list_front, write_map_front, write_null, write_number, write_text,
 };
-use at_cid::{Memory, Octets};
+use at_cid::{Octets, Words};
 use std::alloc::Global;
-use vector_lines::{Subject, add_bytes, bytes, link};
+use vector_lines::{Subject, add, add_bytes, add_number, bytes, had, link, number, parted, said};
 
 pub struct Pieces;
 
 impl Subject for Pieces {
     fn answer(&self, alloc: Global, input: &str) -> Result<String> {
-        let (word, rest) = input.split_once(' ').context("a word and what follows")?;
-        let mut text = String::new(alloc);
+        let (word, rest) = parted(input, " ")?;
         match word {
-            "field" => return field_of(alloc, rest),
-            "map" => return map_again(alloc, rest),
-            "list" => return list_again(alloc, rest),
-            _ => add_bytes(&mut text, piece(alloc, word, rest)?.as_slice())?,
+            "field" => field_of(alloc, rest),
+            "map" => map_again(alloc, rest),
+            "list" => list_again(alloc, rest),
+            _ => in_digits(alloc, &piece(alloc, word, rest)?),
         }
-        Ok(text)
     }
+}
+
+fn in_digits(alloc: Global, octets: &Octets) -> Result<String> {
+    let mut text = String::new(alloc);
+    add_bytes(&mut text, octets.as_slice())?;
+    Ok(text)
 }
 
 // The spelling of one item, or of the front of one.
 fn piece(alloc: Global, word: &str, rest: &str) -> Result<Octets> {
     let mut out = Octets::new(alloc);
-    let written = match word {
-        "int" => write_int(&mut out, rest.parse::<i64>()?),
-        "bytes" => write_bytes(&mut out, bytes(alloc, rest)?.as_slice()),
-        "text" => write_text(&mut out, rest),
-        "list_front" => write_list_front(&mut out, rest.parse::<usize>()?),
-        "map_front" => write_map_front(&mut out, rest.parse::<usize>()?),
-        "link" => write_link(&mut out, &link(rest)?),
-        "bool" => write_bool(&mut out, rest == "true"),
-        "null" => write_null(&mut out),
-        _ => bail!("no word of pieces"),
-    };
-    written.ok().context("memory")?;
+    match word {
+        "int" => had(write_int(&mut out, rest.parse::<i64>()?))?,
+        "number" => had(write_number(&mut out, number(rest)?))?,
+        "list_front" | "map_front" => add_front(&mut out, word, rest)?,
+        _ => add_item(alloc, &mut out, word, rest)?,
+    }
     Ok(out)
+}
+
+fn add_front(out: &mut Octets, word: &str, rest: &str) -> Result<()> {
+    let count = usize::try_from(number(rest)?)?;
+    if word == "map_front" {
+        return had(write_map_front(out, count));
+    }
+    had(write_list_front(out, count))
+}
+
+fn add_item(alloc: Global, out: &mut Octets, word: &str, rest: &str) -> Result<()> {
+    match word {
+        "bytes" => had(write_bytes(out, bytes(alloc, rest)?.as_slice())),
+        "text" => had(write_text(out, rest)),
+        "link" => had(write_link(out, &link(rest)?)),
+        "bool" => had(write_bool(out, rest == "true")),
+        "null" => had(write_null(out)),
+        _ => bail!("no word of pieces"),
+    }
 }
 
 // The item of the bytes.
 fn item(alloc: Global, input: &str) -> Result<Value> {
-    let (value, _) = decode(alloc, bytes(alloc, input)?.as_slice())?;
+    let given = bytes(alloc, input)?;
+    let (value, _) = decode(alloc, given.as_slice())?;
     Ok(value)
 }
 
 // The spelling of a field of a map, or that there is none.
 fn field_of(alloc: Global, input: &str) -> Result<String> {
-    let (name, map) = input.split_once(' ').context("a name and a map")?;
+    let (name, map) = parted(input, " ")?;
     let map = item(alloc, map)?;
-    let Some(value) = field(&map, name) else {
-        return Ok(String::from_str(alloc, "none")?);
-    };
-    spelled(alloc, value)
-}
-
-fn spelled(alloc: Global, value: &Value) -> Result<String> {
-    let mut out = Octets::new(alloc);
-    write_value(&mut out, value).ok().context("memory")?;
-    let mut text = String::new(alloc);
-    add_bytes(&mut text, out.as_slice())?;
-    Ok(text)
+    match field(&map, name) {
+        Some(value) => spelled(alloc, value),
+        None => said(alloc, "none"),
+    }
 }
 
 // How many fields a map has and its last key, and its spelling when its fields are put together anew.
 fn map_again(alloc: Global, input: &str) -> Result<String> {
     let map = item(alloc, input)?;
-    let fields = map.as_map().context("a map")?;
-    let made = copied_fields(alloc, fields)?;
+    let made = copied_fields(alloc, map.as_map().context("a map")?)?;
     let len = made.len();
     ensure!(made.is_empty() == (len == 0), "which are empty");
     ensure!(made.get(len).is_none(), "no field behind the last");
-    let last = made.last_key().map_or("-", |key| key.as_str());
-    let mut text = format!(in alloc; "{len} {last} ")?;
-    text.push_str(spelled(alloc, &Value::Map(made))?.as_str())?;
+    let mut text = String::new(alloc);
+    add_number(&mut text, len as u64)?;
+    add(&mut text, " ")?;
+    add_key(&mut text, made.last_key())?;
+    add_spelled(alloc, text, &Value::Map(made))
+}
+
+fn add_key(text: &mut String, key: Option<&Words>) -> Result<()> {
+    match key {
+        Some(key) => add(text, key.as_str()),
+        None => add(text, "-"),
+    }
+}
+
+// The text with the spelling of a value behind it.
+fn add_spelled(alloc: Global, mut text: String, value: &Value) -> Result<String> {
+    add(&mut text, " ")?;
+    add(&mut text, spelled(alloc, value)?.as_str())?;
     Ok(text)
 }
 
 fn copied_fields(alloc: Global, fields: &Fields) -> Result<Fields> {
     let mut made = Fields::new(alloc);
     for (key, value) in fields.as_slice() {
-        let key = key.try_clone().ok().context("memory")?;
-        let value = value.try_clone(alloc).ok().context("memory")?;
-        ensure!(
-            made.find(key.as_str()).is_none(),
-            "a key that isn't there yet"
-        );
-        ensure!(made.admits(&key), "a key behind the others");
-        had(made.push(key, value))?;
+        add_copy(alloc, &mut made, key, value)?;
     }
     Ok(made)
 }
 
-fn had(answer: Result<(), Memory>) -> Result<()> {
-    answer.ok().context("memory")
+fn add_copy(alloc: Global, made: &mut Fields, key: &Words, value: &Value) -> Result<()> {
+    let key = had(key.try_clone())?;
+    let value = had(value.try_clone(alloc))?;
+    ensure!(
+        made.find(key.as_str()).is_none(),
+        "a key that isn't there yet"
+    );
+    ensure!(made.admits(&key), "a key behind the others");
+    had(made.push(key, value))
 }
 
-// How many items a list has, and its spelling when it is put together anew, last item first and last.
+// How many items a list has, and its spelling when it is put together anew.
 fn list_again(alloc: Global, input: &str) -> Result<String> {
     let list = item(alloc, input)?;
     let values = list.as_list().context("a list")?;
+    let made = copied_values(alloc, values)?;
+    ensure!(made.as_slice().len() == values.len(), "all are there");
+    let mut text = String::new(alloc);
+    add_number(&mut text, made.len() as u64)?;
+    add_spelled(alloc, text, &Value::List(made))
+}
+
+fn copied_values(alloc: Global, values: &Values) -> Result<Values> {
     let mut made = Values::new(alloc);
     ensure!(made.is_empty(), "a new list is empty");
     for place in 0..values.len() {
         let value = values.get(place).context("an item")?;
-        made.push(value.try_clone(alloc).ok().context("memory")?)
-            .ok()
-            .context("memory")?;
+        had(made.push(had(value.try_clone(alloc))?))?;
     }
-    ensure!(made.as_slice().len() == values.len(), "all are there");
-    let len = made.len();
-    let mut text = format!(in alloc; "{len} ")?;
-    text.push_str(spelled(alloc, &Value::List(made))?.as_str())?;
-    Ok(text)
+    Ok(made)
 }

@@ -2,56 +2,61 @@
 
 use anyhow::{Context, Result, ensure};
 use at_car::{Blocks, read, write};
-use at_cid::{Kind, cid_of, parse_binary};
+use at_cid::{Cid, Kind, cid_of, parse_binary};
 use std::alloc::Global;
-use vector_lines::{Subject, add_bytes, bytes};
+use vector_lines::{Subject, add_bytes, bytes, had, parted};
 
 pub struct Written;
 
 impl Subject for Written {
     // A root and blocks, each with the kind of its link: the CAR of them.
     fn answer(&self, alloc: Global, input: &str) -> Result<String> {
-        let (root, given) = input.split_once(' ').context("a root and blocks")?;
+        let (root, given) = parted(input, " ")?;
         let root = parse_binary(bytes(alloc, root)?.as_slice()).context("a link")?;
         let mut blocks = Blocks::new(alloc);
         for word in given.split(' ') {
-            put(alloc, &mut blocks, word)?;
+            put_word(alloc, &mut blocks, word)?;
         }
-        let car = write(alloc, &root, &blocks).ok().context("memory")?;
-        let again = read(alloc, car.as_slice())?;
-        ensure!(
-            again.blocks.len() == blocks.len(),
-            "as many blocks are read back"
-        );
-        ensure!(
-            again.roots.as_slice() == [root].as_slice(),
-            "the root is read back"
-        );
+        let car = had(write(alloc, &root, &blocks))?;
+        ensure_read(alloc, car.as_slice(), root, blocks.len())?;
         let mut text = String::new(alloc);
         add_bytes(&mut text, car.as_slice())?;
         Ok(text)
     }
 }
 
+// Reads a CAR back, which has one root and so many blocks.
+fn ensure_read(alloc: Global, car: &[u8], root: Cid, count: usize) -> Result<()> {
+    let again = read(alloc, car)?;
+    ensure!(again.blocks.len() == count, "as many blocks are read back");
+    ensure!(
+        again.roots.as_slice() == [root].as_slice(),
+        "the root is read back"
+    );
+    Ok(())
+}
+
 // Puts a block, given behind `Node:` or `Raw:`, under its link of that kind.
-fn put(alloc: Global, blocks: &mut Blocks, word: &str) -> Result<()> {
-    let (kind, digits) = word.split_once(':').context("a kind and a block")?;
+fn put_word(alloc: Global, blocks: &mut Blocks, word: &str) -> Result<()> {
+    let (kind, digits) = parted(word, ":")?;
     let block = bytes(alloc, digits)?;
-    let node = cid_of(block.as_slice());
-    let mut binary = *node.as_bytes();
-    if kind == "Raw" {
+    let link = link_of(block.as_slice(), kind == "Raw")?;
+    put(blocks, link, block.as_slice())
+}
+
+fn link_of(block: &[u8], is_raw: bool) -> Result<Cid> {
+    let mut binary = *cid_of(block).as_bytes();
+    if is_raw {
         binary[1] = 0x55;
     }
     let link = parse_binary(&binary).context("a link")?;
-    ensure!(
-        (link.kind() == Kind::Raw) == (kind == "Raw"),
-        "the kind of the link"
-    );
-    ensure!(link.is_of(block.as_slice()), "a link of the block");
-    blocks.put(link, block.as_slice()).ok().context("memory")?;
-    ensure!(
-        blocks.get(&link) == Some(block.as_slice()),
-        "the block is there"
-    );
+    ensure!((link.kind() == Kind::Raw) == is_raw, "the kind of the link");
+    Ok(link)
+}
+
+fn put(blocks: &mut Blocks, link: Cid, block: &[u8]) -> Result<()> {
+    ensure!(link.is_of(block), "a link of the block");
+    had(blocks.put(link, block))?;
+    ensure!(blocks.get(&link) == Some(block), "the block is there");
     Ok(())
 }

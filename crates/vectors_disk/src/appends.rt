@@ -3,14 +3,14 @@
 
 ghost use Rattle.std.specs.Prelude.{◌≤◌, ◌^◌};
 
-use crate::logging::append;
-use crate::texts::{MOST, add_call, log_fault};
+use crate::logging::{append, append_put};
+use crate::texts::{MOST, add_call, add_log_fault};
 use crate::words::{disk_of, pieces};
-use anyhow::{Context, Result, bail};
+use anyhow::{Result, bail};
 use gate_log::{Log, LogFault};
-use relay_disk::Disk;
+use relay_disk::{Disk, MemoryDisk};
 use std::alloc::Global;
-use vector_lines::{Subject, add_bytes, bytes};
+use vector_lines::{Subject, add, add_bytes, add_number, bytes, number, parted, said};
 
 pub struct Appends;
 
@@ -19,53 +19,124 @@ pub struct LogCalls;
 /// The most that the end of a log may be limited to.
 const LAST_END: u64 = 1 << 62;
 
-// What each append answers behind another one, and the end.
-fn appended<D: Disk>(alloc: Global, disk: &mut D, most: u64, bodies: &[Vec<u8>]) -> Result<String>
+// From where a body is appended: as it is, or put together in a room.
+#[derive(Clone, Copy)]
+enum Way {
+    Slice,
+    Room,
+}
+
+// Adds the place of a body, or that the log is full, which must have been told before.
+fn add_place(
+    text: &mut String,
+    fits: Result<(), LogFault>,
+    answer: Result<u64, LogFault>,
+) -> Result<()> {
+    match answer {
+        Ok(place) if fits.is_ok() => add_number(text, place)?,
+        Err(fault) if fits == Err(fault) => add_log_fault(text, fault)?,
+        _ => bail!("a body that fits otherwise than was told"),
+    }
+    add(text, " ")
+}
+
+// What each append answers behind another one, and the log.
+fn appended<D: Disk>(
+    alloc: Global,
+    disk: &mut D,
+    most: u64,
+    bodies: &[Vec<u8>],
+    way: Way,
+) -> Result<(String, Log)>
     requires { most ≤ 2 ^ 62 }
 {
     let mut text = String::new(alloc);
     let mut log = Log::open(alloc, disk, most)?;
     for body in bodies {
-        match append(&mut log, disk, body.as_slice()) {
-            Ok(place) => write!(&mut text, "{place} ")?,
-            Err(LogFault::Full(end)) => write!(&mut text, "Full({end}) ")?,
-            Err(fault) => return log_fault(alloc, fault),
+        let fits = log.fits(u32::try_from(body.len())?);
+        let answer = match way {
+            Way::Slice => append(&mut log, disk, body.as_slice()),
+            Way::Room => append_put(alloc, &mut log, disk, body.as_slice()),
+        };
+        match answer {
+            Ok(_) | Err(LogFault::Full(_)) => add_place(&mut text, fits, answer)?,
+            Err(_) => bail!("a log that doesn't take a body"),
         }
     }
-    write!(&mut text, "end {} spare {}", log.end(), log.spare())?;
-    Ok(text)
+    add(&mut text, "end ")?;
+    add_number(&mut text, log.end())?;
+    Ok((text, log))
+}
+
+// Whether the same comes of it where the bodies are put together in a room.
+fn is_same_put(
+    alloc: Global,
+    content: &[u8],
+    most: u64,
+    bodies: &[Vec<u8>],
+    told: &str,
+    whole: &MemoryDisk,
+) -> Result<bool>
+    requires { most ≤ 2 ^ 62 }
+{
+    let mut disk = disk_of(alloc, content)?;
+    let (again, log) = appended(alloc, &mut disk, most, bodies, Way::Room)?;
+    Ok(
+        again.as_str() == told
+            && log.most() == most
+            && disk.content() == whole.content()
+            && disk.calls() == whole.calls(),
+    )
+}
+
+// The answer of a row, of which the parts are read.
+fn answer_of(alloc: Global, content: &[u8], most: u64, bodies: &[Vec<u8>]) -> Result<String>
+    requires { most ≤ 2 ^ 62 }
+{
+    let mut disk = disk_of(alloc, content)?;
+    let (mut answer, log) = appended(alloc, &mut disk, most, bodies, Way::Slice)?;
+    if !is_same_put(alloc, content, most, bodies, answer.as_str(), &disk)? {
+        return said(alloc, "another end where bodies are put together in a room");
+    }
+    add(&mut answer, " spare ")?;
+    add_number(&mut answer, log.spare())?;
+    add(&mut answer, " content ")?;
+    add_bytes(&mut answer, disk.content())?;
+    Ok(answer)
 }
 
 impl Subject for Appends {
     fn answer(&self, alloc: Global, input: &str) -> Result<String> {
-        let (content, rest) = input.split_once(" ; ").context("content")?;
-        let (most, bodies) = rest.split_once(" ; ").context("the most")?;
-        let most = most.parse::<u64>()?;
+        let (content, rest) = parted(input, " ; ")?;
+        let (most, bodies) = parted(rest, " ; ")?;
+        let most = number(most)?;
         if most > LAST_END {
             bail!("a limit of 2^62");
         }
         let bodies = pieces(alloc, bodies)?;
-        let mut disk = disk_of(alloc, &bytes(alloc, content)?)?;
-        let mut answer = appended(alloc, &mut disk, most, &bodies)?;
-        answer.push_str(" content ")?;
-        add_bytes(&mut answer, disk.content())?;
-        Ok(answer)
+        let content = bytes(alloc, content)?;
+        answer_of(alloc, content.as_slice(), most, bodies.as_slice())
     }
 }
 
 impl Subject for LogCalls {
     fn answer(&self, alloc: Global, input: &str) -> Result<String> {
-        let (content, bodies) = input.split_once(" ; ").context("content")?;
+        let (content, bodies) = parted(input, " ; ")?;
         let bodies = pieces(alloc, bodies)?;
-        let mut disk = disk_of(alloc, &bytes(alloc, content)?)?;
-        appended(alloc, &mut disk, MOST, &bodies)?;
-        let mut answer = String::new(alloc);
-        for (i, call) in disk.calls().iter().enumerate() {
-            if i > 0 {
-                answer.push(' ')?;
-            }
-            add_call(&mut answer, *call)?;
-        }
-        Ok(answer)
+        let content = bytes(alloc, content)?;
+        let mut disk = disk_of(alloc, content.as_slice())?;
+        appended(alloc, &mut disk, MOST, bodies.as_slice(), Way::Slice)?;
+        calls_of(alloc, &disk)
     }
+}
+
+fn calls_of(alloc: Global, disk: &MemoryDisk) -> Result<String> {
+    let mut text = String::new(alloc);
+    for (i, call) in disk.calls().iter().enumerate() {
+        if i > 0 {
+            add(&mut text, " ")?;
+        }
+        add_call(&mut text, *call)?;
+    }
+    Ok(text)
 }

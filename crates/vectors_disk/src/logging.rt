@@ -6,7 +6,8 @@ ghost use Rattle.gate_log.specs.declared.fault.LogFault.{LogFault};
 
 use crate::texts::{MOST, log_fault};
 use anyhow::Result;
-use gate_log::{Log, LogFault};
+use at_cid::Octets;
+use gate_log::{AHEAD, HEAD, Log, LogFault, begin};
 use relay_disk::Disk;
 use std::alloc::Global;
 use vector_lines::add_bytes;
@@ -27,6 +28,29 @@ pub fn append<D: Disk>(log: &mut Log, disk: &mut D, body: &[u8]) -> Result<u64, 
         return Err(LogFault::Memory);
     }
     log.append(disk, body)
+}
+
+/// Puts a body together in a room, its first bytes as the head, and appends it to an open log from there.
+pub fn append_put<D: Disk>(
+    alloc: Global,
+    log: &mut Log,
+    disk: &mut D,
+    body: &[u8],
+) -> Result<u64, LogFault>
+    requires { IsTrue D.tells → IsOn (D.view disk.old) log.old }
+    ensures on { OnOk result (IsTrue D.tells → IsOn (D.view disk.new) log.new) }
+    ensures full { (e : ℕ) → result ≡ Err (LogFault.Full e) → IsTrue D.tells → IsOn (D.view disk.new) log.new }
+{
+    let mut room = Octets::new(alloc);
+    let (head, rest) = body.split_at(HEAD.min(body.len()));
+    if begin(&mut room).is_err() || room.extend(rest).is_err() {
+        return Err(LogFault::Memory);
+    }
+    let len = head.len() + room.len() - AHEAD;
+    if u32::try_from(len).is_err() || !log.is_open() {
+        return Err(LogFault::Memory);
+    }
+    log.append_put(disk, head, &mut room)
 }
 
 /// The end of a log, and its bodies, each with the place of its gate.

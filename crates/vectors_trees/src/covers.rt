@@ -4,12 +4,12 @@ use crate::laws::former_root;
 use crate::shown::{blocks_under, list_shown, seen};
 use crate::trees::{put_tree, root_of};
 use crate::words::list_and_operations;
-use anyhow::{Context, Result};
+use anyhow::Result;
 use at_car::Blocks;
 use at_cid::Cid;
 use mst_list::{ItemList, OpList, guarded};
 use std::alloc::Global;
-use vector_lines::{Subject, add_link, add_list, had};
+use vector_lines::{Subject, add, add_link, add_list, had, parted, said};
 
 pub struct Covers;
 
@@ -36,6 +36,12 @@ fn cover_of(alloc: Global, map: &ItemList, ops: &OpList, blocks: &Blocks) -> Res
     Ok(cover)
 }
 
+// Whether reading blocks shows a list.
+fn is_read(alloc: Global, blocks: &Blocks, root: Cid, list: &ItemList) -> Result<bool> {
+    let read = had(seen(alloc, blocks, root)??.list(alloc))?;
+    Ok(read.as_slice() == list.as_slice())
+}
+
 // Whether the blocks of a cover show a list with the root, from which the operations lead back by the laws, and reading
 // them shows the same list.
 fn is_covered(
@@ -47,35 +53,38 @@ fn is_covered(
 ) -> Result<bool> {
     let links = links_but(alloc, cover, None)?;
     let list = list_shown(alloc, map, links.as_slice())?;
-    let read = had(seen(alloc, cover, root)??.list(alloc))?;
     Ok(
         root_of(alloc, &list)? == root
-            && read.as_slice() == list.as_slice()
+            && is_read(alloc, cover, root, &list)?
             && former_root(alloc, &list, map, ops)?.is_some(),
     )
 }
 
 impl Subject for Covers {
     fn answer(&self, alloc: Global, input: &str) -> Result<String> {
-        let (items, rest) = input.split_once(" ; ").context("a map and operations")?;
+        let (items, rest) = parted(input, " ; ")?;
         let (map, ops) = list_and_operations(alloc, items, rest)?;
         let mut blocks = Blocks::new(alloc);
         let root = put_tree(alloc, &mut blocks, &map)?;
         let cover = cover_of(alloc, &map, &ops, &blocks)?;
         let some = blocks_under(alloc, &blocks, cover.as_slice())?;
         if !is_covered(alloc, &map, &ops, root, &some)? {
-            return Ok("not covered".to_string(alloc)?);
+            return said(alloc, "not covered");
         }
-        let mut answer = "root ".to_string(alloc)?;
-        add_link(&mut answer, &root)?;
-        answer.push_str(" cover ")?;
-        let mut texts = Vec::new(alloc);
-        for link in cover {
-            let mut text = String::new(alloc);
-            add_link(&mut text, &link)?;
-            texts.push(text)?;
-        }
-        add_list(&mut answer, texts.as_slice())?;
-        Ok(answer)
+        told(alloc, &root, cover.as_slice())
     }
+}
+
+fn told(alloc: Global, root: &Cid, cover: &[Cid]) -> Result<String> {
+    let mut answer = said(alloc, "root ")?;
+    add_link(&mut answer, root)?;
+    add(&mut answer, " cover ")?;
+    let mut texts = Vec::new(alloc);
+    for link in cover {
+        let mut text = String::new(alloc);
+        add_link(&mut text, link)?;
+        texts.push(text)?;
+    }
+    add_list(&mut answer, texts.as_slice())?;
+    Ok(answer)
 }

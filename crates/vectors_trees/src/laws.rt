@@ -20,6 +20,16 @@ fn is_told(alloc: Global, map: &ItemList, other: &ItemList, list: &ItemList) -> 
     )
 }
 
+fn undone(alloc: Global, list: &ItemList, ops: &OpList) -> Result<ItemList> {
+    Ok(undo_list(alloc, list, ops)?)
+}
+
+// Whether operations play from one map to another.
+fn is_played(alloc: Global, from: &ItemList, ops: &OpList, to: &ItemList) -> Result<bool> {
+    let played = play(alloc, from, ops)?;
+    Ok(played.as_slice() == to.as_slice())
+}
+
 /// The root of a list with operations undone, where the laws hold of it and of a map that fills the list: the map that was
 /// before fills the list that was before, the operations play from map to map, and roots tell the maps of each list apart.
 pub fn former_root(
@@ -28,11 +38,10 @@ pub fn former_root(
     map: &ItemList,
     ops: &OpList,
 ) -> Result<Option<Cid>> {
-    let former_list = undo_list(alloc, list, ops)?;
-    let former_map = undo_list(alloc, map, ops)?;
-    let again = play(alloc, &former_map, ops)?;
+    let former_list = undone(alloc, list, ops)?;
+    let former_map = undone(alloc, map, ops)?;
     if guarded(list, ops)
-        && again.as_slice() == map.as_slice()
+        && is_played(alloc, &former_map, ops, map)?
         && is_told(alloc, map, &former_map, list)?
         && is_told(alloc, &former_map, map, &former_list)?
     {

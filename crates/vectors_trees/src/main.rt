@@ -5,6 +5,7 @@
 mod covers;
 mod filling;
 mod fills;
+mod fits;
 mod heights;
 mod laws;
 mod nodes;
@@ -18,11 +19,14 @@ mod spelled;
 mod trees;
 mod undoing;
 mod views;
+mod walks;
+mod weighs;
 mod words;
 
 use anyhow::Result;
 use covers::Covers;
 use fills::Fills;
+use fits::Fits;
 use heights::Heights;
 use nodes::Nodes;
 use parts::Parts;
@@ -34,14 +38,17 @@ use std::process::ExitCode;
 use undoing::{Commits, Undoing};
 use vector_lines::Suite;
 use views::Views;
+use weighs::Weighs;
 
 fn compared(rt: &HostRuntime) -> Result<Suite> {
     let mut suite = Suite::new(rt)?;
     suite.file(rt, "heights", &Heights)?;
     suite.file(rt, "nodes", &Nodes)?;
     suite.file(rt, "parts", &Parts)?;
+    suite.file(rt, "fits", &Fits)?;
     suite.file(rt, "roots", &Roots)?;
     suite.file(rt, "views", &Views)?;
+    suite.file(rt, "weighs", &Weighs)?;
     suite.file(rt, "undo", &Undoing)?;
     suite.file(rt, "commits", &Commits)?;
     suite.file(rt, "play", &Playing)?;

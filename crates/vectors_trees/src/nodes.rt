@@ -4,48 +4,56 @@ use crate::spelled::add_link_or_none;
 use anyhow::{Result, bail};
 use mst_node::{Entry, Node, NodeFault, read_node, write_node};
 use std::alloc::Global;
-use vector_lines::{Subject, add_bytes, add_link, bytes, had};
+use vector_lines::{Subject, add, add_bytes, add_link, bytes, had, said};
 
 pub struct Nodes;
 
 fn add_entries(text: &mut String, entries: &[Entry]) -> Result<()> {
     if entries.is_empty() {
-        text.push_str(" -")?;
+        add(text, " -")?;
     }
     for entry in entries {
-        text.push(' ')?;
-        add_bytes(text, entry.key.as_slice())?;
-        text.push('>')?;
-        add_link(text, &entry.value)?;
-        text.push('>')?;
-        add_link_or_none(text, &entry.right)?;
+        add_entry(text, entry)?;
     }
     Ok(())
 }
 
+fn add_entry(text: &mut String, entry: &Entry) -> Result<()> {
+    add(text, " ")?;
+    add_bytes(text, entry.key.as_slice())?;
+    add(text, ">")?;
+    add_link(text, &entry.value)?;
+    add(text, ">")?;
+    add_link_or_none(text, &entry.right)
+}
+
 /// Adds the parts of a node.
 pub fn add_node(text: &mut String, node: &Node) -> Result<()> {
-    text.push_str("left ")?;
+    add(text, "left ")?;
     add_link_or_none(text, &node.left)?;
-    text.push_str(" entries")?;
+    add(text, " entries")?;
     add_entries(text, node.entries.as_slice())
+}
+
+// What a node says, and how it is written again.
+fn told(alloc: Global, node: &Node, block: &[u8]) -> Result<String> {
+    let mut answer = said(alloc, "ok ")?;
+    add_node(&mut answer, node)?;
+    let again = had(write_node(alloc, node))?;
+    if again.as_slice() != block {
+        add(&mut answer, ", written as ")?;
+        add_bytes(&mut answer, again.as_slice())?;
+    }
+    Ok(answer)
 }
 
 impl Subject for Nodes {
     fn answer(&self, alloc: Global, input: &str) -> Result<String> {
         let block = bytes(alloc, input)?;
-        let node = match read_node(alloc, &block) {
-            Ok(node) => node,
-            Err(NodeFault::BadNode) => return Ok("BadNode".to_string(alloc)?),
+        match read_node(alloc, block.as_slice()) {
+            Ok(node) => told(alloc, &node, block.as_slice()),
+            Err(NodeFault::BadNode) => said(alloc, "BadNode"),
             Err(NodeFault::Memory) => bail!("out of memory"),
-        };
-        let mut answer = "ok ".to_string(alloc)?;
-        add_node(&mut answer, &node)?;
-        let again = had(write_node(alloc, &node))?;
-        if again.as_slice() != block.as_slice() {
-            answer.push_str(", written as ")?;
-            add_bytes(&mut answer, again.as_slice())?;
         }
-        Ok(answer)
     }
 }

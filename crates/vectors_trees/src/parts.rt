@@ -3,15 +3,19 @@
 use crate::nodes::add_node;
 use crate::words::{link_or_none, octets};
 use anyhow::{Context, Result};
-use mst_node::{Entries, Entry, Node, read_node, write_node};
+use at_cid::Octets;
+use mst_node::{
+    Entries, Entry, Node, bare_len, entry_len, read_node, write_end, write_entry, write_front,
+    write_node,
+};
 use std::alloc::Global;
-use vector_lines::{Subject, had, link};
+use vector_lines::{Subject, add, had, link, parted, said};
 
 pub struct Parts;
 
 fn entry(alloc: Global, word: &str) -> Result<Entry> {
-    let (key, links) = word.split_once('>').context("a key and links")?;
-    let (value, right) = links.split_once('>').context("a value and a right link")?;
+    let (key, links) = parted(word, ">")?;
+    let (value, right) = parted(links, ">")?;
     Ok(Entry {
         key: octets(alloc, key)?,
         value: link(value)?,
@@ -30,19 +34,49 @@ fn entries(alloc: Global, text: &str) -> Result<Entries> {
     Ok(entries)
 }
 
+/// The node of parts, where they make one.
+pub fn node_of(alloc: Global, text: &str) -> Result<Option<Node>> {
+    let parts = text.strip_prefix("left ").context("a left link")?;
+    let (left, rest) = parted(parts, " entries ")?;
+    Ok(Node::new(link_or_none(left)?, entries(alloc, rest)?))
+}
+
+// The block of a node, put together piece by piece, and how long it was told to be.
+fn pieces(alloc: Global, node: &Node) -> Result<(Octets, u64)> {
+    let mut block = Octets::new(alloc);
+    let mut len = bare_len(node.entries.len(), &node.left);
+    had(write_front(&mut block, node.entries.len()))?;
+    let mut last: &[u8] = &[];
+    for entry in node.entries.as_slice() {
+        len = len.saturating_add(entry_len(last, &entry.lend()));
+        had(write_entry(&mut block, last, &entry.lend()))?;
+        last = entry.key.as_slice();
+    }
+    had(write_end(&mut block, &node.left))?;
+    Ok((block, len))
+}
+
+// Whether a node's block is the same when it is put together piece by piece.
+fn is_same_in_pieces(alloc: Global, node: &Node, block: &Octets) -> Result<bool> {
+    let (pieces, len) = pieces(alloc, node)?;
+    Ok(pieces == *block && len == block.len() as u64)
+}
+
 impl Subject for Parts {
     fn answer(&self, alloc: Global, input: &str) -> Result<String> {
-        let parts = input.strip_prefix("left ").context("a left link")?;
-        let (left, rest) = parts.split_once(" entries ").context("entries")?;
-        let Some(node) = Node::new(link_or_none(left)?, entries(alloc, rest)?) else {
-            return Ok("no node".to_string(alloc)?);
+        let Some(node) = node_of(alloc, input)? else {
+            return said(alloc, "no node");
         };
         let block = had(write_node(alloc, &node))?;
+        if !is_same_in_pieces(alloc, &node, &block)? {
+            return said(alloc, "another block in pieces");
+        }
         let mut answer = String::new(alloc);
         add_node(&mut answer, &read_node(alloc, block.as_slice())?)?;
         if answer.as_str() != input {
-            return Ok(format!(in alloc; "a node, read as {answer}")?);
+            add(&mut answer, " was read again")?;
+            return Ok(answer);
         }
-        Ok("a node".to_string(alloc)?)
+        said(alloc, "a node")
     }
 }

@@ -2,26 +2,24 @@
 //! map that fills it.
 
 use crate::laws::former_root;
-use crate::words::{list, list_and_operations};
-use anyhow::{Context, Result};
+use crate::words::{formed_list, list_and_operations};
+use anyhow::Result;
 use std::alloc::Global;
-use vector_lines::{Subject, add_link};
+use vector_lines::{Subject, add_link, parted, said};
 
 pub struct Replays;
 
 impl Subject for Replays {
     fn answer(&self, alloc: Global, input: &str) -> Result<String> {
-        let (items, rest) = input.split_once(" ; ").context("a list and the rest")?;
-        let (ops, map) = rest.split_once(" ; ").context("operations and a map")?;
+        let (items, rest) = parted(input, " ; ")?;
+        let (ops, map) = parted(rest, " ; ")?;
         let (hidden, ops) = list_and_operations(alloc, items, ops)?;
-        let map = list(alloc, map)?.context("a formed map")?;
-        match former_root(alloc, &hidden, &map, &ops)? {
-            Some(root) => {
-                let mut answer = "root ".to_string(alloc)?;
-                add_link(&mut answer, &root)?;
-                Ok(answer)
-            }
-            None => Ok("against a law".to_string(alloc)?),
-        }
+        let map = formed_list(alloc, map)?;
+        let Some(root) = former_root(alloc, &hidden, &map, &ops)? else {
+            return said(alloc, "against a law");
+        };
+        let mut answer = said(alloc, "root ")?;
+        add_link(&mut answer, &root)?;
+        Ok(answer)
     }
 }

@@ -4,12 +4,13 @@ use crate::shown::seen;
 use crate::trees::put_tree;
 use crate::undoing::{undone_list, undone_tree};
 use crate::words::{add_operation, put_block};
-use anyhow::{Context, Result};
+use anyhow::Result;
 use at_car::Blocks;
 use at_cid::{Cid, Octets, cid_of};
 use mst_list::{Item, ItemList, Op, OpList};
+use mst_view::StubTree;
 use std::alloc::Global;
-use vector_lines::{Subject, had};
+use vector_lines::{Subject, add, had, number, parted, said};
 
 pub struct Rounds;
 
@@ -42,6 +43,15 @@ fn operation(seed: &mut u32) -> (Option<Cid>, Option<Cid>, bool) {
     }
 }
 
+// Adds a key with the value that is now there.
+fn hold(list: &mut ItemList, key: &Octets) -> Result<()> {
+    let item = Item::Key(had(key.try_clone())?, cid_of(b"now"));
+    if item.is_formed() {
+        had(list.push(item))?;
+    }
+    Ok(())
+}
+
 // A map, and operations at some of its keys and at others, most of which it agrees with.
 fn generated(alloc: Global, seed: &mut u32) -> Result<(ItemList, OpList)> {
     let mut list = ItemList::new(alloc);
@@ -50,14 +60,11 @@ fn generated(alloc: Global, seed: &mut u32) -> Result<(ItemList, OpList)> {
     for place in 0..count {
         let number = place.wrapping_mul(600).wrapping_add(next(seed) % 600);
         let (was, now, is_held) = operation(seed);
+        let key = numbered_key(alloc, number)?;
         if is_held {
-            let item = Item::Key(numbered_key(alloc, number)?, cid_of(b"now"));
-            if item.is_formed() {
-                had(list.push(item))?;
-            }
+            hold(&mut list, &key)?;
         }
         if was.is_some() || now.is_some() {
-            let key = numbered_key(alloc, number)?;
             add_operation(&mut ops, Op { key, was, now })?;
         }
     }
@@ -82,40 +89,80 @@ fn some_of(
     Ok(some)
 }
 
+// The tree that some blocks of a map's tree show.
+fn some_tree(alloc: Global, seed: &mut u32, map: &ItemList) -> Result<StubTree> {
+    let mut blocks = Blocks::new(alloc);
+    let root = put_tree(alloc, &mut blocks, map)?;
+    let share = next(seed) % 4;
+    let some = some_of(alloc, seed, share, &blocks, root)?;
+    Ok(seen(alloc, &some, root)??)
+}
+
 // How undoing ends on a generated tree and on its list.
 fn round(alloc: Global, seed: &mut u32) -> Result<(String, String)> {
     let (map, ops) = generated(alloc, seed)?;
-    let mut blocks = Blocks::new(alloc);
-    let root = put_tree(alloc, &mut blocks, &map)?;
-    let share = next(seed) % 4;
-    let some = some_of(alloc, seed, share, &blocks, root)?;
-    let tree = seen(alloc, &some, root)??;
+    let tree = some_tree(alloc, seed, &map)?;
     let list = had(tree.list(alloc))?;
     let on_list = undone_list(alloc, &list, &ops)?;
     Ok((undone_tree(alloc, tree, &ops)?, on_list))
 }
 
+// How many rounds ended in each way: the operations undone, another one found, or one not covered.
+#[derive(Drop)]
+struct Endings {
+    undone: u32,
+    others: u32,
+    uncovered: u32,
+}
+
+impl Endings {
+    fn count(&mut self, end: &str) {
+        let ending = if end.starts_with("ok") {
+            &mut self.undone
+        } else if end.starts_with("OtherOp") {
+            &mut self.others
+        } else {
+            &mut self.uncovered
+        };
+        *ending = ending.saturating_add(1);
+    }
+}
+
+fn told(alloc: Global, endings: &Endings) -> Result<String> {
+    let Endings {
+        undone,
+        others,
+        uncovered,
+    } = endings;
+    if *undone.min(others).min(uncovered) < FEWEST {
+        return Ok(format!(in alloc; "{undone} {others} {uncovered}")?);
+    }
+    said(alloc, "alike, of each ending more than 5")
+}
+
 impl Subject for Rounds {
     fn answer(&self, alloc: Global, input: &str) -> Result<String> {
-        let (seed, rounds) = input.split_once(' ').context("a seed and rounds")?;
-        let mut seed = seed.parse::<u32>()?;
-        let (mut undone, mut others, mut uncovered) = (0u32, 0u32, 0u32);
-        for number in 0..rounds.parse::<u32>()? {
+        let (seed, rounds) = parted(input, " ")?;
+        let mut seed = u32::try_from(number(seed)?)?;
+        let mut endings = Endings {
+            undone: 0,
+            others: 0,
+            uncovered: 0,
+        };
+        for _ in 0..number(rounds)? {
             let (on_tree, on_list) = round(alloc, &mut seed)?;
             if on_tree.as_str() != on_list.as_str() {
-                return Ok(format!(in alloc; "in round {number} {on_tree} and {on_list}")?);
+                return differing(alloc, on_tree.as_str(), on_list.as_str());
             }
-            if on_tree.starts_with("ok") {
-                undone = undone.saturating_add(1);
-            } else if on_tree.starts_with("OtherOp") {
-                others = others.saturating_add(1);
-            } else {
-                uncovered = uncovered.saturating_add(1);
-            }
+            endings.count(on_tree.as_str());
         }
-        if undone.min(others).min(uncovered) < FEWEST {
-            return Ok(format!(in alloc; "{undone} {others} {uncovered}")?);
-        }
-        Ok("alike, of each ending more than 5".to_string(alloc)?)
+        told(alloc, &endings)
     }
+}
+
+fn differing(alloc: Global, on_tree: &str, on_list: &str) -> Result<String> {
+    let mut text = said(alloc, on_tree)?;
+    add(&mut text, " on a tree and on its list ")?;
+    add(&mut text, on_list)?;
+    Ok(text)
 }

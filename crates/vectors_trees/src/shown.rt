@@ -13,7 +13,8 @@ use mst_view::{StubTree, ViewFault, view};
 use std::alloc::Global;
 use vector_lines::had;
 
-fn is_node_link(link: &Cid) -> bool
+/// Whether a link is of kind Node.
+pub fn is_node_link(link: &Cid) -> bool
     ensures { IsTrue result → IsNodeLink link.now }
 {
     link.as_bytes();

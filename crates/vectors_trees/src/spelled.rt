@@ -3,28 +3,32 @@
 use anyhow::Result;
 use at_cid::Cid;
 use mst_list::Item;
-use vector_lines::{add_bytes, add_link};
+use vector_lines::{add, add_bytes, add_link, add_number};
+
+/// Adds `yes` or `no`.
+pub fn add_yes(text: &mut String, is: bool) -> Result<()> {
+    add(text, if is { "yes" } else { "no" })
+}
 
 pub fn add_link_or_none(text: &mut String, link: &Option<Cid>) -> Result<()> {
     match link {
         Some(link) => add_link(text, link),
-        None => {
-            text.push('-')?;
-            Ok(())
-        }
+        None => add(text, "-"),
     }
 }
 
 fn add_item(text: &mut String, item: &Item) -> Result<()> {
     match item {
         Item::Key(key, value) => {
-            text.push_str("K:")?;
+            add(text, "K:")?;
             add_bytes(text, key.as_slice())?;
-            text.push(':')?;
+            add(text, ":")?;
             add_link(text, value)
         }
         Item::Hole(layer, link) => {
-            write!(text, "H:{layer}:")?;
+            add(text, "H:")?;
+            add_number(text, u64::from(*layer))?;
+            add(text, ":")?;
             add_link(text, link)
         }
     }
@@ -32,11 +36,11 @@ fn add_item(text: &mut String, item: &Item) -> Result<()> {
 
 pub fn add_items(text: &mut String, items: &[Item]) -> Result<()> {
     if items.is_empty() {
-        text.push('-')?;
+        add(text, "-")?;
     }
     for (i, item) in items.iter().enumerate() {
         if i > 0 {
-            text.push(' ')?;
+            add(text, " ")?;
         }
         add_item(text, item)?;
     }
@@ -45,8 +49,8 @@ pub fn add_items(text: &mut String, items: &[Item]) -> Result<()> {
 
 /// Adds a list and a root.
 pub fn add_tree(text: &mut String, items: &[Item], root: &Cid) -> Result<()> {
-    text.push_str("ok ")?;
+    add(text, "ok ")?;
     add_items(text, items)?;
-    text.push_str(" root ")?;
+    add(text, " root ")?;
     add_link(text, root)
 }

@@ -1,13 +1,16 @@
-//! `ROOT ; BLOCKS = view ok ITEMS, or the fault`.
+//! `ROOT ; BLOCKS = view ok ITEMS, or the fault, and then walk ok COUNT, or the fault`: what is seen of blocks at a root, and
+//! how many keys the whole tree has.
 
 use crate::shown::seen;
 use crate::spelled::add_items;
+use crate::walks::walked;
 use crate::words::blocks;
-use anyhow::{Context, Result, bail};
+use anyhow::{Result, bail};
+use at_car::Blocks;
 use at_cid::Cid;
 use mst_view::{Branch, StubTree, ViewFault};
 use std::alloc::Global;
-use vector_lines::{Subject, add_link, had, link};
+use vector_lines::{Subject, add, add_link, had, link, parted, said};
 
 pub struct Views;
 
@@ -18,11 +21,17 @@ pub fn view_fault(alloc: Global, fault: ViewFault) -> Result<String> {
         ViewFault::BadNode(link) => ("BadNode", link),
         ViewFault::Memory => bail!("out of memory"),
     };
-    let mut text = name.to_string(alloc)?;
-    text.push('(')?;
-    add_link(&mut text, &link)?;
-    text.push(')')?;
+    let mut text = String::new(alloc);
+    add_fault(&mut text, name, &link)?;
     Ok(text)
+}
+
+/// Adds a fault with the link of its block.
+pub fn add_fault(text: &mut String, name: &str, link: &Cid) -> Result<()> {
+    add(text, name)?;
+    add(text, "(")?;
+    add_link(text, link)?;
+    add(text, ")")
 }
 
 // The tree with the link of its top forgotten, so that the top has to be spelled.
@@ -46,32 +55,56 @@ fn without_link(tree: StubTree) -> StubTree {
     }
 }
 
+// Whether a tree has a root.
+fn has_root(alloc: Global, tree: &StubTree, root: Cid) -> Result<bool> {
+    Ok(had(tree.top_link(alloc))? == root)
+}
+
+// Whether the top of a tree has a link, if there is a top.
+fn is_top_linked(alloc: Global, tree: StubTree, root: Cid) -> Result<bool> {
+    match tree.into_top() {
+        Some(top) => Ok(had(top.link_of(alloc))? == root),
+        None => Ok(true),
+    }
+}
+
 // The items of a tree, where it has them and the root as it stands, copied and put together again.
 fn items_of(alloc: Global, tree: StubTree, root: Cid) -> Result<String> {
     let copied = had(tree.try_clone(alloc))?;
     let again = without_link(tree);
+    if !has_root(alloc, &copied, root)? || !has_root(alloc, &again, root)? {
+        return said(alloc, "another root than that of the blocks");
+    }
     let list = had(again.list(alloc))?;
     let copy = had(copied.list(alloc))?;
     if list.as_slice() != copy.as_slice() {
-        return Ok("another list than that of the copy".to_string(alloc)?);
+        return said(alloc, "another list than that of the copy");
     }
-    if had(copied.top_link(alloc))? != root || had(again.top_link(alloc))? != root {
-        return Ok("another root than that of the blocks".to_string(alloc)?);
+    if !is_top_linked(alloc, again, root)? {
+        return said(alloc, "another link than that of the top");
     }
-    let mut text = "ok ".to_string(alloc)?;
+    let mut text = said(alloc, "ok ")?;
     add_items(&mut text, list.as_slice())?;
     Ok(text)
 }
 
+// What is seen of the blocks.
+fn viewed(alloc: Global, blocks: &Blocks, root: Cid) -> Result<String> {
+    match seen(alloc, blocks, root)? {
+        Ok(tree) => items_of(alloc, tree, root),
+        Err(fault) => view_fault(alloc, fault),
+    }
+}
+
 impl Subject for Views {
     fn answer(&self, alloc: Global, input: &str) -> Result<String> {
-        let (root, rest) = input.split_once(" ; ").context("a root and blocks")?;
+        let (root, rest) = parted(input, " ; ")?;
         let root = link(root)?;
         let blocks = blocks(alloc, rest)?;
-        let text = match seen(alloc, &blocks, root)? {
-            Ok(tree) => items_of(alloc, tree, root)?,
-            Err(fault) => view_fault(alloc, fault)?,
-        };
-        Ok(format!(in alloc; "view {text}")?)
+        let mut answer = said(alloc, "view ")?;
+        add(&mut answer, viewed(alloc, &blocks, root)?.as_str())?;
+        add(&mut answer, " ; ")?;
+        add(&mut answer, walked(alloc, &blocks, root)?.as_str())?;
+        Ok(answer)
     }
 }

@@ -5,7 +5,7 @@ use at_car::Blocks;
 use at_cid::{Cid, Octets, cid_of};
 use mst_list::{Item, ItemList, Op, OpList};
 use std::alloc::Global;
-use vector_lines::{bytes, had, link};
+use vector_lines::{bytes, had, link, number, parted};
 
 /// The most operations of a commit.
 const MOST_OPERATIONS: usize = 200;
@@ -22,13 +22,13 @@ pub fn octets(alloc: Global, text: &str) -> Result<Octets> {
 }
 
 fn item(alloc: Global, word: &str) -> Result<Item> {
-    let (kind, rest) = word.split_once(':').context("K or H, and a colon")?;
-    let (front, text) = rest.split_once(':').context("a key or a layer")?;
+    let (kind, rest) = parted(word, ":")?;
+    let (front, text) = parted(rest, ":")?;
     let link = link(text)?;
     if kind == "K" {
         Ok(Item::Key(octets(alloc, front)?, link))
     } else {
-        Ok(Item::Hole(front.parse::<u8>()?, link))
+        Ok(Item::Hole(u8::try_from(number(front)?)?, link))
     }
 }
 
@@ -48,9 +48,15 @@ pub fn list(alloc: Global, text: &str) -> Result<Option<ItemList>> {
     Ok(Some(list))
 }
 
-fn operation(alloc: Global, word: &str) -> Result<Op> {
-    let (key, links) = word.split_once(':').context("a key and links")?;
-    let (was, now) = links.split_once('>').context("what was and what is")?;
+/// The list of a row in which each item is formed.
+pub fn formed_list(alloc: Global, text: &str) -> Result<ItemList> {
+    list(alloc, text)?.context("a formed list")
+}
+
+/// The operation of a word `KEY:WAS>NOW`.
+pub fn operation(alloc: Global, word: &str) -> Result<Op> {
+    let (key, links) = parted(word, ":")?;
+    let (was, now) = parted(links, ">")?;
     Ok(Op {
         key: octets(alloc, key)?,
         was: link_or_none(was)?,
@@ -82,14 +88,19 @@ pub fn operations(alloc: Global, text: &str) -> Result<Option<OpList>> {
     Ok(Some(ops))
 }
 
+/// The operations of a row in which each is formed.
+pub fn formed_operations(alloc: Global, text: &str) -> Result<OpList> {
+    operations(alloc, text)?.context("formed operations")
+}
+
 /// The list and the operations of a row in which all are formed.
 pub fn list_and_operations(
     alloc: Global,
     items: &str,
     operations_text: &str,
 ) -> Result<(ItemList, OpList)> {
-    let list = list(alloc, items)?.context("a formed list")?;
-    let ops = operations(alloc, operations_text)?.context("formed operations")?;
+    let list = formed_list(alloc, items)?;
+    let ops = formed_operations(alloc, operations_text)?;
     Ok((list, ops))
 }
 

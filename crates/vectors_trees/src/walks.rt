@@ -1,0 +1,51 @@
+//! How a walk of a whole tree ends: `walk ok COUNT`, or the fault.
+
+use crate::shown::is_node_link;
+use crate::views::add_fault;
+use anyhow::{Result, bail};
+use at_car::{Blocks, Kept, Scan, write};
+use at_cid::Cid;
+use mst_whole::{NodeSieve, WalkFault, walk, walk_kept};
+use std::alloc::Global;
+use vector_lines::{add, add_number, had, said};
+
+/// So many bytes of a CAR come at once.
+const PIECE: usize = 37;
+
+/// How a walk ends on blocks, and on what is kept of their CAR when it comes in pieces.
+pub fn walked(alloc: Global, blocks: &Blocks, root: Cid) -> Result<String> {
+    if !is_node_link(&root) {
+        bail!("a root of kind Node");
+    }
+    let whole = end(alloc, walk(alloc, blocks, &root))?;
+    let kept = kept_of(alloc, blocks, &root)?;
+    let again = end(alloc, walk_kept(alloc, &kept, &root))?;
+    if whole.as_str() != again.as_str() {
+        return said(alloc, "walk otherwise over what was kept");
+    }
+    Ok(whole)
+}
+
+fn end(alloc: Global, ended: Result<u64, WalkFault>) -> Result<String> {
+    let mut text = said(alloc, "walk ")?;
+    match ended {
+        Ok(keys) => {
+            add(&mut text, "ok ")?;
+            add_number(&mut text, keys)?;
+        }
+        Err(WalkFault::NoBlock(link)) => add_fault(&mut text, "NoBlock", &link)?,
+        Err(WalkFault::BadNode(link)) => add_fault(&mut text, "BadNode", &link)?,
+        Err(WalkFault::Memory) => bail!("out of memory"),
+    }
+    Ok(text)
+}
+
+// What is kept of the blocks' CAR, of which the pieces come one by one.
+fn kept_of(alloc: Global, blocks: &Blocks, root: &Cid) -> Result<Kept> {
+    let car = had(write(alloc, root, blocks))?;
+    let mut scan = Scan::new(alloc, NodeSieve::new(alloc));
+    for piece in car.as_slice().chunks(PIECE) {
+        had(scan.push(piece))?;
+    }
+    Ok(scan.finish()?)
+}
