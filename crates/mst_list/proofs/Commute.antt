@@ -26,30 +26,27 @@ after_at k (Some v) [] B low high = rw cmp_same refl
 after_at k (Some v) (Key j w ∷ A) B low high = rw low.0 (after_at k (Some v) A B low.1 high)
 after_at k (Some v) (Hole l c ∷ A) B low high = after_at k (Some v) A B low high
 
-put_front : (k : List ℕ) (o : Option (List ℕ)) (A Y : List Item) → StartsAbove k Y → put k o (A ++ Y) ≡ put k o A ++ Y
+pub put_front : (k : List ℕ) (o : Option (List ℕ)) (A Y : List Item) → StartsAbove k Y → put k o (A ++ Y) ≡ put k o A ++ Y
 put_front k o A Y h =
     rw (before_front k A Y h, after_front k A Y h)
     (ap (λ x. before k A ++ x) (sym (append_assoc (with_value k o) (after k A) Y)) ∙ sym (append_assoc (before k A) (with_value k o ++ after k A) Y))
 
-starts_at : (k j : List ℕ) (o : Option (List ℕ)) (B : List Item) → key_cmp k j ≡ Less → (o ≡ None → StartsAbove j B) → StartsAbove k (with_value j o ++ B)
+starts_up : (k j : List ℕ) (Y : List Item) → key_cmp k j ≡ Less → StartsAbove j Y → StartsAbove k Y
+starts_up k j [] e h = tt
+starts_up k j (Key i w ∷ Y) e h = cmp_trans k j i e h
+starts_up k j (Hole l c ∷ Y) e h = absurd h
+
+pub starts_at : (k j : List ℕ) (o : Option (List ℕ)) (B : List Item) → key_cmp k j ≡ Less → (o ≡ None → StartsAbove j B) → StartsAbove k (with_value j o ++ B)
 starts_at k j (Some v) B e h = e
-starts_at k j None B e h = up B (h refl)
+starts_at k j None B e h = starts_up k j B e (h refl)
+
+pub value_below : (k j : List ℕ) (o : Option (List ℕ)) → key_cmp k j ≡ Less → AllBelow j (with_value k o)
+value_below k j (Some v) e = (e, tt)
+value_below k j None e = tt
+
+pub put_below : (k j : List ℕ) (o : Option (List ℕ)) (A : List Item) → key_cmp k j ≡ Less → AllBelow j A → AllBelow j (put k o A)
+put_below k j o A e low = all_below_join j (before k A) (with_value k o ++ after k A) (all_below_up k j (before k A) e (below_before k A)) (all_below_join j (with_value k o) (after k A) (value_below k j o e) (back A low))
   where
-    up : (Y : List Item) → StartsAbove j Y → StartsAbove k Y
-    up [] h = tt
-    up (Key i w ∷ Y) h = cmp_trans k j i e h
-    up (Hole l c ∷ Y) h = absurd h
-
-put_below : (k j : List ℕ) (o : Option (List ℕ)) (A : List Item) → key_cmp k j ≡ Less → AllBelow j A → AllBelow j (put k o A)
-put_below k j o A e low = all_below_join j (before k A) (with_value k o ++ after k A) (front A low) (all_below_join j (with_value k o) (after k A) (mid o) (back A low))
-  where
-    front : (A : List Item) → AllBelow j A → AllBelow j (before k A)
-    front A low = all_below_up k j (before k A) e (below_before k A)
-
-    mid : (o : Option (List ℕ)) → AllBelow j (with_value k o)
-    mid None = tt
-    mid (Some v) = (e, tt)
-
     back : (A : List Item) → AllBelow j A → AllBelow j (after k A)
     back [] low = tt
     back (Hole l c ∷ A) low = back A low
@@ -86,7 +83,7 @@ record CanUndo (F : List Item) (ops : List Op) : Type 0 where
   guard : IsGuarded F ops
 
 -- two neighbours exchanged
-new_exchanged : (k : List ℕ) (A : List Op) (x y : Op) (B : List Op) → IsNewTo k (A ++ (x ∷ (y ∷ B))) → IsNewTo k (A ++ (y ∷ (x ∷ B)))
+pub new_exchanged : (k : List ℕ) (A : List Op) (x y : Op) (B : List Op) → IsNewTo k (A ++ (x ∷ (y ∷ B))) → IsNewTo k (A ++ (y ∷ (x ∷ B)))
 new_exchanged k [] x y B h = (h.1.0, (h.0, h.1.1))
 new_exchanged k (a ∷ A) x y B h = (h.0, new_exchanged k A x y B h.1)
 
@@ -94,7 +91,7 @@ formed_exchanged : (A : List Op) (x y : Op) (B : List Op) → AreFormedOps (A ++
 formed_exchanged [] x y B h = (h.1.0, (h.0, h.1.1))
 formed_exchanged (a ∷ A) x y B h = (h.0, formed_exchanged A x y B h.1)
 
-apart_exchanged : (A : List Op) (x y : Op) (B : List Op) → AreApart (A ++ (x ∷ (y ∷ B))) → AreApart (A ++ (y ∷ (x ∷ B)))
+pub apart_exchanged : (A : List Op) (x y : Op) (B : List Op) → AreApart (A ++ (x ∷ (y ∷ B))) → AreApart (A ++ (y ∷ (x ∷ B)))
 apart_exchanged [] x y B h = ((λ e. h.0.0 (sym e), h.1.0), (h.0.1, h.1.1))
 apart_exchanged (a ∷ A) x y B h = (new_exchanged a.key A x y B h.0, apart_exchanged A x y B h.1)
 

@@ -13,7 +13,7 @@ use denote.Ref.{Bor}
 use denote.Param.Members.{Mut}
 use Rattle.at_cid.specs.OrderLaws.{key_total}
 use Rattle.at_cid.specs.Order.{key_cmp}
-use Rattle.at_cid.proofs.Order.{cmp_trans, cmp_exact, cmp_below}
+use Rattle.at_cid.proofs.Order.{cmp_exact, cmp_below}
 use Rattle.mst_list.specs.declared.item.Item.{Item}
 use Rattle.mst_list.specs.declared.item.Item.TheVariants.{Key, Hole}
 use Rattle.mst_list.specs.declared.op.Op.{Op}
@@ -21,7 +21,8 @@ use Rattle.mst_list.specs.Lists.{Ascends, Neighbours}
 use Rattle.mst_list.specs.Edits.{by_order, before, after, value_at, with_value, put, undone, IsNewTo, AreApart}
 use Rattle.mst_list.proofs.Places.{AllBelow, StartsAbove, rebuilt, below_before}
 use Rattle.mst_list.proofs.Fills.{is_below_parts, ascends_last}
-use Rattle.mst_list.proofs.Kept.{before_front, after_front, before_back, after_back}
+use Rattle.mst_list.proofs.Commute.{apart_exchanged, put_below, put_front, starts_at, value_below}
+use Rattle.mst_list.proofs.Kept.{after_front, before_back, after_back}
 use Rattle.mst_list.proofs.Orders.{order_keeps}
 use Rattle.mst_list.proofs.Replay.{all_below_join, all_below_up, neighbours_first}
 use Rattle.mst_node.proofs.Cuts.{near_last}
@@ -38,14 +39,6 @@ all_exchanged P (a ∷ A) x y B h = (h.0, all_exchanged P A x y B h.1)
 
 pub all_kept : (P : Op → Type 0) (xs ys : List Op) → IsPermutation xs ys → AllOps P xs → AllOps P ys
 all_kept P xs ys same h = order_keeps (AllOps P) (all_exchanged P) xs ys same h
-
-new_exchanged : (k : List ℕ) (A : List Op) (x y : Op) (B : List Op) → IsNewTo k (A ++ (x ∷ (y ∷ B))) → IsNewTo k (A ++ (y ∷ (x ∷ B)))
-new_exchanged k [] x y B h = (h.1.0, (h.0, h.1.1))
-new_exchanged k (a ∷ A) x y B h = (h.0, new_exchanged k A x y B h.1)
-
-apart_exchanged : (A : List Op) (x y : Op) (B : List Op) → AreApart (A ++ (x ∷ (y ∷ B))) → AreApart (A ++ (y ∷ (x ∷ B)))
-apart_exchanged [] x y B h = ((λ e. h.0.0 (sym e), h.1.0), (h.0.1, h.1.1))
-apart_exchanged (a ∷ A) x y B h = (new_exchanged a.key A x y B h.0, apart_exchanged A x y B h.1)
 
 pub apart_kept : (xs ys : List Op) → IsPermutation xs ys → AreApart xs → AreApart ys
 apart_kept xs ys same h = order_keeps AreApart apart_exchanged xs ys same h
@@ -91,11 +84,6 @@ sorted_rising {g = g} {f = f} xs up h apart =
     rising xs (λ i j d le low. sorted_far lt ranks xs sorted i j d le low) apart
 
 -- edits of a list in two parts
-put_front : (k : List ℕ) (o : Option (List ℕ)) (A Y : List Item) → StartsAbove k Y → put k o (A ++ Y) ≡ put k o A ++ Y
-put_front k o A Y h =
-    rw (before_front k A Y h, after_front k A Y h)
-    (ap (λ x. before k A ++ x) (sym (append_assoc (with_value k o) (after k A) Y)) ∙ sym (append_assoc (before k A) (with_value k o ++ after k A) Y))
-
 put_back : (k : List ℕ) (o : Option (List ℕ)) (A Y : List Item) → AllBelow k A → put k o (A ++ Y) ≡ A ++ put k o Y
 put_back k o A Y h = rw (before_back k A Y h, after_back k A Y h) (append_assoc A (before k Y) (with_value k o ++ after k Y))
 
@@ -110,15 +98,6 @@ back_undone A Y (op ∷ ops) h = ap (put op.key op.was) (back_undone A Y ops h.1
 undone_joined : (F : List Item) (xs ys : List Op) → undone F (xs ++ ys) ≡ undone (undone F ys) xs
 undone_joined F [] ys = refl
 undone_joined F (x ∷ xs) ys = ap (put x.key x.was) (undone_joined F xs ys)
-
-starts_up : (k j : List ℕ) (Y : List Item) → key_cmp k j ≡ Less → StartsAbove j Y → StartsAbove k Y
-starts_up k j [] e h = tt
-starts_up k j (Key i w ∷ Y) e h = cmp_trans k j i e h
-starts_up k j (Hole l c ∷ Y) e h = absurd h
-
-starts_with : (k j : List ℕ) (o : Option (List ℕ)) (B : List Item) → key_cmp k j ≡ Less → (o ≡ None → StartsAbove j B) → StartsAbove k (with_value j o ++ B)
-starts_with k j (Some v) B e h = e
-starts_with k j None B e h = starts_up k j B e (h refl)
 
 starts_first : (k : List ℕ) (X Y : List Item) → StartsAbove k (X ++ Y) → StartsAbove k X
 starts_first k [] Y h = tt
@@ -136,23 +115,9 @@ gap_starts k (Key j v ∷ F) n =
       | Greater ↦ λ e m. cmp_below j k e
     ] refl n
 
-below_value : (m k : List ℕ) (o : Option (List ℕ)) → key_cmp m k ≡ Less → AllBelow k (with_value m o)
-below_value m k (Some v) e = (e, tt)
-below_value m k None e = tt
-
-below_put : (k j : List ℕ) (o : Option (List ℕ)) (A : List Item) → key_cmp k j ≡ Less → AllBelow j A → AllBelow j (put k o A)
-below_put k j o A e low = all_below_join j (before k A) (with_value k o ++ after k A) (all_below_up k j (before k A) e (below_before k A)) (all_below_join j (with_value k o) (after k A) (below_value k j o e) (back A low))
-  where
-    back : (A : List Item) → AllBelow j A → AllBelow j (after k A)
-    back [] low = tt
-    back (Hole l c ∷ A) low = back A low
-    back (Key i w ∷ A) low =
-        let more = back A low.1 in
-        elim (key_cmp i k) as (λ o. AllBelow j (by_order o (after k A) A (Key i w ∷ A))) [ Less ↦ more | Equal ↦ low.1 | Greater ↦ low ]
-
 below_undone : (j : List ℕ) (A : List Item) (ops : List Op) → AllBelow j A → AllOps (IsBelowKey j) ops → AllBelow j (undone A ops)
 below_undone j A [] low h = low
-below_undone j A (op ∷ ops) low h = below_put op.key j op.was (undone A ops) h.0 (below_undone j A ops low h.1)
+below_undone j A (op ∷ ops) low h = put_below op.key j op.was (undone A ops) h.0 (below_undone j A ops low h.1)
 
 -- a property of keys below m, and of keys above it
 of_below : (P : Op → Type 0) (m : List ℕ) (ops : List Op) → ((op : Op) → key_cmp op.key m ≡ Less → P op) → AllOps (IsBelowKey m) ops → AllOps P ops
@@ -177,12 +142,12 @@ pub halved : (F : List Item) (m : Op) (lo hi other more : List Op) → IsRound m
 halved F m lo hi other more r safe p q =
     let A = before m.key F in let W = with_value m.key m.was in let G = after m.key F in
     let low : AllOps (λ op. StartsAbove op.key (W ++ G)) other =
-    all_kept (λ op. StartsAbove op.key (W ++ G)) lo other p (of_below (λ op. StartsAbove op.key (W ++ G)) m.key lo (λ op e. starts_with op.key m.key m.was G e safe) r.below) in
+    all_kept (λ op. StartsAbove op.key (W ++ G)) lo other p (of_below (λ op. StartsAbove op.key (W ++ G)) m.key lo (λ op e. starts_at op.key m.key m.was G e safe) r.below) in
     let under : AllOps (IsBelowKey m.key) other = all_kept (IsBelowKey m.key) lo other p r.below in
     let left : AllBelow m.key (undone A other) = below_undone m.key A other (below_before m.key F) under in
     let X = undone A other ++ W in
     let high : AllOps (λ op. AllBelow op.key X) more =
-    all_kept (λ op. AllBelow op.key X) hi more q (of_above (λ op. AllBelow op.key X) m.key hi (λ op e. all_below_join op.key (undone A other) W (all_below_up m.key op.key (undone A other) e left) (below_value m.key op.key m.was e)) r.above) in
+    all_kept (λ op. AllBelow op.key X) hi more q (of_above (λ op. AllBelow op.key X) m.key hi (λ op e. all_below_join op.key (undone A other) W (all_below_up m.key op.key (undone A other) e left) (value_below m.key op.key m.was e)) r.above) in
     undone_joined F more (other ++ (m ∷ []))
     ∙ ap (λ x. undone x more) (undone_joined F other (m ∷ []) ∙ front_undone A (W ++ G) other low ∙ sym (append_assoc (undone A other) W G))
     ∙ back_undone X G more high
@@ -219,7 +184,7 @@ module _ (h : ℕ) (F : List Item) (m : Op) (lo hi : List Op) (can : CanHalve h 
       one : (op : Op) → key_cmp op.key m.key ≡ Less → LeavesNoHole F op → LeavesNoHole (before m.key F) op
       one op e s none =
           let A = before m.key F in let Y = with_value m.key (value_at m.key F) ++ after m.key F in
-          let over : StartsAbove op.key Y = starts_with op.key m.key (value_at m.key F) (after m.key F) e (gap_starts m.key F) in
+          let over : StartsAbove op.key Y = starts_at op.key m.key (value_at m.key F) (after m.key F) e (gap_starts m.key F) in
           let is : after op.key F ≡ after op.key A ++ Y = ap (after op.key) (sym (rebuilt m.key F)) ∙ after_front op.key A Y over in
           let S : List Item → Type 0 = λ x. StartsAbove op.key x in
           starts_first op.key (after op.key A) Y (subst S is (s none))
@@ -243,7 +208,7 @@ module _ (h : ℕ) (F : List Item) (m : Op) (lo hi : List Op) (can : CanHalve h 
       one : (op : Op) → key_cmp m.key op.key ≡ Less → LeavesNoHole F op → LeavesNoHole (after m.key F) op
       one op e s none =
           let A = before m.key F in let K = with_value m.key (value_at m.key F) in let G = after m.key F in
-          let low : AllBelow op.key (A ++ K) = all_below_join op.key A K (all_below_up m.key op.key A e (below_before m.key F)) (below_value m.key op.key (value_at m.key F) e) in
+          let low : AllBelow op.key (A ++ K) = all_below_join op.key A K (all_below_up m.key op.key A e (below_before m.key F)) (value_below m.key op.key (value_at m.key F) e) in
           let is : after op.key F ≡ after op.key G = ap (after op.key) (sym (rebuilt m.key F) ∙ sym (append_assoc A K G)) ∙ after_back op.key (A ++ K) G low in
           let S : List Item → Type 0 = λ x. StartsAbove op.key x in
           subst S is (s none)

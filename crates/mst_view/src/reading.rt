@@ -5,6 +5,7 @@ ghost use Rattle.at_cid.specs.Link.{cid};
 ghost use Rattle.at_cid.specs.Memory.{Gives};
 ghost use Rattle.mst_node.specs.NodeBytes.{node_bytes};
 ghost use Rattle.mst_node.specs.Nodes.{IsChildLink};
+ghost use Rattle.mst_node.specs.NodeFaults.{next_bound};
 ghost use Rattle.mst_node.specs.Reading.{node_of};
 ghost use Rattle.mst_node.specs.Trees.{spell};
 ghost use Rattle.mst_view.specs.Layered.{LiesBelow, IsAtLayer, AllAt, below_items, rest_items, below_link, entries_of};
@@ -17,8 +18,9 @@ ghost use Rattle.mst_view.specs.declared.reading.ReadFault.{ReadFault};
 use crate::branch::{Below, Branch, Part, Rest};
 use at_car::Blocks;
 use at_cid::{Cid, Memory};
-use mst_node::{Entry, NodeFault, next_key, node_fits, read_node};
+use mst_node::{Entries, Entry, Node, NodeFault, next_key, node_fits, read_node};
 use std::alloc::{AllocError, AllocFailed, Global};
+use std::collections::VecDeque;
 
 /// Why a tree can't be read.
 #[derive(Debug, Drop)]
@@ -32,6 +34,14 @@ impl From<Memory> for ReadFault {
     ghost from_gives = { λ _ fault. fault ≡ ReadFault.Memory };
 
     fn from(_e: Memory) -> ReadFault {
+        ReadFault::Memory
+    }
+}
+
+impl From<AllocError> for ReadFault {
+    ghost from_gives = { λ _ fault. fault ≡ ReadFault.Memory };
+
+    fn from(_e: AllocError) -> ReadFault {
         ReadFault::Memory
     }
 }
@@ -75,52 +85,42 @@ fn read_below(
     if !node_fits(inner, low, high, &node) {
         return Err(ReadFault::BadNode(link));
     }
-    let branch = read_parts(
-        alloc,
-        blocks,
-        inner,
-        low,
-        high,
-        node.left,
-        node.entries.as_slice(),
-        link,
-    )?;
+    let Node { left, entries } = node;
+    let branch = read_parts(alloc, blocks, inner, low, high, left, entries, link)?;
     Ok(Below::Tree(Box::new(alloc, branch)?))
 }
 
-/// The entries of a node at a layer with what hangs to their right, up to a key.
+/// The key at which what hangs before some entries ends: that of the first one, or else the bound behind them.
+fn bound_before<'a>(high: Option<&'a [u8]>, entries: &'a VecDeque<Entry>) -> Option<&'a [u8]>
+    ensures { option_map (λ k. k.now) result ≡ next_bound (option_map (λ k. k.now) high.entry) entries.now.items }
+{
+    match entries.front() {
+        Some(entry) => Some(entry.key.as_slice()),
+        None => high,
+    }
+}
+
+/// The entries of a node at a layer with what hangs to their right, up to a key. Their keys are taken over.
 #[cycle(read)]
 fn read_rest(
     alloc: Global,
     blocks: &Blocks,
     layer: u8,
     high: Option<&[u8]>,
-    entries: &[Entry],
+    entries: Entries,
 ) -> Result<Rest, ReadFault>
-    requires hang { AllHang layer entries.now }
-    ensures gives { Gives (λ rest. rest_items layer rest.items) link_at_fault result (rights_of (part_at in_part node_of blocks.now layer) (option_map (λ k. k.now) high.entry) entries.now) }
+    requires hang { AllHang layer entries }
+    ensures gives { Gives (λ rest. rest_items layer rest.items) link_at_fault result (rights_of (part_at in_part node_of blocks.now layer) (option_map (λ k. k.now) high.entry) entries) }
     ensures at { IfOk result (λ rest. AllAt layer rest.items) }
-    ensures keeps { IfOk result (λ rest. entries_of rest.items ≡ entries.now) }
+    ensures keeps { IfOk result (λ rest. entries_of rest.items ≡ entries) }
 {
-    let mut rest = Vec::new(alloc);
-    let mut i = 0;
-    while i < entries.len() {
-        let entry = &entries[i];
-        let key = entry.key.try_clone()?;
-        let below = read_below(
-            alloc,
-            blocks,
-            layer,
-            Some(entry.key.as_slice()),
-            next_key(high, &entries[i + 1..]),
-            entry.right,
-        )?;
-        rest.push(Part {
-            key,
-            value: entry.value,
-            below,
-        })?;
-        i += 1;
+    let mut rest = Vec::with_capacity(alloc, entries.len())?;
+    let mut left = VecDeque::from_vec(entries.into_vec());
+    'entries: while let Some(entry) = left.pop_front() {
+        let Entry { key, value, right } = entry;
+        let high = bound_before(high, &left);
+        let below = read_below(alloc, blocks, layer, Some(key.as_slice()), high, right)?;
+        rest.push(Part { key, value, below })?;
     }
     Ok(rest)
 }
@@ -134,19 +134,20 @@ pub(crate) fn read_parts(
     low: Option<&[u8]>,
     high: Option<&[u8]>,
     left: Option<Cid>,
-    entries: &[Entry],
+    entries: Entries,
     link: Cid,
 ) -> Result<Branch, ReadFault>
     requires kind { IsChildLink left }
     requires lowest { layer ≡ 0 → left ≡ None }
-    requires hang { AllHang layer entries.now }
-    requires link_is { link ≡ cid (node_bytes left entries.now) }
-    ensures gives { Gives (λ branch. branch.items) link_at_fault result (parts_of (part_at in_part node_of blocks.now layer) (option_map (λ k. k.now) low.entry) (option_map (λ k. k.now) high.entry) (left, entries.now)) }
+    requires hang { AllHang layer entries }
+    requires link_is { link ≡ cid (node_bytes left entries) }
+    ensures gives { Gives (λ branch. branch.items) link_at_fault result (parts_of (part_at in_part node_of blocks.now layer) (option_map (λ k. k.now) low.entry) (option_map (λ k. k.now) high.entry) (left, entries)) }
     ensures layer { IfOk result (λ branch. branch.layer ≡ layer) }
     ensures link { IfOk result (λ branch. cid (spell branch.layer branch.items) ≡ link) }
-    ensures at { is_some_node (left, entries.now) ≡ true → IfOk result IsAtLayer }
+    ensures at { is_some_node (left, entries) ≡ true → IfOk result IsAtLayer }
 {
-    let first = read_below(alloc, blocks, layer, low, next_key(high, entries), left)?;
+    let inner_high = next_key(high, entries.as_slice());
+    let first = read_below(alloc, blocks, layer, low, inner_high, left)?;
     let rest = read_rest(alloc, blocks, layer, high, entries)?;
     Ok(Branch {
         layer,

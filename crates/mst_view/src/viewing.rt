@@ -47,21 +47,21 @@ fn view_node(
     blocks: &Blocks,
     root: Cid,
     layer: u8,
-    node: &Node,
+    node: Node,
 ) -> Result<StubTree, ViewFault>
     requires kind { IsNodeLink root }
-    requires layer { layer ≡ layer_of_node node.now }
-    requires fits { top_fits node.now ≡ true }
-    requires there { (block : List ℕ) × (map.get blocks.now root ≡ Some block) × (node_of block ≡ Some node.now) }
+    requires layer { layer ≡ layer_of_node node }
+    requires fits { top_fits node ≡ true }
+    requires there { (block : List ℕ) × (map.get blocks.now root ≡ Some block) × (node_of block ≡ Some node) }
     ensures view { IfOk result (λ tree. IsView blocks.now root tree) }
     ensures fault { IfErr result (λ fault. IsViewFault blocks.now root fault) }
 {
     blocks.tell_linked();
-    let entries = node.entries.as_slice();
-    if entries.len() == 0 {
+    let Node { left, entries } = node;
+    if entries.is_empty() {
         return Ok(StubTree::from_top(None));
     }
-    let branch = match read_parts(alloc, blocks, layer, None, None, node.left, entries, root) {
+    let branch = match read_parts(alloc, blocks, layer, None, None, left, entries, root) {
         Ok(branch) => branch,
         Err(fault) => return Err(fault_of(fault)),
     };
@@ -87,7 +87,7 @@ fn view_at(alloc: Global, blocks: &Blocks, root: Cid) -> Result<StubTree, ViewFa
     };
     let layer = layer_of(&node);
     if top_fits(layer, &node) {
-        view_node(alloc, blocks, root, layer, &node)
+        view_node(alloc, blocks, root, layer, node)
     } else {
         Err(ViewFault::BadNode(root))
     }

@@ -1,16 +1,13 @@
-use Rattle.std.proofs.Common.{◌≡◌, ℕ, suc, ◌-◌, List, [], ◌∷◌, ◌++◌, length, drop, true, ◌&&◌, refl, sym, ap, ◌∙◌, subst, Option, Some, Ok, arith, drop-cons, add-one}
+use Rattle.std.proofs.Common.{◌≡◌, ℕ, ◌-◌, List, [], ◌∷◌, ◌++◌, true, ◌&&◌, refl, sym, ap, ◌∙◌, subst, Option, Some, Ok, arith}
 use Rattle.std.specs.Prelude.{option_map}
-use Rattle.std.proofs.lemmas.List.{take_all, length-drop}
 use Rattle.std.proofs.lemmas.Result.{err_from_is_err_and}
 use Rattle.at_cid.specs.Link.{cid, IsNodeLink}
 use Rattle.mst_node.specs.declared.entry.Entry.{Entry}
-use Rattle.mst_node.specs.NodeBytes.{node_bytes}
 use Rattle.mst_node.specs.Nodes.{IsChildLink}
 use Rattle.mst_node.specs.NodeFaults.{next_bound}
 use Rattle.mst_node.specs.FirstFault.{in_part}
 use Rattle.mst_node.specs.Fits.{may_hang, is_some_node, entries_fit, node_fits}
 use Rattle.mst_node.specs.TreeReading.{parts_of, part_at, rights_of}
-use Rattle.mst_list.specs.Height.{height}
 use Rattle.mst_node.proofs.Spelling.{entry_of}
 use Rattle.mst_view.specs.Value.{Layered}
 use Rattle.mst_view.specs.declared.branch.Part.{Part}
@@ -60,7 +57,7 @@ read_below-read_parts-requires t c =
     let g = sound.gives b (left, es) reads in
     let p = both_true (may_hang (h - 1) left && is_some_node (left, es)) (entries_fit (h - 1) low high es) fits in
     let q = both_true (may_hang (h - 1) left) (is_some_node (left, es)) p.0 in
-    let H : List Entry → Type 0 = λ x. AllHang (h - 1) x in let K : Option (List ℕ) → Type 0 = λ x. IsChildLink x in
+    let K : Option (List ℕ) → Type 0 = λ x. IsChildLink x in
     let kind : IsNodeLink c.in-Some.link = subst K c.in-Some.is c.requires.kind in (
       omega arith,
       (
@@ -68,8 +65,8 @@ read_below-read_parts-requires t c =
         (
           hang_true (h - 1) left q.0,
           (
-            subst H (sym c.as_slice.ensures) (hang_of (h - 1) low high es (fit_true (h - 1) low high es g.2 p.1)),
-            nodes_under c.args.blocks.now c.in-Some-get.ensures.linked c.in-Some.link b kind (sym c.in-Some-get.ensures.is) ∙ ap cid (g.0 ∙ ap (node_bytes left) (sym c.as_slice.ensures)),
+            hang_of (h - 1) low high es (fit_true (h - 1) low high es g.2 p.1),
+            nodes_under c.args.blocks.now c.in-Some-get.ensures.linked c.in-Some.link b kind (sym c.in-Some-get.ensures.is) ∙ ap cid g.0,
           ),
         ),
       ),
@@ -82,13 +79,12 @@ read_below-returns-in_err-branch-clause-gives t c =
     let node_is : (left, es) ≡ c.in-Ok.node = c.node.view_is in
     let reads : node_of b ≡ Some (left, es) = c.in-Ok.ensures.told ∙ ap Some (sym node_is) in
     let fits : node_fits (h - 1) low high (left, es) ≡ true = ap (node_fits (h - 1) low high) node_is ∙ sym c.node_fits.ensures ∙ c.if-not-node_fits.false in
-    let whole : part_at in_part node_of B h low high c.args.link ≡ parts_of (part_at in_part node_of B (h - 1)) low high (left, c.as_slice.result.now) =
+    let whole : part_at in_part node_of B h low high c.args.link ≡ parts_of (part_at in_part node_of B (h - 1)) low high (left, es) =
     ap (part_at in_part node_of B h low high) c.in-Some.is
     ∙ at_block in_part node_of B h low high c.in-Some.link b (above_zero h c.args.link c.in-Some.link c.requires.lowest c.in-Some.is) (sym c.in-Some-get.ensures.is)
-    ∙ block_fit (node_fits (h - 1) low high) (parts_of (part_at in_part node_of B (h - 1)) low high) c.in-Some.link (node_of b) (left, es) reads fits
-    ∙ ap (λ x. parts_of (part_at in_part node_of B (h - 1)) low high (left, x)) (sym c.as_slice.ensures) in
+    ∙ block_fit (node_fits (h - 1) low high) (parts_of (part_at in_part node_of B (h - 1)) low high) c.in-Some.link (node_of b) (left, es) reads fits in
     let p = err_from_is_err_and c.from_residual.result c.from_residual.ensures.1 in
-    rw (p.1, p.2) (fails_on (link_at_fault c.in_err-branch.field-0.0) (part_at in_part node_of B h low high c.args.link) (parts_of (part_at in_part node_of B (h - 1)) low high (left, c.as_slice.result.now)) whole c.in_err-branch.ensures.gives)
+    rw (p.1, p.2) (fails_on (link_at_fault c.in_err-branch.field-0.0) (part_at in_part node_of B h low high c.args.link) (parts_of (part_at in_part node_of B (h - 1)) low high (left, es)) whole c.in_err-branch.ensures.gives)
 
 pub read_below-returns-clause-gives : goal.read_below-returns-clause-gives
 read_below-returns-clause-gives t c =
@@ -97,11 +93,10 @@ read_below-returns-clause-gives t c =
     let node_is : (left, es) ≡ c.in-Ok.node = c.node.view_is in
     let reads : node_of b ≡ Some (left, es) = c.in-Ok.ensures.told ∙ ap Some (sym node_is) in
     let fits : node_fits (h - 1) low high (left, es) ≡ true = ap (node_fits (h - 1) low high) node_is ∙ sym c.node_fits.ensures ∙ c.if-not-node_fits.false in
-    let whole : part_at in_part node_of B h low high c.args.link ≡ parts_of (part_at in_part node_of B (h - 1)) low high (left, c.as_slice.result.now) =
+    let whole : part_at in_part node_of B h low high c.args.link ≡ parts_of (part_at in_part node_of B (h - 1)) low high (left, es) =
     ap (part_at in_part node_of B h low high) c.in-Some.is
     ∙ at_block in_part node_of B h low high c.in-Some.link b (above_zero h c.args.link c.in-Some.link c.requires.lowest c.in-Some.is) (sym c.in-Some-get.ensures.is)
-    ∙ block_fit (node_fits (h - 1) low high) (parts_of (part_at in_part node_of B (h - 1)) low high) c.in-Some.link (node_of b) (left, es) reads fits
-    ∙ ap (λ x. parts_of (part_at in_part node_of B (h - 1)) low high (left, x)) (sym c.as_slice.ensures) in
+    ∙ block_fit (node_fits (h - 1) low high) (parts_of (part_at in_part node_of B (h - 1)) low high) c.in-Some.link (node_of b) (left, es) reads fits in
     whole ∙ c.in_ok-branch.ensures.gives ∙ ap (λ (v : Layered). Ok v.items) (sym c.in_ok-new.ensures.ok)
 
 pub read_parts-invariant_of-result : goal.read_parts-invariant_of-result
@@ -109,39 +104,36 @@ read_parts-invariant_of-result t c =
     record {
       first_lies = c.in_ok-first.ensures.lies;
       all_at = c.in_ok-rest.ensures.at;
-      kept_is = link_of_parts c.args.layer c.in_ok-first.first c.in_ok-rest.rest.items c.args.left c.args.entries.now c.args.link c.in_ok-first.ensures.lies c.in_ok-rest.ensures.at c.in_ok-first.ensures.keeps c.in_ok-rest.ensures.keeps c.requires.link_is;
+      kept_is = link_of_parts c.args.layer c.in_ok-first.first c.in_ok-rest.rest.items c.args.left c.args.entries c.args.link c.in_ok-first.ensures.lies c.in_ok-rest.ensures.at c.in_ok-first.ensures.keeps c.in_ok-rest.ensures.keeps c.requires.link_is;
     }
 
 pub read_parts-returns-clause-link : goal.read_parts-returns-clause-link
 read_parts-returns-clause-link t c =
-    sym (link_of_parts c.args.layer c.in_ok-first.first c.in_ok-rest.rest.items c.args.left c.args.entries.now c.args.link c.in_ok-first.ensures.lies c.in_ok-rest.ensures.at c.in_ok-first.ensures.keeps c.in_ok-rest.ensures.keeps c.requires.link_is)
+    sym (link_of_parts c.args.layer c.in_ok-first.first c.in_ok-rest.rest.items c.args.left c.args.entries c.args.link c.in_ok-first.ensures.lies c.in_ok-rest.ensures.at c.in_ok-first.ensures.keeps c.in_ok-rest.ensures.keeps c.requires.link_is)
 
 pub read_parts-returns-clause-at : goal.read_parts-returns-clause-at
 read_parts-returns-clause-at t c =
-    λ some. at_layer c.args.layer c.in_ok-first.first c.in_ok-rest.rest.items c.in_ok-first.ensures.lies c.in_ok-rest.ensures.at (some_items c.args.layer c.in_ok-first.first c.in_ok-rest.rest.items c.args.left c.args.entries.now c.in_ok-first.ensures.lies c.in_ok-first.ensures.keeps c.in_ok-rest.ensures.keeps some)
+    λ some. at_layer c.args.layer c.in_ok-first.first c.in_ok-rest.rest.items c.in_ok-first.ensures.lies c.in_ok-rest.ensures.at (some_items c.args.layer c.in_ok-first.first c.in_ok-rest.rest.items c.args.left c.args.entries c.in_ok-first.ensures.lies c.in_ok-first.ensures.keeps c.in_ok-rest.ensures.keeps some)
 
-pub read_rest-loop-i-preserved : goal.read_rest-loop-i-preserved
-read_rest-loop-i-preserved t c =
+pub read_rest-entries-preserved : goal.read_rest-entries-preserved
+read_rest-entries-preserved t c =
     let high = option_map (λ k. k.now) c.args.high in let h = c.args.layer in let B = c.args.blocks.now in
-    let es = c.args.entries.now in let i = c.loop-i.i in let e = c.index-entries-i.result in let more = drop (suc i) es in let rest = c.loop-i.rest.items in
-    let here : drop i es ≡ e ∷ more = drop-cons es i e c.loop-i-test.true ∙ ap (λ y. y ∷ more) (sym c.index-entries-i.is) in
-    let key = c.in_ok-key.key in let below = c.in_ok-below.below in
-    let p : Part = record { key = key; value = e.value; below = below } in
+    let e = c.in-Some.entry in let more = c.pop_front.new.self.items in let rest = c.entries.rest.items in
+    let here : c.entries.left.items ≡ e ∷ more = c.in-Some.ensures.items in
+    let below = c.in_ok-below.below in let p : Part = record { key = e.key; value = e.value; below = below } in
     let pushed : c.push.new.self.items ≡ rest ++ p ∷ [] = c.in_ok-push.ensures.items in
-    let copied : key ≡ e.key = c.in_ok-key.ensures in
-    let H : List Entry → Type 0 = λ x. AllHang h x in let hang = subst H here c.loop-i.invariant.hang in
+    let H : List Entry → Type 0 = λ x. AllHang h x in let hang = subst H here c.entries.invariant.hang in
     let A : List Part → Type 0 = λ x. AllAt h x in
-    let next : option_map (λ k. k.now) c.next_key.result ≡ next_bound high more = (rw add-one at c.next_key.ensures) ∙ ap (next_bound high) (take_all (length es - suc i) more (let long = length-drop (suc i) es in omega arith)) in
+    let next : option_map (λ k. k.now) c.bound_before-high.result ≡ next_bound high more = c.bound_before-high.ensures in
     let one : part_at in_part node_of B h (Some e.key) (next_bound high more) e.right ≡ Ok (below_items h below) =
     ap (λ k. part_at in_part node_of B h (Some k) (next_bound high more) e.right) (sym c.as_slice.ensures.value) ∙ ap (λ x. part_at in_part node_of B h (Some c.as_slice.result.now) x e.right) (sym next) ∙ c.in_ok-below.ensures.gives in
-    let same : entry_of key e.value (below_link below) ≡ e = ap (λ k. entry_of k e.value (below_link below)) copied ∙ ap (λ r. entry_of e.key e.value r) c.in_ok-below.ensures.keeps in
-    rw add-one (record {
-      in_range = let low = c.loop-i-test.true in omega arith;
-      at = subst A (sym pushed) (at_pushed h rest p c.loop-i.invariant.at (ap height copied ∙ hang.0.0) c.in_ok-below.ensures.lies);
+    let same : entry_of e.key e.value (below_link below) ≡ e = ap (λ r. entry_of e.key e.value r) c.in_ok-below.ensures.keeps in
+    record {
+      at = subst A (sym pushed) (at_pushed h rest p c.entries.invariant.at hang.0.0 c.in_ok-below.ensures.lies);
       hang = hang.1;
-      keeps = ap (λ x. entries_of x ++ more) pushed ∙ entries_pushed rest p more ∙ ap (λ x. entries_of rest ++ (x ∷ more)) same ∙ ap (λ x. entries_of rest ++ x) (sym here) ∙ c.loop-i.invariant.keeps;
+      keeps = ap (λ x. entries_of x ++ more) pushed ∙ entries_pushed rest p more ∙ ap (λ x. entries_of rest ++ (x ∷ more)) same ∙ ap (λ x. entries_of rest ++ x) (sym here) ∙ c.entries.invariant.keeps;
       reads = ap (λ x. with_front (rest_items h x) (rights_of (part_at in_part node_of B h) high more)) pushed
-          ∙ reads_on (part_at in_part node_of B h) h high rest p e more copied refl one
+          ∙ reads_on (part_at in_part node_of B h) h high rest p e more refl refl one
           ∙ ap (λ x. with_front (rest_items h rest) (rights_of (part_at in_part node_of B h) high x)) (sym here)
-          ∙ c.loop-i.invariant.reads;
-    })
+          ∙ c.entries.invariant.reads;
+    }

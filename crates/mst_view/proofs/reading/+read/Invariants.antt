@@ -1,4 +1,4 @@
-use Rattle.std.proofs.Common.{length, ◌-◌, ◌≡◌, ◌++◌, ◌+◌, ◌*◌, ◌≤◌, drop}
+use Rattle.std.proofs.Common.{length, ◌≡◌, ◌++◌, ◌+◌, ◌*◌}
 use Rattle.std.specs.Prelude.{option_map}
 use Rattle.mst_node.specs.FirstFault.{in_part}
 use Rattle.mst_node.specs.TreeReading.{part_at, rights_of}
@@ -16,14 +16,13 @@ decreases-read_rest l = 3 * l.layer + 1
 abbrev pub decreases-read_parts : goal.decreases-read_parts
 decreases-read_parts l = 3 * l.layer + 2
 
-abbrev pub invariant-read_rest-loop-i : goal.invariant-read_rest-loop-i
-invariant-read_rest-loop-i l = record {
-  in_range : l.i ≤ length l.entries;
+abbrev pub invariant-read_rest-entries : goal.invariant-read_rest-entries
+invariant-read_rest-entries l = record {
   at : AllAt l.layer l.rest.items;
-  hang : AllHang l.layer (drop l.i l.entries);
-  keeps : entries_of l.rest.items ++ drop l.i l.entries ≡ l.entries;
-  reads : with_front (rest_items l.layer l.rest.items) (rights_of (part_at in_part node_of l.blocks l.layer) (option_map (λ k. k.now) l.high) (drop l.i l.entries)) ≡ rights_of (part_at in_part node_of l.blocks l.layer) (option_map (λ k. k.now) l.high) l.entries;
+  hang : AllHang l.layer l.left.items;
+  keeps : entries_of l.rest.items ++ l.left.items ≡ l.fn.entries;
+  reads : with_front (rest_items l.layer l.rest.items) (rights_of (part_at in_part node_of l.blocks l.layer) (option_map (λ k. k.now) l.high) l.left.items) ≡ rights_of (part_at in_part node_of l.blocks l.layer) (option_map (λ k. k.now) l.high) l.fn.entries;
 }
 
-abbrev pub decreases-read_rest-loop-i : goal.decreases-read_rest-loop-i
-decreases-read_rest-loop-i l = length l.entries - l.i
+abbrev pub decreases-read_rest-entries : goal.decreases-read_rest-entries
+decreases-read_rest-entries l = length l.left.items

@@ -1,8 +1,8 @@
 use Rattle.std.proofs.Common.{◌≡◌, List, [], ◌∷◌, length, refl, sym, ap, ◌∙◌, subst, Some, None, Ok, arith}
+use Rattle.std.proofs.lemmas.Bool.Decides.{nat_tests}
 use Rattle.at_cid.specs.Link.{cid}
 use Rattle.mst_list.specs.declared.item.Item.{Item}
 use Rattle.mst_node.specs.declared.entry.Entry.{Entry}
-use Rattle.mst_node.specs.NodeBytes.{node_bytes}
 use Rattle.mst_node.specs.Trees.{IsView}
 use Rattle.mst_node.specs.NodeFaults.{layer_of}
 use Rattle.mst_node.specs.Reading.{node_of}
@@ -21,49 +21,49 @@ nil_of : (xs : List Entry) → length xs ≡ 0 → xs ≡ []
 nil_of [] e = refl
 nil_of (x ∷ xs) e = absurd (omega arith)
 
-pub returns-then-entries-eq0-clause-view : goal.returns-then-entries-eq0-clause-view
-returns-then-entries-eq0-clause-view c =
+pub returns-then-is_empty-clause-view : goal.returns-then-is_empty-clause-view
+returns-then-is_empty-clause-view c =
     let B = c.args.blocks.now in let r = c.args.root in let left = c.node.inside.left in let es = c.node.inside.entries in let there = c.requires.there in
-    let under = nodes_under B c.tell_linked.ensures in let node_is : (left, es) ≡ c.args.node.now = c.node.view_is in
+    let under = nodes_under B c.tell_linked.ensures in let node_is : (left, es) ≡ c.args.node = c.node.view_is in
     let V : List Item → Type 0 = λ x. IsView B r x in
     subst V (sym c.from_top.ensures) (tree_given node_of sound B under r there.0 [] c.requires.kind there.1
-    (empty_tree node_of sound B under r there.0 left es (there.2 ∙ ap Some (sym node_is)) (ap top_fits node_is ∙ c.requires.fits) (sym c.as_slice-entries.ensures ∙ nil_of c.as_slice-entries.result.now c.if-entries-eq0.true)))
+    (empty_tree node_of sound B under r there.0 left es (there.2 ∙ ap Some (sym node_is)) (ap top_fits node_is ∙ c.requires.fits) (nil_of es (grind (arith, nat_tests, c.is_empty.ensures, c.if-is_empty.true)))))
 
 pub read_parts-requires-clause-kind : goal.read_parts-requires-clause-kind
 read_parts-requires-clause-kind c =
     let B = c.args.blocks.now in let left = c.node.inside.left in let es = c.node.inside.entries in let there = c.requires.there in
-    let node_is : (left, es) ≡ c.args.node.now = c.node.view_is in
+    let node_is : (left, es) ≡ c.args.node = c.node.view_is in
     (top_known node_of sound B (nodes_under B c.tell_linked.ensures) there.0 left es (there.2 ∙ ap Some (sym node_is)) (ap top_fits node_is ∙ c.requires.fits)).kind
 
 pub read_parts-requires-clause-lowest : goal.read_parts-requires-clause-lowest
 read_parts-requires-clause-lowest c =
     let B = c.args.blocks.now in let left = c.node.inside.left in let es = c.node.inside.entries in let there = c.requires.there in
-    let node_is : (left, es) ≡ c.args.node.now = c.node.view_is in
+    let node_is : (left, es) ≡ c.args.node = c.node.view_is in
     let k = top_known node_of sound B (nodes_under B c.tell_linked.ensures) there.0 left es (there.2 ∙ ap Some (sym node_is)) (ap top_fits node_is ∙ c.requires.fits) in
     λ e. k.lowest (ap layer_of_node node_is ∙ sym c.requires.layer ∙ e)
 
 pub read_parts-requires-clause-hang : goal.read_parts-requires-clause-hang
 read_parts-requires-clause-hang c =
     let B = c.args.blocks.now in let left = c.node.inside.left in let es = c.node.inside.entries in let there = c.requires.there in
-    let node_is : (left, es) ≡ c.args.node.now = c.node.view_is in
+    let node_is : (left, es) ≡ c.args.node = c.node.view_is in
     let k = top_known node_of sound B (nodes_under B c.tell_linked.ensures) there.0 left es (there.2 ∙ ap Some (sym node_is)) (ap top_fits node_is ∙ c.requires.fits) in
     let layer : c.args.layer ≡ layer_of es = c.requires.layer ∙ ap layer_of_node (sym node_is) in
-    rw (c.as_slice-entries.ensures, layer) (hang_of (layer_of es) None None es k.entries)
+    rw layer (hang_of (layer_of es) None None es k.entries)
 
 pub read_parts-requires-clause-link_is : goal.read_parts-requires-clause-link_is
 read_parts-requires-clause-link_is c =
     let B = c.args.blocks.now in let left = c.node.inside.left in let es = c.node.inside.entries in let there = c.requires.there in
-    let node_is : (left, es) ≡ c.args.node.now = c.node.view_is in let under = nodes_under B c.tell_linked.ensures in
+    let node_is : (left, es) ≡ c.args.node = c.node.view_is in let under = nodes_under B c.tell_linked.ensures in
     let k = top_known node_of sound B under there.0 left es (there.2 ∙ ap Some (sym node_is)) (ap top_fits node_is ∙ c.requires.fits) in
-    under c.args.root there.0 c.requires.kind there.1 ∙ ap cid (k.spelled ∙ ap (node_bytes left) (sym c.as_slice-entries.ensures))
+    under c.args.root there.0 c.requires.kind there.1 ∙ ap cid k.spelled
 
 pub from_top-requires-in-Ok-true : goal.from_top-requires-in-Ok-true
 from_top-requires-in-Ok-true c =
     let B = c.args.blocks.now in let r = c.args.root in let left = c.node.inside.left in let es = c.node.inside.entries in let there = c.requires.there in let F = c.in-Ok.branch.items in
-    let node_is : (left, es) ≡ c.args.node.now = c.node.view_is in let under = nodes_under B c.tell_linked.ensures in
+    let node_is : (left, es) ≡ c.args.node = c.node.view_is in let under = nodes_under B c.tell_linked.ensures in
     let layer : c.args.layer ≡ layer_of es = c.requires.layer ∙ ap layer_of_node (sym node_is) in
     let parts : parts_of (part_at in_part node_of B (layer_of es)) None None (left, es) ≡ Ok F =
-    ap (λ m. parts_of (part_at in_part node_of B m) None None (left, es)) (sym layer) ∙ ap (λ x. parts_of (part_at in_part node_of B c.args.layer) None None (left, x)) (sym c.as_slice-entries.ensures) ∙ c.in-Ok.ensures.gives in
+    ap (λ m. parts_of (part_at in_part node_of B m) None None (left, es)) (sym layer) ∙ c.in-Ok.ensures.gives in
     let reads = there.2 ∙ ap Some (sym node_is) in
     let tree : tree_at node_of B r there.0 ≡ Ok F = tree_of node_of sound B under r there.0 (left, es) F reads (ap top_fits node_is ∙ c.requires.fits) parts (sym c.in-Ok-true.ensures ∙ c.in-Ok-true.field-0-test) in
     let g = laid_top node_of sound B under r there.0 (left, es) F c.requires.kind there.1 reads tree in
@@ -72,10 +72,10 @@ from_top-requires-in-Ok-true c =
 pub returns-in-Ok-true-clause-view : goal.returns-in-Ok-true-clause-view
 returns-in-Ok-true-clause-view c =
     let B = c.args.blocks.now in let r = c.args.root in let left = c.node.inside.left in let es = c.node.inside.entries in let there = c.requires.there in let F = c.in-Ok.branch.items in
-    let node_is : (left, es) ≡ c.args.node.now = c.node.view_is in let under = nodes_under B c.tell_linked.ensures in
+    let node_is : (left, es) ≡ c.args.node = c.node.view_is in let under = nodes_under B c.tell_linked.ensures in
     let layer : c.args.layer ≡ layer_of es = c.requires.layer ∙ ap layer_of_node (sym node_is) in
     let parts : parts_of (part_at in_part node_of B (layer_of es)) None None (left, es) ≡ Ok F =
-    ap (λ m. parts_of (part_at in_part node_of B m) None None (left, es)) (sym layer) ∙ ap (λ x. parts_of (part_at in_part node_of B c.args.layer) None None (left, x)) (sym c.as_slice-entries.ensures) ∙ c.in-Ok.ensures.gives in
+    ap (λ m. parts_of (part_at in_part node_of B m) None None (left, es)) (sym layer) ∙ c.in-Ok.ensures.gives in
     let tree : tree_at node_of B r there.0 ≡ Ok F = tree_of node_of sound B under r there.0 (left, es) F (there.2 ∙ ap Some (sym node_is)) (ap top_fits node_is ∙ c.requires.fits) parts (sym c.in-Ok-true.ensures ∙ c.in-Ok-true.field-0-test) in
     let V : List Item → Type 0 = λ x. IsView B r x in
     subst V (sym c.from_top-in-Ok-true.ensures) (tree_given node_of sound B under r there.0 F c.requires.kind there.1 tree)
@@ -83,20 +83,20 @@ returns-in-Ok-true-clause-view c =
 pub returns-in-Err-clause-fault : goal.returns-in-Err-clause-fault
 returns-in-Err-clause-fault c =
     let B = c.args.blocks.now in let r = c.args.root in let left = c.node.inside.left in let es = c.node.inside.entries in let there = c.requires.there in
-    let node_is : (left, es) ≡ c.args.node.now = c.node.view_is in
+    let node_is : (left, es) ≡ c.args.node = c.node.view_is in
     let layer : c.args.layer ≡ layer_of es = c.requires.layer ∙ ap layer_of_node (sym node_is) in
-    let whole : parts_of (part_at in_part node_of B (layer_of es)) None None (left, es) ≡ parts_of (part_at in_part node_of B c.args.layer) None None (left, c.as_slice-entries.result.now) =
-    ap (λ m. parts_of (part_at in_part node_of B m) None None (left, es)) (sym layer) ∙ ap (λ x. parts_of (part_at in_part node_of B c.args.layer) None None (left, x)) (sym c.as_slice-entries.ensures) in
+    let whole : parts_of (part_at in_part node_of B (layer_of es)) None None (left, es) ≡ parts_of (part_at in_part node_of B c.args.layer) None None (left, es) =
+    ap (λ m. parts_of (part_at in_part node_of B m) None None (left, es)) (sym layer) in
     let told = parts_told B (nodes_under B c.tell_linked.ensures) r there.0 c.requires.kind there.1 (left, es) c.in-Err.fault (there.2 ∙ ap Some (sym node_is)) (ap top_fits node_is ∙ c.requires.fits)
-    (fails_on (link_at_fault c.in-Err.fault) (parts_of (part_at in_part node_of B (layer_of es)) None None (left, es)) (parts_of (part_at in_part node_of B c.args.layer) None None (left, c.as_slice-entries.result.now)) whole c.in-Err.ensures.gives) in
+    (fails_on (link_at_fault c.in-Err.fault) (parts_of (part_at in_part node_of B (layer_of es)) None None (left, es)) (parts_of (part_at in_part node_of B c.args.layer) None None (left, es)) whole c.in-Err.ensures.gives) in
     let V : ViewFault → Type 0 = λ x. IsViewFault B r x in
     subst V (sym c.fault_of.ensures) told
 
 pub returns-in-Ok-false-clause-fault : goal.returns-in-Ok-false-clause-fault
 returns-in-Ok-false-clause-fault c =
     let B = c.args.blocks.now in let r = c.args.root in let left = c.node.inside.left in let es = c.node.inside.entries in let there = c.requires.there in let F = c.in-Ok.branch.items in
-    let node_is : (left, es) ≡ c.args.node.now = c.node.view_is in
+    let node_is : (left, es) ≡ c.args.node = c.node.view_is in
     let layer : c.args.layer ≡ layer_of es = c.requires.layer ∙ ap layer_of_node (sym node_is) in
     let parts : parts_of (part_at in_part node_of B (layer_of es)) None None (left, es) ≡ Ok F =
-    ap (λ m. parts_of (part_at in_part node_of B m) None None (left, es)) (sym layer) ∙ ap (λ x. parts_of (part_at in_part node_of B c.args.layer) None None (left, x)) (sym c.as_slice-entries.ensures) ∙ c.in-Ok.ensures.gives in
+    ap (λ m. parts_of (part_at in_part node_of B m) None None (left, es)) (sym layer) ∙ c.in-Ok.ensures.gives in
     doubled_told B (nodes_under B c.tell_linked.ensures) r there.0 c.requires.kind there.1 (left, es) F (there.2 ∙ ap Some (sym node_is)) (ap top_fits node_is ∙ c.requires.fits) parts (sym c.in-Ok-false.ensures ∙ c.in-Ok-false.field-0-test)

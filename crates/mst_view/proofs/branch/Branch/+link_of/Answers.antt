@@ -1,25 +1,32 @@
-use Rattle.std.proofs.Common.{◌≡◌, ◌++◌, sym, ap, ◌∙◌, Some, arith, append-nil}
+use Rattle.std.proofs.Common.{◌≡◌, suc, List, [], ◌∷◌, ◌++◌, length, refl, sym, ap, ◌∙◌, Some, arith, append-nil}
 use Rattle.std.proofs.lemmas.List.{drop_all}
 use Rattle.at_cid.specs.Link.{cid}
 use Rattle.mst_node.specs.Trees.{spell}
-use Rattle.mst_node.specs.NodeBytes.{node_bytes}
+use Rattle.mst_node.specs.NodeBytes.{node_bytes, node_front, entries_spelling}
+use Rattle.mst_node.proofs.Writes.{node_written}
 use Rattle.mst_view.specs.Value.{Layered}
 use Rattle.mst_view.specs.Layered.{below_link, entries_of}
+use Rattle.mst_view.specs.declared.branch.Part.{Part}
 use Rattle.mst_view.proofs.Spelled.{link_is}
 use Rattle.mst_view.proofs.branch.Branch.+link_of.Goals as goal
 use Rattle.mst_view.proofs.branch.Branch.+link_of.Goals.{in-Empty, in-Hole, in-Tree+in_ok-link_of-in-Tree}
 
+entries_counted : (parts : List Part) → length (entries_of parts) ≡ length parts
+entries_counted [] = refl
+entries_counted (p ∷ parts) = ap suc (entries_counted parts)
+
 pub returns : goal.returns
 returns t c =
-    let first = c.self.inside.first in let parts = c.self.inside.rest.items in
+    let first = c.self.inside.first in let parts = c.as_slice-parts.result.now in
     let left : c.match-self-2.left ≡ below_link first = elim c.match-self-2.branch [
       | in-Empty w ↦ w.left-is ∙ sym (ap below_link w.in-Empty.is)
       | in-Hole w ↦ w.left-is ∙ sym (ap below_link w.in-Hole.is)
       | in-Tree+in_ok-link_of-in-Tree w ↦ w.left-is ∙ ap Some (w.in_ok-link_of-in-Tree.ensures ∙ ap (λ (v : Layered). cid (spell v.layer v.items)) w.deref.ensures) ∙ sym (ap below_link w.in-Tree.is)
     ] in
-    let items : c.as_slice.result.now ≡ entries_of parts =
-    c.as_slice.ensures ∙ sym (append-nil c.loop-part.entries)
-    ∙ ap (λ x. c.loop-part.entries ++ entries_of x) (sym (drop_all c.loop-part.part-index c.deref-part-items.result.now (let low = c.loop-part-test.false in omega arith)))
-    ∙ c.loop-part.invariant ∙ ap entries_of c.deref-part-items.ensures.value in
-    c.cid_of.ensures ∙ ap cid (c.as_slice-2.ensures.value ∙ c.in_ok-block.ensures ∙ ap (λ l. node_bytes l c.as_slice.result.now) left ∙ ap (node_bytes (below_link first)) items)
-    ∙ link_is c.self.inside.layer first parts c.args.self.now c.self.invariant.first_lies c.self.invariant.all_at c.self.view_is
+    let written : c.as_slice-2.result.now ≡ node_bytes c.match-self-2.left (entries_of parts) =
+    c.as_slice-2.ensures.value ∙ node_written c.match-self-2.left (entries_of parts) _ _ _ _ (c.from_vec-block.ensures ∙ c.in_ok-with_capacity.ensures.items)
+    (c.in_ok-write_front.ensures ∙ ap (λ n. c.from_vec-block.result ++ node_front n) (sym (entries_counted parts)))
+    (sym (append-nil c.loop-part.block) ∙ ap (λ (x : List Part). c.loop-part.block ++ entries_spelling c.loop-part.last.now (entries_of x)) (sym (drop_all c.loop-part.part-index parts (let low = c.loop-part-test.false in omega arith))) ∙ c.loop-part.invariant)
+    c.in_ok-write_end.ensures in
+    c.cid_of.ensures ∙ ap cid (written ∙ ap (λ l. node_bytes l (entries_of parts)) left ∙ ap (λ (x : List Part). node_bytes (below_link first) (entries_of x)) c.as_slice-parts.ensures.value)
+    ∙ link_is c.self.inside.layer first c.self.inside.rest.items c.args.self.now c.self.invariant.first_lies c.self.invariant.all_at c.self.view_is
