@@ -1,3 +1,4 @@
 pub mod Lines
 pub mod Standings
 pub mod Parsing
+pub mod Benches
