@@ -1,5 +1,5 @@
 -- Asking a bench: those in front fall one by one, until one answers.
-use Rattle.std.proofs.Common.{◌≡◌, ◌≢◌, ◌⊎◌, inl, inr, ⊎_elim, ℕ, ◌+◌, ◌<◌, ◌≤◌, Bool, false, List, [], ◌∷◌, length, drop, map, get_or, zero, suc, Option, refl, sym, ap, ◌∙◌, subst, arith, get_or-set_other, get_or-set_same}
+use Rattle.std.proofs.Common.{◌≡◌, ◌≢◌, ◌⊎◌, inl, inr, ⊎_elim, ℕ, ◌+◌, ◌-◌, ◌<◌, ◌≤◌, Bool, false, List, [], ◌∷◌, length, drop, map, get_or, zero, suc, Option, refl, sym, ap, ◌∙◌, subst, arith, get_or-set_other, get_or-set_same}
 use Rattle.std.proofs.Math.ListN.{set, length-set}
 use Rattle.std.proofs.lemmas.List.{length-map, drop_all, length-drop}
 use Rattle.std.specs.Prelude.{Result, Err}
@@ -191,3 +191,7 @@ module _ {A : Type 0} (tells : A → Option Telling) (faults : A → ℕ) where
 
   pub is_spent : (xs : List A) (n : ℕ) → n ≤ length xs → length xs ≤ n → 0 < length xs → IsSpent (bench xs n)
   is_spent xs n low high some = record { had = omega (arith, low, high, some); gone = omega (arith, low, high, length-map xs seat) }
+
+  -- how many live
+  pub length-living : (xs : List A) (n : ℕ) → length (living (bench xs n)) ≡ length xs - n
+  length-living xs n = omega (arith, length-drop n (values (bench xs n)), wide xs n)

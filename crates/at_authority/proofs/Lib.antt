@@ -2,3 +2,4 @@ pub mod Lines
 pub mod Standings
 pub mod Parsing
 pub mod Benches
+pub mod Methods

@@ -1,5 +1,5 @@
 -- Who is asked: for each DID method a bench of authorities in their order, of which those in front have fallen.
-use Rattle.std.specs.Prelude.{◌≡◌, ℕ, ◌≤◌, ◌<◌, ◌⊎◌, List, [], ◌∷◌, length, drop, map, get_or, Option, if◌then◌else◌}
+use Rattle.std.specs.Prelude.{◌≡◌, ℕ, zero, suc, Bool, true, false, ◌≤◌, ◌<◌, ◌⊎◌, List, [], ◌∷◌, length, drop, map, get_or, Option, if◌then◌else◌}
 use Rattle.std.specs.Str.{bytes_eq}
 use Rattle.at_authority.specs.Queries.{Telling}
 use Rattle.at_authority.specs.Answers.{Rises}
@@ -52,3 +52,13 @@ never = record { seats = []; fallen = 0 }
 abbrev pub bench_at : {B : Type 0} → (B → List ℕ) → (B → Bench) → List B → List ℕ → Bench
 bench_at method bench [] name = never
 bench_at method bench (b ∷ others) name = if bytes_eq (method b) name then bench b else bench_at method bench others name
+
+-- the first that passes a test stands at this place
+abbrev pub FirstAt : {B : Type 0} → (B → Bool) → List B → ℕ → Type 0
+FirstAt passes [] i = ⊥
+FirstAt passes (b ∷ others) zero = passes b ≡ true
+FirstAt passes (b ∷ others) (suc i) = (passes b ≡ false) × FirstAt passes others i
+
+abbrev pub NonePasses : {B : Type 0} → (B → Bool) → List B → Type 0
+NonePasses passes [] = Unit {0}
+NonePasses passes (b ∷ others) = (passes b ≡ false) × NonePasses passes others

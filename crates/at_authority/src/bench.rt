@@ -1,7 +1,8 @@
 //! The authorities of one method.
 
 ghost use Rattle.std.specs.Prelude.{◌≡◌, ◌≤◌, ◌↔◌, ◌-◌, ◌∷◌, ◌++◌, [], length, string_bytes, IfOk, OnOk, OnErr, IsErrOf};
-ghost use Rattle.at_authority.specs.Panels.{bench_of, never, IsSpent};
+ghost use Rattle.std.specs.Str.{bytes_eq};
+ghost use Rattle.at_authority.specs.Panels.{bench_of, IsSpent};
 ghost use Rattle.at_authority.specs.Calls.{Asks, returned};
 ghost use Rattle.at_authority.specs.Asking.{call_of};
 
@@ -38,6 +39,24 @@ impl Bench {
             seats,
             fallen: 0,
         })
+    }
+
+    /// Adds an authority behind the others. Where memory is wanted, it is dropped.
+    pub(crate) fn push(&mut self, authority: Box<dyn Authority>) -> Result<(), Memory>
+        ensures ok { OnOk result (self.new.seats.items ≡ self.old.seats.items ++ authority ∷ []) }
+        ensures err { OnErr result (self.new.seats.items ≡ self.old.seats.items) }
+        ensures fallen { self.new.fallen ≡ self.old.fallen }
+        ensures method { string_bytes self.new.method ≡ string_bytes self.old.method }
+    {
+        self.seats.push(authority)?;
+        Ok(())
+    }
+
+    /// Whether it is that of a method.
+    pub(crate) fn is_of(&self, method: &str) -> bool
+        ensures { result ≡ bytes_eq (string_bytes self.now.method) method.now }
+    {
+        self.method.as_str() == method
     }
 
     /// Asks the first that lives. One whose call fails falls, and the next is asked the same.

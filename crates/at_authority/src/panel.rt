@@ -1,8 +1,9 @@
 //! Judges that ask boxed authorities.
 
-ghost use Rattle.std.specs.Prelude.{◌≡◌, ◌≢◌, ◌∷◌, ◌++◌, ◌↔◌, ℕ, List, [], length, string_bytes, IsTrue, OnOk, OnErr, IsErrOf, MatchOption, IsSome, slice_get};
+ghost use Rattle.std.specs.Prelude.{◌≡◌, ◌≢◌, ◌∷◌, ◌++◌, ◌↔◌, ℕ, List, [], length, string_bytes, IsTrue, OnOk, OnErr, IsErrOf, MatchOption};
+ghost use Rattle.std.specs.Str.{bytes_eq};
 ghost use Rattle.at_syntax.specs.Did.{is_did, method_of};
-ghost use Rattle.at_authority.specs.Panels.{bench_of, bench_at, never, living, IsSpent};
+ghost use Rattle.at_authority.specs.Panels.{FirstAt, NonePasses, bench_of, bench_at, never, living, IsSpent};
 ghost use Rattle.at_authority.specs.Calls.{IsCall, returned};
 ghost use Rattle.at_authority.specs.Asking.{call_of};
 
@@ -33,10 +34,15 @@ impl Panel {
     }
 
     // Where the bench of a method stands.
-    fn position(&self, name: &str) -> Option<usize> {
-        self.benches
-            .iter()
-            .position(|bench| bench.method.as_str() == name)
+    fn position(&self, name: &str) -> Option<usize>
+        ensures { MatchOption result (NonePasses (λ b. bytes_eq (string_bytes b.method) name.now) self.now.benches.items) (FirstAt (λ b. bytes_eq (string_bytes b.method) name.now) self.now.benches.items) }
+    {
+        for (i, bench) in self.benches.iter().enumerate() {
+            if bench.is_of(name) {
+                return Some(i);
+            }
+        }
+        None
     }
 
     /// Adds an authority behind those of the method. Where memory is wanted, it is dropped, and the panel is as before.
@@ -47,13 +53,13 @@ impl Panel {
         ensures kept { OnErr result ((other : List ℕ) → ⟦<Panel as Judges>⟧.panel self.new other ≡ ⟦<Panel as Judges>⟧.panel self.old other) }
     {
         match self.position(name) {
-            Some(i) => self.benches[i].seats.push(authority)?,
+            Some(i) => self.benches[i].push(authority),
             None => {
                 let bench = Bench::with(self.alloc, name, authority)?;
                 self.benches.push(bench)?;
+                Ok(())
             }
         }
-        Ok(())
     }
 
     /// How many authorities of the method live. Takes no memory.
@@ -61,7 +67,10 @@ impl Panel {
         ensures { result ≡ length (living (⟦<Panel as Judges>⟧.panel self.now name.now)) }
     {
         match self.position(name) {
-            Some(i) => self.benches[i].seats.len() - self.benches[i].fallen,
+            Some(i) => {
+                let bench = &self.benches[i];
+                bench.seats.len() - bench.fallen
+            }
             None => 0,
         }
     }
