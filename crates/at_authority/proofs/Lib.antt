@@ -1,0 +1,5 @@
+pub mod Lines
+pub mod Standings
+pub mod Parsing
+pub mod Benches
+pub mod Methods

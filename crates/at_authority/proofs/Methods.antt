@@ -1,0 +1,120 @@
+-- The benches of a panel, each under its method.
+use Rattle.std.proofs.Common.{◌≡◌, ◌≢◌, ◌⊎◌, inl, inr, ⊎_elim, ℕ, ◌+◌, ◌<◌, ◌≤◌, Bool, true, false, cond, not, List, [], ◌∷◌, ◌++◌, length, drop, map, get_or, zero, suc, Option, Some, None, refl, sym, ap, ◌∙◌, subst, arith}
+use Rattle.std.specs.Str.{bytes_eq}
+use Rattle.std.proofs.Math.ListN.{set}
+use Rattle.std.proofs.lemmas.Bool.{false_from_ne_true}
+use Rattle.std.proofs.lemmas.Slice.Eq.{bytes_eq-Decides}
+use Rattle.std.specs.Prelude.{Result, Ok, Err}
+use Rattle.at_syntax.specs.Did.{method_of}
+use Rattle.at_authority.specs.declared.judges.JudgeFault.{JudgeFault}
+use Rattle.at_authority.specs.declared.question.Question.{Question}
+use Rattle.at_authority.specs.Panels.{Seat, Bench, IsSpent, living, FirstAt, NonePasses, bench_at, never}
+use Rattle.at_authority.specs.Calls.{Call, Asks, IsCall, did_called, returned}
+use Rattle.at_authority.specs.Asking.{call_of}
+use Rattle.at_authority.proofs.Benches.{empty, goes_nowhere}
+
+module _ {B : Type 0} (p : B → Bool) where
+  pub first_from : (xs : List B) (i : ℕ) (d : B) → i < length xs → ((k : ℕ) → k < i → p (get_or xs k d) ≡ false) → p (get_or xs i d) ≡ true → FirstAt p xs i
+  first_from [] i d low before here = absurd (omega (arith, low))
+  first_from (x ∷ xs) zero d low before here = here
+  first_from (x ∷ xs) (suc i) d low before here = (before 0 (omega arith), first_from xs i d (omega (arith, low)) (λ k h. before (suc k) (omega (arith, h))) here)
+
+  pub none_from : (xs : List B) → ((k : ℕ) (d : B) → k < length xs → p (get_or xs k d) ≡ false) → NonePasses p xs
+  none_from [] each = tt
+  none_from (x ∷ xs) each = (each 0 x (omega arith), none_from xs (λ k d h. each (suc k) d (omega (arith, h))))
+
+  pub inside : (xs : List B) (i : ℕ) → FirstAt p xs i → i < length xs
+  inside [] i h = absurd h
+  inside (x ∷ xs) zero h = omega arith
+  inside (x ∷ xs) (suc i) h = omega (arith, inside xs i h.1)
+
+-- whom a question is about
+pub called : (did : List ℕ) (question : Question) (r : Result Bool JudgeFault) → did_called (returned did (call_of did question) r) ≡ did
+called did (Question.Home host) (Ok good) = refl
+called did (Question.Verdict digest sig) (Ok good) = refl
+called did Question.Refresh (Ok good) = refl
+called did question (Err fault) = refl
+
+module _ {B : Type 0} (method : B → List ℕ) (bench : B → Bench) where
+  abbrev named : List ℕ → B → Bool
+  named name b = bytes_eq (method b) name
+
+  at_true : (b : Bool) (x y : Bench) → b ≡ true → cond b x y ≡ x
+  at_true b x y h = rw h refl
+
+  at_false : (b : Bool) (x y : Bench) → b ≡ false → cond b x y ≡ y
+  at_false b x y h = rw h refl
+
+  pub at_found : (xs : List B) (name : List ℕ) (i : ℕ) (y : B) → FirstAt (named name) xs i → y ≡ get_or xs i y → bench_at method bench xs name ≡ bench y
+  at_found [] name i y h e = absurd h
+  at_found (x ∷ xs) name zero y h e = at_true (bytes_eq (method x) name) (bench x) (bench_at method bench xs name) h ∙ ap bench (sym e)
+  at_found (x ∷ xs) name (suc i) y h e = at_false (bytes_eq (method x) name) (bench x) (bench_at method bench xs name) h.0 ∙ at_found xs name i y h.1 e
+
+  pub at_missed : (xs : List B) (name : List ℕ) → NonePasses (named name) xs → bench_at method bench xs name ≡ never
+  at_missed [] name h = refl
+  at_missed (x ∷ xs) name h = at_false (bytes_eq (method x) name) (bench x) (bench_at method bench xs name) h.0 ∙ at_missed xs name h.1
+
+  pub method_at : (xs : List B) (name : List ℕ) (i : ℕ) (y : B) → FirstAt (named name) xs i → y ≡ get_or xs i y → method y ≡ name
+  method_at [] name i y h e = absurd h
+  method_at (x ∷ xs) name zero y h e = ap method e ∙ (bytes_eq-Decides (method x) name).0 h
+  method_at (x ∷ xs) name (suc i) y h e = method_at xs name i y h.1 e
+
+  pub at_set : (xs : List B) (name : List ℕ) (i : ℕ) (x : B) → FirstAt (named name) xs i → method x ≡ name → bench_at method bench (set xs i x) name ≡ bench x
+  at_set [] name i x h e = absurd h
+  at_set (y ∷ xs) name zero x h e = at_true (bytes_eq (method x) name) (bench x) (bench_at method bench xs name) ((bytes_eq-Decides (method x) name).1 e)
+  at_set (y ∷ xs) name (suc i) x h e = at_false (bytes_eq (method y) name) (bench y) (bench_at method bench (set xs i x) name) h.0 ∙ at_set xs name i x h.1 e
+
+  other_named : (b : B) (name other : List ℕ) → method b ≡ name → other ≢ name → bytes_eq (method b) other ≡ false
+  other_named b name other e d = false_from_ne_true (bytes_eq (method b) other) (λ h. d (sym ((bytes_eq-Decides (method b) other).0 h) ∙ e))
+
+  pub at_set_other : (xs : List B) (name other : List ℕ) (i : ℕ) (x : B) → FirstAt (named name) xs i → method x ≡ name → other ≢ name → bench_at method bench (set xs i x) other ≡ bench_at method bench xs other
+  at_set_other [] name other i x h e d = absurd h
+  at_set_other (y ∷ xs) name other zero x h e d =
+      at_false (bytes_eq (method x) other) (bench x) (bench_at method bench xs other) (other_named x name other e d)
+      ∙ sym (at_false (bytes_eq (method y) other) (bench y) (bench_at method bench xs other) (other_named y name other ((bytes_eq-Decides (method y) name).0 h) d))
+  at_set_other (y ∷ xs) name other (suc i) x h e d = ap (λ (b : Bench). cond (bytes_eq (method y) other) (bench y) b) (at_set_other xs name other i x h.1 e d)
+
+  pub at_pushed : (xs : List B) (name : List ℕ) (x : B) → NonePasses (named name) xs → method x ≡ name → bench_at method bench (xs ++ x ∷ []) name ≡ bench x
+  at_pushed [] name x h e = at_true (bytes_eq (method x) name) (bench x) never ((bytes_eq-Decides (method x) name).1 e)
+  at_pushed (y ∷ xs) name x h e = at_false (bytes_eq (method y) name) (bench y) (bench_at method bench (xs ++ x ∷ []) name) h.0 ∙ at_pushed xs name x h.1 e
+
+  pub at_pushed_other : (xs : List B) (name other : List ℕ) (x : B) → method x ≡ name → other ≢ name → bench_at method bench (xs ++ x ∷ []) other ≡ bench_at method bench xs other
+  at_pushed_other [] name other x e d = at_false (bytes_eq (method x) other) (bench x) never (other_named x name other e d)
+  at_pushed_other (y ∷ xs) name other x e d = ap (λ (b : Bench). cond (bytes_eq (method y) other) (bench y) b) (at_pushed_other xs name other x e d)
+
+  pub found_length : (xs : List B) (name : List ℕ) (i : ℕ) (y : B) → FirstAt (named name) xs i → y ≡ get_or xs i y → (n : ℕ) → n ≡ length (living (bench y)) → n ≡ length (living (bench_at method bench xs name))
+  found_length xs name i y h e n long = long ∙ ap (λ (b : Bench). length (living b)) (sym (at_found xs name i y h e))
+
+  -- a call of the bench of a DID's method
+  pub is_call : (xs : List B) (i : ℕ) (x y : B) (did : List ℕ) (call : Call) → did_called call ≡ did → FirstAt (named (method_of did)) xs i → y ≡ get_or xs i y → method x ≡ method y → Asks call (bench y) (bench x)
+      → IsCall call (bench_at method bench xs) (bench_at method bench (set xs i x))
+  is_call xs i x y did call e h at same asks =
+      let name : List ℕ = method_of did in
+      let kept : method x ≡ name = same ∙ method_at xs name i y h at in
+      let P : Bench → Type 0 = λ b. Asks call b (bench x) in
+      let Q : Bench → Type 0 = λ b. Asks call (bench_at method bench xs name) b in
+      let R : List ℕ → Type 0 = λ d. Asks call (bench_at method bench xs (method_of d)) (bench_at method bench (set xs i x) (method_of d)) in
+      record {
+        asks = subst R (sym e) (subst Q (sym (at_set xs name i x h kept)) (subst P (sym (at_found xs name i y h at)) asks));
+        others = λ other d. at_set_other xs name other i x h kept (λ k. d (k ∙ ap method_of (sym e)));
+      }
+
+  pub is_spent_at : {A E : Type 0} (xs : List B) (name : List ℕ) (i : ℕ) (x y : B) (r : Result A E) (fault : E) → FirstAt (named name) xs i → y ≡ get_or xs i y → method x ≡ method y
+      → (r ≡ Err fault → IsSpent (bench x)) × (IsSpent (bench x) → r ≡ Err fault)
+      → (r ≡ Err fault → IsSpent (bench_at method bench (set xs i x) name)) × (IsSpent (bench_at method bench (set xs i x) name) → r ≡ Err fault)
+  is_spent_at {A} {E} xs name i x y r fault h at same both =
+      let P : Bench → Type 0 = λ b. (r ≡ Err fault → IsSpent b) × (IsSpent b → r ≡ Err fault) in subst P (sym (at_set xs name i x h (same ∙ method_at xs name i y h at))) both
+
+  -- a question about a method that never had an authority
+  pub is_no_call : (xs : List B) (did : List ℕ) (question : Question) → NonePasses (named (method_of did)) xs → IsCall (call_of did question false) (bench_at method bench xs) (bench_at method bench xs)
+  is_no_call xs did question h =
+      let call : Call = call_of did question false in
+      let P : Bench → Type 0 = λ b. Asks call b b in
+      let R : List ℕ → Type 0 = λ d. P (bench_at method bench xs (method_of d)) in
+      record {
+        asks = subst R (sym (called did question (Ok false))) (subst P (sym (at_missed xs (method_of did) h)) (empty (λ (s : Seat). s.value) (λ (s : Seat). s.faults) never [] 0 did question (goes_nowhere (λ (s : Seat). s.value) (λ (s : Seat). s.faults) [] 0 (omega arith)) refl));
+        others = λ other d. refl;
+      }
+
+  pub never_spent : (xs : List B) (name : List ℕ) → NonePasses (named name) xs → IsSpent (bench_at method bench xs name) → ⊥
+  never_spent xs name h spent = let P : Bench → Type 0 = λ b. IsSpent b in let none : IsSpent never = subst P (at_missed xs name h) spent in omega (arith, none.had)

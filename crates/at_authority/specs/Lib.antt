@@ -1,0 +1,9 @@
+pub mod Queries
+pub mod Answers
+pub mod Tables
+pub mod Standing
+pub mod InMemory
+pub mod Panels
+pub mod Calls
+pub mod Asking
+pub mod Trusting
