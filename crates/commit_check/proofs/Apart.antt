@@ -1,7 +1,7 @@
 -- Different paths make different keys.
-use Rattle.std.proofs.Common.{◌≡◌, ◌≢◌, ℕ, Bool, true, false, not, None, List, [], ◌∷◌, map, refl, sym, ap, subst, ◌∙◌}
+use Rattle.std.proofs.Common.{◌≡◌, ◌≢◌, ℕ, true, not, None, List, [], ◌∷◌, map, sym, ap, subst, ◌∙◌}
 use Rattle.std.specs.Str.{bytes_eq}
-use Rattle.std.proofs.lemmas.Bool.{and_parts, false≢true}
+use Rattle.std.proofs.lemmas.Bool.{and_parts, false≢true, not-false}
 use Rattle.std.proofs.lemmas.Slice.Eq.{bytes_eq-Decides}
 use Rattle.at_cid.specs.Distinct.{all_differ, is_absent}
 use Rattle.at_event.specs.declared.event.CommitEvent.{CommitEvent}
@@ -30,11 +30,7 @@ apart (op ∷ ops) h =
     let both = and_parts (is_absent bytes_eq op.path (paths_of ops)) (all_differ bytes_eq (paths_of ops)) h in
     (new_to op.path ops both.0, apart ops both.1)
 
-not_not : (b : Bool) → not b ≡ false → b ≡ true
-not_not true h = refl
-not_not false h = absurd (cc)
-
 pub apart_shown : (e : CommitEvent) (ops : List Op) → first_of (field_lines e) ≡ None → ops ≡ map edit_of e.ops → AreApart ops
 apart_shown e ops h is =
     let all = all_unmet (field_lines e) h in
-    subst AreApart (sym is) (apart e.ops (not_not (all_differ bytes_eq (paths_of e.ops)) all.1.1.1.1.0))
+    subst AreApart (sym is) (apart e.ops (not-false (all_differ bytes_eq (paths_of e.ops)) all.1.1.1.1.0))

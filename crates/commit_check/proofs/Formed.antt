@@ -1,7 +1,7 @@
 -- The edits of an event to whose fields no refusal applies.
-use Rattle.std.proofs.Common.{◌≡◌, Bool, true, false, not, ◌||◌, List, [], ◌∷◌, map, None, refl}
+use Rattle.std.proofs.Common.{◌≡◌, Bool, true, false, ◌||◌, List, [], ◌∷◌, map, None, refl}
 use Rattle.std.specs.List.{list_all, list_any}
-use Rattle.std.proofs.lemmas.Bool.{and_parts}
+use Rattle.std.proofs.lemmas.Bool.{and_parts, not-false}
 use Rattle.at_event.specs.declared.event.CommitEvent.{CommitEvent}
 use Rattle.at_event.specs.declared.ops.EventOp.{EventOp}
 use Rattle.event_checks.specs.Lines.{first_of}
@@ -17,10 +17,6 @@ or_parts : (a b : Bool) → a || b ≡ false → (a ≡ false) × (b ≡ false)
 or_parts true b h = absurd (cc)
 or_parts false b h = (refl, h)
 
-not_not : (b : Bool) → not b ≡ false → b ≡ true
-not_not true h = refl
-not_not false h = absurd (cc)
-
 formed : (ops : List EventOp) → AreReadOps ops → list_all has_path ops ≡ true → list_all is_op ops ≡ true → list_any lacks_prev ops ≡ false → AreFormedOps (map edit_of ops)
 formed [] read paths links prevs = tt
 formed (op ∷ ops) read paths links prevs =
@@ -32,4 +28,4 @@ formed (op ∷ ops) read paths links prevs =
 pub edits_formed : (e : CommitEvent) → AreReadOps e.ops → first_of (field_lines e) ≡ None → list_any lacks_prev e.ops ≡ false → AreFormedOps (edits_of e) × AreApart (edits_of e)
 edits_formed e read shown prevs =
     let all = all_unmet (field_lines e) shown in
-    (formed e.ops read (not_not (list_all has_path e.ops) all.1.1.1.0) (not_not (list_all is_op e.ops) all.1.1.1.1.1.0) prevs, apart_shown e (edits_of e) shown refl)
+    (formed e.ops read (not-false (list_all has_path e.ops) all.1.1.1.0) (not-false (list_all is_op e.ops) all.1.1.1.1.1.0) prevs, apart_shown e (edits_of e) shown refl)

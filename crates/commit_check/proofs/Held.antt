@@ -1,5 +1,6 @@
 -- What an event holds whose message shows no refusal: a CAR in which each block stands under a link of it, and a commit object.
-use Rattle.std.proofs.Common.{◌≡◌, ℕ, zero, suc, ◌+◌, List, [], ◌∷◌, ◌++◌, length, Bool, true, false, not, is_some, Option, Some, None, Ok, Err, refl, sym, ap, subst, ◌∙◌, lit<}
+use Rattle.std.proofs.Common.{◌≡◌, ℕ, zero, suc, ◌+◌, List, [], ◌∷◌, ◌++◌, length, true, is_some, Option, Some, None, Ok, Err, refl, sym, ap, subst, ◌∙◌, lit<}
+use Rattle.std.proofs.lemmas.Bool.{not-false}
 use Rattle.std.specs.FinMap.{from_entries}
 use Rattle.at_cid.specs.Link.{IsBytes}
 use Rattle.at_car.specs.Blocks.{AreLinked, BlockMap, IsLinkOf}
@@ -43,10 +44,6 @@ car_linked bytes roots blocks h e =
     let all : IsBytes (header_bytes car.0 ++ sections_bytes car.1) = subst IsBytes car.2.spelled h in
     subst AreLinked (sym car.3) (sections_linked car.1 car.2.sections_form (bytes_right (header_bytes car.0) (sections_bytes car.1) all))
 
-not_not : (b : Bool) → not b ≡ false → b ≡ true
-not_not true h = refl
-not_not false h = absurd (cc)
-
 held_in : (e : CommitEvent) (car : CarResult) → car_in e ≡ car → is_some (object_in car) ≡ true → Holds e
 held_in e (Err fault) is h = absurd (cc)
 held_in e (Ok car) is h = go (object_in (Ok car)) refl h
@@ -59,7 +56,7 @@ held_in e (Ok car) is h = go (object_in (Ok car)) refl h
 pub shown_held : (e : CommitEvent) (last : Option ℕ) → first_of (open_lines e last) ≡ None → Holds e
 shown_held e last h =
     let all = all_unmet (open_lines e last) h in
-    held_in e (car_in e) refl (not_not (is_some (object_in (car_in e))) all.1.1.1.1.1.1.1.1.1.1.1.0)
+    held_in e (car_in e) refl (not-false (is_some (object_in (car_in e))) all.1.1.1.1.1.1.1.1.1.1.1.0)
 
 -- they are told by the event
 

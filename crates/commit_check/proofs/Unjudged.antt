@@ -1,5 +1,5 @@
 -- A check of one commit shows no refusal that is a judge's, and follows no lost account.
-use Rattle.std.proofs.Common.{◌≡◌, ◌≢◌, ℕ, List, [], ◌∷◌, false, Some, refl, sym}
+use Rattle.std.proofs.Common.{◌≡◌, ◌≢◌, ℕ, List, [], ◌∷◌, Bool, true, false, Option, Some, inl, inr, refl, sym, ap}
 use Rattle.std.proofs.lemmas.Bool.{false≢true}
 use Rattle.at_car.specs.Blocks.{BlockMap}
 use Rattle.at_event.specs.declared.event.CommitEvent.{CommitEvent}
@@ -10,10 +10,11 @@ use Rattle.commit_check.specs.declared.fault.CheckFault.{CheckFault}
 use Rattle.commit_check.specs.Linking.{IsStopBy}
 use Rattle.commit_check.specs.Refusing.{IsShown, IsUnjudged}
 use Rattle.event_checks.specs.Lines.{is_judged}
-use Rattle.commit_check.specs.Step.{StopsAt, is_gap}
+use Rattle.commit_check.specs.Step.{StopsAt, edits_of, is_gap}
+use Rattle.commit_check.specs.Order.{IsFirstRefusal, StopsPast}
 use Rattle.event_checks.specs.Lines.{first_of}
 use Rattle.event_checks.proofs.Firsts.{first_unjudged}
-use Rattle.event_checks.specs.Table.{block_lines, field_lines}
+use Rattle.event_checks.specs.Table.{block_lines, field_lines, open_lines}
 
 pub field_unjudged : (e : CommitEvent) (refusal : Refusal) → Some refusal ≡ first_of (field_lines e) → is_judged refusal ≡ false
 field_unjudged e refusal e_is = first_unjudged (field_lines e) refusal (refl, (refl, (refl, (refl, (refl, (refl, tt)))))) (sym e_is)
@@ -43,3 +44,11 @@ known_account e (Expect.After head) no_gap = λ same. absurd (cc)
 known_account e Expect.Lost no_gap = λ same. false≢true (sym no_gap)
 
 pub ruleset by_gap = (stopped_unjudged, known_account)
+
+past_unjudged : (gap : Bool) (e : CommitEvent) (blocks : BlockMap) (former later : List ℕ) (refusal : Refusal) → StopsPast gap e blocks former later refusal → is_judged refusal ≡ false
+past_unjudged true e blocks former later refusal stops = ap is_judged stops
+past_unjudged false e blocks former later refusal stops = stop_unjudged (edits_of e) blocks former later refusal stops
+
+pub first_refusal_unjudged : (e : CommitEvent) (last : Option ℕ) (gap : Bool) (former : List ℕ) (refusal : Refusal) → IsFirstRefusal e last gap former refusal → is_judged refusal ≡ false
+first_refusal_unjudged e last gap former refusal (inl first) = first_unjudged (open_lines e last) refusal (refl, (refl, (refl, (refl, (refl, (refl, (refl, (refl, (refl, (refl, (refl, (refl, (refl, tt))))))))))))) first
+first_refusal_unjudged e last gap former refusal (inr stopped) = past_unjudged gap e stopped.holds.blocks former stopped.holds.commit.data_root refusal stopped.stops

@@ -6,7 +6,7 @@ use Rattle.at_car.specs.Blocks.{BlockMap}
 use Rattle.at_event.specs.declared.event.CommitEvent.{CommitEvent}
 use Rattle.at_event.specs.declared.ops.EventOp.{EventOp}
 use Rattle.at_event.specs.declared.refusal.Refusal.{Refusal}
-use Rattle.event_checks.specs.Lines.{first_of}
+use Rattle.event_checks.specs.Lines.{first_of, is_judged}
 use Rattle.event_checks.specs.Table.{field_lines}
 use Rattle.mst_list.specs.declared.op.Op.{Op}
 use Rattle.mst_list.specs.Edits.{AreApart, AreFormedOps}
@@ -40,6 +40,10 @@ LinksAreDecided = (gap : Bool) (e : CommitEvent) (blocks : BlockMap) (former lat
 -- No refusal applies to an event, or exactly one is the first.
 abbrev pub CommitsAreDecided : Type 0
 CommitsAreDecided = (e : CommitEvent) (last : Option ℕ) (gap : Bool) (former : List ℕ) → IsBytes e.blocks → IsDecided (IsPassed e last gap former) (IsFirstRefusal e last gap former)
+
+-- No refusal that applies to an event is a judge's.
+abbrev pub RefusalsAreUnjudged : Type 0
+RefusalsAreUnjudged = (e : CommitEvent) (last : Option ℕ) (gap : Bool) (former : List ℕ) (refusal : Refusal) → IsFirstRefusal e last gap former refusal → is_judged refusal ≡ false
 
 -- an operation as it is read: its path is bytes, and its links are links
 pub record IsReadOp (op : EventOp) : Type 0 where

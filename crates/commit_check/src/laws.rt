@@ -1,6 +1,6 @@
 //! Laws of commits, each the contract of a function that does nothing.
 
-ghost use Rattle.commit_check.specs.Laws.{CommitsAreDecided, CoveredLeads, EditsAreFormed, LeadingReplays, LinksAreDecided, StepsAreDecided};
+ghost use Rattle.commit_check.specs.Laws.{CommitsAreDecided, CoveredLeads, EditsAreFormed, LeadingReplays, LinksAreDecided, RefusalsAreUnjudged, StepsAreDecided};
 
 /// What leads from root to root replays on every map with the former root, and gives one with the later root, unless
 /// different blocks share a digest.
@@ -26,6 +26,11 @@ pub fn links_are_decided()
 /// No refusal applies to an event, or exactly one is the first.
 pub fn commits_are_decided()
     ensures { CommitsAreDecided }
+{}
+
+/// No refusal that applies to an event is one that judges alone show.
+pub fn refusals_are_unjudged()
+    ensures { RefusalsAreUnjudged }
 {}
 
 /// The edits of an event to whose fields no refusal applies are well formed and on different keys.

@@ -20,7 +20,7 @@ pub use expect::Expect;
 pub use fault::CheckFault;
 pub use laws::{
     commits_are_decided, covered_leads, edits_are_formed, leading_replays, links_are_decided,
-    steps_are_decided,
+    refusals_are_unjudged, steps_are_decided,
 };
 pub use linking::link;
 pub use opened::Opened;

@@ -1,17 +1,21 @@
 -- What a refused check says of the verdict.
-use Rattle.std.proofs.Common.{◌≡◌, ℕ, List, Some, Result, Err, refl, subst}
+use Rattle.std.proofs.Common.{◌≡◌, ℕ, List, Result, Err, Ok, refl, subst}
 use Rattle.at_cid.specs.Memory.{Fails}
 use Rattle.at_event.specs.declared.event.CommitEvent.{CommitEvent}
 use Rattle.at_event.specs.declared.refusal.Refusal.{Refusal}
 use Rattle.commit_check.specs.declared.checked.Checked.{Checked}
 use Rattle.commit_check.specs.declared.fault.CheckFault.{CheckFault}
 use Rattle.commit_check.specs.Checking.{IsAccepted, IsCovered, IsRefused, IsRefusedWith}
-use Rattle.commit_check.specs.Refusing.{IsMemory, refusal_of}
+use Rattle.commit_check.specs.Refusing.{IsMemory, RefusesWith, refusal_of}
 use Rattle.relay_cli.specs.declared.verdict.Verdict.{Verdict}
 use Rattle.relay_cli.specs.Verdicts.{JudgesCommit}
 
 told_once : (one other : Refusal) (a b : Result Checked Refusal) → a ≡ Err one → b ≡ Err other → a ≡ b → one ≡ other
 told_once one other a b a_is b_is same = cc
+
+-- what is accepted is refused with nothing
+pub accepts_alone : (refusal : Refusal) (checked : Checked) → RefusesWith refusal (Ok checked) → ⊥
+accepts_alone refusal checked told = absurd (cc)
 
 pub judged : (e : CommitEvent) (fault : CheckFault) (refusal : Refusal) → fault ≡ CheckFault.Refused refusal → IsRefused e fault → ((other : Refusal) → IsRefusedWith e other → Fails {Y = Checked} (refusal_of fault) (Err other)) → ((from to : List ℕ) → IsAccepted e from to → IsMemory fault) → (IsCovered e → IsMemory fault)
     → JudgesCommit e (Verdict.Refused refusal)
