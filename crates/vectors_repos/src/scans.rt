@@ -37,10 +37,17 @@ fn first_of(kept: &Kept) -> Option<&[u8]> {
 
 // Whether what is kept is that of a CAR.
 fn is_of(alloc: Global, kept: &Kept, car: &Car) -> bool {
-    let first = car.roots.as_slice().first().and_then(|root| car.blocks.get(root));
+    let first = car
+        .roots
+        .as_slice()
+        .first()
+        .and_then(|root| car.blocks.get(root));
     kept.roots.as_slice() == car.roots.as_slice()
         && first_of(kept) == first
-        && car.blocks.iter().all(|(link, block)| is_kept(alloc, kept, link, block))
+        && car
+            .blocks
+            .iter()
+            .all(|(link, block)| is_kept(alloc, kept, link, block))
         && kept.nodes.len().saturating_add(kept.others.len()) == car.blocks.len()
 }
 

@@ -32,7 +32,9 @@ impl Subject for Syncs {
     fn answer(&self, alloc: Global, input: &str) -> Result<String> {
         let (name, rest) = input.split_once(" ; ").context("a DID")?;
         let (revision, rest) = rest.split_once(" ; ").context("a revision")?;
-        let (last, blocks) = rest.split_once(" ; ").context("a last revision and blocks")?;
+        let (last, blocks) = rest
+            .split_once(" ; ")
+            .context("a last revision and blocks")?;
         let last = rev_or_none(last)?;
         answer(alloc, &event(alloc, name, revision, blocks)?, last)
     }

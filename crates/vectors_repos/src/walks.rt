@@ -68,7 +68,10 @@ impl Subject for Walks {
         }
         let text = text_of(alloc, &walk(alloc, &blocks, &root))?;
         let kept = kept_text(alloc, &blocks, &root)?;
-        ensure!(text.as_str() == kept.as_str(), "the same over what is kept: {kept}");
+        ensure!(
+            text.as_str() == kept.as_str(),
+            "the same over what is kept: {kept}"
+        );
         Ok(text)
     }
 }

@@ -45,7 +45,10 @@ fn add_head(text: &mut String, found: &Found) -> Result<()> {
 
 /// What was found.
 pub fn found_text(alloc: Global, found: &Found) -> Result<String> {
-    ensure!(found.head.commit.is_of(found.block.as_slice()), "the block of the commit");
+    ensure!(
+        found.head.commit.is_of(found.block.as_slice()),
+        "the block of the commit"
+    );
     let mut text = format!(in alloc; "found {}", found.records)?;
     add_head(&mut text, found)?;
     text.push_str(" digest ")?;
