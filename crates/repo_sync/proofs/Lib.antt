@@ -2,3 +2,5 @@ pub mod Judged
 pub mod OneAnswer
 pub mod Pieces
 pub mod Synced
+pub mod Linked
+pub mod SomeAnswer

@@ -14,7 +14,7 @@ mod syncing;
 pub use event_checks::OpenFault;
 pub use fault::RepoFault;
 pub use found::Found;
-pub use laws::one_answer;
+pub use laws::{one_answer, some_answer};
 pub use limits::MOST_REPOSITORY_BYTES;
 pub use repository::check_repo;
 pub use syncing::check_sync;
