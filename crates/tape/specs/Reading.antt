@@ -1,5 +1,5 @@
 -- What a reader of a tape answers.
-use Rattle.std.specs.Prelude.{◌≡◌, ◌≢◌, ◌<◌, ◌+◌, ℕ, List, [], ◌++◌, length, Option, Some, None, Result, Ok, Err}
+use Rattle.std.specs.Prelude.{◌≡◌, ◌<◌, ◌+◌, ℕ, List, [], ◌++◌, length, Option, Some, None, Result, Ok, Err}
 use Rattle.tape.specs.declared.record.Record.{Record}
 use Rattle.tape.specs.declared.fault.TapeFault.{TapeFault}
 use Rattle.tape.specs.declared.tape.Tape.{Tape}
@@ -48,17 +48,3 @@ IsPlaced old new (Err (TapeFault.TooLong place)) = (place ≡ old) × (new ≡ o
 IsPlaced old new (Err TapeFault.Failed) = new ≡ old
 IsPlaced old new (Err TapeFault.Budget) = new ≡ old
 IsPlaced old new (Err TapeFault.Memory) = new ≡ old
-
--- what is answered where the source has ended; no other file cites this
-abbrev pub IsEnd : Tape → Result (Option Record) TapeFault → Type 0
-IsEnd tape (Ok (Some r)) = ⊥
-IsEnd tape (Ok None) = held tape ≡ []
-IsEnd tape (Err (TapeFault.Torn place)) = (place ≡ tape.place) × (held tape ≢ [])
-IsEnd tape (Err fault) = ⊥
-
--- a fault that comes of a call outside; no other file cites this
-abbrev pub IsOutside : TapeFault → Type 0
-IsOutside TapeFault.Failed = Unit {0}
-IsOutside TapeFault.Budget = Unit {0}
-IsOutside TapeFault.Memory = Unit {0}
-IsOutside fault = ⊥
