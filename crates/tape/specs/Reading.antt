@@ -48,3 +48,18 @@ IsPlaced old new (Err (TapeFault.TooLong place)) = (place ≡ old) × (new ≡ o
 IsPlaced old new (Err TapeFault.Failed) = new ≡ old
 IsPlaced old new (Err TapeFault.Budget) = new ≡ old
 IsPlaced old new (Err TapeFault.Memory) = new ≡ old
+
+-- a call may answer this: some reader and some source behind it
+pub record MayAnswer (old : Tape) (before : List ℕ) (answer : Result (Option Record) TapeFault) : Type 0 where
+  pub new : Tape
+  pub after : List ℕ
+  pub next : IsNext old before new after answer
+  pub placed : IsPlaced old.place new.place answer
+  pub most : new.most ≡ old.most
+
+-- no failed read and no want of memory
+abbrev pub IsTold : Result (Option Record) TapeFault → Type 0
+IsTold (Ok answer) = Unit {0}
+IsTold (Err TapeFault.Failed) = ⊥
+IsTold (Err TapeFault.Memory) = ⊥
+IsTold (Err fault) = Unit {0}
