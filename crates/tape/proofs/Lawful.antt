@@ -21,10 +21,10 @@ more_sized name size rest more = more_named name (sized size rest) more ∙ ap (
 more_record : (bytes host message rest more : List ℕ) → Shows bytes (found host message rest) → Shows (bytes ++ more) (found host message (rest ++ more))
 more_record bytes host message rest more h = (h.0, ap (λ (l : List ℕ). l ++ more) h.1 ∙ append_assoc (record_bytes host message) rest more)
 
-more_bad : (bytes more : List ℕ) → HasBadName bytes → HasBadName (bytes ++ more)
+pub more_bad : (bytes more : List ℕ) → HasBadName bytes → HasBadName (bytes ++ more)
 more_bad bytes more h = record { name = h.name; rest = h.rest ++ more; is = ap (λ (l : List ℕ). l ++ more) h.is ∙ more_named h.name h.rest more; no_host = h.no_host }
 
-more_long : (bytes more : List ℕ) → HasLongMessage bytes → HasLongMessage (bytes ++ more)
+pub more_long : (bytes more : List ℕ) → HasLongMessage bytes → HasLongMessage (bytes ++ more)
 more_long bytes more h = record {
   name = h.name;
   size = h.size;

@@ -3,3 +3,4 @@ pub mod Windows
 pub mod Fronts
 pub mod Lawful
 pub mod Nexts
+pub mod OneAnswer

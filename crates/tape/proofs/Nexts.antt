@@ -5,7 +5,8 @@ use Rattle.tape.specs.declared.record.Record.{Record}
 use Rattle.tape.specs.declared.fault.TapeFault.{TapeFault}
 use Rattle.tape.specs.declared.tape.Tape.{Tape}
 use Rattle.tape.specs.Shown.{cut, Shows, NeedsMore}
-use Rattle.tape.specs.Reading.{held, coming, IsNext, IsEnd, IsOutside}
+use Rattle.tape.specs.Reading.{held, coming, IsNext}
+use Rattle.tape.specs.Steps.{IsEnd, HasNoPiece}
 
 -- two fronts of one length are the same
 same_front : (a b x y : List ℕ) → length a ≡ length b → a ++ x ≡ b ++ y → a ≡ b
@@ -23,7 +24,7 @@ err fault = Err fault
 
 -- the reader at the start, with what was left then; before it takes a piece; and behind that
 module _ (old now new : Tape) (before between after : List ℕ) (before_is : coming now between ≡ coming old before) (stays : coming new after ≡ coming now between) (needs : NeedsMore (held now)) (place : new.place ≡ now.place) (most : new.most ≡ now.most) where
-  pub no_piece : held new ≡ held now → (fault : TapeFault) → IsOutside fault → (err fault ≡ err TapeFault.Budget → now.place + length (held now) ≡ now.most) → IsNext old before new after (Err fault)
+  pub no_piece : held new ≡ held now → (fault : TapeFault) → HasNoPiece fault → (err fault ≡ err TapeFault.Budget → now.place + length (held now) ≡ now.most) → IsNext old before new after (Err fault)
   no_piece same TapeFault.Failed h spent = (needs_same (held now) (held new) (sym same) needs, stays ∙ before_is)
   no_piece same TapeFault.Memory h spent = stays ∙ before_is
   no_piece same TapeFault.Budget h spent =

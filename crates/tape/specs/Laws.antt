@@ -1,8 +1,12 @@
 -- The laws of tapes.
-use Rattle.std.specs.Prelude.{◌≡◌, ◌≢◌, List, ℕ, [], ◌++◌}
+use Rattle.std.specs.Prelude.{Option, Result, ◌≡◌, ◌≢◌, List, ℕ, [], ◌++◌}
 use Rattle.at_cid.specs.Link.{IsBytes}
+use Rattle.tape.specs.declared.record.Record.{Record}
+use Rattle.tape.specs.declared.fault.TapeFault.{TapeFault}
+use Rattle.tape.specs.declared.tape.Tape.{Tape}
 use Rattle.tape.specs.Format.{record_bytes, IsRecord}
 use Rattle.tape.specs.Shown.{Shown, found, bad_name, too_long, cut, Shows}
+use Rattle.tape.specs.Reading.{MayAnswer, IsTold}
 
 -- bytes show one thing at their front
 abbrev pub OneThingIsShown : Type 0
@@ -17,3 +21,7 @@ pub record MoreBytesShowTheSame : Type 0 where
 -- a record that lacks bytes at its end, but isn't empty, is cut
 abbrev pub CutRecordsAreCut : Type 0
 CutRecordsAreCut = (host message front more : List ℕ) → IsRecord host message → IsBytes front → front ++ more ≡ record_bytes host message → front ≢ [] → more ≢ [] → Shows front cut
+
+-- the input and the limit tell the answer, unless a read failed or memory was wanted
+abbrev pub OneAnswer : Type 0
+OneAnswer = (old : Tape) (before : List ℕ) (a b : Result (Option Record) TapeFault) → MayAnswer old before a → MayAnswer old before b → IsTold a → IsTold b → a ≡ b

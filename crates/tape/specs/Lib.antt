@@ -4,3 +4,4 @@ pub mod Laws
 pub mod Window
 pub mod Front
 pub mod Reading
+pub mod Steps

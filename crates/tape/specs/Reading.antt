@@ -1,5 +1,5 @@
 -- What a reader of a tape answers.
-use Rattle.std.specs.Prelude.{◌≡◌, ◌≢◌, ◌<◌, ◌+◌, ℕ, List, [], ◌++◌, length, Option, Some, None, Result, Ok, Err}
+use Rattle.std.specs.Prelude.{◌≡◌, ◌<◌, ◌+◌, ℕ, List, [], ◌++◌, length, Option, Some, None, Result, Ok, Err}
 use Rattle.tape.specs.declared.record.Record.{Record}
 use Rattle.tape.specs.declared.fault.TapeFault.{TapeFault}
 use Rattle.tape.specs.declared.tape.Tape.{Tape}
@@ -49,16 +49,17 @@ IsPlaced old new (Err TapeFault.Failed) = new ≡ old
 IsPlaced old new (Err TapeFault.Budget) = new ≡ old
 IsPlaced old new (Err TapeFault.Memory) = new ≡ old
 
--- what is answered where the source has ended; no other file cites this
-abbrev pub IsEnd : Tape → Result (Option Record) TapeFault → Type 0
-IsEnd tape (Ok (Some r)) = ⊥
-IsEnd tape (Ok None) = held tape ≡ []
-IsEnd tape (Err (TapeFault.Torn place)) = (place ≡ tape.place) × (held tape ≢ [])
-IsEnd tape (Err fault) = ⊥
+-- a call may answer this: some reader and some source behind it
+pub record MayAnswer (old : Tape) (before : List ℕ) (answer : Result (Option Record) TapeFault) : Type 0 where
+  pub new : Tape
+  pub after : List ℕ
+  pub next : IsNext old before new after answer
+  pub placed : IsPlaced old.place new.place answer
+  pub most : new.most ≡ old.most
 
--- a fault that comes of a call outside; no other file cites this
-abbrev pub IsOutside : TapeFault → Type 0
-IsOutside TapeFault.Failed = Unit {0}
-IsOutside TapeFault.Budget = Unit {0}
-IsOutside TapeFault.Memory = Unit {0}
-IsOutside fault = ⊥
+-- no failed read and no want of memory
+abbrev pub IsTold : Result (Option Record) TapeFault → Type 0
+IsTold (Ok answer) = Unit {0}
+IsTold (Err TapeFault.Failed) = ⊥
+IsTold (Err TapeFault.Memory) = ⊥
+IsTold (Err fault) = Unit {0}

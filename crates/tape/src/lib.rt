@@ -10,6 +10,6 @@ mod tape;
 mod window;
 
 pub use fault::TapeFault;
-pub use laws::{cut_records_are_cut, more_bytes_show_the_same, one_thing_is_shown};
+pub use laws::{cut_records_are_cut, more_bytes_show_the_same, one_answer, one_thing_is_shown};
 pub use record::{LONGEST_RECORD, Record};
 pub use tape::Tape;

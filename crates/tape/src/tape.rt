@@ -28,7 +28,8 @@ pub struct Tape {
 }
 
 impl Tape {
-    ghost use Rattle.tape.specs.Reading.{held, coming, IsNext, IsPlaced, IsEnd, IsOutside};
+    ghost use Rattle.tape.specs.Reading.{held, coming, IsNext, IsPlaced};
+    ghost use Rattle.tape.specs.Steps.{IsEnd, HasNoPiece};
 
     /// A reader at the front of a tape, which will take at most `most` bytes. Takes no memory.
     pub fn new(alloc: Global, most: u64) -> Tape
@@ -103,7 +104,7 @@ impl Tape {
         ensures end { IfOk result (λ n. IsTrue I.tells → n ≡ 0 → I.left source.new ≡ []) }
         ensures before { OnOk result (self.old.place + length (held self.old) < self.old.most) }
         ensures spent { IsErrOf result TapeFault.Budget → self.old.place + length (held self.old) ≡ self.old.most }
-        ensures cause { IfErr result IsOutside }
+        ensures cause { IfErr result HasNoPiece }
         ensures place { self.new.place ≡ self.old.place }
         ensures most { self.new.most ≡ self.old.most }
         ensures counts { I.faults source.old ≤ I.faults source.new }
