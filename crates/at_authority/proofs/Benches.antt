@@ -1,5 +1,5 @@
 -- Asking a bench: those in front fall one by one, until one answers.
-use Rattle.std.proofs.Common.{◌≡◌, ◌≢◌, ◌⊎◌, inl, inr, ⊎_elim, ℕ, ◌+◌, ◌-◌, ◌<◌, ◌≤◌, Bool, false, List, [], ◌∷◌, length, drop, map, get_or, zero, suc, Option, refl, sym, ap, ◌∙◌, subst, arith, get_or-set_other, get_or-set_same}
+use Rattle.std.proofs.Common.{◌≡◌, ◌≢◌, ◌⊎◌, inl, inr, ⊎_elim, ℕ, ◌+◌, ◌-◌, ◌<◌, ◌≤◌, Bool, false, List, [], ◌∷◌, ◌++◌, length, drop, map, get_or, zero, suc, Option, refl, sym, ap, ◌∙◌, subst, arith, get_or-set_other, get_or-set_same}
 use Rattle.std.proofs.Math.ListN.{set, length-set}
 use Rattle.std.proofs.lemmas.List.{length-map, drop_all, length-drop}
 use Rattle.std.specs.Prelude.{Result, Err}
@@ -195,3 +195,14 @@ module _ {A : Type 0} (tells : A → Option Telling) (faults : A → ℕ) where
   -- how many live
   pub length-living : (xs : List A) (n : ℕ) → length (living (bench xs n)) ≡ length xs - n
   length-living xs n = omega (arith, length-drop n (values (bench xs n)), wide xs n)
+
+  -- one more sits down
+  pub seats_added : (xs ys : List A) (a : A) → ys ≡ xs ++ a ∷ [] → map seat ys ≡ map seat xs ++ seat a ∷ []
+  seats_added xs ys a e = ap (map seat) e ∙ go xs
+    where
+      go : (xs : List A) → map seat (xs ++ a ∷ []) ≡ map seat xs ++ seat a ∷ []
+      go [] = refl
+      go (x ∷ xs) = ap (λ l. seat x ∷ l) (go xs)
+
+  pub same_bench : (xs ys : List A) (n m : ℕ) → xs ≡ ys → n ≡ m → bench xs n ≡ bench ys m
+  same_bench xs ys n m e f = ap (λ l. bench l n) e ∙ ap (bench ys) f

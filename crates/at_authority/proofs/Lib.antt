@@ -3,3 +3,6 @@ pub mod Standings
 pub mod Parsing
 pub mod Benches
 pub mod Methods
+pub mod Runs
+pub mod Unique
+pub mod Refreshing

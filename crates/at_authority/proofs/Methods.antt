@@ -4,7 +4,7 @@ use Rattle.std.specs.Str.{bytes_eq}
 use Rattle.std.proofs.Math.ListN.{set}
 use Rattle.std.proofs.lemmas.Bool.{false_from_ne_true}
 use Rattle.std.proofs.lemmas.Slice.Eq.{bytes_eq-Decides}
-use Rattle.std.specs.Prelude.{Result, Ok, Err}
+use Rattle.std.specs.Prelude.{Result, Ok, Err, OnOk, OnErr}
 use Rattle.at_syntax.specs.Did.{method_of}
 use Rattle.at_authority.specs.declared.judges.JudgeFault.{JudgeFault}
 use Rattle.at_authority.specs.declared.question.Question.{Question}
@@ -118,3 +118,42 @@ module _ {B : Type 0} (method : B → List ℕ) (bench : B → Bench) where
 
   pub never_spent : (xs : List B) (name : List ℕ) → NonePasses (named name) xs → IsSpent (bench_at method bench xs name) → ⊥
   never_spent xs name h spent = let P : Bench → Type 0 = λ b. IsSpent b in let none : IsSpent never = subst P (at_missed xs name h) spent in omega (arith, none.had)
+
+  -- an authority was added to a bench
+  pub added_at : (xs : List B) (name : List ℕ) (i : ℕ) (x y : B) (s : Seat) → FirstAt (named name) xs i → y ≡ get_or xs i y → method x ≡ method y → (bench x).seats ≡ (bench y).seats ++ s ∷ []
+      → (bench_at method bench (set xs i x) name).seats ≡ (bench_at method bench xs name).seats ++ s ∷ []
+  added_at xs name i x y s h at same e =
+      ap (λ (b : Bench). b.seats) (at_set xs name i x h (same ∙ method_at xs name i y h at)) ∙ e ∙ ap (λ (b : Bench). b.seats ++ s ∷ []) (sym (at_found xs name i y h at))
+
+  pub fallen_at : (xs : List B) (name : List ℕ) (i : ℕ) (x y : B) → FirstAt (named name) xs i → y ≡ get_or xs i y → method x ≡ method y → (bench x).fallen ≡ (bench y).fallen
+      → (bench_at method bench (set xs i x) name).fallen ≡ (bench_at method bench xs name).fallen
+  fallen_at xs name i x y h at same e = ap (λ (b : Bench). b.fallen) (at_set xs name i x h (same ∙ method_at xs name i y h at)) ∙ e ∙ ap (λ (b : Bench). b.fallen) (sym (at_found xs name i y h at))
+
+  pub others_at : (xs : List B) (name : List ℕ) (i : ℕ) (x y : B) → FirstAt (named name) xs i → y ≡ get_or xs i y → method x ≡ method y → (other : List ℕ) → other ≢ name → bench_at method bench (set xs i x) other ≡ bench_at method bench xs other
+  others_at xs name i x y h at same other d = at_set_other xs name other i x h (same ∙ method_at xs name i y h at) d
+
+  pub kept_at : (xs : List B) (i : ℕ) (x y : B) → y ≡ get_or xs i y → method x ≡ method y → bench x ≡ bench y → (other : List ℕ) → bench_at method bench (set xs i x) other ≡ bench_at method bench xs other
+  kept_at [] i x y at same e other = refl
+  kept_at (z ∷ xs) zero x y at same e other = ap (λ (m : List ℕ). cond (bytes_eq m other) (bench x) (bench_at method bench xs other)) (same ∙ ap method at) ∙ ap (λ (b : Bench). cond (bytes_eq (method z) other) b (bench_at method bench xs other)) (e ∙ ap bench at)
+  kept_at (z ∷ xs) (suc i) x y at same e other = ap (λ (b : Bench). cond (bytes_eq (method z) other) (bench z) b) (kept_at xs i x y at same e other)
+
+  -- a bench was added
+  pub added_new : (xs ys : List B) (name : List ℕ) (x : B) (s : Seat) → ys ≡ xs ++ x ∷ [] → NonePasses (named name) xs → method x ≡ name → (bench x).seats ≡ s ∷ [] → (bench_at method bench ys name).seats ≡ (bench_at method bench xs name).seats ++ s ∷ []
+  added_new xs ys name x s p h same e =
+      ap (λ (l : List B). (bench_at method bench l name).seats) p ∙ ap (λ (b : Bench). b.seats) (at_pushed xs name x h same) ∙ e ∙ ap (λ (b : Bench). b.seats ++ s ∷ []) (sym (at_missed xs name h))
+
+  pub fallen_new : (xs ys : List B) (name : List ℕ) (x : B) → ys ≡ xs ++ x ∷ [] → NonePasses (named name) xs → method x ≡ name → (bench x).fallen ≡ 0 → (bench_at method bench ys name).fallen ≡ (bench_at method bench xs name).fallen
+  fallen_new xs ys name x p h same e =
+      ap (λ (l : List B). (bench_at method bench l name).fallen) p ∙ ap (λ (b : Bench). b.fallen) (at_pushed xs name x h same) ∙ e ∙ ap (λ (b : Bench). b.fallen) (sym (at_missed xs name h))
+
+  pub others_new : (xs ys : List B) (name : List ℕ) (x : B) → ys ≡ xs ++ x ∷ [] → method x ≡ name → (other : List ℕ) → other ≢ name → bench_at method bench ys other ≡ bench_at method bench xs other
+  others_new xs ys name x p same other d = ap (λ (l : List B). bench_at method bench l other) p ∙ at_pushed_other xs name other x same d
+
+-- what follows from a clause for one answer
+pub on_ok : {A E P Q : Type 0} (r : Result A E) → (P → Q) → OnOk r P → OnOk r Q
+on_ok (Ok x) f h = f h
+on_ok (Err e) f h = h
+
+pub on_err : {A E P Q : Type 0} (r : Result A E) → (P → Q) → OnErr r P → OnErr r Q
+on_err (Ok x) f h = h
+on_err (Err e) f h = f h

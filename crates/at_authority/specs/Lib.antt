@@ -7,3 +7,5 @@ pub mod Panels
 pub mod Calls
 pub mod Asking
 pub mod Trusting
+pub mod Ranks
+pub mod Laws

@@ -4,6 +4,7 @@ ghost use Rattle.std.specs.Prelude.{◌≡◌, None, Some, IsSome, OnOk, IsErrOf
 ghost use Rattle.at_authority.specs.Answers.{CountsFailure};
 
 use crate::{Asked, Authority, Table, TableFault};
+use at_cid::Memory;
 use std::alloc::Global;
 use std::fs;
 use std::io::{self, ErrorKind, Read};
@@ -76,15 +77,15 @@ where
         }
     }
 
-    // The table, read where it wasn't yet.
-    fn table(&mut self) -> Result<&Table, Asked> {
-        if self.table.is_none() {
-            self.read()?;
+    // Reads the file where that wasn't done yet.
+    fn read_once(&mut self) -> Result<(), Asked>
+        ensures read { OnOk result (IsSome self.new.table) }
+        ensures counted { CountsFailure result self.old.faults self.new.faults }
+    {
+        if self.table.is_some() {
+            return Ok(());
         }
-        match &self.table {
-            Some(table) => Ok(table),
-            None => unreachable!(),
-        }
+        self.read()
     }
 }
 
@@ -97,11 +98,26 @@ where
     ghost faults = { λ authority. authority.faults };
 
     fn home(&mut self, did: &str, host: &str) -> Result<bool, Asked> {
-        Ok(self.table()?.home(did, host))
+        if let Err(fault) = self.read_once() {
+            return Err(fault);
+        }
+        match &self.table {
+            Some(table) => Ok(table.home(did, host)),
+            None => unreachable!(),
+        }
     }
 
     fn verdict(&mut self, did: &str, digest: &[u8; 32], sig: &[u8]) -> Result<bool, Asked> {
-        Ok(self.table()?.verdict(did, digest, sig)?)
+        if let Err(fault) = self.read_once() {
+            return Err(fault);
+        }
+        match &self.table {
+            Some(table) => match table.verdict(did, digest, sig) {
+                Ok(good) => Ok(good),
+                Err(Memory) => Err(Asked::Memory),
+            },
+            None => unreachable!(),
+        }
     }
 
     fn refresh(&mut self, _did: &str) -> Result<(), Asked> {

@@ -109,7 +109,9 @@ impl Judges for Panel {
     }
 
     fn refresh(&mut self, did: &str) -> Result<(), JudgeFault> {
-        self.ask(did, Question::Refresh)?;
-        Ok(())
+        match self.ask(did, Question::Refresh) {
+            Ok(_) => Ok(()),
+            Err(fault) => Err(fault),
+        }
     }
 }

@@ -93,7 +93,10 @@ impl Authority for TableAuthority {
         ensures listed { (calls_of self.new).listed.items ≡ (calls_of self.old).listed.items }
     {
         self.failures.begin(Asked::Failed)?;
-        Ok(self.table(did).verdict(did, digest, sig)?)
+        match self.table(did).verdict(did, digest, sig) {
+            Ok(good) => Ok(good),
+            Err(Memory) => Err(Asked::Memory),
+        }
     }
 
     fn refresh(&mut self, did: &str) -> Result<(), Asked>
@@ -107,8 +110,12 @@ impl Authority for TableAuthority {
         ensures listed { (calls_of self.new).listed.items ≡ (calls_of self.old).listed.items }
     {
         self.failures.begin(Asked::Failed)?;
-        let did = String::from_str(self.alloc, did).map_err(Memory::from)?;
-        self.refreshed.insert(did).map_err(Memory::from)?;
+        let Ok(did) = String::from_str(self.alloc, did) else {
+            return Err(Asked::Memory);
+        };
+        let Ok(_) = self.refreshed.insert(did) else {
+            return Err(Asked::Memory);
+        };
         Ok(())
     }
 }
