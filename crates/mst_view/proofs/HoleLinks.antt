@@ -1,42 +1,19 @@
 -- Links of holes.
-use Rattle.std.proofs.Common.{◌≡◌, ℕ, zero, suc, ◌+◌, ◌<◌, subst, arith, Bool, true, false, not, cond, ◌&&◌, List, [], ◌∷◌, ◌++◌, length, drop, get_or, refl, sym, ap, ◌∙◌, Less, Equal, Greater, drop-cons}
-use Rattle.std.specs.BTreeMap.{is_at}
+use Rattle.std.proofs.Common.{◌≡◌, ℕ, zero, suc, ◌+◌, ◌<◌, subst, arith, Bool, true, false, not, List, [], ◌∷◌, ◌++◌, length, drop, get_or, refl, sym, ap, ◌∙◌, drop-cons}
 use Rattle.mst_list.specs.declared.item.Item.{Item}
 use Rattle.mst_list.specs.declared.item.Item.TheVariants.{Key, Hole}
-use Rattle.at_cid.specs.Order.{key_cmp}
-use Rattle.mst_list.specs.Edits.{by_order}
-use Rattle.at_cid.proofs.Order.{cmp_same, cmp_exact, cmp_above, cmp_below}
 use Rattle.mst_view.specs.Layered.{LiesBelow, AllAt, below_items, rest_items}
 use Rattle.mst_view.specs.declared.branch.Part.{Part}
-use Rattle.mst_view.specs.HoleLinks.{absent, all_differ, hole_links}
+use Rattle.mst_view.specs.HoleLinks.{hole_links}
 
 pub links_joined : (F G : List Item) → hole_links (F ++ G) ≡ hole_links F ++ hole_links G
 links_joined [] G = refl
 links_joined (Key k v ∷ F) G = links_joined F G
 links_joined (Hole l c ∷ F) G = ap (λ x. c ∷ x) (links_joined F G)
 
--- what a search tree that holds the links D tells of a link, once x is put in
-pub seen_more : (c x : List ℕ) (D : List (List ℕ)) → cond (is_at (key_cmp x) c) true (not (absent c D)) ≡ not (absent c (x ∷ D))
-seen_more c x D =
-    elim (key_cmp c x) as (λ o. key_cmp c x ≡ o → cond (is_at (key_cmp x) c) true (not (absent c D)) ≡ not (by_order o true false true && absent c D)) [
-      | Less ↦ λ e. rw (cmp_above c x e) refl
-      | Equal ↦ λ e. let tied : key_cmp x c ≡ Equal = rw (cmp_exact c x e) (cmp_same x) in rw tied refl
-      | Greater ↦ λ e. rw (cmp_below c x e) refl
-    ] refl
-
 -- the links from a place on
 pub from_place : (ds : List (List ℕ)) (i n : ℕ) (x : List ℕ) → i + 1 ≡ n → i < length ds → x ≡ get_or ds i x → drop i ds ≡ x ∷ drop n ds
 from_place ds i n x e low is = let next : suc i ≡ n = omega arith in drop-cons ds i x low ∙ ap (λ y. y ∷ drop (suc i) ds) (sym is) ∙ ap (λ m. x ∷ drop m ds) next
-
-and_false : (b : Bool) → b && false ≡ false
-and_false true = refl
-and_false false = refl
-
--- where a link stands twice among the last ones, it does among all
-pub twice_in_all : (i : ℕ) (ds : List (List ℕ)) → all_differ (drop i ds) ≡ false → all_differ ds ≡ false
-twice_in_all zero ds e = e
-twice_in_all (suc i) [] e = e
-twice_in_all (suc i) (c ∷ ds) e = rw (twice_in_all i ds e) (and_false (absent c ds))
 
 pub not_not : (a b : Bool) → a ≡ not b → not a ≡ b
 not_not a true e = rw e refl

@@ -25,7 +25,9 @@ use Rattle.mst_view.specs.Steps.{link_at_fault}
 use Rattle.mst_view.specs.ViewFault.{IsAtFault, IsViewFault, fault_of}
 use Rattle.mst_view.specs.declared.reading.ReadFault.{ReadFault}
 use Rattle.mst_node.specs.Covers.{AreUnderNodeLinks}
-use Rattle.mst_view.specs.HoleLinks.{all_differ, hole_links}
+use Rattle.std.specs.Str.{bytes_eq}
+use Rattle.at_cid.specs.Distinct.{all_differ}
+use Rattle.mst_view.specs.HoleLinks.{hole_links}
 
 module _ (read : List ℕ → Option Node) (sound : IsSoundReader read) (B : FinMap key_cmp (List ℕ)) (under : AreUnderNodeLinks B) where
   -- what is known of a top node that passes
@@ -42,7 +44,7 @@ module _ (read : List ℕ → Option Node) (sound : IsSoundReader read) (B : Fin
       let q = both_true (may_hang (layer_of es) left) (may_top (left, es)) p.0 in
       record { spelled = g.0; kind = g.1; entries = fit_true (layer_of es) None None es g.2 p.1; lowest = hang_true (layer_of es) left q.0 }
 
-  pub tree_of : (r b : List ℕ) (n : Node) (F : List Item) → read b ≡ Some n → top_fits n ≡ true → parts_of (part_at in_part read B (layer_of n.1)) None None n ≡ Ok F → all_differ (hole_links F) ≡ true → tree_at read B r b ≡ Ok F
+  pub tree_of : (r b : List ℕ) (n : Node) (F : List Item) → read b ≡ Some n → top_fits n ≡ true → parts_of (part_at in_part read B (layer_of n.1)) None None n ≡ Ok F → all_differ bytes_eq (hole_links F) ≡ true → tree_at read B r b ≡ Ok F
   tree_of r b n F e f p d = rw (e, f, p, d) refl
 
   pub empty_tree : (r b : List ℕ) (left : Option (List ℕ)) (es : List Entry) → read b ≡ Some (left, es) → top_fits (left, es) ≡ true → es ≡ [] → tree_at read B r b ≡ Ok []
@@ -64,7 +66,7 @@ module _ (B : FinMap key_cmp (List ℕ)) (under : AreUnderNodeLinks B) (r b : Li
   pub unfit_told : (n : Node) → node_of b ≡ Some n → top_fits n ≡ false → IsAtFault B r r
   unfit_told n e f = let read_is : tree_at node_of B r b ≡ Err r = rw (e, f) refl in tree_blamed node_of node_of_is_reader B r b r under kind at read_is
 
-  pub doubled_told : (n : Node) (F : List Item) → node_of b ≡ Some n → top_fits n ≡ true → parts_of (part_at in_part node_of B (layer_of n.1)) None None n ≡ Ok F → all_differ (hole_links F) ≡ false → IsAtFault B r r
+  pub doubled_told : (n : Node) (F : List Item) → node_of b ≡ Some n → top_fits n ≡ true → parts_of (part_at in_part node_of B (layer_of n.1)) None None n ≡ Ok F → all_differ bytes_eq (hole_links F) ≡ false → IsAtFault B r r
   doubled_told n F e f p d = let read_is : tree_at node_of B r b ≡ Err r = rw (e, f, p, d) refl in tree_blamed node_of node_of_is_reader B r b r under kind at read_is
 
   pub parts_told : (n : Node) (fault : ReadFault) → node_of b ≡ Some n → top_fits n ≡ true → Fails (link_at_fault fault) (parts_of (part_at in_part node_of B (layer_of n.1)) None None n) → IsViewFault B r (fault_of fault)

@@ -17,27 +17,29 @@ use Rattle.mst_node.proofs.Finds.{root_there, walk_found, walk_of, walk_once}
 use Rattle.mst_node.proofs.Gives.{IsGiven, walk_given}
 use Rattle.mst_node.proofs.Passes.{either, went_on, went_wrong}
 use Rattle.mst_node.proofs.Readers.{node_of_is_reader}
-use Rattle.mst_view.specs.HoleLinks.{all_differ, hole_links}
+use Rattle.std.specs.Str.{bytes_eq}
+use Rattle.at_cid.specs.Distinct.{all_differ}
+use Rattle.mst_view.specs.HoleLinks.{hole_links}
 use Rattle.mst_view.specs.ViewFault.{IsAtFault}
 use Rattle.mst_view.proofs.Doubled.{differ_true, true_differ}
 
 -- the list that the blocks hold under r, whose block is b, or the link of the first block at fault;
 -- r itself where no block is at fault and a hole's link stands twice
 abbrev pub tree_at : (List ℕ → Option Node) → FinMap key_cmp (List ℕ) → List ℕ → List ℕ → Result (List Item) (List ℕ)
-tree_at read B r b = go_on (top_of in_part read B r b) (λ F. cond (all_differ (hole_links F)) (Ok F) (Err r))
+tree_at read B r b = go_on (top_of in_part read B r b) (λ F. cond (all_differ bytes_eq (hole_links F)) (Ok F) (Err r))
 
 module _ (read : List ℕ → Option Node) (reader : IsSoundReader read) (B : FinMap key_cmp (List ℕ)) (under : AreUnderNodeLinks B) where
   -- the reading ends with what is read at the top, where the links of its holes differ
-  pub top_read : (r b : List ℕ) (F : List Item) → tree_at read B r b ≡ Ok F → (top_of in_part read B r b ≡ Ok F) × (all_differ (hole_links F) ≡ true)
+  pub top_read : (r b : List ℕ) (F : List Item) → tree_at read B r b ≡ Ok F → (top_of in_part read B r b ≡ Ok F) × (all_differ bytes_eq (hole_links F) ≡ true)
   top_read r b F e =
-      let s = went_on (top_of in_part read B r b) (λ G. cond (all_differ (hole_links G)) (Ok G) (Err r)) F e in
+      let s = went_on (top_of in_part read B r b) (λ G. cond (all_differ bytes_eq (hole_links G)) (Ok G) (Err r)) F e in
       let d = differ_told s.0 s.2 in
-      let R : List Item → Type 0 = λ z. (top_of in_part read B r b ≡ Ok z) × (all_differ (hole_links z) ≡ true) in
+      let R : List Item → Type 0 = λ z. (top_of in_part read B r b ≡ Ok z) × (all_differ bytes_eq (hole_links z) ≡ true) in
       subst R d.0 (s.1, d.1)
     where
-      differ_told : (G : List Item) → cond (all_differ (hole_links G)) (Ok G) (Err r) ≡ Ok F → (G ≡ F) × (all_differ (hole_links G) ≡ true)
+      differ_told : (G : List Item) → cond (all_differ bytes_eq (hole_links G)) (Ok G) (Err r) ≡ Ok F → (G ≡ F) × (all_differ bytes_eq (hole_links G) ≡ true)
       differ_told G g =
-          elim (all_differ (hole_links G)) as (λ t. all_differ (hole_links G) ≡ t → cond t (Ok G) (Err r) ≡ Ok F → (G ≡ F) × (all_differ (hole_links G) ≡ true)) [ true ↦ λ p q. (cc, p) | false ↦ λ p q. absurd (cc) ] refl g
+          elim (all_differ bytes_eq (hole_links G)) as (λ t. all_differ bytes_eq (hole_links G) ≡ t → cond t (Ok G) (Err r) ≡ Ok F → (G ≡ F) × (all_differ bytes_eq (hole_links G) ≡ true)) [ true ↦ λ p q. (cc, p) | false ↦ λ p q. absurd (cc) ] refl g
 
   pub tree_told : (r b : List ℕ) (F : List Item) → IsNodeLink r → map.get B r ≡ Some b → tree_at read B r b ≡ Ok F → IsGiven read reader B under r b F
   tree_told r b F kind at e = walk_given read reader B under r b F kind at (top_read r b F e).0
@@ -61,16 +63,16 @@ module _ (read : List ℕ → Option Node) (reader : IsReader read) (B : FinMap 
   under_root r b at = ap (or_missing in_part 0 r (top_of in_part read B r)) at
 
   pub tree_blamed : (r b f : List ℕ) → AreUnderNodeLinks B → IsNodeLink r → map.get B r ≡ Some b → tree_at read B r b ≡ Err f → IsAtFault B r f
-  tree_blamed r b f under kind at e = go (went_wrong (top_of in_part read B r b) (λ F. cond (all_differ (hole_links F)) (Ok F) (Err r)) f e)
+  tree_blamed r b f under kind at e = go (went_wrong (top_of in_part read B r b) (λ F. cond (all_differ bytes_eq (hole_links F)) (Ok F) (Err r)) f e)
     where
-      doubled : (F : List Item) → cond (all_differ (hole_links F)) (Ok F) (Err r) ≡ Err f → (f ≡ r) × (HolesDiffer F → ⊥)
+      doubled : (F : List Item) → cond (all_differ bytes_eq (hole_links F)) (Ok F) (Err r) ≡ Err f → (f ≡ r) × (HolesDiffer F → ⊥)
       doubled F g =
-          elim (all_differ (hole_links F)) as (λ t. all_differ (hole_links F) ≡ t → cond t (Ok F) (Err r) ≡ Err f → (f ≡ r) × (HolesDiffer F → ⊥)) [
+          elim (all_differ bytes_eq (hole_links F)) as (λ t. all_differ bytes_eq (hole_links F) ≡ t → cond t (Ok F) (Err r) ≡ Err f → (f ≡ r) × (HolesDiffer F → ⊥)) [
             | true ↦ λ p q. absurd (cc)
             | false ↦ λ p q. (let same : r ≡ f = cc in sym same, λ d. let all = true_differ F d in absurd (cc))
           ] refl g
 
-      go : (top_of in_part read B r b ≡ Err f) ⊎ ((F : List Item) × (top_of in_part read B r b ≡ Ok F) × (cond (all_differ (hole_links F)) (Ok F) (Err r) ≡ Err f)) → IsAtFault B r f
+      go : (top_of in_part read B r b ≡ Err f) ⊎ ((F : List Item) × (top_of in_part read B r b ≡ Ok F) × (cond (all_differ bytes_eq (hole_links F)) (Ok F) (Err r) ≡ Err f)) → IsAtFault B r f
       go (inl x) = inl (top_blamed read reader in_part B r f (under_root r b at ∙ x))
       go (inr x) = let d = doubled x.0 x.2 in inr (d.0, (x.0, (walk_given read reader.sound B under r b x.0 kind at x.1).walk, d.1))
 
@@ -78,8 +80,8 @@ module _ (read : List ℕ → Option Node) (reader : IsReader read) (B : FinMap 
   tree_named r b f at (inl first) = let top : top_of in_part read B r b ≡ Err f = sym (under_root r b at) ∙ top_named read reader in_part B r f first in rw top refl
   tree_named r b f at (inr d) = rw (walk_found read reader B r b d.1.0 at d.1.1, alike d.1.0 d.1.2) (ap Err (sym d.0))
     where
-      alike : (F : List Item) → (HolesDiffer F → ⊥) → all_differ (hole_links F) ≡ false
-      alike F none = elim (all_differ (hole_links F)) as (λ t. all_differ (hole_links F) ≡ t → t ≡ false) [ true ↦ λ p. absurd (none (differ_true F p)) | false ↦ λ p. refl ] refl
+      alike : (F : List Item) → (HolesDiffer F → ⊥) → all_differ bytes_eq (hole_links F) ≡ false
+      alike F none = elim (all_differ bytes_eq (hole_links F)) as (λ t. all_differ bytes_eq (hole_links F) ≡ t → t ≡ false) [ true ↦ λ p. absurd (none (differ_true F p)) | false ↦ λ p. refl ] refl
 
 -- where a link is at fault, the root is there
 pub fault_there : (B : FinMap key_cmp (List ℕ)) (r f : List ℕ) → IsAtFault B r f → (b : List ℕ) × (map.get B r ≡ Some b)

@@ -1,8 +1,10 @@
 //! The links of a tree's holes.
 
 ghost use Rattle.std.specs.Prelude.{◌≡◌, IfOk, OnOk, ◌++◌};
+ghost use Rattle.std.specs.Str.{bytes_eq};
+ghost use Rattle.at_cid.specs.Distinct.{all_differ};
 ghost use Rattle.mst_view.specs.Layered.{LiesBelow, below_items};
-ghost use Rattle.mst_view.specs.HoleLinks.{hole_links, all_differ};
+ghost use Rattle.mst_view.specs.HoleLinks.{hole_links};
 
 use crate::branch::{Below, Branch};
 use at_cid::{Cid, Memory};
@@ -38,7 +40,7 @@ fn links_of(branch: &Branch, links: &mut Vec<Cid>) -> Result<(), Memory>
 
 /// Whether no link stands twice: a search tree holds those behind the one at hand.
 fn all_differ(alloc: Global, links: &[Cid]) -> Result<bool, Memory>
-    ensures { IfOk result (λ differ. differ ≡ all_differ links.now) }
+    ensures { IfOk result (λ differ. differ ≡ all_differ bytes_eq links.now) }
 {
     let mut seen = BTreeSet::new(alloc);
     let mut left = links.len();
@@ -53,7 +55,7 @@ fn all_differ(alloc: Global, links: &[Cid]) -> Result<bool, Memory>
 
 /// Whether the links of a node's holes differ.
 pub(crate) fn holes_differ(alloc: Global, branch: &Branch) -> Result<bool, Memory>
-    ensures { IfOk result (λ differ. differ ≡ all_differ (hole_links branch.now.items)) }
+    ensures { IfOk result (λ differ. differ ≡ all_differ bytes_eq (hole_links branch.now.items)) }
 {
     let mut links = Vec::new(alloc);
     links_of(branch, &mut links)?;

@@ -20,7 +20,7 @@ pub fn check<I: Source, O: Sink>(alloc: Global, limit: usize, input: &mut I, out
         Err(ReadFault::TooLong) => return Status::TooLong,
         Err(ReadFault::Memory) => return Status::Memory,
     };
-    let Ok(verdict) = judge(alloc, message.as_slice()) else {
+    let Ok(verdict) = judge(alloc, message) else {
         return Status::Memory;
     };
     let Ok(line) = report(alloc, &verdict) else {

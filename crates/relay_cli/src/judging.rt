@@ -3,7 +3,7 @@ ghost use Rattle.std.specs.Prelude.{IfOk};
 ghost use Rattle.relay_cli.specs.Verdicts.{IsVerdict, JudgesBody, JudgesCommit};
 
 use crate::verdict::Verdict;
-use at_cid::Memory;
+use at_cid::{Memory, Octets};
 use at_event::{Body, CommitEvent, Event, Frame, FrameFault, Refusal, out_len, read_frame};
 use commit_check::CheckFault;
 use std::alloc::Global;
@@ -11,13 +11,15 @@ use std::alloc::Global;
 /// The most bytes of an outgoing frame, its number taken as nine bytes.
 pub const LONGEST_FRAME: u64 = 4_194_304;
 
-/// What a message comes to by itself.
+/// What a message comes to by itself. The message is let go as soon as it is read.
 #[tactic(auto, unfolding(crate::specs::Verdicts::IsVerdict))]
-pub fn judge(alloc: Global, message: &[u8]) -> Result<Verdict, Memory>
-    ensures { IfOk result (IsVerdict message.now) }
+pub fn judge(alloc: Global, message: Octets) -> Result<Verdict, Memory>
+    ensures { IfOk result (IsVerdict message) }
 {
-    match read_frame(alloc, message) {
-        Ok(Frame::Event(event)) => judge_event(alloc, &event),
+    let read = read_frame(alloc, message.as_slice());
+    drop(message);
+    match read {
+        Ok(Frame::Event(event)) => judge_event(alloc, event),
         Ok(Frame::Faulty(_)) => Ok(Verdict::Refused(Refusal::BadEvent)),
         Ok(_) => Ok(Verdict::Refused(Refusal::NotCommit)),
         Err(FrameFault::Memory) => Err(Memory),
@@ -25,16 +27,18 @@ pub fn judge(alloc: Global, message: &[u8]) -> Result<Verdict, Memory>
     }
 }
 
-fn judge_event(alloc: Global, event: &Event) -> Result<Verdict, Memory>
-    ensures { IfOk result (JudgesBody event.now event.now.body) }
+// The payload, which holds the blocks once more, is let go before the commit is checked.
+fn judge_event(alloc: Global, event: Event) -> Result<Verdict, Memory>
+    ensures { IfOk result (JudgesBody event event.body) }
 {
-    let Body::Commit(commit) = &event.body else {
-        return Ok(Verdict::Refused(Refusal::NotCommit));
-    };
-    if out_len(event) > LONGEST_FRAME {
-        return Ok(Verdict::Refused(Refusal::TooLong));
+    let too_long = out_len(&event) > LONGEST_FRAME;
+    let Event { body, payload, .. } = event;
+    drop(payload);
+    match body {
+        Body::Commit(_) if too_long => Ok(Verdict::Refused(Refusal::TooLong)),
+        Body::Commit(commit) => judge_commit(alloc, &commit),
+        _ => Ok(Verdict::Refused(Refusal::NotCommit)),
     }
-    judge_commit(alloc, commit)
 }
 
 fn judge_commit(alloc: Global, event: &CommitEvent) -> Result<Verdict, Memory>
