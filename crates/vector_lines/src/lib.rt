@@ -2,6 +2,7 @@
 //! begins with `#` is a remark. Bytes are hexadecimal, `-` stands for none, and `<XX x N>` for N bytes XX.
 #![tactic(auto)]
 
+mod answer;
 mod links;
 mod memory;
 mod reading;
@@ -11,6 +12,7 @@ mod suite;
 mod telling;
 mod words;
 
+pub use answer::Answer;
 pub use links::{add_link, link};
 pub use memory::had;
 pub use reading::{number, parted};
@@ -18,4 +20,4 @@ pub use runs::expanded;
 pub use subject::Subject;
 pub use suite::Suite;
 pub use telling::{add, add_number, said};
-pub use words::{add_bytes, add_list, bytes};
+pub use words::{add_bytes, bytes};

@@ -1,4 +1,4 @@
-//! The words of an answer. No clause says what they add: a function that makes an answer of many words is proved quickly so.
+//! Words that are added to a text. No clause says what they add, which a proof would carry along.
 
 use anyhow::Result;
 use std::alloc::Global;

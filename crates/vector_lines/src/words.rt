@@ -21,19 +21,3 @@ pub fn add_bytes(text: &mut String, bytes: &[u8]) -> Result<()> {
     }
     Ok(())
 }
-
-/// Adds the words with a comma between two, or `-` where there are none.
-pub fn add_list(text: &mut String, words: &[String]) -> Result<()> {
-    if words.is_empty() {
-        text.push('-')?;
-    }
-    let mut behind = false;
-    for word in words {
-        if behind {
-            text.push(',')?;
-        }
-        text.push_str(word)?;
-        behind = true;
-    }
-    Ok(())
-}

@@ -2,44 +2,44 @@
 
 use anyhow::{Result, bail, ensure};
 use at_commit::{Commit, CommitFault, read};
-use at_syntax::{TID_LEN, Tid};
+use at_syntax::TID_LEN;
 use std::alloc::Global;
-use vector_lines::{Subject, add, add_bytes, add_link, bytes, had, said};
+use vector_lines::{Answer, Subject, bytes, had};
 
 pub struct Commits;
 
 impl Subject for Commits {
     fn answer(&self, alloc: Global, input: &str) -> Result<String> {
-        match read(alloc, bytes(alloc, input)?.as_slice()) {
-            Ok(commit) => told(alloc, &commit),
-            Err(CommitFault::Memory) => bail!("memory"),
-            Err(fault) => Ok(format!(in alloc; "{fault:?}")?),
+        let given = bytes(alloc, input)?;
+        told(alloc, read(alloc, given.as_slice()))
+    }
+}
+
+fn told(alloc: Global, answer: Result<Commit, CommitFault>) -> Result<String> {
+    match answer {
+        Ok(commit) => {
+            let copy = had(commit.try_clone())?;
+            ensure!(copy.unsigned == commit.unsigned, "the copy is another");
+            whole(alloc, &copy)
         }
+        Err(CommitFault::Memory) => bail!("memory"),
+        Err(fault) => Ok(format!(in alloc; "{fault:?}")?),
     }
 }
 
 // What a commit object says.
-fn told(alloc: Global, commit: &Commit) -> Result<String> {
-    let copy = had(commit.try_clone())?;
-    ensure!(copy.unsigned == commit.unsigned, "the copy is another");
-    let mut text = said(alloc, "ok did ")?;
-    add(&mut text, copy.did.as_str())?;
-    add_rev(&mut text, copy.rev)?;
-    add(&mut text, " data ")?;
-    add_link(&mut text, &copy.data_root)?;
-    add_sig(&mut text, &copy)?;
-    Ok(text)
-}
-
-fn add_rev(text: &mut String, rev: Tid) -> Result<()> {
+fn whole(alloc: Global, commit: &Commit) -> Result<String> {
     let mut letters = [0; TID_LEN];
-    add(text, " rev ")?;
-    add(text, rev.write_text(&mut letters))
-}
-
-fn add_sig(text: &mut String, commit: &Commit) -> Result<()> {
-    add(text, " sig ")?;
-    add_bytes(text, commit.sig.as_slice())?;
-    add(text, " digest ")?;
-    add_bytes(text, &commit.digest())
+    Answer::new(alloc)
+        .words("ok did ")
+        .words(commit.did.as_str())
+        .words(" rev ")
+        .words(commit.rev.write_text(&mut letters))
+        .words(" data ")
+        .link(&commit.data_root)
+        .words(" sig ")
+        .bytes(commit.sig.as_slice())
+        .words(" digest ")
+        .bytes(&commit.digest())
+        .end()
 }

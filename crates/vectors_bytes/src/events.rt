@@ -5,7 +5,7 @@ use at_cid::Octets;
 use at_event::{account_frame, sync_frame};
 use at_syntax::Tid;
 use std::alloc::Global;
-use vector_lines::{Subject, add_bytes, bytes, had, number, parted};
+use vector_lines::{Answer, Subject, bytes, had, number, parted};
 
 pub struct Events;
 
@@ -13,14 +13,13 @@ impl Subject for Events {
     // `sync SEQ DID TIME REV BLOCKS` or `account SEQ DID TIME ACTIVE STATUS`: the message.
     fn answer(&self, alloc: Global, input: &str) -> Result<String> {
         let (kind, rest) = parted(input, " ")?;
+        let words = event(rest)?;
         let frame = match kind {
-            "sync" => sync(alloc, &event(rest)?)?,
-            "account" => account(alloc, &event(rest)?)?,
+            "sync" => sync(alloc, &words)?,
+            "account" => account(alloc, &words)?,
             _ => bail!("no word of events"),
         };
-        let mut text = String::new(alloc);
-        add_bytes(&mut text, frame.as_slice())?;
-        Ok(text)
+        Answer::new(alloc).bytes(frame.as_slice()).end()
     }
 }
 

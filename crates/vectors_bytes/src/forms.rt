@@ -9,7 +9,7 @@ use at_form::{
 };
 use at_syntax::{TID_LEN, Tid};
 use std::alloc::Global;
-use vector_lines::{Subject, add, add_link, add_number, bytes, had, parted, said};
+use vector_lines::{Answer, Subject, bytes, had, parted, said};
 
 pub struct Forms;
 
@@ -85,26 +85,23 @@ fn link_or_none(alloc: Global, link: Option<Cid>) -> Result<String> {
     let Some(link) = link else {
         return said(alloc, "none");
     };
-    let mut text = String::new(alloc);
-    add_link(&mut text, &link)?;
-    Ok(text)
+    Answer::new(alloc).link(&link).end()
 }
 
 fn number_or_none(alloc: Global, number: Option<u64>) -> Result<String> {
     let Some(number) = number else {
         return said(alloc, "none");
     };
-    let mut text = String::new(alloc);
-    add_number(&mut text, number)?;
-    Ok(text)
+    Answer::new(alloc).number(number).end()
 }
 
 fn value_or_absent(alloc: Global, value: Option<&Value>) -> Result<String> {
     let Some(value) = value else {
         return said(alloc, "absent");
     };
-    let mut text = String::new(alloc);
-    add(&mut text, "given ")?;
-    add(&mut text, spelled(alloc, value)?.as_str())?;
-    Ok(text)
+    let item = spelled(alloc, value)?;
+    Answer::new(alloc)
+        .words("given ")
+        .words(item.as_str())
+        .end()
 }

@@ -3,47 +3,66 @@
 use anyhow::{Result, bail};
 use at_event::{Event, EventKind, Frame, FrameFault, out_len, read_frame};
 use std::alloc::Global;
-use vector_lines::{Subject, add, add_number, bytes, said};
+use vector_lines::{Answer, Subject, bytes, said};
 
 pub struct Frames;
 
 impl Subject for Frames {
     fn answer(&self, alloc: Global, input: &str) -> Result<String> {
-        let word = match read_frame(alloc, bytes(alloc, input)?.as_slice()) {
-            Ok(Frame::Event(event)) => return told(alloc, &event),
-            Ok(Frame::Faulty(seq)) => return faulty(alloc, seq),
-            Ok(Frame::Info) => "Info",
-            Ok(Frame::Error) => "Error",
-            Ok(Frame::Unknown) => "Unknown",
-            Err(FrameFault::BadFrame) => "BadFrame",
-            Err(FrameFault::NoSeq) => "NoSeq",
-            Err(FrameFault::Memory) => bail!("memory"),
-        };
-        said(alloc, word)
+        let message = bytes(alloc, input)?;
+        told(alloc, read_frame(alloc, message.as_slice()))
+    }
+}
+
+fn told(alloc: Global, answer: Result<Frame, FrameFault>) -> Result<String> {
+    match answer {
+        Ok(Frame::Event(event)) => event_told(alloc, &event),
+        Ok(Frame::Faulty(seq)) => faulty(alloc, seq),
+        Ok(Frame::Info) => said(alloc, "Info"),
+        Ok(Frame::Error) => said(alloc, "Error"),
+        Ok(Frame::Unknown) => said(alloc, "Unknown"),
+        Err(FrameFault::BadFrame) => said(alloc, "BadFrame"),
+        Err(FrameFault::NoSeq) => said(alloc, "NoSeq"),
+        Err(FrameFault::Memory) => bail!("memory"),
     }
 }
 
 fn faulty(alloc: Global, seq: u64) -> Result<String> {
-    let mut text = said(alloc, "Faulty(")?;
-    add_number(&mut text, seq)?;
-    add(&mut text, ")")?;
-    Ok(text)
+    Answer::new(alloc)
+        .words("Faulty(")
+        .number(seq)
+        .words(")")
+        .end()
 }
 
-fn told(alloc: Global, event: &Event) -> Result<String> {
+fn event_told(alloc: Global, event: &Event) -> Result<String> {
     let kind = match event.kind() {
         EventKind::Commit => "commit",
         EventKind::Sync => "sync",
         EventKind::Identity => "identity",
         EventKind::Account => "account",
     };
-    let mut text = said(alloc, "Event ")?;
-    add(&mut text, kind)?;
-    add(&mut text, " seq ")?;
-    add_number(&mut text, event.seq)?;
-    add(&mut text, " did ")?;
-    add(&mut text, event.did.as_str())?;
-    add(&mut text, " out_len ")?;
-    add_number(&mut text, out_len(event))?;
-    Ok(text)
+    Answer::new(alloc)
+        .words("Event ")
+        .words(kind)
+        .words(" seq ")
+        .number(event.seq)
+        .words(" did ")
+        .words(event.did.as_str())
+        .words(" out_len ")
+        .number(out_len(event))
+        .end()
+}
+
+/// The event of a message.
+pub fn event_of(alloc: Global, digits: &str) -> Result<Event> {
+    let message = bytes(alloc, digits)?;
+    event_in(read_frame(alloc, message.as_slice()))
+}
+
+fn event_in(answer: Result<Frame, FrameFault>) -> Result<Event> {
+    match answer {
+        Ok(Frame::Event(event)) => Ok(event),
+        _ => bail!("the message is no event"),
+    }
 }

@@ -3,14 +3,11 @@
 use crate::spelled::spelled;
 use anyhow::{Result, bail};
 use at_cbor::{
-    decode_whole, front_len, string_len, take_bytes, take_child, take_item, take_link,
+    Value, decode_whole, front_len, string_len, take_bytes, take_child, take_item, take_link,
     take_list_front, take_number,
 };
-use at_cid::Cid;
 use std::alloc::Global;
-use vector_lines::{
-    Subject, add, add_bytes, add_link, add_number, bytes, had, number, parted, said,
-};
+use vector_lines::{Answer, Subject, bytes, had, number, parted, said};
 
 pub struct Fronts;
 
@@ -36,77 +33,68 @@ fn found(alloc: Global, word: &str, given: &[u8]) -> Result<Option<String>> {
         "number" => numbered(alloc, take_number(0, given)),
         "text" => numbered(alloc, take_number(3, given)),
         "list" => numbered(alloc, take_list_front(given)),
-        "bytes" => byte_string(alloc, given),
+        "bytes" => byte_string(alloc, take_bytes(given)),
         "link" => link(alloc, given),
         "child" => child(alloc, given),
-        "item" => item(alloc, given),
-        "whole" => whole(alloc, given),
+        "item" => item(alloc, had(take_item(alloc, given))?),
+        "whole" => whole(alloc, had(decode_whole(alloc, given))?),
         _ => bail!("no word of fronts"),
     }
 }
 
 fn lengths(alloc: Global, count: u64) -> Result<String> {
-    let mut text = String::new(alloc);
-    add_number(&mut text, front_len(count))?;
-    add(&mut text, " ")?;
-    add_number(&mut text, string_len(usize::try_from(count)?))?;
-    Ok(text)
+    let string = string_len(usize::try_from(count)?);
+    Answer::new(alloc)
+        .number(front_len(count))
+        .words(" ")
+        .number(string)
+        .end()
 }
 
-fn with_rest(mut text: String, rest: &[u8]) -> Result<Option<String>> {
-    add(&mut text, " behind ")?;
-    add_bytes(&mut text, rest)?;
-    Ok(Some(text))
+// The piece, and what is behind it.
+fn behind(piece: Answer, rest: &[u8]) -> Result<Option<String>> {
+    Ok(Some(piece.words(" behind ").bytes(rest).end()?))
 }
 
 fn numbered(alloc: Global, taken: Option<(u64, &[u8])>) -> Result<Option<String>> {
-    let Some((number, rest)) = taken else {
-        return Ok(None);
-    };
-    let mut text = String::new(alloc);
-    add_number(&mut text, number)?;
-    with_rest(text, rest)
+    match taken {
+        Some((number, rest)) => behind(Answer::new(alloc).number(number), rest),
+        None => Ok(None),
+    }
 }
 
-fn byte_string(alloc: Global, given: &[u8]) -> Result<Option<String>> {
-    let Some((piece, rest)) = take_bytes(given) else {
-        return Ok(None);
-    };
-    let mut text = String::new(alloc);
-    add_bytes(&mut text, piece)?;
-    with_rest(text, rest)
-}
-
-fn link_text(alloc: Global, link: &Cid) -> Result<String> {
-    let mut text = String::new(alloc);
-    add_link(&mut text, link)?;
-    Ok(text)
+fn byte_string(alloc: Global, taken: Option<(&[u8], &[u8])>) -> Result<Option<String>> {
+    match taken {
+        Some((piece, rest)) => behind(Answer::new(alloc).bytes(piece), rest),
+        None => Ok(None),
+    }
 }
 
 fn link(alloc: Global, given: &[u8]) -> Result<Option<String>> {
     match take_link(given) {
-        Some((link, rest)) => with_rest(link_text(alloc, &link)?, rest),
+        Some((link, rest)) => behind(Answer::new(alloc).link(&link), rest),
         None => Ok(None),
     }
 }
 
 fn child(alloc: Global, given: &[u8]) -> Result<Option<String>> {
     match take_child(given) {
-        Some((Some(link), rest)) => with_rest(link_text(alloc, &link)?, rest),
-        Some((None, rest)) => with_rest(said(alloc, "null")?, rest),
+        Some((Some(link), rest)) => behind(Answer::new(alloc).link(&link), rest),
+        Some((None, rest)) => behind(Answer::new(alloc).words("null"), rest),
         None => Ok(None),
     }
 }
 
-fn item(alloc: Global, given: &[u8]) -> Result<Option<String>> {
-    match had(take_item(alloc, given))? {
-        Some((value, rest)) => with_rest(spelled(alloc, &value)?, rest),
-        None => Ok(None),
-    }
+fn item(alloc: Global, taken: Option<(Value, &[u8])>) -> Result<Option<String>> {
+    let Some((value, rest)) = taken else {
+        return Ok(None);
+    };
+    let item = spelled(alloc, &value)?;
+    behind(Answer::new(alloc).words(item.as_str()), rest)
 }
 
-fn whole(alloc: Global, given: &[u8]) -> Result<Option<String>> {
-    match had(decode_whole(alloc, given))? {
+fn whole(alloc: Global, value: Option<Value>) -> Result<Option<String>> {
+    match value {
         Some(value) => Ok(Some(spelled(alloc, &value)?)),
         None => Ok(None),
     }

@@ -3,34 +3,42 @@
 use anyhow::{Result, bail, ensure};
 use at_cbor::{CborFault, Value, decode, encode, spelled_len};
 use std::alloc::Global;
-use vector_lines::{Subject, add, add_number, bytes, had, said};
+use vector_lines::{Answer, Subject, bytes, had};
 
 pub struct Items;
 
 impl Subject for Items {
     fn answer(&self, alloc: Global, input: &str) -> Result<String> {
         let given = bytes(alloc, input)?;
-        let (value, len) = match decode(alloc, given.as_slice()) {
-            Ok(found) => found,
-            Err(CborFault::Memory) => bail!("memory"),
-            Err(fault) => return Ok(format!(in alloc; "{fault:?}")?),
-        };
-        let written = had(encode(alloc, &value))?;
-        ensure!(
-            Some(written.as_slice()) == given.get(..len),
-            "another spelling"
-        );
-        told(alloc, &value, len)
+        match decode(alloc, given.as_slice()) {
+            Ok((value, len)) => {
+                let written = had(encode(alloc, &value))?;
+                ensure!(
+                    Some(written.as_slice()) == given.get(..len),
+                    "another spelling"
+                );
+                told(alloc, &value, len)
+            }
+            Err(fault) => fault_of(alloc, fault),
+        }
     }
+}
+
+fn fault_of(alloc: Global, fault: CborFault) -> Result<String> {
+    if fault == CborFault::Memory {
+        bail!("memory");
+    }
+    Ok(format!(in alloc; "{fault:?}")?)
 }
 
 // The kind of a value and the length of its spelling, where a copy is the same.
 fn told(alloc: Global, value: &Value, len: usize) -> Result<String> {
     ensure!(is_copied(alloc, value, len)?, "another copy");
-    let mut text = said(alloc, kind(value))?;
-    add(&mut text, " ")?;
-    add_number(&mut text, len as u64)?;
-    Ok(text)
+    Answer::new(alloc)
+        .words(kind(value))
+        .words(" ")
+        .number(len as u64)
+        .end()
 }
 
 // Whether a copy is the same, and has a spelling of that length.

@@ -1,10 +1,10 @@
 //! Links: of a block, from binary, from text, their order, and which block they are of.
 
 use anyhow::{Result, bail};
-use at_cid::{Cid, Kind, cid_of, parse_binary, parse_text};
+use at_cid::{Kind, cid_of, parse_binary, parse_text};
 use std::alloc::Global;
 use std::cmp::Ordering;
-use vector_lines::{Subject, add, add_bytes, add_link, bytes, link, parted, said};
+use vector_lines::{Answer, Subject, bytes, link, parted, said};
 
 pub struct Links;
 
@@ -24,35 +24,28 @@ impl Subject for Links {
 
 fn of_block(alloc: Global, input: &str) -> Result<String> {
     let link = cid_of(bytes(alloc, input)?.as_slice());
-    let mut text = in_digits(alloc, &link)?;
-    add(&mut text, " ")?;
-    add_link(&mut text, &link)?;
-    Ok(text)
-}
-
-// The bytes of a link.
-fn in_digits(alloc: Global, link: &Cid) -> Result<String> {
-    let mut text = String::new(alloc);
-    add_bytes(&mut text, link.as_bytes())?;
-    Ok(text)
+    Answer::new(alloc)
+        .bytes(link.as_bytes())
+        .words(" ")
+        .link(&link)
+        .end()
 }
 
 fn from_binary(alloc: Global, input: &str) -> Result<String> {
     let Some(link) = parse_binary(bytes(alloc, input)?.as_slice()) else {
         return said(alloc, "no");
     };
-    let mut text = match link.kind() {
-        Kind::Node => said(alloc, "Node ")?,
-        Kind::Raw => said(alloc, "Raw ")?,
+    let kind = match link.kind() {
+        Kind::Node => "Node ",
+        Kind::Raw => "Raw ",
     };
-    add_link(&mut text, &link)?;
-    Ok(text)
+    Answer::new(alloc).words(kind).link(&link).end()
 }
 
 fn from_text(alloc: Global, input: &str) -> Result<String> {
     let letters = if input == "-" { "" } else { input };
     match parse_text(letters.as_bytes()) {
-        Some(link) => in_digits(alloc, &link),
+        Some(link) => Answer::new(alloc).bytes(link.as_bytes()).end(),
         None => said(alloc, "no"),
     }
 }
@@ -73,7 +66,8 @@ fn is_of(alloc: Global, input: &str) -> Result<String> {
     let (letters, block) = parted(input, " ")?;
     let link = link(letters)?;
     let is = link.is_of(bytes(alloc, block)?.as_slice());
-    let mut text = said(alloc, if is { "yes " } else { "no " })?;
-    add_bytes(&mut text, link.digest())?;
-    Ok(text)
+    Answer::new(alloc)
+        .words(if is { "yes " } else { "no " })
+        .bytes(link.digest())
+        .end()
 }

@@ -1,11 +1,9 @@
 //! Bytes, texts and lists of links that grow and are copied, and the calls that fail of an object in memory.
 
-use anyhow::{Context, Result, bail, ensure};
+use anyhow::{Result, bail, ensure};
 use at_cid::{Cids, Failures, Octets, Words};
 use std::alloc::Global;
-use vector_lines::{
-    Subject, add, add_bytes, add_link, add_number, bytes, had, link, number, parted, said,
-};
+use vector_lines::{Answer, Subject, bytes, had, link, number, parted};
 
 pub struct Lists;
 
@@ -28,11 +26,20 @@ fn octets(alloc: Global, input: &str) -> Result<String> {
     let (front, rest) = parted(input, " ")?;
     let (one, more) = parted(rest, " ")?;
     let mut whole = octets_of(alloc, front)?;
-    for byte in bytes(alloc, one)? {
-        had(whole.push(byte))?;
-    }
-    had(whole.extend(bytes(alloc, more)?.as_slice()))?;
+    add_bytes_to(
+        &mut whole,
+        bytes(alloc, one)?.as_slice(),
+        bytes(alloc, more)?.as_slice(),
+    )?;
     counted(alloc, &octets_again(alloc, &whole)?)
+}
+
+// Adds bytes one by one, and then some at once.
+fn add_bytes_to(whole: &mut Octets, one: &[u8], more: &[u8]) -> Result<()> {
+    for byte in one {
+        had(whole.push(*byte))?;
+    }
+    had(whole.extend(more))
 }
 
 fn octets_of(alloc: Global, digits: &str) -> Result<Octets> {
@@ -52,11 +59,11 @@ fn octets_again(alloc: Global, whole: &Octets) -> Result<Octets> {
 }
 
 fn counted(alloc: Global, octets: &Octets) -> Result<String> {
-    let mut text = String::new(alloc);
-    add_bytes(&mut text, octets.as_slice())?;
-    add(&mut text, " ")?;
-    add_number(&mut text, octets.len() as u64)?;
-    Ok(text)
+    Answer::new(alloc)
+        .bytes(octets.as_slice())
+        .words(" ")
+        .number(octets.len() as u64)
+        .end()
 }
 
 // Bytes with a piece written over those from a place on. All are dropped then.
@@ -65,11 +72,10 @@ fn over(alloc: Global, input: &str) -> Result<String> {
     let (place, piece) = parted(rest, " ")?;
     let mut whole = octets_of(alloc, front)?;
     overwrite(&mut whole, number(place)?, bytes(alloc, piece)?.as_slice())?;
-    let mut text = String::new(alloc);
-    add_bytes(&mut text, whole.as_slice())?;
+    let answer = Answer::new(alloc).bytes(whole.as_slice());
     whole.clear();
     ensure!(whole.is_empty(), "all are dropped");
-    Ok(text)
+    answer.end()
 }
 
 fn overwrite(whole: &mut Octets, place: u64, piece: &[u8]) -> Result<()> {
@@ -86,11 +92,16 @@ fn words(alloc: Global, input: &str) -> Result<String> {
     let (front, rest) = parted(input, " ")?;
     let (letters, more) = parted(rest, " ")?;
     let mut whole = had(Words::from_str(alloc, front))?;
+    add_letters(&mut whole, letters, more)?;
+    spelled(alloc, &words_again(alloc, &whole)?)
+}
+
+// Adds letters one by one, and then some at once.
+fn add_letters(whole: &mut Words, letters: &str, more: &str) -> Result<()> {
     for letter in letters.chars() {
         had(whole.push(letter))?;
     }
-    had(whole.extend(more))?;
-    spelled(alloc, &words_again(alloc, &whole)?)
+    had(whole.extend(more))
 }
 
 // A copy of a text, taken apart and put together again.
@@ -105,12 +116,13 @@ fn words_again(alloc: Global, whole: &Words) -> Result<Words> {
 }
 
 fn spelled(alloc: Global, words: &Words) -> Result<String> {
-    let mut text = said(alloc, words.as_str())?;
-    add(&mut text, " ")?;
-    add_bytes(&mut text, words.as_bytes())?;
-    add(&mut text, " ")?;
-    add_number(&mut text, words.len() as u64)?;
-    Ok(text)
+    Answer::new(alloc)
+        .words(words.as_str())
+        .words(" ")
+        .bytes(words.as_bytes())
+        .words(" ")
+        .number(words.len() as u64)
+        .end()
 }
 
 // The place of each link in a list of them all, with how many stand in it.
@@ -120,21 +132,22 @@ fn links(alloc: Global, input: &str) -> Result<String> {
     for word in input.split(' ') {
         had(list.push(link(word)?))?;
     }
+    listed(alloc, &links_again(&list)?)
+}
+
+fn links_again(list: &Cids) -> Result<Cids> {
     let copy = had(list.try_clone())?;
     ensure!(copy.as_slice() == list.as_slice(), "the copy is another");
     ensure!(copy.get(copy.len()).is_none(), "no link behind the last");
-    listed(alloc, &copy)
+    Ok(copy)
 }
 
 fn listed(alloc: Global, links: &Cids) -> Result<String> {
-    let mut text = String::new(alloc);
+    let mut answer = Answer::new(alloc);
     for place in 0..links.len() {
-        let link = links.get(place).context("a link")?;
-        add_link(&mut text, link)?;
-        add(&mut text, " ")?;
+        answer = answer.link_or_none(links.get(place)).words(" ");
     }
-    add_number(&mut text, links.len() as u64)?;
-    Ok(text)
+    answer.number(links.len() as u64).end()
 }
 
 // What calls come to of which the listed ones fail; a call with `!` fails by itself.
@@ -143,24 +156,23 @@ fn calls(alloc: Global, input: &str) -> Result<String> {
     let mut failures = had(Failures::new(alloc, &[number(listed)?]))?;
     let mut text = String::new(alloc);
     for name in names.chars() {
-        let came = if name == '!' {
-            failures.fail(name)
-        } else {
-            failures.begin(name)
-        };
-        add_came(&mut text, came)?;
+        text.push(called(&mut failures, name))?;
     }
-    add(&mut text, " taken ")?;
-    add_number(&mut text, failures.taken)?;
-    add(&mut text, " faults ")?;
-    add_number(&mut text, failures.faults)?;
-    Ok(text)
+    Answer::new(alloc)
+        .words(text.as_str())
+        .words(" taken ")
+        .number(failures.taken)
+        .words(" faults ")
+        .number(failures.faults)
+        .end()
 }
 
-fn add_came(text: &mut String, came: Result<(), char>) -> Result<()> {
-    text.push(match came {
-        Ok(()) => '.',
-        Err(failed) => failed,
-    })?;
-    Ok(())
+// What a call comes to: its name where it fails, and else a point.
+fn called(failures: &mut Failures, name: char) -> char {
+    let came = if name == '!' {
+        failures.fail(name)
+    } else {
+        failures.begin(name)
+    };
+    came.err().unwrap_or('.')
 }

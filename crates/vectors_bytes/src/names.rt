@@ -4,7 +4,7 @@ use anyhow::{Context, Result, bail, ensure};
 use at_syntax::{TID_LEN, Tid, did_ok, host_ok, method, path_ok};
 use std::alloc::Global;
 use std::cmp::Ordering;
-use vector_lines::{Subject, add_number, bytes, number, parted, said};
+use vector_lines::{Answer, Subject, bytes, number, parted, said};
 
 pub struct Names;
 
@@ -53,9 +53,7 @@ fn tid(alloc: Global, text: &str) -> Result<String> {
         written.as_slice() == text.as_bytes(),
         "the TID is written otherwise"
     );
-    let mut text = String::new(alloc);
-    add_number(&mut text, tid.value())?;
-    Ok(text)
+    Answer::new(alloc).number(tid.value()).end()
 }
 
 fn method_of(alloc: Global, text: &str) -> Result<String> {

@@ -8,7 +8,7 @@ use at_cbor::{
 };
 use at_cid::{Octets, Words};
 use std::alloc::Global;
-use vector_lines::{Subject, add, add_bytes, add_number, bytes, had, link, number, parted, said};
+use vector_lines::{Answer, Subject, bytes, had, link, number, parted, said};
 
 pub struct Pieces;
 
@@ -25,9 +25,7 @@ impl Subject for Pieces {
 }
 
 fn in_digits(alloc: Global, octets: &Octets) -> Result<String> {
-    let mut text = String::new(alloc);
-    add_bytes(&mut text, octets.as_slice())?;
-    Ok(text)
+    Answer::new(alloc).bytes(octets.as_slice()).end()
 }
 
 // The spelling of one item, or of the front of one.
@@ -85,25 +83,22 @@ fn map_again(alloc: Global, input: &str) -> Result<String> {
     let len = made.len();
     ensure!(made.is_empty() == (len == 0), "which are empty");
     ensure!(made.get(len).is_none(), "no field behind the last");
-    let mut text = String::new(alloc);
-    add_number(&mut text, len as u64)?;
-    add(&mut text, " ")?;
-    add_key(&mut text, made.last_key())?;
-    add_spelled(alloc, text, &Value::Map(made))
+    let answer = Answer::new(alloc).number(len as u64).words(" ");
+    let answer = answer.words(key_of(made.last_key()));
+    with_spelled(alloc, answer, &Value::Map(made))
 }
 
-fn add_key(text: &mut String, key: Option<&Words>) -> Result<()> {
+fn key_of(key: Option<&Words>) -> &str {
     match key {
-        Some(key) => add(text, key.as_str()),
-        None => add(text, "-"),
+        Some(key) => key.as_str(),
+        None => "-",
     }
 }
 
-// The text with the spelling of a value behind it.
-fn add_spelled(alloc: Global, mut text: String, value: &Value) -> Result<String> {
-    add(&mut text, " ")?;
-    add(&mut text, spelled(alloc, value)?.as_str())?;
-    Ok(text)
+// The answer with the spelling of a value behind it.
+fn with_spelled(alloc: Global, answer: Answer, value: &Value) -> Result<String> {
+    let item = spelled(alloc, value)?;
+    answer.words(" ").words(item.as_str()).end()
 }
 
 fn copied_fields(alloc: Global, fields: &Fields) -> Result<Fields> {
@@ -131,9 +126,8 @@ fn list_again(alloc: Global, input: &str) -> Result<String> {
     let values = list.as_list().context("a list")?;
     let made = copied_values(alloc, values)?;
     ensure!(made.as_slice().len() == values.len(), "all are there");
-    let mut text = String::new(alloc);
-    add_number(&mut text, made.len() as u64)?;
-    add_spelled(alloc, text, &Value::List(made))
+    let answer = Answer::new(alloc).number(made.len() as u64);
+    with_spelled(alloc, answer, &Value::List(made))
 }
 
 fn copied_values(alloc: Global, values: &Values) -> Result<Values> {

@@ -4,7 +4,7 @@ use anyhow::{Context, Result};
 use at_cid::cid_of;
 use at_event::Refusal;
 use std::alloc::Global;
-use vector_lines::Subject;
+use vector_lines::{Answer, Subject};
 
 pub struct Refusals;
 
@@ -12,8 +12,7 @@ impl Subject for Refusals {
     fn answer(&self, alloc: Global, input: &str) -> Result<String> {
         let mut all = all_refusals().into_iter();
         let refusal = all.find(|it| it.name() == input).context("a refusal")?;
-        let code = refusal.code();
-        Ok(format!(in alloc; "{code}")?)
+        Answer::new(alloc).number(u64::from(refusal.code())).end()
     }
 }
 

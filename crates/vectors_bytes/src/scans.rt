@@ -1,6 +1,6 @@
 //! CARs that come in pieces.
 
-use crate::cars::told;
+use crate::cars::{fault_of, whole};
 use anyhow::{Result, bail};
 use at_car::{Car, CarFault, Kept, Scan, Sieve, read};
 use at_cid::Memory;
@@ -35,8 +35,7 @@ impl Subject for Scans {
         let given = bytes(alloc, input)?;
         match scanned(alloc, given.as_slice())? {
             Ok(kept) => kept_of(alloc, given.as_slice(), &kept),
-            Err(CarFault::Memory) => bail!("memory"),
-            Err(fault) => Ok(format!(in alloc; "{fault:?}")?),
+            Err(fault) => fault_of(alloc, fault),
         }
     }
 }
@@ -56,7 +55,7 @@ fn kept_of(alloc: Global, given: &[u8], kept: &Kept) -> Result<String> {
     if !is_kept(&car, kept) {
         bail!("other blocks are kept");
     }
-    told(alloc, kept.roots.as_slice(), &car.blocks)
+    whole(alloc, kept.roots.as_slice(), &car.blocks)
 }
 
 // Whether the blocks of a CAR are kept, or their links are where they are short.

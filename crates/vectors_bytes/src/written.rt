@@ -4,7 +4,7 @@ use anyhow::{Context, Result, ensure};
 use at_car::{Blocks, read, write};
 use at_cid::{Cid, Kind, cid_of, parse_binary};
 use std::alloc::Global;
-use vector_lines::{Subject, add_bytes, bytes, had, parted};
+use vector_lines::{Answer, Subject, bytes, had, parted};
 
 pub struct Written;
 
@@ -19,9 +19,7 @@ impl Subject for Written {
         }
         let car = had(write(alloc, &root, &blocks))?;
         ensure_read(alloc, car.as_slice(), root, blocks.len())?;
-        let mut text = String::new(alloc);
-        add_bytes(&mut text, car.as_slice())?;
-        Ok(text)
+        Answer::new(alloc).bytes(car.as_slice()).end()
     }
 }
 

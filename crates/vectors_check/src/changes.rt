@@ -3,7 +3,7 @@
 use crate::accounts::answers;
 use anyhow::Result;
 use std::alloc::Global;
-use vector_lines::Subject;
+use vector_lines::{Answer, Subject};
 
 pub struct Changes;
 
@@ -12,7 +12,11 @@ impl Subject for Changes {
         let (with_account, alone) = answers(alloc, input)?;
         let first = number(with_account.as_str());
         let second = number(alone.as_str());
-        Ok(format!(in alloc; "{first} {second}")?)
+        Answer::new(alloc)
+            .words(first)
+            .words(" ")
+            .words(second)
+            .end()
     }
 }
 

@@ -3,7 +3,7 @@
 use crate::verdicts::verdict;
 use anyhow::Result;
 use std::alloc::Global;
-use vector_lines::{Subject, bytes};
+use vector_lines::{Answer, Subject, bytes};
 
 pub struct Fronts;
 
@@ -15,11 +15,18 @@ impl Subject for Fronts {
         for len in 1..message.len() {
             let other = verdict(alloc, &message.as_slice()[..len])?;
             if other != common {
-                return Ok(format!(in alloc; "{len} {other}")?);
+                return told(alloc, len, other.as_str());
             }
             common = other;
         }
-        let count = message.len();
-        Ok(format!(in alloc; "{count} {common}")?)
+        told(alloc, message.len(), common.as_str())
     }
+}
+
+fn told(alloc: Global, count: usize, verdict: &str) -> Result<String> {
+    Answer::new(alloc)
+        .number(count as u64)
+        .words(" ")
+        .words(verdict)
+        .end()
 }

@@ -20,12 +20,20 @@ fn main(rt: HostRuntime) -> ExitCode {
 
 fn compared(rt: &HostRuntime) -> Result<Suite> {
     let mut suite = Suite::new(rt)?;
+    compare_messages(rt, &mut suite)?;
+    compare_accounts(rt, &mut suite)?;
+    Ok(suite)
+}
+
+fn compare_messages(rt: &HostRuntime, suite: &mut Suite) -> Result<()> {
     suite.file(rt, "messages", &messages::Messages)?;
     suite.file(rt, "fronts", &fronts::Fronts)?;
-    suite.file(rt, "own_messages", &messages::Messages)?;
+    suite.file(rt, "own_messages", &messages::Messages)
+}
+
+fn compare_accounts(rt: &HostRuntime, suite: &mut Suite) -> Result<()> {
     suite.file(rt, "changes", &changes::Changes)?;
     suite.file(rt, "orders", &changes::Changes)?;
     suite.file(rt, "trees", &trees::Trees)?;
-    suite.file(rt, "opened", &opening::Openings)?;
-    Ok(suite)
+    suite.file(rt, "opened", &opening::Openings)
 }

@@ -1,46 +1,47 @@
 //! What the blocks of a commit hold.
 
+use crate::accounts::{commit_of, event_of};
 use anyhow::{Result, bail};
-use at_event::{Body, CommitEvent, Frame, read_frame};
 use at_syntax::TID_LEN;
-use commit_check::open_commit;
+use commit_check::{CheckFault, Opened, open_commit};
 use std::alloc::Global;
-use vector_lines::{Subject, add_bytes, add_link, bytes};
+use vector_lines::{Answer, Subject};
 
 pub struct Openings;
 
 impl Subject for Openings {
     fn answer(&self, alloc: Global, input: &str) -> Result<String> {
-        let Frame::Event(event) = read_frame(alloc, bytes(alloc, input)?.as_slice())? else {
-            bail!("the message is no event");
-        };
-        let Body::Commit(commit) = &event.body else {
-            bail!("the event is no commit");
-        };
-        opened(alloc, commit)
+        let event = event_of(alloc, input)?;
+        told(alloc, open_commit(alloc, commit_of(&event)?, None))
     }
 }
 
-fn opened(alloc: Global, commit: &CommitEvent) -> Result<String> {
-    let opened = open_commit(alloc, commit, None)?;
-    let mut text = String::from_str(alloc, "rev ")?;
-    let mut rev = [0; TID_LEN];
-    opened.head.rev.write(&mut rev);
-    text.push_str(str::from_utf8(&rev)?)?;
-    text.push_str(" data ")?;
-    add_link(&mut text, &opened.head.data_root)?;
-    text.push_str(" commit ")?;
-    add_link(&mut text, &opened.head.commit)?;
-    text.push_str(" digest ")?;
-    add_bytes(&mut text, &opened.digest)?;
-    text.push_str(" sig ")?;
-    add_bytes(&mut text, opened.sig.as_slice())?;
-    text.push_str(" roots")?;
+fn told(alloc: Global, answer: Result<Opened, CheckFault>) -> Result<String> {
+    let Ok(opened) = answer else {
+        bail!("the commit isn't opened");
+    };
+    let mut letters = [0; TID_LEN];
+    let answer = Answer::new(alloc)
+        .words("rev ")
+        .words(opened.head.rev.write_text(&mut letters))
+        .words(" data ")
+        .link(&opened.head.data_root)
+        .words(" commit ")
+        .link(&opened.head.commit);
+    with_rest(answer, &opened).end()
+}
+
+// With what isn't the head behind.
+fn with_rest(answer: Answer, opened: &Opened) -> Answer {
+    let mut answer = answer
+        .words(" digest ")
+        .bytes(&opened.digest)
+        .words(" sig ")
+        .bytes(opened.sig.as_slice())
+        .words(" roots");
     for root in opened.car.roots.as_slice() {
-        text.push(' ')?;
-        add_link(&mut text, root)?;
+        answer = answer.words(" ").link(root);
     }
     let count = opened.car.blocks.len();
-    write!(text, " blocks {count}")?;
-    Ok(text)
+    answer.words(" blocks ").number(count as u64)
 }

@@ -3,7 +3,7 @@
 use crate::accounts::answers;
 use anyhow::Result;
 use std::alloc::Global;
-use vector_lines::Subject;
+use vector_lines::{Answer, Subject};
 
 pub struct Trees;
 
@@ -15,6 +15,10 @@ impl Subject for Trees {
         if is_same {
             return Ok(with_account);
         }
-        Ok(format!(in alloc; "{with_account}, but by itself {alone}")?)
+        Answer::new(alloc)
+            .words(with_account.as_str())
+            .words(", but by itself ")
+            .words(alone.as_str())
+            .end()
     }
 }

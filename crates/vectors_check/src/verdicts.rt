@@ -2,16 +2,20 @@
 
 use anyhow::{Result, bail};
 use at_event::{Body, CommitEvent, Event, Frame, FrameFault, Refusal, out_len, read_frame};
-use commit_check::{CheckFault, check};
+use commit_check::{CheckFault, Checked, check};
 use std::alloc::Global;
-use vector_lines::add_link;
+use vector_lines::Answer;
 
-// The most bytes of an outgoing frame.
+/// The most bytes of an outgoing frame.
 const LONGEST_FRAME: u64 = 4_194_304;
 
 /// What the message comes to.
 pub fn verdict(alloc: Global, message: &[u8]) -> Result<String> {
-    match read_frame(alloc, message) {
+    verdict_on_frame(alloc, read_frame(alloc, message))
+}
+
+fn verdict_on_frame(alloc: Global, answer: Result<Frame, FrameFault>) -> Result<String> {
+    match answer {
         Ok(Frame::Event(event)) => verdict_on_event(alloc, &event),
         Ok(Frame::Faulty(_)) => refused(alloc, &Refusal::BadEvent),
         Err(FrameFault::Memory) => bail!("memory"),
@@ -31,38 +35,42 @@ fn verdict_on_event(alloc: Global, event: &Event) -> Result<String> {
 
 /// What the commit comes to.
 pub fn verdict_on_commit(alloc: Global, commit: &CommitEvent) -> Result<String> {
-    let checked = match check(alloc, commit) {
-        Ok(checked) => checked,
-        Err(CheckFault::Refused(refusal)) => return refused(alloc, &refusal),
+    told(alloc, check(alloc, commit))
+}
+
+fn told(alloc: Global, answer: Result<Checked, CheckFault>) -> Result<String> {
+    match answer {
+        Ok(checked) => Answer::new(alloc)
+            .words("from ")
+            .link(&checked.from)
+            .words(" to ")
+            .link(&checked.to)
+            .words(" ops ")
+            .number(u64::from(checked.ops))
+            .end(),
+        Err(CheckFault::Refused(refusal)) => refused(alloc, &refusal),
         Err(CheckFault::Memory) => bail!("memory"),
-    };
-    let mut text = String::from_str(alloc, "from ")?;
-    add_link(&mut text, &checked.from)?;
-    text.push_str(" to ")?;
-    add_link(&mut text, &checked.to)?;
-    let ops = checked.ops;
-    write!(text, " ops {ops}")?;
-    Ok(text)
+    }
 }
 
 /// A refusal with its number, its name and what it names.
 pub fn refused(alloc: Global, refusal: &Refusal) -> Result<String> {
-    let code = refusal.code();
-    let name = refusal.name();
-    let mut text = format!(in alloc; "refused {code} {name}")?;
+    let answer = Answer::new(alloc)
+        .words("refused ")
+        .number(u64::from(refusal.code()))
+        .words(" ")
+        .words(refusal.name());
     match refusal {
-        Refusal::BadNode(link) => {
-            text.push_str(" at ")?;
-            add_link(&mut text, link)?;
+        Refusal::BadNode(link) => answer.words(" at ").link(link).end(),
+        Refusal::OtherOp(op) | Refusal::NotCovered(op) => {
+            answer.words(" op ").number(u64::from(*op)).end()
         }
-        Refusal::OtherOp(op) | Refusal::NotCovered(op) => write!(text, " op {op}")?,
-        Refusal::OtherData(want, got) => {
-            text.push_str(" want ")?;
-            add_link(&mut text, want)?;
-            text.push_str(" got ")?;
-            add_link(&mut text, got)?;
-        }
-        _ => {}
+        Refusal::OtherData(want, got) => answer
+            .words(" want ")
+            .link(want)
+            .words(" got ")
+            .link(got)
+            .end(),
+        _ => answer.end(),
     }
-    Ok(text)
 }

@@ -4,13 +4,13 @@
 ghost use Rattle.std.specs.Prelude.{◌≤◌, ◌^◌};
 
 use crate::logging::{append, append_put};
-use crate::texts::{MOST, add_call, add_log_fault};
+use crate::texts::{MOST, with_call};
 use crate::words::{disk_of, pieces};
 use anyhow::{Result, bail};
 use gate_log::{Log, LogFault};
 use relay_disk::{Disk, MemoryDisk};
 use std::alloc::Global;
-use vector_lines::{Subject, add, add_bytes, add_number, bytes, number, parted, said};
+use vector_lines::{Answer, Subject, bytes, number, parted, said};
 
 pub struct Appends;
 
@@ -26,18 +26,19 @@ enum Way {
     Room,
 }
 
-// Adds the place of a body, or that the log is full, which must have been told before.
-fn add_place(
-    text: &mut String,
+// With the place of a body behind, or that the log is full, as it was told before.
+fn with_place(
+    answer: Answer,
     fits: Result<(), LogFault>,
-    answer: Result<u64, LogFault>,
-) -> Result<()> {
-    match answer {
-        Ok(place) if fits.is_ok() => add_number(text, place)?,
-        Err(fault) if fits == Err(fault) => add_log_fault(text, fault)?,
-        _ => bail!("a body that fits otherwise than was told"),
+    appended: Result<u64, LogFault>,
+) -> Answer {
+    match appended {
+        Ok(place) if fits.is_ok() => answer.number(place).words(" "),
+        Err(LogFault::Full(end)) if fits == Err(LogFault::Full(end)) => {
+            answer.words("Full(").number(end).words(") ")
+        }
+        _ => answer.words("otherwise than was told "),
     }
-    add(text, " ")
 }
 
 // What each append answers behind another one, and the log.
@@ -50,21 +51,20 @@ fn appended<D: Disk>(
 ) -> Result<(String, Log)>
     requires { most ≤ 2 ^ 62 }
 {
-    let mut text = String::new(alloc);
+    let mut answer = Answer::new(alloc);
     let mut log = Log::open(alloc, disk, most)?;
     for body in bodies {
         let fits = log.fits(u32::try_from(body.len())?);
-        let answer = match way {
+        let appended = match way {
             Way::Slice => append(&mut log, disk, body.as_slice()),
             Way::Room => append_put(alloc, &mut log, disk, body.as_slice()),
         };
-        match answer {
-            Ok(_) | Err(LogFault::Full(_)) => add_place(&mut text, fits, answer)?,
+        match appended {
+            Ok(_) | Err(LogFault::Full(_)) => answer = with_place(answer, fits, appended),
             Err(_) => bail!("a log that doesn't take a body"),
         }
     }
-    add(&mut text, "end ")?;
-    add_number(&mut text, log.end())?;
+    let text = answer.words("end ").number(log.end()).end()?;
     Ok((text, log))
 }
 
@@ -94,15 +94,17 @@ fn answer_of(alloc: Global, content: &[u8], most: u64, bodies: &[Vec<u8>]) -> Re
     requires { most ≤ 2 ^ 62 }
 {
     let mut disk = disk_of(alloc, content)?;
-    let (mut answer, log) = appended(alloc, &mut disk, most, bodies, Way::Slice)?;
-    if !is_same_put(alloc, content, most, bodies, answer.as_str(), &disk)? {
+    let (text, log) = appended(alloc, &mut disk, most, bodies, Way::Slice)?;
+    if !is_same_put(alloc, content, most, bodies, text.as_str(), &disk)? {
         return said(alloc, "another end where bodies are put together in a room");
     }
-    add(&mut answer, " spare ")?;
-    add_number(&mut answer, log.spare())?;
-    add(&mut answer, " content ")?;
-    add_bytes(&mut answer, disk.content())?;
-    Ok(answer)
+    Answer::new(alloc)
+        .words(text.as_str())
+        .words(" spare ")
+        .number(log.spare())
+        .words(" content ")
+        .bytes(disk.content())
+        .end()
 }
 
 impl Subject for Appends {
@@ -131,12 +133,9 @@ impl Subject for LogCalls {
 }
 
 fn calls_of(alloc: Global, disk: &MemoryDisk) -> Result<String> {
-    let mut text = String::new(alloc);
+    let mut answer = Answer::new(alloc);
     for (i, call) in disk.calls().iter().enumerate() {
-        if i > 0 {
-            add(&mut text, " ")?;
-        }
-        add_call(&mut text, *call)?;
+        answer = with_call(answer.words(if i > 0 { " " } else { "" }), *call);
     }
-    Ok(text)
+    answer.end()
 }

@@ -3,10 +3,10 @@
 ghost use Rattle.std.specs.Prelude.{◌≤◌, ◌-◌, ◌^◌, All, IsTrue};
 
 use crate::words::numbers;
-use anyhow::{Context, Result, bail};
+use anyhow::{Result, bail};
 use relay_io::{Clock, LAST_MOMENT, ListClock, SystemClock};
 use std::alloc::Global;
-use vector_lines::{Subject, had};
+use vector_lines::{Answer, Subject, had, number, parted, said};
 
 pub struct Clocks;
 
@@ -32,34 +32,37 @@ fn clock(alloc: Global, moments: &[u64], failing: &[u64]) -> Result<ListClock> {
 
 impl Subject for Clocks {
     fn answer(&self, alloc: Global, input: &str) -> Result<String> {
-        let (moments, rest) = input.split_once(" ; ").context("moments")?;
-        let (failing, calls) = rest.split_once(" ; ").context("failing calls")?;
+        let (moments, rest) = parted(input, " ; ")?;
+        let (failing, calls) = parted(rest, " ; ")?;
         let moments = numbers(alloc, moments)?;
         let failing = numbers(alloc, failing)?;
-        let mut clock = clock(alloc, &moments, &failing)?;
-        let mut answer = String::new(alloc);
-        for i in 0..calls.parse::<u32>()? {
-            if i > 0 {
-                answer.push(' ')?;
-            }
-            match clock.now() {
-                Ok(moment) => write!(&mut answer, "{moment}")?,
-                Err(_) => answer.push_str("Failed")?,
-            }
-        }
-        Ok(answer)
+        let mut clock = clock(alloc, moments.as_slice(), failing.as_slice())?;
+        told(alloc, &mut clock, number(calls)?)
     }
+}
+
+// What so many calls answer.
+fn told(alloc: Global, clock: &mut ListClock, calls: u64) -> Result<String> {
+    let mut answer = Answer::new(alloc);
+    for i in 0..calls {
+        answer = answer.words(if i > 0 { " " } else { "" });
+        answer = match clock.now() {
+            Ok(moment) => answer.number(moment),
+            Err(_) => answer.words("Failed"),
+        };
+    }
+    answer.end()
 }
 
 impl Subject for Moments<'_> {
     fn answer(&self, alloc: Global, input: &str) -> Result<String> {
-        let (least, most) = input.split_once(' ').context("two moments")?;
-        let (least, most) = (least.parse::<u64>()?, most.parse::<u64>()?);
+        let (least, most) = parted(input, " ")?;
+        let (least, most) = (number(least)?, number(most)?);
         let mut clock = SystemClock::new(self.rt);
         let moment = clock.now()?;
         if moment < least || moment > most {
-            return Ok(format!(in alloc; "{moment}")?);
+            return Answer::new(alloc).number(moment).end();
         }
-        Ok("within".to_string(alloc)?)
+        said(alloc, "within")
     }
 }

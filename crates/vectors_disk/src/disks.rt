@@ -2,12 +2,12 @@
 //! Each call is failed in turn: since it is listed, since there is no more room, and by a disk that passes on so many calls.
 
 use crate::scripts::{Step, run, script};
-use crate::texts::add_call;
+use crate::texts::with_call;
 use crate::words::{ROOM, disk_of};
-use anyhow::{Context, Result};
+use anyhow::Result;
 use relay_disk::{Call, Failed, FuseDisk, MemoryDisk};
 use std::alloc::Global;
-use vector_lines::{Subject, add_bytes, had};
+use vector_lines::{Answer, Subject, had, said};
 
 pub struct Disks;
 
@@ -60,25 +60,29 @@ impl Subject for Disks {
     fn answer(&self, alloc: Global, input: &str) -> Result<String> {
         let steps = script(alloc, input)?;
         let mut whole = disk_of(alloc, &[])?;
-        let found = run(&mut whole, &steps).ok().context("a script that ends")?;
-        let mut answer = String::new(alloc);
-        for (i, call) in whole.calls().iter().enumerate() {
-            let Some(disk) = stopped(alloc, &steps, whole.calls(), i)? else {
-                return Ok(format!(in alloc; "not stopped alike behind {i} calls")?);
-            };
-            if i > 0 {
-                add_bytes(&mut answer, disk.content())?;
-                answer.push(' ')?;
-            }
-            add_call(&mut answer, *call)?;
-            answer.push(':')?;
-        }
-        let Some(disk) = stopped(alloc, &steps, whole.calls(), whole.calls().len())? else {
-            return Ok("not ended alike".to_string(alloc)?);
-        };
-        add_bytes(&mut answer, disk.content())?;
-        answer.push_str(" read ")?;
-        add_bytes(&mut answer, &found)?;
-        Ok(answer)
+        let found = run(&mut whole, steps.as_slice())?;
+        told(alloc, steps.as_slice(), whole.calls(), &found)
     }
+}
+
+// Each call with the content behind it, and what was read last.
+fn told(alloc: Global, steps: &[Step], calls: &[Call], found: &[u8; 2]) -> Result<String> {
+    let mut answer = Answer::new(alloc);
+    for (i, call) in calls.iter().enumerate() {
+        let Some(disk) = stopped(alloc, steps, calls, i)? else {
+            return said(alloc, "not stopped alike");
+        };
+        if i > 0 {
+            answer = answer.bytes(disk.content()).words(" ");
+        }
+        answer = with_call(answer, *call).words(":");
+    }
+    let Some(disk) = stopped(alloc, steps, calls, calls.len())? else {
+        return said(alloc, "not ended alike");
+    };
+    answer
+        .bytes(disk.content())
+        .words(" read ")
+        .bytes(found)
+        .end()
 }

@@ -10,7 +10,7 @@ use gate_log::Log;
 use relay_disk::{Disk, Failed, FileDisk, LazyFile};
 use std::alloc::Global;
 use std::fs;
-use vector_lines::{Subject, add_bytes};
+use vector_lines::{Answer, Subject};
 
 #[derive(Drop)]
 pub struct FileDisks<'a> {
@@ -33,22 +33,35 @@ fn file_disk<'a>(rt: &'a HostRuntime) -> Result<FileDisk<LazyFile<&'a HostRuntim
 fn left_by(rt: &HostRuntime, steps: &[Step]) -> Result<String> {
     let found = run(&mut file_disk(rt)?, steps)?;
     let mut disk = file_disk(rt)?;
+    let content = whole(rt, &mut disk)?;
+    let is_refused = is_refused(&mut disk, content.len() as u64);
+    disk.sync()?;
+    Answer::new(rt.alloc())
+        .bytes(content.as_slice())
+        .words(" read ")
+        .bytes(&found)
+        .words(if is_refused {
+            ""
+        } else {
+            ", and not refused past the end"
+        })
+        .end()
+}
+
+// The whole content of a disk.
+fn whole<D: Disk>(rt: &HostRuntime, disk: &mut D) -> Result<Vec<u8>> {
     let size = disk.size()?;
     let mut content = vec![in rt.alloc(); 0; usize::try_from(size)?]?;
     disk.read(0, content.as_mut_slice())?;
-    let is_refused = disk.read(size, &mut [0]) == Err(Failed)
+    Ok(content)
+}
+
+// Whether a disk of so many bytes refuses what goes past its end.
+fn is_refused(disk: &mut FileDisk<LazyFile<&HostRuntime>>, size: u64) -> bool {
+    disk.read(size, &mut [0]) == Err(Failed)
         && disk.write_at(100, &[1]) == Err(Failed)
         && disk.cut(100) == Err(Failed)
-        && disk.size() == Ok(size);
-    disk.sync()?;
-    let mut answer = String::new(rt.alloc());
-    add_bytes(&mut answer, content.as_slice())?;
-    answer.push_str(" read ")?;
-    add_bytes(&mut answer, &found)?;
-    if !is_refused {
-        answer.push_str(", and not refused past the end")?;
-    }
-    Ok(answer)
+        && disk.size() == Ok(size)
 }
 
 impl Subject for FileDisks<'_> {

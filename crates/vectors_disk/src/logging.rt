@@ -10,7 +10,7 @@ use at_cid::Octets;
 use gate_log::{AHEAD, HEAD, Log, LogFault, begin};
 use relay_disk::Disk;
 use std::alloc::Global;
-use vector_lines::add_bytes;
+use vector_lines::Answer;
 
 /// More bodies than any log of a row has.
 const MANY: u32 = 1000;
@@ -57,10 +57,13 @@ pub fn append_put<D: Disk>(
 pub fn bodies<D: Disk>(alloc: Global, log: &Log, disk: &mut D) -> Result<String>
     requires { IsTrue D.tells → IsOn (D.view disk.old) log.now }
 {
-    let mut text = format!(in alloc; "end {} bodies", log.end())?;
+    let mut answer = Answer::new(alloc)
+        .words("end ")
+        .number(log.end())
+        .words(" bodies");
     let mut next = log.first();
     if next >= log.end() {
-        text.push_str(" -")?;
+        answer = answer.words(" -");
     }
     'records: for _ in 0..MANY {
         if next >= log.end() {
@@ -70,11 +73,14 @@ pub fn bodies<D: Disk>(alloc: Global, log: &Log, disk: &mut D) -> Result<String>
             Ok(found) => found,
             Err(fault) => return log_fault(alloc, fault),
         };
-        write!(&mut text, " {next}:")?;
-        add_bytes(&mut text, body.as_slice())?;
+        answer = answer
+            .words(" ")
+            .number(next)
+            .words(":")
+            .bytes(body.as_slice());
         next = behind;
     }
-    Ok(text)
+    answer.end()
 }
 
 /// What the log of a disk holds, which is made where it is unmade.

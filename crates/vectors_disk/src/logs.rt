@@ -5,8 +5,9 @@ use crate::texts::{MOST, log_fault};
 use crate::words::disk_of;
 use anyhow::Result;
 use gate_log::Log;
+use relay_disk::MemoryDisk;
 use std::alloc::Global;
-use vector_lines::{Subject, add_bytes, bytes};
+use vector_lines::{Answer, Subject, bytes, said};
 
 pub struct Logs;
 
@@ -16,25 +17,37 @@ const MADE: [u8; 10] = *b"\x01atrelay\x01\x00";
 impl Subject for Logs {
     fn answer(&self, alloc: Global, input: &str) -> Result<String> {
         let content = bytes(alloc, input)?;
-        let mut disk = disk_of(alloc, &content)?;
-        let answer = match Log::open(alloc, &mut disk, MOST) {
-            Ok(log) => {
-                let (first, generation) = (log.first(), log.generation());
-                let held = bodies(alloc, &log, &mut disk)?;
-                format!(in alloc; "ok first {first} generation {generation} {held}")?
-            }
-            Err(fault) => log_fault(alloc, fault)?,
-        };
+        let mut disk = disk_of(alloc, content.as_slice())?;
+        let answer = opened(alloc, &mut disk)?;
         if disk.content() == content.as_slice() {
             return Ok(answer);
         }
         if disk.content() == MADE.as_slice()
             && answer.as_str() == "ok first 9 generation 0 end 9 bodies -"
         {
-            return Ok("unmade".to_string(alloc)?);
+            return said(alloc, "unmade");
         }
-        let mut other = format!(in alloc; "{answer}, but written over by ")?;
-        add_bytes(&mut other, disk.content())?;
-        Ok(other)
+        Answer::new(alloc)
+            .words(answer.as_str())
+            .words(", but written over by ")
+            .bytes(disk.content())
+            .end()
     }
+}
+
+// What the log of a disk tells, which is made where it is unmade.
+fn opened(alloc: Global, disk: &mut MemoryDisk) -> Result<String> {
+    let log = match Log::open(alloc, disk, MOST) {
+        Ok(log) => log,
+        Err(fault) => return log_fault(alloc, fault),
+    };
+    let held = bodies(alloc, &log, disk)?;
+    Answer::new(alloc)
+        .words("ok first ")
+        .number(log.first())
+        .words(" generation ")
+        .number(log.generation())
+        .words(" ")
+        .words(held.as_str())
+        .end()
 }

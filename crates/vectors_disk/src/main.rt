@@ -38,23 +38,39 @@ use worst::Worst;
 
 fn compared(rt: &HostRuntime) -> Result<Suite> {
     let mut suite = Suite::new(rt)?;
+    compare_streams(rt, &mut suite)?;
+    compare_disks(rt, &mut suite)?;
+    compare_logs(rt, &mut suite)?;
+    compare_crashes(rt, &mut suite)?;
+    Ok(suite)
+}
+
+fn compare_streams(rt: &HostRuntime, suite: &mut Suite) -> Result<()> {
     suite.file(rt, "sources", &Sources)?;
     suite.file(rt, "sinks", &Sinks)?;
     suite.file(rt, "streams", &Streams)?;
     suite.file(rt, "clocks", &Clocks)?;
-    suite.file(rt, "moments", &Moments { rt })?;
+    suite.file(rt, "moments", &Moments { rt })
+}
+
+fn compare_disks(rt: &HostRuntime, suite: &mut Suite) -> Result<()> {
     suite.file(rt, "disks", &Disks)?;
     suite.file(rt, "worst", &Worst)?;
-    suite.file(rt, "file_disks", &FileDisks { rt })?;
+    suite.file(rt, "file_disks", &FileDisks { rt })
+}
+
+fn compare_logs(rt: &HostRuntime, suite: &mut Suite) -> Result<()> {
     suite.file(rt, "logs", &Logs)?;
     suite.file(rt, "picks", &Picks)?;
     suite.file(rt, "appends", &Appends)?;
     suite.file(rt, "log_calls", &LogCalls)?;
-    suite.file(rt, "reads", &Reads)?;
+    suite.file(rt, "reads", &Reads)
+}
+
+fn compare_crashes(rt: &HostRuntime, suite: &mut Suite) -> Result<()> {
     suite.file(rt, "stops", &Stops)?;
     suite.file(rt, "pairs", &Pairs)?;
-    suite.file(rt, "file_logs", &FileLogs { rt })?;
-    Ok(suite)
+    suite.file(rt, "file_logs", &FileLogs { rt })
 }
 
 fn main(rt: HostRuntime) -> ExitCode {

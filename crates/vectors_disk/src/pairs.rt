@@ -7,11 +7,11 @@ use crate::picks::side_name;
 use crate::texts::{MOST, log_fault, told};
 use crate::words::disk_of;
 use crate::worst::{CASES, image};
-use anyhow::{Context, Result};
+use anyhow::Result;
 use gate_log::{LogFault, Side, open_pair};
 use relay_disk::{Disk, FuseDisk, MemoryDisk};
 use std::alloc::Global;
-use vector_lines::{Subject, bytes};
+use vector_lines::{Answer, Subject, bytes, parted};
 
 pub struct Pairs;
 
@@ -56,7 +56,11 @@ fn pair_held<D: Disk>(alloc: Global, one: &mut D, two: &mut D) -> Result<String>
                 Side::One => bodies(alloc, &log, one)?,
                 Side::Two => bodies(alloc, &log, two)?,
             };
-            Ok(format!(in alloc; "{} {held}", side_name(side))?)
+            Answer::new(alloc)
+                .words(side_name(side))
+                .words(" ")
+                .words(held.as_str())
+                .end()
         }
         Err(fault) => log_fault(alloc, fault),
     }
@@ -136,29 +140,51 @@ fn whole(alloc: Global, start: &Start) -> Result<Result<Run, LogFault>> {
 
 impl Subject for Pairs {
     fn answer(&self, alloc: Global, input: &str) -> Result<String> {
-        let (one, rest) = input.split_once(" ; ").context("the first disk")?;
-        let (two, body) = rest.split_once(" ; ").context("the second disk")?;
+        let (one, rest) = parted(input, " ; ")?;
+        let (two, body) = parted(rest, " ; ")?;
         let start = Start {
             one: bytes(alloc, one)?,
             two: bytes(alloc, two)?,
             body: bytes(alloc, body)?,
         };
-        let run = match whole(alloc, &start)? {
-            Ok(run) => run,
-            Err(fault) => return log_fault(alloc, fault),
-        };
-        let [ones, twos] = run.calls;
-        for first in 0..=ones {
-            for second in 0..=twos {
-                if !is_stopped(alloc, &start, &run, [first, second])? {
-                    return Ok(format!(in alloc; "wrong behind {first} and {second} calls")?);
-                }
+        match whole(alloc, &start)? {
+            Ok(run) => stopped(alloc, &start, &run),
+            Err(fault) => log_fault(alloc, fault),
+        }
+    }
+}
+
+// What a run shows that is stopped behind each number of calls on each disk.
+fn stopped(alloc: Global, start: &Start, run: &Run) -> Result<String> {
+    let [ones, twos] = run.calls;
+    for first in 0..=ones {
+        for second in 0..=twos {
+            if !is_stopped(alloc, start, run, [first, second])? {
+                return wrong(alloc, first, second);
             }
         }
-        let (side, place) = (side_name(run.side), run.place);
-        let (before, after) = (run.before, run.after);
-        Ok(format!(in alloc;
-            "{side} calls {ones} {twos} place {place} before {before} after {after}"
-        )?)
     }
+    Answer::new(alloc)
+        .words(side_name(run.side))
+        .words(" calls ")
+        .number(ones as u64)
+        .words(" ")
+        .number(twos as u64)
+        .words(" place ")
+        .number(run.place)
+        .words(" before ")
+        .words(run.before.as_str())
+        .words(" after ")
+        .words(run.after.as_str())
+        .end()
+}
+
+fn wrong(alloc: Global, first: usize, second: usize) -> Result<String> {
+    Answer::new(alloc)
+        .words("wrong behind ")
+        .number(first as u64)
+        .words(" and ")
+        .number(second as u64)
+        .words(" calls")
+        .end()
 }

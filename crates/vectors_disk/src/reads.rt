@@ -2,12 +2,12 @@
 
 use crate::texts::{MOST, log_fault, told};
 use crate::words::disk_of;
-use anyhow::{Context, Result};
+use anyhow::Result;
 use at_cid::Octets;
 use gate_log::{Log, LogFault};
 use relay_disk::{Disk, FuseDisk};
 use std::alloc::Global;
-use vector_lines::{Subject, add_bytes, bytes};
+use vector_lines::{Answer, Subject, bytes, number, parted};
 
 pub struct Reads;
 
@@ -33,20 +33,30 @@ fn other_stop(alloc: Global, content: &[u8], place: u64, calls: usize) -> Result
 
 impl Subject for Reads {
     fn answer(&self, alloc: Global, input: &str) -> Result<String> {
-        let (content, place) = input.split_once(" ; ").context("content")?;
+        let (content, place) = parted(input, " ; ")?;
+        let place = number(place)?;
         let content = bytes(alloc, content)?;
-        let place = place.parse::<u64>()?;
-        let mut disk = disk_of(alloc, &content)?;
+        let mut disk = disk_of(alloc, content.as_slice())?;
         let (body, next) = match told(body_at(alloc, &mut disk, place))? {
             Ok(found) => found,
             Err(fault) => return log_fault(alloc, fault),
         };
-        if let Some(passes) = other_stop(alloc, &content, place, disk.calls().len())? {
-            return Ok(format!(in alloc; "not stopped behind {passes} calls")?);
+        if let Some(passes) = other_stop(alloc, content.as_slice(), place, disk.calls().len())? {
+            return not_stopped(alloc, passes);
         }
-        let mut answer = "body ".to_string(alloc)?;
-        add_bytes(&mut answer, body.as_slice())?;
-        write!(&mut answer, " next {next}")?;
-        Ok(answer)
+        Answer::new(alloc)
+            .words("body ")
+            .bytes(body.as_slice())
+            .words(" next ")
+            .number(next)
+            .end()
     }
+}
+
+fn not_stopped(alloc: Global, passes: usize) -> Result<String> {
+    Answer::new(alloc)
+        .words("not stopped behind ")
+        .number(passes as u64)
+        .words(" calls")
+        .end()
 }

@@ -1,9 +1,9 @@
 //! Scripts of calls of a disk.
 
-use anyhow::{Context, Result};
+use anyhow::Result;
 use relay_disk::{Disk, Failed};
 use std::alloc::Global;
-use vector_lines::bytes;
+use vector_lines::{bytes, number, parted};
 
 /// A call of a script. A call on content asks the disk for its size first, and isn't made where it doesn't fit.
 #[derive(Drop)]
@@ -22,15 +22,15 @@ fn step_of(alloc: Global, word: &str) -> Result<Step> {
     if word == "sync" {
         return Ok(Step::Sync);
     }
-    let (name, rest) = word.split_once(':').context("a call and a place")?;
+    let (name, rest) = parted(word, ":")?;
     if name == "cut" {
-        return Ok(Step::Cut(rest.parse::<u64>()?));
+        return Ok(Step::Cut(number(rest)?));
     }
     if name == "read" {
-        return Ok(Step::Read(rest.parse::<u64>()?));
+        return Ok(Step::Read(number(rest)?));
     }
-    let (place, piece) = rest.split_once(':').context("a place and a piece")?;
-    Ok(Step::Write(place.parse::<u64>()?, bytes(alloc, piece)?))
+    let (place, piece) = parted(rest, ":")?;
+    Ok(Step::Write(number(place)?, bytes(alloc, piece)?))
 }
 
 /// The calls of words `write:PLACE:BYTES`, `cut:SIZE`, `read:PLACE` and `sync`.

@@ -1,10 +1,10 @@
 //! `BYTES ; STEP ; ROOM ; FAILING = what is written, and whether all is`.
 
 use crate::words::numbers;
-use anyhow::{Context, Result, bail};
+use anyhow::{Result, bail};
 use relay_io::{MemorySink, write_all};
 use std::alloc::Global;
-use vector_lines::{Subject, add_bytes, bytes, had};
+use vector_lines::{Answer, Subject, bytes, had, number, parted};
 
 pub struct Sinks;
 
@@ -20,16 +20,22 @@ fn sink(alloc: Global, room: usize, step: usize, failing: &[u64]) -> Result<Memo
 
 impl Subject for Sinks {
     fn answer(&self, alloc: Global, input: &str) -> Result<String> {
-        let (text, rest) = input.split_once(" ; ").context("bytes")?;
-        let (step, rest) = rest.split_once(" ; ").context("a step")?;
-        let (room, failing) = rest.split_once(" ; ").context("a room")?;
-        let failing = numbers(alloc, failing)?;
-        let (room, step) = (room.parse::<usize>()?, step.parse::<usize>()?);
-        let mut sink = sink(alloc, room, step, &failing)?;
-        let is_whole = write_all(&mut sink, &bytes(alloc, text)?).is_ok();
-        let mut answer = String::new(alloc);
-        add_bytes(&mut answer, sink.content())?;
-        answer.push_str(if is_whole { " all" } else { " a front" })?;
-        Ok(answer)
+        let (text, rest) = parted(input, " ; ")?;
+        let (step, rest) = parted(rest, " ; ")?;
+        let (room, failing) = parted(rest, " ; ")?;
+        let mut sink = sink_of(alloc, room, step, failing)?;
+        let text = bytes(alloc, text)?;
+        let is_whole = write_all(&mut sink, text.as_slice()).is_ok();
+        Answer::new(alloc)
+            .bytes(sink.content())
+            .words(if is_whole { " all" } else { " a front" })
+            .end()
     }
+}
+
+fn sink_of(alloc: Global, room: &str, step: &str, failing: &str) -> Result<MemorySink> {
+    let room = usize::try_from(number(room)?)?;
+    let step = usize::try_from(number(step)?)?;
+    let failing = numbers(alloc, failing)?;
+    sink(alloc, room, step, failing.as_slice())
 }

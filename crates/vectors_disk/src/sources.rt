@@ -1,10 +1,11 @@
 //! `BYTES ; STEP ; LIMIT ; FAILING = the bytes that are read to the end, or the fault`.
 
 use crate::words::numbers;
-use anyhow::{Context, Result, bail};
+use anyhow::{Result, bail};
+use at_cid::Octets;
 use relay_io::{MemorySource, ReadFault, read_to_end};
 use std::alloc::Global;
-use vector_lines::{Subject, add_bytes, bytes, had};
+use vector_lines::{Answer, Subject, bytes, had, number, parted, said};
 
 pub struct Sources;
 
@@ -19,21 +20,27 @@ fn source(alloc: Global, bytes: &[u8], step: usize, failing: &[u64]) -> Result<M
 
 impl Subject for Sources {
     fn answer(&self, alloc: Global, input: &str) -> Result<String> {
-        let (text, rest) = input.split_once(" ; ").context("bytes")?;
-        let (step, rest) = rest.split_once(" ; ").context("a step")?;
-        let (limit, failing) = rest.split_once(" ; ").context("a limit")?;
-        let failing = numbers(alloc, failing)?;
-        let text = bytes(alloc, text)?;
-        let mut source = source(alloc, &text, step.parse::<usize>()?, &failing)?;
-        match read_to_end(alloc, &mut source, limit.parse::<usize>()?) {
-            Ok(read) => {
-                let mut answer = String::new(alloc);
-                add_bytes(&mut answer, read.as_slice())?;
-                Ok(answer)
-            }
-            Err(ReadFault::Failed) => Ok("Failed".to_string(alloc)?),
-            Err(ReadFault::TooLong) => Ok("TooLong".to_string(alloc)?),
-            Err(ReadFault::Memory) => bail!("out of memory"),
-        }
+        let (text, rest) = parted(input, " ; ")?;
+        let (step, rest) = parted(rest, " ; ")?;
+        let (limit, failing) = parted(rest, " ; ")?;
+        let limit = usize::try_from(number(limit)?)?;
+        let mut source = source_of(alloc, text, step, failing)?;
+        told(alloc, read_to_end(alloc, &mut source, limit))
+    }
+}
+
+fn source_of(alloc: Global, text: &str, step: &str, failing: &str) -> Result<MemorySource> {
+    let failing = numbers(alloc, failing)?;
+    let text = bytes(alloc, text)?;
+    let step = usize::try_from(number(step)?)?;
+    source(alloc, text.as_slice(), step, failing.as_slice())
+}
+
+fn told(alloc: Global, answer: Result<Octets, ReadFault>) -> Result<String> {
+    match answer {
+        Ok(read) => Answer::new(alloc).bytes(read.as_slice()).end(),
+        Err(ReadFault::Failed) => said(alloc, "Failed"),
+        Err(ReadFault::TooLong) => said(alloc, "TooLong"),
+        Err(ReadFault::Memory) => bail!("out of memory"),
     }
 }

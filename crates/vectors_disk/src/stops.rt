@@ -6,11 +6,11 @@ use crate::logging::{append, held};
 use crate::texts::{MOST, log_fault, told};
 use crate::words::disk_of;
 use crate::worst::{CASES, image};
-use anyhow::{Context, Result};
+use anyhow::Result;
 use gate_log::{Log, LogFault};
 use relay_disk::{Disk, FuseDisk, MemoryDisk};
 use std::alloc::Global;
-use vector_lines::{Subject, bytes};
+use vector_lines::{Answer, Subject, bytes, parted};
 
 pub struct Stops;
 
@@ -67,17 +67,27 @@ fn wrong_stop(
         Err(fault) => left > 0 && fault == LogFault::Disk,
     };
     if !is_told {
-        return Ok(Some(format!(in alloc; "another answer behind {passes} calls")?));
+        return wrong(alloc, "another answer", passes);
     }
     let disk = fuse.into_inner();
     for i in 0..CASES {
         // At the last sync the gate is open in the content alone.
         let is_added = left == 0 || (left == 1 && i == 0);
         if !is_right(alloc, image(alloc, &disk, i)?, body, run, is_added)? {
-            return Ok(Some(format!(in alloc; "a wrong worst case {i} behind {passes} calls")?));
+            return wrong(alloc, "a wrong worst case", passes);
         }
     }
     Ok(None)
+}
+
+fn wrong(alloc: Global, what: &str, passes: usize) -> Result<Option<String>> {
+    let text = Answer::new(alloc)
+        .words(what)
+        .words(" behind ")
+        .number(passes as u64)
+        .words(" calls")
+        .end()?;
+    Ok(Some(text))
 }
 
 // A whole run, or the fault of it.
@@ -100,24 +110,31 @@ fn whole(alloc: Global, content: &[u8], body: &[u8]) -> Result<Result<Run, LogFa
 
 impl Subject for Stops {
     fn answer(&self, alloc: Global, input: &str) -> Result<String> {
-        let (content, body) = input.split_once(" ; ").context("content")?;
+        let (content, body) = parted(input, " ; ")?;
         let content = bytes(alloc, content)?;
         let body = bytes(alloc, body)?;
-        let run = match whole(alloc, &content, &body)? {
-            Ok(run) => run,
-            Err(fault) => return log_fault(alloc, fault),
-        };
-        for passes in 0..=run.calls {
-            if let Some(fault) = wrong_stop(alloc, &content, &body, &run, passes)? {
-                return Ok(fault);
-            }
+        match whole(alloc, content.as_slice(), body.as_slice())? {
+            Ok(run) => stopped(alloc, content.as_slice(), body.as_slice(), &run),
+            Err(fault) => log_fault(alloc, fault),
         }
-        let Run {
-            calls,
-            place,
-            before,
-            after,
-        } = run;
-        Ok(format!(in alloc; "calls {calls} place {place} before {before} after {after}")?)
     }
+}
+
+// What a run shows that is stopped behind each number of calls.
+fn stopped(alloc: Global, content: &[u8], body: &[u8], run: &Run) -> Result<String> {
+    for passes in 0..=run.calls {
+        if let Some(fault) = wrong_stop(alloc, content, body, run, passes)? {
+            return Ok(fault);
+        }
+    }
+    Answer::new(alloc)
+        .words("calls ")
+        .number(run.calls as u64)
+        .words(" place ")
+        .number(run.place)
+        .words(" before ")
+        .words(run.before.as_str())
+        .words(" after ")
+        .words(run.after.as_str())
+        .end()
 }

@@ -4,7 +4,7 @@ use anyhow::Result;
 use relay_io::{ReaderSource, WriterSink, read_to_end, write_all};
 use std::alloc::Global;
 use std::collections::VecDeque;
-use vector_lines::{Subject, add_bytes, bytes};
+use vector_lines::{Answer, Subject, bytes};
 
 pub struct Streams;
 
@@ -16,8 +16,6 @@ impl Subject for Streams {
         write_all(&mut sink, &piece)?;
         let mut source = ReaderSource::new(&mut queue);
         let read = read_to_end(alloc, &mut source, piece.len())?;
-        let mut answer = String::new(alloc);
-        add_bytes(&mut answer, read.as_slice())?;
-        Ok(answer)
+        Answer::new(alloc).bytes(read.as_slice()).end()
     }
 }

@@ -4,34 +4,28 @@ use anyhow::{Result, bail};
 use gate_log::LogFault;
 use relay_disk::Call;
 use std::alloc::Global;
-use vector_lines::{add, add_number};
+use vector_lines::Answer;
 
 /// No record is to end past this place.
 pub const MOST: u64 = 1 << 40;
 
-/// Adds a call of a disk.
-pub fn add_call(text: &mut String, call: Call) -> Result<()> {
+/// With a call of a disk behind.
+pub fn with_call(answer: Answer, call: Call) -> Answer {
     match call {
-        Call::Size => add(text, "Size"),
-        Call::Read(place, len) => add_span(text, "Read(", place, len),
-        Call::Write(place, len) => add_span(text, "Write(", place, len),
-        Call::Cut(size) => add_place(text, "Cut(", size),
-        Call::Sync => add(text, "Sync"),
+        Call::Size => answer.words("Size"),
+        Call::Read(place, len) => with_span(answer.words("Read("), place, len),
+        Call::Write(place, len) => with_span(answer.words("Write("), place, len),
+        Call::Cut(size) => answer.words("Cut(").number(size).words(")"),
+        Call::Sync => answer.words("Sync"),
     }
 }
 
-fn add_span(text: &mut String, name: &str, place: u64, len: usize) -> Result<()> {
-    add(text, name)?;
-    add_number(text, place)?;
-    add(text, ",")?;
-    add_number(text, len as u64)?;
-    add(text, ")")
-}
-
-fn add_place(text: &mut String, name: &str, place: u64) -> Result<()> {
-    add(text, name)?;
-    add_number(text, place)?;
-    add(text, ")")
+fn with_span(answer: Answer, place: u64, len: usize) -> Answer {
+    answer
+        .number(place)
+        .words(",")
+        .number(len as u64)
+        .words(")")
 }
 
 /// The answer of a log's call, where there was memory for it.
@@ -42,19 +36,13 @@ pub fn told<T>(answer: Result<T, LogFault>) -> Result<Result<T, LogFault>> {
     }
 }
 
-/// Adds the fault of a log, where it isn't the want of memory.
-pub fn add_log_fault(text: &mut String, fault: LogFault) -> Result<()> {
-    match fault {
-        LogFault::Disk => add(text, "Disk"),
-        LogFault::BadLog(place) => add_place(text, "BadLog(", place),
-        LogFault::Full(end) => add_place(text, "Full(", end),
-        LogFault::Memory => bail!("out of memory"),
-    }
-}
-
 /// The fault of a log, where it isn't the want of memory.
 pub fn log_fault(alloc: Global, fault: LogFault) -> Result<String> {
-    let mut text = String::new(alloc);
-    add_log_fault(&mut text, fault)?;
-    Ok(text)
+    let answer = Answer::new(alloc);
+    match fault {
+        LogFault::Disk => answer.words("Disk").end(),
+        LogFault::BadLog(place) => answer.words("BadLog(").number(place).words(")").end(),
+        LogFault::Full(end) => answer.words("Full(").number(end).words(")").end(),
+        LogFault::Memory => bail!("out of memory"),
+    }
 }

@@ -3,7 +3,7 @@
 use anyhow::Result;
 use relay_disk::MemoryDisk;
 use std::alloc::Global;
-use vector_lines::{bytes, had};
+use vector_lines::{bytes, had, number};
 
 /// The calls, and the bytes of writes, for which a disk has room.
 pub const ROOM: usize = 200;
@@ -15,7 +15,7 @@ pub fn numbers(alloc: Global, text: &str) -> Result<Vec<u64>> {
         return Ok(numbers);
     }
     for word in text.split(',') {
-        numbers.push(word.parse::<u64>()?)?;
+        numbers.push(number(word)?)?;
     }
     Ok(numbers)
 }
@@ -37,4 +37,10 @@ pub fn disk_of(alloc: Global, content: &[u8]) -> Result<MemoryDisk> {
     let mut disk = had(MemoryDisk::new(alloc, content, &[]))?;
     had(disk.reserve(ROOM, ROOM))?;
     Ok(disk)
+}
+
+/// The disk in memory of content in hexadecimal.
+pub fn disk_of_digits(alloc: Global, digits: &str) -> Result<MemoryDisk> {
+    let content = bytes(alloc, digits)?;
+    disk_of(alloc, content.as_slice())
 }

@@ -5,7 +5,7 @@ use crate::words::{ROOM, disk_of};
 use anyhow::{Context, Result};
 use relay_disk::MemoryDisk;
 use std::alloc::Global;
-use vector_lines::{Subject, add_bytes, bytes, had};
+use vector_lines::{Answer, Subject, bytes, had, parted};
 
 pub struct Worst;
 
@@ -21,20 +21,24 @@ pub fn image(alloc: Global, disk: &MemoryDisk, i: u8) -> Result<MemoryDisk> {
 
 impl Subject for Worst {
     fn answer(&self, alloc: Global, input: &str) -> Result<String> {
-        let (content, steps) = input.split_once(" ; ").context("content")?;
+        let (content, steps) = parted(input, " ; ")?;
         let steps = script(alloc, steps)?;
-        let mut disk = disk_of(alloc, &bytes(alloc, content)?)?;
-        run(&mut disk, &steps).ok().context("a script that ends")?;
-        let mut answer = String::new(alloc);
-        for i in 0..CASES {
-            if i > 0 {
-                answer.push(' ')?;
-            }
-            add_bytes(&mut answer, image(alloc, &disk, i)?.content())?;
-        }
-        if had(disk.worst(alloc, CASES))?.is_some() {
-            answer.push_str(" and more")?;
-        }
-        Ok(answer)
+        let content = bytes(alloc, content)?;
+        let mut disk = disk_of(alloc, content.as_slice())?;
+        run(&mut disk, steps.as_slice())?;
+        told(alloc, &disk)
     }
+}
+
+fn told(alloc: Global, disk: &MemoryDisk) -> Result<String> {
+    let mut answer = Answer::new(alloc);
+    for i in 0..CASES {
+        let image = image(alloc, disk, i)?;
+        answer = answer.words(if i > 0 { " " } else { "" });
+        answer = answer.bytes(image.content());
+    }
+    if had(disk.worst(alloc, CASES))?.is_some() {
+        answer = answer.words(" and more");
+    }
+    answer.end()
 }

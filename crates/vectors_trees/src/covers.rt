@@ -9,7 +9,7 @@ use at_car::Blocks;
 use at_cid::Cid;
 use mst_list::{ItemList, OpList, guarded};
 use std::alloc::Global;
-use vector_lines::{Subject, add, add_link, add_list, had, parted, said};
+use vector_lines::{Answer, Subject, had, parted, said};
 
 pub struct Covers;
 
@@ -76,15 +76,16 @@ impl Subject for Covers {
 }
 
 fn told(alloc: Global, root: &Cid, cover: &[Cid]) -> Result<String> {
-    let mut answer = said(alloc, "root ")?;
-    add_link(&mut answer, root)?;
-    add(&mut answer, " cover ")?;
-    let mut texts = Vec::new(alloc);
-    for link in cover {
-        let mut text = String::new(alloc);
-        add_link(&mut text, link)?;
-        texts.push(text)?;
+    let answer = Answer::new(alloc)
+        .words("root ")
+        .link(root)
+        .words(" cover ");
+    let [first, others @ ..] = cover else {
+        return answer.words("-").end();
+    };
+    let mut answer = answer.link(first);
+    for link in others {
+        answer = answer.words(",").link(link);
     }
-    add_list(&mut answer, texts.as_slice())?;
-    Ok(answer)
+    answer.end()
 }

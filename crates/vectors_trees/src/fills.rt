@@ -1,29 +1,26 @@
 //! `MAP ; LIST = fills yes or no, roots LINK LINK`.
 
 use crate::filling::fills;
-use crate::spelled::add_yes;
+use crate::spelled::with_yes;
 use crate::trees::root_of;
 use crate::words::formed_list;
 use anyhow::Result;
 use mst_list::ItemList;
 use std::alloc::Global;
-use vector_lines::{Subject, add, add_link, parted, said};
+use vector_lines::{Answer, Subject, parted};
 
 pub struct Fills;
 
-// Adds the root of a list.
-fn add_root(alloc: Global, text: &mut String, list: &ItemList) -> Result<()> {
-    add(text, " ")?;
-    add_link(text, &root_of(alloc, list)?)
-}
-
 fn answer_of(alloc: Global, map: &ItemList, list: &ItemList) -> Result<String> {
-    let mut answer = said(alloc, "fills ")?;
-    add_yes(&mut answer, fills(alloc, map, list)?)?;
-    add(&mut answer, ", roots")?;
-    add_root(alloc, &mut answer, map)?;
-    add_root(alloc, &mut answer, list)?;
-    Ok(answer)
+    let is_filled = fills(alloc, map, list)?;
+    let whole = root_of(alloc, map)?;
+    let hidden = root_of(alloc, list)?;
+    with_yes(Answer::new(alloc).words("fills "), is_filled)
+        .words(", roots ")
+        .link(&whole)
+        .words(" ")
+        .link(&hidden)
+        .end()
 }
 
 impl Subject for Fills {

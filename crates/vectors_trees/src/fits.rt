@@ -3,11 +3,11 @@
 //! key ends.
 
 use crate::parts::node_of;
-use crate::spelled::add_yes;
+use crate::spelled::with_yes;
 use anyhow::{Context, Result};
 use mst_node::{Node, layer_of, next_key, node_fits, top_fits};
 use std::alloc::Global;
-use vector_lines::{Subject, add, add_bytes, add_number, bytes, number, parted};
+use vector_lines::{Answer, Subject, bytes, number, parted};
 
 pub struct Fits;
 
@@ -43,27 +43,29 @@ fn place_of(alloc: Global, text: &str) -> Result<Place> {
     })
 }
 
-// Adds what is said of a top node.
-fn add_top(text: &mut String, node: &Node) -> Result<()> {
+// With what is said of a top node behind.
+fn with_top(answer: Answer, node: &Node) -> Answer {
     let layer = layer_of(node);
-    add(text, ", layer ")?;
-    add_number(text, u64::from(layer))?;
-    add(text, ", top ")?;
-    add_yes(text, top_fits(layer, node))
+    let answer = answer.words(", layer ").number(u64::from(layer));
+    with_yes(answer.words(", top "), top_fits(layer, node))
+}
+
+fn told(alloc: Global, place: &Place, node: &Node) -> Result<String> {
+    let (low, high) = (lent(&place.low), lent(&place.high));
+    let fits = node_fits(place.layer, low, high, node);
+    let next = next_key(high, node.entries.as_slice());
+    let answer = with_yes(Answer::new(alloc).words("fits "), fits);
+    with_top(answer, node)
+        .words(", next ")
+        .bytes(next.unwrap_or(&[]))
+        .end()
 }
 
 impl Subject for Fits {
     fn answer(&self, alloc: Global, input: &str) -> Result<String> {
         let (front, parts) = parted(input, " ; ")?;
-        let Place { layer, low, high } = place_of(alloc, front)?;
+        let place = place_of(alloc, front)?;
         let node = node_of(alloc, parts)?.context("a node")?;
-        let mut text = String::new(alloc);
-        add(&mut text, "fits ")?;
-        add_yes(&mut text, node_fits(layer, lent(&low), lent(&high), &node))?;
-        add_top(&mut text, &node)?;
-        add(&mut text, ", next ")?;
-        let next = next_key(lent(&high), node.entries.as_slice());
-        add_bytes(&mut text, next.unwrap_or(&[]))?;
-        Ok(text)
+        told(alloc, &place, &node)
     }
 }

@@ -42,21 +42,37 @@ use weighs::Weighs;
 
 fn compared(rt: &HostRuntime) -> Result<Suite> {
     let mut suite = Suite::new(rt)?;
+    compare_nodes(rt, &mut suite)?;
+    compare_trees(rt, &mut suite)?;
+    compare_operations(rt, &mut suite)?;
+    compare_laws(rt, &mut suite)?;
+    Ok(suite)
+}
+
+fn compare_nodes(rt: &HostRuntime, suite: &mut Suite) -> Result<()> {
     suite.file(rt, "heights", &Heights)?;
     suite.file(rt, "nodes", &Nodes)?;
     suite.file(rt, "parts", &Parts)?;
-    suite.file(rt, "fits", &Fits)?;
+    suite.file(rt, "fits", &Fits)
+}
+
+fn compare_trees(rt: &HostRuntime, suite: &mut Suite) -> Result<()> {
     suite.file(rt, "roots", &Roots)?;
-    suite.file(rt, "views", &Views)?;
+    suite.file(rt, "views", &Views)
+}
+
+fn compare_operations(rt: &HostRuntime, suite: &mut Suite) -> Result<()> {
     suite.file(rt, "weighs", &Weighs)?;
     suite.file(rt, "undo", &Undoing)?;
     suite.file(rt, "commits", &Commits)?;
-    suite.file(rt, "play", &Playing)?;
+    suite.file(rt, "play", &Playing)
+}
+
+fn compare_laws(rt: &HostRuntime, suite: &mut Suite) -> Result<()> {
     suite.file(rt, "fills", &Fills)?;
     suite.file(rt, "replays", &Replays)?;
     suite.file(rt, "cover", &Covers)?;
-    suite.file(rt, "rounds", &Rounds)?;
-    Ok(suite)
+    suite.file(rt, "rounds", &Rounds)
 }
 
 fn main(rt: HostRuntime) -> ExitCode {

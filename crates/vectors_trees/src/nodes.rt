@@ -1,50 +1,50 @@
 //! `BLOCK = ok left LINK entries KEY>VALUE>RIGHT .., or BadNode`.
 
-use crate::spelled::add_link_or_none;
 use anyhow::{Result, bail};
 use mst_node::{Entry, Node, NodeFault, read_node, write_node};
 use std::alloc::Global;
-use vector_lines::{Subject, add, add_bytes, add_link, bytes, had, said};
+use vector_lines::{Answer, Subject, bytes, had, said};
 
 pub struct Nodes;
 
-fn add_entries(text: &mut String, entries: &[Entry]) -> Result<()> {
+fn with_entry(answer: Answer, entry: &Entry) -> Answer {
+    answer
+        .words(" ")
+        .bytes(entry.key.as_slice())
+        .words(">")
+        .link(&entry.value)
+        .words(">")
+        .link_or_none(entry.right.as_ref())
+}
+
+fn with_entries(answer: Answer, entries: &[Entry]) -> Answer {
     if entries.is_empty() {
-        add(text, " -")?;
+        return answer.words(" -");
     }
+    let mut answer = answer;
     for entry in entries {
-        add_entry(text, entry)?;
+        answer = with_entry(answer, entry);
     }
-    Ok(())
+    answer
 }
 
-fn add_entry(text: &mut String, entry: &Entry) -> Result<()> {
-    add(text, " ")?;
-    add_bytes(text, entry.key.as_slice())?;
-    add(text, ">")?;
-    add_link(text, &entry.value)?;
-    add(text, ">")?;
-    add_link_or_none(text, &entry.right)
-}
-
-/// Adds the parts of a node.
-pub fn add_node(text: &mut String, node: &Node) -> Result<()> {
-    add(text, "left ")?;
-    add_link_or_none(text, &node.left)?;
-    add(text, " entries")?;
-    add_entries(text, node.entries.as_slice())
+/// With the parts of a node behind.
+pub fn with_node(answer: Answer, node: &Node) -> Answer {
+    let answer = answer
+        .words("left ")
+        .link_or_none(node.left.as_ref())
+        .words(" entries");
+    with_entries(answer, node.entries.as_slice())
 }
 
 // What a node says, and how it is written again.
 fn told(alloc: Global, node: &Node, block: &[u8]) -> Result<String> {
-    let mut answer = said(alloc, "ok ")?;
-    add_node(&mut answer, node)?;
+    let answer = with_node(Answer::new(alloc).words("ok "), node);
     let again = had(write_node(alloc, node))?;
-    if again.as_slice() != block {
-        add(&mut answer, ", written as ")?;
-        add_bytes(&mut answer, again.as_slice())?;
+    if again.as_slice() == block {
+        return answer.end();
     }
-    Ok(answer)
+    answer.words(", written as ").bytes(again.as_slice()).end()
 }
 
 impl Subject for Nodes {

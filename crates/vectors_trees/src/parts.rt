@@ -1,6 +1,6 @@
 //! `left LINK entries KEY>VALUE>RIGHT .. = a node, or no node`.
 
-use crate::nodes::add_node;
+use crate::nodes::with_node;
 use crate::words::{link_or_none, octets};
 use anyhow::{Context, Result};
 use at_cid::Octets;
@@ -9,7 +9,7 @@ use mst_node::{
     write_node,
 };
 use std::alloc::Global;
-use vector_lines::{Subject, add, had, link, parted, said};
+use vector_lines::{Answer, Subject, had, link, parted, said};
 
 pub struct Parts;
 
@@ -71,12 +71,16 @@ impl Subject for Parts {
         if !is_same_in_pieces(alloc, &node, &block)? {
             return said(alloc, "another block in pieces");
         }
-        let mut answer = String::new(alloc);
-        add_node(&mut answer, &read_node(alloc, block.as_slice())?)?;
-        if answer.as_str() != input {
-            add(&mut answer, " was read again")?;
-            return Ok(answer);
+        let again = read_again(alloc, block.as_slice())?;
+        if again.as_str() != input {
+            return Ok(again);
         }
         said(alloc, "a node")
     }
+}
+
+// The parts of the node that a block is read as.
+fn read_again(alloc: Global, block: &[u8]) -> Result<String> {
+    let node = read_node(alloc, block)?;
+    with_node(Answer::new(alloc), &node).end()
 }

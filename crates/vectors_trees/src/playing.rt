@@ -1,12 +1,12 @@
 //! `ITEMS ; OPERATIONS = ok ITEMS root LINK, or Clash(i)`.
 
-use crate::spelled::add_tree;
+use crate::spelled::with_tree;
 use crate::trees::root_of;
 use crate::words::list_and_operations;
 use anyhow::{Result, bail};
 use mst_list::{ItemList, PlayFault, play};
 use std::alloc::Global;
-use vector_lines::{Subject, add, add_number, parted, said};
+use vector_lines::{Answer, Subject, parted};
 
 pub struct Playing;
 
@@ -23,14 +23,14 @@ impl Subject for Playing {
 }
 
 fn told(alloc: Global, played: &ItemList) -> Result<String> {
-    let mut answer = String::new(alloc);
-    add_tree(&mut answer, played.as_slice(), &root_of(alloc, played)?)?;
-    Ok(answer)
+    let root = root_of(alloc, played)?;
+    with_tree(Answer::new(alloc), played.as_slice(), &root).end()
 }
 
 fn clash(alloc: Global, i: u32) -> Result<String> {
-    let mut answer = said(alloc, "Clash(")?;
-    add_number(&mut answer, u64::from(i))?;
-    add(&mut answer, ")")?;
-    Ok(answer)
+    Answer::new(alloc)
+        .words("Clash(")
+        .number(u64::from(i))
+        .words(")")
+        .end()
 }

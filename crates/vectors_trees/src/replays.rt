@@ -5,7 +5,7 @@ use crate::laws::former_root;
 use crate::words::{formed_list, list_and_operations};
 use anyhow::Result;
 use std::alloc::Global;
-use vector_lines::{Subject, add_link, parted, said};
+use vector_lines::{Answer, Subject, parted, said};
 
 pub struct Replays;
 
@@ -18,8 +18,6 @@ impl Subject for Replays {
         let Some(root) = former_root(alloc, &hidden, &map, &ops)? else {
             return said(alloc, "against a law");
         };
-        let mut answer = said(alloc, "root ")?;
-        add_link(&mut answer, &root)?;
-        Ok(answer)
+        Answer::new(alloc).words("root ").link(&root).end()
     }
 }

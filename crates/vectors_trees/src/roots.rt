@@ -6,7 +6,7 @@ use anyhow::Result;
 use at_car::Blocks;
 use mst_node::empty_root;
 use std::alloc::Global;
-use vector_lines::{Subject, add, add_link, add_number, said};
+use vector_lines::{Answer, Subject, said};
 
 pub struct Roots;
 
@@ -18,10 +18,10 @@ impl Subject for Roots {
         if list.as_slice().is_empty() && root != empty_root() {
             return said(alloc, "another root than that of the empty tree");
         }
-        let mut answer = String::new(alloc);
-        add_link(&mut answer, &root)?;
-        add(&mut answer, " nodes ")?;
-        add_number(&mut answer, blocks.len() as u64)?;
-        Ok(answer)
+        Answer::new(alloc)
+            .link(&root)
+            .words(" nodes ")
+            .number(blocks.len() as u64)
+            .end()
     }
 }

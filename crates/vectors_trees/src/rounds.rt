@@ -10,7 +10,7 @@ use at_cid::{Cid, Octets, cid_of};
 use mst_list::{Item, ItemList, Op, OpList};
 use mst_view::StubTree;
 use std::alloc::Global;
-use vector_lines::{Subject, add, had, number, parted, said};
+use vector_lines::{Answer, Subject, had, number, parted, said};
 
 pub struct Rounds;
 
@@ -135,7 +135,13 @@ fn told(alloc: Global, endings: &Endings) -> Result<String> {
         uncovered,
     } = endings;
     if *undone.min(others).min(uncovered) < FEWEST {
-        return Ok(format!(in alloc; "{undone} {others} {uncovered}")?);
+        return Answer::new(alloc)
+            .number(u64::from(*undone))
+            .words(" ")
+            .number(u64::from(*others))
+            .words(" ")
+            .number(u64::from(*uncovered))
+            .end();
     }
     said(alloc, "alike, of each ending more than 5")
 }
@@ -161,8 +167,9 @@ impl Subject for Rounds {
 }
 
 fn differing(alloc: Global, on_tree: &str, on_list: &str) -> Result<String> {
-    let mut text = said(alloc, on_tree)?;
-    add(&mut text, " on a tree and on its list ")?;
-    add(&mut text, on_list)?;
-    Ok(text)
+    Answer::new(alloc)
+        .words(on_tree)
+        .words(" on a tree and on its list ")
+        .words(on_list)
+        .end()
 }

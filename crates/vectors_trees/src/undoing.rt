@@ -4,17 +4,16 @@
 use crate::filling::is_map;
 use crate::laws::former_root;
 use crate::shown::{seen, tree_of};
-use crate::spelled::{add_tree, add_yes};
+use crate::spelled::{with_tree, with_yes};
 use crate::trees::root_of;
 use crate::views::view_fault;
 use crate::words::{blocks, formed_operations, list, operations};
 use anyhow::{Result, bail};
-use at_cid::Cid;
 use mst_list::{ItemList, OpList, UndoFault, guarded, undo_list};
 use mst_undo::{are_apart, undo};
 use mst_view::StubTree;
 use std::alloc::Global;
-use vector_lines::{Subject, add, add_link, add_number, had, link, parted, said};
+use vector_lines::{Answer, Subject, had, link, parted, said};
 
 pub struct Undoing;
 
@@ -29,23 +28,30 @@ fn undo_fault(alloc: Global, fault: UndoFault) -> Result<String> {
 }
 
 fn numbered(alloc: Global, name: &str, i: u32) -> Result<String> {
-    let mut text = said(alloc, name)?;
-    add_number(&mut text, u64::from(i))?;
-    add(&mut text, ")")?;
-    Ok(text)
+    Answer::new(alloc)
+        .words(name)
+        .number(u64::from(i))
+        .words(")")
+        .end()
 }
 
-// The items of a list and a root.
-fn told(alloc: Global, list: &ItemList, root: &Cid) -> Result<String> {
-    let mut text = String::new(alloc);
-    add_tree(&mut text, list.as_slice(), root)?;
-    Ok(text)
+// The items of a list and its root.
+fn list_told(alloc: Global, list: &ItemList) -> Result<String> {
+    let root = root_of(alloc, list)?;
+    with_tree(Answer::new(alloc), list.as_slice(), &root).end()
+}
+
+// The items of a tree and its root.
+fn tree_told(alloc: Global, tree: &StubTree) -> Result<String> {
+    let list = had(tree.list(alloc))?;
+    let root = had(tree.top_link(alloc))?;
+    with_tree(Answer::new(alloc), list.as_slice(), &root).end()
 }
 
 /// How undoing on a list ends.
 pub fn undone_list(alloc: Global, list: &ItemList, ops: &OpList) -> Result<String> {
     match undo_list(alloc, list, ops) {
-        Ok(left) => told(alloc, &left, &root_of(alloc, &left)?),
+        Ok(left) => list_told(alloc, &left),
         Err(fault) => undo_fault(alloc, fault),
     }
 }
@@ -61,7 +67,7 @@ fn undone(alloc: Global, tree: StubTree, ops: &OpList) -> Result<Result<StubTree
 /// How undoing on a tree ends.
 pub fn undone_tree(alloc: Global, tree: StubTree, ops: &OpList) -> Result<String> {
     match undone(alloc, tree, ops)? {
-        Ok(left) => told(alloc, &had(left.list(alloc))?, &had(left.top_link(alloc))?),
+        Ok(left) => tree_told(alloc, &left),
         Err(fault) => undo_fault(alloc, fault),
     }
 }
@@ -74,26 +80,34 @@ fn is_lawful(alloc: Global, list: &ItemList, ops: &OpList) -> Result<bool> {
     Ok(former_root(alloc, list, list, ops)?.is_some())
 }
 
-// Adds how undoing on the tree of a list ends, where it is another end, and whether it is against a law.
-fn add_tree_end(alloc: Global, answer: &mut String, list: &ItemList, ops: &OpList) -> Result<()> {
+// What is wrong with how undoing on the tree of a list ends, where the other end is that on the list.
+fn wrong_tree_end(
+    alloc: Global,
+    end: &str,
+    list: &ItemList,
+    ops: &OpList,
+) -> Result<Option<&'static str>> {
     let other = undone_tree(alloc, tree_of(alloc, list)?, ops)?;
-    if other.as_str() != answer.as_str() {
-        add(answer, ", but on a tree ")?;
-        add(answer, other.as_str())?;
-    } else if answer.starts_with("ok") && !is_lawful(alloc, list, ops)? {
-        add(answer, ", but against a law")?;
+    if other.as_str() != end {
+        return Ok(Some(", but otherwise on a tree"));
     }
-    Ok(())
+    if end.starts_with("ok") && !is_lawful(alloc, list, ops)? {
+        return Ok(Some(", but against a law"));
+    }
+    Ok(None)
 }
 
 fn answer_of(alloc: Global, list: &ItemList, ops: &OpList) -> Result<String> {
-    let mut answer = undone_list(alloc, list, ops)?;
+    let end = undone_list(alloc, list, ops)?;
+    let mut wrong = None;
     if are_apart(ops) {
-        add_tree_end(alloc, &mut answer, list, ops)?;
+        wrong = wrong_tree_end(alloc, end.as_str(), list, ops)?;
     }
-    add(&mut answer, " guarded ")?;
-    add_yes(&mut answer, guarded(list, ops))?;
-    Ok(answer)
+    let answer = Answer::new(alloc)
+        .words(end.as_str())
+        .words(wrong.unwrap_or(""))
+        .words(" guarded ");
+    with_yes(answer, guarded(list, ops)).end()
 }
 
 impl Subject for Undoing {
@@ -113,9 +127,8 @@ impl Subject for Undoing {
 fn root_undone(alloc: Global, tree: StubTree, ops: &OpList) -> Result<String> {
     match undone(alloc, tree, ops)? {
         Ok(left) => {
-            let mut answer = said(alloc, "ok root ")?;
-            add_link(&mut answer, &had(left.top_link(alloc))?)?;
-            Ok(answer)
+            let root = had(left.top_link(alloc))?;
+            Answer::new(alloc).words("ok root ").link(&root).end()
         }
         Err(fault) => undo_fault(alloc, fault),
     }

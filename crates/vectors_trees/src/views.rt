@@ -2,7 +2,7 @@
 //! how many keys the whole tree has.
 
 use crate::shown::seen;
-use crate::spelled::add_items;
+use crate::spelled::with_items;
 use crate::walks::walked;
 use crate::words::blocks;
 use anyhow::{Result, bail};
@@ -10,7 +10,7 @@ use at_car::Blocks;
 use at_cid::Cid;
 use mst_view::{Branch, StubTree, ViewFault};
 use std::alloc::Global;
-use vector_lines::{Subject, add, add_link, had, link, parted, said};
+use vector_lines::{Answer, Subject, had, link, parted, said};
 
 pub struct Views;
 
@@ -21,17 +21,12 @@ pub fn view_fault(alloc: Global, fault: ViewFault) -> Result<String> {
         ViewFault::BadNode(link) => ("BadNode", link),
         ViewFault::Memory => bail!("out of memory"),
     };
-    let mut text = String::new(alloc);
-    add_fault(&mut text, name, &link)?;
-    Ok(text)
+    with_fault(Answer::new(alloc), name, &link).end()
 }
 
-/// Adds a fault with the link of its block.
-pub fn add_fault(text: &mut String, name: &str, link: &Cid) -> Result<()> {
-    add(text, name)?;
-    add(text, "(")?;
-    add_link(text, link)?;
-    add(text, ")")
+/// With a fault and the link of its block behind.
+pub fn with_fault(answer: Answer, name: &str, link: &Cid) -> Answer {
+    answer.words(name).words("(").link(link).words(")")
 }
 
 // The tree with the link of its top forgotten, so that the top has to be spelled.
@@ -83,9 +78,7 @@ fn items_of(alloc: Global, tree: StubTree, root: Cid) -> Result<String> {
     if !is_top_linked(alloc, again, root)? {
         return said(alloc, "another link than that of the top");
     }
-    let mut text = said(alloc, "ok ")?;
-    add_items(&mut text, list.as_slice())?;
-    Ok(text)
+    with_items(Answer::new(alloc).words("ok "), list.as_slice()).end()
 }
 
 // What is seen of the blocks.
@@ -101,10 +94,13 @@ impl Subject for Views {
         let (root, rest) = parted(input, " ; ")?;
         let root = link(root)?;
         let blocks = blocks(alloc, rest)?;
-        let mut answer = said(alloc, "view ")?;
-        add(&mut answer, viewed(alloc, &blocks, root)?.as_str())?;
-        add(&mut answer, " ; ")?;
-        add(&mut answer, walked(alloc, &blocks, root)?.as_str())?;
-        Ok(answer)
+        let view = viewed(alloc, &blocks, root)?;
+        let walk = walked(alloc, &blocks, root)?;
+        Answer::new(alloc)
+            .words("view ")
+            .words(view.as_str())
+            .words(" ; walk ")
+            .words(walk.as_str())
+            .end()
     }
 }

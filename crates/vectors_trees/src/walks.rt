@@ -1,13 +1,13 @@
-//! How a walk of a whole tree ends: `walk ok COUNT`, or the fault.
+//! How a walk of a whole tree ends: `ok COUNT`, or the fault.
 
 use crate::shown::is_node_link;
-use crate::views::add_fault;
+use crate::views::with_fault;
 use anyhow::{Result, bail};
 use at_car::{Blocks, Kept, Scan, write};
 use at_cid::Cid;
 use mst_whole::{NodeSieve, WalkFault, walk, walk_kept};
 use std::alloc::Global;
-use vector_lines::{add, add_number, had, said};
+use vector_lines::{Answer, had, said};
 
 /// So many bytes of a CAR come at once.
 const PIECE: usize = 37;
@@ -21,23 +21,19 @@ pub fn walked(alloc: Global, blocks: &Blocks, root: Cid) -> Result<String> {
     let kept = kept_of(alloc, blocks, &root)?;
     let again = end(alloc, walk_kept(alloc, &kept, &root))?;
     if whole.as_str() != again.as_str() {
-        return said(alloc, "walk otherwise over what was kept");
+        return said(alloc, "otherwise over what was kept");
     }
     Ok(whole)
 }
 
 fn end(alloc: Global, ended: Result<u64, WalkFault>) -> Result<String> {
-    let mut text = said(alloc, "walk ")?;
+    let answer = Answer::new(alloc);
     match ended {
-        Ok(keys) => {
-            add(&mut text, "ok ")?;
-            add_number(&mut text, keys)?;
-        }
-        Err(WalkFault::NoBlock(link)) => add_fault(&mut text, "NoBlock", &link)?,
-        Err(WalkFault::BadNode(link)) => add_fault(&mut text, "BadNode", &link)?,
+        Ok(keys) => answer.words("ok ").number(keys).end(),
+        Err(WalkFault::NoBlock(link)) => with_fault(answer, "NoBlock", &link).end(),
+        Err(WalkFault::BadNode(link)) => with_fault(answer, "BadNode", &link).end(),
         Err(WalkFault::Memory) => bail!("out of memory"),
     }
-    Ok(text)
 }
 
 // What is kept of the blocks' CAR, of which the pieces come one by one.
