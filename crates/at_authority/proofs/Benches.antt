@@ -2,13 +2,13 @@
 use Rattle.std.proofs.Common.{◌≡◌, ◌≢◌, ◌⊎◌, inl, inr, ⊎_elim, ℕ, ◌+◌, ◌-◌, ◌<◌, ◌≤◌, Bool, false, List, [], ◌∷◌, ◌++◌, length, drop, map, get_or, zero, suc, Option, refl, sym, ap, ◌∙◌, subst, arith, get_or-set_other, get_or-set_same}
 use Rattle.std.proofs.Math.ListN.{set, length-set}
 use Rattle.std.proofs.lemmas.List.{length-map, drop_all, length-drop}
-use Rattle.std.specs.Prelude.{Result, Err}
+use Rattle.std.specs.Prelude.{Err}
 use Rattle.at_authority.specs.declared.asked.Asked.{Asked}
 use Rattle.at_authority.specs.declared.question.Question.{Question}
 use Rattle.at_authority.specs.Queries.{Telling}
 use Rattle.at_authority.specs.Answers.{Rises, CountsFailure}
-use Rattle.at_authority.specs.Panels.{Seat, Bench, values, living, faults_at, IsSpent, Falls, bench_of}
-use Rattle.at_authority.specs.Calls.{Call, answers, refreshes, fails, Turns, NobodySays, Does, Asks}
+use Rattle.at_authority.specs.Panels.{Seat, Bench, values, living, faults_at, Falls, bench_of}
+use Rattle.at_authority.specs.Calls.{Call, Turns, NobodySays, Does, Asks}
 use Rattle.at_authority.specs.Asking.{call_of}
 
 map_set : {A B : Type 0} (f : A → B) (xs : List A) (i : ℕ) (x : A) → map f (set xs i x) ≡ set (map f xs) i (f x)
@@ -101,7 +101,7 @@ module _ {A : Type 0} (tells : A → Option Telling) (faults : A → ℕ) where
   -- the value of an authority that was asked stays
   kept : (xs : List A) (n m i : ℕ) (x y : A) → i < length xs → y ≡ get_or xs i y → tells x ≡ tells y → values (bench (set xs i x) n) ≡ values (bench xs m)
   kept xs n m i x y low at same =
-    values_set xs n m i x ∙ set_same (values (bench xs m)) i (tells x) (same ∙ sym (map_at (λ (s : Seat). s.value) (map seat xs) i (seat y) (tells x) (omega (arith, length-map xs seat, low)) (seat_at xs i y at)))
+      values_set xs n m i x ∙ set_same (values (bench xs m)) i (tells x) (same ∙ sym (map_at (λ (s : Seat). s.value) (map seat xs) i (seat y) (tells x) (omega (arith, length-map xs seat, low)) (seat_at xs i y at)))
 
   -- the faults after the one at n was asked, where all before it fell
   steady_after : (old : Bench) (xs : List A) (n m : ℕ) (x y : A) → Goes old xs n → n < length xs → y ≡ get_or xs n y → (i : ℕ) → (i < old.fallen) ⊎ (n ≤ i) → i ≢ n → faults_at (bench (set xs n x) m) i ≡ faults_at old i
@@ -119,57 +119,51 @@ module _ {A : Type 0} (tells : A → Option Telling) (faults : A → ℕ) where
   -- the one at n fails, and falls
   pub goes_further : (old : Bench) (xs : List A) (n : ℕ) (x y : A) → Goes old xs n → n < length xs → y ≡ get_or xs n y → tells x ≡ tells y → Rises (faults y) (faults x) → Goes old (set xs n x) (n + 1)
   goes_further old xs n x y goes low at same rises =
-    let there : faults_at (bench xs n) n ≡ faults_at old n = goes.falls.steady n (inr (omega arith)) in
-    let many : length (map seat (set xs n x)) ≡ length xs = length-map (set xs n x) seat ∙ length-set xs n x in
-    record {
-      falls = record {
-        as_many = many ∙ sym (length-map xs seat) ∙ goes.falls.as_many;
-        later = omega (arith, goes.falls.later);
-        within = omega (arith, many, low);
-        rose = λ i h k. ⊎_elim (λ e. let at_n : Rises (faults_at old n) (faults_at (bench (set xs n x) (n + 1)) n) = rises_along (faults y) (faults x) _ _ (sym (faults_before xs n n y low at) ∙ there) (sym (faults_here xs (n + 1) n x low)) rises in
-            let P : ℕ → Type 0 = λ j. Rises (faults_at old j) (faults_at (bench (set xs n x) (n + 1)) j) in subst P (sym e) at_n)
-          (λ d. rises_along (faults_at old i) (faults_at (bench xs n) i) (faults_at old i) _ refl (sym (faults_there xs (n + 1) n n i x d)) (goes.falls.rose i h (omega (arith, d, k)))) (same_or i n);
-        steady = λ i h. steady_after old xs n (n + 1) x y goes low at i (⊎_elim (λ l. inl l) (λ l. inr (omega (arith, l))) h) (λ e. ⊎_elim (λ l. omega (arith, l, e, goes.falls.later)) (λ l. omega (arith, l, e)) h);
-      };
-      same = kept xs (n + 1) n n x y low at same ∙ goes.same;
-    }
+      let there : faults_at (bench xs n) n ≡ faults_at old n = goes.falls.steady n (inr (omega arith)) in
+      let many : length (map seat (set xs n x)) ≡ length xs = length-map (set xs n x) seat ∙ length-set xs n x in
+      record {
+        falls = record {
+          as_many = many ∙ sym (length-map xs seat) ∙ goes.falls.as_many;
+          later = omega (arith, goes.falls.later);
+          within = omega (arith, many, low);
+          rose = λ i h k. ⊎_elim (λ e. let at_n : Rises (faults_at old n) (faults_at (bench (set xs n x) (n + 1)) n) = rises_along (faults y) (faults x) _ _ (sym (faults_before xs n n y low at) ∙ there) (sym (faults_here xs (n + 1) n x low)) rises in
+              let P : ℕ → Type 0 = λ j. Rises (faults_at old j) (faults_at (bench (set xs n x) (n + 1)) j) in subst P (sym e) at_n)
+              (λ d. rises_along (faults_at old i) (faults_at (bench xs n) i) (faults_at old i) _ refl (sym (faults_there xs (n + 1) n n i x d)) (goes.falls.rose i h (omega (arith, d, k)))) (same_or i n);
+          steady = λ i h. steady_after old xs n (n + 1) x y goes low at i (⊎_elim (λ l. inl l) (λ l. inr (omega (arith, l))) h) (λ e. ⊎_elim (λ l. omega (arith, l, e, goes.falls.later)) (λ l. omega (arith, l, e)) h);
+        };
+        same = kept xs (n + 1) n n x y low at same ∙ goes.same;
+      }
 
   -- the one at n was asked, and lives on
   lives_on : (old : Bench) (xs : List A) (n : ℕ) (x y : A) → Goes old xs n → n < length xs → y ≡ get_or xs n y → faults x ≡ faults y → Falls old (bench (set xs n x) n)
   lives_on old xs n x y goes low at steady =
-    let there : faults_at (bench xs n) n ≡ faults_at old n = goes.falls.steady n (inr (omega arith)) in
-    let many : length (map seat (set xs n x)) ≡ length xs = length-map (set xs n x) seat ∙ length-set xs n x in
-    record {
-      as_many = many ∙ sym (length-map xs seat) ∙ goes.falls.as_many;
-      later = goes.falls.later;
-      within = omega (arith, many, low);
-      rose = λ i h k. rises_along (faults_at old i) (faults_at (bench xs n) i) (faults_at old i) _ refl (sym (faults_there xs n n n i x (λ e. omega (arith, e, k)))) (goes.falls.rose i h k);
-      steady = λ i h. ⊎_elim (λ e. let P : ℕ → Type 0 = λ j. faults_at (bench (set xs n x) n) j ≡ faults_at old j in
+      let there : faults_at (bench xs n) n ≡ faults_at old n = goes.falls.steady n (inr (omega arith)) in
+      let many : length (map seat (set xs n x)) ≡ length xs = length-map (set xs n x) seat ∙ length-set xs n x in
+      record {
+        as_many = many ∙ sym (length-map xs seat) ∙ goes.falls.as_many;
+        later = goes.falls.later;
+        within = omega (arith, many, low);
+        rose = λ i h k. rises_along (faults_at old i) (faults_at (bench xs n) i) (faults_at old i) _ refl (sym (faults_there xs n n n i x (λ e. omega (arith, e, k)))) (goes.falls.rose i h k);
+        steady = λ i h. ⊎_elim (λ e. let P : ℕ → Type 0 = λ j. faults_at (bench (set xs n x) n) j ≡ faults_at old j in
             subst P (sym e) (faults_here xs n n x low ∙ steady ∙ sym (faults_before xs n n y low at) ∙ there))
-          (λ d. steady_after old xs n n x y goes low at i h d) (same_or i n);
-    }
+            (λ d. steady_after old xs n n x y goes low at i h d) (same_or i n);
+      }
 
   -- the first that lives answers
   pub answered : (old : Bench) (xs : List A) (n : ℕ) (x y : A) (call : Call) → Goes old xs n → n < length xs → y ≡ get_or xs n y → Turns call (tells y) (tells x) → faults x ≡ faults y → Asks call old (bench (set xs n x) n)
   answered old xs n x y call goes low at turns steady =
-    let before : List (Option Telling) = values (bench xs n) in
-    let here : n < length before = omega (arith, wide xs n, low) in
-    let at_n : tells y ≡ get_or before n (tells y) = sym (map_at (λ (s : Seat). s.value) (map seat xs) n (seat y) (tells y) (omega (arith, length-map xs seat, low)) (seat_at xs n y at)) in
-    record {
-      falls = lives_on old xs n x y goes low at steady;
-      does = does_first call (map seat (set xs n x)) (drop n (values old)) (living (bench (set xs n x) n)) (tells y) (tells x) (drop (suc n) before) (ap (drop n) (sym goes.same) ∙ drop_at before n (tells y) here at_n)
-          (ap (drop n) (values_set xs n n n x) ∙ drop_set before n (tells x) here) turns;
-    }
+      let before : List (Option Telling) = values (bench xs n) in
+      let here : n < length before = omega (arith, wide xs n, low) in
+      let at_n : tells y ≡ get_or before n (tells y) = sym (map_at (λ (s : Seat). s.value) (map seat xs) n (seat y) (tells y) (omega (arith, length-map xs seat, low)) (seat_at xs n y at)) in
+      record {
+        falls = lives_on old xs n x y goes low at steady;
+        does = does_first call (map seat (set xs n x)) (drop n (values old)) (living (bench (set xs n x) n)) (tells y) (tells x) (drop (suc n) before) (ap (drop n) (sym goes.same) ∙ drop_at before n (tells y) here at_n)
+            (ap (drop n) (values_set xs n n n x) ∙ drop_set before n (tells x) here) turns;
+      }
 
   -- nobody is left
   left_none : (old : Bench) (xs : List A) (n : ℕ) → Goes old xs n → length xs ≤ n → drop n (values old) ≡ []
   left_none old xs n goes high = ap (drop n) (sym goes.same) ∙ drop_all n (values (bench xs n)) (omega (arith, wide xs n, high))
-
-  pub exhausted : (old : Bench) (xs : List A) (n : ℕ) (did : List ℕ) → Goes old xs n → length xs ≤ n → Asks (fails did) old (bench xs n)
-  exhausted old xs n did goes high = record {
-    falls = goes.falls;
-    does = does_nothing (fails did) (map seat xs) (drop n (values old)) (living (bench xs n)) (left_none old xs n goes high) (drop_all n (values (bench xs n)) (omega (arith, wide xs n, high))) tt;
-  }
 
   pub empty : (old : Bench) (xs : List A) (n : ℕ) (did : List ℕ) (question : Question) → Goes old xs n → length xs ≡ 0 → Asks (call_of did question false) old (bench xs n)
   empty old xs n did question goes none = record {
@@ -181,16 +175,6 @@ module _ {A : Type 0} (tells : A → Option Telling) (faults : A → ℕ) where
       nil : (xs : List A) → length xs ≡ 0 → xs ≡ []
       nil [] h = refl
       nil (x ∷ xs) h = absurd (omega (arith, h))
-
-  -- whether a bench is spent
-  pub not_spent : (xs : List A) (n : ℕ) → n < length xs → IsSpent (bench xs n) → ⊥
-  not_spent xs n low spent = omega (arith, low, spent.gone, length-map xs seat)
-
-  pub none_to_fall : (xs : List A) (n : ℕ) → n ≤ length xs → length xs ≡ 0 → IsSpent (bench xs n) → ⊥
-  none_to_fall xs n low none spent = omega (arith, low, none, spent.had)
-
-  pub is_spent : (xs : List A) (n : ℕ) → n ≤ length xs → length xs ≤ n → 0 < length xs → IsSpent (bench xs n)
-  is_spent xs n low high some = record { had = omega (arith, low, high, some); gone = omega (arith, low, high, length-map xs seat) }
 
   -- how many live
   pub length-living : (xs : List A) (n : ℕ) → length (living (bench xs n)) ≡ length xs - n

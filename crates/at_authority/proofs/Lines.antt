@@ -1,9 +1,9 @@
 -- Lines of a table: the grammar and its test say the same.
-use Rattle.std.proofs.Common.{◌≡◌, ℕ, ◌<◌, ◌≤◌, Bool, true, false, not, ◌&&◌, ◌||◌, eqb, List, [], ◌∷◌, ◌++◌, length, refl, sym, ap, ◌∙◌, arith, ◌⊎◌, inl, inr, ⊎_elim}
-use Rattle.std.specs.Prelude.{IsTrue, codes, nat_le, nat_lt, ◌==◌, ◌%◌}
-use Rattle.std.specs.List.{list_all, position_or_len, before_first, after_first}
+use Rattle.std.proofs.Common.{◌≡◌, ℕ, ◌<◌, Bool, true, false, not, ◌&&◌, eqb, List, [], ◌∷◌, ◌++◌, length, refl, sym, ap, ◌∙◌, arith, ◌⊎◌, inl, inr, ⊎_elim}
+use Rattle.std.specs.Prelude.{codes, nat_le, nat_lt, ◌==◌, ◌%◌}
+use Rattle.std.specs.List.{list_all, position_or_len}
 use Rattle.std.specs.Str.{bytes_eq}
-use Rattle.std.proofs.lemmas.Bool.{and_parts, and_from, and_right, or_cases, or_from, or_left, or_right, false≢true, ne_eqb, eqb-true}
+use Rattle.std.proofs.lemmas.Bool.{and_parts, and_from, and_right, or_cases, or_from, or_left, or_right, false≢true, ne_eqb}
 use Rattle.std.proofs.lemmas.List.Folds.{list_all-append}
 use Rattle.std.proofs.lemmas.Slice.Eq.{bytes_eq-Decides}
 use Rattle.at_authority.specs.Standing.{IsOfKind}
@@ -12,7 +12,7 @@ use Rattle.at_syntax.specs.Did.{IsDid, is_did, is_identifier_character, is_final
 use Rattle.at_syntax.specs.Host.{is_host, is_host_character}
 use Rattle.at_syntax.proofs.Dids.{did_grammar, no_colon}
 use Rattle.at_syntax.proofs.Splits.{after_none, part_before, part_after, parts_again}
-use Rattle.at_authority.specs.Tables.{home_line, trust_line, good_line, signed_part, is_digit, is_digest, is_signature, IsHomeLine, IsTrustLine, IsGoodLine, IsLine, is_blank, first_field, other_fields, is_home_rest, is_signed_rest, is_good_rest, is_of_kind, is_line}
+use Rattle.at_authority.specs.Tables.{signed_part, is_digit, is_digest, is_signature, IsHomeLine, IsTrustLine, IsGoodLine, IsLine, first_field, other_fields, is_home_rest, is_signed_rest, is_good_rest, is_of_kind, is_line}
 
 no_signature : is_signature [] ≡ false
 unfolding is_signature
@@ -149,12 +149,12 @@ host_letters host h = (and_parts (nat_lt 0 (length host) && nat_le (length host)
 pub line_unfed : (line : List ℕ) → IsLine line → list_all (not_at 10) line ≡ true
 line_unfed line is =
     ⊎_elim (λ h. ap (list_all (not_at 10)) h.spelled ∙ apart_join 10 (codes "home ") (h.did ++ (codes " " ++ h.host)) refl
-      (apart_join 10 h.did (codes " " ++ h.host) (did_unfed h.did h.of_did) (apart_join 10 (codes " ") h.host refl (apart 10 is_host_character refl h.host (host_letters h.host h.of_host)))))
+    (apart_join 10 h.did (codes " " ++ h.host) (did_unfed h.did h.of_did) (apart_join 10 (codes " ") h.host refl (apart 10 is_host_character refl h.host (host_letters h.host h.of_host)))))
     (λ rest. ⊎_elim (λ t. ap (list_all (not_at 10)) t.spelled ∙ apart_join 10 (codes "trust ") t.did refl (did_unfed t.did t.of_did))
     (λ g. ap (list_all (not_at 10)) g.spelled ∙ apart_join 10 (codes "good ") (signed_part g.did g.digest g.sig) refl
-      (apart_join 10 g.did (codes " " ++ (g.digest ++ (codes " " ++ g.sig))) (did_unfed g.did g.of_did)
-      (apart_join 10 (codes " ") (g.digest ++ (codes " " ++ g.sig)) refl
-      (apart_join 10 g.digest (codes " " ++ g.sig) (apart 10 is_digit refl g.digest (digest_letters g.digest g.of_digest)) (apart_join 10 (codes " ") g.sig refl (apart 10 is_digit refl g.sig (sig_letters g.sig g.of_sig))))))) rest) is
+    (apart_join 10 g.did (codes " " ++ (g.digest ++ (codes " " ++ g.sig))) (did_unfed g.did g.of_did)
+    (apart_join 10 (codes " ") (g.digest ++ (codes " " ++ g.sig)) refl
+    (apart_join 10 g.digest (codes " " ++ g.sig) (apart 10 is_digit refl g.digest (digest_letters g.digest g.of_digest)) (apart_join 10 (codes " ") g.sig refl (apart 10 is_digit refl g.sig (sig_letters g.sig g.of_sig))))))) rest) is
 
 before : (part rest : List ℕ) → list_all (not_at 32) part ≡ true → first_field (part ++ 32 ∷ rest) ≡ part
 before part rest h = part_before 32 (not_at 32) refl part rest h

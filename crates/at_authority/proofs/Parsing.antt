@@ -1,7 +1,7 @@
 -- Lines are taken from the front of a text.
-use Rattle.std.proofs.Common.{◌≡◌, ◌≢◌, ℕ, ◌+◌, ◌<◌, ◌≤◌, Bool, true, false, eqb, List, [], ◌∷◌, ◌++◌, length, refl, sym, ap, ◌∙◌, arith, append_assoc, append-nil, length-append, subst, Option, None}
+use Rattle.std.proofs.Common.{◌≡◌, ◌≢◌, ℕ, ◌+◌, ◌≤◌, true, false, List, [], ◌∷◌, ◌++◌, length, refl, sym, ap, ◌∙◌, arith, append_assoc, length-append}
 use Rattle.std.specs.Prelude.{All}
-use Rattle.std.specs.List.{position_or_len, before_first, after_first, list_all}
+use Rattle.std.specs.List.{position_or_len, before_first}
 use Rattle.std.proofs.lemmas.Bool.{false≢true}
 use Rattle.std.proofs.lemmas.List.{length_push}
 use Rattle.at_syntax.proofs.Splits.{part_long, part_before}
@@ -9,9 +9,8 @@ use Rattle.at_authority.specs.declared.line.Line.{Line}
 use Rattle.at_authority.proofs.Lines.{not_at, line_tested, line_read, line_unfed}
 use Rattle.std.proofs.lemmas.List.Elements.{All-push}
 use Rattle.at_authority.specs.declared.table.Table.{Table}
-use Rattle.at_authority.specs.Queries.{Query, asks_home, asks_verdict}
-use Rattle.at_authority.specs.Tables.{IsLine, IsTable, IsBadAt, is_line, is_line_feed, is_named, spelled, told_by}
-use Rattle.at_authority.specs.Standing.{StandsFor, IsRead, answer_of}
+use Rattle.at_authority.specs.Tables.{IsLine, IsBadAt, is_line, is_line_feed, spelled}
+use Rattle.at_authority.specs.Standing.{StandsFor, IsRead}
 
 -- So far so many lines were taken, for which the table stands
 pub record IsParsing (text rest : List ℕ) (number : ℕ) (table : Table) : Type 0 where
@@ -21,10 +20,6 @@ pub record IsParsing (text rest : List ℕ) (number : ℕ) (table : Table) : Typ
   pub number_is : number ≡ length lines + 1
   pub stands : StandsFor lines table
   pub fits : number + length rest ≤ length text + 1
-
--- nothing was taken
-pub parsing_nothing : (text : List ℕ) (table : Table) → StandsFor [] table → IsParsing text text 1 table
-parsing_nothing text table stands = record { lines = []; text_is = refl; each = λ k d h. absurd (omega arith); number_is = refl; stands = stands; fits = omega arith }
 
 pub read_line : (text : List ℕ) (line : Line) → IsRead text line → is_line text ≡ true
 read_line text (Line.Home did host) h = h.0.line
@@ -73,15 +68,3 @@ unended text rest number table p there none = record {
   there = there;
   bad = λ line more is e. omega (arith, sym none ∙ ap (position_or_len is_line_feed) e ∙ part_long 10 (not_at 10) refl line more (line_unfed line is), ap length e, length-append line (10 ∷ more));
 }
-
--- what a table answers that stands for lines
-pub answers_told : (lines : List (List ℕ)) (table : Table) → StandsFor lines table → (q : Query) → answer_of table q ≡ told_by lines q
-answers_told lines table stands (asks_home did host) = ap (is_named host) (stands.homes did)
-answers_told lines table stands (asks_verdict did digest sig) = rw (stands.trusted did, stands.good) refl
-
-pub parsed : (text rest : List ℕ) (number : ℕ) (table : Table) → IsParsing text rest number table → rest ≡ [] → (lines : List (List ℕ)) × IsTable text lines × ((q : Query) → answer_of table q ≡ told_by lines q)
-parsed text rest number table p none = (
-  p.lines,
-  record { text_is = p.text_is ∙ ap (λ (s : List ℕ). spelled p.lines ++ s) none ∙ append-nil (spelled p.lines); each = p.each },
-  answers_told p.lines table p.stands,
-)

@@ -1,5 +1,5 @@
 -- An authority in memory after a refresh.
-use Rattle.std.proofs.Common.{◌≡◌, ℕ, Bool, true, false, cond, List, Option, Some, refl, sym, ap, ◌∙◌}
+use Rattle.std.proofs.Common.{◌≡◌, ℕ, Bool, true, false, cond, List, refl, ap, ◌∙◌}
 use Rattle.std.specs.Prelude.{String, string_bytes}
 use Rattle.std.specs.BTreeSet as sorted
 use Rattle.std.specs.BTreeSet.{BTreeSet, contains_text}
@@ -11,7 +11,7 @@ use Rattle.std.specs.String.{string_cmp}
 use Rattle.std.proofs.lemmas.Map.Text.{btree_set_updates_text}
 use Rattle.at_cid.specs.declared.failures.Failures.{Failures}
 use Rattle.at_authority.specs.declared.table_authority.TableAuthority.{TableAuthority}
-use Rattle.at_authority.specs.Queries.{Query, Telling, did_asked, refreshed}
+use Rattle.at_authority.specs.Queries.{Query, did_asked, refreshed}
 use Rattle.at_authority.specs.Standing.{answer_of}
 use Rattle.at_authority.specs.InMemory.{telling_of}
 

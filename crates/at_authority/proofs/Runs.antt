@@ -6,10 +6,10 @@ use Rattle.std.proofs.lemmas.Bool.{false≢true}
 use Rattle.std.proofs.lemmas.List.{drop-drop, length-map}
 use Rattle.std.proofs.lemmas.Slice.Eq.{bytes_eq-Decides}
 use Rattle.at_syntax.specs.Did.{method_of}
-use Rattle.at_authority.specs.Queries.{Query, Telling, did_asked}
-use Rattle.at_authority.specs.Answers.{Says, Rises}
-use Rattle.at_authority.specs.Panels.{Seat, Bench, Panel, values, living, faults_at, Falls}
-use Rattle.at_authority.specs.Calls.{Call, answers, did_called, Turns, Does, Asks, IsCall, AreCalls}
+use Rattle.at_authority.specs.Queries.{Query, Telling}
+use Rattle.at_authority.specs.Answers.{Rises}
+use Rattle.at_authority.specs.Panels.{Seat, Bench, Panel, values, living, faults_at}
+use Rattle.at_authority.specs.Calls.{Call, answers, did_called, Does, Asks, IsCall, AreCalls}
 use Rattle.at_authority.specs.Ranks.{HasFallen, FirstSays, SaysAtRank, LastSays, ByRanks, answered, AreOf}
 
 pub join : (old mid new : Panel) (calls more : List Call) → AreCalls old calls mid → AreCalls mid more new → AreCalls old (calls ++ more) new
@@ -133,9 +133,10 @@ each_over : (old : List (Option Telling)) (asked : List (Query × Bool)) (new : 
 each_over old [] new h = tt
 each_over old (a ∷ asked) new h =
     let P : List (Option Telling) → Type 0 = λ l. FirstSays l a.0 a.1 in
-    let Q : List (Option Telling) → Type 0 = λ l. AllByRecursion (Over l (length new)) asked in
-    (record { over = h.1.over; behind = omega (arith, shorter h.0 asked new h.2, ap length h.1.left, length-drop h.1.over old, h.1.within); says = subst P h.1.left h.1.says },
-      further h.1.over old (length new) asked h.1.within (subst Q h.1.left (each_over h.0 asked new h.2)))
+    let Q : List (Option Telling) → Type 0 = λ l. AllByRecursion (Over l (length new)) asked in (
+      record { over = h.1.over; behind = omega (arith, shorter h.0 asked new h.2, ap length h.1.left, length-drop h.1.over old, h.1.within); says = subst P h.1.left h.1.says },
+      further h.1.over old (length new) asked h.1.within (subst Q h.1.left (each_over h.0 asked new h.2)),
+    )
 
 some_says : (vs : List (Option Telling)) (q : Query) (good : Bool) → FirstSays vs q good → 0 < length vs
 some_says [] q good h = absurd h

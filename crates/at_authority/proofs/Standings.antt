@@ -6,7 +6,6 @@ use Rattle.std.specs.BTreeSet as sorted
 use Rattle.std.specs.BTreeSet.{BTreeSet, contains_text}
 use Rattle.std.specs.Cmp.Lexicographic.{slice_cmp, nat_list_eq_equiv}
 use Rattle.std.specs.Global.{Global}
-use Rattle.std.specs.Map.{update}
 use Rattle.std.specs.Option.{option_or}
 use Rattle.std.specs.Ordering.{nat_cmp}
 use Rattle.std.specs.Str.{bytes_eq}
@@ -14,7 +13,7 @@ use Rattle.std.specs.String.{string_cmp}
 use Rattle.std.proofs.lemmas.Map.Text.{btree_map_updates_text, btree_set_updates_text}
 use Rattle.at_authority.specs.declared.table.Table.{Table}
 use Rattle.at_authority.specs.Tables.{first_field, other_fields, home_by, home_in, has_line, trust_line}
-use Rattle.at_authority.specs.Standing.{home_of, StandsFor, IsOfKind}
+use Rattle.at_authority.specs.Standing.{StandsFor, IsOfKind}
 use Rattle.at_authority.proofs.Lines.{cut}
 
 or_nothing : (b : Bool) → (b || false) ≡ b

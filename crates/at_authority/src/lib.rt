@@ -20,7 +20,10 @@ pub use asked::Asked;
 pub use authority::Authority;
 pub use file_authority::FileAuthority;
 pub use judges::{JudgeFault, Judges};
-pub use laws::{answers_have_ranks, calls_fell, calls_join, calls_part, one_line_is_bad, tables_are_good, text_tells_lines};
+pub use laws::{
+    answers_have_ranks, calls_fell, calls_join, calls_part, one_line_is_bad, tables_are_good,
+    text_tells_lines,
+};
 pub use panel::Panel;
 pub use table::Table;
 pub use table_authority::TableAuthority;

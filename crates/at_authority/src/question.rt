@@ -13,10 +13,7 @@ pub(crate) enum Question<'a> {
     /// Whether this host is its home.
     Home(&'a str),
     /// Whether the signature under the digest is good for it.
-    Verdict {
-        digest: &'a [u8; 32],
-        sig: &'a [u8],
-    },
+    Verdict { digest: &'a [u8; 32], sig: &'a [u8] },
     /// Look it up anew.
     Refresh,
 }

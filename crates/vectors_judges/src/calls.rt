@@ -7,14 +7,17 @@ use std::alloc::Global;
 
 /// The digest and the signature of every verdict that is asked.
 pub const DIGEST: [u8; 32] = [0xab; 32];
+
 pub const SIG: [u8; 1] = [0xff];
 
 /// A call, and whom it is about.
+#[derive(Clone, Copy)]
 pub struct Call<'a> {
     pub did: &'a str,
     pub what: What<'a>,
 }
 
+#[derive(Clone, Copy)]
 pub enum What<'a> {
     Home(&'a str),
     Verdict,
@@ -22,7 +25,7 @@ pub enum What<'a> {
 }
 
 /// The call of a text.
-pub fn call(text: &str) -> Result<Call<'_>> {
+pub fn read_call(text: &str) -> Result<Call<'_>> {
     let (kind, rest) = text.split_once(' ').context("a call")?;
     let what = match kind {
         "verdict" => What::Verdict,
@@ -66,7 +69,7 @@ fn asked<J: Judges>(judges: &mut J, call: &Call<'_>) -> Result<Result<bool, Judg
 pub fn answers<J: Judges>(alloc: Global, judges: &mut J, calls: &str) -> Result<String> {
     let mut text = String::new(alloc);
     for piece in calls.split(", ") {
-        let call = call(piece)?;
+        let call = read_call(piece)?;
         if !text.is_empty() {
             text.push(' ')?;
         }

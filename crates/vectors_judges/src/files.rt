@@ -1,27 +1,31 @@
 //! `STEP, .. = what each step answers` of an authority over a file: a call, or `write BYTES` and `remove`, which change the file
-//! and answer nothing. Each call is made of the authority itself, and of a panel that has it alone.
+//! and answer nothing.
 
-use crate::calls::{Call, DIGEST, SIG, What, answers, call, worded};
+use crate::calls::{Call, DIGEST, SIG, What, answers, read_call, worded};
 use anyhow::{Result, bail};
 use at_authority::{Asked, Authority, FileAuthority, Panel};
 use std::alloc::Global;
 use std::fs;
 use vector_lines::{Subject, bytes, had};
 
+/// Each call is made of the authority itself.
 #[derive(Drop)]
 pub struct Files<'a> {
+    pub rt: &'a HostRuntime,
+}
+
+/// Each call is made of a panel that has it alone.
+#[derive(Drop)]
+pub struct FilePanels<'a> {
     pub rt: &'a HostRuntime,
 }
 
 /// The file, which is removed before and behind each row.
 const PATH: &str = "table.txt";
 
-fn authority<'a>(rt: &'a HostRuntime) -> Result<FileAuthority<&'a HostRuntime>> {
-    Ok(FileAuthority::new(
-        rt,
-        rt.alloc(),
-        PATH.to_string(rt.alloc())?,
-    ))
+fn authority(rt: &HostRuntime) -> Result<FileAuthority<HostRuntime>> {
+    let path = PATH.to_string(rt.alloc())?;
+    Ok(FileAuthority::new(rt.clone()?, rt.alloc(), path))
 }
 
 // Changes the file, where the step does that.
@@ -53,7 +57,7 @@ fn answered(rt: &HostRuntime, steps: &str) -> Result<String> {
         if is_changed(rt, step)? {
             continue;
         }
-        let call = call(step)?;
+        let call = read_call(step)?;
         if !text.is_empty() {
             text.push(' ')?;
         }
@@ -70,6 +74,33 @@ impl Subject for Files<'_> {
     fn answer(&self, alloc: Global, input: &str) -> Result<String> {
         let _ = fs::remove_file(self.rt, PATH);
         let answer = answered(self.rt, input)?;
+        let _ = fs::remove_file(self.rt, PATH);
+        Ok(answer)
+    }
+}
+
+// What the panel answers to the steps.
+fn judged(rt: &HostRuntime, panel: &mut Panel, steps: &str) -> Result<String> {
+    let mut text = String::new(rt.alloc());
+    for step in steps.split(", ") {
+        if is_changed(rt, step)? {
+            continue;
+        }
+        if !text.is_empty() {
+            text.push(' ')?;
+        }
+        text.push_str(answers(rt.alloc(), panel, step)?.as_str())?;
+    }
+    Ok(text)
+}
+
+impl Subject for FilePanels<'_> {
+    fn answer(&self, alloc: Global, input: &str) -> Result<String> {
+        let _ = fs::remove_file(self.rt, PATH);
+        let mut panel = Panel::new(alloc);
+        let authority = Box::new(alloc, authority(self.rt)?)?;
+        had(panel.add("plc", authority))?;
+        let answer = judged(self.rt, &mut panel, input)?;
         let _ = fs::remove_file(self.rt, PATH);
         Ok(answer)
     }

@@ -9,7 +9,7 @@ mod tables;
 mod trust;
 
 use anyhow::Result;
-use files::Files;
+use files::{FilePanels, Files};
 use panels::Panels;
 use std::process::ExitCode;
 use tables::Tables;
@@ -22,6 +22,7 @@ fn compared(rt: &HostRuntime) -> Result<Suite> {
     suite.file(rt, "panels", &Panels)?;
     suite.file(rt, "trust", &Trust)?;
     suite.file(rt, "files", &Files { rt })?;
+    suite.file(rt, "file_panels", &FilePanels { rt })?;
     Ok(suite)
 }
 

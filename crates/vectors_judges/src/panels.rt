@@ -47,7 +47,7 @@ struct Placed<'a> {
     authority: TableAuthority,
 }
 
-fn placed(alloc: Global, words: &str) -> Result<Placed<'_>> {
+fn read_placed(alloc: Global, words: &str) -> Result<Placed<'_>> {
     let (method, rest) = words.split_once(' ').context("a method")?;
     let (now, rest) = rest.split_once(' ').context("a host")?;
     let (later, numbers) = rest.split_once(' ').context("a later host")?;
@@ -73,7 +73,7 @@ impl Subject for Panels {
         let mut panel = Panel::new(alloc);
         for words in authorities.split(" ; ") {
             if words != "-" {
-                let placed = placed(alloc, words)?;
+                let placed = read_placed(alloc, words)?;
                 let authority = Box::new(alloc, placed.authority)?;
                 had(panel.add(placed.method, authority))?;
             }

@@ -9,11 +9,13 @@ pub struct Tables;
 
 const HOSTS: [&str; 3] = ["a.example", "b.example", "c.example:80"];
 
-/// A signature under a digest, as a row names them.
+/// A signature under a digest, as a row names them: `0001` is the number 1 in 32 bytes, `abab` 32 bytes `ab`, `00` one byte and
+/// `ff` 64 bytes.
+#[derive(Clone, Copy)]
 struct Signed {
     name: &'static str,
     digest: [u8; 32],
-    sig: [u8; 1],
+    sig: &'static [u8],
 }
 
 // The number 1 in 32 bytes.
@@ -28,17 +30,17 @@ fn signatures() -> [Signed; 3] {
         Signed {
             name: "0001 00",
             digest: one(),
-            sig: [0],
+            sig: &[0],
         },
         Signed {
             name: "abab ff",
             digest: [0xab; 32],
-            sig: [0xff],
+            sig: &[0xff; 64],
         },
         Signed {
             name: "0001 ff",
             digest: one(),
-            sig: [0xff],
+            sig: &[0xff; 64],
         },
     ]
 }
@@ -53,7 +55,7 @@ fn add_homes(text: &mut String, table: &Table, did: &str) -> Result<()> {
 
 fn add_verdicts(text: &mut String, table: &Table, did: &str) -> Result<()> {
     for signed in &signatures() {
-        let is_good = had(table.verdict(did, &signed.digest, &signed.sig))?;
+        let is_good = had(table.verdict(did, &signed.digest, signed.sig))?;
         let answer = if is_good { "good" } else { "bad" };
         let name = signed.name;
         write!(text, " verdict {did} {name} {answer},")?;

@@ -1,4 +1,4 @@
-use Rattle.std.proofs.Common.{◌≡◌, refl, ap, ◌∙◌, sym, subst}
+use Rattle.std.proofs.Common.{◌≡◌, ap, ◌∙◌, sym, subst}
 use Rattle.std.specs.Prelude.{codes, Option, None, MatchOption, false, List, ℕ}
 use Rattle.at_syntax.specs.Did.{is_did}
 use Rattle.at_authority.specs.declared.line.Line.{Line}

@@ -1,4 +1,4 @@
-use Rattle.std.proofs.Common.{◌≡◌, ◌∙◌, sym, arith}
+use Rattle.std.proofs.Common.{arith}
 use Rattle.at_authority.specs.Calls.{fails}
 use Rattle.at_authority.specs.Asking.{call_of}
 use Rattle.at_authority.proofs.Benches.{counted_failed, counted_wanting, goes_further, answered}

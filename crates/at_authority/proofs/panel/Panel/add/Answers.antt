@@ -1,4 +1,4 @@
-use Rattle.std.proofs.Common.{rules, ◌≡◌, [], ◌∷◌, ap, ◌∙◌}
+use Rattle.std.proofs.Common.{rules, ap}
 use Rattle.std.specs.Prelude.{string_bytes, map}
 use Rattle.at_authority.proofs.Benches.{seats_added, same_bench}
 use Rattle.at_authority.proofs.Methods.{inside, added_at, fallen_at, others_at, kept_at, added_new, fallen_new, others_new, on_ok, on_err}
@@ -10,7 +10,7 @@ index_mut-requires g c = let low = inside _ c.args.self.now.benches.items c.in-S
 pub returns-in-Some-clause-added : goal.returns-in-Some-clause-added
 returns-in-Some-clause-added g c =
     on_ok c.push.result (λ e. added_at (λ b. string_bytes b.method) _ c.args.self.now.benches.items c.args.name.now c.in-Some.i c.push.new.self c.index_mut.result.now _ c.in-Some.ensures c.index_mut.ensures.value c.push.ensures.method
-        (seats_added (λ a. (goal.Authority-dyn g (a.vtable, a.value)).tells a.value) (λ a. (goal.Authority-dyn g (a.vtable, a.value)).faults a.value) c.index_mut.result.now.seats.items c.push.new.self.seats.items c.args.authority e)) c.push.ensures.ok
+    (seats_added (λ a. (goal.Authority-dyn g (a.vtable, a.value)).tells a.value) (λ a. (goal.Authority-dyn g (a.vtable, a.value)).faults a.value) c.index_mut.result.now.seats.items c.push.new.self.seats.items c.args.authority e)) c.push.ensures.ok
 
 pub returns-in-Some-clause-fallen : goal.returns-in-Some-clause-fallen
 returns-in-Some-clause-fallen g c = fallen_at (λ b. string_bytes b.method) _ c.args.self.now.benches.items c.args.name.now c.in-Some.i c.push.new.self c.index_mut.result.now c.in-Some.ensures c.index_mut.ensures.value c.push.ensures.method c.push.ensures.fallen
@@ -21,7 +21,7 @@ returns-in-Some-clause-others g c = others_at (λ b. string_bytes b.method) _ c.
 pub returns-in-Some-clause-kept : goal.returns-in-Some-clause-kept
 returns-in-Some-clause-kept g c =
     on_err c.push.result (λ e. kept_at (λ b. string_bytes b.method) _ c.args.self.now.benches.items c.in-Some.i c.push.new.self c.index_mut.result.now c.index_mut.ensures.value c.push.ensures.method
-        (same_bench (λ a. (goal.Authority-dyn g (a.vtable, a.value)).tells a.value) (λ a. (goal.Authority-dyn g (a.vtable, a.value)).faults a.value) c.push.new.self.seats.items c.index_mut.result.now.seats.items c.push.new.self.fallen c.index_mut.result.now.fallen e c.push.ensures.fallen)) c.push.ensures.err
+    (same_bench (λ a. (goal.Authority-dyn g (a.vtable, a.value)).tells a.value) (λ a. (goal.Authority-dyn g (a.vtable, a.value)).faults a.value) c.push.new.self.seats.items c.index_mut.result.now.seats.items c.push.new.self.fallen c.index_mut.result.now.fallen e c.push.ensures.fallen)) c.push.ensures.err
 
 pub returns-in_ok-push-in-None-clause-added : goal.returns-in_ok-push-in-None-clause-added
 returns-in_ok-push-in-None-clause-added g c =

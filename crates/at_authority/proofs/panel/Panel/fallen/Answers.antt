@@ -1,4 +1,4 @@
-use Rattle.std.proofs.Common.{rules, ◌≡◌, sym, ap, ◌∙◌}
+use Rattle.std.proofs.Common.{rules, sym, ap}
 use Rattle.at_authority.proofs.Methods.{inside, at_found, at_missed}
 use Rattle.at_authority.proofs.panel.Panel.fallen.Goals as goal
 

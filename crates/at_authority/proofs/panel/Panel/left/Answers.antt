@@ -1,4 +1,4 @@
-use Rattle.std.proofs.Common.{rules, ◌≡◌, sym, ap, arith, length}
+use Rattle.std.proofs.Common.{rules, sym, ap, arith, length}
 use Rattle.at_authority.specs.Panels.{living}
 use Rattle.at_authority.proofs.Benches.{length-living}
 use Rattle.at_authority.proofs.Methods.{inside, found_length, at_missed}

@@ -1,4 +1,4 @@
-use Rattle.std.proofs.Common.{◌≡◌, ℕ, ◌<◌, Bool, List, length, get_or, ap, sym, ◌∙◌, arith, string_bytes}
+use Rattle.std.proofs.Common.{get_or, ap, sym, ◌∙◌, arith, string_bytes}
 use Rattle.std.specs.Str.{bytes_eq}
 use Rattle.at_authority.proofs.Methods.{first_from, none_from}
 use Rattle.at_authority.proofs.panel.Panel.position.Goals as goal

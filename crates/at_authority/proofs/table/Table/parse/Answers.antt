@@ -1,12 +1,9 @@
-use Rattle.std.proofs.Common.{rules, ◌≡◌, ◌≢◌, ℕ, Bool, false, List, [], ◌∷◌, ◌++◌, length, Option, Some, refl, sym, ap, ◌∙◌, subst, arith, length-append, nat_eq}
-use Rattle.std.specs.Prelude.{Result, Ok, Err, ◌==◌, MatchOption}
-use Rattle.std.specs.List.{position_or_len}
-use Rattle.at_authority.specs.declared.line.Line.{Line}
+use Rattle.std.proofs.Common.{rules, ◌≡◌, ◌≢◌, ℕ, Bool, false, List, [], ◌∷◌, ◌++◌, length, sym, ap, ◌∙◌, subst, arith, length-append}
+use Rattle.std.specs.Prelude.{Result, Err, ◌==◌}
 use Rattle.at_authority.specs.declared.table.Table.{Table}
 use Rattle.at_authority.specs.declared.table_fault.TableFault.{TableFault}
-use Rattle.at_authority.specs.Tables.{IsBadAt, is_line}
-use Rattle.at_authority.specs.Standing.{IsRead}
-use Rattle.at_authority.proofs.Parsing.{parsing_nothing, read_line, parsing_more, bad_line, unended, parsed}
+use Rattle.at_authority.specs.Tables.{IsBadAt}
+use Rattle.at_authority.proofs.Parsing.{read_line, parsing_more, bad_line, unended}
 use Rattle.at_authority.proofs.table.Table.parse.Goals as goal
 
 bad_at : (n : ℕ) (text : List ℕ) → IsBadAt n text → (number : ℕ) → ◌≡◌ {A = Result Table TableFault} (Err (TableFault.BadLine n)) (Err (TableFault.BadLine number)) → IsBadAt number text
@@ -30,7 +27,7 @@ loop-line-preserved c =
     let is = c.in-Some-read.ensures in
     let p = c.loop-line.invariant.0 in (
       parsing_more c.args.text.now c.loop-line.rest.now c.in-Some.line.now c.in-Some.others.now c.loop-line.number c.loop-line.table c.add.new.self p split.1 (read_line c.in-Some.line.now c.in-Some-read.line is)
-      (c.in_ok-add.ensures c.in-Some.line.now p.lines is p.stands),
+          (c.in_ok-add.ensures c.in-Some.line.now p.lines is p.stands),
       search rules,
     )
 

@@ -1,4 +1,4 @@
-use Rattle.std.proofs.Common.{◌≡◌, refl, ◌∙◌}
+use Rattle.std.proofs.Common.{refl, ◌∙◌}
 use Rattle.at_authority.specs.Queries.{asks_home}
 use Rattle.at_authority.proofs.table_authority.TableAuthorityAuthority.home.Goals as goal
 

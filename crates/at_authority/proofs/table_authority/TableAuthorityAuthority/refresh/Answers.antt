@@ -1,4 +1,4 @@
-use Rattle.std.proofs.Common.{◌≡◌, Some, ap}
+use Rattle.std.proofs.Common.{Some, ap}
 use Rattle.at_authority.proofs.Refreshing.{is_refreshed}
 use Rattle.at_authority.proofs.table_authority.TableAuthorityAuthority.refresh.Goals as goal
 

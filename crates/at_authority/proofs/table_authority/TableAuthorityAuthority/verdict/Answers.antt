@@ -1,4 +1,4 @@
-use Rattle.std.proofs.Common.{◌≡◌, refl, ◌∙◌}
+use Rattle.std.proofs.Common.{refl, ◌∙◌}
 use Rattle.at_authority.specs.Queries.{asks_verdict}
 use Rattle.at_authority.proofs.table_authority.TableAuthorityAuthority.verdict.Goals as goal
 
