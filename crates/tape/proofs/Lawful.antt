@@ -4,7 +4,7 @@ use Rattle.std.proofs.lemmas.List.{append-nil}
 use Rattle.std.specs.Int.{to_be_bytes, w32}
 use Rattle.tape.specs.Format.{named, sized, record_bytes}
 use Rattle.tape.specs.Shown.{Shown, nothing, found, bad_name, too_long, cut, Shows, HasBadName, HasLongMessage}
-use Rattle.tape.specs.Laws.{OneThingIsShown, MoreBytesShowTheSame, CutRecordsAreCut}
+use Rattle.tape.specs.Laws.{OneThingIsShown, CutRecordsAreCut}
 use Rattle.tape.specs.Front.{front_of, rest_of}
 use Rattle.tape.proofs.Fronts.{seen, shown}
 
@@ -34,9 +34,6 @@ more_long bytes more h = record {
   long = h.long;
   fits = h.fits;
 }
-
-pub more_bytes : MoreBytesShowTheSame
-more_bytes = record { a_record = more_record; a_bad_name = more_bad; a_long_message = more_long }
 
 -- what a front of a record shows, by what it may be
 empty_end : (rest more : List ℕ) → rest ++ more ≡ [] → more ≡ []

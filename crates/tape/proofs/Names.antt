@@ -27,7 +27,7 @@ length_host name h =
     let front = and_parts (nat_lt 0 (length name) && nat_le (length name) LONGEST_HOST) (list_all is_host_character name) h in
     leb-true (length name) LONGEST_HOST (and_parts (nat_lt 0 (length name)) (nat_le (length name) LONGEST_HOST) front.0).1
 
-pub host_ascii : (name : List ℕ) → is_host name ≡ true → (i : ℕ) → slice_index name i < 128
+host_ascii : (name : List ℕ) → is_host name ≡ true → (i : ℕ) → slice_index name i < 128
 host_ascii name h = characters_ascii name (host_characters name h)
 
 host_text : (name : List ℕ) → is_host name ≡ true → IsUtf8 name

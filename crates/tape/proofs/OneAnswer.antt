@@ -73,10 +73,6 @@ module _ (old : Tape) (before : List ℕ) where
         });
       }
 
-  -- the bytes that were taken are a front of the input
-  held_front : (new : Tape) (after : List ℕ) → coming new after ≡ coming old before → coming old before ≡ held new ++ after
-  held_front new after stays = sym stays
-
   ended_within : (new : Tape) (after : List ℕ) → coming new after ≡ coming old before → after ≡ [] → new.place ≡ old.place → new.most ≡ old.most → taken new < new.most → old.place + length (coming old before) < old.most
   ended_within new after stays ended place most short =
       omega (arith, ap length stays, ap length ended, length-append (held new) after, place, most, short)

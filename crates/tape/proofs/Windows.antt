@@ -33,8 +33,3 @@ consumed bytes start end count inside =
     let parts : end - start ≡ count + (end - (start + count)) = omega arith in
     sym (ap (λ j. drop count (take j (drop start bytes))) parts ∙ drop-take count _ (drop start bytes)
     ∙ ap (take (end - (start + count))) (drop-drop count start bytes))
-
--- a longer room
-pub lengthened : (bytes more : List ℕ) (start end : ℕ) → start ≤ end → end ≤ length bytes → slice_range (bytes ++ more) start end ≡ slice_range bytes start end
-lengthened bytes more start end ordered inside =
-    ap (take (end - start)) (drop-append-le start bytes more (omega arith)) ∙ take-append-le (end - start) (drop start bytes) more (omega (arith, length-drop start bytes))
