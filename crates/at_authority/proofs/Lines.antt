@@ -12,7 +12,9 @@ use Rattle.at_syntax.specs.Did.{IsDid, is_did, is_identifier_character, is_final
 use Rattle.at_syntax.specs.Host.{is_host, is_host_character}
 use Rattle.at_syntax.proofs.Dids.{did_grammar, no_colon}
 use Rattle.at_syntax.proofs.Splits.{after_none, part_before, part_after, parts_again}
-use Rattle.at_authority.specs.Tables.{signed_part, is_digit, is_digest, is_signature, IsHomeLine, IsTrustLine, IsGoodLine, IsLine, first_field, other_fields, is_home_rest, is_signed_rest, is_good_rest, is_of_kind, is_line}
+use Rattle.at_authority.specs.Tables.{signed_part, is_digit, is_digest, is_signature, IsHomeLine, IsTrustLine, IsGoodLine, IsLine, first_field, other_fields, is_home_rest, is_signed_rest, is_good_rest, is_of_kind, is_line, home_by}
+use Rattle.at_authority.specs.Laws.{HomeLinesNameHomes, OtherLinesNameNone}
+use Rattle.std.specs.Prelude.{Option, Some, None, if◌then◌else◌}
 
 no_signature : is_signature [] ≡ false
 unfolding is_signature
@@ -263,3 +265,22 @@ pub no_home_found : (text kind rest : List ℕ) → Cut text kind rest → bytes
 no_home_found text kind rest at is passes =
     of_no_kind text (not_passing (codes "home") text kind rest is_home_rest at passes) (not_of_kind (codes "trust") text kind rest is_did at (other_kind kind (codes "home") (codes "trust") is refl))
     (not_of_kind (codes "good") text kind rest is_good_rest at (other_kind kind (codes "home") (codes "good") is refl))
+
+-- what home lines say, and that no other lines say it
+
+abbrev given : List ℕ → List ℕ → List ℕ → Option (List ℕ)
+given other kind rest = if bytes_eq kind (codes "home") && bytes_eq (first_field rest) other then Some (other_fields rest) else None
+
+given_by : (other kind rest : List ℕ) → list_all (not_at 32) kind ≡ true → home_by other (kind ++ 32 ∷ rest) ≡ given other kind rest
+given_by other kind rest h = ap (λ (k : List ℕ). given other k (other_fields (kind ++ 32 ∷ rest))) (before kind rest h) ∙ ap (given other kind) (behind kind rest h)
+
+pub homes_told : HomeLinesNameHomes
+homes_told did host other h =
+    let names = did_unblank did h in
+    given_by other (codes "home") (did ++ 32 ∷ host) refl
+    ∙ ap (λ (d : List ℕ). if bytes_eq d other then Some (other_fields (did ++ 32 ∷ host)) else None) (before did host names)
+    ∙ ap (λ (s : List ℕ). if bytes_eq did other then Some s else None) (behind did host names)
+
+pub homes_untold : OtherLinesNameNone
+homes_untold other line is =
+    ⊎_elim (λ t. ap (home_by other) t.spelled ∙ given_by other (codes "trust") t.did refl) (λ g. ap (home_by other) g.spelled ∙ given_by other (codes "good") (signed_part g.did g.digest g.sig) refl) is

@@ -1,7 +1,9 @@
 -- What holds of all tables and all calls of judges.
-use Rattle.std.specs.Prelude.{◌≡◌, ℕ, ◌<◌, Bool, List, ◌++◌, length, map}
+use Rattle.std.specs.Prelude.{◌≡◌, ℕ, ◌<◌, ◌⊎◌, Bool, List, ◌++◌, length, map, Some, None, if◌then◌else◌, IsTrue}
+use Rattle.std.specs.Str.{bytes_eq}
+use Rattle.at_syntax.specs.Did.{is_did}
 use Rattle.at_authority.specs.Queries.{Query}
-use Rattle.at_authority.specs.Tables.{IsTable, IsBadAt}
+use Rattle.at_authority.specs.Tables.{IsTable, IsBadAt, IsTrustLine, IsGoodLine, home_line, home_by}
 use Rattle.at_authority.specs.Panels.{Panel}
 use Rattle.at_authority.specs.Calls.{Call, AreCalls}
 use Rattle.at_authority.specs.Ranks.{HasFallen, ByRanks, answered, AreOf}
@@ -17,6 +19,14 @@ TablesAreGood = (text : List ℕ) (lines : List (List ℕ)) (number : ℕ) → I
 -- one line is the first bad one
 abbrev pub OneLineIsBad : Type 0
 OneLineIsBad = (text : List ℕ) (number other : ℕ) → IsBadAt number text → IsBadAt other text → number ≡ other
+
+-- a home line gives its DID its host, and no other DID any
+abbrev pub HomeLinesNameHomes : Type 0
+HomeLinesNameHomes = (did host other : List ℕ) → IsTrue (is_did did) → home_by other (home_line did host) ≡ (if bytes_eq did other then Some host else None)
+
+-- the other lines give no DID a home
+abbrev pub OtherLinesNameNone : Type 0
+OtherLinesNameNone = (did line : List ℕ) → IsTrustLine line ⊎ IsGoodLine line → home_by did line ≡ None
 
 -- calls behind calls are calls
 abbrev pub CallsJoin : Type 0

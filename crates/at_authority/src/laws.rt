@@ -1,6 +1,6 @@
 //! Laws of tables and of judges, each the contract of a function that does nothing.
 
-ghost use Rattle.at_authority.specs.Laws.{TextTellsLines, TablesAreGood, OneLineIsBad, CallsJoin, CallsPart, CallsFell, AnswersHaveRanks};
+ghost use Rattle.at_authority.specs.Laws.{TextTellsLines, TablesAreGood, OneLineIsBad, HomeLinesNameHomes, OtherLinesNameNone, CallsJoin, CallsPart, CallsFell, AnswersHaveRanks};
 
 /// A text is a table of one list of lines at most.
 pub fn text_tells_lines()
@@ -15,6 +15,16 @@ pub fn tables_are_good()
 /// A text has one first bad line at most.
 pub fn one_line_is_bad()
     ensures { OneLineIsBad }
+{}
+
+/// A home line gives its DID its host, and no other DID any.
+pub fn home_lines_name_homes()
+    ensures { HomeLinesNameHomes }
+{}
+
+/// The other lines give no DID a home.
+pub fn other_lines_name_none()
+    ensures { OtherLinesNameNone }
 {}
 
 /// Calls of judges join: a call behind calls makes a longer list of them.

@@ -21,8 +21,8 @@ pub use authority::Authority;
 pub use file_authority::FileAuthority;
 pub use judges::{JudgeFault, Judges};
 pub use laws::{
-    answers_have_ranks, calls_fell, calls_join, calls_part, one_line_is_bad, tables_are_good,
-    text_tells_lines,
+    answers_have_ranks, calls_fell, calls_join, calls_part, home_lines_name_homes, one_line_is_bad,
+    other_lines_name_none, tables_are_good, text_tells_lines,
 };
 pub use panel::Panel;
 pub use table::Table;
