@@ -1,18 +1,16 @@
 -- With every question answered, going down the table and taking the first refusal are one.
-use Rattle.std.proofs.Common.{◌≡◌, ℕ, Bool, true, false, List, [], ◌∷◌, Option, Some, None, refl, ap, ◌∙◌, cond}
+use Rattle.std.proofs.Common.{◌≡◌, ℕ, true, false, List, [], ◌∷◌, Option, Some, None, refl, ap, ◌∙◌, cond}
 use Rattle.std.specs.Prelude.{nat_le, nat_lt}
 use Rattle.at_event.specs.Seen.{Seen}
 use Rattle.at_event.specs.Refusals.{code_of}
 use Rattle.at_event.specs.Writing.{out_length}
 use Rattle.at_event.specs.declared.event.Body.{Body}
 use Rattle.at_event.specs.declared.frame.Frame.{Frame}
-use Rattle.at_event.specs.declared.head.Head.{Head}
 use Rattle.at_event.specs.declared.refusal.Refusal.{Refusal}
 use Rattle.relay_row.specs.Rules.{loses}
-use Rattle.relay_row.specs.declared.fetched.Fetched.{Fetched}
 use Rattle.account_state.specs.State.{State}
 use Rattle.relay_core.specs.Decide.{Checks, Outside, Found, absent, unfit, found, made, answers, first, or_later, decision_for, refusal_of, is_found}
-use Rattle.relay_core.specs.Table.{Line, told, asked, Walk, waits, refuses, passes, walk, walk_past, next_at, next_of, after_fetch, event_lines, body_lines, when}
+use Rattle.relay_core.specs.Table.{Line, told, asked, Walk, refuses, passes, walk, walk_past, next_at, next_of, after_fetch, event_lines, body_lines, when}
 use Rattle.relay_core.specs.declared.decision.Next.{Next}
 use Rattle.relay_core.specs.declared.limits.TheConstants.{LONGEST_MESSAGE}
 

@@ -18,7 +18,7 @@ use Rattle.host_state.specs.Table.{listed}
 use Rattle.relay_core.specs.declared.journal_state.Core.{Core}
 use Rattle.relay_core.specs.declared.stage.Stage.{Stage}
 use Rattle.relay_core.specs.Entries.{account_in, cursor_in, is_next_in, Holds}
-use Rattle.relay_core.specs.Stages.{stage_of, next_stage, is_start, takes_hosts, takes_accounts}
+use Rattle.relay_core.specs.Stages.{next_stage, is_start, takes_hosts, takes_accounts}
 use Rattle.relay_core.proofs.Stages.{start_tells, hosts_tell, accounts_tell, grouped, stage_step}
 
 -- what one row did

@@ -1,11 +1,10 @@
 -- Why the answers that a row shows make that row.
-use Rattle.std.proofs.Common.{◌≡◌, ℕ, ◌+◌, Bool, true, false, not, List, [], Option, Some, None, refl, ap, ◌∙◌, cond, subst}
+use Rattle.std.proofs.Common.{◌≡◌, ℕ, ◌+◌, Bool, true, false, not, List, Option, Some, None, refl, ap, ◌∙◌, cond, subst}
 use Rattle.std.specs.Prelude.{nat_lt, Result, Ok, Err}
 use Rattle.at_event.specs.Seen.{Seen}
 use Rattle.at_event.specs.Refusals.{code_of}
 use Rattle.at_event.specs.Writing.{out_length}
 use Rattle.at_event.specs.declared.event.Body.{Body}
-use Rattle.at_event.specs.declared.frame.Frame.{Frame}
 use Rattle.at_event.specs.declared.head.Head.{Head}
 use Rattle.at_event.specs.declared.refusal.Refusal.{Refusal}
 use Rattle.relay_row.specs.Rules.{loses}
@@ -13,10 +12,12 @@ use Rattle.relay_row.specs.declared.fetched.Fetched.{Fetched}
 use Rattle.account_state.specs.State.{State}
 use Rattle.account_state.specs.Folds.{last_rev}
 use Rattle.relay_core.specs.Decide.{Checks, Outside, Found, absent, unfit, found, made, sync_message, answers, as_result, first, or_later, decision_for, refusal_of, decided_event}
-use Rattle.relay_core.specs.Laws.{IsAside, AreAside, IsReadBack, RowsShow}
-use Rattle.relay_core.specs.Rows.{effect_of, own_effect, fetched_of, event_taken}
-use Rattle.relay_core.specs.Shown.{shows_home, shows_verdict, block_in, found_in, shown}
-use Rattle.relay_core.specs.Table.{Line, when, is_ahead, refusal_in, event_lines, body_lines, is_held}
+use Rattle.relay_core.specs.Laws.{IsAside, AreAside, RowsShow}
+use Rattle.relay_core.specs.Sending.{IsSendable}
+use Rattle.relay_core.proofs.Returning.{block_returns}
+use Rattle.relay_core.specs.Rows.{effect_of, fetched_of, event_taken}
+use Rattle.relay_core.specs.Shown.{shows_home, shows_verdict, found_in, shown}
+use Rattle.relay_core.specs.Table.{Line, when, is_ahead, refusal_in, body_lines}
 use Rattle.relay_core.specs.declared.limits.TheConstants.{LONGEST_MESSAGE}
 
 -- the table of a commit: the first of these
@@ -98,17 +99,17 @@ effect_free checks n a e (Body.Sync s) o p = refl
 effect_free checks n a e Body.Identity o p = refl
 effect_free checks n a e (Body.Account b) o p = refl
 
-made_again : (n : ℕ) (e : Seen) (f : Found) → IsReadBack n e f → made n e (found_in (made n e f)) ≡ made n e f
+made_again : (n : ℕ) (e : Seen) (f : Found) → IsSendable n e f → made n e (found_in (made n e f)) ≡ made n e f
 made_again n e absent back = refl
 made_again n e (unfit i) back = refl
 made_again n e (found head records block) back =
-    ap (λ (b : List ℕ). Fetched.Whole (record { seq = n + 1; head = head; records = records; message = sync_message e.did e.time head b (n + 1) })) (back head records block refl)
+    ap (λ (b : List ℕ). Fetched.Whole (record { seq = n + 1; head = head; records = records; message = sync_message e.did e.time head b (n + 1) })) (block_returns n e head block (back head records block refl))
 
-fetched_again : (n : ℕ) (e : Seen) (r : Refusal) (f : Found) → IsReadBack n e f → fetched_of (Some r) (Some (made n e (found_in (fetched_of (Some r) (Some (made n e f)))))) ≡ fetched_of (Some r) (Some (made n e f))
+fetched_again : (n : ℕ) (e : Seen) (r : Refusal) (f : Found) → IsSendable n e f → fetched_of (Some r) (Some (made n e (found_in (fetched_of (Some r) (Some (made n e f)))))) ≡ fetched_of (Some r) (Some (made n e f))
 fetched_again n e r f back =
     elim (loses (code_of r)) as (λ b. cond b (made n e (found_in (cond b (made n e f) Fetched.NotAsked))) Fetched.NotAsked ≡ cond b (made n e f) Fetched.NotAsked) [ true ↦ made_again n e f back | false ↦ refl ]
 
-by_refusal : (checks : Checks) → AreAside checks → (n : ℕ) (a : State) (host : List ℕ) (e : Seen) (o : Outside) → IsReadBack n e o.fetched → (q : Option Refusal) → refusal_of checks a e o ≡ q
+by_refusal : (checks : Checks) → AreAside checks → (n : ℕ) (a : State) (host : List ℕ) (e : Seen) (o : Outside) → IsSendable n e o.fetched → (q : Option Refusal) → refusal_of checks a e o ≡ q
     → decided_event checks n a host e (shown (event_taken n host e (decision_for a e.body o.fetched q) (answers checks n a e o))) ≡ event_taken n host e (decision_for a e.body o.fetched q) (answers checks n a e o)
 by_refusal checks aside n a host e o back None h =
     rw (again checks aside a e o None absent h)

@@ -1,7 +1,8 @@
 -- What is decided of a message, for all answers that there could be (own).
-use Rattle.std.specs.Prelude.{ℕ, ◌+◌, Bool, true, false, not, List, [], ◌∷◌, ◌++◌, Option, Some, None, Result, Ok, Err, if◌then◌else◌, nat_le}
-use Rattle.at_car.specs.Form.{header_bytes, sections_bytes}
-use Rattle.at_car.specs.Writing.{header_of}
+use Rattle.std.specs.Prelude.{ℕ, ◌+◌, Bool, true, false, not, List, [], ◌∷◌, Option, Some, None, Result, Ok, Err, if◌then◌else◌, nat_le}
+use Rattle.std.specs.FinMap as map
+use Rattle.at_car.specs.Blocks.{BlockMap}
+use Rattle.at_car.specs.Writing.{written}
 use Rattle.at_event.specs.Refusals.{code_of}
 use Rattle.at_event.specs.Seen.{Seen}
 use Rattle.at_event.specs.Writing.{message_of, sync_payload}
@@ -12,16 +13,16 @@ use Rattle.at_event.specs.declared.kind.EventKind.{EventKind}
 use Rattle.at_event.specs.declared.refusal.Refusal.{Refusal}
 use Rattle.relay_row.specs.Rules.{loses}
 use Rattle.relay_row.specs.declared.fetched.Fetched.{Fetched}
-use Rattle.relay_row.specs.declared.row.Row.{Row}
 use Rattle.relay_row.specs.declared.taken.Taken.{Taken}
 use Rattle.account_state.specs.Folds.{last_rev}
 use Rattle.account_state.specs.State.{State}
 use Rattle.account_state.specs.declared.repo.Repo.{Repo}
 use Rattle.relay_core.specs.Rows.{event_taken, faulty_taken}
-use Rattle.relay_core.specs.Table.{Line, told, asked, event_lines, is_held}
+use Rattle.relay_core.specs.Table.{Line, told, asked, event_lines, is_ahead, is_held}
 use Rattle.relay_core.specs.declared.answers.Answers.{Answers}
 use Rattle.relay_core.specs.declared.decision.Decision.{Decision}
 use Rattle.relay_core.specs.declared.decision.Pass.{Pass}
+use Rattle.relay_core.specs.declared.limits.TheConstants.{FETCHED_AHEAD, FETCHED_UNSIGNED}
 
 -- What opening and linking say: functions of the event, and of what is known of its account's repository.
 pub record Checks : Type 0 where
@@ -41,9 +42,17 @@ pub record Outside : Type 0 where
   pub verdict : Bool
   pub fetched : Found
 
+-- the block of a commit, and no other
+abbrev pub commit_blocks : Head → List ℕ → BlockMap
+commit_blocks head block = map.insert map.empty head.commit block
+
 -- the CAR of a commit alone
 abbrev pub commit_car : Head → List ℕ → List ℕ
-commit_car head block = header_bytes (header_of head.commit) ++ sections_bytes ((head.commit, block) ∷ [])
+commit_car head block = written head.commit (commit_blocks head block)
+
+-- A repository whose blocks were found in order: its revision is far ahead of the moment, which is told first, or its signature is bad, or it is taken over.
+abbrev pub judged : ℕ → Bool → Head → ℕ → List ℕ → Found
+judged moment good head records block = if is_ahead head.rev (Some moment) then unfit FETCHED_AHEAD else (if good then found head records block else unfit FETCHED_UNSIGNED)
 
 -- the relay's own `#sync` of a commit, under a number
 unfoldable pub sync_message : List ℕ → List ℕ → Head → List ℕ → ℕ → List ℕ

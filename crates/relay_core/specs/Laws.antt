@@ -1,15 +1,21 @@
 -- What holds of all decisions.
-use Rattle.std.specs.Prelude.{◌≡◌, ℕ, ◌+◌, Bool, true, false, not, List, Option, Some, Err, nat_le}
+use Rattle.std.specs.Prelude.{◌≡◌, ℕ, ◌+◌, Bool, true, false, not, List, Option, Some, None, Err, nat_le, if◌then◌else◌}
 use Rattle.std.specs.Option.{is_some}
 use Rattle.at_event.specs.Seen.{Seen}
 use Rattle.at_event.specs.declared.frame.Frame.{Frame}
 use Rattle.at_event.specs.declared.head.Head.{Head}
 use Rattle.at_event.specs.declared.refusal.Refusal.{Refusal}
+use Rattle.relay_row.specs.declared.row.Row.{Row}
+use Rattle.account_state.specs.Folds.{account}
 use Rattle.account_state.specs.State.{State}
 use Rattle.account_state.specs.declared.repo.Repo.{Repo}
-use Rattle.relay_core.specs.Decide.{Checks, Outside, Found, found, sync_message, answers, refusal_of, decision_for, decided_event}
+use Rattle.relay_core.specs.Decide.{Checks, Outside, sync_message, answers, refusal_of, decision_for, decided_event}
+use Rattle.relay_core.specs.Ready.{IsReady}
+use Rattle.relay_core.specs.Runs.{Message, Run}
+use Rattle.relay_core.specs.Sending.{CanBeSent, IsSendable}
 use Rattle.relay_core.specs.Shown.{shows_home, shows_verdict, block_in, shown}
 use Rattle.relay_core.specs.Table.{next_of}
+use Rattle.relay_core.specs.Worlds.{World, RunIn}
 use Rattle.relay_core.specs.declared.answers.Answers.{Answers}
 use Rattle.relay_core.specs.declared.answers.Question.{Question}
 use Rattle.relay_core.specs.declared.decision.Next.{Next}
@@ -42,11 +48,20 @@ pub record AreAside (checks : Checks) : Type 0 where
   pub opens : (e : Seen) (last : Option ℕ) (r : Refusal) → checks.opens e last ≡ Err r → IsAside (Some r)
   pub links : (e : Seen) (repo : Repo) (r : Refusal) → checks.links e repo ≡ Some r → IsAside (Some r)
 
--- the block of what was found is read back from the relay's own message of it
-abbrev pub IsReadBack : ℕ → Seen → Found → Type 0
-IsReadBack last e f = (head : Head) (records : ℕ) (block : List ℕ) → f ≡ found head records block → block_in (sync_message e.did e.time head block (last + 1)) head.commit ≡ block
+-- The block of a commit is read back from the relay's own message of it.
+abbrev pub BlocksReturn : Type 0
+BlocksReturn = (last : ℕ) (e : Seen) (head : Head) (block : List ℕ) → CanBeSent last e head block → block_in (sync_message e.did e.time head block (last + 1)) head.commit ≡ block
 
 -- The answers that a row shows make that row.
 abbrev pub RowsShow : Type 0
-RowsShow = (checks : Checks) → AreAside checks → (last : ℕ) (a : State) (host : List ℕ) (e : Seen) (o : Outside) → IsReadBack last e o.fetched
+RowsShow = (checks : Checks) → AreAside checks → (last : ℕ) (a : State) (host : List ℕ) (e : Seen) (o : Outside) → IsSendable last e o.fetched
     → decided_event checks last a host e (shown (decided_event checks last a host e o)) ≡ decided_event checks last a host e o
+
+-- A run in a world is a run for the answers that its rows show.
+abbrev pub WorldsRun : Type 0
+WorldsRun = (checks : Checks) → AreAside checks → (w : World) (J : List Row) (messages : List Message) (rows : List Row) → RunIn checks w J messages rows → Run checks J messages rows
+
+-- A ready commit whose home and signature are good is accepted, under the next number; else one of the two is told.
+abbrev pub ReadyDecides : Type 0
+ReadyDecides = (checks : Checks) (J : List Row) (host : List ℕ) (e : Seen) (o : Outside) → IsReady checks J host e o.moment
+    → refusal_of checks (account e.did J) e o ≡ (if o.home then (if o.verdict then None else Some Refusal.BadSignature) else Some Refusal.NotHome)

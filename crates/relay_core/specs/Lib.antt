@@ -5,6 +5,9 @@ pub mod Rows
 pub mod Decide
 pub mod Shown
 pub mod Runs
+pub mod Sending
+pub mod Worlds
+pub mod Ready
 pub mod Operating
 pub mod Laws
 pub mod Report

@@ -1,5 +1,5 @@
 -- The table of refusals, with the questions between its lines: the one place where their order stands (own).
-use Rattle.std.specs.Prelude.{ℕ, ◌+◌, ◌/◌, Bool, true, false, not, ◌&&◌, List, [], ◌∷◌, Option, Some, None, Result, Ok, Err, if◌then◌else◌, nat_lt, nat_le, option_map}
+use Rattle.std.specs.Prelude.{ℕ, ◌+◌, ◌/◌, Bool, true, false, not, List, [], ◌∷◌, Option, Some, None, Result, Ok, Err, if◌then◌else◌, nat_lt, nat_le, option_map}
 use Rattle.at_event.specs.Refusals.{code_of}
 use Rattle.at_event.specs.Seen.{Seen}
 use Rattle.at_event.specs.Writing.{out_length}
@@ -11,7 +11,6 @@ use Rattle.relay_row.specs.declared.fetched.Fetched.{Fetched}
 use Rattle.account_state.specs.State.{State}
 use Rattle.relay_core.specs.declared.answers.Answers.{Answers}
 use Rattle.relay_core.specs.declared.answers.Question.{Question}
-use Rattle.relay_core.specs.declared.decision.Decision.{Decision}
 use Rattle.relay_core.specs.declared.decision.Next.{Next}
 use Rattle.relay_core.specs.declared.decision.Pass.{Pass}
 use Rattle.relay_core.specs.declared.limits.TheConstants.{LONGEST_MESSAGE, MOST_AHEAD}

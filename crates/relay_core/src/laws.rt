@@ -1,6 +1,6 @@
 //! Laws of decisions, each the contract of a function that does nothing.
 
-ghost use Rattle.relay_core.specs.Laws.{AsksOnce, NextDecides, RowsShow};
+ghost use Rattle.relay_core.specs.Laws.{AsksOnce, BlocksReturn, NextDecides, ReadyDecides, RowsShow, WorldsRun};
 
 /// No question is asked twice about a message, so at most seven are.
 pub fn asks_once()
@@ -15,4 +15,19 @@ pub fn next_decides()
 /// The answers that a row shows make that row.
 pub fn rows_show()
     ensures { RowsShow }
+{}
+
+/// The block of a commit is read back from the relay's own message of it.
+pub fn blocks_return()
+    ensures { BlocksReturn }
+{}
+
+/// A run in a world is a run for the answers that its rows show.
+pub fn worlds_run()
+    ensures { WorldsRun }
+{}
+
+/// A ready commit is accepted where its home and its signature are good.
+pub fn ready_decides()
+    ensures { ReadyDecides }
 {}
