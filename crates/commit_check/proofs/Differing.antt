@@ -1,17 +1,10 @@
 -- Paths that differ.
-use Rattle.std.proofs.Common.{◌≡◌, ℕ, zero, suc, ◌+◌, ◌<◌, true, false, not, cond, List, [], ◌∷◌, length, drop, get_or, refl, sym, ap, ◌∙◌, arith, nat_cmp, drop-cons}
-use Rattle.std.specs.BTreeMap.{is_at}
-use Rattle.std.specs.Cmp.Lexicographic.{slice_cmp}
-use Rattle.at_cid.specs.Order.{key_cmp}
+use Rattle.std.proofs.Common.{◌≡◌, ℕ, zero, suc, ◌+◌, ◌<◌, false, List, [], ◌∷◌, length, drop, get_or, refl, sym, ap, ◌∙◌, arith, drop-cons}
+use Rattle.std.specs.Str.{bytes_eq}
+use Rattle.at_cid.specs.Distinct.{all_differ}
+use Rattle.at_cid.proofs.Distinct.{equal_behind}
 use Rattle.at_event.specs.declared.ops.EventOp.{EventOp}
-use Rattle.commit_check.specs.Table.{paths_of}
-use Rattle.mst_view.specs.HoleLinks.{absent, all_differ}
-use Rattle.mst_view.proofs.HoleLinks.{seen_more, twice_in_all}
-
--- what a search tree that holds the paths D tells of a path, once x is put in
-pub path_seen : (c x : List ℕ) (D : List (List ℕ)) → cond (is_at (slice_cmp nat_cmp x) c) true (not (absent c D)) ≡ not (absent c (x ∷ D))
-unfolding key_cmp
-path_seen c x D = seen_more c x D
+use Rattle.event_checks.specs.Table.{paths_of}
 
 paths_from : (n : ℕ) (ops : List EventOp) → paths_of (drop n ops) ≡ drop n (paths_of ops)
 paths_from zero ops = refl
@@ -27,5 +20,5 @@ next_paths ops i n x path e low named =
     ∙ ap (λ (p : List ℕ). p ∷ paths_of (drop n ops)) (sym named))
 
 -- where a path stands twice among the last ones, it does among all
-pub twice_in_paths : (n : ℕ) (ops : List EventOp) → all_differ (paths_of (drop n ops)) ≡ false → all_differ (paths_of ops) ≡ false
-twice_in_paths n ops e = twice_in_all n (paths_of ops) (ap all_differ (sym (paths_from n ops)) ∙ e)
+pub twice_in_paths : (n : ℕ) (ops : List EventOp) → all_differ bytes_eq (paths_of (drop n ops)) ≡ false → all_differ bytes_eq (paths_of ops) ≡ false
+twice_in_paths n ops e = equal_behind bytes_eq n (paths_of ops) (ap (all_differ bytes_eq) (sym (paths_from n ops)) ∙ e)

@@ -9,7 +9,7 @@ use Rattle.at_syntax.specs.Path.{IsPath, is_path, is_collection, is_record_key}
 use Rattle.at_syntax.proofs.Paths.{path_grammar}
 use Rattle.mst_list.specs.Lists.{IsKey}
 use Rattle.commit_check.specs.Step.{is_change}
-use Rattle.commit_check.specs.Table.{has_links}
+use Rattle.event_checks.specs.Table.{has_links}
 
 collection_short : (text : List ℕ) → is_collection text ≡ true → length text ≤ 317
 collection_short text h = grind (arith, nat_tests, common_steps)

@@ -1,8 +1,13 @@
 pub mod Differing
 pub mod Keys
 pub mod Apart
+pub mod Formed
 pub mod Objects
 pub mod Steps
+pub mod Roots
+pub mod Held
+pub mod Judging
+pub mod Decided
 pub mod Exact
 pub mod Accepting
 pub mod Unjudged

@@ -1,15 +1,18 @@
--- The `data` of an opened commit is a link of kind Node.
+-- The `data` of a commit object is a link of kind Node.
 use Rattle.std.proofs.Common.{◌≡◌, ℕ, List, Option, Some, None, Result, Ok, Err, refl, sym, ap, subst, ◌∙◌}
-use Rattle.std.specs.FinMap as map
 use Rattle.at_cid.specs.Link.{IsBytes, IsNodeLink}
-use Rattle.at_car.specs.Blocks.{AreLinked}
+use Rattle.at_car.specs.Blocks.{AreLinked, BlockMap}
+use Rattle.at_car.specs.Sifting.{block_at}
+use Rattle.at_car.specs.Standing.{root_of}
 use Rattle.at_commit.specs.Commit.{commit_of}
 use Rattle.at_commit.specs.declared.commit.Commit.{Commit}
 use Rattle.at_commit.specs.declared.fault.CommitFault.{CommitFault}
 use Rattle.at_commit.proofs.Nodes.{data_is_node}
 use Rattle.at_event.specs.declared.event.CommitEvent.{CommitEvent}
+use Rattle.event_checks.specs.Opening.{CarResult, object_in, object_in_block, object_of}
 use Rattle.commit_check.specs.declared.opened.Opened.{Opened}
-use Rattle.commit_check.specs.Opening.{CarResult, IsOpened, object_in, object_in_block, object_of}
+use Rattle.commit_check.specs.Opening.{IsOpened}
+use Rattle.commit_check.specs.Order.{Holds}
 
 object_node : (block : List ℕ) (c : Commit) (r : Result Commit CommitFault) → IsBytes block → commit_of block ≡ r → object_of r ≡ Some c → IsNodeLink c.data_root
 object_node block c (Ok d) bytes is e =
@@ -21,9 +24,20 @@ block_node : (m : Option (List ℕ)) (c : Commit) → ((block : List ℕ) → m 
 block_node None c bytes e = absurd (cc)
 block_node (Some block) c bytes e = object_node block c (commit_of block) (bytes block refl) refl e
 
+under_root : (root : Option (List ℕ)) (blocks : BlockMap) → AreLinked blocks → (block : List ℕ) → block_at root blocks ≡ Some block → IsBytes block
+under_root None blocks linked block is = absurd (cc)
+under_root (Some link) blocks linked block is = (linked link block is).bytes
+
+-- what is read of an event holds its CAR and its commit object
+abbrev pub held : (e : CommitEvent) (o : Opened) → IsOpened e o → Holds e
+held e o opened = record { roots = o.car.roots; blocks = o.car.blocks; commit = opened.commit; car = opened.car; object = opened.object }
+
+pub data_held : (e : CommitEvent) (h : Holds e) → AreLinked h.blocks → IsNodeLink h.commit.data_root
+data_held e h linked =
+    let P : CarResult → Type 0 = λ car. object_in car ≡ Some h.commit in
+    block_node (block_at (root_of h.roots) h.blocks) h.commit (under_root (root_of h.roots) h.blocks linked) (subst P h.car h.object)
+
 pub root_is_node : (e : CommitEvent) (o : Opened) → AreLinked o.car.blocks → IsOpened e o → IsNodeLink o.head.data_root
 root_is_node e o linked opened =
-    let P : CarResult → Type 0 = λ car. object_in car e.commit ≡ Some opened.commit in
-    let object : object_in (Ok (o.car.roots, o.car.blocks)) e.commit ≡ Some opened.commit = subst P opened.car opened.object in
     let Q : List ℕ → Type 0 = IsNodeLink in
-    subst Q (sym opened.head.data_root) (block_node (map.get o.car.blocks e.commit) opened.commit (λ block is. (linked e.commit block is).bytes) object)
+    subst Q (sym opened.head.data_root) (data_held e (held e o opened) linked)

@@ -11,18 +11,14 @@ use Rattle.mst_list.specs.Faults.{IsUndone}
 use Rattle.mst_list.proofs.Answering.{fault_exact, undone_exact}
 use Rattle.mst_list.proofs.Firsts.{all_fine_of}
 use Rattle.mst_node.specs.Covers.{AreUnderNodeLinks}
-use Rattle.mst_node.specs.Reading.{node_of}
 use Rattle.mst_node.specs.Trees.{root, IsView}
-use Rattle.mst_node.proofs.Readers.{node_of_is_reader}
 use Rattle.mst_view.proofs.TreeAt.{fault_no_view, fault_once, fault_there, no_block}
 use Rattle.mst_law.specs.Laws.{IsStep}
 use Rattle.mst_law.proofs.Links.{sound_link, complete_link}
 use Rattle.mst_law.proofs.OneView.{one_view}
-use Rattle.commit_check.specs.declared.fault.CheckFault.{CheckFault}
-use Rattle.commit_check.specs.Linking.{IsMemory, IsNoRoot, IsRootBefore, IsStopBy}
 use Rattle.commit_check.specs.Step.{IsBadTree, IsCoveredBy, LeadsBy, ReplaysBy, StopsAt}
 
-under_links : (blocks : BlockMap) → AreLinked blocks → AreUnderNodeLinks blocks
+pub under_links : (blocks : BlockMap) → AreLinked blocks → AreUnderNodeLinks blocks
 under_links blocks linked = λ c b node e. node_link c b (linked c b e) node.node
 
 -- a step replays on maps
@@ -31,11 +27,11 @@ sound_by [] blocks former later formed apart leads = λ s m is distinct. (s, m, 
 sound_by (op ∷ ops) blocks former later formed apart leads = λ s m is distinct. sound_link blocks former later (op ∷ ops) leads.0 s leads.1 formed apart m is (distinct leads.0 leads.1.is_view)
 
 -- operations that are covered lead from root to root
-pub complete_by : (ops : List Op) (blocks : BlockMap) (former later : List ℕ) → AreLinked blocks → AreFormedOps ops → AreApart ops → IsCoveredBy ops blocks former later → LeadsBy ops blocks former later
-complete_by [] blocks former later linked formed apart c = sym c.later_root ∙ (ap root c.plays ∙ c.former_root)
-complete_by (op ∷ ops) blocks former later linked formed apart c =
+pub complete_by : (ops : List Op) (blocks : BlockMap) (former later : List ℕ) → AreUnderNodeLinks blocks → AreFormedOps ops → AreApart ops → IsCoveredBy ops blocks former later → LeadsBy ops blocks former later
+complete_by [] blocks former later under formed apart c = sym c.later_root ∙ (ap root c.plays ∙ c.former_root)
+complete_by (op ∷ ops) blocks former later under formed apart c =
     let some : op ∷ ops ≢ [] = λ e. absurd (cc) in
-    let step = complete_link blocks c.before c.after (op ∷ ops) c.is_map formed apart some c.plays c.cover (under_links blocks linked) c.distinct in
+    let step = complete_link blocks c.before c.after (op ∷ ops) c.is_map formed apart some c.plays c.cover under c.distinct in
     let P : List ℕ → Type 0 = λ r. IsStep blocks r (root c.after) (op ∷ ops) step.0 in
     let Q : List ℕ → Type 0 = λ r. IsStep blocks former r (op ∷ ops) step.0 in
     (step.0, subst Q c.later_root (subst P c.former_root step.1))
@@ -128,42 +124,3 @@ pub not_stopped : (ops : List Op) (blocks : BlockMap) (former later : List ℕ) 
 not_stopped [] blocks former later (Refusal.OtherData want got) leads stops = stops.2 leads
 not_stopped [] blocks former later refusal leads stops = absurd stops
 not_stopped (op ∷ ops) blocks former later refusal leads stops = unseen (op ∷ ops) blocks former later refusal leads.0 leads.1 (sorted op ops blocks former later refusal stops)
-
-only_stopped : (ops : List Op) (blocks : BlockMap) (former later : List ℕ) (fault : CheckFault) → IsStopBy ops blocks former later fault → LeadsBy ops blocks former later → IsMemory fault
-only_stopped ops blocks former later CheckFault.Memory stop leads = tt
-only_stopped ops blocks former later (CheckFault.Refused refusal) stop leads = absurd (not_stopped ops blocks former later refusal leads stop)
-
--- the root before the operations decides
-
-pub led : (ops : List Op) (blocks : BlockMap) (former later before : List ℕ) → IsRootBefore blocks later ops before → before ≡ former → LeadsBy ops blocks former later
-led [] blocks former later before back e = sym back ∙ e
-led (op ∷ ops) blocks former later before back e =
-    let P : List ℕ → Type 0 = λ r. IsStep blocks r later (op ∷ ops) back.list in
-    (back.list, subst P e back.step)
-
-stopped_by : (ops : List Op) (blocks : BlockMap) (former later before : List ℕ) → IsRootBefore blocks later ops before → before ≢ former → StopsAt ops blocks former later (Refusal.OtherData former before)
-stopped_by [] blocks former later before back other = (refl, back, λ e. other (back ∙ e))
-stopped_by (op ∷ ops) blocks former later before back other = (refl, back, other)
-
-pub stopped : (ops : List Op) (blocks : BlockMap) (former later before : List ℕ) (fault : CheckFault) → IsRootBefore blocks later ops before → fault ≡ CheckFault.Refused (Refusal.OtherData former before) → before ≢ former → IsStopBy ops blocks former later fault
-stopped ops blocks former later before fault back e other =
-    let P : CheckFault → Type 0 = IsStopBy ops blocks former later in
-    subst P (sym e) (stopped_by ops blocks former later before back other)
-
-pub unrooted : (ops : List Op) (blocks : BlockMap) (former later : List ℕ) (fault : CheckFault) → IsNoRoot blocks later ops fault → IsStopBy ops blocks former later fault
-unrooted [] blocks former later fault none = absurd none
-unrooted (op ∷ ops) blocks former later CheckFault.Memory none = tt
-unrooted (op ∷ ops) blocks former later (CheckFault.Refused (Refusal.BadNode link)) none = none
-unrooted (op ∷ ops) blocks former later (CheckFault.Refused (Refusal.OtherOp i)) none = none
-unrooted (op ∷ ops) blocks former later (CheckFault.Refused (Refusal.NotCovered i)) none = none
-unrooted (op ∷ ops) blocks former later (CheckFault.Refused refusal) none = absurd none
-
--- what leads back isn't stopped
-
-pub only_rooted : (ops : List Op) (blocks : BlockMap) (former later before : List ℕ) → IsRootBefore blocks later ops before → before ≢ former → LeadsBy ops blocks former later → ⊥
-only_rooted ops blocks former later before back other leads = not_stopped ops blocks former later (Refusal.OtherData former before) leads (stopped_by ops blocks former later before back other)
-
-pub only_unrooted : (ops : List Op) (blocks : BlockMap) (former later : List ℕ) (fault : CheckFault) → IsNoRoot blocks later ops fault → LeadsBy ops blocks former later → IsMemory fault
-only_unrooted ops blocks former later fault none leads = only_stopped ops blocks former later fault (unrooted ops blocks former later fault none) leads
-
-pub ruleset by_root = (led, stopped, unrooted, only_rooted, only_unrooted, sound_by, complete_by)

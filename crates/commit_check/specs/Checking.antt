@@ -1,12 +1,14 @@
 -- What the check of a commit by itself accepts, and what that says of repositories.
-use Rattle.std.specs.Prelude.{◌≡◌, ⊤, ℕ, List, Bool, false, not, ◌&&◌, ◌||◌, is_some, Option, Some, None}
+use Rattle.std.specs.Prelude.{◌≡◌, ℕ, List, Bool, false, not, ◌&&◌, ◌||◌, is_some, Option, Some, None}
 use Rattle.std.specs.List.{list_any}
 use Rattle.at_event.specs.declared.event.CommitEvent.{CommitEvent}
 use Rattle.at_event.specs.declared.refusal.Refusal.{Refusal}
 use Rattle.commit_check.specs.declared.fault.CheckFault.{CheckFault}
 use Rattle.commit_check.specs.Order.{Holds, IsFirstRefusal}
+use Rattle.commit_check.specs.Refusing.{Tells}
 use Rattle.commit_check.specs.Step.{empty_root, edits_of, lacks_prev, IsCoveredBy, Leads, ReplaysBy}
-use Rattle.commit_check.specs.Table.{first_of, open_lines}
+use Rattle.event_checks.specs.Lines.{first_of}
+use Rattle.event_checks.specs.Table.{open_lines}
 
 -- the root that the operations start from: the event's own `prevData`, or the empty tree
 abbrev pub start_in : Option (List ℕ) → List ℕ
@@ -35,8 +37,7 @@ IsRefusedWith e refusal = IsFirstRefusal e None (has_gap e) (start_of e) refusal
 
 -- why the check fails
 abbrev pub IsRefused : CommitEvent → CheckFault → Type 0
-IsRefused e (CheckFault.Refused refusal) = IsRefusedWith e refusal
-IsRefused e CheckFault.Memory = ⊤
+IsRefused e = Tells (IsRefusedWith e)
 
 -- Soundness: on every map whose tree has the first root, the operations play, and they give a map whose tree has the second root.
 abbrev pub Replays : CommitEvent → List ℕ → List ℕ → Type 0

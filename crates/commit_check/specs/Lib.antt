@@ -1,7 +1,7 @@
 pub mod Opening
-pub mod Table
 pub mod Refusing
 pub mod Step
 pub mod Order
 pub mod Linking
 pub mod Checking
+pub mod Laws

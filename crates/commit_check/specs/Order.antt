@@ -7,9 +7,11 @@ use Rattle.at_car.specs.Blocks.{BlockMap}
 use Rattle.at_commit.specs.declared.commit.Commit.{Commit}
 use Rattle.at_event.specs.declared.event.CommitEvent.{CommitEvent}
 use Rattle.at_event.specs.declared.refusal.Refusal.{Refusal}
-use Rattle.commit_check.specs.Opening.{car_in, object_in}
-use Rattle.commit_check.specs.Step.{Stops}
-use Rattle.commit_check.specs.Table.{first_of, open_lines}
+use Rattle.event_checks.specs.Table.{car_in}
+use Rattle.event_checks.specs.Opening.{object_in}
+use Rattle.commit_check.specs.Step.{Leads, Stops}
+use Rattle.event_checks.specs.Lines.{first_of}
+use Rattle.event_checks.specs.Table.{open_lines}
 
 -- behind what the message shows: a gap, or else what stops the operations
 abbrev pub StopsPast : Bool → CommitEvent → BlockMap → List ℕ → List ℕ → Refusal → Type 0
@@ -22,13 +24,20 @@ pub record Holds (e : CommitEvent) : Type 0 where
   pub blocks : BlockMap
   pub commit : Commit
   pub car : car_in e ≡ Ok (roots, blocks)
-  pub object : object_in (car_in e) e.commit ≡ Some commit
+  pub object : object_in (car_in e) ≡ Some commit
 
 -- nothing that the message shows applies, and this does
 pub record IsStopped (e : CommitEvent) (last : Option ℕ) (gap : Bool) (former : List ℕ) (refusal : Refusal) : Type 0 where
   pub shown : first_of (open_lines e last) ≡ None
   pub holds : Holds e
   pub stops : StopsPast gap e holds.blocks former holds.commit.data_root refusal
+
+-- no refusal applies
+pub record IsPassed (e : CommitEvent) (last : Option ℕ) (gap : Bool) (former : List ℕ) : Type 0 where
+  pub shown : first_of (open_lines e last) ≡ None
+  pub no_gap : gap ≡ false
+  pub holds : Holds e
+  pub leads : Leads e holds.blocks former holds.commit.data_root
 
 -- the first refusal that applies: to an event behind the last revision, with a gap before it or not, whose operations start from the former root
 abbrev pub IsFirstRefusal : CommitEvent → Option ℕ → Bool → List ℕ → Refusal → Type 0

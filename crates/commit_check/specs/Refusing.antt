@@ -1,39 +1,51 @@
--- What a failed check says.
-use Rattle.std.specs.Prelude.{◌≡◌, ⊤, ℕ, List, Bool, true, false, Option, Some, None, Result, Ok, Err}
+-- What a failed check says. The want of memory may stand in place of each answer.
+use Rattle.std.specs.Prelude.{◌≡◌, IfSome, false, Option, Some, None, Result, Err}
+use Rattle.at_cid.specs.Memory.{Gives}
 use Rattle.at_event.specs.declared.refusal.Refusal.{Refusal}
-use Rattle.at_commit.specs.Commit.{commit_of}
+use Rattle.event_checks.specs.Lines.{is_judged}
+use Rattle.event_checks.specs.declared.fault.OpenFault.{OpenFault}
+use Rattle.mst_list.specs.declared.undoing.UndoFault.{UndoFault}
+use Rattle.mst_view.specs.declared.viewing.ViewFault.{ViewFault}
 use Rattle.commit_check.specs.declared.fault.CheckFault.{CheckFault}
-use Rattle.commit_check.specs.Opening.{CarResult, is_malformed, has_wrong_digest, object_of}
 
--- the refusals that judges alone show: the host isn't the account's home, and the signature is bad
-abbrev pub is_judged : Refusal → Bool
-is_judged Refusal.NotHome = true
-is_judged Refusal.BadSignature = true
-is_judged other = false
+-- the refusal, unless memory was wanted
+abbrev pub refusal_of : CheckFault → Option Refusal
+refusal_of (CheckFault.Refused refusal) = Some refusal
+refusal_of CheckFault.Memory = None
 
-abbrev pub IsUnjudged : CheckFault → Type 0
-IsUnjudged (CheckFault.Refused refusal) = is_judged refusal ≡ false
-IsUnjudged CheckFault.Memory = ⊤
+-- a refusal that is told is one of these
+abbrev pub Tells : (Refusal → Type 0) → CheckFault → Type 0
+Tells these fault = IfSome (refusal_of fault) these
 
--- this refusal was shown, unless memory was wanted
+-- it was shown
 abbrev pub IsShown : Option Refusal → CheckFault → Type 0
-IsShown shown (CheckFault.Refused refusal) = shown ≡ Some refusal
-IsShown shown CheckFault.Memory = ⊤
+IsShown shown = Tells (λ refusal. shown ≡ Some refusal)
 
--- this refusal is told, unless memory was wanted
+-- it is no judge's
+abbrev pub IsUnjudged : CheckFault → Type 0
+IsUnjudged = Tells (λ refusal. is_judged refusal ≡ false)
+
+-- there is none: memory was wanted
+abbrev pub IsMemory : CheckFault → Type 0
+IsMemory = Tells (λ refusal. ⊥)
+
+-- this refusal is told
 abbrev pub RefusesWith : {X : Type 0} → Refusal → Result X CheckFault → Type 0
-RefusesWith refusal (Ok x) = ⊥
-RefusesWith refusal (Err fault) = IsShown (Some refusal) fault
+RefusesWith refusal result = Gives (λ x. x) refusal_of result (Err refusal)
 
--- the CAR doesn't read, unless memory was wanted
-abbrev pub IsUnread : CarResult → CheckFault → Type 0
-IsUnread car (CheckFault.Refused Refusal.BadCar) = is_malformed car ≡ true
-IsUnread car (CheckFault.Refused Refusal.WrongDigest) = (is_malformed car ≡ false) × (has_wrong_digest car ≡ true)
-IsUnread car (CheckFault.Refused refusal) = ⊥
-IsUnread car CheckFault.Memory = ⊤
+-- why the blocks aren't accepted
+abbrev pub opening_told : OpenFault → CheckFault
+opening_told (OpenFault.Refused refusal) = CheckFault.Refused refusal
+opening_told OpenFault.Memory = CheckFault.Memory
 
--- the block is no commit object, unless memory was wanted
-abbrev pub IsNoObject : List ℕ → CheckFault → Type 0
-IsNoObject block (CheckFault.Refused Refusal.BadCommit) = object_of (commit_of block) ≡ None
-IsNoObject block (CheckFault.Refused refusal) = ⊥
-IsNoObject block CheckFault.Memory = ⊤
+-- why there is no view
+abbrev pub view_told : ViewFault → CheckFault
+view_told (ViewFault.NoBlock link) = CheckFault.Refused (Refusal.BadNode link)
+view_told (ViewFault.BadNode link) = CheckFault.Refused (Refusal.BadNode link)
+view_told ViewFault.Memory = CheckFault.Memory
+
+-- why operations can't be undone
+abbrev pub undoing_told : UndoFault → CheckFault
+undoing_told (UndoFault.OtherOp i) = CheckFault.Refused (Refusal.OtherOp i)
+undoing_told (UndoFault.NotCovered i) = CheckFault.Refused (Refusal.NotCovered i)
+undoing_told UndoFault.Memory = CheckFault.Memory

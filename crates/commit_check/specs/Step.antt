@@ -1,5 +1,5 @@
 -- How a commit leads from a former root to its `data`, and why it doesn't.
-use Rattle.std.specs.Prelude.{◌≡◌, ◌≢◌, ◌⊎◌, ℕ, List, [], ◌∷◌, ◌++◌, map, Bool, true, false, not, ◌&&◌, ◌||◌, ◌==◌, is_some, Option, Some, None, Err}
+use Rattle.std.specs.Prelude.{◌≡◌, ◌≢◌, ◌⊎◌, ℕ, List, [], ◌∷◌, ◌++◌, map, Bool, true, false, not, ◌&&◌, ◌||◌, ◌==◌, is_some, Option, Some, None}
 use Rattle.std.specs.FinMap as finite
 use Rattle.std.specs.List.{list_any}
 use Rattle.std.specs.Str.{bytes_eq}
@@ -13,7 +13,6 @@ use Rattle.mst_list.specs.declared.op.Op.{Op}
 use Rattle.mst_list.specs.Edits.{Plays, undone}
 use Rattle.mst_list.specs.Lists.{IsMap}
 use Rattle.mst_list.specs.Faults.{Disagrees, IsUncovered, IsFirst}
-use Rattle.mst_node.specs.Reading.{node_of}
 use Rattle.mst_node.specs.Covers.{HoldsCover, AreDistinct}
 use Rattle.mst_node.specs.Trees.{root, nodes, Distinct, IsView}
 use Rattle.mst_view.specs.ViewFault.{IsAtFault}

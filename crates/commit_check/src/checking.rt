@@ -1,14 +1,16 @@
 //! A commit checked by itself, without its account.
 
 ghost use Rattle.std.specs.Prelude.{◌≡◌, IfOk, IfErr, List, ℕ, length};
-ghost use Rattle.commit_check.specs.Linking.{IsMemory};
+ghost use Rattle.commit_check.specs.Refusing.{IsMemory};
 ghost use Rattle.commit_check.specs.Checking.{IsAccepted, IsCovered, IsRefused, IsRefusedWith, Replays, has_gap, start_of};
 ghost use Rattle.commit_check.specs.Refusing.{RefusesWith};
 ghost use Rattle.at_event.specs.declared.refusal.Refusal.{Refusal};
 
 use crate::checked::Checked;
+use crate::edits::edits;
 use crate::fault::CheckFault;
-use crate::linking::{lead_back, some_lacks_prev};
+use crate::leading::lead_back;
+use crate::linking::some_lacks_prev;
 use crate::opening::open_commit;
 use at_cid::Cid;
 use at_event::{CommitEvent, Refusal};
@@ -35,7 +37,7 @@ fn has_gap(event: &CommitEvent) -> bool
 /// It is refused with the first refusal of [`open_commit`], none being stale, or else of [`crate::link`], where a gap is
 /// an event that follows on another but has no `prevData`, or a change that doesn't say of what. (Sync specification,
 /// "Commit validation", with inductive validation by operation inversion.)
-#[tactic(auto, using(crate::proofs::Accepting::by_opened))]
+#[tactic(auto, using(crate::proofs::Objects::root_is_node, crate::proofs::Accepting::by_opened))]
 pub fn check(alloc: Global, event: &CommitEvent) -> Result<Checked, CheckFault>
     ensures accepted { IfOk result (λ checked. IsAccepted event.now checked.from checked.to) }
     ensures counted { IfOk result (λ checked. checked.ops ≡ length event.now.ops) }
@@ -50,7 +52,15 @@ pub fn check(alloc: Global, event: &CommitEvent) -> Result<Checked, CheckFault>
         return Err(CheckFault::Refused(Refusal::Gap));
     }
     let from = start_of(event);
-    lead_back(alloc, event, &opened, &from)?;
+    let ops = edits(alloc, event)?;
+    opened.car.blocks.tell_linked();
+    lead_back(
+        alloc,
+        &opened.car.blocks,
+        &from,
+        &opened.head.data_root,
+        &ops,
+    )?;
     Ok(Checked {
         from,
         to: opened.head.data_root,

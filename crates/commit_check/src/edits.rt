@@ -1,13 +1,15 @@
 //! The operations of an event as edits of a map.
 
-ghost use Rattle.std.specs.Prelude.{◌≡◌, ◌≤◌, IfOk, map, true, false, length};
+ghost use Rattle.std.specs.Prelude.{◌≡◌, ◌≤◌, IfOk, None, map, true, false, length};
 ghost use Rattle.std.specs.List.{list_all, list_any};
-ghost use Rattle.commit_check.specs.Step.{edit_of, lacks_prev};
-ghost use Rattle.mst_list.specs.Edits.{IsFormedOp};
-ghost use Rattle.commit_check.specs.Table.{has_path, is_op};
+ghost use Rattle.commit_check.specs.Step.{edit_of, edits_of, lacks_prev};
+ghost use Rattle.event_checks.specs.Lines.{first_of};
+ghost use Rattle.event_checks.specs.Table.{field_lines, has_path, is_op};
+ghost use Rattle.event_checks.specs.declared.limits.TheConstants.{MOST_OPS};
+ghost use Rattle.mst_list.specs.Edits.{AreApart, AreFormedOps, IsFormedOp};
 
 use at_cid::{Memory, Octets};
-use at_event::EventOp;
+use at_event::{CommitEvent, EventOp};
 use mst_list::{Op, OpList, tell_link};
 use std::alloc::Global;
 
@@ -30,9 +32,8 @@ fn edit(alloc: Global, op: &EventOp) -> Result<Op, Memory>
     })
 }
 
-/// All operations, in their order.
-pub(crate) fn edits(alloc: Global, ops: &[EventOp]) -> Result<OpList, Memory>
-    requires few { length ops.now ≤ 200 }
+fn edit_all(alloc: Global, ops: &[EventOp]) -> Result<OpList, Memory>
+    requires few { length ops.now ≤ MOST_OPS }
     requires paths { list_all has_path ops.now ≡ true }
     requires links { list_all is_op ops.now ≡ true }
     requires prevs { list_any lacks_prev ops.now ≡ false }
@@ -42,5 +43,19 @@ pub(crate) fn edits(alloc: Global, ops: &[EventOp]) -> Result<OpList, Memory>
     for op in ops {
         made.push(edit(alloc, op)?)?;
     }
+    Ok(made)
+}
+
+/// All operations of an event, in their order.
+#[tactic(auto, using(crate::proofs::Apart::apart_shown))]
+pub(crate) fn edits(alloc: Global, event: &CommitEvent) -> Result<OpList, Memory>
+    requires shown { first_of (field_lines event.now) ≡ None }
+    requires prevs { list_any lacks_prev event.now.ops ≡ false }
+    ensures edits { IfOk result (λ made. made ≡ edits_of event.now) }
+    ensures formed { IfOk result AreFormedOps }
+    ensures apart { IfOk result AreApart }
+{
+    let made = edit_all(alloc, event.ops.as_slice())?;
+    let _edits = made.as_slice();
     Ok(made)
 }

@@ -1,7 +1,14 @@
 //! Why a commit isn't accepted.
 
+ghost use Rattle.std.specs.Prelude.{◌≡◌};
+ghost use Rattle.commit_check.specs.declared.fault.CheckFault as fault;
+ghost use Rattle.commit_check.specs.Refusing.{opening_told, undoing_told, view_told};
+
 use at_cid::Memory;
 use at_event::Refusal;
+use event_checks::OpenFault;
+use mst_list::UndoFault;
+use mst_view::ViewFault;
 use thiserror::Error;
 
 /// Why a check of a commit fails.
@@ -16,12 +23,45 @@ pub enum CheckFault {
 }
 
 impl From<Memory> for CheckFault {
-    ghost use Rattle.std.specs.Prelude.{◌≡◌};
-    ghost use Rattle.commit_check.specs.declared.fault.CheckFault.{CheckFault};
-
-    ghost from_gives = { λ _ e. e ≡ CheckFault.Memory };
+    ghost from_gives = { λ _ e. e ≡ fault.CheckFault.Memory };
 
     fn from(_memory: Memory) -> CheckFault {
         CheckFault::Memory
+    }
+}
+
+impl From<OpenFault> for CheckFault {
+    ghost from_gives = { λ opening e. e ≡ opening_told opening };
+
+    fn from(opening: OpenFault) -> CheckFault {
+        match opening {
+            OpenFault::Refused(refusal) => CheckFault::Refused(refusal),
+            OpenFault::Memory => CheckFault::Memory,
+        }
+    }
+}
+
+impl From<ViewFault> for CheckFault {
+    ghost from_gives = { λ view e. e ≡ view_told view };
+
+    fn from(view: ViewFault) -> CheckFault {
+        match view {
+            ViewFault::NoBlock(link) | ViewFault::BadNode(link) => {
+                CheckFault::Refused(Refusal::BadNode(link))
+            }
+            ViewFault::Memory => CheckFault::Memory,
+        }
+    }
+}
+
+impl From<UndoFault> for CheckFault {
+    ghost from_gives = { λ undoing e. e ≡ undoing_told undoing };
+
+    fn from(undoing: UndoFault) -> CheckFault {
+        match undoing {
+            UndoFault::OtherOp(i) => CheckFault::Refused(Refusal::OtherOp(i)),
+            UndoFault::NotCovered(i) => CheckFault::Refused(Refusal::NotCovered(i)),
+            UndoFault::Memory => CheckFault::Memory,
+        }
     }
 }

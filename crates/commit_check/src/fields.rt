@@ -2,19 +2,17 @@
 
 ghost use Rattle.std.specs.Prelude.{◌≡◌, IfOk, map, None, length};
 ghost use Rattle.std.specs.List.{list_all};
-ghost use Rattle.commit_check.specs.Table.{field_lines, first_of, has_path, is_op, is_stale, paths_of};
-ghost use Rattle.mst_view.specs.HoleLinks.{all_differ};
+ghost use Rattle.std.specs.Str.{bytes_eq};
+ghost use Rattle.event_checks.specs.Table.{field_lines, has_path, is_op, paths_of};
+ghost use Rattle.event_checks.specs.Lines.{first_of};
+ghost use Rattle.at_cid.specs.Distinct.{all_differ};
 
 use at_cid::Memory;
 use at_event::{Action, CommitEvent, EventOp, Refusal};
-use at_syntax::{Tid, path_ok};
+use at_syntax::path_ok;
+use event_checks::{MOST_COMMIT_BYTES, MOST_OPS};
 use std::alloc::Global;
 use std::collections::BTreeSet;
-
-/// The most bytes of `blocks`, own.
-const MOST_BLOCK_BYTES: usize = 2_000_000;
-/// The most operations, own.
-const MOST_OPS: usize = 200;
 
 fn are_paths(ops: &[EventOp]) -> bool
     ensures { result ≡ list_all has_path ops.now }
@@ -42,7 +40,7 @@ fn are_ops(ops: &[EventOp]) -> bool
 
 /// Whether no path stands twice: a search tree holds those behind the one at hand.
 fn paths_differ(alloc: Global, ops: &[EventOp]) -> Result<bool, Memory>
-    ensures { IfOk result (λ differ. differ ≡ all_differ (paths_of ops.now)) }
+    ensures { IfOk result (λ differ. differ ≡ all_differ bytes_eq (paths_of ops.now)) }
 {
     let mut seen = BTreeSet::new(alloc);
     let mut left = ops.len();
@@ -63,7 +61,7 @@ pub(crate) fn field_refusal(alloc: Global, event: &CommitEvent) -> Result<Option
     if event.too_big {
         return Ok(Some(Refusal::TooBig));
     }
-    if event.blocks.len() > MOST_BLOCK_BYTES {
+    if event.blocks.len() > MOST_COMMIT_BYTES {
         return Ok(Some(Refusal::BlocksTooLong));
     }
     if ops.len() > MOST_OPS {
@@ -79,14 +77,4 @@ pub(crate) fn field_refusal(alloc: Global, event: &CommitEvent) -> Result<Option
         return Ok(Some(Refusal::BadOp));
     }
     Ok(None)
-}
-
-/// Whether the revision isn't above the last one.
-pub(crate) fn is_stale(last: Option<Tid>, rev: Tid) -> bool
-    ensures { result ≡ is_stale last rev }
-{
-    match last {
-        Some(last) => rev <= last,
-        None => false,
-    }
 }

@@ -8,6 +8,8 @@ mod edits;
 mod expect;
 mod fault;
 mod fields;
+mod laws;
+mod leading;
 mod linking;
 mod opened;
 mod opening;
@@ -16,6 +18,10 @@ pub use checked::Checked;
 pub use checking::check;
 pub use expect::Expect;
 pub use fault::CheckFault;
+pub use laws::{
+    commits_are_decided, covered_leads, edits_are_formed, leading_replays, links_are_decided,
+    refusals_are_unjudged, steps_are_decided,
+};
 pub use linking::link;
 pub use opened::Opened;
 pub use opening::open_commit;

@@ -1,9 +1,11 @@
 -- The commands, by the words that each is spelled with.
-use Rattle.std.specs.Prelude.{◌≡◌, ℕ, ◌≤◌, ◌-◌, ◌^◌, List, [], ◌∷◌, IsTrue, length, codes, decimal, ⊤}
+use Rattle.std.specs.Prelude.{◌≡◌, ℕ, ◌≤◌, List, [], ◌∷◌, IsTrue, length, codes, decimal, ⊤}
 use Rattle.at_syntax.specs.Did.{is_did}
 use Rattle.at_syntax.specs.Host.{is_host}
 use Rattle.relay_cli.specs.declared.verb.Verb.{Verb}
+use Rattle.relay_cli.specs.declared.arguments.TheConstants.{LONGEST_TIME}
 use Rattle.relay_cli.specs.declared.command.Command.{Command}
+use Rattle.relay_cli.specs.declared.command.TheConstants.{LAST_NUMBER, MOST, MOST_TRIED}
 
 -- the first word
 abbrev pub name_of : Verb → List ℕ
@@ -50,24 +52,24 @@ pub record IsNumber (least most n : ℕ) : Type 0 where
   pub from_least : least ≤ n
   pub to_most : n ≤ most
 
--- a time is passed on as it is, in 1 to 64 bytes
+-- a time is passed on as it is, neither empty nor too long
 pub record IsTime (time : List ℕ) : Type 0 where
   pub some : 1 ≤ length time
-  pub short : length time ≤ 64
+  pub short : length time ≤ LONGEST_TIME
 
 -- each argument is in its range, or of its form
 abbrev pub IsInForm : Command → Type 0
 IsInForm Command.Check = ⊤
 IsInForm Command.Ingest = ⊤
-IsInForm (Command.Follow host count) = IsTrue (is_host host) × IsNumber 1 1000000 count
-IsInForm (Command.Replay cursor) = IsNumber 0 (2 ^ 53 - 1) cursor
-IsInForm (Command.Serve count) = IsNumber 1 1000000 count
+IsInForm (Command.Follow host count) = IsTrue (is_host host) × IsNumber 1 MOST count
+IsInForm (Command.Replay cursor) = IsNumber 0 LAST_NUMBER cursor
+IsInForm (Command.Serve count) = IsNumber 1 MOST count
 IsInForm (Command.Account did) = IsTrue (is_did did)
 IsInForm Command.Hosts = ⊤
 IsInForm (Command.Takedown did time) = IsTrue (is_did did) × IsTime time
 IsInForm (Command.Restore did time) = IsTrue (is_did did) × IsTime time
 IsInForm (Command.Sync did time) = IsTrue (is_did did) × IsTime time
-IsInForm (Command.Trial start count) = IsNumber 0 (2 ^ 53 - 1) start × IsNumber 1 100000 count
+IsInForm (Command.Trial start count) = IsNumber 0 LAST_NUMBER start × IsNumber 1 MOST_TRIED count
 
 -- the command has this first word and these words behind it
 pub record IsOf (verb : Verb) (rest : List (List ℕ)) (command : Command) : Type 0 where

@@ -6,6 +6,7 @@ use Rattle.relay_cli.specs.declared.command.Command.{Command}
 use Rattle.relay_cli.specs.declared.status.Status.{Status}
 use Rattle.relay_cli.specs.declared.verdict.Verdict.{Verdict}
 use Rattle.relay_cli.specs.Statuses.{status_of}
+use Rattle.relay_cli.specs.declared.checking.TheConstants.{LONGEST_MESSAGE}
 use Rattle.relay_cli.specs.Report.{line_of}
 use Rattle.relay_cli.specs.Verdicts.{IsVerdict}
 
@@ -65,7 +66,7 @@ pub record NotDone (old new : Outside) (status : Status) : Type 0 where
 
 -- What a run of each command does.
 abbrev pub Ran : Command → Outside → Outside → Status → Type 0
-Ran Command.Check old new status = Checked 8388608 old new status
+Ran Command.Check old new status = Checked LONGEST_MESSAGE old new status
 Ran command old new status = NotDone old new status
 
 -- Words that are no command: nothing is touched.

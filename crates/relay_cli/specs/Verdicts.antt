@@ -9,6 +9,7 @@ use Rattle.at_event.specs.Frames.{frame_of}
 use Rattle.at_event.specs.Seen.{Seen}
 use Rattle.at_event.specs.Writing.{out_length}
 use Rattle.commit_check.specs.Checking.{IsAccepted, IsCovered, IsRefusedWith, Replays}
+use Rattle.relay_cli.specs.declared.judging.TheConstants.{LONGEST_FRAME}
 use Rattle.relay_cli.specs.declared.verdict.Verdict.{Verdict}
 
 -- A commit is accepted where no refusal applies, and then its operations replay on every map with the root that they start from.
@@ -18,9 +19,9 @@ abbrev pub JudgesCommit : CommitEvent → Verdict → Type 0
 JudgesCommit e (Verdict.Accepted from to ops) = IsAccepted e from to × Replays e from to × (ops ≡ length e.ops) × ((refusal : Refusal) → IsRefusedWith e refusal → ⊥)
 JudgesCommit e (Verdict.Refused refusal) = IsRefusedWith e refusal × ((other : Refusal) → IsRefusedWith e other → other ≡ refusal) × ((from to : List ℕ) → IsAccepted e from to → ⊥) × (IsCovered e → ⊥)
 
--- no frame of the event's has room in the stream, own: 4,194,304 bytes, the number taking nine
+-- no frame of the event's has room in the stream, the number taking nine bytes (own)
 abbrev pub is_too_long : Seen → Bool
-is_too_long event = nat_lt 4194304 (out_length event)
+is_too_long event = nat_lt LONGEST_FRAME (out_length event)
 
 -- a commit that is too long is refused before all else
 abbrev pub JudgesSized : Bool → CommitEvent → Verdict → Type 0

@@ -1,0 +1,101 @@
+//! The CAR in an event's blocks, and the commit object under its first root.
+
+ghost use Rattle.std.specs.Prelude.{◌≡◌, IfOk, IfErr, OnOk, Some, None, Ok, Err};
+ghost use Rattle.at_car.specs.Car.{car_of};
+ghost use Rattle.at_car.specs.Standing.{root_of};
+ghost use Rattle.event_checks.specs.Faults.{IsShown};
+ghost use Rattle.event_checks.specs.Lines.{first_of};
+ghost use Rattle.event_checks.specs.Opening.{IsFound, form_lines, is_stated, object_lines};
+
+use crate::fault::OpenFault;
+use at_car::Car;
+use at_cid::{Cid, Cids, Words};
+use at_commit::Commit;
+use at_event::Refusal;
+use at_syntax::Tid;
+use std::alloc::Global;
+
+/// A commit object, with its link and the block that it is.
+#[derive(Drop)]
+pub struct CommitBlock<'a> {
+    /// The first root of the CAR.
+    pub link: Cid,
+    /// The block under it.
+    pub block: &'a [u8],
+    /// The commit object.
+    pub commit: Commit,
+}
+
+fn refused<T>(refusal: Refusal) -> Result<T, OpenFault>
+    ensures { result ≡ Err (OpenFault.Refused refusal) }
+{
+    Err(OpenFault::Refused(refusal))
+}
+
+/// The CAR in the blocks.
+///
+/// `BadCar` where its first fault is one of its form, `WrongDigest` where it is a block whose SHA-256 isn't its link's.
+pub fn read_car(alloc: Global, blocks: &[u8]) -> Result<Car, OpenFault>
+    ensures shown { OnOk result (first_of (form_lines (car_of blocks.now)) ≡ None) }
+    ensures car { IfOk result (λ car. car_of blocks.now ≡ Ok (car.roots, car.blocks)) }
+    ensures refused { IfErr result (IsShown (first_of (form_lines (car_of blocks.now)))) }
+{
+    let car = at_car::read(alloc, blocks)?;
+    Ok(car)
+}
+
+fn first_root(roots: &Cids) -> Option<Cid>
+    ensures { result ≡ root_of roots.now }
+{
+    match roots.as_slice() {
+        [root, ..] => Some(*root),
+        [] => None,
+    }
+}
+
+/// Whether a root is the link that is stated, where one is.
+fn is_stated(stated: Option<Cid>, root: Cid) -> bool
+    ensures { result ≡ is_stated stated root }
+{
+    match stated {
+        Some(link) => root == link,
+        None => true,
+    }
+}
+
+/// The commit object under the first root of a CAR, which an event states to be of a DID and of a revision, and, where it
+/// is a `#commit`, to have a link.
+///
+/// It is refused with the first of these that applies: `WrongRoot`, where there is no first root or it isn't the link;
+/// `NoCommit`, where its block is missing; `BadCommit`, where that is no commit object; `OtherCommit`, where that is of
+/// another account or revision.
+pub fn find_commit<'a>(
+    alloc: Global,
+    car: &'a Car,
+    stated: Option<Cid>,
+    did: &Words,
+    rev: Tid,
+) -> Result<CommitBlock<'a>, OpenFault>
+    ensures shown { OnOk result (first_of (object_lines (Ok (car.entry.now.roots, car.entry.now.blocks)) stated did.now rev) ≡ None) }
+    ensures found { IfOk result (λ found. IsFound (Ok (car.entry.now.roots, car.entry.now.blocks)) found.link found.block.now found.commit) }
+    ensures refused { IfErr result (IsShown (first_of (object_lines (Ok (car.entry.now.roots, car.entry.now.blocks)) stated did.now rev))) }
+{
+    let Some(link) = first_root(&car.roots) else {
+        return refused(Refusal::WrongRoot);
+    };
+    if !is_stated(stated, link) {
+        return refused(Refusal::WrongRoot);
+    }
+    let Some(block) = car.blocks.get(&link) else {
+        return refused(Refusal::NoCommit);
+    };
+    let commit = at_commit::read(alloc, block)?;
+    if commit.did != *did || commit.rev != rev {
+        return refused(Refusal::OtherCommit);
+    }
+    Ok(CommitBlock {
+        link,
+        block,
+        commit,
+    })
+}
