@@ -29,11 +29,10 @@ pub fn place_of(items: &[Item], key: &[u8]) -> usize
     ensures { result ≡ length (before key.now items.now) }
 {
     for (i, item) in items.iter().enumerate() {
-        if let Item::Key(other, _) = item {
-            match compare(other.as_slice(), key) {
-                Ordering::Less => {}
-                _ => return i,
-            }
+        if let Item::Key(other, _) = item
+            && compare(other.as_slice(), key).is_ge()
+        {
+            return i;
         }
     }
     items.len()

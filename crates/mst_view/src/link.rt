@@ -12,7 +12,7 @@ use std::alloc::Global;
 /// The most bytes of a node's block beside its entries: a map with two names, the head of a list, and a link.
 const MOST_BARE_BYTES: usize = 55;
 /// The most bytes of an entry beside its key: a map with four names, the head of a key, a number and two links.
-const MOST_ENTRY_BYTES: usize = 96;
+const MOST_ENTRY_BYTES: usize = 97;
 
 /// Room for the block of a node with these keys, however few bytes they share. Takes no memory.
 fn room_for(parts: &[Part]) -> usize {
