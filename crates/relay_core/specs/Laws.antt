@@ -10,6 +10,7 @@ use Rattle.account_state.specs.Folds.{account}
 use Rattle.account_state.specs.State.{State}
 use Rattle.account_state.specs.declared.repo.Repo.{Repo}
 use Rattle.relay_core.specs.Decide.{Checks, Outside, sync_message, answers, refusal_of, decision_for, decided_event}
+use Rattle.relay_core.specs.Opening.{OpensRight}
 use Rattle.relay_core.specs.Ready.{IsReady}
 use Rattle.relay_core.specs.Runs.{Message, Run}
 use Rattle.relay_core.specs.Sending.{CanBeSent, IsSendable}
@@ -47,6 +48,10 @@ IsAside r = (shows_home r ≡ true) × (shows_verdict r ≡ true)
 pub record AreAside (checks : Checks) : Type 0 where
   pub opens : (e : Seen) (last : Option ℕ) (r : Refusal) → checks.opens e last ≡ Err r → IsAside (Some r)
   pub links : (e : Seen) (repo : Repo) (r : Refusal) → checks.links e repo ≡ Some r → IsAside (Some r)
+
+-- Where opening is right, it speaks of neither home nor verdict.
+abbrev pub OpeningIsAside : Type 0
+OpeningIsAside = (checks : Checks) → OpensRight checks → (e : Seen) (last : Option ℕ) (r : Refusal) → checks.opens e last ≡ Err r → IsAside (Some r)
 
 -- The block of a commit is read back from the relay's own message of it.
 abbrev pub BlocksReturn : Type 0

@@ -8,6 +8,7 @@ pub mod Runs
 pub mod Sending
 pub mod Worlds
 pub mod Ready
+pub mod Opening
 pub mod Operating
 pub mod Laws
 pub mod Report
