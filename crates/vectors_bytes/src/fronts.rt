@@ -3,8 +3,8 @@
 use crate::spelled::spelled;
 use anyhow::{Result, bail};
 use at_cbor::{
-    Value, decode_whole, front_len, string_len, take_bytes, take_child, take_item, take_link,
-    take_list_front, take_number,
+    Major, Value, decode_whole, front_len, string_len, take_bytes, take_child, take_item,
+    take_link, take_list_front, take_number,
 };
 use std::alloc::Global;
 use vector_lines::{Answer, Subject, bytes, had, number, parted, said};
@@ -30,8 +30,8 @@ impl Subject for Fronts {
 
 fn found(alloc: Global, word: &str, given: &[u8]) -> Result<Option<String>> {
     match word {
-        "number" => numbered(alloc, take_number(0, given)),
-        "text" => numbered(alloc, take_number(3, given)),
+        "number" => numbered(alloc, take_number(Major::Unsigned, given)),
+        "text" => numbered(alloc, take_number(Major::Text, given)),
         "list" => numbered(alloc, take_list_front(given)),
         "bytes" => byte_string(alloc, take_bytes(given)),
         "link" => link(alloc, given),

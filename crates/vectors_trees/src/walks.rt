@@ -26,13 +26,20 @@ pub fn walked(alloc: Global, blocks: &Blocks, root: Cid) -> Result<String> {
     Ok(whole)
 }
 
+/// A fault as a row words it.
+fn walk_fault(alloc: Global, fault: WalkFault) -> Result<String> {
+    let (name, link) = match fault {
+        WalkFault::NoBlock(link) => ("NoBlock", link),
+        WalkFault::BadNode(link) => ("BadNode", link),
+        WalkFault::Memory => bail!("out of memory"),
+    };
+    with_fault(Answer::new(alloc), name, &link).end()
+}
+
 fn end(alloc: Global, ended: Result<u64, WalkFault>) -> Result<String> {
-    let answer = Answer::new(alloc);
     match ended {
-        Ok(keys) => answer.words("ok ").number(keys).end(),
-        Err(WalkFault::NoBlock(link)) => with_fault(answer, "NoBlock", &link).end(),
-        Err(WalkFault::BadNode(link)) => with_fault(answer, "BadNode", &link).end(),
-        Err(WalkFault::Memory) => bail!("out of memory"),
+        Ok(keys) => Answer::new(alloc).words("ok ").number(keys).end(),
+        Err(fault) => walk_fault(alloc, fault),
     }
 }
 
