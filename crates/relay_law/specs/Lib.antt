@@ -1,0 +1,5 @@
+pub mod Chains
+pub mod Sound
+pub mod Right
+pub mod Merges
+pub mod Laws

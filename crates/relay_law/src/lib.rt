@@ -1,0 +1,10 @@
+//! What holds of all journals and of all runs. Each law is the contract of a function without a
+//! body.
+#![tactic(auto)]
+
+mod laws;
+
+pub use laws::{
+    checks_are_right, fronts_are_sound, merges_agree, operators_stay_sound, runs_stay_sound,
+    sound_replays,
+};
