@@ -6,3 +6,6 @@ pub mod Right
 pub mod Keys
 pub mod Merging
 pub mod Agreeing
+pub mod Completing
+pub mod Reading
+pub mod Shown

@@ -29,12 +29,12 @@ held_in c (Ok (roots, blocks)) is link block commit rooted object =
     (record { roots = roots; blocks = blocks; commit = commit; car = is; object = ap object_in is ∙ object }, refl)
 held_in c (Err fault) is link block commit rooted object = absurd cc
 
-first_front : (xs ys : List Line) → first_of (xs ++ ys) ≡ None → first_of xs ≡ None
+pub first_front : (xs ys : List Line) → first_of (xs ++ ys) ≡ None → first_of xs ≡ None
 first_front [] ys h = refl
 first_front (line ∷ xs) ys h =
     elim line.1 as (λ b. cond b (Some line.0) (first_of (xs ++ ys)) ≡ None → cond b (Some line.0) (first_of xs) ≡ None) [ true ↦ λ e. e | false ↦ λ e. first_front xs ys e ] h
 
-body_back : (P : Body → Type 0) (b : Body) (c : CommitEvent) → b ≡ Body.Commit c → P b → P (Body.Commit c)
+pub body_back : (P : Body → Type 0) (b : Body) (c : CommitEvent) → b ≡ Body.Commit c → P b → P (Body.Commit c)
 body_back P b c is p = subst P is p
 
 fields_fine : (checks : Checks) → OpensRight checks → (e : Seen) (c : CommitEvent) (last : Option ℕ) (head : Head) → e.body ≡ Body.Commit c → checks.opens e last ≡ Ok head → first_of (field_lines c) ≡ None

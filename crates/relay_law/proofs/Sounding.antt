@@ -70,7 +70,7 @@ commit_number t is kind =
     let positive = (and_parts (is_positive t.seq) (is_message t.message) goes).0 in
     (and_parts (nat_lt 0 t.seq) (is_number t.seq) positive).1
 
-decided_formed : (t : Taken) → is_taken t ≡ true → is_decided t.refusal t ≡ true
+pub decided_formed : (t : Taken) → is_taken t ≡ true → is_decided t.refusal t ≡ true
 unfolding is_taken
 decided_formed t is =
     let a = (and_parts (names_host t.host) (is_number t.host_seq && (is_about t.kind t.did && (is_moment t.moment && is_decided t.refusal t))) is).1 in
@@ -162,7 +162,7 @@ event_part_follows checks right n a host e o p read h =
 
 -- the row of a message follows at the newest root of every account
 
-taken_is : (s t : Taken) → Some s ≡ Some t → s ≡ t
+pub taken_is : (s t : Taken) → Some s ≡ Some t → s ≡ t
 taken_is s t e = cc
 
 event_follows : (checks : Checks) → AreRight checks → (J : List Row) → IsJournal J → (host : List ℕ) (e : Seen) (o : Outside) → IsRead e
@@ -198,7 +198,7 @@ row_follows checks right J (host, Ok f) others (Row.Operated o) journal read mad
 row_follows checks right J (host, Ok f) others (Row.Carried c) journal read made did = absurd made
 row_follows checks right J (host, Err fault) others row journal read made did = absurd made
 
-later_events : (m : Message) (others : List Message) → AreEvents (m ∷ others) → AreEvents others
+pub later_events : (m : Message) (others : List Message) → AreEvents (m ∷ others) → AreEvents others
 later_events (host, Ok (Frame.Event e)) others h = h.1
 later_events (host, Ok (Frame.Faulty seq)) others h = h
 later_events (host, Ok Frame.Info) others h = h

@@ -1,15 +1,22 @@
 -- What holds of all journals and of all runs.
-use Rattle.std.specs.Prelude.{ℕ, List, [], ◌∷◌, ◌++◌, Option, Ok, Err}
+use Rattle.std.specs.Prelude.{◌≡◌, ℕ, List, [], ◌∷◌, ◌++◌, Option, Ok, Err, Some, None, if◌then◌else◌}
 use Rattle.at_event.specs.declared.frame.Frame.{Frame}
 use Rattle.relay_row.specs.Journal.{IsJournal}
 use Rattle.relay_row.specs.declared.fetched.Whole.{Whole}
 use Rattle.relay_row.specs.declared.operated.Operated.{Operated}
 use Rattle.relay_row.specs.declared.row.Row.{Row}
-use Rattle.relay_core.specs.Decide.{Checks}
+use Rattle.at_event.specs.Seen.{Seen}
+use Rattle.at_event.specs.declared.refusal.Refusal.{Refusal}
+use Rattle.relay_row.specs.Folds.{last_seq}
+use Rattle.relay_row.specs.declared.taken.Taken.{Taken}
+use Rattle.account_state.specs.Folds.{account}
+use Rattle.relay_core.specs.Decide.{Checks, Outside, decided}
 use Rattle.relay_core.specs.Opening.{OpensRight}
 use Rattle.relay_core.specs.Runs.{Message, Run}
-use Rattle.relay_core.specs.Worlds.{World, RunsIn}
+use Rattle.relay_core.specs.Worlds.{World, RunIn, RunsIn}
 use Rattle.relay_law.specs.Chains.{chains}
+use Rattle.relay_law.specs.Covered.{IsCovered}
+use Rattle.relay_law.specs.Faithful.{AreFaithful}
 use Rattle.relay_law.specs.Merges.{Merge, OneHome, Agree}
 use Rattle.relay_law.specs.Right.{AreRight, LinksRight, IsRead}
 use Rattle.relay_law.specs.Sound.{IsSound, AllReplay}
@@ -50,3 +57,17 @@ ChecksAreRight = (checks : Checks) → OpensRight checks → LinksRight checks �
 abbrev pub MergesAgree : Type 0
 MergesAgree = (checks : Checks) (w : World) (J : List Row) (ended : List (List ℕ)) (one other : List Message) (ones others : List Row)
     → Merge one other → OneHome w one → RunsIn checks w J ended one ones → RunsIn checks w J ended other others → Agree checks J ones others
+
+-- A covered commit is accepted where its home and its signature are good, and else refused for one of the two alone.
+abbrev pub CoveredAreAccepted : Type 0
+CoveredAreAccepted = (checks : Checks) → OpensRight checks → LinksRight checks → (J : List Row) (host : List ℕ) (e : Seen) (o : Outside) (t : Taken) → IsRead e → IsCovered J host e o.moment
+    → decided checks (last_seq J) (account e.did J) host (Frame.Event e) o ≡ Some t
+    → t.refusal ≡ (if o.home then (if o.verdict then None else Some Refusal.BadSignature) else Some Refusal.NotHome)
+
+-- The rows of a run are faithful.
+abbrev pub RunsAreFaithful : Type 0
+RunsAreFaithful = (checks : Checks) (J : List Row) (messages : List Message) (rows : List Row) → AreEvents messages → IsJournal (J ++ rows) → Run checks J messages rows → AreFaithful rows
+
+-- Where opening and linking are right, the answers that the rows of a run in a world show make those rows.
+abbrev pub RunsAreShown : Type 0
+RunsAreShown = (checks : Checks) → OpensRight checks → LinksRight checks → (w : World) (J : List Row) (messages : List Message) (rows : List Row) → RunIn checks w J messages rows → Run checks J messages rows

@@ -6,6 +6,7 @@ use Rattle.at_event.specs.declared.event.Body.{Body}
 use Rattle.at_event.specs.declared.event.CommitEvent.{CommitEvent}
 use Rattle.at_event.specs.declared.head.Head.{Head}
 use Rattle.at_event.specs.declared.refusal.Refusal.{Refusal}
+use Rattle.event_checks.specs.Lines.{is_judged}
 use Rattle.account_state.specs.declared.repo.Repo.{Repo}
 use Rattle.commit_check.specs.Step.{empty_root, is_gap, root_before, Leads}
 use Rattle.commit_check.specs.Laws.{AreReadOps}
@@ -44,9 +45,10 @@ expect_of Repo.Missing = Expect.Start
 expect_of (Repo.Good head) = Expect.After head
 expect_of (Repo.Lost rev) = Expect.Lost
 
--- Linking says what is right of a commit: it passes only where there is no gap and, by the blocks that were read, the commit leads from the root before to its `data`; a refusal is the one that stops it.
+-- Linking says what is right of a commit: it passes only where there is no gap and, by the blocks that were read, the commit leads from the root before to its `data`; a refusal is the one that stops it, and none that judges alone show.
 pub record LinksRight (checks : Checks) : Type 0 where
   pub no_gap : (e : Seen) (c : CommitEvent) (repo : Repo) → e.body ≡ Body.Commit c → checks.links e repo ≡ None → is_gap c (expect_of repo) ≡ false
   pub leads : (e : Seen) (c : CommitEvent) (repo : Repo) (h : Holds c) → e.body ≡ Body.Commit c → checks.links e repo ≡ None → Leads c h.blocks (root_before (expect_of repo)) h.commit.data_root
   pub stops : (e : Seen) (c : CommitEvent) (repo : Repo) (h : Holds c) (refusal : Refusal) → e.body ≡ Body.Commit c → checks.links e repo ≡ Some refusal
       → StopsPast (is_gap c (expect_of repo)) c h.blocks (root_before (expect_of repo)) h.commit.data_root refusal
+  pub unjudged : (e : Seen) (repo : Repo) (refusal : Refusal) → checks.links e repo ≡ Some refusal → is_judged refusal ≡ false

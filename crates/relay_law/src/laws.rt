@@ -1,6 +1,6 @@
 //! The laws of journals, each the contract of a function that does nothing.
 
-ghost use Rattle.relay_law.specs.Laws.{ChecksAreRight, FrontsAreSound, MergesAgree, OperatorsStaySound, RunsStaySound, SoundReplays};
+ghost use Rattle.relay_law.specs.Laws.{ChecksAreRight, CoveredAreAccepted, FrontsAreSound, MergesAgree, OperatorsStaySound, RunsAreFaithful, RunsAreShown, RunsStaySound, SoundReplays};
 
 /// A run behind a sound journal leaves a sound journal.
 pub fn runs_stay_sound()
@@ -30,4 +30,19 @@ pub fn checks_are_right()
 /// Two merges of the same hosts' streams agree on all but the numbers given.
 pub fn merges_agree()
     ensures { MergesAgree }
+{}
+
+/// A covered commit is accepted where its home and its signature are good.
+pub fn covered_are_accepted()
+    ensures { CoveredAreAccepted }
+{}
+
+/// What an accepted event sends out is read as that event, under the number that it got.
+pub fn runs_are_faithful()
+    ensures { RunsAreFaithful }
+{}
+
+/// The answers that the rows of a run show make those rows.
+pub fn runs_are_shown()
+    ensures { RunsAreShown }
 {}
