@@ -11,7 +11,7 @@ unfoldable pub end_root : List ℕ → List (List ℕ × List ℕ) → List ℕ
 end_root r [] = r
 end_root r (c ∷ cs) = end_root c.1 cs
 
-end_more : (r : List ℕ) (cs : List (List ℕ × List ℕ)) (c : List ℕ × List ℕ) → end_root r (cs ++ c ∷ []) ≡ c.1
+pub end_more : (r : List ℕ) (cs : List (List ℕ × List ℕ)) (c : List ℕ × List ℕ) → end_root r (cs ++ c ∷ []) ≡ c.1
 unfolding end_root
 end_more r [] c = refl
 end_more r (d ∷ cs) c = end_more d.1 cs c

@@ -9,3 +9,5 @@ pub mod Agreeing
 pub mod Completing
 pub mod Reading
 pub mod Shown
+pub mod Known
+pub mod Carrying

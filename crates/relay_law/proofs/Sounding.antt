@@ -80,7 +80,7 @@ decided_formed t is =
 
 -- where nothing of the table applies, linking passed
 
-later_none : (o p : Option Refusal) → or_later o p ≡ None → p ≡ None
+pub later_none : (o p : Option Refusal) → or_later o p ≡ None → p ≡ None
 later_none None p h = h
 later_none (Some r) p h = absurd cc
 
@@ -100,7 +100,7 @@ none_applies : (lines : List Line) → first lines ≡ None → NoneApplies line
 none_applies [] h = tt
 none_applies (line ∷ lines) h = (earlier_none (condition line) (first lines) h, none_applies lines (later_none (condition line) (first lines) h))
 
-links_none : (checks : Checks) (a : State) (e : Seen) (c : CommitEvent) (o : Outside) → first (body_lines a (Body.Commit c) (answers checks 0 a e o)) ≡ None → checks.links e a.repo ≡ None
+pub links_none : (checks : Checks) (a : State) (e : Seen) (c : CommitEvent) (o : Outside) → first (body_lines a (Body.Commit c) (answers checks 0 a e o)) ≡ None → checks.links e a.repo ≡ None
 links_none checks a e c o h =
     sym (linked_back (checks.links e a.repo)) ∙ (none_applies (body_lines a (Body.Commit c) (answers checks 0 a e o)) h).1.1.1.1.1.1.0
 
@@ -110,7 +110,7 @@ expected_is checks e c Repo.Missing p right body h l = h
 expected_is checks e c (Repo.Lost rev) p right body h l = absurd (right.not_lost e c rev body l)
 
 -- the row of an accepted event, with its body apart
-accepted_taken : Checks → ℕ → State → List ℕ → Seen → Outside → Body → Taken
+unfoldable pub accepted_taken : Checks → ℕ → State → List ℕ → Seen → Outside → Body → Taken
 accepted_taken checks n a host e o body = record {
   host = host;
   host_seq = e.seq;

@@ -34,12 +34,12 @@ or_joined : (a b c : Bool) → a || (b || c) ≡ (a || b) || c
 or_joined true b c = refl
 or_joined false b c = refl
 
-named_more : (did : List ℕ) (rows : List Row) (row : Row) → is_named did (rows ++ row ∷ []) ≡ is_named did rows || names did (did_in row)
+pub named_more : (did : List ℕ) (rows : List Row) (row : Row) → is_named did (rows ++ row ∷ []) ≡ is_named did rows || names did (did_in row)
 unfolding is_named
 named_more did [] row = or_nothing (names did (did_in row))
 named_more did (x ∷ rows) row = ap (λ (b : Bool). names did (did_in x) || b) (named_more did rows row) ∙ or_joined (names did (did_in x)) (list_any (λ r. names did (did_in r)) rows) (names did (did_in row))
 
-abbrev is_account : Row → Bool
+abbrev pub is_account : Row → Bool
 is_account (Row.Carried (Carried.Account a)) = true
 is_account (Row.Carried (Carried.Last seq)) = false
 is_account (Row.Carried (Carried.Host host n)) = false
@@ -56,7 +56,7 @@ not_true : (b : Bool) → not b ≡ true → b ≡ false
 not_true true h = sym h
 not_true false h = refl
 
-kept_order : (did : List ℕ) (before : List Row) (row : Row) → keeps_order before row ≡ true → is_account row ≡ true → names did (did_in row) ≡ true → is_named did before ≡ false
+pub kept_order : (did : List ℕ) (before : List Row) (row : Row) → keeps_order before row ≡ true → is_account row ≡ true → names did (did_in row) ≡ true → is_named did before ≡ false
 kept_order did before (Row.Carried (Carried.Account a)) kept is named =
     let rest = (and_parts (not (are_none before)) (list_all is_carried_row before && not (is_named a.did before)) kept).1 in
     let unnamed = not_true (is_named a.did before) (and_parts (list_all is_carried_row before) (not (is_named a.did before)) rest).1 in

@@ -14,6 +14,7 @@ use Rattle.relay_core.specs.Decide.{Checks, Outside, decided}
 use Rattle.relay_core.specs.Opening.{OpensRight}
 use Rattle.relay_core.specs.Runs.{Message, Run}
 use Rattle.relay_core.specs.Worlds.{World, RunIn, RunsIn}
+use Rattle.relay_law.specs.Carried.{AreOfKnown, CarriesOver}
 use Rattle.relay_law.specs.Chains.{chains}
 use Rattle.relay_law.specs.Covered.{IsCovered}
 use Rattle.relay_law.specs.Faithful.{AreFaithful}
@@ -71,3 +72,11 @@ RunsAreFaithful = (checks : Checks) (J : List Row) (messages : List Message) (ro
 -- Where opening and linking are right, the answers that the rows of a run in a world show make those rows.
 abbrev pub RunsAreShown : Type 0
 RunsAreShown = (checks : Checks) → OpensRight checks → LinksRight checks → (w : World) (J : List Row) (messages : List Message) (rows : List Row) → RunIn checks w J messages rows → Run checks J messages rows
+
+-- No run accepts a commit of an account that was lost, as long as the checks are right.
+abbrev pub RunsFollowKnown : Type 0
+RunsFollowKnown = (checks : Checks) → AreRight checks → (J : List Row) (messages : List Message) (rows : List Row) → Run checks J messages rows → AreOfKnown J rows
+
+-- Where the front of a sound journal gives way to rows that carry it over, the journal stays sound, as long as no commit behind the front is of an account that was lost.
+abbrev pub CarriedStaySound : Type 0
+CarriedStaySound = (front others carried : List Row) → IsJournal (front ++ others) → IsSound (front ++ others) → AreOfKnown front others → CarriesOver front carried → IsSound (carried ++ others)

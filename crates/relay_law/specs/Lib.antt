@@ -4,4 +4,5 @@ pub mod Right
 pub mod Merges
 pub mod Covered
 pub mod Faithful
+pub mod Carried
 pub mod Laws

@@ -1,6 +1,6 @@
 //! The laws of journals, each the contract of a function that does nothing.
 
-ghost use Rattle.relay_law.specs.Laws.{ChecksAreRight, CoveredAreAccepted, FrontsAreSound, MergesAgree, OperatorsStaySound, RunsAreFaithful, RunsAreShown, RunsStaySound, SoundReplays};
+ghost use Rattle.relay_law.specs.Laws.{CarriedStaySound, ChecksAreRight, CoveredAreAccepted, FrontsAreSound, MergesAgree, OperatorsStaySound, RunsAreFaithful, RunsAreShown, RunsFollowKnown, RunsStaySound, SoundReplays};
 
 /// A run behind a sound journal leaves a sound journal.
 pub fn runs_stay_sound()
@@ -45,4 +45,14 @@ pub fn runs_are_faithful()
 /// The answers that the rows of a run show make those rows.
 pub fn runs_are_shown()
     ensures { RunsAreShown }
+{}
+
+/// No run accepts a commit of an account that was lost.
+pub fn runs_follow_known()
+    ensures { RunsFollowKnown }
+{}
+
+/// A sound journal whose front gives way to rows that carry it over stays sound.
+pub fn carried_stay_sound()
+    ensures { CarriedStaySound }
 {}
