@@ -11,3 +11,4 @@ pub mod Reading
 pub mod Shown
 pub mod Known
 pub mod Carrying
+pub mod Coming

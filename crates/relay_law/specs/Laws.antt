@@ -18,6 +18,7 @@ use Rattle.relay_law.specs.Carried.{AreOfKnown, CarriesOver}
 use Rattle.relay_law.specs.Chains.{chains}
 use Rattle.relay_law.specs.Covered.{IsCovered}
 use Rattle.relay_law.specs.Faithful.{AreFaithful}
+use Rattle.relay_law.specs.Histories.{Point, LivesFrom, AllCome}
 use Rattle.relay_law.specs.Merges.{Merge, OneHome, Agree}
 use Rattle.relay_law.specs.Right.{AreRight, LinksRight, IsRead}
 use Rattle.relay_law.specs.Sound.{IsSound, AllReplay}
@@ -80,3 +81,7 @@ RunsFollowKnown = (checks : Checks) → AreRight checks → (J : List Row) (mess
 -- Where the front of a sound journal gives way to rows that carry it over, the journal stays sound, as long as no commit behind the front is of an account that was lost.
 abbrev pub CarriedStaySound : Type 0
 CarriedStaySound = (front others carried : List Row) → IsJournal (front ++ others) → IsSound (front ++ others) → AreOfKnown front others → CarriesOver front carried → IsSound (carried ++ others)
+
+-- Over every list of calls, failures, crashes and openings, each journal that a later store has comes from the one that is open now by rows added at its end and by cuts at numbers that were held.
+abbrev pub JournalsComeOn : Type 0
+JournalsComeOn = (p : Point) (points : List Point) (J : List Row) → LivesFrom p points → p.serves ≡ Some J → AllCome J points

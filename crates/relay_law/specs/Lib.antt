@@ -5,4 +5,5 @@ pub mod Merges
 pub mod Covered
 pub mod Faithful
 pub mod Carried
+pub mod Histories
 pub mod Laws

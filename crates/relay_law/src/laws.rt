@@ -1,6 +1,6 @@
 //! The laws of journals, each the contract of a function that does nothing.
 
-ghost use Rattle.relay_law.specs.Laws.{CarriedStaySound, ChecksAreRight, CoveredAreAccepted, FrontsAreSound, MergesAgree, OperatorsStaySound, RunsAreFaithful, RunsAreShown, RunsFollowKnown, RunsStaySound, SoundReplays};
+ghost use Rattle.relay_law.specs.Laws.{CarriedStaySound, ChecksAreRight, CoveredAreAccepted, FrontsAreSound, JournalsComeOn, MergesAgree, OperatorsStaySound, RunsAreFaithful, RunsAreShown, RunsFollowKnown, RunsStaySound, SoundReplays};
 
 /// A run behind a sound journal leaves a sound journal.
 pub fn runs_stay_sound()
@@ -55,4 +55,9 @@ pub fn runs_follow_known()
 /// A sound journal whose front gives way to rows that carry it over stays sound.
 pub fn carried_stay_sound()
     ensures { CarriedStaySound }
+{}
+
+/// Each journal that a later store has comes from an earlier one by rows added at its end and by cuts.
+pub fn journals_come_on()
+    ensures { JournalsComeOn }
 {}
