@@ -1,0 +1,14 @@
+pub mod Growing
+pub mod Replaying
+pub mod Tracking
+pub mod Sounding
+pub mod Right
+pub mod Keys
+pub mod Merging
+pub mod Agreeing
+pub mod Completing
+pub mod Reading
+pub mod Shown
+pub mod Known
+pub mod Carrying
+pub mod Coming

@@ -1,0 +1,110 @@
+-- The rows of a run are faithful.
+use Rattle.std.proofs.Common.{◌≡◌, ◌≢◌, ℕ, ◌+◌, Bool, true, false, not, ◌&&◌, ◌||◌, List, [], ◌∷◌, ◌++◌, Option, Some, None, Ok, Err, refl, ap, ◌∙◌, sym, cond, subst, append_assoc}
+use Rattle.std.proofs.lemmas.Bool.{and_parts, ltb-true, eqb-true}
+use Rattle.std.specs.Prelude.{nat_lt, ◌<◌, ◌==◌}
+use Rattle.at_event.specs.Seen.{Seen}
+use Rattle.at_event.specs.Frames.{frame_of}
+use Rattle.at_event.specs.Writing.{out_of, numbered}
+use Rattle.at_event.specs.declared.frame.Frame.{Frame}
+use Rattle.at_event.proofs.Messages.{out_again}
+use Rattle.relay_row.specs.Folds.{last_seq}
+use Rattle.relay_row.specs.Journal.{IsJournal}
+use Rattle.relay_row.specs.Rules.{is_row, is_taken, is_accepted, is_effect, is_fetched, is_timed, is_positive, is_number, is_message, is_empty}
+use Rattle.relay_row.specs.declared.limits.TheConstants.{NUMBERS}
+use Rattle.relay_row.specs.declared.row.Row.{Row}
+use Rattle.relay_row.specs.declared.taken.Taken.{Taken}
+use Rattle.relay_row.proofs.Journals.{grew, fronts}
+use Rattle.account_state.specs.Folds.{account}
+use Rattle.account_state.specs.State.{State}
+use Rattle.relay_core.specs.Decide.{Checks, Outside, answers, decided_event, decision_for, refusal_of}
+use Rattle.relay_core.specs.Rows.{event_taken, faulty_taken, kind_of}
+use Rattle.relay_core.specs.Runs.{Message, Turn, IsMade, RunFrom, passed_by, has_ended}
+use Rattle.relay_core.specs.Shown.{shown}
+use Rattle.relay_core.specs.Table.{is_held}
+use Rattle.relay_core.specs.declared.decision.Pass.{Pass}
+use Rattle.relay_law.specs.Faithful.{ReadsAsItsEvent, IsFaithful, AreFaithful}
+use Rattle.relay_law.specs.Laws.{AreEvents, RunsAreFaithful}
+use Rattle.relay_law.specs.Right.{IsRead}
+use Rattle.relay_law.proofs.Sounding.{decided_formed, later_events, taken_is}
+
+-- an accepted event's number is one, where there is one
+
+numbered_or : (p z q k : Bool) → p || (k && (z && q)) ≡ true → (z ≡ true → ⊥) → p ≡ true
+numbered_or true z q k h nonzero = refl
+numbered_or false z q k h nonzero = absurd (nonzero (and_parts z q (and_parts k (z && q) h).1).0)
+
+accepted_number : (t : Taken) → is_accepted t ≡ true → t.seq ≢ 0 → nat_lt t.seq NUMBERS ≡ true
+unfolding is_accepted
+accepted_number t is some =
+    let forms = (and_parts (is_effect t.kind t.effect) (is_fetched false (is_timed t.moment) t.fetched && ((is_positive t.seq && is_message t.message) || (t.kind == 4 && (t.seq == 0 && is_empty t.message)))) is).1 in
+    let sent = (and_parts (is_fetched false (is_timed t.moment) t.fetched) ((is_positive t.seq && is_message t.message) || (t.kind == 4 && (t.seq == 0 && is_empty t.message))) forms).1 in
+    let goes = numbered_or (is_positive t.seq && is_message t.message) (t.seq == 0) (is_empty t.message) (t.kind == 4) sent (λ zero. some (eqb-true t.seq 0 zero)) in
+    (and_parts (nat_lt 0 t.seq) (is_number t.seq) (and_parts (is_positive t.seq) (is_message t.message) goes).0).1
+
+accepted_reads : (e : Seen) → IsRead e → (t : Taken) (n : ℕ) (goes : Bool) → t.seq ≡ cond goes (n + 1) 0 → t.message ≡ cond goes (out_of e (n + 1)) [] → t.did ≡ e.did → t.kind ≡ kind_of e.body → is_accepted t ≡ true → t.seq ≢ 0 → ReadsAsItsEvent t
+accepted_reads e read t n false seq message did kind is some = absurd (some seq)
+accepted_reads e read t n true seq message did kind is some =
+    let below : n + 1 < NUMBERS = ltb-true (n + 1) NUMBERS (subst (λ (k : ℕ). nat_lt k NUMBERS ≡ true) seq (accepted_number t is some)) in
+    record {
+      event = numbered e (n + 1);
+      reads = ap frame_of message ∙ out_again e (n + 1) below read.event;
+      seq = sym seq;
+      did = sym did;
+      kind = sym kind;
+    }
+
+event_reads : (checks : Checks) (n : ℕ) (a : State) (host : List ℕ) (e : Seen) (o : Outside) → IsRead e → is_taken (decided_event checks n a host e o) ≡ true → (decided_event checks n a host e o).seq ≢ 0 → ReadsAsItsEvent (decided_event checks n a host e o)
+event_reads checks n a host e o read =
+    elim (refusal_of checks a e o) as (λ q. is_taken (event_taken n host e (decision_for a e.body o.fetched q) (answers checks n a e o)) ≡ true
+    → (event_taken n host e (decision_for a e.body o.fetched q) (answers checks n a e o)).seq ≢ 0 → ReadsAsItsEvent (event_taken n host e (decision_for a e.body o.fetched q) (answers checks n a e o))) [
+      | Some r ↦ λ is some. absurd (some refl)
+      | None ↦ λ is some.
+          let t = event_taken n host e (decision_for a e.body o.fetched None) (answers checks n a e o) in
+          accepted_reads e read t n (not (is_held a e.body)) refl refl refl refl (decided_formed t is) some
+    ]
+
+taken_reads : (checks : Checks) (J : List Row) (host : List ℕ) (f : Frame) (t : Taken) (others : List Message) → AreEvents ((host, Ok f) ∷ others) → is_taken t ≡ true → IsMade checks J (host, Ok f) (Row.Taken t) → t.seq ≢ 0 → ReadsAsItsEvent t
+taken_reads checks J host (Frame.Event e) t others read is made =
+    let P : Taken → Type 0 = λ s. is_taken s ≡ true → s.seq ≢ 0 → ReadsAsItsEvent s in
+    subst P (taken_is (decided_event checks (last_seq J) (account e.did J) host e (shown t)) t made) (event_reads checks (last_seq J) (account e.did J) host e (shown t) read.0) is
+taken_reads checks J host (Frame.Faulty seq) t others read is made =
+    let P : Taken → Type 0 = λ s. s.seq ≢ 0 → ReadsAsItsEvent s in
+    subst P (taken_is (faulty_taken host seq (Some (shown t).moment)) t made) (λ some. absurd (some refl))
+taken_reads checks J host Frame.Info t others read is made = absurd cc
+taken_reads checks J host Frame.Error t others read is made = absurd cc
+taken_reads checks J host Frame.Unknown t others read is made = absurd cc
+
+row_faithful : (checks : Checks) (J : List Row) (m : Message) (others : List Message) (row : Row) → is_row row ≡ true → AreEvents (m ∷ others) → IsMade checks J m row → IsFaithful row
+unfolding is_row
+row_faithful checks J (host, Ok f) others (Row.Taken t) is read made = taken_reads checks J host f t others read is made
+row_faithful checks J (host, Ok f) others (Row.Synced name whole moment) is read made = absurd made
+row_faithful checks J (host, Ok f) others (Row.Operated o) is read made = absurd made
+row_faithful checks J (host, Ok f) others (Row.Carried c) is read made = absurd made
+row_faithful checks J (host, Err fault) others row is read made = absurd made
+
+abbrev Reads : Checks → List Message → Type 0
+Reads checks messages = (J : List Row) (ended : List (List ℕ)) (rows : List Row) → IsJournal (J ++ rows) → RunFrom checks J ended messages rows → AreFaithful rows
+
+turned : (checks : Checks) (m : Message) (messages : List Message) → AreEvents (m ∷ messages) → Reads checks messages → (J : List Row) (ended : List (List ℕ)) (rows : List Row) (b : Bool) (p : Option Pass) → IsJournal (J ++ rows)
+    → Turn b p (RunFrom checks J (m.0 ∷ ended) messages rows) (RunFrom checks J ended messages rows)
+    ((row : Row) × (others : List Row) × (rows ≡ row ∷ others) × IsMade checks J m row × RunFrom checks (J ++ row ∷ []) ended messages others)
+    → AreFaithful rows
+turned checks m messages read reads J ended rows true p journal h = reads J ended rows journal h
+turned checks m messages read reads J ended rows false (Some Pass.Ended) journal h = reads J (m.0 ∷ ended) rows journal h
+turned checks m messages read reads J ended rows false (Some Pass.Old) journal h = reads J ended rows journal h
+turned checks m messages read reads J ended rows false (Some Pass.Unknown) journal h = reads J ended rows journal h
+turned checks m messages read reads J ended rows false (Some Pass.Info) journal h = reads J ended rows journal h
+turned checks m messages read reads J ended rows false None journal (row, others, is, made, run) =
+    let IsJournalOf : List Row → Type 0 = λ R. IsJournal R in
+    let P : List Row → Type 0 = λ R. AreFaithful R in
+    let longer = subst IsJournalOf (ap (λ (R : List Row). J ++ R) is ∙ sym (append_assoc J (row ∷ []) others)) journal in
+    let formed = (grew J row (fronts (J ++ row ∷ []) others longer)).0 in
+    subst P (sym is) (row_faithful checks J m messages row formed read made, reads (J ++ row ∷ []) ended others longer run)
+
+run_reads : (checks : Checks) (messages : List Message) → AreEvents messages → Reads checks messages
+run_reads checks [] read J ended rows journal h = subst (λ (R : List Row). AreFaithful R) (sym h) tt
+run_reads checks (m ∷ messages) read J ended rows journal h =
+    turned checks m messages read (run_reads checks messages (later_events m messages read)) J ended rows (has_ended ended m.0) (passed_by J m) journal h
+
+pub runs_faithful : RunsAreFaithful
+runs_faithful checks J messages rows read journal run = run_reads checks messages read J [] rows journal run

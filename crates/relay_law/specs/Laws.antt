@@ -1,0 +1,87 @@
+-- What holds of all journals and of all runs.
+use Rattle.std.specs.Prelude.{◌≡◌, ℕ, List, [], ◌∷◌, ◌++◌, Option, Ok, Err, Some, None, if◌then◌else◌}
+use Rattle.at_event.specs.declared.frame.Frame.{Frame}
+use Rattle.relay_row.specs.Journal.{IsJournal}
+use Rattle.relay_row.specs.declared.fetched.Whole.{Whole}
+use Rattle.relay_row.specs.declared.operated.Operated.{Operated}
+use Rattle.relay_row.specs.declared.row.Row.{Row}
+use Rattle.at_event.specs.Seen.{Seen}
+use Rattle.at_event.specs.declared.refusal.Refusal.{Refusal}
+use Rattle.relay_row.specs.Folds.{last_seq}
+use Rattle.relay_row.specs.declared.taken.Taken.{Taken}
+use Rattle.account_state.specs.Folds.{account}
+use Rattle.relay_core.specs.Decide.{Checks, Outside, decided}
+use Rattle.relay_core.specs.Opening.{OpensRight}
+use Rattle.relay_core.specs.Runs.{Message, Run}
+use Rattle.relay_core.specs.Worlds.{World, RunIn, RunsIn}
+use Rattle.relay_law.specs.Carried.{AreOfKnown, CarriesOver}
+use Rattle.relay_law.specs.Chains.{chains}
+use Rattle.relay_law.specs.Covered.{IsCovered}
+use Rattle.relay_law.specs.Faithful.{AreFaithful}
+use Rattle.relay_law.specs.Histories.{Point, LivesFrom, AllCome}
+use Rattle.relay_law.specs.Merges.{Merge, OneHome, Agree}
+use Rattle.relay_law.specs.Right.{AreRight, LinksRight, IsRead}
+use Rattle.relay_law.specs.Sound.{IsSound, AllReplay}
+
+-- the events among messages are read from their payloads
+abbrev pub AreEvents : List Message → Type 0
+AreEvents [] = Unit {0}
+AreEvents ((host, Ok (Frame.Event e)) ∷ messages) = IsRead e × AreEvents messages
+AreEvents ((host, Ok (Frame.Faulty seq)) ∷ messages) = AreEvents messages
+AreEvents ((host, Ok Frame.Info) ∷ messages) = AreEvents messages
+AreEvents ((host, Ok Frame.Error) ∷ messages) = AreEvents messages
+AreEvents ((host, Ok Frame.Unknown) ∷ messages) = AreEvents messages
+AreEvents ((host, Err fault) ∷ messages) = AreEvents messages
+
+-- A run behind a sound journal leaves a sound journal, whatever the hosts sent and whatever was answered, as long as the checks are right.
+abbrev pub RunsStaySound : Type 0
+RunsStaySound = (checks : Checks) → AreRight checks → (J : List Row) (messages : List Message) (rows : List Row)
+    → AreEvents messages → IsJournal (J ++ rows) → IsSound J → Run checks J messages rows → IsSound (J ++ rows)
+
+-- Each chain of a sound journal replays from its base.
+abbrev pub SoundReplays : Type 0
+SoundReplays = (rows : List Row) → IsSound rows → (did : List ℕ) → AllReplay (chains did rows)
+
+-- Each front of a sound journal is sound.
+abbrev pub FrontsAreSound : Type 0
+FrontsAreSound = (xs ys : List Row) → IsSound (xs ++ ys) → IsSound xs
+
+-- The rows that operators' words make leave a sound journal sound.
+pub record OperatorsStaySound : Type 0 where
+  pub operated : (rows : List Row) (o : Operated) → IsSound rows → IsSound (rows ++ Row.Operated o ∷ [])
+  pub synced : (rows : List Row) (did : List ℕ) (whole : Whole) (moment : Option ℕ) → IsSound rows → IsSound (rows ++ Row.Synced did whole moment ∷ [])
+
+-- Checks that open and link rightly are right: what leads from root to root replays.
+abbrev pub ChecksAreRight : Type 0
+ChecksAreRight = (checks : Checks) → OpensRight checks → LinksRight checks → AreRight checks
+
+-- Behind one journal, in one world, two merges of the same hosts' streams leave the same accounts and the same cursors, and of every host, aside from the numbers given, the same rows.
+abbrev pub MergesAgree : Type 0
+MergesAgree = (checks : Checks) (w : World) (J : List Row) (ended : List (List ℕ)) (one other : List Message) (ones others : List Row)
+    → Merge one other → OneHome w one → RunsIn checks w J ended one ones → RunsIn checks w J ended other others → Agree checks J ones others
+
+-- A covered commit is accepted where its home and its signature are good, and else refused for one of the two alone.
+abbrev pub CoveredAreAccepted : Type 0
+CoveredAreAccepted = (checks : Checks) → OpensRight checks → LinksRight checks → (J : List Row) (host : List ℕ) (e : Seen) (o : Outside) (t : Taken) → IsRead e → IsCovered J host e o.moment
+    → decided checks (last_seq J) (account e.did J) host (Frame.Event e) o ≡ Some t
+    → t.refusal ≡ (if o.home then (if o.verdict then None else Some Refusal.BadSignature) else Some Refusal.NotHome)
+
+-- The rows of a run are faithful.
+abbrev pub RunsAreFaithful : Type 0
+RunsAreFaithful = (checks : Checks) (J : List Row) (messages : List Message) (rows : List Row) → AreEvents messages → IsJournal (J ++ rows) → Run checks J messages rows → AreFaithful rows
+
+-- Where opening and linking are right, the answers that the rows of a run in a world show make those rows.
+abbrev pub RunsAreShown : Type 0
+RunsAreShown = (checks : Checks) → OpensRight checks → LinksRight checks → (w : World) (J : List Row) (messages : List Message) (rows : List Row) → RunIn checks w J messages rows → Run checks J messages rows
+
+-- No run accepts a commit of an account that was lost, as long as the checks are right.
+abbrev pub RunsFollowKnown : Type 0
+RunsFollowKnown = (checks : Checks) → AreRight checks → (J : List Row) (messages : List Message) (rows : List Row) → Run checks J messages rows → AreOfKnown J rows
+
+-- Where the front of a sound journal gives way to rows that carry it over, the journal stays sound, as long as no commit behind the front is of an account that was lost.
+abbrev pub CarriedStaySound : Type 0
+CarriedStaySound = (front others carried : List Row) → IsJournal (front ++ others) → IsSound (front ++ others) → AreOfKnown front others → CarriesOver front carried → IsSound (carried ++ others)
+
+-- Over every list of calls, failures, crashes and openings, each journal that a later store has comes from the one that is open now by rows added at its end and by cuts at numbers that were held.
+abbrev pub JournalsComeOn : Type 0
+JournalsComeOn = (p : Point) (points : List Point) (J : List Row) → LivesFrom p points → p.serves ≡ Some J → AllCome J points
