@@ -2,6 +2,7 @@
 use Rattle.std.proofs.Common.{◌≡◌, ℕ, ◌+◌, List, [], ◌∷◌, ◌++◌, length, ap, subst, sym, ◌∙◌, arith, append-nil, length-append}
 use Rattle.relay_disk.specs.Disk.{View, Goes, Same, IsSettled, IsSynced}
 use Rattle.relay_disk.proofs.Moments.{unchanged}
+use Rattle.gate_log.specs.declared.limits.TheConstants.{BEFORE_BODY}
 use Rattle.gate_log.specs.declared.format.Format.{Format}
 use Rattle.gate_log.specs.Image.{made, front, behind_gate, IsMade}
 use Rattle.gate_log.specs.Crash.{Stands}
@@ -13,7 +14,7 @@ pub first_place : (log : LogState) → length (front log.format) ≡ place_behin
 first_place log = ap length (sym (append-nil (front log.format)))
 
 -- the next behind the one before
-pub next_place : (log : LogState) (before : List (List ℕ)) (body : List ℕ) → place_behind log (before ++ body ∷ []) ≡ place_behind log before + 5 + length body
+pub next_place : (log : LogState) (before : List (List ℕ)) (body : List ℕ) → place_behind log (before ++ body ∷ []) ≡ place_behind log before + BEFORE_BODY + length body
 next_place log before body =
     omega (arith, ap length (made-push log.format before body), length-append (made log.format before) (1 ∷ behind_gate body), length-append body [])
 

@@ -8,6 +8,7 @@ mod fault;
 mod format;
 mod front;
 mod laws;
+mod limits;
 mod log;
 mod making;
 mod pairs;
@@ -23,6 +24,7 @@ pub use laws::{
     faults_have_one_place, images_have_one_list, pairs_have_one_list, pairs_have_one_place,
     picked_logs_stay_picked,
 };
+pub use limits::{AROUND_BODY, BEFORE_BODY, BODY_LENGTHS, EMPTY_LEN, GENERATIONS, LAST_END};
 pub use log::Log;
 pub use pairs::open_pair;
 pub use picking::{Side, pick};

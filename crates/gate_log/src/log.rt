@@ -1,25 +1,25 @@
 //! The log itself: its end on the disk, and the room in which records are put together.
-ghost use Rattle.std.specs.Prelude.{◌≡◌, ◌≤◌, ◌<◌, ◌+◌, ◌^◌, ◌↔◌, ◌++◌, ◌∷◌, [], List, ℕ, false, max, length, vec_capacity, IsTrue, IfOk, OnOk, OnErr};
+ghost use Rattle.std.specs.Prelude.{◌≡◌, ◌≤◌, ◌<◌, ◌+◌, ◌↔◌, ◌++◌, ◌∷◌, [], List, ℕ, false, max, length, vec_capacity, IsTrue, IfOk, OnOk, OnErr};
 ghost use Rattle.at_cid.specs.Counts.{Rose};
 ghost use Rattle.relay_disk.specs.Disk.{Goes, Same, IsSynced};
 ghost use Rattle.relay_disk.specs.Moments.{LeavesOnly};
+ghost use Rattle.relay_disk.specs.declared.disk.TheConstants.{SIZES};
 ghost use Rattle.gate_log.specs.Image.{generation, IsImage, IsUnmade, IsBadAt, behind_gate};
 ghost use Rattle.gate_log.specs.Crash.{IsImageOfOne, IsBeforeOrAfter, IsNew, LeavesImages, LeavesNew};
 ghost use Rattle.gate_log.specs.Log.{Holds, IsOn, place_behind};
 ghost use Rattle.gate_log.specs.Drafts.{body_in};
+ghost use Rattle.gate_log.specs.declared.limits.TheConstants.{BODY_LENGTHS, LAST_END};
 
 use crate::bodies::{read_body, read_length};
 use crate::drafts::{AHEAD, HEAD, add_from_room, lay_ahead};
 use crate::ending::find_or_make;
+use crate::limits::{AROUND_BODY, BEFORE_BODY};
 use crate::steps::add_record;
 use crate::{Format, LogFault};
 use at_cid::{Memory, Octets};
 use relay_disk::Disk;
 use std::alloc::Global;
 use std::marker::Model;
-
-/// The bytes of a record that aren't its gate and its body: the length, and the closed gate behind it.
-const RECORD_REST: usize = 5;
 
 /// A log on a disk, which is handed to each call.
 ///
@@ -36,20 +36,22 @@ pub struct Log {
 }
 
 impl Model for Log {
-    ghost use Rattle.std.specs.Prelude.{◌≤◌, ◌<◌, ◌+◌, ◌^◌, vec_capacity};
+    ghost use Rattle.std.specs.Prelude.{◌≤◌, ◌<◌, ◌+◌, vec_capacity};
+    ghost use Rattle.relay_disk.specs.declared.disk.TheConstants.{SIZES};
+    ghost use Rattle.gate_log.specs.declared.limits.TheConstants.{BEFORE_BODY, LAST_END};
     ghost use Rattle.gate_log.specs.Log.{LogState};
 
     ghost Value = { LogState };
 
     ghost view = { λ l. record { format = l.format; end = l.end; most = l.most; spare = l.spare; is_open = l.is_open } };
 
-    ghost invariant = { λ l. (l.spare + 5 ≤ vec_capacity l.room) × (l.end < 2 ^ 63) × (l.most ≤ 2 ^ 62) };
+    ghost invariant = { λ l. (l.spare + BEFORE_BODY ≤ vec_capacity l.room) × (l.end < SIZES) × (l.most ≤ LAST_END) };
 }
 
-// Puts a record together but for its gate, in room that is there.
+// Puts a record together in room that is there: with the closed gate behind it, in place of its own.
 fn put_record(room: &mut Vec<u8>, body: &[u8])
-    requires room { length body.now + 5 ≤ vec_capacity room.old }
-    requires short { length body.now < 2 ^ 32 }
+    requires room { length body.now + BEFORE_BODY ≤ vec_capacity room.old }
+    requires short { length body.now < BODY_LENGTHS }
     ensures record { room.new.items ≡ behind_gate body.now ++ 0 ∷ [] }
     ensures capacity { vec_capacity room.old ≤ vec_capacity room.new }
 {
@@ -63,7 +65,7 @@ impl Log {
     /// Opens the log of a disk, which is made where it is unmade. No record is to end past `most`, which is in
     /// bytes.
     pub fn open<D: Disk>(alloc: Global, disk: &mut D, most: u64) -> Result<Log, LogFault>
-        requires { most ≤ 2 ^ 62 }
+        requires { most ≤ LAST_END }
         ensures log { IfOk result (λ log. (log.most ≡ most) × IsTrue log.is_open) }
 
         // Its bodies are those of the disk.
@@ -92,7 +94,7 @@ impl Log {
         ensures no_full { (e : ℕ) → result ≡ Err (LogFault.Full e) → ⊥ }
     {
         let mut room = Vec::new(alloc);
-        if room.reserve(RECORD_REST).is_err() {
+        if room.reserve(BEFORE_BODY).is_err() {
             return Err(LogFault::Memory);
         }
         let ending = find_or_make(disk)?;
@@ -116,7 +118,7 @@ impl Log {
         if len <= self.spare {
             return Ok(());
         }
-        let more = len as usize + RECORD_REST;
+        let more = len as usize + BEFORE_BODY;
         self.room.clear();
         self.room.reserve(more)?;
         self.spare = len;
@@ -140,7 +142,7 @@ impl Log {
     /// The place of the closed gate behind the records, where the next one goes.
     pub fn end(&self) -> u64
         ensures end { result ≡ self.now.end }
-        ensures below { result < 2 ^ 63 }
+        ensures below { result < SIZES }
     {
         self.end
     }
@@ -148,20 +150,20 @@ impl Log {
     /// No record ends past this place.
     pub fn most(&self) -> u64
         ensures most { result ≡ self.now.most }
-        ensures below { result ≤ 2 ^ 62 }
+        ensures below { result ≤ LAST_END }
     {
         self.most
     }
 
     /// Whether a body of so many bytes can be added. If it can't, this is what `append` answers.
     pub fn fits(&self, len: u32) -> Result<(), LogFault>
-        ensures full { (e : ℕ) → (result ≡ Err (LogFault.Full e)) ↔ ((e ≡ self.now.end + 6 + len) × (self.now.most < e)) }
-        ensures ok { OnOk result (self.now.end + 6 + len ≤ self.now.most) }
+        ensures full { (e : ℕ) → (result ≡ Err (LogFault.Full e)) ↔ ((e ≡ self.now.end + AROUND_BODY + len) × (self.now.most < e)) }
+        ensures ok { OnOk result (self.now.end + AROUND_BODY + len ≤ self.now.most) }
         ensures no_disk { result ≡ Err LogFault.Disk → ⊥ }
         ensures no_bad_log { (p : ℕ) → result ≡ Err (LogFault.BadLog p) → ⊥ }
         ensures no_memory { result ≡ Err LogFault.Memory → ⊥ }
     {
-        let end = self.end + RECORD_REST as u64 + len as u64 + 1;
+        let end = self.end + AROUND_BODY as u64 + len as u64;
         if end > self.most {
             return Err(LogFault::Full(end));
         }
@@ -187,11 +189,11 @@ impl Log {
     pub fn append<D: Disk>(&mut self, disk: &mut D, body: &[u8]) -> Result<u64, LogFault>
         requires open { IsTrue self.old.is_open }
         requires on { IsTrue D.tells → IsOn (D.view disk.old) self.old }
-        requires short { length body.now < 2 ^ 32 }
+        requires short { length body.now < BODY_LENGTHS }
         requires room { length body.now ≤ self.old.spare }
 
         ensures place { IfOk result (λ place. place ≡ self.old.end) }
-        ensures log { OnOk result (self.new ≡ record self.old { end = self.old.end + 5 + length body.now }) }
+        ensures log { OnOk result (self.new ≡ record self.old { end = self.old.end + BEFORE_BODY + length body.now }) }
         ensures added { OnOk result (IsTrue D.tells → (bodies : List (List ℕ)) → Holds bodies self.old (D.view disk.old)
             → Holds (bodies ++ body.now ∷ []) self.new (D.view disk.new)) }
 
@@ -204,14 +206,14 @@ impl Log {
         ensures disk { result ≡ Err LogFault.Disk → Rose (D.view disk.old).faults (D.view disk.new).faults
             × (self.new ≡ record self.old { is_open = false }) }
         ensures counts { (D.view disk.old).faults ≤ (D.view disk.new).faults }
-        ensures full { (e : ℕ) → (result ≡ Err (LogFault.Full e)) ↔ ((e ≡ self.old.end + 6 + length body.now) × (self.old.most < e)) }
+        ensures full { (e : ℕ) → (result ≡ Err (LogFault.Full e)) ↔ ((e ≡ self.old.end + AROUND_BODY + length body.now) × (self.old.most < e)) }
         ensures untouched { (e : ℕ) → result ≡ Err (LogFault.Full e) → (self.new ≡ self.old) × (disk.new ≡ disk.old) }
         ensures no_bad_log { (p : ℕ) → result ≡ Err (LogFault.BadLog p) → ⊥ }
         ensures no_memory { result ≡ Err LogFault.Memory → ⊥ }
     {
         self.fits(body.len() as u32)?;
         let gate = self.end;
-        let end = gate + (body.len() + RECORD_REST) as u64;
+        let end = gate + (body.len() + BEFORE_BODY) as u64;
         put_record(&mut self.room, body);
         match add_record(disk, self.format, gate, &self.room) {
             Ok(()) => {
@@ -238,10 +240,10 @@ impl Log {
         requires on { IsTrue D.tells → IsOn (D.view disk.old) self.old }
         requires begun { AHEAD ≤ length room.old }
         requires head { length head.now ≤ HEAD }
-        requires short { length (body_in head.now room.old) < 2 ^ 32 }
+        requires short { length (body_in head.now room.old) < BODY_LENGTHS }
 
         ensures place { IfOk result (λ place. place ≡ self.old.end) }
-        ensures log { OnOk result (self.new ≡ record self.old { end = self.old.end + 5 + length (body_in head.now room.old) }) }
+        ensures log { OnOk result (self.new ≡ record self.old { end = self.old.end + BEFORE_BODY + length (body_in head.now room.old) }) }
         ensures added { OnOk result (IsTrue D.tells → (bodies : List (List ℕ)) → Holds bodies self.old (D.view disk.old)
             → Holds (bodies ++ body_in head.now room.old ∷ []) self.new (D.view disk.new)) }
 
@@ -255,7 +257,7 @@ impl Log {
             × (self.new ≡ record self.old { is_open = false }) }
         ensures counts { (D.view disk.old).faults ≤ (D.view disk.new).faults }
         ensures full { (e : ℕ) → (result ≡ Err (LogFault.Full e))
-            ↔ ((e ≡ self.old.end + 6 + length (body_in head.now room.old)) × (self.old.most < e)) }
+            ↔ ((e ≡ self.old.end + AROUND_BODY + length (body_in head.now room.old)) × (self.old.most < e)) }
         ensures untouched { (e : ℕ) → result ≡ Err (LogFault.Full e)
             → (self.new ≡ self.old) × (disk.new ≡ disk.old) × (room.new ≡ room.old) }
         ensures used { OnOk result (room.new ≡ []) }
@@ -266,7 +268,7 @@ impl Log {
         let len = head.len() + room.len() - AHEAD;
         self.fits(len as u32)?;
         let gate = self.end;
-        let end = gate + (len + RECORD_REST) as u64;
+        let end = gate + (len + BEFORE_BODY) as u64;
         let start = lay_ahead(head, room);
         match add_from_room(disk, self.format, gate, room, start) {
             Ok(()) => {
@@ -296,7 +298,7 @@ impl Log {
         // At the place of a body it gives this body.
         ensures body { IfOk result (λ found. IsTrue D.tells → (before : List (List ℕ)) (body : List ℕ) (after : List (List ℕ))
             → Holds (before ++ body ∷ after) self.now (D.view disk.old) → place ≡ place_behind self.now before
-            → (found.0 ≡ body) × (found.1 ≡ place + 5 + length body)) }
+            → (found.0 ≡ body) × (found.1 ≡ place + BEFORE_BODY + length body)) }
         ensures next { IfOk result (λ found. (place < found.1) × (found.1 ≤ self.now.end)) }
         ensures bad_log { (p : ℕ) → result ≡ Err (LogFault.BadLog p) → IsTrue D.tells
             → (before : List (List ℕ)) (body : List ℕ) (after : List (List ℕ))
@@ -312,17 +314,17 @@ impl Log {
         ensures disk { result ≡ Err LogFault.Disk → Rose (D.view disk.old).faults (D.view disk.new).faults }
         ensures no_full { (e : ℕ) → result ≡ Err (LogFault.Full e) → ⊥ }
     {
-        if self.end - place < RECORD_REST as u64 {
+        if self.end - place < BEFORE_BODY as u64 {
             return Err(LogFault::BadLog(place));
         }
         let Some(len) = read_length(disk, place)? else {
             return Err(LogFault::BadLog(place));
         };
-        let next = place + RECORD_REST as u64 + len as u64;
+        let next = place + BEFORE_BODY as u64 + len as u64;
         if next > self.end {
             return Err(LogFault::BadLog(place));
         }
-        let body = read_body(alloc, disk, place + RECORD_REST as u64, len as usize)?;
+        let body = read_body(alloc, disk, place + BEFORE_BODY as u64, len as usize)?;
         Ok((Octets::from_vec(body), next))
     }
 }

@@ -1,7 +1,10 @@
 //! The disk, as the log sees it.
-ghost use Rattle.std.specs.Prelude.{◌≡◌, ◌≤◌, ◌<◌, ◌+◌, ◌^◌, List, ℕ, Bool, length, take, drop, IsTrue, IfOk, OnOk, OnErr};
+ghost use Rattle.std.specs.Prelude.{◌≡◌, ◌≤◌, ◌<◌, ◌+◌, List, ℕ, Bool, length, take, drop, IsTrue, IfOk, OnOk, OnErr};
 ghost use Rattle.at_cid.specs.Counts.{Rose};
 ghost use Rattle.relay_disk.specs.Disk.{View, Goes, Same, Torn, Cut, IsDisk, IsSynced, written};
+
+/// Sizes are below this, in bytes, and so is the end of each written range (own limit: a file's sizes are of type `i64`).
+pub const SIZES: u64 = 1 << 63;
 
 /// A call of the disk failed, as its count of faults shows.
 #[derive(Clone, Copy, Debug, PartialEq, Eq, thiserror::Error)]
@@ -13,7 +16,7 @@ pub struct Failed;
 /// Between two syncs a crash may leave any bytes in each range written since the last sync and in the part
 /// past the size at that sync, and any size between the least and the greatest since. All other bytes stay.
 /// After a sync that answers `Ok`, a crash leaves the content. A call that fails may have done any part of its
-/// work. Places and sizes are in bytes; sizes are below 2^63, and so is the end of each written range.
+/// work. Places and sizes are in bytes; sizes are below `SIZES`, and so is the end of each written range.
 ///
 /// A disk that doesn't tell its content answers `Failed` where a condition on the content isn't met.
 pub trait Disk {
@@ -26,7 +29,7 @@ pub trait Disk {
     /// The number of bytes.
     fn size(&mut self) -> Result<u64, Failed>
         ensures size { IfOk result (λ size. IsTrue tells → size ≡ length (view self.old).content) }
-        ensures below { IfOk result (λ size. size < 2 ^ 63) }
+        ensures below { IfOk result (λ size. size < SIZES) }
         ensures goes { Goes Same (view self.old) (view self.new) }
         ensures failed { OnErr result (Rose (view self.old).faults (view self.new).faults) };
 
@@ -41,7 +44,7 @@ pub trait Disk {
     /// Writes over what is there, and past the end.
     fn write_at(&mut self, place: u64, piece: &[u8]) -> Result<(), Failed>
         requires inside { IsTrue tells → place ≤ length (view self.old).content }
-        requires below { place + length piece.now < 2 ^ 63 }
+        requires below { place + length piece.now < SIZES }
         ensures ok { OnOk result (IsTrue tells →
             (view self.new).content ≡ written place piece.now (view self.old).content) }
         ensures goes { Goes (Torn place (length piece.now)) (view self.old) (view self.new) }

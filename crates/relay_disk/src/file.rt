@@ -1,10 +1,11 @@
 //! A disk on one file, which tells nothing of its content.
-ghost use Rattle.std.specs.Prelude.{◌≡◌, ◌≤◌, ◌<◌, ◌+◌, ◌^◌, ◌++◌, ◌∷◌, [], false, length, take, drop, IsTrue, IfOk, OnOk, OnErr};
+ghost use Rattle.std.specs.Prelude.{◌≡◌, ◌≤◌, ◌<◌, ◌+◌, ◌++◌, ◌∷◌, [], false, length, take, drop, IsTrue, IfOk, OnOk, OnErr};
 ghost use Rattle.at_cid.specs.Counts.{Rose};
 ghost use Rattle.relay_disk.specs.Disk.{Goes, Same, Torn, Cut, IsSynced, written};
 ghost use Rattle.relay_disk.specs.Untold.{untold, untold_disk};
 
 use crate::counts::{counted, fail};
+use crate::disk::SIZES;
 use crate::{Call, Disk, Failed, FileCalls, LazyFile};
 use std::io;
 use std::os::unix::fs::FileExt;
@@ -79,13 +80,13 @@ impl<F: FileCalls> Disk for FileDisk<F> {
 
     fn size(&mut self) -> Result<u64, Failed>
         ensures size { IfOk result (λ size. IsTrue false → size ≡ length (untold self.old.faults).content) }
-        ensures below { IfOk result (λ size. size < 2 ^ 63) }
+        ensures below { IfOk result (λ size. size < SIZES) }
         ensures goes { Goes Same (untold self.old.faults) (untold self.new.faults) }
         ensures failed { OnErr result (Rose self.old.faults self.new.faults) }
         ensures calls { IsTrue F.tells → F.made self.new.file ≡ F.made self.old.file ++ Call.Size ∷ [] }
     {
         match self.file.size() {
-            Ok(size) if size < 1 << 63 => Ok(size),
+            Ok(size) if size < SIZES => Ok(size),
             _ => fail(&mut self.faults),
         }
     }
@@ -101,7 +102,7 @@ impl<F: FileCalls> Disk for FileDisk<F> {
     }
 
     fn write_at(&mut self, place: u64, piece: &[u8]) -> Result<(), Failed>
-        requires { place + length piece.now < 2 ^ 63 }
+        requires { place + length piece.now < SIZES }
         ensures ok { OnOk result (IsTrue false → (untold self.new.faults).content ≡ written place piece.now (untold self.old.faults).content) }
         ensures goes { Goes (Torn place (length piece.now)) (untold self.old.faults) (untold self.new.faults) }
         ensures failed { OnErr result (Rose self.old.faults self.new.faults) }

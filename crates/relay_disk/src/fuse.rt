@@ -1,8 +1,9 @@
 //! A disk that passes so many calls on and then fails.
-ghost use Rattle.std.specs.Prelude.{◌≡◌, ◌<◌, ◌≤◌, ◌+◌, ◌^◌, length, take, drop, IsTrue, IfOk, OnOk, OnErr};
+ghost use Rattle.std.specs.Prelude.{◌≡◌, ◌<◌, ◌≤◌, ◌+◌, length, take, drop, IsTrue, IfOk, OnOk, OnErr};
 ghost use Rattle.at_cid.specs.Counts.{Rose};
 ghost use Rattle.relay_disk.specs.Disk.{written};
 ghost use Rattle.relay_disk.specs.Fuse.{recounted, recounted_disk};
+ghost use Rattle.relay_disk.specs.declared.disk.TheConstants.{SIZES};
 
 use crate::counts::counted;
 use crate::passes::Passes;
@@ -52,7 +53,7 @@ impl<D: Disk> Disk for FuseDisk<D> {
 
     fn size(&mut self) -> Result<u64, Failed>
         ensures size { IfOk result (λ size. IsTrue D.tells → size ≡ length (D.view self.old.disk).content) }
-        ensures below { IfOk result (λ size. size < 2 ^ 63) }
+        ensures below { IfOk result (λ size. size < SIZES) }
         ensures goes { Goes Same (recounted (D.view self.old.disk) self.old.passes.faults) (recounted (D.view self.new.disk) self.new.passes.faults) }
         ensures failed { OnErr result (Rose self.old.passes.faults self.new.passes.faults) }
         ensures burns { Burns (λ d. (D.view d).faults) result self.old self.new }
@@ -76,7 +77,7 @@ impl<D: Disk> Disk for FuseDisk<D> {
 
     fn write_at(&mut self, place: u64, piece: &[u8]) -> Result<(), Failed>
         requires inside { IsTrue D.tells → place ≤ length (D.view self.old.disk).content }
-        requires below { place + length piece.now < 2 ^ 63 }
+        requires below { place + length piece.now < SIZES }
         ensures ok { OnOk result (IsTrue D.tells → (D.view self.new.disk).content ≡ written place piece.now (D.view self.old.disk).content) }
         ensures goes { Goes (Torn place (length piece.now)) (recounted (D.view self.old.disk) self.old.passes.faults) (recounted (D.view self.new.disk) self.new.passes.faults) }
         ensures failed { OnErr result (Rose self.old.passes.faults self.new.passes.faults) }

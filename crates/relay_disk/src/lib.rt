@@ -15,10 +15,11 @@ mod room;
 mod worst;
 
 pub use call::Call;
-pub use disk::{Disk, Failed};
+pub use disk::{Disk, Failed, SIZES};
 pub use file::FileDisk;
 pub use file_calls::FileCalls;
 pub use fuse::FuseDisk;
 pub use laws::{parts_are_within_ranges, ranges_are_left_by_parts};
 pub use lazy_file::LazyFile;
 pub use memory::MemoryDisk;
+pub use worst::WORST_CASES;

@@ -1,10 +1,11 @@
 //! A disk in memory. It records the calls that were done, and fails where it is told to.
-ghost use Rattle.std.specs.Prelude.{◌≡◌, ◌≤◌, ◌<◌, ◌+◌, ◌-◌, ◌^◌, ◌↔◌, ◌++◌, ◌∷◌, [], true, length, take, drop, vec_len, vec_capacity, IsErr, IsTrue, IfOk, OnOk, OnErr};
+ghost use Rattle.std.specs.Prelude.{◌≡◌, ◌≤◌, ◌<◌, ◌+◌, ◌-◌, ◌↔◌, ◌++◌, ◌∷◌, [], true, length, take, drop, vec_len, vec_capacity, IsErr, IsTrue, IfOk, OnOk, OnErr};
 ghost use Rattle.at_cid.specs.Counts.{Rose};
 ghost use Rattle.relay_disk.specs.Disk.{written};
 ghost use Rattle.relay_disk.specs.Works.{after, opened, view_of, view_is_disk};
 ghost use Rattle.relay_disk.specs.Memory.{works_of, total};
 ghost use Rattle.relay_disk.specs.Ranges.{AreInside, AreInside-prop};
+ghost use Rattle.relay_disk.specs.declared.disk.TheConstants.{SIZES};
 
 use crate::room::Room;
 use crate::{Call, Disk, Failed};
@@ -151,7 +152,7 @@ impl Disk for MemoryDisk {
 
     fn size(&mut self) -> Result<u64, Failed>
         ensures size { IfOk result (λ size. IsTrue true → size ≡ length (memory_view self.old).content) }
-        ensures below { IfOk result (λ size. size < 2 ^ 63) }
+        ensures below { IfOk result (λ size. size < SIZES) }
         ensures goes { Goes Same (memory_view self.old) (memory_view self.new) }
         ensures failed { OnErr result (Rose (memory_view self.old).faults (memory_view self.new).faults) }
         ensures fails { IsErr result ↔ IsToFail 0 self.old }
@@ -185,7 +186,7 @@ impl Disk for MemoryDisk {
 
     fn write_at(&mut self, place: u64, piece: &[u8]) -> Result<(), Failed>
         requires inside { IsTrue true → place ≤ length (memory_view self.old).content }
-        requires below { place + length piece.now < 2 ^ 63 }
+        requires below { place + length piece.now < SIZES }
         ensures ok { OnOk result (IsTrue true →
             (memory_view self.new).content ≡ written place piece.now (memory_view self.old).content) }
         ensures goes { Goes (Torn place (length piece.now)) (memory_view self.old) (memory_view self.new) }

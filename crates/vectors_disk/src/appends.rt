@@ -1,13 +1,13 @@
 //! `CONTENT ; MOST ; BODY .. = what each append answers, the end, and the content`, and
 //! `CONTENT ; BODY .. = the calls of opening the log and appending`.
 
-ghost use Rattle.std.specs.Prelude.{◌≤◌, ◌^◌};
+ghost use Rattle.std.specs.Prelude.{◌≤◌};
 
 use crate::logging::{append, append_put};
 use crate::texts::{MOST, with_call};
 use crate::words::{disk_of, pieces};
 use anyhow::{Result, bail};
-use gate_log::{Log, LogFault};
+use gate_log::{LAST_END, Log, LogFault};
 use relay_disk::{Disk, MemoryDisk};
 use std::alloc::Global;
 use vector_lines::{Answer, Subject, bytes, number, parted, said};
@@ -15,9 +15,6 @@ use vector_lines::{Answer, Subject, bytes, number, parted, said};
 pub struct Appends;
 
 pub struct LogCalls;
-
-/// The most that the end of a log may be limited to.
-const LAST_END: u64 = 1 << 62;
 
 // From where a body is appended: as it is, or put together in a room.
 #[derive(Clone, Copy)]
@@ -49,7 +46,7 @@ fn appended<D: Disk>(
     bodies: &[Vec<u8>],
     way: Way,
 ) -> Result<(String, Log)>
-    requires { most ≤ 2 ^ 62 }
+    requires { most ≤ LAST_END }
 {
     let mut answer = Answer::new(alloc);
     let mut log = Log::open(alloc, disk, most)?;
@@ -77,7 +74,7 @@ fn is_same_put(
     told: &str,
     whole: &MemoryDisk,
 ) -> Result<bool>
-    requires { most ≤ 2 ^ 62 }
+    requires { most ≤ LAST_END }
 {
     let mut disk = disk_of(alloc, content)?;
     let (again, log) = appended(alloc, &mut disk, most, bodies, Way::Room)?;
@@ -91,7 +88,7 @@ fn is_same_put(
 
 // The answer of a row, of which the parts are read.
 fn answer_of(alloc: Global, content: &[u8], most: u64, bodies: &[Vec<u8>]) -> Result<String>
-    requires { most ≤ 2 ^ 62 }
+    requires { most ≤ LAST_END }
 {
     let mut disk = disk_of(alloc, content)?;
     let (text, log) = appended(alloc, &mut disk, most, bodies, Way::Slice)?;
@@ -113,7 +110,7 @@ impl Subject for Appends {
         let (most, bodies) = parted(rest, " ; ")?;
         let most = number(most)?;
         if most > LAST_END {
-            bail!("a limit of 2^62");
+            bail!("a limit past the last end");
         }
         let bodies = pieces(alloc, bodies)?;
         let content = bytes(alloc, content)?;

@@ -6,10 +6,10 @@ use crate::logging::{append, bodies};
 use crate::picks::side_name;
 use crate::texts::{MOST, log_fault, told};
 use crate::words::disk_of;
-use crate::worst::{CASES, image};
+use crate::worst::image;
 use anyhow::Result;
 use gate_log::{LogFault, Side, open_pair};
-use relay_disk::{Disk, FuseDisk, MemoryDisk};
+use relay_disk::{Disk, FuseDisk, MemoryDisk, WORST_CASES};
 use std::alloc::Global;
 use vector_lines::{Answer, Subject, bytes, parted};
 
@@ -76,8 +76,8 @@ fn are_right(
     left: [usize; 2],
 ) -> Result<bool> {
     let [log_left, other_left] = left;
-    for i in 0..CASES {
-        for j in 0..CASES {
+    for i in 0..WORST_CASES {
+        for j in 0..WORST_CASES {
             let mut first = image(alloc, one, i)?;
             let mut second = image(alloc, two, j)?;
             // At the last sync the gate is open in the content alone.

@@ -5,10 +5,10 @@
 use crate::logging::{append, held};
 use crate::texts::{MOST, log_fault, told};
 use crate::words::disk_of;
-use crate::worst::{CASES, image};
+use crate::worst::image;
 use anyhow::Result;
 use gate_log::{Log, LogFault};
-use relay_disk::{Disk, FuseDisk, MemoryDisk};
+use relay_disk::{Disk, FuseDisk, MemoryDisk, WORST_CASES};
 use std::alloc::Global;
 use vector_lines::{Answer, Subject, bytes, parted};
 
@@ -70,7 +70,7 @@ fn wrong_stop(
         return wrong(alloc, "another answer", passes);
     }
     let disk = fuse.into_inner();
-    for i in 0..CASES {
+    for i in 0..WORST_CASES {
         // At the last sync the gate is open in the content alone.
         let is_added = left == 0 || (left == 1 && i == 0);
         if !is_right(alloc, image(alloc, &disk, i)?, body, run, is_added)? {

@@ -3,14 +3,11 @@
 use crate::scripts::{run, script};
 use crate::words::{ROOM, disk_of};
 use anyhow::{Context, Result};
-use relay_disk::MemoryDisk;
+use relay_disk::{MemoryDisk, WORST_CASES};
 use std::alloc::Global;
 use vector_lines::{Answer, Subject, bytes, had, parted};
 
 pub struct Worst;
-
-/// How many worst cases there are.
-pub const CASES: u8 = 3;
 
 /// One of the worst cases of a crash of a disk, with room.
 pub fn image(alloc: Global, disk: &MemoryDisk, i: u8) -> Result<MemoryDisk> {
@@ -32,12 +29,12 @@ impl Subject for Worst {
 
 fn told(alloc: Global, disk: &MemoryDisk) -> Result<String> {
     let mut answer = Answer::new(alloc);
-    for i in 0..CASES {
+    for i in 0..WORST_CASES {
         let image = image(alloc, disk, i)?;
         answer = answer.words(if i > 0 { " " } else { "" });
         answer = answer.bytes(image.content());
     }
-    if had(disk.worst(alloc, CASES))?.is_some() {
+    if had(disk.worst(alloc, WORST_CASES))?.is_some() {
         answer = answer.words(" and more");
     }
     answer.end()
