@@ -1,17 +1,7 @@
 -- What the faults of the layers below are called here, and the numbers of faults.
 use Rattle.std.specs.Prelude.{ℕ, Option, Some, None}
-use Rattle.at_car.specs.declared.fault.CarFault.{CarFault}
-use Rattle.at_commit.specs.declared.fault.CommitFault.{CommitFault}
 use Rattle.mst_whole.specs.declared.walking.WalkFault.{WalkFault}
 use Rattle.repo_sync.specs.declared.fault.RepoFault.{RepoFault}
-
-abbrev pub of_car : CarFault → RepoFault
-of_car CarFault.Memory = RepoFault.Memory
-of_car fault = RepoFault.BadCar
-
-abbrev pub of_commit : CommitFault → RepoFault
-of_commit CommitFault.Memory = RepoFault.Memory
-of_commit fault = RepoFault.BadCommit
 
 -- a missing block of the tree, or a bad one
 abbrev pub of_walk : WalkFault → RepoFault

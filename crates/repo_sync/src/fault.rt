@@ -3,9 +3,7 @@
 ghost use Rattle.std.specs.Prelude.{◌≡◌};
 ghost use Rattle.repo_sync.specs.Faults.{number_of};
 
-use at_car::CarFault;
 use at_cid::{Cid, Memory};
-use at_commit::CommitFault;
 use at_syntax::Tid;
 use mst_whole::WalkFault;
 use relay_io::Failed;
@@ -89,34 +87,6 @@ impl From<Failed> for RepoFault {
 
     fn from(_failed: Failed) -> RepoFault {
         RepoFault::Failed
-    }
-}
-
-impl From<CarFault> for RepoFault {
-    ghost use Rattle.std.specs.Prelude.{◌≡◌};
-    ghost use Rattle.repo_sync.specs.Faults.{of_car};
-
-    ghost from_gives = { λ fault e. e ≡ of_car fault };
-
-    fn from(fault: CarFault) -> RepoFault {
-        match fault {
-            CarFault::Memory => RepoFault::Memory,
-            _ => RepoFault::BadCar,
-        }
-    }
-}
-
-impl From<CommitFault> for RepoFault {
-    ghost use Rattle.std.specs.Prelude.{◌≡◌};
-    ghost use Rattle.repo_sync.specs.Faults.{of_commit};
-
-    ghost from_gives = { λ fault e. e ≡ of_commit fault };
-
-    fn from(fault: CommitFault) -> RepoFault {
-        match fault {
-            CommitFault::Memory => RepoFault::Memory,
-            _ => RepoFault::BadCommit,
-        }
     }
 }
 
