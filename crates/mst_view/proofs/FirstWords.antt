@@ -26,7 +26,7 @@ apart : (x y : List ℕ) → not (same (first_word y) (first_word x)) ≡ true �
 apart x y e =
     elim (bytes_eq y x) as (λ t. bytes_eq y x ≡ t → not t ≡ true) [
       | true ↦ λ s.
-          let one : y ≡ x = (bytes_eq-Decides y x).1 s in
+          let one : y ≡ x = (bytes_eq-Decides y x).0 s in
           let twice : not (same (first_word y) (first_word x)) ≡ false = ap (λ z. not (same (first_word z) (first_word x))) one ∙ ap not (same_self (first_word x)) in
           absurd cc
       | false ↦ λ s. refl
