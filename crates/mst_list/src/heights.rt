@@ -1,15 +1,17 @@
 //! The heights of keys.
 
-ghost use Rattle.std.specs.Prelude.{◌≡◌, ◌≤◌, length};
+ghost use Rattle.std.specs.Prelude.{◌≡◌, ◌≤◌, ◌*◌, length};
+ghost use Rattle.at_cid.specs.declared.cid.TheConstants.{DIGEST_LEN};
 ghost use Rattle.mst_list.specs.Height.{height, leading_zeros};
+ghost use Rattle.mst_list.specs.declared.limits.TheConstants.{MOST_HEIGHT};
 
 use sha2::{Digest, Sha256};
 
 #[tactic(auto, unfolding(crate::specs::Height::leading_zeros))]
 fn leading_zeros(bytes: &[u8]) -> u32
-    requires { length bytes.now ≤ 32 }
+    requires { length bytes.now ≤ DIGEST_LEN }
     ensures is { result ≡ leading_zeros bytes.now }
-    ensures most { result ≤ 256 }
+    ensures most { result ≤ 2 * MOST_HEIGHT }
 {
     let mut zeros = 0;
     for byte in bytes {
@@ -26,7 +28,7 @@ fn leading_zeros(bytes: &[u8]) -> u32
 #[tactic(auto, unfolding(crate::specs::Height::height))]
 pub fn height(key: &[u8]) -> u8
     ensures value { result ≡ height key.now }
-    ensures most { result ≤ 128 }
+    ensures most { result ≤ MOST_HEIGHT }
 {
     let digest = Sha256::digest(key);
     (leading_zeros(&digest) / 2) as u8

@@ -1,7 +1,8 @@
 //! What an operation is to a list.
 
-ghost use Rattle.std.specs.Prelude.{◌≡◌, ◌<◌, ◌^◌, length, List, false, OnOk, IfErr};
+ghost use Rattle.std.specs.Prelude.{◌≡◌, ◌<◌, length, List, false, OnOk, IfErr};
 ghost use Rattle.mst_list.specs.declared.item.Item.{Item};
+ghost use Rattle.mst_list.specs.declared.limits.TheConstants.{OP_COUNTS};
 ghost use Rattle.mst_list.specs.Edits.{value_at};
 ghost use Rattle.mst_list.specs.Faults.{clear_behind, IsJudged, AllFine, IsCaused};
 
@@ -63,7 +64,7 @@ fn judge(items: &[Item], op: &Op) -> Verdict
 
 /// Whether each operation is fine, and else the first fault.
 pub fn judge_all(items: &[Item], ops: &[Op]) -> Result<(), UndoFault>
-    requires { length ops.now < 2 ^ 32 }
+    requires { length ops.now < OP_COUNTS }
     ensures fine { OnOk result (AllFine items.now ops.now) }
     ensures fault { IfErr result (λ fault. IsCaused items.now ops.now fault) }
 {

@@ -1,21 +1,23 @@
 //! The operations of a commit.
 
-ghost use Rattle.std.specs.Prelude.{◌≡◌, ◌<◌, ◌^◌, ◌-◌, ◌∷◌, ◌++◌, [], length, ◌==◌, slice_get, option_map, OnOk, OnErr};
+ghost use Rattle.std.specs.Prelude.{◌≡◌, ◌<◌, ◌-◌, ◌∷◌, ◌++◌, [], length, ◌==◌, slice_get, option_map, OnOk, OnErr};
 ghost use Rattle.mst_list.specs.Edits.{IsFormedOp, AreFormedOps};
+ghost use Rattle.mst_list.specs.declared.limits.TheConstants.{OP_COUNTS};
 
 use crate::op::Op;
 use at_cid::Memory;
 use std::alloc::Global;
 use std::marker::Model;
 
-/// Fewer than 2^32 operations, in order. Each has a key of 1 to [`MOST_KEY_BYTES`](crate::MOST_KEY_BYTES) bytes, and does something.
+/// Fewer than [`OP_COUNTS`](crate::OP_COUNTS) operations, in order. Each has a key of 1 to [`MOST_KEY_BYTES`](crate::MOST_KEY_BYTES) bytes, and does something.
 #[derive(Debug, Drop)]
 pub struct OpList {
     pub(crate) ops: Vec<Op>,
 }
 
 impl Model for OpList {
-    ghost use Rattle.std.specs.Prelude.{List, length, ◌<◌, ◌^◌};
+    ghost use Rattle.std.specs.Prelude.{List, length, ◌<◌};
+    ghost use Rattle.mst_list.specs.declared.limits.TheConstants.{OP_COUNTS};
     ghost use Rattle.mst_list.specs.declared.op.Op.{Op};
     ghost use Rattle.mst_list.specs.Edits.{AreFormedOps};
 
@@ -23,7 +25,7 @@ impl Model for OpList {
 
     ghost view = { λ a. a.ops.items };
 
-    ghost invariant = { λ a. (length a.ops.items < 2 ^ 32) × AreFormedOps a.ops.items };
+    ghost invariant = { λ a. (length a.ops.items < OP_COUNTS) × AreFormedOps a.ops.items };
 }
 
 impl OpList {
@@ -39,7 +41,7 @@ impl OpList {
     /// The operations.
     pub fn as_slice(&self) -> &[Op]
         ensures value { result.now ≡ self.now }
-        ensures few { length self.now < 2 ^ 32 }
+        ensures few { length self.now < OP_COUNTS }
         ensures formed { AreFormedOps self.now }
     {
         self.ops.as_slice()
@@ -69,7 +71,7 @@ impl OpList {
     /// Adds an operation at the end. `Op::is_formed` tests the condition on it. After [`Memory`] the list is as it was.
     pub fn push(&mut self, op: Op) -> Result<(), Memory>
         requires formed { IsFormedOp op }
-        requires few { length self.old < 2 ^ 32 - 1 }
+        requires few { length self.old < OP_COUNTS - 1 }
         ensures ok { OnOk result (self.new ≡ self.old ++ op ∷ []) }
         ensures err { OnErr result (self.new ≡ self.old) }
     {

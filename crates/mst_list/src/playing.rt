@@ -1,6 +1,7 @@
 //! Playing operations on a list.
 
-ghost use Rattle.std.specs.Prelude.{◌≡◌, ◌<◌, ◌^◌, length, IfOk, IfErr, OnOk};
+ghost use Rattle.std.specs.Prelude.{◌≡◌, ◌<◌, length, IfOk, IfErr, OnOk};
+ghost use Rattle.mst_list.specs.declared.limits.TheConstants.{OP_COUNTS};
 ghost use Rattle.mst_list.specs.declared.playing.PlayFault as fault;
 ghost use Rattle.mst_list.specs.Edits.{Plays};
 ghost use Rattle.mst_list.specs.Faults.{IsPlayFault, PlaysExactly};
@@ -34,7 +35,7 @@ impl From<Memory> for PlayFault {
 }
 
 fn play_all(items: &mut Vec<Item>, ops: &[Op]) -> Result<(), PlayFault>
-    requires { length ops.now < 2 ^ 32 }
+    requires { length ops.now < OP_COUNTS }
     ensures plays { OnOk result (Plays items.old.items ops.now items.new.items) }
     ensures fault { IfErr result (λ cause. IsPlayFault items.old.items ops.now cause) }
 {

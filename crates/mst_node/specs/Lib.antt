@@ -1,5 +1,6 @@
 pub mod NodeBytes
 pub mod Nodes
+pub mod KeyBytes
 pub mod Trees
 pub mod Covers
 pub mod NodeFaults

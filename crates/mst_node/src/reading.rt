@@ -13,7 +13,7 @@ use crate::taking::take_node;
 use std::alloc::Global;
 
 // The elements of a slice of bytes are bytes, and it has fewer of them than there are numbers for its length.
-fn tell_bytes(bytes: &[u8])
+pub(crate) fn tell_bytes(bytes: &[u8])
     ensures bytes { IsBytes bytes.now }
     ensures length { length bytes.now < 2 ^ 64 }
 {

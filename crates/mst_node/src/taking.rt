@@ -8,8 +8,9 @@ ghost use Rattle.mst_node.specs.Taking.{IsTaken, parts_of, parts_at, goes_above,
 use crate::entries::Entries;
 use crate::entry::Entry;
 use crate::fault::NodeFault;
+use crate::key_bytes::KeyBytes;
 use at_cbor::{Major, take_bytes, take_child, take_link, take_list_front, take_number};
-use at_cid::{Cid, Memory, Octets};
+use at_cid::{Cid, Memory};
 use mst_list::MOST_KEY_BYTES;
 use std::alloc::Global;
 
@@ -105,17 +106,12 @@ fn may_follow(last: &[u8], count: usize, tail: &[u8]) -> bool
         && goes_above(last.split_at(count).1, tail)
 }
 
-/// So many bytes of the key before, and these others, in exactly the room that they need.
-fn key_of(alloc: Global, last: &[u8], count: usize, tail: &[u8]) -> Result<Octets, Memory>
-    requires shared { count ≤ length last.now }
-    requires short { length tail.now ≤ MOST_KEY_BYTES }
-    requires low { count ≤ MOST_KEY_BYTES }
+/// So many bytes of the key before, and these others.
+fn key_of(alloc: Global, last: &[u8], count: usize, tail: &[u8]) -> Result<KeyBytes, Memory>
+    requires { count ≤ length last.now }
     ensures { IfOk result (λ key. key ≡ take count last.now ++ tail.now) }
 {
-    let mut key = Vec::with_capacity(alloc, count + tail.len())?;
-    key.extend_from_slice(last.split_at(count).0)?;
-    key.extend_from_slice(tail)?;
-    Ok(Octets::from_vec(key))
+    KeyBytes::joined(alloc, last.split_at(count).0, tail)
 }
 
 /// The entry at the front, behind a key.

@@ -1,11 +1,12 @@
 //! Undoing operations by halves: each node is cut and joined as often as operations are halved, and not once for each of
 //! them, so that many operations on a wide node don't copy it as many times.
 
-ghost use Rattle.std.specs.Prelude.{◌≡◌, IfOk, IsPermutation, ◌≤◌};
+ghost use Rattle.std.specs.Prelude.{◌≡◌, IfOk, IsPermutation, ◌≤◌, None, option_map};
 ghost use Rattle.at_cid.specs.Order.{key_cmp};
 ghost use Rattle.mst_list.specs.Edits.{AreApart};
 ghost use Rattle.mst_view.specs.Layered.{LiesBelow, below_items};
-ghost use Rattle.mst_undo.specs.Undoing.{AllOps, CanHalve, IsLow, IsUndoneBelow, OpsAscend};
+ghost use Rattle.mst_node.specs.Reading.{is_over};
+ghost use Rattle.mst_undo.specs.Undoing.{AllOps, CanHalve, IsLow, IsUndoneBelow, OpsAscend, ops_ascend};
 
 use crate::cutting::split_below;
 use crate::editing::single;
@@ -30,19 +31,60 @@ fn copied(alloc: Global, ops: &[Op]) -> Result<Vec<Op>, Memory>
     Ok(copies)
 }
 
-/// The operations in the order of their keys.
-pub(crate) fn in_order(alloc: Global, ops: &[Op]) -> Result<Vec<Op>, Memory>
-    requires { AreApart ops.now }
-    ensures same { IfOk result (λ sorted. IsPermutation ops.now sorted.items) }
-    ensures rising { IfOk result (λ sorted. OpsAscend sorted.items) }
+fn is_over(low: Option<&[u8]>, key: &[u8]) -> bool
+    ensures { result ≡ is_over (option_map (λ k. k.now) low.entry) key.now }
 {
-    let mut sorted = copied(alloc, ops)?;
-    sorted.sort_unstable_by(
+    match low {
+        Some(low) => compare(low, key).is_lt(),
+        None => true,
+    }
+}
+
+/// Whether each operation's key is above that of the one before it.
+fn ascend(ops: &[Op]) -> bool
+    ensures { result ≡ ops_ascend None ops.now }
+{
+    let mut last: Option<&[u8]> = None;
+    for op in ops {
+        let key = op.key.as_slice();
+        if !is_over(last, key) {
+            return false;
+        }
+        last = Some(key);
+    }
+    true
+}
+
+/// Copies of the operations in the order of their keys.
+fn sorted(alloc: Global, ops: &[Op]) -> Result<Vec<Op>, Memory>
+    requires { AreApart ops.now }
+    ensures same { IfOk result (λ copies. IsPermutation ops.now copies.items) }
+    ensures rising { IfOk result (λ copies. OpsAscend copies.items) }
+{
+    let mut copies = copied(alloc, ops)?;
+    copies.sort_unstable_by(
         |a: &Op, b: &Op| -> Ordering
             ensures { result ≡ key_cmp a.entry.now.key b.entry.now.key }
         { compare(a.key.as_slice(), b.key.as_slice()) },
     );
-    Ok(sorted)
+    Ok(copies)
+}
+
+/// The operations in the order of their keys: themselves, where they stand in it, or else copies in the room.
+pub(crate) fn in_order<'a>(
+    alloc: Global,
+    ops: &'a [Op],
+    room: &'a mut Vec<Op>,
+) -> Result<&'a [Op], Memory>
+    requires { AreApart ops.now }
+    ensures same { IfOk result (λ sorted. IsPermutation ops.now sorted.now) }
+    ensures rising { IfOk result (λ sorted. OpsAscend sorted.now) }
+{
+    if ascend(ops) {
+        return Ok(ops);
+    }
+    *room = sorted(alloc, ops)?;
+    Ok(room.as_slice())
 }
 
 /// The least layer, from one on, below which a key has its place that undoing an operation puts.

@@ -8,3 +8,4 @@ pub mod Heights
 pub mod Forms
 pub mod NoView
 pub mod Sizes
+mod FirstWords

@@ -1,6 +1,7 @@
 //! Nodes with what is known below them.
 
-use at_cid::{Cid, Octets};
+use at_cid::Cid;
+use mst_node::KeyBytes;
 use std::marker::Model;
 
 /// A node (Repository specification, MST structure), seen in contracts as its layer and the list of what it holds.
@@ -35,7 +36,7 @@ pub enum Below {
 #[cycle(branch)]
 #[derive(Debug, Drop)]
 pub struct Part {
-    pub key: Octets,
+    pub key: KeyBytes,
     pub value: Cid,
     pub below: Below,
 }

@@ -6,6 +6,7 @@ ghost use Rattle.at_cid.specs.Distinct.{all_differ};
 ghost use Rattle.mst_view.specs.Layered.{LiesBelow, below_items};
 ghost use Rattle.mst_view.specs.HoleLinks.{hole_links};
 
+use crate::beginning::begin_apart;
 use crate::branch::{Below, Branch};
 use at_cid::{Cid, Memory};
 use std::alloc::Global;
@@ -59,5 +60,8 @@ pub(crate) fn holes_differ(alloc: Global, branch: &Branch) -> Result<bool, Memor
 {
     let mut links = Vec::new(alloc);
     links_of(branch, &mut links)?;
+    if begin_apart(alloc, links.as_slice())? {
+        return Ok(true);
+    }
     all_differ(alloc, links.as_slice())
 }

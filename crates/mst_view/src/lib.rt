@@ -2,6 +2,7 @@
 //! taken apart and put together, and their links.
 #![tactic(auto)]
 
+mod beginning;
 mod branch;
 mod copying;
 mod holes;

@@ -6,21 +6,41 @@ ghost use Rattle.mst_node.specs.Trees.{spell};
 
 use crate::branch::{Below, Branch, Part};
 use at_cid::{Cid, Memory, Octets, cid_of};
-use mst_node::{EntryRef, write_end, write_entry, write_front};
+use mst_node::{EntryRef, shared, write_end, write_entry, write_front};
 use std::alloc::Global;
 
 /// The most bytes of a node's block beside its entries: a map with two names, the head of a list, and a link.
 const MOST_BARE_BYTES: usize = 55;
-/// The most bytes of an entry beside its key: a map with four names, the head of a key, a number and two links.
-const MOST_ENTRY_BYTES: usize = 97;
+/// The most bytes of an entry beside its key and the link to its right: a map with four names, the head of a key, a number
+/// and a link.
+const MOST_ENTRY_BYTES: usize = 56;
+/// The bytes of a link to the right.
+const LINK_BYTES: usize = 41;
 
-/// Room for the block of a node with these keys, however few bytes they share. Takes no memory.
+/// How many bytes the keys of a node share, which are in order: those that the first and the last do. Takes no memory.
+fn shared_by_all(parts: &[Part]) -> usize {
+    match parts {
+        [first, .., last] => shared(first.key.as_slice(), last.key.as_slice()),
+        _ => 0,
+    }
+}
+
+fn room_below(below: &Below) -> usize {
+    match below {
+        Below::Empty => 1,
+        Below::Hole(_) | Below::Tree(_) => LINK_BYTES,
+    }
+}
+
+/// Room for the block of a node with these keys. Takes no memory.
 fn room_for(parts: &[Part]) -> usize {
-    let mut room = MOST_BARE_BYTES;
+    let same = shared_by_all(parts);
+    let mut room = MOST_BARE_BYTES.saturating_add(same);
     for part in parts {
         room = room
-            .saturating_add(part.key.len())
-            .saturating_add(MOST_ENTRY_BYTES);
+            .saturating_add(part.key.len().saturating_sub(same))
+            .saturating_add(MOST_ENTRY_BYTES)
+            .saturating_add(room_below(&part.below));
     }
     room
 }

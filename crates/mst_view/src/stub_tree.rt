@@ -1,6 +1,7 @@
 //! Trees in which subtrees may be holes.
 
 ghost use Rattle.std.specs.Prelude.{◌≡◌, ◌≤◌, IfOk, IfSome};
+ghost use Rattle.mst_list.specs.declared.limits.TheConstants.{MOST_HEIGHT};
 ghost use Rattle.mst_node.specs.Trees.{root};
 ghost use Rattle.mst_view.specs.StubTree.{top_items, IsTop};
 
@@ -33,12 +34,12 @@ impl Model for StubTree {
 }
 
 impl StubTree {
-    /// The top node, which has a key and stands at a layer of at most 128. The tree of the empty list has none. Takes no
+    /// The top node, which has a key and stands at a layer of at most [`MOST_HEIGHT`](mst_list::MOST_HEIGHT). The tree of the empty list has none. Takes no
     /// memory.
     pub fn into_top(self) -> Option<Branch>
         ensures items { top_items result ≡ self }
         ensures is_top { IsTop result }
-        ensures layer { IfSome result (λ top. top.layer ≤ 128) }
+        ensures layer { IfSome result (λ top. top.layer ≤ MOST_HEIGHT) }
     {
         self.top
     }
@@ -68,7 +69,7 @@ impl StubTree {
     {
         let mut list = ItemList::new(alloc);
         if let Some(top) = &self.top {
-            list_branch(top, &mut list)?;
+            list_branch(alloc, top, &mut list)?;
         }
         Ok(list)
     }

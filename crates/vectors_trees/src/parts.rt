@@ -5,8 +5,8 @@ use crate::words::{link_or_none, octets};
 use anyhow::{Context, Result};
 use at_cid::Octets;
 use mst_node::{
-    Entries, Entry, Node, bare_len, entry_len, read_node, write_end, write_entry, write_front,
-    write_node,
+    Entries, Entry, KeyBytes, Node, bare_len, entry_len, read_node, write_end, write_entry,
+    write_front, write_node,
 };
 use std::alloc::Global;
 use vector_lines::{Answer, Subject, had, link, parted, said};
@@ -17,7 +17,7 @@ fn entry(alloc: Global, word: &str) -> Result<Entry> {
     let (key, links) = parted(word, ">")?;
     let (value, right) = parted(links, ">")?;
     Ok(Entry {
-        key: octets(alloc, key)?,
+        key: had(KeyBytes::from_slice(alloc, octets(alloc, key)?.as_slice()))?,
         value: link(value)?,
         right: link_or_none(right)?,
     })

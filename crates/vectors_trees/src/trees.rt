@@ -6,7 +6,7 @@ use anyhow::Result;
 use at_car::Blocks;
 use at_cid::Cid;
 use mst_list::{Item, ItemList, height};
-use mst_node::{EMPTY_NODE, Entry, spell_node};
+use mst_node::{EMPTY_NODE, Entry, KeyBytes, spell_node};
 use std::alloc::Global;
 use vector_lines::had;
 
@@ -36,11 +36,11 @@ fn close(node: &mut OpenNode, below: Tree) -> Result<()> {
     Ok(())
 }
 
-fn add_entry(node: &mut OpenNode, item: Item) -> Result<()> {
+fn add_entry(alloc: Global, node: &mut OpenNode, item: Item) -> Result<()> {
     node.seen.push(had(item.try_clone())?)?;
     if let Item::Key(key, value) = item {
         node.entries.push(Entry {
-            key,
+            key: had(KeyBytes::from_slice(alloc, key.as_slice()))?,
             value,
             right: None,
         })?;
@@ -98,7 +98,7 @@ pub fn subtree(
     for item in items {
         if is_at(&item, layer) {
             close(&mut node, subtree(alloc, blocks, layer, part, shown)?)?;
-            add_entry(&mut node, item)?;
+            add_entry(alloc, &mut node, item)?;
             part = Vec::new(alloc);
         } else {
             part.push(item)?;

@@ -1,0 +1,117 @@
+//! The keys of entries.
+
+ghost use Rattle.std.specs.Prelude.{◌≡◌, ◌≤◌, ◌++◌, length, take, IfOk};
+ghost use Rattle.at_cid.specs.Link.{IsBytes};
+ghost use Rattle.mst_node.specs.KeyBytes.{kept_bytes};
+ghost use Rattle.mst_node.specs.declared.key_bytes.TheConstants.{MOST_SHORT_BYTES};
+
+use crate::reading::tell_bytes;
+use at_cid::{Memory, Octets};
+use std::alloc::Global;
+use std::marker::Model;
+
+/// The most bytes of a key that takes no room of its own: those of posts, likes, reposts and follows have no more.
+pub const MOST_SHORT_BYTES: usize = 38;
+
+/// How the bytes of a key are kept: so many of an array, or apart.
+#[derive(Debug, Drop)]
+enum Kept {
+    Short(u8, [u8; MOST_SHORT_BYTES]),
+    Long(Octets),
+}
+
+/// The bytes of a key. One of at most [`MOST_SHORT_BYTES`] takes no room of its own.
+#[derive(Debug, Drop)]
+pub struct KeyBytes {
+    kept: Kept,
+}
+
+impl Model for KeyBytes {
+    ghost use Rattle.std.specs.Prelude.{List, ℕ};
+
+    ghost Value = { List ℕ };
+
+    ghost use Rattle.mst_node.specs.KeyBytes.{kept_bytes, IsKept};
+
+    ghost view = { λ a. kept_bytes a.kept };
+
+    ghost invariant = { λ a. IsKept a.kept };
+}
+
+/// The bytes of two slices, one behind the other, where they are few.
+fn short(front: &[u8], tail: &[u8], count: usize) -> KeyBytes
+    requires count { count ≡ length (front.now ++ tail.now) }
+    requires few { count ≤ MOST_SHORT_BYTES }
+    ensures { result ≡ front.now ++ tail.now }
+{
+    let mut bytes = [0; MOST_SHORT_BYTES];
+    bytes[..front.len()].copy_from_slice(front);
+    bytes[front.len()..count].copy_from_slice(tail);
+    KeyBytes {
+        kept: Kept::Short(count as u8, bytes),
+    }
+}
+
+impl KeyBytes {
+    /// The bytes of two slices, one behind the other.
+    pub fn joined(alloc: Global, front: &[u8], tail: &[u8]) -> Result<KeyBytes, Memory>
+        ensures { IfOk result (λ key. key ≡ front.now ++ tail.now) }
+    {
+        let count = front.len().saturating_add(tail.len());
+        if count <= MOST_SHORT_BYTES {
+            return Ok(short(front, tail, count));
+        }
+        let mut bytes = Vec::with_capacity(alloc, count)?;
+        bytes.extend_from_slice(front)?;
+        bytes.extend_from_slice(tail)?;
+        Ok(KeyBytes {
+            kept: Kept::Long(Octets::from_vec(bytes)),
+        })
+    }
+
+    /// A copy of the bytes.
+    pub fn from_slice(alloc: Global, bytes: &[u8]) -> Result<KeyBytes, Memory>
+        ensures { IfOk result (λ key. key ≡ bytes.now) }
+    {
+        KeyBytes::joined(alloc, bytes, &[])
+    }
+
+    /// The bytes.
+    pub fn as_slice(&self) -> &[u8]
+        ensures value { result.now ≡ self.now }
+        ensures bytes { IsBytes self.now }
+    {
+        match &self.kept {
+            Kept::Short(count, bytes) => {
+                let bytes = &bytes[..*count as usize];
+                tell_bytes(bytes);
+                bytes
+            }
+            Kept::Long(bytes) => bytes.as_slice(),
+        }
+    }
+
+    /// How many bytes there are.
+    pub fn len(&self) -> usize
+        ensures { result ≡ length self.now }
+    {
+        self.as_slice().len()
+    }
+
+    /// The same bytes once more.
+    pub fn try_clone(&self) -> Result<KeyBytes, Memory>
+        ensures { IfOk result (λ made. made ≡ self.now) }
+    {
+        match &self.kept {
+            Kept::Short(count, bytes) => Ok(KeyBytes {
+                kept: Kept::Short(*count, *bytes),
+            }),
+            Kept::Long(bytes) => {
+                let bytes = bytes.try_clone()?;
+                Ok(KeyBytes {
+                    kept: Kept::Long(bytes),
+                })
+            }
+        }
+    }
+}
