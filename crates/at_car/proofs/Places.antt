@@ -1,11 +1,11 @@
 -- Blocks that lie in a buffer, as a finite map.
-use Rattle.std.proofs.Common.{◌≡◌, ◌++◌, ℕ, List, [], ◌∷◌, Bool, true, false, cond, length, map, take, drop, Option, Some, None, Less, refl, sym, ap, ◌∙◌, subst, arith}
+use Rattle.std.proofs.Common.{◌≡◌, ◌++◌, ℕ, List, [], ◌∷◌, Bool, true, false, cond, length, map, take, drop, Some, None, Less, refl, sym, ap, ◌∙◌, subst, arith}
 use Rattle.std.specs.Prelude.{option_map, is_some, T, ◌&&◌}
 use Rattle.std.specs.Ordering.{is_lt, eq_by_cmp}
 use Rattle.std.specs.List.{All, AllByRecursion, insert}
 use Rattle.std.specs.List.Sorted.{IsStrictlySortedBy}
 use Rattle.std.specs.FinMap as finite
-use Rattle.std.specs.FinMap.{find, is_sorted, get, contains_key, entries, len, len-entries, empty, from_entries, get-insert, get-from_entries, same_map}
+use Rattle.std.specs.FinMap.{find, is_sorted, get, contains_key, entries, len, len-entries, from_entries, get-insert, get-from_entries, same_map}
 use Rattle.std.specs.FinMap.Entries.{below_all}
 use Rattle.std.proofs.lemmas.List.{take-append-le, drop-append-le, length-append, length-drop, length-map}
 use Rattle.std.proofs.lemmas.List.Elements.{All-nil, All-weaker, All-head, All-tail, All-append, All-cons, All-take, All-drop}
@@ -14,7 +14,7 @@ use Rattle.at_cid.specs.OrderLaws.{key_total}
 use Rattle.at_cid.proofs.Order.{cmp_exact}
 use Rattle.at_car.specs.declared.entry.Entry.{Entry}
 use Rattle.at_car.specs.declared.place.Place.{Place}
-use Rattle.at_car.specs.Blocks.{BlockMap, IsLinkOf, AreLinked, kept}
+use Rattle.at_car.specs.Blocks.{IsLinkOf, AreLinked, kept}
 use Rattle.at_car.specs.Entries.{by_link, AreInOrder, place_of}
 use Rattle.at_car.specs.Places.{bytes_at, laid, IsWithin, IsLaid, blocks_at}
 use Rattle.at_car.proofs.Linked.{linked-empty, linked-insert}

@@ -1,8 +1,8 @@
 -- Links that compare as the same.
-use Rattle.std.proofs.Common.{◌≡◌, ℕ, List, true, false, Less, Equal, Greater, refl, ap, ◌∙◌}
+use Rattle.std.proofs.Common.{◌≡◌, ℕ, List, true, false, Less, Equal, Greater, refl, ap}
 use Rattle.std.specs.Ordering.{is_eq, eq_by_cmp}
 use Rattle.at_cid.specs.Order.{key_cmp}
-use Rattle.at_cid.proofs.Order.{cmp_exact, cmp_same, cmp_above, cmp_below}
+use Rattle.at_cid.proofs.Order.{cmp_exact, cmp_same, cmp_above}
 
 pub same_link : (q k : List ℕ) → eq_by_cmp key_cmp q k ≡ true → q ≡ k
 same_link q k =

@@ -1,11 +1,11 @@
 -- Searches by links that ascend.
-use Rattle.std.proofs.Common.{◌≡◌, ℕ, zero, suc, ◌+◌, ◌<◌, ◌≤◌, List, [], ◌∷◌, ◌++◌, length, get_or, Bool, true, false, cond, Option, Some, None, Ordering, Less, Equal, Greater, Result, Ok, Err, refl, sym, ap, ◌∙◌, subst, arith}
+use Rattle.std.proofs.Common.{◌≡◌, ℕ, zero, suc, ◌<◌, ◌≤◌, List, [], ◌∷◌, length, get_or, Bool, true, false, cond, Option, Some, None, Ordering, Less, Equal, Greater, Result, Ok, Err, refl, sym, ap, ◌∙◌, arith}
 use Rattle.std.specs.Prelude.{is_ok, ◌||◌, IfOk, IfErr}
-use Rattle.std.specs.Ordering.{is_eq, eq_by_cmp, ordering_index}
-use Rattle.std.specs.List.{HoldsAt, AllByRecursion, list_any, insert}
+use Rattle.std.specs.Ordering.{eq_by_cmp, ordering_index}
+use Rattle.std.specs.List.{HoldsAt, AllByRecursion, insert}
 use Rattle.std.specs.List.Sorted.{IsNonDecreasingBy, IsPartitionPoint, IsStrictlySortedBy, IsBinarySearchResult, IsSearchInRange}
 use Rattle.at_cid.specs.Order.{key_cmp}
-use Rattle.at_cid.proofs.Order.{cmp_trans, cmp_exact, cmp_below, cmp_above}
+use Rattle.at_cid.proofs.Order.{cmp_trans, cmp_exact, cmp_below}
 use Rattle.at_car.specs.declared.entry.Entry.{Entry}
 use Rattle.at_car.specs.declared.place.Place.{Place}
 use Rattle.at_car.specs.Entries.{by_link, AreInOrder, place_of}

@@ -10,7 +10,6 @@ use Rattle.std.proofs.lemmas.List.Kept.{IsStrictlySortedBy-dedup}
 use Rattle.at_cid.specs.Order.{key_cmp}
 use Rattle.at_cid.specs.OrderLaws.{key_total, key_ties}
 use Rattle.at_car.specs.declared.entry.Entry.{Entry}
-use Rattle.at_car.specs.declared.place.Place.{Place}
 use Rattle.at_car.specs.Entries.{by_link, AreInOrder, place_of}
 use Rattle.at_car.proofs.Same.{same_link}
 

@@ -1,7 +1,6 @@
 -- What is told of blocks that came one after the other: of each its link, and the block where it is held.
 use Rattle.std.specs.Prelude.{◌≡◌, ℕ, Bool, true, false, ◌==◌, not, if◌then◌else◌, List, [], ◌∷◌, Option, Some, None}
-use Rattle.at_car.specs.Blocks.{IsLinkOf}
-use Rattle.at_car.specs.Places.{bytes_at, IsWithin, IsLaid}
+use Rattle.at_car.specs.Places.{bytes_at, IsLaid}
 use Rattle.at_car.specs.declared.entry.Entry.{Entry}
 
 abbrev pub Told : Type 0

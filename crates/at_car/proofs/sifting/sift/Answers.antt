@@ -1,4 +1,4 @@
-use Rattle.std.proofs.Common.{sym, ap, ◌∙◌, cond, refl}
+use Rattle.std.proofs.Common.{sym, ap, ◌∙◌, cond}
 use Rattle.at_car.proofs.Sifts.{sift_next}
 use Rattle.at_car.proofs.sifting.sift.Goals as goal
 
