@@ -11,12 +11,12 @@ use Rattle.at_car.specs.Sections.{Section}
 use Rattle.at_car.specs.Merging.{all_kept}
 
 -- what is there, or else the other
-abbrev or_else : Option (List ℕ) → Option (List ℕ) → Option (List ℕ)
+abbrev pub or_else : Option (List ℕ) → Option (List ℕ) → Option (List ℕ)
 or_else None other = other
 or_else (Some v) other = Some v
 
 -- the map has the link k or not, and q is that link or not
-placed : (q k v : List ℕ) (m : BlockMap) (there tied : Bool) (there_is : is_some (get m k) ≡ there) (tied_is : tied ≡ true → get m k ≡ get m q) (other : Option (List ℕ))
+pub placed : (q k v : List ℕ) (m : BlockMap) (there tied : Bool) (there_is : is_some (get m k) ≡ there) (tied_is : tied ≡ true → get m k ≡ get m q) (other : Option (List ℕ))
     → or_else (cond there (get m q) (cond tied (Some v) (get m q))) other ≡ or_else (get m q) (cond tied (Some v) other)
 placed q k v m true true there_is tied_is other =
     elim (get m q) as (λ o. is_some o ≡ true → or_else o other ≡ or_else o (Some v)) [
@@ -31,7 +31,7 @@ placed q k v m false true there_is tied_is other =
     ] (ap is_some (sym (tied_is refl)) ∙ there_is)
 placed q k v m false false there_is tied_is other = refl
 
-get_kept : (q k v : List ℕ) (m : BlockMap) → get (kept m k v) q ≡ cond (contains_key m k) (get m q) (cond (eq_by_cmp key_cmp q k) (Some v) (get m q))
+pub get_kept : (q k v : List ℕ) (m : BlockMap) → get (kept m k v) q ≡ cond (contains_key m k) (get m q) (cond (eq_by_cmp key_cmp q k) (Some v) (get m q))
 get_kept q k v m =
     elim (contains_key m k) as (λ b. get (cond b m (insert m k v)) q ≡ cond b (get m q) (cond (eq_by_cmp key_cmp q k) (Some v) (get m q))) [
       | true ↦ refl

@@ -2,8 +2,11 @@ pub mod Steps
 pub mod Maps
 pub mod Linked
 pub mod Keeping
-pub mod PutBack
+pub mod Same
+pub mod Searches
+pub mod Settles
 pub mod Places
+pub mod Logs
 pub mod Varints
 pub mod Sections
 pub mod Again
@@ -12,6 +15,5 @@ pub mod Written
 pub mod Faults
 pub mod Extends
 pub mod Resumes
-pub mod Sets
 pub mod Sifts
 pub mod Standings

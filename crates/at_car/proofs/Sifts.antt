@@ -1,35 +1,22 @@
 -- Blocks, sifted one after the other.
-use Rattle.std.proofs.Common.{◌≡◌, ℕ, List, Bool, true, false, cond, Option, Some, None, Less, Equal, Greater, refl, sym, ap, ◌∙◌}
-use Rattle.std.specs.Prelude.{is_some, not, ◌||◌}
-use Rattle.std.specs.Ordering.{is_eq, eq_by_cmp}
-use Rattle.std.specs.FinMap.{get, contains_key, insert, get-insert}
-use Rattle.at_cid.specs.Order.{key_cmp}
-use Rattle.at_cid.specs.OrderLaws.{key_total}
-use Rattle.at_cid.proofs.Order.{cmp_exact, cmp_same}
+use Rattle.std.proofs.Common.{◌≡◌, ◌++◌, ℕ, List, [], ◌∷◌, map, Bool, true, false, cond, Option, Some, None, refl, sym, ap, ◌∙◌}
+use Rattle.std.specs.Prelude.{is_some, not, ◌||◌, option_map}
+use Rattle.std.specs.Ordering.{eq_by_cmp}
+use Rattle.std.specs.FinMap.{find, get, from_entries, get-from_entries, same_map}
 use Rattle.std.specs.Str.{bytes_eq}
 use Rattle.std.proofs.lemmas.Slice.Eq.{bytes_eq-Decides}
 use Rattle.std.proofs.lemmas.Bool.Decides.{same_from_decides}
+use Rattle.at_cid.specs.Order.{key_cmp}
+use Rattle.at_cid.specs.OrderLaws.{key_total}
+use Rattle.at_cid.proofs.Order.{cmp_exact}
+use Rattle.at_car.specs.declared.sifting.Sifted.{Sifted}
 use Rattle.at_car.specs.Blocks.{BlockMap, kept}
-use Rattle.at_car.specs.Links.{has, is_same}
-use Rattle.at_car.specs.Sifting.{picked, is_passed, block_at, is_root, IsSifted}
-
-get_kept : (q k v : List ℕ) (m : BlockMap) → get (kept m k v) q ≡ cond (contains_key m k) (get m q) (cond (eq_by_cmp key_cmp q k) (Some v) (get m q))
-get_kept q k v m =
-    elim (contains_key m k) as (λ b. get (cond b m (insert m k v)) q ≡ cond b (get m q) (cond (eq_by_cmp key_cmp q k) (Some v) (get m q))) [
-      | true ↦ refl
-      | false ↦ get-insert key_total m k v q
-    ]
-
-same_link : (q k : List ℕ) → eq_by_cmp key_cmp q k ≡ true → q ≡ k
-same_link q k =
-    elim (key_cmp q k) as (λ o. key_cmp q k ≡ o → is_eq o ≡ true → q ≡ k) [
-      | Less ↦ λ o e. absurd cc
-      | Equal ↦ λ o e. cmp_exact q k o
-      | Greater ↦ λ o e. absurd cc
-    ] refl
-
-link_same : (q k : List ℕ) → q ≡ k → eq_by_cmp key_cmp q k ≡ true
-link_same q k e = rw e (ap is_eq (cmp_same k))
+use Rattle.at_car.specs.Sections.{Section}
+use Rattle.at_car.specs.Links.{has}
+use Rattle.at_car.specs.Logs.{Told, held as the_held, was_let_go}
+use Rattle.at_car.specs.Sifting.{picked, is_passed, block_at, is_root, IsSifted, sift, Holds}
+use Rattle.at_car.proofs.Same.{same_link, link_same}
+use Rattle.at_car.proofs.Keeping.{or_else, get_kept, placed, tied}
 
 two_tests : (q k : List ℕ) → bytes_eq q k ≡ eq_by_cmp key_cmp q k
 two_tests q k = same_from_decides (bytes_eq q k) (eq_by_cmp key_cmp q k) (bytes_eq-Decides q k) (same_link q k, link_same q k)
@@ -39,79 +26,91 @@ pub held : (picks : List ℕ → Bool) (o : Option (List ℕ)) → (is_some (pic
 held picks None = refl
 held picks (Some b) = elim (picks b) as (λ t. (is_some (cond t (Some b) None) || not t) ≡ true) [ true ↦ refl | false ↦ refl ]
 
-module _ (picks : List ℕ → Bool) (root : Option (List ℕ)) (blocks : BlockMap) (first : Option (List ℕ)) (nodes : BlockMap) (others : List (List ℕ)) (link block : List ℕ) (s : IsSifted picks root blocks first nodes others) where
-  there_is : (is_some (get nodes link) || has others link) ≡ contains_key blocks link
-  there_is = ap (λ o. is_some o || has others link) (s.nodes_are link) ∙ ap (λ b. is_some (picked picks (get blocks link)) || b) (s.others_are link) ∙ held picks (get blocks link)
+-- ---- one more at the end
 
-  pub sift_there : (is_some (get nodes link) || has others link) ≡ true → IsSifted picks root (kept blocks link block) first nodes others
-  sift_there e = let there : contains_key blocks link ≡ true = sym there_is ∙ e in rw there s
+abbrev first_of : {A : Type 0} → Option A → Option A → Option A
+first_of None other = other
+first_of (Some x) other = Some x
 
-  module _ (absent : (is_some (get nodes link) || has others link) ≡ false) where
-    gone : contains_key blocks link ≡ false
-    gone = sym there_is ∙ absent
+pub find_end : {A : Type 0} (q k : List ℕ) (x : A) (es : List (List ℕ × A)) → find key_cmp q (es ++ (k, x) ∷ []) ≡ first_of (find key_cmp q es) (cond (eq_by_cmp key_cmp q k) (Some x) None)
+find_end q k x [] = refl
+find_end q k x (e ∷ es) =
+    ap (cond (eq_by_cmp key_cmp q e.0) (Some e.1)) (find_end q k x es)
+    ∙ elim (eq_by_cmp key_cmp q e.0) as (λ t. cond t (Some e.1) (first_of (find key_cmp q es) (cond (eq_by_cmp key_cmp q k) (Some x) None)) ≡ first_of (cond t (Some e.1) (find key_cmp q es)) (cond (eq_by_cmp key_cmp q k) (Some x) None)) [ true ↦ refl | false ↦ refl ]
 
-    none : (o : Option (List ℕ)) → is_some o ≡ false → o ≡ None
-    none None e = refl
-    none (Some x) e = absurd (cc)
+get_more : (q k v : List ℕ) (m : BlockMap) → get (kept m k v) q ≡ first_of (get m q) (cond (eq_by_cmp key_cmp q k) (Some v) None)
+get_more q k v m = get_kept q k v m ∙ go (get m q) (cond (is_some (get m k)) (get m q) (cond (eq_by_cmp key_cmp q k) (Some v) (get m q))) (placed q k v m (is_some (get m k)) (eq_by_cmp key_cmp q k) refl (tied q k m) None)
+  where
+    go : (g l : Option (List ℕ)) → or_else l None ≡ or_else g (cond (eq_by_cmp key_cmp q k) (Some v) None) → l ≡ first_of g (cond (eq_by_cmp key_cmp q k) (Some v) None)
+    go None None h = h
+    go None (Some l) h = h
+    go (Some g) None h = h
+    go (Some g) (Some l) h = h
 
-    left_none : (a b : Bool) → (a || b) ≡ false → a ≡ false
-    left_none true b e = absurd (cc)
-    left_none false b e = refl
+pub more_sections : (ss : List Section) (k v : List ℕ) → from_entries {R = key_cmp} (ss ++ (k, v) ∷ []) ≡ kept (from_entries ss) k v
+more_sections ss k v = same_map key_total cmp_exact _ _ (λ q.
+    get-from_entries key_total (ss ++ (k, v) ∷ []) q ∙ find_end q k v ss
+    ∙ ap (λ o. first_of o (cond (eq_by_cmp key_cmp q k) (Some v) None)) (sym (get-from_entries key_total ss q))
+    ∙ sym (get_more q k v (from_entries ss)))
 
-    right_none : (a b : Bool) → (a || b) ≡ false → b ≡ false
-    right_none true b e = absurd (cc)
-    right_none false b e = e
+-- ---- one block more is sifted
 
-    no_node : get nodes link ≡ None
-    no_node = none (get nodes link) (left_none (is_some (get nodes link)) (has others link) absent)
+pub sift_next : (picks : List ℕ → Bool) (root : Option (List ℕ)) (blocks : BlockMap) (old new : Sifted) (link block : List ℕ) (keeps : Bool) (made : Option (List ℕ)) → keeps ≡ picks block
+    → made ≡ cond (is_some old.first) None (cond (is_root root link) (Some block) None) → new.first ≡ cond (is_some made) made old.first → new.log ≡ old.log ++ (link, cond keeps (Some block) None) ∷ []
+    → Holds picks root blocks old → Holds picks root (kept blocks link block) new
+sift_next picks root blocks old new link block keeps made k m f l h = record { first_is = f ∙ firsts made old.first m h.first_is; log_is = logs }
+  where
+    at_root : (root : Option (List ℕ)) → first_of (block_at root blocks) (cond (is_root root link) (Some block) None) ≡ block_at root (kept blocks link block)
+    at_root None = refl
+    at_root (Some r) = ap (λ t. first_of (get blocks r) (cond t (Some block) None)) (two_tests r link) ∙ sym (get_more r link block blocks)
 
-    no_other : has others link ≡ false
-    no_other = right_none (is_some (get nodes link)) (has others link) absent
+    or_made : (first made made_now : Option (List ℕ)) → made ≡ cond (is_some first) None made_now → cond (is_some made) made first ≡ first_of first made_now
+    or_made (Some b) made now e = ap (λ o. cond (is_some o) o (Some b)) e
+    or_made None made now e = ap (λ o. cond (is_some o) o None) e ∙ elim now as (λ o. cond (is_some o) o None ≡ o) [ None ↦ refl | Some b ↦ refl ]
 
-    all_at : (q : List ℕ) → get (kept blocks link block) q ≡ cond (eq_by_cmp key_cmp q link) (Some block) (get blocks q)
-    all_at q = get_kept q link block blocks ∙ ap (λ t. cond t (get blocks q) (cond (eq_by_cmp key_cmp q link) (Some block) (get blocks q))) gone
+    firsts : (made first : Option (List ℕ)) → made ≡ cond (is_some first) None (cond (is_root root link) (Some block) None) → first ≡ block_at root blocks → cond (is_some made) made first ≡ block_at root (kept blocks link block)
+    firsts made first e is = or_made first made (cond (is_root root link) (Some block) None) e ∙ ap (λ o. first_of o (cond (is_root root link) (Some block) None)) is ∙ at_root root
 
-    nodes_at : (q : List ℕ) → get (kept nodes link block) q ≡ cond (eq_by_cmp key_cmp q link) (Some block) (get nodes q)
-    nodes_at q = get_kept q link block nodes ∙ ap (λ t. cond t (get nodes q) (cond (eq_by_cmp key_cmp q link) (Some block) (get nodes q))) (ap is_some no_node)
-
-    first_now : (made : Option (List ℕ)) → made ≡ cond (is_root root link) (Some block) None → cond (is_some made) made first ≡ block_at root (kept blocks link block)
-    first_now made e = ap (λ m. cond (is_some m) m first) e ∙ go root s.first_is
+    logs : (c : List ℕ) → find key_cmp c new.log ≡ option_map (sift picks) (get (kept blocks link block) c)
+    logs c =
+        ap (find key_cmp c) l ∙ find_end c link (cond keeps (Some block) None) old.log
+        ∙ ap (λ o. first_of o (cond (eq_by_cmp key_cmp c link) (Some (cond keeps (Some block) None)) None)) (h.log_is c)
+        ∙ ap (λ t. first_of (option_map (sift picks) (get blocks c)) (cond (eq_by_cmp key_cmp c link) (Some (cond t (Some block) None)) None)) k
+        ∙ elim (eq_by_cmp key_cmp c link) as (λ t. first_of (option_map (sift picks) (get blocks c)) (cond t (Some (sift picks block)) None) ≡ option_map (sift picks) (first_of (get blocks c) (cond t (Some block) None))) [ true ↦ over (get blocks c) (Some block) | false ↦ over (get blocks c) None ]
+        ∙ ap (option_map (sift picks)) (sym (get_more c link block blocks))
       where
-        go : (root : Option (List ℕ)) → first ≡ block_at root blocks → cond (is_some (cond (is_root root link) (Some block) None)) (cond (is_root root link) (Some block) None) first ≡ block_at root (kept blocks link block)
-        go None f = f
-        go (Some r) f = elim (bytes_eq r link) as (λ t. cond (is_some (cond t (Some block) None)) (cond t (Some block) None) first ≡ cond t (Some block) (get blocks r)) [ true ↦ refl | false ↦ f ] ∙ ap (λ t. cond t (Some block) (get blocks r)) (two_tests r link) ∙ sym (all_at r)
+        over : (o p : Option (List ℕ)) → first_of (option_map (sift picks) o) (option_map (sift picks) p) ≡ option_map (sift picks) (first_of o p)
+        over None p = refl
+        over (Some b) p = refl
 
-    pub sift_picked : (made : Option (List ℕ)) → made ≡ cond (is_root root link) (Some block) None → picks block ≡ true → IsSifted picks root (kept blocks link block) (cond (is_some made) made first) (kept nodes link block) others
-    sift_picked made f p = record {
-      first_is = first_now made f;
-      nodes_are = λ q. nodes_at q ∙ elim (eq_by_cmp key_cmp q link) as (λ t. cond t (Some block) (get nodes q) ≡ picked picks (cond t (Some block) (get blocks q))) [ true ↦ rw p refl | false ↦ s.nodes_are q ] ∙ ap (picked picks) (sym (all_at q));
-      others_are = λ q.
-          elim (eq_by_cmp key_cmp q link) as (λ t. eq_by_cmp key_cmp q link ≡ t → has others q ≡ is_passed picks (cond t (Some block) (get blocks q))) [
-            | true ↦ λ e. rw p (ap (has others) (same_link q link e) ∙ no_other)
-            | false ↦ λ e. s.others_are q
-          ] refl ∙ ap (is_passed picks) (sym (all_at q));
-    }
+-- the same is told of each link
+pub same_holds : (picks : List ℕ → Bool) (root : Option (List ℕ)) (blocks : BlockMap) (old new : Sifted) → new.first ≡ old.first → ((c : List ℕ) → find key_cmp c new.log ≡ find key_cmp c old.log) → Holds picks root blocks old → Holds picks root blocks new
+same_holds picks root blocks old new f l h = record { first_is = f ∙ h.first_is; log_is = λ c. l c ∙ h.log_is c }
 
-    pub sift_passed : (made : Option (List ℕ)) (now : List (List ℕ)) → made ≡ cond (is_root root link) (Some block) None → picks block ≡ false → ((c : List ℕ) → has now c ≡ (is_same link c || has others c)) → IsSifted picks root (kept blocks link block) (cond (is_some made) made first) nodes now
-    sift_passed made now f p h = record {
-      first_is = first_now made f;
-      nodes_are = λ q.
-          elim (eq_by_cmp key_cmp q link) as (λ t. eq_by_cmp key_cmp q link ≡ t → get nodes q ≡ picked picks (cond t (Some block) (get blocks q))) [
-            | true ↦ λ e. rw p (ap (get nodes) (same_link q link e) ∙ no_node)
-            | false ↦ λ e. s.nodes_are q
-          ] refl ∙ ap (picked picks) (sym (all_at q));
-      others_are = λ q. h q ∙ elim (eq_by_cmp key_cmp q link) as (λ t. (t || has others q) ≡ is_passed picks (cond t (Some block) (get blocks q))) [ true ↦ rw p refl | false ↦ s.others_are q ] ∙ ap (is_passed picks) (sym (all_at q));
-    }
+-- ---- in the end
 
--- one block more is sifted, kept or passed
-pub sift_next : (picks : List ℕ → Bool) (root : Option (List ℕ)) (blocks : BlockMap) (first : Option (List ℕ)) (nodes : BlockMap) (others : List (List ℕ)) (link block : List ℕ) → IsSifted picks root blocks first nodes others
-    → (is_some (get nodes link) || has others link) ≡ false → (keeps : Bool) (made : Option (List ℕ)) (new_nodes : BlockMap) (new_others : List (List ℕ)) (new_first : Option (List ℕ))
-    → picks block ≡ keeps → made ≡ cond (is_root root link) (Some block) None
-    → (keeps ≡ true → (new_nodes ≡ kept nodes link block) × (new_others ≡ others)) → (keeps ≡ false → (new_nodes ≡ nodes) × ((c : List ℕ) → has new_others c ≡ (is_same link c || has others c)))
-    → new_first ≡ cond (is_some made) made first → IsSifted picks root (kept blocks link block) new_first new_nodes new_others
-sift_next picks root blocks first nodes others link block s absent true made new_nodes new_others new_first p m k d f =
-    let both = k refl in
-    rw (f, both.0, both.1) (sift_picked picks root blocks first nodes others link block s absent made m p)
-sift_next picks root blocks first nodes others link block s absent false made new_nodes new_others new_first p m k d f =
-    let both = d refl in
-    rw (f, both.0) (sift_passed picks root blocks first nodes others link block s absent made new_others m p both.1)
+pub sifted_out : (picks : List ℕ → Bool) (root : Option (List ℕ)) (blocks : BlockMap) (sifted : Sifted) (nodes : BlockMap) (others : List (List ℕ)) → ((c : List ℕ) → get nodes c ≡ the_held (find key_cmp c sifted.log))
+    → ((c : List ℕ) → has others c ≡ was_let_go (find key_cmp c sifted.log)) → Holds picks root blocks sifted → IsSifted picks root blocks sifted.first nodes others
+sifted_out picks root blocks sifted nodes others n o h = record {
+  first_is = h.first_is;
+  nodes_are = λ c. n c ∙ ap the_held (h.log_is c) ∙ elim (get blocks c) as (λ b. the_held (option_map (sift picks) b) ≡ picked picks b) [ None ↦ refl | Some b ↦ refl ];
+  others_are = λ c. o c ∙ ap was_let_go (h.log_is c) ∙ elim (get blocks c) as (λ b. was_let_go (option_map (sift picks) b) ≡ is_passed picks b) [
+    | None ↦ refl
+    | Some b ↦ elim (picks b) as (λ t. was_let_go (Some (cond t (Some b) None)) ≡ not t) [ true ↦ refl | false ↦ refl ]
+  ];
+}
+
+abbrev pub whole : Section → Told
+whole s = (s.0, Some s.1)
+
+pub whole_end : (ss : List Section) (s : Section) → map whole (ss ++ s ∷ []) ≡ map whole ss ++ whole s ∷ []
+whole_end [] s = refl
+whole_end (x ∷ ss) s = ap (λ l. whole x ∷ l) (whole_end ss s)
+
+-- of sections that were all held
+pub all_out : (ss : List Section) (nodes : BlockMap) (log : List (List ℕ × Option (List ℕ))) → log ≡ map whole ss → ((c : List ℕ) → get nodes c ≡ the_held (find key_cmp c log)) → nodes ≡ from_entries ss
+all_out ss nodes log e n = same_map key_total cmp_exact _ _ (λ q. n q ∙ ap (λ l. the_held (find key_cmp q l)) e ∙ each q ss ∙ sym (get-from_entries key_total ss q))
+  where
+    each : (q : List ℕ) (ss : List Section) → the_held (find key_cmp q (map whole ss)) ≡ find key_cmp q ss
+    each q [] = refl
+    each q (s ∷ ss) = elim (eq_by_cmp key_cmp q s.0) as (λ t. the_held (cond t (Some (Some s.1)) (find key_cmp q (map whole ss))) ≡ cond t (Some s.1) (find key_cmp q ss)) [ true ↦ refl | false ↦ each q ss ]

@@ -1,6 +1,6 @@
 -- Which bytes the progress stands for, step by step.
 use Rattle.std.proofs.Common.{◌≡◌, ℕ, ◌+◌, ◌-◌, ◌<◌, ◌≤◌, Bool, true, false, List, [], ◌∷◌, ◌++◌, length, drop, Option, Some, None, Result, Ok, Err, refl, ap, sym, ◌∙◌, subst, arith, append_assoc, append-nil}
-use Rattle.std.specs.Prelude.{IsSome, is_some}
+use Rattle.std.specs.Prelude.{IsSome, is_some, option_map}
 use Rattle.std.specs.FinMap as map
 use Rattle.std.specs.FinMap.{get-empty}
 use Rattle.at_cid.specs.Link.{IsBytes}
@@ -13,18 +13,18 @@ use Rattle.at_car.proofs.Sections.{section_shorter}
 use Rattle.at_car.specs.Car.{fault_of, car_of}
 use Rattle.at_car.specs.Header.{header_at}
 use Rattle.at_car.specs.Cuts.{is_cut}
-use Rattle.at_car.specs.Sifting.{IsSifted, Holds, picked, is_passed, block_at}
+use Rattle.at_car.specs.Sifting.{Holds, block_at, sift}
+use Rattle.at_car.proofs.Sifts.{same_holds}
 use Rattle.at_car.specs.Standing.{left_of, root_of, root_in, resumed, HasBegun, IsFresh, StandsAt, StandsFor, Took}
 use Rattle.at_car.specs.declared.sifting.Sifted.{Sifted}
 use Rattle.at_car.specs.declared.progress.Progress.{Progress}
 use Rattle.at_car.specs.declared.progress.Taken.{Taken}
 use Rattle.at_car.proofs.Resumes.{begins, no_header, header_missing, goes_on, stops, stops_cut, ends, header_left, section_left}
 
-fresh_holds : (picks : List ℕ → Bool) (roots : List (List ℕ)) → IsSifted picks (root_of roots) map.empty None map.empty []
-fresh_holds picks roots = record {
-  first_is = go roots;
-  nodes_are = λ c. get-empty key_cmp c ∙ sym (ap (picked picks) (get-empty key_cmp c));
-  others_are = λ c. sym (ap (is_passed picks) (get-empty key_cmp c));
+fresh_holds : (picks : List ℕ → Bool) (roots : List (List ℕ)) (sifted : Sifted) → sifted.first ≡ None → ((c : List ℕ) → map.find key_cmp c sifted.log ≡ None) → Holds picks (root_of roots) map.empty sifted
+fresh_holds picks roots sifted first log = record {
+  first_is = first ∙ go roots;
+  log_is = λ c. log c ∙ sym (ap (option_map (sift picks)) (get-empty key_cmp c));
 }
   where
     go : (roots : List (List ℕ)) → None ≡ block_at (root_of roots) map.empty
@@ -58,7 +58,7 @@ front_read picks bytes old new roots rest used f r cut fits e u short nf nr ns n
     let place : length (left_of old) - length rest ≡ new.place = omega (arith, np, u, was.place) in
     let left : rest ≡ left_of new = sym (nl ∙ ap (λ n. drop n (left_of old)) u ∙ header_left (left_of old) (roots, rest) fits e) in
     let H : Sifted → Type 0 = λ s. Holds picks (root_of roots) map.empty s in
-    let holds : H old.sifted = rw (was.first, was.nodes, was.others) (fresh_holds picks roots) in
+    let holds : H old.sifted = fresh_holds picks roots old.sifted was.first was.log in
     stands picks bytes new roots map.empty nf nr (record {
       holds = subst H (sym ns) holds;
       resumes = λ more. ap (λ b. car_of (b ++ more)) (sym was.left) ∙ begins (left_of old) rest roots cut e short more
@@ -114,7 +114,7 @@ piece_held picks bytes piece old new nf nr ns np nl h =
   where
     go : (f : Option CarFault) (r : Option (List (List ℕ))) → StandsAt picks f r old bytes → StandsAt picks f r new (bytes ++ piece)
     go (Some fault) r h = λ more. ap car_of (append_assoc bytes piece more) ∙ h (piece ++ more)
-    go None None h = record { left = nl ∙ ap (λ l. l ++ piece) h.left; place = np ∙ h.place; first = ap (λ (s : Sifted). s.first) ns ∙ h.first; nodes = ap (λ (s : Sifted). s.nodes) ns ∙ h.nodes; others = ap (λ (s : Sifted). s.others) ns ∙ h.others }
+    go None None h = record { left = nl ∙ ap (λ l. l ++ piece) h.left; place = np ∙ h.place; first = ap (λ (s : Sifted). s.first) ns ∙ h.first; log = λ c. ap (λ (s : Sifted). map.find key_cmp c s.log) ns ∙ h.log c }
     go None (Some roots) h =
         let H : Sifted → Type 0 = λ s. Holds picks (root_of roots) h.0 s in (
           h.0,
@@ -128,6 +128,24 @@ piece_held picks bytes piece old new nf nr ns np nl h =
 -- the same bytes are left
 pub same_stands : (picks : List ℕ → Bool) (bytes : List ℕ) (old new : Progress) → new.fault ≡ old.fault → new.roots ≡ old.roots → new.sifted ≡ old.sifted → new.place ≡ old.place → left_of new ≡ left_of old → StandsFor picks old bytes → StandsFor picks new bytes
 same_stands picks bytes old new nf nr ns np nl h = subst (StandsFor picks new) (append-nil bytes) (piece_held picks bytes [] old new nf nr ns np (nl ∙ sym (append-nil (left_of old))) h)
+
+-- the same is told of each link
+pub tidied : (picks : List ℕ → Bool) (bytes : List ℕ) (old new : Progress) → new.fault ≡ old.fault → new.roots ≡ old.roots → new.sifted.first ≡ old.sifted.first → ((c : List ℕ) → map.find key_cmp c new.sifted.log ≡ map.find key_cmp c old.sifted.log)
+    → new.place ≡ old.place → left_of new ≡ left_of old → StandsFor picks old bytes → StandsFor picks new bytes
+tidied picks bytes old new nf nr ns nl np nb h =
+    let F : Option CarFault → Type 0 = λ x. StandsAt picks x new.roots new bytes in let R : Option (List (List ℕ)) → Type 0 = λ x. StandsAt picks old.fault x new bytes in
+    subst F (sym nf) (subst R (sym nr) (go old.fault old.roots h))
+  where
+    go : (f : Option CarFault) (r : Option (List (List ℕ))) → StandsAt picks f r old bytes → StandsAt picks f r new bytes
+    go (Some fault) r h = h
+    go None None h = record { left = nb ∙ h.left; place = np ∙ h.place; first = ns ∙ h.first; log = λ c. nl c ∙ h.log c }
+    go None (Some roots) h = (
+      h.0,
+      record {
+        holds = same_holds picks (root_of roots) h.0 old.sifted new.sifted ns nl h.1.holds;
+        resumes = λ more. h.1.resumes more ∙ ap (λ l. resumed roots h.0 old.place (l ++ more)) (sym nb) ∙ ap (λ n. resumed roots h.0 n (left_of new ++ more)) (sym np);
+      },
+    )
 
 -- behind a fault no piece changes the answer
 pub piece_passed : (picks : List ℕ → Bool) (bytes piece : List ℕ) (p : Progress) → is_some p.fault ≡ true → StandsFor picks p bytes → StandsFor picks p (bytes ++ piece)

@@ -1,7 +1,8 @@
 -- Blocks that lie in one buffer, each at its place.
-use Rattle.std.specs.Prelude.{ℕ, ◌+◌, ◌≤◌, List, take, drop}
-use Rattle.std.specs.List.{All}
-use Rattle.std.specs.Map.{values_of}
+use Rattle.std.specs.Prelude.{ℕ, ◌+◌, ◌≤◌, List, take, drop, length, map}
+use Rattle.std.specs.FinMap as finite
+use Rattle.at_car.specs.Blocks.{BlockMap, IsLinkOf}
+use Rattle.at_car.specs.declared.entry.Entry.{Entry}
 use Rattle.at_car.specs.declared.place.Place.{Place}
 
 -- the bytes at a place
@@ -9,13 +10,17 @@ abbrev pub bytes_at : List ℕ → Place → List ℕ
 bytes_at buffer place = take place.len (drop place.start buffer)
 
 -- a link, and the bytes at its place
-abbrev pub laid : List ℕ → List ℕ × Place → List ℕ × List ℕ
-laid buffer e = (e.0, bytes_at buffer e.1)
+abbrev pub laid : List ℕ → Entry → List ℕ × List ℕ
+laid buffer e = (e.link, bytes_at buffer e.place)
 
 -- the place ends within so many bytes
 abbrev pub IsWithin : ℕ → Place → Type 0
 IsWithin size place = place.start + place.len ≤ size
 
--- the places of all links do
-abbrev pub AreWithin : ℕ → List (List ℕ × Place) → Type 0
-AreWithin size places = All (IsWithin size) (values_of places)
+-- the link is one of the bytes at its place
+abbrev pub IsLaid : List ℕ → Entry → Type 0
+IsLaid buffer e = IsWithin (length buffer) e.place × IsLinkOf e.link (bytes_at buffer e.place)
+
+-- the blocks at the places of links
+abbrev pub blocks_at : List ℕ → List Entry → BlockMap
+blocks_at buffer entries = finite.from_entries (map (laid buffer) entries)

@@ -1,7 +1,8 @@
 -- What is kept of blocks.
-use Rattle.std.specs.Prelude.{◌≡◌, ℕ, Bool, false, not, if◌then◌else◌, List, Option, Some, None}
+use Rattle.std.specs.Prelude.{◌≡◌, ℕ, Bool, false, not, if◌then◌else◌, List, Option, Some, None, option_map}
 use Rattle.std.specs.FinMap as map
 use Rattle.std.specs.Str.{bytes_eq}
+use Rattle.at_cid.specs.Order.{key_cmp}
 use Rattle.at_car.specs.Blocks.{BlockMap}
 use Rattle.at_car.specs.Links.{has}
 use Rattle.at_car.specs.declared.sifting.Sifted.{Sifted}
@@ -31,5 +32,11 @@ pub record IsSifted (picks : List ℕ → Bool) (root : Option (List ℕ)) (bloc
   pub nodes_are : (c : List ℕ) → map.get nodes c ≡ picked picks (map.get blocks c)
   pub others_are : (c : List ℕ) → has others c ≡ is_passed picks (map.get blocks c)
 
-abbrev pub Holds : (List ℕ → Bool) → Option (List ℕ) → BlockMap → Sifted → Type 0
-Holds picks root blocks sifted = IsSifted picks root blocks sifted.first sifted.nodes sifted.others
+-- the block of a link is held where it is one that is kept
+abbrev pub sift : (List ℕ → Bool) → List ℕ → Option (List ℕ)
+sift picks b = if picks b then Some b else None
+
+-- the same while blocks come, of which the first under a link counts
+pub record Holds (picks : List ℕ → Bool) (root : Option (List ℕ)) (blocks : BlockMap) (sifted : Sifted) : Type 0 where
+  pub first_is : sifted.first ≡ block_at root blocks
+  pub log_is : (c : List ℕ) → map.find key_cmp c sifted.log ≡ option_map (sift picks) (map.get blocks c)

@@ -1,6 +1,7 @@
 -- Which bytes a scan stands for.
 use Rattle.std.specs.Prelude.{◌≡◌, ℕ, ◌+◌, ◌<◌, ◌≤◌, Bool, true, List, [], ◌∷◌, ◌++◌, length, drop, Option, Some, None, Result, Ok, Err}
 use Rattle.std.specs.FinMap as map
+use Rattle.at_cid.specs.Order.{key_cmp}
 use Rattle.at_car.specs.declared.fault.CarFault.{CarFault}
 use Rattle.at_car.specs.Blocks.{BlockMap}
 use Rattle.at_car.specs.Car.{car_of}
@@ -39,8 +40,7 @@ pub record IsFresh (bytes : List ℕ) (p : Progress) : Type 0 where
   pub left : left_of p ≡ bytes
   pub place : p.place ≡ 0
   pub first : p.sifted.first ≡ None
-  pub nodes : p.sifted.nodes ≡ map.empty
-  pub others : p.sifted.others ≡ []
+  pub log : (c : List ℕ) → map.find key_cmp c p.sifted.log ≡ None
 
 abbrev pub StandsAt : (List ℕ → Bool) → Option CarFault → Option (List (List ℕ)) → Progress → List ℕ → Type 0
 StandsAt picks (Some fault) roots p bytes = (more : List ℕ) → car_of (bytes ++ more) ≡ Err fault

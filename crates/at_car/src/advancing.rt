@@ -160,6 +160,17 @@ fn read_next<S: Sieve>(alloc: Global, sieve: &S, progress: &mut Progress) -> Res
     Ok(())
 }
 
+/// Lets go what came again under a link.
+fn tidy(alloc: Global, progress: &mut Progress) -> Result<(), Memory>
+    ensures stands { (picks : List ℕ → Bool) (bytes : List ℕ) → StandsFor picks progress.old bytes → StandsFor picks progress.new bytes }
+    ensures left { left_of progress.new ≡ left_of progress.old }
+    ensures place { progress.new.place ≡ progress.old.place }
+    ensures roots { progress.new.roots ≡ progress.old.roots }
+    ensures fault { progress.new.fault ≡ progress.old.fault }
+{
+    progress.sifted.log.tidy(alloc)
+}
+
 /// Reads what comes next, where it is whole, and says whether it is.
 fn step<S: Sieve>(alloc: Global, sieve: &S, progress: &mut Progress) -> Result<bool, Memory>
     ensures stands { (bytes : List ℕ) → StandsFor S.picks progress.old bytes → StandsFor S.picks progress.new bytes }
@@ -177,6 +188,7 @@ fn step<S: Sieve>(alloc: Global, sieve: &S, progress: &mut Progress) -> Result<b
         return Err(Memory);
     }
     if progress.roots.is_some() {
+        tidy(alloc, progress)?;
         read_next(alloc, sieve, progress)?;
     } else {
         read_front(alloc, progress)?;

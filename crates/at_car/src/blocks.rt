@@ -1,16 +1,19 @@
 //! Blocks under their links.
 
-ghost use Rattle.std.specs.Prelude.{◌≡◌, ℕ, List, option_map, IfOk, IfSome, OnOk, OnErr};
+ghost use Rattle.std.specs.Prelude.{◌≡◌, ℕ, List, option_map, IfSome, OnOk, OnErr};
 ghost use Rattle.std.specs.FinMap as map;
+ghost use Rattle.std.specs.List.{All};
 ghost use Rattle.sha2.specs.Sha256.{sha256};
 ghost use Rattle.at_cid.specs.Link.{digest_of, IsBytes};
 ghost use Rattle.at_car.specs.Blocks.{kept, AreLinked};
+ghost use Rattle.at_car.specs.Entries.{AreInOrder};
+ghost use Rattle.at_car.specs.Places.{IsLaid, blocks_at};
 
+use crate::entry::{Entry, find, seek};
 use crate::iterating::BlockIter;
-use crate::place::{Place, bytes_at, lay};
+use crate::place::{bytes_at, lay};
 use at_cid::{Cid, Memory, Octets};
 use std::alloc::Global;
-use std::collections::BTreeMap;
 use std::marker::Model;
 
 /// Blocks, each under a link of it, in ascending order of the links.
@@ -21,24 +24,25 @@ use std::marker::Model;
 #[derive(Drop)]
 pub struct Blocks {
     buffer: Octets,
-    places: BTreeMap<Cid, Place>,
+    entries: Vec<Entry>,
 }
 
 impl Model for Blocks {
-    ghost use Rattle.std.specs.Prelude.{List, ℕ, length, map};
+    ghost use Rattle.std.specs.Prelude.{List, ℕ};
     ghost use Rattle.std.specs.FinMap as finite;
     ghost use Rattle.std.specs.Coded.{coded_list, coded_ℕ};
+    ghost use Rattle.std.specs.List.{All};
     ghost use Rattle.at_cid.specs.Order.{key_cmp};
-    ghost use Rattle.at_car.specs.Blocks.{AreLinked};
-    ghost use Rattle.at_car.specs.Places.{laid, AreWithin};
+    ghost use Rattle.at_car.specs.Entries.{AreInOrder};
+    ghost use Rattle.at_car.specs.Places.{IsLaid, blocks_at};
 
     ghost Value = { finite.FinMap key_cmp (List ℕ) };
 
     ghost coded = { finite.code (coded_list coded_ℕ) (coded_list coded_ℕ) };
 
-    ghost view = { λ a. finite.from_entries (map (laid a.buffer) a.places.entries) };
+    ghost view = { λ a. blocks_at a.buffer a.entries.items };
 
-    ghost invariant = { λ a. AreLinked (finite.from_entries (map (laid a.buffer) a.places.entries)) × AreWithin (length a.buffer) a.places.entries };
+    ghost invariant = { λ a. All (IsLaid a.buffer) a.entries.items × AreInOrder a.entries.items };
 }
 
 impl Blocks {
@@ -48,26 +52,24 @@ impl Blocks {
     {
         Blocks {
             buffer: Octets::new(alloc),
-            places: BTreeMap::new(alloc),
+            entries: Vec::new(alloc),
         }
     }
 
-    /// No blocks, and room for so many bytes of them.
-    pub(crate) fn with_room(alloc: Global, room: usize) -> Result<Blocks, Memory>
-        ensures { IfOk result (λ blocks. blocks ≡ map.empty) }
+    /// The blocks at the places of links, which ascend.
+    pub(crate) fn of(buffer: Octets, entries: Vec<Entry>) -> Blocks
+        requires laid { All (IsLaid buffer) entries.items }
+        requires order { AreInOrder entries.items }
+        ensures { result ≡ blocks_at buffer entries.items }
     {
-        let buffer = Vec::with_capacity(alloc, room)?;
-        Ok(Blocks {
-            buffer: Octets::from_vec(buffer),
-            places: BTreeMap::new(alloc),
-        })
+        Blocks { buffer, entries }
     }
 
     /// How many blocks there are.
     pub fn len(&self) -> usize
         ensures { result ≡ map.len self.now }
     {
-        self.places.len()
+        self.entries.as_slice().len()
     }
 
     /// The block under a link.
@@ -76,8 +78,8 @@ impl Blocks {
         ensures bytes { IfSome result (λ block. IsBytes block.now) }
         ensures linked { AreLinked self.now }
     {
-        match self.places.get(cid) {
-            Some(place) => Some(bytes_at(self.buffer.as_slice(), place)),
+        match find(self.entries.as_slice(), cid) {
+            Some(place) => Some(bytes_at(self.buffer.as_slice(), &place)),
             None => None,
         }
     }
@@ -89,24 +91,24 @@ impl Blocks {
     {
         BlockIter {
             buffer: self.buffer.as_slice(),
-            places: self.places.iter(),
+            entries: self.entries.as_slice(),
         }
     }
 
-    /// Puts a block under a link of it. A link that is there keeps its block.
+    /// Puts a block under a link of it. A link that is there keeps its block. The entries of all higher links move.
     pub fn put(&mut self, cid: Cid, block: &[u8]) -> Result<(), Memory>
         requires { digest_of cid ≡ sha256 block.now }
         ensures ok { OnOk result (self.new ≡ kept self.old cid block.now) }
         ensures err { OnErr result (self.new ≡ self.old) }
     {
         cid.tell_link();
-        let place = lay(&mut self.buffer, block)?;
-        match self.places.insert(cid, place)? {
-            Some(first) => {
-                self.places.insert(cid, first)?;
+        match seek(self.entries.as_slice(), &cid) {
+            Ok(_) => Ok(()),
+            Err(index) => {
+                let place = lay(&mut self.buffer, block)?;
+                self.entries.insert(index, Entry { link: cid, place })?;
                 Ok(())
             }
-            None => Ok(()),
         }
     }
 
@@ -114,6 +116,6 @@ impl Blocks {
     pub fn tell_linked(&self)
         ensures { AreLinked self.now }
     {
-        let _ = &self.places;
+        let _ = &self.entries;
     }
 }

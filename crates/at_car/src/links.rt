@@ -1,37 +1,38 @@
 //! Links, each once.
 
-ghost use Rattle.std.specs.Prelude.{◌≡◌, ◌||◌, ℕ, List, [], length, OnOk, OnErr};
+ghost use Rattle.std.specs.Prelude.{◌≡◌, length};
 ghost use Rattle.std.specs.List.Sorted.{IsStrictlySortedBy};
 ghost use Rattle.at_cid.specs.Order.{key_cmp};
-ghost use Rattle.at_car.specs.Links.{has, is_same};
+ghost use Rattle.at_car.specs.Links.{has};
 
-use at_cid::{Cid, Memory};
-use std::alloc::Global;
-use std::collections::BTreeSet;
+use at_cid::Cid;
 use std::marker::Model;
 
 /// Links, each once, in ascending order. A look-up compares as many as the logarithm of their number.
 #[derive(Drop)]
 pub struct Links {
-    links: BTreeSet<Cid>,
+    links: Vec<Cid>,
 }
 
 impl Model for Links {
     ghost use Rattle.std.specs.Prelude.{List, ℕ};
+    ghost use Rattle.std.specs.List.Sorted.{IsStrictlySortedBy};
+    ghost use Rattle.at_cid.specs.Order.{key_cmp};
 
     ghost Value = { List (List ℕ) };
 
-    ghost view = { λ a. a.links.keys };
+    ghost view = { λ a. a.links.items };
+
+    ghost invariant = { λ a. IsStrictlySortedBy key_cmp a.links.items };
 }
 
 impl Links {
-    /// No links.
-    pub fn new(alloc: Global) -> Links
-        ensures { result ≡ [] }
+    /// Links that ascend.
+    pub(crate) fn of(links: Vec<Cid>) -> Links
+        requires { IsStrictlySortedBy key_cmp links.items }
+        ensures { result ≡ links.items }
     {
-        Links {
-            links: BTreeSet::new(alloc),
-        }
+        Links { links }
     }
 
     /// How many links there are.
@@ -47,15 +48,6 @@ impl Links {
     pub fn contains(&self, link: &Cid) -> bool
         ensures { result ≡ has self.now link.now }
     {
-        self.links.contains(link)
-    }
-
-    /// Puts a link there.
-    pub fn put(&mut self, link: Cid) -> Result<(), Memory>
-        ensures ok { OnOk result ((c : List ℕ) → has self.new c ≡ (is_same link c || has self.old c)) }
-        ensures err { OnErr result (self.new ≡ self.old) }
-    {
-        self.links.insert(link)?;
-        Ok(())
+        self.links.as_slice().binary_search(link).is_ok()
     }
 }

@@ -29,6 +29,7 @@ pub(crate) fn bytes_at<'a>(buffer: &'a [u8], place: &Place) -> &'a [u8]
 pub(crate) fn lay(buffer: &mut Octets, block: &[u8]) -> Result<Place, Memory>
     ensures is { IfOk result (λ place. bytes_at buffer.new place ≡ block.now) }
     ensures within { IfOk result (λ place. place.start + place.len ≤ length buffer.new) }
+    ensures start { IfOk result (λ place. place.start ≡ length buffer.old) }
     ensures ok { OnOk result (buffer.new ≡ buffer.old ++ block.now) }
     ensures err { OnErr result (buffer.new ≡ buffer.old) }
 {

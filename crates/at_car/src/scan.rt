@@ -9,6 +9,7 @@ use crate::advancing::{advance, hold};
 use crate::blocks::Blocks;
 use crate::fault::CarFault;
 use crate::links::Links;
+use crate::log::Log;
 use crate::progress::Progress;
 use crate::sieve::Sieve;
 use crate::sifting::Sifted;
@@ -45,8 +46,7 @@ impl<S: Sieve> Scan<S> {
     {
         let sifted = Sifted {
             first: None,
-            nodes: Blocks::new(alloc),
-            others: Links::new(alloc),
+            log: Log::new(alloc),
         };
         let progress = Progress {
             roots: None,
@@ -82,12 +82,12 @@ impl<S: Sieve> Scan<S> {
             mut progress,
         } = self;
         advance(alloc, &sieve, &mut progress)?;
-        finish(progress)
+        finish(alloc, progress)
     }
 }
 
 /// What was read, where nothing is left to be read.
-fn finish(progress: Progress) -> Result<Kept, CarFault>
+fn finish(alloc: Global, progress: Progress) -> Result<Kept, CarFault>
     requires { IsIdle progress }
     ensures { (picks : List ℕ → Bool) (bytes : List ℕ) → StandsFor picks progress bytes → Finishes picks result (car_of bytes) }
 {
@@ -108,11 +108,8 @@ fn finish(progress: Progress) -> Result<Kept, CarFault>
     if start < held.len() {
         return Err(CarFault::Section(place));
     }
-    let Sifted {
-        first,
-        nodes,
-        others,
-    } = sifted;
+    let Sifted { first, log } = sifted;
+    let (nodes, others) = log.split(alloc)?;
     Ok(Kept {
         roots,
         first,

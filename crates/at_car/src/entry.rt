@@ -1,0 +1,103 @@
+//! A link, and where the block under it lies.
+
+ghost use Rattle.std.specs.Prelude.{◌≡◌, ◌<◌, ℕ, List, length, Some, OnOk, IfOk, IfErr, nat_eq, refl};
+ghost use Rattle.std.specs.List.{All, HoldsAt};
+ghost use Rattle.std.specs.List.Sorted.{IsPartitionPoint, IsSearchInRange};
+ghost use Rattle.std.specs.Cmp.{partial_equiv_from_equiv, on_equiv, on_total, on_po};
+ghost use Rattle.std.specs.Cmp.Lexicographic.{nat_list_eq_equiv, pointwise};
+ghost use Rattle.std.specs.declared.cmp.Ordering.TheVariants.{Less, Equal, Greater};
+ghost use Rattle.at_cid.specs.Order.{key_cmp};
+ghost use Rattle.at_cid.specs.OrderLaws.{key_po, key_total, key_ties};
+ghost use Rattle.at_car.specs.Entries.{AreInOrder, place_of};
+ghost use Rattle.at_car.specs.Logs.{IsTold};
+
+use crate::place::Place;
+use at_cid::{Cid, Memory};
+use std::cmp::Ordering;
+
+/// A link, and where the block under it lies in a buffer. Entries compare by their links alone.
+#[derive(Clone, Copy, Debug)]
+pub(crate) struct Entry {
+    pub link: Cid,
+    pub place: Place,
+}
+
+impl PartialEq for Entry {
+    ghost use Rattle.at_car.specs.declared.entry.Entry.{Entry};
+
+    ghost eq = { λ a b. pointwise nat_eq a.link b.link };
+
+    ghost laws = { partial_equiv_from_equiv (on_equiv (λ (e : Entry). e.link) nat_list_eq_equiv) };
+
+    fn eq(&self, other: &Entry) -> bool {
+        self.link == other.link
+    }
+}
+
+impl Eq for Entry {
+    ghost use Rattle.at_car.specs.declared.entry.Entry.{Entry};
+
+    ghost laws = { on_equiv (λ (e : Entry). e.link) nat_list_eq_equiv };
+}
+
+impl PartialOrd for Entry {
+    ghost use Rattle.at_car.specs.declared.entry.Entry.{Entry};
+
+    ghost partial_cmp = { λ a b. Some (key_cmp a.link b.link) };
+
+    ghost laws = { on_po (λ (e : Entry). e.link) key_po };
+
+    fn partial_cmp(&self, other: &Entry) -> Option<Ordering> {
+        Some(self.cmp(other))
+    }
+}
+
+impl Ord for Entry {
+    ghost use Rattle.at_car.specs.declared.entry.Entry.{Entry};
+
+    ghost cmp = { λ a b. key_cmp a.link b.link };
+
+    ghost total = { on_total (λ (e : Entry). e.link) key_total };
+
+    ghost matches_partial_cmp = { λ a b. refl };
+
+    ghost matches_eq = { λ a b. key_ties a.link b.link };
+
+    fn cmp(&self, other: &Entry) -> Ordering {
+        self.link.cmp(&other.link)
+    }
+}
+
+/// Puts entries in ascending order of their links. A link that stands twice keeps its first place.
+pub(crate) fn settle(entries: &mut Vec<Entry>) -> Result<(), Memory>
+    ensures places { (link : List ℕ) → place_of link entries.new.items ≡ place_of link entries.old.items }
+    ensures order { OnOk result (AreInOrder entries.new.items) }
+    ensures told { (buffer : List ℕ) → All (IsTold buffer) entries.old.items → All (IsTold buffer) entries.new.items }
+{
+    entries.sort()?;
+    entries.dedup();
+    Ok(())
+}
+
+/// Where the entry of a link stands, or else where it belongs.
+pub(crate) fn seek(entries: &[Entry], link: &Cid) -> Result<usize, usize>
+    requires { AreInOrder entries.now }
+    ensures range { IsSearchInRange result (length entries.now) }
+    ensures there { IfOk result (HoldsAt (λ (e : Entry). place_of link.now entries.now ≡ Some e.place) entries.now) }
+    ensures absent { IfErr result (IsPartitionPoint (λ (e : Entry). key_cmp e.link link.now ≡ Less) (λ (e : Entry). key_cmp e.link link.now ≡ Greater) entries.now) }
+{
+    // A search looks at the link alone.
+    let place = Place { start: 0, len: 0 };
+    entries.binary_search(&Entry { link: *link, place })
+}
+
+/// The place of a link.
+pub(crate) fn find(entries: &[Entry], link: &Cid) -> Option<Place>
+    requires { AreInOrder entries.now }
+    ensures { result ≡ place_of link.now entries.now }
+{
+    match seek(entries, link) {
+        Ok(index) => Some(entries[index].place),
+        Err(_) => None,
+    }
+}
