@@ -173,7 +173,7 @@ event_made kind n m event fits known read =
       fits = subst P (sym says.payload_is) fits;
       number = ap seq_of says.payload_is ∙ known ∙ ap (λ (k : ℕ). Some k) (sym says.seq_is);
       read = ap (λ (k : EventKind). event_of k event.seq event.payload) (body_kind kind m event.body says.body_is) ∙ ap (λ (k : ℕ). event_of kind k event.payload) says.seq_is
-        ∙ ap (λ (p : Item). event_of kind n p) says.payload_is ∙ read;
+          ∙ ap (λ (p : Item). event_of kind n p) says.payload_is ∙ read;
     }
 
 -- the event that a frame is, where it is one, is made of the fields of its payload

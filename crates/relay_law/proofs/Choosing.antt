@@ -148,16 +148,22 @@ module _ (c : CommitEvent) (repo : Repo) (h : Holds c) where
       subst Q (same_data c h g) (subst P (same_blocks c h g) stops)
 
   linking_by : ((gap ≡ false) × Leads c h.blocks former h.commit.data_root) ⊎ ((refusal : Refusal) × StopsPast gap c h.blocks former h.commit.data_root refusal) → (answer : Option Refusal) × IsLinking c repo answer
-  linking_by (inl (no_gap, leads)) = (None, record {
-    no_gap = λ e. no_gap;
-    leads = λ g bytes e. leads_in g leads;
-    stops = λ g refusal bytes e. absurd cc;
-  })
-  linking_by (inr (r, stops)) = (Some r, record {
-    no_gap = λ e. absurd cc;
-    leads = λ g bytes e. absurd cc;
-    stops = λ g refusal bytes e. stops_in g refusal (subst (StopsPast gap c h.blocks former h.commit.data_root) (same_some r refusal e) stops);
-  })
+  linking_by (inl (no_gap, leads)) = (
+    None,
+    record {
+      no_gap = λ e. no_gap;
+      leads = λ g bytes e. leads_in g leads;
+      stops = λ g refusal bytes e. absurd cc;
+    },
+  )
+  linking_by (inr (r, stops)) = (
+    Some r,
+    record {
+      no_gap = λ e. absurd cc;
+      leads = λ g bytes e. absurd cc;
+      stops = λ g refusal bytes e. stops_in g refusal (subst (StopsPast gap c h.blocks former h.commit.data_root) (same_some r refusal e) stops);
+    },
+  )
 
   linking_of_bytes : IsBytes c.blocks → (answer : Option Refusal) × IsLinking c repo answer
   linking_of_bytes bytes =
@@ -186,11 +192,14 @@ abbrev chosen : Checks
 chosen = record { opens = λ e last. opens_by e.body last; links = λ e repo. links_by e.body repo }
 
 pub some_right : SomeChecksAreRight
-some_right = (chosen, (
-  record { refusal = λ e last. opens_refusal e.body last; head = λ e last head is. opens_head e.body last head is },
-  record {
-    no_gap = λ e c repo body is. (right_linking c repo).1.no_gap (said_of e.body c repo None body is);
-    leads = λ e c repo h read body is. (right_linking c repo).1.leads h (commit_read e c read body).blocks.1 (said_of e.body c repo None body is);
-    stops = λ e c repo h refusal read body is. (right_linking c repo).1.stops h refusal (commit_read e c read body).blocks.1 (said_of e.body c repo (Some refusal) body is);
-  }
-))
+some_right = (
+  chosen,
+  (
+    record { refusal = λ e last. opens_refusal e.body last; head = λ e last head is. opens_head e.body last head is },
+    record {
+      no_gap = λ e c repo body is. (right_linking c repo).1.no_gap (said_of e.body c repo None body is);
+      leads = λ e c repo h read body is. (right_linking c repo).1.leads h (commit_read e c read body).blocks.1 (said_of e.body c repo None body is);
+      stops = λ e c repo h refusal read body is. (right_linking c repo).1.stops h refusal (commit_read e c read body).blocks.1 (said_of e.body c repo (Some refusal) body is);
+    },
+  ),
+)
