@@ -3,12 +3,16 @@ pub mod Replaying
 pub mod Tracking
 pub mod Sounding
 pub mod Right
+pub mod Answered
+pub mod Choosing
+pub mod Sent
 pub mod Keys
 pub mod Merging
 pub mod Agreeing
 pub mod Completing
+pub mod Own
 pub mod Reading
-pub mod Shown
 pub mod Known
 pub mod Carrying
 pub mod Coming
+pub mod Wanting
