@@ -12,3 +12,11 @@ pub mod Shown
 pub mod Known
 pub mod Carrying
 pub mod Coming
+pub mod Spelled
+pub mod EventForms
+pub mod Heads
+pub mod Refusals
+pub mod Walking
+pub mod Deciding
+pub mod Decided
+pub mod Operating

@@ -11,7 +11,7 @@ use Rattle.at_cbor.specs.Spelling.{info_of, tail_of, front_of, int_spelling, tex
 use Rattle.at_event.specs.declared.kind.EventKind.{EventKind}
 use Rattle.at_event.specs.Writing.{header_of, name_of, message_of}
 use Rattle.relay_row.specs.Rules.{is_string, is_empty, is_message}
-use Rattle.relay_row.proofs.Bytes.{string_tested}
+use Rattle.relay_row.proofs.Bytes.{string_tested, tested_bytes}
 
 pub bytes_join : (a b : List ℕ) → IsBytes a → IsBytes b → IsBytes (a ++ b)
 bytes_join [] b fa fb i = fb i
@@ -64,7 +64,7 @@ major_below Major.Map = lit< tt
 major_below Major.Tag = lit< tt
 major_below Major.Simple = lit< tt
 
-front_bytes : (major : Major) (n : ℕ) → IsBytes (front_of major n)
+pub front_bytes : (major : Major) (n : ℕ) → IsBytes (front_of major n)
 front_bytes major n =
     let tail = tail_is n in
     bytes_more (32 * number_of major + info_of n) (tail_of n) (omega (arith, major_below major, tail.low)) tail.bytes
@@ -111,9 +111,16 @@ mutual
 
 -- ---- messages
 
+pub header_bytes : (kind : EventKind) → IsBytes (spelling (header_of kind))
+unfolding info_of tail_of
+header_bytes EventKind.Commit = tested_bytes (spelling (header_of EventKind.Commit)) refl
+header_bytes EventKind.Sync = tested_bytes (spelling (header_of EventKind.Sync)) refl
+header_bytes EventKind.Identity = tested_bytes (spelling (header_of EventKind.Identity)) refl
+header_bytes EventKind.Account = tested_bytes (spelling (header_of EventKind.Account)) refl
+
 -- a message of an event whose payload fits, and that isn't too long, is one that a row may have
-pub message_formed : (kind : EventKind) (payload : Item) → Fits (header_of kind) 64 → Fits payload 64 → length (message_of kind payload) < 2 ^ 64 → is_message (message_of kind payload) ≡ true
+pub message_formed : (kind : EventKind) (payload : Item) → Fits payload 64 → length (message_of kind payload) < 2 ^ 64 → is_message (message_of kind payload) ≡ true
 unfolding message_of
-message_formed kind payload head fits short =
-    let bytes = bytes_join (spelling (header_of kind)) (spelling payload) (spelled_bytes (header_of kind) 64 head) (spelled_bytes payload 64 fits) in
+message_formed kind payload fits short =
+    let bytes = bytes_join (spelling (header_of kind)) (spelling payload) (header_bytes kind) (spelled_bytes payload 64 fits) in
     and_from (is_string (spelling (header_of kind) ++ spelling payload)) (not (is_empty (spelling (header_of kind) ++ spelling payload))) (string_tested (spelling (header_of kind) ++ spelling payload) bytes short) refl
