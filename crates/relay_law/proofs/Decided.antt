@@ -1,6 +1,6 @@
 -- The row that is decided for answers to all questions is well formed and keeps the order of its journal.
 use Rattle.std.proofs.Common.{◌≡◌, ℕ, ◌+◌, ◌<◌, Bool, true, false, List, [], ◌∷◌, ◌++◌, Option, Some, None, refl, sym, ap, ◌∙◌, cond, subst}
-use Rattle.std.specs.Prelude.{◌×◌, Result, Ok, Err, nat_le}
+use Rattle.std.specs.Prelude.{Result, Ok, Err, nat_le}
 use Rattle.at_event.specs.Seen.{Seen}
 use Rattle.at_event.specs.declared.event.Body.{Body}
 use Rattle.at_event.specs.declared.event.CommitEvent.{CommitEvent}

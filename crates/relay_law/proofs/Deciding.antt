@@ -1,6 +1,6 @@
 -- The row of a message that is decided is well formed and keeps the order of its journal.
 use Rattle.std.proofs.Common.{◌≡◌, ℕ, ◌+◌, ◌-◌, ◌<◌, ◌≤◌, ◌^◌, ◌⊎◌, inl, inr, Bool, true, false, not, ◌&&◌, ◌||◌, List, [], ◌∷◌, ◌++◌, length, min, Option, Some, None, refl, sym, ap, ◌∙◌, cond, subst, eqb, ltb, arith, lit<}
-use Rattle.std.specs.Prelude.{◌×◌, ◌==◌, Result, Ok, Err, nat_le, nat_lt, option_map}
+use Rattle.std.specs.Prelude.{◌==◌, Result, Ok, Err, nat_le, nat_lt, option_map}
 use Rattle.std.specs.Bool.{beq}
 use Rattle.std.proofs.lemmas.Bool.{and_parts, and_from, lt-ltb, leb-false, ltb-true, ltb-false, ne_eqb}
 use Rattle.std.proofs.Math.Nat.{min-eq_right}
@@ -31,7 +31,7 @@ use Rattle.account_state.specs.Folds.{account, last_rev}
 use Rattle.account_state.specs.State.{State}
 use Rattle.relay_core.specs.Opening.{IsHeadOf}
 use Rattle.relay_core.specs.Rows.{kind_of, head_effect, effect_of, fetched_of, event_taken, faulty_taken, row_of}
-use Rattle.relay_core.specs.Table.{Walk, waits, refuses, passes, walk, when, body_lines, event_lines, faulty_lines, is_held, after_fetch, refused, next_at, next_of, did_of}
+use Rattle.relay_core.specs.Table.{told, Walk, waits, refuses, passes, walk, when, body_lines, event_lines, faulty_lines, is_held, after_fetch, refused, next_at, next_of, did_of}
 use Rattle.relay_core.specs.declared.answers.Answers.{Answers}
 use Rattle.relay_core.specs.declared.answers.Question.{Question}
 use Rattle.relay_core.specs.declared.decision.Decision.{Decision}
@@ -90,18 +90,18 @@ out_formed e n is below short =
 
 -- ---- fetches
 
--- a fetch that was made after a refusal is kept, and so is its number
+whole_kept : (last : ℕ) (w : Whole) → IsWholeBehind last w → w.seq < NUMBERS → is_whole w ≡ true
+unfolding is_whole
+whole_kept last w h below =
+    and_from (is_positive w.seq) (is_head w.head && (is_number w.records && is_message w.message)) (positive_next last w.seq h.seq below)
+    (and_from (is_head w.head) (is_number w.records && is_message w.message) h.head (and_from (is_number w.records) (is_message w.message) (lt-ltb w.records NUMBERS h.records) h.message))
+
+-- a fetch that was made after a refusal may stand in its row
 fetch_kept : (last : ℕ) (f : Fetched) → IsFetchedBehind last f → seq_of (events_of f) < NUMBERS → is_fetched true true f ≡ true
 fetch_kept last Fetched.NotAsked h below = absurd h
 fetch_kept last Fetched.Absent h below = refl
 fetch_kept last (Fetched.Refused n) h below = h
-fetch_kept last (Fetched.Whole w) h below = whole_kept
-  where
-    whole_kept : is_whole w ≡ true
-    unfolding is_whole
-    whole_kept =
-        and_from (is_positive w.seq) (is_head w.head && (is_number w.records && is_message w.message)) (positive_next last w.seq h.seq below)
-        (and_from (is_head w.head) (is_number w.records && is_message w.message) h.head (and_from (is_number w.records) (is_message w.message) (lt-ltb w.records NUMBERS h.records) h.message))
+fetch_kept last (Fetched.Whole w) h below = whole_kept last w h below
 
 fetch_above : (last : ℕ) (f : Fetched) → IsFetchedBehind last f → is_above last (seq_of (events_of f)) ≡ true
 fetch_above last Fetched.NotAsked h = absurd h
@@ -264,8 +264,8 @@ module _ (J : List Row) (host : List ℕ) (e : Seen) (x : Answers) (of_host : na
       and_from (nat_lt (cursor host J) e.seq) _ above_it refl)
 
   -- the head that an accepted commit or sync gives
-  head_row : (body : Body) → e.body ≡ body → (bytes : List ℕ) (rev : ℕ) (head : Head) → x.opened ≡ Some (Ok head) → ((h : Head) → IsHeadOf body h → is_head h ≡ true) → (is_effect 1 (head_effect x.opened) ≡ true) × (is_effect 2 (head_effect x.opened) ≡ true)
-  head_row body same bytes rev head opened formed =
+  head_row : (body : Body) → e.body ≡ body → (head : Head) → x.opened ≡ Some (Ok head) → ((h : Head) → IsHeadOf body h → is_head h ≡ true) → (is_effect 1 (head_effect x.opened) ≡ true) × (is_effect 2 (head_effect x.opened) ≡ true)
+  head_row body same head opened formed =
       let P : Body → Type 0 = λ b. IsOpenedAs b (last_rev (account e.did J).repo) (Ok head) in
       let top : IsOpenedAs body (last_rev (account e.did J).repo) (Ok head) = subst P same (right.opened (Ok head) opened) in
       let fine = formed head top.1 in
@@ -277,11 +277,11 @@ module _ (J : List Row) (host : List ℕ) (e : Seen) (x : Answers) (of_host : na
       → StandsBehind J (Row.Taken (accepted_taken host e.seq e.did body (cond (not held) (last_seq J + 1) 0) (cond (not held) (out_of e (last_seq J + 1)) []) (effect_of body x) x.moment))
   accepted_row (Body.Commit c) same forms pass short false held below =
       let head = opened_head x.opened pass.1.1.1.0 in
-      sent_row (Body.Commit c) (head_effect x.opened) (head_row (Body.Commit c) same c.blocks c.rev head.0 head.1 (λ h of. found_head c.blocks c.rev h forms.0 forms.1 of)).0 short below
+      sent_row (Body.Commit c) (head_effect x.opened) (head_row (Body.Commit c) same head.0 head.1 (λ h of. found_head c.blocks c.rev h forms.0 forms.1 of)).0 short below
   accepted_row (Body.Commit c) same forms pass short true held below = absurd cc
   accepted_row (Body.Sync s) same forms pass short false held below =
       let head = opened_head x.opened pass.1.1.1.0 in
-      sent_row (Body.Sync s) (head_effect x.opened) (head_row (Body.Sync s) same s.blocks s.rev head.0 head.1 (λ h of. found_head s.blocks s.rev h forms.0 forms.1 of)).1 short below
+      sent_row (Body.Sync s) (head_effect x.opened) (head_row (Body.Sync s) same head.0 head.1 (λ h of. found_head s.blocks s.rev h forms.0 forms.1 of)).1 short below
   accepted_row (Body.Sync s) same forms pass short true held below = absurd cc
   accepted_row Body.Identity same forms pass short false held below = sent_row Body.Identity Effect.Nothing refl short below
   accepted_row Body.Identity same forms pass short true held below = absurd cc
@@ -294,13 +294,13 @@ module _ (J : List Row) (host : List ℕ) (e : Seen) (x : Answers) (d : Decision
   unfolding refused_taken accepted_taken
   by_walk (waits q) known h = absurd cc
   by_walk (refuses r) known h =
-      let there = moment_there x.moment _ (λ q waiting. let no : refuses r ≡ waits q = sym known ∙ waiting in absurd cc) in
+      let there = moment_there x.moment (told (when (nat_lt LONGEST_MESSAGE (out_length e)) Refusal.TooLong) ∷ body_lines (account e.did J) e.body x) (λ q waiting. let no : refuses r ≡ waits q = sym known ∙ waiting in absurd cc) in
       let done = refused_done r x.fetched d h in
       let kept = event_refused (last_seq J) (account e.did J) e x right (accounts_are_formed e.did J journal) (event_kept e is).1 r known in
       let P : Decision → Type 0 = λ c. seq_in (Row.Taken (event_taken (last_seq J) host e c x)) < NUMBERS → StandsBehind J (Row.Taken (event_taken (last_seq J) host e c x)) in
       subst P (sym done.is) (refused_row J host e x of_host is right journal above there.0 there.1 r kept done.fetch)
   by_walk passes known h =
-      let there = moment_there x.moment _ (λ q waiting. let no : passes ≡ waits q = sym known ∙ waiting in absurd cc) in
+      let there = moment_there x.moment (told (when (nat_lt LONGEST_MESSAGE (out_length e)) Refusal.TooLong) ∷ body_lines (account e.did J) e.body x) (λ q waiting. let no : passes ≡ waits q = sym known ∙ waiting in absurd cc) in
       let pass = all_pass (event_lines (account e.did J) e x) known in
       let short = not_met (nat_lt LONGEST_MESSAGE (out_length e)) Refusal.TooLong pass.1.0 in
       let P : Decision → Type 0 = λ c. seq_in (Row.Taken (event_taken (last_seq J) host e c x)) < NUMBERS → StandsBehind J (Row.Taken (event_taken (last_seq J) host e c x)) in

@@ -6,8 +6,8 @@ use Rattle.std.proofs.lemmas.Bool.{and_parts, and_from, lt-ltb, leb-true}
 use Rattle.std.proofs.lemmas.List.{append-nil, length-append}
 use Rattle.at_cid.specs.Link.{IsBytes}
 use Rattle.at_cbor.specs.declared.major.Major.{Major}
-use Rattle.at_cbor.specs.Item.{Item}
-use Rattle.at_cbor.specs.Spelling.{info_of, tail_of, front_of, text_spelling, spelling, fields_spelling}
+use Rattle.at_cbor.specs.Item.{Item, Fields, field}
+use Rattle.at_cbor.specs.Spelling.{info_of, tail_of, front_of, text_spelling, spelling, fields_count, fields_spelling}
 use Rattle.at_syntax.specs.Did.{is_did}
 use Rattle.at_event.specs.declared.kind.EventKind.{EventKind}
 use Rattle.at_event.specs.Writing.{header_of, message_of, number_item, status_field, account_payload}
@@ -40,8 +40,8 @@ text_within : (n : ℕ) (text : List ℕ) → IsBytes text → length text ≤ n
 text_within n text bytes few =
     join 9 n (front_of Major.Text (length text)) text (record { are = front_bytes Major.Text (length text); few = front_short Major.Text (length text) }) (record { are = bytes; few = few })
 
-key_within : (text : List ℕ) → are_bytes text ≡ true → length text ≤ 9 → IsWithin 18 (text_spelling text)
-key_within text bytes few = text_within 9 text (tested_bytes text bytes) few
+key_within : (text : List ℕ) → are_bytes text ≡ true → length text < 10 → IsWithin 18 (text_spelling text)
+key_within text bytes few = text_within 9 text (tested_bytes text bytes) (omega arith)
 
 number_within : (n : ℕ) → IsWithin 9 (spelling (number_item n))
 number_within n = record { are = front_bytes Major.Unsigned n; few = front_short Major.Unsigned n }
@@ -58,32 +58,56 @@ status_within (Some status) h =
     join 18 73 (text_spelling (codes "status")) (text_spelling status ++ []) (key_within (codes "status") refl (lit< tt))
     (subst (λ (t : List ℕ). IsWithin 73 t) (sym (append-nil (text_spelling status))) (text_within 64 status bytes (leb-true (length status) 64 both.1)))
 
-header_within : IsWithin 64 (spelling (header_of EventKind.Account))
+header_short : length (spelling (header_of EventKind.Account)) < 65
 unfolding info_of tail_of
-header_within = record { are = header_bytes EventKind.Account; few = lit< tt }
+header_short = lit< tt
+
+field_within : (k : List ℕ) (i : Item) (fs : Fields) (n m : ℕ) → IsWithin 18 (text_spelling k) → IsWithin n (spelling i) → IsWithin m (fields_spelling fs) → IsWithin (18 + (n + m)) (fields_spelling (field k i fs))
+field_within k i fs n m key value others = join 18 (n + m) (text_spelling k) (spelling i ++ fields_spelling fs) key (join n m (spelling i) (fields_spelling fs) value others)
+
+map_within : (fs : Fields) (n : ℕ) → IsWithin n (fields_spelling fs) → IsWithin (9 + n) (spelling (Item.map fs))
+map_within fs n all = join 9 n (front_of Major.Map (fields_count fs)) (fields_spelling fs) (record { are = front_bytes Major.Map (fields_count fs); few = front_short Major.Map (fields_count fs) }) all
 
 did_short : (did : List ℕ) → is_did did ≡ true → length did ≤ 2048
 unfolding is_did
 did_short did h = leb-true (length did) 2048 (and_parts (nat_le (length did) 2048) _ h).0
 
-account_sent : (did : List ℕ) (active : Bool) (status : Option (List ℕ)) (time : List ℕ) (n : ℕ) → names_did did ≡ true → is_status status ≡ true → is_text time ≡ true → length time ≤ 64
-    → is_message (message_of EventKind.Account (account_payload did active status time n)) ≡ true
-unfolding message_of account_payload
-account_sent did active status time n of_did is timed short =
-    let named = and_parts (is_text did) (is_did did) of_did in
-    let did_bytes = tested_bytes did (and_parts (is_utf8 did) (are_bytes did) named.0).1 in
-    let time_bytes = tested_bytes time (and_parts (is_utf8 time) (are_bytes time) timed).1 in
-    let last = join 9 91 (spelling (Item.bool active)) (fields_spelling (status_field status)) (bool_within active) (status_within status is) in
-    let flag = join 18 100 (text_spelling (codes "active")) _ (key_within (codes "active") refl (lit< tt)) last in
-    let times = join 73 118 (text_spelling time) _ (text_within 64 time time_bytes short) flag in
-    let timed_at = join 18 191 (text_spelling (codes "time")) _ (key_within (codes "time") refl (lit< tt)) times in
-    let number = join 9 209 (spelling (number_item n)) _ (number_within n) timed_at in
-    let numbered_at = join 18 218 (text_spelling (codes "seq")) _ (key_within (codes "seq") refl (lit< tt)) number in
-    let did_at = join 2057 236 (text_spelling did) _ (text_within 2048 did did_bytes (did_short did named.1)) numbered_at in
-    let fields = join 18 2293 (text_spelling (codes "did")) _ (key_within (codes "did") refl (lit< tt)) did_at in
-    let payload = join 9 2311 (front_of Major.Map _) _ (record { are = front_bytes Major.Map _; few = front_short Major.Map _ }) fields in
-    let all = join 64 2320 (spelling (header_of EventKind.Account)) _ header_within payload in
-    and_from (is_string _) (not (is_empty _)) (string_tested _ all.are (omega (arith, all.few))) refl
+module _ (did : List ℕ) (active : Bool) (status : Option (List ℕ)) (time : List ℕ) (n : ℕ) (of_did : names_did did ≡ true) (is : is_status status ≡ true) (timed : is_text time ≡ true) (short : length time ≤ 64) where
+  abbrev flagged : Fields
+  flagged = field (codes "active") (Item.bool active) (status_field status)
+
+  abbrev timed_at : Fields
+  timed_at = field (codes "time") (Item.text time) flagged
+
+  abbrev numbered_at : Fields
+  numbered_at = field (codes "seq") (number_item n) timed_at
+
+  flagged_within : IsWithin 118 (fields_spelling flagged)
+  flagged_within = field_within (codes "active") (Item.bool active) (status_field status) 9 91 (key_within (codes "active") refl (lit< tt)) (bool_within active) (status_within status is)
+
+  timed_within : IsWithin 209 (fields_spelling timed_at)
+  timed_within =
+      field_within (codes "time") (Item.text time) flagged 73 118 (key_within (codes "time") refl (lit< tt))
+      (text_within 64 time (tested_bytes time (and_parts (is_utf8 time) (are_bytes time) timed).1) short) flagged_within
+
+  numbered_within : IsWithin 236 (fields_spelling numbered_at)
+  numbered_within = field_within (codes "seq") (number_item n) timed_at 9 209 (key_within (codes "seq") refl (lit< tt)) (number_within n) timed_within
+
+  payload_within : IsWithin 2320 (spelling (account_payload did active status time n))
+  unfolding account_payload
+  payload_within =
+      let named = and_parts (is_text did) (is_did did) of_did in
+      let bytes = tested_bytes did (and_parts (is_utf8 did) (are_bytes did) named.0).1 in
+      map_within (field (codes "did") (Item.text did) numbered_at) 2311
+      (field_within (codes "did") (Item.text did) numbered_at 2057 236 (key_within (codes "did") refl (lit< tt)) (text_within 2048 did bytes (did_short did named.1)) numbered_within)
+
+  account_sent : is_message (message_of EventKind.Account (account_payload did active status time n)) ≡ true
+  unfolding message_of
+  account_sent =
+      let header : IsWithin 64 (spelling (header_of EventKind.Account)) = record { are = header_bytes EventKind.Account; few = omega (arith, header_short) } in
+      let all = join 64 2320 (spelling (header_of EventKind.Account)) (spelling (account_payload did active status time n)) header payload_within in
+      let bytes = spelling (header_of EventKind.Account) ++ spelling (account_payload did active status time n) in
+      and_from (is_string bytes) (not (is_empty bytes)) (string_tested bytes all.are (omega (arith, all.few))) refl
 
 operated_sent : (a : State) (did : List ℕ) (down : Bool) (time : List ℕ) (n : ℕ) → IsFormedAccount a → names_did did ≡ true → is_text time ≡ true → length time ≤ 64 → is_message (operated_message a down did time n) ≡ true
 operated_sent a did true time n is of_did timed short = account_sent did false (Some (codes "takendown")) time n of_did refl timed short

@@ -39,7 +39,7 @@ high_first (suc k) n = bytes_more (byte_at k n) (bytes_high_first k n) (byte_fit
 record IsTail (info : ℕ) (tail : List ℕ) : Type 0 where
   low : info < 28
   bytes : IsBytes tail
-  short : length tail ≤ 8
+  short : length tail < 9
 
 either_tail : (b : Bool) (i j : ℕ) (s t : List ℕ) → (b ≡ true → IsTail i s) → (b ≡ false → IsTail j t) → IsTail (cond b i j) (cond b s t)
 either_tail true i j s t yes no = yes refl
@@ -48,11 +48,11 @@ either_tail false i j s t yes no = no refl
 tail_is : (n : ℕ) → IsTail (info_of n) (tail_of n)
 unfolding info_of tail_of
 tail_is n =
-    either_tail (ltb n 24) n _ [] _ (λ low. record { low = omega (arith, ltb-true n 24 low); bytes = no_bytes; short = omega arith }) (λ high.
-    either_tail (ltb n (2 ^ 8)) 24 _ (n ∷ []) _ (λ low. record { low = lit< tt; bytes = bytes_more n [] (ltb-true n (2 ^ 8) low) no_bytes; short = omega arith }) (λ high.
-    either_tail (ltb n (2 ^ 16)) 25 _ (to_be_bytes w16 n) _ (λ low. record { low = lit< tt; bytes = high_first 2 n; short = omega arith }) (λ high.
-    either_tail (ltb n (2 ^ 32)) 26 27 (to_be_bytes w32 n) (to_be_bytes w64 n) (λ low. record { low = lit< tt; bytes = high_first 4 n; short = omega arith })
-    (λ high. record { low = lit< tt; bytes = high_first 8 n; short = omega arith }))))
+    either_tail (ltb n 24) n _ [] _ (λ low. record { low = omega (arith, ltb-true n 24 low); bytes = no_bytes; short = lit< tt }) (λ high.
+    either_tail (ltb n (2 ^ 8)) 24 _ (n ∷ []) _ (λ low. record { low = lit< tt; bytes = bytes_more n [] (ltb-true n (2 ^ 8) low) no_bytes; short = lit< tt }) (λ high.
+    either_tail (ltb n (2 ^ 16)) 25 _ (to_be_bytes w16 n) _ (λ low. record { low = lit< tt; bytes = high_first 2 n; short = lit< tt }) (λ high.
+    either_tail (ltb n (2 ^ 32)) 26 27 (to_be_bytes w32 n) (to_be_bytes w64 n) (λ low. record { low = lit< tt; bytes = high_first 4 n; short = lit< tt })
+    (λ high. record { low = lit< tt; bytes = high_first 8 n; short = lit< tt }))))
 
 major_below : (major : Major) → number_of major < 8
 major_below Major.Unsigned = lit< tt

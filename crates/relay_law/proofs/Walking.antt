@@ -1,6 +1,6 @@
 -- Where the table of an event ends: at a refusal that a row may keep, or past all lines.
 use Rattle.std.proofs.Common.{◌≡◌, ℕ, ◌≤◌, ◌⊎◌, inl, inr, Bool, true, false, not, List, [], ◌∷◌, length, Option, Some, None, refl, sym, ap, ◌∙◌, cond, subst}
-use Rattle.std.specs.Prelude.{◌×◌, Result, Ok, Err, option_map, nat_lt}
+use Rattle.std.specs.Prelude.{Result, Ok, Err, option_map, nat_lt}
 use Rattle.std.proofs.lemmas.Bool.{and_parts}
 use Rattle.at_cid.specs.Link.{IsBytes, IsNodeLink, kind_of}
 use Rattle.at_cid.specs.declared.cid.Kind.{Kind}
@@ -162,16 +162,16 @@ module _ (last : ℕ) (a : State) (e : Seen) (x : Answers) (right : AreAnswersTo
   repo_kept : (body : Body) → e.body ≡ body → (rev : ℕ) (others : List Line) → ((head : Head) → x.opened ≡ Some (Ok head) → AreKept others) → AreKept (repo_lines a rev x others)
   repo_kept body is rev others more =
       (home_kept, λ home. (
-      λ r h. when_kept (not a.active) Refusal.Inactive r refl h, λ active. (
-      λ r h. when_kept a.down Refusal.TakenDown r refl h, λ down. (
+      (λ r h. when_kept (not a.active) Refusal.Inactive r refl h), λ active. (
+      (λ r h. when_kept a.down Refusal.TakenDown r refl h), λ down. (
       mapped_kept refusal_in x.opened (opened_kept body is), λ opened. (
-      λ r h. when_kept (is_ahead rev x.moment) Refusal.FutureRev r refl h, λ near. (
+      (λ r h. when_kept (is_ahead rev x.moment) Refusal.FutureRev r refl h), λ near. (
       verdict_kept, λ good. (let head = opened_head x.opened opened in more head.0 head.1)))))))
 
   body_kept : (body : Body) → e.body ≡ body → IsBodyKept body → AreKept (body_lines a body x)
   body_kept (Body.Commit c) is forms = repo_kept (Body.Commit c) is c.rev _ (λ head opened. (mapped_kept refusal_in x.linked (link_kept c is forms.0 head opened), λ linked. tt))
   body_kept (Body.Sync s) is forms = repo_kept (Body.Sync s) is s.rev [] (λ head opened. tt)
-  body_kept Body.Identity is forms = (refresh_kept x.refreshed, λ refreshed. (home_kept, λ home. (λ r h. when_kept a.down Refusal.TakenDown r refl h, λ down. tt)))
+  body_kept Body.Identity is forms = (refresh_kept x.refreshed, λ refreshed. (home_kept, λ home. ((λ r h. when_kept a.down Refusal.TakenDown r refl h), λ down. tt)))
   body_kept (Body.Account b) is forms = (home_kept, λ home. tt)
 
   -- the refusal of an event is one that a row may keep
@@ -179,7 +179,7 @@ module _ (last : ℕ) (a : State) (e : Seen) (x : Answers) (right : AreAnswersTo
   event_refused forms r =
       refuses_kept (event_lines a e x) r
       (mapped_kept {A = ℕ} (λ m. None) x.moment (λ m q given told_so. absurd cc), λ moment. (
-      λ q h. when_kept (nat_lt LONGEST_MESSAGE (out_length e)) Refusal.TooLong q refl h, λ short. body_kept e.body refl forms))
+      (λ q h. when_kept (nat_lt LONGEST_MESSAGE (out_length e)) Refusal.TooLong q refl h), λ short. body_kept e.body refl forms))
 
 -- a walk that doesn't wait has the moment
 pub moment_there : (o : Option ℕ) (lines : List Line) → ((q : Question) → walk (asked Question.Moment (option_map (λ m. None) o) ∷ lines) ≡ waits q → ⊥) → (m : ℕ) × (o ≡ Some m)
