@@ -10,6 +10,7 @@ use Rattle.at_cbor.specs.Item.{Item, Fields, field}
 use Rattle.at_cbor.specs.Spelling.{info_of, tail_of, front_of, text_spelling, spelling, fields_count, fields_spelling}
 use Rattle.at_syntax.specs.Did.{is_did}
 use Rattle.at_event.specs.declared.kind.EventKind.{EventKind}
+use Rattle.at_event.specs.Formed.{IsShortText}
 use Rattle.at_event.specs.Writing.{header_of, message_of, number_item, status_field, account_payload}
 use Rattle.relay_row.specs.Folds.{last_seq}
 use Rattle.relay_row.specs.Rules.{are_bytes, is_empty, is_head, is_message, is_number, is_operated, is_positive, is_row, is_status, is_string, is_text, is_whole, names_did}
@@ -19,7 +20,7 @@ use Rattle.relay_row.proofs.Bytes.{string_tested, tested_bytes}
 use Rattle.relay_row.proofs.Journals.{grows}
 use Rattle.account_state.specs.Folds.{account}
 use Rattle.account_state.specs.State.{State}
-use Rattle.relay_core.specs.Decide.{sync_message}
+use Rattle.relay_core.specs.Decide.{sync_message, whole_under}
 use Rattle.relay_core.specs.Operating.{operated_message, operated_as}
 use Rattle.relay_law.specs.Laws.{OperatedRowsAreFormed, SyncedRowsAreFormed}
 use Rattle.relay_law.proofs.Deciding.{next_above, positive_next}
@@ -72,7 +73,7 @@ did_short : (did : List ℕ) → is_did did ≡ true → length did ≤ 2048
 unfolding is_did
 did_short did h = leb-true (length did) 2048 (and_parts (nat_le (length did) 2048) _ h).0
 
-module _ (did : List ℕ) (active : Bool) (status : Option (List ℕ)) (time : List ℕ) (n : ℕ) (of_did : names_did did ≡ true) (is : is_status status ≡ true) (timed : is_text time ≡ true) (short : length time ≤ 64) where
+module _ (did : List ℕ) (active : Bool) (status : Option (List ℕ)) (time : List ℕ) (n : ℕ) (of_did : names_did did ≡ true) (is : is_status status ≡ true) (timed : IsShortText time) where
   abbrev flagged : Fields
   flagged = field (codes "active") (Item.bool active) (status_field status)
 
@@ -88,7 +89,7 @@ module _ (did : List ℕ) (active : Bool) (status : Option (List ℕ)) (time : L
   timed_within : IsWithin 209 (fields_spelling timed_at)
   timed_within =
       field_within (codes "time") (Item.text time) flagged 73 118 (key_within (codes "time") refl (lit< tt))
-      (text_within 64 time (tested_bytes time (and_parts (is_utf8 time) (are_bytes time) timed).1) short) flagged_within
+      (text_within 64 time timed.text.0.1 timed.short) flagged_within
 
   numbered_within : IsWithin 236 (fields_spelling numbered_at)
   numbered_within = field_within (codes "seq") (number_item n) timed_at 9 209 (key_within (codes "seq") refl (lit< tt)) (number_within n) timed_within
@@ -109,18 +110,18 @@ module _ (did : List ℕ) (active : Bool) (status : Option (List ℕ)) (time : L
       let bytes = spelling (header_of EventKind.Account) ++ spelling (account_payload did active status time n) in
       and_from (is_string bytes) (not (is_empty bytes)) (string_tested bytes all.are (omega (arith, all.few))) refl
 
-operated_sent : (a : State) (did : List ℕ) (down : Bool) (time : List ℕ) (n : ℕ) → IsFormedAccount a → names_did did ≡ true → is_text time ≡ true → length time ≤ 64 → is_message (operated_message a down did time n) ≡ true
-operated_sent a did true time n is of_did timed short = account_sent did false (Some (codes "takendown")) time n of_did refl timed short
-operated_sent a did false time n is of_did timed short = account_sent did a.active a.status time n of_did is.status timed short
+operated_sent : (a : State) (did : List ℕ) (down : Bool) (time : List ℕ) (n : ℕ) → IsFormedAccount a → names_did did ≡ true → IsShortText time → is_message (operated_message a down did time n) ≡ true
+operated_sent a did true time n is of_did timed = account_sent did false (Some (codes "takendown")) time n of_did refl timed
+operated_sent a did false time n is of_did timed = account_sent did a.active a.status time n of_did is.status timed
 
 -- ---- rows
 
 pub operated_formed : OperatedRowsAreFormed
 unfolding is_row is_operated
-operated_formed J did down time moment journal of_did timed short fits below =
+operated_formed J did down time moment journal of_did timed fits below =
     let n = last_seq J + 1 in
     let message = operated_message (account did J) down did time n in
-    let sent = operated_sent (account did J) did down time n (accounts_are_formed did J journal) of_did timed short in
+    let sent = operated_sent (account did J) did down time n (accounts_are_formed did J journal) of_did timed in
     grows J (Row.Operated (operated_as (last_seq J) (account did J) did down time (Some moment))) journal
     (and_from (names_did did) _ of_did (and_from (is_positive n) _ (positive_next (last_seq J) n refl below) (and_from (is_message message) (is_number moment) sent (lt-ltb moment NUMBERS fits))))
     (next_above (last_seq J) n refl)
