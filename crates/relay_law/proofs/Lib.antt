@@ -16,3 +16,11 @@ pub mod Known
 pub mod Carrying
 pub mod Coming
 pub mod Wanting
+pub mod Spelled
+pub mod EventForms
+pub mod Heads
+pub mod Refusals
+pub mod Walking
+pub mod Deciding
+pub mod Decided
+pub mod Operating

@@ -25,7 +25,7 @@ use Rattle.relay_law.specs.Right.{LinksRight, expect_of, root_expected}
 use Rattle.relay_law.specs.Sound.{GoesFrom}
 
 -- a CAR that was read, and not one at fault, holds a commit object
-held_in : (c : CommitEvent) (car : CarResult) → car_in c ≡ car → (link block : List ℕ) (commit : Commit) → root_in car ≡ Some link → object_in car ≡ Some commit → (h : Holds c) × (h.commit ≡ commit)
+pub held_in : (c : CommitEvent) (car : CarResult) → car_in c ≡ car → (link block : List ℕ) (commit : Commit) → root_in car ≡ Some link → object_in car ≡ Some commit → (h : Holds c) × (h.commit ≡ commit)
 held_in c (Ok (roots, blocks)) is link block commit rooted object =
     (record { roots = roots; blocks = blocks; commit = commit; car = is; object = ap object_in is ∙ object }, refl)
 held_in c (Err fault) is link block commit rooted object = absurd cc

@@ -1,5 +1,5 @@
 -- What holds of all journals and of all runs.
-use Rattle.std.specs.Prelude.{◌≡◌, ℕ, ◌+◌, Bool, List, [], ◌∷◌, ◌++◌, Option, Ok, Err, Some, None, if◌then◌else◌}
+use Rattle.std.specs.Prelude.{◌≡◌, ℕ, ◌+◌, ◌<◌, Bool, true, List, [], ◌∷◌, ◌++◌, Option, Ok, Err, Some, None, if◌then◌else◌}
 use Rattle.std.specs.List.{AllByRecursion}
 use Rattle.at_cid.specs.Link.{IsBytes}
 use Rattle.at_event.specs.Events.{IsEvent}
@@ -12,12 +12,19 @@ use Rattle.at_event.specs.Formed.{IsShortText}
 use Rattle.at_event.specs.Seen.{Seen}
 use Rattle.at_event.specs.declared.head.Head.{Head}
 use Rattle.at_event.specs.declared.refusal.Refusal.{Refusal}
-use Rattle.relay_row.specs.Folds.{last_seq}
+use Rattle.relay_row.specs.Folds.{cursor, last_seq, seq_in}
+use Rattle.relay_row.specs.Rules.{names_did, names_host}
+use Rattle.relay_row.specs.declared.limits.TheConstants.{NUMBERS}
 use Rattle.relay_row.specs.declared.taken.Taken.{Taken}
 use Rattle.account_state.specs.Folds.{account}
-use Rattle.relay_core.specs.Decide.{Checks, Outside, decided, whole_under}
+use Rattle.relay_core.specs.Decide.{Checks, Outside, found, decided, passed, whole_under}
 use Rattle.relay_core.specs.Opening.{OpensRight}
 use Rattle.relay_core.specs.Operating.{operated_as}
+use Rattle.relay_core.specs.Rows.{row_of}
+use Rattle.relay_core.specs.Table.{did_of, next_of}
+use Rattle.relay_core.specs.declared.answers.Answers.{Answers}
+use Rattle.relay_core.specs.declared.decision.Decision.{Decision}
+use Rattle.relay_core.specs.declared.decision.Next.{Next}
 use Rattle.relay_core.specs.Runs.{Message, Run}
 use Rattle.relay_core.specs.Worlds.{World, RunsIn}
 use Rattle.relay_law.specs.Calls.{SayWhatCallsAnswer, as_read}
@@ -25,6 +32,7 @@ use Rattle.relay_law.specs.Carried.{AreOfKnown, CarriesOver}
 use Rattle.relay_law.specs.Chains.{chains}
 use Rattle.relay_law.specs.Covered.{IsCovered}
 use Rattle.relay_law.specs.Faithful.{IsFaithful, AreFaithful}
+use Rattle.relay_law.specs.Formed.{IsReadFrame, AreAnswersFor, AreFormedFor, IsFormedFound}
 use Rattle.relay_law.specs.Histories.{Point, LivesFrom, AllCome}
 use Rattle.relay_law.specs.Merges.{Merge, OneHome, Agree}
 use Rattle.relay_law.specs.Right.{AreRight, LinksRight}
@@ -112,3 +120,29 @@ CarriedStaySound = (front others carried : List Row) → IsJournal (front ++ oth
 -- Over every list of calls, failures, crashes and openings, each journal that a later store has comes from the one that is open now by rows added at its end and by cuts at numbers that were held.
 abbrev pub JournalsComeOn : Type 0
 JournalsComeOn = (p : Point) (points : List Point) (J : List Row) → LivesFrom p points → p.serves ≡ Some J → AllCome J points
+
+-- A message that is decided makes a row that is well formed and keeps the order of its journal, whatever was answered, as long as opening and linking were answered rightly and the number that the row gives is one.
+abbrev pub MadeRowsAreFormed : Type 0
+MadeRowsAreFormed = (J : List Row) (host : List ℕ) (frame : Frame) (x : Answers) (d : Decision) (row : Row)
+    → IsJournal J → names_host host ≡ true → IsReadFrame frame → AreAnswersFor (last_seq J) (account (did_of frame) J) frame x
+    → next_of (cursor host J) (account (did_of frame) J) frame x ≡ Next.Done d → row_of (last_seq J) host frame d x ≡ Some row
+    → seq_in row < NUMBERS → IsJournal (J ++ row ∷ [])
+
+-- The same of the row that is decided for answers to all questions, as long as the checks open and link rightly.
+abbrev pub DecidedRowsAreFormed : Type 0
+DecidedRowsAreFormed = (checks : Checks) → OpensRight checks → LinksRight checks → (J : List Row) (host : List ℕ) (frame : Frame) (o : Outside) (t : Taken)
+    → IsJournal J → names_host host ≡ true → IsReadFrame frame → AreFormedFor (last_seq J) frame o
+    → passed (cursor host J) frame ≡ None → decided checks (last_seq J) (account (did_of frame) J) host frame o ≡ Some t
+    → seq_in (Row.Taken t) < NUMBERS → IsJournal (J ++ Row.Taken t ∷ [])
+
+-- The row that takes an account down or restores it, at a time and a moment, is well formed and keeps the order of its journal, as long as a number is left.
+abbrev pub OperatedRowsAreFormed : Type 0
+OperatedRowsAreFormed = (J : List Row) (did : List ℕ) (down : Bool) (time : List ℕ) (moment : ℕ)
+    → IsJournal J → names_did did ≡ true → IsShortText time → moment < NUMBERS → last_seq J + 1 < NUMBERS
+    → IsJournal (J ++ Row.Operated (operated_as (last_seq J) (account did J) did down time (Some moment)) ∷ [])
+
+-- The same of the row that takes over a repository that was fetched at an operator's word.
+abbrev pub SyncedRowsAreFormed : Type 0
+SyncedRowsAreFormed = (J : List Row) (did time : List ℕ) (head : Head) (records : ℕ) (block : List ℕ) (moment : ℕ)
+    → IsJournal J → names_did did ≡ true → IsFormedFound (last_seq J) did time (found head records block) → moment < NUMBERS → last_seq J + 1 < NUMBERS
+    → IsJournal (J ++ Row.Synced did (whole_under did time head records block (last_seq J + 1)) (Some moment) ∷ [])

@@ -8,4 +8,5 @@ pub mod Faithful
 pub mod Carried
 pub mod Histories
 pub mod Wanted
+pub mod Formed
 pub mod Laws

@@ -1,6 +1,6 @@
 //! The laws of journals, each the contract of a function that does nothing.
 
-ghost use Rattle.relay_law.specs.Laws.{CallsAnswerRight, CarriedStaySound, ChecksAreRight, CoveredAreAccepted, FrontsAreSound, JournalsComeOn, MergesAgree, OperatorsAreFaithful, OperatorsStaySound, RunsAreFaithful, RunsFollowKnown, RunsStaySound, SentAreEvents, SomeChecksAreRight, SoundReplays, StoresStaySound};
+ghost use Rattle.relay_law.specs.Laws.{CallsAnswerRight, CarriedStaySound, ChecksAreRight, CoveredAreAccepted, DecidedRowsAreFormed, FrontsAreSound, JournalsComeOn, MadeRowsAreFormed, MergesAgree, OperatedRowsAreFormed, OperatorsAreFaithful, OperatorsStaySound, RunsAreFaithful, RunsFollowKnown, RunsStaySound, SentAreEvents, SomeChecksAreRight, SoundReplays, StoresStaySound, SyncedRowsAreFormed};
 ghost use Rattle.relay_law.specs.Wanted.{PremisesAreWanted};
 
 /// A run behind a sound journal leaves a sound journal.
@@ -81,6 +81,26 @@ pub fn carried_stay_sound()
 /// Each journal that a later store has comes from an earlier one by rows added at its end and by cuts.
 pub fn journals_come_on()
     ensures { JournalsComeOn }
+{}
+
+/// A message that is decided makes a row that is well formed and keeps the order of its journal.
+pub fn made_rows_are_formed()
+    ensures { MadeRowsAreFormed }
+{}
+
+/// The row that is decided for answers to all questions is well formed and keeps the order of its journal.
+pub fn decided_rows_are_formed()
+    ensures { DecidedRowsAreFormed }
+{}
+
+/// The row of an account that is taken down or restored is well formed and keeps the order of its journal.
+pub fn operated_rows_are_formed()
+    ensures { OperatedRowsAreFormed }
+{}
+
+/// The row of a repository that was fetched at an operator's word is well formed and keeps the order of its journal.
+pub fn synced_rows_are_formed()
+    ensures { SyncedRowsAreFormed }
 {}
 
 /// Laws of journals without one of their premises, none of which holds.
