@@ -1,25 +1,17 @@
 -- The entries after one account was written.
-use Rattle.std.proofs.Common.{◌≡◌, ◌≢◌, ℕ, Bool, true, false, not, cond, ◌&&◌, List, [], ◌∷◌, Option, Some, None, refl, sym, ap, ◌∙◌, subst}
-use Rattle.std.specs.BTreeMap.{BTreeMap, UpdatesBy, get_by_text}
-use Rattle.std.specs.Cmp.Lexicographic.{slice_cmp}
-use Rattle.std.specs.Global.{Box, Global}
-use Rattle.std.specs.Option.{IsSome, is_some, unwrap_or}
-use Rattle.std.specs.Ordering.{nat_cmp}
-use Rattle.std.specs.Prelude.{String, length, ◌==◌}
+use Rattle.std.proofs.Common.{◌≡◌, ◌≢◌, ℕ, Bool, true, false, not, cond, ◌&&◌, List, [], ◌∷◌, ◌++◌, Option, Some, None, refl, sym, ap, ◌∙◌, subst, append_assoc}
+use Rattle.std.specs.Option.{is_some, option_map, unwrap_or}
+use Rattle.std.specs.Prelude.{length, ◌==◌}
 use Rattle.std.specs.Str.{bytes_eq}
-use Rattle.std.specs.String.{string_bytes, string_cmp}
-use Rattle.std.proofs.lemmas.Bool.{and_from, false_from_ne_true}
-use Rattle.std.proofs.lemmas.Map.Text.{btree_map_updates_text}
-use Rattle.std.proofs.lemmas.Slice.Eq.{bytes_eq-Decides}
+use Rattle.std.proofs.lemmas.Bool.{and_from}
 use Rattle.relay_row.specs.declared.row.Row.{Row}
 use Rattle.relay_row.specs.Folds.{names, did_in}
-use Rattle.account_state.specs.Entries.{known_in, entry_after}
+use Rattle.account_state.specs.Entries.{Entry, found, known_in, entry, has_room, entry_after, AllBehind, IsSorted, put, Follows}
 use Rattle.account_state.specs.Folds.{fresh, moved}
 use Rattle.account_state.specs.State.{State, state_of, known}
 use Rattle.account_state.specs.declared.account.Account.{Account}
-
-abbrev pub Table : Type 0
-Table = BTreeMap (String Global) (Box Account)
+use Rattle.account_state.proofs.Order.{same_text, is_text}
+use Rattle.account_state.proofs.Sorted.{found_here, found_later, found_other, found_put, sorted_put}
 
 not_empty : (text : List ℕ) → (length text == 0) ≡ false → not (bytes_eq text []) ≡ true
 not_empty [] h = absurd cc
@@ -29,18 +21,9 @@ and_false : (a b : Bool) → b ≡ false → (a && b) ≡ false
 and_false true b h = h
 and_false false b h = refl
 
-same_text : (text other : List ℕ) → bytes_eq text other ≡ true → text ≡ other
-same_text text other h = (bytes_eq-Decides text other).0 h
-
-is_text : (text other : List ℕ) → text ≡ other → bytes_eq text other ≡ true
-is_text text other h = (bytes_eq-Decides text other).1 h
-
 both : (b : Bool) → b ≡ false → b ≡ true → ⊥
 both true e h = absurd cc
 both false e h = absurd cc
-
-apart : (did name text : List ℕ) → did ≡ text → bytes_eq did name ≡ false → bytes_eq name text ≡ false
-apart did name text is differ = false_from_ne_true (bytes_eq name text) (λ same. both (bytes_eq did name) differ (is_text did name (is ∙ sym (same_text name text same))))
 
 -- the state that a name starts from
 pub told : (n : Bool) (s t : State) → unwrap_or (cond n (Some s) None) t ≡ cond n s t
@@ -51,57 +34,135 @@ told false s t = refl
 pub known_moved : (b : Account) (s : State) → b.named ≡ true → state_of b ≡ s → known b ≡ Some s
 known_moved b s named is = ap (λ (n : Bool). cond n (Some (state_of b)) None) named ∙ ap Some is
 
-module _ (m n : Table) (did : List ℕ) (a : Box Account) (u : UpdatesBy string_cmp (λ k. slice_cmp nat_cmp did (string_bytes k)) m n (Some a)) where
-  -- what a DID finds after one was written
-  found : (name : List ℕ) → get_by_text n name ≡ cond (bytes_eq did name) (Some a) (get_by_text m name)
-  found name = btree_map_updates_text did m n (Some a) u name
+-- only the account of one DID differs
+found_beside : (name did : List ℕ) (x y : Account) (l r : List Entry) → bytes_eq name did ≡ false → found name (l ++ (did, x) ∷ r) ≡ found name (l ++ (did, y) ∷ r)
+found_beside name did x y [] r h = found_later name (did, x) r h ∙ sym (found_later name (did, y) r h)
+found_beside name did x y (z ∷ l) r h = ap (λ (o : Option Account). cond (bytes_eq name z.0) (Some z.1) o) (found_beside name did x y l r h)
 
-  pub entry_follows : (x : Account) (b : Box Account) (row : Row) → Some b ≡ get_by_text m did → x ≡ b.value → known a.value ≡ Some (moved (unwrap_or (known x) fresh) row)
-      → did ≡ did_in row → (length did == 0) ≡ false → (name : List ℕ) → known_in (get_by_text n name) ≡ entry_after name (known_in (get_by_text m name)) row
-  entry_follows x b row there same moves is full name =
-      let names_it : names did (did_in row) ≡ true = and_from (not (bytes_eq did [])) (bytes_eq did (did_in row)) (not_empty did full) (is_text did (did_in row) is) in
-      let before : known x ≡ known_in (get_by_text m did) = ap (λ (y : Account). known y) same ∙ ap (λ (o : Option (Box Account)). known_in o) there in
-      let here : known a.value ≡ entry_after did (known_in (get_by_text m did)) row =
-      moves ∙ ap (λ (o : Option State). Some (moved (unwrap_or o fresh) row)) before
-      ∙ sym (ap (λ (c : Bool). cond c (Some (moved (unwrap_or (known_in (get_by_text m did)) fresh) row)) (known_in (get_by_text m did))) names_it) in
-      ap (λ (o : Option (Box Account)). known_in o) (found name)
-      ∙ (elim (bytes_eq did name) as (λ c. bytes_eq did name ≡ c → known_in (cond c (Some a) (get_by_text m name)) ≡ entry_after name (known_in (get_by_text m name)) row) [
-        | true ↦ λ t. subst (λ (text : List ℕ). known a.value ≡ entry_after text (known_in (get_by_text m text)) row) (same_text did name t) here
-        | false ↦ λ t. sym (ap (λ (c : Bool). cond c (Some (moved (unwrap_or (known_in (get_by_text m name)) fresh) row)) (known_in (get_by_text m name))) (and_false (not (bytes_eq name [])) (bytes_eq name (did_in row)) (apart did name (did_in row) is t)))
+behind_beside : (name did : List ℕ) (x y : Account) (l r : List Entry) → AllBehind name (l ++ (did, x) ∷ r) → AllBehind name (l ++ (did, y) ∷ r)
+behind_beside name did x y [] r all = all
+behind_beside name did x y (z ∷ l) r all = (all.0, behind_beside name did x y l r all.1)
+
+sorted_beside : (did : List ℕ) (x y : Account) (l r : List Entry) → IsSorted (l ++ (did, x) ∷ r) → IsSorted (l ++ (did, y) ∷ r)
+sorted_beside did x y [] r s = s
+sorted_beside did x y (z ∷ l) r s = (behind_beside z.0 did x y l r s.0, sorted_beside did x y l r s.1)
+
+module _ (row : Row) (old new : List Entry) (sorted : IsSorted old) (f : Follows row old new) where
+  sorted_was : IsSorted (f.front ++ (did_in row, f.before) ∷ f.back)
+  sorted_was = subst IsSorted f.was sorted
+
+  pub sorted_follows : IsSorted new
+  sorted_follows = subst IsSorted (sym f.is) (sorted_beside (did_in row) f.before f.after f.front f.back sorted_was)
+
+  found_was : found (did_in row) old ≡ Some f.before
+  found_was = ap (λ (es : List Entry). found (did_in row) es) f.was ∙ found_here (did_in row) f.front (did_in row, f.before) f.back refl sorted_was
+
+  found_is : found (did_in row) new ≡ Some f.after
+  found_is = ap (λ (es : List Entry). found (did_in row) es) f.is ∙ found_here (did_in row) f.front (did_in row, f.after) f.back refl (subst IsSorted f.is sorted_follows)
+
+  others : (name : List ℕ) → bytes_eq name (did_in row) ≡ false → found name new ≡ found name old
+  others name h =
+      ap (λ (es : List Entry). found name es) f.is
+      ∙ found_beside name (did_in row) f.after f.before f.front f.back h
+      ∙ sym (ap (λ (es : List Entry). found name es) f.was)
+
+  own : (length (did_in row) == 0) ≡ false → entry new (did_in row) ≡ entry_after (did_in row) (entry old (did_in row)) row
+  own full =
+      let named : names (did_in row) (did_in row) ≡ true = and_from (not (bytes_eq (did_in row) [])) (bytes_eq (did_in row) (did_in row)) (not_empty (did_in row) full) (is_text (did_in row) (did_in row) refl) in
+      ap known_in found_is ∙ f.moves
+      ∙ ap (λ (o : Option Account). Some (moved (unwrap_or (known_in o) fresh) row)) (sym found_was)
+      ∙ sym (ap (λ (c : Bool). cond c (Some (moved (unwrap_or (entry old (did_in row)) fresh) row)) (entry old (did_in row))) named)
+
+  pub entries_follow : (length (did_in row) == 0) ≡ false → (name : List ℕ) → entry new name ≡ entry_after name (entry old name) row
+  entries_follow full name =
+      (elim (bytes_eq name (did_in row)) as (λ c. bytes_eq name (did_in row) ≡ c → entry new name ≡ entry_after name (entry old name) row) [
+        | true ↦ λ t. subst (λ (text : List ℕ). entry new text ≡ entry_after text (entry old text) row) (sym (same_text name (did_in row) t)) (own full)
+        | false ↦ λ t. ap known_in (others name t) ∙ sym (ap (λ (c : Bool). cond c (Some (moved (unwrap_or (entry old name) fresh) row)) (entry old name)) (and_false (not (bytes_eq name [])) (bytes_eq name (did_in row)) t))
       ]) refl
 
-  pub room_follows : (b : Box Account) → Some b ≡ get_by_text m did → (name : List ℕ) → is_some (get_by_text n name) ≡ is_some (get_by_text m name)
-  room_follows b there name =
-      ap (λ (o : Option (Box Account)). is_some o) (found name)
-      ∙ (elim (bytes_eq did name) as (λ c. bytes_eq did name ≡ c → is_some (cond c (Some a) (get_by_text m name)) ≡ is_some (get_by_text m name)) [
-        | true ↦ λ t. subst (λ (text : List ℕ). true ≡ is_some (get_by_text m text)) (same_text did name t) (ap (λ (o : Option (Box Account)). is_some o) there)
-        | false ↦ λ t. refl
+  pub room_follows : (name : List ℕ) → has_room new name ≡ has_room old name
+  room_follows name =
+      (elim (bytes_eq name (did_in row)) as (λ c. bytes_eq name (did_in row) ≡ c → has_room new name ≡ has_room old name) [
+        | true ↦ λ t. subst (λ (text : List ℕ). has_room new text ≡ has_room old text) (sym (same_text name (did_in row) t)) (ap is_some found_is ∙ sym (ap is_some found_was))
+        | false ↦ λ t. ap is_some (others name t)
       ]) refl
 
-none_of : (o : Option (Box Account)) → is_some o ≡ false → known_in o ≡ None
-none_of None h = refl
-none_of (Some b) h = absurd cc
-
-module _ (m n : Table) (k : String Global) (did : List ℕ) (a : Box Account) (u : UpdatesBy string_cmp (string_cmp k) m n (Some a)) (is : string_bytes k ≡ did) where
-  put_found : (name : List ℕ) → get_by_text n name ≡ cond (bytes_eq (string_bytes k) name) (Some a) (get_by_text m name)
-  put_found name = btree_map_updates_text (string_bytes k) m n (Some a) u name
-
-  pub entry_touched : known a.value ≡ None → is_some (get_by_text m did) ≡ false → (name : List ℕ) → known_in (get_by_text n name) ≡ known_in (get_by_text m name)
-  entry_touched unknown absent name =
-      ap (λ (o : Option (Box Account)). known_in o) (put_found name)
-      ∙ (elim (bytes_eq (string_bytes k) name) as (λ c. bytes_eq (string_bytes k) name ≡ c → known_in (cond c (Some a) (get_by_text m name)) ≡ known_in (get_by_text m name)) [
-        | true ↦ λ t. subst (λ (text : List ℕ). known a.value ≡ known_in (get_by_text m text)) (sym is ∙ same_text (string_bytes k) name t) (unknown ∙ sym (none_of (get_by_text m did) absent))
-        | false ↦ λ t. refl
+-- an account that isn't known takes its room
+module _ (e : Entry) (es : List Entry) (absent : found e.0 es ≡ None) where
+  pub entries_touched : known e.1 ≡ None → (name : List ℕ) → entry (put e es) name ≡ entry es name
+  entries_touched unknown name =
+      (elim (bytes_eq name e.0) as (λ c. bytes_eq name e.0 ≡ c → entry (put e es) name ≡ entry es name) [
+        | true ↦ λ t. subst (λ (text : List ℕ). entry (put e es) text ≡ entry es text) (sym (same_text name e.0 t)) (ap known_in (found_put e es absent) ∙ unknown ∙ sym (ap known_in absent))
+        | false ↦ λ t. ap known_in (found_other name e es t)
       ]) refl
 
-  pub room_kept : (name : List ℕ) → is_some (get_by_text m name) ≡ true → is_some (get_by_text n name) ≡ true
+  pub room_touched : has_room (put e es) e.0 ≡ true
+  room_touched = ap is_some (found_put e es absent)
+
+  pub room_kept : (name : List ℕ) → has_room es name ≡ true → has_room (put e es) name ≡ true
   room_kept name there =
-      ap (λ (o : Option (Box Account)). is_some o) (put_found name)
-      ∙ (elim (bytes_eq (string_bytes k) name) as (λ c. is_some (cond c (Some a) (get_by_text m name)) ≡ true) [ true ↦ refl | false ↦ there ])
+      (elim (bytes_eq name e.0) as (λ c. bytes_eq name e.0 ≡ c → has_room (put e es) name ≡ true) [
+        | true ↦ λ t. subst (λ (text : List ℕ). has_room (put e es) text ≡ true) (sym (same_text name e.0 t)) room_touched
+        | false ↦ λ t. ap is_some (found_other name e es t) ∙ there
+      ]) refl
 
--- a row's DID that isn't empty has room, so it is found
-pub no_room : (m : Table) (did : List ℕ) (row : Row) → did ≡ did_in row → (length did == 0) ≡ false → None ≡ get_by_text m did → (did_in row ≢ [] → is_some (get_by_text m (did_in row)) ≡ true) → ⊥
-no_room m did row is full none room =
-    let filled : did_in row ≢ [] = λ empty. both (length did == 0) full (ap (λ (text : List ℕ). length text == 0) (is ∙ empty)) in
-    let there : is_some (get_by_text m did) ≡ true = ap (λ (text : List ℕ). is_some (get_by_text m text)) is ∙ room filled in
-    both (is_some (get_by_text m did)) (sym (ap (λ (o : Option (Box Account)). is_some o) none)) there
+-- a row's DID that isn't empty has room
+pub filled : (row : Row) → (length (did_in row) == 0) ≡ false → did_in row ≢ []
+filled row full empty = both (length (did_in row) == 0) full (ap (λ (text : List ℕ). length text == 0) empty)
+
+-- the account that follows stands on the left, here, or on the right
+pub follows_left : (row : Row) (old new : List Entry) (y : Entry) (r : List Entry) → Follows row old new → Follows row (old ++ y ∷ r) (new ++ y ∷ r)
+follows_left row old new y r f = record {
+  front = f.front;
+  back = f.back ++ y ∷ r;
+  before = f.before;
+  after = f.after;
+  was = ap (λ (es : List Entry). es ++ y ∷ r) f.was ∙ append_assoc f.front ((did_in row, f.before) ∷ f.back) (y ∷ r);
+  is = ap (λ (es : List Entry). es ++ y ∷ r) f.is ∙ append_assoc f.front ((did_in row, f.after) ∷ f.back) (y ∷ r);
+  moves = f.moves;
+}
+
+pub follows_right : (row : Row) (l : List Entry) (y : Entry) (old new : List Entry) → Follows row old new → Follows row (l ++ y ∷ old) (l ++ y ∷ new)
+follows_right row l y old new f = record {
+  front = l ++ y ∷ f.front;
+  back = f.back;
+  before = f.before;
+  after = f.after;
+  was = ap (λ (es : List Entry). l ++ y ∷ es) f.was ∙ sym (append_assoc l (y ∷ f.front) ((did_in row, f.before) ∷ f.back));
+  is = ap (λ (es : List Entry). l ++ y ∷ es) f.is ∙ sym (append_assoc l (y ∷ f.front) ((did_in row, f.after) ∷ f.back));
+  moves = f.moves;
+}
+
+pub follows_here : (row : Row) (l : List Entry) (did : List ℕ) (x y : Account) (r : List Entry) → did_in row ≡ did → known y ≡ Some (moved (unwrap_or (known x) fresh) row) → Follows row (l ++ (did, x) ∷ r) (l ++ (did, y) ∷ r)
+follows_here row l did x y r is moves = record {
+  front = l;
+  back = r;
+  before = x;
+  after = y;
+  was = ap (λ (text : List ℕ). l ++ (text, x) ∷ r) (sym is);
+  is = ap (λ (text : List ℕ). l ++ (text, y) ∷ r) (sym is);
+  moves = moves;
+}
+
+pub absent_from : {T : Type 0} → (f : T → Account) (o : Option T) (p : Option Account) → option_map f o ≡ p → is_some o ≡ false → p ≡ None
+absent_from f None p e h = sym e
+absent_from f (Some x) p e h = absurd cc
+
+-- a table in which a DID took room
+module _ (old tree new : List Entry) (view : tree ≡ old) (e : Entry) (did : List ℕ) (name_is : e.0 ≡ did) (gone : found did tree ≡ None) (is : new ≡ put e tree) where
+  absent : found e.0 tree ≡ None
+  absent = ap (λ (text : List ℕ). found text tree) name_is ∙ gone
+
+  pub touched_sorted : IsSorted tree → IsSorted new
+  touched_sorted s = subst IsSorted (sym is) (sorted_put e tree absent s)
+
+  pub touched_entries : known e.1 ≡ None → (name : List ℕ) → entry new name ≡ entry old name
+  touched_entries unknown name =
+      ap (λ (es : List Entry). entry es name) is ∙ entries_touched e tree absent unknown name ∙ ap (λ (es : List Entry). entry es name) view
+
+  pub touched_room : has_room new did ≡ true
+  touched_room = ap (λ (es : List Entry). has_room es did) is ∙ ap (λ (text : List ℕ). has_room (put e tree) text) (sym name_is) ∙ room_touched e tree absent
+
+  pub touched_kept : (name : List ℕ) → has_room old name ≡ true → has_room new name ≡ true
+  touched_kept name there =
+      ap (λ (es : List Entry). has_room es name) is ∙ room_kept e tree absent name (ap (λ (es : List Entry). has_room es name) view ∙ there)

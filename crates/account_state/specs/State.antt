@@ -1,6 +1,5 @@
 -- What is known of an account.
 use Rattle.std.specs.Prelude.{ℕ, Bool, List, Option, Some, None, if◌then◌else◌}
-use Rattle.at_event.specs.declared.head.Head.{Head}
 use Rattle.account_state.specs.declared.account.Account.{Account}
 use Rattle.account_state.specs.declared.links.Links.{Links}
 use Rattle.account_state.specs.declared.repo.Repo.{Repo}

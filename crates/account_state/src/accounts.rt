@@ -1,22 +1,35 @@
 //! The accounts that the rows of a journal name.
 
-ghost use Rattle.std.specs.Prelude.{◌≡◌, ◌≢◌, List, ℕ, [], None, true, false, option_map, OnOk};
+ghost use Rattle.std.specs.Prelude.{◌≡◌, ◌≢◌, List, ℕ, [], Some, None, true, false, option_map, OnOk, IfSome};
+ghost use Rattle.std.specs.String.{string_bytes};
 ghost use Rattle.relay_row.specs.Folds.{did_in};
-ghost use Rattle.account_state.specs.Entries.{entry, has_room, entry_after};
+ghost use Rattle.account_state.specs.Entries.{entry, has_room, entry_after, is_before};
 ghost use Rattle.account_state.specs.State.{state_of};
 
 use crate::account::Account;
+use crate::tree::{Node, Tree};
 use at_cid::Memory;
 use relay_row::Row;
 use std::alloc::Global;
-use std::collections::BTreeMap;
+use std::marker::Model;
 
-/// The accounts, each under its DID. A DID that was touched and that no row names has room, and no
-/// account.
+/// The accounts, each under its DID, seen in contracts as the list of them in the order of their DIDs. A DID that was
+/// touched and that no row names has room, and no account.
 #[derive(Drop)]
 pub struct Accounts {
-    pub(crate) alloc: Global,
-    pub(crate) map: BTreeMap<String, Box<Account>>,
+    alloc: Global,
+    tree: Tree,
+}
+
+impl Model for Accounts {
+    ghost use Rattle.std.specs.Prelude.{List};
+    ghost use Rattle.account_state.specs.Entries.{Entry, IsSorted};
+
+    ghost Value = { List Entry };
+
+    ghost view = { λ a. a.tree };
+
+    ghost invariant = { λ a. IsSorted a.tree };
 }
 
 impl Accounts {
@@ -27,7 +40,7 @@ impl Accounts {
     {
         Accounts {
             alloc,
-            map: BTreeMap::new(alloc),
+            tree: Tree::new(),
         }
     }
 
@@ -35,8 +48,8 @@ impl Accounts {
     pub fn get(&self, did: &str) -> Option<&Account>
         ensures { option_map (λ account. state_of account.now) result ≡ entry self.now did.now }
     {
-        match self.map.get(did) {
-            Some(account) if account.is_named() => Some(&**account),
+        match self.tree.get(did.as_bytes()) {
+            Some(account) if account.is_named() => Some(account),
             _ => None,
         }
     }
@@ -47,12 +60,11 @@ impl Accounts {
         ensures room { OnOk result (has_room self.new did.now ≡ true) }
         ensures kept { (name : List ℕ) → has_room self.old name ≡ true → has_room self.new name ≡ true }
     {
-        if self.map.contains_key(did) {
+        if self.tree.get(did.as_bytes()).is_some() {
             return Ok(());
         }
-        let name = String::from_str(self.alloc, did)?;
-        let account = Box::new(self.alloc, Account::unnamed(self.alloc))?;
-        self.map.insert(name, account)?;
+        let node = Node::unnamed(self.alloc, did)?;
+        self.tree.insert(Box::new(self.alloc, node)?);
         Ok(())
     }
 
@@ -65,8 +77,16 @@ impl Accounts {
         if row.did().is_empty() {
             return;
         }
-        if let Some(account) = self.map.get_mut(row.did()) {
-            account.follow(row);
-        }
+        self.tree.follow(row);
+    }
+
+    /// The next DID that a row names, in the order of bytes, with its account.
+    pub fn next_after(&self, did: &String) -> Option<(&str, &Account)>
+        ensures found { IfSome result (λ x. entry self.now x.0.now ≡ Some (state_of x.1.now)) }
+        ensures above { IfSome result (λ x. is_before (string_bytes did.now) x.0.now ≡ true) }
+        ensures least { IfSome result (λ x. (name : List ℕ) → is_before (string_bytes did.now) name ≡ true → is_before name x.0.now ≡ true → entry self.now name ≡ None) }
+        ensures none { result ≡ None → (name : List ℕ) → is_before (string_bytes did.now) name ≡ true → entry self.now name ≡ None }
+    {
+        self.tree.next_after(did.as_bytes())
     }
 }

@@ -3,10 +3,12 @@
 
 mod account;
 mod accounts;
+mod balancing;
 mod laws;
 mod links;
-mod next;
+mod name;
 mod repo;
+mod tree;
 
 pub use account::Account;
 pub use accounts::Accounts;

@@ -1,21 +1,20 @@
-use Rattle.std.proofs.Common.{rules, ◌≡◌, false, List, ℕ, ap, sym, ◌∙◌}
+use Rattle.std.proofs.Common.{◌≡◌, ℕ, false, List, sym, ap, ◌∙◌, subst}
 use Rattle.std.specs.Prelude.{length, ◌==◌}
-use Rattle.std.specs.Box.{with_value}
-use Rattle.account_state.proofs.Written.{entry_follows, room_follows, no_room}
+use Rattle.relay_row.specs.Folds.{did_in}
+use Rattle.account_state.specs.Entries.{Entry, entry, entry_after, has_room}
+use Rattle.account_state.proofs.Written.{sorted_follows, entries_follow, room_follows}
 use Rattle.account_state.proofs.accounts.Accounts.apply.Goals as goal
 
-pub returns-in-Some-clause-entries : goal.returns-in-Some-clause-entries
-returns-in-Some-clause-entries c =
-    let full : (length c.did-2.result.now == 0) ≡ false = ap (λ (text : List ℕ). length text == 0) (c.did-2.ensures ∙ sym c.did.ensures) ∙ sym c.is_empty.ensures ∙ c.if-is_empty.false in
-    let written = with_value c.in-Some.account.now c.follow.new.self in
-    entry_follows c.args.self.now.map (c.get_mut.follows.lender written) c.did-2.result.now written ((c.get_mut.follows.holds written).3 (search rules)) c.deref_mut.result.now c.in-Some.account.now c.args.row c.in-Some.ensures.value c.deref_mut.ensures.value c.follow.ensures c.did-2.ensures full
+pub invariant_of-self : goal.invariant_of-self
+invariant_of-self c = sorted_follows c.args.row c.self.inside.tree c.follow.new.self c.self.invariant c.follow.ensures
 
-pub returns-in-Some-clause-room : goal.returns-in-Some-clause-room
-returns-in-Some-clause-room c =
-    let written = with_value c.in-Some.account.now c.follow.new.self in
-    room_follows c.args.self.now.map (c.get_mut.follows.lender written) c.did-2.result.now written ((c.get_mut.follows.holds written).3 (search rules)) c.in-Some.account.now c.in-Some.ensures.value
+pub returns-clause-entries : goal.returns-clause-entries
+returns-clause-entries c =
+    let full : (length (did_in c.args.row) == 0) ≡ false = ap (λ (text : List ℕ). length text == 0) (sym c.did.ensures) ∙ sym c.is_empty.ensures ∙ c.if-is_empty.false in
+    λ name.
+    subst (λ (es : List Entry). entry c.follow.new.self name ≡ entry_after name (entry es name) c.args.row) c.self.view_is
+    (entries_follow c.args.row c.self.inside.tree c.follow.new.self c.self.invariant c.follow.ensures full name)
 
-pub returns-in_default-clause-entries : goal.returns-in_default-clause-entries
-returns-in_default-clause-entries c =
-    let full : (length c.did-2.result.now == 0) ≡ false = ap (λ (text : List ℕ). length text == 0) (c.did-2.ensures ∙ sym c.did.ensures) ∙ sym c.is_empty.ensures ∙ c.if-is_empty.false in
-    λ name. absurd (no_room c.args.self.now.map c.did-2.result.now c.args.row c.did-2.ensures full c.in_default.ensures.value c.requires)
+pub returns-clause-room : goal.returns-clause-room
+returns-clause-room c = λ name.
+    room_follows c.args.row c.self.inside.tree c.follow.new.self c.self.invariant c.follow.ensures name ∙ ap (λ (es : List Entry). has_room es name) c.self.view_is

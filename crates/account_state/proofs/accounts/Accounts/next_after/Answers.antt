@@ -1,19 +1,29 @@
-use Rattle.std.proofs.Common.{◌≡◌, ℕ, Bool, true, cond, List, Some, ap, sym, ◌∙◌, subst}
+use Rattle.std.proofs.Common.{◌≡◌, ℕ, true, List, Some, None, sym, subst}
 use Rattle.std.specs.String.{string_bytes}
-use Rattle.account_state.specs.Entries.{is_before}
+use Rattle.account_state.specs.Entries.{Entry, entry, is_before}
 use Rattle.account_state.specs.State.{state_of}
-use Rattle.account_state.specs.declared.account.Account.{Account}
-use Rattle.account_state.proofs.Order.{Entry, named_among, least_behind, none_behind}
+use Rattle.account_state.proofs.Next.{if_next, none_next, next_found, next_above, next_least, next_none}
 use Rattle.account_state.proofs.accounts.Accounts.next_after.Goals as goal
 
-pub returns-then-is_named-clause-least : goal.returns-then-is_named-clause-least
-returns-then-is_named-clause-least c =
-    let named : c.in-Some.account.now.value.named ≡ true = sym (c.is_named.ensures ∙ ap (λ (a : Account). a.named) c.deref.ensures) ∙ c.if-is_named.true in
-    let first = ap (λ (es : List Entry). named_among es) c.in-Some.ensures.steps ∙ ap (λ (n : Bool). cond n (Some (string_bytes c.in-Some.name.now, state_of c.in-Some.account.now.value)) (named_among c.next.new.self)) named in
-    λ name above below.
-    least_behind c.args.did.now c.args.self.now.map.entries (string_bytes c.in-Some.name.now, state_of c.in-Some.account.now.value) c.range-name-items.ensures.ordered (sym c.loop-name.invariant.2 ∙ first) name above
-    (subst (λ (text : List ℕ). is_before name text ≡ true) c.as_str.ensures.value below)
+pub returns-clause-found : goal.returns-clause-found
+returns-clause-found c =
+    if_next _ c.next_after.result c.as_bytes.result.now c.self.inside.tree c.next_after.ensures (λ (x : Entry). entry c.args.self.now x.0 ≡ Some (state_of x.1))
+    (λ x h. subst (λ (es : List Entry). entry es x.0 ≡ Some (state_of x.1)) c.self.view_is (next_found c.as_bytes.result.now c.self.inside.tree x c.self.invariant h))
+
+pub returns-clause-above : goal.returns-clause-above
+returns-clause-above c =
+    if_next _ c.next_after.result c.as_bytes.result.now c.self.inside.tree c.next_after.ensures (λ (x : Entry). is_before (string_bytes c.args.did.now) x.0 ≡ true)
+    (λ x h. subst (λ (text : List ℕ). is_before text x.0 ≡ true) c.as_bytes.ensures.value (next_above c.as_bytes.result.now c.self.inside.tree x h))
+
+pub returns-clause-least : goal.returns-clause-least
+returns-clause-least c =
+    if_next _ c.next_after.result c.as_bytes.result.now c.self.inside.tree c.next_after.ensures
+    (λ (x : Entry). (name : List ℕ) → is_before (string_bytes c.args.did.now) name ≡ true → is_before name x.0 ≡ true → entry c.args.self.now name ≡ None)
+    (λ x h name above below.
+    subst (λ (es : List Entry). entry es name ≡ None) c.self.view_is
+    (next_least c.as_bytes.result.now c.self.inside.tree x c.self.invariant h name (subst (λ (text : List ℕ). is_before text name ≡ true) (sym c.as_bytes.ensures.value) above) below))
 
 pub returns-clause-none : goal.returns-clause-none
 returns-clause-none c = λ nothing name above.
-    none_behind c.args.did.now c.args.self.now.map.entries (sym c.loop-name.invariant.2 ∙ ap (λ (es : List Entry). named_among es) c.in-None.ensures.steps.0) name above
+    subst (λ (es : List Entry). entry es name ≡ None) c.self.view_is
+    (next_none c.as_bytes.result.now c.self.inside.tree (none_next _ c.next_after.result c.as_bytes.result.now c.self.inside.tree c.next_after.ensures nothing) name (subst (λ (text : List ℕ). is_before text name ≡ true) (sym c.as_bytes.ensures.value) above))
