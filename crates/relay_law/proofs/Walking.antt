@@ -1,5 +1,5 @@
 -- Where the table of an event ends: at a refusal that a row may keep, or past all lines.
-use Rattle.std.proofs.Common.{◌≡◌, ℕ, ◌≤◌, ◌⊎◌, inl, inr, Bool, true, false, not, List, [], ◌∷◌, length, Option, Some, None, refl, sym, ap, ◌∙◌, cond, subst}
+use Rattle.std.proofs.Common.{◌≡◌, ℕ, ◌≤◌, ◌⊎◌, inl, inr, Bool, true, false, not, ◌&&◌, List, [], ◌∷◌, length, Option, Some, None, refl, sym, ap, ◌∙◌, cond, subst}
 use Rattle.std.specs.Prelude.{Result, Ok, Err, option_map, nat_lt}
 use Rattle.std.proofs.lemmas.Bool.{and_parts}
 use Rattle.at_cid.specs.Link.{IsBytes, IsNodeLink, kind_of}
@@ -22,7 +22,7 @@ use Rattle.commit_check.proofs.Held.{car_linked}
 use Rattle.commit_check.proofs.Objects.{data_held}
 use Rattle.relay_row.specs.Rules.{is_cid, is_node, is_node_kind, is_head, is_rev}
 use Rattle.relay_row.proofs.Again.{node_fits}
-use Rattle.relay_core.specs.Table.{Line, told, asked, Walk, waits, refuses, passes, walk, walk_past, when, refusal_in, is_ahead, repo_lines, body_lines, event_lines}
+use Rattle.relay_core.specs.Table.{Line, told, asked, Walk, waits, refuses, passes, walk, walk_past, when, refusal_in, is_ahead, link_line, repo_lines, body_lines, event_lines}
 use Rattle.relay_core.specs.declared.answers.Answers.{Answers}
 use Rattle.relay_core.specs.declared.answers.Question.{Question}
 use Rattle.relay_core.specs.declared.limits.TheConstants.{LONGEST_MESSAGE}
@@ -169,7 +169,7 @@ module _ (last : ℕ) (a : State) (e : Seen) (x : Answers) (right : AreAnswersTo
       verdict_kept, λ good. (let head = opened_head x.opened opened in more head.0 head.1)))))))
 
   body_kept : (body : Body) → e.body ≡ body → IsBodyKept body → AreKept (body_lines a body x)
-  body_kept (Body.Commit c) is forms = repo_kept (Body.Commit c) is c.rev _ (λ head opened. (mapped_kept refusal_in x.linked (link_kept c is forms.0 head opened), λ linked. tt))
+  body_kept (Body.Commit c) is forms = repo_kept (Body.Commit c) is c.rev (link_line x ∷ []) (λ head opened. (mapped_kept refusal_in x.linked (link_kept c is forms.0 head opened), λ linked. tt))
   body_kept (Body.Sync s) is forms = repo_kept (Body.Sync s) is s.rev [] (λ head opened. tt)
   body_kept Body.Identity is forms = (refresh_kept x.refreshed, λ refreshed. (home_kept, λ home. ((λ r h. when_kept a.down Refusal.TakenDown r refl h), λ down. tt)))
   body_kept (Body.Account b) is forms = (home_kept, λ home. tt)
