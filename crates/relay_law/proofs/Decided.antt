@@ -1,6 +1,7 @@
 -- The row that is decided for answers to all questions is well formed and keeps the order of its journal.
 use Rattle.std.proofs.Common.{◌≡◌, ℕ, ◌+◌, ◌<◌, Bool, true, false, List, [], ◌∷◌, ◌++◌, Option, Some, None, refl, sym, ap, ◌∙◌, cond, subst}
 use Rattle.std.specs.Prelude.{Result, Ok, Err, nat_le}
+use Rattle.at_event.specs.Events.{IsEvent}
 use Rattle.at_event.specs.Seen.{Seen}
 use Rattle.at_event.specs.declared.event.Body.{Body}
 use Rattle.at_event.specs.declared.event.CommitEvent.{CommitEvent}
@@ -46,14 +47,14 @@ found_behind last e absent h = tt
 found_behind last e (unfit n) h = h
 found_behind last e (found head records block) h = record { seq = refl; head = h.0; records = h.1; message = h.2 }
 
-answers_right : (checks : Checks) → OpensRight checks → LinksRight checks → (last : ℕ) (a : State) (e : Seen) (o : Outside) → AreFormedFor last (Frame.Event e) o → AreAnswersTo last a e (answers checks last a e o)
-answers_right checks opens links last a e o formed = record {
+answers_right : (checks : Checks) → OpensRight checks → LinksRight checks → (last : ℕ) (a : State) (e : Seen) (o : Outside) → IsEvent e → AreFormedFor last (Frame.Event e) o → AreAnswersTo last a e (answers checks last a e o)
+answers_right checks opens links last a e o read formed = record {
   moment = λ m is. let same : o.moment ≡ m = cc in subst (λ (n : ℕ). n < NUMBERS) same formed.0;
   opened = λ answer is.
       let same : checks.opens e (last_rev a.repo) ≡ answer = cc in
       let P : Result Head Refusal → Type 0 = λ y. IsOpenedAs e.body (last_rev a.repo) y in
       subst P same (opened_as e.body (last_rev a.repo) (checks.opens e (last_rev a.repo)) (opens.refusal e (last_rev a.repo)) (λ head. opens.head e (last_rev a.repo) head));
-  linked = λ c h r body is. links.stops e c a.repo h r body (linked_is (checks.links e a.repo) r is);
+  linked = λ c h r body is. links.stops e c a.repo h r read body (linked_is (checks.links e a.repo) r is);
   fetched = λ f is.
       let same : made last e o.fetched ≡ f = cc in
       let P : Fetched → Type 0 = λ g. IsFetchedBehind last g in
@@ -85,7 +86,7 @@ decided_formed checks opens links J host (Frame.Event e) o t journal of_host rea
     let a = account e.did J in
     let P : Taken → Type 0 = λ s. seq_in (Row.Taken s) < NUMBERS → IsJournal (J ++ Row.Taken s ∷ []) in
     subst P (taken_same (decided_event checks n a host e o) t is) (made_formed J host (Frame.Event e) (answers checks n a e o) (decision_for a e.body o.fetched (refusal_of checks a e o)) (Row.Taken (decided_event checks n a host e o))
-    journal of_host read (answers_right checks opens links n a e o formed) (next_decided checks n (cursor host J) a e o (not_passed (nat_le e.seq (cursor host J)) new)) refl) below
+    journal of_host read (answers_right checks opens links n a e o read formed) (next_decided checks n (cursor host J) a e o (not_passed (nat_le e.seq (cursor host J)) new)) refl) below
 decided_formed checks opens links J host (Frame.Faulty seq) o t journal of_host read formed new is below =
     let P : Taken → Type 0 = λ s. seq_in (Row.Taken s) < NUMBERS → IsJournal (J ++ Row.Taken s ∷ []) in
     subst P (taken_same (faulty_taken host seq (Some o.moment)) t is) (made_formed J host (Frame.Faulty seq) (moment_alone o.moment) bad_event (Row.Taken (faulty_taken host seq (Some o.moment)))

@@ -13,6 +13,7 @@ use Rattle.at_syntax.specs.Did.{is_did}
 use Rattle.at_event.specs.declared.kind.EventKind.{EventKind}
 use Rattle.at_event.specs.Formed.{IsShortText}
 use Rattle.at_event.specs.Writing.{header_of, message_of, number_item, status_field, account_payload}
+use Rattle.at_event.proofs.Texts.{ascii_text}
 use Rattle.relay_row.specs.Folds.{last_seq}
 use Rattle.relay_row.specs.Rules.{are_bytes, is_empty, is_head, is_message, is_number, is_operated, is_positive, is_row, is_status, is_string, is_text, is_whole, names_did}
 use Rattle.relay_row.specs.declared.limits.TheConstants.{NUMBERS}
@@ -25,6 +26,7 @@ use Rattle.relay_core.specs.Decide.{sync_message, whole_under}
 use Rattle.relay_core.specs.Operating.{operated_message, operated_as}
 use Rattle.relay_law.specs.Laws.{OperatedRowsAreFormed, SyncedRowsAreFormed}
 use Rattle.relay_law.proofs.Deciding.{next_above, positive_next}
+use Rattle.relay_law.proofs.EventForms.{text_tested}
 use Rattle.relay_law.proofs.Heads.{IsFormedAccount, accounts_are_formed}
 use Rattle.relay_law.proofs.Spelled.{bytes_join, front_bytes, front_short, header_bytes, not_empty}
 
@@ -112,7 +114,9 @@ module _ (did : List ℕ) (active : Bool) (status : Option (List ℕ)) (time : L
       and_from (is_string bytes) (not (is_empty bytes)) (string_tested bytes all.are (omega (arith, all.few))) (not_empty (32 * number_of Major.Map + info_of 2) _)
 
 operated_sent : (a : State) (did : List ℕ) (down : Bool) (time : List ℕ) (n : ℕ) → IsFormedAccount a → names_did did ≡ true → IsShortText time → is_message (operated_message a down did time n) ≡ true
-operated_sent a did true time n is of_did timed = account_sent did false (Some (codes "takendown")) time n of_did refl timed
+operated_sent a did true time n is of_did timed =
+    let word = text_tested (codes "takendown") (ascii_text (codes "takendown") refl (lit< tt)) in
+    account_sent did false (Some (codes "takendown")) time n of_did (and_from (is_text (codes "takendown")) true word refl) timed
 operated_sent a did false time n is of_did timed = account_sent did a.active a.status time n of_did is.status timed
 
 -- ---- rows
