@@ -1,36 +1,31 @@
 -- The row that is decided for answers to all questions is well formed and keeps the order of its journal.
-use Rattle.std.proofs.Common.{◌≡◌, ℕ, ◌+◌, ◌<◌, Bool, true, false, List, [], ◌∷◌, ◌++◌, Option, Some, None, refl, sym, ap, ◌∙◌, cond, subst}
+use Rattle.std.proofs.Common.{◌≡◌, ℕ, ◌+◌, ◌<◌, Bool, true, false, [], ◌∷◌, ◌++◌, Option, Some, None, refl, sym, ap, subst}
 use Rattle.std.specs.Prelude.{Result, Ok, Err, nat_le}
 use Rattle.at_event.specs.Events.{IsEvent}
 use Rattle.at_event.specs.Seen.{Seen}
 use Rattle.at_event.specs.declared.event.Body.{Body}
-use Rattle.at_event.specs.declared.event.CommitEvent.{CommitEvent}
 use Rattle.at_event.specs.declared.frame.Frame.{Frame}
 use Rattle.at_event.specs.declared.head.Head.{Head}
 use Rattle.at_event.specs.declared.refusal.Refusal.{Refusal}
 use Rattle.relay_row.specs.Folds.{cursor, last_seq, seq_in}
 use Rattle.relay_row.specs.Journal.{IsJournal}
-use Rattle.relay_row.specs.Rules.{names_host}
 use Rattle.relay_row.specs.declared.fetched.Fetched.{Fetched}
 use Rattle.relay_row.specs.declared.limits.TheConstants.{NUMBERS}
 use Rattle.relay_row.specs.declared.row.Row.{Row}
 use Rattle.relay_row.specs.declared.taken.Taken.{Taken}
 use Rattle.account_state.specs.Folds.{account, last_rev}
 use Rattle.account_state.specs.State.{State}
-use Rattle.commit_check.specs.Order.{Holds, StopsPast}
-use Rattle.commit_check.specs.Step.{is_gap, root_before}
 use Rattle.relay_core.specs.Decide.{Checks, Found, absent, unfit, found, Outside, answers, as_result, decided_event, decision_for, made, old_if, refusal_of}
 use Rattle.relay_core.specs.Opening.{IsHeadOf, OpensRight, shown_alone}
 use Rattle.relay_core.specs.Rows.{faulty_taken}
-use Rattle.relay_core.specs.Table.{faulty_lines, next_at, next_of, no_answers, refusal_in, walk}
+use Rattle.relay_core.specs.Table.{next_of, refusal_in}
 use Rattle.relay_core.specs.declared.answers.Answers.{Answers}
 use Rattle.relay_core.specs.declared.decision.Decision.{Decision}
 use Rattle.relay_core.specs.declared.decision.Next.{Next}
-use Rattle.relay_core.specs.declared.decision.Pass.{Pass}
 use Rattle.relay_core.proofs.Agreeing.{next_decided}
-use Rattle.relay_law.specs.Formed.{AreAnswersTo, AreFormedFor, IsFetchedBehind, IsFormedFound, IsOpenedAs, IsReadFrame}
+use Rattle.relay_law.specs.Formed.{AreAnswersTo, AreFormedFor, IsFetchedBehind, IsFormedFound, IsOpenedAs}
 use Rattle.relay_law.specs.Laws.{DecidedRowsAreFormed}
-use Rattle.relay_law.specs.Right.{LinksRight, expect_of}
+use Rattle.relay_law.specs.Right.{LinksRight}
 use Rattle.relay_law.proofs.Deciding.{made_formed}
 
 -- what is right to say of an opening

@@ -1,15 +1,15 @@
 -- The row of a message that is decided is well formed and keeps the order of its journal.
-use Rattle.std.proofs.Common.{◌≡◌, ℕ, ◌+◌, ◌-◌, ◌<◌, ◌≤◌, ◌^◌, ◌⊎◌, inl, inr, Bool, true, false, not, ◌&&◌, ◌||◌, List, [], ◌∷◌, ◌++◌, length, min, Option, Some, None, refl, sym, ap, ◌∙◌, cond, subst, eqb, ltb, arith, lit≤}
-use Rattle.std.specs.Prelude.{◌==◌, Result, Ok, Err, nat_le, nat_lt, option_map}
+use Rattle.std.proofs.Common.{◌≡◌, ℕ, ◌+◌, ◌-◌, ◌<◌, ◌≤◌, ◌^◌, Bool, true, false, not, ◌&&◌, ◌||◌, List, [], ◌∷◌, length, min, Option, Some, None, refl, sym, ◌∙◌, cond, subst, eqb, ltb, arith, lit≤}
+use Rattle.std.specs.Prelude.{◌==◌, Result, Ok, nat_le, nat_lt}
 use Rattle.std.specs.Bool.{beq}
 use Rattle.std.proofs.lemmas.Bool.{and_parts, and_from, lt-ltb, leb-false, ltb-true, ltb-false, ne_eqb}
 use Rattle.std.proofs.Math.Nat.{min-eq_right}
-use Rattle.at_cbor.specs.Spelling.{spelling, Fits}
+use Rattle.at_cbor.specs.Spelling.{spelling}
 use Rattle.at_event.specs.Events.{IsEvent}
 use Rattle.at_event.specs.Refusals.{code_of}
 use Rattle.at_event.specs.Seen.{Seen}
 use Rattle.at_event.specs.Table.{kind_of as event_kind}
-use Rattle.at_event.specs.Writing.{name_of, number_item, with_seq, message_of, out_of, out_length}
+use Rattle.at_event.specs.Writing.{name_of, number_item, with_seq, out_of, out_length}
 use Rattle.at_event.specs.declared.event.Body.{Body}
 use Rattle.at_event.specs.declared.frame.Frame.{Frame}
 use Rattle.at_event.specs.declared.head.Head.{Head}
@@ -19,7 +19,7 @@ use Rattle.at_event.proofs.OutLengths.{nine_bytes, most_bytes}
 use Rattle.at_event.proofs.Renumbered.{with_seq_fits}
 use Rattle.relay_row.specs.Folds.{cursor, events_of, last_seq, seq_of, seq_in}
 use Rattle.relay_row.specs.Journal.{IsJournal, is_above, keeps_order}
-use Rattle.relay_row.specs.Rules.{is_about, is_accepted, is_decided, is_detail, is_effect, is_empty, is_fetched, is_head, is_message, is_moment, is_nothing, is_number, is_positive, is_refused, is_row, is_status, is_taken, is_timed, is_whole, loses, names_did, names_host}
+use Rattle.relay_row.specs.Rules.{is_about, is_accepted, is_decided, is_detail, is_effect, is_fetched, is_head, is_message, is_moment, is_number, is_positive, is_refused, is_row, is_status, is_taken, is_whole, loses, names_did, names_host}
 use Rattle.relay_row.specs.declared.fetched.Fetched.{Fetched}
 use Rattle.relay_row.specs.declared.fetched.Whole.{Whole}
 use Rattle.relay_row.specs.declared.limits.TheConstants.{NUMBERS}
@@ -28,12 +28,10 @@ use Rattle.relay_row.specs.declared.taken.Effect.{Effect}
 use Rattle.relay_row.specs.declared.taken.Taken.{Taken}
 use Rattle.relay_row.proofs.Journals.{grows}
 use Rattle.account_state.specs.Folds.{account, last_rev}
-use Rattle.account_state.specs.State.{State}
 use Rattle.relay_core.specs.Opening.{IsHeadOf}
 use Rattle.relay_core.specs.Rows.{kind_of, head_effect, effect_of, fetched_of, event_taken, faulty_taken, row_of}
-use Rattle.relay_core.specs.Table.{told, Walk, waits, refuses, passes, walk, when, body_lines, event_lines, faulty_lines, is_held, after_fetch, refused, next_at, next_of, did_of}
+use Rattle.relay_core.specs.Table.{told, Walk, waits, refuses, passes, walk, when, body_lines, event_lines, is_held, after_fetch, refused, next_at, next_of, did_of}
 use Rattle.relay_core.specs.declared.answers.Answers.{Answers}
-use Rattle.relay_core.specs.declared.answers.Question.{Question}
 use Rattle.relay_core.specs.declared.decision.Decision.{Decision}
 use Rattle.relay_core.specs.declared.decision.Next.{Next}
 use Rattle.relay_core.specs.declared.decision.Pass.{Pass}
@@ -238,9 +236,10 @@ module _ (J : List Row) (host : List ℕ) (e : Seen) (x : Answers) (of_host : na
   unfolding is_row
   refused_row r kept there below =
       let fetch = fetched_kept (last_seq J) r x.fetched there right.fetched below in
-      let P : Option ℕ → Type 0 = λ o. is_taken (refused_taken host e.seq e.did e.body r (fetched_of (Some r) x.fetched) o) ≡ true in
-      (subst P (sym moment) (refused_formed host e.seq e.did e.body r (fetched_of (Some r) x.fetched) m of_host seq_fits (event_kept e is).0 (right.moment m moment) kept fetch.0),
-      and_from (nat_lt (cursor host J) e.seq) _ above_it fetch.1)
+      let P : Option ℕ → Type 0 = λ o. is_taken (refused_taken host e.seq e.did e.body r (fetched_of (Some r) x.fetched) o) ≡ true in (
+        subst P (sym moment) (refused_formed host e.seq e.did e.body r (fetched_of (Some r) x.fetched) m of_host seq_fits (event_kept e is).0 (right.moment m moment) kept fetch.0),
+        and_from (nat_lt (cursor host J) e.seq) _ above_it fetch.1,
+      )
 
   -- what an accepted event that goes out is to its row
   sent_row : (body : Body) (effect : Effect) → is_effect (kind_of body) effect ≡ true → nat_lt LONGEST_MESSAGE (out_length e) ≡ false
@@ -251,17 +250,19 @@ module _ (J : List Row) (host : List ℕ) (e : Seen) (x : Answers) (of_host : na
       let n = last_seq J + 1 in
       let same = sent_seq (last_seq J) n (out_of e n) [] refl in
       let lt : n < NUMBERS = subst (λ (k : ℕ). k < NUMBERS) same below in
-      let P : Option ℕ → Type 0 = λ o. is_taken (accepted_taken host e.seq e.did body n (out_of e n) effect o) ≡ true in
-      (subst P (sym moment) (sent_formed host e.seq e.did body n (out_of e n) effect m of_host seq_fits (event_kept e is).0 (right.moment m moment) fits (positive_next (last_seq J) n refl lt) (out_formed e n is lt short)),
-      and_from (nat_lt (cursor host J) e.seq) _ above_it (subst (λ (k : ℕ). is_above (last_seq J) k ≡ true) (sym same) (next_above (last_seq J) n refl)))
+      let P : Option ℕ → Type 0 = λ o. is_taken (accepted_taken host e.seq e.did body n (out_of e n) effect o) ≡ true in (
+        subst P (sym moment) (sent_formed host e.seq e.did body n (out_of e n) effect m of_host seq_fits (event_kept e is).0 (right.moment m moment) fits (positive_next (last_seq J) n refl lt) (out_formed e n is lt short)),
+        and_from (nat_lt (cursor host J) e.seq) _ above_it (subst (λ (k : ℕ). is_above (last_seq J) k ≡ true) (sym same) (next_above (last_seq J) n refl)),
+      )
 
   held_row : (active : Bool) (status : Option (List ℕ)) → is_status status ≡ true
       → StandsBehind J (Row.Taken (accepted_taken host e.seq e.did (Body.Account (record { active = active; status = status })) 0 [] (Effect.Account active status) x.moment))
   unfolding is_row
   held_row active status fits =
-      let P : Option ℕ → Type 0 = λ o. is_taken (accepted_taken host e.seq e.did (Body.Account (record { active = active; status = status })) 0 [] (Effect.Account active status) o) ≡ true in
-      (subst P (sym moment) (held_formed host e.seq e.did active status m of_host seq_fits (event_kept e is).0 (right.moment m moment) fits),
-      and_from (nat_lt (cursor host J) e.seq) _ above_it refl)
+      let P : Option ℕ → Type 0 = λ o. is_taken (accepted_taken host e.seq e.did (Body.Account (record { active = active; status = status })) 0 [] (Effect.Account active status) o) ≡ true in (
+        subst P (sym moment) (held_formed host e.seq e.did active status m of_host seq_fits (event_kept e is).0 (right.moment m moment) fits),
+        and_from (nat_lt (cursor host J) e.seq) _ above_it refl,
+      )
 
   -- the head that an accepted commit or sync gives
   head_row : (body : Body) → e.body ≡ body → (head : Head) → x.opened ≡ Some (Ok head) → ((h : Head) → IsHeadOf body h → is_head h ≡ true) → (is_effect 1 (head_effect x.opened) ≡ true) × (is_effect 2 (head_effect x.opened) ≡ true)

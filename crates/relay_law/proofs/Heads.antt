@@ -15,7 +15,7 @@ use Rattle.at_commit.proofs.Nodes.{data_is_node}
 use Rattle.at_event.specs.Refusals.{code_of}
 use Rattle.at_event.specs.declared.head.Head.{Head}
 use Rattle.at_event.specs.declared.refusal.Refusal.{Refusal}
-use Rattle.event_checks.specs.Opening.{CarResult, root_in, block_in, object_of, object_in_block, object_in, IsFound}
+use Rattle.event_checks.specs.Opening.{CarResult, root_in, block_in, object_of, object_in_block, object_in}
 use Rattle.commit_check.proofs.Held.{car_linked}
 use Rattle.relay_row.specs.Folds.{folded, names, did_in}
 use Rattle.relay_row.specs.Journal.{IsJournal}
@@ -29,7 +29,7 @@ use Rattle.relay_row.specs.declared.row.Row.{Row}
 use Rattle.relay_row.specs.declared.taken.Effect.{Effect}
 use Rattle.relay_row.specs.declared.taken.Taken.{Taken}
 use Rattle.relay_row.proofs.Bytes.{bytes_tested}
-use Rattle.account_state.specs.Folds.{fresh, carried_as, repo_carried, effected, last_rev, lost, refetched, taken_by, moved, account_after, account}
+use Rattle.account_state.specs.Folds.{fresh, carried_as, repo_carried, effected, last_rev, lost, refetched, moved, account_after, account}
 use Rattle.account_state.specs.State.{State}
 use Rattle.account_state.specs.declared.repo.Repo.{Repo}
 use Rattle.relay_core.specs.Opening.{IsHeadIn}

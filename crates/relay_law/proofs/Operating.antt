@@ -22,7 +22,7 @@ use Rattle.relay_row.proofs.Bytes.{string_tested, tested_bytes}
 use Rattle.relay_row.proofs.Journals.{grows}
 use Rattle.account_state.specs.Folds.{account}
 use Rattle.account_state.specs.State.{State}
-use Rattle.relay_core.specs.Decide.{sync_message, whole_under}
+use Rattle.relay_core.specs.Decide.{sync_message}
 use Rattle.relay_core.specs.Operating.{operated_message, operated_as}
 use Rattle.relay_law.specs.Laws.{OperatedRowsAreFormed, SyncedRowsAreFormed}
 use Rattle.relay_law.proofs.Deciding.{next_above, positive_next}

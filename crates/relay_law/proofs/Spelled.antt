@@ -1,7 +1,7 @@
 -- What is spelled of items that fit is bytes, and a message of them is a string that isn't empty.
-use Rattle.std.proofs.Common.{◌≡◌, ℕ, zero, suc, ◌+◌, ◌-◌, ◌*◌, ◌<◌, ◌≤◌, ◌^◌, ◌/◌, Bool, true, false, not, ◌&&◌, cond, ltb, min, List, [], ◌∷◌, ◌++◌, length, Option, Some, None, pos, negsuc, refl, sym, ap, ◌∙◌, subst, arith, lit<, mod-lt}
+use Rattle.std.proofs.Common.{◌≡◌, ℕ, zero, suc, ◌+◌, ◌-◌, ◌*◌, ◌<◌, ◌≤◌, ◌^◌, ◌/◌, Bool, true, false, not, cond, ltb, List, [], ◌∷◌, ◌++◌, length, Option, Some, None, pos, negsuc, refl, ap, arith, lit<, mod-lt}
 use Rattle.std.specs.Int.{w16, w32, w64, to_be_bytes, bytes_high_first, byte_at}
-use Rattle.std.specs.Prelude.{ℤ, ◌==◌, slice_index}
+use Rattle.std.specs.Prelude.{ℤ}
 use Rattle.std.proofs.lemmas.Bool.{and_from, ltb-true, ne_eqb}
 use Rattle.at_cid.specs.Link.{IsBytes}
 use Rattle.at_cbor.specs.declared.major.Major.{Major}
@@ -9,7 +9,7 @@ use Rattle.at_cbor.specs.Item.{Item, Items, no_items, item, Fields, no_fields, f
 use Rattle.at_cbor.specs.Majors.{number_of}
 use Rattle.at_cbor.specs.Spelling.{info_of, tail_of, front_of, int_spelling, text_spelling, link_spelling, bool_spelling, items_count, fields_count, spelling, items_spelling, fields_spelling, Fits, ItemsFit, FieldsFit}
 use Rattle.at_event.specs.declared.kind.EventKind.{EventKind}
-use Rattle.at_event.specs.Writing.{header_of, name_of, message_of}
+use Rattle.at_event.specs.Writing.{header_of, message_of}
 use Rattle.relay_row.specs.Rules.{is_string, is_empty, is_message}
 use Rattle.relay_row.proofs.Bytes.{string_tested, tested_bytes}
 
