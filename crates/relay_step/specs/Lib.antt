@@ -1,0 +1,6 @@
+pub mod Steps
+pub mod Asked
+pub mod Fetching
+pub mod Around
+pub mod Operators
+pub mod Laws
