@@ -6,4 +6,5 @@ pub mod Covered
 pub mod Faithful
 pub mod Carried
 pub mod Histories
+pub mod Formed
 pub mod Laws

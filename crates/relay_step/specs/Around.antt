@@ -2,6 +2,8 @@
 use Rattle.std.specs.Prelude.{◌≡◌, ℕ, Bool, List, [], ◌∷◌, ◌++◌, Option, Some, Result, IsTrue}
 use Rattle.at_authority.specs.Panels.{Panel}
 use Rattle.at_event.specs.Frames.{frame_of}
+use Rattle.at_event.specs.declared.frame.Frame.{Frame}
+use Rattle.at_event.specs.declared.frame.FrameFault.{FrameFault}
 use Rattle.relay_io.specs.Moments.{first, rest}
 use Rattle.relay_row.specs.declared.row.Row.{Row}
 use Rattle.relay_step.specs.Asked.{Answered}
@@ -26,12 +28,16 @@ IsTimed moments (took t) left = (t.moment ≡ Some (first moments)) × (left ≡
 abbrev pub SameRepositories : (List ℕ → Option (List ℕ)) → (List ℕ → Option (List ℕ)) → Type 0
 SameRepositories old new = (did : List ℕ) → new did ≡ old did
 
--- What one step behind the journal J asked, and was told: of the clock and of the repositories where they tell.
-pub record Asked (clock_tells repos_tell : Bool) (J : List Row) (old : Around) (s : Step) (new : Around) : Type 0 where
-  pub answered : Answered old.panel s.host (frame_of s.bytes) s.told new.panel
-  pub timed : IsTrue clock_tells → IsTimed old.moments s.told new.moments
-  pub fetched : IsTrue repos_tell → IsFetchedTold old.repository J s.told
+-- What a host's message, as it reads, asked behind the journal J where this came of it: of the clock and of the repositories where they tell.
+pub record AskedOf (clock_tells repos_tell : Bool) (J : List Row) (old : Around) (host : List ℕ) (frame : Result Frame FrameFault) (told : Told) (new : Around) : Type 0 where
+  pub answered : Answered old.panel host frame told new.panel
+  pub timed : IsTrue clock_tells → IsTimed old.moments told new.moments
+  pub fetched : IsTrue repos_tell → IsFetchedTold old.repository J told
   pub same : IsTrue repos_tell → SameRepositories old.repository new.repository
+
+-- What one step behind the journal J asked, and was told.
+abbrev pub Asked : Bool → Bool → List Row → Around → Step → Around → Type 0
+Asked clock_tells repos_tell J old s new = AskedOf clock_tells repos_tell J old s.host (frame_of s.bytes) s.told new
 
 -- nothing was asked
 pub record AskedNothing (clock_tells repos_tell : Bool) (old new : Around) : Type 0 where

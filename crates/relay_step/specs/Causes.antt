@@ -1,6 +1,7 @@
 -- Why a message or a word came to nothing, and what was asked until then.
 use Rattle.std.specs.Prelude.{◌≡◌, ⊤, ⊥, ℕ, ◌+◌, ◌≤◌, List, Bool, Result, Ok, Err, IsTrue, ◌⊎◌}
 use Rattle.at_syntax.specs.Did.{method_of}
+use Rattle.at_authority.specs.Calls.{Call, fails}
 use Rattle.at_authority.specs.Panels.{Panel, IsSpent}
 use Rattle.at_event.specs.declared.frame.Frame.{Frame}
 use Rattle.at_event.specs.declared.frame.FrameFault.{FrameFault}
@@ -16,6 +17,11 @@ IsCause ends spent repos clock StepFault.Authority = spent
 IsCause ends spent repos clock StepFault.Repos = repos
 IsCause ends spent repos clock StepFault.Clock = clock
 IsCause ends spent repos clock StepFault.Memory = ⊤
+
+-- what a call of the judges about a DID was, by what came of it
+abbrev pub called : {A : Type 0} → List ℕ → (A → Call) → Result A StepFault → Call
+called did call (Ok x) = call x
+called did call (Err fault) = fails did
 
 -- all authorities of the method of the account that a message names have fallen; a message that names none asks nobody
 abbrev pub IsSpentFor : Result Frame FrameFault → Panel → Type 0

@@ -6,4 +6,7 @@ pub mod Operators
 pub mod Causes
 pub mod Messages
 pub mod Words
+pub mod Questions
+pub mod Fetches
+pub mod Taking
 pub mod Laws

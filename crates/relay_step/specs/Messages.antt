@@ -16,7 +16,7 @@ use Rattle.relay_core.specs.Runs.{passed_by}
 use Rattle.relay_core.specs.Table.{did_of}
 use Rattle.relay_core.specs.declared.journal_state.Core.{Core}
 use Rattle.relay_law.specs.Right.{LinksRight}
-use Rattle.relay_step.specs.Around.{Around, Asked}
+use Rattle.relay_step.specs.Around.{Around, Asked, AskedOf}
 use Rattle.relay_step.specs.Steps.{Told, passed_over, took, Step, IsTold}
 use Rattle.relay_step.specs.declared.told.Told.{Told as Outcome}
 
@@ -29,7 +29,11 @@ told_as (Outcome.Took t) = took t
 abbrev pub IsDecided : Core → List ℕ → Result Frame FrameFault → Told → Type 0
 IsDecided c host frame t = (checks : Checks) (J : List Row) → OpensRight checks → LinksRight checks → Holds c J → IsTold checks J [] (host, frame) t
 
--- This was asked around, and told.
+-- This was asked around of a message, as it reads, where this came of it.
+abbrev pub IsAskedOf : Bool → Bool → Core → Around → List ℕ → Result Frame FrameFault → Told → Around → Type 0
+IsAskedOf clock_tells repos_tell c old host frame t new = (J : List Row) → Holds c J → AskedOf clock_tells repos_tell J old host frame t new
+
+-- This was asked around in a step.
 abbrev pub IsAsked : Bool → Bool → Core → Around → Step → Around → Type 0
 IsAsked clock_tells repos_tell c old s new = (J : List Row) → Holds c J → Asked clock_tells repos_tell J old s new
 

@@ -2,11 +2,17 @@
 //! question at a time, and what it comes to is a row, or the reason why there is none. No disk is touched.
 #![tactic(auto)]
 
+mod asking;
 mod deciding;
 mod fault;
+mod fetching;
 mod laws;
+mod losing;
 mod operating;
+mod outside;
+mod reading;
 mod syncing;
+mod taking;
 mod told;
 mod word;
 

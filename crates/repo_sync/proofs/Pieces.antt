@@ -1,5 +1,6 @@
 -- A repository, piece by piece.
-use Rattle.std.proofs.Common.{◌≡◌, ℕ, ◌<◌, ◌≤◌, List, [], ◌∷◌, ◌++◌, length, Result, Ok, Err, refl, sym, ap, ◌∙◌, subst, arith, append_assoc, append-nil, length-append}
+use Rattle.std.proofs.Common.{◌≡◌, ℕ, zero, suc, ◌<◌, ◌≤◌, List, [], ◌∷◌, ◌++◌, length, Result, Ok, Err, refl, sym, ap, ◌∙◌, subst, arith, append_assoc, append-nil, length-append}
+use Rattle.at_cid.specs.Link.{IsBytes}
 use Rattle.at_car.specs.declared.scan.Kept.{Kept}
 use Rattle.repo_sync.specs.Scans.{Scans, ScansAs, IsQuiet}
 use Rattle.repo_sync.specs.declared.fault.RepoFault.{RepoFault}
@@ -58,6 +59,12 @@ ended result whole bytes piece mid left is more none short s =
     let all : bytes ++ piece ≡ bytes = ap (λ p. bytes ++ p) n.0 ∙ append-nil bytes in
     all_scanned result whole bytes mid is none short (subst (ScansAs result) all s)
 
+-- bytes behind bytes
+pub bytes_joined : (xs ys : List ℕ) → IsBytes xs → IsBytes ys → IsBytes (xs ++ ys)
+bytes_joined [] ys a b = b
+bytes_joined (x ∷ xs) ys a b zero = a zero
+bytes_joined (x ∷ xs) ys a b (suc i) = bytes_joined xs ys (λ j. a (suc j)) b i
+
 -- which is so of no bytes too
-pub quiet_error : (fault : RepoFault) → IsQuiet fault → (bytes : List ℕ) × Scans (Err fault) bytes
-quiet_error fault q = ([], quiet fault [] q)
+pub quiet_error : (fault : RepoFault) → IsQuiet fault → (bytes : List ℕ) × IsBytes bytes × Scans (Err fault) bytes
+quiet_error fault q = ([], λ i. omega arith, quiet fault [] q)

@@ -1,6 +1,6 @@
 //! Whole repositories.
 
-ghost use Rattle.std.specs.Prelude.{◌≡◌, ◌≢◌, ◌≤◌, Err, IsTrue, IfOk, IfErr, IsErrOf};
+ghost use Rattle.std.specs.Prelude.{◌≡◌, ◌≢◌, ◌≤◌, ℕ, List, Err, IsTrue, IfOk, IfErr, IsErrOf};
 ghost use Rattle.at_cid.specs.Counts.{Rose};
 ghost use Rattle.repo_sync.specs.Checks.{ChecksExactly, IsOfSome, IsRefused};
 ghost use Rattle.repo_sync.specs.Repository.{IsWhole};
@@ -32,6 +32,7 @@ pub fn check_repo<R: Repos>(
     ensures exact { IsTrue R.tells → ChecksExactly did.now least (R.left repos.old) result }
     // What is answered is true of some bytes also where nothing is told of them.
     ensures some { IsOfSome did.now least result }
+    ensures same { IsTrue R.tells → (did : List ℕ) → R.repository repos.new did ≡ R.repository repos.old did }
     ensures records { IfOk result (λ found. found.records ≤ MOST_KEYS) }
     ensures counts { R.faults repos.old ≤ R.faults repos.new }
     // Where a read failed, that is the answer.

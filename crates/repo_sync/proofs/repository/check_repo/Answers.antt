@@ -23,6 +23,7 @@ returns-clause-some g c =
     let some = c.in_ok-kept.ensures.some in
     record {
       bytes = some.0;
-      whole = whole_judged c.args.did.now c.args.least some.0 c.in_ok-kept.kept c.judge.result some.1 c.judge.ensures.judges;
-      refused = refused_judged c.args.did.now c.args.least some.0 c.in_ok-kept.kept c.judge.result some.1 c.judge.ensures.judges;
+      are = some.1;
+      whole = whole_judged c.args.did.now c.args.least some.0 c.in_ok-kept.kept c.judge.result some.2 c.judge.ensures.judges;
+      refused = refused_judged c.args.did.now c.args.least some.0 c.in_ok-kept.kept c.judge.result some.2 c.judge.ensures.judges;
     }

@@ -1,0 +1,55 @@
+-- What a fetch found, as rows and the relay's own events need it (own).
+use Rattle.std.specs.Prelude.{◌≡◌, ⊤, ℕ, ◌<◌, ◌^◌, Bool, true, not, ◌==◌, List, [], length, Option}
+use Rattle.std.specs.List.{filter}
+use Rattle.at_authority.specs.Calls.{Call, AreCalls}
+use Rattle.at_authority.specs.Panels.{Panel}
+use Rattle.at_car.specs.Blocks.{IsLinkOf}
+use Rattle.at_cbor.specs.Spelling.{IsString, IsText}
+use Rattle.at_cid.specs.Link.{IsBytes}
+use Rattle.at_event.specs.declared.head.Head.{Head}
+use Rattle.relay_row.specs.Rules.{is_head, is_repo_number}
+use Rattle.relay_row.specs.declared.limits.TheConstants.{NUMBERS}
+use Rattle.relay_core.specs.Decide.{Found, absent, unfit, found, commit_car}
+use Rattle.relay_core.specs.declared.limits.TheConstants.{FETCHED_UNSIGNED}
+use Rattle.repo_sync.specs.Repository.{IsWhole}
+use Rattle.repo_sync.specs.declared.found.Found.{Found as Checked}
+use Rattle.relay_step.specs.Asked.{AllAbout, is_refresh}
+use Rattle.relay_step.specs.declared.fetching.Fetch.{Fetch}
+
+abbrev pub found_as : Fetch → Found
+found_as Fetch.Absent = absent
+found_as (Fetch.Refused n) = unfit n
+found_as (Fetch.Fit checked) = found checked.head checked.records checked.block
+
+-- a bad signature where what was found says so, else a good one
+abbrev pub is_good : Found → Bool
+is_good absent = true
+is_good (unfit n) = not (n == FETCHED_UNSIGNED)
+is_good (found head records block) = true
+
+-- what was found is the whole of some bytes
+pub record IsOfBytes (did : List ℕ) (least : Option ℕ) (checked : Checked) : Type 0 where
+  pub bytes : List ℕ
+  pub are : IsBytes bytes
+  pub whole : IsWhole did least bytes checked
+
+-- what was found may stand in a row
+abbrev pub MayBeKept : Found → Type 0
+MayBeKept absent = ⊤
+MayBeKept (unfit n) = is_repo_number true n ≡ true
+MayBeKept (found head records block) = (is_head head ≡ true) × (records < NUMBERS) × IsLinkOf head.commit block
+
+-- the relay's own event of a commit can be read back: what types say of its parts
+pub record IsTyped (did time : List ℕ) (head : Head) (block : List ℕ) : Type 0 where
+  pub did_text : IsText did
+  pub time_text : IsText time
+  pub rev : head.rev < 2 ^ 64
+  pub car : IsString (commit_car head block)
+  pub short : length (commit_car head block) < 2 ^ 63
+
+-- What was asked of the judges about an account, with no refresh.
+pub record AskedPlain (old : Panel) (did : List ℕ) (new : Panel) : Type 0 where
+  pub calls : List Call
+  pub about : AllAbout did calls
+  pub plain : filter is_refresh calls ≡ []
+  pub made : AreCalls old calls new
