@@ -12,3 +12,4 @@ pub mod Shown
 pub mod Known
 pub mod Carrying
 pub mod Coming
+pub mod Heads

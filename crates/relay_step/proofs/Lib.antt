@@ -4,3 +4,7 @@ pub mod Walks
 pub mod Tidy
 pub mod Calls
 pub mod Deciding
+pub mod Taken
+pub mod Fetched
+pub mod Losing
+pub mod Steps

@@ -183,3 +183,30 @@ commit_asked a (Body.Sync s) x h =
     absurd cc
 commit_asked a Body.Identity x h = let none = blocks_asked a Body.Identity x Question.Link (λ e. absurd cc) (λ e. absurd cc) h in absurd cc
 commit_asked a (Body.Account b) x h = let none = blocks_asked a (Body.Account b) x Question.Link (λ e. absurd cc) (λ e. absurd cc) h in absurd cc
+
+-- ---- a fetch
+
+never_fetch : (a : State) (body : Body) (x : Answers) → walk (body_lines a body x) ≡ waits Question.Fetch → ⊥
+never_fetch a (Body.Commit c) x h =
+    let at = at_repo a c.rev x (link_line x ∷ []) Question.Fetch h in
+    let end = past_link x.linked [] Question.Fetch (λ e. absurd cc) (at.behind (λ e. absurd cc) (λ e. absurd cc) (λ e. absurd cc)) in
+    absurd cc
+never_fetch a (Body.Sync s) x h =
+    let at = at_repo a s.rev x [] Question.Fetch h in
+    let end = at.behind (λ e. absurd cc) (λ e. absurd cc) (λ e. absurd cc) in
+    absurd cc
+never_fetch a Body.Identity x h = let none = blocks_asked a Body.Identity x Question.Fetch (λ e. absurd cc) (λ e. absurd cc) h in absurd cc
+never_fetch a (Body.Account b) x h = let none = blocks_asked a (Body.Account b) x Question.Fetch (λ e. absurd cc) (λ e. absurd cc) h in absurd cc
+
+at_lost : (w : Walk) (a : State) (body : Body) (f : Option Fetched) → (w ≡ waits Question.Fetch → ⊥) → next_at w a body f ≡ Next.Ask Question.Fetch → (r : Refusal) × (w ≡ refuses r) × (loses (code_of r) ≡ true)
+at_lost (waits p) a body f never h = let same : p ≡ Question.Fetch = cc in absurd (never (ap waits same))
+at_lost (refuses r) a body f never h = (r, refl, by_loses (loses (code_of r)) h)
+  where
+    by_loses : (b : Bool) → cond b (after_fetch r f) (Next.Done (record { refusal = Some r; held = false; gives = false })) ≡ Next.Ask Question.Fetch → b ≡ true
+    by_loses true h = refl
+    by_loses false h = absurd cc
+at_lost passes a body f never h = absurd cc
+
+-- the refusal behind which a fetch is asked for
+pub lost_walk : (a : State) (e : Seen) (x : Answers) → next_at (walk (event_lines a e x)) a e.body x.fetched ≡ Next.Ask Question.Fetch → (r : Refusal) × (walk (event_lines a e x) ≡ refuses r) × (loses (code_of r) ≡ true)
+lost_walk a e x h = at_lost (walk (event_lines a e x)) a e.body x.fetched (λ w. never_fetch a e.body x (at_body a e x Question.Fetch (λ k. absurd cc) w).waits_at) h

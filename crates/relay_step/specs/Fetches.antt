@@ -1,5 +1,5 @@
 -- What a fetch found, as rows and the relay's own events need it (own).
-use Rattle.std.specs.Prelude.{◌≡◌, ⊤, ℕ, ◌<◌, ◌^◌, Bool, true, not, ◌==◌, List, [], length, Option}
+use Rattle.std.specs.Prelude.{◌≡◌, ⊤, ℕ, ◌+◌, ◌<◌, ◌^◌, Bool, true, not, ◌==◌, List, [], length, Option}
 use Rattle.std.specs.List.{filter}
 use Rattle.at_authority.specs.Calls.{Call, AreCalls}
 use Rattle.at_authority.specs.Panels.{Panel}
@@ -7,13 +7,15 @@ use Rattle.at_car.specs.Blocks.{IsLinkOf}
 use Rattle.at_cbor.specs.Spelling.{IsString, IsText}
 use Rattle.at_cid.specs.Link.{IsBytes}
 use Rattle.at_event.specs.declared.head.Head.{Head}
-use Rattle.relay_row.specs.Rules.{is_head, is_repo_number}
+use Rattle.relay_row.specs.Rules.{is_head, is_message, is_repo_number}
+use Rattle.relay_row.specs.declared.fetched.Fetched.{Fetched}
 use Rattle.relay_row.specs.declared.limits.TheConstants.{NUMBERS}
-use Rattle.relay_core.specs.Decide.{Found, absent, unfit, found, commit_car}
+use Rattle.relay_core.specs.Decide.{Found, absent, unfit, found, commit_car, sync_message}
 use Rattle.relay_core.specs.declared.limits.TheConstants.{FETCHED_UNSIGNED}
 use Rattle.repo_sync.specs.Repository.{IsWhole}
 use Rattle.repo_sync.specs.declared.found.Found.{Found as Checked}
 use Rattle.relay_step.specs.Asked.{AllAbout, is_refresh}
+use Rattle.relay_step.specs.Operators.{whole_of}
 use Rattle.relay_step.specs.declared.fetching.Fetch.{Fetch}
 
 abbrev pub found_as : Fetch → Found
@@ -53,3 +55,15 @@ pub record AskedPlain (old : Panel) (did : List ℕ) (new : Panel) : Type 0 wher
   pub about : AllAbout did calls
   pub plain : filter is_refresh calls ≡ []
   pub made : AreCalls old calls new
+
+-- what was found, under the number behind the last one
+abbrev pub made_of : ℕ → List ℕ → List ℕ → Found → Fetched
+made_of last did time absent = Fetched.Absent
+made_of last did time (unfit n) = Fetched.Refused n
+made_of last did time (found head records block) = Fetched.Whole (whole_of last did time head records block)
+
+-- where it takes a number there is one, and what types say of the event by which it goes out
+abbrev pub IsSent : ℕ → List ℕ → List ℕ → Found → Type 0
+IsSent last did time absent = ⊤
+IsSent last did time (unfit n) = ⊤
+IsSent last did time (found head records block) = (last + 1 < NUMBERS) × IsTyped did time head block × (is_message (sync_message did time head block (last + 1)) ≡ true)

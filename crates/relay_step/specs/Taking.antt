@@ -5,6 +5,8 @@ use Rattle.at_authority.specs.Panels.{Panel}
 use Rattle.at_event.specs.Seen.{Seen}
 use Rattle.at_event.specs.declared.frame.Frame.{Frame}
 use Rattle.at_event.specs.declared.refusal.Refusal.{Refusal}
+use Rattle.at_event.specs.Refusals.{code_of}
+use Rattle.relay_row.specs.Rules.{loses}
 use Rattle.relay_row.specs.declared.fetched.Fetched.{Fetched}
 use Rattle.relay_row.specs.declared.limits.TheConstants.{NUMBERS}
 use Rattle.relay_row.specs.declared.taken.Taken.{Taken}
@@ -20,7 +22,7 @@ use Rattle.relay_core.specs.declared.answers.Answers.{Answers}
 use Rattle.relay_core.specs.declared.decision.Decision.{Decision}
 use Rattle.relay_core.specs.declared.decision.Next.{Next}
 use Rattle.relay_core.specs.declared.journal_state.Core.{Core}
-use Rattle.relay_law.specs.Formed.{AreAnswersTo}
+use Rattle.relay_law.specs.Formed.{AreAnswersTo, IsFetchedBehind}
 use Rattle.relay_step.specs.Around.{Around, AskedNothing, SameRepositories}
 use Rattle.relay_step.specs.Fetches.{MayBeKept, is_good}
 use Rattle.relay_step.specs.Fetching.{IsFetchedFrom}
@@ -29,8 +31,11 @@ use Rattle.relay_step.specs.Questions.{IsLinkAnswer, IsTidy, IsTimedSo, calls_to
 use Rattle.relay_step.specs.Words.{IsNow}
 use Rattle.relay_step.specs.declared.told.Told.{Told as Outcome}
 
--- a fetch that was made for an event
-pub record IsFetchOf (repos_tell : Bool) (last : ℕ) (a : State) (e : Seen) (repository : List ℕ → Option (List ℕ)) (moment : ℕ) (fetched : Fetched) (fetch : List Call) : Type 0 where
+-- a fetch that was made for an event, whose refusal loses its account
+pub record IsFetchOf (repos_tell : Bool) (last : ℕ) (a : State) (e : Seen) (repository : List ℕ → Option (List ℕ)) (moment : ℕ) (refusal : Option Refusal) (fetched : Fetched) (fetch : List Call) : Type 0 where
+  pub lost : Refusal
+  pub refused : refusal ≡ Some lost
+  pub due : loses (code_of lost) ≡ true
   pub what : Found
   pub is : fetched ≡ made last e what
   pub sendable : IsSendable last e what
@@ -38,9 +43,9 @@ pub record IsFetchOf (repos_tell : Bool) (last : ℕ) (a : State) (e : Seen) (re
   pub calls : AreFoundCalls e.did what fetch
   pub told : IsTrue repos_tell → IsFetchedFrom (repository e.did) e.did (last_rev a.repo) moment (is_good what) what
 
-abbrev pub IsFetchedSo : Bool → ℕ → State → Seen → (List ℕ → Option (List ℕ)) → ℕ → Option Fetched → List Call → Type 0
-IsFetchedSo repos_tell last a e repository moment None fetch = fetch ≡ []
-IsFetchedSo repos_tell last a e repository moment (Some fetched) fetch = IsFetchOf repos_tell last a e repository moment fetched fetch
+abbrev pub IsFetchedSo : Bool → ℕ → State → Seen → (List ℕ → Option (List ℕ)) → ℕ → Option Refusal → Option Fetched → List Call → Type 0
+IsFetchedSo repos_tell last a e repository moment refusal None fetch = fetch ≡ []
+IsFetchedSo repos_tell last a e repository moment refusal (Some fetched) fetch = IsFetchOf repos_tell last a e repository moment refusal fetched fetch
 
 -- an event was decided for these answers
 pub record EventTook (clock_tells repos_tell : Bool) (c : Core) (host : List ℕ) (e : Seen) (t : Taken) (old new : Around) : Type 0 where
@@ -50,7 +55,7 @@ pub record EventTook (clock_tells repos_tell : Bool) (c : Core) (host : List ℕ
   pub done : next_of (cursor_in c host) (account_in c e.did) (Frame.Event e) x ≡ Next.Done d
   pub taken : t ≡ event_taken c.last host e d x
   pub number : goes_out d.refusal d.held ≡ true → c.last + 1 < NUMBERS
-  pub fetched : IsFetchedSo repos_tell c.last (account_in c e.did) e old.repository (or_zero x.moment) x.fetched fetch
+  pub fetched : IsFetchedSo repos_tell c.last (account_in c e.did) e old.repository (or_zero x.moment) d.refusal x.fetched fetch
   pub calls : AreCalls old.panel (calls_told host e x ++ fetch) new.panel
   pub tidy : IsTidy (account_in c e.did) e x
   pub right : AreAnswersTo c.last (account_in c e.did) e x
@@ -70,7 +75,8 @@ pub record LostTook (repos_tell : Bool) (c : Core) (host : List ℕ) (e : Seen) 
   pub done : next_of (cursor_in c host) (account_in c e.did) (Frame.Event e) (record x { fetched = Some f }) ≡ Next.Done d
   pub taken : told ≡ Outcome.Took (event_taken c.last host e d (record x { fetched = Some f }))
   pub number : goes_out d.refusal d.held ≡ true → c.last + 1 < NUMBERS
-  pub fetched : IsFetchOf repos_tell c.last (account_in c e.did) e repository (or_zero x.moment) f fetch
+  pub fetched : IsFetchOf repos_tell c.last (account_in c e.did) e repository (or_zero x.moment) d.refusal f fetch
+  pub behind : IsFetchedBehind c.last f
   pub calls : AreCalls old fetch new
 
 -- an event with a bad field

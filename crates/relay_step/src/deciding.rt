@@ -5,6 +5,7 @@ ghost use Rattle.at_cid.specs.Counts.{Rose};
 ghost use Rattle.at_syntax.specs.Did.{method_of};
 ghost use Rattle.at_syntax.specs.Host.{is_host};
 ghost use Rattle.at_authority.specs.Panels.{IsSpent};
+ghost use Rattle.at_event.specs.Formed.{IsFormedFrame};
 ghost use Rattle.at_event.specs.Frames.{frame_of};
 ghost use Rattle.at_event.specs.declared.frame.Frame.{Frame as AFrame};
 ghost use Rattle.relay_step.specs.Around.{around};
@@ -17,13 +18,14 @@ ghost use Rattle.relay_step.specs.Taking.{EventTold, OtherTold, is_event};
 use crate::asking::ask_all;
 use crate::fault::StepFault;
 use crate::losing::take_lost;
-use crate::outside::ask_moment;
+use crate::outside::{ask_moment, tell_text};
 use crate::taking::take;
 use crate::told::Told;
 use at_authority::Judges;
 use at_event::{Event, Frame, FrameFault, read_frame};
 use relay_core::{Answers, Core, Next, Pass, Question};
 use relay_io::{Clock, Repos};
+// LAW use relay_law::made_rows_are_formed;
 use relay_row::Row;
 use std::alloc::Global;
 
@@ -96,6 +98,7 @@ fn decide_frame<P: Judges, R: Repos, C: Clock>(
     clock: &mut C,
 ) -> Result<Told, StepFault>
     requires host { IsTrue (is_host host.now) }
+    requires frame { IsFormedFrame frame.now }
     ensures told { IfOk result (λ told. IsDecided core.now host.now (Ok frame.now) (told_as told)) }
     ensures asked { IfOk result (λ told. IsAskedOf C.tells R.tells core.now (around (P.panel judges.old) (C.moments clock.old) (R.repository repos.old)) host.now (Ok frame.now) (told_as told)
         (around (P.panel judges.new) (C.moments clock.new) (R.repository repos.new))) }
@@ -107,8 +110,11 @@ fn decide_frame<P: Judges, R: Repos, C: Clock>(
     ensures clock_counts { C.faults clock.old ≤ C.faults clock.new }
     ensures repos_count { R.faults repos.old ≤ R.faults repos.new }
 {
+    // LAW made_rows_are_formed();
+    tell_text(host);
     match frame {
         Frame::Event(event) => {
+            event.tell_event();
             decide_event(alloc, core, host, frame, event, judges, repos, clock)
         }
         Frame::Faulty(_) | Frame::Info | Frame::Error | Frame::Unknown => {

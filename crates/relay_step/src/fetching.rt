@@ -5,25 +5,27 @@ ghost use Rattle.at_cid.specs.Counts.{Rose};
 ghost use Rattle.at_syntax.specs.Did.{is_did, method_of};
 ghost use Rattle.at_authority.specs.Panels.{IsSpent};
 ghost use Rattle.at_car.specs.Blocks.{IsLinkOf};
-ghost use Rattle.at_cbor.specs.Spelling.{IsString, IsText};
-ghost use Rattle.relay_row.specs.Rules.{is_message};
+ghost use Rattle.at_cbor.specs.Spelling.{IsString};
+ghost use Rattle.relay_row.specs.Rules.{is_message, is_string};
 ghost use Rattle.relay_row.specs.declared.limits.TheConstants.{NUMBERS};
+ghost use Rattle.relay_core.specs.Decide.{is_found};
 ghost use Rattle.relay_step.specs.Around.{SameRepositories};
 ghost use Rattle.relay_step.specs.Causes.{IsCause};
-ghost use Rattle.relay_step.specs.Fetches.{AskedPlain, IsOfBytes, IsTyped, MayBeKept, found_as, is_good};
+ghost use Rattle.relay_step.specs.Fetches.{AskedPlain, IsOfBytes, IsSent, IsTyped, MayBeKept, found_as, is_good, made_of};
 ghost use Rattle.relay_step.specs.Fetching.{IsFetchedFrom, found_by};
 ghost use Rattle.relay_step.specs.Operators.{AnsweredFetch, whole_of};
 ghost use Rattle.relay_step.specs.declared.fault.StepFault.{StepFault as Fault};
 
 use crate::fault::StepFault;
-use crate::outside::ask_verdict;
+use crate::outside::{ask_verdict, tell_text};
+use crate::taking::is_full;
 use at_authority::Judges;
 use at_car::{Blocks, write};
 use at_event::sync_frame;
 use at_syntax::Tid;
-use relay_core::{FETCHED_AHEAD, FETCHED_UNSIGNED, is_ahead};
+use relay_core::{Core, FETCHED_AHEAD, FETCHED_UNSIGNED, is_ahead};
 use relay_io::{Repos, ReposFault};
-use relay_row::Whole;
+use relay_row::{Fetched, Whole};
 use repo_sync::{Found, RepoFault, check_repo};
 use std::alloc::Global;
 
@@ -97,11 +99,6 @@ pub(crate) fn fetch<P: Judges, R: Repos>(
     }
 }
 
-// What the types of a DID and a time say of them.
-fn tell_text(text: &str)
-    ensures { IsText text.now }
-{}
-
 // What the type of the bytes of a CAR says of them.
 fn tell_car(bytes: &[u8])
     ensures string { IsString bytes.now }
@@ -110,9 +107,16 @@ fn tell_car(bytes: &[u8])
     let _len = bytes.len();
 }
 
+// What the type of a message's bytes says of them.
+fn tell_message(bytes: &[u8])
+    ensures { is_string bytes.now ≡ true }
+{
+    let _len = bytes.len();
+}
+
 /// A repository that was fetched, taken over under the number behind the last one. Of the event by which this goes out,
 /// the time is `time`, and the commit block is the one block.
-pub(crate) fn take_over(
+fn take_over(
     alloc: Global,
     last: u64,
     did: &str,
@@ -134,6 +138,7 @@ pub(crate) fn take_over(
     tell_text(did);
     tell_text(time);
     tell_car(car.as_slice());
+    tell_message(message.as_slice());
     head.rev.tell_value();
     Ok(Whole {
         seq: last + 1,
@@ -141,4 +146,30 @@ pub(crate) fn take_over(
         records: found.records,
         message,
     })
+}
+
+/// What a fetch comes to in a row, under the number behind the last one where it takes one.
+pub(crate) fn make(
+    alloc: Global,
+    core: &Core,
+    did: &str,
+    time: &str,
+    found: Fetch,
+) -> Result<Fetched, StepFault>
+    requires may { MayBeKept (found_as found) }
+    ensures made { IfOk result (λ fetched. fetched ≡ made_of core.now.last did.now time.now (found_as found)) }
+    ensures sent { OnOk result (IsSent core.now.last did.now time.now (found_as found)) }
+    ensures caused { IfErr result (IsCause ((NUMBERS ≤ core.now.last + 1) × (is_found (found_as found) ≡ true)) ⊥ ⊥ ⊥) }
+{
+    match found {
+        Fetch::Absent => Ok(Fetched::Absent),
+        Fetch::Refused(number) => Ok(Fetched::Refused(number)),
+        Fetch::Fit(found) => {
+            if is_full(core) {
+                return Err(StepFault::SeqEnd);
+            }
+            let whole = take_over(alloc, core.last_seq(), did, time, &found)?;
+            Ok(Fetched::Whole(whole))
+        }
+    }
 }

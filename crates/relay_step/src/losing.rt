@@ -7,64 +7,26 @@ ghost use Rattle.at_form.specs.declared.forms.TheConstants.{LONGEST_SHORT_TEXT};
 ghost use Rattle.at_authority.specs.Panels.{IsSpent};
 ghost use Rattle.at_event.specs.declared.frame.Frame.{Frame as AFrame};
 ghost use Rattle.relay_row.specs.declared.limits.TheConstants.{NUMBERS};
-ghost use Rattle.relay_core.specs.Decide.{made};
 ghost use Rattle.relay_core.specs.Entries.{account_in, cursor_in};
-ghost use Rattle.relay_core.specs.Sending.{IsSendable};
 ghost use Rattle.relay_core.specs.Table.{next_of};
 ghost use Rattle.relay_core.specs.declared.answers.Question.{Question as AQuestion};
 ghost use Rattle.relay_core.specs.declared.decision.Next.{Next as ANext};
-ghost use Rattle.relay_law.specs.Formed.{IsFetchedBehind};
 ghost use Rattle.relay_step.specs.Around.{SameRepositories};
 ghost use Rattle.relay_step.specs.Causes.{IsCause};
-ghost use Rattle.relay_step.specs.Fetches.{AskedPlain, MayBeKept, found_as};
+ghost use Rattle.relay_step.specs.Fetches.{AskedPlain};
 ghost use Rattle.relay_step.specs.Taking.{LostTook};
 
 use crate::asking::repo_of;
 use crate::fault::StepFault;
-use crate::fetching::{Fetch, fetch, take_over};
+use crate::fetching::{fetch, make};
 use crate::reading::last_rev;
-use crate::taking::{is_full, take};
+use crate::taking::take;
 use crate::told::Told;
 use at_authority::Judges;
 use at_event::{Event, Frame};
 use relay_core::{Answers, Core, Next};
 use relay_io::Repos;
-use relay_row::Fetched;
 use std::alloc::Global;
-
-/// What a fetch for an event comes to in its row.
-fn make(
-    alloc: Global,
-    core: &Core,
-    event: &Event,
-    found: Fetch,
-) -> Result<Fetched, StepFault>
-    requires did { IsTrue (is_did event.now.did) }
-    requires time { length event.now.time ≤ LONGEST_SHORT_TEXT }
-    requires may { MayBeKept (found_as found) }
-    ensures made { IfOk result (λ fetched. fetched ≡ made core.now.last event.now (found_as found)) }
-    ensures sendable { OnOk result (IsSendable core.now.last event.now (found_as found)) }
-    ensures behind { IfOk result (IsFetchedBehind core.now.last) }
-    ensures caused { IfErr result (IsCause (NUMBERS ≤ core.now.last + 1) ⊥ ⊥ ⊥) }
-{
-    match found {
-        Fetch::Absent => Ok(Fetched::Absent),
-        Fetch::Refused(number) => Ok(Fetched::Refused(number)),
-        Fetch::Fit(found) => {
-            if is_full(core) {
-                return Err(StepFault::SeqEnd);
-            }
-            let whole = take_over(
-                alloc,
-                core.last_seq(),
-                event.did.as_str(),
-                event.time.as_str(),
-                &found,
-            )?;
-            Ok(Fetched::Whole(whole))
-        }
-    }
-}
 
 /// The row of an event behind whose refusal its account's repository is fetched.
 pub(crate) fn take_lost<P: Judges, R: Repos>(
@@ -99,7 +61,7 @@ pub(crate) fn take_lost<P: Judges, R: Repos>(
         judges,
         repos,
     )?;
-    answers.fetched = Some(make(alloc, core, event, found)?);
+    answers.fetched = Some(make(alloc, core, did, event.time.as_str(), found)?);
     let Next::Done(decision) = core.next(host, frame, &answers) else {
         unreachable!()
     };

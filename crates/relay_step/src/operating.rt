@@ -9,14 +9,18 @@ ghost use Rattle.relay_step.specs.Messages.{KeepsJournal};
 ghost use Rattle.relay_step.specs.Words.{EndsBehind, OperatedAt, rows_said};
 
 use crate::fault::StepFault;
+use crate::outside::{ask_moment, tell_text};
+use crate::taking::is_full;
 use crate::word::Word;
 use relay_core::Core;
 use relay_io::Clock;
+// LAW use relay_law::operated_rows_are_formed;
+use relay_row::Row;
 use std::alloc::Global;
 
 /// Takes an account down, or restores it: the clock is asked first. `time` is that of the event by which this goes out.
 pub fn operate<C: Clock>(
-    _alloc: Global,
+    alloc: Global,
     core: &Core,
     did: &str,
     down: bool,
@@ -31,5 +35,16 @@ pub fn operate<C: Clock>(
     ensures caused { IfErr result (IsCause (EndsBehind core.now did.now down) ⊥ ⊥ (Rose (C.faults clock.old) (C.faults clock.new))) }
     ensures counts { C.faults clock.old ≤ C.faults clock.new }
 {
-    Err(StepFault::Memory)
+    let moment = ask_moment(clock)?;
+    if let Some(refusal) = core.operate_refusal(did, down) {
+        return Ok(Word::Refused(refusal));
+    }
+    if is_full(core) {
+        return Err(StepFault::SeqEnd);
+    }
+    // LAW operated_rows_are_formed();
+    tell_text(did);
+    tell_text(time);
+    let operated = core.operated(alloc, did, down, time, Some(moment))?;
+    Ok(Word::Made(Row::Operated(operated)))
 }

@@ -11,17 +11,24 @@ ghost use Rattle.relay_step.specs.Causes.{CameToNothing, IsCause};
 ghost use Rattle.relay_step.specs.Messages.{KeepsJournal};
 ghost use Rattle.relay_step.specs.Words.{EndsFetched, SyncedAt, rows_said, told_where};
 
+use crate::asking::repo_of;
 use crate::fault::StepFault;
+use crate::fetching::{fetch, make};
+use crate::outside::{ask_moment, tell_text};
+use crate::reading::last_rev;
 use crate::word::Word;
 use at_authority::Judges;
-use relay_core::Core;
+use at_cid::Words;
+use relay_core::{Core, fetch_refusal};
 use relay_io::{Clock, Repos};
+// LAW use relay_law::synced_rows_are_formed;
+use relay_row::{Fetched, Row};
 use std::alloc::Global;
 
 /// Fetches an account's repository and takes it over: the clock is asked first. `time` is that of the event by which this
 /// goes out.
 pub fn sync_now<P: Judges, R: Repos, C: Clock>(
-    _alloc: Global,
+    alloc: Global,
     core: &Core,
     did: &str,
     time: &str,
@@ -41,5 +48,21 @@ pub fn sync_now<P: Judges, R: Repos, C: Clock>(
     ensures clock_counts { C.faults clock.old ≤ C.faults clock.new }
     ensures repos_count { R.faults repos.old ≤ R.faults repos.new }
 {
-    Err(StepFault::Memory)
+    let moment = ask_moment(clock)?;
+    if let Some(refusal) = core.sync_refusal(did) {
+        return Ok(Word::Refused(refusal));
+    }
+    let least = last_rev(&repo_of(core, did));
+    let found = fetch(alloc, did, least, moment, judges, repos)?;
+    let fetched = make(alloc, core, did, time, found)?;
+    if let Some(refusal) = fetch_refusal(&fetched) {
+        return Ok(Word::Refused(refusal));
+    }
+    let Fetched::Whole(whole) = fetched else {
+        unreachable!()
+    };
+    // LAW synced_rows_are_formed();
+    tell_text(did);
+    let did = Words::from_str(alloc, did)?;
+    Ok(Word::Made(Row::Synced(did, whole, Some(moment))))
 }
