@@ -12,4 +12,3 @@ pub mod Shown
 pub mod Known
 pub mod Carrying
 pub mod Coming
-pub mod Heads

@@ -6,5 +6,4 @@ pub mod Covered
 pub mod Faithful
 pub mod Carried
 pub mod Histories
-pub mod Formed
 pub mod Laws
