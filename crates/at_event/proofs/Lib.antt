@@ -6,4 +6,6 @@ pub mod Messages
 pub mod Texts
 pub mod OwnEvents
 pub mod OutLengths
+pub mod Fields
+pub mod FormedOps
 pub mod Formed

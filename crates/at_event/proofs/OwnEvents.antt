@@ -61,7 +61,7 @@ module _ (did : List ℕ) (rev : ℕ) (blocks time : List ℕ) (seq : ℕ) (did_
   sync_again = event_again (sync_seen did rev blocks time seq) sync_is_event
 
 -- a status as it may be: a text of at most 64 bytes
-abbrev IsStatus : Option (List ℕ) → Type 0
+abbrev pub IsStatus : Option (List ℕ) → Type 0
 IsStatus (Some status) = IsText status × (length status ≤ 64)
 IsStatus None = Unit {0}
 
@@ -128,7 +128,9 @@ module _ (did : List ℕ) (active : Bool) (time : List ℕ) (seq : ℕ) (did_str
         read = rw (did_is, le-leb (length time) LONGEST_SHORT_TEXT short) refl;
       }
 
+  pub account_read : (status : Option (List ℕ)) → IsStatus status → frame_of (message_of EventKind.Account (account_payload did active status time seq)) ≡ Ok (Frame.Event (account_seen did active status time seq))
+  account_read status is = event_again (account_seen did active status time seq) (account_is_event status is)
+
   pub account_again : (status : Option (Bor (List ℕ))) → IfSome status (λ text. IsString text.now) → IfSome status (λ text. IsUtf8 text.now) → IfSome status (λ text. length text.now ≤ 64)
       → frame_of (message_of EventKind.Account (account_payload did active (option_map (λ text. text.now) status) time seq)) ≡ Ok (Frame.Event (account_seen did active (option_map (λ text. text.now) status) time seq))
-  account_again status string utf8 brief =
-      event_again (account_seen did active (option_map (λ text. text.now) status) time seq) (account_is_event (option_map (λ text. text.now) status) (is_status status string utf8 brief))
+  account_again status string utf8 brief = account_read (option_map (λ text. text.now) status) (is_status status string utf8 brief)

@@ -1,5 +1,6 @@
 -- What holds of all outgoing frames.
 use Rattle.std.specs.Prelude.{◌≡◌, ℕ, ◌<◌, ◌≤◌, List, Some, Ok}
+use Rattle.at_cid.specs.Link.{IsBytes}
 use Rattle.at_cbor.specs.declared.decoding.TheConstants.{DEPTH}
 use Rattle.at_cbor.specs.Item.{Item}
 use Rattle.at_cbor.specs.Kinds.{map_in}
@@ -25,3 +26,7 @@ PayloadsAreMaps = (event : Seen) → IsEvent event → ((fields : List (List ℕ
 -- the fields of an event have their forms
 abbrev pub EventsAreFormed : Type 0
 EventsAreFormed = (event : Seen) → IsEvent event → IsFormed event
+
+-- the event that a message is read as is made of the fields of its payload
+abbrev pub FramesAreEvents : Type 0
+FramesAreEvents = (message : List ℕ) (event : Seen) → IsBytes message → frame_of message ≡ Ok (Frame.Event event) → IsEvent event

@@ -19,7 +19,7 @@ pub use event::{AccountEvent, Body, CommitEvent, Event, SyncEvent};
 pub use frame::{Frame, FrameFault};
 pub use head::Head;
 pub use kind::EventKind;
-pub use laws::{events_are_formed, frames_are_renumbered, payloads_are_maps};
+pub use laws::{events_are_formed, frames_are_events, frames_are_renumbered, payloads_are_maps};
 pub use ops::{Action, EventOp, EventOps};
 pub use own::{account_frame, sync_frame};
 pub use reading::read_frame;

@@ -18,12 +18,12 @@ use Rattle.event_checks.specs.Table.{car_in, open_lines}
 use Rattle.event_checks.proofs.Firsts.{all_unmet}
 use Rattle.commit_check.specs.Order.{Holds}
 
-bytes_left : (a b : List ℕ) → IsBytes (a ++ b) → IsBytes a
+pub bytes_left : (a b : List ℕ) → IsBytes (a ++ b) → IsBytes a
 bytes_left [] b h i = lit< tt
 bytes_left (x ∷ a) b h zero = h 0
 bytes_left (x ∷ a) b h (suc i) = bytes_left a b (λ j. h (suc j)) i
 
-bytes_right : (a b : List ℕ) → IsBytes (a ++ b) → IsBytes b
+pub bytes_right : (a b : List ℕ) → IsBytes (a ++ b) → IsBytes b
 bytes_right [] b h = h
 bytes_right (x ∷ a) b h = bytes_right a b (λ j. h (suc j))
 

@@ -1,10 +1,12 @@
 -- What holds of all commits, whatever code checks them.
-use Rattle.std.specs.Prelude.{◌≡◌, ◌⊎◌, ℕ, List, [], ◌∷◌, Bool, false, Option, None}
+use Rattle.std.specs.Prelude.{◌≡◌, ◌⊎◌, ℕ, List, Bool, false, Option, None}
 use Rattle.std.specs.List.{list_any}
-use Rattle.at_cid.specs.Link.{IsBytes, IsLinkOrNone, IsNodeLink}
+use Rattle.at_cid.specs.Link.{IsBytes, IsNodeLink}
 use Rattle.at_car.specs.Blocks.{BlockMap}
+use Rattle.at_event.specs.Events.{IsEvent}
+use Rattle.at_event.specs.Seen.{Seen}
+use Rattle.at_event.specs.declared.event.Body.{Body}
 use Rattle.at_event.specs.declared.event.CommitEvent.{CommitEvent}
-use Rattle.at_event.specs.declared.ops.EventOp.{EventOp}
 use Rattle.at_event.specs.declared.refusal.Refusal.{Refusal}
 use Rattle.event_checks.specs.Lines.{first_of, is_judged}
 use Rattle.event_checks.specs.Table.{field_lines}
@@ -45,16 +47,6 @@ CommitsAreDecided = (e : CommitEvent) (last : Option ℕ) (gap : Bool) (former :
 abbrev pub RefusalsAreUnjudged : Type 0
 RefusalsAreUnjudged = (e : CommitEvent) (last : Option ℕ) (gap : Bool) (former : List ℕ) (refusal : Refusal) → IsFirstRefusal e last gap former refusal → is_judged refusal ≡ false
 
--- an operation as it is read: its path is bytes, and its links are links
-pub record IsReadOp (op : EventOp) : Type 0 where
-  pub path_bytes : IsBytes op.path
-  pub cid_link : IsLinkOrNone op.cid
-  pub prev_link : IsLinkOrNone op.prev
-
-abbrev pub AreReadOps : List EventOp → Type 0
-AreReadOps [] = Unit {0}
-AreReadOps (op ∷ ops) = IsReadOp op × AreReadOps ops
-
--- Where an event's fields show no refusal, and each change says of what, its edits are well formed and on different keys.
+-- Where the fields of a commit event that was read show no refusal, and each change says of what, its edits are well formed and on different keys.
 abbrev pub EditsAreFormed : Type 0
-EditsAreFormed = (e : CommitEvent) → AreReadOps e.ops → first_of (field_lines e) ≡ None → list_any lacks_prev e.ops ≡ false → AreFormedOps (edits_of e) × AreApart (edits_of e)
+EditsAreFormed = (event : Seen) (e : CommitEvent) → IsEvent event → event.body ≡ Body.Commit e → first_of (field_lines e) ≡ None → list_any lacks_prev e.ops ≡ false → AreFormedOps (edits_of e) × AreApart (edits_of e)

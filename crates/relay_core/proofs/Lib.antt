@@ -6,4 +6,3 @@ pub mod Showing
 pub mod Returning
 pub mod Running
 pub mod Accepting
-pub mod Opened

@@ -12,7 +12,7 @@ use Rattle.relay_row.specs.declared.fetched.Fetched.{Fetched}
 use Rattle.account_state.specs.State.{State}
 use Rattle.account_state.specs.Folds.{last_rev}
 use Rattle.relay_core.specs.Decide.{Checks, Outside, Found, absent, unfit, found, made, sync_message, answers, as_result, first, or_later, decision_for, refusal_of, decided_event}
-use Rattle.relay_core.specs.Laws.{IsAside, AreAside, RowsShow}
+use Rattle.relay_core.specs.Laws.{RowsShow}
 use Rattle.relay_core.specs.Sending.{IsSendable}
 use Rattle.relay_core.proofs.Returning.{block_returns}
 use Rattle.relay_core.specs.Rows.{effect_of, fetched_of, event_taken}
@@ -24,39 +24,37 @@ use Rattle.relay_core.specs.declared.limits.TheConstants.{LONGEST_MESSAGE}
 abbrev pub table : Option Refusal → Bool → Option Refusal → Option Refusal → Option Refusal → Option Refusal → Bool → Option Refusal → Option Refusal
 table l b i d o u v k = or_later l (or_later (when (not b) Refusal.NotHome) (or_later i (or_later d (or_later o (or_later u (or_later (when (not v) Refusal.BadSignature) (or_later k None)))))))
 
-table_again : (l : Option Refusal) (b : Bool) (i d o u : Option Refusal) (v : Bool) (k : Option Refusal) → IsAside l → IsAside i → IsAside d → IsAside o → IsAside u → IsAside k
+-- a refusal that is told, of the home or not, is told again
+told_again : (r : Refusal) → or_later (when (not (shows_home (Some r))) Refusal.NotHome) (Some r) ≡ Some r
+told_again Refusal.NotHome = refl
+told_again other = refl
+
+last_again : (r : Refusal) → or_later (when (not (shows_home (Some r))) Refusal.NotHome) (or_later (when (not (shows_verdict (Some r))) Refusal.BadSignature) (Some r)) ≡ Some r
+last_again Refusal.NotHome = refl
+last_again Refusal.BadSignature = refl
+last_again other = refl
+
+table_again : (l : Option Refusal) (b : Bool) (i d o u : Option Refusal) (v : Bool) (k : Option Refusal)
     → table l (shows_home (table l b i d o u v k)) i d o u (shows_verdict (table l b i d o u v k)) k ≡ table l b i d o u v k
-table_again (Some r) b i d o u v k hl hi hd ho hu hk = refl
-table_again None false i d o u v k hl hi hd ho hu hk = refl
-table_again None true (Some r) d o u v k hl hi hd ho hu hk = rw hi.0 refl
-table_again None true None (Some r) o u v k hl hi hd ho hu hk = rw hd.0 refl
-table_again None true None None (Some r) u v k hl hi hd ho hu hk = rw ho.0 refl
-table_again None true None None None (Some r) v k hl hi hd ho hu hk = rw hu.0 refl
-table_again None true None None None None false k hl hi hd ho hu hk = refl
-table_again None true None None None None true (Some r) hl hi hd ho hu hk = rw (hk.0, hk.1) refl
-table_again None true None None None None true None hl hi hd ho hu hk = refl
+table_again (Some r) b i d o u v k = refl
+table_again None false i d o u v k = refl
+table_again None true (Some r) d o u v k = told_again r
+table_again None true None (Some r) o u v k = told_again r
+table_again None true None None (Some r) u v k = told_again r
+table_again None true None None None (Some r) v k = told_again r
+table_again None true None None None None false k = refl
+table_again None true None None None None true (Some r) = last_again r
+table_again None true None None None None true None = refl
 
 short : Option Refusal → Bool → Option Refusal → Option Refusal
 short l b d = or_later l (or_later (when (not b) Refusal.NotHome) (or_later d None))
 
-short_again : (l : Option Refusal) (b : Bool) (d : Option Refusal) → IsAside l → IsAside d → short l (shows_home (short l b d)) d ≡ short l b d
+short_again : (l : Option Refusal) (b : Bool) (d : Option Refusal) → short l (shows_home (short l b d)) d ≡ short l b d
 unfolding short
-short_again (Some r) b d hl hd = refl
-short_again None false d hl hd = refl
-short_again None true (Some r) hl hd = rw hd.0 refl
-short_again None true None hl hd = refl
-
-when_aside : (b : Bool) (r : Refusal) → IsAside (Some r) → IsAside (when b r)
-when_aside true r h = h
-when_aside false r h = (refl, refl)
-
-opens_aside : (x : Result Head Refusal) → ((r : Refusal) → x ≡ Err r → IsAside (Some r)) → IsAside (refusal_in x)
-opens_aside (Ok h) f = (refl, refl)
-opens_aside (Err r) f = f r refl
-
-links_aside : (x : Option Refusal) → ((r : Refusal) → x ≡ Some r → IsAside (Some r)) → IsAside (refusal_in (as_result x))
-links_aside None f = (refl, refl)
-links_aside (Some r) f = f r refl
+short_again (Some r) b d = refl
+short_again None false d = refl
+short_again None true (Some r) = told_again r
+short_again None true None = refl
 
 -- the answers with another home and verdict
 told_so : Outside → Option Refusal → Outside
@@ -65,18 +63,14 @@ told_so o q = record { moment = o.moment; home = shows_home q; verdict = shows_v
 body_refusal : Checks → State → Seen → Body → Outside → Option Refusal
 body_refusal checks a e body o = or_later (when (nat_lt LONGEST_MESSAGE (out_length e)) Refusal.TooLong) (first (body_lines a body (answers checks 0 a e o)))
 
-body_again : (checks : Checks) → AreAside checks → (a : State) (e : Seen) (body : Body) (o : Outside) → body_refusal checks a e body (told_so o (body_refusal checks a e body o)) ≡ body_refusal checks a e body o
+body_again : (checks : Checks) (a : State) (e : Seen) (body : Body) (o : Outside) → body_refusal checks a e body (told_so o (body_refusal checks a e body o)) ≡ body_refusal checks a e body o
 unfolding short told_so body_refusal
-body_again checks aside a e (Body.Commit c) o =
+body_again checks a e (Body.Commit c) o =
     table_again (when (nat_lt LONGEST_MESSAGE (out_length e)) Refusal.TooLong) o.home (when (not a.active) Refusal.Inactive) (when a.down Refusal.TakenDown) (refusal_in (checks.opens e (last_rev a.repo))) (when (is_ahead c.rev (Some o.moment)) Refusal.FutureRev) o.verdict (refusal_in (as_result (checks.links e a.repo)))
-    (when_aside _ Refusal.TooLong (refl, refl)) (when_aside _ Refusal.Inactive (refl, refl)) (when_aside _ Refusal.TakenDown (refl, refl))
-    (opens_aside (checks.opens e (last_rev a.repo)) (aside.opens e (last_rev a.repo))) (when_aside _ Refusal.FutureRev (refl, refl)) (links_aside (checks.links e a.repo) (aside.links e a.repo))
-body_again checks aside a e (Body.Sync s) o =
+body_again checks a e (Body.Sync s) o =
     table_again (when (nat_lt LONGEST_MESSAGE (out_length e)) Refusal.TooLong) o.home (when (not a.active) Refusal.Inactive) (when a.down Refusal.TakenDown) (refusal_in (checks.opens e (last_rev a.repo))) (when (is_ahead s.rev (Some o.moment)) Refusal.FutureRev) o.verdict None
-    (when_aside _ Refusal.TooLong (refl, refl)) (when_aside _ Refusal.Inactive (refl, refl)) (when_aside _ Refusal.TakenDown (refl, refl))
-    (opens_aside (checks.opens e (last_rev a.repo)) (aside.opens e (last_rev a.repo))) (when_aside _ Refusal.FutureRev (refl, refl)) (refl, refl)
-body_again checks aside a e Body.Identity o = short_again (when (nat_lt LONGEST_MESSAGE (out_length e)) Refusal.TooLong) o.home (when a.down Refusal.TakenDown) (when_aside _ Refusal.TooLong (refl, refl)) (when_aside _ Refusal.TakenDown (refl, refl))
-body_again checks aside a e (Body.Account b) o = short_again (when (nat_lt LONGEST_MESSAGE (out_length e)) Refusal.TooLong) o.home None (when_aside _ Refusal.TooLong (refl, refl)) (refl, refl)
+body_again checks a e Body.Identity o = short_again (when (nat_lt LONGEST_MESSAGE (out_length e)) Refusal.TooLong) o.home (when a.down Refusal.TakenDown)
+body_again checks a e (Body.Account b) o = short_again (when (nat_lt LONGEST_MESSAGE (out_length e)) Refusal.TooLong) o.home None
 
 -- the refusal doesn't hang on what was fetched
 lines_free : (checks : Checks) (a : State) (e : Seen) (body : Body) (m : ℕ) (y v : Bool) (f g : Found) → body_lines a body (answers checks 0 a e (record { moment = m; home = y; verdict = v; fetched = f })) ≡ body_lines a body (answers checks 0 a e (record { moment = m; home = y; verdict = v; fetched = g }))
@@ -85,13 +79,13 @@ lines_free checks a e (Body.Sync s) m y v f g = refl
 lines_free checks a e Body.Identity m y v f g = refl
 lines_free checks a e (Body.Account b) m y v f g = refl
 
-again : (checks : Checks) → AreAside checks → (a : State) (e : Seen) (o : Outside) (q : Option Refusal) (f : Found) → refusal_of checks a e o ≡ q
+again : (checks : Checks) (a : State) (e : Seen) (o : Outside) (q : Option Refusal) (f : Found) → refusal_of checks a e o ≡ q
     → refusal_of checks a e (record { moment = o.moment; home = shows_home q; verdict = shows_verdict q; fetched = f }) ≡ q
 unfolding told_so body_refusal
-again checks aside a e o q f h =
+again checks a e o q f h =
     let P : Option Refusal → Type 0 = λ p. body_refusal checks a e e.body (told_so o p) ≡ p in
     ap (λ (lines : List Line). or_later (when (nat_lt LONGEST_MESSAGE (out_length e)) Refusal.TooLong) (first lines)) (lines_free checks a e e.body o.moment (shows_home q) (shows_verdict q) f o.fetched)
-    ∙ subst P h (body_again checks aside a e e.body o)
+    ∙ subst P h (body_again checks a e e.body o)
 
 effect_free : (checks : Checks) (n : ℕ) (a : State) (e : Seen) (body : Body) (o p : Outside) → effect_of body (answers checks n a e o) ≡ effect_of body (answers checks n a e p)
 effect_free checks n a e (Body.Commit c) o p = refl
@@ -109,14 +103,14 @@ fetched_again : (n : ℕ) (e : Seen) (r : Refusal) (f : Found) → IsSendable n 
 fetched_again n e r f back =
     elim (loses (code_of r)) as (λ b. cond b (made n e (found_in (cond b (made n e f) Fetched.NotAsked))) Fetched.NotAsked ≡ cond b (made n e f) Fetched.NotAsked) [ true ↦ made_again n e f back | false ↦ refl ]
 
-by_refusal : (checks : Checks) → AreAside checks → (n : ℕ) (a : State) (host : List ℕ) (e : Seen) (o : Outside) → IsSendable n e o.fetched → (q : Option Refusal) → refusal_of checks a e o ≡ q
+by_refusal : (checks : Checks) (n : ℕ) (a : State) (host : List ℕ) (e : Seen) (o : Outside) → IsSendable n e o.fetched → (q : Option Refusal) → refusal_of checks a e o ≡ q
     → decided_event checks n a host e (shown (event_taken n host e (decision_for a e.body o.fetched q) (answers checks n a e o))) ≡ event_taken n host e (decision_for a e.body o.fetched q) (answers checks n a e o)
-by_refusal checks aside n a host e o back None h =
-    rw (again checks aside a e o None absent h)
+by_refusal checks n a host e o back None h =
+    rw (again checks a e o None absent h)
     (let effect = effect_free checks n a e e.body (record { moment = o.moment; home = true; verdict = true; fetched = absent }) o in cc)
-by_refusal checks aside n a host e o back (Some r) h =
-    rw (again checks aside a e o (Some r) (found_in (fetched_of (Some r) (Some (made n e o.fetched)))) h)
+by_refusal checks n a host e o back (Some r) h =
+    rw (again checks a e o (Some r) (found_in (fetched_of (Some r) (Some (made n e o.fetched)))) h)
     (let fetched = fetched_again n e r o.fetched back in cc)
 
 pub rows_show : RowsShow
-rows_show checks aside n a host e o back = by_refusal checks aside n a host e o back (refusal_of checks a e o) refl
+rows_show checks n a host e o back = by_refusal checks n a host e o back (refusal_of checks a e o) refl

@@ -13,6 +13,7 @@ use Rattle.at_event.specs.declared.kind.EventKind.{EventKind}
 use Rattle.at_event.specs.declared.refusal.Refusal.{Refusal}
 use Rattle.relay_row.specs.Rules.{loses}
 use Rattle.relay_row.specs.declared.fetched.Fetched.{Fetched}
+use Rattle.relay_row.specs.declared.fetched.Whole.{Whole}
 use Rattle.relay_row.specs.declared.taken.Taken.{Taken}
 use Rattle.account_state.specs.Folds.{last_rev}
 use Rattle.account_state.specs.State.{State}
@@ -58,12 +59,15 @@ judged moment good head records block = if is_ahead head.rev (Some moment) then 
 unfoldable pub sync_message : List ℕ → List ℕ → Head → List ℕ → ℕ → List ℕ
 sync_message did time head block n = message_of EventKind.Sync (sync_payload did head.rev (commit_car head block) time n)
 
+-- a repository that is taken over, under a number
+abbrev pub whole_under : List ℕ → List ℕ → Head → ℕ → List ℕ → ℕ → Whole
+whole_under did time head records block n = record { seq = n; head = head; records = records; message = sync_message did time head block n }
+
 -- what was found, under the number behind the last one
 abbrev pub made : ℕ → Seen → Found → Fetched
 made last e absent = Fetched.Absent
 made last e (unfit n) = Fetched.Refused n
-made last e (found head records block) =
-    Fetched.Whole (record { seq = last + 1; head = head; records = records; message = sync_message e.did e.time head block (last + 1) })
+made last e (found head records block) = Fetched.Whole (whole_under e.did e.time head records block (last + 1))
 
 abbrev pub as_result : Option Refusal → Result (Unit {0}) Refusal
 as_result None = Ok tt

@@ -1,5 +1,5 @@
 -- What holds of all decisions.
-use Rattle.std.specs.Prelude.{◌≡◌, ℕ, ◌+◌, Bool, true, false, not, List, Option, Some, None, Err, nat_le, if◌then◌else◌}
+use Rattle.std.specs.Prelude.{◌≡◌, ℕ, ◌+◌, Bool, true, false, not, List, Option, Some, None, nat_le, if◌then◌else◌}
 use Rattle.std.specs.Option.{is_some}
 use Rattle.at_event.specs.Seen.{Seen}
 use Rattle.at_event.specs.declared.frame.Frame.{Frame}
@@ -8,13 +8,11 @@ use Rattle.at_event.specs.declared.refusal.Refusal.{Refusal}
 use Rattle.relay_row.specs.declared.row.Row.{Row}
 use Rattle.account_state.specs.Folds.{account}
 use Rattle.account_state.specs.State.{State}
-use Rattle.account_state.specs.declared.repo.Repo.{Repo}
 use Rattle.relay_core.specs.Decide.{Checks, Outside, sync_message, answers, refusal_of, decision_for, decided_event}
-use Rattle.relay_core.specs.Opening.{OpensRight}
 use Rattle.relay_core.specs.Ready.{IsReady}
 use Rattle.relay_core.specs.Runs.{Message, Run}
 use Rattle.relay_core.specs.Sending.{CanBeSent, IsSendable}
-use Rattle.relay_core.specs.Shown.{shows_home, shows_verdict, block_in, shown}
+use Rattle.relay_core.specs.Shown.{block_in, shown}
 use Rattle.relay_core.specs.Table.{next_of}
 use Rattle.relay_core.specs.Worlds.{World, RunIn}
 use Rattle.relay_core.specs.declared.answers.Answers.{Answers}
@@ -40,31 +38,18 @@ abbrev pub NextDecides : Type 0
 NextDecides = (checks : Checks) (last cursor : ℕ) (a : State) (e : Seen) (o : Outside) → nat_le e.seq cursor ≡ false
     → next_of cursor a (Frame.Event e) (answers checks last a e o) ≡ Next.Done (decision_for a e.body o.fetched (refusal_of checks a e o))
 
--- a refusal that speaks of neither home nor verdict
-abbrev pub IsAside : Option Refusal → Type 0
-IsAside r = (shows_home r ≡ true) × (shows_verdict r ≡ true)
-
--- Opening and linking speak of neither home nor verdict.
-pub record AreAside (checks : Checks) : Type 0 where
-  pub opens : (e : Seen) (last : Option ℕ) (r : Refusal) → checks.opens e last ≡ Err r → IsAside (Some r)
-  pub links : (e : Seen) (repo : Repo) (r : Refusal) → checks.links e repo ≡ Some r → IsAside (Some r)
-
--- Where opening is right, it speaks of neither home nor verdict.
-abbrev pub OpeningIsAside : Type 0
-OpeningIsAside = (checks : Checks) → OpensRight checks → (e : Seen) (last : Option ℕ) (r : Refusal) → checks.opens e last ≡ Err r → IsAside (Some r)
-
 -- The block of a commit is read back from the relay's own message of it.
 abbrev pub BlocksReturn : Type 0
 BlocksReturn = (last : ℕ) (e : Seen) (head : Head) (block : List ℕ) → CanBeSent last e head block → block_in (sync_message e.did e.time head block (last + 1)) head.commit ≡ block
 
 -- The answers that a row shows make that row.
 abbrev pub RowsShow : Type 0
-RowsShow = (checks : Checks) → AreAside checks → (last : ℕ) (a : State) (host : List ℕ) (e : Seen) (o : Outside) → IsSendable last e o.fetched
+RowsShow = (checks : Checks) (last : ℕ) (a : State) (host : List ℕ) (e : Seen) (o : Outside) → IsSendable last e o.fetched
     → decided_event checks last a host e (shown (decided_event checks last a host e o)) ≡ decided_event checks last a host e o
 
 -- A run in a world is a run for the answers that its rows show.
 abbrev pub WorldsRun : Type 0
-WorldsRun = (checks : Checks) → AreAside checks → (w : World) (J : List Row) (messages : List Message) (rows : List Row) → RunIn checks w J messages rows → Run checks J messages rows
+WorldsRun = (checks : Checks) (w : World) (J : List Row) (messages : List Message) (rows : List Row) → RunIn checks w J messages rows → Run checks J messages rows
 
 -- A ready commit whose home and signature are good is accepted, under the next number; else one of the two is told.
 abbrev pub ReadyDecides : Type 0

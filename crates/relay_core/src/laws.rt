@@ -1,6 +1,6 @@
 //! Laws of decisions, each the contract of a function that does nothing.
 
-ghost use Rattle.relay_core.specs.Laws.{AsksOnce, BlocksReturn, NextDecides, OpeningIsAside, ReadyDecides, RowsShow, WorldsRun};
+ghost use Rattle.relay_core.specs.Laws.{AsksOnce, BlocksReturn, NextDecides, ReadyDecides, RowsShow, WorldsRun};
 
 /// No question is asked twice about a message, so at most seven are.
 pub fn asks_once()
@@ -30,9 +30,4 @@ pub fn worlds_run()
 /// A ready commit is accepted where its home and its signature are good.
 pub fn ready_decides()
     ensures { ReadyDecides }
-{}
-
-/// An event that is opened rightly isn't refused as its account's home or its signature would be.
-pub fn opening_is_aside()
-    ensures { OpeningIsAside }
 {}

@@ -1,5 +1,6 @@
 -- A covered commit is accepted where its home and its signature are good.
 use Rattle.std.proofs.Common.{◌≡◌, ℕ, Bool, List, ◌∷◌, Option, Some, None, Result, Ok, Err, refl, ap, ◌∙◌, sym, subst}
+use Rattle.at_event.specs.Events.{IsEvent}
 use Rattle.at_event.specs.Seen.{Seen}
 use Rattle.at_event.specs.declared.event.Body.{Body}
 use Rattle.at_event.specs.declared.head.Head.{Head}
@@ -12,7 +13,7 @@ use Rattle.account_state.specs.Folds.{account, last_rev}
 use Rattle.account_state.specs.State.{State}
 use Rattle.commit_check.specs.Order.{StopsPast}
 use Rattle.commit_check.specs.Step.{edits_of, root_before, Leads}
-use Rattle.commit_check.proofs.Formed.{edits_formed}
+use Rattle.commit_check.proofs.Formed.{commit_read, edits_formed}
 use Rattle.commit_check.proofs.Held.{car_linked}
 use Rattle.commit_check.proofs.Steps.{complete_by, not_stopped, under_links}
 use Rattle.std.proofs.lemmas.Bool.{or_parts}
@@ -25,8 +26,8 @@ use Rattle.relay_core.specs.Table.{refusal_in}
 use Rattle.relay_core.proofs.Accepting.{ready_decides}
 use Rattle.relay_law.specs.Covered.{IsCovered}
 use Rattle.relay_law.specs.Laws.{CoveredAreAccepted}
-use Rattle.relay_law.specs.Right.{AreReadIn, IsRead, LinksRight, expect_of}
-use Rattle.relay_law.proofs.Right.{body_back, first_front}
+use Rattle.relay_law.specs.Right.{LinksRight, expect_of}
+use Rattle.relay_law.proofs.Right.{first_front}
 
 opened_head : (x : Result Head Refusal) → refusal_in x ≡ None → (head : Head) × (x ≡ Ok head)
 opened_head (Ok head) h = (head, refl)
@@ -37,23 +38,23 @@ none_of None h = refl
 none_of (Some r) h = absurd (h r refl)
 
 -- a covered commit leads to its data
-covered_leads : (J : List Row) (host : List ℕ) (e : Seen) (moment : ℕ) → IsRead e → (c : IsCovered J host e moment) → Leads c.commit c.holds.blocks (root_before (expect_of (account e.did J).repo)) c.holds.commit.data_root
+covered_leads : (J : List Row) (host : List ℕ) (e : Seen) (moment : ℕ) → IsEvent e → (c : IsCovered J host e moment) → Leads c.commit c.holds.blocks (root_before (expect_of (account e.did J).repo)) c.holds.commit.data_root
 covered_leads J host e moment read c =
     let fields = first_front (field_lines c.commit) ((Refusal.Stale, is_stale (last_rev (account e.did J).repo) c.commit.rev) ∷ block_lines c.commit) c.shown in
     let no_prev = (or_parts (strays c.commit (expect_of (account e.did J).repo)) (list_any lacks_prev c.commit.ops) c.no_gap).1 in
-    let formed = edits_formed c.commit (body_back AreReadIn e.body c.commit c.body read.ops) fields no_prev in
-    let under = under_links c.holds.blocks (car_linked c.commit.blocks c.holds.roots c.holds.blocks c.bytes c.holds.car) in
+    let formed = edits_formed e c.commit read c.body fields no_prev in
+    let under = under_links c.holds.blocks (car_linked c.commit.blocks c.holds.roots c.holds.blocks (commit_read e c.commit read c.body).blocks.1 c.holds.car) in
     complete_by (edits_of c.commit) c.holds.blocks (root_before (expect_of (account e.did J).repo)) c.holds.commit.data_root under formed.0 formed.1 c.covered
 
-covered_links : (checks : Checks) → LinksRight checks → (J : List Row) (host : List ℕ) (e : Seen) (moment : ℕ) → IsRead e → IsCovered J host e moment → checks.links e (account e.did J).repo ≡ None
+covered_links : (checks : Checks) → LinksRight checks → (J : List Row) (host : List ℕ) (e : Seen) (moment : ℕ) → IsEvent e → IsCovered J host e moment → checks.links e (account e.did J).repo ≡ None
 covered_links checks links J host e moment read c =
     let repo = (account e.did J).repo in
     let former = root_before (expect_of repo) in
     none_of (checks.links e repo) (λ r is.
     let P : Bool → Type 0 = λ gap. StopsPast gap c.commit c.holds.blocks former c.holds.commit.data_root r in
-    not_stopped (edits_of c.commit) c.holds.blocks former c.holds.commit.data_root r (covered_leads J host e moment read c) (subst P c.no_gap (links.stops e c.commit repo c.holds r c.body is)))
+    not_stopped (edits_of c.commit) c.holds.blocks former c.holds.commit.data_root r (covered_leads J host e moment read c) (subst P c.no_gap (links.stops e c.commit repo c.holds r read c.body is)))
 
-covered_ready : (checks : Checks) → OpensRight checks → LinksRight checks → (J : List Row) (host : List ℕ) (e : Seen) (moment : ℕ) → IsRead e → IsCovered J host e moment → IsReady checks J host e moment
+covered_ready : (checks : Checks) → OpensRight checks → LinksRight checks → (J : List Row) (host : List ℕ) (e : Seen) (moment : ℕ) → IsEvent e → IsCovered J host e moment → IsReady checks J host e moment
 covered_ready checks opens links J host e moment read c =
     let last = last_rev (account e.did J).repo in
     let alone : shown_alone e.body last ≡ None = ap (λ (b : Body). shown_alone b last) c.body ∙ c.shown in

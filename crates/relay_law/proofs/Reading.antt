@@ -2,29 +2,35 @@
 use Rattle.std.proofs.Common.{◌≡◌, ◌≢◌, ℕ, ◌+◌, Bool, true, false, not, ◌&&◌, ◌||◌, List, [], ◌∷◌, ◌++◌, Option, Some, None, Ok, Err, refl, ap, ◌∙◌, sym, cond, subst, append_assoc}
 use Rattle.std.proofs.lemmas.Bool.{and_parts, ltb-true, eqb-true}
 use Rattle.std.specs.Prelude.{nat_lt, ◌<◌, ◌==◌}
+use Rattle.at_event.specs.Events.{IsEvent}
 use Rattle.at_event.specs.Seen.{Seen}
 use Rattle.at_event.specs.Frames.{frame_of}
 use Rattle.at_event.specs.Writing.{out_of, numbered}
 use Rattle.at_event.specs.declared.frame.Frame.{Frame}
+use Rattle.at_event.specs.Refusals.{code_of}
+use Rattle.at_event.proofs.Formed.{events_formed}
 use Rattle.at_event.proofs.Messages.{out_again}
 use Rattle.relay_row.specs.Folds.{last_seq}
 use Rattle.relay_row.specs.Journal.{IsJournal}
-use Rattle.relay_row.specs.Rules.{is_row, is_taken, is_accepted, is_effect, is_fetched, is_timed, is_positive, is_number, is_message, is_empty}
+use Rattle.relay_row.specs.Rules.{is_row, is_taken, is_accepted, is_effect, is_fetched, is_timed, is_positive, is_number, is_message, is_empty, loses}
 use Rattle.relay_row.specs.declared.limits.TheConstants.{NUMBERS}
+use Rattle.relay_row.specs.declared.fetched.Fetched.{Fetched}
 use Rattle.relay_row.specs.declared.row.Row.{Row}
 use Rattle.relay_row.specs.declared.taken.Taken.{Taken}
+use Rattle.relay_row.proofs.Again.{FitsFetched}
+use Rattle.relay_row.proofs.AgainRows.{taken_fits}
 use Rattle.relay_row.proofs.Journals.{grew, fronts}
 use Rattle.account_state.specs.Folds.{account}
 use Rattle.account_state.specs.State.{State}
-use Rattle.relay_core.specs.Decide.{Checks, Outside, answers, decided_event, decision_for, refusal_of}
+use Rattle.relay_core.specs.Decide.{Checks, Outside, Found, absent, unfit, found, answers, decided_event, decision_for, made, refusal_of}
 use Rattle.relay_core.specs.Rows.{event_taken, faulty_taken, kind_of}
 use Rattle.relay_core.specs.Runs.{Message, Turn, IsMade, RunFrom, passed_by, has_ended}
 use Rattle.relay_core.specs.Shown.{shown}
 use Rattle.relay_core.specs.Table.{is_held}
 use Rattle.relay_core.specs.declared.decision.Pass.{Pass}
-use Rattle.relay_law.specs.Faithful.{ReadsAsItsEvent, IsFaithful, AreFaithful}
+use Rattle.relay_law.specs.Faithful.{IsFaithful, IsFaithfulEvent, IsFaithfulFetch, AreFaithful}
 use Rattle.relay_law.specs.Laws.{AreEvents, RunsAreFaithful}
-use Rattle.relay_law.specs.Right.{IsRead}
+use Rattle.relay_law.proofs.Own.{whole_reads}
 use Rattle.relay_law.proofs.Sounding.{decided_formed, later_events, taken_is}
 
 -- an accepted event's number is one, where there is one
@@ -41,35 +47,56 @@ accepted_number t is some =
     let goes = numbered_or (is_positive t.seq && is_message t.message) (t.seq == 0) (is_empty t.message) (t.kind == 4) sent (λ zero. some (eqb-true t.seq 0 zero)) in
     (and_parts (nat_lt 0 t.seq) (is_number t.seq) (and_parts (is_positive t.seq) (is_message t.message) goes).0).1
 
-accepted_reads : (e : Seen) → IsRead e → (t : Taken) (n : ℕ) (goes : Bool) → t.seq ≡ cond goes (n + 1) 0 → t.message ≡ cond goes (out_of e (n + 1)) [] → t.did ≡ e.did → t.kind ≡ kind_of e.body → is_accepted t ≡ true → t.seq ≢ 0 → ReadsAsItsEvent t
-accepted_reads e read t n false seq message did kind is some = absurd (some seq)
-accepted_reads e read t n true seq message did kind is some =
+accepted_reads : (e : Seen) → IsEvent e → (t : Taken) (n : ℕ) (goes : Bool) → t.seq ≡ cond goes (n + 1) 0 → t.message ≡ cond goes (out_of e (n + 1)) [] → t.did ≡ e.did → t.kind ≡ kind_of e.body → is_accepted t ≡ true → IsFaithfulEvent t
+accepted_reads e read t n false seq message did kind is = λ some. absurd (some seq)
+accepted_reads e read t n true seq message did kind is = λ some.
     let below : n + 1 < NUMBERS = ltb-true (n + 1) NUMBERS (subst (λ (k : ℕ). nat_lt k NUMBERS ≡ true) seq (accepted_number t is some)) in
     record {
       event = numbered e (n + 1);
-      reads = ap frame_of message ∙ out_again e (n + 1) below read.event;
-      seq = sym seq;
-      did = sym did;
-      kind = sym kind;
+      reads = ap frame_of message ∙ out_again e (n + 1) below read;
+      did_is = sym did;
+      seq_is = sym seq;
+      says = sym kind;
     }
 
-event_reads : (checks : Checks) (n : ℕ) (a : State) (host : List ℕ) (e : Seen) (o : Outside) → IsRead e → is_taken (decided_event checks n a host e o) ≡ true → (decided_event checks n a host e o).seq ≢ 0 → ReadsAsItsEvent (decided_event checks n a host e o)
+event_reads : (checks : Checks) (n : ℕ) (a : State) (host : List ℕ) (e : Seen) (o : Outside) → IsEvent e → is_taken (decided_event checks n a host e o) ≡ true → IsFaithfulEvent (decided_event checks n a host e o)
 event_reads checks n a host e o read =
     elim (refusal_of checks a e o) as (λ q. is_taken (event_taken n host e (decision_for a e.body o.fetched q) (answers checks n a e o)) ≡ true
-    → (event_taken n host e (decision_for a e.body o.fetched q) (answers checks n a e o)).seq ≢ 0 → ReadsAsItsEvent (event_taken n host e (decision_for a e.body o.fetched q) (answers checks n a e o))) [
+    → IsFaithfulEvent (event_taken n host e (decision_for a e.body o.fetched q) (answers checks n a e o))) [
       | Some r ↦ λ is some. absurd (some refl)
-      | None ↦ λ is some.
+      | None ↦ λ is.
           let t = event_taken n host e (decision_for a e.body o.fetched None) (answers checks n a e o) in
-          accepted_reads e read t n (not (is_held a e.body)) refl refl refl refl (decided_formed t is) some
+          accepted_reads e read t n (not (is_held a e.body)) refl refl refl refl (decided_formed t is)
     ]
 
-taken_reads : (checks : Checks) (J : List Row) (host : List ℕ) (f : Frame) (t : Taken) (others : List Message) → AreEvents ((host, Ok f) ∷ others) → is_taken t ≡ true → IsMade checks J (host, Ok f) (Row.Taken t) → t.seq ≢ 0 → ReadsAsItsEvent t
+made_reads : (n : ℕ) (e : Seen) (f : Found) (timed : Bool) → IsEvent e → FitsFetched timed (made n e f) → IsFaithfulFetch e.did (made n e f)
+made_reads n e absent timed read fits = tt
+made_reads n e (unfit k) timed read fits = tt
+made_reads n e (found head records block) timed read fits =
+    let formed = events_formed e read in
+    whole_reads e.did e.time head records block (n + 1) formed.did_text formed.did formed.time fits
+
+asked_reads : (b : Bool) (n : ℕ) (e : Seen) (f : Found) (timed : Bool) → IsEvent e → FitsFetched timed (cond b (made n e f) Fetched.NotAsked) → IsFaithfulFetch e.did (cond b (made n e f) Fetched.NotAsked)
+asked_reads true n e f timed read fits = made_reads n e f timed read fits
+asked_reads false n e f timed read fits = tt
+
+fetch_reads : (checks : Checks) (n : ℕ) (a : State) (host : List ℕ) (e : Seen) (o : Outside) → IsEvent e → is_taken (decided_event checks n a host e o) ≡ true → IsFaithfulFetch e.did (decided_event checks n a host e o).fetched
+fetch_reads checks n a host e o read =
+    elim (refusal_of checks a e o) as (λ q. is_taken (event_taken n host e (decision_for a e.body o.fetched q) (answers checks n a e o)) ≡ true
+    → IsFaithfulFetch e.did (event_taken n host e (decision_for a e.body o.fetched q) (answers checks n a e o)).fetched) [
+      | Some r ↦ λ is. asked_reads (loses (code_of r)) n e o.fetched true read (taken_fits (event_taken n host e (decision_for a e.body o.fetched (Some r)) (answers checks n a e o)) is).fetched
+      | None ↦ λ is. tt
+    ]
+
+taken_reads : (checks : Checks) (J : List Row) (host : List ℕ) (f : Frame) (t : Taken) (others : List Message) → AreEvents ((host, Ok f) ∷ others) → is_taken t ≡ true → IsMade checks J (host, Ok f) (Row.Taken t) → IsFaithful (Row.Taken t)
 taken_reads checks J host (Frame.Event e) t others read is made =
-    let P : Taken → Type 0 = λ s. is_taken s ≡ true → s.seq ≢ 0 → ReadsAsItsEvent s in
-    subst P (taken_is (decided_event checks (last_seq J) (account e.did J) host e (shown t)) t made) (event_reads checks (last_seq J) (account e.did J) host e (shown t) read.0) is
+    let P : Taken → Type 0 = λ s. is_taken s ≡ true → IsFaithful (Row.Taken s) in
+    let n = last_seq J in
+    let a = account e.did J in
+    subst P (taken_is (decided_event checks n a host e (shown t)) t made) (λ formed. (event_reads checks n a host e (shown t) read.0 formed, fetch_reads checks n a host e (shown t) read.0 formed)) is
 taken_reads checks J host (Frame.Faulty seq) t others read is made =
-    let P : Taken → Type 0 = λ s. s.seq ≢ 0 → ReadsAsItsEvent s in
-    subst P (taken_is (faulty_taken host seq (Some (shown t).moment)) t made) (λ some. absurd (some refl))
+    let P : Taken → Type 0 = λ s. IsFaithful (Row.Taken s) in
+    subst P (taken_is (faulty_taken host seq (Some (shown t).moment)) t made) ((λ some. absurd (some refl)), tt)
 taken_reads checks J host Frame.Info t others read is made = absurd cc
 taken_reads checks J host Frame.Error t others read is made = absurd cc
 taken_reads checks J host Frame.Unknown t others read is made = absurd cc

@@ -3,6 +3,7 @@ use Rattle.std.proofs.Common.{◌≡◌, ℕ, true, false, List, [], ◌∷◌, 
 use Rattle.std.proofs.lemmas.Bool.{true≢false, or_parts}
 use Rattle.std.specs.List.{list_any}
 use Rattle.at_commit.specs.declared.commit.Commit.{Commit}
+use Rattle.at_event.specs.Events.{IsEvent}
 use Rattle.at_event.specs.Seen.{Seen}
 use Rattle.at_event.specs.declared.event.Body.{Body}
 use Rattle.at_event.specs.declared.event.CommitEvent.{CommitEvent}
@@ -20,11 +21,11 @@ use Rattle.relay_core.specs.Decide.{Checks}
 use Rattle.relay_core.specs.Opening.{OpensRight, IsHeadIn, IsHeadOf, shown_alone}
 use Rattle.relay_core.specs.Table.{refusal_in}
 use Rattle.relay_law.specs.Laws.{ChecksAreRight}
-use Rattle.relay_law.specs.Right.{AreReadIn, IsRead, LinksRight, expect_of, root_expected}
+use Rattle.relay_law.specs.Right.{LinksRight, expect_of, root_expected}
 use Rattle.relay_law.specs.Sound.{GoesFrom}
 
 -- a CAR that was read, and not one at fault, holds a commit object
-held_in : (c : CommitEvent) (car : CarResult) → car_in c ≡ car → (link block : List ℕ) (commit : Commit) → root_in car ≡ Some link → object_in car ≡ Some commit → (h : Holds c) × (h.commit ≡ commit)
+pub held_in : (c : CommitEvent) (car : CarResult) → car_in c ≡ car → (link block : List ℕ) (commit : Commit) → root_in car ≡ Some link → object_in car ≡ Some commit → (h : Holds c) × (h.commit ≡ commit)
 held_in c (Ok (roots, blocks)) is link block commit rooted object =
     (record { roots = roots; blocks = blocks; commit = commit; car = is; object = ap object_in is ∙ object }, refl)
 held_in c (Err fault) is link block commit rooted object = absurd cc
@@ -50,15 +51,15 @@ expected_root Repo.Missing = refl
 expected_root (Repo.Good head) = refl
 expected_root (Repo.Lost rev) = refl
 
-goes_from : (checks : Checks) → OpensRight checks → LinksRight checks → (e : Seen) (c : CommitEvent) (repo : Repo) (last : Option ℕ) (head : Head) → IsRead e → e.body ≡ Body.Commit c → checks.opens e last ≡ Ok head → checks.links e repo ≡ None
+goes_from : (checks : Checks) → OpensRight checks → LinksRight checks → (e : Seen) (c : CommitEvent) (repo : Repo) (last : Option ℕ) (head : Head) → IsEvent e → e.body ≡ Body.Commit c → checks.opens e last ≡ Ok head → checks.links e repo ≡ None
     → GoesFrom c (root_expected repo) head.data_root
 goes_from checks opens links e c repo last head read body opened linked =
     let top = head_in checks opens e c last head body opened in
     let held = held_in c (car_in c) refl head.commit top.block top.commit top.found.root_is top.found.object_is in
     let h = held.0 in
     let no_prev = (or_parts (strays c (expect_of repo)) (list_any lacks_prev c.ops) (links.no_gap e c repo body linked)).1 in
-    let formed = edits_formed c (body_back AreReadIn e.body c body read.ops) (fields_fine checks opens e c last head body opened) no_prev in
-    let replays = sound_by (edits_of c) h.blocks (root_before (expect_of repo)) h.commit.data_root formed.0 formed.1 (links.leads e c repo h body linked) in
+    let formed = edits_formed e c read body (fields_fine checks opens e c last head body opened) no_prev in
+    let replays = sound_by (edits_of c) h.blocks (root_before (expect_of repo)) h.commit.data_root formed.0 formed.1 (links.leads e c repo h read body linked) in
     let P : List ℕ → Type 0 = λ r. ReplaysBy (edits_of c) h.blocks r head.data_root in
     let Q : List ℕ → Type 0 = λ d. ReplaysBy (edits_of c) h.blocks (root_before (expect_of repo)) d in
     let same : h.commit.data_root ≡ head.data_root = ap (λ (k : Commit). k.data_root) held.1 ∙ sym top.data_is in

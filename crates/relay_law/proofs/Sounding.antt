@@ -3,6 +3,7 @@ use Rattle.std.proofs.Common.{◌≡◌, ℕ, ◌+◌, Bool, true, false, ◌&&�
 use Rattle.std.proofs.lemmas.Bool.{and_parts, ltb-true}
 use Rattle.std.proofs.lemmas.List.{append-nil}
 use Rattle.std.specs.Prelude.{if◌then◌else◌, nat_lt, ◌<◌, ◌==◌}
+use Rattle.at_event.specs.Events.{IsEvent}
 use Rattle.at_event.specs.Seen.{Seen}
 use Rattle.at_event.specs.Writing.{out_of, out_length, numbered}
 use Rattle.at_event.specs.declared.event.Body.{Body}
@@ -33,7 +34,7 @@ use Rattle.relay_core.specs.declared.decision.Pass.{Pass}
 use Rattle.relay_core.specs.declared.limits.TheConstants.{LONGEST_MESSAGE}
 use Rattle.relay_law.specs.Chains.{Part, rests, nothing, effect_part, taken_part, part_in, part_of}
 use Rattle.relay_law.specs.Laws.{AreEvents, RunsStaySound, OperatorsStaySound}
-use Rattle.relay_law.specs.Right.{AreRight, IsRead, root_expected}
+use Rattle.relay_law.specs.Right.{AreRight, root_expected}
 use Rattle.relay_law.specs.Sound.{GoesFrom, Follows, IsSound}
 use Rattle.relay_law.proofs.Growing.{end_root, root_now, FollowsAt, sound_more}
 use Rattle.relay_law.proofs.Tracking.{IsTracked, tracked, names_same}
@@ -124,17 +125,17 @@ accepted_taken checks n a host e o body = record {
   moment = Some o.moment;
 }
 
-commit_follows : (checks : Checks) → AreRight checks → (n : ℕ) (a : State) (e : Seen) (c : CommitEvent) (p : List ℕ) (head : Head) → IsRead e → e.body ≡ Body.Commit c → IsTracked a.repo p → n + 1 < NUMBERS
+commit_follows : (checks : Checks) → AreRight checks → (n : ℕ) (a : State) (e : Seen) (c : CommitEvent) (p : List ℕ) (head : Head) → IsEvent e → e.body ≡ Body.Commit c → IsTracked a.repo p → n + 1 < NUMBERS
     → checks.opens e (last_rev a.repo) ≡ Ok head → checks.links e a.repo ≡ None → Follows p (out_of e (n + 1)) head.data_root
 commit_follows checks right n a e c p head read body h fits opened linked =
     let P : List ℕ → Type 0 = λ r. GoesFrom c r head.data_root in
     record {
       commit = c;
-      is = record { event = numbered e (n + 1); reads = out_again e (n + 1) fits read.event; says = body };
+      is = record { event = numbered e (n + 1); reads = out_again e (n + 1) fits read; says = body };
       goes = subst P (expected_is checks e c a.repo p right body h linked) (right.goes e c a.repo (last_rev a.repo) head read body opened linked);
     }
 
-accepted_follows : (checks : Checks) → AreRight checks → (n : ℕ) (a : State) (host : List ℕ) (e : Seen) (o : Outside) (p : List ℕ) → IsRead e → IsTracked a.repo p
+accepted_follows : (checks : Checks) → AreRight checks → (n : ℕ) (a : State) (host : List ℕ) (e : Seen) (o : Outside) (p : List ℕ) → IsEvent e → IsTracked a.repo p
     → (body : Body) → e.body ≡ body → first (body_lines a body (answers checks 0 a e o)) ≡ None → is_taken (accepted_taken checks n a host e o body) ≡ true → FollowsAt p (part_in (Row.Taken (accepted_taken checks n a host e o body)))
 unfolding accepted_taken FollowsAt
 accepted_follows checks right n a host e o p read h (Body.Commit c) body q is =
@@ -150,7 +151,7 @@ accepted_follows checks right n a host e o p read h (Body.Sync s) body q is =
 accepted_follows checks right n a host e o p read h Body.Identity body q is = tt
 accepted_follows checks right n a host e o p read h (Body.Account b) body q is = tt
 
-event_part_follows : (checks : Checks) → AreRight checks → (n : ℕ) (a : State) (host : List ℕ) (e : Seen) (o : Outside) (p : List ℕ) → IsRead e → IsTracked a.repo p
+event_part_follows : (checks : Checks) → AreRight checks → (n : ℕ) (a : State) (host : List ℕ) (e : Seen) (o : Outside) (p : List ℕ) → IsEvent e → IsTracked a.repo p
     → is_taken (decided_event checks n a host e o) ≡ true → FollowsAt p (part_in (Row.Taken (decided_event checks n a host e o)))
 unfolding accepted_taken
 event_part_follows checks right n a host e o p read h =
@@ -165,7 +166,7 @@ event_part_follows checks right n a host e o p read h =
 pub taken_is : (s t : Taken) → Some s ≡ Some t → s ≡ t
 taken_is s t e = cc
 
-event_follows : (checks : Checks) → AreRight checks → (J : List Row) → IsJournal J → (host : List ℕ) (e : Seen) (o : Outside) → IsRead e
+event_follows : (checks : Checks) → AreRight checks → (J : List Row) → IsJournal J → (host : List ℕ) (e : Seen) (o : Outside) → IsEvent e
     → is_taken (decided_event checks (last_seq J) (account e.did J) host e o) ≡ true
     → (did : List ℕ) → FollowsAt (root_now did empty_root J) (part_of did (Row.Taken (decided_event checks (last_seq J) (account e.did J) host e o)))
 event_follows checks right J journal host e o read is did =

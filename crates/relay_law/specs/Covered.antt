@@ -1,6 +1,5 @@
 -- When a commit has to be accepted, in terms of maps: its operations play, and its blocks hold their cover.
 use Rattle.std.specs.Prelude.{◌≡◌, ℕ, true, false, List, Some, None, nat_lt}
-use Rattle.at_cid.specs.Link.{IsBytes}
 use Rattle.at_event.specs.Seen.{Seen}
 use Rattle.at_event.specs.Writing.{out_length}
 use Rattle.at_event.specs.declared.event.Body.{Body}
@@ -27,6 +26,5 @@ pub record IsCovered (J : List Row) (host : List ℕ) (e : Seen) (moment : ℕ) 
   pub shown : first_of (open_lines commit (last_rev (account e.did J).repo)) ≡ None
   pub near : is_ahead commit.rev (Some moment) ≡ false
   pub no_gap : is_gap commit (expect_of (account e.did J).repo) ≡ false
-  pub bytes : IsBytes commit.blocks
   pub holds : Holds commit
   pub covered : IsCoveredBy (edits_of commit) holds.blocks (root_before (expect_of (account e.did J).repo)) holds.commit.data_root

@@ -1,32 +1,47 @@
 -- What holds of all journals and of all runs.
-use Rattle.std.specs.Prelude.{◌≡◌, ℕ, List, [], ◌∷◌, ◌++◌, Option, Ok, Err, Some, None, if◌then◌else◌}
+use Rattle.std.specs.Prelude.{◌≡◌, ℕ, ◌+◌, ◌<◌, Bool, true, List, [], ◌∷◌, ◌++◌, Option, Ok, Err, Some, None, if◌then◌else◌}
+use Rattle.std.specs.List.{AllByRecursion}
+use Rattle.at_cid.specs.Link.{IsBytes}
+use Rattle.at_event.specs.Events.{IsEvent}
 use Rattle.at_event.specs.declared.frame.Frame.{Frame}
 use Rattle.relay_row.specs.Journal.{IsJournal}
 use Rattle.relay_row.specs.declared.fetched.Whole.{Whole}
 use Rattle.relay_row.specs.declared.operated.Operated.{Operated}
 use Rattle.relay_row.specs.declared.row.Row.{Row}
+use Rattle.at_event.specs.Formed.{IsShortText}
 use Rattle.at_event.specs.Seen.{Seen}
+use Rattle.at_event.specs.declared.head.Head.{Head}
 use Rattle.at_event.specs.declared.refusal.Refusal.{Refusal}
-use Rattle.relay_row.specs.Folds.{last_seq}
+use Rattle.relay_row.specs.Folds.{cursor, last_seq, seq_in}
+use Rattle.relay_row.specs.Rules.{names_did, names_host}
+use Rattle.relay_row.specs.declared.limits.TheConstants.{NUMBERS}
 use Rattle.relay_row.specs.declared.taken.Taken.{Taken}
 use Rattle.account_state.specs.Folds.{account}
-use Rattle.relay_core.specs.Decide.{Checks, Outside, decided}
+use Rattle.relay_core.specs.Decide.{Checks, Outside, found, decided, passed, whole_under}
 use Rattle.relay_core.specs.Opening.{OpensRight}
+use Rattle.relay_core.specs.Operating.{operated_as}
+use Rattle.relay_core.specs.Rows.{row_of}
+use Rattle.relay_core.specs.Table.{did_of, next_of}
+use Rattle.relay_core.specs.declared.answers.Answers.{Answers}
+use Rattle.relay_core.specs.declared.decision.Decision.{Decision}
+use Rattle.relay_core.specs.declared.decision.Next.{Next}
 use Rattle.relay_core.specs.Runs.{Message, Run}
-use Rattle.relay_core.specs.Worlds.{World, RunIn, RunsIn}
+use Rattle.relay_core.specs.Worlds.{World, RunsIn}
+use Rattle.relay_law.specs.Calls.{SayWhatCallsAnswer, as_read}
 use Rattle.relay_law.specs.Carried.{AreOfKnown, CarriesOver}
 use Rattle.relay_law.specs.Chains.{chains}
 use Rattle.relay_law.specs.Covered.{IsCovered}
-use Rattle.relay_law.specs.Faithful.{AreFaithful}
+use Rattle.relay_law.specs.Faithful.{IsFaithful, AreFaithful}
+use Rattle.relay_law.specs.Formed.{IsReadFrame, AreAnswersFor, AreFormedFor, IsFormedFound}
 use Rattle.relay_law.specs.Histories.{Point, LivesFrom, AllCome}
 use Rattle.relay_law.specs.Merges.{Merge, OneHome, Agree}
-use Rattle.relay_law.specs.Right.{AreRight, LinksRight, IsRead}
+use Rattle.relay_law.specs.Right.{AreRight, LinksRight}
 use Rattle.relay_law.specs.Sound.{IsSound, AllReplay}
 
 -- the events among messages are read from their payloads
 abbrev pub AreEvents : List Message → Type 0
 AreEvents [] = Unit {0}
-AreEvents ((host, Ok (Frame.Event e)) ∷ messages) = IsRead e × AreEvents messages
+AreEvents ((host, Ok (Frame.Event e)) ∷ messages) = IsEvent e × AreEvents messages
 AreEvents ((host, Ok (Frame.Faulty seq)) ∷ messages) = AreEvents messages
 AreEvents ((host, Ok Frame.Info) ∷ messages) = AreEvents messages
 AreEvents ((host, Ok Frame.Error) ∷ messages) = AreEvents messages
@@ -55,6 +70,23 @@ pub record OperatorsStaySound : Type 0 where
 abbrev pub ChecksAreRight : Type 0
 ChecksAreRight = (checks : Checks) → OpensRight checks → LinksRight checks → AreRight checks
 
+-- Some checks open and link rightly.
+abbrev pub SomeChecksAreRight : Type 0
+SomeChecksAreRight = (checks : Checks) × OpensRight checks × LinksRight checks
+
+-- What the calls that check events answer is what checks that open and link rightly say.
+abbrev pub CallsAnswerRight : Type 0
+CallsAnswerRight = (checks : Checks) → OpensRight checks → LinksRight checks → SayWhatCallsAnswer checks
+
+-- The events that hosts sent are made of the fields of their payloads.
+abbrev pub SentAreEvents : Type 0
+SentAreEvents = (sent : List (List ℕ × List ℕ)) → AllByRecursion (λ m. IsBytes m.1) sent → AreEvents (as_read sent)
+
+-- A store's run behind a sound journal leaves a sound journal, whatever bytes the hosts sent and whatever was answered: a run by whichever checks open and link rightly, as its calls do.
+abbrev pub StoresStaySound : Type 0
+StoresStaySound = (J : List Row) (sent : List (List ℕ × List ℕ)) (rows : List Row) → AllByRecursion (λ m. IsBytes m.1) sent → IsJournal (J ++ rows) → IsSound J
+    → ((checks : Checks) → OpensRight checks → LinksRight checks → Run checks J (as_read sent) rows) → IsSound (J ++ rows)
+
 -- Behind one journal, in one world, two merges of the same hosts' streams leave the same accounts and the same cursors, and of every host, aside from the numbers given, the same rows.
 abbrev pub MergesAgree : Type 0
 MergesAgree = (checks : Checks) (w : World) (J : List Row) (ended : List (List ℕ)) (one other : List Message) (ones others : List Row)
@@ -62,17 +94,20 @@ MergesAgree = (checks : Checks) (w : World) (J : List Row) (ended : List (List �
 
 -- A covered commit is accepted where its home and its signature are good, and else refused for one of the two alone.
 abbrev pub CoveredAreAccepted : Type 0
-CoveredAreAccepted = (checks : Checks) → OpensRight checks → LinksRight checks → (J : List Row) (host : List ℕ) (e : Seen) (o : Outside) (t : Taken) → IsRead e → IsCovered J host e o.moment
+CoveredAreAccepted = (checks : Checks) → OpensRight checks → LinksRight checks → (J : List Row) (host : List ℕ) (e : Seen) (o : Outside) (t : Taken) → IsEvent e → IsCovered J host e o.moment
     → decided checks (last_seq J) (account e.did J) host (Frame.Event e) o ≡ Some t
     → t.refusal ≡ (if o.home then (if o.verdict then None else Some Refusal.BadSignature) else Some Refusal.NotHome)
+
+-- The rows that operators' words make are faithful, whatever the time is that they bear, if it is a short text.
+pub record OperatorsAreFaithful : Type 0 where
+  pub operated : (J : List Row) (did : List ℕ) (down : Bool) (time : List ℕ) (moment : Option ℕ) → IsShortText time → IsJournal (J ++ Row.Operated (operated_as (last_seq J) (account did J) did down time moment) ∷ [])
+      → IsFaithful (Row.Operated (operated_as (last_seq J) (account did J) did down time moment))
+  pub synced : (J : List Row) (did time : List ℕ) (head : Head) (records : ℕ) (block : List ℕ) (moment : Option ℕ) → IsShortText time → IsJournal (J ++ Row.Synced did (whole_under did time head records block (last_seq J + 1)) moment ∷ [])
+      → IsFaithful (Row.Synced did (whole_under did time head records block (last_seq J + 1)) moment)
 
 -- The rows of a run are faithful.
 abbrev pub RunsAreFaithful : Type 0
 RunsAreFaithful = (checks : Checks) (J : List Row) (messages : List Message) (rows : List Row) → AreEvents messages → IsJournal (J ++ rows) → Run checks J messages rows → AreFaithful rows
-
--- Where opening and linking are right, the answers that the rows of a run in a world show make those rows.
-abbrev pub RunsAreShown : Type 0
-RunsAreShown = (checks : Checks) → OpensRight checks → LinksRight checks → (w : World) (J : List Row) (messages : List Message) (rows : List Row) → RunIn checks w J messages rows → Run checks J messages rows
 
 -- No run accepts a commit of an account that was lost, as long as the checks are right.
 abbrev pub RunsFollowKnown : Type 0
@@ -85,3 +120,29 @@ CarriedStaySound = (front others carried : List Row) → IsJournal (front ++ oth
 -- Over every list of calls, failures, crashes and openings, each journal that a later store has comes from the one that is open now by rows added at its end and by cuts at numbers that were held.
 abbrev pub JournalsComeOn : Type 0
 JournalsComeOn = (p : Point) (points : List Point) (J : List Row) → LivesFrom p points → p.serves ≡ Some J → AllCome J points
+
+-- A message that is decided makes a row that is well formed and keeps the order of its journal, whatever was answered, as long as opening and linking were answered rightly and the number that the row gives is one.
+abbrev pub MadeRowsAreFormed : Type 0
+MadeRowsAreFormed = (J : List Row) (host : List ℕ) (frame : Frame) (x : Answers) (d : Decision) (row : Row)
+    → IsJournal J → names_host host ≡ true → IsReadFrame frame → AreAnswersFor (last_seq J) (account (did_of frame) J) frame x
+    → next_of (cursor host J) (account (did_of frame) J) frame x ≡ Next.Done d → row_of (last_seq J) host frame d x ≡ Some row
+    → seq_in row < NUMBERS → IsJournal (J ++ row ∷ [])
+
+-- The same of the row that is decided for answers to all questions, as long as the checks open and link rightly.
+abbrev pub DecidedRowsAreFormed : Type 0
+DecidedRowsAreFormed = (checks : Checks) → OpensRight checks → LinksRight checks → (J : List Row) (host : List ℕ) (frame : Frame) (o : Outside) (t : Taken)
+    → IsJournal J → names_host host ≡ true → IsReadFrame frame → AreFormedFor (last_seq J) frame o
+    → passed (cursor host J) frame ≡ None → decided checks (last_seq J) (account (did_of frame) J) host frame o ≡ Some t
+    → seq_in (Row.Taken t) < NUMBERS → IsJournal (J ++ Row.Taken t ∷ [])
+
+-- The row that takes an account down or restores it, at a time and a moment, is well formed and keeps the order of its journal, as long as a number is left.
+abbrev pub OperatedRowsAreFormed : Type 0
+OperatedRowsAreFormed = (J : List Row) (did : List ℕ) (down : Bool) (time : List ℕ) (moment : ℕ)
+    → IsJournal J → names_did did ≡ true → IsShortText time → moment < NUMBERS → last_seq J + 1 < NUMBERS
+    → IsJournal (J ++ Row.Operated (operated_as (last_seq J) (account did J) did down time (Some moment)) ∷ [])
+
+-- The same of the row that takes over a repository that was fetched at an operator's word.
+abbrev pub SyncedRowsAreFormed : Type 0
+SyncedRowsAreFormed = (J : List Row) (did time : List ℕ) (head : Head) (records : ℕ) (block : List ℕ) (moment : ℕ)
+    → IsJournal J → names_did did ≡ true → IsFormedFound (last_seq J) did time (found head records block) → moment < NUMBERS → last_seq J + 1 < NUMBERS
+    → IsJournal (J ++ Row.Synced did (whole_under did time head records block (last_seq J + 1)) (Some moment) ∷ [])

@@ -1,9 +1,12 @@
 pub mod Chains
 pub mod Sound
 pub mod Right
+pub mod Calls
 pub mod Merges
 pub mod Covered
 pub mod Faithful
 pub mod Carried
 pub mod Histories
+pub mod Wanted
+pub mod Formed
 pub mod Laws

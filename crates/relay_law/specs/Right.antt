@@ -6,10 +6,8 @@ use Rattle.at_event.specs.declared.event.Body.{Body}
 use Rattle.at_event.specs.declared.event.CommitEvent.{CommitEvent}
 use Rattle.at_event.specs.declared.head.Head.{Head}
 use Rattle.at_event.specs.declared.refusal.Refusal.{Refusal}
-use Rattle.event_checks.specs.Lines.{is_judged}
 use Rattle.account_state.specs.declared.repo.Repo.{Repo}
 use Rattle.commit_check.specs.Step.{empty_root, is_gap, root_before, Leads}
-use Rattle.commit_check.specs.Laws.{AreReadOps}
 use Rattle.commit_check.specs.Order.{Holds, StopsPast}
 use Rattle.commit_check.specs.declared.expect.Expect.{Expect}
 use Rattle.relay_core.specs.Decide.{Checks}
@@ -21,22 +19,10 @@ root_expected Repo.Missing = empty_root
 root_expected (Repo.Good head) = head.data_root
 root_expected (Repo.Lost rev) = empty_root
 
--- what an event's operations owe their reading
-abbrev pub AreReadIn : Body → Type 0
-AreReadIn (Body.Commit c) = AreReadOps c.ops
-AreReadIn (Body.Sync s) = Unit {0}
-AreReadIn Body.Identity = Unit {0}
-AreReadIn (Body.Account a) = Unit {0}
-
--- an event as it is read from a payload
-pub record IsRead (e : Seen) : Type 0 where
-  pub event : IsEvent e
-  pub ops : AreReadIn e.body
-
 -- A commit that is linked isn't of a lost account, and goes from the root that was expected to its `data`.
 pub record AreRight (checks : Checks) : Type 0 where
   pub not_lost : (e : Seen) (c : CommitEvent) (rev : Option ℕ) → e.body ≡ Body.Commit c → checks.links e (Repo.Lost rev) ≢ None
-  pub goes : (e : Seen) (c : CommitEvent) (repo : Repo) (last : Option ℕ) (head : Head) → IsRead e → e.body ≡ Body.Commit c → checks.opens e last ≡ Ok head → checks.links e repo ≡ None
+  pub goes : (e : Seen) (c : CommitEvent) (repo : Repo) (last : Option ℕ) (head : Head) → IsEvent e → e.body ≡ Body.Commit c → checks.opens e last ≡ Ok head → checks.links e repo ≡ None
       → GoesFrom c (root_expected repo) head.data_root
 
 -- what is expected of the next commit, by what is known of its account's repository
@@ -45,10 +31,9 @@ expect_of Repo.Missing = Expect.Start
 expect_of (Repo.Good head) = Expect.After head
 expect_of (Repo.Lost rev) = Expect.Lost
 
--- Linking says what is right of a commit: it passes only where there is no gap and, by the blocks that were read, the commit leads from the root before to its `data`; a refusal is the one that stops it, and none that judges alone show.
+-- Linking says what is right of a commit: it passes only where there is no gap and, by the blocks that were read, the commit leads from the root before to its `data`; a refusal is the one that stops it.
 pub record LinksRight (checks : Checks) : Type 0 where
   pub no_gap : (e : Seen) (c : CommitEvent) (repo : Repo) → e.body ≡ Body.Commit c → checks.links e repo ≡ None → is_gap c (expect_of repo) ≡ false
-  pub leads : (e : Seen) (c : CommitEvent) (repo : Repo) (h : Holds c) → e.body ≡ Body.Commit c → checks.links e repo ≡ None → Leads c h.blocks (root_before (expect_of repo)) h.commit.data_root
-  pub stops : (e : Seen) (c : CommitEvent) (repo : Repo) (h : Holds c) (refusal : Refusal) → e.body ≡ Body.Commit c → checks.links e repo ≡ Some refusal
+  pub leads : (e : Seen) (c : CommitEvent) (repo : Repo) (h : Holds c) → IsEvent e → e.body ≡ Body.Commit c → checks.links e repo ≡ None → Leads c h.blocks (root_before (expect_of repo)) h.commit.data_root
+  pub stops : (e : Seen) (c : CommitEvent) (repo : Repo) (h : Holds c) (refusal : Refusal) → IsEvent e → e.body ≡ Body.Commit c → checks.links e repo ≡ Some refusal
       → StopsPast (is_gap c (expect_of repo)) c h.blocks (root_before (expect_of repo)) h.commit.data_root refusal
-  pub unjudged : (e : Seen) (repo : Repo) (refusal : Refusal) → checks.links e repo ≡ Some refusal → is_judged refusal ≡ false

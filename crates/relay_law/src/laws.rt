@@ -1,6 +1,7 @@
 //! The laws of journals, each the contract of a function that does nothing.
 
-ghost use Rattle.relay_law.specs.Laws.{CarriedStaySound, ChecksAreRight, CoveredAreAccepted, FrontsAreSound, JournalsComeOn, MergesAgree, OperatorsStaySound, RunsAreFaithful, RunsAreShown, RunsFollowKnown, RunsStaySound, SoundReplays};
+ghost use Rattle.relay_law.specs.Laws.{CallsAnswerRight, CarriedStaySound, ChecksAreRight, CoveredAreAccepted, DecidedRowsAreFormed, FrontsAreSound, JournalsComeOn, MadeRowsAreFormed, MergesAgree, OperatedRowsAreFormed, OperatorsAreFaithful, OperatorsStaySound, RunsAreFaithful, RunsFollowKnown, RunsStaySound, SentAreEvents, SomeChecksAreRight, SoundReplays, StoresStaySound, SyncedRowsAreFormed};
+ghost use Rattle.relay_law.specs.Wanted.{PremisesAreWanted};
 
 /// A run behind a sound journal leaves a sound journal.
 pub fn runs_stay_sound()
@@ -27,6 +28,26 @@ pub fn checks_are_right()
     ensures { ChecksAreRight }
 {}
 
+/// Some checks open and link rightly.
+pub fn some_checks_are_right()
+    ensures { SomeChecksAreRight }
+{}
+
+/// What the calls that check events answer is what checks that open and link rightly say.
+pub fn calls_answer_right()
+    ensures { CallsAnswerRight }
+{}
+
+/// The events that hosts sent are made of the fields of their payloads.
+pub fn sent_are_events()
+    ensures { SentAreEvents }
+{}
+
+/// A store's run behind a sound journal leaves a sound journal, whatever bytes the hosts sent.
+pub fn stores_stay_sound()
+    ensures { StoresStaySound }
+{}
+
 /// Two merges of the same hosts' streams agree on all but the numbers given.
 pub fn merges_agree()
     ensures { MergesAgree }
@@ -37,14 +58,14 @@ pub fn covered_are_accepted()
     ensures { CoveredAreAccepted }
 {}
 
-/// What an accepted event sends out is read as that event, under the number that it got.
+/// What the rows of a run send out is read as the events that they tell of, under the numbers that they got.
 pub fn runs_are_faithful()
     ensures { RunsAreFaithful }
 {}
 
-/// The answers that the rows of a run show make those rows.
-pub fn runs_are_shown()
-    ensures { RunsAreShown }
+/// What the rows that operators' words make send out is read as what they say, under the numbers that they got.
+pub fn operators_are_faithful()
+    ensures { OperatorsAreFaithful }
 {}
 
 /// No run accepts a commit of an account that was lost.
@@ -60,4 +81,29 @@ pub fn carried_stay_sound()
 /// Each journal that a later store has comes from an earlier one by rows added at its end and by cuts.
 pub fn journals_come_on()
     ensures { JournalsComeOn }
+{}
+
+/// A message that is decided makes a row that is well formed and keeps the order of its journal.
+pub fn made_rows_are_formed()
+    ensures { MadeRowsAreFormed }
+{}
+
+/// The row that is decided for answers to all questions is well formed and keeps the order of its journal.
+pub fn decided_rows_are_formed()
+    ensures { DecidedRowsAreFormed }
+{}
+
+/// The row of an account that is taken down or restored is well formed and keeps the order of its journal.
+pub fn operated_rows_are_formed()
+    ensures { OperatedRowsAreFormed }
+{}
+
+/// The row of a repository that was fetched at an operator's word is well formed and keeps the order of its journal.
+pub fn synced_rows_are_formed()
+    ensures { SyncedRowsAreFormed }
+{}
+
+/// Laws of journals without one of their premises, none of which holds.
+pub fn premises_are_wanted()
+    ensures { PremisesAreWanted }
 {}

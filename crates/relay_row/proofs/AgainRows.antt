@@ -75,7 +75,7 @@ host_text t h =
     let two = and_parts (ltb 0 (length t)) (leb (length t) 255) one.0 in
     text_fits t both.0 (omega (arith, leb-true (length t) 255 two.1))
 
-did_text : (t : List ℕ) → names_did t ≡ true → IsText t
+pub did_text : (t : List ℕ) → names_did t ≡ true → IsText t
 unfolding is_did
 did_text t h =
     let both = and_parts (is_text t) (is_did t) h in
@@ -185,7 +185,7 @@ decided_fits : (o : Option Refusal) (t : Taken) → t.refusal ≡ o → names_ho
 decided_fits None t is host host_seq did moment h = accepted_fits t is host host_seq did moment h
 decided_fits (Some r) t is host host_seq did moment h = refused_fits r t is host host_seq did moment h
 
-taken_fits : (t : Taken) → is_taken t ≡ true → Readable t
+pub taken_fits : (t : Taken) → is_taken t ≡ true → Readable t
 unfolding is_taken
 taken_fits t h =
     let a = and_parts (names_host t.host) _ h in

@@ -35,6 +35,7 @@ fn compared(rt: &HostRuntime) -> Result<Suite> {
     suite.file(rt, "decisions", &Decisions)?;
     suite.file(rt, "own_decisions", &Decisions)?;
     suite.file(rt, "operations", &Operations)?;
+    suite.file(rt, "premises", &Decisions)?;
     Ok(suite)
 }
 
