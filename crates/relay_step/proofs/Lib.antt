@@ -8,3 +8,4 @@ pub mod Taken
 pub mod Fetched
 pub mod Losing
 pub mod Steps
+pub mod Others

@@ -2,7 +2,7 @@
 use Rattle.std.proofs.Common.{◌≡◌, ◌≢◌, ℕ, ◌+◌, ◌<◌, ◌≤◌, ◌⊎◌, inl, inr, ⊎_elim, Bool, true, false, not, cond, List, [], ◌∷◌, ◌++◌, length, Option, Some, None, Result, Ok, Err, refl, sym, ap, ◌∙◌, subst, arith, append_assoc, eqb}
 use Rattle.std.specs.Prelude.{◌==◌, nat_le, IsTrue}
 use Rattle.std.specs.Option.{unwrap_or}
-use Rattle.std.proofs.lemmas.Bool.{ne_eqb, true≢false}
+use Rattle.std.proofs.lemmas.Bool.{ne_eqb}
 use Rattle.at_authority.specs.Calls.{Call, AreCalls}
 use Rattle.at_authority.specs.Panels.{Panel}
 use Rattle.at_event.specs.Events.{IsEvent}
@@ -12,7 +12,6 @@ use Rattle.at_event.specs.declared.event.Body.{Body}
 use Rattle.at_event.specs.declared.frame.Frame.{Frame}
 use Rattle.at_event.specs.declared.head.Head.{Head}
 use Rattle.at_event.specs.declared.refusal.Refusal.{Refusal}
-use Rattle.event_checks.specs.Lines.{is_judged}
 use Rattle.relay_io.specs.Moments.{first, rest}
 use Rattle.relay_row.specs.Folds.{cursor, events_of, last_seq, seq_in, seq_of}
 use Rattle.relay_row.specs.Rules.{loses}
@@ -26,7 +25,6 @@ use Rattle.host_state.proofs.Cursors.{hosts_tell}
 use Rattle.host_state.specs.Folds.{cursor_of}
 use Rattle.relay_core.specs.Decide.{Checks, Found, absent, unfit, found, Outside, answers, as_result, decided, decided_event, made, old_if, passed, sync_message}
 use Rattle.relay_core.specs.Entries.{Holds, account_in, cursor_in}
-use Rattle.relay_core.specs.Laws.{AreAside, IsAside}
 use Rattle.relay_core.specs.Opening.{OpensRight, shown_alone}
 use Rattle.relay_core.specs.Rows.{event_taken, fetched_of, goes_out}
 use Rattle.relay_core.specs.Runs.{IsMade, passed_by}
@@ -39,7 +37,6 @@ use Rattle.relay_core.specs.declared.decision.Decision.{Decision}
 use Rattle.relay_core.specs.declared.decision.Next.{Next}
 use Rattle.relay_core.specs.declared.decision.Pass.{Pass}
 use Rattle.relay_core.specs.declared.journal_state.Core.{Core}
-use Rattle.relay_core.proofs.Opened.{opening_is_aside}
 use Rattle.relay_core.proofs.Returning.{block_returns}
 use Rattle.relay_core.proofs.Showing.{rows_show}
 use Rattle.relay_law.specs.Formed.{AreAnswersTo, IsOpenedAs}
@@ -157,14 +154,6 @@ module _ (clock_tells repos_tell : Bool) (c : Core) (host : List ℕ) (e : Seen)
 outside_of : Answers → Found → Outside
 outside_of x f = record { moment = or_zero x.moment; home = unwrap_or x.home true; verdict = unwrap_or x.verdict true; fetched = f }
 
-aside_of : (r : Refusal) → is_judged r ≡ false → IsAside (Some r)
-aside_of Refusal.NotHome h = absurd (true≢false h)
-aside_of Refusal.BadSignature h = absurd (true≢false h)
-aside_of other h = (refl, refl)
-
-are_aside : (checks : Checks) → OpensRight checks → LinksRight checks → AreAside checks
-are_aside checks opens links = record { opens = opening_is_aside checks opens; links = λ e repo r h. aside_of r (links.unjudged e repo r h) }
-
 module _ (checks : Checks) (opens : OpensRight checks) (links : LinksRight checks) (last cursor : ℕ) (a : State) (host : List ℕ) (e : Seen) (x : Answers) (d : Decision)
     (done : next_of cursor a (Frame.Event e) x ≡ Next.Done d) (right : AreAnswersTo last a e x) (linked : (answer : Result (Unit {0}) Refusal) → x.linked ≡ Some answer → IsLinkAnswer a.repo e answer) where
   are_of : (f : Found) → Within x.fetched (Some (made last e f)) → AreOf e.body x (answers checks last a e (outside_of x f))
@@ -189,7 +178,7 @@ module _ (checks : Checks) (opens : OpensRight checks) (links : LinksRight check
   made_so f fetched can =
       let same = decided_of f fetched in
       let P : Taken → Type 0 = λ u. decided_event checks last a host e (shown u) ≡ u in
-      subst P same (rows_show checks (are_aside checks opens links) last a host e (outside_of x f) can)
+      subst P same (rows_show checks last a host e (outside_of x f) can)
 
 absent_sendable : (last : ℕ) (e : Seen) → IsSendable last e absent
 absent_sendable last e head records block h = absurd cc

@@ -10,12 +10,11 @@ use Rattle.at_event.specs.declared.head.Head.{Head}
 use Rattle.relay_row.specs.Rules.{is_head, is_message, is_repo_number}
 use Rattle.relay_row.specs.declared.fetched.Fetched.{Fetched}
 use Rattle.relay_row.specs.declared.limits.TheConstants.{NUMBERS}
-use Rattle.relay_core.specs.Decide.{Found, absent, unfit, found, commit_car, sync_message}
+use Rattle.relay_core.specs.Decide.{Found, absent, unfit, found, commit_car, sync_message, whole_under}
 use Rattle.relay_core.specs.declared.limits.TheConstants.{FETCHED_UNSIGNED}
 use Rattle.repo_sync.specs.Repository.{IsWhole}
 use Rattle.repo_sync.specs.declared.found.Found.{Found as Checked}
 use Rattle.relay_step.specs.Asked.{AllAbout, is_refresh}
-use Rattle.relay_step.specs.Operators.{whole_of}
 use Rattle.relay_step.specs.declared.fetching.Fetch.{Fetch}
 
 abbrev pub found_as : Fetch → Found
@@ -60,7 +59,7 @@ pub record AskedPlain (old : Panel) (did : List ℕ) (new : Panel) : Type 0 wher
 abbrev pub made_of : ℕ → List ℕ → List ℕ → Found → Fetched
 made_of last did time absent = Fetched.Absent
 made_of last did time (unfit n) = Fetched.Refused n
-made_of last did time (found head records block) = Fetched.Whole (whole_of last did time head records block)
+made_of last did time (found head records block) = Fetched.Whole (whole_under did time head records block (last + 1))
 
 -- where it takes a number there is one, and what types say of the event by which it goes out
 abbrev pub IsSent : ℕ → List ℕ → List ℕ → Found → Type 0

@@ -2,13 +2,11 @@
 use Rattle.std.specs.Prelude.{◌≡◌, ℕ, ◌+◌, Bool, List, [], Option, Some, None, ◌==◌, ◌⊎◌, if◌then◌else◌}
 use Rattle.at_authority.specs.Calls.{Call, AreCalls}
 use Rattle.at_authority.specs.Panels.{Panel}
-use Rattle.at_event.specs.declared.head.Head.{Head}
 use Rattle.at_event.specs.declared.refusal.Refusal.{Refusal}
 use Rattle.relay_row.specs.Folds.{last_seq}
 use Rattle.relay_row.specs.declared.row.Row.{Row}
-use Rattle.relay_row.specs.declared.whole.Whole.{Whole}
 use Rattle.account_state.specs.Folds.{account, last_rev}
-use Rattle.relay_core.specs.Decide.{Found, absent, unfit, found, sync_message}
+use Rattle.relay_core.specs.Decide.{Found, absent, unfit, found, whole_under}
 use Rattle.relay_core.specs.Operating.{operate_refusal, operated_as, sync_refusal}
 use Rattle.relay_core.specs.declared.limits.TheConstants.{FETCHED_UNSIGNED}
 use Rattle.relay_step.specs.Asked.{IsAskedOf, IsRefusedOnce}
@@ -21,15 +19,11 @@ IsOperated J did down time moment (Word.Refused r) = operate_refusal (account di
 IsOperated J did down time moment (Word.Made row) =
     (operate_refusal (account did J) down ≡ None) × (row ≡ Row.Operated (operated_as (last_seq J) (account did J) did down time (Some moment)))
 
--- a whole repository that was fetched at an operator's word, under the number behind the last one
-abbrev pub whole_of : ℕ → List ℕ → List ℕ → Head → ℕ → List ℕ → Whole
-whole_of last did time head records block = record { seq = last + 1; head = head; records = records; message = sync_message did time head block (last + 1) }
-
 -- the refusal of what a fetch found, or the row of it
 abbrev pub IsFetchWord : ℕ → List ℕ → List ℕ → ℕ → Found → Word → Type 0
 IsFetchWord last did time moment absent word = word ≡ Word.Refused Refusal.NoRepository
 IsFetchWord last did time moment (unfit n) word = word ≡ Word.Refused (Refusal.RepositoryRefused n)
-IsFetchWord last did time moment (found head records block) word = word ≡ Word.Made (Row.Synced did (whole_of last did time head records block) (Some moment))
+IsFetchWord last did time moment (found head records block) word = word ≡ Word.Made (Row.Synced did (whole_under did time head records block (last + 1)) (Some moment))
 
 -- what a fetch that found this asked of the judges
 abbrev pub AreFoundCalls : List ℕ → Found → List Call → Type 0

@@ -8,12 +8,12 @@ ghost use Rattle.at_car.specs.Blocks.{IsLinkOf};
 ghost use Rattle.at_cbor.specs.Spelling.{IsString};
 ghost use Rattle.relay_row.specs.Rules.{is_message, is_string};
 ghost use Rattle.relay_row.specs.declared.limits.TheConstants.{NUMBERS};
-ghost use Rattle.relay_core.specs.Decide.{is_found};
+ghost use Rattle.relay_core.specs.Decide.{is_found, whole_under};
 ghost use Rattle.relay_step.specs.Around.{SameRepositories};
 ghost use Rattle.relay_step.specs.Causes.{IsCause};
 ghost use Rattle.relay_step.specs.Fetches.{AskedPlain, IsOfBytes, IsSent, IsTyped, MayBeKept, found_as, is_good, made_of};
 ghost use Rattle.relay_step.specs.Fetching.{IsFetchedFrom, found_by};
-ghost use Rattle.relay_step.specs.Operators.{AnsweredFetch, whole_of};
+ghost use Rattle.relay_step.specs.Operators.{AnsweredFetch};
 ghost use Rattle.relay_step.specs.declared.fault.StepFault.{StepFault as Fault};
 
 use crate::fault::StepFault;
@@ -125,7 +125,7 @@ fn take_over(
 ) -> Result<Whole, StepFault>
     requires number { last + 1 < NUMBERS }
     requires linked { IsLinkOf found.now.head.commit found.now.block }
-    ensures whole { IfOk result (λ whole. whole ≡ whole_of last did.now time.now found.now.head found.now.records found.now.block) }
+    ensures whole { IfOk result (λ whole. whole ≡ whole_under did.now time.now found.now.head found.now.records found.now.block (last + 1)) }
     ensures typed { OnOk result (IsTyped did.now time.now found.now.head found.now.block) }
     ensures message { IfOk result (λ whole. is_message whole.message ≡ true) }
     ensures memory { IfErr result (λ fault. fault ≡ Fault.Memory) }
