@@ -1,11 +1,12 @@
-pub mod Reading
+pub mod Opened
 pub mod Linking
 pub mod Walks
 pub mod Tidy
 pub mod Calls
-pub mod Deciding
+pub mod Decisions
 pub mod Taken
 pub mod Fetched
-pub mod Losing
+pub mod Losses
 pub mod Steps
 pub mod Others
+pub mod Words

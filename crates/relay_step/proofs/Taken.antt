@@ -52,7 +52,7 @@ use Rattle.relay_step.specs.Steps.{IsTold, took}
 use Rattle.relay_step.specs.Taking.{EventTook, IsFetchOf, IsFetchedSo}
 use Rattle.relay_step.specs.Words.{IsNow}
 use Rattle.relay_step.proofs.Calls.{calls_shown, ended, moment_there}
-use Rattle.relay_step.proofs.Deciding.{AreOf, IsAtEnd, Within, decided_so, done_above, done_end, opened_right, within_some, within_told}
+use Rattle.relay_step.proofs.Decisions.{AreOf, IsAtEnd, Within, decided_so, done_above, done_end, opened_right, within_some, within_told}
 
 pub cursor_tells : (c : Core) (J : List Row) → Holds c J → (host : List ℕ) → cursor_in c host ≡ cursor host J
 cursor_tells c J h host = ap (λ (hs : List (List ℕ × ℕ)). cursor_of hs host) h.hosts ∙ hosts_tell host J

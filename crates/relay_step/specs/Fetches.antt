@@ -15,12 +15,12 @@ use Rattle.relay_core.specs.declared.limits.TheConstants.{FETCHED_UNSIGNED}
 use Rattle.repo_sync.specs.Repository.{IsWhole}
 use Rattle.repo_sync.specs.declared.found.Found.{Found as Checked}
 use Rattle.relay_step.specs.Asked.{AllAbout, is_refresh}
-use Rattle.relay_step.specs.declared.fetching.Fetch.{Fetch}
+use Rattle.relay_step.specs.declared.fetching.FoundRepo.{FoundRepo}
 
-abbrev pub found_as : Fetch → Found
-found_as Fetch.Absent = absent
-found_as (Fetch.Refused n) = unfit n
-found_as (Fetch.Fit checked) = found checked.head checked.records checked.block
+abbrev pub found_as : FoundRepo → Found
+found_as FoundRepo.Absent = absent
+found_as (FoundRepo.Refused n) = unfit n
+found_as (FoundRepo.Fit checked) = found checked.head checked.records checked.block
 
 -- a bad signature where what was found says so, else a good one
 abbrev pub is_good : Found → Bool

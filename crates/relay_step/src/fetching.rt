@@ -3,14 +3,16 @@
 ghost use Rattle.std.specs.Prelude.{◌≡◌, ⊥, ◌+◌, ◌≤◌, ◌<◌, ◌^◌, ℕ, Option, Ok, true, length, IsTrue, IfOk, IfErr, OnOk, OnErr};
 ghost use Rattle.at_cid.specs.Counts.{Rose};
 ghost use Rattle.at_syntax.specs.Did.{is_did, method_of};
+ghost use Rattle.at_authority.specs.Calls.{IsCall, answers};
 ghost use Rattle.at_authority.specs.Panels.{IsSpent};
+ghost use Rattle.at_authority.specs.Queries.{asks_verdict};
 ghost use Rattle.at_car.specs.Blocks.{IsLinkOf};
 ghost use Rattle.at_cbor.specs.Spelling.{IsString};
 ghost use Rattle.relay_row.specs.Rules.{is_message, is_string};
 ghost use Rattle.relay_row.specs.declared.limits.TheConstants.{NUMBERS};
 ghost use Rattle.relay_core.specs.Decide.{is_found, whole_under};
 ghost use Rattle.relay_step.specs.Around.{SameRepositories};
-ghost use Rattle.relay_step.specs.Causes.{IsCause};
+ghost use Rattle.relay_step.specs.Causes.{IsCause, called};
 ghost use Rattle.relay_step.specs.Fetches.{AskedPlain, IsOfBytes, IsSent, IsTyped, MayBeKept, found_as, is_good, made_of};
 ghost use Rattle.relay_step.specs.Fetching.{IsFetchedFrom, found_by};
 ghost use Rattle.relay_step.specs.Operators.{AnsweredFetch};
@@ -31,7 +33,7 @@ use std::alloc::Global;
 
 /// What a fetch found.
 #[derive(Drop)]
-pub(crate) enum Fetch {
+pub(crate) enum FoundRepo {
     /// There is no repository.
     Absent,
     /// The repository is refused, with this number.
@@ -40,13 +42,22 @@ pub(crate) enum Fetch {
     Fit(Found),
 }
 
+/// Whether the signature of what was found is good for the account.
+fn ask_signature<P: Judges>(did: &str, found: &Found, judges: &mut P) -> Result<bool, StepFault>
+    requires { IsTrue (is_did did.now) }
+    ensures call { IsCall (called did.now (answers (asks_verdict did.now found.now.digest found.now.sig)) result) (P.panel judges.old) (P.panel judges.new) }
+    ensures caused { IfErr result (IsCause ⊥ (IsSpent (P.panel judges.new (method_of did.now))) ⊥ ⊥) }
+{
+    ask_verdict(judges, did, &found.digest, found.sig.as_slice())
+}
+
 /// Judges a repository that was found whole: its revision against the moment first, and then its signature.
 fn judge_found<P: Judges>(
     did: &str,
     moment: u64,
     found: Found,
     judges: &mut P,
-) -> Result<Fetch, StepFault>
+) -> Result<FoundRepo, StepFault>
     requires did { IsTrue (is_did did.now) }
     requires whole { (least : Option ℕ) × IsOfBytes did.now least found }
     requires records { found.records < NUMBERS }
@@ -56,15 +67,15 @@ fn judge_found<P: Judges>(
     ensures in_vain { OnErr result (AskedPlain (P.panel judges.old) did.now (P.panel judges.new)) }
     ensures caused { IfErr result (IsCause ⊥ (IsSpent (P.panel judges.new (method_of did.now))) ⊥ ⊥) }
 {
-    found.head.commit.tell_link();
+    found.head.rev.tell_value();
     if is_ahead(found.head.rev, Some(moment)) {
-        return Ok(Fetch::Refused(FETCHED_AHEAD));
+        return Ok(FoundRepo::Refused(FETCHED_AHEAD));
     }
-    match ask_verdict(judges, did, &found.digest, found.sig.as_slice()) {
-        Ok(true) => Ok(Fetch::Fit(found)),
-        Ok(false) => Ok(Fetch::Refused(FETCHED_UNSIGNED)),
-        Err(fault) => Err(fault),
+    let is_good = ask_signature(did, &found, judges)?;
+    if !is_good {
+        return Ok(FoundRepo::Refused(FETCHED_UNSIGNED));
     }
+    Ok(FoundRepo::Fit(found))
 }
 
 /// Fetches the repository of an account, whose revision isn't to be below the least, at a moment.
@@ -75,7 +86,7 @@ pub(crate) fn fetch<P: Judges, R: Repos>(
     moment: u64,
     judges: &mut P,
     repos: &mut R,
-) -> Result<Fetch, StepFault>
+) -> Result<FoundRepo, StepFault>
     requires did { IsTrue (is_did did.now) }
     ensures asked { IfOk result (λ fetch. AnsweredFetch (P.panel judges.old) did.now (found_as fetch) (P.panel judges.new)) }
     ensures fetched { IfOk result (λ fetch. IsTrue R.tells → IsFetchedFrom (R.repository repos.old did.now) did.now least moment (is_good (found_as fetch)) (found_as fetch)) }
@@ -87,7 +98,7 @@ pub(crate) fn fetch<P: Judges, R: Repos>(
 {
     match repos.open(did) {
         Ok(true) => {}
-        Ok(false) => return Ok(Fetch::Absent),
+        Ok(false) => return Ok(FoundRepo::Absent),
         Err(ReposFault::Failed) => return Err(StepFault::Repos),
         Err(ReposFault::Memory) => return Err(StepFault::Memory),
     }
@@ -95,7 +106,7 @@ pub(crate) fn fetch<P: Judges, R: Repos>(
         Ok(found) => judge_found(did, moment, found, judges),
         Err(RepoFault::Failed) => Err(StepFault::Repos),
         Err(RepoFault::Memory) => Err(StepFault::Memory),
-        Err(fault) => Ok(Fetch::Refused(fault.number())),
+        Err(fault) => Ok(FoundRepo::Refused(fault.number())),
     }
 }
 
@@ -154,7 +165,7 @@ pub(crate) fn make(
     core: &Core,
     did: &str,
     time: &str,
-    found: Fetch,
+    found: FoundRepo,
 ) -> Result<Fetched, StepFault>
     requires may { MayBeKept (found_as found) }
     ensures made { IfOk result (λ fetched. fetched ≡ made_of core.now.last did.now time.now (found_as found)) }
@@ -162,9 +173,9 @@ pub(crate) fn make(
     ensures caused { IfErr result (IsCause ((NUMBERS ≤ core.now.last + 1) × (is_found (found_as found) ≡ true)) ⊥ ⊥ ⊥) }
 {
     match found {
-        Fetch::Absent => Ok(Fetched::Absent),
-        Fetch::Refused(number) => Ok(Fetched::Refused(number)),
-        Fetch::Fit(found) => {
+        FoundRepo::Absent => Ok(Fetched::Absent),
+        FoundRepo::Refused(number) => Ok(Fetched::Refused(number)),
+        FoundRepo::Fit(found) => {
             if is_full(core) {
                 return Err(StepFault::SeqEnd);
             }

@@ -7,7 +7,7 @@ use Rattle.repo_sync.specs.declared.fault.RepoFault.{RepoFault}
 use Rattle.repo_sync.specs.declared.limits.TheConstants.{MOST_REPOSITORY_BYTES}
 
 -- the end is reached
-all_scanned : (result : Result Kept RepoFault) (whole bytes left : List ℕ) → whole ≡ bytes ++ left → left ≡ [] → length bytes ≤ MOST_REPOSITORY_BYTES → ScansAs result bytes → Scans result whole
+pub all_scanned : (result : Result Kept RepoFault) (whole bytes left : List ℕ) → whole ≡ bytes ++ left → left ≡ [] → length bytes ≤ MOST_REPOSITORY_BYTES → ScansAs result bytes → Scans result whole
 all_scanned result whole bytes left is none short s =
     let same : bytes ≡ whole = sym (append-nil bytes) ∙ ap (λ l. bytes ++ l) (sym none) ∙ sym is in
     subst (Scans result) same (go result short s)
@@ -61,7 +61,7 @@ ended result whole bytes piece mid left is more none short s =
 
 -- bytes behind bytes
 pub bytes_joined : (xs ys : List ℕ) → IsBytes xs → IsBytes ys → IsBytes (xs ++ ys)
-bytes_joined [] ys a b = b
+bytes_joined [] ys a b i = b i
 bytes_joined (x ∷ xs) ys a b zero = a zero
 bytes_joined (x ∷ xs) ys a b (suc i) = bytes_joined xs ys (λ j. a (suc j)) b i
 
