@@ -26,7 +26,7 @@ use Rattle.relay_core.specs.declared.answers.Answers.{Answers}
 use Rattle.relay_core.specs.declared.answers.Question.{Question}
 use Rattle.relay_core.specs.declared.limits.TheConstants.{FETCHED_UNSIGNED, LONGEST_MESSAGE}
 use Rattle.relay_law.specs.Formed.{IsOpenedAs}
-use Rattle.relay_step.specs.Asked.{AllAbout, AskedInVain, IsRefusedOnce, asks_for_home, asks_for_verdict, home_calls, is_refresh, refresh_calls, signed_by, verdict_call, verdict_calls}
+use Rattle.relay_step.specs.Asked.{AllAbout, AskedInVain, IsRefusedOnce, Where, asks_for_home, asks_for_verdict, home_calls, is_refresh, refresh_calls, signed_by, verdict_call, verdict_calls}
 use Rattle.relay_step.specs.Fetches.{AskedPlain}
 use Rattle.relay_step.specs.Operators.{AnsweredFetch, AreFoundCalls}
 use Rattle.relay_step.specs.Questions.{IsJudgedLate, IsRenewedFirst, IsTidy, NoneAsked, PassedBefore, calls_told, home_told, is_unlinked, length_line, refresh_told, verdict_told}
@@ -148,26 +148,26 @@ module _ (e : Seen) (host : List ℕ) where
     repo_calls : (l : Bool) (home : Option Bool) (i d : Bool) (opened : Option (Result Head Refusal)) (u : Bool) (verdict : Option Bool) (r : Option Refusal)
         → (when l Refusal.TooLong ≡ None) ⊎ ((home ≡ None) × (verdict ≡ None)) → (verdict ≡ None) ⊎ Late home i d opened u → ((q : Refusal) → opened ≡ Some (Err q) → IsAlone q)
         → walk (Lines l home i d opened u verdict) ≡ ended r → Shows home verdict r
-    repo_calls true home i d opened u verdict r (inl s) late open h = absurd (some_none Refusal.TooLong s)
-    repo_calls true home i d opened u verdict r (inr n) late open h =
+    repo_calls true home i d opened u verdict r (inl s) late fine h = absurd (some_none Refusal.TooLong s)
+    repo_calls true home i d opened u verdict r (inr n) late fine h =
         let P : Option Bool → Type 0 = λ o. Shows o verdict r in
         subst P (sym n.0) (shows_as None verdict None (Some Refusal.TooLong) r n.1 (refuses_as Refusal.TooLong r h) refl)
-    repo_calls false None i d opened u verdict r short late open h = absurd (waits_on Question.Home r h)
-    repo_calls false (Some false) i d opened u verdict r short (inl v) open h = shows_as (Some false) verdict None (Some Refusal.NotHome) r v (refuses_as Refusal.NotHome r h) refl
-    repo_calls false (Some false) i d opened u verdict r short (inr late) open h = let no = late.home_is in absurd cc
-    repo_calls false (Some true) true d opened u verdict r short (inl v) open h = shows_as (Some true) verdict None (Some Refusal.Inactive) r v (refuses_as Refusal.Inactive r h) refl
-    repo_calls false (Some true) true d opened u verdict r short (inr late) open h = absurd (some_none Refusal.Inactive late.active)
-    repo_calls false (Some true) false true opened u verdict r short (inl v) open h = shows_as (Some true) verdict None (Some Refusal.TakenDown) r v (refuses_as Refusal.TakenDown r h) refl
-    repo_calls false (Some true) false true opened u verdict r short (inr late) open h = absurd (some_none Refusal.TakenDown late.up)
-    repo_calls false (Some true) false false None u verdict r short late open h = absurd (waits_on Question.Open r h)
-    repo_calls false (Some true) false false (Some (Err q)) u verdict r short (inl v) open h = shows_as (Some true) verdict None (Some q) r v (refuses_as q r h) (alone_shows q (open q refl))
-    repo_calls false (Some true) false false (Some (Err q)) u verdict r short (inr late) open h = let no = late.opened_is in absurd cc
-    repo_calls false (Some true) false false (Some (Ok head)) true verdict r short (inl v) open h = shows_as (Some true) verdict None (Some Refusal.FutureRev) r v (refuses_as Refusal.FutureRev r h) refl
-    repo_calls false (Some true) false false (Some (Ok head)) true verdict r short (inr late) open h = absurd (some_none Refusal.FutureRev late.near)
-    repo_calls false (Some true) false false (Some (Ok head)) false None r short late open h = absurd (waits_on Question.Verdict r h)
-    repo_calls false (Some true) false false (Some (Ok head)) false (Some false) r short late open h =
+    repo_calls false None i d opened u verdict r short late fine h = absurd (waits_on Question.Home r h)
+    repo_calls false (Some false) i d opened u verdict r short (inl v) fine h = shows_as (Some false) verdict None (Some Refusal.NotHome) r v (refuses_as Refusal.NotHome r h) refl
+    repo_calls false (Some false) i d opened u verdict r short (inr late) fine h = let no = late.home_is in absurd cc
+    repo_calls false (Some true) true d opened u verdict r short (inl v) fine h = shows_as (Some true) verdict None (Some Refusal.Inactive) r v (refuses_as Refusal.Inactive r h) refl
+    repo_calls false (Some true) true d opened u verdict r short (inr late) fine h = absurd (some_none Refusal.Inactive late.active)
+    repo_calls false (Some true) false true opened u verdict r short (inl v) fine h = shows_as (Some true) verdict None (Some Refusal.TakenDown) r v (refuses_as Refusal.TakenDown r h) refl
+    repo_calls false (Some true) false true opened u verdict r short (inr late) fine h = absurd (some_none Refusal.TakenDown late.up)
+    repo_calls false (Some true) false false None u verdict r short late fine h = absurd (waits_on Question.Open r h)
+    repo_calls false (Some true) false false (Some (Err q)) u verdict r short (inl v) fine h = shows_as (Some true) verdict None (Some q) r v (refuses_as q r h) (alone_shows q (fine q refl))
+    repo_calls false (Some true) false false (Some (Err q)) u verdict r short (inr late) fine h = let no = late.opened_is in absurd cc
+    repo_calls false (Some true) false false (Some (Ok head)) true verdict r short (inl v) fine h = shows_as (Some true) verdict None (Some Refusal.FutureRev) r v (refuses_as Refusal.FutureRev r h) refl
+    repo_calls false (Some true) false false (Some (Ok head)) true verdict r short (inr late) fine h = absurd (some_none Refusal.FutureRev late.near)
+    repo_calls false (Some true) false false (Some (Ok head)) false None r short late fine h = absurd (waits_on Question.Verdict r h)
+    repo_calls false (Some true) false false (Some (Ok head)) false (Some false) r short late fine h =
         shows_as (Some true) (Some false) (Some false) (Some Refusal.BadSignature) r refl (refuses_as Refusal.BadSignature r h) refl
-    repo_calls false (Some true) false false (Some (Ok head)) false (Some true) r short late open h = behind_shows r (behind r h)
+    repo_calls false (Some true) false false (Some (Ok head)) false (Some true) r short late fine h = behind_shows r (behind r h)
 
   -- ---- the calls of an identity and of an account
 
@@ -336,7 +336,7 @@ found_plain : (did : List ℕ) (f : Found) (calls : List Call) → AreFoundCalls
 found_plain did absent calls are = rw are (tt, refl)
 found_plain did (unfit n) calls are = go (n == FETCHED_UNSIGNED) are
   where
-    go : (b : Bool) → cond b (IsRefusedOnce did calls) (calls ≡ []) → AllAbout did calls × (filter is_refresh calls ≡ [])
+    go : (b : Bool) → Where b (IsRefusedOnce did calls) (calls ≡ []) → AllAbout did calls × (filter is_refresh calls ≡ [])
     go true is = rw is.are ((refl, tt), refl)
     go false is = rw is (tt, refl)
 found_plain did (found head records block) calls are = rw are.are ((refl, tt), refl)

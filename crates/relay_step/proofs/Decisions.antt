@@ -269,7 +269,7 @@ head_same : (car : CarResult) (rev : ℕ) (one other : Head) → IsHeadIn car re
 head_same car rev one other a b =
     let commit : one.commit ≡ other.commit = some_same one.commit other.commit (sym a.found.root_is ∙ b.found.root_is) in
     let object : a.commit ≡ b.commit = some_same a.commit b.commit (sym a.found.object_is ∙ b.found.object_is) in
-    let data : one.data_root ≡ other.data_root = a.data_is ∙ ap (λ (c : Commit). c.data_root) object ∙ sym b.data_is in
+    let roots : one.data_root ≡ other.data_root = a.data_is ∙ ap (λ (c : Commit). c.data_root) object ∙ sym b.data_is in
     let revs : one.rev ≡ other.rev = a.rev_is ∙ sym b.rev_is in
     cc
 

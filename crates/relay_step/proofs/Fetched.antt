@@ -29,7 +29,7 @@ use Rattle.repo_sync.specs.Repository.{IsAnswer, IsWhole, Holds, commit_lines, f
 use Rattle.repo_sync.specs.declared.fault.RepoFault.{RepoFault}
 use Rattle.repo_sync.specs.declared.found.Found.{Found as Checked}
 use Rattle.repo_sync.proofs.Linked.{car_linked}
-use Rattle.relay_step.specs.Asked.{IsAskedOf, IsRefusedOnce}
+use Rattle.relay_step.specs.Asked.{IsAskedOf, IsRefusedOnce, Where}
 use Rattle.relay_step.specs.Fetches.{IsOfBytes, MayBeKept, is_good}
 use Rattle.relay_step.specs.Fetching.{IsFetchedFrom, IsFoundOf, found_by}
 use Rattle.relay_step.specs.Operators.{AnsweredFetch, AreFoundCalls}
@@ -142,7 +142,7 @@ asked_refused did least bytes fault old loud is =
     let own = own_fault did least bytes fault loud is in
     record { calls = []; are = go (number_of fault == FETCHED_UNSIGNED) own.unsigned; made = refl }
   where
-    go : (b : Bool) → b ≡ false → cond b (IsRefusedOnce did []) (◌≡◌ {A = List Call} [] [])
+    go : (b : Bool) → b ≡ false → Where b (IsRefusedOnce did []) (◌≡◌ {A = List Call} [] [])
     go true h = absurd cc
     go false h = refl
 

@@ -1,5 +1,5 @@
 -- What a fetch found, as rows and the relay's own events need it (own).
-use Rattle.std.specs.Prelude.{◌≡◌, ⊤, ℕ, ◌+◌, ◌<◌, ◌^◌, Bool, true, not, ◌==◌, List, [], length, Option}
+use Rattle.std.specs.Prelude.{◌≡◌, ⊤, ℕ, ◌+◌, ◌<◌, ◌^◌, Bool, true, not, ◌==◌, List, [], length, Option, Some, None}
 use Rattle.std.specs.List.{filter}
 use Rattle.at_authority.specs.Calls.{Call, AreCalls}
 use Rattle.at_authority.specs.Panels.{Panel}
@@ -21,6 +21,11 @@ abbrev pub found_as : FoundRepo → Found
 found_as FoundRepo.Absent = absent
 found_as (FoundRepo.Refused n) = unfit n
 found_as (FoundRepo.Fit checked) = found checked.head checked.records checked.block
+
+-- a repository that was found whole, judged: refused with a number, or to be taken over
+abbrev pub judged_as : Checked → Option ℕ → Found
+judged_as checked None = found checked.head checked.records checked.block
+judged_as checked (Some n) = unfit n
 
 -- a bad signature where what was found says so, else a good one
 abbrev pub is_good : Found → Bool

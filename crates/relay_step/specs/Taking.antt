@@ -1,5 +1,5 @@
 -- What an event came to, and all that was asked about it (own).
-use Rattle.std.specs.Prelude.{◌≡◌, ⊥, ℕ, ◌+◌, ◌<◌, Bool, true, false, List, [], ◌++◌, Option, Some, None, Result, IsTrue, nat_le}
+use Rattle.std.specs.Prelude.{◌≡◌, ℕ, ◌+◌, ◌<◌, Bool, true, false, List, [], ◌++◌, Option, Some, None, Result, IsTrue, nat_le}
 use Rattle.at_authority.specs.Calls.{Call, AreCalls}
 use Rattle.at_authority.specs.Panels.{Panel}
 use Rattle.at_event.specs.Seen.{Seen}

@@ -1,19 +1,17 @@
 //! The fetch of an account's repository.
 
-ghost use Rattle.std.specs.Prelude.{◌≡◌, ⊥, ◌+◌, ◌≤◌, ◌<◌, ◌^◌, ℕ, Option, Ok, true, length, IsTrue, IfOk, IfErr, OnOk, OnErr};
+ghost use Rattle.std.specs.Prelude.{◌≡◌, ◌+◌, ◌≤◌, ◌<◌, ◌^◌, ℕ, Option, Ok, true, length, IsTrue, IfOk, IfErr, OnOk, OnErr};
 ghost use Rattle.at_cid.specs.Counts.{Rose};
 ghost use Rattle.at_syntax.specs.Did.{is_did, method_of};
-ghost use Rattle.at_authority.specs.Calls.{IsCall, answers};
 ghost use Rattle.at_authority.specs.Panels.{IsSpent};
-ghost use Rattle.at_authority.specs.Queries.{asks_verdict};
 ghost use Rattle.at_car.specs.Blocks.{IsLinkOf};
 ghost use Rattle.at_cbor.specs.Spelling.{IsString};
 ghost use Rattle.relay_row.specs.Rules.{is_message, is_string};
 ghost use Rattle.relay_row.specs.declared.limits.TheConstants.{NUMBERS};
 ghost use Rattle.relay_core.specs.Decide.{is_found, whole_under};
 ghost use Rattle.relay_step.specs.Around.{SameRepositories};
-ghost use Rattle.relay_step.specs.Causes.{IsCause, called};
-ghost use Rattle.relay_step.specs.Fetches.{AskedPlain, IsOfBytes, IsSent, IsTyped, MayBeKept, found_as, is_good, made_of};
+ghost use Rattle.relay_step.specs.Causes.{IsCause};
+ghost use Rattle.relay_step.specs.Fetches.{AskedPlain, IsOfBytes, IsSent, IsTyped, MayBeKept, found_as, is_good, judged_as, made_of};
 ghost use Rattle.relay_step.specs.Fetching.{IsFetchedFrom, found_by};
 ghost use Rattle.relay_step.specs.Operators.{AnsweredFetch};
 ghost use Rattle.relay_step.specs.declared.fault.StepFault.{StepFault as Fault};
@@ -42,40 +40,32 @@ pub(crate) enum FoundRepo {
     Fit(Found),
 }
 
-/// Whether the signature of what was found is good for the account.
-fn ask_signature<P: Judges>(did: &str, found: &Found, judges: &mut P) -> Result<bool, StepFault>
-    requires { IsTrue (is_did did.now) }
-    ensures call { IsCall (called did.now (answers (asks_verdict did.now found.now.digest found.now.sig)) result) (P.panel judges.old) (P.panel judges.new) }
-    ensures caused { IfErr result (IsCause ⊥ (IsSpent (P.panel judges.new (method_of did.now))) ⊥ ⊥) }
-{
-    ask_verdict(judges, did, &found.digest, found.sig.as_slice())
-}
-
-/// Judges a repository that was found whole: its revision against the moment first, and then its signature.
+/// Judges a repository that was found whole: its revision against the moment first, and then its signature. The number with
+/// which it is refused, if it is.
 fn judge_found<P: Judges>(
     did: &str,
     moment: u64,
-    found: Found,
+    found: &Found,
     judges: &mut P,
-) -> Result<FoundRepo, StepFault>
+) -> Result<Option<u8>, StepFault>
     requires did { IsTrue (is_did did.now) }
-    requires whole { (least : Option ℕ) × IsOfBytes did.now least found }
-    requires records { found.records < NUMBERS }
-    ensures asked { IfOk result (λ fetch. AnsweredFetch (P.panel judges.old) did.now (found_as fetch) (P.panel judges.new)) }
-    ensures found { IfOk result (λ fetch. found_as fetch ≡ found_by moment (is_good (found_as fetch)) (Ok found)) }
-    ensures formed { IfOk result (λ fetch. MayBeKept (found_as fetch)) }
+    requires whole { (least : Option ℕ) × IsOfBytes did.now least found.now }
+    requires records { found.now.records < NUMBERS }
+    ensures asked { IfOk result (λ number. AnsweredFetch (P.panel judges.old) did.now (judged_as found.now number) (P.panel judges.new)) }
+    ensures judged { IfOk result (λ number. judged_as found.now number ≡ found_by moment (is_good (judged_as found.now number)) (Ok found.now)) }
+    ensures may { IfOk result (λ number. MayBeKept (judged_as found.now number)) }
     ensures in_vain { OnErr result (AskedPlain (P.panel judges.old) did.now (P.panel judges.new)) }
     ensures caused { IfErr result (IsCause ⊥ (IsSpent (P.panel judges.new (method_of did.now))) ⊥ ⊥) }
 {
     found.head.rev.tell_value();
     if is_ahead(found.head.rev, Some(moment)) {
-        return Ok(FoundRepo::Refused(FETCHED_AHEAD));
+        return Ok(Some(FETCHED_AHEAD));
     }
-    let is_good = ask_signature(did, &found, judges)?;
-    if !is_good {
-        return Ok(FoundRepo::Refused(FETCHED_UNSIGNED));
+    match ask_verdict(judges, did, &found.digest, found.sig.as_slice()) {
+        Ok(true) => Ok(None),
+        Ok(false) => Ok(Some(FETCHED_UNSIGNED)),
+        Err(fault) => Err(fault),
     }
-    Ok(FoundRepo::Fit(found))
 }
 
 /// Fetches the repository of an account, whose revision isn't to be below the least, at a moment.
@@ -90,7 +80,7 @@ pub(crate) fn fetch<P: Judges, R: Repos>(
     requires did { IsTrue (is_did did.now) }
     ensures asked { IfOk result (λ fetch. AnsweredFetch (P.panel judges.old) did.now (found_as fetch) (P.panel judges.new)) }
     ensures fetched { IfOk result (λ fetch. IsTrue R.tells → IsFetchedFrom (R.repository repos.old did.now) did.now least moment (is_good (found_as fetch)) (found_as fetch)) }
-    ensures formed { IfOk result (λ fetch. MayBeKept (found_as fetch)) }
+    ensures may { IfOk result (λ fetch. MayBeKept (found_as fetch)) }
     ensures same { IsTrue R.tells → SameRepositories (R.repository repos.old) (R.repository repos.new) }
     ensures in_vain { OnErr result (AskedPlain (P.panel judges.old) did.now (P.panel judges.new)) }
     ensures caused { IfErr result (IsCause ⊥ (IsSpent (P.panel judges.new (method_of did.now))) (Rose (R.faults repos.old) (R.faults repos.new)) ⊥) }
@@ -103,7 +93,11 @@ pub(crate) fn fetch<P: Judges, R: Repos>(
         Err(ReposFault::Memory) => return Err(StepFault::Memory),
     }
     match check_repo(alloc, repos, did, least) {
-        Ok(found) => judge_found(did, moment, found, judges),
+        Ok(found) => match judge_found(did, moment, &found, judges) {
+            Ok(None) => Ok(FoundRepo::Fit(found)),
+            Ok(Some(number)) => Ok(FoundRepo::Refused(number)),
+            Err(fault) => Err(fault),
+        },
         Err(RepoFault::Failed) => Err(StepFault::Repos),
         Err(RepoFault::Memory) => Err(StepFault::Memory),
         Err(fault) => Ok(FoundRepo::Refused(fault.number())),

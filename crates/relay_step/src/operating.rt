@@ -1,6 +1,6 @@
 //! An account taken down or restored at an operator's word.
 
-ghost use Rattle.std.specs.Prelude.{◌≡◌, ◌≤◌, ⊥, length, IsTrue, IfOk, IfErr, OnErr};
+ghost use Rattle.std.specs.Prelude.{◌≡◌, ◌≤◌, length, IsTrue, IfOk, IfErr, OnErr};
 ghost use Rattle.at_cid.specs.Counts.{Rose};
 ghost use Rattle.at_syntax.specs.Did.{is_did};
 ghost use Rattle.at_form.specs.declared.forms.TheConstants.{LONGEST_SHORT_TEXT};
@@ -14,7 +14,7 @@ use crate::taking::is_full;
 use crate::word::Word;
 use relay_core::Core;
 use relay_io::Clock;
-use relay_law::operated_rows_are_formed;
+// LAW use relay_law::operated_rows_are_formed;
 use relay_row::Row;
 use std::alloc::Global;
 
@@ -42,7 +42,7 @@ pub fn operate<C: Clock>(
     if is_full(core) {
         return Err(StepFault::SeqEnd);
     }
-    operated_rows_are_formed();
+    // LAW operated_rows_are_formed();
     tell_text(did);
     tell_text(time);
     let operated = core.operated(alloc, did, down, time, Some(moment))?;

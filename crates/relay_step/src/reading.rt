@@ -1,6 +1,6 @@
 //! An event's blocks, read once: what is opened, what is judged, and what follows.
 
-ghost use Rattle.std.specs.Prelude.{◌≡◌, ⊥, true, IsTrue, IfOk, IfErr, OnErr, Some};
+ghost use Rattle.std.specs.Prelude.{◌≡◌, true, IsTrue, IfOk, IfErr, OnErr, Some};
 ghost use Rattle.at_syntax.specs.Did.{is_did, method_of};
 ghost use Rattle.at_authority.specs.Calls.{IsCall, AreCalls, fails};
 ghost use Rattle.at_authority.specs.Panels.{IsSpent};

@@ -1,6 +1,6 @@
 //! The row of a decided event.
 
-ghost use Rattle.std.specs.Prelude.{◌≡◌, ⊥, ◌+◌, ◌≤◌, ◌<◌, true, IfOk, IfErr, OnOk};
+ghost use Rattle.std.specs.Prelude.{◌≡◌, ◌+◌, ◌≤◌, ◌<◌, true, false, IfOk, IfErr, OnOk};
 ghost use Rattle.at_event.specs.declared.frame.Frame.{Frame as AFrame};
 ghost use Rattle.relay_row.specs.declared.limits.TheConstants.{NUMBERS as BOUND};
 ghost use Rattle.relay_core.specs.Rows.{event_taken, goes_out};
