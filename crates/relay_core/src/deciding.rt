@@ -40,7 +40,8 @@ fn refuse(refusal: Refusal, answers: &Answers) -> Next
     }
 }
 
-fn is_ahead(rev: Tid, moment: Option<u64>) -> bool
+/// Whether a revision is far ahead of the clock's moment, where that is known.
+pub fn is_ahead(rev: Tid, moment: Option<u64>) -> bool
     ensures { result ≡ is_ahead rev moment }
 {
     match moment {

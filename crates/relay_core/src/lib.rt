@@ -16,6 +16,7 @@ mod standing;
 mod state;
 
 pub use answers::{Answers, Question};
+pub use deciding::is_ahead;
 pub use decision::{Decision, Next, Pass};
 pub use journal_state::Core;
 pub use laws::{asks_once, blocks_return, next_decides, ready_decides, rows_show, worlds_run};

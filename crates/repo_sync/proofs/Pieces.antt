@@ -1,12 +1,13 @@
 -- A repository, piece by piece.
-use Rattle.std.proofs.Common.{◌≡◌, ℕ, ◌<◌, ◌≤◌, List, [], ◌∷◌, ◌++◌, length, Result, Ok, Err, refl, sym, ap, ◌∙◌, subst, arith, append_assoc, append-nil, length-append}
+use Rattle.std.proofs.Common.{◌≡◌, ℕ, zero, suc, ◌<◌, ◌≤◌, List, [], ◌∷◌, ◌++◌, length, Result, Ok, Err, refl, sym, ap, ◌∙◌, subst, arith, append_assoc, append-nil, length-append}
+use Rattle.at_cid.specs.Link.{IsBytes}
 use Rattle.at_car.specs.declared.scan.Kept.{Kept}
 use Rattle.repo_sync.specs.Scans.{Scans, ScansAs, IsQuiet}
 use Rattle.repo_sync.specs.declared.fault.RepoFault.{RepoFault}
 use Rattle.repo_sync.specs.declared.limits.TheConstants.{MOST_REPOSITORY_BYTES}
 
 -- the end is reached
-all_scanned : (result : Result Kept RepoFault) (whole bytes left : List ℕ) → whole ≡ bytes ++ left → left ≡ [] → length bytes ≤ MOST_REPOSITORY_BYTES → ScansAs result bytes → Scans result whole
+pub all_scanned : (result : Result Kept RepoFault) (whole bytes left : List ℕ) → whole ≡ bytes ++ left → left ≡ [] → length bytes ≤ MOST_REPOSITORY_BYTES → ScansAs result bytes → Scans result whole
 all_scanned result whole bytes left is none short s =
     let same : bytes ≡ whole = sym (append-nil bytes) ∙ ap (λ l. bytes ++ l) (sym none) ∙ sym is in
     subst (Scans result) same (go result short s)
@@ -57,3 +58,13 @@ ended result whole bytes piece mid left is more none short s =
     let n = nothing piece left (sym more ∙ none) in
     let all : bytes ++ piece ≡ bytes = ap (λ p. bytes ++ p) n.0 ∙ append-nil bytes in
     all_scanned result whole bytes mid is none short (subst (ScansAs result) all s)
+
+-- bytes behind bytes
+pub bytes_joined : (xs ys : List ℕ) → IsBytes xs → IsBytes ys → IsBytes (xs ++ ys)
+bytes_joined [] ys a b i = b i
+bytes_joined (x ∷ xs) ys a b zero = a zero
+bytes_joined (x ∷ xs) ys a b (suc i) = bytes_joined xs ys (λ j. a (suc j)) b i
+
+-- which is so of no bytes too
+pub quiet_error : (fault : RepoFault) → IsQuiet fault → (bytes : List ℕ) × IsBytes bytes × Scans (Err fault) bytes
+quiet_error fault q = ([], λ i. omega arith, quiet fault [] q)

@@ -2,6 +2,7 @@
 
 ghost use Rattle.std.specs.Prelude.{◌≡◌, ◌≢◌, ◌≤◌, ◌++◌, ℕ, List, [], length, IsTrue, IfOk, IfErr, OnOk, IsErrOf, Err};
 ghost use Rattle.at_cid.specs.Counts.{Rose};
+ghost use Rattle.at_cid.specs.Link.{IsBytes};
 ghost use Rattle.at_car.specs.Standing.{StandsFor};
 ghost use Rattle.mst_whole.specs.Walks.{is_node_block};
 ghost use Rattle.repo_sync.specs.Scans.{IsQuiet, Scans, ScansAs};
@@ -16,19 +17,27 @@ use std::alloc::Global;
 // The most bytes that are asked for at once.
 const PIECE: usize = 4096;
 
+// What the type of a slice of bytes says of it.
+fn tell_bytes(bytes: &[u8])
+    ensures { IsBytes bytes.now }
+{}
+
 // Hands on what one call gives.
 fn take_piece<R: Repos>(repos: &mut R, scan: &mut Scan<NodeSieve>) -> Result<usize, RepoFault>
-    ensures moved { IfOk result (λ n. (piece : List ℕ) × (length piece ≡ n) × (IsTrue R.tells → R.left repos.old ≡ piece ++ R.left repos.new) × ((bytes : List ℕ) → StandsFor is_node_block scan.old.progress bytes → StandsFor is_node_block scan.new.progress (bytes ++ piece))) }
+    ensures moved { IfOk result (λ n. (piece : List ℕ) × (length piece ≡ n) × IsBytes piece × (IsTrue R.tells → R.left repos.old ≡ piece ++ R.left repos.new) × ((bytes : List ℕ) → StandsFor is_node_block scan.old.progress bytes → StandsFor is_node_block scan.new.progress (bytes ++ piece))) }
     ensures within { IfOk result (λ n. n ≤ PIECE) }
     ensures end { IfOk result (λ n. IsTrue R.tells → n ≡ 0 → R.left repos.old ≡ []) }
     ensures counts { R.faults repos.old ≤ R.faults repos.new }
     ensures steady { result ≢ Err RepoFault.Failed → R.faults repos.new ≡ R.faults repos.old }
     ensures failed { IsErrOf result RepoFault.Failed → Rose (R.faults repos.old) (R.faults repos.new) }
     ensures quiet { IfErr result IsQuiet }
+    ensures same { IsTrue R.tells → (did : List ℕ) → R.repository repos.new did ≡ R.repository repos.old did }
 {
     let mut room = [0; PIECE];
     let count = repos.read(&mut room)?;
-    scan.push(&room[..count])?;
+    let piece = &room[..count];
+    tell_bytes(piece);
+    scan.push(piece)?;
     Ok(count)
 }
 
@@ -46,6 +55,8 @@ fn finish(scan: Scan<NodeSieve>) -> Result<Kept, RepoFault>
 /// What is kept of the opened repository, which is read to its end, or until more bytes were given than one has at most.
 pub(crate) fn scan_repo<R: Repos>(alloc: Global, repos: &mut R) -> Result<Kept, RepoFault>
     ensures scanned { IsTrue R.tells → Scans result (R.left repos.old) }
+    ensures some { (bytes : List ℕ) × IsBytes bytes × Scans result bytes }
+    ensures same { IsTrue R.tells → (did : List ℕ) → R.repository repos.new did ≡ R.repository repos.old did }
     ensures counts { R.faults repos.old ≤ R.faults repos.new }
     ensures steady { result ≢ Err RepoFault.Failed → R.faults repos.new ≡ R.faults repos.old }
     ensures failed { IsErrOf result RepoFault.Failed → Rose (R.faults repos.old) (R.faults repos.new) }

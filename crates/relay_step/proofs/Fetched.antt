@@ -1,0 +1,190 @@
+-- What a fetch finds, and what is asked for it.
+use Rattle.std.proofs.Common.{◌≡◌, ℕ, ◌+◌, ◌<◌, ◌≤◌, ◌^◌, ◌-◌, min, Bool, true, false, not, cond, List, [], ◌∷◌, ◌++◌, length, Option, Some, None, Result, Ok, Err, refl, sym, ap, ◌∙◌, subst, arith, lit<}
+use Rattle.std.specs.Prelude.{◌==◌, IfOk, IfErr, IsTrue}
+use Rattle.std.specs.FinMap as map
+use Rattle.sha2.specs.Sha256.{sha256}
+use Rattle.at_authority.specs.Calls.{Call, answers, IsCall, AreCalls}
+use Rattle.at_authority.specs.Panels.{Panel}
+use Rattle.at_authority.specs.Queries.{asks_verdict}
+use Rattle.at_car.specs.Blocks.{AreLinked, BlockMap, IsLinkOf, kept}
+use Rattle.at_car.specs.Car.{car_of}
+use Rattle.at_car.specs.Sifting.{block_at}
+use Rattle.at_car.specs.Standing.{root_of}
+use Rattle.at_cid.specs.Link.{IsBytes, IsLink}
+use Rattle.at_cid.specs.Order.{key_cmp}
+use Rattle.at_commit.specs.Commit.{commit_of}
+use Rattle.at_commit.specs.declared.commit.Commit.{Commit}
+use Rattle.at_event.specs.declared.head.Head.{Head}
+use Rattle.event_checks.specs.Opening.{CarResult, IsFound, block_in, object_in, object_in_block, object_of, root_in}
+use Rattle.relay_io.specs.Repositories.{IsOpened}
+use Rattle.relay_row.specs.Rules.{is_head, is_repo_number}
+use Rattle.relay_core.specs.Decide.{Found, absent, unfit, found, judged, commit_blocks}
+use Rattle.relay_core.specs.Opening.{IsHeadIn}
+use Rattle.relay_core.specs.Table.{is_ahead}
+use Rattle.relay_core.specs.declared.limits.TheConstants.{FETCHED_AHEAD, FETCHED_UNSIGNED}
+use Rattle.relay_law.proofs.Heads.{found_head}
+use Rattle.repo_sync.specs.Checks.{IsRefused}
+use Rattle.repo_sync.specs.Faults.{number_of}
+use Rattle.repo_sync.specs.Repository.{IsAnswer, IsWhole, Holds, commit_lines, first_of, found_of, lines}
+use Rattle.repo_sync.specs.declared.fault.RepoFault.{RepoFault}
+use Rattle.repo_sync.specs.declared.found.Found.{Found as Checked}
+use Rattle.repo_sync.proofs.Linked.{car_linked}
+use Rattle.relay_step.specs.Asked.{IsAskedOf, IsRefusedOnce, Where}
+use Rattle.relay_step.specs.Fetches.{IsOfBytes, MayBeKept, is_good}
+use Rattle.relay_step.specs.Fetching.{IsFetchedFrom, IsFoundOf, found_by}
+use Rattle.relay_step.specs.Operators.{AnsweredFetch, AreFoundCalls}
+
+-- ---- what the bytes of a repository hold
+
+module _ (did : List ℕ) (least : Option ℕ) (checked : Checked) (of : IsOfBytes did least checked) where
+  block_is : checked.block ≡ of.whole.holds.block
+  block_is = ap (λ (k : Checked). k.block) of.whole.found_is
+
+  pub object_is : commit_of checked.block ≡ Ok of.whole.holds.commit
+  object_is = ap commit_of block_is ∙ of.whole.holds.object
+
+  pub digest_is : checked.digest ≡ sha256 of.whole.holds.commit.unsigned
+  digest_is = ap (λ (k : Checked). k.digest) of.whole.found_is
+
+  pub sig_is : checked.sig ≡ of.whole.holds.commit.sig
+  sig_is = ap (λ (k : Checked). k.sig) of.whole.found_is
+
+  link_is : checked.head.commit ≡ of.whole.holds.link
+  link_is = ap (λ (k : Checked). k.head.commit) of.whole.found_is
+
+  pub linked_to : IsLinkOf checked.head.commit checked.block
+  linked_to =
+      let h = of.whole.holds in
+      let all = car_linked of.bytes h.roots h.blocks of.are h.car in
+      let P : List ℕ → Type 0 = λ l. IsLinkOf l checked.block in
+      let Q : List ℕ → Type 0 = λ b. IsLinkOf h.link b in
+      subst P (sym link_is) (subst Q (sym block_is) (all h.link h.block h.there))
+
+  under_root : (o : Option (List ℕ)) (link block : List ℕ) (blocks : BlockMap) → o ≡ Some link → map.get {R = key_cmp} blocks link ≡ Some block → block_at o blocks ≡ Some block
+  under_root o link block blocks is there = ap (λ (r : Option (List ℕ)). block_at r blocks) is ∙ there
+
+  found_in_car : IsFound (car_of of.bytes) of.whole.holds.link of.whole.holds.block of.whole.holds.commit
+  found_in_car =
+      let h = of.whole.holds in
+      let block : block_in (car_of of.bytes) ≡ Some h.block = ap block_in h.car ∙ under_root (root_of h.roots) h.link h.block h.blocks h.root h.there in
+      record {
+        root_is = ap root_in h.car ∙ h.root;
+        block_is = block;
+        object_is = ap object_in_block block ∙ ap object_of h.object;
+      }
+
+  pub head_kept : checked.head.rev < 2 ^ 64 → is_head checked.head ≡ true
+  head_kept below =
+      let P : List ℕ → Type 0 = λ l. IsFound (car_of of.bytes) l of.whole.holds.block of.whole.holds.commit in
+      found_head of.bytes checked.head.rev checked.head of.are below (record {
+        block = of.whole.holds.block;
+        commit = of.whole.holds.commit;
+        found = subst P (sym link_is) found_in_car;
+        rev_is = refl;
+        data_is = ap (λ (k : Checked). k.head.data_root) of.whole.found_is;
+      })
+
+  -- ---- what is asked of the judges
+
+  pub asked_good : (old new : Panel) → IsCall (answers (asks_verdict did checked.digest checked.sig) true) old new → AnsweredFetch old did (found checked.head checked.records checked.block) new
+  asked_good old new call =
+      let same : answers (asks_verdict did checked.digest checked.sig) true ≡ answers (asks_verdict did (sha256 of.whole.holds.commit.unsigned) of.whole.holds.commit.sig) true
+          = ap (λ (d : List ℕ). answers (asks_verdict did d checked.sig) true) digest_is ∙ ap (λ (s : List ℕ). answers (asks_verdict did (sha256 of.whole.holds.commit.unsigned) s) true) sig_is in
+      record {
+        calls = answers (asks_verdict did checked.digest checked.sig) true ∷ [];
+        are = record { commit = of.whole.holds.commit; object = object_is; are = ap (λ (k : Call). k ∷ []) same };
+        made = (new, call, refl);
+      }
+
+pub asked_bad : (did digest sig : List ℕ) (old new : Panel) → IsCall (answers (asks_verdict did digest sig) false) old new → AnsweredFetch old did (unfit FETCHED_UNSIGNED) new
+asked_bad did digest sig old new call = record { calls = answers (asks_verdict did digest sig) false ∷ []; are = record { digest = digest; sig = sig; are = refl }; made = (new, call, refl) }
+
+pub asked_none : (did : List ℕ) (old : Panel) → AnsweredFetch old did absent old
+asked_none did old = record { calls = []; are = refl; made = refl }
+
+pub asked_ahead : (did : List ℕ) (old : Panel) → AnsweredFetch old did (unfit FETCHED_AHEAD) old
+asked_ahead did old = record { calls = []; are = refl; made = refl }
+
+-- ---- a repository that is refused
+
+-- a refusal of a repository by itself
+record IsOwnFault (fault : RepoFault) : Type 0 where
+  unsigned : (number_of fault == FETCHED_UNSIGNED) ≡ false
+  kept : is_repo_number true (number_of fault) ≡ true
+
+no_signature : (did : List ℕ) (least : Option ℕ) (bytes : List ℕ) → first_of (lines did least bytes) ≡ Some RepoFault.BadSignature → ⊥
+no_signature did least bytes h = go _ _ _ _ _ _ _ h
+  where
+    go : (a b c d e f : Bool) (rev : ℕ)
+        → cond a (Some RepoFault.TooLong) (cond b (Some RepoFault.BadCar) (cond c (Some RepoFault.NoCommit) (cond d (Some RepoFault.BadCommit) (cond e (Some RepoFault.OtherDid) (cond f (Some (RepoFault.Lagging rev)) None))))) ≡ Some RepoFault.BadSignature → ⊥
+    go true b c d e f rev h = absurd cc
+    go false true c d e f rev h = absurd cc
+    go false false true d e f rev h = absurd cc
+    go false false false true e f rev h = absurd cc
+    go false false false false true f rev h = absurd cc
+    go false false false false false true rev h = absurd cc
+    go false false false false false false rev h = absurd cc
+
+-- it is neither want of memory nor a failed read
+abbrev pub is_quiet : RepoFault → Bool
+is_quiet RepoFault.Memory = true
+is_quiet RepoFault.Failed = true
+is_quiet fault = false
+
+own_fault : (did : List ℕ) (least : Option ℕ) (bytes : List ℕ) (fault : RepoFault) → is_quiet fault ≡ false → IsRefused did least bytes fault → IsOwnFault fault
+own_fault did least bytes RepoFault.Memory loud is = absurd cc
+own_fault did least bytes RepoFault.Failed loud is = absurd cc
+own_fault did least bytes RepoFault.BadSignature loud is = absurd (no_signature did least bytes is)
+own_fault did least bytes fault loud is = record { unsigned = refl; kept = refl }
+
+pub asked_refused : (did : List ℕ) (least : Option ℕ) (bytes : List ℕ) (fault : RepoFault) (old : Panel) → is_quiet fault ≡ false → IsRefused did least bytes fault → AnsweredFetch old did (unfit (number_of fault)) old
+asked_refused did least bytes fault old loud is =
+    let own = own_fault did least bytes fault loud is in
+    record { calls = []; are = go (number_of fault == FETCHED_UNSIGNED) own.unsigned; made = refl }
+  where
+    go : (b : Bool) → b ≡ false → Where b (IsRefusedOnce did []) (◌≡◌ {A = List Call} [] [])
+    go true h = absurd cc
+    go false h = refl
+
+pub may_refused : (did : List ℕ) (least : Option ℕ) (bytes : List ℕ) (fault : RepoFault) → is_quiet fault ≡ false → IsRefused did least bytes fault → MayBeKept (unfit (number_of fault))
+may_refused did least bytes fault loud is = (own_fault did least bytes fault loud is).kept
+
+answer_of : (did : List ℕ) (least : Option ℕ) (bytes : List ℕ) (fault : RepoFault) → is_quiet fault ≡ false → IsRefused did least bytes fault → IsAnswer did least bytes (Err fault)
+answer_of did least bytes RepoFault.Memory loud is = absurd cc
+answer_of did least bytes RepoFault.Failed loud is = absurd cc
+answer_of did least bytes fault loud is = is
+
+-- ---- what is found, where repositories are told
+
+pub fetched_none : (o : Option (List ℕ)) (left did : List ℕ) (least : Option ℕ) (moment : ℕ) (good : Bool) → IsOpened o false left → IsFetchedFrom o did least moment good absent
+fetched_none None left did least moment good is = refl
+fetched_none (Some bytes) left did least moment good is = absurd (false_true is.0)
+  where
+    false_true : ◌≡◌ {A = Bool} false true → ⊥
+    false_true h = absurd cc
+
+opened_as : (o : Option (List ℕ)) (left did : List ℕ) (least : Option ℕ) (moment : ℕ) (good : Bool) (f : Found) → IsOpened o true left → IsFoundOf did least moment good left f → IsFetchedFrom o did least moment good f
+opened_as None left did least moment good f is found_is = absurd (true_false is.0)
+  where
+    true_false : ◌≡◌ {A = Bool} true false → ⊥
+    true_false h = absurd cc
+opened_as (Some bytes) left did least moment good f is found_is = let P : List ℕ → Type 0 = λ b. IsFoundOf did least moment good b f in subst P is.1 found_is
+
+pub fetched_whole : (o : Option (List ℕ)) (left did : List ℕ) (least : Option ℕ) (moment : ℕ) (good : Bool) (f : Found) (checked : Checked) → IsOpened o true left → IsWhole did least left checked → f ≡ found_by moment good (Ok checked) → IsFetchedFrom o did least moment good f
+fetched_whole o left did least moment good f checked opened whole is = opened_as o left did least moment good f opened (record { answer = Ok checked; is = whole; found_is = is })
+
+pub fetched_refused : (o : Option (List ℕ)) (left did : List ℕ) (least : Option ℕ) (moment : ℕ) (good : Bool) (fault : RepoFault) → IsOpened o true left → is_quiet fault ≡ false → IsRefused did least left fault → IsFetchedFrom o did least moment good (unfit (number_of fault))
+fetched_refused o left did least moment good fault opened loud is = opened_as o left did least moment good (unfit (number_of fault)) opened (record { answer = Err fault; is = answer_of did least left fault loud is; found_is = refl })
+
+-- ---- what is judged
+
+pub judged_ahead : (moment : ℕ) (good : Bool) (head : Head) (records : ℕ) (block : List ℕ) → is_ahead head.rev (Some moment) ≡ true → unfit FETCHED_AHEAD ≡ judged moment good head records block
+judged_ahead moment good head records block h = sym (ap (λ b. cond b (unfit FETCHED_AHEAD) (cond good (found head records block) (unfit FETCHED_UNSIGNED))) h)
+
+pub judged_near : (moment : ℕ) (good : Bool) (head : Head) (records : ℕ) (block : List ℕ) → is_ahead head.rev (Some moment) ≡ false → cond good (found head records block) (unfit FETCHED_UNSIGNED) ≡ judged moment good head records block
+judged_near moment good head records block h = sym (ap (λ b. cond b (unfit FETCHED_AHEAD) (cond good (found head records block) (unfit FETCHED_UNSIGNED))) h)
+
+-- ---- counts
+
+pub rose_later : (a b c : ℕ) → a ≤ b → min (b + 1) (2 ^ 64 - 1) ≤ c → min (a + 1) (2 ^ 64 - 1) ≤ c
+rose_later a b c low rose = omega (arith, low, rose)

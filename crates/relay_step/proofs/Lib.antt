@@ -1,0 +1,12 @@
+pub mod Opened
+pub mod Linking
+pub mod Walks
+pub mod Tidy
+pub mod Calls
+pub mod Decisions
+pub mod Taken
+pub mod Fetched
+pub mod Losses
+pub mod Steps
+pub mod Others
+pub mod Words

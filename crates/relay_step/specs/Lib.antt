@@ -1,0 +1,12 @@
+pub mod Steps
+pub mod Asked
+pub mod Fetching
+pub mod Around
+pub mod Operators
+pub mod Causes
+pub mod Messages
+pub mod Words
+pub mod Questions
+pub mod Fetches
+pub mod Taking
+pub mod Laws

@@ -1,0 +1,52 @@
+-- What operators' words come to: a refusal, or a row (own).
+use Rattle.std.specs.Prelude.{◌≡◌, ℕ, ◌+◌, Bool, List, [], Option, Some, None, ◌==◌, ◌⊎◌, if◌then◌else◌}
+use Rattle.at_authority.specs.Calls.{Call, AreCalls}
+use Rattle.at_authority.specs.Panels.{Panel}
+use Rattle.at_event.specs.declared.refusal.Refusal.{Refusal}
+use Rattle.relay_row.specs.Folds.{last_seq}
+use Rattle.relay_row.specs.declared.row.Row.{Row}
+use Rattle.account_state.specs.Folds.{account, last_rev}
+use Rattle.relay_core.specs.Decide.{Found, absent, unfit, found, whole_under}
+use Rattle.relay_core.specs.Operating.{operate_refusal, operated_as, sync_refusal}
+use Rattle.relay_core.specs.declared.limits.TheConstants.{FETCHED_UNSIGNED}
+use Rattle.relay_step.specs.Asked.{IsAskedOf, IsRefusedOnce, Where}
+use Rattle.relay_step.specs.Fetching.{IsFetchedFrom}
+use Rattle.relay_step.specs.declared.word.Word.{Word}
+
+-- Behind the journal J, taking an account down or restoring it at a moment comes to this.
+abbrev pub IsOperated : List Row → List ℕ → Bool → List ℕ → ℕ → Word → Type 0
+IsOperated J did down time moment (Word.Refused r) = operate_refusal (account did J) down ≡ Some r
+IsOperated J did down time moment (Word.Made row) =
+    (operate_refusal (account did J) down ≡ None) × (row ≡ Row.Operated (operated_as (last_seq J) (account did J) did down time (Some moment)))
+
+-- the refusal of what a fetch found, or the row of it
+abbrev pub IsFetchWord : ℕ → List ℕ → List ℕ → ℕ → Found → Word → Type 0
+IsFetchWord last did time moment absent word = word ≡ Word.Refused Refusal.NoRepository
+IsFetchWord last did time moment (unfit n) word = word ≡ Word.Refused (Refusal.RepositoryRefused n)
+IsFetchWord last did time moment (found head records block) word = word ≡ Word.Made (Row.Synced did (whole_under did time head records block (last + 1)) (Some moment))
+
+-- what a fetch that found this asked of the judges
+abbrev pub AreFoundCalls : List ℕ → Found → List Call → Type 0
+AreFoundCalls did absent calls = calls ≡ []
+AreFoundCalls did (unfit n) calls = Where (n == FETCHED_UNSIGNED) (IsRefusedOnce did calls) (calls ≡ [])
+AreFoundCalls did (found head records block) calls = IsAskedOf did block calls
+
+pub record AnsweredFetch (old : Panel) (did : List ℕ) (f : Found) (new : Panel) : Type 0 where
+  pub calls : List Call
+  pub are : AreFoundCalls did f calls
+  pub made : AreCalls old calls new
+
+-- what an account's word of synchronizing comes to where it isn't refused at once: what its repository came to, beside the last revision
+pub record IsFetchedNow (old : Panel) (J : List Row) (did time : List ℕ) (moment : ℕ) (repository : Option (Option (List ℕ))) (word : Word) (new : Panel) : Type 0 where
+  pub found : Found
+  pub asked : AnsweredFetch old did found new
+  pub fetched : (bytes : Option (List ℕ)) → repository ≡ Some bytes → (good : Bool) × IsFetchedFrom bytes did (last_rev (account did J).repo) moment good found
+  pub word_is : IsFetchWord (last_seq J) did time moment found word
+
+abbrev pub IsSyncedBy : Option Refusal → Panel → List Row → List ℕ → List ℕ → ℕ → Option (Option (List ℕ)) → Word → Panel → Type 0
+IsSyncedBy (Some r) old J did time moment repository word new = (word ≡ Word.Refused r) × (new ≡ old)
+IsSyncedBy None old J did time moment repository word new = IsFetchedNow old J did time moment repository word new
+
+-- Behind the journal J, synchronizing an account at a moment comes to this; its repository is told or not.
+abbrev pub IsSyncedNow : Panel → List Row → List ℕ → List ℕ → ℕ → Option (Option (List ℕ)) → Word → Panel → Type 0
+IsSyncedNow old J did time moment repository word new = IsSyncedBy (sync_refusal (account did J)) old J did time moment repository word new

@@ -1,0 +1,102 @@
+-- What an event came to, and all that was asked about it (own).
+use Rattle.std.specs.Prelude.{◌≡◌, ℕ, ◌+◌, ◌<◌, Bool, true, false, List, [], ◌++◌, Option, Some, None, Result, IsTrue, nat_le}
+use Rattle.at_authority.specs.Calls.{Call, AreCalls}
+use Rattle.at_authority.specs.Panels.{Panel}
+use Rattle.at_event.specs.Seen.{Seen}
+use Rattle.at_event.specs.declared.frame.Frame.{Frame}
+use Rattle.at_event.specs.declared.refusal.Refusal.{Refusal}
+use Rattle.at_event.specs.Refusals.{code_of}
+use Rattle.relay_row.specs.Rules.{loses}
+use Rattle.relay_row.specs.declared.fetched.Fetched.{Fetched}
+use Rattle.relay_row.specs.declared.limits.TheConstants.{NUMBERS}
+use Rattle.relay_row.specs.declared.taken.Taken.{Taken}
+use Rattle.account_state.specs.Folds.{last_rev}
+use Rattle.account_state.specs.State.{State}
+use Rattle.relay_core.specs.Decide.{Found, made, passed}
+use Rattle.relay_core.specs.Entries.{account_in, cursor_in}
+use Rattle.relay_core.specs.Rows.{event_taken, faulty_taken, goes_out}
+use Rattle.relay_core.specs.Sending.{IsSendable}
+use Rattle.relay_core.specs.Shown.{or_zero}
+use Rattle.relay_core.specs.Table.{next_of}
+use Rattle.relay_core.specs.declared.answers.Answers.{Answers}
+use Rattle.relay_core.specs.declared.decision.Decision.{Decision}
+use Rattle.relay_core.specs.declared.decision.Next.{Next}
+use Rattle.relay_core.specs.declared.journal_state.Core.{Core}
+use Rattle.relay_law.specs.Formed.{AreAnswersTo, IsFetchedBehind}
+use Rattle.relay_step.specs.Around.{Around, AskedNothing, SameRepositories}
+use Rattle.relay_step.specs.Fetches.{MayBeKept, is_good}
+use Rattle.relay_step.specs.Fetching.{IsFetchedFrom}
+use Rattle.relay_step.specs.Operators.{AreFoundCalls}
+use Rattle.relay_step.specs.Questions.{IsLinkAnswer, IsTidy, IsTimedSo, calls_told}
+use Rattle.relay_step.specs.Words.{IsNow}
+use Rattle.relay_step.specs.declared.told.Told.{Told as Outcome}
+
+-- a fetch that was made for an event, whose refusal loses its account
+pub record IsFetchOf (repos_tell : Bool) (last : ℕ) (a : State) (e : Seen) (repository : List ℕ → Option (List ℕ)) (moment : ℕ) (refusal : Option Refusal) (fetched : Fetched) (fetch : List Call) : Type 0 where
+  pub lost : Refusal
+  pub refused : refusal ≡ Some lost
+  pub due : loses (code_of lost) ≡ true
+  pub what : Found
+  pub is : fetched ≡ made last e what
+  pub sendable : IsSendable last e what
+  pub may : MayBeKept what
+  pub calls : AreFoundCalls e.did what fetch
+  pub told : IsTrue repos_tell → IsFetchedFrom (repository e.did) e.did (last_rev a.repo) moment (is_good what) what
+
+abbrev pub IsFetchedSo : Bool → ℕ → State → Seen → (List ℕ → Option (List ℕ)) → ℕ → Option Refusal → Option Fetched → List Call → Type 0
+IsFetchedSo repos_tell last a e repository moment refusal None fetch = fetch ≡ []
+IsFetchedSo repos_tell last a e repository moment refusal (Some fetched) fetch = IsFetchOf repos_tell last a e repository moment refusal fetched fetch
+
+-- an event was decided for these answers
+pub record EventTook (clock_tells repos_tell : Bool) (c : Core) (host : List ℕ) (e : Seen) (t : Taken) (old new : Around) : Type 0 where
+  pub x : Answers
+  pub d : Decision
+  pub fetch : List Call
+  pub done : next_of (cursor_in c host) (account_in c e.did) (Frame.Event e) x ≡ Next.Done d
+  pub taken : t ≡ event_taken c.last host e d x
+  pub number : goes_out d.refusal d.held ≡ true → c.last + 1 < NUMBERS
+  pub fetched : IsFetchedSo repos_tell c.last (account_in c e.did) e old.repository (or_zero x.moment) d.refusal x.fetched fetch
+  pub calls : AreCalls old.panel (calls_told host e x ++ fetch) new.panel
+  pub tidy : IsTidy (account_in c e.did) e x
+  pub right : AreAnswersTo c.last (account_in c e.did) e x
+  pub linked : (answer : Result (Unit {0}) Refusal) → x.linked ≡ Some answer → IsLinkAnswer (account_in c e.did).repo e answer
+  pub timed : IsTrue clock_tells → IsTimedSo old.moments x.moment new.moments
+  pub same : IsTrue repos_tell → SameRepositories old.repository new.repository
+
+abbrev pub EventTold : Bool → Bool → Core → List ℕ → Seen → Outcome → Around → Around → Type 0
+EventTold clock_tells repos_tell c host e (Outcome.Passed pass) old new = (passed (cursor_in c host) (Frame.Event e) ≡ Some pass) × AskedNothing clock_tells repos_tell old new
+EventTold clock_tells repos_tell c host e (Outcome.Took t) old new = EventTook clock_tells repos_tell c host e t old new
+
+-- what came of an account's fetch, and of the event that was to wait for it
+pub record LostTook (repos_tell : Bool) (c : Core) (host : List ℕ) (e : Seen) (x : Answers) (told : Outcome) (old : Panel) (repository : List ℕ → Option (List ℕ)) (new : Panel) : Type 0 where
+  pub f : Fetched
+  pub d : Decision
+  pub fetch : List Call
+  pub done : next_of (cursor_in c host) (account_in c e.did) (Frame.Event e) (record x { fetched = Some f }) ≡ Next.Done d
+  pub taken : told ≡ Outcome.Took (event_taken c.last host e d (record x { fetched = Some f }))
+  pub number : goes_out d.refusal d.held ≡ true → c.last + 1 < NUMBERS
+  pub fetched : IsFetchOf repos_tell c.last (account_in c e.did) e repository (or_zero x.moment) d.refusal f fetch
+  pub behind : IsFetchedBehind c.last f
+  pub calls : AreCalls old fetch new
+
+-- an event with a bad field
+pub record FaultyTook (clock_tells : Bool) (c : Core) (host : List ℕ) (frame : Frame) (t : Taken) (moments left : List ℕ) : Type 0 where
+  pub seq : ℕ
+  pub moment : ℕ
+  pub is : frame ≡ Frame.Faulty seq
+  pub above : nat_le seq (cursor_in c host) ≡ false
+  pub number : moment < NUMBERS
+  pub taken : t ≡ faulty_taken host seq (Some moment)
+  pub timed : IsTrue clock_tells → IsNow moments moment left
+
+-- what came of a message that is no event
+abbrev pub OtherTold : Bool → Core → List ℕ → Frame → Outcome → List ℕ → List ℕ → Type 0
+OtherTold clock_tells c host frame (Outcome.Passed pass) moments left = (passed (cursor_in c host) frame ≡ Some pass) × (IsTrue clock_tells → left ≡ moments)
+OtherTold clock_tells c host frame (Outcome.Took t) moments left = FaultyTook clock_tells c host frame t moments left
+
+abbrev pub is_event : Frame → Bool
+is_event (Frame.Event e) = true
+is_event (Frame.Faulty seq) = false
+is_event Frame.Info = false
+is_event Frame.Error = false
+is_event Frame.Unknown = false

@@ -1,0 +1,124 @@
+//! The questions about an event, asked one at a time.
+
+ghost use Rattle.std.specs.Prelude.{◌≡◌, ◌≢◌, ◌≤◌, ◌<◌, ℕ, List, true, Some, IsTrue, IfOk, IfErr, OnOk, OnErr};
+ghost use Rattle.at_cid.specs.Counts.{Rose};
+ghost use Rattle.at_syntax.specs.Did.{is_did, method_of};
+ghost use Rattle.at_authority.specs.Panels.{IsSpent, Panel};
+ghost use Rattle.at_event.specs.declared.frame.Frame.{Frame as AFrame};
+ghost use Rattle.relay_core.specs.Entries.{account_in, cursor_in};
+ghost use Rattle.relay_core.specs.Table.{next_of};
+ghost use Rattle.relay_core.specs.declared.answers.Question.{Question as AQuestion};
+ghost use Rattle.relay_core.specs.declared.decision.Next.{Next as ANext};
+ghost use Rattle.relay_step.specs.Asked.{AskedInVain};
+ghost use Rattle.relay_step.specs.Causes.{IsCause, OneTaken};
+ghost use Rattle.relay_step.specs.Fetches.{AskedPlain};
+ghost use Rattle.relay_step.specs.Questions.{AreAsked, IsReadFor, is_last, open_count};
+
+use crate::fault::StepFault;
+use crate::outside::{ask_home, ask_moment, ask_refresh};
+use crate::reading::{Read, follow, judge, last_rev, open};
+use account_state::Repo;
+use at_authority::Judges;
+use at_event::{Event, Frame};
+use relay_core::{Answers, Core, Next, Question};
+use relay_io::Clock;
+use std::alloc::Global;
+
+/// What is known of the repository of an account.
+pub(crate) fn repo_of(core: &Core, did: &str) -> Repo
+    ensures { result ≡ (account_in core.now did.now).repo }
+{
+    match core.account(did) {
+        Some(account) => account.repo(),
+        None => Repo::Missing,
+    }
+}
+
+/// Asks the question that comes next about an event, but for that of its account's repository.
+fn ask_one<P: Judges, C: Clock>(
+    alloc: Global,
+    core: &Core,
+    host: &str,
+    event: &Event,
+    question: Question,
+    answers: &mut Answers,
+    read: &mut Read,
+    judges: &mut P,
+    clock: &mut C,
+) -> Result<(), StepFault>
+    requires asks { next_of (cursor_in core.now host.now) (account_in core.now event.now.did) (AFrame.Event event.now) answers.old ≡ ANext.Ask question }
+    requires other { question ≢ AQuestion.Fetch }
+    requires read { IsReadFor event.now.body answers.old.opened read.old }
+    requires did { IsTrue (is_did event.now.did) }
+    ensures asked { OnOk result ((old : Panel) (moments : List ℕ)
+        → AreAsked C.tells core.now.last (account_in core.now event.now.did) host.now event.now answers.old old moments (P.panel judges.old) (C.moments clock.old)
+        → AreAsked C.tells core.now.last (account_in core.now event.now.did) host.now event.now answers.new old moments (P.panel judges.new) (C.moments clock.new)) }
+    ensures read { OnOk result (IsReadFor event.now.body answers.new.opened read.new) }
+    ensures fewer { OnOk result (open_count answers.new < open_count answers.old) }
+    ensures in_vain { OnErr result (AskedPlain (P.panel judges.old) event.now.did (P.panel judges.new)) }
+    ensures kept { OnErr result (IsTrue C.tells → C.moments clock.new ≡ C.moments clock.old) }
+    ensures caused { IfErr result (IsCause ⊥ (IsSpent (P.panel judges.new (method_of event.now.did))) ⊥ (Rose (C.faults clock.old) (C.faults clock.new))) }
+    ensures counts { C.faults clock.old ≤ C.faults clock.new }
+{
+    let did = event.did.as_str();
+    match question {
+        Question::Moment => answers.moment = Some(ask_moment(clock)?),
+        Question::Refresh => {
+            ask_refresh(judges, did)?;
+            answers.refreshed = true;
+        }
+        Question::Home => answers.home = Some(ask_home(judges, did, host)?),
+        Question::Open => {
+            let (answer, blocks) = open(alloc, &event.body, last_rev(&repo_of(core, did)))?;
+            answers.opened = Some(answer);
+            *read = blocks;
+        }
+        Question::Verdict => answers.verdict = Some(judge(event, read, judges)?),
+        Question::Link => {
+            answers.linked = Some(follow(alloc, event, read, &repo_of(core, did))?);
+        }
+        Question::Fetch => unreachable!(),
+    }
+    Ok(())
+}
+
+/// Asks all that is to be known of an event before it is decided, or before its account's repository is fetched.
+pub(crate) fn ask_all<P: Judges, C: Clock>(
+    alloc: Global,
+    core: &Core,
+    host: &str,
+    frame: &Frame,
+    event: &Event,
+    judges: &mut P,
+    clock: &mut C,
+) -> Result<(Next, Answers), StepFault>
+    requires frame { frame.now ≡ AFrame.Event event.now }
+    requires did { IsTrue (is_did event.now.did) }
+    ensures asked { IfOk result (λ x. AreAsked C.tells core.now.last (account_in core.now event.now.did) host.now event.now x.1 (P.panel judges.old) (C.moments clock.old) (P.panel judges.new) (C.moments clock.new)) }
+    ensures next { IfOk result (λ x. x.0 ≡ next_of (cursor_in core.now host.now) (account_in core.now event.now.did) (AFrame.Event event.now) x.1) }
+    ensures last { IfOk result (λ x. is_last x.0 ≡ true) }
+    ensures in_vain { OnErr result (AskedInVain (P.panel judges.old) event.now.did (P.panel judges.new)) }
+    ensures moments { OnErr result (IsTrue C.tells → OneTaken (C.moments clock.old) (C.moments clock.new)) }
+    ensures caused { IfErr result (IsCause ⊥ (IsSpent (P.panel judges.new (method_of event.now.did))) ⊥ (Rose (C.faults clock.old) (C.faults clock.new))) }
+    ensures counts { C.faults clock.old ≤ C.faults clock.new }
+{
+    let mut answers = Answers::new();
+    let mut read = Read::Nothing;
+    'asking: loop {
+        match core.next(host, frame, &answers) {
+            Next::Ask(Question::Fetch) => return Ok((Next::Ask(Question::Fetch), answers)),
+            Next::Ask(question) => ask_one(
+                alloc,
+                core,
+                host,
+                event,
+                question,
+                &mut answers,
+                &mut read,
+                judges,
+                clock,
+            )?,
+            next => return Ok((next, answers)),
+        }
+    }
+}

@@ -1,0 +1,158 @@
+//! One message decided.
+
+ghost use Rattle.std.specs.Prelude.{◌≡◌, ◌≤◌, false, Ok, IsTrue, IfOk, IfErr, OnErr};
+ghost use Rattle.at_cid.specs.Counts.{Rose};
+ghost use Rattle.at_syntax.specs.Did.{method_of};
+ghost use Rattle.at_syntax.specs.Host.{is_host};
+ghost use Rattle.at_authority.specs.Panels.{IsSpent};
+ghost use Rattle.at_event.specs.Formed.{IsFormedFrame};
+ghost use Rattle.at_event.specs.Frames.{frame_of};
+ghost use Rattle.at_event.specs.declared.frame.Frame.{Frame as AFrame};
+ghost use Rattle.relay_step.specs.Around.{around};
+ghost use Rattle.relay_step.specs.Asked.{AskedInVain};
+ghost use Rattle.relay_step.specs.Causes.{AskedInVainOf, CameToNothing, IsCause, IsSpentFor, OneTaken};
+ghost use Rattle.relay_step.specs.Messages.{EndsNumbers, IsAsked, IsAskedOf, IsDecided, KeepsJournal, told_as};
+ghost use Rattle.relay_step.specs.Steps.{rows_told, step_of};
+ghost use Rattle.relay_step.specs.Taking.{EventTold, OtherTold, is_event};
+
+use crate::asking::ask_all;
+use crate::fault::StepFault;
+use crate::losing::take_lost;
+use crate::outside::{ask_moment, tell_text};
+use crate::taking::take;
+use crate::told::Told;
+use at_authority::Judges;
+use at_event::{Event, Frame, FrameFault, read_frame};
+use relay_core::{Answers, Core, Next, Pass, Question};
+use relay_io::{Clock, Repos};
+// LAW use relay_law::made_rows_are_formed;
+use relay_row::Row;
+use std::alloc::Global;
+
+/// Decides an event.
+fn decide_event<P: Judges, R: Repos, C: Clock>(
+    alloc: Global,
+    core: &Core,
+    host: &str,
+    frame: &Frame,
+    event: &Event,
+    judges: &mut P,
+    repos: &mut R,
+    clock: &mut C,
+) -> Result<Told, StepFault>
+    requires frame { frame.now ≡ AFrame.Event event.now }
+    ensures told { IfOk result (λ told. EventTold C.tells R.tells core.now host.now event.now told (around (P.panel judges.old) (C.moments clock.old) (R.repository repos.old)) (around (P.panel judges.new) (C.moments clock.new) (R.repository repos.new))) }
+    ensures in_vain { OnErr result (CameToNothing C.tells R.tells (AskedInVain (P.panel judges.old) event.now.did (P.panel judges.new))
+        (around (P.panel judges.old) (C.moments clock.old) (R.repository repos.old)) (around (P.panel judges.new) (C.moments clock.new) (R.repository repos.new))) }
+    ensures caused { IfErr result (IsCause (EndsNumbers core.now host.now (Ok (AFrame.Event event.now))) (IsSpent (P.panel judges.new (method_of event.now.did)))
+        (Rose (R.faults repos.old) (R.faults repos.new)) (Rose (C.faults clock.old) (C.faults clock.new))) }
+    ensures clock_counts { C.faults clock.old ≤ C.faults clock.new }
+    ensures repos_count { R.faults repos.old ≤ R.faults repos.new }
+{
+    event.tell_event();
+    let (next, answers) = ask_all(alloc, core, host, frame, event, judges, clock)?;
+    match next {
+        Next::Pass(pass) => Ok(Told::Passed(pass)),
+        Next::Done(decision) => take(alloc, core, host, frame, event, &decision, answers),
+        Next::Ask(_) => take_lost(alloc, core, host, frame, event, answers, judges, repos),
+    }
+}
+
+/// Decides a message that is no event: nobody but the clock is asked.
+fn decide_other<C: Clock>(
+    alloc: Global,
+    core: &Core,
+    host: &str,
+    frame: &Frame,
+    clock: &mut C,
+) -> Result<Told, StepFault>
+    requires other { is_event frame.now ≡ false }
+    ensures told { IfOk result (λ told. OtherTold C.tells core.now host.now frame.now told (C.moments clock.old) (C.moments clock.new)) }
+    ensures in_vain { OnErr result (IsTrue C.tells → OneTaken (C.moments clock.old) (C.moments clock.new)) }
+    ensures caused { IfErr result (IsCause ⊥ ⊥ ⊥ (Rose (C.faults clock.old) (C.faults clock.new))) }
+    ensures counts { C.faults clock.old ≤ C.faults clock.new }
+{
+    let mut answers = Answers::new();
+    match core.next(host, frame, &answers) {
+        Next::Pass(pass) => return Ok(Told::Passed(pass)),
+        Next::Ask(Question::Moment) => answers.moment = Some(ask_moment(clock)?),
+        _ => unreachable!(),
+    }
+    let Next::Done(decision) = core.next(host, frame, &answers) else {
+        unreachable!()
+    };
+    match core.row(alloc, host, frame, &decision, answers)? {
+        Some(Row::Taken(taken)) => Ok(Told::Took(taken)),
+        _ => unreachable!(),
+    }
+}
+
+/// Decides a message that reads.
+fn decide_frame<P: Judges, R: Repos, C: Clock>(
+    alloc: Global,
+    core: &Core,
+    host: &str,
+    frame: &Frame,
+    judges: &mut P,
+    repos: &mut R,
+    clock: &mut C,
+) -> Result<Told, StepFault>
+    requires host { IsTrue (is_host host.now) }
+    requires frame { IsFormedFrame frame.now }
+    ensures told { IfOk result (λ told. IsDecided core.now host.now (Ok frame.now) (told_as told)) }
+    ensures asked { IfOk result (λ told. IsAskedOf C.tells R.tells core.now (around (P.panel judges.old) (C.moments clock.old) (R.repository repos.old)) host.now (Ok frame.now) (told_as told)
+        (around (P.panel judges.new) (C.moments clock.new) (R.repository repos.new))) }
+    ensures formed { IfOk result (λ told. KeepsJournal core.now (rows_told (told_as told))) }
+    ensures in_vain { OnErr result (CameToNothing C.tells R.tells (AskedInVainOf (P.panel judges.old) (Ok frame.now) (P.panel judges.new))
+        (around (P.panel judges.old) (C.moments clock.old) (R.repository repos.old)) (around (P.panel judges.new) (C.moments clock.new) (R.repository repos.new))) }
+    ensures caused { IfErr result (IsCause (EndsNumbers core.now host.now (Ok frame.now)) (IsSpentFor (Ok frame.now) (P.panel judges.new))
+        (Rose (R.faults repos.old) (R.faults repos.new)) (Rose (C.faults clock.old) (C.faults clock.new))) }
+    ensures clock_counts { C.faults clock.old ≤ C.faults clock.new }
+    ensures repos_count { R.faults repos.old ≤ R.faults repos.new }
+{
+    // LAW made_rows_are_formed();
+    tell_text(host);
+    match frame {
+        Frame::Event(event) => {
+            event.tell_event();
+            decide_event(alloc, core, host, frame, event, judges, repos, clock)
+        }
+        Frame::Faulty(_) | Frame::Info | Frame::Error | Frame::Unknown => {
+            decide_other(alloc, core, host, frame, clock)
+        }
+    }
+}
+
+/// Decides a message of a host that hasn't ended: what has to be known of it is asked, each question once, and it makes a
+/// row, or none. A message that doesn't read ends its host.
+pub fn decide_message<P: Judges, R: Repos, C: Clock>(
+    alloc: Global,
+    core: &Core,
+    host: &str,
+    message: &[u8],
+    judges: &mut P,
+    repos: &mut R,
+    clock: &mut C,
+) -> Result<Told, StepFault>
+    requires host { IsTrue (is_host host.now) }
+    // Behind each journal for which the state stands, this is what comes of the message.
+    ensures told { IfOk result (λ told. IsDecided core.now host.now (frame_of message.now) (told_as told)) }
+    // This was asked around, and nothing else.
+    ensures asked { IfOk result (λ told. IsAsked C.tells R.tells core.now (around (P.panel judges.old) (C.moments clock.old) (R.repository repos.old))
+        (step_of host.now message.now (told_as told)) (around (P.panel judges.new) (C.moments clock.new) (R.repository repos.new))) }
+    // With its row, a journal is one still.
+    ensures formed { IfOk result (λ told. KeepsJournal core.now (rows_told (told_as told))) }
+    // Where it fails.
+    ensures in_vain { OnErr result (CameToNothing C.tells R.tells (AskedInVainOf (P.panel judges.old) (frame_of message.now) (P.panel judges.new))
+        (around (P.panel judges.old) (C.moments clock.old) (R.repository repos.old)) (around (P.panel judges.new) (C.moments clock.new) (R.repository repos.new))) }
+    ensures caused { IfErr result (IsCause (EndsNumbers core.now host.now (frame_of message.now)) (IsSpentFor (frame_of message.now) (P.panel judges.new))
+        (Rose (R.faults repos.old) (R.faults repos.new)) (Rose (C.faults clock.old) (C.faults clock.new))) }
+    ensures clock_counts { C.faults clock.old ≤ C.faults clock.new }
+    ensures repos_count { R.faults repos.old ≤ R.faults repos.new }
+{
+    match read_frame(alloc, message) {
+        Ok(frame) => decide_frame(alloc, core, host, &frame, judges, repos, clock),
+        Err(FrameFault::BadFrame | FrameFault::NoSeq) => Ok(Told::Passed(Pass::Ended)),
+        Err(FrameFault::Memory) => Err(StepFault::Memory),
+    }
+}

@@ -1,0 +1,69 @@
+//! An event whose refusal loses its account: the account's repository is fetched.
+
+ghost use Rattle.std.specs.Prelude.{◌≡◌, ◌+◌, ◌≤◌, ◌<◌, length, Some, IsTrue, IfOk, IfErr, OnOk, OnErr};
+ghost use Rattle.at_cid.specs.Counts.{Rose};
+ghost use Rattle.at_syntax.specs.Did.{is_did, method_of};
+ghost use Rattle.at_form.specs.declared.forms.TheConstants.{LONGEST_SHORT_TEXT};
+ghost use Rattle.at_authority.specs.Panels.{IsSpent};
+ghost use Rattle.at_event.specs.declared.frame.Frame.{Frame as AFrame};
+ghost use Rattle.relay_row.specs.declared.limits.TheConstants.{NUMBERS};
+ghost use Rattle.relay_core.specs.Entries.{account_in, cursor_in};
+ghost use Rattle.relay_core.specs.Table.{next_of};
+ghost use Rattle.relay_core.specs.declared.answers.Question.{Question as AQuestion};
+ghost use Rattle.relay_core.specs.declared.decision.Next.{Next as ANext};
+ghost use Rattle.relay_step.specs.Around.{SameRepositories};
+ghost use Rattle.relay_step.specs.Causes.{IsCause};
+ghost use Rattle.relay_step.specs.Fetches.{AskedPlain};
+ghost use Rattle.relay_step.specs.Taking.{LostTook};
+
+use crate::asking::repo_of;
+use crate::fault::StepFault;
+use crate::fetching::{fetch, make};
+use crate::reading::last_rev;
+use crate::taking::take;
+use crate::told::Told;
+use at_authority::Judges;
+use at_event::{Event, Frame};
+use relay_core::{Answers, Core, Next};
+use relay_io::Repos;
+use std::alloc::Global;
+
+/// The row of an event behind whose refusal its account's repository is fetched.
+pub(crate) fn take_lost<P: Judges, R: Repos>(
+    alloc: Global,
+    core: &Core,
+    host: &str,
+    frame: &Frame,
+    event: &Event,
+    mut answers: Answers,
+    judges: &mut P,
+    repos: &mut R,
+) -> Result<Told, StepFault>
+    requires frame { frame.now ≡ AFrame.Event event.now }
+    requires did { IsTrue (is_did event.now.did) }
+    requires time { length event.now.time ≤ LONGEST_SHORT_TEXT }
+    requires asks { next_of (cursor_in core.now host.now) (account_in core.now event.now.did) (AFrame.Event event.now) answers ≡ ANext.Ask AQuestion.Fetch }
+    ensures took { IfOk result (λ told. LostTook R.tells core.now host.now event.now answers told (P.panel judges.old) (R.repository repos.old) (P.panel judges.new)) }
+    ensures same { IsTrue R.tells → SameRepositories (R.repository repos.old) (R.repository repos.new) }
+    ensures in_vain { OnErr result (AskedPlain (P.panel judges.old) event.now.did (P.panel judges.new)) }
+    ensures caused { IfErr result (IsCause (NUMBERS ≤ core.now.last + 1) (IsSpent (P.panel judges.new (method_of event.now.did))) (Rose (R.faults repos.old) (R.faults repos.new)) ⊥) }
+    ensures counts { R.faults repos.old ≤ R.faults repos.new }
+{
+    let did = event.did.as_str();
+    let Some(moment) = answers.moment else {
+        unreachable!()
+    };
+    let found = fetch(
+        alloc,
+        did,
+        last_rev(&repo_of(core, did)),
+        moment,
+        judges,
+        repos,
+    )?;
+    answers.fetched = Some(make(alloc, core, did, event.time.as_str(), found)?);
+    let Next::Done(decision) = core.next(host, frame, &answers) else {
+        unreachable!()
+    };
+    take(alloc, core, host, frame, event, &decision, answers)
+}
