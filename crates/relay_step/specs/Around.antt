@@ -14,6 +14,9 @@ pub record Around : Type 0 where
   pub moments : List ℕ
   pub repository : List ℕ → Option (List ℕ)
 
+abbrev pub around : Panel → List ℕ → (List ℕ → Option (List ℕ)) → Around
+around panel moments repository = record { panel = panel; moments = moments; repository = repository }
+
 -- a step that makes a row takes one moment, and keeps it; one that makes none takes none
 abbrev pub IsTimed : List ℕ → Told → List ℕ → Type 0
 IsTimed moments after_end left = left ≡ moments

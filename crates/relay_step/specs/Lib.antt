@@ -3,4 +3,7 @@ pub mod Asked
 pub mod Fetching
 pub mod Around
 pub mod Operators
+pub mod Causes
+pub mod Messages
+pub mod Words
 pub mod Laws

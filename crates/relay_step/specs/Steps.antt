@@ -20,6 +20,9 @@ pub record Step : Type 0 where
   pub bytes : List ℕ
   pub told : Told
 
+abbrev pub step_of : List ℕ → List ℕ → Told → Step
+step_of host bytes told = record { host = host; bytes = bytes; told = told }
+
 -- the message of a step, as it reads
 abbrev pub message_of : Step → Message
 message_of s = (s.host, frame_of s.bytes)

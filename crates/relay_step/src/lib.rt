@@ -2,10 +2,18 @@
 //! question at a time, and what it comes to is a row, or the reason why there is none. No disk is touched.
 #![tactic(auto)]
 
+mod deciding;
 mod fault;
+mod laws;
+mod operating;
+mod syncing;
 mod told;
 mod word;
 
+pub use deciding::decide_message;
 pub use fault::StepFault;
+pub use laws::{steps_join, steps_run};
+pub use operating::operate;
+pub use syncing::sync_now;
 pub use told::Told;
 pub use word::Word;

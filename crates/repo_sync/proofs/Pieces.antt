@@ -57,3 +57,7 @@ ended result whole bytes piece mid left is more none short s =
     let n = nothing piece left (sym more ∙ none) in
     let all : bytes ++ piece ≡ bytes = ap (λ p. bytes ++ p) n.0 ∙ append-nil bytes in
     all_scanned result whole bytes mid is none short (subst (ScansAs result) all s)
+
+-- which is so of no bytes too
+pub quiet_error : (fault : RepoFault) → IsQuiet fault → (bytes : List ℕ) × Scans (Err fault) bytes
+quiet_error fault q = ([], quiet fault [] q)

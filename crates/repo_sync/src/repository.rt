@@ -2,7 +2,7 @@
 
 ghost use Rattle.std.specs.Prelude.{◌≡◌, ◌≢◌, ◌≤◌, Err, IsTrue, IfOk, IfErr, IsErrOf};
 ghost use Rattle.at_cid.specs.Counts.{Rose};
-ghost use Rattle.repo_sync.specs.Checks.{ChecksExactly, IsRefused};
+ghost use Rattle.repo_sync.specs.Checks.{ChecksExactly, IsOfSome, IsRefused};
 ghost use Rattle.repo_sync.specs.Repository.{IsWhole};
 
 use crate::fault::RepoFault;
@@ -30,6 +30,8 @@ pub fn check_repo<R: Repos>(
     ensures whole { IfOk result (λ found. IsTrue R.tells → IsWhole did.now least (R.left repos.old) found) }
     ensures refused { IfErr result (λ fault. IsTrue R.tells → IsRefused did.now least (R.left repos.old) fault) }
     ensures exact { IsTrue R.tells → ChecksExactly did.now least (R.left repos.old) result }
+    // What is answered is true of some bytes also where nothing is told of them.
+    ensures some { IsOfSome did.now least result }
     ensures records { IfOk result (λ found. found.records ≤ MOST_KEYS) }
     ensures counts { R.faults repos.old ≤ R.faults repos.new }
     // Where a read failed, that is the answer.

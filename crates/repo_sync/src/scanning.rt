@@ -46,6 +46,7 @@ fn finish(scan: Scan<NodeSieve>) -> Result<Kept, RepoFault>
 /// What is kept of the opened repository, which is read to its end, or until more bytes were given than one has at most.
 pub(crate) fn scan_repo<R: Repos>(alloc: Global, repos: &mut R) -> Result<Kept, RepoFault>
     ensures scanned { IsTrue R.tells → Scans result (R.left repos.old) }
+    ensures some { (bytes : List ℕ) × Scans result bytes }
     ensures counts { R.faults repos.old ≤ R.faults repos.new }
     ensures steady { result ≢ Err RepoFault.Failed → R.faults repos.new ≡ R.faults repos.old }
     ensures failed { IsErrOf result RepoFault.Failed → Rose (R.faults repos.old) (R.faults repos.new) }

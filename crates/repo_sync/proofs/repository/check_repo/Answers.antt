@@ -17,3 +17,12 @@ returns-clause-exact g c = λ told.
     exactly c.args.did.now c.args.least (g.R.Repos.left c.args.repos.now) c.judge.result
     (whole_judged c.args.did.now c.args.least (g.R.Repos.left c.args.repos.now) c.in_ok-kept.kept c.judge.result (c.in_ok-kept.ensures.scanned told) c.judge.ensures.judges)
     (refused_judged c.args.did.now c.args.least (g.R.Repos.left c.args.repos.now) c.in_ok-kept.kept c.judge.result (c.in_ok-kept.ensures.scanned told) c.judge.ensures.judges)
+
+pub returns-clause-some : goal.returns-clause-some
+returns-clause-some g c =
+    let some = c.in_ok-kept.ensures.some in
+    record {
+      bytes = some.0;
+      whole = whole_judged c.args.did.now c.args.least some.0 c.in_ok-kept.kept c.judge.result some.1 c.judge.ensures.judges;
+      refused = refused_judged c.args.did.now c.args.least some.0 c.in_ok-kept.kept c.judge.result some.1 c.judge.ensures.judges;
+    }

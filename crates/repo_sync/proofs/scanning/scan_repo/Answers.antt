@@ -1,5 +1,5 @@
-use Rattle.std.proofs.Common.{◌++◌, ◌∙◌, arith, length-append}
-use Rattle.repo_sync.proofs.Pieces.{ended, joined}
+use Rattle.std.proofs.Common.{[], ◌++◌, ◌∙◌, refl, sym, arith, append-nil, length-append}
+use Rattle.repo_sync.proofs.Pieces.{all_scanned, ended, joined, quiet_error}
 use Rattle.repo_sync.proofs.scanning.scan_repo.Goals as goal
 
 pub returns-then-count-eq0-clause-scanned : goal.returns-then-count-eq0-clause-scanned
@@ -7,6 +7,17 @@ returns-then-count-eq0-clause-scanned g c = λ told.
     let was = c.pieces.invariant.bytes in let came = c.in_ok-count.ensures.moved in
     ended c.finish.result (g.R.Repos.left c.args.repos.now) was.0 came.0 (g.R.Repos.left c.pieces.repos) (g.R.Repos.left c.take_piece.new.repos)
     (was.3 told) (came.2 told) (c.in_ok-count.ensures.end told c.if-count-eq0.true) (omega (arith, was.1, c.pieces.invariant.most)) (c.finish.ensures (was.0 ++ came.0) (came.3 was.0 was.2))
+
+pub returns-then-count-eq0-clause-some : goal.returns-then-count-eq0-clause-some
+returns-then-count-eq0-clause-some g c =
+    let was = c.pieces.invariant.bytes in let came = c.in_ok-count.ensures.moved in
+    let all = was.0 ++ came.0 in
+    (all, all_scanned c.finish.result all all [] (sym (append-nil all)) refl (omega (arith, length-append was.0 came.0, was.1, came.1, c.if-count-eq0.true, c.pieces.invariant.most)) (c.finish.ensures all (came.3 was.0 was.2)))
+
+pub returns-then-given-gt-MOST_REPOSITORY_BYTES-clause-some : goal.returns-then-given-gt-MOST_REPOSITORY_BYTES-clause-some
+returns-then-given-gt-MOST_REPOSITORY_BYTES-clause-some g c =
+    let was = c.pieces.invariant.bytes in let came = c.in_ok-count.ensures.moved in
+    (was.0 ++ came.0, omega (arith, length-append was.0 came.0, was.1, came.1, c.if-given-gt-MOST_REPOSITORY_BYTES.true))
 
 pub pieces-preserved : goal.pieces-preserved
 pieces-preserved g c =

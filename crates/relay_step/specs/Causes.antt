@@ -1,0 +1,38 @@
+-- Why a message or a word came to nothing, and what was asked until then.
+use Rattle.std.specs.Prelude.{◌≡◌, ⊤, ⊥, ℕ, ◌+◌, ◌≤◌, List, Bool, Result, Ok, Err, IsTrue, ◌⊎◌}
+use Rattle.at_syntax.specs.Did.{method_of}
+use Rattle.at_authority.specs.Panels.{Panel, IsSpent}
+use Rattle.at_event.specs.declared.frame.Frame.{Frame}
+use Rattle.at_event.specs.declared.frame.FrameFault.{FrameFault}
+use Rattle.relay_io.specs.Moments.{rest}
+use Rattle.relay_step.specs.Around.{Around, SameRepositories}
+use Rattle.relay_step.specs.Asked.{AskedInVain}
+use Rattle.relay_step.specs.declared.fault.StepFault.{StepFault}
+
+-- the cause of each fault: that the numbers end, that no authority is left, that a count of faults rose. Only want of memory has none
+abbrev pub IsCause : Type 0 → Type 0 → Type 0 → Type 0 → StepFault → Type 0
+IsCause ends spent repos clock StepFault.SeqEnd = ends
+IsCause ends spent repos clock StepFault.Authority = spent
+IsCause ends spent repos clock StepFault.Repos = repos
+IsCause ends spent repos clock StepFault.Clock = clock
+IsCause ends spent repos clock StepFault.Memory = ⊤
+
+-- all authorities of the method of the account that a message names have fallen; a message that names none asks nobody
+abbrev pub IsSpentFor : Result Frame FrameFault → Panel → Type 0
+IsSpentFor (Ok (Frame.Event e)) panel = IsSpent (panel (method_of e.did))
+IsSpentFor other panel = ⊥
+
+-- what a message asked of the judges that comes to nothing
+abbrev pub AskedInVainOf : Panel → Result Frame FrameFault → Panel → Type 0
+AskedInVainOf old (Ok (Frame.Event e)) new = AskedInVain old e.did new
+AskedInVainOf old other new = new ≡ old
+
+-- one moment was taken at most
+abbrev pub OneTaken : List ℕ → List ℕ → Type 0
+OneTaken old new = (new ≡ old) ⊎ (new ≡ rest old)
+
+-- What was asked around for nothing: of the judges this, of the clock a moment at most, and the repositories are the same.
+pub record CameToNothing (clock_tells repos_tell : Bool) (judged : Type 0) (old new : Around) : Type 0 where
+  pub judges : judged
+  pub moments : IsTrue clock_tells → OneTaken old.moments new.moments
+  pub same : IsTrue repos_tell → SameRepositories old.repository new.repository

