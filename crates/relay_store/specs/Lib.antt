@@ -5,6 +5,7 @@ pub mod Outcomes
 pub mod Drafts
 pub mod Opening
 pub mod Batches
+pub mod Taking
 pub mod Words
 pub mod Faults
 pub mod Shown

@@ -2,7 +2,7 @@
 use Rattle.std.specs.Prelude.{◌≡◌, ℕ, List, []}
 use Rattle.event_window.specs.declared.place.Place.{Place}
 use Rattle.relay_disk.specs.Disk.{View}
-use Rattle.gate_log.specs.Log.{LogState} 
+use Rattle.gate_log.specs.Log.{LogState}
 use Rattle.gate_log.specs.Log.{Holds as HasBodies}
 use Rattle.gate_log.specs.declared.picking.Side.{Side}
 use Rattle.relay_row.specs.Journal.{IsJournal}
@@ -24,8 +24,8 @@ abbrev pub seen : LogState → Side → Core → List Place → StoreState
 seen log side core window = record { log = record log { spare = 0 }; side = side; core = core; window = window }
 
 -- What the store knows is of this journal.
-pub record IsOf (J : List Row) (core : Core) : Type 0 where
-  pub holds : Holds core J
+pub record IsOf (J : List Row) (state : Core) : Type 0 where
+  pub holds : Holds state J
   pub journal : IsJournal J
 
 -- The disk is the one that the store is open on, and it holds this journal: so do its content and all that a crash may leave. What the store knows is of this journal.

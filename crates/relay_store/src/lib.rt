@@ -1,0 +1,25 @@
+//! The relay's journal on a pair of disks: messages of hosts and operators' words are taken one after another, each with its row or
+//! none, and its events are read back.
+#![tactic(auto)]
+
+mod adding;
+mod committing;
+mod done;
+mod draft;
+mod fault;
+mod gathering;
+mod learning;
+mod loading;
+mod message;
+mod opening;
+mod outcome;
+mod preparing;
+mod store;
+mod taking;
+
+pub use done::Done;
+pub use fault::StoreFault;
+pub use message::Message;
+pub use outcome::{End, Fetch, Outcome};
+pub use store::Store;
+pub use taking::Batch;
