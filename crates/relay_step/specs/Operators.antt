@@ -11,7 +11,7 @@ use Rattle.account_state.specs.Folds.{account, last_rev}
 use Rattle.relay_core.specs.Decide.{Found, absent, unfit, found, sync_message}
 use Rattle.relay_core.specs.Operating.{operate_refusal, operated_as, sync_refusal}
 use Rattle.relay_core.specs.declared.limits.TheConstants.{FETCHED_UNSIGNED}
-use Rattle.relay_step.specs.Asked.{IsAskedOf, IsRefusedOnce}
+use Rattle.relay_step.specs.Asked.{AreRefusedCalls, IsAskedOf}
 use Rattle.relay_step.specs.Fetching.{IsFetchedFrom}
 use Rattle.relay_step.specs.declared.word.Word.{Word}
 
@@ -34,7 +34,7 @@ IsFetchWord last did time moment (found head records block) word = word ≡ Word
 -- what a fetch that found this asked of the judges
 abbrev pub AreFoundCalls : List ℕ → Found → List Call → Type 0
 AreFoundCalls did absent calls = calls ≡ []
-AreFoundCalls did (unfit n) calls = if n == FETCHED_UNSIGNED then IsRefusedOnce did calls else (calls ≡ [])
+AreFoundCalls did (unfit n) calls = AreRefusedCalls (n == FETCHED_UNSIGNED) did calls
 AreFoundCalls did (found head records block) calls = IsAskedOf did block calls
 
 pub record AnsweredFetch (old : Panel) (did : List ℕ) (f : Found) (new : Panel) : Type 0 where

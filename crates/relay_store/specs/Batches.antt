@@ -28,22 +28,13 @@ use Rattle.relay_store.specs.declared.outcome.Outcome.{Outcome}
 abbrev pub sent : List Step → List Message
 sent steps = map (λ s. record { host = s.host; bytes = s.bytes }) steps
 
--- Which steps were taken and aren't saved: none where nothing failed; all of them where the disk did; the one whose row had no room; one at most where memory was wanted for its row.
-abbrev pub AreUnsaved : Option StoreFault → List Step → List Step → Type 0
-AreUnsaved None steps unsaved = unsaved ≡ []
-AreUnsaved (Some StoreFault.Disk) steps unsaved = steps ≡ []
-AreUnsaved (Some (StoreFault.BadLog place)) steps unsaved = ⊥
-AreUnsaved (Some (StoreFault.Full end)) steps unsaved = length unsaved ≡ 1
-AreUnsaved (Some StoreFault.SeqEnd) steps unsaved = unsaved ≡ []
-AreUnsaved (Some StoreFault.Authority) steps unsaved = unsaved ≡ []
-AreUnsaved (Some StoreFault.Repos) steps unsaved = unsaved ≡ []
-AreUnsaved (Some StoreFault.Memory) steps unsaved = length unsaved ≤ 1
-AreUnsaved (Some StoreFault.Clock) steps unsaved = unsaved ≡ []
-
--- the steps whose rows are in the body under way
-abbrev pub under_way : Option StoreFault → List Step → List Step → List Step
-under_way (Some StoreFault.Disk) steps unsaved = unsaved
-under_way fault steps unsaved = steps
+-- Which fault leaves a step that was taken and whose row isn't in the body under way: one whose row had no room, or found no memory. The disk's may come behind such a fault.
+abbrev pub AreExtra : Option StoreFault → List Step → Type 0
+AreExtra (Some (StoreFault.BadLog place)) extra = ⊥
+AreExtra (Some (StoreFault.Full end)) extra = length extra ≡ 1
+AreExtra (Some StoreFault.Memory) extra = length extra ≤ 1
+AreExtra (Some StoreFault.Disk) extra = length extra ≤ 1
+AreExtra fault extra = extra ≡ []
 
 -- the host ended with this message
 abbrev pub is_end : Outcome → Bool
@@ -71,7 +62,6 @@ InVain (m ∷ behind) old new = AskedInVainOf old (frame_of m.bytes) new
 -- what was asked behind the steps: nothing, or for the next message, in vain
 abbrev pub StopsAsking : Bool → Bool → Option StoreFault → List Message → Around → Around → Type 0
 StopsAsking clock_tells repos_tell None behind old new = AskedNothing clock_tells repos_tell old new
-StopsAsking clock_tells repos_tell (Some StoreFault.Disk) behind old new = AskedNothing clock_tells repos_tell old new
 StopsAsking clock_tells repos_tell (Some (StoreFault.Full end)) behind old new = AskedNothing clock_tells repos_tell old new
 StopsAsking clock_tells repos_tell (Some fault) behind old new = CameToNothing clock_tells repos_tell (InVain behind old.panel new.panel) old new
 
@@ -81,10 +71,15 @@ pub record AskedInTurn (clock_tells repos_tell : Bool) (J : List Row) (old : Aro
   pub turns : AllAsked clock_tells repos_tell J old taken mid
   pub stops : StopsAsking clock_tells repos_tell fault behind mid new
 
--- the log had no room for the row of the next step
+-- the log had no room for the row of the step behind those in the body
 abbrev pub EndsFull : LogState → List Step → List Step → Option StoreFault → Type 0
-EndsFull log steps unsaved (Some (StoreFault.Full e)) = (row : Row) × (rows unsaved ≡ row ∷ []) × IsFull log (rows steps) row e
-EndsFull log steps unsaved fault = Unit {0}
+EndsFull log steps extra (Some (StoreFault.Full e)) = (row : Row) × (rows extra ≡ row ∷ []) × IsFull log (rows steps) row e
+EndsFull log steps extra fault = Unit {0}
+
+-- what is answered to steps: after a failure of the disk nothing
+abbrev pub AreAnswers : Option StoreFault → List Step → List Outcome → Type 0
+AreAnswers (Some StoreFault.Disk) steps outcomes = outcomes ≡ []
+AreAnswers fault steps outcomes = map Some outcomes ≡ map outcome_of steps
 
 -- for the next message the numbers end, or no authority is left
 abbrev pub EndsNext : Core → List Message → Panel → Option StoreFault → Type 0
@@ -105,30 +100,31 @@ scene store disk around = record { store = store; disk = disk; around = around }
 
 -- Messages of hosts were taken behind the journal J, and this was answered.
 pub record Batched {D : Type 0} (view : D → View) (tells clock_tells repos_tell : Bool) (J : List Row) (group : List Message) (old new : Scene D) (outcomes : List Outcome) (fault : Option StoreFault) : Type 0 where
-  -- the steps that were taken, and those whose rows aren't saved: each is what comes of its message behind the rows before it
+  -- the steps whose rows are in the body under way, and one behind them whose row isn't: each is what comes of its message behind the rows before it
   pub steps : List Step
-  pub unsaved : List Step
-  pub which : AreUnsaved fault steps unsaved
-  pub are : (checks : Checks) → OpensRight checks → LinksRight checks → AreSteps checks J [] (steps ++ unsaved)
-  pub journal : IsJournal (J ++ rows (steps ++ unsaved))
+  pub extra : List Step
+  pub which : AreExtra fault extra
+  pub are : (checks : Checks) → OpensRight checks → LinksRight checks → AreSteps checks J [] (steps ++ extra)
+  pub journal : IsJournal (J ++ rows (steps ++ extra))
   -- they are of the messages in front of the group: of all, unless a fault came or a host ended, which none but the last did
   pub behind : List Message
-  pub front : group ≡ sent (steps ++ unsaved) ++ behind
-  pub answers : map Some outcomes ≡ map outcome_of steps
+  pub front : group ≡ sent (steps ++ extra) ++ behind
+  pub answers : AreAnswers fault steps outcomes
   pub ends : EndsLast outcomes
   pub all : fault ≡ None → (behind ≡ []) ⊎ HasEnd outcomes
   -- what was asked, in turn
-  pub asked : AskedInTurn clock_tells repos_tell J old.around (steps ++ unsaved) fault behind new.around
-  -- each row in the body under way had room, and a row that hadn't ends the steps
-  pub room : (rows (under_way fault steps unsaved) ≡ []) ⊎ (end_of old.store.log.end (rows (under_way fault steps unsaved)) ≤ old.store.log.most)
-  pub full : EndsFull old.store.log steps unsaved fault
+  pub asked : AskedInTurn clock_tells repos_tell J old.around (steps ++ extra) fault behind new.around
+  -- each row in the body had room, and a row that hadn't ends the steps
+  pub room : (rows steps ≡ []) ⊎ (end_of old.store.log.end (rows steps) ≤ old.store.log.most)
+  pub full : EndsFull old.store.log steps extra fault
   pub next : EndsNext new.store.core behind new.around.panel fault
   -- after every fault but the disk's the rows of the steps are known, and the disk holds them
   pub known : fault ≢ Some StoreFault.Disk → Holds new.store.core (J ++ rows steps)
   pub keeps : fault ≢ Some StoreFault.Disk → IsTrue tells → Keeps J old.store (view old.disk) → Keeps (J ++ rows steps) new.store (view new.disk)
-  pub untouched : fault ≢ Some StoreFault.Disk → rows steps ≡ [] → (new.store.log ≡ old.store.log) × ((new.store.window ≡ old.store.window) × (new.disk ≡ old.disk))
+  -- where there are none, the disk is as it was, and so is all that is known
+  pub untouched : rows steps ≡ [] → (new.store.log ≡ old.store.log) × ((new.store.window ≡ old.store.window) × (new.disk ≡ old.disk))
   -- a crash at any moment leaves the journal, with all rows of the body under way or without
-  pub moments : IsTrue tells → Keeps J old.store (view old.disk) → LeavesOnly (IsOneOf J (rows (under_way fault steps unsaved))) (view old.disk) (view new.disk)
+  pub moments : IsTrue tells → Keeps J old.store (view old.disk) → LeavesOnly (IsOneOf J (rows steps)) (view old.disk) (view new.disk)
 
 abbrev pub message_from : List ℕ → List ℕ → Message
 message_from host bytes = record { host = host; bytes = bytes }

@@ -15,13 +15,14 @@ use Rattle.relay_core.specs.declared.journal_state.Core.{Core}
 use Rattle.relay_core.specs.Entries.{Holds}
 use Rattle.relay_store.specs.Journals.{AllBodies, LeavesPairJournals, IsPairJournalOfOne, IsPairImageOf, bytes_of, joined}
 use Rattle.relay_store.specs.Places.{places_in, places_of}
-use Rattle.relay_store.specs.Store.{StoreState, Keeps}
+use Rattle.relay_store.specs.Store.{Keeps, seen_in}
 use Rattle.relay_store.specs.declared.fault.StoreFault.{StoreFault}
+use Rattle.relay_store.specs.declared.store.Store.{Store}
 
 -- An opening of the store of two disks, whatever it answers.
-pub record Opened (tells : Bool) (one two one_now two_now : View) (result : Result StoreState StoreFault) : Type 0 where
+pub record Opened (tells : Bool) (one two one_now two_now : View) (result : Result Store StoreFault) : Type 0 where
   -- the store's journal is the one of which the pair is an image
-  pub keeps : IfOk result (λ s. IsTrue tells → (J : List Row) × IsPairImageOf J one.content two.content × Keeps J s (view_of_side s.side one_now two_now))
+  pub keeps : IfOk result (λ s. IsTrue tells → (J : List Row) × IsPairImageOf J one.content two.content × Keeps J (seen_in s) (view_of_side s.side one_now two_now))
   -- its side is picked of all that a crash now may leave, and the other side was only read
   pub side : IfOk result (λ s. IsTrue tells → LeavesSide s.side one_now two_now)
   pub beside : IfOk result (λ s. Goes Same (view_of_side (other_side s.side) one two) (view_of_side (other_side s.side) one_now two_now))
@@ -35,6 +36,15 @@ pub record IsLearned (place : ℕ) (body : List ℕ) (J : List Row) (state : Cor
   pub journal : IsJournal (J ++ rows)
   pub core : Holds state (J ++ rows)
   pub window : places_now ≡ places ++ places_in place 0 rows
+
+-- while rows of the body at this place are learned: so many are, and these are left
+pub record IsLearning (place index : ℕ) (rows left : List Row) (state state_now : Core) (places places_now : List Place) : Type 0 where
+  pub done : List Row
+  pub split : rows ≡ done ++ left
+  pub count : index ≡ length done
+  pub core : (J : List Row) → Holds state J → Holds state_now (J ++ done)
+  pub journal : (J : List Row) → Holds state J → IsJournal J → IsJournal (J ++ done)
+  pub window : places_now ≡ places ++ places_in place 0 done
 
 -- the body is none of rows that come behind the journal J
 abbrev pub IsBadBody : List Row → List ℕ → Type 0

@@ -11,8 +11,9 @@ use Rattle.relay_core.specs.declared.journal_state.Core.{Core}
 use Rattle.relay_core.specs.Entries.{Holds}
 use Rattle.relay_store.specs.Journals.{AreBodiesOf, bytes_of}
 use Rattle.relay_store.specs.Places.{places_of}
+use Rattle.relay_store.specs.declared.store.Store.{Store}
 
--- the log without its room in memory, the disk of the pair that it is on, the state, and the places of the events
+-- the log, the disk of the pair that it is on, the state, and the places of the events
 pub record StoreState : Type 0 where
   pub log : LogState
   pub side : Side
@@ -21,7 +22,10 @@ pub record StoreState : Type 0 where
 
 -- the store as contracts see it, of its parts
 abbrev pub seen : LogState → Side → Core → List Place → StoreState
-seen log side core window = record { log = record log { spare = 0 }; side = side; core = core; window = window }
+seen log side core window = record { log = log; side = side; core = core; window = window }
+
+abbrev pub seen_in : Store → StoreState
+seen_in s = seen s.log s.side s.core s.window.places
 
 -- What the store knows is of this journal.
 pub record IsOf (J : List Row) (state : Core) : Type 0 where

@@ -15,7 +15,7 @@ use Rattle.relay_step.specs.Around.{Around, AllAsked}
 use Rattle.relay_step.specs.Causes.{AskedInVainOf, CameToNothing, IsSpentFor}
 use Rattle.relay_step.specs.Messages.{EndsNumbers, IsAsked, IsDecided, KeepsJournal}
 use Rattle.relay_step.specs.Steps.{Step, Told, rows, rows_told, step_of, AreSteps, ended_by_all}
-use Rattle.relay_store.specs.Batches.{AreUnsaved, AskedInTurn, EndsFull, EndsLast, EndsNext, HasEnd, NoneEnds, sent}
+use Rattle.relay_store.specs.Batches.{AreExtra, AskedInTurn, EndsFull, EndsLast, EndsNext, HasEnd, NoneEnds, sent}
 use Rattle.relay_store.specs.Drafts.{Fits, HasRows, IsFull, IsUnchanged}
 use Rattle.relay_store.specs.Faults.{IsCause}
 use Rattle.relay_store.specs.Outcomes.{outcome_of, outcome_told}
@@ -37,10 +37,16 @@ pub record IsTaken (clock_tells repos_tell : Bool) (core : Core) (host message :
   pub asked : IsAsked clock_tells repos_tell core old (step_of host message told) new
   pub journal : KeepsJournal core (rows_told told)
 
--- a fault that comes of the message alone
+-- which faults come of a message alone
+abbrev pub ComesOfAsking : StoreFault → Type 0
+ComesOfAsking StoreFault.Disk = ⊥
+ComesOfAsking (StoreFault.BadLog place) = ⊥
+ComesOfAsking (StoreFault.Full end) = ⊥
+ComesOfAsking fault = ⊤
+
+-- such a fault
 pub record IsInVain (clock_tells repos_tell : Bool) (core core_now : Core) (host message : List ℕ) (old new : Around) (fault : StoreFault) : Type 0 where
-  pub before : AreUnsaved (Some fault) [] []
-  pub not_disk : fault ≡ StoreFault.Disk → ⊥
+  pub of_asking : ComesOfAsking fault
   pub same : core_now ≡ core
   pub asked : CameToNothing clock_tells repos_tell (AskedInVainOf old.panel (frame_of message) new.panel) old new
   pub ends : IsCause (EndsNumbers core host (frame_of message)) (IsSpentFor (frame_of message) new.panel) ⊤ ⊤ fault
@@ -76,7 +82,7 @@ pub record Gathered (clock_tells repos_tell : Bool) (log : LogState) (group left
 -- while none has ended its host
 pub record IsGathering (clock_tells repos_tell : Bool) (log : LogState) (group left : List Message) (core core_now : Core) (window window_now : List Place) (d_now : Draft) (old now : Around) (outcomes : List Outcome) : Type 0 where
   pub gathered : Gathered clock_tells repos_tell log group left core core_now window window_now d_now old now outcomes
-  pub none_ended : ended_by_all gathered.steps [] ≡ []
+  pub none_ended : (checks : Checks) (J : List Row) → OpensRight checks → LinksRight checks → Holds core J → ended_by_all gathered.steps [] ≡ []
   pub none_ends : NoneEnds outcomes
 
 -- Messages were taken, ahead of the disk, up to a fault or to the end of a host.
@@ -84,16 +90,16 @@ pub record Stopped (clock_tells repos_tell : Bool) (log : LogState) (group : Lis
   pub left : List Message
   pub now : Around
   pub gathered : Gathered clock_tells repos_tell log group left core core_now window window_now d_now old now outcomes
-  pub unsaved : List Step
-  pub which : AreUnsaved fault gathered.steps unsaved
+  pub extra : List Step
   pub behind : List Message
-  pub next : left ≡ sent unsaved ++ behind
-  pub are : (checks : Checks) (J : List Row) → OpensRight checks → LinksRight checks → Holds core J → AreSteps checks J [] (gathered.steps ++ unsaved)
-  pub journal : KeepsJournal core (rows (gathered.steps ++ unsaved))
+  pub which : AreExtra fault extra
+  pub next : left ≡ sent extra ++ behind
+  pub are : (checks : Checks) (J : List Row) → OpensRight checks → LinksRight checks → Holds core J → AreSteps checks J [] (gathered.steps ++ extra)
+  pub journal : KeepsJournal core (rows (gathered.steps ++ extra))
   pub ends : EndsLast outcomes
   pub all : fault ≡ None → (behind ≡ []) ⊎ HasEnd outcomes
-  pub asked : (J : List Row) → Holds core J → AskedInTurn clock_tells repos_tell J old (gathered.steps ++ unsaved) fault behind new
-  pub full : EndsFull log gathered.steps unsaved fault
+  pub asked : (J : List Row) → Holds core J → AskedInTurn clock_tells repos_tell J old (gathered.steps ++ extra) fault behind new
+  pub full : EndsFull log gathered.steps extra fault
   pub ends_next : EndsNext core_now behind new.panel fault
 
 -- each is of a host's name

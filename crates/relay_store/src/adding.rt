@@ -1,10 +1,11 @@
 //! Taking a row into what is known and into the body under way.
 
-ghost use Rattle.std.specs.Prelude.{◌≡◌, ◌≤◌, ◌<◌, ◌⊎◌, ℕ, List, length, IfErr, OnOk, OnErr};
+ghost use Rattle.std.specs.Prelude.{◌≡◌, ◌≤◌, ◌<◌, ◌+◌, ◌⊎◌, ℕ, List, length, IfErr, OnOk, OnErr};
 ghost use Rattle.gate_log.specs.declared.drafts.TheConstants.{AHEAD};
+ghost use Rattle.gate_log.specs.declared.limits.TheConstants.{AROUND_BODY, BODY_LENGTHS};
 ghost use Rattle.relay_row.specs.declared.limits.TheConstants.{MOST_ROWS};
 ghost use Rattle.relay_row.specs.declared.row.Row.{Row as TheRow};
-ghost use Rattle.relay_store.specs.Drafts.{Fits, HasRows, IsAdded, IsFull, IsUnchanged, FitsWith, IsFullWith};
+ghost use Rattle.relay_store.specs.Drafts.{Fits, HasRows, IsAdded, IsFull, IsUnchanged, FitsWith, IsFullWith, behind_draft, length_with};
 ghost use Rattle.relay_store.specs.declared.fault.StoreFault.{StoreFault as TheFault};
 
 use crate::StoreFault;
@@ -14,6 +15,21 @@ use event_window::Window;
 use gate_log::{AHEAD, AROUND_BODY, BEFORE_BODY, BODY_LENGTHS, Log};
 use relay_core::Core;
 use relay_row::{Row, write_row};
+
+// Where the row that was spelled beside a draft would end as a body of its own behind it.
+fn own_end(log: &Log, draft: &Draft) -> u64
+    requires few { draft.now.count < MOST_ROWS }
+    requires begun { AHEAD ≤ length draft.now.body }
+    requires short { length_with draft.now < BODY_LENGTHS }
+    ensures { result ≡ behind_draft log.now.end draft.now + AROUND_BODY + (1 + length draft.now.row) }
+{
+    let own = (AROUND_BODY + 1 + draft.row.len()) as u64;
+    if draft.count == 0 {
+        return log.end() + own;
+    }
+    let before = draft.body.len() - AHEAD + list_front_len(draft.count);
+    log.end() + (BEFORE_BODY + before) as u64 + own
+}
 
 // Whether the log has room for the draft with the row that was spelled beside it.
 fn fit_row(log: &Log, draft: &Draft) -> Result<(), StoreFault>
@@ -30,16 +46,10 @@ fn fit_row(log: &Log, draft: &Draft) -> Result<(), StoreFault>
     if len as u64 >= BODY_LENGTHS {
         return Err(StoreFault::Memory);
     }
-    if log.fits(len as u32).is_ok() {
-        return Ok(());
+    match log.fits(len as u32) {
+        Ok(()) => Ok(()),
+        Err(_) => Err(StoreFault::Full(own_end(log, draft))),
     }
-    let mut end = log.end();
-    if draft.count > 0 {
-        end += (BEFORE_BODY + list_front_len(draft.count) + before) as u64;
-    }
-    Err(StoreFault::Full(
-        end + (AROUND_BODY + 1 + draft.row.len()) as u64,
-    ))
 }
 
 /// Takes a row into what is known and into the body under way, memory first.

@@ -8,6 +8,7 @@ mod done;
 mod draft;
 mod fault;
 mod gathering;
+mod laws;
 mod learning;
 mod loading;
 mod message;
@@ -19,6 +20,7 @@ mod taking;
 
 pub use done::Done;
 pub use fault::StoreFault;
+pub use laws::{faults_are_no_journals, pairs_have_one_journal};
 pub use message::Message;
 pub use outcome::{End, Fetch, Outcome};
 pub use store::Store;

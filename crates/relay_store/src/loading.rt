@@ -25,6 +25,7 @@ use relay_core::Core;
 use relay_disk::Disk;
 use relay_row::{Row, RowFault, read_rows};
 use std::alloc::Global;
+use std::collections::VecDeque;
 
 // Learns the rows of the body at this place.
 fn learn_rows(
@@ -41,7 +42,8 @@ fn learn_rows(
     ensures bad { result ≡ Err RowFault.BadRow → (J : List TheRow) → Holds core.old J → IsJournal (J ++ rows.items) → ⊥ }
 {
     let mut index = 0;
-    'rows: for row in rows {
+    let mut left = VecDeque::from_vec(rows);
+    'rows: while let Some(row) = left.pop_front() {
         if !core.is_next(&row) {
             return Err(RowFault::BadRow);
         }

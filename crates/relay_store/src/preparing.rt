@@ -1,16 +1,18 @@
 //! One message decided, and its row taken, ahead of the disk.
 
-ghost use Rattle.std.specs.Prelude.{◌≡◌, ◌≤◌, ◌<◌, ℕ, length, IsTrue, IfOk, IfErr, Some};
+ghost use Rattle.std.specs.Prelude.{◌≡◌, ◌≤◌, ◌<◌, ℕ, length, IsTrue, IfOk, IfErr, OnOk, OnErr, Some};
 ghost use Rattle.at_cid.specs.Counts.{Rose};
 ghost use Rattle.at_event.specs.Frames.{frame_of};
 ghost use Rattle.at_syntax.specs.Host.{is_host};
 ghost use Rattle.gate_log.specs.declared.drafts.TheConstants.{AHEAD};
 ghost use Rattle.relay_row.specs.declared.limits.TheConstants.{MOST_ROWS};
 ghost use Rattle.relay_step.specs.Around.{around};
-ghost use Rattle.relay_store.specs.Drafts.{Fits};
+ghost use Rattle.relay_step.specs.Messages.{told_as};
+ghost use Rattle.relay_step.specs.Steps.{rows_told};
+ghost use Rattle.relay_store.specs.Drafts.{Fits, IsUnchanged};
 ghost use Rattle.relay_store.specs.Faults.{IsRisen};
-ghost use Rattle.relay_store.specs.Outcomes.{fetch_in, passed_outcome, taken_outcome};
-ghost use Rattle.relay_store.specs.Taking.{Prepared};
+ghost use Rattle.relay_store.specs.Outcomes.{fetch_in, outcome_told, passed_outcome, taken_outcome};
+ghost use Rattle.relay_store.specs.Taking.{AreAdded, IsTooLate, Prepared};
 
 use crate::adding::add_row;
 use crate::draft::Draft;
@@ -65,6 +67,41 @@ fn outcome_of_passed(alloc: Global, message: &[u8]) -> Result<Outcome, Memory>
     }
 }
 
+// Takes what came of a message: its row, if it makes one, is learned and goes into the body under way.
+fn take_told(
+    alloc: Global,
+    log: &Log,
+    core: &mut Core,
+    window: &mut Window,
+    draft: &mut Draft,
+    message: &[u8],
+    told: Told,
+) -> Result<Outcome, StoreFault>
+    requires few { draft.old.count < MOST_ROWS }
+    requires begun { AHEAD ≤ length draft.old.body }
+    requires fits { Fits log.now draft.old }
+    ensures begun { AHEAD ≤ length draft.new.body }
+    ensures fits { Fits log.now draft.new }
+    ensures ok { IfOk result (λ o. outcome_told (frame_of message.now) (told_as told) ≡ Some o) }
+    ensures added { OnOk result (AreAdded log.now.end (rows_told (told_as told)) core.old core.new window.old.places window.new.places draft.old draft.new) }
+    ensures as_before { OnErr result (IsUnchanged core.old core.new window.old.places window.new.places draft.old draft.new) }
+    ensures late { IfErr result (IsTooLate log.now draft.old (told_as told)) }
+{
+    match told {
+        Told::Passed(_) => match outcome_of_passed(alloc, message) {
+            Ok(outcome) => Ok(outcome),
+            Err(_) => Err(StoreFault::Memory),
+        },
+        Told::Took(taken) => {
+            let outcome = outcome_of_taken(&taken);
+            match add_row(log, core, window, draft, Row::Taken(taken)) {
+                Ok(()) => Ok(outcome),
+                Err(fault) => Err(fault),
+            }
+        }
+    }
+}
+
 /// Decides a message. Its row, if it makes one, is learned and goes into the body under way.
 pub(crate) fn prepare<P: Judges, R: Repos, C: Clock>(
     alloc: Global,
@@ -90,12 +127,8 @@ pub(crate) fn prepare<P: Judges, R: Repos, C: Clock>(
     ensures clock_counts { C.faults clock.old ≤ C.faults clock.new }
     ensures repos_count { R.faults repos.old ≤ R.faults repos.new }
 {
-    match decide_message(alloc, core, host, message, judges, repos, clock)? {
-        Told::Passed(_) => Ok(outcome_of_passed(alloc, message)?),
-        Told::Took(taken) => {
-            let outcome = outcome_of_taken(&taken);
-            add_row(log, core, window, draft, Row::Taken(taken))?;
-            Ok(outcome)
-        }
+    match decide_message(alloc, core, host, message, judges, repos, clock) {
+        Ok(told) => take_told(alloc, log, core, window, draft, message, told),
+        Err(fault) => Err(StoreFault::from(fault)),
     }
 }

@@ -6,7 +6,6 @@ use gate_log::{Log, Side};
 use account_state::Account;
 use host_state::Hosts;
 use relay_core::Core;
-use std::marker::Model;
 
 /// A journal on the log of a pair of disks, which are handed to each call, and what is known of it: the state, and where the events
 /// stand.
@@ -17,14 +16,6 @@ pub struct Store {
     pub(crate) core: Core,
     pub(crate) window: Window,
     pub(crate) draft: Draft,
-}
-
-impl Model for Store {
-    ghost use Rattle.relay_store.specs.Store.{StoreState, seen};
-
-    ghost Value = { StoreState };
-
-    ghost view = { λ s. seen s.log s.side s.core s.window.places };
 }
 
 impl Store {

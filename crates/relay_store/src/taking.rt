@@ -8,7 +8,7 @@ ghost use Rattle.relay_row.specs.declared.row.Row.{Row as TheRow};
 ghost use Rattle.relay_step.specs.Around.{around};
 ghost use Rattle.relay_store.specs.Batches.{Batched, scene, outcomes_in, fault_in, message_from};
 ghost use Rattle.relay_store.specs.Faults.{IsRisenOf};
-ghost use Rattle.relay_store.specs.Store.{IsKept, IsOf};
+ghost use Rattle.relay_store.specs.Store.{IsKept, IsOf, seen_in};
 ghost use Rattle.relay_store.specs.Taking.{AreOfHosts};
 ghost use Rattle.relay_store.specs.declared.fault.StoreFault.{StoreFault as TheFault};
 
@@ -46,14 +46,14 @@ impl Store {
         clock: &mut C,
     ) -> Batch
         requires open { IsTrue self.old.log.is_open }
-        requires on { IsTrue D.tells → IsKept self.old (D.view disk.old) }
+        requires on { IsTrue D.tells → IsKept (seen_in self.old) (D.view disk.old) }
         requires some { 1 ≤ length group.now }
         requires few { length group.now ≤ MOST_ROWS }
         requires hosts { AreOfHosts group.now }
         ensures batched { (J : List TheRow) → IsOf J self.old.core → Batched D.view D.tells C.tells R.tells J group.now
-            (scene self.old disk.old (around (P.panel judges.old) (C.moments clock.old) (R.repository repos.old)))
-            (scene self.new disk.new (around (P.panel judges.new) (C.moments clock.new) (R.repository repos.new))) result.outcomes.items result.fault }
-        ensures on { result.fault ≢ Some StoreFault.Disk → IsTrue D.tells → IsKept self.new (D.view disk.new) }
+            (scene (seen_in self.old) disk.old (around (P.panel judges.old) (C.moments clock.old) (R.repository repos.old)))
+            (scene (seen_in self.new) disk.new (around (P.panel judges.new) (C.moments clock.new) (R.repository repos.new))) result.outcomes.items result.fault }
+        ensures on { result.fault ≢ Some StoreFault.Disk → IsTrue D.tells → IsKept (seen_in self.new) (D.view disk.new) }
         ensures open { result.fault ≢ Some StoreFault.Disk → IsTrue self.new.log.is_open }
         ensures closed { result.fault ≡ Some StoreFault.Disk → self.new.log.is_open ≡ false }
         ensures side { self.new.side ≡ self.old.side }
@@ -64,11 +64,14 @@ impl Store {
         ensures repos_count { R.faults repos.old ≤ R.faults repos.new }
     {
         let mut outcomes = Vec::new(alloc);
-        if self.draft.start().is_err() {
-            return Batch {
-                outcomes,
-                fault: Some(StoreFault::Memory),
-            };
+        match self.draft.start() {
+            Ok(()) => {}
+            Err(_) => {
+                return Batch {
+                    outcomes,
+                    fault: Some(StoreFault::Memory),
+                };
+            }
         }
         let fault = gather(
             alloc,
@@ -103,12 +106,12 @@ impl Store {
         clock: &mut C,
     ) -> Result<Outcome, StoreFault>
         requires open { IsTrue self.old.log.is_open }
-        requires on { IsTrue D.tells → IsKept self.old (D.view disk.old) }
+        requires on { IsTrue D.tells → IsKept (seen_in self.old) (D.view disk.old) }
         requires host { IsTrue (is_host host.now) }
         ensures batched { (J : List TheRow) → IsOf J self.old.core → Batched D.view D.tells C.tells R.tells J (message_from host.now message.now ∷ [])
-            (scene self.old disk.old (around (P.panel judges.old) (C.moments clock.old) (R.repository repos.old)))
-            (scene self.new disk.new (around (P.panel judges.new) (C.moments clock.new) (R.repository repos.new))) (outcomes_in result) (fault_in result) }
-        ensures on { fault_in result ≢ Some StoreFault.Disk → IsTrue D.tells → IsKept self.new (D.view disk.new) }
+            (scene (seen_in self.old) disk.old (around (P.panel judges.old) (C.moments clock.old) (R.repository repos.old)))
+            (scene (seen_in self.new) disk.new (around (P.panel judges.new) (C.moments clock.new) (R.repository repos.new))) (outcomes_in result) (fault_in result) }
+        ensures on { fault_in result ≢ Some StoreFault.Disk → IsTrue D.tells → IsKept (seen_in self.new) (D.view disk.new) }
         ensures open { fault_in result ≢ Some StoreFault.Disk → IsTrue self.new.log.is_open }
         ensures closed { fault_in result ≡ Some StoreFault.Disk → self.new.log.is_open ≡ false }
         ensures side { self.new.side ≡ self.old.side }
@@ -118,8 +121,11 @@ impl Store {
         ensures clock_counts { C.faults clock.old ≤ C.faults clock.new }
         ensures repos_count { R.faults repos.old ≤ R.faults repos.new }
     {
-        self.draft.start()?;
-        let outcome = prepare(
+        match self.draft.start() {
+            Ok(()) => {}
+            Err(_) => return Err(StoreFault::Memory),
+        }
+        let outcome = match prepare(
             alloc,
             &self.log,
             &mut self.core,
@@ -130,8 +136,13 @@ impl Store {
             judges,
             repos,
             clock,
-        )?;
-        commit(&mut self.log, disk, &mut self.draft)?;
-        Ok(outcome)
+        ) {
+            Ok(outcome) => outcome,
+            Err(fault) => return Err(fault),
+        };
+        match commit(&mut self.log, disk, &mut self.draft) {
+            Ok(()) => Ok(outcome),
+            Err(fault) => Err(fault),
+        }
     }
 }
