@@ -60,7 +60,7 @@ all_joined clock_tells repos_tell J a b c (s ∷ steps) others one two = (
   one.0,
   one.1,
   all_joined clock_tells repos_tell (J ++ rows_told s.told) one.0 b c steps others one.2
-  (subst (λ (j : List Row). AllAsked clock_tells repos_tell j b others c) (sym (append_assoc J (rows_told s.told) (rows steps))) two),
+      (subst (λ (j : List Row). AllAsked clock_tells repos_tell j b others c) (sym (append_assoc J (rows_told s.told) (rows steps))) two),
 )
 
 pub all_one : (clock_tells repos_tell : Bool) (J : List Row) (a b c : Around) (steps : List Step) (s : Step) → AllAsked clock_tells repos_tell J a steps b → Asked clock_tells repos_tell (J ++ rows steps) b s c

@@ -160,6 +160,12 @@ module _ (C R : Bool) (log : LogState) (group : List Message) (state state_now :
           moments = λ told keeps. moments told J (rows st.gathered.steps) st.gathered.draft (ahead J (view disk) keeps);
         }
 
+    pub batched_fails_as : (os : List Outcome) (f : Option StoreFault) → os ≡ [] → f ≡ Some StoreFault.Disk → (J : List Row) → IsOf J state
+        → Batched view tells C R J group (scene (seen log side state places) disk a) (scene (seen log_now side state_now places_now) disk_now b) os f
+    batched_fails_as os f none is J of =
+        subst (λ (x : Option StoreFault). Batched view tells C R J group (scene (seen log side state places) disk a) (scene (seen log_now side state_now places_now) disk_now b) os x) (sym is)
+        (subst (λ (l : List Outcome). Batched view tells C R J group (scene (seen log side state places) disk a) (scene (seen log_now side state_now places_now) disk_now b) l (Some StoreFault.Disk)) (sym none) (batched_fails J of))
+
 -- there was no memory to begin
 pub batched_none : {D : Type 0} (view : D → View) (tells C R : Bool) (J : List Row) (group : List Message) (log : LogState) (side : Side) (state : Core) (places : List Place) (disk : D) (a : Around) (outcomes : List Outcome) → outcomes ≡ [] → IsDisk (view disk) → IsOf J state
     → Batched view tells C R J group (scene (seen log side state places) disk a) (scene (seen log side state places) disk a) outcomes (Some StoreFault.Memory)
@@ -186,3 +192,6 @@ batched_none view tells C R J group log side state places disk a outcomes no_out
 
 pub on_kept : (s : StoreState) (v : View) → IsKept s v → IsOn v s.log
 on_kept s v kept = (bytes_of kept.1.bodies, kept.1.holds)
+
+pub of_kept : (s : StoreState) (v : View) (kept : IsKept s v) → IsOf kept.0 s.core
+of_kept s v kept = record { holds = kept.1.core; journal = kept.1.are.journal }

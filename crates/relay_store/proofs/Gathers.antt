@@ -86,6 +86,26 @@ next_of StoreFault.Repos state m left c of cause = tt
 next_of StoreFault.Memory state m left c of cause = tt
 next_of StoreFault.Clock state m left c of cause = tt
 
+pub vain_not_disk : (f : StoreFault) → ComesOfAsking f → Some f ≢ Some StoreFault.Disk
+vain_not_disk StoreFault.Disk of is = of
+vain_not_disk (StoreFault.BadLog p) of is = of
+vain_not_disk (StoreFault.Full e) of is = of
+vain_not_disk StoreFault.SeqEnd of is = let no : ⊥ = cc in no
+vain_not_disk StoreFault.Authority of is = let no : ⊥ = cc in no
+vain_not_disk StoreFault.Repos of is = let no : ⊥ = cc in no
+vain_not_disk StoreFault.Memory of is = let no : ⊥ = cc in no
+vain_not_disk StoreFault.Clock of is = let no : ⊥ = cc in no
+
+pub late_not_disk : (log : LogState) (d : Draft) (told : Told) (f : StoreFault) → IsTooLate log d told f → Some f ≢ Some StoreFault.Disk
+late_not_disk log d told StoreFault.Disk late is = late
+late_not_disk log d told (StoreFault.BadLog p) late is = late
+late_not_disk log d told (StoreFault.Full e) late is = let no : ⊥ = cc in no
+late_not_disk log d told StoreFault.SeqEnd late is = late
+late_not_disk log d told StoreFault.Authority late is = late
+late_not_disk log d told StoreFault.Repos late is = late
+late_not_disk log d told StoreFault.Memory late is = let no : ⊥ = cc in no
+late_not_disk log d told StoreFault.Clock late is = late
+
 late_extra : (log : LogState) (d : Draft) (told : Told) (f : StoreFault) (s : Step) → IsTooLate log d told f → AreExtra (Some f) (s ∷ [])
 late_extra log d told StoreFault.Disk s late = absurd late
 late_extra log d told (StoreFault.BadLog p) s late = absurd late
@@ -251,6 +271,7 @@ module _ (C R : Bool) (log : LogState) (group : List Message) where
 
         pub gathering_more : (o : Outcome) → outcome_told (frame_of m.bytes) told ≡ Some o → AreAdded log.end (rows_told told) state_mid state_now places_mid places_now d d_now → Fits log d_now → is_end o ≡ false
             → IsGathering C R log group left state state_now places places_now d_now a c (outcomes ++ o ∷ [])
+        unfolding gathered_more
         gathering_more o is added fits not = record {
           gathered = gathered_more o is added fits;
           none_ended = λ checks J opens links holds.
@@ -282,8 +303,31 @@ module _ (C R : Bool) (log : LogState) (group : List Message) where
               ends_next = next_nothing state_now left c.panel;
             }
 
+        -- and none is left
+        pub gathering_last : (o : Outcome) → outcome_told (frame_of m.bytes) told ≡ Some o → AreAdded log.end (rows_told told) state_mid state_now places_mid places_now d d_now → Fits log d_now → left ≡ []
+            → Stopped C R log group state state_now places places_now d_now a c (outcomes ++ o ∷ []) None
+        gathering_last o is added fits last =
+            let g = gathered_more o is added fits in
+            record {
+              left = left;
+              now = c;
+              gathered = g;
+              extra = [];
+              behind = left;
+              which = refl;
+              next = refl;
+              are = λ checks J opens links holds. subst (AreSteps checks J []) (sym (append-nil g.steps)) (g.are checks J opens links holds);
+              journal = subst (λ (l : List Step). KeepsJournal state (rows l)) (sym (append-nil g.steps)) g.journal;
+              ends = ends_one outcomes o so_far.none_ends;
+              all = λ none. inl last;
+              asked = λ J holds. record { mid = c; turns = subst (λ (l : List Step). AllAsked C R J a l c) (sym (append-nil g.steps)) (g.asked J holds); stops = nothing_here C R c };
+              full = tt;
+              ends_next = next_nothing state_now left c.panel;
+            }
+
         -- its row found no room, or no memory
         pub stops_late : (f : StoreFault) → IsUnchanged state_mid state_now places_mid places_now d d_now → Fits log d_now → IsTooLate log d told f → Stopped C R log group state state_now places places_now d_now a c outcomes (Some f)
+        unfolding unchanged_gathered
         stops_late f same fits late = record {
           left = m ∷ left;
           now = b;
@@ -304,6 +348,7 @@ module _ (C R : Bool) (log : LogState) (group : List Message) where
     -- a fault came of the message alone
     pub stops_in_vain : (state_now : Core) (places_now : List Place) (d_now : Draft) (c : Around) (f : StoreFault) → IsUnchanged state_mid state_now places_mid places_now d d_now → Fits log d_now → IsInVain C R state_mid state_now m.host m.bytes b c f
         → Stopped C R log group state state_now places places_now d_now a c outcomes (Some f)
+    unfolding unchanged_gathered
     stops_in_vain state_now places_now d_now c f same fits vain =
         let g = unchanged_gathered C R log group (m ∷ left) state state_mid state_now places places_mid places_now d d_now a b outcomes so_far.gathered same fits in
         record {

@@ -14,7 +14,7 @@ use Rattle.relay_row.proofs.Journals.{fronts}
 use Rattle.relay_store.specs.Journals.{joined, bytes_of, AllBodies, IsImageOf, IsPairImageOf, IsBadBodyAt, IsBadPairJournalAt}
 use Rattle.relay_store.specs.Store.{StoreState, Keeps}
 
-same_body : (xs ys : List Row) → IsBody xs (body_of xs) → IsBody ys (body_of ys) → body_of xs ≡ body_of ys → xs ≡ ys
+pub same_body : (xs ys : List Row) → IsBody xs (body_of xs) → IsBody ys (body_of ys) → body_of xs ≡ body_of ys → xs ≡ ys
 same_body xs ys one two is = same_rows xs ys (body_of xs) one (record { some = two.some; few = two.few; formed = two.formed; made = is })
 
 pub same_lists : (xs ys : List (List Row)) → AllBodies xs → AllBodies ys → bytes_of xs ≡ bytes_of ys → xs ≡ ys

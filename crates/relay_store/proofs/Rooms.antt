@@ -47,8 +47,14 @@ with_row rows row d has is =
     let count : length (rows ++ row ∷ []) ≡ d.count + 1 = omega (arith, length-append rows (row ∷ []), has.count) in
     let front = ap (λ (n : ℕ). length (front_of Major.List n)) count in
     omega (
-      arith, front, length_body (rows ++ row ∷ []), ap length (spelled_joined rows (row ∷ [])), length-append (spelled rows) (row_spelling row ++ []), length-append (row_spelling row) [],
-      ap length has.spelled_are, ap length is
+      arith,
+      front,
+      length_body (rows ++ row ∷ []),
+      ap length (spelled_joined rows (row ∷ [])),
+      length-append (spelled rows) (row_spelling row ++ []),
+      length-append (row_spelling row) [],
+      ap length has.spelled_are,
+      ap length is,
     )
 
 pub full_of : (log : LogState) (rows : List Row) (row : Row) (d : Draft) (e : ℕ) → HasRows rows d → d.row ≡ row_spelling row → IsFullWith log d e → IsFull log rows row e

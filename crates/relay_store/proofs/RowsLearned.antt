@@ -57,7 +57,7 @@ module _ (place index : ℕ) (rows left rest : List Row) (row : Row) (state stat
   pub learning_stops : ((J : List Row) → Holds state_now J → false ≡ keeps_order J row) → (J : List Row) → Holds state J → IsJournal (J ++ rows) → ⊥
   learning_stops order J holds journal =
       let all : IsJournal (((J ++ so_far.done) ++ row ∷ []) ++ rest) = subst IsJournal
-          (ap (λ (l : List Row). J ++ l) split_here ∙ sym (append_assoc J so_far.done (row ∷ rest)) ∙ sym (append_assoc (J ++ so_far.done) (row ∷ []) rest)) journal in
+      (ap (λ (l : List Row). J ++ l) split_here ∙ sym (append_assoc J so_far.done (row ∷ rest)) ∙ sym (append_assoc (J ++ so_far.done) (row ∷ []) rest)) journal in
       let kept = (grew (J ++ so_far.done) row (fronts ((J ++ so_far.done) ++ row ∷ []) rest all)).1 in
       let not = order (J ++ so_far.done) (so_far.core J holds) in
       absurd cc

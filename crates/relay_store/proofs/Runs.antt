@@ -38,7 +38,7 @@ steps_one checks J ended [] s are told = (subst (λ (j : List Row). IsTold check
 steps_one checks J ended (x ∷ steps) s are told = (
   are.0,
   steps_one checks (J ++ rows_told x.told) (ended_told x.told x.host ended) steps s are.1
-  (subst (λ (j : List Row). IsTold checks j (ended_by_all steps (ended_told x.told x.host ended)) (message_of s) s.told) (sym (append_assoc J (rows_told x.told) (rows steps))) told),
+      (subst (λ (j : List Row). IsTold checks j (ended_by_all steps (ended_told x.told x.host ended)) (message_of s) s.told) (sym (append_assoc J (rows_told x.told) (rows steps))) told),
 )
 
 pub sent_joined : (steps others : List Step) → sent (steps ++ others) ≡ sent steps ++ sent others

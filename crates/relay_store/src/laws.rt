@@ -13,3 +13,8 @@ pub fn pairs_have_one_journal()
 pub fn faults_are_no_journals()
     ensures { (place : ℕ) (one two : List ℕ) (J : List Row) → IsPairImageOf J one two → IsBadPairJournalAt place one two → ⊥ }
 {}
+
+/// Two disks show a fault at one place at most.
+pub fn faults_have_one_place()
+    ensures { (place other : ℕ) (one two : List ℕ) → IsBadPairJournalAt place one two → IsBadPairJournalAt other one two → place ≡ other }
+{}

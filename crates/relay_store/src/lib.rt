@@ -20,7 +20,7 @@ mod taking;
 
 pub use done::Done;
 pub use fault::StoreFault;
-pub use laws::{faults_are_no_journals, pairs_have_one_journal};
+pub use laws::{faults_are_no_journals, faults_have_one_place, pairs_have_one_journal};
 pub use message::Message;
 pub use outcome::{End, Fetch, Outcome};
 pub use store::Store;

@@ -14,10 +14,10 @@ ghost use Rattle.relay_store.specs.Faults.{IsRisen};
 ghost use Rattle.relay_store.specs.Outcomes.{fetch_in, outcome_told, passed_outcome, taken_outcome};
 ghost use Rattle.relay_store.specs.Taking.{AreAdded, IsTooLate, Prepared};
 
+use crate::StoreFault;
 use crate::adding::add_row;
 use crate::draft::Draft;
 use crate::outcome::{End, Fetch, Outcome};
-use crate::StoreFault;
 use at_authority::Judges;
 use at_cid::Memory;
 use at_event::{Frame, FrameFault, read_frame};

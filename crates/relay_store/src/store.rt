@@ -1,9 +1,9 @@
 //! The store: a journal on the log of a pair of disks, and what is known of it.
 
 use crate::draft::Draft;
+use account_state::Account;
 use event_window::Window;
 use gate_log::{Log, Side};
-use account_state::Account;
 use host_state::Hosts;
 use relay_core::Core;
 

@@ -33,8 +33,12 @@ returns-in_err-load_side-clause-bad_log g c = λ p is tells.
     let failed : c.load_side.result ≡ Err (StoreFault.BadLog p) = search rules in
     let held = c.in-Ok.ensures.holds tells in
     let picked = c.in-Ok.ensures.picked tells in
-    inr (c.in-Ok.found.0, picked, bad_journal p c.in-Ok.found.0 c.in-Ok.found.1 (g.D.Disk.view c.args.disk.now) (g.D.Disk.view c.open_pair.new.one) (g.D.Disk.view c.args.other.now) (g.D.Disk.view c.open_pair.new.two)
-        held.0 picked held.1 held.2 (c.in-Ok.ensures.only_read tells) (c.load_side.ensures.bad_log p failed tells held.0 held.2))
+    inr (
+      c.in-Ok.found.0,
+      picked,
+      bad_journal p c.in-Ok.found.0 c.in-Ok.found.1 (g.D.Disk.view c.args.disk.now) (g.D.Disk.view c.open_pair.new.one) (g.D.Disk.view c.args.other.now) (g.D.Disk.view c.open_pair.new.two)
+          held.0 picked held.1 held.2 (c.in-Ok.ensures.only_read tells) (c.load_side.ensures.bad_log p failed tells held.0 held.2),
+    )
 
 pub returns-clause-opened : goal.returns-clause-opened
 returns-clause-opened g c = record {
