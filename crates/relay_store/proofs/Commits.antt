@@ -37,7 +37,7 @@ with_body J rows bodies are journal some few = record {
   journal = journal;
 }
 
-no_rows : (rows : List Row) → length rows ≡ 0 → rows ≡ []
+pub no_rows : (rows : List Row) → length rows ≡ 0 → rows ≡ []
 no_rows [] is = refl
 no_rows (row ∷ rows) is = absurd (omega (arith, is))
 
