@@ -1,0 +1,21 @@
+-- The places of events, in the order of their numbers (own).
+use Rattle.std.specs.Prelude.{ℕ, ◌<◌, Bool, List, [], ◌∷◌, Option, Some, None, nat_le, if◌then◌else◌}
+use Rattle.event_window.specs.declared.place.Place.{Place}
+
+-- the places, and for how many more there is room
+pub record WindowState : Type 0 where
+  pub places : List Place
+  pub spare : ℕ
+
+-- the numbers rise, from above this one on
+abbrev pub AreAbove : ℕ → List Place → Type 0
+AreAbove n [] = Unit {0}
+AreAbove n (p ∷ places) = (n < p.seq) × AreAbove p.seq places
+
+abbrev pub is_at_most : ℕ → Place → Bool
+is_at_most seq p = nat_le p.seq seq
+
+-- the first place of a number above a number, if there is one
+abbrev pub first_above : ℕ → List Place → Option Place
+first_above seq [] = None
+first_above seq (p ∷ places) = if is_at_most seq p then first_above seq places else Some p

@@ -1,0 +1,32 @@
+//! Who gives out events.
+
+ghost use Rattle.std.specs.Prelude.{◌≡◌, ◌≤◌, ℕ, Bool, IsTrue, IfOk};
+ghost use Rattle.event_window.specs.Held.{Held, IsNext, oldest_of};
+ghost use Rattle.event_window.specs.declared.fault.EventsFault.{EventsFault};
+
+use crate::fault::EventsFault;
+use at_cid::Octets;
+
+/// Events that are held under their numbers, of which those that are shown are given out.
+pub trait Events {
+    /// Whether it is told which events are held.
+    ghost tells: { Bool };
+
+    /// These are the events that it holds.
+    ghost holds: { Self → Held → Type 0 };
+
+    /// The last number that was given, or 0.
+    fn last_seq(&self) -> u64
+        ensures { IsTrue tells → (held : Held) → holds self.now held → result ≡ held.last };
+
+    /// The least number that is held, and where none is, the one behind the last.
+    fn oldest(&self) -> u64
+        ensures { IsTrue tells → (held : Held) → holds self.now held → result ≡ oldest_of held };
+
+    /// The next event above a number that is shown: its number, and its message, which is put into the room in place of what was
+    /// there. Where there is none, and after a fault, nothing is said of the room.
+    fn next_after(&mut self, seq: u64, room: &mut Octets) -> Result<Option<u64>, EventsFault>
+        ensures next { IfOk result (λ found. IsTrue tells → (held : Held) → holds self.old held → IsNext seq held.shown found room.new) }
+        ensures same { IsTrue tells → (held : Held) → holds self.old held → holds self.new held }
+        ensures no_bad_log { (place : ℕ) → result ≡ Err (EventsFault.BadLog place) → IsTrue tells → (held : Held) → holds self.old held → ⊥ };
+}

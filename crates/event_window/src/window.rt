@@ -1,0 +1,110 @@
+//! The places of events, in the order of their numbers.
+
+ghost use Rattle.std.specs.Prelude.{◌≡◌, ◌≤◌, ◌<◌, ◌+◌, ◌++◌, ◌∷◌, [], length, slice_get, vec_len, vec_capacity, OnOk};
+ghost use Rattle.event_window.specs.Window.{AreAbove, first_above, is_at_most};
+
+use crate::place::Place;
+use at_cid::Memory;
+use std::alloc::Global;
+use std::marker::Model;
+
+/// The places of events, in the order in which they were added.
+#[derive(Drop)]
+pub struct Window {
+    places: Vec<Place>,
+    spare: usize,
+}
+
+impl Model for Window {
+    ghost use Rattle.std.specs.Prelude.{◌≤◌, ◌+◌, vec_len, vec_capacity};
+    ghost use Rattle.event_window.specs.Window.{WindowState};
+
+    ghost Value = { WindowState };
+
+    ghost view = { λ w. record { places = w.places.items; spare = w.spare } };
+
+    ghost invariant = { λ w. vec_len w.places + w.spare ≤ vec_capacity w.places };
+}
+
+impl Window {
+    /// No places. Takes no memory.
+    pub fn new(alloc: Global) -> Window
+        ensures places { result.places ≡ [] }
+        ensures spare { result.spare ≡ 0 }
+    {
+        Window {
+            places: Vec::new(alloc),
+            spare: 0,
+        }
+    }
+
+    /// Makes room for so many more.
+    pub fn reserve(&mut self, more: usize) -> Result<(), Memory>
+        ensures same { self.new.places ≡ self.old.places }
+        ensures room { OnOk result (more ≤ self.new.spare) }
+    {
+        if self.spare < more {
+            self.spare = 0;
+            self.places.reserve(more)?;
+            self.spare = more;
+        }
+        Ok(())
+    }
+
+    /// For how many more there is room.
+    pub fn spare(&self) -> usize
+        ensures { result ≡ self.now.spare }
+    {
+        self.spare
+    }
+
+    /// How many there are.
+    pub fn len(&self) -> usize
+        ensures { result ≡ length self.now.places }
+    {
+        self.places.len()
+    }
+
+    /// Adds the place of one more event behind the others. Takes no memory.
+    pub fn push(&mut self, place: Place)
+        requires { 0 < self.old.spare }
+        ensures places { self.new.places ≡ self.old.places ++ place ∷ [] }
+        ensures spare { self.new.spare + 1 ≡ self.old.spare }
+    {
+        self.places.push_reserved(place);
+        self.spare -= 1;
+    }
+
+    /// The first of them, which has the least number where the numbers rise.
+    pub fn first(&self) -> Option<Place>
+        ensures { result ≡ slice_get self.now.places 0 }
+    {
+        if self.places.is_empty() {
+            return None;
+        }
+        Some(self.places[0])
+    }
+
+    /// The place of the least number above a number, where the numbers rise.
+    pub fn after(&self, seq: u64) -> Option<Place>
+        ensures { AreAbove 0 self.now.places → result ≡ first_above seq self.now.places }
+    {
+        let index = upto(self.places.as_slice(), seq);
+        if index == self.places.len() {
+            return None;
+        }
+        Some(self.places[index])
+    }
+}
+
+// How many stand in front of the first whose number is above a number, where the numbers rise.
+fn upto(places: &[Place], seq: u64) -> usize
+    ensures upto { AreAbove 0 places.now → first_above seq places.now ≡ slice_get places.now result }
+    ensures bound { result ≤ length places.now }
+{
+    places.partition_point(
+        |place: &Place| -> bool
+            ensures { result ≡ is_at_most seq place.now }
+        { place.seq <= seq },
+    )
+}

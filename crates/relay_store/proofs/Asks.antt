@@ -1,0 +1,87 @@
+-- What steps ask, one after another.
+use Rattle.std.proofs.Common.{◌≡◌, inl, inr, ◌⊎◌, ⊎_elim, ℕ, ◌≤◌, List, [], ◌∷◌, ◌++◌, length, Bool, Option, Some, None, Result, Ok, Err, IsTrue, refl, sym, ◌∙◌, ap, subst, arith, append_assoc}
+use Rattle.std.proofs.lemmas.List.{append-nil}
+use Rattle.at_authority.specs.Panels.{Panel}
+use Rattle.at_event.specs.Frames.{frame_of}
+use Rattle.at_event.specs.Refusals.{code_of}
+use Rattle.at_event.specs.declared.frame.Frame.{Frame}
+use Rattle.at_event.specs.declared.frame.FrameFault.{FrameFault}
+use Rattle.at_event.specs.declared.refusal.Refusal.{Refusal}
+use Rattle.relay_row.specs.declared.row.Row.{Row}
+use Rattle.relay_row.specs.declared.taken.Taken.{Taken}
+use Rattle.account_state.specs.Folds.{account, last_rev}
+use Rattle.relay_core.specs.Shown.{found_in, or_zero}
+use Rattle.relay_step.specs.Around.{Around, Asked, AskedNothing, AllAsked, IsTimed, SameRepositories}
+use Rattle.relay_step.specs.Asked.{Answered, AskedInVain}
+use Rattle.relay_step.specs.Causes.{AskedInVainOf, CameToNothing}
+use Rattle.relay_step.specs.Fetching.{IsFetched, IsFetchedFrom, IsFetchedTold, fetched_good}
+use Rattle.relay_step.specs.Steps.{Step, Told, after_end, passed_over, took, rows, rows_told}
+use Rattle.relay_store.specs.Batches.{InVain}
+use Rattle.relay_store.specs.declared.message.Message.{Message}
+
+pub nothing_here : (clock_tells repos_tell : Bool) (a : Around) → AskedNothing clock_tells repos_tell a a
+nothing_here clock_tells repos_tell a = record { panel = refl; moments = λ tells. refl; same = λ tells did. refl }
+
+nothing_after : (clock_tells repos_tell : Bool) (a b c : Around) → AskedNothing clock_tells repos_tell a b → AskedNothing clock_tells repos_tell b c → AskedNothing clock_tells repos_tell a c
+nothing_after clock_tells repos_tell a b c one two = record {
+  panel = two.panel ∙ one.panel;
+  moments = λ tells. two.moments tells ∙ one.moments tells;
+  same = λ tells did. two.same tells did ∙ one.same tells did;
+}
+
+fetched_for : (old mid : List ℕ → Option (List ℕ)) (J : List Row) (refusal : Option Refusal) (t : Taken) → SameRepositories old mid → IsFetched mid J refusal t → IsFetched old J refusal t
+fetched_for old mid J None t same fetched = tt
+fetched_for old mid J (Some r) t same fetched = λ loses.
+    subst (λ (bytes : Option (List ℕ)). IsFetchedFrom bytes t.did (last_rev (account t.did J).repo) (or_zero t.moment) (fetched_good t.fetched) (found_in t.fetched)) (same t.did) (fetched loses)
+
+fetched_from : (old mid : List ℕ → Option (List ℕ)) (J : List Row) (told : Told) → SameRepositories old mid → IsFetchedTold mid J told → IsFetchedTold old J told
+fetched_from old mid J after_end same fetched = tt
+fetched_from old mid J (passed_over pass) same fetched = tt
+fetched_from old mid J (took t) same fetched = fetched_for old mid J t.refusal t same fetched
+
+-- what was asked behind nothing
+asked_from : (clock_tells repos_tell : Bool) (J : List Row) (a b c : Around) (s : Step) → AskedNothing clock_tells repos_tell a b → Asked clock_tells repos_tell J b s c → Asked clock_tells repos_tell J a s c
+asked_from clock_tells repos_tell J a b c s none asked = record {
+  answered = subst (λ (p : Panel). Answered p s.host (frame_of s.bytes) s.told c.panel) none.panel asked.answered;
+  timed = λ tells. subst (λ (m : List ℕ). IsTimed m s.told c.moments) (none.moments tells) (asked.timed tells);
+  fetched = λ tells. fetched_from a.repository b.repository J s.told (none.same tells) (asked.fetched tells);
+  same = λ tells did. asked.same tells did ∙ none.same tells did;
+}
+
+all_from : (clock_tells repos_tell : Bool) (J : List Row) (a b c : Around) (steps : List Step) → AskedNothing clock_tells repos_tell a b → AllAsked clock_tells repos_tell J b steps c → AllAsked clock_tells repos_tell J a steps c
+all_from clock_tells repos_tell J a b c [] none asked = nothing_after clock_tells repos_tell a b c none asked
+all_from clock_tells repos_tell J a b c (s ∷ steps) none asked = (asked.0, asked_from clock_tells repos_tell J a b asked.0 s none asked.1, asked.2)
+
+pub all_joined : (clock_tells repos_tell : Bool) (J : List Row) (a b c : Around) (steps others : List Step) → AllAsked clock_tells repos_tell J a steps b → AllAsked clock_tells repos_tell (J ++ rows steps) b others c
+    → AllAsked clock_tells repos_tell J a (steps ++ others) c
+all_joined clock_tells repos_tell J a b c [] others one two =
+    all_from clock_tells repos_tell J a b c others one (subst (λ (j : List Row). AllAsked clock_tells repos_tell j b others c) (append-nil J) two)
+all_joined clock_tells repos_tell J a b c (s ∷ steps) others one two = (
+  one.0,
+  one.1,
+  all_joined clock_tells repos_tell (J ++ rows_told s.told) one.0 b c steps others one.2
+      (subst (λ (j : List Row). AllAsked clock_tells repos_tell j b others c) (sym (append_assoc J (rows_told s.told) (rows steps))) two),
+)
+
+pub all_one : (clock_tells repos_tell : Bool) (J : List Row) (a b c : Around) (steps : List Step) (s : Step) → AllAsked clock_tells repos_tell J a steps b → Asked clock_tells repos_tell (J ++ rows steps) b s c
+    → AllAsked clock_tells repos_tell J a (steps ++ s ∷ []) c
+all_one clock_tells repos_tell J a b c steps s one asked = all_joined clock_tells repos_tell J a b c steps (s ∷ []) one (c, asked, nothing_here clock_tells repos_tell c)
+
+no_calls : (p : Panel) (frame : Result Frame FrameFault) → AskedInVainOf p frame p
+no_calls p (Ok (Frame.Event e)) = record { calls = []; about = tt; once = omega arith; made = refl }
+no_calls p (Ok (Frame.Faulty seq)) = refl
+no_calls p (Ok Frame.Info) = refl
+no_calls p (Ok Frame.Error) = refl
+no_calls p (Ok Frame.Unknown) = refl
+no_calls p (Err fault) = refl
+
+no_vain : (p : Panel) (behind : List Message) → InVain behind p p
+no_vain p [] = refl
+no_vain p (m ∷ behind) = no_calls p (frame_of m.bytes)
+
+pub nothing_in_vain : (clock_tells repos_tell : Bool) (a b : Around) (behind : List Message) → AskedNothing clock_tells repos_tell a b → CameToNothing clock_tells repos_tell (InVain behind a.panel b.panel) a b
+nothing_in_vain clock_tells repos_tell a b behind none = record {
+  judges = subst (λ (p : Panel). InVain behind a.panel p) (sym none.panel) (no_vain a.panel behind);
+  moments = λ tells. inl (none.moments tells);
+  same = none.same;
+}

@@ -1,0 +1,369 @@
+-- Messages taken one after another, ahead of the disk.
+use Rattle.std.proofs.Common.{◌≡◌, ◌≢◌, inl, inr, ◌⊎◌, ⊎_elim, ℕ, zero, suc, ◌+◌, ◌<◌, ◌≤◌, List, [], ◌∷◌, ◌++◌, length, map, drop, get_or, Bool, true, false, Option, Some, None, Result, Ok, Err, IsTrue, refl, sym, ◌∙◌, ap, subst, arith, append_assoc, length-append}
+use Rattle.std.proofs.lemmas.List.{append-nil, drop_more}
+use Rattle.std.specs.List.{list_all}
+use Rattle.std.proofs.lemmas.Bool.{and_parts}
+use Rattle.at_syntax.specs.Host.{is_host}
+use Rattle.std.specs.Prelude.{⊤}
+use Rattle.at_event.specs.Frames.{frame_of}
+use Rattle.at_event.specs.declared.frame.Frame.{Frame}
+use Rattle.at_event.specs.declared.frame.FrameFault.{FrameFault}
+use Rattle.event_window.specs.declared.place.Place.{Place}
+use Rattle.gate_log.specs.Log.{LogState}
+use Rattle.relay_row.specs.Journal.{IsJournal}
+use Rattle.relay_row.specs.declared.row.Row.{Row}
+use Rattle.relay_core.specs.Decide.{Checks}
+use Rattle.relay_core.specs.Entries.{Holds}
+use Rattle.relay_core.specs.Opening.{OpensRight}
+use Rattle.relay_core.specs.Report.{ended_by}
+use Rattle.relay_core.specs.declared.decision.Pass.{Pass}
+use Rattle.relay_core.specs.declared.journal_state.Core.{Core}
+use Rattle.relay_law.specs.Right.{LinksRight}
+use Rattle.relay_step.specs.Around.{Around, Asked, AllAsked}
+use Rattle.relay_step.specs.Causes.{AskedInVainOf, CameToNothing, IsSpentFor}
+use Rattle.relay_step.specs.Messages.{EndsNumbers, KeepsJournal}
+use Rattle.relay_step.specs.Steps.{Step, Told, after_end, passed_over, took, AreSteps, IsTold, ended_told, ended_by_all, message_of, rows, rows_told, step_of}
+use Rattle.relay_store.specs.Batches.{AreExtra, AskedInTurn, EndsFull, EndsLast, EndsNext, HasEnd, InVain, NoneEnds, StopsAsking, is_end, sent}
+use Rattle.relay_store.specs.Drafts.{Fits, HasRows, IsUnchanged}
+use Rattle.relay_store.specs.Faults.{IsCause}
+use Rattle.relay_store.specs.Outcomes.{outcome_of, outcome_told, passed_outcome}
+use Rattle.relay_store.specs.Places.{places_in}
+use Rattle.relay_store.specs.Taking.{AreAdded, ComesOfAsking, Gathered, IsGathering, IsInVain, IsTaken, IsTooLate, Stopped}
+use Rattle.relay_store.specs.declared.draft.Draft.{Draft}
+use Rattle.relay_store.specs.declared.fault.StoreFault.{StoreFault}
+use Rattle.relay_store.specs.declared.message.Message.{Message}
+use Rattle.relay_store.specs.declared.outcome.Outcome.{Outcome}
+use Rattle.relay_store.proofs.Asks.{all_one, nothing_here, nothing_in_vain}
+use Rattle.relay_store.proofs.Folds.{places_append}
+use Rattle.relay_store.proofs.Nexts.{next_none, next_nothing}
+use Rattle.relay_store.proofs.Runs.{answers_one, ended_joined, ends_none, ends_one, none_one, rows_one, sent_joined, stays_on, steps_one, told_few}
+
+ended_case : (host : List ℕ) (frame : Result Frame FrameFault) (told : Told) (o : Outcome) → outcome_told frame told ≡ Some o → is_end o ≡ false → (checks : Checks) (J : List Row) → IsTold checks J [] (host, frame) told → ended_told told host [] ≡ []
+ended_case host frame after_end o is not checks J right = refl
+ended_case host frame (passed_over pass) o is not checks J right =
+    let same : passed_outcome frame ≡ o = cc in
+    stays_on J host frame pass right.1 (ap is_end same ∙ not)
+ended_case host frame (took t) o is not checks J right = refl
+
+-- a fault that comes of a message alone, by what it is
+extra_of : (f : StoreFault) → ComesOfAsking f → AreExtra (Some f) []
+extra_of StoreFault.Disk of = absurd of
+extra_of (StoreFault.BadLog p) of = absurd of
+extra_of (StoreFault.Full e) of = absurd of
+extra_of StoreFault.SeqEnd of = refl
+extra_of StoreFault.Authority of = refl
+extra_of StoreFault.Repos of = refl
+extra_of StoreFault.Memory of = omega arith
+extra_of StoreFault.Clock of = refl
+
+asks_of : (C R : Bool) (f : StoreFault) (behind : List Message) (b c : Around) → ComesOfAsking f → CameToNothing C R (InVain behind b.panel c.panel) b c → StopsAsking C R (Some f) behind b c
+asks_of C R StoreFault.Disk behind b c of came = absurd of
+asks_of C R (StoreFault.BadLog p) behind b c of came = absurd of
+asks_of C R (StoreFault.Full e) behind b c of came = absurd of
+asks_of C R StoreFault.SeqEnd behind b c of came = came
+asks_of C R StoreFault.Authority behind b c of came = came
+asks_of C R StoreFault.Repos behind b c of came = came
+asks_of C R StoreFault.Memory behind b c of came = came
+asks_of C R StoreFault.Clock behind b c of came = came
+
+full_of : (f : StoreFault) (log : LogState) (steps : List Step) → ComesOfAsking f → EndsFull log steps [] (Some f)
+full_of StoreFault.Disk log steps of = absurd of
+full_of (StoreFault.BadLog p) log steps of = absurd of
+full_of (StoreFault.Full e) log steps of = absurd of
+full_of StoreFault.SeqEnd log steps of = tt
+full_of StoreFault.Authority log steps of = tt
+full_of StoreFault.Repos log steps of = tt
+full_of StoreFault.Memory log steps of = tt
+full_of StoreFault.Clock log steps of = tt
+
+next_of : (f : StoreFault) (state : Core) (m : Message) (left : List Message) (c : Around) → ComesOfAsking f → IsCause (EndsNumbers state m.host (frame_of m.bytes)) (IsSpentFor (frame_of m.bytes) c.panel) ⊤ ⊤ f → EndsNext state (m ∷ left) c.panel (Some f)
+next_of StoreFault.Disk state m left c of cause = absurd of
+next_of (StoreFault.BadLog p) state m left c of cause = absurd of
+next_of (StoreFault.Full e) state m left c of cause = absurd of
+next_of StoreFault.SeqEnd state m left c of cause = cause
+next_of StoreFault.Authority state m left c of cause = cause
+next_of StoreFault.Repos state m left c of cause = tt
+next_of StoreFault.Memory state m left c of cause = tt
+next_of StoreFault.Clock state m left c of cause = tt
+
+pub vain_not_disk : (f : StoreFault) → ComesOfAsking f → Some f ≢ Some StoreFault.Disk
+vain_not_disk StoreFault.Disk of is = of
+vain_not_disk (StoreFault.BadLog p) of is = of
+vain_not_disk (StoreFault.Full e) of is = of
+vain_not_disk StoreFault.SeqEnd of is = let no : ⊥ = cc in no
+vain_not_disk StoreFault.Authority of is = let no : ⊥ = cc in no
+vain_not_disk StoreFault.Repos of is = let no : ⊥ = cc in no
+vain_not_disk StoreFault.Memory of is = let no : ⊥ = cc in no
+vain_not_disk StoreFault.Clock of is = let no : ⊥ = cc in no
+
+pub late_not_disk : (log : LogState) (d : Draft) (told : Told) (f : StoreFault) → IsTooLate log d told f → Some f ≢ Some StoreFault.Disk
+late_not_disk log d told StoreFault.Disk late is = late
+late_not_disk log d told (StoreFault.BadLog p) late is = late
+late_not_disk log d told (StoreFault.Full e) late is = let no : ⊥ = cc in no
+late_not_disk log d told StoreFault.SeqEnd late is = late
+late_not_disk log d told StoreFault.Authority late is = late
+late_not_disk log d told StoreFault.Repos late is = late
+late_not_disk log d told StoreFault.Memory late is = let no : ⊥ = cc in no
+late_not_disk log d told StoreFault.Clock late is = late
+
+late_extra : (log : LogState) (d : Draft) (told : Told) (f : StoreFault) (s : Step) → IsTooLate log d told f → AreExtra (Some f) (s ∷ [])
+late_extra log d told StoreFault.Disk s late = absurd late
+late_extra log d told (StoreFault.BadLog p) s late = absurd late
+late_extra log d told (StoreFault.Full e) s late = refl
+late_extra log d told StoreFault.SeqEnd s late = absurd late
+late_extra log d told StoreFault.Authority s late = absurd late
+late_extra log d told StoreFault.Repos s late = absurd late
+late_extra log d told StoreFault.Memory s late = omega arith
+late_extra log d told StoreFault.Clock s late = absurd late
+
+late_asks : (C R : Bool) (log : LogState) (d : Draft) (told : Told) (f : StoreFault) (behind : List Message) (c : Around) → IsTooLate log d told f → StopsAsking C R (Some f) behind c c
+late_asks C R log d told StoreFault.Disk behind c late = absurd late
+late_asks C R log d told (StoreFault.BadLog p) behind c late = absurd late
+late_asks C R log d told (StoreFault.Full e) behind c late = nothing_here C R c
+late_asks C R log d told StoreFault.SeqEnd behind c late = absurd late
+late_asks C R log d told StoreFault.Authority behind c late = absurd late
+late_asks C R log d told StoreFault.Repos behind c late = absurd late
+late_asks C R log d told StoreFault.Memory behind c late = nothing_in_vain C R c c behind (nothing_here C R c)
+late_asks C R log d told StoreFault.Clock behind c late = absurd late
+
+late_full : (log : LogState) (d : Draft) (told : Told) (f : StoreFault) (steps : List Step) (s : Step) → s.told ≡ told → HasRows (rows steps) d → IsTooLate log d told f → EndsFull log steps (s ∷ []) (Some f)
+late_full log d told StoreFault.Disk steps s same has late = absurd late
+late_full log d told (StoreFault.BadLog p) steps s same has late = absurd late
+late_full log d told (StoreFault.Full e) steps s same has late = (late.0, append-nil (rows_told s.told) ∙ ap rows_told same ∙ late.1, late.2 (rows steps) has)
+late_full log d told StoreFault.SeqEnd steps s same has late = absurd late
+late_full log d told StoreFault.Authority steps s same has late = absurd late
+late_full log d told StoreFault.Repos steps s same has late = absurd late
+late_full log d told StoreFault.Memory steps s same has late = tt
+late_full log d told StoreFault.Clock steps s same has late = absurd late
+
+late_next : (log : LogState) (d : Draft) (told : Told) (f : StoreFault) (state : Core) (behind : List Message) (c : Around) → IsTooLate log d told f → EndsNext state behind c.panel (Some f)
+late_next log d told StoreFault.Disk state behind c late = absurd late
+late_next log d told (StoreFault.BadLog p) state behind c late = absurd late
+late_next log d told (StoreFault.Full e) state behind c late = next_none state behind c.panel (StoreFault.Full e) tt
+late_next log d told StoreFault.SeqEnd state behind c late = absurd late
+late_next log d told StoreFault.Authority state behind c late = absurd late
+late_next log d told StoreFault.Repos state behind c late = absurd late
+late_next log d told StoreFault.Memory state behind c late = next_none state behind c.panel StoreFault.Memory tt
+late_next log d told StoreFault.Clock state behind c late = absurd late
+
+-- nothing was learned since
+unchanged_gathered : (C R : Bool) (log : LogState) (group left : List Message) (state state_mid state_now : Core) (places places_mid places_now : List Place) (d d_now : Draft) (a b : Around) (outcomes : List Outcome)
+    → Gathered C R log group left state state_mid places places_mid d a b outcomes → IsUnchanged state_mid state_now places_mid places_now d d_now → Fits log d_now → Gathered C R log group left state state_now places places_now d_now a b outcomes
+unchanged_gathered C R log group left state state_mid state_now places places_mid places_now d d_now a b outcomes g same fits = record {
+  steps = g.steps;
+  front = g.front;
+  are = g.are;
+  journal = g.journal;
+  answers = g.answers;
+  asked = g.asked;
+  core = λ J holds. same.core (J ++ rows g.steps) (g.core J holds);
+  window = same.window ∙ g.window;
+  draft = record {
+    begun = omega (arith, g.draft.begun, ap length same.body);
+    spelled_are = ap (λ (l : List ℕ). drop 6 l) same.body ∙ g.draft.spelled_are;
+    count = same.count ∙ g.draft.count;
+  };
+  few = g.few;
+  fits = fits;
+}
+
+pub host_at : (group : List Message) (i : ℕ) (item : Message) → list_all (λ m. is_host m.host) group ≡ true → i < length group → item ≡ get_or group i item → is_host item.host ≡ true
+host_at [] i item all less is = absurd (omega (arith, less))
+host_at (m ∷ group) zero item all less is = ap (λ (x : Message). is_host x.host) is ∙ (and_parts (is_host m.host) (list_all (λ m. is_host m.host) group) all).0
+host_at (m ∷ group) (suc i) item all less is = host_at group i item (and_parts (is_host m.host) (list_all (λ m. is_host m.host) group) all).1 (omega (arith, less)) is
+
+module _ (C R : Bool) (log : LogState) (group : List Message) where
+  pub at_start : (state : Core) (places : List Place) (d : Draft) (a : Around) (outcomes : List Outcome) → HasRows [] d → outcomes ≡ [] → IsGathering C R log group group state state places places d a a outcomes
+  at_start state places d a outcomes has none = record {
+    gathered = record {
+      steps = [];
+      front = refl;
+      are = λ checks J opens links holds. tt;
+      journal = λ J holds is. subst IsJournal (sym (append-nil J)) is;
+      answers = ap (λ (os : List Outcome). map Some os) none;
+      asked = λ J holds. nothing_here C R a;
+      core = λ J holds. subst (Holds state) (sym (append-nil J)) holds;
+      window = sym (append-nil places);
+      draft = has;
+      few = omega arith;
+      fits = inl has.count;
+    };
+    none_ended = λ checks J opens links holds. refl;
+    none_ends = subst NoneEnds (sym none) tt;
+  }
+
+  pub at_next : (i : ℕ) (item m : Message) (state state_now : Core) (places places_now : List Place) (d : Draft) (a b : Around) (outcomes : List Outcome) → i < length group → item ≡ get_or group i item → m ≡ item
+      → IsGathering C R log group (drop i group) state state_now places places_now d a b outcomes → IsGathering C R log group (m ∷ drop (i + 1) group) state state_now places places_now d a b outcomes
+  at_next i item m state state_now places places_now d a b outcomes less is same so_far =
+      subst (λ (l : List Message). IsGathering C R log group l state state_now places places_now d a b outcomes)
+      (drop_more group i item less ∙ ap (λ (x : Message). x ∷ drop (i + 1) group) (sym is ∙ sym same)) so_far
+
+  module _ (left : List Message) (state state_now : Core) (places places_now : List Place) (d : Draft) (a b : Around) (outcomes : List Outcome) (so_far : IsGathering C R log group left state state_now places places_now d a b outcomes) where
+    -- nothing more is taken
+    pub stops_here : (fault : Option StoreFault) → AreExtra fault [] → (fault ≡ None → (left ≡ []) ⊎ HasEnd outcomes) → ((c : Around) → StopsAsking C R fault left c c) → EndsFull log so_far.gathered.steps [] fault → EndsNext state_now left b.panel fault
+        → Stopped C R log group state state_now places places_now d a b outcomes fault
+    stops_here fault which all asks full next =
+        let g = so_far.gathered in
+        record {
+          left = left;
+          now = b;
+          gathered = g;
+          extra = [];
+          behind = left;
+          which = which;
+          next = refl;
+          are = λ checks J opens links holds. subst (AreSteps checks J []) (sym (append-nil g.steps)) (g.are checks J opens links holds);
+          journal = subst (λ (l : List Step). KeepsJournal state (rows l)) (sym (append-nil g.steps)) g.journal;
+          ends = ends_none outcomes so_far.none_ends;
+          all = all;
+          asked = λ J holds. record { mid = b; turns = subst (λ (l : List Step). AllAsked C R J a l b) (sym (append-nil g.steps)) (g.asked J holds); stops = asks b };
+          full = full;
+          ends_next = next;
+        }
+
+  module _ (m : Message) (left : List Message) (state state_mid : Core) (places places_mid : List Place) (d : Draft) (a b : Around) (outcomes : List Outcome)
+      (so_far : IsGathering C R log group (m ∷ left) state state_mid places places_mid d a b outcomes) where
+    module _ (told : Told) (c : Around) (taken : IsTaken C R state_mid m.host m.bytes told b c) where
+      are_now : (checks : Checks) (J : List Row) → OpensRight checks → LinksRight checks → Holds state J → AreSteps checks J [] (so_far.gathered.steps ++ step_of m.host m.bytes told ∷ [])
+      are_now checks J opens links holds =
+          let g = so_far.gathered in
+          steps_one checks J [] g.steps (step_of m.host m.bytes told) (g.are checks J opens links holds)
+          (subst (λ (ended : List (List ℕ)). IsTold checks (J ++ rows g.steps) ended (m.host, frame_of m.bytes) told) (sym (so_far.none_ended checks J opens links holds)) (taken.decided checks (J ++ rows g.steps) opens links (g.core J holds)))
+
+      journal_now : KeepsJournal state (rows (so_far.gathered.steps ++ step_of m.host m.bytes told ∷ []))
+      journal_now = λ J holds is.
+          let g = so_far.gathered in
+          subst IsJournal (append_assoc J (rows g.steps) (rows_told told) ∙ ap (λ (l : List Row). J ++ l) (sym (rows_one g.steps (step_of m.host m.bytes told))))
+          (taken.journal (J ++ rows g.steps) (g.core J holds) (g.journal J holds is))
+
+      asked_now : (J : List Row) → Holds state J → AllAsked C R J a (so_far.gathered.steps ++ step_of m.host m.bytes told ∷ []) c
+      asked_now J holds = let g = so_far.gathered in all_one C R J a b c g.steps (step_of m.host m.bytes told) (g.asked J holds) (taken.asked (J ++ rows g.steps) (g.core J holds))
+
+      front_now : group ≡ sent (so_far.gathered.steps ++ step_of m.host m.bytes told ∷ []) ++ left
+      front_now =
+          let g = so_far.gathered in
+          g.front ∙ sym (append_assoc (sent g.steps) (m ∷ []) left) ∙ ap (λ (l : List Message). l ++ left) (sym (sent_joined g.steps (step_of m.host m.bytes told ∷ [])))
+
+      module _ (state_now : Core) (places_now : List Place) (d_now : Draft) where
+        -- the message's row is learned, if it made one
+        pub gathered_more : (o : Outcome) → outcome_told (frame_of m.bytes) told ≡ Some o → AreAdded log.end (rows_told told) state_mid state_now places_mid places_now d d_now → Fits log d_now
+            → Gathered C R log group left state state_now places places_now d_now a c (outcomes ++ o ∷ [])
+        gathered_more o is added fits =
+            let g = so_far.gathered in
+            let more = rows_one g.steps (step_of m.host m.bytes told) in
+            record {
+              steps = g.steps ++ step_of m.host m.bytes told ∷ [];
+              front = front_now;
+              are = are_now;
+              journal = journal_now;
+              answers = answers_one outcomes g.steps o (step_of m.host m.bytes told) g.answers is;
+              asked = asked_now;
+              core = λ J holds. subst (Holds state_now) (append_assoc J (rows g.steps) (rows_told told) ∙ ap (λ (l : List Row). J ++ l) (sym more)) (added.core (J ++ rows g.steps) (g.core J holds));
+              window = added.window ∙ ap (λ (l : List Place). l ++ places_in log.end d.count (rows_told told)) g.window ∙ append_assoc places (places_in log.end 0 (rows g.steps)) (places_in log.end d.count (rows_told told))
+                  ∙ ap (λ (l : List Place). places ++ l) (sym (places_append log.end 0 d.count (rows g.steps) (rows_told told) (omega (arith, g.draft.count)))) ∙ ap (λ (l : List Row). places ++ places_in log.end 0 l) (sym more);
+              draft = subst (λ (l : List Row). HasRows l d_now) (sym more) (added.draft (rows g.steps) g.draft);
+              few = omega (arith, g.few, ap length more, length-append (rows g.steps) (rows_told told), told_few told);
+              fits = fits;
+            }
+
+        ended_not : (o : Outcome) → outcome_told (frame_of m.bytes) told ≡ Some o → is_end o ≡ false → (checks : Checks) (J : List Row) → IsTold checks J [] (m.host, frame_of m.bytes) told → ended_told told m.host [] ≡ []
+        ended_not o is not checks J right = ended_case m.host (frame_of m.bytes) told o is not checks J right
+
+        pub gathering_more : (o : Outcome) → outcome_told (frame_of m.bytes) told ≡ Some o → AreAdded log.end (rows_told told) state_mid state_now places_mid places_now d d_now → Fits log d_now → is_end o ≡ false
+            → IsGathering C R log group left state state_now places places_now d_now a c (outcomes ++ o ∷ [])
+        unfolding gathered_more
+        gathering_more o is added fits not = record {
+          gathered = gathered_more o is added fits;
+          none_ended = λ checks J opens links holds.
+              let g = so_far.gathered in
+              ended_joined g.steps (step_of m.host m.bytes told ∷ []) [] ∙ ap (λ (ended : List (List ℕ)). ended_told told m.host ended) (so_far.none_ended checks J opens links holds)
+              ∙ ended_not o is not checks (J ++ rows g.steps) (taken.decided checks (J ++ rows g.steps) opens links (g.core J holds));
+          none_ends = none_one outcomes o so_far.none_ends not;
+        }
+
+        -- and its host ended with it
+        pub gathering_ends : (o : Outcome) → outcome_told (frame_of m.bytes) told ≡ Some o → AreAdded log.end (rows_told told) state_mid state_now places_mid places_now d d_now → Fits log d_now → is_end o ≡ true
+            → Stopped C R log group state state_now places places_now d_now a c (outcomes ++ o ∷ []) None
+        gathering_ends o is added fits ends =
+            let g = gathered_more o is added fits in
+            record {
+              left = left;
+              now = c;
+              gathered = g;
+              extra = [];
+              behind = left;
+              which = refl;
+              next = refl;
+              are = λ checks J opens links holds. subst (AreSteps checks J []) (sym (append-nil g.steps)) (g.are checks J opens links holds);
+              journal = subst (λ (l : List Step). KeepsJournal state (rows l)) (sym (append-nil g.steps)) g.journal;
+              ends = ends_one outcomes o so_far.none_ends;
+              all = λ none. inr (outcomes, o, refl, ends);
+              asked = λ J holds. record { mid = c; turns = subst (λ (l : List Step). AllAsked C R J a l c) (sym (append-nil g.steps)) (g.asked J holds); stops = nothing_here C R c };
+              full = tt;
+              ends_next = next_nothing state_now left c.panel;
+            }
+
+        -- and none is left
+        pub gathering_last : (o : Outcome) → outcome_told (frame_of m.bytes) told ≡ Some o → AreAdded log.end (rows_told told) state_mid state_now places_mid places_now d d_now → Fits log d_now → left ≡ []
+            → Stopped C R log group state state_now places places_now d_now a c (outcomes ++ o ∷ []) None
+        gathering_last o is added fits last =
+            let g = gathered_more o is added fits in
+            record {
+              left = left;
+              now = c;
+              gathered = g;
+              extra = [];
+              behind = left;
+              which = refl;
+              next = refl;
+              are = λ checks J opens links holds. subst (AreSteps checks J []) (sym (append-nil g.steps)) (g.are checks J opens links holds);
+              journal = subst (λ (l : List Step). KeepsJournal state (rows l)) (sym (append-nil g.steps)) g.journal;
+              ends = ends_one outcomes o so_far.none_ends;
+              all = λ none. inl last;
+              asked = λ J holds. record { mid = c; turns = subst (λ (l : List Step). AllAsked C R J a l c) (sym (append-nil g.steps)) (g.asked J holds); stops = nothing_here C R c };
+              full = tt;
+              ends_next = next_nothing state_now left c.panel;
+            }
+
+        -- its row found no room, or no memory
+        pub stops_late : (f : StoreFault) → IsUnchanged state_mid state_now places_mid places_now d d_now → Fits log d_now → IsTooLate log d told f → Stopped C R log group state state_now places places_now d_now a c outcomes (Some f)
+        unfolding unchanged_gathered
+        stops_late f same fits late = record {
+          left = m ∷ left;
+          now = b;
+          gathered = unchanged_gathered C R log group (m ∷ left) state state_mid state_now places places_mid places_now d d_now a b outcomes so_far.gathered same fits;
+          extra = step_of m.host m.bytes told ∷ [];
+          behind = left;
+          which = late_extra log d told f (step_of m.host m.bytes told) late;
+          next = refl;
+          are = are_now;
+          journal = journal_now;
+          ends = ends_none outcomes so_far.none_ends;
+          all = λ none. let no : ⊥ = cc in absurd no;
+          asked = λ J holds. record { mid = c; turns = asked_now J holds; stops = late_asks C R log d told f left c late };
+          full = late_full log d told f so_far.gathered.steps (step_of m.host m.bytes told) refl so_far.gathered.draft late;
+          ends_next = late_next log d told f state_now left c late;
+        }
+
+    -- a fault came of the message alone
+    pub stops_in_vain : (state_now : Core) (places_now : List Place) (d_now : Draft) (c : Around) (f : StoreFault) → IsUnchanged state_mid state_now places_mid places_now d d_now → Fits log d_now → IsInVain C R state_mid state_now m.host m.bytes b c f
+        → Stopped C R log group state state_now places places_now d_now a c outcomes (Some f)
+    unfolding unchanged_gathered
+    stops_in_vain state_now places_now d_now c f same fits vain =
+        let g = unchanged_gathered C R log group (m ∷ left) state state_mid state_now places places_mid places_now d d_now a b outcomes so_far.gathered same fits in
+        record {
+          left = m ∷ left;
+          now = b;
+          gathered = g;
+          extra = [];
+          behind = m ∷ left;
+          which = extra_of f vain.of_asking;
+          next = refl;
+          are = λ checks J opens links holds. subst (AreSteps checks J []) (sym (append-nil so_far.gathered.steps)) (so_far.gathered.are checks J opens links holds);
+          journal = subst (λ (l : List Step). KeepsJournal state (rows l)) (sym (append-nil so_far.gathered.steps)) so_far.gathered.journal;
+          ends = ends_none outcomes so_far.none_ends;
+          all = λ none. let no : ⊥ = cc in absurd no;
+          asked = λ J holds. record { mid = b; turns = subst (λ (l : List Step). AllAsked C R J a l b) (sym (append-nil so_far.gathered.steps)) (so_far.gathered.asked J holds); stops = asks_of C R f (m ∷ left) b c vain.of_asking vain.asked };
+          full = full_of f log so_far.gathered.steps vain.of_asking;
+          ends_next = next_of f state_now m left c vain.of_asking (subst (λ (k : Core). IsCause (EndsNumbers k m.host (frame_of m.bytes)) (IsSpentFor (frame_of m.bytes) c.panel) ⊤ ⊤ f) (sym vain.same) vain.ends);
+        }

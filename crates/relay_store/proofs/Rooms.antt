@@ -1,0 +1,70 @@
+-- Whether a row has room.
+use Rattle.std.proofs.Common.{◌≡◌, ℕ, ◌+◌, ◌-◌, ◌≤◌, ◌<◌, ◌⊎◌, inl, inr, List, [], ◌∷◌, ◌++◌, length, drop, refl, sym, ◌∙◌, ap, subst, arith, length-append, length-drop, Result, Err, Bool, true, false}
+use Rattle.std.specs.Prelude.{◌==◌, ◌↔◌}
+use Rattle.std.proofs.lemmas.Bool.Decides.{nat_tests}
+use Rattle.at_cbor.specs.declared.major.Major.{Major}
+use Rattle.at_cbor.specs.Spelling.{front_of}
+use Rattle.gate_log.specs.Log.{LogState}
+use Rattle.gate_log.specs.declared.fault.LogFault.{LogFault}
+use Rattle.gate_log.specs.declared.drafts.TheConstants.{AHEAD}
+use Rattle.gate_log.specs.declared.limits.TheConstants.{AROUND_BODY, BEFORE_BODY}
+use Rattle.relay_row.specs.Bodies.{body_of, row_spelling, spelled}
+use Rattle.relay_row.specs.declared.row.Row.{Row}
+use Rattle.relay_row.proofs.Bodies.{spelled_joined}
+use Rattle.relay_store.specs.Drafts.{Fits, FitsWith, HasRows, IsFull, IsFullWith, behind, behind_draft, draft_body, end_of, length_with}
+use Rattle.relay_store.specs.declared.draft.Draft.{Draft}
+use Rattle.relay_store.proofs.Spellings.{draft_is, length_body, length_one}
+
+-- a log that has no room for a body says where it would end
+pub past_end : (r : Result (Unit {0}) LogFault) (bound most : ℕ) → ((e : ℕ) → (r ≡ Err (LogFault.Full e)) ↔ ((e ≡ bound) × (most < e)))
+    → (r ≡ Err LogFault.Disk → ⊥) → ((p : ℕ) → r ≡ Err (LogFault.BadLog p) → ⊥) → (r ≡ Err LogFault.Memory → ⊥) → (f : LogFault) → r ≡ Err f → most < bound
+past_end r bound most full disk bad memory LogFault.Disk is = absurd (disk is)
+past_end r bound most full disk bad memory (LogFault.BadLog p) is = absurd (bad p is)
+past_end r bound most full disk bad memory (LogFault.Full e) is = let past = (full e).0 is in omega (arith, past.0, past.1)
+past_end r bound most full disk bad memory LogFault.Memory is = absurd (memory is)
+
+pub behind_none : (end : ℕ) (d : Draft) → d.count ≡ 0 → behind_draft end d ≡ end
+behind_none end d none = rw none refl
+
+pub behind_some : (end : ℕ) (d : Draft) → (d.count ≡ 0 → ⊥) → behind_draft end d ≡ end + BEFORE_BODY + length (draft_body d)
+behind_some end d some = let test : (d.count == 0) ≡ false = grind (arith, nat_tests) in rw test refl
+
+pub length_draft : (d : Draft) → length (draft_body d) ≡ length (front_of Major.List d.count) + (length d.body - AHEAD)
+length_draft d = omega (arith, length-append (front_of Major.List d.count) (drop AHEAD d.body), length-drop AHEAD d.body)
+
+pub length_more : (d : Draft) → length_with d ≡ length (front_of Major.List (d.count + 1)) + ((length d.body - AHEAD) + length d.row)
+length_more d = omega (arith, length-drop AHEAD d.body)
+
+behind_is : (end : ℕ) (rows : List Row) (d : Draft) → HasRows rows d → behind_draft end d ≡ behind end rows
+behind_is end [] d has = behind_none end d has.count
+behind_is end (row ∷ rows) d has =
+    let some : d.count ≡ 0 → ⊥ = λ none. absurd (omega (arith, none, has.count)) in
+    behind_some end d some ∙ ap (λ (b : List ℕ). end + BEFORE_BODY + length b) (draft_is (row ∷ rows) d has)
+
+-- the body with the row that is spelled beside it
+with_row : (rows : List Row) (row : Row) (d : Draft) → HasRows rows d → d.row ≡ row_spelling row → length_with d ≡ length (body_of (rows ++ row ∷ []))
+with_row rows row d has is =
+    let count : length (rows ++ row ∷ []) ≡ d.count + 1 = omega (arith, length-append rows (row ∷ []), has.count) in
+    let front = ap (λ (n : ℕ). length (front_of Major.List n)) count in
+    omega (
+      arith,
+      front,
+      length_body (rows ++ row ∷ []),
+      ap length (spelled_joined rows (row ∷ [])),
+      length-append (spelled rows) (row_spelling row ++ []),
+      length-append (row_spelling row) [],
+      ap length has.spelled_are,
+      ap length is,
+    )
+
+pub full_of : (log : LogState) (rows : List Row) (row : Row) (d : Draft) (e : ℕ) → HasRows rows d → d.row ≡ row_spelling row → IsFullWith log d e → IsFull log rows row e
+full_of log rows row d e has is full = record {
+  there = omega (arith, full.there, behind_is log.end rows d has, length_one row, ap length is);
+  past = omega (arith, full.past, with_row rows row d has is);
+}
+
+pub fits_more : (log : LogState) (d d_now : Draft) → AHEAD ≤ length d.body → FitsWith log d → d_now.body ≡ d.body ++ d.row → d_now.count ≡ d.count + 1 → Fits log d_now
+fits_more log d d_now begun fits body count =
+    let front = ap (λ (n : ℕ). length (front_of Major.List n)) count in
+    let same : length (draft_body d_now) ≡ length_with d = omega (arith, front, length_draft d_now, length_more d, ap length body, length-append d.body d.row, begun) in
+    inr (omega (arith, same, fits.fits), omega (arith, same, fits.short))

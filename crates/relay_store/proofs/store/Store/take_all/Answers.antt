@@ -1,0 +1,36 @@
+use Rattle.std.proofs.Common.{rules, ◌≡◌, Some, refl}
+use Rattle.relay_store.specs.Store.{seen_in}
+use Rattle.relay_store.specs.declared.fault.StoreFault.{StoreFault}
+use Rattle.relay_store.proofs.Batched.{batched, batched_fails_as, batched_none, few_rows, has_rows, of_kept}
+use Rattle.relay_store.proofs.store.Store.take_all.Goals as goal
+
+pub commit-requires-clause-rows : goal.commit-requires-clause-rows
+commit-requires-clause-rows g c = has_rows _ _ _ _ _ _ _ _ _ _ _ _ _ c.gather-fault.ensures.stopped c.args.self.now.side
+
+pub commit-requires-clause-few : goal.commit-requires-clause-few
+commit-requires-clause-few g c = few_rows _ _ _ _ _ _ _ _ _ _ _ _ _ c.gather-fault.ensures.stopped c.args.self.now.side c.requires.few
+
+pub commit-requires-clause-fits : goal.commit-requires-clause-fits
+commit-requires-clause-fits g c = c.gather-fault.ensures.stopped.gathered.fits
+
+pub returns-in-Err-clause-batched : goal.returns-in-Err-clause-batched
+returns-in-Err-clause-batched g c = λ J of. batched_none g.D.Disk.view _ _ _ J c.args.group.now _ _ _ _ c.args.disk.now _ _ c.new-outcomes.ensures.items (g.met.D.Disk.is_disk c.args.disk.now) of
+
+pub returns-in-Ok-commit-clause-batched : goal.returns-in-Ok-commit-clause-batched
+returns-in-Ok-commit-clause-batched g c =
+    batched _ _ _ _ _ _ _ _ _ _ _ _ _ c.gather-fault.ensures.stopped c.args.self.now.side g.D.Disk.view g.D.Disk.tells c.args.disk.now c.commit.new.disk c.commit.new.log
+    (λ tells J rows has on. c.commit.ensures.moments tells J rows _ _ has on) c.commit.ensures.untouched
+    c.gather-fault.ensures.no_disk (λ tells J rows has on. c.in-Ok-commit.ensures.added tells J rows _ _ has on)
+
+pub returns-in-Ok-commit-clause-on : goal.returns-in-Ok-commit-clause-on
+returns-in-Ok-commit-clause-on g c = λ not tells.
+    let on = c.requires.on tells in
+    let done = returns-in-Ok-commit-clause-batched g c on.0 (of_kept (seen_in c.args.self.now) _ on) in
+    (_, done.keeps not tells on.1)
+
+pub returns-in-Err-commit-clause-batched : goal.returns-in-Err-commit-clause-batched
+returns-in-Err-commit-clause-batched g c =
+    let failed : Some c.in-Err-commit.fault ≡ Some StoreFault.Disk = search rules in
+    batched_fails_as _ _ _ _ _ _ _ _ _ _ _ _ _ c.gather-fault.ensures.stopped c.args.self.now.side g.D.Disk.view g.D.Disk.tells c.args.disk.now c.commit.new.disk c.commit.new.log
+    (λ tells J rows has on. c.commit.ensures.moments tells J rows _ _ has on) c.commit.ensures.untouched
+    c.new.result.items (Some c.in-Err-commit.fault) c.new.ensures.items failed

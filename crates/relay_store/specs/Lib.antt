@@ -1,0 +1,11 @@
+pub mod Journals
+pub mod Places
+pub mod Store
+pub mod Outcomes
+pub mod Drafts
+pub mod Opening
+pub mod Batches
+pub mod Taking
+pub mod Words
+pub mod Faults
+pub mod Shown

@@ -1,0 +1,45 @@
+-- What is answered to messages (own).
+use Rattle.std.specs.Prelude.{ℕ, List, Option, Some, None, Result, Ok, Err, ◌==◌, if◌then◌else◌}
+use Rattle.at_event.specs.Frames.{frame_of}
+use Rattle.at_event.specs.declared.frame.Frame.{Frame}
+use Rattle.at_event.specs.declared.frame.FrameFault.{FrameFault}
+use Rattle.at_event.specs.declared.refusal.Refusal.{Refusal}
+use Rattle.relay_row.specs.declared.fetched.Fetched.{Fetched}
+use Rattle.relay_row.specs.declared.taken.Taken.{Taken}
+use Rattle.relay_step.specs.Steps.{Told, after_end, passed_over, took, Step}
+use Rattle.relay_store.specs.declared.outcome.End.{End}
+use Rattle.relay_store.specs.declared.outcome.Fetch.{Fetch}
+use Rattle.relay_store.specs.declared.outcome.Outcome.{Outcome}
+
+abbrev pub fetch_in : Fetched → Fetch
+fetch_in Fetched.NotAsked = Fetch.NotAsked
+fetch_in Fetched.Absent = Fetch.Absent
+fetch_in (Fetched.Refused n) = Fetch.Refused n
+fetch_in (Fetched.Whole w) = Fetch.Whole w.seq w.records
+
+abbrev pub outcome_as : Option Refusal → Taken → Outcome
+outcome_as None t = if t.seq == 0 then Outcome.Held t.host_seq else Outcome.Event t.host_seq t.seq
+outcome_as (Some r) t = Outcome.Refused t.host_seq r (fetch_in t.fetched)
+
+-- of a message that makes a row
+abbrev pub taken_outcome : Taken → Outcome
+taken_outcome t = outcome_as t.refusal t
+
+-- of a message that makes none, as it reads
+abbrev pub passed_outcome : Result Frame FrameFault → Outcome
+passed_outcome (Ok (Frame.Event e)) = Outcome.Old e.seq
+passed_outcome (Ok (Frame.Faulty seq)) = Outcome.Old seq
+passed_outcome (Ok Frame.Info) = Outcome.Info
+passed_outcome (Ok Frame.Unknown) = Outcome.Unknown
+passed_outcome (Ok Frame.Error) = Outcome.Ended End.Error
+passed_outcome (Err FrameFault.NoSeq) = Outcome.Ended End.NoSeq
+passed_outcome (Err fault) = Outcome.Ended End.BadFrame
+
+-- nothing is answered to a message of a host that ended before
+abbrev pub outcome_told : Result Frame FrameFault → Told → Option Outcome
+outcome_told frame after_end = None
+outcome_told frame (passed_over pass) = Some (passed_outcome frame)
+outcome_told frame (took t) = Some (taken_outcome t)
+
+abbrev pub outcome_of : Step → Option Outcome
+outcome_of s = outcome_told (frame_of s.bytes) s.told

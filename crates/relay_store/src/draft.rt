@@ -1,0 +1,58 @@
+//! The body that is put together while steps are taken.
+
+ghost use Rattle.std.specs.Prelude.{◌≡◌, ◌≤◌, ◌<◌, [], length, take, OnOk};
+ghost use Rattle.at_cbor.specs.declared.major.Major.{Major};
+ghost use Rattle.at_cbor.specs.Spelling.{front_of};
+ghost use Rattle.gate_log.specs.declared.drafts.TheConstants.{HEAD};
+ghost use Rattle.relay_row.specs.declared.limits.TheConstants.{MOST_ROWS};
+ghost use Rattle.relay_store.specs.Drafts.{HasRows};
+
+use at_cid::{Memory, Octets};
+use gate_log::{HEAD, begin};
+use std::alloc::Global;
+
+/// The rows of a body under way, as they are spelled, behind the room for what stands ahead of them; and room for one more row.
+#[derive(Drop)]
+pub(crate) struct Draft {
+    pub(crate) body: Octets,
+    pub(crate) row: Octets,
+    pub(crate) count: usize,
+}
+
+impl Draft {
+    pub(crate) fn new(alloc: Global) -> Draft {
+        Draft {
+            body: Octets::new(alloc),
+            row: Octets::new(alloc),
+            count: 0,
+        }
+    }
+
+    /// Drops what was put together.
+    pub(crate) fn start(&mut self) -> Result<(), Memory>
+        ensures { OnOk result (HasRows [] self.new) }
+    {
+        self.count = 0;
+        begin(&mut self.body)
+    }
+}
+
+/// The front of a list of so many rows, with a byte behind it where it has one alone.
+pub(crate) fn list_front(count: usize) -> [u8; HEAD]
+    requires { count ≤ MOST_ROWS }
+    ensures { take (length (front_of Major.List count)) result ≡ front_of Major.List count }
+{
+    if count < 24 {
+        return [128 + count as u8, 0];
+    }
+    [152, count as u8]
+}
+
+/// How long it is.
+pub(crate) fn list_front_len(count: usize) -> usize
+    requires { count ≤ MOST_ROWS }
+    ensures len { result ≡ length (front_of Major.List count) }
+    ensures short { result ≤ HEAD }
+{
+    if count < 24 { 1 } else { 2 }
+}

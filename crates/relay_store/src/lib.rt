@@ -1,0 +1,27 @@
+//! The relay's journal on a pair of disks: messages of hosts and operators' words are taken one after another, each with its row or
+//! none, and its events are read back.
+#![tactic(auto)]
+
+mod adding;
+mod committing;
+mod done;
+mod draft;
+mod fault;
+mod gathering;
+mod laws;
+mod learning;
+mod loading;
+mod message;
+mod opening;
+mod outcome;
+mod preparing;
+mod store;
+mod taking;
+
+pub use done::Done;
+pub use fault::StoreFault;
+pub use laws::{faults_are_no_journals, faults_have_one_place, pairs_have_one_journal};
+pub use message::Message;
+pub use outcome::{End, Fetch, Outcome};
+pub use store::Store;
+pub use taking::Batch;

@@ -1,0 +1,129 @@
+//! Reading a log's bodies back.
+
+ghost use Rattle.std.specs.Prelude.{◌≡◌, ◌≤◌, ◌<◌, ◌+◌, ◌++◌, ◌∷◌, [], ℕ, List, length, true, IsTrue, IfOk, OnOk};
+ghost use Rattle.std.specs.List.{list_all};
+ghost use Rattle.at_cid.specs.Counts.{Rose};
+ghost use Rattle.relay_disk.specs.Disk.{Goes, Same};
+ghost use Rattle.gate_log.specs.Image.{made};
+ghost use Rattle.gate_log.specs.Log.{Holds as HasBodies, IsOn};
+ghost use Rattle.gate_log.specs.declared.limits.TheConstants.{BEFORE_BODY};
+ghost use Rattle.relay_row.specs.Journal.{IsJournal};
+ghost use Rattle.relay_row.specs.Rules.{is_row};
+ghost use Rattle.relay_row.specs.declared.fault.RowFault.{RowFault};
+ghost use Rattle.relay_row.specs.declared.limits.TheConstants.{MOST_ROWS};
+ghost use Rattle.relay_row.specs.declared.row.Row.{Row as TheRow};
+ghost use Rattle.relay_core.specs.Entries.{Holds};
+ghost use Rattle.relay_store.specs.Opening.{IsLearned, IsBadBody, IsLoaded, IsBadAmong, IsOfReading};
+ghost use Rattle.relay_store.specs.Places.{places_in};
+ghost use Rattle.relay_store.specs.declared.fault.StoreFault.{StoreFault as TheFault};
+
+use crate::StoreFault;
+use crate::learning::{learn, make_room};
+use event_window::Window;
+use gate_log::Log;
+use relay_core::Core;
+use relay_disk::Disk;
+use relay_row::{Row, RowFault, read_rows};
+use std::alloc::Global;
+use std::collections::VecDeque;
+
+// Learns the rows of the body at this place.
+fn learn_rows(
+    core: &mut Core,
+    window: &mut Window,
+    place: u64,
+    rows: Vec<Row>,
+) -> Result<(), RowFault>
+    requires few { length rows.items ≤ MOST_ROWS }
+    requires formed { list_all is_row rows.items ≡ true }
+    ensures journal { OnOk result ((J : List TheRow) → Holds core.old J → IsJournal J → IsJournal (J ++ rows.items)) }
+    ensures core { OnOk result ((J : List TheRow) → Holds core.old J → Holds core.new (J ++ rows.items)) }
+    ensures window { OnOk result (window.new.places ≡ window.old.places ++ places_in place 0 rows.items) }
+    ensures bad { result ≡ Err RowFault.BadRow → (J : List TheRow) → Holds core.old J → IsJournal (J ++ rows.items) → ⊥ }
+{
+    let mut index = 0;
+    let mut left = VecDeque::from_vec(rows);
+    'rows: while let Some(row) = left.pop_front() {
+        if !core.is_next(&row) {
+            return Err(RowFault::BadRow);
+        }
+        make_room(core, window, &row)?;
+        learn(core, window, place, index, row);
+        index += 1;
+    }
+    Ok(())
+}
+
+// Learns the body at this place.
+fn learn_body(
+    alloc: Global,
+    core: &mut Core,
+    window: &mut Window,
+    place: u64,
+    body: &[u8],
+) -> Result<(), RowFault>
+    ensures learned { OnOk result ((J : List TheRow) → Holds core.old J → IsJournal J → IsLearned place body.now J core.new window.old.places window.new.places) }
+    ensures bad { result ≡ Err RowFault.BadRow → (J : List TheRow) → Holds core.old J → IsBadBody J body.now }
+{
+    let rows = read_rows(alloc, body)?;
+    learn_rows(core, window, place, rows.into_vec())
+}
+
+// Reads the body at this place and learns it, and answers the next place.
+fn load_body<D: Disk>(
+    alloc: Global,
+    log: &Log,
+    disk: &mut D,
+    place: u64,
+    core: &mut Core,
+    window: &mut Window,
+) -> Result<u64, StoreFault>
+    requires on { IsTrue D.tells → IsOn (D.view disk.old) log.now }
+    requires below { place < log.now.end }
+    ensures next { IfOk result (λ next. (place < next) × (next ≤ log.now.end)) }
+    ensures learned { IfOk result (λ next. IsTrue D.tells → (before : List (List ℕ)) (body : List ℕ) (after : List (List ℕ)) (J : List TheRow)
+        → HasBodies (before ++ body ∷ after) log.now (D.view disk.old) → place ≡ length (made log.now.format before) → Holds core.old J → IsJournal J
+        → (next ≡ place + BEFORE_BODY + length body) × IsLearned place body J core.new window.old.places window.new.places) }
+    ensures bad_log { (p : ℕ) → result ≡ Err (StoreFault.BadLog p) → IsTrue D.tells → (before : List (List ℕ)) (body : List ℕ) (after : List (List ℕ)) (J : List TheRow)
+        → HasBodies (before ++ body ∷ after) log.now (D.view disk.old) → place ≡ length (made log.now.format before) → Holds core.old J
+        → (p ≡ place) × IsBadBody J body }
+    ensures goes { Goes Same (D.view disk.old) (D.view disk.new) }
+    ensures holds { IsTrue D.tells → (bodies : List (List ℕ)) → HasBodies bodies log.now (D.view disk.old) → HasBodies bodies log.now (D.view disk.new) }
+    ensures on { IsTrue D.tells → IsOn (D.view disk.new) log.now }
+    ensures disk { result ≡ Err StoreFault.Disk → Rose (D.view disk.old).faults (D.view disk.new).faults }
+    ensures few { (f : TheFault) → result ≡ Err f → IsOfReading f }
+{
+    let (body, next) = log.read(alloc, disk, place)?;
+    match learn_body(alloc, core, window, place, body.as_slice()) {
+        Ok(()) => Ok(next),
+        Err(RowFault::BadRow) => Err(StoreFault::BadLog(place)),
+        Err(RowFault::Memory) => Err(StoreFault::Memory),
+    }
+}
+
+/// Learns the journal of a log's disk, of which nothing is known yet.
+pub(crate) fn load<D: Disk>(
+    alloc: Global,
+    log: &Log,
+    disk: &mut D,
+    core: &mut Core,
+    window: &mut Window,
+) -> Result<(), StoreFault>
+    requires on { IsTrue D.tells → IsOn (D.view disk.old) log.now }
+    requires core { Holds core.old [] }
+    requires window { window.old.places ≡ [] }
+    ensures loaded { OnOk result (IsTrue D.tells → (bodies : List (List ℕ)) → HasBodies bodies log.now (D.view disk.old)
+        → IsLoaded log.now.format bodies core.new window.new.places) }
+    ensures bad_log { (p : ℕ) → result ≡ Err (StoreFault.BadLog p) → IsTrue D.tells → (bodies : List (List ℕ))
+        → HasBodies bodies log.now (D.view disk.old) → IsBadAmong p log.now.format bodies }
+    ensures goes { Goes Same (D.view disk.old) (D.view disk.new) }
+    ensures holds { IsTrue D.tells → (bodies : List (List ℕ)) → HasBodies bodies log.now (D.view disk.old) → HasBodies bodies log.now (D.view disk.new) }
+    ensures disk { result ≡ Err StoreFault.Disk → Rose (D.view disk.old).faults (D.view disk.new).faults }
+    ensures few { (f : TheFault) → result ≡ Err f → IsOfReading f }
+{
+    let mut place = log.first();
+    'bodies: while place < log.end() {
+        place = load_body(alloc, log, disk, place, core, window)?;
+    }
+    Ok(())
+}

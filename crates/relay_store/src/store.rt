@@ -1,0 +1,67 @@
+//! The store: a journal on the log of a pair of disks, and what is known of it.
+
+use crate::draft::Draft;
+use account_state::Account;
+use event_window::Window;
+use gate_log::{Log, Side};
+use host_state::Hosts;
+use relay_core::Core;
+
+/// A journal on the log of a pair of disks, which are handed to each call, and what is known of it: the state, and where the events
+/// stand.
+#[derive(Drop)]
+pub struct Store {
+    pub(crate) log: Log,
+    pub(crate) side: Side,
+    pub(crate) core: Core,
+    pub(crate) window: Window,
+    pub(crate) draft: Draft,
+}
+
+impl Store {
+    ghost use Rattle.std.specs.Prelude.{◌≡◌, option_map};
+    ghost use Rattle.account_state.specs.Entries.{entry};
+    ghost use Rattle.account_state.specs.State.{state_of};
+
+    /// The account of a DID, where a row names it.
+    pub fn account(&self, did: &str) -> Option<&Account>
+        ensures { option_map (λ account. state_of account.now) result ≡ entry self.now.core.accounts did.now }
+    {
+        self.core.account(did)
+    }
+
+    /// The hosts, in first-seen order, each with its cursor.
+    pub fn hosts(&self) -> &Hosts
+        ensures { result.now ≡ self.now.core.hosts }
+    {
+        self.core.hosts()
+    }
+
+    /// The state.
+    pub fn core(&self) -> &Core
+        ensures { result.now ≡ self.now.core }
+    {
+        &self.core
+    }
+
+    /// The last number, or 0.
+    pub fn last_seq(&self) -> u64
+        ensures { result ≡ self.now.core.last }
+    {
+        self.core.last_seq()
+    }
+
+    /// Whether no call has answered `Disk` since it was opened.
+    pub fn is_open(&self) -> bool
+        ensures { result ≡ self.now.log.is_open }
+    {
+        self.log.is_open()
+    }
+
+    /// The disk of the pair that it is on, which is to be handed to each call.
+    pub fn side(&self) -> Side
+        ensures { result ≡ self.now.side }
+    {
+        self.side
+    }
+}

@@ -1,0 +1,148 @@
+//! Messages of hosts taken.
+
+ghost use Rattle.std.specs.Prelude.{◌≡◌, ◌≢◌, ◌≤◌, ⊤, [], ◌∷◌, Some, ℕ, List, length, false, IsTrue, IfSome};
+ghost use Rattle.at_cid.specs.Counts.{Rose};
+ghost use Rattle.at_syntax.specs.Host.{is_host};
+ghost use Rattle.relay_row.specs.declared.limits.TheConstants.{MOST_ROWS};
+ghost use Rattle.relay_row.specs.declared.row.Row.{Row as TheRow};
+ghost use Rattle.relay_step.specs.Around.{around};
+ghost use Rattle.relay_store.specs.Batches.{Batched, scene, outcomes_in, fault_in, message_from};
+ghost use Rattle.relay_store.specs.Faults.{IsRisenOf};
+ghost use Rattle.relay_store.specs.Store.{IsKept, IsOf, seen_in};
+ghost use Rattle.relay_store.specs.Taking.{AreOfHosts};
+ghost use Rattle.relay_store.specs.declared.fault.StoreFault.{StoreFault as TheFault};
+
+use crate::StoreFault;
+use crate::committing::commit;
+use crate::gathering::gather;
+use crate::message::Message;
+use crate::outcome::Outcome;
+use crate::preparing::prepare;
+use crate::store::Store;
+use at_authority::Judges;
+use relay_disk::Disk;
+use relay_io::{Clock, Repos};
+use std::alloc::Global;
+
+/// What is answered to messages: an outcome for each that was taken, in order, and the fault that came then, if one did.
+#[derive(Drop)]
+pub struct Batch {
+    /// The outcomes.
+    pub outcomes: Vec<Outcome>,
+    /// The fault.
+    pub fault: Option<StoreFault>,
+}
+
+impl Store {
+    /// Takes 1 to 64 messages in order, up to the end of a host or to the first fault, and makes their rows durable at once, in one
+    /// body. At the fault `Disk` nothing is answered, and the store is closed: the disks have to be opened again.
+    pub fn take_all<D: Disk, P: Judges, R: Repos, C: Clock>(
+        &mut self,
+        alloc: Global,
+        disk: &mut D,
+        group: &[Message],
+        judges: &mut P,
+        repos: &mut R,
+        clock: &mut C,
+    ) -> Batch
+        requires open { IsTrue self.old.log.is_open }
+        requires on { IsTrue D.tells → IsKept (seen_in self.old) (D.view disk.old) }
+        requires some { 1 ≤ length group.now }
+        requires few { length group.now ≤ MOST_ROWS }
+        requires hosts { AreOfHosts group.now }
+        ensures batched { (J : List TheRow) → IsOf J self.old.core → Batched D.view D.tells C.tells R.tells J group.now
+            (scene (seen_in self.old) disk.old (around (P.panel judges.old) (C.moments clock.old) (R.repository repos.old)))
+            (scene (seen_in self.new) disk.new (around (P.panel judges.new) (C.moments clock.new) (R.repository repos.new))) result.outcomes.items result.fault }
+        ensures on { result.fault ≢ Some StoreFault.Disk → IsTrue D.tells → IsKept (seen_in self.new) (D.view disk.new) }
+        ensures open { result.fault ≢ Some StoreFault.Disk → IsTrue self.new.log.is_open }
+        ensures closed { result.fault ≡ Some StoreFault.Disk → self.new.log.is_open ≡ false }
+        ensures side { self.new.side ≡ self.old.side }
+        ensures risen { IfSome result.fault (IsRisenOf (Rose (D.view disk.old).faults (D.view disk.new).faults)
+            (Rose (R.faults repos.old) (R.faults repos.new)) (Rose (C.faults clock.old) (C.faults clock.new))) }
+        ensures disk_counts { (D.view disk.old).faults ≤ (D.view disk.new).faults }
+        ensures clock_counts { C.faults clock.old ≤ C.faults clock.new }
+        ensures repos_count { R.faults repos.old ≤ R.faults repos.new }
+    {
+        let mut outcomes = Vec::new(alloc);
+        match self.draft.start() {
+            Ok(()) => {}
+            Err(_) => {
+                return Batch {
+                    outcomes,
+                    fault: Some(StoreFault::Memory),
+                };
+            }
+        }
+        let fault = gather(
+            alloc,
+            &self.log,
+            &mut self.core,
+            &mut self.window,
+            &mut self.draft,
+            &mut outcomes,
+            group,
+            judges,
+            repos,
+            clock,
+        );
+        match commit(&mut self.log, disk, &mut self.draft) {
+            Ok(()) => Batch { outcomes, fault },
+            Err(fault) => Batch {
+                outcomes: Vec::new(alloc),
+                fault: Some(fault),
+            },
+        }
+    }
+
+    /// Takes one message, as `take_all` takes a group of one.
+    pub fn take<D: Disk, P: Judges, R: Repos, C: Clock>(
+        &mut self,
+        alloc: Global,
+        disk: &mut D,
+        host: &str,
+        message: &[u8],
+        judges: &mut P,
+        repos: &mut R,
+        clock: &mut C,
+    ) -> Result<Outcome, StoreFault>
+        requires open { IsTrue self.old.log.is_open }
+        requires on { IsTrue D.tells → IsKept (seen_in self.old) (D.view disk.old) }
+        requires host { IsTrue (is_host host.now) }
+        ensures batched { (J : List TheRow) → IsOf J self.old.core → Batched D.view D.tells C.tells R.tells J (message_from host.now message.now ∷ [])
+            (scene (seen_in self.old) disk.old (around (P.panel judges.old) (C.moments clock.old) (R.repository repos.old)))
+            (scene (seen_in self.new) disk.new (around (P.panel judges.new) (C.moments clock.new) (R.repository repos.new))) (outcomes_in result) (fault_in result) }
+        ensures on { fault_in result ≢ Some StoreFault.Disk → IsTrue D.tells → IsKept (seen_in self.new) (D.view disk.new) }
+        ensures open { fault_in result ≢ Some StoreFault.Disk → IsTrue self.new.log.is_open }
+        ensures closed { fault_in result ≡ Some StoreFault.Disk → self.new.log.is_open ≡ false }
+        ensures side { self.new.side ≡ self.old.side }
+        ensures risen { IfSome (fault_in result) (IsRisenOf (Rose (D.view disk.old).faults (D.view disk.new).faults)
+            (Rose (R.faults repos.old) (R.faults repos.new)) (Rose (C.faults clock.old) (C.faults clock.new))) }
+        ensures disk_counts { (D.view disk.old).faults ≤ (D.view disk.new).faults }
+        ensures clock_counts { C.faults clock.old ≤ C.faults clock.new }
+        ensures repos_count { R.faults repos.old ≤ R.faults repos.new }
+    {
+        match self.draft.start() {
+            Ok(()) => {}
+            Err(_) => return Err(StoreFault::Memory),
+        }
+        let outcome = match prepare(
+            alloc,
+            &self.log,
+            &mut self.core,
+            &mut self.window,
+            &mut self.draft,
+            host,
+            message,
+            judges,
+            repos,
+            clock,
+        ) {
+            Ok(outcome) => outcome,
+            Err(fault) => return Err(fault),
+        };
+        match commit(&mut self.log, disk, &mut self.draft) {
+            Ok(()) => Ok(outcome),
+            Err(fault) => Err(fault),
+        }
+    }
+}
