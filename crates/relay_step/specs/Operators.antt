@@ -6,7 +6,7 @@ use Rattle.at_event.specs.declared.head.Head.{Head}
 use Rattle.at_event.specs.declared.refusal.Refusal.{Refusal}
 use Rattle.relay_row.specs.Folds.{last_seq}
 use Rattle.relay_row.specs.declared.row.Row.{Row}
-use Rattle.relay_row.specs.declared.whole.Whole.{Whole}
+use Rattle.relay_row.specs.declared.fetched.Whole.{Whole}
 use Rattle.account_state.specs.Folds.{account, last_rev}
 use Rattle.relay_core.specs.Decide.{Found, absent, unfit, found, sync_message}
 use Rattle.relay_core.specs.Operating.{operate_refusal, operated_as, sync_refusal}
