@@ -45,6 +45,13 @@ late_answer log d word StoreFault.Clock has late = absurd late
 pub late_open : (log : LogState) (d : Draft) (rows : List Row) (f : StoreFault) → IsLate log d rows f → f ≡ StoreFault.Disk → ⊥
 late_open log d rows f late is = subst (IsLate log d rows) is late
 
+pub late_on_time : (log : LogState) (d : Draft) (rows : List Row) (f : StoreFault) → IsLate log d rows f → f ≡ StoreFault.Clock → ⊥
+late_on_time log d rows f late is = subst (IsLate log d rows) is late
+
+pub said_few : (word : Word) → length (rows_said word) ≤ 1
+said_few (Word.Refused r) = omega arith
+said_few (Word.Made row) = omega arith
+
 module _ {D : Type 0} (view : D → View) (tells : Bool) (J : List Row) (word : Word) (log : LogState) (side : Side) (state : Core) (places : List Place) (d : Draft) (has : HasRows [] d) (of : IsOf J state) (disk : D) where
   -- nothing was added
   pub worded_late : (state_now : Core) (places_now : List Place) (d_now : Draft) (f : StoreFault) → IsDisk (view disk) → IsUnchanged state state_now places places_now d d_now → IsLate log d (rows_said word) f

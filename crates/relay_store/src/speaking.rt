@@ -80,6 +80,7 @@ impl Store {
         ensures closed { result ≡ Err StoreFault.Disk → self.new.log.is_open ≡ false }
         ensures disk { result ≡ Err StoreFault.Disk → Rose (D.view disk.old).faults (D.view disk.new).faults }
         ensures disk_counts { (D.view disk.old).faults ≤ (D.view disk.new).faults }
+        ensures no_clock { result ≡ Err StoreFault.Clock → ⊥ }
     {
         match take_word(
             &self.log,
