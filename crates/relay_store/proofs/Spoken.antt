@@ -18,7 +18,7 @@ use Rattle.relay_store.specs.Journals.{IsOneOf}
 use Rattle.relay_store.specs.Places.{places_in}
 use Rattle.relay_store.specs.Store.{IsOf, Keeps, seen}
 use Rattle.relay_store.specs.Taking.{AreAdded}
-use Rattle.relay_store.specs.Words.{IsAnswer, IsLate, Worded, done_of}
+use Rattle.relay_store.specs.Words.{IsAnswer, IsLate, IsOfSaying, Worded, done_of}
 use Rattle.relay_store.specs.declared.done.Done.{Done}
 use Rattle.relay_store.specs.declared.draft.Draft.{Draft}
 use Rattle.relay_store.specs.declared.fault.StoreFault.{StoreFault}
@@ -45,8 +45,18 @@ late_answer log d word StoreFault.Clock has late = absurd late
 pub late_open : (log : LogState) (d : Draft) (rows : List Row) (f : StoreFault) → IsLate log d rows f → f ≡ StoreFault.Disk → ⊥
 late_open log d rows f late is = subst (IsLate log d rows) is late
 
-pub late_on_time : (log : LogState) (d : Draft) (rows : List Row) (f : StoreFault) → IsLate log d rows f → f ≡ StoreFault.Clock → ⊥
-late_on_time log d rows f late is = subst (IsLate log d rows) is late
+pub late_saying : (log : LogState) (d : Draft) (rows : List Row) (f : StoreFault) → IsLate log d rows f → IsOfSaying f
+late_saying log d rows StoreFault.Disk late = absurd late
+late_saying log d rows (StoreFault.BadLog p) late = absurd late
+late_saying log d rows (StoreFault.Full e) late = tt
+late_saying log d rows StoreFault.SeqEnd late = absurd late
+late_saying log d rows StoreFault.Authority late = absurd late
+late_saying log d rows StoreFault.Repos late = absurd late
+late_saying log d rows StoreFault.Memory late = tt
+late_saying log d rows StoreFault.Clock late = absurd late
+
+pub disk_saying : (f : StoreFault) → f ≡ StoreFault.Disk → IsOfSaying f
+disk_saying f is = subst IsOfSaying (sym is) tt
 
 pub said_few : (word : Word) → length (rows_said word) ≤ 1
 said_few (Word.Refused r) = omega arith

@@ -1,5 +1,5 @@
 -- What an operator's word does (own).
-use Rattle.std.specs.Prelude.{◌≡◌, ◌≢◌, ◌⊎◌, ◌≤◌, ⊤, ℕ, Bool, List, [], ◌∷◌, ◌++◌, Result, Ok, Err, IsTrue}
+use Rattle.std.specs.Prelude.{◌≡◌, ◌≢◌, ◌⊎◌, ◌≤◌, ℕ, Bool, List, [], ◌∷◌, ◌++◌, Result, Ok, Err, IsTrue}
 use Rattle.relay_disk.specs.Disk.{View}
 use Rattle.relay_disk.specs.Moments.{LeavesOnly}
 use Rattle.gate_log.specs.Log.{LogState}
@@ -38,6 +38,17 @@ IsLate log d rows StoreFault.SeqEnd = ⊥
 IsLate log d rows StoreFault.Authority = ⊥
 IsLate log d rows StoreFault.Repos = ⊥
 IsLate log d rows StoreFault.Clock = ⊥
+
+-- what may come behind a word
+abbrev pub IsOfSaying : StoreFault → Type 0
+IsOfSaying StoreFault.Disk = Unit {0}
+IsOfSaying (StoreFault.Full e) = Unit {0}
+IsOfSaying StoreFault.Memory = Unit {0}
+IsOfSaying (StoreFault.BadLog place) = ⊥
+IsOfSaying StoreFault.SeqEnd = ⊥
+IsOfSaying StoreFault.Authority = ⊥
+IsOfSaying StoreFault.Repos = ⊥
+IsOfSaying StoreFault.Clock = ⊥
 
 -- the rows that were added
 abbrev pub added : Result Done StoreFault → List Row → List Row
