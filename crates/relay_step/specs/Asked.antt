@@ -1,5 +1,5 @@
 -- What a step shows of the judges: which calls it made, in their order, and what they answered (own).
-use Rattle.std.specs.Prelude.{◌≡◌, ℕ, ◌≤◌, Bool, true, false, ◌&&◌, ◌||◌, ◌==◌, List, [], ◌∷◌, ◌++◌, length, Option, Some, None, Result, Ok, Err, option_map, nat_le, if◌then◌else◌}
+use Rattle.std.specs.Prelude.{◌≡◌, ℕ, ◌≤◌, Bool, true, false, ◌&&◌, ◌==◌, List, [], ◌∷◌, ◌++◌, length, Option, Some, None, Result, Ok, Err, option_map, nat_le, if◌then◌else◌}
 use Rattle.std.specs.List.{filter}
 use Rattle.sha2.specs.Sha256.{sha256}
 use Rattle.at_car.specs.Car.{car_of}
@@ -68,15 +68,10 @@ pub record IsRefusedOnce (did : List ℕ) (calls : List Call) : Type 0 where
   pub sig : List ℕ
   pub are : calls ≡ answers (asks_verdict did digest sig) false ∷ []
 
--- those of a repository that was refused: one of a bad signature, or none
-abbrev pub AreRefusedCalls : Bool → List ℕ → List Call → Type 0
-AreRefusedCalls true did calls = IsRefusedOnce did calls
-AreRefusedCalls false did calls = calls ≡ []
-
 abbrev pub AreFetchCalls : List ℕ → Fetched → List Call → Type 0
 AreFetchCalls did Fetched.NotAsked calls = calls ≡ []
 AreFetchCalls did Fetched.Absent calls = calls ≡ []
-AreFetchCalls did (Fetched.Refused n) calls = AreRefusedCalls (n == FETCHED_UNSIGNED) did calls
+AreFetchCalls did (Fetched.Refused n) calls = if n == FETCHED_UNSIGNED then IsRefusedOnce did calls else (calls ≡ [])
 AreFetchCalls did (Fetched.Whole w) calls = IsAskedOf did (block_in w.message w.head.commit) calls
 
 -- the calls of a step that made a row of an event

@@ -6,12 +6,12 @@ use Rattle.at_event.specs.declared.head.Head.{Head}
 use Rattle.at_event.specs.declared.refusal.Refusal.{Refusal}
 use Rattle.relay_row.specs.Folds.{last_seq}
 use Rattle.relay_row.specs.declared.row.Row.{Row}
-use Rattle.relay_row.specs.declared.fetched.Whole.{Whole}
+use Rattle.relay_row.specs.declared.whole.Whole.{Whole}
 use Rattle.account_state.specs.Folds.{account, last_rev}
 use Rattle.relay_core.specs.Decide.{Found, absent, unfit, found, sync_message}
 use Rattle.relay_core.specs.Operating.{operate_refusal, operated_as, sync_refusal}
 use Rattle.relay_core.specs.declared.limits.TheConstants.{FETCHED_UNSIGNED}
-use Rattle.relay_step.specs.Asked.{AreRefusedCalls, IsAskedOf}
+use Rattle.relay_step.specs.Asked.{IsAskedOf, IsRefusedOnce}
 use Rattle.relay_step.specs.Fetching.{IsFetchedFrom}
 use Rattle.relay_step.specs.declared.word.Word.{Word}
 
@@ -34,7 +34,7 @@ IsFetchWord last did time moment (found head records block) word = word ≡ Word
 -- what a fetch that found this asked of the judges
 abbrev pub AreFoundCalls : List ℕ → Found → List Call → Type 0
 AreFoundCalls did absent calls = calls ≡ []
-AreFoundCalls did (unfit n) calls = AreRefusedCalls (n == FETCHED_UNSIGNED) did calls
+AreFoundCalls did (unfit n) calls = if n == FETCHED_UNSIGNED then IsRefusedOnce did calls else (calls ≡ [])
 AreFoundCalls did (found head records block) calls = IsAskedOf did block calls
 
 pub record AnsweredFetch (old : Panel) (did : List ℕ) (f : Found) (new : Panel) : Type 0 where

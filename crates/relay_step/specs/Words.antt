@@ -1,5 +1,5 @@
 -- What is owed of an operator's word, by the relay's state: behind each journal for which it stands (own).
-use Rattle.std.specs.Prelude.{◌≡◌, ℕ, ◌+◌, ◌≤◌, List, [], ◌∷◌, Bool, true, Option, Some, None, IsTrue, if◌then◌else◌}
+use Rattle.std.specs.Prelude.{◌≡◌, ℕ, ◌+◌, ◌≤◌, List, [], ◌∷◌, Bool, Option, Some, None, IsTrue, if◌then◌else◌}
 use Rattle.at_authority.specs.Panels.{Panel}
 use Rattle.at_event.specs.declared.head.Head.{Head}
 use Rattle.relay_io.specs.Moments.{first, rest}
