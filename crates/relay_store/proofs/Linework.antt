@@ -25,9 +25,9 @@ fetch_is (Fetched.Whole w) = refl
 taken_by : (r : Option Refusal) (t : Taken) → line_of t.host (outcome_as r t) ≡ t.host ++ (codes " " ++ (decimal t.host_seq ++ (outcome_text r t ++ 10 ∷ [])))
 taken_by None t = elim (t.seq == 0) as (λ b. line_of t.host (if b then Outcome.Held t.host_seq else Outcome.Event t.host_seq t.seq)
     ≡ t.host ++ (codes " " ++ (decimal t.host_seq ++ ((if b then codes " held" else codes " event " ++ decimal t.seq) ++ 10 ∷ [])))) [
-  | true ↦ parts t.host (decimal t.host_seq) (codes " held") (10 ∷ [])
-  | false ↦ parts t.host (decimal t.host_seq) (codes " event " ++ decimal t.seq) (10 ∷ [])
-]
+      | true ↦ parts t.host (decimal t.host_seq) (codes " held") (10 ∷ [])
+      | false ↦ parts t.host (decimal t.host_seq) (codes " event " ++ decimal t.seq) (10 ∷ [])
+    ]
 taken_by (Some r) t =
     parts t.host (decimal t.host_seq) (codes " " ++ (refused_of r ++ fetch_word (fetch_in t.fetched))) (10 ∷ [])
     ∙ ap (λ (l : List ℕ). t.host ++ (codes " " ++ (decimal t.host_seq ++ ((codes " " ++ (refused_of r ++ l)) ++ 10 ∷ [])))) (fetch_is t.fetched)
@@ -48,3 +48,6 @@ lines_report = record {
   passed = passed_by;
   end = λ J messages rows. refl;
 }
+
+pub joined : (old mid new one other : List ℕ) → mid ≡ old ++ one → new ≡ mid ++ other → new ≡ old ++ (one ++ other)
+joined old mid new one other h k = k ∙ ap (λ m. m ++ other) h ∙ append_assoc old one other

@@ -9,3 +9,4 @@ pub mod Taking
 pub mod Words
 pub mod Faults
 pub mod Shown
+pub mod Lines

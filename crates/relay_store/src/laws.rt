@@ -1,7 +1,8 @@
-//! Laws of images of journals, each the contract of a function that does nothing.
+//! Laws of images of journals and of lines, each the contract of a function that does nothing.
 
 ghost use Rattle.std.specs.Prelude.{◌≡◌, List, ℕ};
 ghost use Rattle.relay_row.specs.declared.row.Row.{Row};
+ghost use Rattle.relay_store.specs.Lines.{LinesReport};
 ghost use Rattle.relay_store.specs.Journals.{IsBadPairJournalAt, IsPairImageOf};
 
 /// The bytes of two disks are an image of one journal at most.
@@ -12,6 +13,11 @@ pub fn pairs_have_one_journal()
 /// Two disks that show a fault are no image of a journal.
 pub fn faults_are_no_journals()
     ensures { (place : ℕ) (one two : List ℕ) (J : List Row) → IsPairImageOf J one two → IsBadPairJournalAt place one two → ⊥ }
+{}
+
+/// The lines of what was answered to a run are those of its report.
+pub fn lines_are_the_reports()
+    ensures { LinesReport }
 {}
 
 /// Two disks show a fault at one place at most.

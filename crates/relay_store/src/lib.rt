@@ -10,17 +10,22 @@ mod fault;
 mod gathering;
 mod laws;
 mod learning;
+mod lines;
 mod loading;
 mod message;
 mod opening;
 mod outcome;
 mod preparing;
+mod speaking;
 mod store;
 mod taking;
 
 pub use done::Done;
 pub use fault::StoreFault;
-pub use laws::{faults_are_no_journals, faults_have_one_place, pairs_have_one_journal};
+pub use laws::{
+    faults_are_no_journals, faults_have_one_place, lines_are_the_reports, pairs_have_one_journal,
+};
+pub use lines::{end_line, line};
 pub use message::Message;
 pub use outcome::{End, Fetch, Outcome};
 pub use store::Store;

@@ -159,12 +159,7 @@ fn make_end_line(
 }
 
 /// Adds the line of what was answered to a message of a host.
-pub fn line(
-    alloc: Global,
-    host: &str,
-    outcome: &Outcome,
-    out: &mut Octets,
-) -> Result<(), Memory>
+pub fn line(alloc: Global, host: &str, outcome: &Outcome, out: &mut Octets) -> Result<(), Memory>
     ensures ok { OnOk result (out.new ≡ out.old ++ line_of host.now outcome.now) }
     ensures err { OnErr result (out.new ≡ out.old) }
 {
