@@ -1,6 +1,7 @@
 //! An authority in memory, which tells its value.
 
-ghost use Rattle.std.specs.Prelude.{◌≡◌, ℕ, ◌+◌, ◌-◌, ◌^◌, ◌↔◌, min, Some, option_map, IfOk, OnOk, OnErr, IsErrOf, Contains};
+ghost use Rattle.std.specs.Prelude.{◌≡◌, ◌↔◌, Some, option_map, IfOk, OnOk, OnErr, IsErrOf};
+ghost use Rattle.relay_io.specs.Calls.{FailsNext, IsFresh, next_call};
 ghost use Rattle.at_authority.specs.Queries.{Query, asks_home, asks_verdict, did_asked, refreshed};
 ghost use Rattle.at_authority.specs.Answers.{Says, CountsFailure};
 ghost use Rattle.at_authority.specs.Standing.{answer_of};
@@ -35,9 +36,7 @@ impl TableAuthority {
     ) -> Result<TableAuthority, Memory>
         ensures now { IfOk result (λ made. (q : Query) → (telling_of made).now q ≡ answer_of present q) }
         ensures later { IfOk result (λ made. (q : Query) → (telling_of made).later q ≡ answer_of later q) }
-        ensures listed { IfOk result (λ made. (calls_of made).listed.items ≡ failing.now) }
-        ensures taken { IfOk result (λ made. (calls_of made).taken ≡ 0) }
-        ensures faults { IfOk result (λ made. (calls_of made).faults ≡ 0) }
+        ensures fresh { IfOk result (λ made. IsFresh failing.now (calls_of made)) }
     {
         let failures = Failures::new(alloc, failing)?;
         Ok(TableAuthority {
@@ -74,8 +73,8 @@ impl Authority for TableAuthority {
         ensures counted { CountsFailure result (calls_of self.old).faults (calls_of self.new).faults }
 
         // Where it fails.
-        ensures fails { IsErrOf result Asked.Failed ↔ Contains (calls_of self.old).listed.items (calls_of self.new).taken }
-        ensures number { (calls_of self.new).taken ≡ min ((calls_of self.old).taken + 1) (2 ^ 64 - 1) }
+        ensures fails { IsErrOf result Asked.Failed ↔ FailsNext (calls_of self.old) }
+        ensures number { (calls_of self.new).taken ≡ next_call (calls_of self.old) }
         ensures listed { (calls_of self.new).listed.items ≡ (calls_of self.old).listed.items }
     {
         self.failures.begin(Asked::Failed)?;
@@ -88,8 +87,8 @@ impl Authority for TableAuthority {
         ensures counted { CountsFailure result (calls_of self.old).faults (calls_of self.new).faults }
 
         // Where it fails.
-        ensures fails { IsErrOf result Asked.Failed ↔ Contains (calls_of self.old).listed.items (calls_of self.new).taken }
-        ensures number { (calls_of self.new).taken ≡ min ((calls_of self.old).taken + 1) (2 ^ 64 - 1) }
+        ensures fails { IsErrOf result Asked.Failed ↔ FailsNext (calls_of self.old) }
+        ensures number { (calls_of self.new).taken ≡ next_call (calls_of self.old) }
         ensures listed { (calls_of self.new).listed.items ≡ (calls_of self.old).listed.items }
     {
         self.failures.begin(Asked::Failed)?;
@@ -105,8 +104,8 @@ impl Authority for TableAuthority {
         ensures counted { CountsFailure result (calls_of self.old).faults (calls_of self.new).faults }
 
         // Where it fails.
-        ensures fails { IsErrOf result Asked.Failed ↔ Contains (calls_of self.old).listed.items (calls_of self.new).taken }
-        ensures number { (calls_of self.new).taken ≡ min ((calls_of self.old).taken + 1) (2 ^ 64 - 1) }
+        ensures fails { IsErrOf result Asked.Failed ↔ FailsNext (calls_of self.old) }
+        ensures number { (calls_of self.new).taken ≡ next_call (calls_of self.old) }
         ensures listed { (calls_of self.new).listed.items ≡ (calls_of self.old).listed.items }
     {
         self.failures.begin(Asked::Failed)?;

@@ -1,4 +1,4 @@
--- Lines of a table of refusals, and the first that applies.
+-- Lines of a table of refusals or faults, and the first that applies.
 use Rattle.std.specs.Prelude.{List, [], ◌∷◌, Bool, true, false, if◌then◌else◌, Option, Some, None}
 use Rattle.at_event.specs.declared.refusal.Refusal.{Refusal}
 
@@ -6,8 +6,8 @@ use Rattle.at_event.specs.declared.refusal.Refusal.{Refusal}
 abbrev pub Line : Type 0
 Line = Refusal × Bool
 
--- the first refusal whose condition applies
-abbrev pub first_of : List Line → Option Refusal
+-- the first refusal, or whatever else the lines tell, whose condition applies
+abbrev pub first_of : {A : Type 0} → List (A × Bool) → Option A
 first_of [] = None
 first_of (line ∷ lines) = if line.1 then Some line.0 else first_of lines
 

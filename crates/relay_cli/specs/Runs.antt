@@ -2,11 +2,11 @@
 use Rattle.std.specs.Prelude.{◌≡◌, ℕ, ◌+◌, ◌≤◌, Bool, List, [], ◌++◌, length, IsTrue, ◌⊎◌}
 use Rattle.at_cid.specs.Counts.{Rose}
 use Rattle.relay_io.specs.Streams.{AddsFront}
+use Rattle.relay_io.specs.declared.feed.TheConstants.{LONGEST_MESSAGE}
 use Rattle.relay_cli.specs.declared.command.Command.{Command}
 use Rattle.relay_cli.specs.declared.status.Status.{Status}
 use Rattle.relay_cli.specs.declared.verdict.Verdict.{Verdict}
 use Rattle.relay_cli.specs.Statuses.{status_of}
-use Rattle.relay_cli.specs.declared.checking.TheConstants.{LONGEST_MESSAGE}
 use Rattle.relay_cli.specs.Report.{line_of}
 use Rattle.relay_cli.specs.Verdicts.{IsVerdict}
 

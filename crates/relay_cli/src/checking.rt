@@ -7,9 +7,6 @@ use crate::status::Status;
 use relay_io::{ReadFault, Sink, Source, read_to_end, write_all};
 use std::alloc::Global;
 
-/// The most bytes of a message.
-pub const LONGEST_MESSAGE: usize = 8_388_608;
-
 /// Reads the whole input as one message of at most `limit` bytes, and writes what it comes to.
 pub fn check<I: Source, O: Sink>(alloc: Global, limit: usize, input: &mut I, out: &mut O) -> Status
     ensures { Checked limit (outside I.tells (I.left input.old) (I.faults input.old) O.tells (O.written out.old) (O.faults out.old)) (outside I.tells (I.left input.new) (I.faults input.new) O.tells (O.written out.new) (O.faults out.new)) result }

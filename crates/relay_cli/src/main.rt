@@ -12,7 +12,7 @@ mod verb;
 mod verdict;
 mod words_fault;
 
-pub use checking::{LONGEST_MESSAGE, check};
+pub use checking::check;
 use relay_io::{ReaderSource, WriterSink};
 pub use running::relay;
 pub use status::Status;

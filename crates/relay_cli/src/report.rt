@@ -1,7 +1,8 @@
 //! The lines that are written.
 ghost use Rattle.std.specs.Prelude.{◌≡◌, ◌++◌, IfOk, OnOk, decimal};
 ghost use Rattle.at_cid.specs.Text.{text_of};
-ghost use Rattle.relay_cli.specs.Report.{detail_of, line_of, refused_of};
+ghost use Rattle.relay_cli.specs.Report.{line_of};
+ghost use Rattle.relay_core.specs.Report.{detail_of, refused_of};
 
 use crate::verdict::Verdict;
 use at_cid::{Cid, Memory, Octets, TEXT_LEN};

@@ -3,11 +3,11 @@ ghost use Rattle.std.specs.Prelude.{◌≡◌, map, string_bytes};
 ghost use Rattle.relay_cli.specs.Commands.{IsSpelled};
 ghost use Rattle.relay_cli.specs.Runs.{NoCommand, Ran, outside};
 
-use crate::checking::{LONGEST_MESSAGE, check};
+use crate::checking::check;
 use crate::command::{Command, command_from};
 use crate::status::Status;
 use crate::words_fault::WordsFault;
-use relay_io::{Sink, Source};
+use relay_io::{LONGEST_MESSAGE, Sink, Source};
 use std::alloc::Global;
 
 /// Does what the words say.

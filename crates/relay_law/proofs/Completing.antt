@@ -5,6 +5,7 @@ use Rattle.at_event.specs.Seen.{Seen}
 use Rattle.at_event.specs.declared.event.Body.{Body}
 use Rattle.at_event.specs.declared.head.Head.{Head}
 use Rattle.at_event.specs.declared.refusal.Refusal.{Refusal}
+use Rattle.event_checks.proofs.Firsts.{first_front}
 use Rattle.event_checks.specs.Table.{block_lines, field_lines, is_stale}
 use Rattle.relay_row.specs.Folds.{last_seq}
 use Rattle.relay_row.specs.declared.row.Row.{Row}
@@ -27,7 +28,6 @@ use Rattle.relay_core.proofs.Accepting.{ready_decides}
 use Rattle.relay_law.specs.Covered.{IsCovered}
 use Rattle.relay_law.specs.Laws.{CoveredAreAccepted}
 use Rattle.relay_law.specs.Right.{LinksRight, expect_of}
-use Rattle.relay_law.proofs.Right.{first_front}
 
 opened_head : (x : Result Head Refusal) → refusal_in x ≡ None → (head : Head) × (x ≡ Ok head)
 opened_head (Ok head) h = (head, refl)

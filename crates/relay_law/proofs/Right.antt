@@ -1,5 +1,5 @@
 -- Checks that open and link rightly are right.
-use Rattle.std.proofs.Common.{◌≡◌, ℕ, true, false, List, [], ◌∷◌, ◌++◌, Option, Some, None, Result, Ok, Err, refl, ap, ◌∙◌, sym, subst, cond}
+use Rattle.std.proofs.Common.{◌≡◌, ℕ, true, false, List, ◌∷◌, Option, Some, None, Result, Ok, Err, refl, ap, ◌∙◌, sym, subst}
 use Rattle.std.proofs.lemmas.Bool.{true≢false, or_parts}
 use Rattle.std.specs.List.{list_any}
 use Rattle.at_commit.specs.declared.commit.Commit.{Commit}
@@ -9,7 +9,8 @@ use Rattle.at_event.specs.declared.event.Body.{Body}
 use Rattle.at_event.specs.declared.event.CommitEvent.{CommitEvent}
 use Rattle.at_event.specs.declared.head.Head.{Head}
 use Rattle.at_event.specs.declared.refusal.Refusal.{Refusal}
-use Rattle.event_checks.specs.Lines.{Line, first_of}
+use Rattle.event_checks.proofs.Firsts.{first_front}
+use Rattle.event_checks.specs.Lines.{first_of}
 use Rattle.event_checks.specs.Opening.{CarResult, object_in, root_in}
 use Rattle.event_checks.specs.Table.{car_in, field_lines, block_lines, is_stale}
 use Rattle.account_state.specs.declared.repo.Repo.{Repo}
@@ -29,11 +30,6 @@ pub held_in : (c : CommitEvent) (car : CarResult) → car_in c ≡ car → (link
 held_in c (Ok (roots, blocks)) is link block commit rooted object =
     (record { roots = roots; blocks = blocks; commit = commit; car = is; object = ap object_in is ∙ object }, refl)
 held_in c (Err fault) is link block commit rooted object = absurd cc
-
-pub first_front : (xs ys : List Line) → first_of (xs ++ ys) ≡ None → first_of xs ≡ None
-first_front [] ys h = refl
-first_front (line ∷ xs) ys h =
-    elim line.1 as (λ b. cond b (Some line.0) (first_of (xs ++ ys)) ≡ None → cond b (Some line.0) (first_of xs) ≡ None) [ true ↦ λ e. e | false ↦ λ e. first_front xs ys e ] h
 
 pub body_back : (P : Body → Type 0) (b : Body) (c : CommitEvent) → b ≡ Body.Commit c → P b → P (Body.Commit c)
 body_back P b c is p = subst P is p

@@ -15,7 +15,8 @@ use Rattle.mst_whole.specs.declared.walking.WalkFault.{WalkFault}
 use Rattle.event_checks.specs.Opening.{CarResult, block_in}
 use Rattle.repo_sync.specs.Checks.{IsRefused}
 use Rattle.repo_sync.specs.Faults.{of_walk}
-use Rattle.repo_sync.specs.Repository.{commit_lines, first_of, found_of, is_read, lines, Holds, IsTorn, IsWhole}
+use Rattle.event_checks.specs.Lines.{first_of}
+use Rattle.repo_sync.specs.Repository.{commit_lines, found_of, is_read, lines, Holds, IsTorn, IsWhole}
 use Rattle.repo_sync.specs.Scans.{HoldsKept, IsTornAt, JudgesAs, Scans}
 use Rattle.repo_sync.specs.declared.fault.RepoFault.{RepoFault}
 use Rattle.repo_sync.specs.declared.found.Found.{Found}

@@ -11,7 +11,8 @@ use Rattle.mst_whole.proofs.Walked.{answer_is}
 use Rattle.event_checks.specs.Opening.{CarResult}
 use Rattle.repo_sync.specs.Checks.{ChecksExactly, IsRefused}
 use Rattle.repo_sync.specs.Faults.{of_walk}
-use Rattle.repo_sync.specs.Repository.{first_of, found_of, lines, Holds, IsAnswer, IsWhole}
+use Rattle.event_checks.specs.Lines.{first_of}
+use Rattle.repo_sync.specs.Repository.{found_of, lines, Holds, IsAnswer, IsWhole}
 use Rattle.repo_sync.specs.declared.fault.RepoFault.{RepoFault}
 use Rattle.repo_sync.specs.declared.found.Found.{Found}
 

@@ -1,5 +1,5 @@
 -- The bytes of a repository come to an answer.
-use Rattle.std.proofs.Common.{◌≡◌, ℕ, Bool, true, false, List, [], ◌∷◌, Option, Some, None, Result, Ok, Err, refl, sym, ap, ◌∙◌, subst}
+use Rattle.std.proofs.Common.{◌≡◌, ℕ, Bool, true, false, List, Option, Some, None, Result, Ok, Err, refl, subst}
 use Rattle.std.specs.Prelude.{not, is_some}
 use Rattle.std.specs.FinMap as map
 use Rattle.at_cid.specs.Link.{IsBytes}
@@ -11,10 +11,12 @@ use Rattle.at_commit.specs.Commit.{commit_of}
 use Rattle.at_commit.specs.declared.commit.Commit.{Commit}
 use Rattle.at_commit.specs.declared.fault.CommitFault.{CommitFault}
 use Rattle.at_commit.proofs.Nodes.{data_is_node}
+use Rattle.event_checks.proofs.Firsts.{AllTell, all_unmet, first_tells}
+use Rattle.event_checks.specs.Lines.{first_of}
 use Rattle.event_checks.specs.Opening.{CarResult, block_in, object_in_block, object_of}
 use Rattle.mst_whole.specs.Walks.{IsWalked}
 use Rattle.mst_whole.specs.declared.walking.WalkFault.{WalkFault}
-use Rattle.repo_sync.specs.Repository.{Line, first_of, found_of, is_read, lines, Holds, IsAnswer}
+use Rattle.repo_sync.specs.Repository.{Line, found_of, is_read, lines, Holds, IsAnswer}
 use Rattle.repo_sync.specs.declared.fault.RepoFault.{RepoFault}
 use Rattle.repo_sync.specs.declared.found.Found.{Found}
 use Rattle.repo_sync.proofs.Linked.{car_linked, walk_ends}
@@ -25,14 +27,8 @@ is_aside (RepoFault.NotWhole c) = false
 is_aside (RepoFault.BadNode c) = false
 is_aside fault = true
 
-abbrev AreAside : List Line → Type 0
-AreAside [] = Unit {0}
-AreAside (line ∷ ls) = (is_aside line.0 ≡ true) × AreAside ls
-
-first_aside : (ls : List Line) (fault : RepoFault) → AreAside ls → first_of ls ≡ Some fault → is_aside fault ≡ true
-first_aside [] fault are e = absurd (cc)
-first_aside ((told, true) ∷ ls) fault are e = let same : told ≡ fault = cc in sym (ap is_aside same) ∙ are.0
-first_aside ((told, false) ∷ ls) fault are e = first_aside ls fault are.1 e
+first_aside : (ls : List Line) (fault : RepoFault) → AllTell (λ told. is_aside told ≡ true) ls → first_of ls ≡ Some fault → is_aside fault ≡ true
+first_aside ls fault are e = first_tells (λ told. is_aside told ≡ true) ls fault are e
 
 -- a line that applies is told
 at_line : (did : List ℕ) (least : Option ℕ) (bytes : List ℕ) (fault : RepoFault) → is_aside fault ≡ true → first_of (lines did least bytes) ≡ Some fault → IsAnswer did least bytes (Err fault)
@@ -47,16 +43,6 @@ at_line did least bytes RepoFault.Memory aside e = e
 at_line did least bytes RepoFault.TooLong aside e = e
 at_line did least bytes RepoFault.BadSignature aside e = e
 at_line did least bytes RepoFault.Failed aside e = e
-
--- no line applies
-abbrev AreUnmet : List Line → Type 0
-AreUnmet [] = Unit {0}
-AreUnmet (line ∷ ls) = (line.1 ≡ false) × AreUnmet ls
-
-all_unmet : (ls : List Line) → first_of ls ≡ None → AreUnmet ls
-all_unmet [] e = tt
-all_unmet ((told, true) ∷ ls) e = absurd (cc)
-all_unmet ((told, false) ∷ ls) e = (refl, all_unmet ls e)
 
 read_car : (c : CarResult) → not (is_read c) ≡ false → (roots : List (List ℕ)) × (blocks : BlockMap) × (c ≡ Ok (roots, blocks))
 read_car (Ok car) e = (car.0, car.1, refl)

@@ -1,12 +1,12 @@
 -- What the lines of a `#sync` event tell.
-use Rattle.std.proofs.Common.{◌≡◌, ℕ, Bool, true, false, cond, List, [], ◌∷◌, ◌++◌, length, Option, Some, None, Result, Ok, Err, refl, sym, ap, ◌∙◌, subst}
+use Rattle.std.proofs.Common.{◌≡◌, ℕ, Bool, false, cond, length, Option, Some, None, Result, Ok, Err, refl, sym, ap, ◌∙◌, subst}
 use Rattle.std.specs.Prelude.{IfOk, IfErr, OnOk, nat_lt}
 use Rattle.at_car.specs.Car.{car_of}
 use Rattle.at_event.specs.declared.event.SyncEvent.{SyncEvent}
 use Rattle.at_event.specs.declared.refusal.Refusal.{Refusal}
-use Rattle.event_checks.proofs.Firsts.{first_unjudged}
+use Rattle.event_checks.proofs.Firsts.{first_unjudged, lines_first, lines_on}
 use Rattle.event_checks.specs.Faults.{IsShown}
-use Rattle.event_checks.specs.Lines.{Line, first_of}
+use Rattle.event_checks.specs.Lines.{first_of}
 use Rattle.event_checks.specs.Opening.{CarResult, car_lines, form_lines, object_lines}
 use Rattle.event_checks.specs.Table.{is_stale, sync_lines}
 use Rattle.event_checks.specs.declared.fault.OpenFault.{OpenFault}
@@ -14,18 +14,6 @@ use Rattle.event_checks.specs.declared.limits.TheConstants.{MOST_SYNC_BYTES}
 use Rattle.repo_sync.specs.Repository.{found_of}
 use Rattle.repo_sync.specs.Sync.{IsFoundIn, IsSynced, IsUnjudged, SyncsExactly}
 use Rattle.repo_sync.specs.declared.found.Found.{Found}
-
--- what stands behind lines of which none applies
-lines_on : (xs ys : List Line) → first_of xs ≡ None → first_of (xs ++ ys) ≡ first_of ys
-lines_on [] ys h = refl
-lines_on ((r, true) ∷ xs) ys h = absurd (cc)
-lines_on ((r, false) ∷ xs) ys h = lines_on xs ys h
-
--- the first that applies stays the first
-lines_first : (xs ys : List Line) (r : Refusal) → first_of xs ≡ Some r → first_of (xs ++ ys) ≡ Some r
-lines_first [] ys r h = absurd (cc)
-lines_first ((t, true) ∷ xs) ys r h = h
-lines_first ((t, false) ∷ xs) ys r h = lines_first xs ys r h
 
 -- what the lines tell, by whether the blocks are too long, the revision is stale, and what the blocks read as
 told_by : SyncEvent → Bool → Bool → CarResult → Option Refusal

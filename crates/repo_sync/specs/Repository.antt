@@ -1,6 +1,6 @@
 -- What the bytes of a repository come to: a CAR, the commit object under its first root, and the tree under that one's `data`.
 -- (Repository specification, version 3: "CAR File Serialization", "Commit Objects", "MST Structure".)
-use Rattle.std.specs.Prelude.{◌≡◌, ℕ, List, [], ◌∷◌, length, Bool, true, false, not, nat_lt, if◌then◌else◌, is_some, Option, Some, None, Result, Ok, Err}
+use Rattle.std.specs.Prelude.{◌≡◌, ℕ, List, [], ◌∷◌, length, Bool, true, false, not, nat_lt, is_some, Option, Some, None, Result, Ok, Err}
 use Rattle.std.specs.FinMap as map
 use Rattle.std.specs.Str.{bytes_eq}
 use Rattle.sha2.specs.Sha256.{sha256}
@@ -9,6 +9,7 @@ use Rattle.at_car.specs.Car.{car_of}
 use Rattle.at_car.specs.Standing.{root_of}
 use Rattle.at_commit.specs.Commit.{commit_of}
 use Rattle.at_commit.specs.declared.commit.Commit.{Commit}
+use Rattle.event_checks.specs.Lines.{first_of}
 use Rattle.event_checks.specs.Opening.{CarResult, block_in, object_in_block}
 use Rattle.mst_whole.specs.Walks.{HasKeys, IsWalkFault}
 use Rattle.mst_whole.specs.declared.walking.WalkFault.{WalkFault}
@@ -37,11 +38,6 @@ lags (Some least) rev = nat_lt rev least
 -- a fault, and whether its condition applies
 abbrev pub Line : Type 0
 Line = RepoFault × Bool
-
--- the first fault whose condition applies
-abbrev pub first_of : List Line → Option RepoFault
-first_of [] = None
-first_of (line ∷ lines) = if line.1 then Some line.0 else first_of lines
 
 -- what the block under the first root shows
 abbrev pub commit_lines : List ℕ → Option ℕ → Option (List ℕ) → List Line

@@ -11,7 +11,8 @@ use Rattle.at_commit.specs.Commit.{commit_of}
 use Rattle.at_commit.specs.declared.commit.Commit.{Commit}
 use Rattle.mst_whole.specs.Walks.{is_node_block, HasKeys, IsWalkFault}
 use Rattle.mst_whole.specs.declared.walking.WalkFault.{WalkFault}
-use Rattle.repo_sync.specs.Repository.{commit_lines, first_of, found_of}
+use Rattle.event_checks.specs.Lines.{first_of}
+use Rattle.repo_sync.specs.Repository.{commit_lines, found_of}
 use Rattle.repo_sync.specs.declared.fault.RepoFault.{RepoFault}
 use Rattle.repo_sync.specs.declared.found.Found.{Found}
 use Rattle.repo_sync.specs.declared.limits.TheConstants.{MOST_REPOSITORY_BYTES}

@@ -8,7 +8,8 @@ ghost use Rattle.at_car.specs.Standing.{root_of};
 ghost use Rattle.at_commit.specs.Commit.{commit_of};
 ghost use Rattle.mst_whole.specs.Walks.{is_node_block, HasKeys};
 ghost use Rattle.event_checks.specs.Opening.{object_of};
-ghost use Rattle.repo_sync.specs.Repository.{commit_lines, first_of, lags};
+ghost use Rattle.event_checks.specs.Lines.{first_of};
+ghost use Rattle.repo_sync.specs.Repository.{commit_lines, lags};
 ghost use Rattle.repo_sync.specs.Scans.{IsNoObject, IsShown, IsTornAt, JudgesAs};
 
 use crate::fault::RepoFault;

@@ -1,9 +1,9 @@
 //! `BODIES = last NUMBER hosts .. accounts ..`: the state behind the rows, told by the whole state, and by the accounts and the
-//! hosts each folded alone. `nexts`: `BODIES ; DID = DID, or none`.
+//! hosts each folded alone. `nexts`: `BODIES ; DID = DID, or none`. `account_states`: `BODIES ; TOUCHED ; DID = ACCOUNT, or none`.
 
 use crate::cores::core_of;
 use crate::journals::journal;
-use crate::telling::{Named, add_accounts, add_hosts};
+use crate::telling::{Named, add_account, add_accounts, add_hosts};
 use account_state::Accounts;
 use anyhow::{Context, Result, bail, ensure};
 use host_state::Hosts;
@@ -14,6 +14,8 @@ use vector_lines::Subject;
 pub struct Folds;
 
 pub struct Nexts;
+
+pub struct States;
 
 fn accounts_of(alloc: Global, text: &str) -> Result<Accounts> {
     let mut accounts = Accounts::new(alloc);
@@ -82,5 +84,22 @@ impl Subject for Nexts {
             .map(|(next, _)| next)
             .unwrap_or("none");
         Ok(next.to_string(alloc)?)
+    }
+}
+
+impl Subject for States {
+    fn answer(&self, alloc: Global, input: &str) -> Result<String> {
+        let (bodies, rest) = input.split_once(" ; ").context("a touched DID")?;
+        let (touched, did) = rest.split_once(" ; ").context("a DID")?;
+        let mut core = core_of(alloc, bodies)?;
+        if touched != "-" && core.touch("", touched).is_err() {
+            bail!("out of memory");
+        }
+        let Some(account) = core.account(did) else {
+            return Ok("none".to_string(alloc)?);
+        };
+        let mut text = String::new(alloc);
+        add_account(&mut text, account)?;
+        Ok(text)
     }
 }

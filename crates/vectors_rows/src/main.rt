@@ -16,7 +16,7 @@ use anyhow::Result;
 use bodies::Bodies;
 use decisions::Decisions;
 use facts::{Facts, Losses};
-use folds::{Folds, Nexts};
+use folds::{Folds, Nexts, States};
 use operations::Operations;
 use orders::Orders;
 use std::process::ExitCode;
@@ -31,6 +31,7 @@ fn compared(rt: &HostRuntime) -> Result<Suite> {
     suite.file(rt, "accounts", &Folds)?;
     suite.file(rt, "folds", &Folds)?;
     suite.file(rt, "nexts", &Nexts)?;
+    suite.file(rt, "account_states", &States)?;
     suite.file(rt, "orders", &Orders)?;
     suite.file(rt, "decisions", &Decisions)?;
     suite.file(rt, "own_decisions", &Decisions)?;

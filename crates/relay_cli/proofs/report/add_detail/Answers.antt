@@ -1,6 +1,6 @@
 use Rattle.std.proofs.Common.{◌++◌, sym, ap, ◌∙◌, codes}
 use Rattle.at_cid.specs.Text.{text_of}
-use Rattle.relay_cli.specs.Report.{detail_of}
+use Rattle.relay_core.specs.Report.{detail_of}
 use Rattle.relay_cli.proofs.Lines.{joined}
 use Rattle.relay_cli.proofs.report.add_detail.Goals as goal
 
