@@ -1,6 +1,6 @@
 -- The calls that were made about an event are those that its row shows.
 use Rattle.std.proofs.Common.{◌≡◌, ℕ, ◌+◌, ◌≤◌, ◌⊎◌, inl, inr, ⊎_elim, Bool, true, false, not, ◌&&◌, ◌||◌, cond, List, [], ◌∷◌, ◌++◌, length, Option, Some, None, Result, Ok, Err, refl, sym, ap, ◌∙◌, subst, arith}
-use Rattle.std.specs.Prelude.{◌==◌, nat_le, nat_lt, option_map}
+use Rattle.std.specs.Prelude.{◌==◌, nat_le, nat_lt, option_map, OnErr}
 use Rattle.std.specs.List.{filter, list_all}
 use Rattle.std.proofs.lemmas.Bool.{and_parts}
 use Rattle.at_authority.specs.Calls.{Call, answers, refreshes, fails, IsCall, AreCalls}
@@ -171,6 +171,26 @@ module _ (e : Seen) (host : List ℕ) where
 
   -- ---- the calls of an identity and of an account
 
+  abbrev IdentityMade : Bool → Option Bool → Option Refusal → Type 0
+  IdentityMade refreshed home r = refresh_told e.did refreshed ++ (home_told e.did host home ++ []) ≡ cond (asks_for_home r) (refreshes e.did ∷ answers (asks_home e.did host) (shows_home r) ∷ []) [] ++ cond (asks_for_verdict r) [] []
+
+  as_made : (refreshed : Bool) (home : Option Bool) (q r : Option Refusal) → r ≡ q → IdentityMade refreshed home q → IdentityMade refreshed home r
+  as_made refreshed home q r same h = let P : Option Refusal → Type 0 = λ s. IdentityMade refreshed home s in subst P (sym same) h
+
+  identity_made : (l refreshed : Bool) (home : Option Bool) (d : Bool) (r : Option Refusal) → (when l Refusal.TooLong ≡ None) ⊎ ((refreshed ≡ false) × (home ≡ None))
+      → walk (told (when l Refusal.TooLong) ∷ asked Question.Refresh (cond refreshed (Some None) None) ∷ asked Question.Home (option_map (λ yes. when (not yes) Refusal.NotHome) home) ∷ told (when d Refusal.TakenDown) ∷ []) ≡ ended r
+      → IdentityMade refreshed home r
+  identity_made true refreshed home d r (inl s) h = absurd (some_none Refusal.TooLong s)
+  identity_made true refreshed home d r (inr n) h =
+      let P : Bool → Type 0 = λ b. IdentityMade b home r in
+      let Q : Option Bool → Type 0 = λ o. IdentityMade false o r in
+      subst P (sym n.0) (subst Q (sym n.1) (as_made false None (Some Refusal.TooLong) r (refuses_as Refusal.TooLong r h) refl))
+  identity_made false false home d r short h = absurd (waits_on Question.Refresh r h)
+  identity_made false true None d r short h = absurd (waits_on Question.Home r h)
+  identity_made false true (Some false) d r short h = as_made true (Some false) (Some Refusal.NotHome) r (refuses_as Refusal.NotHome r h) refl
+  identity_made false true (Some true) true r short h = as_made true (Some true) (Some Refusal.TakenDown) r (refuses_as Refusal.TakenDown r h) refl
+  identity_made false true (Some true) false r short h = as_made true (Some true) None r (passes_as r h) refl
+
   identity_calls : (l refreshed : Bool) (home : Option Bool) (d : Bool) (verdict : Option Bool) (r : Option Refusal) → (when l Refusal.TooLong ≡ None) ⊎ ((refreshed ≡ false) × (home ≡ None)) → verdict ≡ None → e.body ≡ Body.Identity
       → walk (told (when l Refusal.TooLong) ∷ asked Question.Refresh (cond refreshed (Some None) None) ∷ asked Question.Home (option_map (λ yes. when (not yes) Refusal.NotHome) home) ∷ told (when d Refusal.TakenDown) ∷ []) ≡ ended r
       → refresh_told e.did refreshed ++ (home_told e.did host home ++ verdict_told e verdict) ≡ home_calls host e r ++ verdict_calls e r
@@ -179,28 +199,7 @@ module _ (e : Seen) (host : List ℕ) where
           ≡ cond (asks_for_home r) (refresh_calls e b ++ answers (asks_home e.did host) (shows_home r) ∷ []) [] ++ cond (asks_for_verdict r) (verdict_call e.did (signed_by b) (shows_verdict r)) [] in
       let Q : Option Bool → Type 0 = λ v. refresh_told e.did refreshed ++ (home_told e.did host home ++ verdict_told e v)
           ≡ cond (asks_for_home r) (refreshes e.did ∷ answers (asks_home e.did host) (shows_home r) ∷ []) [] ++ cond (asks_for_verdict r) [] [] in
-      subst P (sym body) (subst Q (sym none) (go l refreshed home d r short h))
-    where
-      Made : Bool → Option Bool → Option Refusal → Type 0
-      Made refreshed home r = refresh_told e.did refreshed ++ (home_told e.did host home ++ []) ≡ cond (asks_for_home r) (refreshes e.did ∷ answers (asks_home e.did host) (shows_home r) ∷ []) [] ++ cond (asks_for_verdict r) [] []
-
-      as_made : (refreshed : Bool) (home : Option Bool) (q r : Option Refusal) → r ≡ q → Made refreshed home q → Made refreshed home r
-      as_made refreshed home q r same h = let P : Option Refusal → Type 0 = λ s. Made refreshed home s in subst P (sym same) h
-
-      go : (l refreshed : Bool) (home : Option Bool) (d : Bool) (r : Option Refusal) → (when l Refusal.TooLong ≡ None) ⊎ ((refreshed ≡ false) × (home ≡ None))
-          → walk (told (when l Refusal.TooLong) ∷ asked Question.Refresh (cond refreshed (Some None) None) ∷ asked Question.Home (option_map (λ yes. when (not yes) Refusal.NotHome) home) ∷ told (when d Refusal.TakenDown) ∷ []) ≡ ended r
-          → Made refreshed home r
-      unfolding Made
-      go true refreshed home d r (inl s) h = absurd (some_none Refusal.TooLong s)
-      go true refreshed home d r (inr n) h =
-          let P : Bool → Type 0 = λ b. Made b home r in
-          let Q : Option Bool → Type 0 = λ o. Made false o r in
-          subst P (sym n.0) (subst Q (sym n.1) (as_made false None (Some Refusal.TooLong) r (refuses_as Refusal.TooLong r h) refl))
-      go false false home d r short h = absurd (waits_on Question.Refresh r h)
-      go false true None d r short h = absurd (waits_on Question.Home r h)
-      go false true (Some false) d r short h = as_made true (Some false) (Some Refusal.NotHome) r (refuses_as Refusal.NotHome r h) refl
-      go false true (Some true) true r short h = as_made true (Some true) (Some Refusal.TakenDown) r (refuses_as Refusal.TakenDown r h) refl
-      go false true (Some true) false r short h = as_made true (Some true) None r (passes_as r h) refl
+      subst P (sym body) (subst Q (sym none) (identity_made l refreshed home d r short h))
 
   account_calls : (l : Bool) (home : Option Bool) (r : Option Refusal) → (when l Refusal.TooLong ≡ None) ⊎ (home ≡ None)
       → walk (told (when l Refusal.TooLong) ∷ asked Question.Home (option_map (λ yes. when (not yes) Refusal.NotHome) home) ∷ []) ≡ ended r
@@ -343,3 +342,10 @@ found_plain did (found head records block) calls are = rw are.are ((refl, tt), r
 
 pub plain_fetch : (old new : Panel) (did : List ℕ) (f : Found) → AnsweredFetch old did f new → AskedPlain old did new
 plain_fetch old new did f is = let both = found_plain did f is.calls is.are in record { calls = is.calls; about = both.0; plain = both.1; made = is.made }
+
+pub plain_failed_as : (old new : Panel) (did d : List ℕ) → d ≡ did → IsCall (fails d) old new → AskedPlain old did new
+plain_failed_as old new did d same call = let P : List ℕ → Type 0 = λ x. IsCall (fails x) old new in plain_failed old new did (subst P same call)
+
+pub on_err : {A E : Type 0} (r : Result A E) (X : Type 0) → X → OnErr r X
+on_err (Ok x) X h = tt
+on_err (Err e) X h = h

@@ -204,7 +204,6 @@ fetched_later r x z within due = by_loses (loses (code_of r)) due
     either b (Some f) = cond b f Fetched.NotAsked
 
     none_either : (b : Bool) (o : Option Fetched) → b ≡ false → either b o ≡ Fetched.NotAsked
-    unfolding either
     none_either b None h = refl
     none_either b (Some f) h = rw h refl
 

@@ -1,6 +1,6 @@
 -- An event whose refusal loses its account.
 use Rattle.std.proofs.Common.{◌≡◌, ◌≢◌, ℕ, ◌+◌, ◌<◌, ◌≤◌, ◌⊎◌, inl, inr, ⊎_elim, Bool, true, false, not, cond, List, [], ◌∷◌, ◌++◌, length, Option, Some, None, Result, Ok, Err, refl, sym, ap, ◌∙◌, subst}
-use Rattle.std.specs.Prelude.{nat_le, IsTrue}
+use Rattle.std.specs.Prelude.{nat_le, IsTrue, IfOk, OnOk}
 use Rattle.at_authority.specs.Calls.{Call, AreCalls}
 use Rattle.at_authority.specs.Panels.{Panel}
 use Rattle.at_authority.proofs.Runs.{join}
@@ -19,7 +19,7 @@ use Rattle.relay_row.specs.declared.limits.TheConstants.{NUMBERS}
 use Rattle.relay_row.specs.declared.row.Row.{Row}
 use Rattle.account_state.specs.State.{State}
 use Rattle.relay_core.specs.Decide.{Checks, Found, absent, unfit, found, made}
-use Rattle.relay_core.specs.Entries.{Holds, account_in, cursor_in}
+use Rattle.relay_core.specs.Entries.{account_in, cursor_in}
 use Rattle.relay_core.specs.Opening.{OpensRight}
 use Rattle.relay_core.specs.Rows.{event_taken}
 use Rattle.relay_core.specs.Sending.{CanBeSent, IsSendable}
@@ -33,7 +33,24 @@ use Rattle.relay_core.specs.declared.journal_state.Core.{Core}
 use Rattle.relay_law.specs.Formed.{AreAnswersTo, IsFetchedBehind}
 use Rattle.relay_step.specs.Fetches.{IsSent, IsTyped, MayBeKept, made_of}
 use Rattle.relay_step.specs.Questions.{AreAsked, IsJudgedLate, IsRenewedFirst, IsTidy, NoneAsked, PassedBefore, calls_told}
+use Rattle.account_state.specs.Folds.{last_rev}
+use Rattle.account_state.specs.declared.repo.Repo.{Repo}
+use Rattle.relay_core.specs.Decide.{old_if}
+use Rattle.relay_core.specs.Rows.{goes_out}
+use Rattle.relay_core.specs.Shown.{or_zero}
+use Rattle.relay_core.specs.Table.{did_of, no_answers}
+use Rattle.relay_step.specs.Around.{Around, SameRepositories, around}
+use Rattle.relay_step.specs.Fetches.{is_good}
+use Rattle.relay_step.specs.Fetching.{IsFetchedFrom}
+use Rattle.relay_step.specs.Messages.{EndsNumbers}
+use Rattle.relay_step.specs.Operators.{AnsweredFetch}
+use Rattle.relay_step.specs.Questions.{IsLinkAnswer, IsTimedSo}
+use Rattle.relay_step.specs.Taking.{EventTold, IsFetchOf, IsFetchedSo, LostTook}
+use Rattle.relay_step.specs.declared.fault.StepFault.{StepFault}
+use Rattle.relay_step.specs.declared.told.Told.{Told as Outcome}
 use Rattle.relay_step.proofs.Calls.{ended, moment_there}
+use Rattle.relay_step.proofs.Decisions.{passes_over}
+use Rattle.relay_step.proofs.Taken.{gives_of, lost_gives, sent_gives}
 use Rattle.relay_step.proofs.Walks.{asked_above, lost_walk}
 
 -- the decision of a refusal behind which this was fetched
@@ -148,3 +165,153 @@ made_sendable last e (found h k b) named short may sent head records block same 
       car_short = sent.1.short;
       number = sent.0;
     }))
+
+-- ---- the row of an event whose account was lost
+
+same_frame : (c : Core) (host : List ℕ) (frame : Frame) (e : Seen) (x : Answers) → frame ≡ Frame.Event e → next_of (cursor_in c host) (account_in c (did_of frame)) frame x ≡ next_of (cursor_in c host) (account_in c e.did) (Frame.Event e) x
+same_frame c host frame e x is = ap (λ (f : Frame). next_of (cursor_in c host) (account_in c (did_of f)) f x) is
+
+-- what comes next of the event
+pub next_event : (c : Core) (host : List ℕ) (frame : Frame) (e : Seen) (x : Answers) (n : Next) → frame ≡ Frame.Event e → n ≡ next_of (cursor_in c host) (account_in c (did_of frame)) frame x → next_of (cursor_in c host) (account_in c e.did) (Frame.Event e) x ≡ n
+next_event c host frame e x n is next = sym (next ∙ same_frame c host frame e x is)
+
+pub beside_last : (c : Core) (did d : List ℕ) (last : Option ℕ) (repo : Repo) → last ≡ last_rev repo → repo ≡ (account_in c d).repo → d ≡ did → last ≡ last_rev (account_in c did).repo
+beside_last c did d last repo one two same = one ∙ ap last_rev two ∙ ap (λ (x : List ℕ). last_rev (account_in c x).repo) same
+
+module _ (repos_tell : Bool) (c : Core) (host : List ℕ) (e : Seen) (x : Answers) (f : Fetched) (d : Decision) (w : Found) (old : Panel) (repository : List ℕ → Option (List ℕ)) (new : Panel)
+    (asks : next_of (cursor_in c host) (account_in c e.did) (Frame.Event e) x ≡ Next.Ask Question.Fetch) (made_is : f ≡ made_of c.last e.did e.time w) (named : is_did e.did ≡ true) (short : length e.time ≤ 64) (may : MayBeKept w) (sent : IsSent c.last e.did e.time w)
+    (asked : AnsweredFetch old e.did w new) (told : IsTrue repos_tell → IsFetchedFrom (repository e.did) e.did (last_rev (account_in c e.did).repo) (or_zero x.moment) (is_good w) w)
+    (done : next_of (cursor_in c host) (account_in c e.did) (Frame.Event e) (record x { fetched = Some f }) ≡ Next.Done d) where
+  pub lost_refused : d.refusal ≡ Some (asks_fetch (cursor_in c host) (account_in c e.did) e x asks).lost
+  lost_refused =
+      let there = asks_fetch (cursor_in c host) (account_in c e.did) e x asks in
+      let other = there.decides f in
+      let same : other.0 ≡ d = done_same other.0 d (sym other.1 ∙ done) in
+      ap (λ (k : Decision). k.refusal) (sym same) ∙ other.2
+    where
+      done_same : (p q : Decision) → Next.Done p ≡ Next.Done q → p ≡ q
+      done_same p q h = cc
+
+  lost_fetch : IsFetchOf repos_tell c.last (account_in c e.did) e repository (or_zero x.moment) d.refusal f asked.calls
+  lost_fetch = record {
+    lost = (asks_fetch (cursor_in c host) (account_in c e.did) e x asks).lost;
+    refused = lost_refused;
+    due = (asks_fetch (cursor_in c host) (account_in c e.did) e x asks).due;
+    what = w;
+    is = made_is ∙ made_same c.last e w;
+    sendable = made_sendable c.last e w named short may sent;
+    may = may;
+    calls = asked.are;
+    told = told;
+  }
+
+  pub lost_took : (r : Result Outcome StepFault) → IfOk r (λ told. told ≡ Outcome.Took (event_taken c.last host e d (record x { fetched = Some f }))) → OnOk r (goes_out d.refusal d.held ≡ true → c.last + 1 < NUMBERS)
+      → IfOk r (λ told. LostTook repos_tell c host e x told old repository new)
+  lost_took (Ok told) took number = record {
+    f = f;
+    d = d;
+    fetch = asked.calls;
+    done = done;
+    taken = took;
+    number = number;
+    fetched = lost_fetch;
+    behind = let P : Fetched → Type 0 = λ g. IsFetchedBehind c.last g in subst P (sym made_is) (made_behind c.last e.did e.time w may sent);
+    calls = asked.made;
+  }
+  lost_took (Err fault) took number = tt
+
+-- ---- from the questions to the row
+
+pub lost_told : (clock_tells repos_tell : Bool) (c : Core) (host : List ℕ) (e : Seen) (x : Answers) (old : Around) (mid : Panel) (left : List ℕ) (repository : List ℕ → Option (List ℕ)) (new : Panel) (r : Result Outcome StepFault)
+    → AreAsked clock_tells c.last (account_in c e.did) host e x old.panel old.moments mid left → next_of (cursor_in c host) (account_in c e.did) (Frame.Event e) x ≡ Next.Ask Question.Fetch
+    → (IsTrue repos_tell → SameRepositories old.repository repository) → IfOk r (λ told. LostTook repos_tell c host e x told mid old.repository new)
+    → IfOk r (λ told. EventTold clock_tells repos_tell c host e told old (around new left repository))
+lost_told clock_tells repos_tell c host e x old mid left repository new (Ok told) so_far asks same took =
+    let there = asks_fetch (cursor_in c host) (account_in c e.did) e x asks in
+    let P : Outcome → Type 0 = λ o. EventTold clock_tells repos_tell c host e o old (around new left repository) in
+    subst P (sym took.taken) (record {
+      x = record x { fetched = Some took.f };
+      d = took.d;
+      fetch = took.fetch;
+      done = took.done;
+      taken = refl;
+      number = took.number;
+      fetched = took.fetched;
+      calls = join old.panel mid new (calls_told host e x) took.fetch so_far.calls took.calls;
+      tidy = tidy_fetched (account_in c e.did) e x (Some took.f) there.moment there.taken so_far.tidy;
+      right = right_fetched c.last (account_in c e.did) e x took.f so_far.right took.behind;
+      linked = so_far.linked;
+      timed = so_far.timed;
+      same = same;
+    })
+lost_told clock_tells repos_tell c host e x old mid left repository new (Err fault) so_far asks same took = tt
+
+append_none : (xs : List Call) → xs ++ [] ≡ xs
+append_none [] = refl
+append_none (x ∷ xs) = ap (λ (l : List Call). x ∷ l) (append_none xs)
+
+-- an event that was decided with no fetch
+pub done_told : (clock_tells repos_tell : Bool) (c : Core) (host : List ℕ) (e : Seen) (x : Answers) (d : Decision) (old : Around) (new : Panel) (left : List ℕ) (r : Result Outcome StepFault)
+    → AreAsked clock_tells c.last (account_in c e.did) host e x old.panel old.moments new left → next_of (cursor_in c host) (account_in c e.did) (Frame.Event e) x ≡ Next.Done d
+    → IfOk r (λ told. told ≡ Outcome.Took (event_taken c.last host e d x)) → OnOk r (goes_out d.refusal d.held ≡ true → c.last + 1 < NUMBERS)
+    → IfOk r (λ told. EventTold clock_tells repos_tell c host e told old (around new left old.repository))
+done_told clock_tells repos_tell c host e x d old new left (Ok told) so_far done took number =
+    let P : Outcome → Type 0 = λ o. EventTold clock_tells repos_tell c host e o old (around new left old.repository) in
+    let Q : List Call → Type 0 = λ l. AreCalls old.panel l new in
+    let F : Option Fetched → Type 0 = λ o. IsFetchedSo repos_tell c.last (account_in c e.did) e old.repository (or_zero x.moment) d.refusal o [] in
+    subst P (sym took) (record {
+      x = x;
+      d = d;
+      fetch = [];
+      done = done;
+      taken = refl;
+      number = number;
+      fetched = subst F (sym so_far.unfetched) refl;
+      calls = subst Q (sym (append_none (calls_told host e x))) so_far.calls;
+      tidy = so_far.tidy;
+      right = so_far.right;
+      linked = so_far.linked;
+      timed = so_far.timed;
+      same = λ tells did. refl;
+    })
+done_told clock_tells repos_tell c host e x d old new left (Err fault) so_far done took number = tt
+
+early_none : (a : State) (host : List ℕ) (e : Seen) (x : Answers) → x ≡ no_answers → calls_told host e x ≡ []
+early_none a host e x is = ap (λ (y : Answers). calls_told host e y) is
+
+-- an event that is passed over: nothing was asked
+pub pass_told : (clock_tells repos_tell : Bool) (c : Core) (host : List ℕ) (e : Seen) (x : Answers) (pass : Pass) (old : Around) (new : Panel) (left : List ℕ)
+    → AreAsked clock_tells c.last (account_in c e.did) host e x old.panel old.moments new left → x ≡ no_answers → next_of (cursor_in c host) (account_in c e.did) (Frame.Event e) x ≡ Next.Pass pass
+    → EventTold clock_tells repos_tell c host e (Outcome.Passed pass) old (around new left old.repository)
+pass_told clock_tells repos_tell c host e x pass old new left so_far none passes =
+    let over = passes_over (cursor_in c host) (account_in c e.did) e x pass passes in
+    let P : List Call → Type 0 = λ l. AreCalls old.panel l new in
+    let M : Option ℕ → Type 0 = λ m. IsTrue clock_tells → IsTimedSo old.moments m left in
+    (ap old_if over.0 ∙ ap Some (sym over.1), record {
+      panel = subst P (early_none (account_in c e.did) host e x none) so_far.calls;
+      moments = subst M (ap (λ (y : Answers). y.moment) none) so_far.timed;
+      same = λ tells did. refl;
+    })
+
+-- ---- where the numbers end
+
+pub done_ends : (c : Core) (host : List ℕ) (e : Seen) (x : Answers) (d : Decision) → next_of (cursor_in c host) (account_in c e.did) (Frame.Event e) x ≡ Next.Done d → AreAnswersTo c.last (account_in c e.did) e x
+    → ((answer : Result (Unit {0}) Refusal) → x.linked ≡ Some answer → IsLinkAnswer (account_in c e.did).repo e answer) → x.fetched ≡ None → NUMBERS ≤ c.last + 1 → goes_out d.refusal d.held ≡ true → EndsNumbers c host (Ok (Frame.Event e))
+done_ends c host e x d done right linked unfetched ends out = (ends, λ checks J opens links holds. gives_of checks J c host e x d opens links holds done right linked absent (inl unfetched) (sent_gives c.last host e x d out))
+
+-- a head, for the sake of an example
+some_head : Head
+some_head = record { rev = 0; data_root = []; commit = [] }
+
+lost_seq : (last : ℕ) (host : List ℕ) (e : Seen) (x : Answers) (d : Decision) (lost : Refusal) → d.refusal ≡ Some lost → loses (code_of lost) ≡ true → seq_in (Row.Taken (event_taken last host e d (record x { fetched = Some (made last e (found some_head 0 [])) }))) ≡ last + 1
+unfolding some_head
+lost_seq last host e x d lost is due = rw (is, due) refl
+
+pub lost_ends : (c : Core) (host : List ℕ) (e : Seen) (x : Answers) → next_of (cursor_in c host) (account_in c e.did) (Frame.Event e) x ≡ Next.Ask Question.Fetch → AreAnswersTo c.last (account_in c e.did) e x
+    → ((answer : Result (Unit {0}) Refusal) → x.linked ≡ Some answer → IsLinkAnswer (account_in c e.did).repo e answer) → NUMBERS ≤ c.last + 1 → EndsNumbers c host (Ok (Frame.Event e))
+lost_ends c host e x asks right linked ends =
+    let there = asks_fetch (cursor_in c host) (account_in c e.did) e x asks in
+    let f = made c.last e (found some_head 0 []) in
+    let other = there.decides f in
+    (ends, λ checks J opens links holds.
+    lost_gives checks J c host e (record x { fetched = Some f }) other.0 opens links holds other.1 right.opened linked (found some_head 0 []) refl (lost_seq c.last host e x other.0 there.lost other.2 there.due))

@@ -27,7 +27,9 @@ use Rattle.relay_core.proofs.Asking.{ask_open}
 use Rattle.relay_law.specs.Formed.{AreAnswersTo, IsOpenedAs}
 use Rattle.relay_law.specs.Right.{expect_of}
 use Rattle.relay_step.specs.Asked.{signed_by, verdict_call}
-use Rattle.relay_step.specs.Questions.{AreAsked, IsJudgedLate, IsLinkAnswer, IsRenewedFirst, IsTidy, IsTimedSo, NoneAsked, PassedBefore, calls_told, has_blocks, home_told, is_commit, length_line, open_count, refresh_told, verdict_told}
+use Rattle.relay_step.specs.Questions.{AreAsked, IsJudgedLate, IsLinkAnswer, IsReadFor, IsReadOf, IsRenewedFirst, IsTidy, IsTimedSo, NoneAsked, PassedBefore, calls_told, has_blocks, home_told, is_commit, length_line, open_count, refresh_told, verdict_told}
+use Rattle.account_state.specs.declared.repo.Repo.{Repo}
+use Rattle.relay_step.specs.declared.reading.Read.{Read}
 use Rattle.relay_step.specs.Words.{IsNow}
 use Rattle.relay_step.proofs.Walks.{AtBody, IsPassedBefore, at_body, blocks_asked, commit_asked, event_waits, home_renewed, identity_asked, passed_before}
 
@@ -85,10 +87,10 @@ renewed_again Body.Identity x y same other h = ⊎_elim (λ home. ⊎_elim (λ r
 renewed_again (Body.Account b) x y same other h = same ∙ h
 
 renewed_last : (body : Body) (x : Answers) → body ≡ Body.Identity → IsRenewedFirst body x → x.refreshed ≡ false → x.home ≡ None
-renewed_last (Body.Commit c) x is h no = absurd cc
-renewed_last (Body.Sync s) x is h no = absurd cc
-renewed_last Body.Identity x is h no = ⊎_elim (λ r. absurd cc) (λ none. none) h
-renewed_last (Body.Account b) x is h no = absurd cc
+renewed_last (Body.Commit c) x is h late = absurd cc
+renewed_last (Body.Sync s) x is h late = absurd cc
+renewed_last Body.Identity x is h late = ⊎_elim (λ r. absurd cc) (λ none. none) h
+renewed_last (Body.Account b) x is h late = absurd cc
 
 renewed_now : (body : Body) (x : Answers) → body ≡ Body.Identity → IsRenewedFirst body (record x { refreshed = true })
 renewed_now (Body.Commit c) x is = absurd cc
@@ -322,3 +324,23 @@ module _ (cursor : ℕ) (a : State) (f : Frame) (x : Answers) where
 
   pub link_falls : (r : Result (Unit {0}) Refusal) → next_of cursor a f x ≡ Next.Ask Question.Link → open_count (record x { linked = Some r }) < open_count x
   link_falls r asks = rw (open_at Question.Link asks) (omega arith)
+
+-- ---- as the code has it
+
+pub asks_as : (cursor : ℕ) (a : State) (f : Frame) (x : Answers) (q p : Question) → next_of cursor a f x ≡ Next.Ask q → q ≡ p → next_of cursor a f x ≡ Next.Ask p
+asks_as cursor a f x q p asks same = asks ∙ ap Next.Ask same
+
+pub home_call : (d did host : List ℕ) (is_home : Bool) (old new : Panel) → d ≡ did → IsCall (answers (asks_home d host) is_home) old new → IsCall (answers (asks_home did host) is_home) old new
+home_call d did host is_home old new same call = let P : List ℕ → Type 0 = λ x. IsCall (answers (asks_home x host) is_home) old new in subst P same call
+
+pub refresh_call : (d did : List ℕ) (old new : Panel) → d ≡ did → IsCall (refreshes d) old new → IsCall (refreshes did) old new
+refresh_call d did old new same call = let P : List ℕ → Type 0 = λ x. IsCall (refreshes x) old new in subst P same call
+
+pub opened_beside : (body : Body) (last : Option ℕ) (repo : Repo) (a : State) (answer : Result Head Refusal) → last ≡ last_rev repo → repo ≡ a.repo → IsOpenedAs body last answer → IsOpenedAs body (last_rev a.repo) answer
+opened_beside body last repo a answer one two is = let P : Option ℕ → Type 0 = λ l. IsOpenedAs body l answer in subst P (one ∙ ap last_rev two) is
+
+pub read_of : (body : Body) (o : Option (Result Head Refusal)) (r : Read) (head : Head) → o ≡ Some (Ok head) → IsReadFor body o r → IsReadOf body r
+read_of body o r head same is = let P : Option (Result Head Refusal) → Type 0 = λ k. IsReadFor body k r in subst P same is
+
+pub linked_beside : (repo : Repo) (a : State) (e : Seen) (answer : Result (Unit {0}) Refusal) → repo ≡ a.repo → IsLinkAnswer repo e answer → IsLinkAnswer a.repo e answer
+linked_beside repo a e answer same is = let P : Repo → Type 0 = λ r. IsLinkAnswer r e answer in subst P same is

@@ -108,4 +108,4 @@ synced_kept c did time moment (found head records block) w row law same row_is m
     let R : Row → Type 0 = λ r. IsJournal (J ++ r ∷ []) in
     let there : row ≡ Row.Synced did (whole_under did time head records block (last_seq J + 1)) (Some moment)
         = row_is ∙ ap (λ (k : Whole). Row.Synced did k (Some moment)) whole ∙ ap (λ (n : ℕ). Row.Synced did (whole_under did time head records block (n + 1)) (Some moment)) holds.last in
-    subst R (sym there) (law J did time head records block moment journal (names_it did text named) (may.0, (may.1, now.2)) below now.0)
+    subst R (sym there) (law J did time head records block moment journal (names_it did text named) (may.0, may.1, now.2) below now.0)

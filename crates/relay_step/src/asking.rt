@@ -40,6 +40,7 @@ fn ask_one<P: Judges, C: Clock>(
     core: &Core,
     host: &str,
     event: &Event,
+    repo: &Repo,
     question: Question,
     answers: &mut Answers,
     read: &mut Read,
@@ -47,6 +48,7 @@ fn ask_one<P: Judges, C: Clock>(
     clock: &mut C,
 ) -> Result<(), StepFault>
     requires asks { next_of (cursor_in core.now host.now) (account_in core.now event.now.did) (AFrame.Event event.now) answers.old ≡ ANext.Ask question }
+    requires repo { repo.now ≡ (account_in core.now event.now.did).repo }
     requires other { question ≢ AQuestion.Fetch }
     requires read { IsReadFor event.now.body answers.old.opened read.old }
     requires did { IsTrue (is_did event.now.did) }
@@ -62,20 +64,30 @@ fn ask_one<P: Judges, C: Clock>(
 {
     let did = event.did.as_str();
     match question {
-        Question::Moment => answers.moment = Some(ask_moment(clock)?),
+        Question::Moment => {
+            let moment = ask_moment(clock)?;
+            answers.moment = Some(moment);
+        }
         Question::Refresh => {
             ask_refresh(judges, did)?;
             answers.refreshed = true;
         }
-        Question::Home => answers.home = Some(ask_home(judges, did, host)?),
+        Question::Home => {
+            let is_home = ask_home(judges, did, host)?;
+            answers.home = Some(is_home);
+        }
         Question::Open => {
-            let (answer, blocks) = open(alloc, &event.body, last_rev(&repo_of(core, did)))?;
+            let (answer, blocks) = open(alloc, &event.body, last_rev(repo))?;
             answers.opened = Some(answer);
             *read = blocks;
         }
-        Question::Verdict => answers.verdict = Some(judge(event, read, judges)?),
+        Question::Verdict => {
+            let good = judge(event, read, judges)?;
+            answers.verdict = Some(good);
+        }
         Question::Link => {
-            answers.linked = Some(follow(alloc, event, read, &repo_of(core, did))?);
+            let follows = follow(alloc, event, read, repo)?;
+            answers.linked = Some(follows);
         }
         Question::Fetch => unreachable!(),
     }
@@ -102,6 +114,7 @@ pub(crate) fn ask_all<P: Judges, C: Clock>(
     ensures caused { IfErr result (IsCause ⊥ (IsSpent (P.panel judges.new (method_of event.now.did))) ⊥ (Rose (C.faults clock.old) (C.faults clock.new))) }
     ensures counts { C.faults clock.old ≤ C.faults clock.new }
 {
+    let repo = repo_of(core, event.did.as_str());
     let mut answers = Answers::new();
     let mut read = Read::Nothing;
     'asking: loop {
@@ -112,6 +125,7 @@ pub(crate) fn ask_all<P: Judges, C: Clock>(
                 core,
                 host,
                 event,
+                &repo,
                 question,
                 &mut answers,
                 &mut read,
