@@ -1,6 +1,7 @@
 -- An event whose refusal loses its account.
 use Rattle.std.proofs.Common.{◌≡◌, ◌≢◌, ℕ, ◌+◌, ◌<◌, ◌≤◌, ◌⊎◌, inl, inr, ⊎_elim, Bool, true, false, not, cond, List, [], ◌∷◌, ◌++◌, length, Option, Some, None, Result, Ok, Err, refl, sym, ap, ◌∙◌, subst}
 use Rattle.std.specs.Prelude.{nat_le, IsTrue, IfOk, OnOk}
+use Rattle.std.proofs.lemmas.Bool.{false≢true}
 use Rattle.at_authority.specs.Calls.{Call, AreCalls}
 use Rattle.at_authority.specs.Panels.{Panel}
 use Rattle.at_authority.proofs.Runs.{join}
@@ -23,7 +24,7 @@ use Rattle.relay_core.specs.Entries.{account_in, cursor_in}
 use Rattle.relay_core.specs.Opening.{OpensRight}
 use Rattle.relay_core.specs.Rows.{event_taken}
 use Rattle.relay_core.specs.Sending.{CanBeSent, IsSendable}
-use Rattle.relay_core.specs.Table.{Line, Walk, waits, refuses, passes, walk, link_line, body_lines, event_lines, next_at, next_of, after_fetch, when}
+use Rattle.relay_core.specs.Table.{Line, told, moment_line, Walk, waits, refuses, passes, walk, link_line, body_lines, event_lines, next_at, next_of, after_fetch, when}
 use Rattle.relay_core.specs.declared.answers.Answers.{Answers}
 use Rattle.relay_core.specs.declared.answers.Question.{Question}
 use Rattle.relay_core.specs.declared.decision.Decision.{Decision}
@@ -32,7 +33,7 @@ use Rattle.relay_core.specs.declared.decision.Pass.{Pass}
 use Rattle.relay_core.specs.declared.journal_state.Core.{Core}
 use Rattle.relay_law.specs.Formed.{AreAnswersTo, IsFetchedBehind}
 use Rattle.relay_step.specs.Fetches.{IsSent, IsTyped, MayBeKept, made_of}
-use Rattle.relay_step.specs.Questions.{AreAsked, IsJudgedLate, IsRenewedFirst, IsTidy, NoneAsked, PassedBefore, calls_told}
+use Rattle.relay_step.specs.Questions.{AreAsked, IsJudgedLate, IsRenewedFirst, IsTidy, NoneAsked, PassedBefore, calls_told, length_line}
 use Rattle.account_state.specs.Folds.{last_rev}
 use Rattle.account_state.specs.declared.repo.Repo.{Repo}
 use Rattle.relay_core.specs.Decide.{old_if}
@@ -72,6 +73,16 @@ refusal_is r Fetched.Absent = refl
 refusal_is r (Fetched.Refused n) = refl
 refusal_is r (Fetched.Whole w) = refl
 
+-- the lines hang on no fetch
+lines_fetched : (a : State) (body : Body) (x : Answers) (o : Option Fetched) → body_lines a body (record x { fetched = o }) ≡ body_lines a body x
+lines_fetched a (Body.Commit c) x o = refl
+lines_fetched a (Body.Sync s) x o = refl
+lines_fetched a Body.Identity x o = refl
+lines_fetched a (Body.Account b) x o = refl
+
+event_fetched : (a : State) (e : Seen) (x : Answers) (o : Option Fetched) → event_lines a e (record x { fetched = o }) ≡ event_lines a e x
+event_fetched a e x o = ap (λ (lines : List Line). moment_line x ∷ told (length_line e) ∷ lines) (lines_fetched a e.body x o)
+
 -- where a fetch is asked for: the refusal that loses the account, the moment that was taken, and what is decided behind the fetch
 pub record AsksFetch (cursor : ℕ) (a : State) (e : Seen) (x : Answers) : Type 0 where
   pub lost : Refusal
@@ -94,8 +105,9 @@ asks_fetch cursor a e x asks =
       taken = there.1;
       decides = λ f.
           let Q : Walk → Type 0 = λ w. next_at w a e.body (Some f) ≡ Next.Done (fetched_decision lost.0 f) in
-          let R : Bool → Type 0 = λ b. cond b (Next.Pass Pass.Old) (next_at (walk (event_lines a e x)) a e.body (Some f)) ≡ Next.Done (fetched_decision lost.0 f) in
-          (fetched_decision lost.0 f, subst R (sym above.0) (subst Q (sym lost.1) (ap (λ b. cond b (after_fetch lost.0 (Some f)) (Next.Done (record { refusal = Some lost.0; held = false; gives = false }))) lost.2 ∙ decision_is lost.0 f)), refusal_is lost.0 f);
+          let R : Bool → Type 0 = λ b. cond b (Next.Pass Pass.Old) (next_at (walk (event_lines a e (record x { fetched = Some f }))) a e.body (Some f)) ≡ Next.Done (fetched_decision lost.0 f) in
+          let same : walk (event_lines a e (record x { fetched = Some f })) ≡ refuses lost.0 = ap walk (event_fetched a e x (Some f)) ∙ lost.1 in
+          (fetched_decision lost.0 f, subst R (sym above.0) (subst Q (sym same) (ap (λ b. cond b (after_fetch lost.0 (Some f)) (Next.Done (record { refusal = Some lost.0; held = false; gives = false }))) lost.2 ∙ decision_is lost.0 f)), refusal_is lost.0 f);
     }
 
 -- ---- with the fetch
@@ -168,7 +180,7 @@ made_sendable last e (found h k b) named short may sent head records block same 
 
 -- ---- the row of an event whose account was lost
 
-same_frame : (c : Core) (host : List ℕ) (frame : Frame) (e : Seen) (x : Answers) → frame ≡ Frame.Event e → next_of (cursor_in c host) (account_in c (did_of frame)) frame x ≡ next_of (cursor_in c host) (account_in c e.did) (Frame.Event e) x
+pub same_frame : (c : Core) (host : List ℕ) (frame : Frame) (e : Seen) (x : Answers) → frame ≡ Frame.Event e → next_of (cursor_in c host) (account_in c (did_of frame)) frame x ≡ next_of (cursor_in c host) (account_in c e.did) (Frame.Event e) x
 same_frame c host frame e x is = ap (λ (f : Frame). next_of (cursor_in c host) (account_in c (did_of f)) f x) is
 
 -- what comes next of the event
@@ -180,7 +192,7 @@ beside_last c did d last repo one two same = one ∙ ap last_rev two ∙ ap (λ 
 
 module _ (repos_tell : Bool) (c : Core) (host : List ℕ) (e : Seen) (x : Answers) (f : Fetched) (d : Decision) (w : Found) (old : Panel) (repository : List ℕ → Option (List ℕ)) (new : Panel)
     (asks : next_of (cursor_in c host) (account_in c e.did) (Frame.Event e) x ≡ Next.Ask Question.Fetch) (made_is : f ≡ made_of c.last e.did e.time w) (named : is_did e.did ≡ true) (short : length e.time ≤ 64) (may : MayBeKept w) (sent : IsSent c.last e.did e.time w)
-    (asked : AnsweredFetch old e.did w new) (told : IsTrue repos_tell → IsFetchedFrom (repository e.did) e.did (last_rev (account_in c e.did).repo) (or_zero x.moment) (is_good w) w)
+    (asked : AnsweredFetch old e.did w new) (told_is : IsTrue repos_tell → IsFetchedFrom (repository e.did) e.did (last_rev (account_in c e.did).repo) (or_zero x.moment) (is_good w) w)
     (done : next_of (cursor_in c host) (account_in c e.did) (Frame.Event e) (record x { fetched = Some f }) ≡ Next.Done d) where
   pub lost_refused : d.refusal ≡ Some (asks_fetch (cursor_in c host) (account_in c e.did) e x asks).lost
   lost_refused =
@@ -202,12 +214,12 @@ module _ (repos_tell : Bool) (c : Core) (host : List ℕ) (e : Seen) (x : Answer
     sendable = made_sendable c.last e w named short may sent;
     may = may;
     calls = asked.are;
-    told = told;
+    told = told_is;
   }
 
-  pub lost_took : (r : Result Outcome StepFault) → IfOk r (λ told. told ≡ Outcome.Took (event_taken c.last host e d (record x { fetched = Some f }))) → OnOk r (goes_out d.refusal d.held ≡ true → c.last + 1 < NUMBERS)
-      → IfOk r (λ told. LostTook repos_tell c host e x told old repository new)
-  lost_took (Ok told) took number = record {
+  pub lost_took : (r : Result Outcome StepFault) → IfOk r (λ t. t ≡ Outcome.Took (event_taken c.last host e d (record x { fetched = Some f }))) → OnOk r (goes_out d.refusal d.held ≡ true → c.last + 1 < NUMBERS)
+      → IfOk r (λ t. LostTook repos_tell c host e x t old repository new)
+  lost_took (Ok t) took number = record {
     f = f;
     d = d;
     fetch = asked.calls;
@@ -220,13 +232,33 @@ module _ (repos_tell : Bool) (c : Core) (host : List ℕ) (e : Seen) (x : Answer
   }
   lost_took (Err fault) took number = tt
 
+-- the same as the code has it
+pub lost_by : (repos_tell : Bool) (c : Core) (host : List ℕ) (e : Seen) (x : Answers) (f : Fetched) (d : Decision) (w : Found) (old : Panel) (repository : List ℕ → Option (List ℕ)) (new : Panel)
+    (did time : List ℕ) (last : Option ℕ) (repo : Repo) (moment : ℕ) → next_of (cursor_in c host) (account_in c e.did) (Frame.Event e) x ≡ Next.Ask Question.Fetch → did ≡ e.did → time ≡ e.time → x.moment ≡ Some moment → last ≡ last_rev repo → repo ≡ (account_in c did).repo
+    → f ≡ made_of c.last did time w → is_did e.did ≡ true → length e.time ≤ 64 → MayBeKept w → IsSent c.last did time w → AnsweredFetch old did w new → (IsTrue repos_tell → IsFetchedFrom (repository did) did last moment (is_good w) w)
+    → next_of (cursor_in c host) (account_in c e.did) (Frame.Event e) (record x { fetched = Some f }) ≡ Next.Done d
+    → (r : Result Outcome StepFault) → IfOk r (λ t. t ≡ Outcome.Took (event_taken c.last host e d (record x { fetched = Some f }))) → OnOk r (goes_out d.refusal d.held ≡ true → c.last + 1 < NUMBERS)
+    → IfOk r (λ t. LostTook repos_tell c host e x t old repository new)
+lost_by repos_tell c host e x f d w old repository new did time last repo moment asks did_is time_is moment_is last_is repo_is made_is named short may sent asked told_is done r took number =
+    let A : List ℕ → Type 0 = λ n. f ≡ made_of c.last n time w in
+    let B : List ℕ → Type 0 = λ n. f ≡ made_of c.last e.did n w in
+    let S : List ℕ → Type 0 = λ n. IsSent c.last n time w in
+    let T : List ℕ → Type 0 = λ n. IsSent c.last e.did n w in
+    let P : List ℕ → Type 0 = λ n. AnsweredFetch old n w new in
+    let F : List ℕ → Type 0 = λ n. IsTrue repos_tell → IsFetchedFrom (repository n) n last moment (is_good w) w in
+    let G : Option ℕ → Type 0 = λ l. IsTrue repos_tell → IsFetchedFrom (repository e.did) e.did l moment (is_good w) w in
+    let H : ℕ → Type 0 = λ m. IsTrue repos_tell → IsFetchedFrom (repository e.did) e.did (last_rev (account_in c e.did).repo) m (is_good w) w in
+    let zero_is : moment ≡ or_zero x.moment = sym (ap or_zero moment_is) in
+    lost_took repos_tell c host e x f d w old repository new asks (subst B time_is (subst A did_is made_is)) named short may (subst T time_is (subst S did_is sent)) (subst P did_is asked)
+    (subst H zero_is (subst G (beside_last c e.did did last repo last_is repo_is did_is) (subst F did_is told_is))) done r took number
+
 -- ---- from the questions to the row
 
 pub lost_told : (clock_tells repos_tell : Bool) (c : Core) (host : List ℕ) (e : Seen) (x : Answers) (old : Around) (mid : Panel) (left : List ℕ) (repository : List ℕ → Option (List ℕ)) (new : Panel) (r : Result Outcome StepFault)
-    → AreAsked clock_tells c.last (account_in c e.did) host e x old.panel old.moments mid left → next_of (cursor_in c host) (account_in c e.did) (Frame.Event e) x ≡ Next.Ask Question.Fetch
-    → (IsTrue repos_tell → SameRepositories old.repository repository) → IfOk r (λ told. LostTook repos_tell c host e x told mid old.repository new)
-    → IfOk r (λ told. EventTold clock_tells repos_tell c host e told old (around new left repository))
-lost_told clock_tells repos_tell c host e x old mid left repository new (Ok told) so_far asks same took =
+    → AreAsked clock_tells c.last (cursor_in c host) (account_in c e.did) host e x old.panel old.moments mid left → next_of (cursor_in c host) (account_in c e.did) (Frame.Event e) x ≡ Next.Ask Question.Fetch
+    → (IsTrue repos_tell → SameRepositories old.repository repository) → IfOk r (λ t. LostTook repos_tell c host e x t mid old.repository new)
+    → IfOk r (λ t. EventTold clock_tells repos_tell c host e t old (around new left repository))
+lost_told clock_tells repos_tell c host e x old mid left repository new (Ok t) so_far asks same took =
     let there = asks_fetch (cursor_in c host) (account_in c e.did) e x asks in
     let P : Outcome → Type 0 = λ o. EventTold clock_tells repos_tell c host e o old (around new left repository) in
     subst P (sym took.taken) (record {
@@ -252,10 +284,10 @@ append_none (x ∷ xs) = ap (λ (l : List Call). x ∷ l) (append_none xs)
 
 -- an event that was decided with no fetch
 pub done_told : (clock_tells repos_tell : Bool) (c : Core) (host : List ℕ) (e : Seen) (x : Answers) (d : Decision) (old : Around) (new : Panel) (left : List ℕ) (r : Result Outcome StepFault)
-    → AreAsked clock_tells c.last (account_in c e.did) host e x old.panel old.moments new left → next_of (cursor_in c host) (account_in c e.did) (Frame.Event e) x ≡ Next.Done d
-    → IfOk r (λ told. told ≡ Outcome.Took (event_taken c.last host e d x)) → OnOk r (goes_out d.refusal d.held ≡ true → c.last + 1 < NUMBERS)
-    → IfOk r (λ told. EventTold clock_tells repos_tell c host e told old (around new left old.repository))
-done_told clock_tells repos_tell c host e x d old new left (Ok told) so_far done took number =
+    → AreAsked clock_tells c.last (cursor_in c host) (account_in c e.did) host e x old.panel old.moments new left → next_of (cursor_in c host) (account_in c e.did) (Frame.Event e) x ≡ Next.Done d
+    → IfOk r (λ t. t ≡ Outcome.Took (event_taken c.last host e d x)) → OnOk r (goes_out d.refusal d.held ≡ true → c.last + 1 < NUMBERS)
+    → IfOk r (λ t. EventTold clock_tells repos_tell c host e t old (around new left old.repository))
+done_told clock_tells repos_tell c host e x d old new left (Ok t) so_far done took number =
     let P : Outcome → Type 0 = λ o. EventTold clock_tells repos_tell c host e o old (around new left old.repository) in
     let Q : List Call → Type 0 = λ l. AreCalls old.panel l new in
     let F : Option Fetched → Type 0 = λ o. IsFetchedSo repos_tell c.last (account_in c e.did) e old.repository (or_zero x.moment) d.refusal o [] in
@@ -279,12 +311,17 @@ done_told clock_tells repos_tell c host e x d old new left (Err fault) so_far do
 early_none : (a : State) (host : List ℕ) (e : Seen) (x : Answers) → x ≡ no_answers → calls_told host e x ≡ []
 early_none a host e x is = ap (λ (y : Answers). calls_told host e y) is
 
+no_moment : (o : Option ℕ) → ((m : ℕ) → o ≡ Some m → ⊥) → o ≡ None
+no_moment None h = refl
+no_moment (Some m) h = absurd (h m refl)
+
 -- an event that is passed over: nothing was asked
 pub pass_told : (clock_tells repos_tell : Bool) (c : Core) (host : List ℕ) (e : Seen) (x : Answers) (pass : Pass) (old : Around) (new : Panel) (left : List ℕ)
-    → AreAsked clock_tells c.last (account_in c e.did) host e x old.panel old.moments new left → x ≡ no_answers → next_of (cursor_in c host) (account_in c e.did) (Frame.Event e) x ≡ Next.Pass pass
+    → AreAsked clock_tells c.last (cursor_in c host) (account_in c e.did) host e x old.panel old.moments new left → next_of (cursor_in c host) (account_in c e.did) (Frame.Event e) x ≡ Next.Pass pass
     → EventTold clock_tells repos_tell c host e (Outcome.Passed pass) old (around new left old.repository)
-pass_told clock_tells repos_tell c host e x pass old new left so_far none passes =
-    let over = passes_over (cursor_in c host) (account_in c e.did) e x pass passes in
+pass_told clock_tells repos_tell c host e x pass old new left so_far passed_is =
+    let over = passes_over (cursor_in c host) (account_in c e.did) e x pass passed_is in
+    let none = so_far.tidy.early (no_moment x.moment (λ m same. false≢true (sym (so_far.above m same) ∙ over.0))) in
     let P : List Call → Type 0 = λ l. AreCalls old.panel l new in
     let M : Option ℕ → Type 0 = λ m. IsTrue clock_tells → IsTimedSo old.moments m left in
     (ap old_if over.0 ∙ ap Some (sym over.1), record {

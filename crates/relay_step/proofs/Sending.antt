@@ -1,8 +1,9 @@
 -- The relay's own event of a commit that was fetched.
-use Rattle.std.proofs.Common.{◌≡◌, ℕ, ◌+◌, ◌<◌, ◌^◌, Bool, true, false, not, ◌&&◌, cond, List, [], ◌∷◌, ◌++◌, length, Option, Some, None, refl, sym, ap, ◌∙◌, subst}
+use Rattle.std.proofs.Common.{◌≡◌, ℕ, ◌+◌, ◌<◌, ◌^◌, Bool, true, false, not, ◌&&◌, cond, List, [], ◌∷◌, ◌++◌, length, Option, Some, None, refl, sym, ap, ◌∙◌, subst, arith}
 use Rattle.std.specs.FinMap as map
+use Rattle.std.specs.Option.{is_some}
 use Rattle.std.specs.Str.{IsUtf8}
-use Rattle.std.proofs.lemmas.Bool.{and_from}
+use Rattle.std.proofs.lemmas.Bool.{and_from, ne_eqb}
 use Rattle.std.proofs.lemmas.Str.{is_utf8-from_IsUtf8}
 use Rattle.at_car.specs.Blocks.{BlockMap, kept}
 use Rattle.at_car.specs.Writing.{written}
@@ -25,7 +26,9 @@ pub text_tested : (text : List ℕ) → IsString text → IsUtf8 text → is_tex
 text_tested text string utf8 = and_from _ (are_bytes text) (is_utf8-from_IsUtf8 text utf8) (bytes_tested text string.1)
 
 none_kept : (link block : List ℕ) (m : BlockMap) → m ≡ map.empty {R = key_cmp} → kept m link block ≡ map.insert {R = key_cmp} map.empty link block
-none_kept link block m none = let P : BlockMap → Type 0 = λ n. kept n link block ≡ map.insert {R = key_cmp} map.empty link block in subst P (sym none) refl
+none_kept link block m none =
+    let P : BlockMap → Type 0 = λ n. kept n link block ≡ map.insert {R = key_cmp} map.empty link block in
+    subst P (sym none) (ap (λ (o : Option (List ℕ)). cond (is_some o) (map.empty {R = key_cmp}) (map.insert {R = key_cmp} map.empty link block)) (map.get-empty key_cmp link))
 
 module _ (did time : List ℕ) (head : Head) (block : List ℕ) (before blocks : BlockMap) (car : List ℕ) (none : before ≡ map.empty {R = key_cmp}) (put : blocks ≡ kept before head.commit block) (spelled : car ≡ written head.commit blocks) where
   pub car_is : car ≡ commit_car head block
@@ -44,9 +47,16 @@ module _ (did time : List ℕ) (head : Head) (block : List ℕ) (before blocks :
       let Q : List ℕ → Type 0 = λ c. length c < 2 ^ 63 in
       record { did_text = text_of did ds du; time_text = text_of time ts tu; rev = rev; car = subst P car_is string; short = subst Q car_is short }
 
-sync_not_empty : (payload : Item) → not (is_empty (message_of EventKind.Sync payload)) ≡ true
+some_bytes : (m : List ℕ) → (m ≡ [] → ⊥) → not (is_empty m) ≡ true
+some_bytes [] h = absurd (h refl)
+some_bytes (x ∷ m) h = ap not (ne_eqb (length (x ∷ m)) 0 (λ e. omega (arith, e)))
+
+sync_some : (payload : Item) → message_of EventKind.Sync payload ≡ [] → ⊥
 unfolding message_of
-sync_not_empty payload = refl
+sync_some payload e = absurd cc
+
+sync_not_empty : (payload : Item) → not (is_empty (message_of EventKind.Sync payload)) ≡ true
+sync_not_empty payload = some_bytes (message_of EventKind.Sync payload) (sync_some payload)
 
 pub message_kept : (message : List ℕ) (payload : Item) → message ≡ message_of EventKind.Sync payload → IsString message → is_message message ≡ true
 message_kept message payload is string =

@@ -80,7 +80,7 @@ due_fetched : (r : Refusal) (f : Fetched) → loses (code_of r) ≡ true → fet
 due_fetched r f due = ap (λ b. cond b f Fetched.NotAsked) due
 
 -- what was fetched stands in the row
-fetched_there : (tells : Bool) (last : ℕ) (a : State) (e : Seen) (repository : List ℕ → Option (List ℕ)) (moment : ℕ) (r : Option Refusal) (f : Fetched) (fetch : List Call) → (is : IsFetchOf tells last a e repository moment r f fetch) → fetched_of r (Some f) ≡ made last e is.what
+pub fetched_there : (tells : Bool) (last : ℕ) (a : State) (e : Seen) (repository : List ℕ → Option (List ℕ)) (moment : ℕ) (r : Option Refusal) (f : Fetched) (fetch : List Call) → (is : IsFetchOf tells last a e repository moment r f fetch) → fetched_of r (Some f) ≡ made last e is.what
 fetched_there tells last a e repository moment r f fetch is =
     ap (λ (q : Option Refusal). fetched_of q (Some f)) is.refused ∙ due_fetched is.lost f is.due ∙ is.is
 

@@ -31,7 +31,7 @@ use Rattle.relay_step.specs.Questions.{AreAsked, IsJudgedLate, IsLinkAnswer, IsR
 use Rattle.account_state.specs.declared.repo.Repo.{Repo}
 use Rattle.relay_step.specs.declared.reading.Read.{Read}
 use Rattle.relay_step.specs.Words.{IsNow}
-use Rattle.relay_step.proofs.Walks.{AtBody, IsPassedBefore, at_body, blocks_asked, commit_asked, event_waits, home_renewed, identity_asked, passed_before}
+use Rattle.relay_step.proofs.Walks.{AtBody, IsPassedBefore, asked_above, at_body, blocks_asked, commit_asked, event_waits, home_renewed, identity_asked, passed_before}
 
 not_some : {A : Type 0} (o : Option A) → not (is_some o) ≡ true → o ≡ None
 not_some None h = refl
@@ -110,7 +110,7 @@ calls_more old mid new calls more so_far next =
 
 -- ---- a question answered
 
-module _ (clock_tells : Bool) (last : ℕ) (a : State) (host : List ℕ) (e : Seen) (x : Answers) (old : Panel) (moments : List ℕ) (mid : Panel) (left : List ℕ) (cursor : ℕ) (so_far : AreAsked clock_tells last a host e x old moments mid left) where
+module _ (clock_tells : Bool) (last : ℕ) (a : State) (host : List ℕ) (e : Seen) (x : Answers) (old : Panel) (moments : List ℕ) (mid : Panel) (left : List ℕ) (cursor : ℕ) (so_far : AreAsked clock_tells last cursor a host e x old moments mid left) where
 
   abbrev Asks : Question → Type 0
   Asks q = next_of cursor a (Frame.Event e) x ≡ Next.Ask q
@@ -122,7 +122,7 @@ module _ (clock_tells : Bool) (last : ℕ) (a : State) (host : List ℕ) (e : Se
   body_at q fetch moment asks = at_body a e x q moment (event_waits cursor a e x q fetch asks)
 
   pub moment_asked : (moment : ℕ) (now : List ℕ) → Asks Question.Moment → moment < NUMBERS → (IsTrue clock_tells → IsNow left moment now)
-      → AreAsked clock_tells last a host e (record x { moment = Some moment }) old moments mid now
+      → AreAsked clock_tells last cursor a host e (record x { moment = Some moment }) old moments mid now
   moment_asked moment now asks below taken =
       let none : x.moment ≡ None = not_some x.moment (still_open Question.Moment asks) in
       let nothing = so_far.tidy.early none in
@@ -147,9 +147,10 @@ module _ (clock_tells : Bool) (last : ℕ) (a : State) (host : List ℕ) (e : Se
         };
         linked = so_far.linked;
         unfetched = so_far.unfetched;
+        above = λ m same. (asked_above cursor a e x Question.Moment asks).0;
       }
 
-  pub refresh_asked : (new : Panel) → Asks Question.Refresh → IsCall (refreshes e.did) mid new → AreAsked clock_tells last a host e (record x { refreshed = true }) old moments new left
+  pub refresh_asked : (new : Panel) → Asks Question.Refresh → IsCall (refreshes e.did) mid new → AreAsked clock_tells last cursor a host e (record x { refreshed = true }) old moments new left
   refresh_asked new asks call =
       let at = body_at Question.Refresh (λ k. absurd cc) (λ k. absurd cc) asks in
       let identity = identity_asked a e.body x at.waits_at in
@@ -174,9 +175,10 @@ module _ (clock_tells : Bool) (last : ℕ) (a : State) (host : List ℕ) (e : Se
         right = record { moment = so_far.right.moment; opened = so_far.right.opened; linked = so_far.right.linked; fetched = so_far.right.fetched };
         linked = so_far.linked;
         unfetched = so_far.unfetched;
+        above = so_far.above;
       }
 
-  pub home_asked : (new : Panel) (is_home : Bool) → Asks Question.Home → IsCall (answers (asks_home e.did host) is_home) mid new → AreAsked clock_tells last a host e (record x { home = Some is_home }) old moments new left
+  pub home_asked : (new : Panel) (is_home : Bool) → Asks Question.Home → IsCall (answers (asks_home e.did host) is_home) mid new → AreAsked clock_tells last cursor a host e (record x { home = Some is_home }) old moments new left
   home_asked new is_home asks call =
       let at = body_at Question.Home (λ k. absurd cc) (λ k. absurd cc) asks in
       let no_home : x.home ≡ None = not_some x.home (still_open Question.Home asks) in
@@ -198,9 +200,10 @@ module _ (clock_tells : Bool) (last : ℕ) (a : State) (host : List ℕ) (e : Se
         right = record { moment = so_far.right.moment; opened = so_far.right.opened; linked = so_far.right.linked; fetched = so_far.right.fetched };
         linked = so_far.linked;
         unfetched = so_far.unfetched;
+        above = so_far.above;
       }
 
-  pub open_asked : (answer : Result Head Refusal) → Asks Question.Open → IsOpenedAs e.body (last_rev a.repo) answer → AreAsked clock_tells last a host e (record x { opened = Some answer }) old moments mid left
+  pub open_asked : (answer : Result Head Refusal) → Asks Question.Open → IsOpenedAs e.body (last_rev a.repo) answer → AreAsked clock_tells last cursor a host e (record x { opened = Some answer }) old moments mid left
   open_asked answer asks right =
       let at = body_at Question.Open (λ k. absurd cc) (λ k. absurd cc) asks in
       let none : x.opened ≡ None = not_some x.opened (still_open Question.Open asks) in
@@ -221,9 +224,10 @@ module _ (clock_tells : Bool) (last : ℕ) (a : State) (host : List ℕ) (e : Se
         };
         linked = so_far.linked;
         unfetched = so_far.unfetched;
+        above = so_far.above;
       }
 
-  pub verdict_asked : (new : Panel) (good : Bool) → Asks Question.Verdict → AreCalls mid (verdict_call e.did (signed_by e.body) good) new → AreAsked clock_tells last a host e (record x { verdict = Some good }) old moments new left
+  pub verdict_asked : (new : Panel) (good : Bool) → Asks Question.Verdict → AreCalls mid (verdict_call e.did (signed_by e.body) good) new → AreAsked clock_tells last cursor a host e (record x { verdict = Some good }) old moments new left
   verdict_asked new good asks called =
       let at = body_at Question.Verdict (λ k. absurd cc) (λ k. absurd cc) asks in
       let none : x.verdict ≡ None = not_some x.verdict (still_open Question.Verdict asks) in
@@ -248,9 +252,10 @@ module _ (clock_tells : Bool) (last : ℕ) (a : State) (host : List ℕ) (e : Se
         right = record { moment = so_far.right.moment; opened = so_far.right.opened; linked = so_far.right.linked; fetched = so_far.right.fetched };
         linked = so_far.linked;
         unfetched = so_far.unfetched;
+        above = so_far.above;
       }
 
-  pub link_asked : (answer : Result (Unit {0}) Refusal) → Asks Question.Link → IsLinkAnswer a.repo e answer → AreAsked clock_tells last a host e (record x { linked = Some answer }) old moments mid left
+  pub link_asked : (answer : Result (Unit {0}) Refusal) → Asks Question.Link → IsLinkAnswer a.repo e answer → AreAsked clock_tells last cursor a host e (record x { linked = Some answer }) old moments mid left
   link_asked answer asks right =
       let at = body_at Question.Link (λ k. absurd cc) (λ k. absurd cc) asks in
       record {
@@ -270,6 +275,7 @@ module _ (clock_tells : Bool) (last : ℕ) (a : State) (host : List ℕ) (e : Se
         };
         linked = λ other same. let is : answer ≡ other = cc in let P : Result (Unit {0}) Refusal → Type 0 = λ r. IsLinkAnswer a.repo e r in subst P is right;
         unfetched = so_far.unfetched;
+        above = so_far.above;
       }
 
 -- ---- what a question needs of what was read
@@ -344,3 +350,6 @@ read_of body o r head same is = let P : Option (Result Head Refusal) → Type 0 
 
 pub linked_beside : (repo : Repo) (a : State) (e : Seen) (answer : Result (Unit {0}) Refusal) → repo ≡ a.repo → IsLinkAnswer repo e answer → IsLinkAnswer a.repo e answer
 linked_beside repo a e answer same is = let P : Repo → Type 0 = λ r. IsLinkAnswer r e answer in subst P same is
+
+pub opened_seen : (one other : Body) (last : Option ℕ) (answer : Result Head Refusal) → one ≡ other → IsOpenedAs one last answer → IsOpenedAs other last answer
+opened_seen one other last answer same is = let P : Body → Type 0 = λ b. IsOpenedAs b last answer in subst P same is

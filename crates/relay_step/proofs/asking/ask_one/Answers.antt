@@ -1,18 +1,19 @@
-use Rattle.std.proofs.Common.{◌≡◌, ◌∙◌}
+use Rattle.std.proofs.Common.{◌≡◌, ap, ◌∙◌}
+use Rattle.at_event.specs.Seen.{Seen}
 use Rattle.at_event.specs.declared.frame.Frame.{Frame}
 use Rattle.relay_core.specs.Entries.{account_in, cursor_in}
 use Rattle.relay_core.specs.declared.answers.Question.{Question}
 use Rattle.relay_step.proofs.Calls.{on_err, plain_failed, plain_failed_as}
-use Rattle.relay_step.proofs.Tidy.{asks_as, home_asked, home_call, home_falls, judges_opened, link_asked, link_falls, linked_beside, links_commit, links_opened, moment_asked, moment_falls, open_asked, open_falls, opened_beside, read_of, refresh_asked, refresh_call, refresh_falls, verdict_asked, verdict_falls}
+use Rattle.relay_step.proofs.Tidy.{asks_as, home_asked, home_call, home_falls, judges_opened, link_asked, link_falls, linked_beside, links_commit, links_opened, moment_asked, moment_falls, open_asked, open_falls, opened_beside, opened_seen, read_of, refresh_asked, refresh_call, refresh_falls, verdict_asked, verdict_falls}
 use Rattle.relay_step.proofs.asking.ask_one.Goals as goal
 
 pub returns-in_err-ask_refresh-in-Refresh-clause-in_vain : goal.returns-in_err-ask_refresh-in-Refresh-clause-in_vain
 returns-in_err-ask_refresh-in-Refresh-clause-in_vain g c =
-    on_err c.from_residual-in_err-ask_refresh-in-Refresh.result _ (plain_failed_as (g.P.Judges.panel c.args.judges.now) (g.P.Judges.panel c.ask_refresh.new.judges) c.args.event.now.did c.as_str-did.result.now c.as_str-did.ensures.value c.in_err-ask_refresh-in-Refresh.ensures.call)
+    on_err c.from_residual-in_err-ask_refresh-in-Refresh.result _ (plain_failed_as (g.P.Judges.panel c.args.judges.now) (g.P.Judges.panel c.ask_refresh.new.judges) c.args.event.now.did c.as_str-did.result.now (c.as_str-did.ensures.value ∙ ap (λ (e : Seen). e.did) c.event.view_is) c.in_err-ask_refresh-in-Refresh.ensures.call)
 
 pub returns-in_err-is_home-in-Home-clause-in_vain : goal.returns-in_err-is_home-in-Home-clause-in_vain
 returns-in_err-is_home-in-Home-clause-in_vain g c =
-    on_err c.from_residual-in_err-is_home-in-Home.result _ (plain_failed_as (g.P.Judges.panel c.args.judges.now) (g.P.Judges.panel c.ask_home.new.judges) c.args.event.now.did c.as_str-did.result.now c.as_str-did.ensures.value c.in_err-is_home-in-Home.ensures.call)
+    on_err c.from_residual-in_err-is_home-in-Home.result _ (plain_failed_as (g.P.Judges.panel c.args.judges.now) (g.P.Judges.panel c.ask_home.new.judges) c.args.event.now.did c.as_str-did.result.now (c.as_str-did.ensures.value ∙ ap (λ (e : Seen). e.did) c.event.view_is) c.in_err-is_home-in-Home.ensures.call)
 
 pub returns-in_err-good-in-Verdict-clause-in_vain : goal.returns-in_err-good-in-Verdict-clause-in_vain
 returns-in_err-good-in-Verdict-clause-in_vain g c =
@@ -60,7 +61,7 @@ returns-in_ok-ask_refresh-in-Refresh-clause-asked g c =
     let cursor = cursor_in c.args.core.now c.args.host.now in
     let a = account_in c.args.core.now c.args.event.now.did in
     let asks = asks_as cursor a (Frame.Event c.args.event.now) c.args.answers.now c.args.question Question.Refresh c.requires.asks c.in-Refresh.is in
-    λ old moments so_far. refresh_asked g.C.Clock.tells c.args.core.now.last a c.args.host.now c.args.event.now c.args.answers.now old moments (g.P.Judges.panel c.args.judges.now) (g.C.Clock.moments c.args.clock.now) cursor so_far (g.P.Judges.panel c.ask_refresh.new.judges) asks (refresh_call c.as_str-did.result.now c.args.event.now.did (g.P.Judges.panel c.args.judges.now) (g.P.Judges.panel c.ask_refresh.new.judges) c.as_str-did.ensures.value c.in_ok-ask_refresh-in-Refresh.ensures.call)
+    λ old moments so_far. refresh_asked g.C.Clock.tells c.args.core.now.last a c.args.host.now c.args.event.now c.args.answers.now old moments (g.P.Judges.panel c.args.judges.now) (g.C.Clock.moments c.args.clock.now) cursor so_far (g.P.Judges.panel c.ask_refresh.new.judges) asks (refresh_call c.as_str-did.result.now c.args.event.now.did (g.P.Judges.panel c.args.judges.now) (g.P.Judges.panel c.ask_refresh.new.judges) (c.as_str-did.ensures.value ∙ ap (λ (e : Seen). e.did) c.event.view_is) c.in_ok-ask_refresh-in-Refresh.ensures.call)
 
 pub returns-in_ok-ask_refresh-in-Refresh-clause-fewer : goal.returns-in_ok-ask_refresh-in-Refresh-clause-fewer
 returns-in_ok-ask_refresh-in-Refresh-clause-fewer g c =
@@ -74,7 +75,7 @@ returns-in_ok-is_home-in-Home-clause-asked g c =
     let cursor = cursor_in c.args.core.now c.args.host.now in
     let a = account_in c.args.core.now c.args.event.now.did in
     let asks = asks_as cursor a (Frame.Event c.args.event.now) c.args.answers.now c.args.question Question.Home c.requires.asks c.in-Home.is in
-    λ old moments so_far. home_asked g.C.Clock.tells c.args.core.now.last a c.args.host.now c.args.event.now c.args.answers.now old moments (g.P.Judges.panel c.args.judges.now) (g.C.Clock.moments c.args.clock.now) cursor so_far (g.P.Judges.panel c.ask_home.new.judges) c.in_ok-is_home-in-Home.is_home asks (home_call c.as_str-did.result.now c.args.event.now.did c.args.host.now c.in_ok-is_home-in-Home.is_home (g.P.Judges.panel c.args.judges.now) (g.P.Judges.panel c.ask_home.new.judges) c.as_str-did.ensures.value c.in_ok-is_home-in-Home.ensures.call)
+    λ old moments so_far. home_asked g.C.Clock.tells c.args.core.now.last a c.args.host.now c.args.event.now c.args.answers.now old moments (g.P.Judges.panel c.args.judges.now) (g.C.Clock.moments c.args.clock.now) cursor so_far (g.P.Judges.panel c.ask_home.new.judges) c.in_ok-is_home-in-Home.is_home asks (home_call c.as_str-did.result.now c.args.event.now.did c.args.host.now c.in_ok-is_home-in-Home.is_home (g.P.Judges.panel c.args.judges.now) (g.P.Judges.panel c.ask_home.new.judges) (c.as_str-did.ensures.value ∙ ap (λ (e : Seen). e.did) c.event.view_is) c.in_ok-is_home-in-Home.ensures.call)
 
 pub returns-in_ok-is_home-in-Home-clause-fewer : goal.returns-in_ok-is_home-in-Home-clause-fewer
 returns-in_ok-is_home-in-Home-clause-fewer g c =
@@ -88,7 +89,7 @@ returns-in_ok-answer-in-Open-clause-asked g c =
     let cursor = cursor_in c.args.core.now c.args.host.now in
     let a = account_in c.args.core.now c.args.event.now.did in
     let asks = asks_as cursor a (Frame.Event c.args.event.now) c.args.answers.now c.args.question Question.Open c.requires.asks c.in-Open.is in
-    λ old moments so_far. open_asked g.C.Clock.tells c.args.core.now.last a c.args.host.now c.args.event.now c.args.answers.now old moments (g.P.Judges.panel c.args.judges.now) (g.C.Clock.moments c.args.clock.now) cursor so_far c.in_ok-answer-in-Open.answer asks (opened_beside c.args.event.now.body c.last_rev.result c.args.repo.now a c.in_ok-answer-in-Open.answer c.last_rev.ensures c.requires.repo c.in_ok-answer-in-Open.ensures.answer)
+    λ old moments so_far. open_asked g.C.Clock.tells c.args.core.now.last a c.args.host.now c.args.event.now c.args.answers.now old moments (g.P.Judges.panel c.args.judges.now) (g.C.Clock.moments c.args.clock.now) cursor so_far c.in_ok-answer-in-Open.answer asks (opened_beside c.args.event.now.body c.last_rev.result c.args.repo.now a c.in_ok-answer-in-Open.answer c.last_rev.ensures c.requires.repo (opened_seen c.event.inside.body c.args.event.now.body c.last_rev.result c.in_ok-answer-in-Open.answer (ap (λ (e : Seen). e.body) c.event.view_is) c.in_ok-answer-in-Open.ensures.answer))
 
 pub returns-in_ok-answer-in-Open-clause-fewer : goal.returns-in_ok-answer-in-Open-clause-fewer
 returns-in_ok-answer-in-Open-clause-fewer g c =
