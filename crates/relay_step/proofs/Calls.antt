@@ -1,6 +1,6 @@
 -- The calls that were made about an event are those that its row shows.
-use Rattle.std.proofs.Common.{◌≡◌, ℕ, ◌+◌, ◌≤◌, ◌⊎◌, inl, inr, ⊎_elim, Bool, true, false, not, ◌&&◌, ◌||◌, cond, List, [], ◌∷◌, ◌++◌, length, Option, Some, None, Result, Ok, Err, refl, sym, ap, ◌∙◌, subst, arith}
-use Rattle.std.specs.Prelude.{◌==◌, nat_le, nat_lt, option_map}
+use Rattle.std.proofs.Common.{◌≡◌, ℕ, ◌+◌, ◌≤◌, ◌⊎◌, inl, inr, ⊎_elim, min, ◌-◌, ◌^◌, Bool, true, false, not, ◌&&◌, ◌||◌, cond, List, [], ◌∷◌, ◌++◌, length, Option, Some, None, Result, Ok, Err, refl, sym, ap, ◌∙◌, subst, arith}
+use Rattle.std.specs.Prelude.{◌==◌, nat_le, nat_lt, option_map, OnErr, IfOk, IfErr}
 use Rattle.std.specs.List.{filter, list_all}
 use Rattle.std.proofs.lemmas.Bool.{and_parts}
 use Rattle.at_authority.specs.Calls.{Call, answers, refreshes, fails, IsCall, AreCalls}
@@ -27,9 +27,13 @@ use Rattle.relay_core.specs.declared.answers.Question.{Question}
 use Rattle.relay_core.specs.declared.limits.TheConstants.{FETCHED_UNSIGNED, LONGEST_MESSAGE}
 use Rattle.relay_law.specs.Formed.{IsOpenedAs}
 use Rattle.relay_step.specs.Asked.{AllAbout, AskedInVain, IsRefusedOnce, Where, asks_for_home, asks_for_verdict, home_calls, is_refresh, refresh_calls, signed_by, verdict_call, verdict_calls}
+use Rattle.at_cid.specs.Counts.{Rose}
+use Rattle.relay_core.specs.declared.decision.Next.{Next}
+use Rattle.relay_step.specs.Causes.{IsCause, OneTaken}
 use Rattle.relay_step.specs.Fetches.{AskedPlain}
+use Rattle.relay_step.specs.declared.fault.StepFault.{StepFault}
 use Rattle.relay_step.specs.Operators.{AnsweredFetch, AreFoundCalls}
-use Rattle.relay_step.specs.Questions.{IsJudgedLate, IsRenewedFirst, IsTidy, NoneAsked, PassedBefore, calls_told, home_told, is_unlinked, length_line, refresh_told, verdict_told}
+use Rattle.relay_step.specs.Questions.{IsJudgedLate, IsRenewedFirst, IsTidy, IsTimedSo, NoneAsked, PassedBefore, calls_told, home_told, is_last, is_unlinked, length_line, refresh_told, verdict_told}
 
 -- where going down the table ends: at a refusal, or at its end
 abbrev pub ended : Option Refusal → Walk
@@ -171,6 +175,26 @@ module _ (e : Seen) (host : List ℕ) where
 
   -- ---- the calls of an identity and of an account
 
+  abbrev IdentityMade : Bool → Option Bool → Option Refusal → Type 0
+  IdentityMade refreshed home r = refresh_told e.did refreshed ++ (home_told e.did host home ++ []) ≡ cond (asks_for_home r) (refreshes e.did ∷ answers (asks_home e.did host) (shows_home r) ∷ []) [] ++ cond (asks_for_verdict r) [] []
+
+  as_made : (refreshed : Bool) (home : Option Bool) (q r : Option Refusal) → r ≡ q → IdentityMade refreshed home q → IdentityMade refreshed home r
+  as_made refreshed home q r same h = let P : Option Refusal → Type 0 = λ s. IdentityMade refreshed home s in subst P (sym same) h
+
+  identity_made : (l refreshed : Bool) (home : Option Bool) (d : Bool) (r : Option Refusal) → (when l Refusal.TooLong ≡ None) ⊎ ((refreshed ≡ false) × (home ≡ None))
+      → walk (told (when l Refusal.TooLong) ∷ asked Question.Refresh (cond refreshed (Some None) None) ∷ asked Question.Home (option_map (λ yes. when (not yes) Refusal.NotHome) home) ∷ told (when d Refusal.TakenDown) ∷ []) ≡ ended r
+      → IdentityMade refreshed home r
+  identity_made true refreshed home d r (inl s) h = absurd (some_none Refusal.TooLong s)
+  identity_made true refreshed home d r (inr n) h =
+      let P : Bool → Type 0 = λ b. IdentityMade b home r in
+      let Q : Option Bool → Type 0 = λ o. IdentityMade false o r in
+      subst P (sym n.0) (subst Q (sym n.1) (as_made false None (Some Refusal.TooLong) r (refuses_as Refusal.TooLong r h) refl))
+  identity_made false false home d r short h = absurd (waits_on Question.Refresh r h)
+  identity_made false true None d r short h = absurd (waits_on Question.Home r h)
+  identity_made false true (Some false) d r short h = as_made true (Some false) (Some Refusal.NotHome) r (refuses_as Refusal.NotHome r h) refl
+  identity_made false true (Some true) true r short h = as_made true (Some true) (Some Refusal.TakenDown) r (refuses_as Refusal.TakenDown r h) refl
+  identity_made false true (Some true) false r short h = as_made true (Some true) None r (passes_as r h) refl
+
   identity_calls : (l refreshed : Bool) (home : Option Bool) (d : Bool) (verdict : Option Bool) (r : Option Refusal) → (when l Refusal.TooLong ≡ None) ⊎ ((refreshed ≡ false) × (home ≡ None)) → verdict ≡ None → e.body ≡ Body.Identity
       → walk (told (when l Refusal.TooLong) ∷ asked Question.Refresh (cond refreshed (Some None) None) ∷ asked Question.Home (option_map (λ yes. when (not yes) Refusal.NotHome) home) ∷ told (when d Refusal.TakenDown) ∷ []) ≡ ended r
       → refresh_told e.did refreshed ++ (home_told e.did host home ++ verdict_told e verdict) ≡ home_calls host e r ++ verdict_calls e r
@@ -179,28 +203,7 @@ module _ (e : Seen) (host : List ℕ) where
           ≡ cond (asks_for_home r) (refresh_calls e b ++ answers (asks_home e.did host) (shows_home r) ∷ []) [] ++ cond (asks_for_verdict r) (verdict_call e.did (signed_by b) (shows_verdict r)) [] in
       let Q : Option Bool → Type 0 = λ v. refresh_told e.did refreshed ++ (home_told e.did host home ++ verdict_told e v)
           ≡ cond (asks_for_home r) (refreshes e.did ∷ answers (asks_home e.did host) (shows_home r) ∷ []) [] ++ cond (asks_for_verdict r) [] [] in
-      subst P (sym body) (subst Q (sym none) (go l refreshed home d r short h))
-    where
-      Made : Bool → Option Bool → Option Refusal → Type 0
-      Made refreshed home r = refresh_told e.did refreshed ++ (home_told e.did host home ++ []) ≡ cond (asks_for_home r) (refreshes e.did ∷ answers (asks_home e.did host) (shows_home r) ∷ []) [] ++ cond (asks_for_verdict r) [] []
-
-      as_made : (refreshed : Bool) (home : Option Bool) (q r : Option Refusal) → r ≡ q → Made refreshed home q → Made refreshed home r
-      as_made refreshed home q r same h = let P : Option Refusal → Type 0 = λ s. Made refreshed home s in subst P (sym same) h
-
-      go : (l refreshed : Bool) (home : Option Bool) (d : Bool) (r : Option Refusal) → (when l Refusal.TooLong ≡ None) ⊎ ((refreshed ≡ false) × (home ≡ None))
-          → walk (told (when l Refusal.TooLong) ∷ asked Question.Refresh (cond refreshed (Some None) None) ∷ asked Question.Home (option_map (λ yes. when (not yes) Refusal.NotHome) home) ∷ told (when d Refusal.TakenDown) ∷ []) ≡ ended r
-          → Made refreshed home r
-      unfolding Made
-      go true refreshed home d r (inl s) h = absurd (some_none Refusal.TooLong s)
-      go true refreshed home d r (inr n) h =
-          let P : Bool → Type 0 = λ b. Made b home r in
-          let Q : Option Bool → Type 0 = λ o. Made false o r in
-          subst P (sym n.0) (subst Q (sym n.1) (as_made false None (Some Refusal.TooLong) r (refuses_as Refusal.TooLong r h) refl))
-      go false false home d r short h = absurd (waits_on Question.Refresh r h)
-      go false true None d r short h = absurd (waits_on Question.Home r h)
-      go false true (Some false) d r short h = as_made true (Some false) (Some Refusal.NotHome) r (refuses_as Refusal.NotHome r h) refl
-      go false true (Some true) true r short h = as_made true (Some true) (Some Refusal.TakenDown) r (refuses_as Refusal.TakenDown r h) refl
-      go false true (Some true) false r short h = as_made true (Some true) None r (passes_as r h) refl
+      subst P (sym body) (subst Q (sym none) (identity_made l refreshed home d r short h))
 
   account_calls : (l : Bool) (home : Option Bool) (r : Option Refusal) → (when l Refusal.TooLong ≡ None) ⊎ (home ≡ None)
       → walk (told (when l Refusal.TooLong) ∷ asked Question.Home (option_map (λ yes. when (not yes) Refusal.NotHome) home) ∷ []) ≡ ended r
@@ -234,9 +237,9 @@ module _ (a : State) (host : List ℕ) (e : Seen) (x : Answers) (tidy : IsTidy a
   short_two = ⊎_elim (λ s. inl s) (λ n. inr (n.home, n.verdict)) tidy.short
 
   unrenewed : (r : Option Refusal) → x.refreshed ≡ false → Shows e host x.home x.verdict r → calls_told host e x ≡ cond (asks_for_home r) (answers (asks_home e.did host) (shows_home r) ∷ []) [] ++ verdict_calls e r
-  unrenewed r no h =
+  unrenewed r none h =
       let P : Bool → Type 0 = λ b. refresh_told e.did b ++ (home_told e.did host x.home ++ verdict_told e x.verdict) ≡ cond (asks_for_home r) (answers (asks_home e.did host) (shows_home r) ∷ []) [] ++ verdict_calls e r in
-      subst P (sym no) h
+      subst P (sym none) h
 
   repo_shown : (rev : ℕ) (others : List Line) (r : Option Refusal) → ((r : Option Refusal) → walk others ≡ ended r → IsBehind r) → (x.verdict ≡ None) ⊎ PassedBefore a e rev x
       → walk (told (length_line e) ∷ repo_lines a rev x others) ≡ ended r → Shows e host x.home x.verdict r
@@ -343,3 +346,56 @@ found_plain did (found head records block) calls are = rw are.are ((refl, tt), r
 
 pub plain_fetch : (old new : Panel) (did : List ℕ) (f : Found) → AnsweredFetch old did f new → AskedPlain old did new
 plain_fetch old new did f is = let both = found_plain did f is.calls is.are in record { calls = is.calls; about = both.0; plain = both.1; made = is.made }
+
+pub plain_failed_as : (old new : Panel) (did d : List ℕ) → d ≡ did → IsCall (fails d) old new → AskedPlain old did new
+plain_failed_as old new did d same call = let P : List ℕ → Type 0 = λ x. IsCall (fails x) old new in plain_failed old new did (subst P same call)
+
+pub on_err : {A E : Type 0} (r : Result A E) (X : Type 0) → X → OnErr r X
+on_err (Ok x) X h = tt
+on_err (Err e) X h = h
+
+pub plain_as : (old new : Panel) (did d : List ℕ) → d ≡ did → AskedPlain old d new → AskedPlain old did new
+plain_as old new did d same plain = let P : List ℕ → Type 0 = λ x. AskedPlain old x new in subst P same plain
+
+-- one moment was taken at most
+pub one_taken : (moments : List ℕ) (m : Option ℕ) (left : List ℕ) → IsTimedSo moments m left → OneTaken moments left
+one_taken moments None left h = inl h
+one_taken moments (Some m) left h = inr h.gone
+
+pub cause_later : (spent : Type 0) (a b c : ℕ) (fault : StepFault) → a ≤ b → IsCause ⊥ spent ⊥ (Rose b c) fault → IsCause ⊥ spent ⊥ (Rose a c) fault
+cause_later spent a b c StepFault.SeqEnd low h = h
+cause_later spent a b c StepFault.Authority low h = h
+cause_later spent a b c StepFault.Repos low h = h
+cause_later spent a b c StepFault.Clock low h = omega (arith, low, h)
+cause_later spent a b c StepFault.Memory low h = tt
+
+pub cause_as : (A B S R C : Type 0) (fault : StepFault) → (A → B) → IsCause A ⊥ ⊥ ⊥ fault → IsCause B S R C fault
+cause_as A B S R C StepFault.SeqEnd f h = f h
+cause_as A B S R C StepFault.Authority f h = absurd h
+cause_as A B S R C StepFault.Repos f h = absurd h
+cause_as A B S R C StepFault.Clock f h = absurd h
+cause_as A B S R C StepFault.Memory f h = tt
+
+pub cause_lost : (A B S R C : Type 0) (fault : StepFault) → (A → B) → IsCause A S R ⊥ fault → IsCause B S R C fault
+cause_lost A B S R C StepFault.SeqEnd f h = f h
+cause_lost A B S R C StepFault.Authority f h = h
+cause_lost A B S R C StepFault.Repos f h = h
+cause_lost A B S R C StepFault.Clock f h = absurd h
+cause_lost A B S R C StepFault.Memory f h = tt
+
+pub if_ok : {A E : Type 0} (r : Result A E) (P Q : A → Type 0) → ((x : A) → P x → Q x) → IfOk r P → IfOk r Q
+if_ok (Ok x) P Q f h = f x h
+if_ok (Err e) P Q f h = tt
+
+pub if_err : {A E : Type 0} (r : Result A E) (P Q : E → Type 0) → ((e : E) → P e → Q e) → IfErr r P → IfErr r Q
+if_err (Ok x) P Q f h = tt
+if_err (Err e) P Q f h = f e h
+
+pub map_err : {A E : Type 0} (r : Result A E) (X Y : Type 0) → (X → Y) → OnErr r X → OnErr r Y
+map_err (Ok x) X Y f h = tt
+map_err (Err e) X Y f h = f h
+
+pub last_other : (n : Next) → ((q : Question) → n ≡ Next.Ask q → ⊥) → is_last n ≡ true
+last_other (Next.Ask q) h = absurd (h q refl)
+last_other (Next.Pass pass) h = refl
+last_other (Next.Done d) h = refl

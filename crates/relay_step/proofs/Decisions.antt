@@ -155,14 +155,14 @@ near_same rev m n h = ap (λ k. when (is_ahead rev k) Refusal.FutureRev) h
 
 body_later : (a : State) (body : Body) (x z : Answers) → AreOf body x z → AreLater (body_lines a body x) (body_lines a body z)
 unfolding AreLater
-body_later a (Body.Commit c) x z of = (mapped_within _ x.home z.home of.home, refl, refl, mapped_within _ x.opened z.opened (of.opened refl), near_same c.rev x.moment z.moment of.moment, mapped_within _ x.verdict z.verdict of.verdict, mapped_within _ x.linked z.linked of.linked, tt)
-body_later a (Body.Sync s) x z of = (mapped_within _ x.home z.home of.home, refl, refl, mapped_within _ x.opened z.opened (of.opened refl), near_same s.rev x.moment z.moment of.moment, mapped_within _ x.verdict z.verdict of.verdict, tt)
-body_later a Body.Identity x z of = (refresh_within x.refreshed z.refreshed of.refreshed, mapped_within _ x.home z.home of.home, refl, tt)
+body_later a (Body.Commit c) x z of = (mapped_within _ x.home z.home of.home, (refl, (refl, (mapped_within _ x.opened z.opened (of.opened refl), (near_same c.rev x.moment z.moment of.moment, (mapped_within _ x.verdict z.verdict of.verdict, (mapped_within _ x.linked z.linked of.linked, tt)))))))
+body_later a (Body.Sync s) x z of = (mapped_within _ x.home z.home of.home, (refl, (refl, (mapped_within _ x.opened z.opened (of.opened refl), (near_same s.rev x.moment z.moment of.moment, (mapped_within _ x.verdict z.verdict of.verdict, tt))))))
+body_later a Body.Identity x z of = (refresh_within x.refreshed z.refreshed of.refreshed, (mapped_within _ x.home z.home of.home, (refl, tt)))
 body_later a (Body.Account b) x z of = (mapped_within _ x.home z.home of.home, tt)
 
 event_later : (a : State) (e : Seen) (x z : Answers) → AreOf e.body x z → AreLater (event_lines a e x) (event_lines a e z)
 unfolding AreLater
-event_later a e x z of = (inr (ap (option_map (λ moment. None)) of.moment), refl, body_later a e.body x z of)
+event_later a e x z of = (inr (ap (option_map (λ moment. None)) of.moment), (refl, body_later a e.body x z of))
 
 -- ---- the effect
 
@@ -204,7 +204,6 @@ fetched_later r x z within due = by_loses (loses (code_of r)) due
     either b (Some f) = cond b f Fetched.NotAsked
 
     none_either : (b : Bool) (o : Option Fetched) → b ≡ false → either b o ≡ Fetched.NotAsked
-    unfolding either
     none_either b None h = refl
     none_either b (Some f) h = rw h refl
 
@@ -265,19 +264,28 @@ module _ (checks : Checks) (last cursor : ℕ) (a : State) (host : List ℕ) (e 
 
 -- ---- the right answers
 
+heads_join : (one other : Head) → one.rev ≡ other.rev → one.data_root ≡ other.data_root → one.commit ≡ other.commit → one ≡ other
+heads_join one other revs roots commits =
+    ap (λ r. record { rev = r; data_root = one.data_root; commit = one.commit }) revs
+    ∙ ap (λ d. record { rev = other.rev; data_root = d; commit = one.commit }) roots
+    ∙ ap (λ c. record { rev = other.rev; data_root = other.data_root; commit = c }) commits
+
 head_same : (car : CarResult) (rev : ℕ) (one other : Head) → IsHeadIn car rev one → IsHeadIn car rev other → one ≡ other
 head_same car rev one other a b =
     let commit : one.commit ≡ other.commit = some_same one.commit other.commit (sym a.found.root_is ∙ b.found.root_is) in
     let object : a.commit ≡ b.commit = some_same a.commit b.commit (sym a.found.object_is ∙ b.found.object_is) in
     let roots : one.data_root ≡ other.data_root = a.data_is ∙ ap (λ (c : Commit). c.data_root) object ∙ sym b.data_is in
     let revs : one.rev ≡ other.rev = a.rev_is ∙ sym b.rev_is in
-    cc
+    heads_join one other revs roots commit
 
 heads_same : (body : Body) (one other : Head) → has_blocks body ≡ true → IsHeadOf body one → IsHeadOf body other → one ≡ other
 heads_same (Body.Commit c) one other has a b = head_same (car_in c) c.rev one other a b
 heads_same (Body.Sync s) one other has a b = head_same (car_of s.blocks) s.rev one other a b
 heads_same Body.Identity one other has a b = absurd cc
 heads_same (Body.Account k) one other has a b = absurd cc
+
+none_some : (r : Refusal) → None ≡ Some r → ⊥
+none_some r h = absurd cc
 
 pub opened_right : (checks : Checks) → OpensRight checks → (e : Seen) (last : Option ℕ) (answer : Result Head Refusal) → has_blocks e.body ≡ true → IsOpenedAs e.body last answer → answer ≡ checks.opens e last
 opened_right checks opens e last answer has is = go answer (checks.opens e last) refl is
@@ -287,9 +295,6 @@ opened_right checks opens e last answer has is = go answer (checks.opens e last)
     go (Ok head) (Err r) same is = absurd (none_some r (sym is.0 ∙ sym (opens.refusal e last) ∙ ap (λ (k : Result Head Refusal). refusal_in k) same))
     go (Err r) (Ok second) same is = absurd (none_some r (sym (ap (λ (k : Result Head Refusal). refusal_in k) same) ∙ opens.refusal e last ∙ is))
     go (Err r) (Err s) same is = ap (λ (q : Refusal). Err q) (some_same r s (sym is ∙ sym (opens.refusal e last) ∙ ap (λ (k : Result Head Refusal). refusal_in k) same)) ∙ sym same
-
-    none_some : (r : Refusal) → None ≡ Some r → ⊥
-    none_some r h = absurd cc
 
 pub within_told : (o : Option Bool) → Within o (Some (unwrap_or o true))
 within_told None = inl refl

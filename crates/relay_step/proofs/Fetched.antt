@@ -188,3 +188,13 @@ judged_near moment good head records block h = sym (ap (λ b. cond b (unfit FETC
 
 pub rose_later : (a b c : ℕ) → a ≤ b → min (b + 1) (2 ^ 64 - 1) ≤ c → min (a + 1) (2 ^ 64 - 1) ≤ c
 rose_later a b c low rose = omega (arith, low, rose)
+
+pub asked_good_at : (did : List ℕ) (least : Option ℕ) (checked : Checked) → IsOfBytes did least checked → (old new : Panel) (sig : List ℕ) (good : Bool) → sig ≡ checked.sig → good ≡ true → IsCall (answers (asks_verdict did checked.digest sig) good) old new
+    → AnsweredFetch old did (found checked.head checked.records checked.block) new
+asked_good_at did least checked of old new sig good same is call =
+    let P : List ℕ → Type 0 = λ s. IsCall (answers (asks_verdict did checked.digest s) good) old new in
+    let Q : Bool → Type 0 = λ b. IsCall (answers (asks_verdict did checked.digest checked.sig) b) old new in
+    asked_good did least checked of old new (subst Q is (subst P same call))
+
+pub asked_bad_at : (did digest sig : List ℕ) (old new : Panel) (good : Bool) → good ≡ false → IsCall (answers (asks_verdict did digest sig) good) old new → AnsweredFetch old did (unfit FETCHED_UNSIGNED) new
+asked_bad_at did digest sig old new good is call = let Q : Bool → Type 0 = λ b. IsCall (answers (asks_verdict did digest sig) b) old new in asked_bad did digest sig old new (subst Q is call)

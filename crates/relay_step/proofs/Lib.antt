@@ -10,3 +10,4 @@ pub mod Losses
 pub mod Steps
 pub mod Others
 pub mod Words
+pub mod Sending

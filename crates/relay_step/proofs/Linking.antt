@@ -1,6 +1,7 @@
 -- What linking a commit says is right.
 use Rattle.std.proofs.Common.{◌≡◌, ℕ, Bool, true, false, List, [], ◌∷◌, Option, Some, None, Result, Ok, Err, refl, sym, ap, ◌∙◌, subst}
 use Rattle.at_car.specs.Blocks.{BlockMap}
+use Rattle.at_event.specs.Events.{IsEvent}
 use Rattle.at_event.specs.Seen.{Seen}
 use Rattle.at_event.specs.declared.event.Body.{Body}
 use Rattle.at_event.specs.declared.event.CommitEvent.{CommitEvent}
@@ -12,12 +13,14 @@ use Rattle.commit_check.specs.Opening.{IsOpened}
 use Rattle.commit_check.specs.Order.{Holds, StopsPast}
 use Rattle.commit_check.specs.Refusing.{RefusesWith}
 use Rattle.commit_check.specs.Step.{Leads, StopsAt, edits_of, is_gap, root_before}
+use Rattle.commit_check.specs.declared.expect.Expect.{Expect}
 use Rattle.commit_check.specs.declared.fault.CheckFault.{CheckFault}
 use Rattle.commit_check.specs.declared.opened.Opened.{Opened}
 use Rattle.commit_check.proofs.Held.{same_blocks, same_data}
 use Rattle.relay_core.specs.Decide.{Checks, as_result}
 use Rattle.relay_law.specs.Right.{LinksRight, expect_of}
-use Rattle.relay_step.specs.Questions.{IsLinkAnswer, is_unlinked}
+use Rattle.relay_step.specs.Questions.{IsLinkAnswer, IsReadOf, is_unlinked}
+use Rattle.relay_step.specs.declared.reading.Read.{Read}
 
 stop_unlinked : (ops : List Op) (blocks : BlockMap) (former later : List ℕ) (r : Refusal) → StopsAt ops blocks former later r → is_unlinked r ≡ true
 stop_unlinked [] blocks former later (Refusal.OtherData want got) h = refl
@@ -35,7 +38,7 @@ past_unlinked false c blocks former later r h = stop_unlinked (edits_of c) block
 body_commit : (e : Seen) (c d : CommitEvent) → e.body ≡ Body.Commit c → e.body ≡ Body.Commit d → d ≡ c
 body_commit e c d one other = let same : Body.Commit d ≡ Body.Commit c = sym other ∙ one in cc
 
-module _ (e : Seen) (c : CommitEvent) (o : Opened) (repo : Repo) (body : e.body ≡ Body.Commit c) (is : IsOpened c o) where
+module _ (e : Seen) (c : CommitEvent) (o : Opened) (repo : Repo) (event : IsEvent e) (body : e.body ≡ Body.Commit c) (is : IsOpened c o) where
   held : Holds c
   held = record { roots = o.car.roots; blocks = o.car.blocks; commit = is.commit; car = is.car; object = is.object }
 
@@ -61,7 +64,7 @@ module _ (e : Seen) (c : CommitEvent) (o : Opened) (repo : Repo) (body : e.body 
   unfolding held
   leads_here checks links none =
       let Q : List ℕ → Type 0 = λ d. Leads c o.car.blocks (root_before (expect_of repo)) d in
-      subst Q (sym is.head.data_root) (links.leads e c repo held body none)
+      subst Q (sym is.head.data_root) (links.leads e c repo held event body none)
 
   -- it is linked
   pub linked_answer : ((r : Refusal) → IsUnlinked c o (expect_of repo) (CheckFault.Refused r) → RefusesWith {X = Unit {0}} r (Ok tt)) → IsLinkAnswer repo e (Ok tt)
@@ -74,7 +77,7 @@ module _ (e : Seen) (c : CommitEvent) (o : Opened) (repo : Repo) (body : e.body 
     where
       go : (checks : Checks) → LinksRight checks → (answer : Option Refusal) → checks.links e repo ≡ answer → Ok tt ≡ as_result (checks.links e repo)
       go checks links None is_so = sym (ap as_result is_so)
-      go checks links (Some r) is_so = let never = exact r (stops_here held r (links.stops e c repo held r body is_so)) in absurd cc
+      go checks links (Some r) is_so = let never = exact r (stops_here held r (links.stops e c repo held r event body is_so)) in absurd cc
 
   -- it isn't
   pub unlinked_answer : (r : Refusal) → IsUnlinked c o (expect_of repo) (CheckFault.Refused r)
@@ -102,4 +105,29 @@ module _ (e : Seen) (c : CommitEvent) (o : Opened) (repo : Repo) (body : e.body 
 
       go : (checks : Checks) → LinksRight checks → (answer : Option Refusal) → checks.links e repo ≡ answer → Err r ≡ as_result (checks.links e repo)
       go checks links None is_so = absurd (only (links.no_gap e c repo body is_so) (leads_here checks links is_so))
-      go checks links (Some q) is_so = let same = exact q (stops_here held q (links.stops e c repo held q body is_so)) in sym same ∙ sym (ap as_result is_so)
+      go checks links (Some q) is_so = let same = exact q (stops_here held q (links.stops e c repo held q event body is_so)) in sym same ∙ sym (ap as_result is_so)
+
+-- what was read of a commit
+pub read_commit : (b : Body) (r : Read) (c : CommitEvent) (o : Opened) → b ≡ Body.Commit c → r ≡ Read.Commit o → IsReadOf b r → IsOpened c o
+read_commit b r c o one two is =
+    let P : Body → Type 0 = λ k. IsReadOf k r in
+    let Q : Read → Type 0 = λ k. IsReadOf (Body.Commit c) k in
+    (subst Q two (subst P one is)).0
+
+pub linked_by : (e : Seen) (c : CommitEvent) (o : Opened) (repo : Repo) (expect : Expect) → IsEvent e → e.body ≡ Body.Commit c → IsOpened c o → expect ≡ expect_of repo
+    → ((r : Refusal) → IsUnlinked c o expect (CheckFault.Refused r) → RefusesWith {X = Unit {0}} r (Ok tt)) → IsLinkAnswer repo e (Ok tt)
+linked_by e c o repo expect event body is same exact =
+    let P : Expect → Type 0 = λ x. (r : Refusal) → IsUnlinked c o x (CheckFault.Refused r) → RefusesWith {X = Unit {0}} r (Ok tt) in
+    linked_answer e c o repo event body is (subst P same exact)
+
+-- what a refusal to link says
+pub record IsUnlinkedBy (c : CommitEvent) (o : Opened) (expect : Expect) (r : Refusal) : Type 0 where
+  pub refused : IsUnlinked c o expect (CheckFault.Refused r)
+  pub only : is_gap c expect ≡ false → Leads c o.car.blocks (root_before expect) o.head.data_root → ⊥
+  pub exact : (q : Refusal) → IsUnlinked c o expect (CheckFault.Refused q) → RefusesWith {X = Unit {0}} q (Err (CheckFault.Refused r))
+
+pub unlinked_by : (e : Seen) (c : CommitEvent) (o : Opened) (repo : Repo) (expect : Expect) (r : Refusal) → IsEvent e → e.body ≡ Body.Commit c → IsOpened c o → expect ≡ expect_of repo → IsUnlinkedBy c o expect r → IsLinkAnswer repo e (Err r)
+unlinked_by e c o repo expect r event body is same by =
+    let P : Expect → Type 0 = λ x. IsUnlinkedBy c o x r in
+    let there = subst P same by in
+    unlinked_answer e c o repo event body is r there.refused there.only there.exact

@@ -1,6 +1,7 @@
 -- An event whose refusal loses its account.
 use Rattle.std.proofs.Common.{◌≡◌, ◌≢◌, ℕ, ◌+◌, ◌<◌, ◌≤◌, ◌⊎◌, inl, inr, ⊎_elim, Bool, true, false, not, cond, List, [], ◌∷◌, ◌++◌, length, Option, Some, None, Result, Ok, Err, refl, sym, ap, ◌∙◌, subst}
-use Rattle.std.specs.Prelude.{nat_le, IsTrue}
+use Rattle.std.specs.Prelude.{nat_le, IsTrue, IfOk, OnOk}
+use Rattle.std.proofs.lemmas.Bool.{false≢true}
 use Rattle.at_authority.specs.Calls.{Call, AreCalls}
 use Rattle.at_authority.specs.Panels.{Panel}
 use Rattle.at_authority.proofs.Runs.{join}
@@ -19,11 +20,11 @@ use Rattle.relay_row.specs.declared.limits.TheConstants.{NUMBERS}
 use Rattle.relay_row.specs.declared.row.Row.{Row}
 use Rattle.account_state.specs.State.{State}
 use Rattle.relay_core.specs.Decide.{Checks, Found, absent, unfit, found, made}
-use Rattle.relay_core.specs.Entries.{Holds, account_in, cursor_in}
+use Rattle.relay_core.specs.Entries.{account_in, cursor_in}
 use Rattle.relay_core.specs.Opening.{OpensRight}
 use Rattle.relay_core.specs.Rows.{event_taken}
 use Rattle.relay_core.specs.Sending.{CanBeSent, IsSendable}
-use Rattle.relay_core.specs.Table.{Line, Walk, waits, refuses, passes, walk, link_line, body_lines, event_lines, next_at, next_of, after_fetch, when}
+use Rattle.relay_core.specs.Table.{Line, told, moment_line, Walk, waits, refuses, passes, walk, link_line, body_lines, event_lines, next_at, next_of, after_fetch, when}
 use Rattle.relay_core.specs.declared.answers.Answers.{Answers}
 use Rattle.relay_core.specs.declared.answers.Question.{Question}
 use Rattle.relay_core.specs.declared.decision.Decision.{Decision}
@@ -32,8 +33,25 @@ use Rattle.relay_core.specs.declared.decision.Pass.{Pass}
 use Rattle.relay_core.specs.declared.journal_state.Core.{Core}
 use Rattle.relay_law.specs.Formed.{AreAnswersTo, IsFetchedBehind}
 use Rattle.relay_step.specs.Fetches.{IsSent, IsTyped, MayBeKept, made_of}
-use Rattle.relay_step.specs.Questions.{AreAsked, IsJudgedLate, IsRenewedFirst, IsTidy, NoneAsked, PassedBefore, calls_told}
+use Rattle.relay_step.specs.Questions.{AreAsked, IsJudgedLate, IsRenewedFirst, IsTidy, NoneAsked, PassedBefore, calls_told, length_line}
+use Rattle.account_state.specs.Folds.{last_rev}
+use Rattle.account_state.specs.declared.repo.Repo.{Repo}
+use Rattle.relay_core.specs.Decide.{old_if}
+use Rattle.relay_core.specs.Rows.{goes_out}
+use Rattle.relay_core.specs.Shown.{or_zero}
+use Rattle.relay_core.specs.Table.{did_of, no_answers}
+use Rattle.relay_step.specs.Around.{Around, SameRepositories, around}
+use Rattle.relay_step.specs.Fetches.{is_good}
+use Rattle.relay_step.specs.Fetching.{IsFetchedFrom}
+use Rattle.relay_step.specs.Messages.{EndsNumbers}
+use Rattle.relay_step.specs.Operators.{AnsweredFetch}
+use Rattle.relay_step.specs.Questions.{IsLinkAnswer, IsTimedSo}
+use Rattle.relay_step.specs.Taking.{EventTold, IsFetchOf, IsFetchedSo, LostTook}
+use Rattle.relay_step.specs.declared.fault.StepFault.{StepFault}
+use Rattle.relay_step.specs.declared.told.Told.{Told as Outcome}
 use Rattle.relay_step.proofs.Calls.{ended, moment_there}
+use Rattle.relay_step.proofs.Decisions.{passes_over}
+use Rattle.relay_step.proofs.Taken.{gives_of, lost_gives, sent_gives}
 use Rattle.relay_step.proofs.Walks.{asked_above, lost_walk}
 
 -- the decision of a refusal behind which this was fetched
@@ -54,6 +72,16 @@ refusal_is r Fetched.NotAsked = refl
 refusal_is r Fetched.Absent = refl
 refusal_is r (Fetched.Refused n) = refl
 refusal_is r (Fetched.Whole w) = refl
+
+-- the lines hang on no fetch
+lines_fetched : (a : State) (body : Body) (x : Answers) (o : Option Fetched) → body_lines a body (record x { fetched = o }) ≡ body_lines a body x
+lines_fetched a (Body.Commit c) x o = refl
+lines_fetched a (Body.Sync s) x o = refl
+lines_fetched a Body.Identity x o = refl
+lines_fetched a (Body.Account b) x o = refl
+
+event_fetched : (a : State) (e : Seen) (x : Answers) (o : Option Fetched) → event_lines a e (record x { fetched = o }) ≡ event_lines a e x
+event_fetched a e x o = ap (λ (lines : List Line). moment_line x ∷ told (length_line e) ∷ lines) (lines_fetched a e.body x o)
 
 -- where a fetch is asked for: the refusal that loses the account, the moment that was taken, and what is decided behind the fetch
 pub record AsksFetch (cursor : ℕ) (a : State) (e : Seen) (x : Answers) : Type 0 where
@@ -77,8 +105,9 @@ asks_fetch cursor a e x asks =
       taken = there.1;
       decides = λ f.
           let Q : Walk → Type 0 = λ w. next_at w a e.body (Some f) ≡ Next.Done (fetched_decision lost.0 f) in
-          let R : Bool → Type 0 = λ b. cond b (Next.Pass Pass.Old) (next_at (walk (event_lines a e x)) a e.body (Some f)) ≡ Next.Done (fetched_decision lost.0 f) in
-          (fetched_decision lost.0 f, subst R (sym above.0) (subst Q (sym lost.1) (ap (λ b. cond b (after_fetch lost.0 (Some f)) (Next.Done (record { refusal = Some lost.0; held = false; gives = false }))) lost.2 ∙ decision_is lost.0 f)), refusal_is lost.0 f);
+          let R : Bool → Type 0 = λ b. cond b (Next.Pass Pass.Old) (next_at (walk (event_lines a e (record x { fetched = Some f }))) a e.body (Some f)) ≡ Next.Done (fetched_decision lost.0 f) in
+          let same : walk (event_lines a e (record x { fetched = Some f })) ≡ refuses lost.0 = ap walk (event_fetched a e x (Some f)) ∙ lost.1 in
+          (fetched_decision lost.0 f, subst R (sym above.0) (subst Q (sym same) (ap (λ b. cond b (after_fetch lost.0 (Some f)) (Next.Done (record { refusal = Some lost.0; held = false; gives = false }))) lost.2 ∙ decision_is lost.0 f)), refusal_is lost.0 f);
     }
 
 -- ---- with the fetch
@@ -148,3 +177,178 @@ made_sendable last e (found h k b) named short may sent head records block same 
       car_short = sent.1.short;
       number = sent.0;
     }))
+
+-- ---- the row of an event whose account was lost
+
+pub same_frame : (c : Core) (host : List ℕ) (frame : Frame) (e : Seen) (x : Answers) → frame ≡ Frame.Event e → next_of (cursor_in c host) (account_in c (did_of frame)) frame x ≡ next_of (cursor_in c host) (account_in c e.did) (Frame.Event e) x
+same_frame c host frame e x is = ap (λ (f : Frame). next_of (cursor_in c host) (account_in c (did_of f)) f x) is
+
+-- what comes next of the event
+pub next_event : (c : Core) (host : List ℕ) (frame : Frame) (e : Seen) (x : Answers) (n : Next) → frame ≡ Frame.Event e → n ≡ next_of (cursor_in c host) (account_in c (did_of frame)) frame x → next_of (cursor_in c host) (account_in c e.did) (Frame.Event e) x ≡ n
+next_event c host frame e x n is next = sym (next ∙ same_frame c host frame e x is)
+
+pub beside_last : (c : Core) (did d : List ℕ) (last : Option ℕ) (repo : Repo) → last ≡ last_rev repo → repo ≡ (account_in c d).repo → d ≡ did → last ≡ last_rev (account_in c did).repo
+beside_last c did d last repo one two same = one ∙ ap last_rev two ∙ ap (λ (x : List ℕ). last_rev (account_in c x).repo) same
+
+module _ (repos_tell : Bool) (c : Core) (host : List ℕ) (e : Seen) (x : Answers) (f : Fetched) (d : Decision) (w : Found) (old : Panel) (repository : List ℕ → Option (List ℕ)) (new : Panel)
+    (asks : next_of (cursor_in c host) (account_in c e.did) (Frame.Event e) x ≡ Next.Ask Question.Fetch) (made_is : f ≡ made_of c.last e.did e.time w) (named : is_did e.did ≡ true) (short : length e.time ≤ 64) (may : MayBeKept w) (sent : IsSent c.last e.did e.time w)
+    (asked : AnsweredFetch old e.did w new) (told_is : IsTrue repos_tell → IsFetchedFrom (repository e.did) e.did (last_rev (account_in c e.did).repo) (or_zero x.moment) (is_good w) w)
+    (done : next_of (cursor_in c host) (account_in c e.did) (Frame.Event e) (record x { fetched = Some f }) ≡ Next.Done d) where
+  pub lost_refused : d.refusal ≡ Some (asks_fetch (cursor_in c host) (account_in c e.did) e x asks).lost
+  lost_refused =
+      let there = asks_fetch (cursor_in c host) (account_in c e.did) e x asks in
+      let other = there.decides f in
+      let same : other.0 ≡ d = done_same other.0 d (sym other.1 ∙ done) in
+      ap (λ (k : Decision). k.refusal) (sym same) ∙ other.2
+    where
+      done_same : (p q : Decision) → Next.Done p ≡ Next.Done q → p ≡ q
+      done_same p q h = cc
+
+  lost_fetch : IsFetchOf repos_tell c.last (account_in c e.did) e repository (or_zero x.moment) d.refusal f asked.calls
+  lost_fetch = record {
+    lost = (asks_fetch (cursor_in c host) (account_in c e.did) e x asks).lost;
+    refused = lost_refused;
+    due = (asks_fetch (cursor_in c host) (account_in c e.did) e x asks).due;
+    what = w;
+    is = made_is ∙ made_same c.last e w;
+    sendable = made_sendable c.last e w named short may sent;
+    may = may;
+    calls = asked.are;
+    told = told_is;
+  }
+
+  pub lost_took : (r : Result Outcome StepFault) → IfOk r (λ t. t ≡ Outcome.Took (event_taken c.last host e d (record x { fetched = Some f }))) → OnOk r (goes_out d.refusal d.held ≡ true → c.last + 1 < NUMBERS)
+      → IfOk r (λ t. LostTook repos_tell c host e x t old repository new)
+  lost_took (Ok t) took number = record {
+    f = f;
+    d = d;
+    fetch = asked.calls;
+    done = done;
+    taken = took;
+    number = number;
+    fetched = lost_fetch;
+    behind = let P : Fetched → Type 0 = λ g. IsFetchedBehind c.last g in subst P (sym made_is) (made_behind c.last e.did e.time w may sent);
+    calls = asked.made;
+  }
+  lost_took (Err fault) took number = tt
+
+-- the same as the code has it
+pub lost_by : (repos_tell : Bool) (c : Core) (host : List ℕ) (e : Seen) (x : Answers) (f : Fetched) (d : Decision) (w : Found) (old : Panel) (repository : List ℕ → Option (List ℕ)) (new : Panel)
+    (did time : List ℕ) (last : Option ℕ) (repo : Repo) (moment : ℕ) → next_of (cursor_in c host) (account_in c e.did) (Frame.Event e) x ≡ Next.Ask Question.Fetch → did ≡ e.did → time ≡ e.time → x.moment ≡ Some moment → last ≡ last_rev repo → repo ≡ (account_in c did).repo
+    → f ≡ made_of c.last did time w → is_did e.did ≡ true → length e.time ≤ 64 → MayBeKept w → IsSent c.last did time w → AnsweredFetch old did w new → (IsTrue repos_tell → IsFetchedFrom (repository did) did last moment (is_good w) w)
+    → next_of (cursor_in c host) (account_in c e.did) (Frame.Event e) (record x { fetched = Some f }) ≡ Next.Done d
+    → (r : Result Outcome StepFault) → IfOk r (λ t. t ≡ Outcome.Took (event_taken c.last host e d (record x { fetched = Some f }))) → OnOk r (goes_out d.refusal d.held ≡ true → c.last + 1 < NUMBERS)
+    → IfOk r (λ t. LostTook repos_tell c host e x t old repository new)
+lost_by repos_tell c host e x f d w old repository new did time last repo moment asks did_is time_is moment_is last_is repo_is made_is named short may sent asked told_is done r took number =
+    let A : List ℕ → Type 0 = λ n. f ≡ made_of c.last n time w in
+    let B : List ℕ → Type 0 = λ n. f ≡ made_of c.last e.did n w in
+    let S : List ℕ → Type 0 = λ n. IsSent c.last n time w in
+    let T : List ℕ → Type 0 = λ n. IsSent c.last e.did n w in
+    let P : List ℕ → Type 0 = λ n. AnsweredFetch old n w new in
+    let F : List ℕ → Type 0 = λ n. IsTrue repos_tell → IsFetchedFrom (repository n) n last moment (is_good w) w in
+    let G : Option ℕ → Type 0 = λ l. IsTrue repos_tell → IsFetchedFrom (repository e.did) e.did l moment (is_good w) w in
+    let H : ℕ → Type 0 = λ m. IsTrue repos_tell → IsFetchedFrom (repository e.did) e.did (last_rev (account_in c e.did).repo) m (is_good w) w in
+    let zero_is : moment ≡ or_zero x.moment = sym (ap or_zero moment_is) in
+    lost_took repos_tell c host e x f d w old repository new asks (subst B time_is (subst A did_is made_is)) named short may (subst T time_is (subst S did_is sent)) (subst P did_is asked)
+    (subst H zero_is (subst G (beside_last c e.did did last repo last_is repo_is did_is) (subst F did_is told_is))) done r took number
+
+-- ---- from the questions to the row
+
+pub lost_told : (clock_tells repos_tell : Bool) (c : Core) (host : List ℕ) (e : Seen) (x : Answers) (old : Around) (mid : Panel) (left : List ℕ) (repository : List ℕ → Option (List ℕ)) (new : Panel) (r : Result Outcome StepFault)
+    → AreAsked clock_tells c.last (cursor_in c host) (account_in c e.did) host e x old.panel old.moments mid left → next_of (cursor_in c host) (account_in c e.did) (Frame.Event e) x ≡ Next.Ask Question.Fetch
+    → (IsTrue repos_tell → SameRepositories old.repository repository) → IfOk r (λ t. LostTook repos_tell c host e x t mid old.repository new)
+    → IfOk r (λ t. EventTold clock_tells repos_tell c host e t old (around new left repository))
+lost_told clock_tells repos_tell c host e x old mid left repository new (Ok t) so_far asks same took =
+    let there = asks_fetch (cursor_in c host) (account_in c e.did) e x asks in
+    let P : Outcome → Type 0 = λ o. EventTold clock_tells repos_tell c host e o old (around new left repository) in
+    subst P (sym took.taken) (record {
+      x = record x { fetched = Some took.f };
+      d = took.d;
+      fetch = took.fetch;
+      done = took.done;
+      taken = refl;
+      number = took.number;
+      fetched = took.fetched;
+      calls = join old.panel mid new (calls_told host e x) took.fetch so_far.calls took.calls;
+      tidy = tidy_fetched (account_in c e.did) e x (Some took.f) there.moment there.taken so_far.tidy;
+      right = right_fetched c.last (account_in c e.did) e x took.f so_far.right took.behind;
+      linked = so_far.linked;
+      timed = so_far.timed;
+      same = same;
+    })
+lost_told clock_tells repos_tell c host e x old mid left repository new (Err fault) so_far asks same took = tt
+
+append_none : (xs : List Call) → xs ++ [] ≡ xs
+append_none [] = refl
+append_none (x ∷ xs) = ap (λ (l : List Call). x ∷ l) (append_none xs)
+
+-- an event that was decided with no fetch
+pub done_told : (clock_tells repos_tell : Bool) (c : Core) (host : List ℕ) (e : Seen) (x : Answers) (d : Decision) (old : Around) (new : Panel) (left : List ℕ) (r : Result Outcome StepFault)
+    → AreAsked clock_tells c.last (cursor_in c host) (account_in c e.did) host e x old.panel old.moments new left → next_of (cursor_in c host) (account_in c e.did) (Frame.Event e) x ≡ Next.Done d
+    → IfOk r (λ t. t ≡ Outcome.Took (event_taken c.last host e d x)) → OnOk r (goes_out d.refusal d.held ≡ true → c.last + 1 < NUMBERS)
+    → IfOk r (λ t. EventTold clock_tells repos_tell c host e t old (around new left old.repository))
+done_told clock_tells repos_tell c host e x d old new left (Ok t) so_far done took number =
+    let P : Outcome → Type 0 = λ o. EventTold clock_tells repos_tell c host e o old (around new left old.repository) in
+    let Q : List Call → Type 0 = λ l. AreCalls old.panel l new in
+    let F : Option Fetched → Type 0 = λ o. IsFetchedSo repos_tell c.last (account_in c e.did) e old.repository (or_zero x.moment) d.refusal o [] in
+    subst P (sym took) (record {
+      x = x;
+      d = d;
+      fetch = [];
+      done = done;
+      taken = refl;
+      number = number;
+      fetched = subst F (sym so_far.unfetched) refl;
+      calls = subst Q (sym (append_none (calls_told host e x))) so_far.calls;
+      tidy = so_far.tidy;
+      right = so_far.right;
+      linked = so_far.linked;
+      timed = so_far.timed;
+      same = λ tells did. refl;
+    })
+done_told clock_tells repos_tell c host e x d old new left (Err fault) so_far done took number = tt
+
+early_none : (a : State) (host : List ℕ) (e : Seen) (x : Answers) → x ≡ no_answers → calls_told host e x ≡ []
+early_none a host e x is = ap (λ (y : Answers). calls_told host e y) is
+
+no_moment : (o : Option ℕ) → ((m : ℕ) → o ≡ Some m → ⊥) → o ≡ None
+no_moment None h = refl
+no_moment (Some m) h = absurd (h m refl)
+
+-- an event that is passed over: nothing was asked
+pub pass_told : (clock_tells repos_tell : Bool) (c : Core) (host : List ℕ) (e : Seen) (x : Answers) (pass : Pass) (old : Around) (new : Panel) (left : List ℕ)
+    → AreAsked clock_tells c.last (cursor_in c host) (account_in c e.did) host e x old.panel old.moments new left → next_of (cursor_in c host) (account_in c e.did) (Frame.Event e) x ≡ Next.Pass pass
+    → EventTold clock_tells repos_tell c host e (Outcome.Passed pass) old (around new left old.repository)
+pass_told clock_tells repos_tell c host e x pass old new left so_far passed_is =
+    let over = passes_over (cursor_in c host) (account_in c e.did) e x pass passed_is in
+    let none = so_far.tidy.early (no_moment x.moment (λ m same. false≢true (sym (so_far.above m same) ∙ over.0))) in
+    let P : List Call → Type 0 = λ l. AreCalls old.panel l new in
+    let M : Option ℕ → Type 0 = λ m. IsTrue clock_tells → IsTimedSo old.moments m left in
+    (ap old_if over.0 ∙ ap Some (sym over.1), record {
+      panel = subst P (early_none (account_in c e.did) host e x none) so_far.calls;
+      moments = subst M (ap (λ (y : Answers). y.moment) none) so_far.timed;
+      same = λ tells did. refl;
+    })
+
+-- ---- where the numbers end
+
+pub done_ends : (c : Core) (host : List ℕ) (e : Seen) (x : Answers) (d : Decision) → next_of (cursor_in c host) (account_in c e.did) (Frame.Event e) x ≡ Next.Done d → AreAnswersTo c.last (account_in c e.did) e x
+    → ((answer : Result (Unit {0}) Refusal) → x.linked ≡ Some answer → IsLinkAnswer (account_in c e.did).repo e answer) → x.fetched ≡ None → NUMBERS ≤ c.last + 1 → goes_out d.refusal d.held ≡ true → EndsNumbers c host (Ok (Frame.Event e))
+done_ends c host e x d done right linked unfetched ends out = (ends, λ checks J opens links holds. gives_of checks J c host e x d opens links holds done right linked absent (inl unfetched) (sent_gives c.last host e x d out))
+
+-- a head, for the sake of an example
+some_head : Head
+some_head = record { rev = 0; data_root = []; commit = [] }
+
+lost_seq : (last : ℕ) (host : List ℕ) (e : Seen) (x : Answers) (d : Decision) (lost : Refusal) → d.refusal ≡ Some lost → loses (code_of lost) ≡ true → seq_in (Row.Taken (event_taken last host e d (record x { fetched = Some (made last e (found some_head 0 [])) }))) ≡ last + 1
+unfolding some_head
+lost_seq last host e x d lost is due = rw (is, due) refl
+
+pub lost_ends : (c : Core) (host : List ℕ) (e : Seen) (x : Answers) → next_of (cursor_in c host) (account_in c e.did) (Frame.Event e) x ≡ Next.Ask Question.Fetch → AreAnswersTo c.last (account_in c e.did) e x
+    → ((answer : Result (Unit {0}) Refusal) → x.linked ≡ Some answer → IsLinkAnswer (account_in c e.did).repo e answer) → NUMBERS ≤ c.last + 1 → EndsNumbers c host (Ok (Frame.Event e))
+lost_ends c host e x asks right linked ends =
+    let there = asks_fetch (cursor_in c host) (account_in c e.did) e x asks in
+    let f = made c.last e (found some_head 0 []) in
+    let other = there.decides f in
+    (ends, λ checks J opens links holds.
+    lost_gives checks J c host e (record x { fetched = Some f }) other.0 opens links holds other.1 right.opened linked (found some_head 0 []) refl (lost_seq c.last host e x other.0 there.lost other.2 there.due))

@@ -14,9 +14,10 @@ use Rattle.at_event.specs.declared.event.Body.{Body}
 use Rattle.at_event.specs.declared.event.CommitEvent.{CommitEvent}
 use Rattle.at_event.specs.declared.event.SyncEvent.{SyncEvent}
 use Rattle.at_event.specs.declared.head.Head.{Head}
+use Rattle.at_event.specs.declared.refusal.Refusal.{Refusal}
 use Rattle.event_checks.specs.Lines.{Line, first_of}
 use Rattle.event_checks.specs.Opening.{CarResult, IsFound, block_in, is_commit_of, is_rooted, object_in, object_in_block, root_in}
-use Rattle.event_checks.specs.Table.{car_in, field_lines, open_lines, sync_lines}
+use Rattle.event_checks.specs.Table.{block_lines, car_in, field_lines, is_stale, open_lines, sync_lines}
 use Rattle.event_checks.proofs.Firsts.{all_unmet}
 use Rattle.commit_check.specs.Opening.{IsOpened}
 use Rattle.commit_check.specs.declared.opened.Opened.{Opened}
@@ -76,7 +77,7 @@ fields_first ((r, true) ∷ xs) ys h = absurd cc
 fields_first ((r, false) ∷ xs) ys h = fields_first xs ys h
 
 pub fields_fine : (c : CommitEvent) (last : Option ℕ) → first_of (open_lines c last) ≡ None → first_of (field_lines c) ≡ None
-fields_fine c last h = fields_first (field_lines c) _ h
+fields_fine c last h = fields_first (field_lines c) ((Refusal.Stale, is_stale last c.rev) ∷ block_lines c) h
 
 pub commit_signed : (c : CommitEvent) (o : Opened) → IsOpened c o → signed_by (Body.Commit c) ≡ Some (o.digest, o.sig)
 commit_signed c o is =

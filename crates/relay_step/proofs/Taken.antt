@@ -80,7 +80,7 @@ due_fetched : (r : Refusal) (f : Fetched) → loses (code_of r) ≡ true → fet
 due_fetched r f due = ap (λ b. cond b f Fetched.NotAsked) due
 
 -- what was fetched stands in the row
-fetched_there : (tells : Bool) (last : ℕ) (a : State) (e : Seen) (repository : List ℕ → Option (List ℕ)) (moment : ℕ) (r : Option Refusal) (f : Fetched) (fetch : List Call) → (is : IsFetchOf tells last a e repository moment r f fetch) → fetched_of r (Some f) ≡ made last e is.what
+pub fetched_there : (tells : Bool) (last : ℕ) (a : State) (e : Seen) (repository : List ℕ → Option (List ℕ)) (moment : ℕ) (r : Option Refusal) (f : Fetched) (fetch : List Call) → (is : IsFetchOf tells last a e repository moment r f fetch) → fetched_of r (Some f) ≡ made last e is.what
 fetched_there tells last a e repository moment r f fetch is =
     ap (λ (q : Option Refusal). fetched_of q (Some f)) is.refused ∙ due_fetched is.lost f is.due ∙ is.is
 
@@ -155,7 +155,7 @@ outside_of : Answers → Found → Outside
 outside_of x f = record { moment = or_zero x.moment; home = unwrap_or x.home true; verdict = unwrap_or x.verdict true; fetched = f }
 
 module _ (checks : Checks) (opens : OpensRight checks) (links : LinksRight checks) (last cursor : ℕ) (a : State) (host : List ℕ) (e : Seen) (x : Answers) (d : Decision)
-    (done : next_of cursor a (Frame.Event e) x ≡ Next.Done d) (right : AreAnswersTo last a e x) (linked : (answer : Result (Unit {0}) Refusal) → x.linked ≡ Some answer → IsLinkAnswer a.repo e answer) where
+    (done : next_of cursor a (Frame.Event e) x ≡ Next.Done d) (right : (answer : Result Head Refusal) → x.opened ≡ Some answer → IsOpenedAs e.body (last_rev a.repo) answer) (linked : (answer : Result (Unit {0}) Refusal) → x.linked ≡ Some answer → IsLinkAnswer a.repo e answer) where
   are_of : (f : Found) → Within x.fetched (Some (made last e f)) → AreOf e.body x (answers checks last a e (outside_of x f))
   unfolding outside_of
   are_of f fetched =
@@ -164,7 +164,7 @@ module _ (checks : Checks) (opens : OpensRight checks) (links : LinksRight check
         moment = there.1 ∙ ap (λ (m : Option ℕ). Some (or_zero m)) (sym there.1);
         refreshed = refl;
         home = within_told x.home;
-        opened = λ has. within_some x.opened (checks.opens e (last_rev a.repo)) (λ answer is. opened_right checks opens e (last_rev a.repo) answer has (right.opened answer is));
+        opened = λ has. within_some x.opened (checks.opens e (last_rev a.repo)) (λ answer is. opened_right checks opens e (last_rev a.repo) answer has (right answer is));
         verdict = within_told x.verdict;
         linked = within_some x.linked (as_result (checks.links e a.repo)) (λ answer is. (linked answer is).right checks links);
         fetched = fetched;
@@ -196,7 +196,7 @@ event_decided clock_tells repos_tell c host e t old new is checks J opens links 
     let a = account_in c e.did in
     let what = found_of_so repos_tell c.last a e old.repository (or_zero is.x.moment) is.d.refusal is.x.fetched is.fetch is.fetched in
     let so : decided_event checks c.last a host e (shown (event_taken c.last host e is.d is.x)) ≡ event_taken c.last host e is.d is.x
-           = made_so checks opens links c.last (cursor_in c host) a host e is.x is.d is.done is.right is.linked what.0 what.1 what.2 in
+           = made_so checks opens links c.last (cursor_in c host) a host e is.x is.d is.done is.right.opened is.linked what.0 what.1 what.2 in
     let P : Taken → Type 0 = λ u. decided_event checks c.last a host e (shown u) ≡ u in
     let Q : ℕ → Type 0 = λ n. decided_event checks n a host e (shown t) ≡ t in
     let R : State → Type 0 = λ s. decided_event checks (last_seq J) s host e (shown t) ≡ t in
@@ -209,10 +209,10 @@ seq_of_sent : (n : ℕ) (message : List ℕ) (others : List (ℕ × List ℕ)) �
 seq_of_sent n message others = rw (ne_eqb (n + 1) 0 (λ zero. absurd (omega (arith, zero)))) refl
 
 -- a decided event whose answers are these gives the next number
-pub gives_of : (checks : Checks) (J : List Row) (c : Core) (host : List ℕ) (e : Seen) (x : Answers) (d : Decision) → OpensRight checks → LinksRight checks → Holds c J → next_of (cursor_in c host) (account_in c e.did) (Frame.Event e) x ≡ Next.Done d
-    → AreAnswersTo c.last (account_in c e.did) e x → ((answer : Result (Unit {0}) Refusal) → x.linked ≡ Some answer → IsLinkAnswer (account_in c e.did).repo e answer)
+gives_by : (checks : Checks) (J : List Row) (c : Core) (host : List ℕ) (e : Seen) (x : Answers) (d : Decision) → OpensRight checks → LinksRight checks → Holds c J → next_of (cursor_in c host) (account_in c e.did) (Frame.Event e) x ≡ Next.Done d
+    → ((answer : Result Head Refusal) → x.opened ≡ Some answer → IsOpenedAs e.body (last_rev (account_in c e.did).repo) answer) → ((answer : Result (Unit {0}) Refusal) → x.linked ≡ Some answer → IsLinkAnswer (account_in c e.did).repo e answer)
     → (f : Found) → Within x.fetched (Some (made c.last e f)) → seq_in (Row.Taken (event_taken c.last host e d x)) ≡ c.last + 1 → GivesNext c host (Frame.Event e) checks J
-gives_of checks J c host e x d opens links holds done right linked f fetched gives =
+gives_by checks J c host e x d opens links holds done right linked f fetched gives =
     let a = account_in c e.did in
     let o = outside_of x f in
     let so = decided_of checks opens links c.last (cursor_in c host) a host e x d done right linked f fetched in
@@ -226,6 +226,17 @@ gives_of checks J c host e x d opens links holds done right linked f fetched giv
       decides = refl;
       gives = ap (λ (u : Taken). seq_in (Row.Taken u)) there ∙ gives;
     }
+
+pub gives_of : (checks : Checks) (J : List Row) (c : Core) (host : List ℕ) (e : Seen) (x : Answers) (d : Decision) → OpensRight checks → LinksRight checks → Holds c J → next_of (cursor_in c host) (account_in c e.did) (Frame.Event e) x ≡ Next.Done d
+    → AreAnswersTo c.last (account_in c e.did) e x → ((answer : Result (Unit {0}) Refusal) → x.linked ≡ Some answer → IsLinkAnswer (account_in c e.did).repo e answer)
+    → (f : Found) → Within x.fetched (Some (made c.last e f)) → seq_in (Row.Taken (event_taken c.last host e d x)) ≡ c.last + 1 → GivesNext c host (Frame.Event e) checks J
+gives_of checks J c host e x d opens links holds done right linked f fetched gives = gives_by checks J c host e x d opens links holds done right.opened linked f fetched gives
+
+-- the same where all answers but that of the fetch are these
+pub lost_gives : (checks : Checks) (J : List Row) (c : Core) (host : List ℕ) (e : Seen) (x : Answers) (d : Decision) → OpensRight checks → LinksRight checks → Holds c J → next_of (cursor_in c host) (account_in c e.did) (Frame.Event e) x ≡ Next.Done d
+    → ((answer : Result Head Refusal) → x.opened ≡ Some answer → IsOpenedAs e.body (last_rev (account_in c e.did).repo) answer) → ((answer : Result (Unit {0}) Refusal) → x.linked ≡ Some answer → IsLinkAnswer (account_in c e.did).repo e answer)
+    → (f : Found) → x.fetched ≡ Some (made c.last e f) → seq_in (Row.Taken (event_taken c.last host e d x)) ≡ c.last + 1 → GivesNext c host (Frame.Event e) checks J
+lost_gives checks J c host e x d opens links holds done right linked f fetched gives = gives_by checks J c host e x d opens links holds done right linked f (inr fetched) gives
 
 -- an event that goes out gives the next number
 pub sent_gives : (last : ℕ) (host : List ℕ) (e : Seen) (x : Answers) (d : Decision) → goes_out d.refusal d.held ≡ true → seq_in (Row.Taken (event_taken last host e d x)) ≡ last + 1

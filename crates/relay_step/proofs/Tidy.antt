@@ -27,9 +27,11 @@ use Rattle.relay_core.proofs.Asking.{ask_open}
 use Rattle.relay_law.specs.Formed.{AreAnswersTo, IsOpenedAs}
 use Rattle.relay_law.specs.Right.{expect_of}
 use Rattle.relay_step.specs.Asked.{signed_by, verdict_call}
-use Rattle.relay_step.specs.Questions.{AreAsked, IsJudgedLate, IsLinkAnswer, IsRenewedFirst, IsTidy, IsTimedSo, NoneAsked, PassedBefore, calls_told, has_blocks, home_told, is_commit, length_line, open_count, refresh_told, verdict_told}
+use Rattle.relay_step.specs.Questions.{AreAsked, IsJudgedLate, IsLinkAnswer, IsReadFor, IsReadOf, IsRenewedFirst, IsTidy, IsTimedSo, NoneAsked, PassedBefore, calls_told, has_blocks, home_told, is_commit, length_line, open_count, refresh_told, verdict_told}
+use Rattle.account_state.specs.declared.repo.Repo.{Repo}
+use Rattle.relay_step.specs.declared.reading.Read.{Read}
 use Rattle.relay_step.specs.Words.{IsNow}
-use Rattle.relay_step.proofs.Walks.{AtBody, IsPassedBefore, at_body, blocks_asked, commit_asked, event_waits, home_renewed, identity_asked, passed_before}
+use Rattle.relay_step.proofs.Walks.{AtBody, IsPassedBefore, asked_above, at_body, blocks_asked, commit_asked, event_waits, home_renewed, identity_asked, passed_before}
 
 not_some : {A : Type 0} (o : Option A) → not (is_some o) ≡ true → o ≡ None
 not_some None h = refl
@@ -85,10 +87,10 @@ renewed_again Body.Identity x y same other h = ⊎_elim (λ home. ⊎_elim (λ r
 renewed_again (Body.Account b) x y same other h = same ∙ h
 
 renewed_last : (body : Body) (x : Answers) → body ≡ Body.Identity → IsRenewedFirst body x → x.refreshed ≡ false → x.home ≡ None
-renewed_last (Body.Commit c) x is h no = absurd cc
-renewed_last (Body.Sync s) x is h no = absurd cc
-renewed_last Body.Identity x is h no = ⊎_elim (λ r. absurd cc) (λ none. none) h
-renewed_last (Body.Account b) x is h no = absurd cc
+renewed_last (Body.Commit c) x is h late = absurd cc
+renewed_last (Body.Sync s) x is h late = absurd cc
+renewed_last Body.Identity x is h late = ⊎_elim (λ r. absurd cc) (λ none. none) h
+renewed_last (Body.Account b) x is h late = absurd cc
 
 renewed_now : (body : Body) (x : Answers) → body ≡ Body.Identity → IsRenewedFirst body (record x { refreshed = true })
 renewed_now (Body.Commit c) x is = absurd cc
@@ -108,7 +110,7 @@ calls_more old mid new calls more so_far next =
 
 -- ---- a question answered
 
-module _ (clock_tells : Bool) (last : ℕ) (a : State) (host : List ℕ) (e : Seen) (x : Answers) (old : Panel) (moments : List ℕ) (mid : Panel) (left : List ℕ) (cursor : ℕ) (so_far : AreAsked clock_tells last a host e x old moments mid left) where
+module _ (clock_tells : Bool) (last : ℕ) (a : State) (host : List ℕ) (e : Seen) (x : Answers) (old : Panel) (moments : List ℕ) (mid : Panel) (left : List ℕ) (cursor : ℕ) (so_far : AreAsked clock_tells last cursor a host e x old moments mid left) where
 
   abbrev Asks : Question → Type 0
   Asks q = next_of cursor a (Frame.Event e) x ≡ Next.Ask q
@@ -120,7 +122,7 @@ module _ (clock_tells : Bool) (last : ℕ) (a : State) (host : List ℕ) (e : Se
   body_at q fetch moment asks = at_body a e x q moment (event_waits cursor a e x q fetch asks)
 
   pub moment_asked : (moment : ℕ) (now : List ℕ) → Asks Question.Moment → moment < NUMBERS → (IsTrue clock_tells → IsNow left moment now)
-      → AreAsked clock_tells last a host e (record x { moment = Some moment }) old moments mid now
+      → AreAsked clock_tells last cursor a host e (record x { moment = Some moment }) old moments mid now
   moment_asked moment now asks below taken =
       let none : x.moment ≡ None = not_some x.moment (still_open Question.Moment asks) in
       let nothing = so_far.tidy.early none in
@@ -145,9 +147,10 @@ module _ (clock_tells : Bool) (last : ℕ) (a : State) (host : List ℕ) (e : Se
         };
         linked = so_far.linked;
         unfetched = so_far.unfetched;
+        above = λ m same. (asked_above cursor a e x Question.Moment asks).0;
       }
 
-  pub refresh_asked : (new : Panel) → Asks Question.Refresh → IsCall (refreshes e.did) mid new → AreAsked clock_tells last a host e (record x { refreshed = true }) old moments new left
+  pub refresh_asked : (new : Panel) → Asks Question.Refresh → IsCall (refreshes e.did) mid new → AreAsked clock_tells last cursor a host e (record x { refreshed = true }) old moments new left
   refresh_asked new asks call =
       let at = body_at Question.Refresh (λ k. absurd cc) (λ k. absurd cc) asks in
       let identity = identity_asked a e.body x at.waits_at in
@@ -172,9 +175,10 @@ module _ (clock_tells : Bool) (last : ℕ) (a : State) (host : List ℕ) (e : Se
         right = record { moment = so_far.right.moment; opened = so_far.right.opened; linked = so_far.right.linked; fetched = so_far.right.fetched };
         linked = so_far.linked;
         unfetched = so_far.unfetched;
+        above = so_far.above;
       }
 
-  pub home_asked : (new : Panel) (is_home : Bool) → Asks Question.Home → IsCall (answers (asks_home e.did host) is_home) mid new → AreAsked clock_tells last a host e (record x { home = Some is_home }) old moments new left
+  pub home_asked : (new : Panel) (is_home : Bool) → Asks Question.Home → IsCall (answers (asks_home e.did host) is_home) mid new → AreAsked clock_tells last cursor a host e (record x { home = Some is_home }) old moments new left
   home_asked new is_home asks call =
       let at = body_at Question.Home (λ k. absurd cc) (λ k. absurd cc) asks in
       let no_home : x.home ≡ None = not_some x.home (still_open Question.Home asks) in
@@ -196,9 +200,10 @@ module _ (clock_tells : Bool) (last : ℕ) (a : State) (host : List ℕ) (e : Se
         right = record { moment = so_far.right.moment; opened = so_far.right.opened; linked = so_far.right.linked; fetched = so_far.right.fetched };
         linked = so_far.linked;
         unfetched = so_far.unfetched;
+        above = so_far.above;
       }
 
-  pub open_asked : (answer : Result Head Refusal) → Asks Question.Open → IsOpenedAs e.body (last_rev a.repo) answer → AreAsked clock_tells last a host e (record x { opened = Some answer }) old moments mid left
+  pub open_asked : (answer : Result Head Refusal) → Asks Question.Open → IsOpenedAs e.body (last_rev a.repo) answer → AreAsked clock_tells last cursor a host e (record x { opened = Some answer }) old moments mid left
   open_asked answer asks right =
       let at = body_at Question.Open (λ k. absurd cc) (λ k. absurd cc) asks in
       let none : x.opened ≡ None = not_some x.opened (still_open Question.Open asks) in
@@ -219,9 +224,10 @@ module _ (clock_tells : Bool) (last : ℕ) (a : State) (host : List ℕ) (e : Se
         };
         linked = so_far.linked;
         unfetched = so_far.unfetched;
+        above = so_far.above;
       }
 
-  pub verdict_asked : (new : Panel) (good : Bool) → Asks Question.Verdict → AreCalls mid (verdict_call e.did (signed_by e.body) good) new → AreAsked clock_tells last a host e (record x { verdict = Some good }) old moments new left
+  pub verdict_asked : (new : Panel) (good : Bool) → Asks Question.Verdict → AreCalls mid (verdict_call e.did (signed_by e.body) good) new → AreAsked clock_tells last cursor a host e (record x { verdict = Some good }) old moments new left
   verdict_asked new good asks called =
       let at = body_at Question.Verdict (λ k. absurd cc) (λ k. absurd cc) asks in
       let none : x.verdict ≡ None = not_some x.verdict (still_open Question.Verdict asks) in
@@ -246,9 +252,10 @@ module _ (clock_tells : Bool) (last : ℕ) (a : State) (host : List ℕ) (e : Se
         right = record { moment = so_far.right.moment; opened = so_far.right.opened; linked = so_far.right.linked; fetched = so_far.right.fetched };
         linked = so_far.linked;
         unfetched = so_far.unfetched;
+        above = so_far.above;
       }
 
-  pub link_asked : (answer : Result (Unit {0}) Refusal) → Asks Question.Link → IsLinkAnswer a.repo e answer → AreAsked clock_tells last a host e (record x { linked = Some answer }) old moments mid left
+  pub link_asked : (answer : Result (Unit {0}) Refusal) → Asks Question.Link → IsLinkAnswer a.repo e answer → AreAsked clock_tells last cursor a host e (record x { linked = Some answer }) old moments mid left
   link_asked answer asks right =
       let at = body_at Question.Link (λ k. absurd cc) (λ k. absurd cc) asks in
       record {
@@ -268,6 +275,7 @@ module _ (clock_tells : Bool) (last : ℕ) (a : State) (host : List ℕ) (e : Se
         };
         linked = λ other same. let is : answer ≡ other = cc in let P : Result (Unit {0}) Refusal → Type 0 = λ r. IsLinkAnswer a.repo e r in subst P is right;
         unfetched = so_far.unfetched;
+        above = so_far.above;
       }
 
 -- ---- what a question needs of what was read
@@ -322,3 +330,26 @@ module _ (cursor : ℕ) (a : State) (f : Frame) (x : Answers) where
 
   pub link_falls : (r : Result (Unit {0}) Refusal) → next_of cursor a f x ≡ Next.Ask Question.Link → open_count (record x { linked = Some r }) < open_count x
   link_falls r asks = rw (open_at Question.Link asks) (omega arith)
+
+-- ---- as the code has it
+
+pub asks_as : (cursor : ℕ) (a : State) (f : Frame) (x : Answers) (q p : Question) → next_of cursor a f x ≡ Next.Ask q → q ≡ p → next_of cursor a f x ≡ Next.Ask p
+asks_as cursor a f x q p asks same = asks ∙ ap Next.Ask same
+
+pub home_call : (d did host : List ℕ) (is_home : Bool) (old new : Panel) → d ≡ did → IsCall (answers (asks_home d host) is_home) old new → IsCall (answers (asks_home did host) is_home) old new
+home_call d did host is_home old new same call = let P : List ℕ → Type 0 = λ x. IsCall (answers (asks_home x host) is_home) old new in subst P same call
+
+pub refresh_call : (d did : List ℕ) (old new : Panel) → d ≡ did → IsCall (refreshes d) old new → IsCall (refreshes did) old new
+refresh_call d did old new same call = let P : List ℕ → Type 0 = λ x. IsCall (refreshes x) old new in subst P same call
+
+pub opened_beside : (body : Body) (last : Option ℕ) (repo : Repo) (a : State) (answer : Result Head Refusal) → last ≡ last_rev repo → repo ≡ a.repo → IsOpenedAs body last answer → IsOpenedAs body (last_rev a.repo) answer
+opened_beside body last repo a answer one two is = let P : Option ℕ → Type 0 = λ l. IsOpenedAs body l answer in subst P (one ∙ ap last_rev two) is
+
+pub read_of : (body : Body) (o : Option (Result Head Refusal)) (r : Read) (head : Head) → o ≡ Some (Ok head) → IsReadFor body o r → IsReadOf body r
+read_of body o r head same is = let P : Option (Result Head Refusal) → Type 0 = λ k. IsReadFor body k r in subst P same is
+
+pub linked_beside : (repo : Repo) (a : State) (e : Seen) (answer : Result (Unit {0}) Refusal) → repo ≡ a.repo → IsLinkAnswer repo e answer → IsLinkAnswer a.repo e answer
+linked_beside repo a e answer same is = let P : Repo → Type 0 = λ r. IsLinkAnswer r e answer in subst P same is
+
+pub opened_seen : (one other : Body) (last : Option ℕ) (answer : Result Head Refusal) → one ≡ other → IsOpenedAs one last answer → IsOpenedAs other last answer
+opened_seen one other last answer same is = let P : Body → Type 0 = λ b. IsOpenedAs b last answer in subst P same is

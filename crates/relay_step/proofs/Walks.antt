@@ -91,21 +91,37 @@ record AtRepo (a : State) (rev : ℕ) (x : Answers) (others : List Line) (q : Qu
   near : (q ≡ Question.Home → ⊥) → (q ≡ Question.Open → ⊥) → when (is_ahead rev x.moment) Refusal.FutureRev ≡ None
   behind : (q ≡ Question.Home → ⊥) → (q ≡ Question.Open → ⊥) → (q ≡ Question.Verdict → ⊥) → walk others ≡ waits q
 
-at_repo : (a : State) (rev : ℕ) (x : Answers) (others : List Line) (q : Question) → walk (repo_lines a rev x others) ≡ waits q → AtRepo a rev x others q
-at_repo a rev x others q h = record {
-  home = λ home. (past_home x.home _ q home h).0;
-  active = λ home. (past_told _ _ q (past_home x.home _ q home h).1).0;
-  up = λ home. (past_told _ _ q (to_up home)).0;
-  opened = λ home opened. (past_open x.opened _ q opened (past_told _ _ q (to_up home)).1).0;
-  near = λ home opened. (past_told _ _ q (to_near home opened)).0;
-  behind = λ home opened verdict. (past_verdict x.verdict others q verdict (past_told _ _ q (to_near home opened)).1).1;
-}
-  where
-    to_up : (q ≡ Question.Home → ⊥) → walk (told (when a.down Refusal.TakenDown) ∷ open_line x ∷ told (when (is_ahead rev x.moment) Refusal.FutureRev) ∷ verdict_line x ∷ others) ≡ waits q
-    to_up home = (past_told _ _ q (past_home x.home _ q home h).1).1
+module _ (a : State) (rev : ℕ) (x : Answers) (others : List Line) (q : Question) (h : walk (repo_lines a rev x others) ≡ waits q) where
+  abbrev behind_up : List Line
+  behind_up = open_line x ∷ told (when (is_ahead rev x.moment) Refusal.FutureRev) ∷ verdict_line x ∷ others
 
-    to_near : (q ≡ Question.Home → ⊥) → (q ≡ Question.Open → ⊥) → walk (told (when (is_ahead rev x.moment) Refusal.FutureRev) ∷ verdict_line x ∷ others) ≡ waits q
-    to_near home opened = (past_open x.opened _ q opened (past_told _ _ q (to_up home)).1).1
+  abbrev behind_home : List Line
+  behind_home = told (when (not a.active) Refusal.Inactive) ∷ told (when a.down Refusal.TakenDown) ∷ behind_up
+
+  past_first : (q ≡ Question.Home → ⊥) → (x.home ≡ Some true) × (walk behind_home ≡ waits q)
+  past_first home = past_home x.home behind_home q home h
+
+  past_active : (q ≡ Question.Home → ⊥) → (when (not a.active) Refusal.Inactive ≡ None) × (walk (told (when a.down Refusal.TakenDown) ∷ behind_up) ≡ waits q)
+  past_active home = past_told (when (not a.active) Refusal.Inactive) (told (when a.down Refusal.TakenDown) ∷ behind_up) q (past_first home).1
+
+  past_up : (q ≡ Question.Home → ⊥) → (when a.down Refusal.TakenDown ≡ None) × (walk behind_up ≡ waits q)
+  past_up home = past_told (when a.down Refusal.TakenDown) behind_up q (past_active home).1
+
+  past_opened : (q ≡ Question.Home → ⊥) → (q ≡ Question.Open → ⊥) → ((head : Head) × (x.opened ≡ Some (Ok head))) × (walk (told (when (is_ahead rev x.moment) Refusal.FutureRev) ∷ verdict_line x ∷ others) ≡ waits q)
+  past_opened home opened = past_open x.opened (told (when (is_ahead rev x.moment) Refusal.FutureRev) ∷ verdict_line x ∷ others) q opened (past_up home).1
+
+  past_near : (q ≡ Question.Home → ⊥) → (q ≡ Question.Open → ⊥) → (when (is_ahead rev x.moment) Refusal.FutureRev ≡ None) × (walk (verdict_line x ∷ others) ≡ waits q)
+  past_near home opened = past_told (when (is_ahead rev x.moment) Refusal.FutureRev) (verdict_line x ∷ others) q (past_opened home opened).1
+
+  at_repo : AtRepo a rev x others q
+  at_repo = record {
+    home = λ home. (past_first home).0;
+    active = λ home. (past_active home).0;
+    up = λ home. (past_up home).0;
+    opened = λ home opened. (past_opened home opened).0;
+    near = λ home opened. (past_near home opened).0;
+    behind = λ home opened verdict. (past_verdict x.verdict others q verdict (past_near home opened).1).1;
+  }
 
 -- ---- what is known where a question is asked
 

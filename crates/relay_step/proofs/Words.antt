@@ -16,6 +16,7 @@ use Rattle.relay_row.specs.declared.limits.TheConstants.{NUMBERS}
 use Rattle.relay_row.specs.declared.row.Row.{Row}
 use Rattle.account_state.specs.Folds.{account, last_rev}
 use Rattle.account_state.specs.State.{State}
+use Rattle.account_state.specs.declared.repo.Repo.{Repo}
 use Rattle.relay_core.specs.Decide.{Found, absent, unfit, found, whole_under}
 use Rattle.relay_core.specs.Entries.{Holds, account_in}
 use Rattle.relay_core.specs.Operating.{fetch_refusal, operate_refusal, operated_as, sync_refusal}
@@ -108,4 +109,8 @@ synced_kept c did time moment (found head records block) w row law same row_is m
     let R : Row → Type 0 = λ r. IsJournal (J ++ r ∷ []) in
     let there : row ≡ Row.Synced did (whole_under did time head records block (last_seq J + 1)) (Some moment)
         = row_is ∙ ap (λ (k : Whole). Row.Synced did k (Some moment)) whole ∙ ap (λ (n : ℕ). Row.Synced did (whole_under did time head records block (n + 1)) (Some moment)) holds.last in
-    subst R (sym there) (law J did time head records block moment journal (names_it did text named) (may.0, (may.1, now.2)) below now.0)
+    subst R (sym there) (law J did time head records block moment journal (names_it did text named) (may.0, may.1, now.2) below now.0)
+
+pub fetched_beside : (c : Core) (did : List ℕ) (o : Option (List ℕ)) (moment : ℕ) (f : Found) (tells : Bool) (last : Option ℕ) (repo : Repo) → last ≡ last_rev repo → repo ≡ (account_in c did).repo → (IsTrue tells → IsFetchedFrom o did last moment (is_good f) f)
+    → IsTrue tells → IsFetchedFrom o did (last_rev (account_in c did).repo) moment (is_good f) f
+fetched_beside c did o moment f tells last repo one two is told = let P : Option ℕ → Type 0 = λ l. IsFetchedFrom o did l moment (is_good f) f in subst P (one ∙ ap last_rev two) (is told)

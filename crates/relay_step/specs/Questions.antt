@@ -128,18 +128,22 @@ IsReadFor body (Some (Ok head)) read = IsReadOf body read
 IsReadFor body other read = Unit {0}
 
 -- What was asked about an event: of the judges and the clock this, and all answers are right.
-pub record AreAsked (clock_tells : Bool) (last : ℕ) (a : State) (host : List ℕ) (e : Seen) (x : Answers) (old : Panel) (moments : List ℕ) (new : Panel) (left : List ℕ) : Type 0 where
+pub record AreAsked (clock_tells : Bool) (last cursor : ℕ) (a : State) (host : List ℕ) (e : Seen) (x : Answers) (old : Panel) (moments : List ℕ) (new : Panel) (left : List ℕ) : Type 0 where
   pub calls : AreCalls old (calls_told host e x) new
   pub timed : IsTrue clock_tells → IsTimedSo moments x.moment left
   pub tidy : IsTidy a e x
   pub right : AreAnswersTo last a e x
   pub linked : (answer : Result (Unit {0}) Refusal) → x.linked ≡ Some answer → IsLinkAnswer a.repo e answer
   pub unfetched : x.fetched ≡ None
+  pub above : (moment : ℕ) → x.moment ≡ Some moment → nat_le e.seq cursor ≡ false
+
+abbrev pub is_fetch : Question → Bool
+is_fetch Question.Fetch = true
+is_fetch q = false
 
 -- nothing more is asked but for the account's repository
 abbrev pub is_last : Next → Bool
-is_last (Next.Ask Question.Fetch) = true
-is_last (Next.Ask q) = false
+is_last (Next.Ask q) = is_fetch q
 is_last (Next.Pass pass) = true
 is_last (Next.Done d) = true
 

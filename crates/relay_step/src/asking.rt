@@ -1,18 +1,17 @@
 //! The questions about an event, asked one at a time.
 
-ghost use Rattle.std.specs.Prelude.{◌≡◌, ◌≢◌, ◌≤◌, ◌<◌, ℕ, List, true, Some, IsTrue, IfOk, IfErr, OnOk, OnErr};
+ghost use Rattle.std.specs.Prelude.{◌≡◌, ◌≤◌, ◌<◌, ℕ, List, true, false, IsTrue, IfOk, IfErr, OnOk, OnErr};
 ghost use Rattle.at_cid.specs.Counts.{Rose};
 ghost use Rattle.at_syntax.specs.Did.{is_did, method_of};
 ghost use Rattle.at_authority.specs.Panels.{IsSpent, Panel};
 ghost use Rattle.at_event.specs.declared.frame.Frame.{Frame as AFrame};
 ghost use Rattle.relay_core.specs.Entries.{account_in, cursor_in};
 ghost use Rattle.relay_core.specs.Table.{next_of};
-ghost use Rattle.relay_core.specs.declared.answers.Question.{Question as AQuestion};
 ghost use Rattle.relay_core.specs.declared.decision.Next.{Next as ANext};
 ghost use Rattle.relay_step.specs.Asked.{AskedInVain};
 ghost use Rattle.relay_step.specs.Causes.{IsCause, OneTaken};
 ghost use Rattle.relay_step.specs.Fetches.{AskedPlain};
-ghost use Rattle.relay_step.specs.Questions.{AreAsked, IsReadFor, is_last, open_count};
+ghost use Rattle.relay_step.specs.Questions.{AreAsked, IsReadFor, is_fetch, is_last, open_count};
 
 use crate::fault::StepFault;
 use crate::outside::{ask_home, ask_moment, ask_refresh};
@@ -34,12 +33,20 @@ pub(crate) fn repo_of(core: &Core, did: &str) -> Repo
     }
 }
 
+// Whether the account's repository is asked for.
+fn is_fetch(question: Question) -> bool
+    ensures { result ≡ is_fetch question }
+{
+    matches!(question, Question::Fetch)
+}
+
 /// Asks the question that comes next about an event, but for that of its account's repository.
 fn ask_one<P: Judges, C: Clock>(
     alloc: Global,
     core: &Core,
     host: &str,
     event: &Event,
+    repo: &Repo,
     question: Question,
     answers: &mut Answers,
     read: &mut Read,
@@ -47,12 +54,13 @@ fn ask_one<P: Judges, C: Clock>(
     clock: &mut C,
 ) -> Result<(), StepFault>
     requires asks { next_of (cursor_in core.now host.now) (account_in core.now event.now.did) (AFrame.Event event.now) answers.old ≡ ANext.Ask question }
-    requires other { question ≢ AQuestion.Fetch }
+    requires repo { repo.now ≡ (account_in core.now event.now.did).repo }
+    requires other { is_fetch question ≡ false }
     requires read { IsReadFor event.now.body answers.old.opened read.old }
     requires did { IsTrue (is_did event.now.did) }
     ensures asked { OnOk result ((old : Panel) (moments : List ℕ)
-        → AreAsked C.tells core.now.last (account_in core.now event.now.did) host.now event.now answers.old old moments (P.panel judges.old) (C.moments clock.old)
-        → AreAsked C.tells core.now.last (account_in core.now event.now.did) host.now event.now answers.new old moments (P.panel judges.new) (C.moments clock.new)) }
+        → AreAsked C.tells core.now.last (cursor_in core.now host.now) (account_in core.now event.now.did) host.now event.now answers.old old moments (P.panel judges.old) (C.moments clock.old)
+        → AreAsked C.tells core.now.last (cursor_in core.now host.now) (account_in core.now event.now.did) host.now event.now answers.new old moments (P.panel judges.new) (C.moments clock.new)) }
     ensures read { OnOk result (IsReadFor event.now.body answers.new.opened read.new) }
     ensures fewer { OnOk result (open_count answers.new < open_count answers.old) }
     ensures in_vain { OnErr result (AskedPlain (P.panel judges.old) event.now.did (P.panel judges.new)) }
@@ -62,20 +70,30 @@ fn ask_one<P: Judges, C: Clock>(
 {
     let did = event.did.as_str();
     match question {
-        Question::Moment => answers.moment = Some(ask_moment(clock)?),
+        Question::Moment => {
+            let moment = ask_moment(clock)?;
+            answers.moment = Some(moment);
+        }
         Question::Refresh => {
             ask_refresh(judges, did)?;
             answers.refreshed = true;
         }
-        Question::Home => answers.home = Some(ask_home(judges, did, host)?),
+        Question::Home => {
+            let is_home = ask_home(judges, did, host)?;
+            answers.home = Some(is_home);
+        }
         Question::Open => {
-            let (answer, blocks) = open(alloc, &event.body, last_rev(&repo_of(core, did)))?;
+            let (answer, blocks) = open(alloc, &event.body, last_rev(repo))?;
             answers.opened = Some(answer);
             *read = blocks;
         }
-        Question::Verdict => answers.verdict = Some(judge(event, read, judges)?),
+        Question::Verdict => {
+            let good = judge(event, read, judges)?;
+            answers.verdict = Some(good);
+        }
         Question::Link => {
-            answers.linked = Some(follow(alloc, event, read, &repo_of(core, did))?);
+            let follows = follow(alloc, event, read, repo)?;
+            answers.linked = Some(follows);
         }
         Question::Fetch => unreachable!(),
     }
@@ -94,7 +112,7 @@ pub(crate) fn ask_all<P: Judges, C: Clock>(
 ) -> Result<(Next, Answers), StepFault>
     requires frame { frame.now ≡ AFrame.Event event.now }
     requires did { IsTrue (is_did event.now.did) }
-    ensures asked { IfOk result (λ x. AreAsked C.tells core.now.last (account_in core.now event.now.did) host.now event.now x.1 (P.panel judges.old) (C.moments clock.old) (P.panel judges.new) (C.moments clock.new)) }
+    ensures asked { IfOk result (λ x. AreAsked C.tells core.now.last (cursor_in core.now host.now) (account_in core.now event.now.did) host.now event.now x.1 (P.panel judges.old) (C.moments clock.old) (P.panel judges.new) (C.moments clock.new)) }
     ensures next { IfOk result (λ x. x.0 ≡ next_of (cursor_in core.now host.now) (account_in core.now event.now.did) (AFrame.Event event.now) x.1) }
     ensures last { IfOk result (λ x. is_last x.0 ≡ true) }
     ensures in_vain { OnErr result (AskedInVain (P.panel judges.old) event.now.did (P.panel judges.new)) }
@@ -102,22 +120,31 @@ pub(crate) fn ask_all<P: Judges, C: Clock>(
     ensures caused { IfErr result (IsCause ⊥ (IsSpent (P.panel judges.new (method_of event.now.did))) ⊥ (Rose (C.faults clock.old) (C.faults clock.new))) }
     ensures counts { C.faults clock.old ≤ C.faults clock.new }
 {
+    let repo = repo_of(core, event.did.as_str());
     let mut answers = Answers::new();
     let mut read = Read::Nothing;
     'asking: loop {
         match core.next(host, frame, &answers) {
-            Next::Ask(Question::Fetch) => return Ok((Next::Ask(Question::Fetch), answers)),
-            Next::Ask(question) => ask_one(
-                alloc,
-                core,
-                host,
-                event,
-                question,
-                &mut answers,
-                &mut read,
-                judges,
-                clock,
-            )?,
+            Next::Ask(question) => {
+                if is_fetch(question) {
+                    return Ok((Next::Ask(question), answers));
+                }
+                match ask_one(
+                    alloc,
+                    core,
+                    host,
+                    event,
+                    &repo,
+                    question,
+                    &mut answers,
+                    &mut read,
+                    judges,
+                    clock,
+                ) {
+                    Ok(()) => {}
+                    Err(fault) => return Err(fault),
+                }
+            }
             next => return Ok((next, answers)),
         }
     }

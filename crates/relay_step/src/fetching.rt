@@ -6,7 +6,7 @@ ghost use Rattle.at_syntax.specs.Did.{is_did, method_of};
 ghost use Rattle.at_authority.specs.Panels.{IsSpent};
 ghost use Rattle.at_car.specs.Blocks.{IsLinkOf};
 ghost use Rattle.at_cbor.specs.Spelling.{IsString};
-ghost use Rattle.relay_row.specs.Rules.{is_message, is_string};
+ghost use Rattle.relay_row.specs.Rules.{is_message};
 ghost use Rattle.relay_row.specs.declared.limits.TheConstants.{NUMBERS};
 ghost use Rattle.relay_core.specs.Decide.{is_found, whole_under};
 ghost use Rattle.relay_step.specs.Around.{SameRepositories};
@@ -104,17 +104,10 @@ pub(crate) fn fetch<P: Judges, R: Repos>(
     }
 }
 
-// What the type of the bytes of a CAR says of them.
-fn tell_car(bytes: &[u8])
+// What the type of bytes says of them.
+fn tell_bytes(bytes: &[u8])
     ensures string { IsString bytes.now }
     ensures short { length bytes.now < 2 ^ 63 }
-{
-    let _len = bytes.len();
-}
-
-// What the type of a message's bytes says of them.
-fn tell_message(bytes: &[u8])
-    ensures { is_string bytes.now ≡ true }
 {
     let _len = bytes.len();
 }
@@ -142,8 +135,8 @@ fn take_over(
     let message = sync_frame(alloc, did, head.rev, car.as_slice(), time, last + 1)?;
     tell_text(did);
     tell_text(time);
-    tell_car(car.as_slice());
-    tell_message(message.as_slice());
+    tell_bytes(car.as_slice());
+    tell_bytes(message.as_slice());
     head.rev.tell_value();
     Ok(Whole {
         seq: last + 1,

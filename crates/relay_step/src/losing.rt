@@ -61,7 +61,8 @@ pub(crate) fn take_lost<P: Judges, R: Repos>(
         judges,
         repos,
     )?;
-    answers.fetched = Some(make(alloc, core, did, event.time.as_str(), found)?);
+    let fetched = make(alloc, core, did, event.time.as_str(), found)?;
+    answers.fetched = Some(fetched);
     let Next::Done(decision) = core.next(host, frame, &answers) else {
         unreachable!()
     };
