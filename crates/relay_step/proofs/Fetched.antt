@@ -25,7 +25,8 @@ use Rattle.relay_core.specs.declared.limits.TheConstants.{FETCHED_AHEAD, FETCHED
 use Rattle.relay_law.proofs.Heads.{found_head}
 use Rattle.repo_sync.specs.Checks.{IsRefused}
 use Rattle.repo_sync.specs.Faults.{number_of}
-use Rattle.repo_sync.specs.Repository.{IsAnswer, IsWhole, Holds, commit_lines, first_of, found_of, lines}
+use Rattle.event_checks.specs.Lines.{first_of}
+use Rattle.repo_sync.specs.Repository.{IsAnswer, IsWhole, Holds, commit_lines, found_of, lines}
 use Rattle.repo_sync.specs.declared.fault.RepoFault.{RepoFault}
 use Rattle.repo_sync.specs.declared.found.Found.{Found as Checked}
 use Rattle.repo_sync.proofs.Linked.{car_linked}
