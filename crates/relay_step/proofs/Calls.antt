@@ -200,9 +200,9 @@ module _ (e : Seen) (host : List ℕ) where
       → refresh_told e.did refreshed ++ (home_told e.did host home ++ verdict_told e verdict) ≡ home_calls host e r ++ verdict_calls e r
   identity_calls l refreshed home d verdict r short none body h =
       let P : Body → Type 0 = λ b. refresh_told e.did refreshed ++ (home_told e.did host home ++ verdict_told e verdict)
-          ≡ cond (asks_for_home r) (refresh_calls e b ++ answers (asks_home e.did host) (shows_home r) ∷ []) [] ++ cond (asks_for_verdict r) (verdict_call e.did (signed_by b) (shows_verdict r)) [] in
+      ≡ cond (asks_for_home r) (refresh_calls e b ++ answers (asks_home e.did host) (shows_home r) ∷ []) [] ++ cond (asks_for_verdict r) (verdict_call e.did (signed_by b) (shows_verdict r)) [] in
       let Q : Option Bool → Type 0 = λ v. refresh_told e.did refreshed ++ (home_told e.did host home ++ verdict_told e v)
-          ≡ cond (asks_for_home r) (refreshes e.did ∷ answers (asks_home e.did host) (shows_home r) ∷ []) [] ++ cond (asks_for_verdict r) [] [] in
+      ≡ cond (asks_for_home r) (refreshes e.did ∷ answers (asks_home e.did host) (shows_home r) ∷ []) [] ++ cond (asks_for_verdict r) [] [] in
       subst P (sym body) (subst Q (sym none) (identity_made l refreshed home d r short h))
 
   account_calls : (l : Bool) (home : Option Bool) (r : Option Refusal) → (when l Refusal.TooLong ≡ None) ⊎ (home ≡ None)

@@ -90,7 +90,7 @@ module _ (did : List ℕ) (least : Option ℕ) (checked : Checked) (of : IsOfByt
   pub asked_good : (old new : Panel) → IsCall (answers (asks_verdict did checked.digest checked.sig) true) old new → AnsweredFetch old did (found checked.head checked.records checked.block) new
   asked_good old new call =
       let same : answers (asks_verdict did checked.digest checked.sig) true ≡ answers (asks_verdict did (sha256 of.whole.holds.commit.unsigned) of.whole.holds.commit.sig) true
-          = ap (λ (d : List ℕ). answers (asks_verdict did d checked.sig) true) digest_is ∙ ap (λ (s : List ℕ). answers (asks_verdict did (sha256 of.whole.holds.commit.unsigned) s) true) sig_is in
+      = ap (λ (d : List ℕ). answers (asks_verdict did d checked.sig) true) digest_is ∙ ap (λ (s : List ℕ). answers (asks_verdict did (sha256 of.whole.holds.commit.unsigned) s) true) sig_is in
       record {
         calls = answers (asks_verdict did checked.digest checked.sig) true ∷ [];
         are = record { commit = of.whole.holds.commit; object = object_is; are = ap (λ (k : Call). k ∷ []) same };

@@ -323,12 +323,14 @@ pass_told clock_tells repos_tell c host e x pass old new left so_far passed_is =
     let over = passes_over (cursor_in c host) (account_in c e.did) e x pass passed_is in
     let none = so_far.tidy.early (no_moment x.moment (λ m same. false≢true (sym (so_far.above m same) ∙ over.0))) in
     let P : List Call → Type 0 = λ l. AreCalls old.panel l new in
-    let M : Option ℕ → Type 0 = λ m. IsTrue clock_tells → IsTimedSo old.moments m left in
-    (ap old_if over.0 ∙ ap Some (sym over.1), record {
-      panel = subst P (early_none (account_in c e.did) host e x none) so_far.calls;
-      moments = subst M (ap (λ (y : Answers). y.moment) none) so_far.timed;
-      same = λ tells did. refl;
-    })
+    let M : Option ℕ → Type 0 = λ m. IsTrue clock_tells → IsTimedSo old.moments m left in (
+      ap old_if over.0 ∙ ap Some (sym over.1),
+      record {
+        panel = subst P (early_none (account_in c e.did) host e x none) so_far.calls;
+        moments = subst M (ap (λ (y : Answers). y.moment) none) so_far.timed;
+        same = λ tells did. refl;
+      },
+    )
 
 -- ---- where the numbers end
 
@@ -349,6 +351,8 @@ pub lost_ends : (c : Core) (host : List ℕ) (e : Seen) (x : Answers) → next_o
 lost_ends c host e x asks right linked ends =
     let there = asks_fetch (cursor_in c host) (account_in c e.did) e x asks in
     let f = made c.last e (found some_head 0 []) in
-    let other = there.decides f in
-    (ends, λ checks J opens links holds.
-    lost_gives checks J c host e (record x { fetched = Some f }) other.0 opens links holds other.1 right.opened linked (found some_head 0 []) refl (lost_seq c.last host e x other.0 there.lost other.2 there.due))
+    let other = there.decides f in (
+      ends,
+      λ checks J opens links holds.
+          lost_gives checks J c host e (record x { fetched = Some f }) other.0 opens links holds other.1 right.opened linked (found some_head 0 []) refl (lost_seq c.last host e x other.0 there.lost other.2 there.due),
+    )

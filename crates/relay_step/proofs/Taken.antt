@@ -196,12 +196,14 @@ event_decided clock_tells repos_tell c host e t old new is checks J opens links 
     let a = account_in c e.did in
     let what = found_of_so repos_tell c.last a e old.repository (or_zero is.x.moment) is.d.refusal is.x.fetched is.fetch is.fetched in
     let so : decided_event checks c.last a host e (shown (event_taken c.last host e is.d is.x)) ≡ event_taken c.last host e is.d is.x
-           = made_so checks opens links c.last (cursor_in c host) a host e is.x is.d is.done is.right.opened is.linked what.0 what.1 what.2 in
+    = made_so checks opens links c.last (cursor_in c host) a host e is.x is.d is.done is.right.opened is.linked what.0 what.1 what.2 in
     let P : Taken → Type 0 = λ u. decided_event checks c.last a host e (shown u) ≡ u in
     let Q : ℕ → Type 0 = λ n. decided_event checks n a host e (shown t) ≡ t in
-    let R : State → Type 0 = λ s. decided_event checks (last_seq J) s host e (shown t) ≡ t in
-    (refl, above_passes e.seq (cursor_in c host) (cursor host J) (cursor_tells c J holds host) (done_above (cursor_in c host) a e is.x is.d is.done).0,
-    ap Some (subst R (holds.accounts e.did) (subst Q holds.last (subst P (sym is.taken) so))))
+    let R : State → Type 0 = λ s. decided_event checks (last_seq J) s host e (shown t) ≡ t in (
+      refl,
+      above_passes e.seq (cursor_in c host) (cursor host J) (cursor_tells c J holds host) (done_above (cursor_in c host) a e is.x is.d is.done).0,
+      ap Some (subst R (holds.accounts e.did) (subst Q holds.last (subst P (sym is.taken) so))),
+    )
 
 -- ---- where the numbers end
 

@@ -111,7 +111,6 @@ calls_more old mid new calls more so_far next =
 -- ---- a question answered
 
 module _ (clock_tells : Bool) (last : ℕ) (a : State) (host : List ℕ) (e : Seen) (x : Answers) (old : Panel) (moments : List ℕ) (mid : Panel) (left : List ℕ) (cursor : ℕ) (so_far : AreAsked clock_tells last cursor a host e x old moments mid left) where
-
   abbrev Asks : Question → Type 0
   Asks q = next_of cursor a (Frame.Event e) x ≡ Next.Ask q
 

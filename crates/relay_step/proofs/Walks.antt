@@ -137,7 +137,6 @@ at_body a e x q other h =
     let behind = past_told (length_line e) (body_lines a e.body x) q past.1 in
     record { moment = past.0; short = behind.0; waits_at = behind.1 }
 
-
 -- the home of an identity is asked for behind its refresh
 pub home_renewed : (a : State) (body : Body) (x : Answers) → walk (body_lines a body x) ≡ waits Question.Home → body ≡ Body.Identity → x.refreshed ≡ true
 home_renewed a (Body.Commit c) x h is = absurd cc

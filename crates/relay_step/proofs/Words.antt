@@ -35,9 +35,9 @@ refused_behind c did down r J h holds = ap (λ (a : State). operate_refusal a do
 pub operated_behind : (c : Core) (did : List ℕ) (down : Bool) (time : List ℕ) (moment : ℕ) (J : List Row) → operate_refusal (account_in c did) down ≡ None → Holds c J
     → (operate_refusal (account did J) down ≡ None) × (Row.Operated (operated_as c.last (account_in c did) did down time (Some moment)) ≡ Row.Operated (operated_as (last_seq J) (account did J) did down time (Some moment)))
 operated_behind c did down time moment J h holds = (
-    ap (λ (a : State). operate_refusal a down) (sym (holds.accounts did)) ∙ h,
-    ap (λ (n : ℕ). Row.Operated (operated_as n (account_in c did) did down time (Some moment))) holds.last ∙ ap (λ (a : State). Row.Operated (operated_as (last_seq J) a did down time (Some moment))) (holds.accounts did),
-  )
+  ap (λ (a : State). operate_refusal a down) (sym (holds.accounts did)) ∙ h,
+  ap (λ (n : ℕ). Row.Operated (operated_as n (account_in c did) did down time (Some moment))) holds.last ∙ ap (λ (a : State). Row.Operated (operated_as (last_seq J) a did down time (Some moment))) (holds.accounts did),
+)
 
 names_it : (did : List ℕ) → is_text did ≡ true → is_did did ≡ true → names_did did ≡ true
 names_it did text is = and_from (is_text did) (is_did did) text is
@@ -108,7 +108,7 @@ synced_kept c did time moment (found head records block) w row law same row_is m
     let now = subst P holds.last sent in
     let R : Row → Type 0 = λ r. IsJournal (J ++ r ∷ []) in
     let there : row ≡ Row.Synced did (whole_under did time head records block (last_seq J + 1)) (Some moment)
-        = row_is ∙ ap (λ (k : Whole). Row.Synced did k (Some moment)) whole ∙ ap (λ (n : ℕ). Row.Synced did (whole_under did time head records block (n + 1)) (Some moment)) holds.last in
+    = row_is ∙ ap (λ (k : Whole). Row.Synced did k (Some moment)) whole ∙ ap (λ (n : ℕ). Row.Synced did (whole_under did time head records block (n + 1)) (Some moment)) holds.last in
     subst R (sym there) (law J did time head records block moment journal (names_it did text named) (may.0, may.1, now.2) below now.0)
 
 pub fetched_beside : (c : Core) (did : List ℕ) (o : Option (List ℕ)) (moment : ℕ) (f : Found) (tells : Bool) (last : Option ℕ) (repo : Repo) → last ≡ last_rev repo → repo ≡ (account_in c did).repo → (IsTrue tells → IsFetchedFrom o did last moment (is_good f) f)

@@ -23,11 +23,7 @@ pub(crate) fn tell_text(text: &str)
 {}
 
 /// Whether a host is the home of an account.
-pub(crate) fn ask_home<P: Judges>(
-    judges: &mut P,
-    did: &str,
-    host: &str,
-) -> Result<bool, StepFault>
+pub(crate) fn ask_home<P: Judges>(judges: &mut P, did: &str, host: &str) -> Result<bool, StepFault>
     requires { IsTrue (is_did did.now) }
     ensures call { IsCall (called did.now (answers (asks_home did.now host.now)) result) (P.panel judges.old) (P.panel judges.new) }
     ensures caused { IfErr result (IsCause ⊥ (IsSpent (P.panel judges.new (method_of did.now))) ⊥ ⊥) }

@@ -125,4 +125,3 @@ returns-in_ok-follows-in-Link-clause-asked g c =
     let a = account_in c.args.core.now c.args.event.now.did in
     let asks = asks_as cursor a (Frame.Event c.args.event.now) c.args.answers.now c.args.question Question.Link c.requires.asks c.in-Link.is in
     λ old moments so_far. link_asked g.C.Clock.tells c.args.core.now.last a c.args.host.now c.args.event.now c.args.answers.now old moments (g.P.Judges.panel c.args.judges.now) (g.C.Clock.moments c.args.clock.now) cursor so_far c.in_ok-follows-in-Link.follows asks (linked_beside c.args.repo.now a c.args.event.now c.in_ok-follows-in-Link.follows c.requires.repo c.in_ok-follows-in-Link.ensures.answer)
-
