@@ -1,11 +1,10 @@
 -- Why the answers that a row shows make that row.
 use Rattle.std.proofs.Common.{◌≡◌, ℕ, ◌+◌, Bool, true, false, not, List, Option, Some, None, refl, ap, ◌∙◌, cond, subst}
-use Rattle.std.specs.Prelude.{nat_lt, Result, Ok, Err}
+use Rattle.std.specs.Prelude.{nat_lt}
 use Rattle.at_event.specs.Seen.{Seen}
 use Rattle.at_event.specs.Refusals.{code_of}
 use Rattle.at_event.specs.Writing.{out_length}
 use Rattle.at_event.specs.declared.event.Body.{Body}
-use Rattle.at_event.specs.declared.head.Head.{Head}
 use Rattle.at_event.specs.declared.refusal.Refusal.{Refusal}
 use Rattle.relay_row.specs.Rules.{loses}
 use Rattle.relay_row.specs.declared.fetched.Fetched.{Fetched}

@@ -1,5 +1,5 @@
 -- What holds of all decisions.
-use Rattle.std.specs.Prelude.{◌≡◌, ℕ, ◌+◌, Bool, true, false, not, List, Option, Some, None, nat_le, if◌then◌else◌}
+use Rattle.std.specs.Prelude.{◌≡◌, ℕ, ◌+◌, Bool, true, false, not, List, Some, None, nat_le, if◌then◌else◌}
 use Rattle.std.specs.Option.{is_some}
 use Rattle.at_event.specs.Seen.{Seen}
 use Rattle.at_event.specs.declared.frame.Frame.{Frame}

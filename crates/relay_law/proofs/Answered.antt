@@ -13,12 +13,11 @@ use Rattle.at_event.specs.declared.event.SyncEvent.{SyncEvent}
 use Rattle.at_event.specs.declared.head.Head.{Head}
 use Rattle.at_event.specs.declared.refusal.Refusal.{Refusal}
 use Rattle.at_car.specs.Car.{car_of}
-use Rattle.event_checks.specs.Opening.{CarResult, block_in, object_in, root_in, is_commit_of, is_rooted}
+use Rattle.event_checks.specs.Opening.{CarResult, object_in, root_in, is_commit_of, is_rooted}
 use Rattle.event_checks.specs.Table.{car_in, open_lines, sync_lines}
 use Rattle.event_checks.proofs.Firsts.{all_unmet}
 use Rattle.account_state.specs.declared.repo.Repo.{Repo}
 use Rattle.commit_check.specs.Laws.{IsDecided}
-use Rattle.commit_check.specs.Linking.{IsUnlinked}
 use Rattle.commit_check.specs.Opening.{IsOpened}
 use Rattle.commit_check.specs.Order.{Holds, StopsPast}
 use Rattle.commit_check.specs.Step.{is_gap, root_before, Leads}
@@ -28,12 +27,12 @@ use Rattle.commit_check.proofs.Formed.{commit_read}
 use Rattle.commit_check.proofs.Held.{car_linked}
 use Rattle.commit_check.proofs.Objects.{data_held, held}
 use Rattle.commit_check.proofs.Steps.{under_links}
-use Rattle.repo_sync.specs.Sync.{IsSynced, IsSyncAnswer}
+use Rattle.repo_sync.specs.Sync.{IsSyncAnswer}
 use Rattle.repo_sync.specs.declared.found.Found.{Found}
 use Rattle.relay_core.specs.Decide.{Checks}
 use Rattle.relay_core.specs.Opening.{OpensRight, IsHeadIn, IsHeadOf, shown_alone}
 use Rattle.relay_core.specs.Table.{refusal_in}
-use Rattle.relay_law.specs.Calls.{IsOpenAnswer, IsLinkAnswer, SayWhatCallsAnswer, opened_head, found_head}
+use Rattle.relay_law.specs.Calls.{IsOpenAnswer, IsLinkAnswer, opened_head, found_head}
 use Rattle.relay_law.specs.Laws.{CallsAnswerRight}
 use Rattle.relay_law.specs.Right.{LinksRight, expect_of}
 
@@ -70,7 +69,7 @@ same_top : (car : CarResult) (rev : ℕ) (head : Head) (link : List ℕ) (commit
     → (head.rev ≡ rev) × (head.data_root ≡ commit.data_root) × (head.commit ≡ link)
 same_top car rev head link commit top root object =
     let same = same_some top.commit commit (sym top.found.object_is ∙ object) in
-    (top.rev_is, (top.data_is ∙ ap (λ (k : Commit). k.data_root) same, same_some head.commit link (sym top.found.root_is ∙ root)))
+    (top.rev_is, top.data_is ∙ ap (λ (k : Commit). k.data_root) same, same_some head.commit link (sym top.found.root_is ∙ root))
 
 module _ (checks : Checks) (opens : OpensRight checks) where
   alone : (e : Seen) (b : Body) (last : Option ℕ) (o : Option Refusal) → e.body ≡ b → shown_alone b last ≡ o → refusal_in (checks.opens e last) ≡ o

@@ -5,8 +5,6 @@ use Rattle.at_cid.specs.Link.{IsBytes}
 use Rattle.at_car.specs.Blocks.{BlockMap}
 use Rattle.at_car.specs.Car.{car_of}
 use Rattle.at_commit.specs.declared.commit.Commit.{Commit}
-use Rattle.at_event.specs.Events.{IsEvent}
-use Rattle.at_event.specs.Seen.{Seen}
 use Rattle.at_event.specs.declared.event.Body.{Body}
 use Rattle.at_event.specs.declared.event.CommitEvent.{CommitEvent}
 use Rattle.at_event.specs.declared.event.SyncEvent.{SyncEvent}
@@ -25,10 +23,10 @@ use Rattle.commit_check.proofs.Held.{car_linked, same_blocks, same_data}
 use Rattle.commit_check.proofs.Objects.{data_held}
 use Rattle.commit_check.proofs.Steps.{under_links}
 use Rattle.relay_core.specs.Decide.{Checks}
-use Rattle.relay_core.specs.Opening.{OpensRight, IsHeadIn, IsHeadOf, shown_alone}
+use Rattle.relay_core.specs.Opening.{IsHeadIn, IsHeadOf, shown_alone}
 use Rattle.relay_core.specs.Table.{refusal_in}
 use Rattle.relay_law.specs.Laws.{SomeChecksAreRight}
-use Rattle.relay_law.specs.Right.{LinksRight, expect_of}
+use Rattle.relay_law.specs.Right.{expect_of}
 
 -- ---- opening
 
@@ -194,12 +192,10 @@ chosen = record { opens = λ e last. opens_by e.body last; links = λ e repo. li
 pub some_right : SomeChecksAreRight
 some_right = (
   chosen,
-  (
-    record { refusal = λ e last. opens_refusal e.body last; head = λ e last head is. opens_head e.body last head is },
-    record {
-      no_gap = λ e c repo body is. (right_linking c repo).1.no_gap (said_of e.body c repo None body is);
-      leads = λ e c repo h read body is. (right_linking c repo).1.leads h (commit_read e c read body).blocks.1 (said_of e.body c repo None body is);
-      stops = λ e c repo h refusal read body is. (right_linking c repo).1.stops h refusal (commit_read e c read body).blocks.1 (said_of e.body c repo (Some refusal) body is);
-    },
-  ),
+  record { refusal = λ e last. opens_refusal e.body last; head = λ e last head is. opens_head e.body last head is },
+  record {
+    no_gap = λ e c repo body is. (right_linking c repo).1.no_gap (said_of e.body c repo None body is);
+    leads = λ e c repo h read body is. (right_linking c repo).1.leads h (commit_read e c read body).blocks.1 (said_of e.body c repo None body is);
+    stops = λ e c repo h refusal read body is. (right_linking c repo).1.stops h refusal (commit_read e c read body).blocks.1 (said_of e.body c repo (Some refusal) body is);
+  },
 )

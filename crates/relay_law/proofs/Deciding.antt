@@ -1,15 +1,15 @@
 -- The row of a message that is decided is well formed and keeps the order of its journal.
-use Rattle.std.proofs.Common.{◌≡◌, ℕ, ◌+◌, ◌-◌, ◌<◌, ◌≤◌, ◌^◌, ◌⊎◌, inl, inr, Bool, true, false, not, ◌&&◌, ◌||◌, List, [], ◌∷◌, ◌++◌, length, min, Option, Some, None, refl, sym, ap, ◌∙◌, cond, subst, eqb, ltb, arith, lit<}
-use Rattle.std.specs.Prelude.{◌==◌, Result, Ok, Err, nat_le, nat_lt, option_map}
+use Rattle.std.proofs.Common.{◌≡◌, ℕ, ◌+◌, ◌-◌, ◌<◌, ◌≤◌, ◌^◌, Bool, true, false, not, ◌&&◌, ◌||◌, List, [], ◌∷◌, length, min, Option, Some, None, refl, sym, ◌∙◌, cond, subst, eqb, ltb, arith, lit≤}
+use Rattle.std.specs.Prelude.{◌==◌, Result, Ok, nat_le, nat_lt}
 use Rattle.std.specs.Bool.{beq}
 use Rattle.std.proofs.lemmas.Bool.{and_parts, and_from, lt-ltb, leb-false, ltb-true, ltb-false, ne_eqb}
 use Rattle.std.proofs.Math.Nat.{min-eq_right}
-use Rattle.at_cbor.specs.Spelling.{spelling, Fits}
+use Rattle.at_cbor.specs.Spelling.{spelling}
 use Rattle.at_event.specs.Events.{IsEvent}
 use Rattle.at_event.specs.Refusals.{code_of}
 use Rattle.at_event.specs.Seen.{Seen}
 use Rattle.at_event.specs.Table.{kind_of as event_kind}
-use Rattle.at_event.specs.Writing.{name_of, number_item, with_seq, message_of, out_of, out_length}
+use Rattle.at_event.specs.Writing.{name_of, number_item, with_seq, out_of, out_length}
 use Rattle.at_event.specs.declared.event.Body.{Body}
 use Rattle.at_event.specs.declared.frame.Frame.{Frame}
 use Rattle.at_event.specs.declared.head.Head.{Head}
@@ -19,7 +19,7 @@ use Rattle.at_event.proofs.OutLengths.{nine_bytes, most_bytes}
 use Rattle.at_event.proofs.Renumbered.{with_seq_fits}
 use Rattle.relay_row.specs.Folds.{cursor, events_of, last_seq, seq_of, seq_in}
 use Rattle.relay_row.specs.Journal.{IsJournal, is_above, keeps_order}
-use Rattle.relay_row.specs.Rules.{is_about, is_accepted, is_decided, is_detail, is_effect, is_empty, is_fetched, is_head, is_message, is_moment, is_nothing, is_number, is_positive, is_refused, is_row, is_status, is_taken, is_timed, is_whole, loses, names_did, names_host}
+use Rattle.relay_row.specs.Rules.{is_about, is_accepted, is_decided, is_detail, is_effect, is_fetched, is_head, is_message, is_moment, is_number, is_positive, is_refused, is_row, is_status, is_taken, is_whole, loses, names_did, names_host}
 use Rattle.relay_row.specs.declared.fetched.Fetched.{Fetched}
 use Rattle.relay_row.specs.declared.fetched.Whole.{Whole}
 use Rattle.relay_row.specs.declared.limits.TheConstants.{NUMBERS}
@@ -28,12 +28,10 @@ use Rattle.relay_row.specs.declared.taken.Effect.{Effect}
 use Rattle.relay_row.specs.declared.taken.Taken.{Taken}
 use Rattle.relay_row.proofs.Journals.{grows}
 use Rattle.account_state.specs.Folds.{account, last_rev}
-use Rattle.account_state.specs.State.{State}
 use Rattle.relay_core.specs.Opening.{IsHeadOf}
 use Rattle.relay_core.specs.Rows.{kind_of, head_effect, effect_of, fetched_of, event_taken, faulty_taken, row_of}
-use Rattle.relay_core.specs.Table.{told, Walk, waits, refuses, passes, walk, when, body_lines, event_lines, faulty_lines, is_held, after_fetch, refused, next_at, next_of, did_of}
+use Rattle.relay_core.specs.Table.{told, Walk, waits, refuses, passes, walk, when, body_lines, event_lines, is_held, after_fetch, refused, next_at, next_of, did_of}
 use Rattle.relay_core.specs.declared.answers.Answers.{Answers}
-use Rattle.relay_core.specs.declared.answers.Question.{Question}
 use Rattle.relay_core.specs.declared.decision.Decision.{Decision}
 use Rattle.relay_core.specs.declared.decision.Next.{Next}
 use Rattle.relay_core.specs.declared.decision.Pass.{Pass}
@@ -70,9 +68,9 @@ most_out e is n =
     let q = min (length (spelling (number_item e.seq))) (2 ^ 64 - 1) in
     let names = length (name_of (event_kind e.body)) in
     let r = min (p - q + (9 + (names + 8))) (2 ^ 64 - 1) in
-    subst (λ (k : ℕ). min (length (out_of e n)) (2 ^ 64 - 1) ≤ k) (nine_bytes e is names p q r refl refl refl refl (NUMBERS - 1) (lit< tt)) (most_bytes e is names p q r refl refl refl refl n)
+    subst (λ (k : ℕ). min (length (out_of e n)) (2 ^ 64 - 1) ≤ k) (nine_bytes e is names p q r refl refl refl refl (NUMBERS - 1) (lit≤ tt)) (most_bytes e is names p q r refl refl refl refl n)
 
-short_out : (n : ℕ) → min n (2 ^ 64 - 1) ≤ LONGEST_MESSAGE → n < 2 ^ 64
+short_out : (n : ℕ) → min n (2 ^ 64 - 1) ≤ 4194304 → n < 2 ^ 64
 short_out n h =
     elim (ltb n (2 ^ 64)) as (λ b. ltb n (2 ^ 64) ≡ b → n < 2 ^ 64) [
       | true ↦ λ t. ltb-true n (2 ^ 64) t
@@ -85,7 +83,7 @@ short_out n h =
 out_formed : (e : Seen) (n : ℕ) → IsEvent e → n < NUMBERS → nat_lt LONGEST_MESSAGE (out_length e) ≡ false → is_message (out_of e n) ≡ true
 unfolding out_of
 out_formed e n is below short =
-    let within : out_length e ≤ LONGEST_MESSAGE = ltb-false LONGEST_MESSAGE (out_length e) short in
+    let within : out_length e ≤ 4194304 = ltb-false LONGEST_MESSAGE (out_length e) short in
     message_formed (event_kind e.body) (with_seq n e.payload) (with_seq_fits n e.payload 64 below is.fits) (short_out _ (omega (arith, most_out e is n, within)))
 
 -- ---- fetches
@@ -112,11 +110,11 @@ fetch_above last (Fetched.Whole w) h = next_above last w.seq h.seq
 -- ---- rows
 
 -- the row of a refused event
-refused_taken : List ℕ → ℕ → List ℕ → Body → Refusal → Fetched → Option ℕ → Taken
+abbrev refused_taken : List ℕ → ℕ → List ℕ → Body → Refusal → Fetched → Option ℕ → Taken
 refused_taken host seq did body r f m = record { host = host; host_seq = seq; did = did; kind = kind_of body; refusal = Some r; seq = 0; message = []; effect = Effect.Nothing; fetched = f; moment = m }
 
 -- the row of an accepted event
-accepted_taken : List ℕ → ℕ → List ℕ → Body → ℕ → List ℕ → Effect → Option ℕ → Taken
+abbrev accepted_taken : List ℕ → ℕ → List ℕ → Body → ℕ → List ℕ → Effect → Option ℕ → Taken
 accepted_taken host seq did body n message effect m = record { host = host; host_seq = seq; did = did; kind = kind_of body; refusal = None; seq = n; message = message; effect = effect; fetched = Fetched.NotAsked; moment = m }
 
 named : (body : Body) (did : List ℕ) → names_did did ≡ true → is_about (kind_of body) did ≡ true
@@ -156,30 +154,30 @@ not_true false h = refl
 
 refused_formed : (host : List ℕ) (seq : ℕ) (did : List ℕ) (body : Body) (r : Refusal) (f : Fetched) (m : ℕ) → names_host host ≡ true → seq < NUMBERS → names_did did ≡ true → m < NUMBERS → is_kept r ≡ true → is_fetched (loses (code_of r)) true f ≡ true
     → is_taken (refused_taken host seq did body r f (Some m)) ≡ true
-unfolding is_refused refused_taken
+unfolding is_refused
 refused_formed host seq did body r f m of_host below of_did moment kept fetched =
     let parts = and_parts (is_detail r) ((nat_le (code_of r) 24 || code_of r == 25) && not (code_of r == 1)) kept in
     let codes = and_parts (nat_le (code_of r) 24 || code_of r == 25) (not (code_of r == 1)) parts.1 in
     taken_from (refused_taken host seq did body r f (Some m)) of_host below (named body did of_did) (lt-ltb m NUMBERS moment)
-    (and_from (is_detail r) _ parts.0
-    (and_from (nat_le (code_of r) 24 || (code_of r == 25 && true)) _ (or_timed (nat_le (code_of r) 24) (code_of r == 25) codes.0)
+    (and_from (is_detail r && (nat_le (code_of r) 24 || (code_of r == 25 && true))) _
+    (and_from (is_detail r) (nat_le (code_of r) 24 || (code_of r == 25 && true)) parts.0 (or_timed (nat_le (code_of r) 24) (code_of r == 25) codes.0))
     (and_from (nat_le (kind_of body) 4) _ (kind_few body)
     (and_from (beq (kind_of body == 0) (code_of r == 1)) _ (kind_read body (code_of r == 1) (not_true (code_of r == 1) codes.1))
-    (and_from (is_fetched (loses (code_of r)) true f) true fetched refl)))))
+    (and_from (is_fetched (loses (code_of r)) true f) true fetched refl))))
 
 either_true : (a b : Bool) → a ≡ true → a || b ≡ true
 either_true a b h = rw h refl
 
 sent_formed : (host : List ℕ) (seq : ℕ) (did : List ℕ) (body : Body) (n : ℕ) (message : List ℕ) (effect : Effect) (m : ℕ) → names_host host ≡ true → seq < NUMBERS → names_did did ≡ true → m < NUMBERS
     → is_effect (kind_of body) effect ≡ true → is_positive n ≡ true → is_message message ≡ true → is_taken (accepted_taken host seq did body n message effect (Some m)) ≡ true
-unfolding is_accepted accepted_taken
+unfolding is_accepted
 sent_formed host seq did body n message effect m of_host below of_did moment is number sent =
     taken_from (accepted_taken host seq did body n message effect (Some m)) of_host below (named body did of_did) (lt-ltb m NUMBERS moment)
     (and_from (is_effect (kind_of body) effect) _ is (either_true (is_positive n && is_message message) _ (and_from (is_positive n) (is_message message) number sent)))
 
 held_formed : (host : List ℕ) (seq : ℕ) (did : List ℕ) (active : Bool) (status : Option (List ℕ)) (m : ℕ) → names_host host ≡ true → seq < NUMBERS → names_did did ≡ true → m < NUMBERS → is_status status ≡ true
     → is_taken (accepted_taken host seq did (Body.Account (record { active = active; status = status })) 0 [] (Effect.Account active status) (Some m)) ≡ true
-unfolding is_accepted accepted_taken
+unfolding is_accepted
 held_formed host seq did active status m of_host below of_did moment is =
     taken_from (accepted_taken host seq did (Body.Account (record { active = active; status = status })) 0 [] (Effect.Account active status) (Some m)) of_host below of_did (lt-ltb m NUMBERS moment)
     (and_from (is_status status) true is refl)
@@ -217,7 +215,7 @@ fetched_kept : (last : ℕ) (r : Refusal) (o : Option Fetched) → (loses (code_
     → (is_fetched (loses (code_of r)) true (fetched_of (Some r) o) ≡ true) × (is_above last (seq_of (events_of (fetched_of (Some r) o))) ≡ true)
 fetched_kept last r None there behind below =
     elim (loses (code_of r)) as (λ b. loses (code_of r) ≡ b → (is_fetched b true Fetched.NotAsked ≡ true) × (is_above last 0 ≡ true)) [
-      | true ↦ λ known. let found = (there known).1 in absurd cc
+      | true ↦ λ known. let found : None ≡ Some (there known).0 = (there known).1 in absurd cc
       | false ↦ λ known. (refl, refl)
     ] refl
 fetched_kept last r (Some f) there behind below =
@@ -235,33 +233,36 @@ module _ (J : List Row) (host : List ℕ) (e : Seen) (x : Answers) (of_host : na
 
   refused_row : (r : Refusal) → is_kept r ≡ true → (loses (code_of r) ≡ true → (f : Fetched) × (x.fetched ≡ Some f)) → seq_of (events_of (fetched_of (Some r) x.fetched)) < NUMBERS
       → StandsBehind J (Row.Taken (refused_taken host e.seq e.did e.body r (fetched_of (Some r) x.fetched) x.moment))
-  unfolding is_row refused_taken
+  unfolding is_row
   refused_row r kept there below =
       let fetch = fetched_kept (last_seq J) r x.fetched there right.fetched below in
-      let P : Option ℕ → Type 0 = λ o. is_taken (refused_taken host e.seq e.did e.body r (fetched_of (Some r) x.fetched) o) ≡ true in
-      (subst P (sym moment) (refused_formed host e.seq e.did e.body r (fetched_of (Some r) x.fetched) m of_host seq_fits (event_kept e is).0 (right.moment m moment) kept fetch.0),
-      and_from (nat_lt (cursor host J) e.seq) _ above_it fetch.1)
+      let P : Option ℕ → Type 0 = λ o. is_taken (refused_taken host e.seq e.did e.body r (fetched_of (Some r) x.fetched) o) ≡ true in (
+        subst P (sym moment) (refused_formed host e.seq e.did e.body r (fetched_of (Some r) x.fetched) m of_host seq_fits (event_kept e is).0 (right.moment m moment) kept fetch.0),
+        and_from (nat_lt (cursor host J) e.seq) _ above_it fetch.1,
+      )
 
   -- what an accepted event that goes out is to its row
   sent_row : (body : Body) (effect : Effect) → is_effect (kind_of body) effect ≡ true → nat_lt LONGEST_MESSAGE (out_length e) ≡ false
       → seq_of (cond (eqb (last_seq J + 1) 0) [] ((last_seq J + 1, out_of e (last_seq J + 1)) ∷ [])) < NUMBERS
       → StandsBehind J (Row.Taken (accepted_taken host e.seq e.did body (last_seq J + 1) (out_of e (last_seq J + 1)) effect x.moment))
-  unfolding is_row accepted_taken
+  unfolding is_row
   sent_row body effect fits short below =
       let n = last_seq J + 1 in
       let same = sent_seq (last_seq J) n (out_of e n) [] refl in
       let lt : n < NUMBERS = subst (λ (k : ℕ). k < NUMBERS) same below in
-      let P : Option ℕ → Type 0 = λ o. is_taken (accepted_taken host e.seq e.did body n (out_of e n) effect o) ≡ true in
-      (subst P (sym moment) (sent_formed host e.seq e.did body n (out_of e n) effect m of_host seq_fits (event_kept e is).0 (right.moment m moment) fits (positive_next (last_seq J) n refl lt) (out_formed e n is lt short)),
-      and_from (nat_lt (cursor host J) e.seq) _ above_it (subst (λ (k : ℕ). is_above (last_seq J) k ≡ true) (sym same) (next_above (last_seq J) n refl)))
+      let P : Option ℕ → Type 0 = λ o. is_taken (accepted_taken host e.seq e.did body n (out_of e n) effect o) ≡ true in (
+        subst P (sym moment) (sent_formed host e.seq e.did body n (out_of e n) effect m of_host seq_fits (event_kept e is).0 (right.moment m moment) fits (positive_next (last_seq J) n refl lt) (out_formed e n is lt short)),
+        and_from (nat_lt (cursor host J) e.seq) _ above_it (subst (λ (k : ℕ). is_above (last_seq J) k ≡ true) (sym same) (next_above (last_seq J) n refl)),
+      )
 
   held_row : (active : Bool) (status : Option (List ℕ)) → is_status status ≡ true
       → StandsBehind J (Row.Taken (accepted_taken host e.seq e.did (Body.Account (record { active = active; status = status })) 0 [] (Effect.Account active status) x.moment))
-  unfolding is_row accepted_taken
+  unfolding is_row
   held_row active status fits =
-      let P : Option ℕ → Type 0 = λ o. is_taken (accepted_taken host e.seq e.did (Body.Account (record { active = active; status = status })) 0 [] (Effect.Account active status) o) ≡ true in
-      (subst P (sym moment) (held_formed host e.seq e.did active status m of_host seq_fits (event_kept e is).0 (right.moment m moment) fits),
-      and_from (nat_lt (cursor host J) e.seq) _ above_it refl)
+      let P : Option ℕ → Type 0 = λ o. is_taken (accepted_taken host e.seq e.did (Body.Account (record { active = active; status = status })) 0 [] (Effect.Account active status) o) ≡ true in (
+        subst P (sym moment) (held_formed host e.seq e.did active status m of_host seq_fits (event_kept e is).0 (right.moment m moment) fits),
+        and_from (nat_lt (cursor host J) e.seq) _ above_it refl,
+      )
 
   -- the head that an accepted commit or sync gives
   head_row : (body : Body) → e.body ≡ body → (head : Head) → x.opened ≡ Some (Ok head) → ((h : Head) → IsHeadOf body h → is_head h ≡ true) → (is_effect 1 (head_effect x.opened) ≡ true) × (is_effect 2 (head_effect x.opened) ≡ true)
@@ -291,7 +292,6 @@ module _ (J : List Row) (host : List ℕ) (e : Seen) (x : Answers) (of_host : na
 module _ (J : List Row) (host : List ℕ) (e : Seen) (x : Answers) (d : Decision) (of_host : names_host host ≡ true) (is : IsEvent e) (right : AreAnswersTo (last_seq J) (account e.did J) e x) (journal : IsJournal J) (above : nat_le e.seq (cursor host J) ≡ false) where
   by_walk : (w : Walk) → walk (event_lines (account e.did J) e x) ≡ w → next_at w (account e.did J) e.body x.fetched ≡ Next.Done d → seq_in (Row.Taken (event_taken (last_seq J) host e d x)) < NUMBERS
       → StandsBehind J (Row.Taken (event_taken (last_seq J) host e d x))
-  unfolding refused_taken accepted_taken
   by_walk (waits q) known h = absurd cc
   by_walk (refuses r) known h =
       let there = moment_there x.moment (told (when (nat_lt LONGEST_MESSAGE (out_length e)) Refusal.TooLong) ∷ body_lines (account e.did J) e.body x) (λ q waiting. let no : refuses r ≡ waits q = sym known ∙ waiting in absurd cc) in

@@ -27,7 +27,7 @@ use Rattle.at_event.proofs.Formed.{events_formed}
 use Rattle.relay_row.specs.Rules.{are_bytes, is_text, is_status, names_did}
 use Rattle.relay_row.proofs.Bytes.{bytes_tested}
 
-text_tested : (text : List ℕ) → IsText text → is_text text ≡ true
+pub text_tested : (text : List ℕ) → IsText text → is_text text ≡ true
 text_tested text is = and_from (is_utf8 text) (are_bytes text) is.1 (bytes_tested text is.0.1)
 
 status_tested : (status : Option (List ℕ)) → IsShortOrNone status → is_status status ≡ true

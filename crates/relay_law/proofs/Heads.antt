@@ -1,6 +1,8 @@
 -- The heads that commits give repositories, and those that a journal leaves, have their forms.
 use Rattle.std.proofs.Common.{◌≡◌, ℕ, ◌<◌, ◌^◌, Bool, true, false, ◌&&◌, cond, List, [], ◌∷◌, Option, Some, None, Result, Ok, Err, refl, sym, ap, ◌∙◌, subst}
+use Rattle.std.specs.Bool.{beq}
 use Rattle.std.specs.List.{list_all}
+use Rattle.std.specs.Prelude.{◌==◌, ◌||◌, nat_le}
 use Rattle.std.proofs.lemmas.Bool.{and_parts, and_from, lt-ltb}
 use Rattle.at_cid.specs.Link.{IsBytes, IsLink, IsNodeLink, is_link, kind_of}
 use Rattle.at_car.specs.Blocks.{BlockMap, AreLinked}
@@ -13,11 +15,11 @@ use Rattle.at_commit.proofs.Nodes.{data_is_node}
 use Rattle.at_event.specs.Refusals.{code_of}
 use Rattle.at_event.specs.declared.head.Head.{Head}
 use Rattle.at_event.specs.declared.refusal.Refusal.{Refusal}
-use Rattle.event_checks.specs.Opening.{CarResult, root_in, block_in, object_of, object_in_block, object_in, IsFound}
+use Rattle.event_checks.specs.Opening.{CarResult, root_in, block_in, object_of, object_in_block, object_in}
 use Rattle.commit_check.proofs.Held.{car_linked}
 use Rattle.relay_row.specs.Folds.{folded, names, did_in}
 use Rattle.relay_row.specs.Journal.{IsJournal}
-use Rattle.relay_row.specs.Rules.{are_bytes, is_cid, is_node, is_node_kind, is_head, is_rev, is_status, is_row, is_taken, is_accepted, is_refused, is_decided, is_about, is_moment, is_number, names_host, names_did, is_effect, is_fetched, is_timed, is_whole, is_positive, is_message, is_empty, is_nothing, is_carried, is_repo, loses}
+use Rattle.relay_row.specs.Rules.{are_bytes, is_cid, is_node, is_node_kind, is_head, is_rev, is_status, is_row, is_taken, is_accepted, is_detail, is_refused, is_decided, is_about, is_moment, is_number, names_host, names_did, is_effect, is_fetched, is_timed, is_whole, is_positive, is_message, is_empty, is_nothing, is_carried, is_repo, loses}
 use Rattle.relay_row.specs.declared.carried.Carried.{Carried}
 use Rattle.relay_row.specs.declared.carried.CarriedAccount.{CarriedAccount}
 use Rattle.relay_row.specs.declared.carried.CarriedRepo.{CarriedRepo}
@@ -27,7 +29,7 @@ use Rattle.relay_row.specs.declared.row.Row.{Row}
 use Rattle.relay_row.specs.declared.taken.Effect.{Effect}
 use Rattle.relay_row.specs.declared.taken.Taken.{Taken}
 use Rattle.relay_row.proofs.Bytes.{bytes_tested}
-use Rattle.account_state.specs.Folds.{fresh, carried_as, repo_carried, effected, last_rev, lost, refetched, taken_by, moved, account_after, account}
+use Rattle.account_state.specs.Folds.{fresh, carried_as, repo_carried, effected, last_rev, lost, refetched, moved, account_after, account}
 use Rattle.account_state.specs.State.{State}
 use Rattle.account_state.specs.declared.repo.Repo.{Repo}
 use Rattle.relay_core.specs.Opening.{IsHeadIn}
@@ -70,8 +72,8 @@ car_head bytes (Ok (roots, blocks)) link block commit fits is root there object 
 car_head bytes (Err fault) link block commit fits is root there object = absurd cc
 
 pub head_tested : (head : Head) → head.rev < 2 ^ 64 → IsNodeLink head.data_root → IsLink head.commit → is_head head ≡ true
-head_tested head rev data commit =
-    and_from (is_rev head.rev) (is_node head.data_root && is_cid head.commit) (lt-ltb head.rev (2 ^ 64) rev) (and_from (is_node head.data_root) (is_cid head.commit) (node_tested head.data_root data) (cid_tested head.commit commit))
+head_tested head rev kind commit =
+    and_from (is_rev head.rev) (is_node head.data_root && is_cid head.commit) (lt-ltb head.rev (2 ^ 64) rev) (and_from (is_node head.data_root) (is_cid head.commit) (node_tested head.data_root kind) (cid_tested head.commit commit))
 
 -- the head that the bytes of a CAR give a repository has its forms
 pub found_head : (bytes : List ℕ) (rev : ℕ) (head : Head) → IsBytes bytes → rev < 2 ^ 64 → IsHeadIn (car_of bytes) rev head → is_head head ≡ true
@@ -153,12 +155,16 @@ decided_parts None t h =
     let two = and_parts (is_fetched false (is_timed t.moment) t.fetched) _ one.1 in
     (effect_formed t.kind t.effect one.0, fetch_formed false (is_timed t.moment) t.fetched two.0)
 decided_parts (Some r) t h =
-    let one = and_parts _ _ h in
-    let two = and_parts _ _ one.1 in
-    let three = and_parts _ _ two.1 in
-    let four = and_parts _ _ three.1 in
-    let five = and_parts (is_nothing t.effect) _ four.1 in
-    let six = and_parts (is_fetched (loses (code_of r)) (is_timed t.moment) t.fetched) _ five.1 in
+    let fetch : Bool = is_fetched (loses (code_of r)) (is_timed t.moment) t.fetched && (t.seq == 0 && is_empty t.message) in
+    let nothing : Bool = is_nothing t.effect && fetch in
+    let read : Bool = beq (t.kind == 0) (code_of r == 1) && nothing in
+    let few : Bool = nat_le t.kind 4 && read in
+    let known : Bool = nat_le (code_of r) 24 || (code_of r == 25 && is_timed t.moment) in
+    let two = and_parts (is_detail r && known) few h in
+    let three = and_parts (nat_le t.kind 4) read two.1 in
+    let four = and_parts (beq (t.kind == 0) (code_of r == 1)) nothing three.1 in
+    let five = and_parts (is_nothing t.effect) fetch four.1 in
+    let six = and_parts (is_fetched (loses (code_of r)) (is_timed t.moment) t.fetched) (t.seq == 0 && is_empty t.message) five.1 in
     (nothing_formed t.effect five.0, fetch_formed (loses (code_of r)) (is_timed t.moment) t.fetched six.0)
 
 taken_decided : (t : Taken) → is_taken t ≡ true → is_decided t.refusal t ≡ true

@@ -1,5 +1,5 @@
 -- The rows that operators' words make are well formed and keep the order of their journal.
-use Rattle.std.proofs.Common.{◌≡◌, ℕ, ◌+◌, ◌<◌, ◌≤◌, Bool, true, false, not, ◌&&◌, List, [], ◌∷◌, ◌++◌, length, Option, Some, None, codes, refl, sym, subst, arith, lit<}
+use Rattle.std.proofs.Common.{◌≡◌, ℕ, ◌+◌, ◌*◌, ◌<◌, ◌≤◌, Bool, true, false, not, ◌&&◌, List, [], ◌∷◌, ◌++◌, length, Option, Some, None, codes, refl, sym, subst, arith, lit<}
 use Rattle.std.specs.Prelude.{nat_le}
 use Rattle.std.specs.Str.{is_utf8}
 use Rattle.std.proofs.lemmas.Bool.{and_parts, and_from, lt-ltb, leb-true}
@@ -7,11 +7,13 @@ use Rattle.std.proofs.lemmas.List.{append-nil, length-append}
 use Rattle.at_cid.specs.Link.{IsBytes}
 use Rattle.at_cbor.specs.declared.major.Major.{Major}
 use Rattle.at_cbor.specs.Item.{Item, Fields, field}
+use Rattle.at_cbor.specs.Majors.{number_of}
 use Rattle.at_cbor.specs.Spelling.{info_of, tail_of, front_of, text_spelling, spelling, fields_count, fields_spelling}
 use Rattle.at_syntax.specs.Did.{is_did}
 use Rattle.at_event.specs.declared.kind.EventKind.{EventKind}
 use Rattle.at_event.specs.Formed.{IsShortText}
 use Rattle.at_event.specs.Writing.{header_of, message_of, number_item, status_field, account_payload}
+use Rattle.at_event.proofs.Texts.{ascii_text}
 use Rattle.relay_row.specs.Folds.{last_seq}
 use Rattle.relay_row.specs.Rules.{are_bytes, is_empty, is_head, is_message, is_number, is_operated, is_positive, is_row, is_status, is_string, is_text, is_whole, names_did}
 use Rattle.relay_row.specs.declared.limits.TheConstants.{NUMBERS}
@@ -20,12 +22,13 @@ use Rattle.relay_row.proofs.Bytes.{string_tested, tested_bytes}
 use Rattle.relay_row.proofs.Journals.{grows}
 use Rattle.account_state.specs.Folds.{account}
 use Rattle.account_state.specs.State.{State}
-use Rattle.relay_core.specs.Decide.{sync_message, whole_under}
+use Rattle.relay_core.specs.Decide.{sync_message}
 use Rattle.relay_core.specs.Operating.{operated_message, operated_as}
 use Rattle.relay_law.specs.Laws.{OperatedRowsAreFormed, SyncedRowsAreFormed}
 use Rattle.relay_law.proofs.Deciding.{next_above, positive_next}
+use Rattle.relay_law.proofs.EventForms.{text_tested}
 use Rattle.relay_law.proofs.Heads.{IsFormedAccount, accounts_are_formed}
-use Rattle.relay_law.proofs.Spelled.{bytes_join, front_bytes, front_short, header_bytes}
+use Rattle.relay_law.proofs.Spelled.{bytes_join, front_bytes, front_short, header_bytes, not_empty}
 
 -- ---- the relay's own `#account`
 
@@ -108,10 +111,12 @@ module _ (did : List ℕ) (active : Bool) (status : Option (List ℕ)) (time : L
       let header : IsWithin 64 (spelling (header_of EventKind.Account)) = record { are = header_bytes EventKind.Account; few = omega (arith, header_short) } in
       let all = join 64 2320 (spelling (header_of EventKind.Account)) (spelling (account_payload did active status time n)) header payload_within in
       let bytes = spelling (header_of EventKind.Account) ++ spelling (account_payload did active status time n) in
-      and_from (is_string bytes) (not (is_empty bytes)) (string_tested bytes all.are (omega (arith, all.few))) refl
+      and_from (is_string bytes) (not (is_empty bytes)) (string_tested bytes all.are (omega (arith, all.few))) (not_empty (32 * number_of Major.Map + info_of 2) _)
 
 operated_sent : (a : State) (did : List ℕ) (down : Bool) (time : List ℕ) (n : ℕ) → IsFormedAccount a → names_did did ≡ true → IsShortText time → is_message (operated_message a down did time n) ≡ true
-operated_sent a did true time n is of_did timed = account_sent did false (Some (codes "takendown")) time n of_did refl timed
+operated_sent a did true time n is of_did timed =
+    let word = text_tested (codes "takendown") (ascii_text (codes "takendown") refl (lit< tt)) in
+    account_sent did false (Some (codes "takendown")) time n of_did (and_from (is_text (codes "takendown")) true word refl) timed
 operated_sent a did false time n is of_did timed = account_sent did a.active a.status time n of_did is.status timed
 
 -- ---- rows

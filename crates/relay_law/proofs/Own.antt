@@ -1,23 +1,18 @@
 -- The relay's own messages are read as what they say.
-use Rattle.std.proofs.Common.{◌≡◌, ◌+◌, ◌^◌, ◌<◌, ℕ, Bool, true, false, ◌&&◌, List, [], ◌∷◌, ◌++◌, length, cond, Option, Some, None, Ok, codes, refl, ap, ◌∙◌, sym, subst, arith, length-append, lit<, lit≤}
+use Rattle.std.proofs.Common.{◌≡◌, ◌+◌, ◌<◌, ℕ, Bool, true, false, ◌&&◌, List, [], ◌∷◌, ◌++◌, length, cond, Option, Some, None, codes, refl, ◌∙◌, sym, subst, arith, length-append, lit<, lit≤}
 use Rattle.std.proofs.lemmas.Bool.{and_parts, false≢true, ltb-true, leb-true}
 use Rattle.std.proofs.lemmas.Str.{IsUtf8-from_is_utf8}
 use Rattle.std.specs.List.{list_all}
-use Rattle.std.specs.Prelude.{nat_lt, nat_le, IsTrue}
+use Rattle.std.specs.Prelude.{nat_lt, nat_le}
 use Rattle.std.specs.Str.{bytes_eq}
 use Rattle.at_cbor.specs.Item.{Item, Fields, no_fields, field}
-use Rattle.at_cbor.specs.Kinds.{value_of}
+use Rattle.at_cbor.specs.Kinds.{value_of, field_of}
 use Rattle.at_cbor.specs.Spelling.{front_of, spelling, text_spelling, fields_count, fields_spelling, IsString, IsText}
 use Rattle.at_cbor.specs.declared.major.Major.{Major}
 use Rattle.at_syntax.specs.Did.{is_did}
 use Rattle.at_event.specs.Formed.{IsShortText}
-use Rattle.at_event.specs.Frames.{frame_of}
 use Rattle.at_event.specs.Refusals.{code_of}
-use Rattle.at_event.specs.Writing.{header_of, message_of, sync_payload, sync_seen, account_payload, account_seen}
-use Rattle.at_event.specs.declared.event.AccountEvent.{AccountEvent}
-use Rattle.at_event.specs.declared.event.Body.{Body}
-use Rattle.at_event.specs.declared.event.SyncEvent.{SyncEvent}
-use Rattle.at_event.specs.declared.frame.Frame.{Frame}
+use Rattle.at_event.specs.Writing.{header_of, message_of, sync_payload, sync_seen, account_seen}
 use Rattle.at_event.specs.declared.head.Head.{Head}
 use Rattle.at_event.specs.declared.kind.EventKind.{EventKind}
 use Rattle.at_event.specs.declared.refusal.Refusal.{Refusal}
@@ -25,10 +20,9 @@ use Rattle.at_event.proofs.OwnEvents.{IsStatus, sync_again, account_read}
 use Rattle.at_event.proofs.Texts.{ascii_text}
 use Rattle.relay_row.specs.Folds.{folded, names, did_in, last_seq}
 use Rattle.relay_row.specs.Journal.{IsJournal}
-use Rattle.relay_row.specs.Rules.{is_text, is_number, is_positive, is_rev, is_head, is_node, is_cid, is_message, is_moment, is_status, is_whole, is_taken, is_operated, is_carried, is_row, is_repo, loses, names_did}
+use Rattle.relay_row.specs.Rules.{is_text, is_number, is_positive, is_rev, is_head, is_node, is_cid, is_message, is_moment, is_status, is_whole, is_operated, is_carried, is_row, is_repo, loses, names_did}
 use Rattle.relay_row.specs.declared.carried.Carried.{Carried}
 use Rattle.relay_row.specs.declared.fetched.Fetched.{Fetched}
-use Rattle.relay_row.specs.declared.fetched.Whole.{Whole}
 use Rattle.relay_row.specs.declared.limits.TheConstants.{NUMBERS, LONGEST_STATUS}
 use Rattle.relay_row.specs.declared.operated.Operated.{Operated}
 use Rattle.relay_row.specs.declared.row.Row.{Row}
@@ -42,7 +36,7 @@ use Rattle.account_state.specs.declared.repo.Repo.{Repo}
 use Rattle.commit_check.proofs.Held.{bytes_left, bytes_right}
 use Rattle.relay_core.specs.Decide.{commit_car, sync_message, whole_under}
 use Rattle.relay_core.specs.Operating.{operated_as, operated_message}
-use Rattle.relay_law.specs.Faithful.{ReadsAs, IsFaithful, IsFaithfulWhole, IsSyncAt, IsWordOf}
+use Rattle.relay_law.specs.Faithful.{ReadsAs, IsFaithful, IsFaithfulWhole, IsWordOf}
 use Rattle.relay_law.specs.Laws.{OperatorsAreFaithful}
 
 -- ---- the blocks in a message that is a byte string are one
@@ -65,13 +59,14 @@ value_string (field k j fs) name i h e =
       | false ↦ λ other. value_string fs name i (string_right (spelling j) (fields_spelling fs) behind) other
     ] e
 
-map_value : (header : List ℕ) (fs : Fields) (name : List ℕ) (i : Item) → IsString (header ++ spelling (Item.map fs)) → value_of fs name ≡ Some i → IsString (spelling i)
-map_value header fs name i h e = value_string fs name i (string_right (front_of Major.Map (fields_count fs)) (fields_spelling fs) (string_right header (spelling (Item.map fs)) h)) e
+payload_value : (header : List ℕ) (payload : Item) (name : List ℕ) (i : Item) → IsString (header ++ spelling payload) → field_of payload name ≡ Some i → IsString (spelling i)
+payload_value header (Item.map fs) name i h e = value_string fs name i (string_right (front_of Major.Map (fields_count fs)) (fields_spelling fs) (string_right header (spelling (Item.map fs)) h)) e
+payload_value header payload name i h e = absurd cc
 
 sync_blocks : (did : List ℕ) (rev : ℕ) (blocks time : List ℕ) (seq : ℕ) → IsString (message_of EventKind.Sync (sync_payload did rev blocks time seq)) → IsString blocks
 unfolding message_of sync_payload
 sync_blocks did rev blocks time seq h =
-    string_right (front_of Major.Bytes (length blocks)) blocks (map_value (spelling (header_of EventKind.Sync)) _ (codes "blocks") (Item.bytes blocks) h refl)
+    string_right (front_of Major.Bytes (length blocks)) blocks (payload_value (spelling (header_of EventKind.Sync)) (sync_payload did rev blocks time seq) (codes "blocks") (Item.bytes blocks) h refl)
 
 -- ---- the relay's own `#sync`
 
@@ -93,7 +88,7 @@ whole_reads did time head records block n text is short formed =
       reads = sync_again did head.rev (commit_car head block) time n text.0 (IsUtf8-from_is_utf8 did text.1) is rev car short.text.0 (IsUtf8-from_is_utf8 time short.text.1) short.short (number_below n one.0);
       did_is = refl;
       seq_is = refl;
-      says = (record { did = did; rev = head.rev; blocks = commit_car head block }, (refl, refl));
+      says = (record { did = did; rev = head.rev; blocks = commit_car head block }, refl, refl);
     }
 
 pub did_named : (did : List ℕ) → names_did did ≡ true → IsText did × (is_did did ≡ true)
@@ -162,7 +157,7 @@ word_reads a did true time n moment status text is short below o same =
       reads = account_read did false time n text.0 (IsUtf8-from_is_utf8 did text.1) is short.text.0 (IsUtf8-from_is_utf8 time short.text.1) short.short below gone takendown;
       did_is = refl;
       seq_is = refl;
-      says = (record { active = false; status = gone }, (refl, λ down. refl));
+      says = (record { active = false; status = gone }, refl, λ down. refl);
     })
 word_reads a did false time n moment status text is short below o same =
     let P : Operated → Type 0 = λ p. ReadsAs p.message p.did p.seq (IsWordOf p) in
@@ -171,7 +166,7 @@ word_reads a did false time n moment status text is short below o same =
       reads = account_read did a.active time n text.0 (IsUtf8-from_is_utf8 did text.1) is short.text.0 (IsUtf8-from_is_utf8 time short.text.1) short.short below a.status (status_is a.status status);
       did_is = refl;
       seq_is = refl;
-      says = (record { active = a.active; status = a.status }, (refl, λ down. absurd (false≢true down)));
+      says = (record { active = a.active; status = a.status }, refl, λ down. absurd (false≢true down));
     })
 
 operated_reads : (J : List Row) (did : List ℕ) (down : Bool) (time : List ℕ) (moment : Option ℕ) → IsShortText time → IsJournal (J ++ Row.Operated (operated_as (last_seq J) (account did J) did down time moment) ∷ [])

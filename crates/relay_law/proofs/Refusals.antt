@@ -1,8 +1,8 @@
 -- Each refusal that opening or linking tells is one that a row may keep.
-use Rattle.std.proofs.Common.{◌≡◌, ℕ, zero, suc, ◌<◌, ◌≤◌, ◌^◌, ◌⊎◌, inl, inr, Bool, true, false, not, ◌&&◌, ◌||◌, cond, List, [], ◌∷◌, ◌++◌, length, Option, Some, None, refl, sym, ap, ◌∙◌, subst, arith}
+use Rattle.std.proofs.Common.{◌≡◌, ℕ, zero, suc, ◌<◌, ◌≤◌, ◌^◌, inl, inr, Bool, true, false, not, ◌&&◌, ◌||◌, cond, List, [], ◌∷◌, length, Option, Some, None, refl, sym, subst, arith}
 use Rattle.std.specs.Prelude.{◌==◌, nat_le, nat_lt}
 use Rattle.std.specs.List.{list_all}
-use Rattle.std.specs.FinMap.{FinMap, get}
+use Rattle.std.specs.FinMap.{FinMap}
 use Rattle.std.proofs.lemmas.Bool.{and_parts, and_from, lt-ltb, ltb-false}
 use Rattle.std.proofs.lemmas.List.{length-map}
 use Rattle.at_cid.specs.Link.{IsNodeLink, IsNodeLinkOrNone}
@@ -15,7 +15,7 @@ use Rattle.at_event.specs.declared.refusal.Refusal.{Refusal}
 use Rattle.event_checks.specs.Lines.{Line, first_of}
 use Rattle.event_checks.specs.Table.{open_lines, sync_lines}
 use Rattle.event_checks.proofs.Firsts.{all_unmet}
-use Rattle.mst_list.specs.Faults.{IsFirst}
+use Rattle.mst_list.specs.Faults.{Disagrees, IsUncovered, IsFirst}
 use Rattle.mst_list.specs.declared.item.Item.{Item}
 use Rattle.mst_list.specs.declared.op.Op.{Op}
 use Rattle.mst_node.specs.FirstFault.{in_part, IsFaultAt, FaultBelow, IsFirstIn, IsFirstBelow, IsFirstFault, HasFault, IsFirstTopFault}
@@ -113,8 +113,8 @@ stop_kept [] blocks former later (Refusal.OtherData want got) kind node few h =
     kept_at (is_node want && is_node got) (and_from (is_node want) (is_node got) (node_kept want former h.0 kind) (node_kept got later h.1 node))
 stop_kept [] blocks former later r kind node few h = absurd h
 stop_kept (op ∷ ops) blocks former later (Refusal.BadNode link) kind node few h = kept_at (is_node link) (node_tested link (bad_node blocks later link node h))
-stop_kept (op ∷ ops) blocks former later (Refusal.OtherOp i) kind node few h = kept_at (nat_lt i (2 ^ 32)) (place_kept i (length (op ∷ ops)) (place_below _ h.0 (op ∷ ops) i h.2) few)
-stop_kept (op ∷ ops) blocks former later (Refusal.NotCovered i) kind node few h = kept_at (nat_lt i (2 ^ 32)) (place_kept i (length (op ∷ ops)) (place_below _ h.0 (op ∷ ops) i h.2) few)
+stop_kept (op ∷ ops) blocks former later (Refusal.OtherOp i) kind node few h = kept_at (nat_lt i (2 ^ 32)) (place_kept i (length (op ∷ ops)) (place_below Disagrees h.0 (op ∷ ops) i h.2) few)
+stop_kept (op ∷ ops) blocks former later (Refusal.NotCovered i) kind node few h = kept_at (nat_lt i (2 ^ 32)) (place_kept i (length (op ∷ ops)) (place_below IsUncovered h.0 (op ∷ ops) i h.2) few)
 stop_kept (op ∷ ops) blocks former later (Refusal.OtherData want got) kind node few h =
     kept_at (is_node want && is_node got) (and_from (is_node want) (is_node got) (node_kept want former h.0 kind) (node_kept got _ (sym h.1.step.leads_back) (cid_is_link _)))
 stop_kept (op ∷ ops) blocks former later r kind node few h = absurd h

@@ -1,7 +1,5 @@
 -- What hosts sent, as it is read, and the runs of a store over it.
-use Rattle.std.proofs.Common.{◌≡◌, ℕ, List, [], ◌∷◌, ◌++◌, Result, Ok, Err, refl}
-use Rattle.std.specs.List.{AllByRecursion}
-use Rattle.at_cid.specs.Link.{IsBytes}
+use Rattle.std.proofs.Common.{◌≡◌, ℕ, List, [], ◌∷◌, Result, Ok, Err, refl}
 use Rattle.at_event.specs.Events.{IsEvent}
 use Rattle.at_event.specs.Frames.{frame_of}
 use Rattle.at_event.specs.Seen.{Seen}
@@ -29,6 +27,6 @@ sent_events ((host, message) ∷ sent) bytes = more_events host (frame_of messag
 
 pub stores_sound : StoresStaySound
 stores_sound J sent rows bytes journal sound run =
-    let opens = some_right.1.0 in
-    let links = some_right.1.1 in
+    let opens = some_right.1 in
+    let links = some_right.2 in
     runs_sound some_right.0 (checks_right some_right.0 opens links) J (as_read sent) rows (sent_events sent bytes) journal sound (run some_right.0 opens links)

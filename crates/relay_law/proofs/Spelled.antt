@@ -1,15 +1,15 @@
 -- What is spelled of items that fit is bytes, and a message of them is a string that isn't empty.
-use Rattle.std.proofs.Common.{◌≡◌, ℕ, zero, suc, ◌+◌, ◌-◌, ◌*◌, ◌<◌, ◌≤◌, ◌^◌, ◌/◌, Bool, true, false, not, ◌&&◌, cond, ltb, min, List, [], ◌∷◌, ◌++◌, length, Option, Some, None, pos, negsuc, refl, sym, ap, ◌∙◌, subst, arith, lit<, mod-lt, w16, w32, w64}
-use Rattle.std.specs.Int.{to_be_bytes, bytes_high_first, byte_at}
-use Rattle.std.specs.Prelude.{ℤ, ◌==◌, slice_index}
-use Rattle.std.proofs.lemmas.Bool.{and_from, ltb-true, lt-ltb, ltb-false}
+use Rattle.std.proofs.Common.{◌≡◌, ℕ, zero, suc, ◌+◌, ◌-◌, ◌*◌, ◌<◌, ◌≤◌, ◌^◌, ◌/◌, Bool, true, false, not, cond, ltb, List, [], ◌∷◌, ◌++◌, length, Option, Some, None, pos, negsuc, refl, ap, arith, lit<, mod-lt}
+use Rattle.std.specs.Int.{w16, w32, w64, to_be_bytes, bytes_high_first, byte_at}
+use Rattle.std.specs.Prelude.{ℤ}
+use Rattle.std.proofs.lemmas.Bool.{and_from, ltb-true, ne_eqb}
 use Rattle.at_cid.specs.Link.{IsBytes}
 use Rattle.at_cbor.specs.declared.major.Major.{Major}
 use Rattle.at_cbor.specs.Item.{Item, Items, no_items, item, Fields, no_fields, field}
 use Rattle.at_cbor.specs.Majors.{number_of}
 use Rattle.at_cbor.specs.Spelling.{info_of, tail_of, front_of, int_spelling, text_spelling, link_spelling, bool_spelling, items_count, fields_count, spelling, items_spelling, fields_spelling, Fits, ItemsFit, FieldsFit}
 use Rattle.at_event.specs.declared.kind.EventKind.{EventKind}
-use Rattle.at_event.specs.Writing.{header_of, name_of, message_of}
+use Rattle.at_event.specs.Writing.{header_of, message_of}
 use Rattle.relay_row.specs.Rules.{is_string, is_empty, is_message}
 use Rattle.relay_row.proofs.Bytes.{string_tested, tested_bytes}
 
@@ -42,8 +42,8 @@ record IsTail (info : ℕ) (tail : List ℕ) : Type 0 where
   short : length tail < 9
 
 either_tail : (b : Bool) (i j : ℕ) (s t : List ℕ) → (b ≡ true → IsTail i s) → (b ≡ false → IsTail j t) → IsTail (cond b i j) (cond b s t)
-either_tail true i j s t yes no = yes refl
-either_tail false i j s t yes no = no refl
+either_tail true i j s t low high = low refl
+either_tail false i j s t low high = high refl
 
 tail_is : (n : ℕ) → IsTail (info_of n) (tail_of n)
 unfolding info_of tail_of
@@ -85,7 +85,8 @@ bool_bytes false = bytes_more 0xf4 [] (lit< tt) no_bytes
 
 link_bytes : (link : List ℕ) → IsBytes link → IsBytes (link_spelling link)
 link_bytes link h =
-    bytes_more 0xd8 _ (lit< tt) (bytes_more 0x2a _ (lit< tt) (bytes_more 0x58 _ (lit< tt) (bytes_more 0x25 _ (lit< tt) (bytes_more 0x00 link (lit< tt) h))))
+    bytes_more 0xd8 (0x2a ∷ 0x58 ∷ 0x25 ∷ 0x00 ∷ link) (lit< tt)
+    (bytes_more 0x2a (0x58 ∷ 0x25 ∷ 0x00 ∷ link) (lit< tt) (bytes_more 0x58 (0x25 ∷ 0x00 ∷ link) (lit< tt) (bytes_more 0x25 (0x00 ∷ link) (lit< tt) (bytes_more 0x00 link (lit< tt) h))))
 
 -- ---- items
 
@@ -118,9 +119,12 @@ header_bytes EventKind.Sync = tested_bytes (spelling (header_of EventKind.Sync))
 header_bytes EventKind.Identity = tested_bytes (spelling (header_of EventKind.Identity)) refl
 header_bytes EventKind.Account = tested_bytes (spelling (header_of EventKind.Account)) refl
 
+pub not_empty : (x : ℕ) (rest : List ℕ) → not (is_empty (x ∷ rest)) ≡ true
+not_empty x rest = ap not (ne_eqb (length (x ∷ rest)) 0 (λ zero. omega (arith, zero)))
+
 -- a message of an event whose payload fits, and that isn't too long, is one that a row may have
 pub message_formed : (kind : EventKind) (payload : Item) → Fits payload 64 → length (message_of kind payload) < 2 ^ 64 → is_message (message_of kind payload) ≡ true
 unfolding message_of
 message_formed kind payload fits short =
     let bytes = bytes_join (spelling (header_of kind)) (spelling payload) (header_bytes kind) (spelled_bytes payload 64 fits) in
-    and_from (is_string (spelling (header_of kind) ++ spelling payload)) (not (is_empty (spelling (header_of kind) ++ spelling payload))) (string_tested (spelling (header_of kind) ++ spelling payload) bytes short) refl
+    and_from (is_string (spelling (header_of kind) ++ spelling payload)) (not (is_empty (spelling (header_of kind) ++ spelling payload))) (string_tested (spelling (header_of kind) ++ spelling payload) bytes short) (not_empty (32 * number_of Major.Map + info_of 2) _)

@@ -1,5 +1,5 @@
 -- Where the table of an event ends: at a refusal that a row may keep, or past all lines.
-use Rattle.std.proofs.Common.{◌≡◌, ℕ, ◌≤◌, ◌⊎◌, inl, inr, Bool, true, false, not, List, [], ◌∷◌, length, Option, Some, None, refl, sym, ap, ◌∙◌, cond, subst}
+use Rattle.std.proofs.Common.{◌≡◌, ℕ, ◌⊎◌, inl, inr, Bool, true, false, not, ◌&&◌, List, [], ◌∷◌, Option, Some, None, refl, ap, ◌∙◌, cond, subst}
 use Rattle.std.specs.Prelude.{Result, Ok, Err, option_map, nat_lt}
 use Rattle.std.proofs.lemmas.Bool.{and_parts}
 use Rattle.at_cid.specs.Link.{IsBytes, IsNodeLink, kind_of}
@@ -16,13 +16,12 @@ use Rattle.event_checks.specs.Table.{car_in}
 use Rattle.account_state.specs.Folds.{last_rev}
 use Rattle.account_state.specs.State.{State}
 use Rattle.account_state.specs.declared.repo.Repo.{Repo}
-use Rattle.commit_check.specs.Order.{Holds}
 use Rattle.commit_check.specs.Step.{is_gap, root_before}
 use Rattle.commit_check.proofs.Held.{car_linked}
 use Rattle.commit_check.proofs.Objects.{data_held}
-use Rattle.relay_row.specs.Rules.{is_cid, is_node, is_node_kind, is_head, is_rev}
+use Rattle.relay_row.specs.Rules.{is_cid, is_node, is_node_kind, is_rev}
 use Rattle.relay_row.proofs.Again.{node_fits}
-use Rattle.relay_core.specs.Table.{Line, told, asked, Walk, waits, refuses, passes, walk, walk_past, when, refusal_in, is_ahead, repo_lines, body_lines, event_lines}
+use Rattle.relay_core.specs.Table.{Line, told, asked, Walk, waits, refuses, passes, walk, walk_past, when, refusal_in, is_ahead, link_line, repo_lines, body_lines, event_lines}
 use Rattle.relay_core.specs.declared.answers.Answers.{Answers}
 use Rattle.relay_core.specs.declared.answers.Question.{Question}
 use Rattle.relay_core.specs.declared.limits.TheConstants.{LONGEST_MESSAGE}
@@ -160,16 +159,28 @@ module _ (last : ℕ) (a : State) (e : Seen) (x : Answers) (right : AreAnswersTo
   verdict_kept = mapped_kept (λ (good : Bool). when (not good) Refusal.BadSignature) x.verdict (λ good r given told_so. when_kept (not good) Refusal.BadSignature r refl told_so)
 
   repo_kept : (body : Body) → e.body ≡ body → (rev : ℕ) (others : List Line) → ((head : Head) → x.opened ≡ Some (Ok head) → AreKept others) → AreKept (repo_lines a rev x others)
-  repo_kept body is rev others more =
-      (home_kept, λ home. (
-      (λ r h. when_kept (not a.active) Refusal.Inactive r refl h), λ active. (
-      (λ r h. when_kept a.down Refusal.TakenDown r refl h), λ down. (
-      mapped_kept refusal_in x.opened (opened_kept body is), λ opened. (
-      (λ r h. when_kept (is_ahead rev x.moment) Refusal.FutureRev r refl h), λ near. (
-      verdict_kept, λ good. (let head = opened_head x.opened opened in more head.0 head.1)))))))
+  repo_kept body is rev others more = (
+    home_kept,
+    λ home. (
+      (λ r h. when_kept (not a.active) Refusal.Inactive r refl h),
+      λ active. (
+        (λ r h. when_kept a.down Refusal.TakenDown r refl h),
+        λ down. (
+          mapped_kept refusal_in x.opened (opened_kept body is),
+          λ opened. (
+            (λ r h. when_kept (is_ahead rev x.moment) Refusal.FutureRev r refl h),
+            λ near. (
+              verdict_kept,
+              λ good. (let head = opened_head x.opened opened in more head.0 head.1),
+            ),
+          ),
+        ),
+      ),
+    ),
+  )
 
   body_kept : (body : Body) → e.body ≡ body → IsBodyKept body → AreKept (body_lines a body x)
-  body_kept (Body.Commit c) is forms = repo_kept (Body.Commit c) is c.rev _ (λ head opened. (mapped_kept refusal_in x.linked (link_kept c is forms.0 head opened), λ linked. tt))
+  body_kept (Body.Commit c) is forms = repo_kept (Body.Commit c) is c.rev (link_line x ∷ []) (λ head opened. (mapped_kept refusal_in x.linked (link_kept c is forms.0 head opened), λ linked. tt))
   body_kept (Body.Sync s) is forms = repo_kept (Body.Sync s) is s.rev [] (λ head opened. tt)
   body_kept Body.Identity is forms = (refresh_kept x.refreshed, λ refreshed. (home_kept, λ home. ((λ r h. when_kept a.down Refusal.TakenDown r refl h), λ down. tt)))
   body_kept (Body.Account b) is forms = (home_kept, λ home. tt)
@@ -177,9 +188,13 @@ module _ (last : ℕ) (a : State) (e : Seen) (x : Answers) (right : AreAnswersTo
   -- the refusal of an event is one that a row may keep
   pub event_refused : IsBodyKept e.body → (r : Refusal) → walk (event_lines a e x) ≡ refuses r → is_kept r ≡ true
   event_refused forms r =
-      refuses_kept (event_lines a e x) r
-      (mapped_kept {A = ℕ} (λ m. None) x.moment (λ m q given told_so. absurd cc), λ moment. (
-      (λ q h. when_kept (nat_lt LONGEST_MESSAGE (out_length e)) Refusal.TooLong q refl h), λ short. body_kept e.body refl forms))
+      refuses_kept (event_lines a e x) r (
+        mapped_kept {A = ℕ} (λ m. None) x.moment (λ m q given told_so. absurd cc),
+        λ moment. (
+          (λ q h. when_kept (nat_lt LONGEST_MESSAGE (out_length e)) Refusal.TooLong q refl h),
+          λ short. body_kept e.body refl forms,
+        ),
+      )
 
 -- a walk that doesn't wait has the moment
 pub moment_there : (o : Option ℕ) (lines : List Line) → ((q : Question) → walk (asked Question.Moment (option_map (λ m. None) o) ∷ lines) ≡ waits q → ⊥) → (m : ℕ) × (o ≡ Some m)

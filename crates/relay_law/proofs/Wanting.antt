@@ -1,5 +1,5 @@
 -- Small instances in which the laws of journals fail, each without one of their premises.
-use Rattle.std.proofs.Common.{◌≡◌, ◌≢◌, ℕ, true, false, List, [], ◌∷◌, ◌++◌, Option, Some, None, Ok, Err, refl, sym, ◌∙◌}
+use Rattle.std.proofs.Common.{◌≡◌, ℕ, true, false, List, [], ◌∷◌, None, Ok, Err, refl, sym, ◌∙◌}
 use Rattle.at_cbor.specs.Item.{Item}
 use Rattle.at_cbor.specs.Heads.{head_at}
 use Rattle.at_cbor.specs.Reading.{item_at}
@@ -79,7 +79,7 @@ accepted = decided_event loose 0 (account ada (lost ∷ [])) ada event good
 
 loose_run : Run loose (lost ∷ []) ((ada, Ok (Frame.Event event)) ∷ []) (Row.Taken accepted ∷ [])
 unfolding account cursor last_seq out_length out_of message_of info_of tail_of
-loose_run = (Row.Taken accepted, ([], (refl, (refl, refl))))
+loose_run = (Row.Taken accepted, [], refl, refl, refl)
 
 not_known : IsOfKnown (lost ∷ []) (Row.Taken accepted) → ⊥
 unfolding account out_length out_of message_of info_of tail_of
@@ -94,6 +94,6 @@ premises_wanted = record {
   fronts = λ all. no_step _ _ (all (torn ∷ []) [] ada).0.0;
   operated = λ all. no_step _ _ (all (torn ∷ []) word ada).0.0;
   synced = λ all. no_step _ _ (all (torn ∷ []) [] whole None ada).0.0;
-  links = λ all. (all unlinked (record { refusal = some_right.1.0.refusal; head = some_right.1.0.head })).not_lost event commit None refl refl;
+  links = λ all. (all unlinked (record { refusal = some_right.1.refusal; head = some_right.1.head })).not_lost event commit None refl refl;
   known = λ all. not_known (all loose (lost ∷ []) ((ada, Ok (Frame.Event event)) ∷ []) (Row.Taken accepted ∷ []) loose_run).0;
 }

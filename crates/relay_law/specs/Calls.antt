@@ -1,5 +1,5 @@
 -- What the calls that check events answer, by their contracts, and that checks say the same.
-use Rattle.std.specs.Prelude.{◌≡◌, ℕ, List, ◌∷◌, map, false, Option, Some, None, Result, Ok, Err}
+use Rattle.std.specs.Prelude.{◌≡◌, ℕ, List, map, false, Option, Some, None, Result, Ok, Err}
 use Rattle.at_event.specs.Events.{IsEvent}
 use Rattle.at_event.specs.Frames.{frame_of}
 use Rattle.at_event.specs.Seen.{Seen}
