@@ -33,7 +33,7 @@ use Rattle.relay_step.specs.Causes.{IsCause, OneTaken}
 use Rattle.relay_step.specs.Fetches.{AskedPlain}
 use Rattle.relay_step.specs.declared.fault.StepFault.{StepFault}
 use Rattle.relay_step.specs.Operators.{AnsweredFetch, AreFoundCalls}
-use Rattle.relay_step.specs.Questions.{IsJudgedLate, IsRenewedFirst, IsTidy, IsTimedSo, NoneAsked, PassedBefore, calls_told, home_told, is_last, is_unlinked, length_line, refresh_told, verdict_told}
+use Rattle.relay_step.specs.Questions.{IsJudgedLate, IsRenewedFirst, IsTidy, IsTimedSo, NoneAsked, PassedBefore, calls_told, home_told, is_fetch, is_last, is_unlinked, length_line, refresh_told, verdict_told}
 
 -- where going down the table ends: at a refusal, or at its end
 abbrev pub ended : Option Refusal → Walk
@@ -399,3 +399,10 @@ pub last_other : (n : Next) → ((q : Question) → n ≡ Next.Ask q → ⊥) �
 last_other (Next.Ask q) h = absurd (h q refl)
 last_other (Next.Pass pass) h = refl
 last_other (Next.Done d) h = refl
+
+fetch_is : (q : Question) → is_fetch q ≡ true → q ≡ Question.Fetch
+fetch_is Question.Fetch h = refl
+fetch_is q h = absurd cc
+
+pub last_fetch : (q : Question) (n target : Next) → n ≡ Next.Ask q → n ≡ target → is_last n ≡ true → target ≡ Next.Ask Question.Fetch
+last_fetch q n target is next last = let P : Next → Type 0 = λ k. is_last k ≡ true in sym next ∙ is ∙ ap Next.Ask (fetch_is q (subst P is last))

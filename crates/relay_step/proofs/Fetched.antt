@@ -31,7 +31,7 @@ use Rattle.repo_sync.specs.declared.fault.RepoFault.{RepoFault}
 use Rattle.repo_sync.specs.declared.found.Found.{Found as Checked}
 use Rattle.repo_sync.proofs.Linked.{car_linked}
 use Rattle.relay_step.specs.Asked.{IsAskedOf, IsRefusedOnce, Where}
-use Rattle.relay_step.specs.Fetches.{IsOfBytes, MayBeKept, is_good}
+use Rattle.relay_step.specs.Fetches.{IsOfBytes, MayBeKept, is_good, refused_as}
 use Rattle.relay_step.specs.Fetching.{IsFetchedFrom, IsFoundOf, found_by}
 use Rattle.relay_step.specs.Operators.{AnsweredFetch, AreFoundCalls}
 
@@ -199,3 +199,38 @@ asked_good_at did least checked of old new sig good same is call =
 
 pub asked_bad_at : (did digest sig : List ℕ) (old new : Panel) (good : Bool) → good ≡ false → IsCall (answers (asks_verdict did digest sig) good) old new → AnsweredFetch old did (unfit FETCHED_UNSIGNED) new
 asked_bad_at did digest sig old new good is call = let Q : Bool → Type 0 = λ b. IsCall (answers (asks_verdict did digest sig) b) old new in asked_bad did digest sig old new (subst Q is call)
+
+-- ---- as the code has it
+
+refused_is : (fault : RepoFault) (n : ℕ) → Some n ≡ refused_as fault → (is_quiet fault ≡ false) × (n ≡ number_of fault)
+refused_is RepoFault.Memory n h = absurd cc
+refused_is RepoFault.Failed n h = absurd cc
+refused_is RepoFault.BadCar n h = (refl, cc)
+refused_is RepoFault.NoCommit n h = (refl, cc)
+refused_is RepoFault.BadCommit n h = (refl, cc)
+refused_is RepoFault.OtherDid n h = (refl, cc)
+refused_is (RepoFault.Lagging rev) n h = (refl, cc)
+refused_is (RepoFault.NotWhole c) n h = (refl, cc)
+refused_is (RepoFault.BadNode c) n h = (refl, cc)
+refused_is RepoFault.TooLong n h = (refl, cc)
+refused_is RepoFault.BadSignature n h = (refl, cc)
+
+pub asked_by : (did : List ℕ) (least : Option ℕ) (bytes : List ℕ) (fault : RepoFault) (n : ℕ) (old : Panel) → Some n ≡ refused_as fault → IsRefused did least bytes fault → AnsweredFetch old did (unfit n) old
+asked_by did least bytes fault n old h is =
+    let both = refused_is fault n h in
+    let P : ℕ → Type 0 = λ k. AnsweredFetch old did (unfit k) old in
+    subst P (sym both.1) (asked_refused did least bytes fault old both.0 is)
+
+pub may_by : (did : List ℕ) (least : Option ℕ) (bytes : List ℕ) (fault : RepoFault) (n : ℕ) → Some n ≡ refused_as fault → IsRefused did least bytes fault → MayBeKept (unfit n)
+may_by did least bytes fault n h is =
+    let both = refused_is fault n h in
+    let P : ℕ → Type 0 = λ k. MayBeKept (unfit k) in
+    subst P (sym both.1) (may_refused did least bytes fault both.0 is)
+
+pub fetched_by : (o : Option (List ℕ)) (left did : List ℕ) (least : Option ℕ) (moment : ℕ) (fault : RepoFault) (n : ℕ) (opened : Bool) → opened ≡ true → IsOpened o opened left → Some n ≡ refused_as fault → IsRefused did least left fault
+    → IsFetchedFrom o did least moment (is_good (unfit n)) (unfit n)
+fetched_by o left did least moment fault n opened yes_it_is is_open h is =
+    let both = refused_is fault n h in
+    let P : ℕ → Type 0 = λ k. IsFetchedFrom o did least moment (is_good (unfit k)) (unfit k) in
+    let Q : Bool → Type 0 = λ b. IsOpened o b left in
+    subst P (sym both.1) (fetched_refused o left did least moment (is_good (unfit (number_of fault))) fault (subst Q yes_it_is is_open) both.0 is)

@@ -13,6 +13,8 @@ use Rattle.relay_row.specs.declared.limits.TheConstants.{NUMBERS}
 use Rattle.relay_core.specs.Decide.{Found, absent, unfit, found, commit_car, sync_message, whole_under}
 use Rattle.relay_core.specs.declared.limits.TheConstants.{FETCHED_UNSIGNED}
 use Rattle.repo_sync.specs.Repository.{IsWhole}
+use Rattle.repo_sync.specs.Faults.{number_of}
+use Rattle.repo_sync.specs.declared.fault.RepoFault.{RepoFault}
 use Rattle.repo_sync.specs.declared.found.Found.{Found as Checked}
 use Rattle.relay_step.specs.Asked.{AllAbout, is_refresh}
 use Rattle.relay_step.specs.declared.fetching.FoundRepo.{FoundRepo}
@@ -26,6 +28,12 @@ found_as (FoundRepo.Fit checked) = found checked.head checked.records checked.bl
 abbrev pub judged_as : Checked → Option ℕ → Found
 judged_as checked None = found checked.head checked.records checked.block
 judged_as checked (Some n) = unfit n
+
+-- the number with which a repository is refused, unless memory was wanted or a read failed
+abbrev pub refused_as : RepoFault → Option ℕ
+refused_as RepoFault.Memory = None
+refused_as RepoFault.Failed = None
+refused_as fault = Some (number_of fault)
 
 -- a bad signature where what was found says so, else a good one
 abbrev pub is_good : Found → Bool

@@ -25,7 +25,7 @@ use at_authority::Judges;
 use at_event::{Event, Frame, FrameFault, read_frame};
 use relay_core::{Answers, Core, Next, Pass, Question};
 use relay_io::{Clock, Repos};
-// LAW use relay_law::made_rows_are_formed;
+use relay_law::made_rows_are_formed;
 use relay_row::Row;
 use std::alloc::Global;
 
@@ -110,7 +110,7 @@ fn decide_frame<P: Judges, R: Repos, C: Clock>(
     ensures clock_counts { C.faults clock.old ≤ C.faults clock.new }
     ensures repos_count { R.faults repos.old ≤ R.faults repos.new }
 {
-    // LAW made_rows_are_formed();
+    made_rows_are_formed();
     tell_text(host);
     match frame {
         Frame::Event(event) => {

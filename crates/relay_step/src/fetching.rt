@@ -11,7 +11,7 @@ ghost use Rattle.relay_row.specs.declared.limits.TheConstants.{NUMBERS};
 ghost use Rattle.relay_core.specs.Decide.{is_found, whole_under};
 ghost use Rattle.relay_step.specs.Around.{SameRepositories};
 ghost use Rattle.relay_step.specs.Causes.{IsCause};
-ghost use Rattle.relay_step.specs.Fetches.{AskedPlain, IsOfBytes, IsSent, IsTyped, MayBeKept, found_as, is_good, judged_as, made_of};
+ghost use Rattle.relay_step.specs.Fetches.{AskedPlain, IsOfBytes, IsSent, IsTyped, MayBeKept, found_as, is_good, judged_as, made_of, refused_as};
 ghost use Rattle.relay_step.specs.Fetching.{IsFetchedFrom, found_by};
 ghost use Rattle.relay_step.specs.Operators.{AnsweredFetch};
 ghost use Rattle.relay_step.specs.declared.fault.StepFault.{StepFault as Fault};
@@ -68,6 +68,24 @@ fn judge_found<P: Judges>(
     }
 }
 
+/// The number with which a repository is refused, unless memory was wanted or a read failed.
+fn refused_number(fault: &RepoFault) -> Option<u8>
+    ensures { result ≡ refused_as fault.now }
+{
+    match fault {
+        RepoFault::Memory | RepoFault::Failed => None,
+        RepoFault::BadCar
+        | RepoFault::NoCommit
+        | RepoFault::BadCommit
+        | RepoFault::OtherDid
+        | RepoFault::Lagging(_)
+        | RepoFault::NotWhole(_)
+        | RepoFault::BadNode(_)
+        | RepoFault::TooLong
+        | RepoFault::BadSignature => Some(fault.number()),
+    }
+}
+
 /// Fetches the repository of an account, whose revision isn't to be below the least, at a moment.
 pub(crate) fn fetch<P: Judges, R: Repos>(
     alloc: Global,
@@ -99,8 +117,10 @@ pub(crate) fn fetch<P: Judges, R: Repos>(
             Err(fault) => Err(fault),
         },
         Err(RepoFault::Failed) => Err(StepFault::Repos),
-        Err(RepoFault::Memory) => Err(StepFault::Memory),
-        Err(fault) => Ok(FoundRepo::Refused(fault.number())),
+        Err(fault) => match refused_number(&fault) {
+            Some(number) => Ok(FoundRepo::Refused(number)),
+            None => Err(StepFault::Memory),
+        },
     }
 }
 

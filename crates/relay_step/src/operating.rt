@@ -14,7 +14,7 @@ use crate::taking::is_full;
 use crate::word::Word;
 use relay_core::Core;
 use relay_io::Clock;
-// LAW use relay_law::operated_rows_are_formed;
+use relay_law::operated_rows_are_formed;
 use relay_row::Row;
 use std::alloc::Global;
 
@@ -42,7 +42,7 @@ pub fn operate<C: Clock>(
     if is_full(core) {
         return Err(StepFault::SeqEnd);
     }
-    // LAW operated_rows_are_formed();
+    operated_rows_are_formed();
     tell_text(did);
     tell_text(time);
     let operated = core.operated(alloc, did, down, time, Some(moment))?;

@@ -21,7 +21,7 @@ use at_authority::Judges;
 use at_cid::Words;
 use relay_core::{Core, fetch_refusal};
 use relay_io::{Clock, Repos};
-// LAW use relay_law::synced_rows_are_formed;
+use relay_law::synced_rows_are_formed;
 use relay_row::{Fetched, Row};
 use std::alloc::Global;
 
@@ -61,7 +61,7 @@ pub fn sync_now<P: Judges, R: Repos, C: Clock>(
     let Fetched::Whole(whole) = fetched else {
         unreachable!()
     };
-    // LAW synced_rows_are_formed();
+    synced_rows_are_formed();
     tell_text(did);
     let did = Words::from_str(alloc, did)?;
     Ok(Word::Made(Row::Synced(did, whole, Some(moment))))

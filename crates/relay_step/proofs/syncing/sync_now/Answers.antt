@@ -1,8 +1,10 @@
-use Rattle.std.proofs.Common.{◌≡◌, inr, sym, ap, ◌∙◌}
+use Rattle.std.proofs.Common.{◌≡◌, ℕ, List, Some, inr, sym, ap, ◌∙◌}
+use Rattle.relay_row.specs.declared.row.Row.{Row}
 use Rattle.relay_core.specs.Entries.{account_in}
 use Rattle.relay_step.specs.Fetches.{found_as}
 use Rattle.relay_step.proofs.Calls.{on_err, plain_fetch, vain_plain}
-use Rattle.relay_step.proofs.Words.{fetched_beside, synced_made, synced_unfit}
+use Rattle.relay_step.proofs.Sending.{text_tested}
+use Rattle.relay_step.proofs.Words.{fetched_beside, synced_kept, synced_made, synced_unfit}
 use Rattle.relay_step.proofs.syncing.sync_now.Goals as goal
 
 pub returns-in_err-fetched-clause-in_vain : goal.returns-in_err-fetched-clause-in_vain
@@ -20,3 +22,39 @@ returns-in_err-did-clause-in_vain g c =
       moments = λ told. inr (c.in_ok-moment.ensures.now told).gone;
       same = c.in_ok-found.ensures.same;
     })
+
+pub returns-in-Some-fetch_refusal-clause-synced : goal.returns-in-Some-fetch_refusal-clause-synced
+returns-in-Some-fetch_refusal-clause-synced g c =
+    let old = g.P.Judges.panel c.args.judges.now in
+    let new = g.P.Judges.panel c.fetch.new.judges in
+    let repository = g.R.Repos.repository c.args.repos.now c.args.did.now in
+    let found = found_as c.in_ok-found.found in
+    let fetched = fetched_beside c.args.core.now c.args.did.now repository c.in_ok-moment.moment found g.R.Repos.tells c.last_rev-least.result c.repo_of.result c.last_rev-least.ensures c.repo_of.ensures c.in_ok-found.ensures.fetched in
+    record {
+      moment = c.in_ok-moment.moment;
+      now = c.in_ok-moment.ensures.now;
+      synced = λ J holds. synced_unfit c.args.core.now c.args.did.now c.args.time.now c.in_ok-moment.moment g.R.Repos.tells repository old new found c.in_ok-fetched.fetched c.in-Some-fetch_refusal.refusal J (sym c.in_default.ensures) holds c.in_ok-found.ensures.asked fetched
+          c.in_ok-fetched.ensures.made (sym c.in-Some-fetch_refusal.ensures);
+      same = c.in_ok-found.ensures.same;
+    }
+
+pub returns-clause-synced : goal.returns-clause-synced
+returns-clause-synced g c =
+    let old = g.P.Judges.panel c.args.judges.now in
+    let new = g.P.Judges.panel c.fetch.new.judges in
+    let repository = g.R.Repos.repository c.args.repos.now c.args.did.now in
+    let found = found_as c.in_ok-found.found in
+    let fetched = fetched_beside c.args.core.now c.args.did.now repository c.in_ok-moment.moment found g.R.Repos.tells c.last_rev-least.result c.repo_of.result c.last_rev-least.ensures c.repo_of.ensures c.in_ok-found.ensures.fetched in
+    record {
+      moment = c.in_ok-moment.moment;
+      now = c.in_ok-moment.ensures.now;
+      synced = λ J holds. synced_made c.args.core.now c.args.did.now c.args.time.now c.in_ok-moment.moment g.R.Repos.tells repository old new found c.in-Whole.whole (Row.Synced c.in_ok-did.did c.in-Whole.whole (Some c.in_ok-moment.moment)) J (sym c.in_default.ensures) holds c.in_ok-found.ensures.asked fetched
+          (sym c.in-Whole.is ∙ c.in_ok-fetched.ensures.made) (ap (λ (d : List ℕ). Row.Synced d c.in-Whole.whole (Some c.in_ok-moment.moment)) c.in_ok-did.ensures);
+      same = c.in_ok-found.ensures.same;
+    }
+
+pub returns-clause-formed : goal.returns-clause-formed
+returns-clause-formed g c =
+    synced_kept c.args.core.now c.args.did.now c.args.time.now c.in_ok-moment.moment (found_as c.in_ok-found.found) c.in-Whole.whole (Row.Synced c.in_ok-did.did c.in-Whole.whole (Some c.in_ok-moment.moment)) c.synced_rows_are_formed.ensures
+    (sym c.in-Whole.is ∙ c.in_ok-fetched.ensures.made) (ap (λ (d : List ℕ). Row.Synced d c.in-Whole.whole (Some c.in_ok-moment.moment)) c.in_ok-did.ensures) c.in_ok-found.ensures.may c.in_ok-fetched.ensures.sent
+    (text_tested c.args.did.now c.tell_text.ensures.string c.tell_text.ensures.utf8) c.requires.did c.in_ok-moment.ensures.number

@@ -1,0 +1,38 @@
+use Rattle.std.proofs.Common.{◌≡◌, ◌∙◌, Result, Ok, sym, ap, subst}
+use Rattle.std.specs.Prelude.{IfOk}
+use Rattle.std.proofs.lemmas.Bool.{and_from}
+use Rattle.at_syntax.specs.Host.{is_host}
+use Rattle.relay_row.specs.Rules.{is_text}
+use Rattle.at_event.specs.declared.frame.Frame.{Frame}
+use Rattle.relay_step.specs.Around.{around}
+use Rattle.relay_step.specs.Messages.{IsAskedOf, IsDecided, told_as}
+use Rattle.relay_step.proofs.Calls.{if_ok}
+use Rattle.relay_step.proofs.Others.{asked_event, kept_event, kept_other, told_event, told_other}
+use Rattle.relay_step.proofs.Sending.{text_tested}
+use Rattle.relay_step.proofs.deciding.decide_frame.Goals as goal
+
+pub returns-in-Event-clause-told : goal.returns-in-Event-clause-told
+returns-in-Event-clause-told g c =
+    let P : Frame → Type 0 = λ f. IfOk c.decide_event.result (λ t. IsDecided c.args.core.now c.args.host.now (Ok f) (told_as t)) in
+    subst P (sym c.in-Event.is) (if_ok c.decide_event.result _ _ (λ t. told_event g.C.Clock.tells g.R.Repos.tells c.args.core.now c.args.host.now c.in-Event.event t _ _) c.decide_event.ensures.told)
+
+pub returns-in-Event-clause-asked : goal.returns-in-Event-clause-asked
+returns-in-Event-clause-asked g c =
+    let old = around (g.P.Judges.panel c.args.judges.now) (g.C.Clock.moments c.args.clock.now) (g.R.Repos.repository c.args.repos.now) in
+    let new = around (g.P.Judges.panel c.decide_event.new.judges) (g.C.Clock.moments c.decide_event.new.clock) (g.R.Repos.repository c.decide_event.new.repos) in
+    let P : Frame → Type 0 = λ f. IfOk c.decide_event.result (λ t. IsAskedOf g.C.Clock.tells g.R.Repos.tells c.args.core.now old c.args.host.now (Ok f) (told_as t) new) in
+    subst P (sym c.in-Event.is) (if_ok c.decide_event.result _ _ (λ t. asked_event g.C.Clock.tells g.R.Repos.tells c.args.core.now c.args.host.now c.in-Event.event t old new) c.decide_event.ensures.told)
+
+pub returns-in-Faulty-clause-told : goal.returns-in-Faulty-clause-told
+returns-in-Faulty-clause-told g c =
+    if_ok c.decide_other.result _ _ (λ t. told_other g.C.Clock.tells c.args.core.now c.args.host.now c.args.frame.now t (g.C.Clock.moments c.args.clock.now) (g.C.Clock.moments c.decide_other.new.clock)) c.decide_other.ensures.told
+
+pub returns-in-Event-clause-formed : goal.returns-in-Event-clause-formed
+returns-in-Event-clause-formed g c =
+    let named = and_from (is_text c.args.host.now) (is_host c.args.host.now) (text_tested c.args.host.now c.tell_text.ensures.string c.tell_text.ensures.utf8) c.requires.host in
+    if_ok c.decide_event.result _ _ (λ t is. kept_event g.C.Clock.tells g.R.Repos.tells c.args.core.now c.args.host.now c.in-Event.event t _ _ is c.made_rows_are_formed.ensures c.tell_event.ensures named) c.decide_event.ensures.told
+
+pub returns-in-Faulty-clause-formed : goal.returns-in-Faulty-clause-formed
+returns-in-Faulty-clause-formed g c =
+    let named = and_from (is_text c.args.host.now) (is_host c.args.host.now) (text_tested c.args.host.now c.tell_text.ensures.string c.tell_text.ensures.utf8) c.requires.host in
+    if_ok c.decide_other.result _ _ (λ t is. kept_other g.C.Clock.tells c.args.core.now c.args.host.now c.args.frame.now t (g.C.Clock.moments c.args.clock.now) (g.C.Clock.moments c.decide_other.new.clock) is c.made_rows_are_formed.ensures c.requires.frame named) c.decide_other.ensures.told
