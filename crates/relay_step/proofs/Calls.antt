@@ -1,12 +1,10 @@
 -- The calls that were made about an event are those that its row shows.
-use Rattle.std.proofs.Common.{◌≡◌, ℕ, ◌+◌, ◌≤◌, ◌⊎◌, inl, inr, ⊎_elim, min, ◌-◌, ◌^◌, Bool, true, false, not, ◌&&◌, ◌||◌, cond, List, [], ◌∷◌, ◌++◌, length, Option, Some, None, Result, Ok, Err, refl, sym, ap, ◌∙◌, subst, arith}
-use Rattle.std.specs.Prelude.{◌==◌, nat_le, nat_lt, option_map, OnErr, IfOk, IfErr}
-use Rattle.std.specs.List.{filter, list_all}
+use Rattle.std.proofs.Common.{◌≡◌, ℕ, ◌⊎◌, inl, inr, ⊎_elim, Bool, true, false, not, ◌&&◌, ◌||◌, cond, List, [], ◌∷◌, ◌++◌, Option, Some, None, Result, Ok, Err, refl, sym, subst}
+use Rattle.std.specs.Prelude.{◌==◌, nat_lt, option_map}
+use Rattle.std.specs.List.{list_all}
 use Rattle.std.proofs.lemmas.Bool.{and_parts}
-use Rattle.at_authority.specs.Calls.{Call, answers, refreshes, fails, IsCall, AreCalls}
-use Rattle.at_authority.specs.Panels.{Panel}
-use Rattle.at_authority.specs.Queries.{asks_home, asks_verdict}
-use Rattle.at_authority.proofs.Runs.{join}
+use Rattle.at_authority.specs.Calls.{answers, refreshes}
+use Rattle.at_authority.specs.Queries.{asks_home}
 use Rattle.at_event.specs.Refusals.{code_of}
 use Rattle.at_event.specs.Seen.{Seen}
 use Rattle.at_event.specs.Writing.{out_length}
@@ -18,22 +16,14 @@ use Rattle.event_checks.specs.Lines as checked
 use Rattle.event_checks.specs.Table.{open_lines, sync_lines}
 use Rattle.account_state.specs.Folds.{last_rev}
 use Rattle.account_state.specs.State.{State}
-use Rattle.relay_core.specs.Decide.{Found, absent, unfit, found}
 use Rattle.relay_core.specs.Opening.{shown_alone}
 use Rattle.relay_core.specs.Shown.{shows_home, shows_verdict}
 use Rattle.relay_core.specs.Table.{Line, told, asked, Walk, waits, refuses, passes, walk, when, is_ahead, refusal_in, link_line, repo_lines, body_lines, event_lines}
 use Rattle.relay_core.specs.declared.answers.Answers.{Answers}
 use Rattle.relay_core.specs.declared.answers.Question.{Question}
-use Rattle.relay_core.specs.declared.limits.TheConstants.{FETCHED_UNSIGNED, LONGEST_MESSAGE}
-use Rattle.relay_law.specs.Formed.{IsOpenedAs}
-use Rattle.relay_step.specs.Asked.{AllAbout, AskedInVain, IsRefusedOnce, Where, asks_for_home, asks_for_verdict, home_calls, is_refresh, refresh_calls, signed_by, verdict_call, verdict_calls}
-use Rattle.at_cid.specs.Counts.{Rose}
-use Rattle.relay_core.specs.declared.decision.Next.{Next}
-use Rattle.relay_step.specs.Causes.{IsCause, OneTaken}
-use Rattle.relay_step.specs.Fetches.{AskedPlain}
-use Rattle.relay_step.specs.declared.fault.StepFault.{StepFault}
-use Rattle.relay_step.specs.Operators.{AnsweredFetch, AreFoundCalls}
-use Rattle.relay_step.specs.Questions.{IsJudgedLate, IsRenewedFirst, IsTidy, IsTimedSo, NoneAsked, PassedBefore, calls_told, home_told, is_fetch, is_last, is_unlinked, length_line, refresh_told, verdict_told}
+use Rattle.relay_core.specs.declared.limits.TheConstants.{LONGEST_MESSAGE}
+use Rattle.relay_step.specs.Asked.{asks_for_home, asks_for_verdict, home_calls, refresh_calls, signed_by, verdict_call, verdict_calls}
+use Rattle.relay_step.specs.Questions.{IsJudgedLate, IsRenewedFirst, IsTidy, PassedBefore, calls_told, home_told, is_unlinked, length_line, refresh_told, verdict_told}
 
 -- where going down the table ends: at a refusal, or at its end
 abbrev pub ended : Option Refusal → Walk
@@ -277,132 +267,3 @@ module _ (a : State) (host : List ℕ) (e : Seen) (x : Answers) (tidy : IsTidy a
   -- the calls are those that the row of the refusal shows
   pub calls_shown : (r : Option Refusal) → walk (event_lines a e x) ≡ ended r → calls_told host e x ≡ home_calls host e r ++ verdict_calls e r
   calls_shown r h = by_body e.body r refl (past_moment x.moment _ r h).1
-
--- ---- calls in vain
-
-about_joined : (did : List ℕ) (xs ys : List Call) → AllAbout did xs → AllAbout did ys → AllAbout did (xs ++ ys)
-about_joined did [] ys a b = b
-about_joined did (c ∷ xs) ys a b = (a.0, about_joined did xs ys a.1 b)
-
-filter_joined : (p : Call → Bool) (xs ys : List Call) → filter p (xs ++ ys) ≡ filter p xs ++ filter p ys
-filter_joined p [] ys = refl
-filter_joined p (c ∷ xs) ys =
-    elim (p c) as (λ b. cond b (c ∷ filter p (xs ++ ys)) (filter p (xs ++ ys)) ≡ cond b (c ∷ filter p xs) (filter p xs) ++ filter p ys) [
-      | true ↦ ap (λ l. c ∷ l) (filter_joined p xs ys)
-      | false ↦ filter_joined p xs ys
-    ]
-
--- what was asked about an event: about its account, with one refresh at most
-record IsFair (did : List ℕ) (calls : List Call) : Type 0 where
-  about : AllAbout did calls
-  once : length (filter is_refresh calls) ≤ 1
-
-verdict_about : (did : List ℕ) (signed : Option (List ℕ × List ℕ)) (good : Bool) → AllAbout did (verdict_call did signed good) × (filter is_refresh (verdict_call did signed good) ≡ [])
-verdict_about did None good = (tt, refl)
-verdict_about did (Some s) good = ((refl, tt), refl)
-
-told_fair : (host : List ℕ) (e : Seen) (b : Bool) (h v : Option Bool) → IsFair e.did (refresh_told e.did b ++ (home_told e.did host h ++ verdict_told e v))
-told_fair host e true None None = record { about = (refl, tt); once = omega arith }
-told_fair host e true (Some y) None = record { about = (refl, (refl, tt)); once = omega arith }
-told_fair host e false None None = record { about = tt; once = omega arith }
-told_fair host e false (Some y) None = record { about = (refl, tt); once = omega arith }
-told_fair host e true None (Some g) = let v = verdict_about e.did (signed_by e.body) g in record { about = (refl, v.0); once = rw v.1 (omega arith) }
-told_fair host e true (Some y) (Some g) = let v = verdict_about e.did (signed_by e.body) g in record { about = (refl, (refl, v.0)); once = rw v.1 (omega arith) }
-told_fair host e false None (Some g) = let v = verdict_about e.did (signed_by e.body) g in record { about = v.0; once = rw v.1 (omega arith) }
-told_fair host e false (Some y) (Some g) = let v = verdict_about e.did (signed_by e.body) g in record { about = (refl, v.0); once = rw v.1 (omega arith) }
-
-append_none : (xs : List Call) → xs ++ [] ≡ xs
-append_none [] = refl
-append_none (c ∷ xs) = ap (λ l. c ∷ l) (append_none xs)
-
--- what was asked so far, and something more without a refresh
-pub vain_with : (host : List ℕ) (e : Seen) (x : Answers) (old mid new : Panel) → AreCalls old (calls_told host e x) mid → AskedPlain mid e.did new → AskedInVain old e.did new
-vain_with host e x old mid new calls plain =
-    let fair = told_fair host e x.refreshed x.home x.verdict in
-    record {
-      calls = calls_told host e x ++ plain.calls;
-      about = about_joined e.did (calls_told host e x) plain.calls fair.about plain.about;
-      once = rw (filter_joined is_refresh (calls_told host e x) plain.calls, plain.plain, append_none (filter is_refresh (calls_told host e x))) fair.once;
-      made = join old mid new (calls_told host e x) plain.calls calls plain.made;
-    }
-
-pub plain_none : (old : Panel) (did : List ℕ) → AskedPlain old did old
-plain_none old did = record { calls = []; about = tt; plain = refl; made = refl }
-
-pub plain_failed : (old new : Panel) (did : List ℕ) → IsCall (fails did) old new → AskedPlain old did new
-plain_failed old new did call = record { calls = fails did ∷ []; about = (refl, tt); plain = refl; made = (new, call, refl) }
-
-pub vain_plain : (old new : Panel) (did : List ℕ) → AskedPlain old did new → AskedInVain old did new
-vain_plain old new did plain = record { calls = plain.calls; about = plain.about; once = rw plain.plain (omega arith); made = plain.made }
-
-found_plain : (did : List ℕ) (f : Found) (calls : List Call) → AreFoundCalls did f calls → AllAbout did calls × (filter is_refresh calls ≡ [])
-found_plain did absent calls are = rw are (tt, refl)
-found_plain did (unfit n) calls are = go (n == FETCHED_UNSIGNED) are
-  where
-    go : (b : Bool) → Where b (IsRefusedOnce did calls) (calls ≡ []) → AllAbout did calls × (filter is_refresh calls ≡ [])
-    go true is = rw is.are ((refl, tt), refl)
-    go false is = rw is (tt, refl)
-found_plain did (found head records block) calls are = rw are.are ((refl, tt), refl)
-
-pub plain_fetch : (old new : Panel) (did : List ℕ) (f : Found) → AnsweredFetch old did f new → AskedPlain old did new
-plain_fetch old new did f is = let both = found_plain did f is.calls is.are in record { calls = is.calls; about = both.0; plain = both.1; made = is.made }
-
-pub plain_failed_as : (old new : Panel) (did d : List ℕ) → d ≡ did → IsCall (fails d) old new → AskedPlain old did new
-plain_failed_as old new did d same call = let P : List ℕ → Type 0 = λ x. IsCall (fails x) old new in plain_failed old new did (subst P same call)
-
-pub on_err : {A E : Type 0} (r : Result A E) (X : Type 0) → X → OnErr r X
-on_err (Ok x) X h = tt
-on_err (Err e) X h = h
-
-pub plain_as : (old new : Panel) (did d : List ℕ) → d ≡ did → AskedPlain old d new → AskedPlain old did new
-plain_as old new did d same plain = let P : List ℕ → Type 0 = λ x. AskedPlain old x new in subst P same plain
-
--- one moment was taken at most
-pub one_taken : (moments : List ℕ) (m : Option ℕ) (left : List ℕ) → IsTimedSo moments m left → OneTaken moments left
-one_taken moments None left h = inl h
-one_taken moments (Some m) left h = inr h.gone
-
-pub cause_later : (spent : Type 0) (a b c : ℕ) (fault : StepFault) → a ≤ b → IsCause ⊥ spent ⊥ (Rose b c) fault → IsCause ⊥ spent ⊥ (Rose a c) fault
-cause_later spent a b c StepFault.SeqEnd low h = h
-cause_later spent a b c StepFault.Authority low h = h
-cause_later spent a b c StepFault.Repos low h = h
-cause_later spent a b c StepFault.Clock low h = omega (arith, low, h)
-cause_later spent a b c StepFault.Memory low h = tt
-
-pub cause_as : (A B S R C : Type 0) (fault : StepFault) → (A → B) → IsCause A ⊥ ⊥ ⊥ fault → IsCause B S R C fault
-cause_as A B S R C StepFault.SeqEnd f h = f h
-cause_as A B S R C StepFault.Authority f h = absurd h
-cause_as A B S R C StepFault.Repos f h = absurd h
-cause_as A B S R C StepFault.Clock f h = absurd h
-cause_as A B S R C StepFault.Memory f h = tt
-
-pub cause_lost : (A B S R C : Type 0) (fault : StepFault) → (A → B) → IsCause A S R ⊥ fault → IsCause B S R C fault
-cause_lost A B S R C StepFault.SeqEnd f h = f h
-cause_lost A B S R C StepFault.Authority f h = h
-cause_lost A B S R C StepFault.Repos f h = h
-cause_lost A B S R C StepFault.Clock f h = absurd h
-cause_lost A B S R C StepFault.Memory f h = tt
-
-pub if_ok : {A E : Type 0} (r : Result A E) (P Q : A → Type 0) → ((x : A) → P x → Q x) → IfOk r P → IfOk r Q
-if_ok (Ok x) P Q f h = f x h
-if_ok (Err e) P Q f h = tt
-
-pub if_err : {A E : Type 0} (r : Result A E) (P Q : E → Type 0) → ((e : E) → P e → Q e) → IfErr r P → IfErr r Q
-if_err (Ok x) P Q f h = tt
-if_err (Err e) P Q f h = f e h
-
-pub map_err : {A E : Type 0} (r : Result A E) (X Y : Type 0) → (X → Y) → OnErr r X → OnErr r Y
-map_err (Ok x) X Y f h = tt
-map_err (Err e) X Y f h = f h
-
-pub last_other : (n : Next) → ((q : Question) → n ≡ Next.Ask q → ⊥) → is_last n ≡ true
-last_other (Next.Ask q) h = absurd (h q refl)
-last_other (Next.Pass pass) h = refl
-last_other (Next.Done d) h = refl
-
-fetch_is : (q : Question) → is_fetch q ≡ true → q ≡ Question.Fetch
-fetch_is Question.Fetch h = refl
-fetch_is q h = absurd cc
-
-pub last_fetch : (q : Question) (n target : Next) → n ≡ Next.Ask q → n ≡ target → is_last n ≡ true → target ≡ Next.Ask Question.Fetch
-last_fetch q n target is next last = let P : Next → Type 0 = λ k. is_last k ≡ true in sym next ∙ is ∙ ap Next.Ask (fetch_is q (subst P is last))

@@ -1,38 +1,33 @@
 -- What the answers so far decide, all answers decide.
-use Rattle.std.proofs.Common.{◌≡◌, ◌≢◌, ℕ, ◌+◌, ◌<◌, ◌≤◌, ◌⊎◌, inl, inr, ⊎_elim, Bool, true, false, not, cond, List, [], ◌∷◌, ◌++◌, length, Option, Some, None, Result, Ok, Err, refl, sym, ap, ◌∙◌, subst, arith}
-use Rattle.std.specs.Prelude.{nat_le, nat_lt, option_map, IsTrue}
+use Rattle.std.proofs.Common.{◌≡◌, ◌≢◌, ℕ, ◌⊎◌, inl, inr, ⊎_elim, Bool, true, false, not, cond, List, [], ◌∷◌, Option, Some, None, Result, Ok, Err, refl, sym, ap, ◌∙◌, subst}
+use Rattle.std.specs.Prelude.{nat_le, option_map}
 use Rattle.std.specs.Option.{unwrap_or}
 use Rattle.at_car.specs.Car.{car_of}
 use Rattle.at_event.specs.Refusals.{code_of}
 use Rattle.at_event.specs.Seen.{Seen}
-use Rattle.at_event.specs.Writing.{out_length}
 use Rattle.at_event.specs.declared.event.Body.{Body}
-use Rattle.at_event.specs.declared.event.CommitEvent.{CommitEvent}
 use Rattle.at_event.specs.declared.frame.Frame.{Frame}
 use Rattle.at_event.specs.declared.head.Head.{Head}
 use Rattle.at_event.specs.declared.refusal.Refusal.{Refusal}
 use Rattle.at_commit.specs.declared.commit.Commit.{Commit}
-use Rattle.event_checks.specs.Opening.{CarResult, block_in, object_in, root_in}
+use Rattle.event_checks.specs.Opening.{CarResult}
 use Rattle.event_checks.specs.Table.{car_in}
 use Rattle.relay_row.specs.Rules.{loses}
 use Rattle.relay_row.specs.declared.fetched.Fetched.{Fetched}
-use Rattle.account_state.specs.Folds.{last_rev}
 use Rattle.account_state.specs.State.{State}
-use Rattle.relay_core.specs.Decide.{Checks, Found, absent, unfit, found, Outside, answers, as_result, decided_event, decision_for, made, passed, refusal_of}
-use Rattle.relay_core.specs.Opening.{IsHeadIn, IsHeadOf, OpensRight, shown_alone}
+use Rattle.relay_core.specs.Decide.{Checks, Outside, answers, decided_event, decision_for, refusal_of}
+use Rattle.relay_core.specs.Opening.{IsHeadIn, IsHeadOf, OpensRight}
 use Rattle.relay_core.specs.Rows.{effect_of, event_taken, fetched_of, head_effect, own_effect}
-use Rattle.relay_core.specs.Shown.{or_zero}
-use Rattle.relay_core.specs.Table.{Line, told, asked, Walk, waits, refuses, passes, walk, walk_past, when, is_ahead, refusal_in, body_lines, event_lines, next_at, next_of, refused, after_fetch, accepted, is_held}
+use Rattle.relay_core.specs.Table.{Line, told, asked, Walk, waits, refuses, passes, walk, walk_past, when, is_ahead, refusal_in, body_lines, event_lines, next_at, next_of, after_fetch, is_held}
 use Rattle.relay_core.specs.declared.answers.Answers.{Answers}
 use Rattle.relay_core.specs.declared.answers.Question.{Question}
 use Rattle.relay_core.specs.declared.decision.Decision.{Decision}
 use Rattle.relay_core.specs.declared.decision.Next.{Next}
 use Rattle.relay_core.specs.declared.decision.Pass.{Pass}
-use Rattle.relay_core.specs.declared.limits.TheConstants.{LONGEST_MESSAGE}
 use Rattle.relay_core.proofs.Agreeing.{next_decided}
 use Rattle.relay_law.specs.Formed.{IsOpenedAs}
 use Rattle.relay_step.specs.Questions.{has_blocks}
-use Rattle.relay_step.proofs.Calls.{ended, moment_there}
+use Rattle.relay_step.proofs.Calls.{ended}
 
 -- ---- what is decided, by the walk
 

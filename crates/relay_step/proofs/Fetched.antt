@@ -1,39 +1,36 @@
 -- What a fetch finds, and what is asked for it.
-use Rattle.std.proofs.Common.{◌≡◌, ℕ, ◌+◌, ◌<◌, ◌≤◌, ◌^◌, ◌-◌, min, Bool, true, false, not, cond, List, [], ◌∷◌, ◌++◌, length, Option, Some, None, Result, Ok, Err, refl, sym, ap, ◌∙◌, subst, arith, lit<}
-use Rattle.std.specs.Prelude.{◌==◌, IfOk, IfErr, IsTrue}
+use Rattle.std.proofs.Common.{◌≡◌, ℕ, ◌+◌, ◌<◌, ◌≤◌, ◌^◌, ◌-◌, min, Bool, true, false, cond, List, [], ◌∷◌, Option, Some, None, Ok, Err, refl, sym, ap, ◌∙◌, subst, arith}
+use Rattle.std.specs.Prelude.{◌==◌}
 use Rattle.std.specs.FinMap as map
 use Rattle.sha2.specs.Sha256.{sha256}
-use Rattle.at_authority.specs.Calls.{Call, answers, IsCall, AreCalls}
+use Rattle.at_authority.specs.Calls.{Call, answers, IsCall}
 use Rattle.at_authority.specs.Panels.{Panel}
 use Rattle.at_authority.specs.Queries.{asks_verdict}
-use Rattle.at_car.specs.Blocks.{AreLinked, BlockMap, IsLinkOf, kept}
+use Rattle.at_car.specs.Blocks.{BlockMap, IsLinkOf}
 use Rattle.at_car.specs.Car.{car_of}
 use Rattle.at_car.specs.Sifting.{block_at}
 use Rattle.at_car.specs.Standing.{root_of}
-use Rattle.at_cid.specs.Link.{IsBytes, IsLink}
 use Rattle.at_cid.specs.Order.{key_cmp}
 use Rattle.at_commit.specs.Commit.{commit_of}
-use Rattle.at_commit.specs.declared.commit.Commit.{Commit}
 use Rattle.at_event.specs.declared.head.Head.{Head}
-use Rattle.event_checks.specs.Opening.{CarResult, IsFound, block_in, object_in, object_in_block, object_of, root_in}
+use Rattle.event_checks.specs.Lines.{first_of}
+use Rattle.event_checks.specs.Opening.{IsFound, block_in, object_in_block, object_of, root_in}
 use Rattle.relay_io.specs.Repositories.{IsOpened}
 use Rattle.relay_row.specs.Rules.{is_head, is_repo_number}
-use Rattle.relay_core.specs.Decide.{Found, absent, unfit, found, judged, commit_blocks}
-use Rattle.relay_core.specs.Opening.{IsHeadIn}
+use Rattle.relay_core.specs.Decide.{Found, absent, unfit, found, judged}
 use Rattle.relay_core.specs.Table.{is_ahead}
 use Rattle.relay_core.specs.declared.limits.TheConstants.{FETCHED_AHEAD, FETCHED_UNSIGNED}
 use Rattle.relay_law.proofs.Heads.{found_head}
 use Rattle.repo_sync.specs.Checks.{IsRefused}
 use Rattle.repo_sync.specs.Faults.{number_of}
-use Rattle.event_checks.specs.Lines.{first_of}
-use Rattle.repo_sync.specs.Repository.{IsAnswer, IsWhole, Holds, commit_lines, found_of, lines}
+use Rattle.repo_sync.specs.Repository.{IsAnswer, IsWhole, lines}
 use Rattle.repo_sync.specs.declared.fault.RepoFault.{RepoFault}
 use Rattle.repo_sync.specs.declared.found.Found.{Found as Checked}
 use Rattle.repo_sync.proofs.Linked.{car_linked}
-use Rattle.relay_step.specs.Asked.{IsAskedOf, IsRefusedOnce, Where}
+use Rattle.relay_step.specs.Asked.{IsRefusedOnce, Where}
 use Rattle.relay_step.specs.Fetches.{IsOfBytes, MayBeKept, is_good, refused_as}
 use Rattle.relay_step.specs.Fetching.{IsFetchedFrom, IsFoundOf, found_by}
-use Rattle.relay_step.specs.Operators.{AnsweredFetch, AreFoundCalls}
+use Rattle.relay_step.specs.Operators.{AnsweredFetch}
 
 -- ---- what the bytes of a repository hold
 
@@ -229,8 +226,8 @@ may_by did least bytes fault n h is =
 
 pub fetched_by : (o : Option (List ℕ)) (left did : List ℕ) (least : Option ℕ) (moment : ℕ) (fault : RepoFault) (n : ℕ) (opened : Bool) → opened ≡ true → IsOpened o opened left → Some n ≡ refused_as fault → IsRefused did least left fault
     → IsFetchedFrom o did least moment (is_good (unfit n)) (unfit n)
-fetched_by o left did least moment fault n opened yes_it_is is_open h is =
+fetched_by o left did least moment fault n opened found_it is_open h is =
     let both = refused_is fault n h in
     let P : ℕ → Type 0 = λ k. IsFetchedFrom o did least moment (is_good (unfit k)) (unfit k) in
     let Q : Bool → Type 0 = λ b. IsOpened o b left in
-    subst P (sym both.1) (fetched_refused o left did least moment (is_good (unfit (number_of fault))) fault (subst Q yes_it_is is_open) both.0 is)
+    subst P (sym both.1) (fetched_refused o left did least moment (is_good (unfit (number_of fault))) fault (subst Q found_it is_open) both.0 is)

@@ -3,6 +3,7 @@ pub mod Linking
 pub mod Walks
 pub mod Tidy
 pub mod Calls
+pub mod Vain
 pub mod Decisions
 pub mod Taken
 pub mod Fetched

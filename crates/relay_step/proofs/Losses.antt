@@ -1,11 +1,10 @@
 -- An event whose refusal loses its account.
-use Rattle.std.proofs.Common.{◌≡◌, ◌≢◌, ℕ, ◌+◌, ◌<◌, ◌≤◌, ◌⊎◌, inl, inr, ⊎_elim, Bool, true, false, not, cond, List, [], ◌∷◌, ◌++◌, length, Option, Some, None, Result, Ok, Err, refl, sym, ap, ◌∙◌, subst}
-use Rattle.std.specs.Prelude.{nat_le, IsTrue, IfOk, OnOk}
+use Rattle.std.proofs.Common.{◌≡◌, ℕ, ◌+◌, ◌<◌, ◌≤◌, inl, inr, ⊎_elim, Bool, true, false, cond, List, [], ◌∷◌, ◌++◌, length, Option, Some, None, Result, Ok, Err, refl, sym, ap, ◌∙◌, subst}
+use Rattle.std.specs.Prelude.{IsTrue, IfOk, OnOk}
 use Rattle.std.proofs.lemmas.Bool.{false≢true}
 use Rattle.at_authority.specs.Calls.{Call, AreCalls}
 use Rattle.at_authority.specs.Panels.{Panel}
 use Rattle.at_authority.proofs.Runs.{join}
-use Rattle.at_cbor.specs.Spelling.{IsText}
 use Rattle.at_event.specs.Refusals.{code_of}
 use Rattle.at_event.specs.Seen.{Seen}
 use Rattle.at_event.specs.declared.event.Body.{Body}
@@ -19,12 +18,11 @@ use Rattle.relay_row.specs.declared.fetched.Fetched.{Fetched}
 use Rattle.relay_row.specs.declared.limits.TheConstants.{NUMBERS}
 use Rattle.relay_row.specs.declared.row.Row.{Row}
 use Rattle.account_state.specs.State.{State}
-use Rattle.relay_core.specs.Decide.{Checks, Found, absent, unfit, found, made}
+use Rattle.relay_core.specs.Decide.{Found, absent, unfit, found, made}
 use Rattle.relay_core.specs.Entries.{account_in, cursor_in}
-use Rattle.relay_core.specs.Opening.{OpensRight}
 use Rattle.relay_core.specs.Rows.{event_taken}
 use Rattle.relay_core.specs.Sending.{CanBeSent, IsSendable}
-use Rattle.relay_core.specs.Table.{Line, told, moment_line, Walk, waits, refuses, passes, walk, link_line, body_lines, event_lines, next_at, next_of, after_fetch, when}
+use Rattle.relay_core.specs.Table.{Line, told, moment_line, Walk, refuses, walk, body_lines, event_lines, next_at, next_of, after_fetch}
 use Rattle.relay_core.specs.declared.answers.Answers.{Answers}
 use Rattle.relay_core.specs.declared.answers.Question.{Question}
 use Rattle.relay_core.specs.declared.decision.Decision.{Decision}
@@ -32,8 +30,8 @@ use Rattle.relay_core.specs.declared.decision.Next.{Next}
 use Rattle.relay_core.specs.declared.decision.Pass.{Pass}
 use Rattle.relay_core.specs.declared.journal_state.Core.{Core}
 use Rattle.relay_law.specs.Formed.{AreAnswersTo, IsFetchedBehind}
-use Rattle.relay_step.specs.Fetches.{IsSent, IsTyped, MayBeKept, made_of}
-use Rattle.relay_step.specs.Questions.{AreAsked, IsJudgedLate, IsRenewedFirst, IsTidy, NoneAsked, PassedBefore, calls_told, length_line}
+use Rattle.relay_step.specs.Fetches.{IsSent, MayBeKept, made_of}
+use Rattle.relay_step.specs.Questions.{AreAsked, IsJudgedLate, IsRenewedFirst, IsTidy, PassedBefore, calls_told, length_line}
 use Rattle.account_state.specs.Folds.{last_rev}
 use Rattle.account_state.specs.declared.repo.Repo.{Repo}
 use Rattle.relay_core.specs.Decide.{old_if}
@@ -49,7 +47,7 @@ use Rattle.relay_step.specs.Questions.{IsLinkAnswer, IsTimedSo}
 use Rattle.relay_step.specs.Taking.{EventTold, IsFetchOf, IsFetchedSo, LostTook}
 use Rattle.relay_step.specs.declared.fault.StepFault.{StepFault}
 use Rattle.relay_step.specs.declared.told.Told.{Told as Outcome}
-use Rattle.relay_step.proofs.Calls.{ended, moment_there}
+use Rattle.relay_step.proofs.Calls.{moment_there}
 use Rattle.relay_step.proofs.Decisions.{passes_over}
 use Rattle.relay_step.proofs.Taken.{gives_of, lost_gives, sent_gives}
 use Rattle.relay_step.proofs.Walks.{asked_above, lost_walk}

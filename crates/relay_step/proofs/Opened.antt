@@ -1,11 +1,11 @@
 -- What is opened of an event's blocks, and what is judged of it.
-use Rattle.std.proofs.Common.{◌≡◌, ℕ, Bool, true, false, not, ◌&&◌, List, [], ◌∷◌, ◌++◌, Option, Some, None, Result, Ok, Err, refl, sym, ap, ◌∙◌, subst, eqb}
+use Rattle.std.proofs.Common.{◌≡◌, ℕ, Bool, true, false, not, List, [], ◌∷◌, ◌++◌, Option, Some, None, refl, sym, ap, ◌∙◌, subst}
 use Rattle.std.specs.Prelude.{◌==◌, option_map}
 use Rattle.std.specs.Str.{bytes_eq}
 use Rattle.std.proofs.lemmas.Bool.{and_parts, eqb-true, not-false}
 use Rattle.std.proofs.lemmas.Slice.Eq.{bytes_eq-Decides}
 use Rattle.sha2.specs.Sha256.{sha256}
-use Rattle.at_authority.specs.Calls.{Call, answers, IsCall, AreCalls}
+use Rattle.at_authority.specs.Calls.{answers, IsCall, AreCalls}
 use Rattle.at_authority.specs.Panels.{Panel}
 use Rattle.at_authority.specs.Queries.{asks_verdict}
 use Rattle.at_car.specs.Car.{car_of}
@@ -13,15 +13,13 @@ use Rattle.at_commit.specs.declared.commit.Commit.{Commit}
 use Rattle.at_event.specs.declared.event.Body.{Body}
 use Rattle.at_event.specs.declared.event.CommitEvent.{CommitEvent}
 use Rattle.at_event.specs.declared.event.SyncEvent.{SyncEvent}
-use Rattle.at_event.specs.declared.head.Head.{Head}
 use Rattle.at_event.specs.declared.refusal.Refusal.{Refusal}
 use Rattle.event_checks.specs.Lines.{Line, first_of}
-use Rattle.event_checks.specs.Opening.{CarResult, IsFound, block_in, is_commit_of, is_rooted, object_in, object_in_block, root_in}
+use Rattle.event_checks.specs.Opening.{IsFound, block_in, is_commit_of, is_rooted, object_in, object_in_block, root_in}
 use Rattle.event_checks.specs.Table.{block_lines, car_in, field_lines, is_stale, open_lines, sync_lines}
 use Rattle.event_checks.proofs.Firsts.{all_unmet}
 use Rattle.commit_check.specs.Opening.{IsOpened}
 use Rattle.commit_check.specs.declared.opened.Opened.{Opened}
-use Rattle.repo_sync.specs.Repository.{found_of}
 use Rattle.repo_sync.specs.Sync.{IsSynced}
 use Rattle.repo_sync.specs.declared.found.Found.{Found}
 use Rattle.relay_core.specs.Opening.{IsHeadIn}

@@ -1,7 +1,7 @@
 -- What is owed of messages that make no row, or the row of an event with a bad field; and that rows keep journals.
-use Rattle.std.proofs.Common.{◌≡◌, ℕ, ◌+◌, ◌<◌, ◌≤◌, Bool, true, false, not, cond, List, [], ◌∷◌, ◌++◌, Option, Some, None, Result, Ok, Err, refl, sym, ap, ◌∙◌, subst, arith, eqb, lit<, append-nil}
+use Rattle.std.proofs.Common.{◌≡◌, ℕ, ◌+◌, ◌<◌, Bool, true, false, cond, List, [], ◌∷◌, Option, Some, None, Result, Ok, Err, refl, sym, ap, ◌∙◌, subst, lit<, append-nil}
 use Rattle.std.specs.Prelude.{nat_le, IsTrue}
-use Rattle.at_authority.specs.Calls.{Call, AreCalls}
+use Rattle.at_authority.specs.Calls.{Call}
 use Rattle.at_authority.specs.Panels.{Panel}
 use Rattle.at_event.specs.Events.{IsEvent}
 use Rattle.at_event.specs.Formed.{IsFormedFrame}
@@ -18,13 +18,12 @@ use Rattle.relay_row.specs.declared.row.Row.{Row}
 use Rattle.relay_row.specs.declared.taken.Taken.{Taken}
 use Rattle.account_state.specs.Folds.{account}
 use Rattle.account_state.specs.State.{State}
-use Rattle.relay_core.specs.Decide.{Checks, Found, absent, unfit, found, made, old_if, passed}
-use Rattle.relay_core.specs.Entries.{Holds, account_in, cursor_in}
-use Rattle.relay_core.specs.Rows.{event_taken, faulty_taken, fetched_of, goes_out, row_of}
-use Rattle.relay_core.specs.Runs.{passed_by}
+use Rattle.relay_core.specs.Decide.{Found, absent, unfit, found, made, old_if, passed}
+use Rattle.relay_core.specs.Entries.{account_in, cursor_in}
+use Rattle.relay_core.specs.Rows.{event_taken, faulty_taken, fetched_of, goes_out}
 use Rattle.relay_core.specs.Sending.{IsSendable}
 use Rattle.relay_core.specs.Shown.{or_zero}
-use Rattle.relay_core.specs.Table.{did_of, faulty_lines, next_at, next_of, no_answers, walk}
+use Rattle.relay_core.specs.Table.{next_of, no_answers}
 use Rattle.relay_core.specs.declared.answers.Answers.{Answers}
 use Rattle.relay_core.specs.declared.decision.Decision.{Decision}
 use Rattle.relay_core.specs.declared.decision.Next.{Next}
@@ -35,7 +34,7 @@ use Rattle.relay_law.specs.Laws.{MadeRowsAreFormed}
 use Rattle.relay_step.specs.Around.{Around, AskedNothing, AskedOf, SameRepositories, around}
 use Rattle.relay_step.specs.Messages.{IsAskedOf, IsDecided, KeepsJournal, told_as}
 use Rattle.relay_step.specs.Steps.{passed_over, took, rows_told}
-use Rattle.relay_step.specs.Taking.{EventTold, EventTook, FaultyTook, IsFetchOf, IsFetchedSo, OtherTold, is_event}
+use Rattle.relay_step.specs.Taking.{EventTold, EventTook, FaultyTook, IsFetchedSo, OtherTold}
 use Rattle.relay_step.specs.declared.told.Told.{Told as Outcome}
 use Rattle.relay_step.proofs.Taken.{cursor_tells, event_asked, event_decided, fetched_there, sent_gives}
 

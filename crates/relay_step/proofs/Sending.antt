@@ -1,5 +1,5 @@
 -- The relay's own event of a commit that was fetched.
-use Rattle.std.proofs.Common.{◌≡◌, ℕ, ◌+◌, ◌<◌, ◌^◌, Bool, true, false, not, ◌&&◌, cond, List, [], ◌∷◌, ◌++◌, length, Option, Some, None, refl, sym, ap, ◌∙◌, subst, arith}
+use Rattle.std.proofs.Common.{◌≡◌, ℕ, ◌<◌, ◌^◌, true, not, cond, List, [], ◌∷◌, length, Option, refl, sym, ap, ◌∙◌, subst, arith}
 use Rattle.std.specs.FinMap as map
 use Rattle.std.specs.Option.{is_some}
 use Rattle.std.specs.Str.{IsUtf8}
@@ -14,9 +14,8 @@ use Rattle.at_event.specs.Writing.{message_of, sync_payload}
 use Rattle.at_event.specs.declared.head.Head.{Head}
 use Rattle.at_event.specs.declared.kind.EventKind.{EventKind}
 use Rattle.relay_row.specs.Rules.{are_bytes, is_empty, is_message, is_string, is_text}
-use Rattle.relay_row.specs.declared.fetched.Whole.{Whole}
 use Rattle.relay_row.proofs.Bytes.{bytes_tested, string_tested}
-use Rattle.relay_core.specs.Decide.{commit_blocks, commit_car, sync_message, whole_under}
+use Rattle.relay_core.specs.Decide.{commit_car, sync_message, whole_under}
 use Rattle.relay_step.specs.Fetches.{IsTyped}
 
 pub text_of : (text : List ℕ) → IsString text → IsUtf8 text → IsText text

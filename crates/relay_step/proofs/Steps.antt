@@ -1,8 +1,6 @@
 -- Steps are a run, and join and come apart.
-use Rattle.std.proofs.Common.{◌≡◌, ℕ, Bool, true, false, List, [], ◌∷◌, ◌++◌, Option, Some, None, refl, sym, ap, ◌∙◌, subst, append-nil, append_assoc}
-use Rattle.std.specs.Prelude.{◌↔◌}
+use Rattle.std.proofs.Common.{◌≡◌, ℕ, Bool, true, false, List, [], ◌∷◌, ◌++◌, Option, Some, None, refl, sym, subst, append-nil, append_assoc}
 use Rattle.relay_row.specs.declared.row.Row.{Row}
-use Rattle.relay_row.specs.declared.taken.Taken.{Taken}
 use Rattle.relay_core.specs.Decide.{Checks}
 use Rattle.relay_core.specs.Report.{ended_by}
 use Rattle.relay_core.specs.Runs.{Message, RunFrom, Turn, has_ended, passed_by}

@@ -1,57 +1,49 @@
 -- What is owed of an event that was decided.
-use Rattle.std.proofs.Common.{◌≡◌, ◌≢◌, ℕ, ◌+◌, ◌<◌, ◌≤◌, ◌⊎◌, inl, inr, ⊎_elim, Bool, true, false, not, cond, List, [], ◌∷◌, ◌++◌, length, Option, Some, None, Result, Ok, Err, refl, sym, ap, ◌∙◌, subst, arith, append_assoc, eqb}
-use Rattle.std.specs.Prelude.{◌==◌, nat_le, IsTrue}
+use Rattle.std.proofs.Common.{◌≡◌, ◌≢◌, ℕ, ◌+◌, inl, inr, Bool, true, false, cond, List, [], ◌∷◌, ◌++◌, Option, Some, None, Result, Ok, Err, refl, sym, ap, ◌∙◌, subst, arith, append_assoc, eqb}
+use Rattle.std.specs.Prelude.{nat_le, IsTrue}
 use Rattle.std.specs.Option.{unwrap_or}
 use Rattle.std.proofs.lemmas.Bool.{ne_eqb}
-use Rattle.at_authority.specs.Calls.{Call, AreCalls}
-use Rattle.at_authority.specs.Panels.{Panel}
-use Rattle.at_event.specs.Events.{IsEvent}
+use Rattle.at_authority.specs.Calls.{Call}
 use Rattle.at_event.specs.Refusals.{code_of}
 use Rattle.at_event.specs.Seen.{Seen}
-use Rattle.at_event.specs.declared.event.Body.{Body}
 use Rattle.at_event.specs.declared.frame.Frame.{Frame}
 use Rattle.at_event.specs.declared.head.Head.{Head}
 use Rattle.at_event.specs.declared.refusal.Refusal.{Refusal}
-use Rattle.relay_io.specs.Moments.{first, rest}
-use Rattle.relay_row.specs.Folds.{cursor, events_of, last_seq, seq_in, seq_of}
+use Rattle.relay_row.specs.Folds.{cursor, last_seq, seq_in, seq_of}
 use Rattle.relay_row.specs.Rules.{loses}
 use Rattle.relay_row.specs.declared.fetched.Fetched.{Fetched}
-use Rattle.relay_row.specs.declared.limits.TheConstants.{NUMBERS}
 use Rattle.relay_row.specs.declared.row.Row.{Row}
 use Rattle.relay_row.specs.declared.taken.Taken.{Taken}
 use Rattle.account_state.specs.Folds.{account, last_rev}
 use Rattle.account_state.specs.State.{State}
 use Rattle.host_state.proofs.Cursors.{hosts_tell}
 use Rattle.host_state.specs.Folds.{cursor_of}
-use Rattle.relay_core.specs.Decide.{Checks, Found, absent, unfit, found, Outside, answers, as_result, decided, decided_event, made, old_if, passed, sync_message}
+use Rattle.relay_core.specs.Decide.{Checks, Found, absent, unfit, found, Outside, answers, as_result, decided_event, made, old_if}
 use Rattle.relay_core.specs.Entries.{Holds, account_in, cursor_in}
 use Rattle.relay_core.specs.Opening.{OpensRight, shown_alone}
 use Rattle.relay_core.specs.Rows.{event_taken, fetched_of, goes_out}
-use Rattle.relay_core.specs.Runs.{IsMade, passed_by}
-use Rattle.relay_core.specs.Sending.{CanBeSent, IsSendable}
-use Rattle.relay_core.specs.Shown.{block_in, found_in, or_zero, shown}
+use Rattle.relay_core.specs.Sending.{IsSendable}
+use Rattle.relay_core.specs.Shown.{found_in, or_zero, shown}
 use Rattle.relay_core.specs.Table.{event_lines, next_of, walk}
 use Rattle.relay_core.specs.declared.answers.Answers.{Answers}
-use Rattle.relay_core.specs.declared.answers.Question.{Question}
 use Rattle.relay_core.specs.declared.decision.Decision.{Decision}
 use Rattle.relay_core.specs.declared.decision.Next.{Next}
-use Rattle.relay_core.specs.declared.decision.Pass.{Pass}
 use Rattle.relay_core.specs.declared.journal_state.Core.{Core}
 use Rattle.relay_core.proofs.Returning.{block_returns}
 use Rattle.relay_core.proofs.Showing.{rows_show}
 use Rattle.relay_law.specs.Formed.{AreAnswersTo, IsOpenedAs}
 use Rattle.relay_law.specs.Right.{LinksRight}
-use Rattle.relay_step.specs.Around.{Around, AskedOf, IsTimed, SameRepositories}
-use Rattle.relay_step.specs.Asked.{AreCallsOf, AreFetchCalls, Answered, IsAskedOf, home_calls, verdict_calls}
+use Rattle.relay_step.specs.Around.{Around, AskedOf, IsTimed}
+use Rattle.relay_step.specs.Asked.{AreFetchCalls, Answered, IsAskedOf, home_calls, verdict_calls}
 use Rattle.relay_step.specs.Fetches.{is_good}
 use Rattle.relay_step.specs.Fetching.{IsFetched, IsFetchedFrom, fetched_good}
 use Rattle.relay_step.specs.Messages.{GivesNext, IsAskedOf as AskedAround, IsDecided}
 use Rattle.relay_step.specs.Operators.{AreFoundCalls}
-use Rattle.relay_step.specs.Questions.{IsLinkAnswer, IsTidy, IsTimedSo, calls_told, has_blocks, is_unlinked}
-use Rattle.relay_step.specs.Steps.{IsTold, took}
+use Rattle.relay_step.specs.Questions.{IsLinkAnswer, IsTimedSo, calls_told, is_unlinked}
+use Rattle.relay_step.specs.Steps.{took}
 use Rattle.relay_step.specs.Taking.{EventTook, IsFetchOf, IsFetchedSo}
 use Rattle.relay_step.specs.Words.{IsNow}
-use Rattle.relay_step.proofs.Calls.{calls_shown, ended, moment_there}
+use Rattle.relay_step.proofs.Calls.{calls_shown, moment_there}
 use Rattle.relay_step.proofs.Decisions.{AreOf, IsAtEnd, Within, decided_so, done_above, done_end, opened_right, within_some, within_told}
 
 pub cursor_tells : (c : Core) (J : List Row) → Holds c J → (host : List ℕ) → cursor_in c host ≡ cursor host J

@@ -1,5 +1,5 @@
 -- Each answer leaves what was asked in the order of the table, and one question less.
-use Rattle.std.proofs.Common.{◌≡◌, ℕ, ◌+◌, ◌<◌, ◌⊎◌, inl, inr, ⊎_elim, Bool, true, false, not, List, [], ◌∷◌, ◌++◌, Option, Some, None, Result, Ok, Err, refl, sym, ap, ◌∙◌, subst, arith, append_assoc}
+use Rattle.std.proofs.Common.{◌≡◌, ℕ, ◌<◌, ◌⊎◌, inl, inr, ⊎_elim, Bool, true, false, not, List, [], ◌∷◌, ◌++◌, Option, Some, None, Result, Ok, Err, refl, sym, ap, ◌∙◌, subst, arith, append_assoc}
 use Rattle.std.specs.Prelude.{IsTrue}
 use Rattle.std.specs.Option.{is_some}
 use Rattle.at_authority.specs.Calls.{Call, answers, refreshes, IsCall, AreCalls}
@@ -8,26 +8,21 @@ use Rattle.at_authority.specs.Queries.{asks_home}
 use Rattle.at_authority.proofs.Runs.{join}
 use Rattle.at_event.specs.Seen.{Seen}
 use Rattle.at_event.specs.declared.event.Body.{Body}
-use Rattle.at_event.specs.declared.event.CommitEvent.{CommitEvent}
 use Rattle.at_event.specs.declared.frame.Frame.{Frame}
 use Rattle.at_event.specs.declared.head.Head.{Head}
 use Rattle.at_event.specs.declared.refusal.Refusal.{Refusal}
-use Rattle.relay_row.specs.declared.fetched.Fetched.{Fetched}
 use Rattle.relay_row.specs.declared.limits.TheConstants.{NUMBERS}
 use Rattle.account_state.specs.Folds.{last_rev}
 use Rattle.account_state.specs.State.{State}
-use Rattle.commit_check.specs.Order.{Holds, StopsPast}
-use Rattle.commit_check.specs.Step.{is_gap, root_before}
 use Rattle.relay_core.specs.Laws.{is_open}
-use Rattle.relay_core.specs.Table.{no_answers, next_of, waits, walk, body_lines}
+use Rattle.relay_core.specs.Table.{next_of}
 use Rattle.relay_core.specs.declared.answers.Answers.{Answers}
 use Rattle.relay_core.specs.declared.answers.Question.{Question}
 use Rattle.relay_core.specs.declared.decision.Next.{Next}
 use Rattle.relay_core.proofs.Asking.{ask_open}
-use Rattle.relay_law.specs.Formed.{AreAnswersTo, IsOpenedAs}
-use Rattle.relay_law.specs.Right.{expect_of}
+use Rattle.relay_law.specs.Formed.{IsOpenedAs}
 use Rattle.relay_step.specs.Asked.{signed_by, verdict_call}
-use Rattle.relay_step.specs.Questions.{AreAsked, IsJudgedLate, IsLinkAnswer, IsReadFor, IsReadOf, IsRenewedFirst, IsTidy, IsTimedSo, NoneAsked, PassedBefore, calls_told, has_blocks, home_told, is_commit, length_line, open_count, refresh_told, verdict_told}
+use Rattle.relay_step.specs.Questions.{AreAsked, IsJudgedLate, IsLinkAnswer, IsReadFor, IsReadOf, IsRenewedFirst, IsTimedSo, NoneAsked, PassedBefore, has_blocks, home_told, is_commit, open_count, refresh_told, verdict_told}
 use Rattle.account_state.specs.declared.repo.Repo.{Repo}
 use Rattle.relay_step.specs.declared.reading.Read.{Read}
 use Rattle.relay_step.specs.Words.{IsNow}

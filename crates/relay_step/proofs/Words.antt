@@ -1,10 +1,9 @@
 -- What operators' words come to, behind each journal for which the state stands.
-use Rattle.std.proofs.Common.{◌≡◌, ℕ, ◌+◌, ◌<◌, ◌≤◌, Bool, true, false, not, ◌&&◌, List, [], ◌∷◌, ◌++◌, Option, Some, None, refl, sym, ap, ◌∙◌, subst, arith}
+use Rattle.std.proofs.Common.{◌≡◌, ℕ, ◌+◌, ◌<◌, Bool, true, false, List, [], ◌∷◌, ◌++◌, Option, Some, None, refl, sym, ap, ◌∙◌, subst}
 use Rattle.std.specs.Prelude.{IsTrue}
 use Rattle.std.proofs.lemmas.Bool.{and_from}
 use Rattle.at_authority.specs.Panels.{Panel}
 use Rattle.at_event.specs.Formed.{IsShortText}
-use Rattle.at_event.specs.declared.head.Head.{Head}
 use Rattle.at_event.specs.declared.refusal.Refusal.{Refusal}
 use Rattle.at_syntax.specs.Did.{is_did}
 use Rattle.relay_row.specs.Folds.{last_seq}
@@ -25,7 +24,7 @@ use Rattle.relay_law.specs.Laws.{OperatedRowsAreFormed, SyncedRowsAreFormed}
 use Rattle.relay_step.specs.Fetches.{IsSent, MayBeKept, is_good, made_of}
 use Rattle.relay_step.specs.Fetching.{IsFetchedFrom}
 use Rattle.relay_step.specs.Messages.{KeepsJournal}
-use Rattle.relay_step.specs.Operators.{AnsweredFetch, IsFetchWord, IsFetchedNow, IsSyncedBy, IsSyncedNow}
+use Rattle.relay_step.specs.Operators.{AnsweredFetch, IsFetchWord, IsSyncedBy, IsSyncedNow}
 use Rattle.relay_step.specs.Words.{told_where}
 use Rattle.relay_step.specs.declared.word.Word.{Word}
 

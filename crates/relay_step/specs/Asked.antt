@@ -1,5 +1,5 @@
 -- What a step shows of the judges: which calls it made, in their order, and what they answered (own).
-use Rattle.std.specs.Prelude.{◌≡◌, ℕ, ◌≤◌, Bool, true, false, ◌&&◌, ◌||◌, ◌==◌, List, [], ◌∷◌, ◌++◌, length, Option, Some, None, Result, Ok, Err, option_map, nat_le, if◌then◌else◌}
+use Rattle.std.specs.Prelude.{◌≡◌, ℕ, ◌≤◌, Bool, true, false, ◌&&◌, ◌||◌, ◌==◌, List, [], ◌∷◌, ◌++◌, length, Option, Some, None, Result, Ok, option_map, nat_le, if◌then◌else◌}
 use Rattle.std.specs.List.{filter}
 use Rattle.sha2.specs.Sha256.{sha256}
 use Rattle.at_car.specs.Car.{car_of}
@@ -13,14 +13,14 @@ use Rattle.at_event.specs.declared.frame.FrameFault.{FrameFault}
 use Rattle.at_event.specs.declared.refusal.Refusal.{Refusal}
 use Rattle.event_checks.specs.Opening.{CarResult, object_in}
 use Rattle.event_checks.specs.Table.{car_in}
-use Rattle.at_authority.specs.Calls.{Call, answers, refreshes, fails, did_called, AreCalls}
+use Rattle.at_authority.specs.Calls.{Call, answers, refreshes, did_called, AreCalls}
 use Rattle.at_authority.specs.Panels.{Panel}
 use Rattle.at_authority.specs.Queries.{asks_home, asks_verdict}
 use Rattle.relay_row.specs.declared.fetched.Fetched.{Fetched}
 use Rattle.relay_row.specs.declared.taken.Taken.{Taken}
 use Rattle.relay_core.specs.Shown.{shows_home, shows_verdict, block_in}
 use Rattle.relay_core.specs.declared.limits.TheConstants.{FETCHED_UNSIGNED}
-use Rattle.relay_step.specs.Steps.{Told, after_end, passed_over, took, Step}
+use Rattle.relay_step.specs.Steps.{Told, after_end, passed_over, took}
 
 -- the digest that was signed, and the signature, of the commit object in a CAR
 abbrev pub signed_in : CarResult → Option (List ℕ × List ℕ)

@@ -1,5 +1,5 @@
 -- Why a message or a word came to nothing, and what was asked until then.
-use Rattle.std.specs.Prelude.{◌≡◌, ⊤, ℕ, ◌+◌, ◌≤◌, List, Bool, Result, Ok, Err, IsTrue, ◌⊎◌}
+use Rattle.std.specs.Prelude.{◌≡◌, ⊤, ℕ, List, Bool, Result, Ok, Err, IsTrue, ◌⊎◌}
 use Rattle.at_syntax.specs.Did.{method_of}
 use Rattle.at_authority.specs.Calls.{Call, fails}
 use Rattle.at_authority.specs.Panels.{Panel, IsSpent}

@@ -1,6 +1,5 @@
 -- What is owed of the decision of a message, by the relay's state: behind each journal for which it stands (own).
-use Rattle.std.specs.Prelude.{◌≡◌, ℕ, ◌+◌, ◌≤◌, List, [], ◌++◌, Bool, Option, Some, None, Result, Ok, Err}
-use Rattle.at_event.specs.Frames.{frame_of}
+use Rattle.std.specs.Prelude.{◌≡◌, ℕ, ◌+◌, ◌≤◌, List, [], ◌++◌, Bool, Some, None, Result, Ok, Err}
 use Rattle.at_event.specs.declared.frame.Frame.{Frame}
 use Rattle.at_event.specs.declared.frame.FrameFault.{FrameFault}
 use Rattle.relay_row.specs.Folds.{last_seq, seq_in}

@@ -17,7 +17,6 @@ use Rattle.account_state.specs.declared.repo.Repo.{Repo}
 use Rattle.commit_check.specs.Order.{Holds, StopsPast}
 use Rattle.commit_check.specs.Step.{is_gap, root_before}
 use Rattle.commit_check.specs.Opening.{IsOpened}
-use Rattle.commit_check.specs.declared.opened.Opened.{Opened}
 use Rattle.repo_sync.specs.Sync.{IsSynced}
 use Rattle.relay_core.specs.Decide.{Checks, as_result}
 use Rattle.relay_core.specs.Table.{no_answers, when, is_ahead}

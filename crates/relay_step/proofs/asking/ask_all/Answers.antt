@@ -1,6 +1,6 @@
-use Rattle.std.proofs.Common.{◌≡◌, ◌≤◌, sym, arith}
+use Rattle.std.proofs.Common.{sym, arith}
 use Rattle.relay_core.specs.declared.decision.Next.{Next}
-use Rattle.relay_step.proofs.Calls.{last_other, vain_with}
+use Rattle.relay_step.proofs.Vain.{last_other, vain_with}
 use Rattle.relay_step.proofs.Losses.{next_event}
 use Rattle.relay_step.proofs.asking.ask_all.Goals as goal
 

@@ -1,9 +1,9 @@
-use Rattle.std.proofs.Common.{◌≡◌, ap, ◌∙◌}
+use Rattle.std.proofs.Common.{ap, ◌∙◌}
 use Rattle.at_event.specs.Seen.{Seen}
 use Rattle.at_event.specs.declared.frame.Frame.{Frame}
 use Rattle.relay_core.specs.Entries.{account_in, cursor_in}
 use Rattle.relay_core.specs.declared.answers.Question.{Question}
-use Rattle.relay_step.proofs.Calls.{on_err, plain_failed, plain_failed_as}
+use Rattle.relay_step.proofs.Vain.{on_err, plain_failed, plain_failed_as}
 use Rattle.relay_step.proofs.Tidy.{asks_as, home_asked, home_call, home_falls, judges_opened, link_asked, link_falls, linked_beside, links_commit, links_opened, moment_asked, moment_falls, open_asked, open_falls, opened_beside, opened_seen, read_of, refresh_asked, refresh_call, refresh_falls, verdict_asked, verdict_falls}
 use Rattle.relay_step.proofs.asking.ask_one.Goals as goal
 

@@ -1,7 +1,7 @@
-use Rattle.std.proofs.Common.{◌≡◌, ◌∙◌, refl, sym}
+use Rattle.std.proofs.Common.{◌∙◌, refl, sym}
 use Rattle.at_event.proofs.Formed.{events_formed}
 use Rattle.relay_step.specs.Around.{around}
-use Rattle.relay_step.proofs.Calls.{cause_as, cause_lost, if_err, last_fetch, map_err, on_err, one_taken, plain_none, vain_with}
+use Rattle.relay_step.proofs.Vain.{cause_as, cause_lost, if_err, last_fetch, map_err, on_err, one_taken, plain_none, vain_with}
 use Rattle.relay_step.proofs.Losses.{done_ends, done_told, lost_ends, lost_told, pass_told}
 use Rattle.relay_step.proofs.deciding.decide_event.Goals as goal
 

@@ -1,4 +1,4 @@
-use Rattle.std.proofs.Common.{◌≡◌, ◌∙◌, Result, Ok, sym, ap, subst}
+use Rattle.std.proofs.Common.{Ok, sym, subst}
 use Rattle.std.specs.Prelude.{IfOk}
 use Rattle.std.proofs.lemmas.Bool.{and_from}
 use Rattle.at_syntax.specs.Host.{is_host}
@@ -6,7 +6,7 @@ use Rattle.relay_row.specs.Rules.{is_text}
 use Rattle.at_event.specs.declared.frame.Frame.{Frame}
 use Rattle.relay_step.specs.Around.{around}
 use Rattle.relay_step.specs.Messages.{IsAskedOf, IsDecided, told_as}
-use Rattle.relay_step.proofs.Calls.{if_ok}
+use Rattle.relay_step.proofs.Vain.{if_ok}
 use Rattle.relay_step.proofs.Others.{asked_event, kept_event, kept_other, told_event, told_other}
 use Rattle.relay_step.proofs.Sending.{text_tested}
 use Rattle.relay_step.proofs.deciding.decide_frame.Goals as goal

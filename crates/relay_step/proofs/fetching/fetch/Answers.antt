@@ -1,5 +1,4 @@
-use Rattle.std.proofs.Common.{◌≡◌, ◌≤◌, ℕ, Bool, List, IsTrue, ap, sym, ◌∙◌, subst, arith}
-use Rattle.relay_core.specs.Decide.{unfit}
+use Rattle.std.proofs.Common.{◌∙◌, arith}
 use Rattle.relay_step.proofs.Fetched.{asked_by, fetched_by, may_by}
 use Rattle.relay_step.proofs.fetching.fetch.Goals as goal
 

@@ -1,4 +1,4 @@
-use Rattle.relay_step.proofs.Calls.{plain_failed}
+use Rattle.relay_step.proofs.Vain.{plain_failed}
 use Rattle.relay_step.proofs.Fetched.{asked_bad_at, asked_good_at, head_kept, linked_to}
 use Rattle.relay_step.proofs.fetching.judge_found.Goals as goal
 

@@ -1,4 +1,4 @@
-use Rattle.std.proofs.Common.{◌≡◌, ◌+◌, ℕ, List, length, ◌<◌, ◌^◌, ap, ◌∙◌, subst}
+use Rattle.std.proofs.Common.{◌+◌, ℕ, List, length, ◌<◌, ◌^◌, ap, ◌∙◌, subst}
 use Rattle.at_car.specs.Blocks.{kept}
 use Rattle.at_cbor.specs.Spelling.{IsString}
 use Rattle.at_event.specs.Writing.{message_of, sync_payload}

@@ -1,9 +1,9 @@
-use Rattle.std.proofs.Common.{◌≡◌, Some, Result, IsTrue, ap, sym, ◌∙◌, subst}
+use Rattle.std.proofs.Common.{Some, ap, ◌∙◌}
 use Rattle.at_event.specs.Seen.{Seen}
 use Rattle.relay_core.specs.Entries.{account_in, cursor_in}
 use Rattle.relay_core.specs.declared.decision.Next.{Next}
-use Rattle.relay_step.specs.Fetches.{found_as, is_good}
-use Rattle.relay_step.proofs.Calls.{on_err, plain_as, plain_fetch}
+use Rattle.relay_step.specs.Fetches.{found_as}
+use Rattle.relay_step.proofs.Vain.{on_err, plain_as, plain_fetch}
 use Rattle.relay_step.proofs.Losses.{asks_fetch, lost_by, next_event, same_frame}
 use Rattle.relay_step.proofs.losing.take_lost.Goals as goal
 

@@ -1,7 +1,6 @@
 use Rattle.std.proofs.Common.{◌≡◌, ap, sym, ◌∙◌}
 use Rattle.at_event.specs.Seen.{Seen}
 use Rattle.at_event.specs.declared.event.Body.{Body}
-use Rattle.commit_check.specs.declared.fault.CheckFault.{CheckFault}
 use Rattle.relay_step.proofs.Linking.{linked_by, read_commit, unlinked_by}
 use Rattle.relay_step.proofs.reading.follow.Goals as goal
 

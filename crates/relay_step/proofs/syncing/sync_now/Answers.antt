@@ -1,8 +1,7 @@
-use Rattle.std.proofs.Common.{◌≡◌, ℕ, List, Some, inr, sym, ap, ◌∙◌}
+use Rattle.std.proofs.Common.{ℕ, List, Some, inr, sym, ap, ◌∙◌}
 use Rattle.relay_row.specs.declared.row.Row.{Row}
-use Rattle.relay_core.specs.Entries.{account_in}
 use Rattle.relay_step.specs.Fetches.{found_as}
-use Rattle.relay_step.proofs.Calls.{on_err, plain_fetch, vain_plain}
+use Rattle.relay_step.proofs.Vain.{on_err, plain_fetch, vain_plain}
 use Rattle.relay_step.proofs.Sending.{text_tested}
 use Rattle.relay_step.proofs.Words.{fetched_beside, synced_kept, synced_made, synced_unfit}
 use Rattle.relay_step.proofs.syncing.sync_now.Goals as goal
