@@ -27,7 +27,7 @@ use Rattle.relay_store.specs.declared.message.Message.{Message}
 use Rattle.relay_store.specs.declared.outcome.Outcome.{Outcome}
 use Rattle.relay_store.proofs.Asks.{nothing_here, nothing_in_vain}
 use Rattle.relay_store.proofs.Commits.{no_rows}
-use Rattle.relay_store.proofs.Images.{kept_left}
+use Rattle.relay_store.proofs.Images.{kept_log}
 use Rattle.relay_store.proofs.Nexts.{next_none}
 use Rattle.relay_store.proofs.Runs.{sent_joined}
 use Rattle.relay_store.proofs.Spellings.{draft_is}
@@ -104,7 +104,8 @@ module _ (C R : Bool) (log : LogState) (group : List Message) (state state_now :
       ∙ ap (λ (l : List Message). l ++ st.behind) (sym (sent_joined st.gathered.steps st.extra))
 
   module _ {D : Type 0} (view : D → View) (tells : Bool) (disk disk_now : D) (log_now : LogState)
-      (moments : IsTrue tells → (J rows : List Row) → HasRows rows d_now → IsAhead J rows log state_now places_now (view disk) → LeavesOnly (IsOneOf J rows) (view disk) (view disk_now))
+      (moments : IsTrue tells → (J rows : List Row) → HasRows rows d_now → IsAhead J rows log state_now places_now (view disk) → LeavesOnly (IsOneOf log.format J rows) (view disk) (view disk_now))
+      (format : (log_now.format ≡ log.format) × (log_now.most ≡ log.most))
       (untouched : d_now.count ≡ 0 → (log_now ≡ log) × (disk_now ≡ disk)) where
     untouched_by : rows st.gathered.steps ≡ [] → (log_now ≡ log) × ((places_now ≡ places) × (disk_now ≡ disk))
     untouched_by none =
@@ -129,6 +130,8 @@ module _ (C R : Bool) (log : LogState) (group : List Message) (state state_now :
       room = roomy;
       full = st.full;
       next = st.ends_next;
+      format = format.0;
+      most = format.1;
       known = λ n. st.gathered.core J of.holds;
       keeps = λ n told keeps. kept_of (J ++ rows st.gathered.steps) log_now side state_now places_now (view disk_now) (added told J (rows st.gathered.steps) st.gathered.draft (ahead J (view disk) keeps));
       untouched = untouched_by;
@@ -154,6 +157,8 @@ module _ (C R : Bool) (log : LogState) (group : List Message) (state state_now :
           room = roomy;
           full = tt;
           next = next_none state_now st.behind b.panel StoreFault.Disk tt;
+          format = format.0;
+          most = format.1;
           known = λ n. absurd (n refl);
           keeps = λ n. absurd (n refl);
           untouched = untouched_by;
@@ -184,10 +189,12 @@ batched_none view tells C R J group log side state places disk a outcomes no_out
   room = inl refl;
   full = tt;
   next = next_none state group a.panel StoreFault.Memory tt;
+  format = refl;
+  most = refl;
   known = λ n. subst (Holds state) (sym (append-nil J)) of.holds;
   keeps = λ n told keeps. subst (λ (K : List Row). Keeps K (seen log side state places) (view disk)) (sym (append-nil J)) keeps;
   untouched = λ none. (refl, (refl, refl));
-  moments = λ told keeps. no_call _ (view disk) is_disk (λ c left. inl (kept_left J (seen log side state places) (view disk) keeps c left));
+  moments = λ told keeps. no_call _ (view disk) is_disk (λ c left. inl (kept_log J (seen log side state places) (view disk) keeps c left));
 }
 
 pub on_kept : (s : StoreState) (v : View) → IsKept s v → IsOn v s.log

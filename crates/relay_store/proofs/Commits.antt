@@ -53,13 +53,13 @@ module _ (J rows : List Row) (log : LogState) (state : Core) (places : List Plac
         ∙ ap (λ (f : Format). places_of f (on.bodies ++ rows ∷ [])) (sym same) ∙ sym (append-nil (places_of now.format (on.bodies ++ rows ∷ [])));
   }
 
-  pub append_leaves : (body : List ℕ) → body ≡ body_of rows → 1 ≤ length rows → length rows ≤ 64 → (w : View) → LeavesOnly (IsBeforeOrAfter log.format (bytes_of on.bodies) body) v w → LeavesOnly (IsOneOf J rows) v w
+  pub append_leaves : (body : List ℕ) → body ≡ body_of rows → 1 ≤ length rows → length rows ≤ 64 → (w : View) → LeavesOnly (IsBeforeOrAfter log.format (bytes_of on.bodies) body) v w → LeavesOnly (IsOneOf log.format J rows) v w
   append_leaves body is some few w run = weaker _ _ v w run (λ c has. ⊎_elim
-      (λ before. inl (record { bodies = on.bodies; are = on.are; image = inr (log.format, before) }))
+      (λ before. inl (record { bodies = on.bodies; are = on.are; is_made = before }))
       (λ after. inr (record {
         bodies = on.bodies ++ rows ∷ [];
         are = with_body J rows on.bodies on.are on.journal some few;
-        image = inr (log.format, subst (λ (bs : List (List ℕ)). IsMade log.format bs c) (ap (λ (b : List ℕ). bytes_of on.bodies ++ b ∷ []) is ∙ sym (bytes_push on.bodies rows)) after);
+        is_made = subst (λ (bs : List (List ℕ)). IsMade log.format bs c) (ap (λ (b : List ℕ). bytes_of on.bodies ++ b ∷ []) is ∙ sym (bytes_push on.bodies rows)) after;
       }))
       has)
 
@@ -69,8 +69,8 @@ module _ (J rows : List Row) (log : LogState) (state : Core) (places : List Plac
       let now : IsAhead J [] log state places v = subst (λ (r : List Row). IsAhead J r log state places v) is on in
       subst (λ (r : List Row). IsAhead (J ++ r) [] log state places v) (sym is) (subst (λ (j : List Row). IsAhead j [] log state places v) (sym (append-nil J)) now)
 
-  pub nothing_leaves : IsDisk v → LeavesOnly (IsOneOf J rows) v v
-  nothing_leaves disk = no_call _ v disk (λ c left. inl (record { bodies = on.bodies; are = on.are; image = inr (log.format, on.holds.left c left) }))
+  pub nothing_leaves : IsDisk v → LeavesOnly (IsOneOf log.format J rows) v v
+  nothing_leaves disk = no_call _ v disk (λ c left. inl (record { bodies = on.bodies; are = on.are; is_made = on.holds.left c left }))
 
 pub some_rows : (rows : List Row) (d : Draft) → HasRows rows d → (d.count ≡ 0 → ⊥) → 1 ≤ length rows
 some_rows [] d has some = absurd (some has.count)

@@ -2,7 +2,7 @@
 use Rattle.std.proofs.Common.{◌≡◌, inl, inr, ℕ, List, [], ◌∷◌, ◌++◌, length, get_or, drop, refl, sym, ◌∙◌, ap, subst, arith, append_assoc}
 use Rattle.relay_disk.specs.Disk.{View}
 use Rattle.gate_log.specs.declared.picking.Side.{Side}
-use Rattle.gate_log.specs.Image.{IsMade}
+use Rattle.gate_log.specs.Image.{IsImage, IsMade}
 use Rattle.gate_log.specs.Pick.{IsPairImage, of_side}
 use Rattle.gate_log.proofs.Unique.{same_image}
 use Rattle.gate_log.proofs.OneSide.{same_pair, pair_or_bad}
@@ -11,8 +11,14 @@ use Rattle.relay_row.specs.Journal.{IsJournal}
 use Rattle.relay_row.specs.declared.row.Row.{Row}
 use Rattle.relay_row.proofs.Bodies.{same_rows}
 use Rattle.relay_row.proofs.Journals.{fronts}
-use Rattle.relay_store.specs.Journals.{joined, bytes_of, AllBodies, IsImageOf, IsPairImageOf, IsBadBodyAt, IsBadPairJournalAt}
+use Rattle.relay_store.specs.Journals.{joined, bytes_of, AllBodies, AreBodiesOf, IsLogOf, IsPairImageOf, IsBadBodyAt, IsBadPairJournalAt}
 use Rattle.relay_store.specs.Store.{StoreState, Keeps}
+
+-- bytes that are an image of this journal
+pub record IsImageOf (J : List Row) (bytes : List ℕ) : Type 0 where
+  pub bodies : List (List Row)
+  pub are : AreBodiesOf J bodies
+  pub image : IsImage (bytes_of bodies) bytes
 
 pub same_body : (xs ys : List Row) → IsBody xs (body_of xs) → IsBody ys (body_of ys) → body_of xs ≡ body_of ys → xs ≡ ys
 same_body xs ys one two is = same_rows xs ys (body_of xs) one (record { some = two.some; few = two.few; formed = two.formed; made = is })
@@ -38,8 +44,8 @@ same_pair_journal J K one two a b =
 pub kept_content : (J : List Row) (s : StoreState) (v : View) → Keeps J s v → IsImageOf J v.content
 kept_content J s v keeps = record { bodies = keeps.bodies; are = keeps.are; image = inr (s.log.format, keeps.holds.now) }
 
-pub kept_left : (J : List Row) (s : StoreState) (v : View) → Keeps J s v → (c : List ℕ) → v.may_leave c → IsImageOf J c
-kept_left J s v keeps c left = record { bodies = keeps.bodies; are = keeps.are; image = inr (s.log.format, keeps.holds.left c left) }
+pub kept_log : (J : List Row) (s : StoreState) (v : View) → Keeps J s v → (c : List ℕ) → v.may_leave c → IsLogOf s.log.format J c
+kept_log J s v keeps c left = record { bodies = keeps.bodies; are = keeps.are; is_made = keeps.holds.left c left }
 
 pub same_kept : (J K : List Row) (s : StoreState) (v : View) → Keeps J s v → Keeps K s v → J ≡ K
 same_kept J K s v a b = same_journal J K v.content (kept_content J s v a) (kept_content K s v b)

@@ -24,7 +24,7 @@ use Rattle.relay_store.specs.declared.draft.Draft.{Draft}
 use Rattle.relay_store.specs.declared.fault.StoreFault.{StoreFault}
 use Rattle.relay_store.proofs.Batched.{kept_of}
 use Rattle.relay_store.proofs.Commits.{no_rows}
-use Rattle.relay_store.proofs.Images.{kept_left}
+use Rattle.relay_store.proofs.Images.{kept_log}
 use Rattle.relay_store.proofs.Spellings.{draft_is}
 
 pub late_word : (log : LogState) (d : Draft) (rows : List Row) (row : Row) (f : StoreFault) → ((f ≡ StoreFault.Memory) ⊎ ((e : ℕ) × (f ≡ StoreFault.Full e)))
@@ -69,11 +69,13 @@ module _ {D : Type 0} (view : D → View) (tells : Bool) (J : List Row) (word : 
   worded_late state_now places_now d_now f is_disk same late = record {
     answer = late_answer log d word f has late;
     room = inl refl;
+    format = refl;
+    most = refl;
     known = λ n. subst (Holds state_now) (sym (append-nil J)) (same.core J of.holds);
     keeps = λ n told keeps. subst (λ (K : List Row). Keeps K (seen log side state_now places_now) (view disk)) (sym (append-nil J))
         (record { bodies = keeps.bodies; are = keeps.are; holds = keeps.holds; core = same.core J keeps.core; window = same.window ∙ keeps.window });
     untouched = λ n none. (refl, (same.window, refl));
-    moments = λ told keeps. no_call _ (view disk) is_disk (λ c left. inl (kept_left J (seen log side state places) (view disk) keeps c left));
+    moments = λ told keeps. no_call _ (view disk) is_disk (λ c left. inl (kept_log J (seen log side state places) (view disk) keeps c left));
   }
 
   module _ (journal : IsJournal (J ++ rows_said word)) (state_now : Core) (places_now : List Place) (d_now : Draft) (add : AreAdded log.end (rows_said word) state state_now places places_now d d_now) where
@@ -94,7 +96,8 @@ module _ {D : Type 0} (view : D → View) (tells : Bool) (J : List Row) (word : 
     }
 
     module _ (disk_now : D) (log_now : LogState) (fits : Fits log d_now)
-        (moments : IsTrue tells → (J rows : List Row) → HasRows rows d_now → IsAhead J rows log state_now places_now (view disk) → LeavesOnly (IsOneOf J rows) (view disk) (view disk_now)) where
+        (moments : IsTrue tells → (J rows : List Row) → HasRows rows d_now → IsAhead J rows log state_now places_now (view disk) → LeavesOnly (IsOneOf log.format J rows) (view disk) (view disk_now))
+        (format : (log_now.format ≡ log.format) × (log_now.most ≡ log.most)) where
       pub worded_ok : (done : Done) → done ≡ done_of word → (d_now.count ≡ 0 → (log_now ≡ log) × (disk_now ≡ disk))
           → (IsTrue tells → (J rows : List Row) → HasRows rows d_now → IsAhead J rows log state_now places_now (view disk) → IsAhead (J ++ rows) [] log_now state_now places_now (view disk_now))
           → Worded view tells J word (seen log side state places) (seen log_now side state_now places_now) disk disk_now (Ok done)
@@ -104,6 +107,8 @@ module _ {D : Type 0} (view : D → View) (tells : Bool) (J : List Row) (word : 
             (λ none. inl (no_rows (rows_said word) (sym said_rows.count ∙ none)))
             (λ room. inr (omega (arith, room.0, ap length (draft_is (rows_said word) d_now said_rows))))
             fits;
+        format = format.0;
+        most = format.1;
         known = λ n. add.core J of.holds;
         keeps = λ n told keeps. kept_of (J ++ rows_said word) log_now side state_now places_now (view disk_now) (more told J (rows_said word) said_rows (ahead (view disk) keeps));
         untouched = λ n none.
@@ -116,6 +121,8 @@ module _ {D : Type 0} (view : D → View) (tells : Bool) (J : List Row) (word : 
       worded_fails = record {
         answer = tt;
         room = inl refl;
+        format = format.0;
+        most = format.1;
         known = λ n. absurd (n refl);
         keeps = λ n. absurd (n refl);
         untouched = λ n. absurd (n refl);

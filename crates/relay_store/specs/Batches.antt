@@ -118,13 +118,16 @@ pub record Batched {D : Type 0} (view : D → View) (tells clock_tells repos_tel
   pub room : (rows steps ≡ []) ⊎ (end_of old.store.log.end (rows steps) ≤ old.store.log.most)
   pub full : EndsFull old.store.log steps extra fault
   pub next : EndsNext new.store.core behind new.around.panel fault
+  -- the log is of the format that it had, and may go as far
+  pub format : new.store.log.format ≡ old.store.log.format
+  pub most : new.store.log.most ≡ old.store.log.most
   -- after every fault but the disk's the rows of the steps are known, and the disk holds them
   pub known : fault ≢ Some StoreFault.Disk → Holds new.store.core (J ++ rows steps)
   pub keeps : fault ≢ Some StoreFault.Disk → IsTrue tells → Keeps J old.store (view old.disk) → Keeps (J ++ rows steps) new.store (view new.disk)
   -- where there are none, the disk is as it was, and so is all that is known
   pub untouched : rows steps ≡ [] → (new.store.log ≡ old.store.log) × ((new.store.window ≡ old.store.window) × (new.disk ≡ old.disk))
   -- a crash at any moment leaves the journal, with all rows of the body under way or without
-  pub moments : IsTrue tells → Keeps J old.store (view old.disk) → LeavesOnly (IsOneOf J (rows steps)) (view old.disk) (view new.disk)
+  pub moments : IsTrue tells → Keeps J old.store (view old.disk) → LeavesOnly (IsOneOf old.store.log.format J (rows steps)) (view old.disk) (view new.disk)
 
 abbrev pub message_from : List ℕ → List ℕ → Message
 message_from host bytes = record { host = host; bytes = bytes }

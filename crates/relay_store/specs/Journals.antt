@@ -3,7 +3,7 @@ use Rattle.std.specs.Prelude.{◌≡◌, ◌⊎◌, ℕ, List, [], ◌∷◌, �
 use Rattle.relay_disk.specs.Disk.{View}
 use Rattle.gate_log.specs.declared.format.Format.{Format}
 use Rattle.gate_log.specs.declared.picking.Side.{Side}
-use Rattle.gate_log.specs.Image.{made, IsImage, IsMade}
+use Rattle.gate_log.specs.Image.{made, IsMade}
 use Rattle.gate_log.specs.Pick.{IsPairImage, IsPicked, IsBadPairAt, of_side}
 use Rattle.relay_row.specs.Bodies.{body_of, IsBody}
 use Rattle.relay_row.specs.Journal.{IsJournal}
@@ -30,11 +30,11 @@ pub record AreBodiesOf (J : List Row) (bodies : List (List Row)) : Type 0 where
   pub rows : joined bodies ≡ J
   pub journal : IsJournal J
 
--- Bytes that are an image of this journal.
-pub record IsImageOf (J : List Row) (bytes : List ℕ) : Type 0 where
+-- Bytes of a made log of this format that has this journal.
+pub record IsLogOf (format : Format) (J : List Row) (bytes : List ℕ) : Type 0 where
   pub bodies : List (List Row)
   pub are : AreBodiesOf J bodies
-  pub image : IsImage (bytes_of bodies) bytes
+  pub is_made : IsMade format (bytes_of bodies) bytes
 
 -- The bytes of two disks that are an image of this journal: so are those of the side that is picked.
 pub record IsPairImageOf (J : List Row) (one two : List ℕ) : Type 0 where
@@ -42,9 +42,9 @@ pub record IsPairImageOf (J : List Row) (one two : List ℕ) : Type 0 where
   pub are : AreBodiesOf J bodies
   pub image : IsPairImage (bytes_of bodies) one two
 
--- an image of the journal, or of the journal followed by these rows
-abbrev pub IsOneOf : List Row → List Row → List ℕ → Type 0
-IsOneOf J rows c = IsImageOf J c ⊎ IsImageOf (J ++ rows) c
+-- a log of the journal, or of the journal followed by these rows
+abbrev pub IsOneOf : Format → List Row → List Row → List ℕ → Type 0
+IsOneOf format J rows c = IsLogOf format J c ⊎ IsLogOf format (J ++ rows) c
 
 -- All pairs that a crash may leave are images of journals.
 abbrev pub LeavesPairJournals : View → View → Type 0

@@ -72,12 +72,15 @@ pub record Worded {D : Type 0} (view : D → View) (tells : Bool) (J : List Row)
   pub answer : IsAnswer old.log word result
   -- a row that was added had room
   pub room : (added result (rows_said word) ≡ []) ⊎ (end_of old.log.end (rows_said word) ≤ old.log.most)
+  -- the log is of the format that it had, and may go as far
+  pub format : new.log.format ≡ old.log.format
+  pub most : new.log.most ≡ old.log.most
   -- after every fault but the disk's the row is known, if one was added, and the disk holds it
   pub known : result ≢ Err StoreFault.Disk → Holds new.core (J ++ added result (rows_said word))
   pub keeps : result ≢ Err StoreFault.Disk → IsTrue tells → Keeps J old (view disk) → Keeps (J ++ added result (rows_said word)) new (view disk_now)
   pub untouched : result ≢ Err StoreFault.Disk → added result (rows_said word) ≡ [] → (new.log ≡ old.log) × ((new.window ≡ old.window) × (disk_now ≡ disk))
   -- a crash at any moment leaves the journal, with the row or without
-  pub moments : IsTrue tells → Keeps J old (view disk) → LeavesOnly (IsOneOf J (rows_said word)) (view disk) (view disk_now)
+  pub moments : IsTrue tells → Keeps J old (view disk) → LeavesOnly (IsOneOf old.log.format J (rows_said word)) (view disk) (view disk_now)
 
 -- No word came of it.
 pub record Unsaid {D : Type 0} (failed : Type 0) (old new : StoreState) (disk disk_now : D) (result : Result Done StoreFault) : Type 0 where

@@ -33,7 +33,8 @@ pub(crate) fn commit<D: Disk>(
     ensures added { OnOk result (IsTrue D.tells → (J rows : List TheRow) (core : TheCore) (window : List ThePlace) → HasRows rows draft.old
         → IsAhead J rows log.old core window (D.view disk.old) → IsAhead (J ++ rows) [] log.new core window (D.view disk.new)) }
     ensures moments { IsTrue D.tells → (J rows : List TheRow) (core : TheCore) (window : List ThePlace) → HasRows rows draft.old
-        → IsAhead J rows log.old core window (D.view disk.old) → LeavesOnly (IsOneOf J rows) (D.view disk.old) (D.view disk.new) }
+        → IsAhead J rows log.old core window (D.view disk.old) → LeavesOnly (IsOneOf log.old.format J rows) (D.view disk.old) (D.view disk.new) }
+    ensures format { (log.new.format ≡ log.old.format) × (log.new.most ≡ log.old.most) }
     ensures untouched { draft.old.count ≡ 0 → (log.new ≡ log.old) × (disk.new ≡ disk.old) }
     ensures open { OnOk result (IsTrue log.new.is_open) }
     ensures disk { OnErr result ((result ≡ Err StoreFault.Disk) × ((log.new.is_open ≡ false) × Rose (D.view disk.old).faults (D.view disk.new).faults)) }

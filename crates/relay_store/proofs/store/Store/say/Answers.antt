@@ -33,12 +33,12 @@ returns-in-Err-commit-clause-few g c = λ f is.
 pub returns-in-Ok-commit-clause-worded : goal.returns-in-Ok-commit-clause-worded
 returns-in-Ok-commit-clause-worded g c = λ J of journal.
     worded_ok g.D.Disk.view g.D.Disk.tells J c.args.word c.args.self.now.log c.args.self.now.side c.args.self.now.core c.args.self.now.window.places c.args.self.now.draft c.requires.rows of c.args.disk.now
-    journal _ _ _ c.in-Ok.ensures.added c.commit.new.disk c.commit.new.log c.take_word.ensures.fits (λ tells K rows has on. c.commit.ensures.moments tells K rows _ _ has on)
+    journal _ _ _ c.in-Ok.ensures.added c.commit.new.disk c.commit.new.log c.take_word.ensures.fits (λ tells K rows has on. c.commit.ensures.moments tells K rows _ _ has on) c.commit.ensures.format
     c.in-Ok.done c.in-Ok.ensures.ok c.commit.ensures.untouched (λ tells K rows has on. c.in-Ok-commit.ensures.added tells K rows _ _ has on)
 
 pub returns-in-Err-commit-clause-worded : goal.returns-in-Err-commit-clause-worded
 returns-in-Err-commit-clause-worded g c = λ J of journal.
     let failed : Some c.in-Err-commit.fault ≡ Some StoreFault.Disk = search rules in
     worded_fails_as g.D.Disk.view g.D.Disk.tells J c.args.word c.args.self.now.log c.args.self.now.side c.args.self.now.core c.args.self.now.window.places c.args.self.now.draft c.requires.rows of c.args.disk.now
-    journal _ _ _ c.in-Ok.ensures.added c.commit.new.disk c.commit.new.log c.take_word.ensures.fits (λ tells K rows has on. c.commit.ensures.moments tells K rows _ _ has on)
+    journal _ _ _ c.in-Ok.ensures.added c.commit.new.disk c.commit.new.log c.take_word.ensures.fits (λ tells K rows has on. c.commit.ensures.moments tells K rows _ _ has on) c.commit.ensures.format
     c.in-Err-commit.fault (same_Some _ _ failed)

@@ -25,7 +25,7 @@ returns-in-Err-prepare-clause-batched g c =
     let not : Some c.in-Err-prepare.fault ≢ Some StoreFault.Disk = ⊎_elim (λ vain. vain_not_disk c.in-Err-prepare.fault vain.of_asking) (λ late. late_not_disk _ _ _ c.in-Err-prepare.fault late.2) made.1 in
     let count : c.prepare.new.draft.count ≡ 0 = made.0.count ∙ c.in-Ok.ensures.count in
     batched _ _ _ _ _ _ _ _ _ _ _ _ _ st c.args.self.now.side g.D.Disk.view g.D.Disk.tells c.args.disk.now c.args.disk.now c.args.self.now.log
-    (λ tells J rows has on. nothing_leaves J rows _ _ _ _ on (g.met.D.Disk.is_disk c.args.disk.now)) (λ none. (refl, refl))
+    (λ tells J rows has on. nothing_leaves J rows _ _ _ _ on (g.met.D.Disk.is_disk c.args.disk.now)) (refl, refl) (λ none. (refl, refl))
     not (λ tells J rows has on. nothing_added J rows _ _ _ _ on (omega (arith, has.count, count)))
 
 pub commit-requires-clause-rows : goal.commit-requires-clause-rows
@@ -55,7 +55,7 @@ returns-in-Ok-commit-clause-batched g c =
     let st = gathering_last _ _ _ _ _ _ _ _ _ _ _ _ _ _ now made.0 _ made.1 _ _ _ c.in-Ok-prepare.outcome made.2 made.3 c.prepare.ensures.fits refl in
     let not : None ≢ Some StoreFault.Disk = λ is. let no : ⊥ = cc in no in
     batched _ _ _ _ _ _ _ _ _ _ _ _ _ st c.args.self.now.side g.D.Disk.view g.D.Disk.tells c.args.disk.now c.commit.new.disk c.commit.new.log
-    (λ tells J rows has on. c.commit.ensures.moments tells J rows _ _ has on) c.commit.ensures.untouched
+    (λ tells J rows has on. c.commit.ensures.moments tells J rows _ _ has on) c.commit.ensures.format c.commit.ensures.untouched
     not (λ tells J rows has on. c.in-Ok-commit.ensures.added tells J rows _ _ has on)
 
 pub returns-in-Ok-commit-clause-on : goal.returns-in-Ok-commit-clause-on
@@ -73,5 +73,5 @@ returns-in-Err-commit-clause-batched g c =
     let st = gathering_last _ _ _ _ _ _ _ _ _ _ _ _ _ _ now made.0 _ made.1 _ _ _ c.in-Ok-prepare.outcome made.2 made.3 c.prepare.ensures.fits refl in
     let failed : Some c.in-Err-commit.fault ≡ Some StoreFault.Disk = search rules in
     batched_fails_as _ _ _ _ _ _ _ _ _ _ _ _ _ st c.args.self.now.side g.D.Disk.view g.D.Disk.tells c.args.disk.now c.commit.new.disk c.commit.new.log
-    (λ tells J rows has on. c.commit.ensures.moments tells J rows _ _ has on) c.commit.ensures.untouched
+    (λ tells J rows has on. c.commit.ensures.moments tells J rows _ _ has on) c.commit.ensures.format c.commit.ensures.untouched
     [] (Some c.in-Err-commit.fault) refl failed

@@ -19,7 +19,7 @@ returns-in-Err-clause-batched g c = λ J of. batched_none g.D.Disk.view _ _ _ J 
 pub returns-in-Ok-commit-clause-batched : goal.returns-in-Ok-commit-clause-batched
 returns-in-Ok-commit-clause-batched g c =
     batched _ _ _ _ _ _ _ _ _ _ _ _ _ c.gather-fault.ensures.stopped c.args.self.now.side g.D.Disk.view g.D.Disk.tells c.args.disk.now c.commit.new.disk c.commit.new.log
-    (λ tells J rows has on. c.commit.ensures.moments tells J rows _ _ has on) c.commit.ensures.untouched
+    (λ tells J rows has on. c.commit.ensures.moments tells J rows _ _ has on) c.commit.ensures.format c.commit.ensures.untouched
     c.gather-fault.ensures.no_disk (λ tells J rows has on. c.in-Ok-commit.ensures.added tells J rows _ _ has on)
 
 pub returns-in-Ok-commit-clause-on : goal.returns-in-Ok-commit-clause-on
@@ -32,5 +32,5 @@ pub returns-in-Err-commit-clause-batched : goal.returns-in-Err-commit-clause-bat
 returns-in-Err-commit-clause-batched g c =
     let failed : Some c.in-Err-commit.fault ≡ Some StoreFault.Disk = search rules in
     batched_fails_as _ _ _ _ _ _ _ _ _ _ _ _ _ c.gather-fault.ensures.stopped c.args.self.now.side g.D.Disk.view g.D.Disk.tells c.args.disk.now c.commit.new.disk c.commit.new.log
-    (λ tells J rows has on. c.commit.ensures.moments tells J rows _ _ has on) c.commit.ensures.untouched
+    (λ tells J rows has on. c.commit.ensures.moments tells J rows _ _ has on) c.commit.ensures.format c.commit.ensures.untouched
     c.new.result.items (Some c.in-Err-commit.fault) c.new.ensures.items failed
