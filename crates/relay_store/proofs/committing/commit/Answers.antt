@@ -33,3 +33,14 @@ returns-in-Err-clause-disk g c =
     (λ e is. let past = (c.append_put.ensures.full e).0 (c.in-Err.is ∙ ap Err is) in ⊎_elim (λ none. absurd (omega (arith, none, c.if-draft-eq0.false))) (λ fits. absurd (omega (arith, fits.0, past.0, past.1, same))) c.requires.fits)
     (λ is. c.append_put.ensures.no_memory (c.in-Err.is ∙ ap Err is)) in
     (refl, (ap (λ (s : LogState). s.is_open) failed.1, failed.0))
+
+pub returns-in-Err-clause-format : goal.returns-in-Err-clause-format
+returns-in-Err-clause-format g c =
+    let head : take c.list_front_len.result c.list_front-front.result ≡ front_of Major.List c.args.draft.now.count = ap (λ (n : ℕ). take n c.list_front-front.result) c.list_front_len.ensures.len ∙ c.list_front-front.ensures in
+    let same = ap (λ (l : List ℕ). length (l ++ drop 6 c.args.draft.now.body)) head in
+    let failed = only_disk c.in-Err.field-0
+    (λ is. c.append_put.ensures.disk (c.in-Err.is ∙ ap Err is))
+    (λ p is. c.append_put.ensures.no_bad_log p (c.in-Err.is ∙ ap Err is))
+    (λ e is. let past = (c.append_put.ensures.full e).0 (c.in-Err.is ∙ ap Err is) in ⊎_elim (λ none. absurd (omega (arith, none, c.if-draft-eq0.false))) (λ fits. absurd (omega (arith, fits.0, past.0, past.1, same))) c.requires.fits)
+    (λ is. c.append_put.ensures.no_memory (c.in-Err.is ∙ ap Err is)) in
+    (ap (λ (s : LogState). s.format) failed.1, ap (λ (s : LogState). s.most) failed.1)
