@@ -2,25 +2,41 @@
 ghost use Rattle.std.specs.Prelude.{◌≡◌};
 ghost use Rattle.relay_cli.specs.Statuses.{code_of_status};
 
-/// How a run ended.
+/// How a run ended. A place or an end is in bytes from the front of its tape or log.
 #[derive(Clone, Copy, Debug, PartialEq, Eq)]
 pub enum Status {
     /// All was done, and all that is to be written was written.
     Done,
+    /// What stands on the tape from this place on is no record.
+    BadTape(u64),
     /// The words are no command.
     Usage,
     /// A call of the input failed.
     ReadFault,
     /// A call of the output failed.
     WriteFault,
+    /// A call of a disk failed.
+    Disk,
+    /// All authorities of an account's method have fallen.
+    Authority,
+    /// A call of the repositories failed.
+    Repos,
+    /// The disks hold no journal, and show it at this place.
+    BadLog(u64),
+    /// The log has no room for the next row, which would end there.
+    Full(u64),
+    /// The last number was given, and another one is wanted.
+    SeqEnd,
     /// The input is longer than its limit.
     TooLong,
     /// Memory was wanted.
     Memory,
-    /// The message was refused, with this number.
+    /// The message or the word was refused, with this number.
     Refused(u8),
     /// The command isn't built.
     NotBuilt,
+    /// A call of the clock failed.
+    Clock,
 }
 
 impl Status {
@@ -30,13 +46,21 @@ impl Status {
     {
         match self {
             Status::Done => 0,
+            Status::BadTape(_) => 1,
             Status::Usage => 2,
             Status::ReadFault => 3,
             Status::WriteFault => 4,
+            Status::Disk => 5,
+            Status::Authority => 6,
+            Status::Repos => 7,
+            Status::BadLog(_) => 10,
+            Status::Full(_) => 11,
+            Status::SeqEnd => 12,
             Status::TooLong => 13,
             Status::Memory => 14,
             Status::Refused(_) => 15,
             Status::NotBuilt => 16,
+            Status::Clock => 17,
         }
     }
 }
