@@ -1,6 +1,9 @@
 -- The numbers that the program ends with, own.
 use Rattle.std.specs.Prelude.{ℕ}
 use Rattle.at_event.specs.Refusals.{code_of}
+use Rattle.relay_run.specs.declared.end.RunEnd.{RunEnd}
+use Rattle.relay_store.specs.declared.fault.StoreFault.{StoreFault}
+use Rattle.tape_run.specs.declared.end.TapeEnd.{TapeEnd}
 use Rattle.relay_cli.specs.declared.status.Status.{Status}
 use Rattle.relay_cli.specs.declared.verdict.Verdict.{Verdict}
 
@@ -26,3 +29,31 @@ code_of_status Status.Clock = 17
 abbrev pub status_of : Verdict → Status
 status_of (Verdict.Accepted from to ops) = Status.Done
 status_of (Verdict.Refused refusal) = Status.Refused (code_of refusal)
+
+-- for a fault of the store
+abbrev pub status_of_fault : StoreFault → Status
+status_of_fault StoreFault.Disk = Status.Disk
+status_of_fault (StoreFault.BadLog place) = Status.BadLog place
+status_of_fault (StoreFault.Full end) = Status.Full end
+status_of_fault StoreFault.SeqEnd = Status.SeqEnd
+status_of_fault StoreFault.Authority = Status.Authority
+status_of_fault StoreFault.Repos = Status.Repos
+status_of_fault StoreFault.Memory = Status.Memory
+status_of_fault StoreFault.Clock = Status.Clock
+
+-- of a command that shows the journal, or takes an operator's word
+abbrev pub status_of_run : RunEnd → Status
+status_of_run RunEnd.Done = Status.Done
+status_of_run (RunEnd.Refused code) = Status.Refused code
+status_of_run RunEnd.WriteFault = Status.WriteFault
+status_of_run (RunEnd.Fault fault) = status_of_fault fault
+
+-- of a tape
+abbrev pub status_of_tape : TapeEnd → Status
+status_of_tape TapeEnd.Done = Status.Done
+status_of_tape (TapeEnd.Bad place) = Status.BadTape place
+status_of_tape TapeEnd.ReadFault = Status.ReadFault
+status_of_tape TapeEnd.WriteFault = Status.WriteFault
+status_of_tape TapeEnd.TooLong = Status.TooLong
+status_of_tape (TapeEnd.Store fault) = status_of_fault fault
+status_of_tape TapeEnd.Memory = Status.Memory

@@ -2,6 +2,10 @@
 ghost use Rattle.std.specs.Prelude.{◌≡◌};
 ghost use Rattle.relay_cli.specs.Statuses.{code_of_status};
 
+use relay_run::RunEnd;
+use relay_store::StoreFault;
+use tape_run::TapeEnd;
+
 /// How a run ended. A place or an end is in bytes from the front of its tape or log.
 #[derive(Clone, Copy, Debug, PartialEq, Eq)]
 pub enum Status {
@@ -61,6 +65,58 @@ impl Status {
             Status::Refused(_) => 15,
             Status::NotBuilt => 16,
             Status::Clock => 17,
+        }
+    }
+}
+
+impl From<StoreFault> for Status {
+    ghost use Rattle.relay_cli.specs.Statuses.{status_of_fault};
+
+    ghost from_gives = { λ fault status. status ≡ status_of_fault fault };
+
+    fn from(fault: StoreFault) -> Status {
+        match fault {
+            StoreFault::Disk => Status::Disk,
+            StoreFault::BadLog(place) => Status::BadLog(place),
+            StoreFault::Full(end) => Status::Full(end),
+            StoreFault::SeqEnd => Status::SeqEnd,
+            StoreFault::Authority => Status::Authority,
+            StoreFault::Repos => Status::Repos,
+            StoreFault::Memory => Status::Memory,
+            StoreFault::Clock => Status::Clock,
+        }
+    }
+}
+
+impl From<RunEnd> for Status {
+    ghost use Rattle.relay_cli.specs.Statuses.{status_of_run};
+
+    ghost from_gives = { λ end status. status ≡ status_of_run end };
+
+    fn from(end: RunEnd) -> Status {
+        match end {
+            RunEnd::Done => Status::Done,
+            RunEnd::Refused(code) => Status::Refused(code),
+            RunEnd::WriteFault => Status::WriteFault,
+            RunEnd::Fault(fault) => Status::from(fault),
+        }
+    }
+}
+
+impl From<TapeEnd> for Status {
+    ghost use Rattle.relay_cli.specs.Statuses.{status_of_tape};
+
+    ghost from_gives = { λ end status. status ≡ status_of_tape end };
+
+    fn from(end: TapeEnd) -> Status {
+        match end {
+            TapeEnd::Done => Status::Done,
+            TapeEnd::Bad(place) => Status::BadTape(place),
+            TapeEnd::ReadFault => Status::ReadFault,
+            TapeEnd::WriteFault => Status::WriteFault,
+            TapeEnd::TooLong => Status::TooLong,
+            TapeEnd::Store(fault) => Status::from(fault),
+            TapeEnd::Memory => Status::Memory,
         }
     }
 }
