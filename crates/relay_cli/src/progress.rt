@@ -12,6 +12,7 @@ const FIRST: u64 = 2_000;
 const NEXT: u64 = 500;
 
 /// A source that counts the bytes that are taken of it.
+#[derive(Drop)]
 pub struct Counted<'a, I: Source> {
     input: I,
     taken: &'a Cell<u64>,
@@ -89,6 +90,7 @@ impl Lines {
 
 /// A sink of a report, which says from time to time how much it has told of. Nothing is said in the first two seconds, of the
 /// last line, or where standard error is no terminal.
+#[derive(Drop)]
 pub struct Watched<'a, O: Sink> {
     out: O,
     rt: &'a HostRuntime,
