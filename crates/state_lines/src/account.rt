@@ -116,11 +116,7 @@ fn down_bytes(down: bool) -> &'static [u8]
 
 /// The line of an account, with its line feed. One that no row names is active, up and without a repository, and nothing was said
 /// of it.
-pub fn account_line(
-    alloc: Global,
-    did: &str,
-    account: Option<&Account>,
-) -> Result<Octets, Memory>
+pub fn account_line(alloc: Global, did: &str, account: Option<&Account>) -> Result<Octets, Memory>
     ensures { IfOk result (λ line. line ≡ account_text did.now (unwrap_or (option_map (λ a. state_of a.now) account.entry) fresh)) }
 {
     let mut line = Octets::new(alloc);

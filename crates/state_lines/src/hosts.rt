@@ -32,9 +32,10 @@ pub fn host_lines(alloc: Global, hosts: &Hosts) -> Result<Octets, Memory>
 {
     let mut lines = Octets::new(alloc);
     'hosts: for place in 0..hosts.len() {
-        if let Some((host, cursor)) = hosts.at(place) {
-            add_host(&mut lines, host, cursor)?;
-        }
+        let Some((host, cursor)) = hosts.at(place) else {
+            unreachable!()
+        };
+        add_host(&mut lines, host, cursor)?;
     }
     add_end(&mut lines, hosts.len() as u64)?;
     Ok(lines)
