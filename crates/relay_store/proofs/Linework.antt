@@ -48,6 +48,3 @@ lines_report = record {
   passed = passed_by;
   end = λ J messages rows. refl;
 }
-
-pub joined : (old mid new one other : List ℕ) → mid ≡ old ++ one → new ≡ mid ++ other → new ≡ old ++ (one ++ other)
-joined old mid new one other h k = k ∙ ap (λ m. m ++ other) h ∙ append_assoc old one other
