@@ -1,9 +1,10 @@
 -- What an operator's command does on two disks (own).
 use Rattle.std.specs.Prelude.{◌≡◌, ◌≢◌, ◌⊎◌, ◌<◌, ⊤, ℕ, Bool, List, [], ◌∷◌, ◌++◌, length, IsTrue}
 use Rattle.at_event.specs.Refusals.{code_of}
+use Rattle.relay_disk.specs.Disk.{View}
 use Rattle.relay_disk.specs.Moments.{PairLeavesOnly}
 use Rattle.gate_log.specs.Image.{IsMade, made}
-use Rattle.gate_log.specs.Pick.{IsPicked, of_side}
+use Rattle.gate_log.specs.Pick.{IsPicked, view_of_side}
 use Rattle.gate_log.specs.declared.format.Format.{Format}
 use Rattle.gate_log.specs.declared.picking.Side.{Side}
 use Rattle.relay_row.specs.Journal.{IsJournal}
@@ -35,13 +36,13 @@ abbrev pub Knows : List Row → (Core → Type 0) → Type 0
 Knows J says = (core : Core) × Holds core J × says core
 
 -- The log of the two disks has no room for a row behind the journal: it would end at this place, past the most.
-pub record HasNoRoom (most : ℕ) (J : List Row) (row : Row) (e : ℕ) (one two : List ℕ) : Type 0 where
+pub record HasNoRoom (most : ℕ) (J : List Row) (row : Row) (e : ℕ) (one two : View) : Type 0 where
   pub side : Side
-  pub picked : IsPicked one two side
+  pub picked : IsPicked one.content two.content side
   pub format : Format
   pub bodies : List (List Row)
   pub are : AreBodiesOf J bodies
-  pub is_made : IsMade format (bytes_of bodies) (of_side side one two)
+  pub is_made : IsMade format (bytes_of bodies) (view_of_side side one two).content
   pub there : e ≡ end_of (length (made format (bytes_of bodies))) (row ∷ [])
   pub past : most < e
 
@@ -87,7 +88,7 @@ WasOpened came = ⊤
 -- An operator's command came to two disks that have the journal J.
 pub record Spoke (output_tells : Bool) (most : ℕ) (J : List Row) (nothing : Type 0) (vain : StoreFault → Type 0) (is_word : Word → Type 0) (old new : Outside) (end : RunEnd) : Type 0 where
   pub came : Came
-  pub is : IsCome nothing vain is_word (λ row e. HasNoRoom most J row e new.one.content new.two.content) end came
+  pub is : IsCome nothing vain is_word (λ row e. HasNoRoom most J row e new.one new.two) end came
   -- its row, if it made one, keeps the journal's order, and leaves a sound journal sound
   pub journal : IsJournal (J ++ rows_come came)
   pub sound : IsSound J → IsSound (J ++ rows_come came)
