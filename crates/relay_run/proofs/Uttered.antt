@@ -117,7 +117,7 @@ vain_by X StoreFault.Clock ends = tt
 full_not : (e : ℕ) → StoreFault.Full e ≡ StoreFault.Disk → ⊥
 full_not e is = cc
 
-done_answer : Done → Result Done StoreFault
+abbrev done_answer : Done → Result Done StoreFault
 done_answer done = Ok done
 
 ok_not : (done : Done) (fault : StoreFault) → done_answer done ≡ answered fault → ⊥
@@ -175,7 +175,7 @@ module _ {D : Type 0} (view : D → View) (is_disk : (x : D) → IsDisk (view x)
   }
 
   module _ (e f : D) (t : Store) (beside : of_pair (other_side s.side) e f ≡ of_pair (other_side s.side) c d) (P : Core → Word → Type 0) (failed nothing : Type 0) (vain : StoreFault → Type 0) (out_told : Bool) (most : ℕ) (most_is : s.log.most ≡ most)
-      (sounds : (word : Word) → P (seen_in s).core word → IsSound J → IsSound (J ++ rows_said word)) where
+      (sounds : (core : Core) → Holds core J → (word : Word) → P core word → IsSound J → IsSound (J ++ rows_said word)) where
     keeps_too : Keeps J (seen_in s) (view (of_pair s.side c d))
     keeps_too = subst (Keeps J (seen_in s)) (view_on view is_disk a b c d e f s.side) keeps
 
@@ -202,7 +202,7 @@ module _ {D : Type 0} (view : D → View) (is_disk : (x : D) → IsDisk (view x)
           came = said word;
           is = (opened_knows (λ core. P core word) is, ends_word _ word end ends_too);
           journal = journal;
-          sound = sounds word is;
+          sound = sounds (seen_in s).core keeps.core word is;
           written = λ out. subst (λ (x : Done). IsWritten end (done_text x) written now) same (text out);
           stands = λ n _. subst (λ (rows : List Row). StandsFor (J ++ rows) (view e) (view f)) (sym (row_kept word end ends_too))
               (stands_on view is_disk a b c d e f s.side J (J ++ rows_said word) (seen_in s) (seen_in t) beside worded.format keeps (worded.keeps (ok_not done StoreFault.Disk) told keeps_too) (opened.side told));
@@ -221,7 +221,7 @@ module _ {D : Type 0} (view : D → View) (is_disk : (x : D) → IsDisk (view x)
             same_here (λ x y. HasNoRoom most J row e (view x) (view y)) (worded.untouched (λ disk. full_not e (sym full_is ∙ same_fault fault StoreFault.Disk disk)) refl).1.1 (no_room most row e most_is full)),
       );
       journal = journal;
-      sound = sounds word is;
+      sound = sounds (seen_in s).core keeps.core word is;
       written = λ _. refl;
       stands = λ n _. nil_of (λ (K : List Row). StandsFor K (view e) (view f)) J
           (same_here (λ x y. StandsFor J (view x) (view y)) (worded.untouched (λ disk. n (ap RunEnd.Fault (same_fault fault StoreFault.Disk disk))) refl).1.1 opened_stands);
