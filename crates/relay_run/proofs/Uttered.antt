@@ -1,0 +1,239 @@
+-- What an operator's command did, from what the store answered.
+use Rattle.std.proofs.Common.{◌≡◌, ◌≢◌, inl, inr, ◌⊎◌, ⊎_elim, ℕ, ◌<◌, List, [], ◌∷◌, ◌++◌, length, Bool, Result, Ok, Err, IsTrue, refl, sym, ◌∙◌, ap, subst, arith}
+use Rattle.std.specs.Prelude.{⊤}
+use Rattle.std.proofs.lemmas.List.{append-nil}
+use Rattle.relay_disk.specs.Disk.{View, IsDisk}
+use Rattle.relay_disk.specs.Moments.{LeavesOnly, PairLeavesOnly}
+use Rattle.relay_disk.proofs.Moments.{pair_weaker}
+use Rattle.gate_log.specs.Pick.{LeavesSide, of_side, other_side, view_of_side}
+use Rattle.gate_log.specs.declared.picking.Side.{Side}
+use Rattle.gate_log.specs.declared.picking.Side.TheVariants.{One, Two}
+use Rattle.relay_row.specs.Journal.{IsJournal}
+use Rattle.relay_row.specs.declared.row.Row.{Row}
+use Rattle.relay_core.specs.Entries.{Holds}
+use Rattle.relay_core.specs.declared.journal_state.Core.{Core}
+use Rattle.relay_law.specs.Sound.{IsSound}
+use Rattle.relay_step.specs.Words.{rows_said}
+use Rattle.relay_step.specs.declared.word.Word.{Word}
+use Rattle.relay_store.specs.Drafts.{IsFull, end_of}
+use Rattle.relay_store.specs.Faults.{IsCause}
+use Rattle.relay_store.specs.Journals.{IsOneOf, IsPairImageOf}
+use Rattle.relay_store.specs.Opening.{IsOfReading, Opened}
+use Rattle.relay_store.specs.Store.{IsOf, Keeps, StoreState, seen_in}
+use Rattle.relay_store.specs.Taking.{ComesOfAsking}
+use Rattle.relay_store.specs.Words.{IsAnswer, Spoken, Unsaid, Worded, added, done_of, done_row}
+use Rattle.relay_store.specs.declared.done.Done.{Done}
+use Rattle.relay_store.specs.declared.fault.StoreFault.{StoreFault}
+use Rattle.relay_store.specs.declared.store.Store.{Store}
+use Rattle.relay_run.specs.Ends.{IsWritten}
+use Rattle.relay_run.specs.Lines.{IsEndOf, done_text}
+use Rattle.relay_run.specs.Pairs.{IsOneOfPair, StandsFor, of_pair, outside}
+use Rattle.relay_run.specs.Spoke.{Came, EndsWord, HasNoRoom, Knows, Spoke, in_vain, rows_kept, said, unopened}
+use Rattle.relay_run.specs.declared.end.RunEnd.{RunEnd}
+use Rattle.relay_run.proofs.Causing.{answered, same_fault}
+use Rattle.relay_run.proofs.Beside.{both_same, kept_stands, leaves_stand, one_beside, opened_keeps, opened_leaves, run_on, stands_on, view_on}
+
+-- ---- how a command ends by its word
+
+-- a row is an event, or a repository that was taken over
+row_not : (no_room : Row → ℕ → Type 0) (row : Row) (end : RunEnd) → IsEndOf (done_row row) end → EndsWord no_room (Word.Made row) end
+row_not no_room (Row.Taken t) RunEnd.Done is = tt
+row_not no_room (Row.Taken t) RunEnd.WriteFault is = tt
+row_not no_room (Row.Taken t) (RunEnd.Refused code) is = absurd is
+row_not no_room (Row.Taken t) (RunEnd.Fault fault) is = absurd is
+row_not no_room (Row.Synced did whole moment) RunEnd.Done is = tt
+row_not no_room (Row.Synced did whole moment) RunEnd.WriteFault is = tt
+row_not no_room (Row.Synced did whole moment) (RunEnd.Refused code) is = absurd is
+row_not no_room (Row.Synced did whole moment) (RunEnd.Fault fault) is = absurd is
+row_not no_room (Row.Operated o) RunEnd.Done is = tt
+row_not no_room (Row.Operated o) RunEnd.WriteFault is = tt
+row_not no_room (Row.Operated o) (RunEnd.Refused code) is = absurd is
+row_not no_room (Row.Operated o) (RunEnd.Fault fault) is = absurd is
+row_not no_room (Row.Carried c) RunEnd.Done is = tt
+row_not no_room (Row.Carried c) RunEnd.WriteFault is = tt
+row_not no_room (Row.Carried c) (RunEnd.Refused code) is = absurd is
+row_not no_room (Row.Carried c) (RunEnd.Fault fault) is = absurd is
+
+ends_word : (no_room : Row → ℕ → Type 0) (word : Word) (end : RunEnd) → IsEndOf (done_of word) end → EndsWord no_room word end
+ends_word no_room (Word.Made row) end is = row_not no_room row end is
+ends_word no_room (Word.Refused r) RunEnd.Done is = absurd is
+ends_word no_room (Word.Refused r) (RunEnd.Refused code) is = is
+ends_word no_room (Word.Refused r) RunEnd.WriteFault is = tt
+ends_word no_room (Word.Refused r) (RunEnd.Fault StoreFault.Disk) is = absurd is
+ends_word no_room (Word.Refused r) (RunEnd.Fault (StoreFault.BadLog p)) is = absurd is
+ends_word no_room (Word.Refused r) (RunEnd.Fault (StoreFault.Full e)) is = absurd is
+ends_word no_room (Word.Refused r) (RunEnd.Fault StoreFault.SeqEnd) is = absurd is
+ends_word no_room (Word.Refused r) (RunEnd.Fault StoreFault.Authority) is = absurd is
+ends_word no_room (Word.Refused r) (RunEnd.Fault StoreFault.Repos) is = absurd is
+ends_word no_room (Word.Refused r) (RunEnd.Fault StoreFault.Memory) is = tt
+ends_word no_room (Word.Refused r) (RunEnd.Fault StoreFault.Clock) is = absurd is
+
+-- behind what was answered the row is durable
+row_kept : (word : Word) (end : RunEnd) → IsEndOf (done_of word) end → rows_kept end (said word) ≡ rows_said word
+row_kept word RunEnd.Done is = refl
+row_kept word (RunEnd.Refused code) is = refl
+row_kept word RunEnd.WriteFault is = refl
+row_kept (Word.Refused r) (RunEnd.Fault fault) is = refl
+row_kept (Word.Made (Row.Taken t)) (RunEnd.Fault fault) is = absurd is
+row_kept (Word.Made (Row.Synced did whole moment)) (RunEnd.Fault fault) is = absurd is
+row_kept (Word.Made (Row.Operated o)) (RunEnd.Fault fault) is = absurd is
+row_kept (Word.Made (Row.Carried c)) (RunEnd.Fault fault) is = absurd is
+
+-- a fault behind a word
+fault_word : (no_room : Row → ℕ → Type 0) (word : Word) (fault : StoreFault) (s : StoreState) → IsAnswer s.log word (Err fault) → ((row : Row) (e : ℕ) → fault ≡ StoreFault.Full e → IsFull s.log [] row e → no_room row e)
+    → EndsWord no_room word (RunEnd.Fault fault)
+fault_word no_room (Word.Made row) StoreFault.Disk s is full = tt
+fault_word no_room (Word.Made row) (StoreFault.BadLog p) s is full = absurd is
+fault_word no_room (Word.Made row) (StoreFault.Full e) s is full = full row e refl (subst (λ (l : List Row). IsFull s.log [] (head_or row l) e) (sym is.1) is.2)
+    where
+    head_or : Row → List Row → Row
+    head_or d [] = d
+    head_or d (r ∷ rs) = r
+fault_word no_room (Word.Made row) StoreFault.SeqEnd s is full = absurd is
+fault_word no_room (Word.Made row) StoreFault.Authority s is full = absurd is
+fault_word no_room (Word.Made row) StoreFault.Repos s is full = absurd is
+fault_word no_room (Word.Made row) StoreFault.Memory s is full = tt
+fault_word no_room (Word.Made row) StoreFault.Clock s is full = absurd is
+fault_word no_room (Word.Refused r) StoreFault.Disk s is full = tt
+fault_word no_room (Word.Refused r) (StoreFault.BadLog p) s is full = absurd is
+fault_word no_room (Word.Refused r) (StoreFault.Full e) s is full = absurd (omega (arith, ap length is.1))
+fault_word no_room (Word.Refused r) StoreFault.SeqEnd s is full = absurd is
+fault_word no_room (Word.Refused r) StoreFault.Authority s is full = absurd is
+fault_word no_room (Word.Refused r) StoreFault.Repos s is full = absurd is
+fault_word no_room (Word.Refused r) StoreFault.Memory s is full = tt
+fault_word no_room (Word.Refused r) StoreFault.Clock s is full = absurd is
+
+-- a fault that comes of asking, by its cause
+pub vain_by : (X : Type 0) (fault : StoreFault) → (fault ≡ StoreFault.SeqEnd → X) → IsCause X ⊤ ⊤ ⊤ fault
+vain_by X StoreFault.Disk ends = tt
+vain_by X (StoreFault.BadLog p) ends = tt
+vain_by X (StoreFault.Full e) ends = tt
+vain_by X StoreFault.SeqEnd ends = ends refl
+vain_by X StoreFault.Authority ends = tt
+vain_by X StoreFault.Repos ends = tt
+vain_by X StoreFault.Memory ends = tt
+vain_by X StoreFault.Clock ends = tt
+
+full_not : (e : ℕ) → StoreFault.Full e ≡ StoreFault.Disk → ⊥
+full_not e is = cc
+
+abbrev done_answer : Done → Result Done StoreFault
+done_answer done = Ok done
+
+ok_not : (done : Done) (fault : StoreFault) → done_answer done ≡ answered fault → ⊥
+ok_not done fault is = cc
+
+-- ---- the whole command
+
+nil_of : (P : List Row → Type 0) (J : List Row) → P J → P (J ++ [])
+nil_of P J is = subst P (sym (append-nil J)) is
+
+-- the disks weren't opened
+pub spoke_unopened : (tells : Bool) (one two one_now two_now : View) (fault : StoreFault) (J : List Row) (nothing : Type 0) (vain : StoreFault → Type 0) (is_word : Word → Type 0) (out_told : Bool) (most : ℕ) (written : List ℕ)
+    → IsDisk one_now → IsDisk two_now → Opened tells one two one_now two_now (Err fault) → IsTrue tells → IsPairImageOf J one.content two.content → IsOfReading fault → nothing
+    → Spoke out_told most J nothing vain is_word (outside one two written) (outside one_now two_now written) (RunEnd.Fault fault)
+spoke_unopened tells one two one_now two_now fault J nothing vain is_word out_told most written first second opened told image few none =
+    let leaves : StandsFor J one two → PairLeavesOnly (IsPairImageOf J) one one_now two two_now = opened_leaves tells one two one_now two_now (Err fault) opened told J in
+    record {
+      came = unopened;
+      is = (fault, refl, few, none);
+      journal = nil_of IsJournal J image.are.journal;
+      sound = nil_of IsSound J;
+      written = λ _. refl;
+      stands = λ n. ⊎_elim (λ none. absurd none) (λ stands. nil_of (λ (K : List Row). StandsFor K one_now two_now) J (leaves_stand J one two one_now two_now first second (leaves stands)));
+      crashes = λ stands. pair_weaker (IsPairImageOf J) (IsOneOfPair J []) one one_now two two_now (leaves stands) (λ c d was. inl was);
+    }
+
+module _ {D : Type 0} (view : D → View) (is_disk : (x : D) → IsDisk (view x)) (a b c d : D) (tells : Bool) (told : IsTrue tells) (s : Store) (opened : Opened tells (view a) (view b) (view c) (view d) (Ok s))
+    (J : List Row) (image : IsPairImageOf J (view a).content (view b).content) where
+  keeps : Keeps J (seen_in s) (view_of_side s.side (view c) (view d))
+  keeps = opened_keeps tells (view a) (view b) (view c) (view d) s opened told J image
+
+  -- what is known is of the journal
+  pub opened_of : IsOf J (seen_in s).core
+  opened_of = record { holds = keeps.core; journal = keeps.are.journal }
+
+  pub opened_knows : (P : Core → Type 0) → P (seen_in s).core → Knows J P
+  opened_knows P is = ((seen_in s).core, keeps.core, is)
+
+  opened_stands : StandsFor J (view c) (view d)
+  opened_stands = kept_stands s.side J (seen_in s) (view c) (view d) (is_disk c) (is_disk d) (opened.side told) keeps
+
+  still : StandsFor J (view a) (view b) → PairLeavesOnly (IsPairImageOf J) (view a) (view c) (view b) (view d)
+  still = opened_leaves tells (view a) (view b) (view c) (view d) (Ok s) opened told J
+
+  no_room : (most : ℕ) (row : Row) (e : ℕ) → s.log.most ≡ most → IsFull (seen_in s).log [] row e → HasNoRoom most J row e (view c) (view d)
+  no_room most row e most_is full = record {
+    side = s.side;
+    picked = opened.side told (view c).content (view d).content (is_disk c).possible (is_disk d).possible;
+    format = (seen_in s).log.format;
+    bodies = keeps.bodies;
+    are = keeps.are;
+    is_made = keeps.holds.now;
+    there = full.there ∙ ap (λ (n : ℕ). end_of n (row ∷ [])) keeps.holds.ends;
+    past = omega (arith, full.past, full.there, most_is);
+  }
+
+  module _ (e f : D) (t : Store) (beside : of_pair (other_side s.side) e f ≡ of_pair (other_side s.side) c d) (P : Core → Word → Type 0) (failed nothing : Type 0) (vain : StoreFault → Type 0) (out_told : Bool) (most : ℕ) (most_is : s.log.most ≡ most)
+      (sounds : (core : Core) → Holds core J → (word : Word) → P core word → IsSound J → IsSound (J ++ rows_said word)) where
+    keeps_too : Keeps J (seen_in s) (view (of_pair s.side c d))
+    keeps_too = subst (Keeps J (seen_in s)) (view_on view is_disk a b c d e f s.side) keeps
+
+    crashes_of : (rows : List Row) → LeavesOnly (IsOneOf (seen_in s).log.format J rows) (view (of_pair s.side c d)) (view (of_pair s.side e f))
+        → StandsFor J (view a) (view b) → PairLeavesOnly (IsOneOfPair J rows) (view a) (view e) (view b) (view f)
+    crashes_of rows run stands =
+        run_on view is_disk a b c d e f s.side J (seen_in s) (IsOneOf (seen_in s).log.format J rows) (IsOneOfPair J rows) beside keeps (still stands) run (λ x y was. inl was)
+        (one_beside s.side J rows (seen_in s).log.format)
+
+    -- the disks are as they were
+    same_here : (Q : D → D → Type 0) → of_pair s.side e f ≡ of_pair s.side c d → Q c d → Q e f
+    same_here Q same was =
+        let both = both_same view is_disk a b c d e f s.side beside same in
+        subst (λ (y : D). Q e y) (sym both.1) (subst (λ (x : D). Q x d) (sym both.0) was)
+
+    -- the store answered what came of a word
+    pub spoke_ok : (done : Done) (end : RunEnd) (written now : List ℕ) → Spoken view tells J (P (seen_in s).core) failed (seen_in s) (seen_in t) (of_pair s.side c d) (of_pair s.side e f) (Ok done)
+        → IsEndOf done end → (IsTrue out_told → IsWritten end (done_text done) written now)
+        → Spoke out_told most J nothing vain (λ word. Knows J (λ core. P core word)) (outside (view a) (view b) written) (outside (view e) (view f) now) end
+    spoke_ok done end written now (inl (word, is, journal, worded)) ends text =
+        let same : done ≡ done_of word = worded.answer in
+        let ends_too : IsEndOf (done_of word) end = subst (λ (x : Done). IsEndOf x end) same ends in
+        record {
+          came = said word;
+          is = (opened_knows (λ core. P core word) is, ends_word _ word end ends_too);
+          journal = journal;
+          sound = sounds (seen_in s).core keeps.core word is;
+          written = λ out. subst (λ (x : Done). IsWritten end (done_text x) written now) same (text out);
+          stands = λ n _. subst (λ (rows : List Row). StandsFor (J ++ rows) (view e) (view f)) (sym (row_kept word end ends_too))
+              (stands_on view is_disk a b c d e f s.side J (J ++ rows_said word) (seen_in s) (seen_in t) beside worded.format keeps (worded.keeps (ok_not done StoreFault.Disk) told keeps_too) (opened.side told));
+          crashes = crashes_of (rows_said word) (worded.moments told keeps_too);
+        }
+    spoke_ok done end written now (inr unsaid) ends text = absurd (ok_not done unsaid.fault unsaid.is)
+
+    -- a fault
+    pub spoke_err : (fault : StoreFault) (written : List ℕ) → Spoken view tells J (P (seen_in s).core) failed (seen_in s) (seen_in t) (of_pair s.side c d) (of_pair s.side e f) (Err fault) → (failed → vain fault)
+        → Spoke out_told most J nothing vain (λ word. Knows J (λ core. P core word)) (outside (view a) (view b) written) (outside (view e) (view f) written) (RunEnd.Fault fault)
+    spoke_err fault written (inl (word, is, journal, worded)) vains = record {
+      came = said word;
+      is = (
+        opened_knows (λ core. P core word) is,
+        fault_word _ word fault (seen_in s) worded.answer (λ row e full_is full.
+            same_here (λ x y. HasNoRoom most J row e (view x) (view y)) (worded.untouched (λ disk. full_not e (sym full_is ∙ same_fault fault StoreFault.Disk disk)) refl).1.1 (no_room most row e most_is full)),
+      );
+      journal = journal;
+      sound = sounds (seen_in s).core keeps.core word is;
+      written = λ _. refl;
+      stands = λ n _. nil_of (λ (K : List Row). StandsFor K (view e) (view f)) J
+          (same_here (λ x y. StandsFor J (view x) (view y)) (worded.untouched (λ disk. n (ap RunEnd.Fault (same_fault fault StoreFault.Disk disk))) refl).1.1 opened_stands);
+      crashes = crashes_of (rows_said word) (worded.moments told keeps_too);
+    }
+    spoke_err fault written (inr unsaid) vains = record {
+      came = in_vain;
+      is = (fault, refl, subst ComesOfAsking (sym (same_fault fault unsaid.fault unsaid.is)) unsaid.of_asking, vains unsaid.came);
+      journal = nil_of IsJournal J image.are.journal;
+      sound = nil_of IsSound J;
+      written = λ _. refl;
+      stands = λ n _. nil_of (λ (K : List Row). StandsFor K (view e) (view f)) J (same_here (λ x y. StandsFor J (view x) (view y)) unsaid.disk_same opened_stands);
+      crashes = λ stands. same_here (λ x y. PairLeavesOnly (IsOneOfPair J []) (view a) (view x) (view b) (view y)) unsaid.disk_same
+          (pair_weaker (IsPairImageOf J) (IsOneOfPair J []) (view a) (view c) (view b) (view d) (still stands) (λ x y was. inl was));
+    }

@@ -1,0 +1,5 @@
+pub mod Pairs
+pub mod Ends
+pub mod Lines
+pub mod Shown
+pub mod Spoke

@@ -1,0 +1,102 @@
+//! The line of what was answered to an operator.
+
+ghost use Rattle.std.specs.Prelude.{◌≡◌, ◌≤◌, ◌++◌, ◌∷◌, [], codes, IsTrue, IfOk, OnOk, OnErr};
+ghost use Rattle.at_cid.specs.Counts.{Rose};
+ghost use Rattle.relay_io.specs.Streams.{AddsFront};
+ghost use Rattle.relay_run.specs.Ends.{IsWritten};
+ghost use Rattle.relay_run.specs.Lines.{IsEndOf, done_text, numbered};
+ghost use Rattle.relay_run.specs.declared.end.RunEnd.{RunEnd as TheEnd};
+ghost use Rattle.relay_store.specs.declared.done.Done.{Done as TheDone};
+
+use crate::end::RunEnd;
+use at_cid::{Memory, Octets};
+use at_event::Refusal;
+use itoa::Buffer;
+use relay_io::{Failed, Sink, write_all};
+use relay_store::{Done, StoreFault};
+use report_lines::add_refusal;
+use std::alloc::Global;
+
+// A word and a number.
+fn write_number<O: Sink>(out: &mut O, word: &[u8], number: u64) -> Result<(), Failed>
+    ensures written { OnOk result (IsTrue O.tells → O.written out.new ≡ O.written out.old ++ numbered word.now number) }
+    ensures front { IsTrue O.tells → AddsFront (O.written out.old) (O.written out.new) (numbered word.now number) }
+    ensures counts { O.faults out.old ≤ O.faults out.new }
+    ensures failed { OnErr result (Rose (O.faults out.old) (O.faults out.new)) }
+{
+    write_all(out, word)?;
+    write_all(out, Buffer::new().format(number).as_bytes())
+}
+
+fn write_event<O: Sink>(out: &mut O, seq: u64) -> Result<(), Failed>
+    ensures written { OnOk result (IsTrue O.tells → O.written out.new ≡ O.written out.old ++ done_text (Done.Event seq)) }
+    ensures front { IsTrue O.tells → AddsFront (O.written out.old) (O.written out.new) (done_text (Done.Event seq)) }
+    ensures counts { O.faults out.old ≤ O.faults out.new }
+    ensures failed { OnErr result (Rose (O.faults out.old) (O.faults out.new)) }
+{
+    write_number(out, b"event ", seq)?;
+    write_all(out, b"\n")
+}
+
+fn write_records<O: Sink>(out: &mut O, records: u64) -> Result<(), Failed>
+    ensures written { OnOk result (IsTrue O.tells → O.written out.new ≡ O.written out.old ++ (numbered (codes " records ") records ++ 10 ∷ [])) }
+    ensures front { IsTrue O.tells → AddsFront (O.written out.old) (O.written out.new) (numbered (codes " records ") records ++ 10 ∷ []) }
+    ensures counts { O.faults out.old ≤ O.faults out.new }
+    ensures failed { OnErr result (Rose (O.faults out.old) (O.faults out.new)) }
+{
+    write_number(out, b" records ", records)?;
+    write_all(out, b"\n")
+}
+
+fn write_synced<O: Sink>(out: &mut O, seq: u64, records: u64) -> Result<(), Failed>
+    ensures written { OnOk result (IsTrue O.tells → O.written out.new ≡ O.written out.old ++ done_text (Done.Synced seq records)) }
+    ensures front { IsTrue O.tells → AddsFront (O.written out.old) (O.written out.new) (done_text (Done.Synced seq records)) }
+    ensures counts { O.faults out.old ≤ O.faults out.new }
+    ensures failed { OnErr result (Rose (O.faults out.old) (O.faults out.new)) }
+{
+    write_number(out, b"synced ", seq)?;
+    write_records(out, records)
+}
+
+fn refused_line(alloc: Global, refusal: &Refusal) -> Result<Octets, Memory>
+    ensures { IfOk result (λ line. line ≡ done_text (Done.Refused refusal.now)) }
+{
+    let mut line = Octets::new(alloc);
+    add_refusal(&mut line, refusal)?;
+    line.extend(b"\n")?;
+    Ok(line)
+}
+
+fn answer_refused<O: Sink>(alloc: Global, refusal: &Refusal, out: &mut O) -> RunEnd
+    ensures ends { IsEndOf (Done.Refused refusal.now) result }
+    ensures written { IsTrue O.tells → IsWritten result (done_text (Done.Refused refusal.now)) (O.written out.old) (O.written out.new) }
+    ensures failed { result ≡ RunEnd.WriteFault → Rose (O.faults out.old) (O.faults out.new) }
+    ensures counts { O.faults out.old ≤ O.faults out.new }
+{
+    let line = match refused_line(alloc, refusal) {
+        Ok(line) => line,
+        Err(_) => return RunEnd::Fault(StoreFault::Memory),
+    };
+    match write_all(out, line.as_slice()) {
+        Ok(()) => RunEnd::Refused(refusal.code()),
+        Err(_) => RunEnd::WriteFault,
+    }
+}
+
+// Memory is taken for a refusal alone: behind a row that was added nothing fails but the output.
+pub(crate) fn answer<O: Sink>(alloc: Global, done: &Done, out: &mut O) -> RunEnd
+    ensures ends { IsEndOf done.now result }
+    ensures written { IsTrue O.tells → IsWritten result (done_text done.now) (O.written out.old) (O.written out.new) }
+    ensures failed { result ≡ RunEnd.WriteFault → Rose (O.faults out.old) (O.faults out.new) }
+    ensures counts { O.faults out.old ≤ O.faults out.new }
+{
+    let written = match done {
+        Done::Event(seq) => write_event(out, *seq),
+        Done::Synced(seq, records) => write_synced(out, *seq, *records),
+        Done::Refused(refusal) => return answer_refused(alloc, refusal, out),
+    };
+    match written {
+        Ok(()) => RunEnd::Done,
+        Err(_) => RunEnd::WriteFault,
+    }
+}

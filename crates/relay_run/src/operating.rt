@@ -1,0 +1,99 @@
+//! The commands by which an account is taken down or restored.
+
+ghost use Rattle.std.specs.Prelude.{◌≡◌, ◌≢◌, ◌≤◌, ◌⊎◌, ⊤, ℕ, List, Err, length, IsTrue};
+ghost use Rattle.at_cid.specs.Counts.{Rose};
+ghost use Rattle.at_form.specs.declared.forms.TheConstants.{LONGEST_SHORT_TEXT};
+ghost use Rattle.at_syntax.specs.Did.{is_did};
+ghost use Rattle.gate_log.specs.Pick.{other_side, view_of_side};
+ghost use Rattle.gate_log.specs.declared.limits.TheConstants.{LAST_END};
+ghost use Rattle.relay_row.specs.declared.row.Row.{Row as TheRow};
+ghost use Rattle.relay_step.specs.Causes.{OneTaken};
+ghost use Rattle.relay_step.specs.Words.{EndsBehind, OperatedAt};
+ghost use Rattle.relay_store.specs.Faults.{IsCause};
+ghost use Rattle.relay_store.specs.Journals.{IsPairImageOf};
+ghost use Rattle.relay_store.specs.Store.{IsKept, IsOf, seen_in};
+ghost use Rattle.relay_store.specs.Words.{Spoken};
+ghost use Rattle.relay_store.specs.declared.fault.StoreFault.{StoreFault as TheFault};
+ghost use Rattle.relay_run.specs.Ends.{IsCausedBy, IsQuiet, Shows};
+ghost use Rattle.relay_run.specs.Pairs.{of_pair, outside};
+ghost use Rattle.relay_run.specs.Spoke.{Knows, Spoke};
+ghost use Rattle.relay_run.specs.declared.end.RunEnd.{RunEnd as TheEnd};
+
+use crate::answering::answer;
+use crate::end::RunEnd;
+use gate_log::Side;
+use relay_disk::Disk;
+use relay_io::{Clock, Sink};
+use relay_store::{Done, Store, StoreFault};
+use std::alloc::Global;
+
+// Takes an account down or restores it, on the disk of the store's side.
+fn operate_on<D: Disk, C: Clock>(
+    alloc: Global,
+    store: &mut Store,
+    disk: &mut D,
+    other: &mut D,
+    did: &str,
+    down: bool,
+    time: &str,
+    clock: &mut C,
+) -> Result<Done, StoreFault>
+    requires open { IsTrue (seen_in store.old).log.is_open }
+    requires on { IsTrue D.tells → IsKept (seen_in store.old) (view_of_side (seen_in store.old).side (D.view disk.old) (D.view other.old)) }
+    requires did { IsTrue (is_did did.now) }
+    requires time { length time.now ≤ LONGEST_SHORT_TEXT }
+    ensures spoken { (J : List TheRow) → IsOf J (seen_in store.old).core → Spoken D.view D.tells J (λ word. OperatedAt C.tells (seen_in store.old).core did.now down time.now (C.moments clock.old) word (C.moments clock.new))
+        (IsTrue C.tells → OneTaken (C.moments clock.old) (C.moments clock.new)) (seen_in store.old) (seen_in store.new)
+        (of_pair (seen_in store.old).side disk.old other.old) (of_pair (seen_in store.old).side disk.new other.new) result }
+    ensures beside { of_pair (other_side (seen_in store.old).side) disk.new other.new ≡ of_pair (other_side (seen_in store.old).side) disk.old other.old }
+    ensures disk { result ≡ Err StoreFault.Disk → Rose (D.view disk.old).faults (D.view disk.new).faults ⊎ Rose (D.view other.old).faults (D.view other.new).faults }
+    ensures clock { result ≡ Err StoreFault.Clock → Rose (C.faults clock.old) (C.faults clock.new) }
+    ensures seq_end { result ≡ Err StoreFault.SeqEnd → EndsBehind (seen_in store.old).core did.now down }
+    ensures disk_counts { (D.view disk.old).faults ≤ (D.view disk.new).faults }
+    ensures other_counts { (D.view other.old).faults ≤ (D.view other.new).faults }
+    ensures clock_counts { C.faults clock.old ≤ C.faults clock.new }
+{
+    match store.side() {
+        Side::One => store.operate(alloc, disk, did, down, time, clock),
+        Side::Two => store.operate(alloc, other, did, down, time, clock),
+    }
+}
+
+/// Takes an account down, or restores it, at an operator's word, and writes what came of it. `time` is that of the event by which
+/// this goes out. No row of the log is to end past `most`, which is in bytes.
+pub fn operate<D: Disk, C: Clock, O: Sink>(
+    alloc: Global,
+    most: u64,
+    disk: &mut D,
+    other: &mut D,
+    did: &str,
+    down: bool,
+    time: &str,
+    clock: &mut C,
+    out: &mut O,
+) -> RunEnd
+    requires most { most ≤ LAST_END }
+    requires did { IsTrue (is_did did.now) }
+    requires time { length time.now ≤ LONGEST_SHORT_TEXT }
+    ensures spoke { IsTrue D.tells → (J : List TheRow) → IsPairImageOf J (D.view disk.old).content (D.view other.old).content
+        → Spoke O.tells most J (C.moments clock.new ≡ C.moments clock.old)
+            (λ fault. (IsTrue C.tells → OneTaken (C.moments clock.old) (C.moments clock.new)) × IsCause (Knows J (λ core. EndsBehind core did.now down)) ⊤ ⊤ ⊤ fault)
+            (λ word. Knows J (λ core. OperatedAt C.tells core did.now down time.now (C.moments clock.old) word (C.moments clock.new)))
+            (outside (D.view disk.old) (D.view other.old) (O.written out.old)) (outside (D.view disk.new) (D.view other.new) (O.written out.new)) result }
+    ensures shows { IsTrue D.tells → Shows result (D.view disk.old).content (D.view other.old).content }
+    ensures quiet { IsTrue O.tells → IsQuiet result (O.written out.old) (O.written out.new) }
+    ensures caused { IsCausedBy (Rose (D.view disk.old).faults (D.view disk.new).faults ⊎ Rose (D.view other.old).faults (D.view other.new).faults) (Rose (O.faults out.old) (O.faults out.new)) ⊤ ⊤ (Rose (C.faults clock.old) (C.faults clock.new)) result }
+    ensures disk_counts { (D.view disk.old).faults ≤ (D.view disk.new).faults }
+    ensures other_counts { (D.view other.old).faults ≤ (D.view other.new).faults }
+    ensures clock_counts { C.faults clock.old ≤ C.faults clock.new }
+    ensures out_counts { O.faults out.old ≤ O.faults out.new }
+{
+    let mut store = match Store::open(alloc, disk, other, most) {
+        Ok(store) => store,
+        Err(fault) => return RunEnd::Fault(fault),
+    };
+    match operate_on(alloc, &mut store, disk, other, did, down, time, clock) {
+        Ok(done) => answer(alloc, &done, out),
+        Err(fault) => RunEnd::Fault(fault),
+    }
+}
