@@ -1,12 +1,34 @@
--- What a run of a command does to the outside.
-use Rattle.std.specs.Prelude.{◌≡◌, ℕ, ◌+◌, ◌≤◌, Bool, List, [], ◌++◌, length, IsTrue, ◌⊎◌}
+-- What a run of a command does to the outside (own).
+use Rattle.std.specs.Prelude.{◌≡◌, ⊤, ℕ, ◌+◌, ◌≤◌, Bool, true, false, List, [], ◌++◌, length, IsTrue, ◌⊎◌}
+use Rattle.at_authority.specs.Panels.{IsSpent}
 use Rattle.at_cid.specs.Counts.{Rose}
+use Rattle.at_syntax.specs.Did.{method_of}
+use Rattle.account_state.specs.Folds.{account}
+use Rattle.host_state.specs.Folds.{hosts}
+use Rattle.ingest_run.specs.Ingested.{HadJournal as TapeHadJournal, Ingested, IsQuiet as IsQuietTape, TwoDisks, two_disks}
+use Rattle.relay_disk.specs.Disk.{View}
 use Rattle.relay_io.specs.Streams.{AddsFront}
 use Rattle.relay_io.specs.declared.feed.TheConstants.{LONGEST_MESSAGE}
+use Rattle.relay_row.specs.declared.row.Row.{Row}
+use Rattle.relay_run.specs.Ends.{IsOfShowing, IsQuiet as IsQuietEnd, Shows as HadJournal}
+use Rattle.relay_run.specs.Pairs.{Outside, outside}
+use Rattle.relay_run.specs.Shown.{Shown}
+use Rattle.relay_run.specs.Spoke.{Knows, Spoke}
+use Rattle.relay_run.specs.declared.end.RunEnd.{RunEnd}
+use Rattle.relay_step.specs.Around.{Around}
+use Rattle.relay_step.specs.Asked.{AskedInVain}
+use Rattle.relay_step.specs.Causes.{CameToNothing, OneTaken}
+use Rattle.relay_step.specs.Words.{EndsBehind, EndsFetched, OperatedAt, SyncedAt, told_where}
+use Rattle.relay_store.specs.Faults.{IsCause}
+use Rattle.relay_store.specs.Journals.{IsPairImageOf}
+use Rattle.relay_store.specs.declared.fault.StoreFault.{StoreFault}
+use Rattle.state_lines.specs.Lines.{account_text, hosts_text}
+use Rattle.tape_run.specs.declared.end.TapeEnd.{TapeEnd}
 use Rattle.relay_cli.specs.declared.command.Command.{Command}
+use Rattle.relay_cli.specs.declared.running.TheConstants.{LONGEST}
 use Rattle.relay_cli.specs.declared.status.Status.{Status}
 use Rattle.relay_cli.specs.declared.verdict.Verdict.{Verdict}
-use Rattle.relay_cli.specs.Statuses.{status_of}
+use Rattle.relay_cli.specs.Statuses.{status_of, status_of_run, status_of_tape}
 use Rattle.relay_cli.specs.Report.{line_of}
 use Rattle.relay_cli.specs.Verdicts.{IsVerdict}
 
@@ -107,47 +129,56 @@ pub record Place : Type 1 where
   pub around : Around
   pub left : List ℕ
   pub written : List ℕ
-  pub faults : Faults
 
-abbrev pub place : View → View → Around → List ℕ → List ℕ → Faults → Place
-place one two around left written faults = record { one = one; two = two; around = around; left = left; written = written; faults = faults }
+abbrev pub place : View → View → Around → List ℕ → List ℕ → Place
+place one two around left written = record { one = one; two = two; around = around; left = left; written = written }
 
 -- the two disks and what is written
 abbrev pub disks : Place → Outside
 disks p = outside p.one p.two p.written
 
-abbrev pub streams_at : Tells → Place → Streams
-streams_at t p = streams t.input p.left p.faults.input t.output p.written p.faults.output
+-- and all that taking a tape moves
+abbrev pub all_of : Place → TwoDisks
+all_of p = two_disks p.one p.two p.around p.left p.written
 
--- What a command does with the journal of the two disks, where they tell it.
+-- what a command does with the journal of the two disks, where they tell it
 abbrev pub OnJournal : Tells → Place → (List Row → Type 0) → Type 0
 OnJournal t p Does = IsTrue t.disk → (J : List Row) → IsPairImageOf J p.one.content p.two.content → Does J
 
--- A command ended so: the status is that of its end. What the disks were is told by the end, and it did this on their journal.
-pub record Ended {E : Type 0} (status_of : E → Status) (status : Status) (is_told : E → Type 0) (does : E → Type 0) : Type 0 where
-  pub end : E
-  pub status_is : status ≡ status_of end
-  pub told : is_told end
-  pub did : does end
+-- A command on the journal ended so. The status is that of its end; the end tells what the disks were, and after a fault of the store nothing was written.
+pub record Ended (t : Tells) (old new : Place) (status : Status) (Does : RunEnd → Type 0) : Type 0 where
+  pub end : RunEnd
+  pub status_is : status ≡ status_of_run end
+  pub had : IsTrue t.disk → HadJournal end old.one.content old.two.content
+  pub quiet : IsTrue t.output → IsQuietEnd end old.written new.written
+  pub does : Does end
 
--- a command that shows a text of the journal
-abbrev pub Shows : (List Row → List ℕ) → Tells → Place → Place → Status → Type 0
-Shows text t old new status = Ended status_of_run status (λ end. IsTrue t.disk → HadJournal end old.one.content old.two.content) (λ end. OnJournal t old (λ J. Shown t.output J (text J) (disks old) (disks new) end))
+-- a text of the journal is shown, and nothing else is asked or read
+abbrev pub IsShown : (List Row → List ℕ) → Tells → Place → Place → Status → Type 0
+IsShown text t old new status = Ended t old new status (λ end. IsOfShowing end × ((new.around ≡ old.around) × ((new.left ≡ old.left) × OnJournal t old (λ J. Shown t.output J (text J) (disks old) (disks new) end))))
 
--- a command by which an account is taken down or restored, at a time
-abbrev pub Operates : List ℕ → Bool → List ℕ → Tells → Place → Place → Status → Type 0
-Operates did down time t old new status = Ended status_of_run status (λ end. IsTrue t.disk → HadJournal end old.one.content old.two.content)
-    (λ end. OnJournal t old (λ J. Operated t.clock t.output LONGEST J did down time old.around.moments new.around.moments (disks old) (disks new) end))
+-- an account is taken down or restored at a time, of which the clock is asked
+abbrev pub IsOperated : List ℕ → Bool → List ℕ → Tells → Place → Place → Status → Type 0
+IsOperated did down time t old new status = Ended t old new status (λ end. (new.around.panel ≡ old.around.panel) × ((new.left ≡ old.left)
+    × OnJournal t old (λ J. Spoke t.output LONGEST J (new.around.moments ≡ old.around.moments)
+    (λ fault. (IsTrue t.clock → OneTaken old.around.moments new.around.moments) × IsCause (Knows J (λ core. EndsBehind core did down)) ⊤ ⊤ ⊤ fault)
+    (λ word. Knows J (λ core. OperatedAt t.clock core did down time old.around.moments word new.around.moments)) (disks old) (disks new) end)))
 
--- a command by which an account's repository is fetched and taken over, at a time
-abbrev pub Syncs : List ℕ → List ℕ → Tells → Place → Place → Status → Type 0
-Syncs did time t old new status = Ended status_of_run status (λ end. IsTrue t.disk → HadJournal end old.one.content old.two.content)
-    (λ end. OnJournal t old (λ J. Synced t.clock t.repos t.output LONGEST J did time old.around new.around (disks old) (disks new) end))
+-- an account's repository is fetched and taken over at a time, of which judges, clock and repositories are asked
+abbrev pub IsSynced : List ℕ → List ℕ → Tells → Place → Place → Status → Type 0
+IsSynced did time t old new status = Ended t old new status (λ end. (new.left ≡ old.left) × ((end ≡ RunEnd.Fault StoreFault.Authority → IsSpent (new.around.panel (method_of did)))
+    × OnJournal t old (λ J. Spoke t.output LONGEST J (new.around ≡ old.around)
+    (λ fault. CameToNothing t.clock t.repos (AskedInVain old.around.panel did new.around.panel) old.around new.around
+    × IsCause (Knows J (λ core. EndsFetched core did (told_where t.repos (old.around.repository did)) old.around.panel new.around.panel)) ⊤ ⊤ ⊤ fault)
+    (λ word. Knows J (λ core. SyncedAt t.clock t.repos core did time old.around word new.around)) (disks old) (disks new) end)))
 
--- the command by which a tape is taken
-abbrev pub Ingests : Tells → Place → Place → Status → Type 0
-Ingests t old new status = Ended status_of_tape status (λ end. IsTrue t.disk → HadJournal end old.one.content old.two.content)
-    (λ end. OnJournal t old (λ J. Ingested LONGEST LONGEST J old new end))
+-- A tape was taken into the journal, and ended so.
+pub record TapeEnded (t : Tells) (old new : Place) (status : Status) : Type 0 where
+  pub end : TapeEnd
+  pub status_is : status ≡ status_of_tape end
+  pub had : IsTrue t.disk → TapeHadJournal end old.one.content old.two.content
+  pub quiet : IsTrue t.output → IsQuietTape end old.written new.written
+  pub does : OnJournal t old (λ J. Ingested t.clock t.repos t.input t.output LONGEST LONGEST J (all_of old) (all_of new) end)
 
 abbrev pub is_built : Command → Bool
 is_built (Command.Follow host count) = false
@@ -156,13 +187,19 @@ is_built (Command.Serve count) = false
 is_built (Command.Trial start count) = false
 is_built command = true
 
+-- whether a command works on the journal
+abbrev pub is_on_journal : Command → Bool
+is_on_journal Command.Check = false
+is_on_journal command = is_built command
+
 -- What a run of each command does.
-abbrev pub Ran : Tells → Place → Place → Status → Command → Type 0
-Ran t old new status Command.Check = Checked LONGEST_MESSAGE (streams_at t old) (streams_at t new) status
-Ran t old new status Command.Ingest = Ingests t old new status
-Ran t old new status (Command.Account did) = Shows (λ J. account_text did (account did J)) t old new status
-Ran t old new status Command.Hosts = Shows (λ J. hosts_text (hosts J)) t old new status
-Ran t old new status (Command.Takedown did time) = Operates did true time t old new status
-Ran t old new status (Command.Restore did time) = Operates did false time t old new status
-Ran t old new status (Command.Sync did time) = Syncs did time t old new status
-Ran t old new status command = (status ≡ Status.NotBuilt) ⊎ (status ≡ Status.Memory)
+abbrev pub Ran : Tells → Place → Place → Faults → Faults → Status → Command → Type 0
+Ran t old new failed failed_now status Command.Check =
+    Checked LONGEST_MESSAGE (streams t.input old.left failed.input t.output old.written failed.output) (streams t.input new.left failed_now.input t.output new.written failed_now.output) status
+Ran t old new failed failed_now status Command.Ingest = TapeEnded t old new status
+Ran t old new failed failed_now status (Command.Account did) = IsShown (λ J. account_text did (account did J)) t old new status
+Ran t old new failed failed_now status Command.Hosts = IsShown (λ J. hosts_text (hosts J)) t old new status
+Ran t old new failed failed_now status (Command.Takedown did time) = IsOperated did true time t old new status
+Ran t old new failed failed_now status (Command.Restore did time) = IsOperated did false time t old new status
+Ran t old new failed failed_now status (Command.Sync did time) = IsSynced did time t old new status
+Ran t old new failed failed_now status command = (status ≡ Status.NotBuilt) ⊎ (status ≡ Status.Memory)

@@ -1,18 +1,18 @@
 //! The top call.
-ghost use Rattle.std.specs.Prelude.{◌≡◌, map, string_bytes, false};
+ghost use Rattle.std.specs.Prelude.{◌≡◌, ◌⊎◌, map, string_bytes, false};
 ghost use Rattle.relay_step.specs.Around.{around};
 ghost use Rattle.relay_cli.specs.Commands.{IsInForm, IsSpelled};
-ghost use Rattle.relay_cli.specs.Runs.{Caused, Kept, Ran, faults, is_built, place, tells};
-ghost use Rattle.relay_cli.specs.declared.status.Status.{Status as TheStatus};
+ghost use Rattle.relay_cli.specs.Runs.{Caused, Kept, Ran, faults, is_built, is_on_journal, place, tells};
 
 use crate::checking::check;
 use crate::command::{Command, command_from};
 use crate::status::Status;
 use crate::words_fault::WordsFault;
 use at_authority::Judges;
+use ingest_run::ingest;
 use relay_disk::Disk;
 use relay_io::{Clock, LONGEST_MESSAGE, Repos, Sink, Source};
-use relay_run::{account, hosts, ingest, operate, sync};
+use relay_run::{account, hosts, operate, sync};
 use std::alloc::Global;
 
 /// The most bytes of a log, and of a tape.
@@ -33,13 +33,16 @@ pub fn relay<P: Judges, R: Repos, D: Disk, I: Source, O: Sink, C: Clock>(
     // What the words say is done.
     ensures ran { (command : Command) → IsSpelled (map string_bytes words.now) command → Ran (tells D.tells C.tells R.tells I.tells O.tells)
         (place (D.view disk.old) (D.view other.old) (around (P.panel panel.old) (C.moments clock.old) (R.repository repos.old)) (I.left input.old) (O.written out.old))
-        (place (D.view disk.new) (D.view other.new) (around (P.panel panel.new) (C.moments clock.new) (R.repository repos.new)) (I.left input.new) (O.written out.new)) result command }
+        (place (D.view disk.new) (D.view other.new) (around (P.panel panel.new) (C.moments clock.new) (R.repository repos.new)) (I.left input.new) (O.written out.new))
+        (faults (D.view disk.old).faults (D.view other.old).faults (R.faults repos.old) (C.faults clock.old) (I.faults input.old) (O.faults out.old))
+        (faults (D.view disk.new).faults (D.view other.new).faults (R.faults repos.new) (C.faults clock.new) (I.faults input.new) (O.faults out.new)) result command }
 
-    // Words that are no command, and a command that isn't built, touch nothing.
+    // `check` works on its streams alone. A command that isn't built, and words that are none, touch nothing.
+    ensures alone { ((command : Command) → IsSpelled (map string_bytes words.now) command → is_on_journal command ≡ false)
+        → (panel.new ≡ panel.old) × ((repos.new ≡ repos.old) × ((disk.new ≡ disk.old) × ((other.new ≡ other.old) × (clock.new ≡ clock.old)))) }
+    ensures untouched { ((command : Command) → IsSpelled (map string_bytes words.now) command → is_built command ≡ false) → (input.new ≡ input.old) × (out.new ≡ out.old) }
+    ensures no_command { ((command : Command) → IsSpelled (map string_bytes words.now) command → ⊥) → (result ≡ Status.Usage) ⊎ (result ≡ Status.Memory) }
     ensures usage { result ≡ Status.Usage → (command : Command) → IsSpelled (map string_bytes words.now) command → ⊥ }
-    ensures no_command { ((command : Command) → IsSpelled (map string_bytes words.now) command → ⊥) → IsEither result Status.Usage Status.Memory }
-    ensures untouched { ((command : Command) → IsSpelled (map string_bytes words.now) command → is_built command ≡ false)
-        → (panel.new ≡ panel.old) × ((repos.new ≡ repos.old) × ((disk.new ≡ disk.old) × ((other.new ≡ other.old) × ((input.new ≡ input.old) × ((out.new ≡ out.old) × (clock.new ≡ clock.old)))))) }
 
     // A status that speaks of a failure comes only where a count of failures rose, and no count falls.
     ensures caused { Caused result (faults (D.view disk.old).faults (D.view other.old).faults (R.faults repos.old) (C.faults clock.old) (I.faults input.old) (O.faults out.old))
@@ -53,5 +56,62 @@ pub fn relay<P: Judges, R: Repos, D: Disk, I: Source, O: Sink, C: Clock>(
         ),
         Err(WordsFault::NoCommand) => Status::Usage,
         Err(WordsFault::Memory) => Status::Memory,
+    }
+}
+
+// Runs a command.
+fn run<P: Judges, R: Repos, D: Disk, I: Source, O: Sink, C: Clock>(
+    alloc: Global,
+    command: &Command,
+    panel: &mut P,
+    repos: &mut R,
+    disk: &mut D,
+    other: &mut D,
+    input: &mut I,
+    out: &mut O,
+    clock: &mut C,
+) -> Status
+    requires form { IsInForm command.now }
+    ensures ran { Ran (tells D.tells C.tells R.tells I.tells O.tells)
+        (place (D.view disk.old) (D.view other.old) (around (P.panel panel.old) (C.moments clock.old) (R.repository repos.old)) (I.left input.old) (O.written out.old))
+        (place (D.view disk.new) (D.view other.new) (around (P.panel panel.new) (C.moments clock.new) (R.repository repos.new)) (I.left input.new) (O.written out.new))
+        (faults (D.view disk.old).faults (D.view other.old).faults (R.faults repos.old) (C.faults clock.old) (I.faults input.old) (O.faults out.old))
+        (faults (D.view disk.new).faults (D.view other.new).faults (R.faults repos.new) (C.faults clock.new) (I.faults input.new) (O.faults out.new)) result command.now }
+    ensures alone { is_on_journal command.now ≡ false → (panel.new ≡ panel.old) × ((repos.new ≡ repos.old) × ((disk.new ≡ disk.old) × ((other.new ≡ other.old) × (clock.new ≡ clock.old)))) }
+    ensures untouched { is_built command.now ≡ false → (input.new ≡ input.old) × (out.new ≡ out.old) }
+    ensures no_usage { result ≡ Status.Usage → ⊥ }
+    ensures caused { Caused result (faults (D.view disk.old).faults (D.view other.old).faults (R.faults repos.old) (C.faults clock.old) (I.faults input.old) (O.faults out.old))
+        (faults (D.view disk.new).faults (D.view other.new).faults (R.faults repos.new) (C.faults clock.new) (I.faults input.new) (O.faults out.new)) }
+    ensures counts { Kept (faults (D.view disk.old).faults (D.view other.old).faults (R.faults repos.old) (C.faults clock.old) (I.faults input.old) (O.faults out.old))
+        (faults (D.view disk.new).faults (D.view other.new).faults (R.faults repos.new) (C.faults clock.new) (I.faults input.new) (O.faults out.new)) }
+{
+    match command {
+        Command::Check => check(alloc, LONGEST_MESSAGE, input, out),
+        Command::Ingest => Status::from(ingest(
+            alloc, LONGEST, LONGEST, disk, other, panel, repos, clock, input, out,
+        )),
+        Command::Account(did) => {
+            Status::from(account(alloc, LONGEST, disk, other, did.as_str(), out))
+        }
+        Command::Hosts => Status::from(hosts(alloc, LONGEST, disk, other, out)),
+        Command::Takedown(did, time) => {
+            let (did, time) = (did.as_str(), time.as_str());
+            Status::from(operate(
+                alloc, LONGEST, disk, other, did, true, time, clock, out,
+            ))
+        }
+        Command::Restore(did, time) => {
+            let (did, time) = (did.as_str(), time.as_str());
+            Status::from(operate(
+                alloc, LONGEST, disk, other, did, false, time, clock, out,
+            ))
+        }
+        Command::Sync(did, time) => {
+            let (did, time) = (did.as_str(), time.as_str());
+            Status::from(sync(
+                alloc, LONGEST, disk, other, did, time, panel, repos, clock, out,
+            ))
+        }
+        _ => Status::NotBuilt,
     }
 }
