@@ -1,13 +1,14 @@
 -- The events that a store holds are those of its journal.
-use Rattle.std.proofs.Common.{◌≡◌, ⊎_elim, ◌⊎◌, inl, inr, ℕ, ◌+◌, ◌<◌, Bool, true, false, not, ◌&&◌, ◌||◌, List, [], ◌∷◌, ◌++◌, length, Option, Some, None, refl, sym, ◌∙◌, ap, subst, arith, append_assoc}
+use Rattle.std.proofs.Common.{◌≡◌, ⊎_elim, ◌⊎◌, inl, inr, ℕ, ◌+◌, ◌<◌, Bool, true, false, ◌&&◌, ◌||◌, List, [], ◌∷◌, ◌++◌, Option, Some, None, refl, sym, ◌∙◌, ap, subst, arith}
 use Rattle.std.specs.Prelude.{◌==◌, if◌then◌else◌, map, nat_le, nat_lt}
 use Rattle.std.specs.Bool.{beq}
 use Rattle.std.specs.List.{list_all}
 use Rattle.std.proofs.lemmas.Bool.{and_parts, eqb-true, ltb-true}
-use Rattle.event_window.specs.Held.{Event, Held, IsNext, first_or, oldest_of}
+use Rattle.event_window.specs.Held.{Event, IsNext, first_or, oldest_of}
 use Rattle.event_window.specs.Window.{AreAbove, all_above}
 use Rattle.event_window.specs.declared.place.Place.{Place}
 use Rattle.relay_disk.specs.Disk.{View}
+use Rattle.gate_log.specs.Log.{Holds as HasBodies}
 use Rattle.at_event.specs.Refusals.{code_of}
 use Rattle.at_event.specs.declared.refusal.Refusal.{Refusal}
 use Rattle.relay_row.specs.Folds.{events, events_in, events_of, folded, last_after, last_seq, seq_in, seq_of}
@@ -20,8 +21,8 @@ use Rattle.relay_row.specs.declared.limits.TheConstants.{NUMBERS}
 use Rattle.relay_row.specs.declared.operated.Operated.{Operated}
 use Rattle.relay_row.specs.declared.row.Row.{Row}
 use Rattle.relay_row.specs.declared.taken.Taken.{Taken}
-use Rattle.relay_store.specs.Events.{AllStand, HasEvents, IsFirst}
-use Rattle.relay_store.specs.Journals.{joined}
+use Rattle.relay_store.specs.Events.{AllStand, IsFirst}
+use Rattle.relay_store.specs.Journals.{bytes_of, joined}
 use Rattle.relay_store.specs.Places.{number_in}
 use Rattle.relay_store.specs.Shown.{held_by, is_shown, shown_of}
 use Rattle.relay_store.specs.Store.{StoreState, Keeps}
@@ -199,3 +200,7 @@ module _ (J : List Row) (s : StoreState) (v : View) (keeps : Keeps J s v) where
   oldest_is =
       sym (first_stands s.log.format keeps.bodies s.window (sent J) (last_seq J + 1) all_stand)
       ∙ ap (λ (es : List Event). first_or (map (λ (e : Event). e.0) es) (last_seq J + 1)) (events_sent J keeps.are.journal.formed)
+
+-- the bodies are still there
+pub still_kept : (J : List Row) (s : StoreState) (v w : View) (keeps : Keeps J s v) → HasBodies (bytes_of keeps.bodies) s.log w → Keeps J s w
+still_kept J s v w keeps holds = record { bodies = keeps.bodies; are = keeps.are; holds = holds; core = keeps.core; window = keeps.window }

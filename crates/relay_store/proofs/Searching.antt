@@ -2,7 +2,7 @@
 use Rattle.std.proofs.Common.{◌≡◌, ℕ, ◌-◌, ◌≤◌, ◌<◌, Bool, true, false, List, [], ◌∷◌, ◌++◌, length, take, drop, slice_index_or, refl, sym, ◌∙◌, ap, subst, arith}
 use Rattle.std.specs.Prelude.{if◌then◌else◌, IsTrue}
 use Rattle.std.proofs.lemmas.List.{take_all}
-use Rattle.relay_disk.specs.Disk.{View, Goes, Same}
+use Rattle.relay_disk.specs.Disk.{View}
 use Rattle.event_window.specs.Held.{Event}
 use Rattle.event_window.specs.declared.place.Place.{Place}
 use Rattle.gate_log.specs.Image.{made}

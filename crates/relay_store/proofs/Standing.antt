@@ -1,14 +1,11 @@
 -- The events of a journal stand at the places that are kept, and their numbers rise.
-use Rattle.std.proofs.Common.{◌≡◌, inl, inr, ⊎_elim, ◌⊎◌, ℕ, zero, suc, ◌+◌, ◌≤◌, ◌<◌, Bool, true, false, not, ◌&&◌, ◌||◌, List, [], ◌∷◌, ◌++◌, length, Option, Some, None, refl, sym, ◌∙◌, ap, subst, arith, append_assoc, length-append}
+use Rattle.std.proofs.Common.{◌≡◌, inl, inr, ⊎_elim, ◌⊎◌, ℕ, ◌+◌, ◌≤◌, ◌<◌, Bool, true, false, ◌||◌, List, [], ◌∷◌, ◌++◌, length, Option, Some, None, refl, sym, ◌∙◌, ap, subst, arith, append_assoc, length-append}
 use Rattle.std.specs.Prelude.{◌==◌, if◌then◌else◌, map, nat_le, nat_lt, slice_get}
-use Rattle.std.specs.List.{list_all}
 use Rattle.std.proofs.lemmas.Bool.{and_parts}
 use Rattle.std.proofs.lemmas.Bool.Decides.{nat_tests}
-use Rattle.std.proofs.lemmas.List.{append-nil}
-use Rattle.event_window.specs.Held.{Event, Held, IsNext, event_above, first_or, oldest_of}
+use Rattle.event_window.specs.Held.{Event, IsNext, event_above, first_or}
 use Rattle.event_window.specs.Window.{AreAbove, all_above, is_at_most}
 use Rattle.event_window.specs.declared.place.Place.{Place}
-use Rattle.relay_disk.specs.Disk.{View}
 use Rattle.gate_log.specs.declared.format.Format.{Format}
 use Rattle.gate_log.specs.Image.{made}
 use Rattle.relay_row.specs.Bodies.{body_of}
@@ -21,7 +18,7 @@ use Rattle.relay_row.specs.declared.taken.Taken.{Taken}
 use Rattle.relay_row.proofs.Journals.{lasts_joined}
 use Rattle.relay_store.specs.Events.{AllStand, IsFirst, StandsAt, message_of}
 use Rattle.relay_store.specs.Journals.{bytes_of, joined}
-use Rattle.relay_store.specs.Places.{number_in, place_of, places_behind, places_in}
+use Rattle.relay_store.specs.Places.{number_in, places_behind, places_in}
 use Rattle.relay_store.specs.Shown.{is_shown, shown_of}
 
 -- ---- the rows that send events out

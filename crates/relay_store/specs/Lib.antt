@@ -10,4 +10,5 @@ pub mod Words
 pub mod Faults
 pub mod Shown
 pub mod Events
+pub mod Rereading
 pub mod Lines

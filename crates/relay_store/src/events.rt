@@ -1,9 +1,11 @@
 //! Giving the events of a store out.
 
-ghost use Rattle.std.specs.Prelude.{◌≡◌, List, IsTrue};
+ghost use Rattle.std.specs.Prelude.{◌≡◌, List, IsTrue, refl};
+ghost use Rattle.std.proofs.Common.{◌∙◌, ap};
 ghost use Rattle.event_window.specs.Held.{Held};
 ghost use Rattle.relay_row.specs.declared.row.Row.{Row as TheRow};
 ghost use Rattle.relay_store.specs.Events.{HasEvents};
+ghost use Rattle.relay_store.specs.Rereading.{IsReread, reread_again, reread_here};
 ghost use Rattle.relay_store.specs.Shown.{held_by};
 ghost use Rattle.relay_store.specs.Store.{Keeps, seen_in};
 
@@ -45,6 +47,18 @@ impl<D: Disk> Events for Reader<'_, D> {
     ghost holds = { λ reader held. HasEvents (seen_in reader.store.now) (D.view reader.disk.now) held };
 
     ghost faults = { λ reader. (D.view reader.disk.now).faults };
+
+    ghost later = { λ old new. (new.store.now ≡ old.store.now) × (new.disk.ghost_name ≡ old.disk.ghost_name)
+        × IsReread D.tells (seen_in old.store.now) (D.view old.disk.now) (D.view new.disk.now) };
+
+    ghost later_here = { λ reader. (refl, refl, reread_here D.tells (seen_in reader.store.now) (D.view reader.disk.now)) };
+
+    ghost later_again = { λ one two three first second. (
+      second.0 ∙ first.0,
+      second.1 ∙ first.1,
+      reread_again D.tells (seen_in one.store.now) (seen_in two.store.now) (D.view one.disk.now) (D.view two.disk.now) (D.view three.disk.now)
+          (D.is_disk one.disk.now) (ap seen_in first.0) first.2 second.2,
+    ) };
 
     fn last_seq(&self) -> u64 {
         self.store.last_seq()

@@ -1,4 +1,4 @@
-use Rattle.std.proofs.Common.{◌≡◌, ◌∙◌, ◌++◌, ◌∷◌, ℕ, List, Result, Err, ⊎_elim, length, ap, arith, subst}
+use Rattle.std.proofs.Common.{◌≡◌, ◌∙◌, ◌∷◌, ℕ, List, Result, Err, ⊎_elim, length, ap, arith, subst}
 use Rattle.event_window.specs.declared.fault.EventsFault.{EventsFault}
 use Rattle.gate_log.specs.Image.{made}
 use Rattle.gate_log.specs.Log.{Holds as HasBodies}

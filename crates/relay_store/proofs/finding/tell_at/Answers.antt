@@ -1,11 +1,9 @@
-use Rattle.std.proofs.Common.{rules, ◌≡◌, ◌∙◌, ◌++◌, ◌∷◌, ℕ, Bool, List, Option, Some, None, Err, ap, subst, sym}
-use Rattle.std.specs.Prelude.{slice_get, IsTrue}
+use Rattle.std.proofs.Common.{rules, ◌≡◌, ◌∙◌, List, Option, Some, None, Err, ap, subst, sym}
+use Rattle.std.specs.Prelude.{slice_get}
 use Rattle.std.proofs.lemmas.Result.{IfOk-weaker}
 use Rattle.event_window.specs.declared.fault.EventsFault.{EventsFault}
 use Rattle.gate_log.specs.Log.{Holds as HasBodies}
 use Rattle.relay_row.specs.declared.row.Row.{Row}
-use Rattle.relay_core.specs.Entries.{Holds}
-use Rattle.relay_store.specs.Events.{IsToldOf, StandsAt}
 use Rattle.relay_store.specs.Journals.{AllBodies, bytes_of}
 use Rattle.relay_store.proofs.Searching.{each_at}
 use Rattle.relay_store.proofs.finding.tell_at.Goals as goal
