@@ -19,6 +19,9 @@ pub trait Events {
     /// The faults so far.
     ghost faults: { Self → ℕ };
 
+    /// The second is what calls made of the first.
+    ghost later: { Self → Self → Type 0 };
+
     /// The last number that was given, or 0.
     fn last_seq(&self) -> u64
         ensures { IsTrue tells → (held : Held) → holds self.now held → result ≡ held.last };
@@ -33,7 +36,13 @@ pub trait Events {
         requires known { IsTrue tells → (held : Held) × holds self.old held }
         ensures next { IfOk result (λ found. IsTrue tells → (held : Held) → holds self.old held → IsNext seq held.shown found room.new) }
         ensures same { IsTrue tells → (held : Held) → holds self.old held → holds self.new held }
+        ensures later { later self.old self.new }
         ensures disk { result ≡ Err EventsFault.Disk → Rose (faults self.old) (faults self.new) }
         ensures counts { faults self.old ≤ faults self.new }
         ensures no_bad_log { (place : ℕ) → result ≡ Err (EventsFault.BadLog place) → IsTrue tells → (held : Held) → holds self.old held → ⊥ };
+
+    /// No call changes nothing, and calls behind others are calls.
+    ghost later_here: { (events : Self) → later events events };
+
+    ghost later_again: { (one two three : Self) → later one two → later two three → later one three };
 }

@@ -1,4 +1,4 @@
-use Rattle.std.proofs.Common.{◌≡◌, ◌++◌, ℕ, sym, ap, ◌∙◌, codes, decimal}
+use Rattle.std.proofs.Common.{◌++◌, ℕ, sym, ap, ◌∙◌, codes, decimal}
 use Rattle.relay_store.specs.Lines.{fetch_word}
 use Rattle.report_lines.proofs.Joining.{joined}
 use Rattle.relay_store.proofs.lines.add_fetch.Goals as goal
