@@ -119,6 +119,7 @@ module _ {D : Type 0} (view : D → View) (tells : Bool) (told : IsTrue tells) (
   called C s old now runs calls =
       let of = of_kept runs.journal s (view (disk_of s.side old)) runs.keeps in
       let what = did runs.journal s calls.s_now (disk_of s.side old) (disk_of s.side now) calls.fault of calls.call runs.keeps in
+      let answered : List Row = rows_answered view tells runs.journal s calls.s_now (disk_of s.side old) (disk_of s.side now) calls.fault of calls.call in
       let both = call_leaves view disks C runs.journal what.rows s runs.front s.side old now runs.keeps runs.picked calls.beside what.run in
       let run : LeavesAll C old now = pair_weaker (IsOnSide C s.side) (HasAll C) (view old.one) (view now.one) (view old.two) (view now.two) both (λ c d is. is.all) in
       let picked : LeavesSide s.side (view now.one) (view now.two) = λ c d left beside. (pair_now_too (IsOnSide C s.side) (view old.one) (view now.one) (view old.two) (view now.two) (disks now.one) (disks now.two) both c d left beside).picked in
@@ -126,9 +127,9 @@ module _ {D : Type 0} (view : D → View) (tells : Bool) (told : IsTrue tells) (
         run = run;
         safe = at C (open_after calls.fault calls.s_now) now calls.store (closed_or_not C calls.fault calls.s_now now
             (λ not. record {
-              journal = _;
-              front = (runs.front.0 ++ _, ap (λ (l : List Row). l ++ _) runs.front.1 ∙ append_assoc C runs.front.0 _);
-              keeps = subst (λ (side : Side). Keeps _ calls.s_now (view (disk_of side now))) (sym calls.side) (what.keeps not);
+              journal = runs.journal ++ answered;
+              front = (runs.front.0 ++ answered, ap (λ (l : List Row). l ++ answered) runs.front.1 ∙ append_assoc C runs.front.0 answered);
+              keeps = subst (λ (side : Side). Keeps (runs.journal ++ answered) calls.s_now (view (disk_of side now))) (sym calls.side) (what.keeps not);
               picked = subst (λ (side : Side). LeavesSide side (view now.one) (view now.two)) (sym calls.side) picked;
             })
             (left_now C old now run));
@@ -276,5 +277,6 @@ module _ {D : Type 0} (view : D → View) (tells : Bool) (told : IsTrue tells) (
   pub kept : AnswersAreKept view tells
   kept s old now calls J of not has =
       let what = did J s calls.s_now (disk_of s.side old) (disk_of s.side now) calls.fault of calls.call has in
-      subst (λ (o : Option StoreState). HasIn view _ o now) (sym (calls.store ∙ still_open calls.fault calls.s_now not))
-      (subst (λ (side : Side). Keeps _ calls.s_now (view (disk_of side now))) (sym calls.side) (what.keeps not))
+      let K : List Row = J ++ rows_answered view tells J s calls.s_now (disk_of s.side old) (disk_of s.side now) calls.fault of calls.call in
+      subst (λ (o : Option StoreState). HasIn view K o now) (sym (calls.store ∙ still_open calls.fault calls.s_now not))
+      (subst (λ (side : Side). Keeps K calls.s_now (view (disk_of side now))) (sym calls.side) (what.keeps not))

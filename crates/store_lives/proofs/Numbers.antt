@@ -3,7 +3,7 @@ use Rattle.std.proofs.Common.{◌≡◌, ◌⊎◌, inl, inr, ⊎_elim, ℕ, zer
 use Rattle.std.specs.Prelude.{◌==◌, if◌then◌else◌, nat_le}
 use Rattle.std.specs.Bool.{beq}
 use Rattle.std.specs.List.{list_all}
-use Rattle.std.proofs.lemmas.Bool.{and_parts, or_parts}
+use Rattle.std.proofs.lemmas.Bool.{and_parts}
 use Rattle.std.proofs.lemmas.Bool.Decides.{nat_tests}
 use Rattle.std.proofs.lemmas.List.Elements.{Contains-append_left}
 use Rattle.std.proofs.lemmas.List.Folds.{list_all-append}
@@ -146,8 +146,12 @@ abbrev AllRise : ℕ → List Row → Type 0
 AllRise last [] = Unit {0}
 AllRise last (row ∷ rows) = ((seq_in row ≡ 0) ⊎ (last < seq_in row)) × (is_row row ≡ true) × AllRise (last_after last row) rows
 
+above_by : (last n : ℕ) (b : Bool) → (n == 0) ≡ b → b || nat_lt last n ≡ true → (n ≡ 0) ⊎ (last < n)
+above_by last n true none is = inl (grind (arith, nat_tests))
+above_by last n false some is = inr (grind (arith, nat_tests))
+
 above : (last n : ℕ) → is_above last n ≡ true → (n ≡ 0) ⊎ (last < n)
-above last n is = ⊎_elim (λ none. inl (grind (arith, nat_tests))) (λ less. inr (grind (arith, nat_tests))) (or_parts (n == 0) (nat_lt last n) is)
+above last n is = above_by last n (n == 0) refl is
 
 first_alone : (before : List Row) (n : ℕ) → are_none before ≡ true → (n ≡ 0) ⊎ (last_seq before < n)
 unfolding last_seq

@@ -1,5 +1,6 @@
 -- The life of a machine that has a store: calls, failed calls, openings, and crashes at any moment of them (own).
 use Rattle.std.specs.Prelude.{◌≡◌, ◌⊎◌, ℕ, Bool, List, [], ◌∷◌, Option, Some, None, Result, Ok, Err, IsTrue}
+use Rattle.std.proofs.Common.{inl, inr}
 use Rattle.relay_disk.specs.Disk.{View, IsSettled}
 use Rattle.gate_log.specs.Pick.{other_side}
 use Rattle.gate_log.specs.declared.picking.Side.{Side}
@@ -118,7 +119,7 @@ module _ {D : Type 0} (view : D → View) (tells : Bool) where
   GoesFrom None old now = Opens old now
   GoesFrom (Some s) old now = Calls s old now
 
-  -- where a store is open it is called, where none is one is opened, or the store is let go
+  -- where a store is open it is called, and where none is the disks are opened; or the store is let go
   abbrev pub Goes : Machine D → Machine D → Type 0
   Goes old now = GoesFrom old.store old now ⊎ (now ≡ stopped old)
 
