@@ -1,24 +1,23 @@
 -- No journal of a machine's life loses a row.
-use Rattle.std.proofs.Common.{◌≡◌, ◌≢◌, ◌⊎◌, inl, inr, ⊎_elim, ℕ, Bool, List, [], ◌∷◌, ◌++◌, Option, Some, None, Result, Ok, Err, IfOk, IsTrue, refl, sym, ◌∙◌, ap, subst, arith, append_assoc}
+use Rattle.std.proofs.Common.{◌≡◌, ◌≢◌, ◌⊎◌, inl, inr, ℕ, Bool, List, [], ◌∷◌, ◌++◌, Option, Some, None, Result, Ok, Err, IfOk, IsTrue, refl, sym, ◌∙◌, ap, subst, arith, append_assoc}
 use Rattle.std.proofs.lemmas.List.{append-nil}
 use Rattle.relay_disk.specs.Disk.{View, IsDisk}
 use Rattle.relay_disk.specs.Moments.{LeavesOnly, PairLeavesOnly}
 use Rattle.relay_disk.proofs.Moments.{no_call, pair_now_too, pair_weaker}
-use Rattle.gate_log.specs.Pick.{LeavesSide, other_side, view_of_side}
+use Rattle.gate_log.specs.Pick.{LeavesSide, view_of_side}
 use Rattle.gate_log.specs.declared.picking.Side.{Side}
 use Rattle.gate_log.specs.declared.picking.Side.TheVariants.{One, Two}
 use Rattle.relay_row.specs.declared.row.Row.{Row}
 use Rattle.relay_step.specs.declared.word.Word.{Word}
 use Rattle.relay_store.specs.Journals.{IsOneOf, IsPairImageOf, IsPairJournalOfOne, LeavesPairJournals}
-use Rattle.relay_store.specs.Opening.{Opened}
 use Rattle.relay_store.specs.Store.{StoreState, IsOf, Keeps, seen_in}
-use Rattle.relay_store.specs.Words.{Spoken, Worded, added}
+use Rattle.relay_store.specs.Words.{Spoken}
 use Rattle.relay_store.specs.declared.done.Done.{Done}
 use Rattle.relay_store.specs.declared.fault.StoreFault.{StoreFault}
 use Rattle.relay_store.specs.declared.store.Store.{Store}
 use Rattle.relay_store.proofs.Images.{kept_log, same_kept, same_pair_journal}
 use Rattle.store_lives.specs.Laws.{IsFrontOf, HasIn, Has, IsFrontOfAll, AllGrow, JournalsOnlyGrow, AnswersAreKept}
-use Rattle.store_lives.specs.Lives.{Machine, Takes, Operates, Syncs, IsCall, Calls, Opens, GoesFrom, Goes, Crashes, Steps, LivesFrom, disk_of, fault_said, open_after, rows_answered, rows_spoken, stopped, store_in}
+use Rattle.store_lives.specs.Lives.{Machine, IsCall, Calls, Opens, GoesFrom, Goes, Crashes, Steps, LivesFrom, disk_of, fault_said, open_after, rows_answered, rows_spoken, stopped, store_in}
 use Rattle.store_lives.proofs.Pairs.{HasAll, IsOnSide, call_leaves, itself}
 
 of_kept : (J : List Row) (s : StoreState) (v : View) → Keeps J s v → IsOf J s.core

@@ -1,5 +1,5 @@
 -- A number of a journal stands for one event.
-use Rattle.std.proofs.Common.{◌≡◌, ◌⊎◌, inl, inr, ⊎_elim, ℕ, zero, suc, ◌<◌, ◌≤◌, Bool, true, false, ◌&&◌, ◌||◌, nat_lt, List, [], ◌∷◌, ◌++◌, length, Option, Some, None, Contains, refl, sym, ◌∙◌, ap, subst, arith, append_assoc}
+use Rattle.std.proofs.Common.{◌≡◌, ◌⊎◌, inl, inr, ⊎_elim, ℕ, zero, suc, ◌<◌, ◌≤◌, Bool, true, false, ◌&&◌, ◌||◌, nat_lt, List, [], ◌∷◌, ◌++◌, Option, Some, None, Contains, refl, sym, ◌∙◌, ap, subst, arith, append_assoc}
 use Rattle.std.specs.Prelude.{◌==◌, if◌then◌else◌, nat_le}
 use Rattle.std.specs.Bool.{beq}
 use Rattle.std.specs.List.{list_all}
@@ -19,7 +19,7 @@ use Rattle.relay_row.specs.declared.operated.Operated.{Operated}
 use Rattle.relay_row.specs.declared.row.Row.{Row}
 use Rattle.relay_row.specs.declared.taken.Taken.{Taken}
 use Rattle.relay_row.proofs.Journals.{events_joined, lasts_joined}
-use Rattle.store_lives.specs.Laws.{IsFrontOf, NumbersStandForOneEvent}
+use Rattle.store_lives.specs.Laws.{NumbersStandForOneEvent}
 
 abbrev Event : Type 0
 Event = ℕ × List ℕ
@@ -178,9 +178,9 @@ formed_at before row rows is =
 all_rise : (before rows : List Row) → IsJournal (before ++ rows) → AllRise (last_seq before) rows
 all_rise before [] is = tt
 all_rise before (row ∷ rows) is = (
-    rises before row (is.ordered before row rows refl),
-    formed_at before row rows is.formed,
-    subst (λ (n : ℕ). AllRise n rows) (lasts_joined before (row ∷ [])) (all_rise (before ++ row ∷ []) rows (subst IsJournal (sym (append_assoc before (row ∷ []) rows)) is)),
+  rises before row (is.ordered before row rows refl),
+  formed_at before row rows is.formed,
+  subst (λ (n : ℕ). AllRise n rows) (lasts_joined before (row ∷ [])) (all_rise (before ++ row ∷ []) rows (subst IsJournal (sym (append_assoc before (row ∷ []) rows)) is)),
 )
 
 last_stays : (last : ℕ) (row : Row) → seq_in row ≡ 0 → last_after last row ≡ last

@@ -1,5 +1,5 @@
 -- What crashes leave of a pair of disks while a store on one of them is called.
-use Rattle.std.proofs.Common.{◌≡◌, ◌⊎◌, inl, inr, ⊎_elim, ℕ, List, [], ◌∷◌, ◌++◌, sym, ◌∙◌, ap, subst, append_assoc}
+use Rattle.std.proofs.Common.{◌≡◌, inr, ⊎_elim, ℕ, List, [], ◌++◌, sym, ◌∙◌, ap, subst, append_assoc}
 use Rattle.relay_disk.specs.Disk.{View, IsDisk}
 use Rattle.relay_disk.specs.Moments.{LeavesOnly, PairLeavesOnly}
 use Rattle.relay_disk.proofs.Moments.{no_call, pair_of}
