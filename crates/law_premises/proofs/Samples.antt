@@ -1,12 +1,12 @@
 -- Samples: names, links, an event of a commit, and rows.
-use Rattle.std.proofs.Common.{◌≡◌, ℕ, zero, suc, ◌+◌, ◌<◌, ◌^◌, Bool, true, false, ltb, List, [], ◌∷◌, ◌++◌, length, replicate, Option, None, Some, Result, Ok, Err, codes, pos, refl, sym, ◌∙◌, ap, subst, lit<, arith}
+use Rattle.std.proofs.Common.{◌≡◌, ℕ, zero, suc, ◌<◌, ◌^◌, true, false, ltb, List, [], ◌∷◌, ◌++◌, length, replicate, None, Some, Ok, Err, codes, pos, refl, lit<, arith}
 use Rattle.std.proofs.lemmas.Bool.{and_from, and_parts, ltb-true}
 use Rattle.std.specs.FinMap as map
 use Rattle.std.specs.List.{list_all}
-use Rattle.std.specs.Prelude.{◌&&◌, slice_index}
+use Rattle.std.specs.Prelude.{◌&&◌}
 use Rattle.std.specs.Str.{is_utf8}
 use Rattle.at_cbor.specs.Heads.{argued, argument_at, head_at, major_of}
-use Rattle.at_cbor.specs.Item.{Item, no_fields, no_items, field, fields_of}
+use Rattle.at_cbor.specs.Item.{Item, no_fields, no_items, field}
 use Rattle.at_cbor.specs.Majors.{major_in}
 use Rattle.at_cbor.specs.Reading.{body_of as item_body, item_at}
 use Rattle.at_cbor.specs.Spelling.{Fits, IsText, info_of, spelling, tail_of}
@@ -31,7 +31,6 @@ use Rattle.at_event.specs.Seen.{Seen}
 use Rattle.at_event.specs.Table.{body_of, commit_of, event_of, kind_of, ops_in, ops_of, seq_of, too_big_in}
 use Rattle.at_event.specs.declared.event.Body.{Body}
 use Rattle.at_event.specs.declared.event.CommitEvent.{CommitEvent}
-use Rattle.at_event.specs.declared.frame.Frame.{Frame}
 use Rattle.at_event.specs.declared.frame.FrameFault.{FrameFault}
 use Rattle.at_event.specs.declared.head.Head.{Head}
 use Rattle.at_event.proofs.Texts.{ascii_text}
@@ -41,7 +40,6 @@ use Rattle.relay_row.specs.Rules.{is_accepted, is_row, is_taken, names_did, name
 use Rattle.relay_row.specs.declared.fetched.Fetched.{Fetched}
 use Rattle.relay_row.specs.declared.row.Row.{Row}
 use Rattle.relay_row.specs.declared.taken.Effect.{Effect}
-use Rattle.relay_row.specs.declared.taken.Taken.{Taken}
 use Rattle.relay_row.proofs.Journals.{grows, no_rows}
 
 abbrev pub host : List ℕ
@@ -78,13 +76,13 @@ bytes_by (c ∷ bytes) h (suc i) = bytes_by bytes (and_parts (ltb c 256) (list_a
 pub link_bytes : IsBytes (link 0)
 link_bytes = bytes_by (link 0) refl
 
--- ---- a commit without operations, with these blocks
+-- ---- a commit without operations, with these blocks, under a number
 
-abbrev pub payload : List ℕ → Item
-payload blocks = Item.map (
+abbrev pub payload : ℕ → List ℕ → Item
+payload n blocks = Item.map (
     field (codes "ops") (Item.list no_items)
     (field (codes "rev") (Item.text rev)
-    (field (codes "seq") (Item.int (pos 1))
+    (field (codes "seq") (Item.int (pos n))
     (field (codes "repo") (Item.text did)
     (field (codes "time") (Item.text (codes "t"))
     (field (codes "blocks") (Item.bytes blocks)
@@ -94,34 +92,59 @@ abbrev pub commit : List ℕ → CommitEvent
 commit blocks = record { repo = did; rev = 0; since = None; prev_data = None; commit = link 0; too_big = false; blocks = blocks; ops = [] }
 
 abbrev pub event : List ℕ → Seen
-event blocks = record { seq = 1; did = did; time = codes "t"; body = Body.Commit (commit blocks); payload = payload blocks }
+event blocks = record { seq = 1; did = did; time = codes "t"; body = Body.Commit (commit blocks); payload = payload 1 blocks }
 
-numbered : (blocks : List ℕ) → seq_of (payload blocks) ≡ Some 1
+numbered : (blocks : List ℕ) → seq_of (payload 1 blocks) ≡ Some 1
 unfolding seq_of given number_in
 numbered blocks = refl
 
-read : (blocks : List ℕ) → event_of (kind_of (Body.Commit (commit blocks))) 1 (payload blocks) ≡ Some (event blocks)
+read : (blocks : List ℕ) → event_of (kind_of (Body.Commit (commit blocks))) 1 (payload 1 blocks) ≡ Some (event blocks)
 unfolding event_of body_of commit_of ops_in ops_of too_big_in did_in is_did short_text_in tid_in tid_of is_tid given node_in
 read blocks = refl
 
 ascii : (text : List ℕ) → list_all (λ c. ltb c 128) text ≡ true → length text < 2 ^ 64 → IsText text
 ascii text h short = ascii_text text h short
 
-fits : (blocks : List ℕ) → IsBytes blocks → length blocks < 2 ^ 64 → Fits (payload blocks) DEPTH
+pub fits : (n : ℕ) (blocks : List ℕ) → n < 2 ^ 63 → IsBytes blocks → length blocks < 2 ^ 64 → Fits (payload n blocks) DEPTH
 unfolding key_cmp
-fits blocks bytes short = (
-    lit< tt, lit< tt,
-    (ascii (codes "ops") refl (lit< tt), refl, (lit< tt, lit< tt, tt),
-    (ascii (codes "rev") refl (lit< tt), refl, ascii rev refl (lit< tt),
-    (ascii (codes "seq") refl (lit< tt), refl, lit< tt,
-    (ascii (codes "repo") refl (lit< tt), refl, ascii did refl (lit< tt),
-    (ascii (codes "time") refl (lit< tt), refl, ascii (codes "t") refl (lit< tt),
-    (ascii (codes "blocks") refl (lit< tt), refl, (short, bytes),
-    (ascii (codes "commit") refl (lit< tt), refl, (refl, link_bytes), tt))))))),
+fits n blocks low bytes short = (
+  lit< tt,
+  lit< tt,
+  (
+    ascii (codes "ops") refl (lit< tt),
+    refl,
+    (lit< tt, lit< tt, tt),
+    (
+      ascii (codes "rev") refl (lit< tt),
+      refl,
+      ascii rev refl (lit< tt),
+      (
+        ascii (codes "seq") refl (lit< tt),
+        refl,
+        low,
+        (
+          ascii (codes "repo") refl (lit< tt),
+          refl,
+          ascii did refl (lit< tt),
+          (
+            ascii (codes "time") refl (lit< tt),
+            refl,
+            ascii (codes "t") refl (lit< tt),
+            (
+              ascii (codes "blocks") refl (lit< tt),
+              refl,
+              (short, bytes),
+              (ascii (codes "commit") refl (lit< tt), refl, (refl, link_bytes), tt),
+            ),
+          ),
+        ),
+      ),
+    ),
+  ),
 )
 
 pub is_event : (blocks : List ℕ) → IsBytes blocks → length blocks < 2 ^ 64 → IsEvent (event blocks)
-is_event blocks bytes short = record { fits = fits blocks bytes short; number = numbered blocks; read = read blocks }
+is_event blocks bytes short = record { fits = fits 1 blocks (lit< tt) bytes short; number = numbered blocks; read = read blocks }
 
 -- ---- a CAR without blocks
 
@@ -150,9 +173,14 @@ header_short = lit< tt
 
 header_fits : Fits bare_header DEPTH
 header_fits = (
-    lit< tt, lit< tt,
-    (ascii (codes "roots") refl (lit< tt), refl, (lit< tt, lit< tt, ((refl, link_bytes), tt)),
-    (ascii (codes "version") refl (lit< tt), refl, lit< tt, tt)),
+  lit< tt,
+  lit< tt,
+  (
+    ascii (codes "roots") refl (lit< tt),
+    refl,
+    (lit< tt, lit< tt, ((refl, link_bytes), tt)),
+    (ascii (codes "version") refl (lit< tt), refl, lit< tt, tt),
+  ),
 )
 
 bare_form : IsCar bare bare_header (link 0 ∷ []) []
@@ -170,8 +198,11 @@ bare_car = car_again bare bare_header (link 0 ∷ []) [] bare_form
 abbrev pub top : Head
 top = record { rev = 0; data_root = link 0; commit = link 0 }
 
+abbrev pub accepted : ℕ → ℕ → List ℕ → Head → Row
+accepted host_seq n message head = Row.Taken (record { host = host; host_seq = host_seq; did = did; kind = 1; refusal = None; seq = n; message = message; effect = Effect.Repo head; fetched = Fetched.NotAsked; moment = Some 0 })
+
 abbrev pub torn : Row
-torn = Row.Taken (record { host = host; host_seq = 1; did = did; kind = 1; refusal = None; seq = 1; message = 0 ∷ []; effect = Effect.Repo top; fetched = Fetched.NotAsked; moment = None })
+torn = accepted 1 1 (0 ∷ []) top
 
 pub torn_formed : is_row torn ≡ true
 unfolding is_row is_taken is_accepted is_host is_did
