@@ -1,0 +1,6 @@
+pub mod Samples
+pub mod Messages
+pub mod Running
+pub mod Linking
+pub mod Fronts
+pub mod Coming

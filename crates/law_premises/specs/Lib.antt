@@ -1,0 +1,4 @@
+pub mod Runs
+pub mod Checking
+pub mod Carrying
+pub mod Histories

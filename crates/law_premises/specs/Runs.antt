@@ -1,0 +1,37 @@
+-- Laws of runs, each without one of its premises.
+use Rattle.std.specs.Prelude.{List, ◌++◌}
+use Rattle.relay_row.specs.Journal.{IsJournal}
+use Rattle.relay_row.specs.declared.row.Row.{Row}
+use Rattle.relay_core.specs.Decide.{Checks}
+use Rattle.relay_core.specs.Runs.{Message, Run}
+use Rattle.relay_law.specs.Carried.{AreOfKnown}
+use Rattle.relay_law.specs.Faithful.{AreFaithful}
+use Rattle.relay_law.specs.Laws.{AreEvents}
+use Rattle.relay_law.specs.Right.{AreRight}
+use Rattle.relay_law.specs.Sound.{IsSound}
+
+-- A run behind a sound journal may leave an unsound one ..
+pub record RunsMayBeUnsound : Type 0 where
+  -- where the checks aren't right
+  pub right : ((checks : Checks) (J : List Row) (messages : List Message) (rows : List Row) → AreEvents messages → IsJournal (J ++ rows) → IsSound J → Run checks J messages rows → IsSound (J ++ rows)) → ⊥
+  -- where an event isn't read from its payload
+  pub events : ((checks : Checks) → AreRight checks → (J : List Row) (messages : List Message) (rows : List Row) → IsJournal (J ++ rows) → IsSound J → Run checks J messages rows → IsSound (J ++ rows)) → ⊥
+  -- where the rows are no journal
+  pub journal : ((checks : Checks) → AreRight checks → (J : List Row) (messages : List Message) (rows : List Row) → AreEvents messages → IsSound J → Run checks J messages rows → IsSound (J ++ rows)) → ⊥
+  -- where the journal wasn't sound
+  pub sound : ((checks : Checks) → AreRight checks → (J : List Row) (messages : List Message) (rows : List Row) → AreEvents messages → IsJournal (J ++ rows) → Run checks J messages rows → IsSound (J ++ rows)) → ⊥
+  -- where the rows are of no run
+  pub run : ((checks : Checks) → AreRight checks → (J : List Row) (messages : List Message) (rows : List Row) → AreEvents messages → IsJournal (J ++ rows) → IsSound J → IsSound (J ++ rows)) → ⊥
+
+-- What the rows of a run send out may read as something else ..
+pub record RunsMayBeUnfaithful : Type 0 where
+  -- where an event isn't read from its payload
+  pub events : ((checks : Checks) (J : List Row) (messages : List Message) (rows : List Row) → IsJournal (J ++ rows) → Run checks J messages rows → AreFaithful rows) → ⊥
+  -- where the rows are no journal
+  pub journal : ((checks : Checks) (J : List Row) (messages : List Message) (rows : List Row) → AreEvents messages → Run checks J messages rows → AreFaithful rows) → ⊥
+  -- where the rows are of no run
+  pub run : ((checks : Checks) (J : List Row) (messages : List Message) (rows : List Row) → AreEvents messages → IsJournal (J ++ rows) → AreFaithful rows) → ⊥
+
+-- Rows of no run may accept a commit of an account that was lost, however right the checks.
+abbrev pub RowsMayBeOfLost : Type 0
+RowsMayBeOfLost = ((checks : Checks) → AreRight checks → (J : List Row) (messages : List Message) (rows : List Row) → AreOfKnown J rows) → ⊥

@@ -1,0 +1,36 @@
+//! Laws of journals without one of their premises, none of which holds.
+
+ghost use Rattle.law_premises.specs.Carrying.{CarriedMayBeUnsound};
+ghost use Rattle.law_premises.specs.Checking.{LinkingMayBeWrong};
+ghost use Rattle.law_premises.specs.Histories.{JournalsMayBeOthers};
+ghost use Rattle.law_premises.specs.Runs.{RowsMayBeOfLost, RunsMayBeUnfaithful, RunsMayBeUnsound};
+
+/// Without one of its premises, a run behind a sound journal may leave an unsound one.
+pub fn runs_may_be_unsound()
+    ensures { RunsMayBeUnsound }
+{}
+
+/// Without one of its premises, what the rows of a run send out may read as something else.
+pub fn runs_may_be_unfaithful()
+    ensures { RunsMayBeUnfaithful }
+{}
+
+/// Rows of no run may accept a commit of an account that was lost.
+pub fn rows_may_be_of_lost()
+    ensures { RowsMayBeOfLost }
+{}
+
+/// Checks that don't open rightly may be wrong, however rightly they link.
+pub fn linking_may_be_wrong()
+    ensures { LinkingMayBeWrong }
+{}
+
+/// Without one of its premises, a sound journal whose front gives way to other rows may become unsound.
+pub fn carried_may_be_unsound()
+    ensures { CarriedMayBeUnsound }
+{}
+
+/// Without one of its premises, a later journal may be of other rows.
+pub fn journals_may_be_others()
+    ensures { JournalsMayBeOthers }
+{}

@@ -1,0 +1,143 @@
+-- The life of a machine that has a store: calls, failed calls, openings, and crashes at any moment of them (own).
+use Rattle.std.specs.Prelude.{◌≡◌, ◌⊎◌, ℕ, Bool, List, [], ◌∷◌, Option, Some, None, Result, Ok, Err, IsTrue}
+use Rattle.std.proofs.Common.{inl, inr}
+use Rattle.relay_disk.specs.Disk.{View, IsSettled}
+use Rattle.gate_log.specs.Pick.{other_side}
+use Rattle.gate_log.specs.declared.picking.Side.{Side}
+use Rattle.relay_row.specs.declared.row.Row.{Row}
+use Rattle.relay_step.specs.Around.{Around}
+use Rattle.relay_step.specs.Asked.{AskedInVain}
+use Rattle.relay_step.specs.Causes.{CameToNothing, OneTaken}
+use Rattle.relay_step.specs.Steps.{rows}
+use Rattle.relay_step.specs.Words.{OperatedAt, SyncedAt, rows_said}
+use Rattle.relay_step.specs.declared.word.Word.{Word}
+use Rattle.relay_store.specs.Batches.{Batched, scene}
+use Rattle.relay_store.specs.Opening.{Opened}
+use Rattle.relay_store.specs.Store.{StoreState, IsOf, seen_in}
+use Rattle.relay_store.specs.Words.{Spoken, added}
+use Rattle.relay_store.specs.declared.done.Done.{Done}
+use Rattle.relay_store.specs.declared.fault.StoreFault.{StoreFault}
+use Rattle.relay_store.specs.declared.message.Message.{Message}
+use Rattle.relay_store.specs.declared.outcome.Outcome.{Outcome}
+use Rattle.relay_store.specs.declared.store.Store.{Store}
+
+-- A machine between two calls: the store, where one is open, and the pair of disks.
+pub record Machine (D : Type 0) : Type 0 where
+  pub store : Option StoreState
+  pub one : D
+  pub two : D
+
+abbrev pub disk_of : {D : Type 0} → Side → Machine D → D
+disk_of Side.One m = m.one
+disk_of Side.Two m = m.two
+
+-- the store is let go
+abbrev pub stopped : {D : Type 0} → Machine D → Machine D
+stopped m = record { store = None; one = m.one; two = m.two }
+
+-- a failure of the disk closes the store
+abbrev pub open_after : Option StoreFault → StoreState → Option StoreState
+open_after (Some StoreFault.Disk) s = None
+open_after fault s = Some s
+
+abbrev pub fault_said : Result Done StoreFault → Option StoreFault
+fault_said (Ok done) = None
+fault_said (Err fault) = Some fault
+
+abbrev pub store_in : Result Store StoreFault → Option StoreState
+store_in (Ok s) = Some (seen_in s)
+store_in (Err fault) = None
+
+module _ {D : Type 0} (view : D → View) (tells : Bool) where
+  -- Messages of hosts were taken, as `take_all` and `take` promise.
+  pub record Takes (s s_now : StoreState) (d d_now : D) (fault : Option StoreFault) : Type 0 where
+    pub clock_tells : Bool
+    pub repos_tell : Bool
+    pub around : Around
+    pub around_now : Around
+    pub group : List Message
+    pub outcomes : List Outcome
+    pub batched : (J : List Row) → IsOf J s.core → Batched view tells clock_tells repos_tell J group (scene s d around) (scene s_now d_now around_now) outcomes fault
+
+  -- An account was taken down or restored, as `operate` promises.
+  pub record Operates (s s_now : StoreState) (d d_now : D) (result : Result Done StoreFault) : Type 0 where
+    pub clock_tells : Bool
+    pub moments : List ℕ
+    pub moments_now : List ℕ
+    pub did : List ℕ
+    pub down : Bool
+    pub time : List ℕ
+    pub spoken : (J : List Row) → IsOf J s.core
+        → Spoken view tells J (λ word. OperatedAt clock_tells s.core did down time moments word moments_now) (IsTrue clock_tells → OneTaken moments moments_now) s s_now d d_now result
+
+  -- A repository was fetched, as `sync_now` promises.
+  pub record Syncs (s s_now : StoreState) (d d_now : D) (result : Result Done StoreFault) : Type 0 where
+    pub clock_tells : Bool
+    pub repos_tell : Bool
+    pub around : Around
+    pub around_now : Around
+    pub did : List ℕ
+    pub time : List ℕ
+    pub spoken : (J : List Row) → IsOf J s.core
+        → Spoken view tells J (λ word. SyncedAt clock_tells repos_tell s.core did time around word around_now) (CameToNothing clock_tells repos_tell (AskedInVain around.panel did around_now.panel) around around_now) s s_now d d_now result
+
+  -- an operator's word was taken, and this was answered
+  abbrev pub Says : StoreState → StoreState → D → D → Result Done StoreFault → Type 0
+  Says s s_now d d_now result = Operates s s_now d d_now result ⊎ Syncs s s_now d d_now result
+
+  -- a call, and the fault that it answers, if it does
+  abbrev pub IsCall : StoreState → StoreState → D → D → Option StoreFault → Type 0
+  IsCall s s_now d d_now fault = Takes s s_now d d_now fault ⊎ ((result : Result Done StoreFault) × (fault ≡ fault_said result) × Says s s_now d d_now result)
+
+  -- the rows that a word added
+  abbrev pub rows_spoken : (J : List Row) (is_word : Word → Type 0) (failed : Type 0) (s s_now : StoreState) (d d_now : D) (result : Result Done StoreFault) → Spoken view tells J is_word failed s s_now d d_now result → List Row
+  rows_spoken J is_word failed s s_now d d_now result (inl said) = added result (rows_said said.0)
+  rows_spoken J is_word failed s s_now d d_now result (inr unsaid) = []
+
+  -- the rows of all that a call behind the journal J answered
+  abbrev pub rows_answered : (J : List Row) (s s_now : StoreState) (d d_now : D) (fault : Option StoreFault) → IsOf J s.core → IsCall s s_now d d_now fault → List Row
+  rows_answered J s s_now d d_now fault of (inl takes) = rows (takes.batched J of).steps
+  rows_answered J s s_now d d_now fault of (inr (result, is, inl operates)) = rows_spoken J _ _ s s_now d d_now result (operates.spoken J of)
+  rows_answered J s s_now d d_now fault of (inr (result, is, inr syncs)) = rows_spoken J _ _ s s_now d d_now result (syncs.spoken J of)
+
+  -- A call of the open store: it has the disk of the store's side, and the other one is as it was.
+  pub record Calls (s : StoreState) (old now : Machine D) : Type 0 where
+    pub s_now : StoreState
+    pub fault : Option StoreFault
+    pub call : IsCall s s_now (disk_of s.side old) (disk_of s.side now) fault
+    pub side : s_now.side ≡ s.side
+    pub beside : disk_of (other_side s.side) now ≡ disk_of (other_side s.side) old
+    pub store : now.store ≡ open_after fault s_now
+
+  -- The store of the two disks is opened, or isn't.
+  pub record Opens (old now : Machine D) : Type 0 where
+    pub result : Result Store StoreFault
+    pub opened : Opened tells (view old.one) (view old.two) (view now.one) (view now.two) result
+    pub store : now.store ≡ store_in result
+
+  abbrev pub GoesFrom : Option StoreState → Machine D → Machine D → Type 0
+  GoesFrom None old now = Opens old now
+  GoesFrom (Some s) old now = Calls s old now
+
+  -- where a store is open it is called, and where none is the disks are opened; or the store is let go
+  abbrev pub Goes : Machine D → Machine D → Type 0
+  Goes old now = GoesFrom old.store old now ⊎ (now ≡ stopped old)
+
+  -- The machine stops at some moments between old and now, and starts again with bytes that a crash there left on each disk.
+  pub record Crashes (old now next : Machine D) : Type 0 where
+    pub no_store : next.store ≡ None
+    pub first : List ℕ
+    pub second : List ℕ
+    pub first_left : (view now.one).left_since (view old.one).moment first
+    pub second_left : (view now.two).left_since (view old.two).moment second
+    pub one_settled : IsSettled (view next.one) first
+    pub two_settled : IsSettled (view next.two) second
+
+  -- what begins comes to its end, or a crash cuts it short
+  abbrev pub Steps : Machine D → Machine D → Type 0
+  Steps old next = (now : Machine D) × Goes old now × ((next ≡ now) ⊎ Crashes old now next)
+
+  -- machines, each of which follows the one before it by a step
+  abbrev pub LivesFrom : Machine D → List (Machine D) → Type 0
+  LivesFrom m [] = Unit {0}
+  LivesFrom m (next ∷ others) = Steps m next × LivesFrom next others
