@@ -50,6 +50,13 @@ IsOfSaying StoreFault.Authority = ⊥
 IsOfSaying StoreFault.Repos = ⊥
 IsOfSaying StoreFault.Clock = ⊥
 
+-- what may come of an account that is taken down or restored: the judges and the repositories aren't asked
+abbrev pub IsOfOperating : StoreFault → Type 0
+IsOfOperating StoreFault.Authority = ⊥
+IsOfOperating StoreFault.Repos = ⊥
+IsOfOperating (StoreFault.BadLog place) = ⊥
+IsOfOperating fault = Unit {0}
+
 -- the rows that were added
 abbrev pub added : Result Done StoreFault → List Row → List Row
 added (Ok done) rows = rows

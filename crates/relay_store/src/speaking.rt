@@ -17,7 +17,7 @@ ghost use Rattle.relay_store.specs.Drafts.{Fits, HasRows, IsUnchanged};
 ghost use Rattle.relay_store.specs.Store.{IsKept, IsOf, seen_in};
 ghost use Rattle.relay_store.specs.Taking.{AreAdded};
 ghost use Rattle.relay_store.specs.declared.fault.StoreFault.{StoreFault as TheFault};
-ghost use Rattle.relay_store.specs.Words.{IsLate, IsOfSaying, Spoken, Worded, done_of, done_row};
+ghost use Rattle.relay_store.specs.Words.{IsLate, IsOfOperating, IsOfSaying, Spoken, Worded, done_of, done_row};
 
 use crate::StoreFault;
 use crate::adding::add_row;
@@ -123,6 +123,7 @@ impl Store {
         ensures disk { result ≡ Err StoreFault.Disk → Rose (D.view disk.old).faults (D.view disk.new).faults }
         ensures clock { result ≡ Err StoreFault.Clock → Rose (C.faults clock.old) (C.faults clock.new) }
         ensures seq_end { result ≡ Err StoreFault.SeqEnd → EndsBehind self.old.core did.now down }
+        ensures few { (f : TheFault) → result ≡ Err f → IsOfOperating f }
         ensures disk_counts { (D.view disk.old).faults ≤ (D.view disk.new).faults }
         ensures clock_counts { C.faults clock.old ≤ C.faults clock.new }
     {
