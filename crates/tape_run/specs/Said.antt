@@ -1,6 +1,5 @@
 -- What was answered to messages, and what is kept of it for the report (own). No public clause cites this file.
 use Rattle.std.specs.Prelude.{◌≡◌, ℕ, ◌+◌, true, false, List, [], ◌∷◌, ◌++◌, length, map, Option, Some, None, if◌then◌else◌}
-use Rattle.std.specs.List.{zip}
 use Rattle.relay_core.specs.Report.{over_line}
 use Rattle.relay_core.specs.Runs.{has_ended}
 use Rattle.relay_step.specs.Steps.{Step}
@@ -22,12 +21,11 @@ said_to s = (s.host, outcome_of s)
 abbrev pub said : List Step → List Said
 said steps = map said_to steps
 
-abbrev pub answer_to : Message × Outcome → Said
-answer_to p = (p.0.host, Some p.1)
-
 -- the answers to the first messages of a group, one each
 abbrev pub answered : List Message → List Outcome → List Said
-answered group outcomes = map answer_to (zip group outcomes)
+answered group [] = []
+answered [] (o ∷ outcomes) = []
+answered (m ∷ group) (o ∷ outcomes) = (m.host, Some o) ∷ answered group outcomes
 
 abbrev pub line_said : Said → List ℕ
 line_said (host, None) = over_line host

@@ -28,8 +28,9 @@ fn note_all(
     ensures noted { OnOk result (IsNoted (answered group.now outcomes.now) tally.old tally.new) }
     ensures text { OnOk result (text.new ≡ text.old ++ text_of (answered group.now outcomes.now)) }
 {
-    for (message, outcome) in group.iter().zip(outcomes) {
-        let host = message.host.as_str();
+    for i in 0..group.len().min(outcomes.len()) {
+        let host = group[i].host.as_str();
+        let outcome = &outcomes[i];
         tally.note(alloc, host, outcome)?;
         line(alloc, host, outcome, text)?;
     }

@@ -2,6 +2,7 @@
 
 ghost use Rattle.std.specs.Prelude.{◌≡◌, ◌≤◌, ◌<◌, ◌+◌, IsTrue, length};
 ghost use Rattle.relay_row.specs.declared.limits.TheConstants.{MOST_ROWS};
+ghost use Rattle.relay_store.specs.Batches.{message_from};
 ghost use Rattle.tape_run.specs.Tapes.{AreRecords, IsGroup, ReadFailed, spelled};
 
 use relay_io::Source;
@@ -45,16 +46,14 @@ pub(crate) fn read_group<I: Source>(alloc: Global, tape: &mut Tape, input: &mut 
     let mut messages = Vec::new(alloc);
     let mut size: usize = 0;
     'reading: while messages.len() < MOST_ROWS && size < MOST_BYTES {
+        if messages.reserve(1).is_err() {
+            let rest = Rest::Fault(TapeFault::Memory);
+            return Group { messages, rest };
+        }
         match tape.next(input) {
             Ok(Some(record)) => {
                 size = size.saturating_add(record.message.as_slice().len());
-                match messages.push(message_of(record)) {
-                    Ok(()) => {}
-                    Err(_) => {
-                        let rest = Rest::Fault(TapeFault::Memory);
-                        return Group { messages, rest };
-                    }
-                }
+                messages.push_reserved(message_of(record));
             }
             Ok(None) => {
                 let rest = Rest::Nothing;
@@ -72,8 +71,7 @@ pub(crate) fn read_group<I: Source>(alloc: Global, tape: &mut Tape, input: &mut 
 
 // The message of a record.
 fn message_of(record: Record) -> Message
-    ensures host { result.host ≡ record.host }
-    ensures bytes { result.bytes ≡ record.message }
+    ensures { result ≡ message_from record.host record.message }
 {
     Message {
         host: record.host,
