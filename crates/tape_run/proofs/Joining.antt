@@ -1,10 +1,11 @@
 -- One part of a run behind another.
-use Rattle.std.proofs.Common.{◌≡◌, ◌≢◌, ◌⊎◌, inl, inr, ⊎_elim, ℕ, ◌+◌, ◌≤◌, ◌<◌, Bool, List, [], ◌∷◌, ◌++◌, length, take, Option, Some, None, IsTrue, refl, ap, ◌∙◌, sym, subst, arith, append_assoc, length-append}
+use Rattle.std.proofs.Common.{◌≡◌, ◌≢◌, ◌⊎◌, inl, inr, ⊎_elim, ℕ, ◌+◌, ◌≤◌, ◌<◌, Bool, false, List, [], ◌∷◌, ◌++◌, length, take, Option, Some, None, IsTrue, refl, ap, ◌∙◌, sym, subst, arith, append_assoc, length-append}
 use Rattle.std.proofs.lemmas.List.{append-nil, take-append-le}
 use Rattle.std.proofs.Math.Seq.{take-append-add}
 use Rattle.relay_disk.specs.Disk.{View, IsDisk}
 use Rattle.relay_disk.specs.Moments.{LeavesOnly}
 use Rattle.relay_disk.proofs.Moments.{joined, no_call, weaker}
+use Rattle.at_authority.specs.Panels.{Panel}
 use Rattle.relay_io.specs.Streams.{AddsFront}
 use Rattle.gate_log.specs.Image.{made}
 use Rattle.gate_log.specs.Log.{LogState}
@@ -14,21 +15,23 @@ use Rattle.relay_row.specs.declared.row.Row.{Row}
 use Rattle.relay_core.specs.Decide.{Checks}
 use Rattle.relay_core.specs.Entries.{Holds}
 use Rattle.relay_core.specs.Opening.{OpensRight}
+use Rattle.relay_core.specs.declared.journal_state.Core.{Core}
 use Rattle.relay_law.specs.Right.{LinksRight}
 use Rattle.relay_step.specs.Around.{Around, AllAsked}
+use Rattle.relay_step.specs.Causes.{CameToNothing}
 use Rattle.relay_step.specs.Steps.{Step, rows, AreSteps, ended_by_all}
 use Rattle.relay_step.proofs.Steps.{steps_join}
-use Rattle.relay_store.specs.Batches.{sent}
+use Rattle.relay_store.specs.Batches.{EndsNext, InVain, sent}
 use Rattle.relay_store.specs.Drafts.{end_of}
 use Rattle.relay_store.specs.Journals.{AreBodiesOf, IsLogOf, IsOneOf, bytes_of}
 use Rattle.relay_store.specs.Store.{IsOf, Keeps, StoreState}
 use Rattle.relay_store.specs.declared.fault.StoreFault.{StoreFault}
 use Rattle.relay_store.specs.declared.message.Message.{Message}
-use Rattle.relay_store.proofs.Asks.{all_joined, nothing_here}
+use Rattle.relay_store.proofs.Asks.{all_joined, nothing_here, nothing_in_vain}
 use Rattle.relay_store.proofs.Images.{kept_log}
 use Rattle.relay_store.proofs.Runs.{rows_joined, sent_joined}
 use Rattle.tape_run.specs.Crashes.{HasNoRoom, IsFullFor, IsOnTheWay, IsSoFar, Leaves}
-use Rattle.tape_run.specs.Ends.{IsReported, disk_failed}
+use Rattle.tape_run.specs.Ends.{IsReported, StopsAsking, disk_failed, fault_in}
 use Rattle.tape_run.specs.Going.{Going, Keeping, Point, Stopped, Tells}
 use Rattle.tape_run.specs.Said.{IsNoted, Said, said, said_to, text_of}
 use Rattle.tape_run.specs.declared.end.TapeEnd.{TapeEnd}
@@ -72,7 +75,7 @@ module _ (format : Format) (J : List Row) where
 
 -- ---- nothing yet
 
-nothing_kept : (J : List Row) (s : StoreState) (v : View) → IsDisk v → Keeps J s v → Keeping J [] s v s v
+pub nothing_kept : (J : List Row) (s : StoreState) (v : View) → IsDisk v → Keeps J s v → Keeping J [] s v s v
 nothing_kept J s v is_disk keeps = record {
   keeps = subst (λ (K : List Row). Keeps K s v) (sym (append-nil J)) keeps;
   moments = no_call _ v is_disk (λ c left. so_far_none s.log.format J [] c (kept_log J s v keeps c left));
@@ -224,6 +227,57 @@ module _ {D : Type 0} (view : D → View) (t : Tells) (J : List Row) (messages o
     next = two.next;
   }
 
--- more messages behind those of a stop
+-- ---- more messages behind those of a stop
+
+vain_longer : (mid new : Around) (xs ys : List Message) → InVain xs mid.panel new.panel → InVain (xs ++ ys) mid.panel new.panel
+vain_longer mid new [] ys is =
+    (nothing_in_vain false false mid (record { panel = new.panel; moments = mid.moments; repository = mid.repository }) ys (record { panel = is; moments = λ tells. refl; same = λ tells did. refl })).judges
+vain_longer mid new (m ∷ xs) ys vain = vain
+
+came_longer : (C R : Bool) (mid new : Around) (xs ys : List Message) → CameToNothing C R (InVain xs mid.panel new.panel) mid new → CameToNothing C R (InVain (xs ++ ys) mid.panel new.panel) mid new
+came_longer C R mid new xs ys came = record { judges = vain_longer mid new xs ys came.judges; moments = came.moments; same = came.same }
+
+stops_asking_longer : (C R : Bool) (end : TapeEnd) (mid new : Around) (xs ys : List Message) → StopsAsking C R end xs mid new → StopsAsking C R end (xs ++ ys) mid new
+stops_asking_longer C R TapeEnd.WriteFault mid new xs ys stops = came_longer C R mid new xs ys stops
+stops_asking_longer C R TapeEnd.Memory mid new xs ys stops = came_longer C R mid new xs ys stops
+stops_asking_longer C R (TapeEnd.Store (StoreFault.Full e)) mid new xs ys stops = stops
+stops_asking_longer C R (TapeEnd.Store fault) mid new xs ys stops = came_longer C R mid new xs ys stops
+stops_asking_longer C R end mid new xs ys stops = stops
+
+next_longer : (core : Core) (xs ys : List Message) (panel : Panel) (fault : Option StoreFault) → EndsNext core xs panel fault → EndsNext core (xs ++ ys) panel fault
+next_longer core [] ys panel (Some StoreFault.SeqEnd) next = absurd next
+next_longer core [] ys panel (Some StoreFault.Authority) next = absurd next
+next_longer core [] [] panel fault next = next
+next_longer core [] (m ∷ ys) panel None next = tt
+next_longer core [] (m ∷ ys) panel (Some StoreFault.Disk) next = tt
+next_longer core [] (m ∷ ys) panel (Some (StoreFault.BadLog place)) next = tt
+next_longer core [] (m ∷ ys) panel (Some (StoreFault.Full e)) next = tt
+next_longer core [] (m ∷ ys) panel (Some StoreFault.Repos) next = tt
+next_longer core [] (m ∷ ys) panel (Some StoreFault.Memory) next = tt
+next_longer core [] (m ∷ ys) panel (Some StoreFault.Clock) next = tt
+next_longer core (m ∷ xs) ys panel (Some StoreFault.SeqEnd) next = next
+next_longer core (m ∷ xs) ys panel (Some StoreFault.Authority) next = next
+next_longer core (m ∷ xs) ys panel fault next = tt
+
 pub stops_longer : {D : Type 0} (view : D → View) (t : Tells) (J : List Row) (xs ys whole : List Message) (a c : Point D) (end : TapeEnd) → whole ≡ xs ++ ys → Stopped view t J xs a c end → Stopped view t J whole a c end
-stops_longer view t J xs ys whole a c end is h = ?
+stops_longer view t J xs ys whole a c end is h = record {
+  steps = h.steps;
+  under = h.under;
+  over = h.over;
+  behind = h.behind ++ ys;
+  stop = h.stop;
+  which_under = h.which_under;
+  which_over = h.which_over;
+  front = is ∙ ap (λ (l : List Message). l ++ ys) h.front ∙ append_assoc (sent (h.steps ++ (h.under ++ h.over))) h.behind ys;
+  are = h.are;
+  journal = h.journal;
+  known = h.known;
+  on_disk = h.on_disk;
+  format = h.format;
+  most = h.most;
+  written = h.written;
+  mid = h.mid;
+  asked = h.asked;
+  stops = stops_asking_longer t.clock t.repos end h.mid c.around h.behind ys h.stops;
+  next = next_longer c.store.core h.behind ys c.around.panel (fault_in end) h.next;
+}

@@ -3,3 +3,4 @@ pub mod Records
 pub mod Ended
 pub mod Counts
 pub mod Joining
+pub mod Batches
