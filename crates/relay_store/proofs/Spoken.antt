@@ -18,7 +18,7 @@ use Rattle.relay_store.specs.Journals.{IsOneOf}
 use Rattle.relay_store.specs.Places.{places_in}
 use Rattle.relay_store.specs.Store.{IsOf, Keeps, seen}
 use Rattle.relay_store.specs.Taking.{AreAdded}
-use Rattle.relay_store.specs.Words.{IsAnswer, IsLate, IsOfSaying, Worded, done_of}
+use Rattle.relay_store.specs.Words.{IsAnswer, IsLate, IsOfOperating, IsOfSaying, Worded, done_of}
 use Rattle.relay_store.specs.declared.done.Done.{Done}
 use Rattle.relay_store.specs.declared.draft.Draft.{Draft}
 use Rattle.relay_store.specs.declared.fault.StoreFault.{StoreFault}
@@ -57,6 +57,17 @@ late_saying log d rows StoreFault.Clock late = absurd late
 
 pub disk_saying : (f : StoreFault) → f ≡ StoreFault.Disk → IsOfSaying f
 disk_saying f is = subst IsOfSaying (sym is) tt
+
+-- what may come behind a word may come of operating
+pub saying_operating : (f : StoreFault) → IsOfSaying f → IsOfOperating f
+saying_operating StoreFault.Disk of = tt
+saying_operating (StoreFault.BadLog p) of = absurd of
+saying_operating (StoreFault.Full e) of = tt
+saying_operating StoreFault.SeqEnd of = tt
+saying_operating StoreFault.Authority of = absurd of
+saying_operating StoreFault.Repos of = absurd of
+saying_operating StoreFault.Memory of = tt
+saying_operating StoreFault.Clock of = tt
 
 pub said_few : (word : Word) → length (rows_said word) ≤ 1
 said_few (Word.Refused r) = omega arith
