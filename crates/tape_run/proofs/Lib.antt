@@ -1,0 +1,5 @@
+pub mod Answers
+pub mod Records
+pub mod Ended
+pub mod Counts
+pub mod Joining

@@ -1,0 +1,90 @@
+-- How taking a tape ends, and what each end leaves (own).
+use Rattle.std.specs.Prelude.{◌≡◌, ◌⊎◌, ◌≤◌, ℕ, Bool, List, [], ◌++◌, length, Option, Some, None, IsTrue}
+use Rattle.relay_io.specs.Streams.{AddsFront}
+use Rattle.relay_step.specs.Around.{Around, AskedNothing}
+use Rattle.relay_step.specs.Causes.{CameToNothing}
+use Rattle.relay_step.specs.Steps.{Step}
+use Rattle.relay_store.specs.Batches.{AreExtra, InVain}
+use Rattle.relay_store.specs.declared.fault.StoreFault.{StoreFault}
+use Rattle.relay_store.specs.declared.message.Message.{Message}
+use Rattle.tape.specs.declared.fault.TapeFault.{TapeFault}
+use Rattle.tape_run.specs.declared.end.TapeEnd.{TapeEnd}
+
+abbrev pub end_of_store : StoreFault → TapeEnd
+end_of_store StoreFault.Memory = TapeEnd.Memory
+end_of_store fault = TapeEnd.Store fault
+
+abbrev pub end_of_tape : TapeFault → TapeEnd
+end_of_tape (TapeFault.Torn place) = TapeEnd.Bad place
+end_of_tape (TapeFault.BadName place) = TapeEnd.Bad place
+end_of_tape (TapeFault.TooLong place) = TapeEnd.Bad place
+end_of_tape TapeFault.Failed = TapeEnd.ReadFault
+end_of_tape TapeFault.Budget = TapeEnd.TooLong
+end_of_tape TapeFault.Memory = TapeEnd.Memory
+
+abbrev pub disk_failed : TapeEnd
+disk_failed = TapeEnd.Store StoreFault.Disk
+
+-- steps of a body under way are left only where the disk failed
+abbrev pub AreUnder : TapeEnd → List Step → Type 0
+AreUnder (TapeEnd.Store StoreFault.Disk) under = Unit {0}
+AreUnder end under = under ≡ []
+
+-- A step whose row found no room is left where the log is full. One that found no room or no memory may be left where the report couldn't be written, memory was wanted, or the disk failed, and where nothing but the tape or another fault of the store ends it, none is. A log that was opened isn't bad, and want of memory is an end of its own.
+abbrev pub AreOver : TapeEnd → List Step → Type 0
+AreOver TapeEnd.WriteFault extra = length extra ≤ 1
+AreOver TapeEnd.Memory extra = length extra ≤ 1
+AreOver (TapeEnd.Store StoreFault.Memory) extra = ⊥
+AreOver (TapeEnd.Store fault) extra = AreExtra (Some fault) extra
+AreOver end extra = extra ≡ []
+
+-- the tape has ended it: all messages that were read were taken
+abbrev pub AreTaken : TapeEnd → List Message → Type 0
+AreTaken TapeEnd.WriteFault behind = Unit {0}
+AreTaken TapeEnd.Memory behind = Unit {0}
+AreTaken (TapeEnd.Store fault) behind = Unit {0}
+AreTaken end behind = behind ≡ []
+
+-- what was asked behind the steps: nothing where the tape has ended it or the log is full, and else, for the next message that was read, nothing or what came to nothing
+abbrev pub StopsAsking : Bool → Bool → TapeEnd → List Message → Around → Around → Type 0
+StopsAsking clock_tells repos_tell TapeEnd.WriteFault behind old new = CameToNothing clock_tells repos_tell (InVain behind old.panel new.panel) old new
+StopsAsking clock_tells repos_tell TapeEnd.Memory behind old new = CameToNothing clock_tells repos_tell (InVain behind old.panel new.panel) old new
+StopsAsking clock_tells repos_tell (TapeEnd.Store (StoreFault.Full end)) behind old new = AskedNothing clock_tells repos_tell old new
+StopsAsking clock_tells repos_tell (TapeEnd.Store fault) behind old new = CameToNothing clock_tells repos_tell (InVain behind old.panel new.panel) old new
+StopsAsking clock_tells repos_tell end behind old new = AskedNothing clock_tells repos_tell old new
+
+-- the store's fault that ended it
+abbrev pub fault_in : TapeEnd → Option StoreFault
+fault_in (TapeEnd.Store fault) = Some fault
+fault_in end = None
+
+-- What is written: the whole report where it is done, its lines and its last line; a front of it where the report couldn't be written or memory was wanted; and else its lines.
+abbrev pub IsWritten : TapeEnd → List ℕ → List ℕ → List ℕ → List ℕ → Type 0
+IsWritten TapeEnd.Done lines last old new = new ≡ old ++ (lines ++ last)
+IsWritten TapeEnd.WriteFault lines last old new = AddsFront old new (lines ++ last)
+IsWritten TapeEnd.Memory lines last old new = AddsFront old new (lines ++ last)
+IsWritten end lines last old new = new ≡ old ++ lines
+
+-- what stops it before the tape does
+abbrev pub IsStop : TapeEnd → Type 0
+IsStop TapeEnd.WriteFault = Unit {0}
+IsStop TapeEnd.Memory = Unit {0}
+IsStop (TapeEnd.Store fault) = Unit {0}
+IsStop end = ⊥
+
+-- lines couldn't be written, or memory was wanted for them
+abbrev pub IsUnwritten : TapeEnd → Type 0
+IsUnwritten end = (end ≡ TapeEnd.WriteFault) ⊎ (end ≡ TapeEnd.Memory)
+
+-- all of a text was written, or a front of it
+abbrev pub IsReported : TapeEnd → List ℕ → List ℕ → List ℕ → Type 0
+IsReported TapeEnd.WriteFault text old new = AddsFront old new text
+IsReported TapeEnd.Memory text old new = AddsFront old new text
+IsReported end text old new = new ≡ old ++ text
+
+-- the last line was written, or a front of it
+abbrev pub Finished : TapeEnd → List ℕ → Bool → List ℕ → List ℕ → Type 0
+Finished TapeEnd.Done line told old new = IsTrue told → new ≡ old ++ line
+Finished TapeEnd.WriteFault line told old new = IsTrue told → AddsFront old new line
+Finished TapeEnd.Memory line told old new = IsTrue told → AddsFront old new line
+Finished end line told old new = ⊥
