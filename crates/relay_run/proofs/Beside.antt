@@ -19,7 +19,8 @@ use Rattle.relay_store.specs.declared.store.Store.{Store}
 use Rattle.relay_store.proofs.Images.{kept_log, same_pair_journal}
 use Rattle.relay_run.specs.Pairs.{IsOneOfPair, StandsFor, of_pair}
 
-image_of_side : (J : List Row) (side : Side) (format : Format) (c d : List ℕ) → IsPicked c d side → IsLogOf format J (of_side side c d) → IsPairImageOf J c d
+-- a log of the side that is picked
+pub image_of_side : (J : List Row) (side : Side) (format : Format) (c d : List ℕ) → IsPicked c d side → IsLogOf format J (of_side side c d) → IsPairImageOf J c d
 image_of_side J side format c d picked log = record { bodies = log.bodies; are = log.are; image = (side, picked, inr (format, log.is_made)) }
 
 pub log_front : (format : Format) (J : List Row) (c : List ℕ) → IsLogOf format J c → HasFront format c
@@ -77,24 +78,33 @@ kept_stands Two J s one two first second leaves keeps =
 kept_front : (J : List Row) (s : StoreState) (v : View) → IsDisk v → Keeps J s v → HasFront s.log.format v.content
 kept_front J s v disk keeps = log_front s.log.format J v.content (kept_log J s v keeps v.content disk.possible)
 
--- the disk of the side that is picked gets other rows in a log of the same format: that side stays picked
-stays_first : (J K : List Row) (s t : StoreState) (one one_now two : View) → IsDisk one → t.log.format ≡ s.log.format → Keeps J s one → Keeps K t one_now → LeavesSide One one two → LeavesSide One one_now two
-stays_first J K s t one one_now two disk same keeps now leaves = λ c d left beside.
-    same_side_of_first one.content d c s.log.format One (kept_front J s one disk keeps)
-    (subst (λ (f : Format). HasFront f c) same (log_front t.log.format K c (kept_log K t one_now now c left)))
-    (leaves one.content d disk.possible beside)
+-- the disk of the side that is picked gets other rows behind the front that it had: that side stays picked
+stays_first : (J : List Row) (s : StoreState) (one one_now two : View) → IsDisk one → Keeps J s one → ((c : List ℕ) → one_now.may_leave c → HasFront s.log.format c) → LeavesSide One one two → LeavesSide One one_now two
+stays_first J s one one_now two disk keeps fronts leaves = λ c d left beside.
+    same_side_of_first one.content d c s.log.format One (kept_front J s one disk keeps) (fronts c left) (leaves one.content d disk.possible beside)
 
-stays_second : (J K : List Row) (s t : StoreState) (one two two_now : View) → IsDisk two → t.log.format ≡ s.log.format → Keeps J s two → Keeps K t two_now → LeavesSide Two one two → LeavesSide Two one two_now
-stays_second J K s t one two two_now disk same keeps now leaves = λ c d left beside.
-    same_side_of_second c two.content d s.log.format Two (kept_front J s two disk keeps)
-    (subst (λ (f : Format). HasFront f d) same (log_front t.log.format K d (kept_log K t two_now now d beside)))
-    (leaves c two.content left disk.possible)
+stays_second : (J : List Row) (s : StoreState) (one two two_now : View) → IsDisk two → Keeps J s two → ((d : List ℕ) → two_now.may_leave d → HasFront s.log.format d) → LeavesSide Two one two → LeavesSide Two one two_now
+stays_second J s one two two_now disk keeps fronts leaves = λ c d left beside.
+    same_side_of_second c two.content d s.log.format Two (kept_front J s two disk keeps) (fronts d beside) (leaves c two.content left disk.possible)
+
+-- what a disk keeps in a log of this format begins with its front
+pub kept_fronts : (K : List Row) (format : Format) (t : StoreState) (v : View) → t.log.format ≡ format → Keeps K t v → (c : List ℕ) → v.may_leave c → HasFront format c
+kept_fronts K format t v same keeps c left = subst (λ (f : Format). HasFront f c) same (log_front t.log.format K c (kept_log K t v keeps c left))
 
 -- the same of the side, whichever it is
 abbrev pub ComesBeside : Side → List Row → Format → (List ℕ → Type 0) → (List ℕ → List ℕ → Type 0) → Type 0
 ComesBeside side J format Q R = (c d : List ℕ) → Q (of_side side c d) → ((K : List Row) → IsLogOf format K (of_side side c d) → IsPairImageOf J c d ⊎ IsPairImageOf K c d) → R c d
 
 module _ {D : Type 0} (view : D → View) (is_disk : (x : D) → IsDisk (view x)) (a b c d e f : D) where
+  -- the side's disk
+  pub view_on : (side : Side) → view_of_side side (view c) (view d) ≡ view (of_pair side c d)
+  view_on One = refl
+  view_on Two = refl
+
+  view_now : (side : Side) → view_of_side side (view e) (view f) ≡ view (of_pair side e f)
+  view_now One = refl
+  view_now Two = refl
+
   -- a call on the disk of the side, between opening and now
   pub run_on : (side : Side) (J : List Row) (s : StoreState) (Q : List ℕ → Type 0) (R : List ℕ → List ℕ → Type 0) → of_pair (other_side side) e f ≡ of_pair (other_side side) c d
       → Keeps J s (view_of_side side (view c) (view d)) → PairLeavesOnly (IsPairImageOf J) (view a) (view c) (view b) (view d) → LeavesOnly Q (view (of_pair side c d)) (view (of_pair side e f))
@@ -108,18 +118,18 @@ module _ {D : Type 0} (view : D → View) (is_disk : (x : D) → IsDisk (view x)
           let now = (is_disk d).counts_now (view b).moment (view d).content opened.two_later (is_disk d).possible in
           behind x y has (λ K log. second_beside J K s.log.format x (view d).content y (kept_front J s (view d) (is_disk d) keeps) (opened.each x (view d).content left now) log)))
 
-  -- and behind it the disks stand for what the side keeps
+  -- and behind it the side stays picked
+  pub leaves_on : (side : Side) (J : List Row) (s : StoreState) → of_pair (other_side side) e f ≡ of_pair (other_side side) c d → Keeps J s (view_of_side side (view c) (view d))
+      → ((x : List ℕ) → (view (of_pair side e f)).may_leave x → HasFront s.log.format x) → LeavesSide side (view c) (view d) → LeavesSide side (view e) (view f)
+  leaves_on One J s same keeps fronts leaves = subst (λ (x : D). LeavesSide One (view e) (view x)) (sym same) (stays_first J s (view c) (view e) (view d) (is_disk c) keeps fronts leaves)
+  leaves_on Two J s same keeps fronts leaves = subst (λ (x : D). LeavesSide Two (view x) (view f)) (sym same) (stays_second J s (view c) (view d) (view f) (is_disk d) keeps fronts leaves)
+
+  -- and the disks stand for what it keeps
   pub stands_on : (side : Side) (J K : List Row) (s t : StoreState) → of_pair (other_side side) e f ≡ of_pair (other_side side) c d → t.log.format ≡ s.log.format
       → Keeps J s (view_of_side side (view c) (view d)) → Keeps K t (view (of_pair side e f)) → LeavesSide side (view c) (view d) → StandsFor K (view e) (view f)
-  stands_on One J K s t same format keeps now leaves = subst (λ (x : D). StandsFor K (view e) (view x)) (sym same)
-      (kept_stands One K t (view e) (view d) (is_disk e) (is_disk d) (stays_first J K s t (view c) (view e) (view d) (is_disk c) format keeps now leaves) now)
-  stands_on Two J K s t same format keeps now leaves = subst (λ (x : D). StandsFor K (view x) (view f)) (sym same)
-      (kept_stands Two K t (view c) (view f) (is_disk c) (is_disk f) (stays_second J K s t (view c) (view d) (view f) (is_disk d) format keeps now leaves) now)
-
-  -- the side's disk
-  pub view_on : (side : Side) → view_of_side side (view c) (view d) ≡ view (of_pair side c d)
-  view_on One = refl
-  view_on Two = refl
+  stands_on side J K s t same format keeps now leaves =
+      kept_stands side K t (view e) (view f) (is_disk e) (is_disk f) (leaves_on side J s same keeps (kept_fronts K s.log.format t (view (of_pair side e f)) format now) leaves)
+      (subst (Keeps K t) (sym (view_now side)) now)
 
   -- a call that leaves both as they were
   pub both_same : (side : Side) → of_pair (other_side side) e f ≡ of_pair (other_side side) c d → of_pair side e f ≡ of_pair side c d → (e ≡ c) × (f ≡ d)

@@ -1,6 +1,6 @@
 //! The line of an account.
 
-ghost use Rattle.std.specs.Prelude.{◌≡◌, ◌++◌, IfOk, OnOk, Some, None, codes, option_map};
+ghost use Rattle.std.specs.Prelude.{◌≡◌, ◌++◌, IfOk, OnOk, option_map};
 ghost use Rattle.std.specs.List.{flat_map};
 ghost use Rattle.std.specs.Option.{unwrap_or};
 ghost use Rattle.at_syntax.specs.Tid.{digits_of};
@@ -9,10 +9,11 @@ ghost use Rattle.account_state.specs.State.{state_of};
 ghost use Rattle.state_lines.specs.Lines.{account_text, active_word, down_word, good_words, link_word, repo_words, shown_byte, status_word};
 
 use account_state::{Account, Repo};
-use at_cid::{Cid, Memory, Octets, TEXT_LEN};
+use at_cid::{Cid, Memory, Octets};
 use at_event::Head;
 use at_syntax::{TID_LEN, Tid};
 use percent_encoding::percent_encode_byte;
+use report_lines::add_link;
 use std::alloc::Global;
 
 fn add_byte(line: &mut Octets, byte: u8) -> Result<(), Memory>
@@ -46,20 +47,12 @@ fn add_status(line: &mut Octets, status: Option<&str>) -> Result<(), Memory>
     }
 }
 
-// A blank and a text.
-fn add_word(line: &mut Octets, text: &[u8]) -> Result<(), Memory>
-    ensures { OnOk result (line.new ≡ line.old ++ (codes " " ++ text.now)) }
-{
-    line.extend(b" ")?;
-    line.extend(text)
-}
-
-fn add_link(line: &mut Octets, link: &Cid) -> Result<(), Memory>
+// A blank and a link.
+fn add_link_word(line: &mut Octets, link: &Cid) -> Result<(), Memory>
     ensures { OnOk result (line.new ≡ line.old ++ link_word link.now) }
 {
-    let mut text = [0; TEXT_LEN];
-    link.write_text(&mut text);
-    add_word(line, &text)
+    line.extend(b" ")?;
+    add_link(line, link)
 }
 
 fn add_rev(line: &mut Octets, rev: Tid) -> Result<(), Memory>
@@ -75,8 +68,8 @@ fn add_head(line: &mut Octets, head: &Head) -> Result<(), Memory>
 {
     line.extend(b"good ")?;
     add_rev(line, head.rev)?;
-    add_link(line, &head.data_root)?;
-    add_link(line, &head.commit)
+    add_link_word(line, &head.data_root)?;
+    add_link_word(line, &head.commit)
 }
 
 fn add_repo(line: &mut Octets, repo: &Repo) -> Result<(), Memory>

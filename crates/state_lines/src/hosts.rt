@@ -6,7 +6,7 @@ ghost use Rattle.state_lines.specs.Lines.{host_text, hosts_text};
 
 use at_cid::{Memory, Octets};
 use host_state::Hosts;
-use itoa::Buffer;
+use report_lines::add_number;
 use std::alloc::Global;
 
 fn add_host(lines: &mut Octets, host: &str, cursor: u64) -> Result<(), Memory>
@@ -14,7 +14,7 @@ fn add_host(lines: &mut Octets, host: &str, cursor: u64) -> Result<(), Memory>
 {
     lines.extend(host.as_bytes())?;
     lines.extend(b" ")?;
-    lines.extend(Buffer::new().format(cursor).as_bytes())?;
+    add_number(lines, cursor)?;
     lines.extend(b"\n")
 }
 
@@ -22,7 +22,7 @@ fn add_end(lines: &mut Octets, count: u64) -> Result<(), Memory>
     ensures { OnOk result (lines.new ≡ lines.old ++ (codes "end " ++ (decimal count ++ 10 ∷ []))) }
 {
     lines.extend(b"end ")?;
-    lines.extend(Buffer::new().format(count).as_bytes())?;
+    add_number(lines, count)?;
     lines.extend(b"\n")
 }
 

@@ -27,7 +27,7 @@ pub enum TapeEnd {
 
 impl TapeEnd {
     /// The end that a fault of the store brings.
-    pub(crate) fn of_store(fault: StoreFault) -> TapeEnd
+    pub fn of_store(fault: StoreFault) -> TapeEnd
         ensures { result ≡ end_of_store fault }
     {
         match fault {

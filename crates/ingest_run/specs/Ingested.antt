@@ -1,0 +1,114 @@
+-- What taking a tape into the journal of two disks does (own).
+use Rattle.std.specs.Prelude.{◌≡◌, ◌≢◌, ◌⊎◌, ⊤, ℕ, Bool, List, [], ◌++◌, length, Some, IsTrue}
+use Rattle.at_authority.specs.Panels.{Panel}
+use Rattle.relay_disk.specs.Disk.{View}
+use Rattle.relay_disk.specs.Moments.{PairLeavesOnly}
+use Rattle.gate_log.specs.Image.{HasFront}
+use Rattle.gate_log.specs.Log.{LogState}
+use Rattle.gate_log.specs.Pick.{IsPicked, view_of_side}
+use Rattle.gate_log.specs.declared.picking.Side.{Side}
+use Rattle.relay_row.specs.Journal.{IsJournal}
+use Rattle.relay_row.specs.declared.row.Row.{Row}
+use Rattle.relay_core.specs.Decide.{Checks}
+use Rattle.relay_core.specs.Opening.{OpensRight}
+use Rattle.relay_core.specs.Report.{end_line, lines_from}
+use Rattle.relay_law.specs.Right.{LinksRight}
+use Rattle.relay_law.specs.Sound.{IsSound}
+use Rattle.relay_step.specs.Around.{Around, AllAsked}
+use Rattle.relay_step.specs.Steps.{Step, AreSteps, messages, rows}
+use Rattle.relay_store.specs.Batches.{EndsNext, sent}
+use Rattle.relay_store.specs.Journals.{IsPairImageOf}
+use Rattle.relay_store.specs.Opening.{IsOfReading}
+use Rattle.relay_store.specs.declared.fault.StoreFault.{StoreFault}
+use Rattle.relay_store.specs.declared.message.Message.{Message}
+use Rattle.tape_run.specs.Covered.{CoveredGetThrough}
+use Rattle.tape_run.specs.Crashes.{HasNoRoom}
+use Rattle.tape_run.specs.Ends.{AreOver, AreTaken, AreUnder, IsWritten, StopsAsking, disk_failed, end_of_store}
+use Rattle.tape_run.specs.Going.{Tells}
+use Rattle.tape_run.specs.Tapes.{AreRecords, IsOnTape}
+use Rattle.tape_run.specs.declared.end.TapeEnd.{TapeEnd}
+use Rattle.relay_run.specs.Pairs.{IsOneOfPair, StandsFor}
+use Rattle.relay_run.specs.Spoke.{Knows}
+
+-- The two disks, what the judges, the clock and the repositories tell, what is left of the input, and what is written, at one moment.
+pub record PairScene : Type 1 where
+  pub one : View
+  pub two : View
+  pub around : Around
+  pub left : List ℕ
+  pub written : List ℕ
+
+abbrev pub pair_scene : View → View → Around → List ℕ → List ℕ → PairScene
+pair_scene one two around left written = record { one = one; two = two; around = around; left = left; written = written }
+
+-- An image of the journal J with some of these rows behind it, from the first on.
+pub record IsPairSoFar (J rows : List Row) (c d : List ℕ) : Type 0 where
+  pub front : List Row
+  pub others : List Row
+  pub split : rows ≡ front ++ others
+  pub image : IsPairImageOf (J ++ front) c d
+
+-- or with all of them, and behind those the rows of a body under way
+abbrev pub IsPairOnTheWay : List Row → List Row → List Row → List ℕ → List ℕ → Type 0
+IsPairOnTheWay J rows under c d = IsPairSoFar J rows c d ⊎ IsPairImageOf ((J ++ rows) ++ under) c d
+
+-- the log that is picked of the two disks is of this format
+pub record IsLogOn (log : LogState) (one two : View) : Type 0 where
+  pub side : Side
+  pub picked : IsPicked one.content two.content side
+  pub front : HasFront log.format (view_of_side side one two).content
+
+-- the log is full only where a row has no room in the one that is picked
+abbrev pub IsFullOn : ℕ → List Row → List Row → List Row → View → View → TapeEnd → Type 0
+IsFullOn most J rows over one two (TapeEnd.Store (StoreFault.Full e)) = (log : LogState) × (log.most ≡ most) × IsLogOn log one two × HasNoRoom J rows over log e
+IsFullOn most J rows over one two end = ⊤
+
+-- for the next message the numbers end behind this journal, or no authority is left, where that ended it
+abbrev pub IsNextEnd : List Row → List Message → Panel → TapeEnd → Type 0
+IsNextEnd K behind panel (TapeEnd.Store StoreFault.SeqEnd) = Knows K (λ core. EndsNext core behind panel (Some StoreFault.SeqEnd))
+IsNextEnd K behind panel (TapeEnd.Store StoreFault.Authority) = Knows K (λ core. EndsNext core behind panel (Some StoreFault.Authority))
+IsNextEnd K behind panel end = ⊤
+
+-- The disks weren't opened: nothing was taken, asked or written, and where they stood for the journal J they do again, at each moment of a crash.
+pub record Unopened (J : List Row) (old new : PairScene) (end : TapeEnd) : Type 0 where
+  pub fault : StoreFault
+  pub is : end ≡ end_of_store fault
+  pub of_reading : IsOfReading fault
+  pub around : new.around ≡ old.around
+  pub left : new.left ≡ old.left
+  pub written : new.written ≡ old.written
+  pub stands : StandsFor J old.one old.two → StandsFor J new.one new.two
+  pub crashes : StandsFor J old.one old.two → PairLeavesOnly (IsPairImageOf J) old.one new.one old.two new.two
+
+-- A tape, of which at most `limit` bytes may be taken, was taken into the journal J of two disks, and ended so.
+pub record Ingested (t : Tells) (input_tells : Bool) (most limit : ℕ) (J : List Row) (old new : PairScene) (end : TapeEnd) : Type 0 where
+  -- the steps that are answered, those of a body that was under way when a disk failed, and one whose row found no room or no memory
+  pub steps : List Step
+  pub under : List Step
+  pub over : List Step
+  pub which_under : AreUnder end under
+  pub which_over : AreOver end over
+  -- each is what comes of its message behind the rows before it
+  pub are : (checks : Checks) → OpensRight checks → LinksRight checks → AreSteps checks J [] (steps ++ (under ++ over))
+  pub journal : IsJournal (J ++ rows (steps ++ (under ++ over)))
+  -- their messages, and behind them those that were read and not taken, are the records at the front of the input
+  pub behind : List Message
+  pub all : AreTaken end behind
+  pub records : AreRecords (sent (steps ++ (under ++ over)) ++ behind)
+  pub from : IsTrue input_tells → IsOnTape limit old.left new.left (sent (steps ++ (under ++ over)) ++ behind) end
+  -- unless a disk failed, the two stand for the journal with the rows of the steps
+  pub stands : end ≢ disk_failed → StandsFor (J ++ rows steps) new.one new.two
+  -- Whatever moments a crash strikes the two at, it leaves the journal with some of the rows, or all and those of the body under way, and at the end with all.
+  pub crashes : StandsFor J old.one old.two → PairLeavesOnly (IsPairOnTheWay J (rows steps) (rows under)) old.one new.one old.two new.two
+  pub left : (c d : List ℕ) → new.one.may_leave c → new.two.may_leave d → IsOneOfPair (J ++ rows steps) (rows under) c d
+  pub full : IsFullOn most J (rows steps) (rows over) new.one new.two end
+  -- what is written is the report of the steps
+  pub written : IsTrue t.output → IsWritten end (lines_from J [] (messages steps) (rows steps)) (end_line J (messages steps) (rows steps)) old.written new.written
+  -- what was asked: of each step what it shows, and for one more message at most what came to nothing
+  pub mid : Around
+  pub asked : AllAsked t.clock t.repos J old.around (steps ++ (under ++ over)) mid
+  pub stops : StopsAsking t.clock t.repos end behind mid new.around
+  pub next : IsNextEnd (J ++ rows steps) behind new.around.panel end
+  -- a sound journal stays sound with the rows of any of the steps in front, and a covered commit gets through
+  pub sound : (front others : List Step) → steps ++ (under ++ over) ≡ front ++ others → IsSound J → IsSound (J ++ rows front)
+  pub covered : CoveredGetThrough J (steps ++ (under ++ over))
