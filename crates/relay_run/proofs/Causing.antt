@@ -8,7 +8,7 @@ use Rattle.relay_store.specs.Journals.{IsBadPairJournalAt, IsPairImageOf}
 use Rattle.relay_store.specs.Opening.{IsOfReading}
 use Rattle.relay_store.specs.Store.{StoreState}
 use Rattle.relay_store.specs.Taking.{ComesOfAsking}
-use Rattle.relay_store.specs.Words.{IsAnswer, Spoken}
+use Rattle.relay_store.specs.Words.{IsAnswer, IsOfOperating, Spoken}
 use Rattle.relay_store.specs.declared.done.Done.{Done}
 use Rattle.relay_store.specs.declared.fault.StoreFault.{StoreFault}
 use Rattle.relay_run.specs.Ends.{IsCausedBy, IsOpened, Shows}
@@ -46,6 +46,17 @@ opening_causes disk write spent repos clock StoreFault.Authority of cause = absu
 opening_causes disk write spent repos clock StoreFault.Repos of cause = absurd of
 opening_causes disk write spent repos clock StoreFault.Memory of cause = tt
 opening_causes disk write spent repos clock StoreFault.Clock of cause = absurd of
+
+-- an account that is taken down or restored asks neither judges nor repositories
+pub operating_causes : (disk write clock : Type 0) (fault : StoreFault) → IsOfOperating fault → (fault ≡ StoreFault.Disk → disk) → (fault ≡ StoreFault.Clock → clock) → IsCausedBy disk write ⊥ ⊥ clock (RunEnd.Fault fault)
+operating_causes disk write clock StoreFault.Disk of failed stopped = failed refl
+operating_causes disk write clock (StoreFault.BadLog p) of failed stopped = absurd of
+operating_causes disk write clock (StoreFault.Full e) of failed stopped = tt
+operating_causes disk write clock StoreFault.SeqEnd of failed stopped = tt
+operating_causes disk write clock StoreFault.Authority of failed stopped = absurd of
+operating_causes disk write clock StoreFault.Repos of failed stopped = absurd of
+operating_causes disk write clock StoreFault.Memory of failed stopped = tt
+operating_causes disk write clock StoreFault.Clock of failed stopped = stopped refl
 
 -- ---- behind it
 

@@ -12,7 +12,7 @@ ghost use Rattle.relay_step.specs.Words.{EndsBehind, OperatedAt};
 ghost use Rattle.relay_store.specs.Faults.{IsCause};
 ghost use Rattle.relay_store.specs.Journals.{IsPairImageOf};
 ghost use Rattle.relay_store.specs.Store.{IsKept, IsOf, seen_in};
-ghost use Rattle.relay_store.specs.Words.{Spoken};
+ghost use Rattle.relay_store.specs.Words.{IsOfOperating, Spoken};
 ghost use Rattle.relay_store.specs.declared.fault.StoreFault.{StoreFault as TheFault};
 ghost use Rattle.relay_run.specs.Ends.{IsCausedBy, IsQuiet, Shows};
 ghost use Rattle.relay_run.specs.Pairs.{of_pair, outside};
@@ -48,6 +48,7 @@ fn operate_on<D: Disk, C: Clock>(
     ensures beside { of_pair (other_side (seen_in store.old).side) disk.new other.new ≡ of_pair (other_side (seen_in store.old).side) disk.old other.old }
     ensures disk { result ≡ Err StoreFault.Disk → Rose (D.view disk.old).faults (D.view disk.new).faults ⊎ Rose (D.view other.old).faults (D.view other.new).faults }
     ensures clock { result ≡ Err StoreFault.Clock → Rose (C.faults clock.old) (C.faults clock.new) }
+    ensures few { (f : TheFault) → result ≡ Err f → IsOfOperating f }
     ensures seq_end { result ≡ Err StoreFault.SeqEnd → EndsBehind (seen_in store.old).core did.now down }
     ensures disk_counts { (D.view disk.old).faults ≤ (D.view disk.new).faults }
     ensures other_counts { (D.view other.old).faults ≤ (D.view other.new).faults }
@@ -82,7 +83,7 @@ pub fn operate<D: Disk, C: Clock, O: Sink>(
             (outside (D.view disk.old) (D.view other.old) (O.written out.old)) (outside (D.view disk.new) (D.view other.new) (O.written out.new)) result }
     ensures shows { IsTrue D.tells → Shows result (D.view disk.old).content (D.view other.old).content }
     ensures quiet { IsTrue O.tells → IsQuiet result (O.written out.old) (O.written out.new) }
-    ensures caused { IsCausedBy (Rose (D.view disk.old).faults (D.view disk.new).faults ⊎ Rose (D.view other.old).faults (D.view other.new).faults) (Rose (O.faults out.old) (O.faults out.new)) ⊤ ⊤ (Rose (C.faults clock.old) (C.faults clock.new)) result }
+    ensures caused { IsCausedBy (Rose (D.view disk.old).faults (D.view disk.new).faults ⊎ Rose (D.view other.old).faults (D.view other.new).faults) (Rose (O.faults out.old) (O.faults out.new)) ⊥ ⊥ (Rose (C.faults clock.old) (C.faults clock.new)) result }
     ensures disk_counts { (D.view disk.old).faults ≤ (D.view disk.new).faults }
     ensures other_counts { (D.view other.old).faults ≤ (D.view other.new).faults }
     ensures clock_counts { C.faults clock.old ≤ C.faults clock.new }

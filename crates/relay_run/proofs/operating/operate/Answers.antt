@@ -6,7 +6,7 @@ use Rattle.relay_step.specs.Words.{EndsBehind, OperatedAt}
 use Rattle.relay_store.specs.Faults.{IsCause}
 use Rattle.relay_store.specs.Store.{seen_in}
 use Rattle.relay_run.specs.Spoke.{Knows}
-use Rattle.relay_run.proofs.Causing.{done_causes, done_good, image_shows, opening_causes, opening_shows, spoken_good}
+use Rattle.relay_run.proofs.Causing.{done_causes, done_good, image_shows, opening_causes, opening_shows, operating_causes, spoken_good}
 use Rattle.relay_run.proofs.Sounds.{operated_stays}
 use Rattle.relay_run.proofs.Uttered.{opened_knows, opened_of, spoke_err, spoke_ok, spoke_unopened, vain_by}
 use Rattle.relay_run.proofs.operating.operate.Goals as goal
@@ -20,7 +20,7 @@ pub returns-in-Err-clause-shows : goal.returns-in-Err-clause-shows
 returns-in-Err-clause-shows g c = λ told. opening_shows c.in-Err.fault _ _ (c.in-Err.ensures.few c.in-Err.fault refl) (λ p is. c.in-Err.ensures.bad_log p (ap Err is) told)
 
 pub returns-in-Err-clause-caused : goal.returns-in-Err-clause-caused
-returns-in-Err-clause-caused g c = opening_causes (Rose (g.D.Disk.view c.args.disk.now).faults (g.D.Disk.view c.open.new.disk).faults ⊎ Rose (g.D.Disk.view c.args.other.now).faults (g.D.Disk.view c.open.new.other).faults) (Rose (g.O.Sink.faults c.args.out.now) (g.O.Sink.faults c.args.out.now)) ⊤ ⊤ (Rose (g.C.Clock.faults c.args.clock.now) (g.C.Clock.faults c.args.clock.now)) c.in-Err.fault (c.in-Err.ensures.few c.in-Err.fault refl) (λ is. c.in-Err.ensures.disk (ap Err is))
+returns-in-Err-clause-caused g c = opening_causes (Rose (g.D.Disk.view c.args.disk.now).faults (g.D.Disk.view c.open.new.disk).faults ⊎ Rose (g.D.Disk.view c.args.other.now).faults (g.D.Disk.view c.open.new.other).faults) (Rose (g.O.Sink.faults c.args.out.now) (g.O.Sink.faults c.args.out.now)) ⊥ ⊥ (Rose (g.C.Clock.faults c.args.clock.now) (g.C.Clock.faults c.args.clock.now)) c.in-Err.fault (c.in-Err.ensures.few c.in-Err.fault refl) (λ is. c.in-Err.ensures.disk (ap Err is))
 
 pub returns-in-Ok-operate_on-clause-spoke : goal.returns-in-Ok-operate_on-clause-spoke
 returns-in-Ok-operate_on-clause-spoke g c = λ told J image.
@@ -58,3 +58,6 @@ returns-clause-shows g c = λ told.
     image_shows _ _ _ J image
     (spoken_good g.D.Disk.view g.D.Disk.tells J _ _ (seen_in c.in-Ok.store) (seen_in c.operate_on.new.store) _ _ c.in-Err-operate_on.fault
     (c.in-Err-operate_on.ensures.spoken J (opened_of g.D.Disk.view (λ x. g.met.D.Disk.is_disk x) c.args.disk.now c.args.other.now c.open.new.disk c.open.new.other g.D.Disk.tells told c.in-Ok.store c.in-Ok.ensures.opened J image)))
+
+pub returns-clause-caused : goal.returns-clause-caused
+returns-clause-caused g c = operating_causes _ _ _ c.in-Err-operate_on.fault (c.in-Err-operate_on.ensures.few c.in-Err-operate_on.fault refl) (λ is. c.in-Err-operate_on.ensures.disk (ap Err is)) (λ is. c.in-Err-operate_on.ensures.clock (ap Err is))
