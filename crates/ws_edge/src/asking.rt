@@ -1,8 +1,10 @@
 //! The feed's side of a handshake.
+ghost use Rattle.std.specs.Prelude.{List, ℕ, IfOk, IfSome};
+ghost use Rattle.ws_edge.specs.Handshakes.{IsAnswered, IsHere};
 
 use crate::framed::Framed;
 use crate::handshake_fault::HandshakeFault;
-use crate::head::read_piece;
+use crate::head::{behind_head, read_piece};
 use crate::limits::{ANSWER_SECONDS, CONNECT_SECONDS, LONGEST_HEAD, MOST_FIELDS};
 use crate::reason::Reason;
 use crate::timed::Timed;
@@ -50,15 +52,28 @@ pub(crate) fn ask<R: Net + Clock + RandomSource + Copy>(
 }
 
 // The port of a host on this machine: decimal, without a sign and zeros in front.
-fn port_of(host: &str) -> Option<u16> {
-    let digits = match host.strip_prefix("localhost:") {
-        Some(digits) => digits,
-        None => host.strip_prefix("127.0.0.1:")?,
-    };
-    if digits.starts_with('0') || digits.starts_with('+') {
+fn port_of(host: &str) -> Option<u16>
+    ensures here { IfSome result (λ _. (port : List ℕ) × IsHere host.now port) }
+{
+    let port = behind_name(host)?;
+    if port.starts_with('0') || port.starts_with('+') {
         return None;
     }
-    digits.parse::<u16>().ok()
+    match port.parse::<u16>() {
+        Ok(port) => Some(port),
+        Err(_) => None,
+    }
+}
+
+// What stands behind the name or the number of this machine.
+#[tactic(auto, using(crate::proofs::Hosts::by_name, crate::proofs::Hosts::by_number))]
+fn behind_name(host: &str) -> Option<&str>
+    ensures here { IfSome result (λ port. IsHere host.now port.now) }
+{
+    match host.strip_prefix("localhost:") {
+        Some(port) => Some(port),
+        None => host.strip_prefix("127.0.0.1:"),
+    }
 }
 
 // Sends the request, and reads the answer. What is handed back came behind the answer's head.
@@ -86,7 +101,9 @@ fn behind_answer(
     alloc: Global,
     request: &ClientRequest<'_>,
     bytes: &[u8],
-) -> Result<Option<Vec<u8>>, HandshakeFault> {
+) -> Result<Option<Vec<u8>>, HandshakeFault>
+    ensures answered { IfOk result (λ behind. IfSome behind (λ rest. IsAnswered bytes.now request.now rest.items)) }
+{
     let mut spans = [EMPTY_HEADER_SPAN; MOST_FIELDS];
     let found = match parse_response(bytes, &mut spans) {
         Ok(Status::Complete(found)) => found,
@@ -94,7 +111,7 @@ fn behind_answer(
         Err(e) => return Err(e.into()),
     };
     verify_response(request, bytes, &found, &spans)?;
-    Ok(Some(Vec::from_slice(alloc, &bytes[found.len..])?))
+    Ok(Some(behind_head(alloc, bytes, found.len)?))
 }
 
 // The session on a stream whose handshake is done.

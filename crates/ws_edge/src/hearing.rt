@@ -1,5 +1,7 @@
 //! What a host says.
-ghost use Rattle.std.specs.Prelude.{◌≡◌, ◌≤◌, ◌+◌, List, ℕ, [], length, IsTrue, IfOk, OnOk};
+ghost use Rattle.std.specs.Prelude.{◌≡◌, ◌≤◌, List, ℕ, [], length, IsTrue, IfOk, OnOk};
+ghost use Rattle.tungstenite.specs.Content.{text, binary};
+ghost use Rattle.tungstenite.specs.Socket.{content_of};
 ghost use Rattle.relay_io.specs.declared.feed.TheConstants.{LONGEST_MESSAGE};
 ghost use Rattle.ws_edge.specs.declared.hearing.Heard.{Heard};
 
@@ -98,21 +100,20 @@ fn hear<S: Read + Write + OpenStream + Drop, R: RandomSource + Clock + Copy>(
 
 // Hands a message on: a binary one as its bytes, a text as no bytes.
 fn hand_on(message: &Message, room: &mut Octets) -> Result<Heard, FeedFault>
+    ensures bytes { (bytes : List ℕ) → content_of message.now ≡ binary bytes → OnOk result (room.new ≡ bytes) }
+    ensures text { (words : List ℕ) → content_of message.now ≡ text words → OnOk result (room.new ≡ []) }
     ensures within { IfOk result (λ heard. heard ≡ Heard.Message → length room.new ≤ LONGEST_MESSAGE) }
 {
+    room.clear();
     match message {
         Message::Binary(bytes) => {
             if bytes.len() > LONGEST_MESSAGE {
                 return Err(FeedFault::Failed);
             }
-            room.clear();
             room.extend(bytes.as_slice())?;
             Ok(Heard::Message)
         }
-        Message::Text(_) => {
-            room.clear();
-            Ok(Heard::Message)
-        }
+        Message::Text(_) => Ok(Heard::Message),
         Message::Ping(_) | Message::Pong(_) => Ok(Heard::Sign),
         Message::Close(_) => Ok(Heard::Close),
     }

@@ -1,7 +1,11 @@
 //! The door's side of a handshake.
+ghost use Rattle.std.specs.Prelude.{◌≡◌, ◌≤◌, [], length, IfOk, IfSome};
+ghost use Rattle.httparse.specs.Spans.{IsRequestOf, IsRequestWithin, span_bytes};
+ghost use Rattle.websocket.specs.Handshake.{response_bytes};
+ghost use Rattle.ws_edge.specs.Handshakes.{IsAccepted, IsAsked};
 
 use crate::handshake_fault::HandshakeFault;
-use crate::head::read_piece;
+use crate::head::{behind_head, read_piece};
 use crate::limits::{
     LONGEST_HEAD, LONGEST_WORD, MOST_FIELDS, MOST_WORDS, REFUSAL_SECONDS, SESSION_SECONDS,
     WELCOME_SECONDS, WRITE_SIZE,
@@ -11,7 +15,7 @@ use crate::serving::Session;
 use crate::timed::Timed;
 use at_cid::{Octets, Words};
 use httparse::Status;
-use httparse::spans::{EMPTY_HEADER_SPAN, parse_request};
+use httparse::spans::{EMPTY_HEADER_SPAN, HeaderSpan, RequestSpans, parse_request};
 use std::alloc::Global;
 use std::io::{Read, Write};
 use std::net::OpenStream;
@@ -84,26 +88,70 @@ fn read_request<S: Read>(alloc: Global, stream: &mut S) -> Result<Asked, Handsha
 }
 
 // What these bytes ask for, or `None` where the head isn't whole.
-fn asked_by(alloc: Global, bytes: &[u8]) -> Result<Option<Asked>, HandshakeFault> {
-    let mut spans = [EMPTY_HEADER_SPAN; MOST_FIELDS];
-    let found = match parse_request(bytes, &mut spans) {
-        Ok(Status::Complete(found)) => found,
-        Ok(Status::Partial) => return Ok(None),
-        Err(e) => return Err(e.into()),
+fn asked_by(alloc: Global, bytes: &[u8]) -> Result<Option<Asked>, HandshakeFault>
+    ensures asked { IfOk result (λ asked. IfSome asked (λ a. IsAsked bytes.now a.target a.answer.items a.behind.items)) }
+{
+    let mut fields = [EMPTY_HEADER_SPAN; MOST_FIELDS];
+    let Some(found) = request_in(bytes, &mut fields)? else {
+        return Ok(None);
     };
-    let key = check_request(bytes, &found, &spans)?;
-    let Ok(target) = str::from_utf8(found.path.of(bytes)) else {
-        return Err(HandshakeFault::Refused(Reason::Wrong));
-    };
-    let target = Words::from_str(alloc, target)?;
-    let mut answer = Vec::new(alloc);
-    write_response(&key, &[], &mut answer)?;
-    let behind = Vec::from_slice(alloc, &bytes[found.len..])?;
+    let accept = accept_of(bytes, &found, &fields)?;
+    let target = target_of(alloc, bytes, found)?;
+    let answer = answer_with(alloc, &accept)?;
+    let behind = behind_head(alloc, bytes, found.len)?;
     Ok(Some(Asked {
         target,
         answer,
         behind,
     }))
+}
+
+// The request at the front, or `None` where it isn't whole.
+fn request_in(
+    bytes: &[u8],
+    fields: &mut [HeaderSpan],
+) -> Result<Option<RequestSpans>, HandshakeFault>
+    ensures within { IfOk result (λ found. IfSome found (IsRequestWithin bytes.now fields.new)) }
+    ensures stands { IfOk result (λ found. IfSome found (IsRequestOf bytes.now fields.new)) }
+{
+    match parse_request(bytes, fields) {
+        Ok(Status::Complete(found)) => Ok(Some(found)),
+        Ok(Status::Partial) => Ok(None),
+        Err(e) => Err(e.into()),
+    }
+}
+
+// The key that accepts a request for a WebSocket.
+fn accept_of(
+    bytes: &[u8],
+    request: &RequestSpans,
+    fields: &[HeaderSpan],
+) -> Result<[u8; 28], HandshakeFault>
+    requires { IsRequestWithin bytes.now fields.now request.now }
+    ensures accepted { IfOk result (IsAccepted bytes.now request.now fields.now) }
+{
+    Ok(check_request(bytes, request, fields)?)
+}
+
+// The target of a request.
+fn target_of(alloc: Global, bytes: &[u8], request: RequestSpans) -> Result<Words, HandshakeFault>
+    requires ordered { request.path.start ≤ request.path.end }
+    requires inside { request.path.end ≤ length bytes.now }
+    ensures target { IfOk result (λ target. target ≡ span_bytes bytes.now request.path) }
+{
+    let Ok(target) = str::from_utf8(request.path.of(bytes)) else {
+        return Err(HandshakeFault::Refused(Reason::Wrong));
+    };
+    Ok(Words::from_str(alloc, target)?)
+}
+
+// The answer with this key.
+fn answer_with(alloc: Global, accept: &[u8; 28]) -> Result<Vec<u8>, HandshakeFault>
+    ensures answer { IfOk result (λ answer. answer.items ≡ response_bytes accept.now []) }
+{
+    let mut answer = Vec::new(alloc);
+    write_response(accept, &[], &mut answer)?;
+    Ok(answer)
 }
 
 // Tells a guest why, and reads what is on its way: a connection that is closed over bytes that
