@@ -23,7 +23,10 @@ fn follow(rt: &HostRuntime, host: &str, cursor: u64) -> Result<()> {
     let mut out = WriterSink::new(rt.stdout());
     let mut message = Octets::new(rt.alloc());
     feed.open(host, cursor)?;
-    while feed.next(&mut message)? {
+    for _ in 0..u64::MAX {
+        if !feed.next(&mut message)? {
+            break;
+        }
         let length = message.len() as u32;
         write_all(&mut out, &length.to_be_bytes())?;
         write_all(&mut out, message.as_slice())?;

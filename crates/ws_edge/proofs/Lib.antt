@@ -1,1 +1,1 @@
-mod Hosts
+pub mod Hosts
