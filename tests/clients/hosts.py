@@ -133,7 +133,7 @@ def empty_fragments(peer, head):
 
 
 def flood(peer, head):
-    peer.sendall(answer(head) + frame(PING, b"p" * 100) * 1000)
+    peer.sendall(answer(head) + frame(PING, b"p" * 100) * 1001)
     time.sleep(1)
 
 
@@ -175,6 +175,7 @@ HOSTS = {
     "masked": gives(frame(BINARY, b"abc", masked=True)),
     "reserved-bit": gives(b"\xc2\x03abc"),
     "long-ping": gives(frame(PING, size=126)),
+    "thousand-pings": gives(frame(PING) * 1000 + frame(BINARY, b"x"), FAREWELL),
     "flood": flood,
     "no-answer": no_answer,
     "slow-answer": slow_answer,

@@ -63,7 +63,7 @@ fn listen<S: Read + Write + OpenStream + Drop, R: RandomSource + Clock + Copy>(
 ) -> Result<Heard, FeedFault>
     ensures within { IfOk result (λ heard. heard ≡ Heard.Message → length room.new ≤ LONGEST_MESSAGE) }
 {
-    for _ in 0..MOST_SIGNS {
+    for _ in 0..MOST_SIGNS + 1 {
         let heard = hear(session, room)?;
         if heard != Heard::Sign || sign_answers {
             return Ok(heard);

@@ -36,7 +36,7 @@ pub(crate) const MOST_FIELDS: usize = 100;
 /// The longest payload of a ping, a pong or a close, in bytes (RFC 6455, section 5.5).
 pub(crate) const LONGEST_SIGN: u64 = 125;
 
-/// The most pings and pongs of a host that are passed over while one message is waited for.
+/// The most pings and pongs of a host that are passed over before it is sent a ping.
 pub(crate) const MOST_SIGNS: usize = 1000;
 
 /// The longest message of a guest, in bytes: a consumer has nothing to say.
