@@ -190,8 +190,10 @@ def play(name, peer):
     """Plays a host on a connection: the request's head, and the frames that it saw."""
     head = read_head(peer)
     try:
-        return head, HOSTS[name](peer, head) or []
+        if head.endswith(b"\r\n\r\n"):
+            return head, HOSTS[name](peer, head) or []
     except OSError:
-        return head, []
+        pass
     finally:
         peer.close()
+    return head, []
