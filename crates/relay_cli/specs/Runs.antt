@@ -202,4 +202,4 @@ Ran t old new failed failed_now status Command.Hosts = IsShown (λ J. hosts_text
 Ran t old new failed failed_now status (Command.Takedown did time) = IsOperated did true time t old new status
 Ran t old new failed failed_now status (Command.Restore did time) = IsOperated did false time t old new status
 Ran t old new failed failed_now status (Command.Sync did time) = IsSynced did time t old new status
-Ran t old new failed failed_now status command = (status ≡ Status.NotBuilt) ⊎ (status ≡ Status.Memory)
+Ran t old new failed failed_now status command = status ≡ Status.NotBuilt

@@ -1,4 +1,5 @@
 //! How far a long run is, said on standard error where that is a terminal.
+ghost use Rattle.std.specs.Prelude.{◌≡◌};
 
 use relay_io::{Failed, Sink, Source};
 use std::cell::Cell;
@@ -137,7 +138,9 @@ impl<'a, O: Sink> Watched<'a, O> {
         Some(gone)
     }
 
-    fn tell(&mut self) {
+    fn tell(&mut self)
+        ensures out { self.new.out ≡ self.old.out }
+    {
         let Some(gone) = self.is_due() else {
             return;
         };
