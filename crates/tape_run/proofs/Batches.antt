@@ -254,6 +254,28 @@ module _ {D : Type 0} (view : D → View) (t : Tells) (J : List Row) (group : Li
         (all_joined t.clock t.repos J s.around b.asked.mid u.around b.steps [] (subst (λ (l : List Step). AllAsked t.clock t.repos J s.around l b.asked.mid) all_steps b.asked.turns) b.asked.stops);
   }
 
+-- ---- the same, of the slice of outcomes that is read
+
+module _ {D : Type 0} (view : D → View) (t : Tells) (J : List Row) (group : List Message) (s u : StoreScene D) (outcomes : List Outcome) (fault : Option StoreFault)
+    (b : Batched view t.disk t.clock t.repos J group s u outcomes fault) (os : List Outcome) (same : os ≡ outcomes) (tally : Tally) (live : AreLive tally.ended.items group) (after : Tally) (w x : List ℕ) where
+  of_slice : Batched view t.disk t.clock t.repos J group s u os fault
+  of_slice = subst (λ (l : List Outcome). Batched view t.disk t.clock t.repos J group s u l fault) (sym same) b
+
+  pub live_unwritten : 0 < length os → (end : TapeEnd) → IsUnwritten end → (IsTrue t.output → AddsFront w x (text_of (answered group os)))
+      → Stopped view t J group (point s.store tally s.disk s.around w) (point u.store after u.disk u.around x) end
+  live_unwritten some end one written = batch_unwritten view t J group s u os fault of_slice tally live some after w x end one written
+
+  pub live_stops : (f : StoreFault) → fault ≡ Some f → IsDisk (view u.disk) → (IsTrue t.output → x ≡ w ++ text_of (answered group os)) → (end : TapeEnd) → end ≡ end_of_store f
+      → Stopped view t J group (point s.store tally s.disk s.around w) (point u.store after u.disk u.around x) end
+  live_stops f is is_disk written end end_is =
+      subst (λ (e : TapeEnd). Stopped view t J group (point s.store tally s.disk s.around w) (point u.store after u.disk u.around x) e) (sym end_is)
+      (batch_stops view t J group s u os f (subst (λ (g : Option StoreFault). Batched view t.disk t.clock t.repos J group s u os g) is of_slice) tally live is_disk after w x written)
+
+  pub live_goes : fault ≡ None → 1 ≤ length group → IsNoted (answered group os) tally after → (IsTrue t.output → x ≡ w ++ text_of (answered group os)) → (n : ℕ) → (1 ≤ length os → length os ≤ length group → n ≡ length os)
+      → Going view t J (take n group) (point s.store tally s.disk s.around w) (point u.store after u.disk u.around x)
+  live_goes is some noted written n count =
+      batch_goes view t J group s u os (subst (λ (g : Option StoreFault). Batched view t.disk t.clock t.repos J group s u os g) is of_slice) some tally live after noted w x written n count
+
 -- ---- a message of a host that ended before
 
 abbrev pub passed : Message → Step

@@ -4,3 +4,4 @@ pub mod Ended
 pub mod Counts
 pub mod Joining
 pub mod Batches
+pub mod Causing
