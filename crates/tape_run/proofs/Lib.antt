@@ -5,3 +5,4 @@ pub mod Counts
 pub mod Joining
 pub mod Batches
 pub mod Causing
+pub mod Groups
