@@ -68,7 +68,7 @@ came_of C R None behind mid new stops = nothing_in_vain C R mid new behind stops
 came_of C R (Some (StoreFault.Full e)) behind mid new stops = nothing_in_vain C R mid new behind stops
 came_of C R (Some fault) behind mid new stops = stops
 
-none_next : (core : Core) (behind : List Message) (panel : Panel) → EndsNext core behind panel None
+pub none_next : (core : Core) (behind : List Message) (panel : Panel) → EndsNext core behind panel None
 none_next core [] panel = tt
 none_next core (m ∷ behind) panel = tt
 
@@ -76,7 +76,7 @@ disk_next : (core : Core) (behind : List Message) (panel : Panel) → EndsNext c
 disk_next core [] panel = tt
 disk_next core (m ∷ behind) panel = tt
 
-whole_front : (old now text : List ℕ) → now ≡ old ++ text → AddsFront old now text
+pub whole_front : (old now text : List ℕ) → now ≡ old ++ text → AddsFront old now text
 whole_front old now text is = (length text, omega arith, is ∙ ap (λ (l : List ℕ). old ++ l) (sym (take-length text)))
 
 -- where the log is full

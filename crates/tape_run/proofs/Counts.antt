@@ -42,7 +42,7 @@ same_taken : (s t : Taken) → Some s ≡ Some t → s ≡ t
 same_taken s t is = cc
 
 -- a row made of an event, or of one with a bad field
-data IsMadeOf (host : List ℕ) (t : Taken) : Type 0 where
+pub data IsMadeOf (host : List ℕ) (t : Taken) : Type 0 where
   of_event : (last : ℕ) (e : Seen) (d : Decision) (x : Answers) → event_taken last host e d x ≡ t → IsMadeOf host t
   of_faulty : (seq : ℕ) (moment : Option ℕ) → faulty_taken host seq moment ≡ t → IsMadeOf host t
 

@@ -6,3 +6,6 @@ pub mod Joining
 pub mod Batches
 pub mod Causing
 pub mod Groups
+pub mod Sounds
+pub mod Ending
+pub mod Whole

@@ -30,3 +30,6 @@ batches-preserved g c =
 pub returns-in-Err-clause-stopped : goal.returns-in-Err-clause-stopped
 returns-in-Err-clause-stopped g c = λ J of.
     stops_on g.D.Disk.view _ J _ _ _ _ _ _ (all_left c.args.group.now c.batches.done) (c.batches.invariant.going J of) c.in-Err.end c.in-Err.ensures.stopped
+
+pub take_some-requires-clause-hosts : goal.take_some-requires-clause-hosts
+take_some-requires-clause-hosts g c = hosts_left c.args.group.now c.batches.done c.requires.hosts
