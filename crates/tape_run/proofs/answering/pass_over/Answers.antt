@@ -1,4 +1,3 @@
-use Rattle.tape_run.proofs.Whole.{tape_ends}
 use Rattle.tape_run.proofs.answering.pass_over.Goals as goal
 
 pub returns-in-Ok-write_lines-clause-noted : goal.returns-in-Ok-write_lines-clause-noted
