@@ -32,8 +32,10 @@ use Rattle.tape.specs.Reading.{coming, held, taken}
 use Rattle.tape.specs.declared.fault.TapeFault.{TapeFault}
 use Rattle.tape.specs.declared.tape.Tape.{Tape}
 use Rattle.tape_run.specs.Crashes.{IsFullFor, Leaves}
-use Rattle.tape_run.specs.Ends.{AreOver, AreTaken, AreUnder, Finished, IsReported, IsStop, IsWritten, StopsAsking, end_of_tape, fault_in}
-use Rattle.tape_run.specs.Going.{Going, Keeping, Point, Stopped, Tells}
+use Rattle.tape_run.specs.Ends.{AreExtraAt, AreTaken, AreUnder, IsWritten, StopsAsking, end_of_tape, fault_in}
+use Rattle.tape_run.specs.Stops.{Finished, IsReported, IsStop}
+use Rattle.tape_run.specs.Going.{Going, Keeping, Point, Stopped}
+use Rattle.tape_run.specs.Tells.{Tells}
 use Rattle.tape_run.specs.Said.{said, text_of}
 use Rattle.tape_run.specs.Taken.{Scene, Taken, scene}
 use Rattle.tape_run.specs.Tapes.{AreRead, AreRecords, IsGroup, IsOnTape, spelled}
@@ -72,28 +74,28 @@ stop_written end lines last old now stop h = absurd stop
 pub record IsQuiet (end : TapeEnd) : Type 0 where
   pub none : fault_in end ≡ None
   pub under : AreUnder end []
-  pub over : AreOver end []
+  pub extra : AreExtraAt end []
   pub all : AreTaken end []
-  pub full : (J rows over : List Row) (log : LogState) → IsFullFor J rows over log end
+  pub full : (J rows extra : List Row) (log : LogState) → IsFullFor J rows extra log end
   pub stops : (C R : Bool) (a : Around) → StopsAsking C R end [] a a
 
 quiet_done : IsQuiet TapeEnd.Done
-quiet_done = record { none = refl; under = refl; over = refl; all = refl; full = λ J rows over log. tt; stops = nothing_here }
+quiet_done = record { none = refl; under = refl; extra = refl; all = refl; full = λ J rows extra log. tt; stops = nothing_here }
 
 quiet_bad : (place : ℕ) → IsQuiet (TapeEnd.Bad place)
-quiet_bad place = record { none = refl; under = refl; over = refl; all = refl; full = λ J rows over log. tt; stops = nothing_here }
+quiet_bad place = record { none = refl; under = refl; extra = refl; all = refl; full = λ J rows extra log. tt; stops = nothing_here }
 
 quiet_read : IsQuiet TapeEnd.ReadFault
-quiet_read = record { none = refl; under = refl; over = refl; all = refl; full = λ J rows over log. tt; stops = nothing_here }
+quiet_read = record { none = refl; under = refl; extra = refl; all = refl; full = λ J rows extra log. tt; stops = nothing_here }
 
 quiet_long : IsQuiet TapeEnd.TooLong
-quiet_long = record { none = refl; under = refl; over = refl; all = refl; full = λ J rows over log. tt; stops = nothing_here }
+quiet_long = record { none = refl; under = refl; extra = refl; all = refl; full = λ J rows extra log. tt; stops = nothing_here }
 
 quiet_write : IsQuiet TapeEnd.WriteFault
-quiet_write = record { none = refl; under = refl; over = omega arith; all = tt; full = λ J rows over log. tt; stops = λ C R a. nothing_in_vain C R a a [] (nothing_here C R a) }
+quiet_write = record { none = refl; under = refl; extra = omega arith; all = tt; full = λ J rows extra log. tt; stops = λ C R a. nothing_in_vain C R a a [] (nothing_here C R a) }
 
 quiet_memory : IsQuiet TapeEnd.Memory
-quiet_memory = record { none = refl; under = refl; over = omega arith; all = tt; full = λ J rows over log. tt; stops = λ C R a. nothing_in_vain C R a a [] (nothing_here C R a) }
+quiet_memory = record { none = refl; under = refl; extra = omega arith; all = tt; full = λ J rows extra log. tt; stops = λ C R a. nothing_in_vain C R a a [] (nothing_here C R a) }
 
 pub quiet_tape : (fault : TapeFault) → IsQuiet (end_of_tape fault)
 quiet_tape (TapeFault.Torn place) = quiet_bad place
@@ -163,36 +165,36 @@ said_lines J ended steps none are =
 pub taken_stopped : {D : Type 0} (view : D → View) (t : Tells) (input_tells : Bool) (limit : ℕ) (J : List Row) (xs : List Message) (a c : Point D) (before after : List ℕ) (end : TapeEnd) → Stopped view t J xs a c end → a.tally.ended.items ≡ [] → AreRecords xs
     → (IsTrue input_tells → (rest : List ℕ) × (before ≡ spelled xs ++ rest)) → Taken view t input_tells limit J (scene a.store a.disk a.around before a.written) (scene c.store c.disk c.around after c.written) end
 taken_stopped view t input_tells limit J xs a c before after end h none records read =
-    let all = h.steps ++ (h.under ++ h.over) in
+    let all = h.steps ++ (h.under ++ h.extra) in
     let are : (checks : Checks) → OpensRight checks → LinksRight checks → AreSteps checks J [] all = λ checks opens links. subst (λ (e : List (List ℕ)). AreSteps checks J e all) none (h.are checks opens links) in
     let whole : AreRecords (sent all ++ h.behind) = subst AreRecords h.front records in
     let mine : AreRecords (sent all) = records_front (sent all) h.behind whole in
     record {
-  steps = h.steps;
-  under = h.under;
-  over = h.over;
-  which_under = h.which_under;
-  which_over = h.which_over;
-  are = are;
-  journal = h.journal;
-  behind = h.behind;
-  all = stop_taken end h.behind h.stop;
-  records = whole;
-  from = λ told. subst (λ (l : List Message). IsOnTape limit before after l end) h.front (stop_on_tape limit before after xs end h.stop (read told));
-  known = h.known;
-  on_disk = h.on_disk;
-  format = h.format;
-  most = h.most;
-  written = λ told. stop_written end _ _ a.written c.written h.stop
-      (subst (λ (l : List ℕ). IsReported end l a.written c.written)
-        (said_lines J a.tally.ended.items h.steps none (λ checks opens links. ((steps_join checks J a.tally.ended.items h.steps (h.under ++ h.over)).0 (h.are checks opens links)).0)) (h.written told));
-  mid = h.mid;
-  asked = h.asked;
-  stops = h.stops;
-  next = h.next;
-  sound = sounds J all mine h.journal are;
-  covered = covered_get_through J [] all mine are;
-}
+      steps = h.steps;
+      under = h.under;
+      extra = h.extra;
+      which_under = h.which_under;
+      which_extra = h.which_extra;
+      are = are;
+      journal = h.journal;
+      behind = h.behind;
+      all = stop_taken end h.behind h.stop;
+      records = whole;
+      from = λ told. subst (λ (l : List Message). IsOnTape limit before after l end) h.front (stop_on_tape limit before after xs end h.stop (read told));
+      known = h.known;
+      on_disk = h.on_disk;
+      format = h.format;
+      most = h.most;
+      written = λ told. stop_written end _ _ a.written c.written h.stop
+          (subst (λ (l : List ℕ). IsReported end l a.written c.written)
+          (said_lines J a.tally.ended.items h.steps none (λ checks opens links. ((steps_join checks J a.tally.ended.items h.steps (h.under ++ h.extra)).0 (h.are checks opens links)).0)) (h.written told));
+      mid = h.mid;
+      asked = h.asked;
+      stops = h.stops;
+      next = h.next;
+      sound = sounds J all mine h.journal are;
+      covered = covered_get_through J [] all mine are;
+    }
 
 -- the tape has ended it, or the last line
 pub taken_going : {D : Type 0} (view : D → View) (t : Tells) (input_tells : Bool) (limit : ℕ) (J : List Row) (xs : List Message) (a b : Point D) (before after now : List ℕ) (end : TapeEnd) → IsQuiet end → (h : Going view t J xs a b) → a.tally.ended.items ≡ [] → AreRecords xs
@@ -203,42 +205,42 @@ taken_going view t input_tells limit J xs a b before after now end quiet h none 
     let steps = h.steps in
     let same : steps ≡ steps ++ [] = sym (append-nil steps) in
     let are : (checks : Checks) → OpensRight checks → LinksRight checks → AreSteps checks J [] (steps ++ []) = λ checks opens links.
-      subst (λ (l : List Step). AreSteps checks J [] l) same (subst (λ (e : List (List ℕ)). AreSteps checks J e steps) none (h.are checks opens links)) in
+    subst (λ (l : List Step). AreSteps checks J [] l) same (subst (λ (e : List (List ℕ)). AreSteps checks J e steps) none (h.are checks opens links)) in
     let front : xs ≡ sent (steps ++ []) = sym h.of ∙ ap sent same in
     let whole : xs ≡ sent (steps ++ []) ++ [] = front ∙ sym (append-nil (sent (steps ++ []))) in
     let mine : AreRecords (sent (steps ++ [])) = subst AreRecords front records in
     let journal : IsJournal (J ++ rows (steps ++ [])) = subst (λ (l : List Step). IsJournal (J ++ rows l)) same h.journal in
     record {
-  steps = steps;
-  under = [];
-  over = [];
-  which_under = quiet.under;
-  which_over = quiet.over;
-  are = are;
-  journal = journal;
-  behind = [];
-  all = quiet.all;
-  records = subst AreRecords whole records;
-  from = λ told. subst (λ (l : List Message). IsOnTape limit before after l end) whole (read told);
-  known = λ not. h.known;
-  on_disk = λ told keeps.
-      let kept = h.on_disk told keeps in
-      record {
-    keeps = λ not. kept.keeps;
-    moments = weaker _ _ (view a.disk) (view b.disk) kept.moments (λ c k. inl k);
-    left = λ c left. inl (subst (λ (f : Format). IsLogOf f (J ++ rows steps) c) h.format (kept_log (J ++ rows steps) b.store (view b.disk) kept.keeps c left));
-    full = quiet.full J (rows steps) [] a.store.log;
-  };
-  format = h.format;
-  most = h.most;
-  written = written;
-  mid = b.around;
-  asked = subst (λ (l : List Step). AllAsked t.clock t.repos J a.around l b.around) same h.asked;
-  stops = quiet.stops t.clock t.repos b.around;
-  next = subst (λ (f : Option StoreFault). EndsNext b.store.core [] b.around.panel f) (sym quiet.none) (none_next b.store.core [] b.around.panel);
-  sound = sounds J (steps ++ []) mine journal are;
-  covered = covered_get_through J [] (steps ++ []) mine are;
-}
+      steps = steps;
+      under = [];
+      extra = [];
+      which_under = quiet.under;
+      which_extra = quiet.extra;
+      are = are;
+      journal = journal;
+      behind = [];
+      all = quiet.all;
+      records = subst AreRecords whole records;
+      from = λ told. subst (λ (l : List Message). IsOnTape limit before after l end) whole (read told);
+      known = λ not. h.known;
+      on_disk = λ told keeps.
+          let kept = h.on_disk told keeps in
+          record {
+            keeps = λ not. kept.keeps;
+            moments = weaker _ _ (view a.disk) (view b.disk) kept.moments (λ c k. inl k);
+            left = λ c left. inl (subst (λ (f : Format). IsLogOf f (J ++ rows steps) c) h.format (kept_log (J ++ rows steps) b.store (view b.disk) kept.keeps c left));
+            full = quiet.full J (rows steps) [] a.store.log;
+          };
+      format = h.format;
+      most = h.most;
+      written = written;
+      mid = b.around;
+      asked = subst (λ (l : List Step). AllAsked t.clock t.repos J a.around l b.around) same h.asked;
+      stops = quiet.stops t.clock t.repos b.around;
+      next = subst (λ (f : Option StoreFault). EndsNext b.store.core [] b.around.panel f) (sym quiet.none) (none_next b.store.core [] b.around.panel);
+      sound = sounds J (steps ++ []) mine journal are;
+      covered = covered_get_through J [] (steps ++ []) mine are;
+    }
 
 -- ---- the numbers in the last line
 
@@ -248,7 +250,7 @@ line_of_run view t J xs a b h m e r =
     let steps = h.steps in
     let messages_are : b.tally.messages ≡ length (messages steps) = omega (arith, h.noted.messages, m, said_length steps) in
     let events_are : b.tally.events ≡ length (events (rows steps)) =
-      omega (arith, h.noted.events, e, given_is some_right.0 J a.tally.ended.items steps (h.are some_right.0 some_right.1 some_right.2)) in
+    omega (arith, h.noted.events, e, given_is some_right.0 J a.tally.ended.items steps (h.are some_right.0 some_right.1 some_right.2)) in
     let refused_are : b.tally.refused ≡ length (filter is_refused (rows steps)) = omega (arith, h.noted.refused, r, refused_is steps) in
     (λ i. end_line_of (messages_are i) (events_are i) (refused_are i) (h.known.last i)) ∙ lines_report.end J (messages steps) (rows steps)
 

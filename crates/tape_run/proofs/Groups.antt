@@ -11,7 +11,8 @@ use Rattle.relay_row.specs.declared.row.Row.{Row}
 use Rattle.relay_store.specs.Store.{IsOf}
 use Rattle.relay_store.specs.Taking.{AreOfHosts}
 use Rattle.relay_store.specs.declared.message.Message.{Message}
-use Rattle.tape_run.specs.Going.{Going, Point, Stopped, Tells}
+use Rattle.tape_run.specs.Going.{Going, Point, Stopped}
+use Rattle.tape_run.specs.Tells.{Tells}
 use Rattle.tape_run.specs.declared.end.TapeEnd.{TapeEnd}
 use Rattle.tape_run.proofs.Joining.{going_more, going_stops, of_going}
 

@@ -65,8 +65,8 @@ sounds J steps all journal are front others split sound =
     let behind : IsJournal ((J ++ rows front) ++ rows others) = subst IsJournal (ap (λ (l : List Step). J ++ rows l) split ∙ sym (journal_joined J front others)) journal in
     stores_sound J (pairs front) (rows front) (pairs_bytes front records) (fronts (J ++ rows front) (rows others) behind) sound
     (λ checks opens links.
-      subst (λ (ms : List Message). Run checks J ms (rows front)) (pairs_read front)
-      (steps_run checks J [] front ((steps_join checks J [] front others).0 (subst (λ (l : List Step). AreSteps checks J [] l) split (are checks opens links))).0))
+    subst (λ (ms : List Message). Run checks J ms (rows front)) (pairs_read front)
+    (steps_run checks J [] front ((steps_join checks J [] front others).0 (subst (λ (l : List Step). AreSteps checks J [] l) split (are checks opens links))).0))
 
 -- ---- covered commits
 

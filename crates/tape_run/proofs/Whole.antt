@@ -11,8 +11,10 @@ use Rattle.relay_store.specs.declared.message.Message.{Message}
 use Rattle.tape.specs.Reading.{coming, held}
 use Rattle.tape.specs.declared.fault.TapeFault.{TapeFault}
 use Rattle.tape.specs.declared.tape.Tape.{Tape}
-use Rattle.tape_run.specs.Ends.{Finished, IsWritten, end_of_tape}
-use Rattle.tape_run.specs.Going.{Going, Point, Stopped, Tells, point}
+use Rattle.tape_run.specs.Ends.{IsWritten, end_of_tape}
+use Rattle.tape_run.specs.Stops.{Finished}
+use Rattle.tape_run.specs.Going.{Going, Point, Stopped, point}
+use Rattle.tape_run.specs.Tells.{Tells}
 use Rattle.tape_run.specs.Taken.{Taken, scene}
 use Rattle.tape_run.specs.Tapes.{AreRead, AreRecords, IsGroup, IsOnTape, spelled}
 use Rattle.tape_run.specs.declared.end.TapeEnd.{TapeEnd}
@@ -89,12 +91,12 @@ module _ (input_tells : Bool) (before : List ℕ) (tape next : Tape) (left after
     tape_finishes is c took m e r last last_is end now finished =
         let going = more_going c took J of in
         let line : end_line_of c.tally.messages c.tally.events c.tally.refused last ≡ end_line J (messages going.steps) (rows going.steps) =
-          ap (λ (n : ℕ). end_line_of c.tally.messages c.tally.events c.tally.refused n) last_is ∙ line_of_run view t J all_read a c going m e r in
+        ap (λ (n : ℕ). end_line_of c.tally.messages c.tally.events c.tally.refused n) last_is ∙ line_of_run view t J all_read a c going m e r in
         let finished_so : Finished end (end_line J (messages going.steps) (rows going.steps)) t.output c.written now = subst (λ (l : List ℕ). Finished end l t.output c.written now) line finished in
         taken_going view t input_tells limit J all_read a c before after now end (quiet_finished end _ t.output c.written now finished) going none all_records
         (λ told.
-          let ended = subst (λ (x : Rest). IsGroup tape left next after group x) is (group_read told) in
-          end_on_tape limit before after all_read end _ t.output c.written now finished (more_read told [] ended.0) ended.1)
+        let ended = subst (λ (x : Rest). IsGroup tape left next after group x) is (group_read told) in
+        end_on_tape limit before after all_read end _ t.output c.written now finished (more_read told [] ended.0) ended.1)
         (λ told. last_behind end _ (lines_from J [] (messages going.steps) (rows going.steps)) t.output a.written c.written now finished_so (lines_of_run view t J all_read a c going none) told)
 
     -- the reader of the tape ends it
@@ -104,8 +106,8 @@ module _ (input_tells : Bool) (before : List ℕ) (tape next : Tape) (left after
         let going = more_going c took J of in
         subst (λ (x : TapeEnd). Taken view t input_tells limit J (scene a.store a.disk a.around before a.written) (scene c.store c.disk c.around after c.written) x) (sym end_is)
         (taken_going view t input_tells limit J all_read a c before after c.written (end_of_tape fault) (quiet_tape fault) going none all_records
-          (λ told. on_tape told (subst (λ (x : Rest). IsGroup tape left next after group x) is (group_read told)))
-          (λ told. fault_written fault _ (end_line J (messages going.steps) (rows going.steps)) a.written c.written (lines_of_run view t J all_read a c going none told)))
+        (λ told. on_tape told (subst (λ (x : Rest). IsGroup tape left next after group x) is (group_read told)))
+        (λ told. fault_written fault _ (end_line J (messages going.steps) (rows going.steps)) a.written c.written (lines_of_run view t J all_read a c going none told)))
       where
         on_tape : IsTrue input_tells → IsGroup tape left next after group (Rest.Fault fault) → IsOnTape limit before after all_read (end_of_tape fault)
         on_tape told h = fault_on_tape limit before after left so_far.read group tape next fault all_place most (more_read told) h

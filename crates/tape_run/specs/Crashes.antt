@@ -25,12 +25,12 @@ abbrev pub IsOnTheWay : Format → List Row → List Row → List Row → List �
 IsOnTheWay format J rows under c = IsSoFar format J rows c ⊎ IsLogOf format ((J ++ rows) ++ under) c
 
 -- A row has no room behind the journal J with these rows: `last` of them are the body under way as it came, which was to go behind bodies with all rows before those, and with the row it would end past the most that the log may have. As a body of its own behind them the row would end at e.
-pub record HasNoRoom (J rows over : List Row) (log : LogState) (e : ℕ) : Type 0 where
+pub record HasNoRoom (J rows extra : List Row) (log : LogState) (e : ℕ) : Type 0 where
   pub before : List Row
   pub last : List Row
   pub split : rows ≡ before ++ last
   pub row : Row
-  pub is : over ≡ row ∷ []
+  pub is : extra ≡ row ∷ []
   pub start : ℕ
   pub bodies : List (List Row)
   pub are : AreBodiesOf (J ++ before) bodies
@@ -39,12 +39,12 @@ pub record HasNoRoom (J rows over : List Row) (log : LogState) (e : ℕ) : Type 
 
 -- the log is full only where a row has no room
 abbrev pub IsFullFor : List Row → List Row → List Row → LogState → TapeEnd → Type 0
-IsFullFor J rows over log (TapeEnd.Store (StoreFault.Full e)) = HasNoRoom J rows over log e
-IsFullFor J rows over log end = Unit {0}
+IsFullFor J rows extra log (TapeEnd.Store (StoreFault.Full e)) = HasNoRoom J rows extra log e
+IsFullFor J rows extra log end = Unit {0}
 
 -- What stands on the disk, on which the store kept the journal J before: the rows of the steps, unless it failed. A crash at any moment leaves some of them, and now all; or all and those of the body under way.
-pub record Leaves (J rows under over : List Row) (old : StoreState) (was : View) (new : StoreState) (now : View) (end : TapeEnd) : Type 0 where
+pub record Leaves (J rows under extra : List Row) (old : StoreState) (was : View) (new : StoreState) (now : View) (end : TapeEnd) : Type 0 where
   pub keeps : end ≢ disk_failed → Keeps (J ++ rows) new now
   pub moments : LeavesOnly (IsOnTheWay old.log.format J rows under) was now
   pub left : (c : List ℕ) → now.may_leave c → IsOneOf old.log.format (J ++ rows) under c
-  pub full : IsFullFor J rows over old.log end
+  pub full : IsFullFor J rows extra old.log end

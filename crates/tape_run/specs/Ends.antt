@@ -31,12 +31,12 @@ AreUnder (TapeEnd.Store StoreFault.Disk) under = Unit {0}
 AreUnder end under = under ≡ []
 
 -- A step whose row found no room is left where the log is full. One that found no room or no memory may be left where the report couldn't be written, memory was wanted, or the disk failed, and where nothing but the tape or another fault of the store ends it, none is. A log that was opened isn't bad, and want of memory is an end of its own.
-abbrev pub AreOver : TapeEnd → List Step → Type 0
-AreOver TapeEnd.WriteFault extra = length extra ≤ 1
-AreOver TapeEnd.Memory extra = length extra ≤ 1
-AreOver (TapeEnd.Store StoreFault.Memory) extra = ⊥
-AreOver (TapeEnd.Store fault) extra = AreExtra (Some fault) extra
-AreOver end extra = extra ≡ []
+abbrev pub AreExtraAt : TapeEnd → List Step → Type 0
+AreExtraAt TapeEnd.WriteFault extra = length extra ≤ 1
+AreExtraAt TapeEnd.Memory extra = length extra ≤ 1
+AreExtraAt (TapeEnd.Store StoreFault.Memory) extra = ⊥
+AreExtraAt (TapeEnd.Store fault) extra = AreExtra (Some fault) extra
+AreExtraAt end extra = extra ≡ []
 
 -- the tape has ended it: all messages that were read were taken
 abbrev pub AreTaken : TapeEnd → List Message → Type 0
@@ -64,27 +64,3 @@ IsWritten TapeEnd.Done lines last old new = new ≡ old ++ (lines ++ last)
 IsWritten TapeEnd.WriteFault lines last old new = AddsFront old new (lines ++ last)
 IsWritten TapeEnd.Memory lines last old new = AddsFront old new (lines ++ last)
 IsWritten end lines last old new = new ≡ old ++ lines
-
--- what stops it before the tape does
-abbrev pub IsStop : TapeEnd → Type 0
-IsStop TapeEnd.WriteFault = Unit {0}
-IsStop TapeEnd.Memory = Unit {0}
-IsStop (TapeEnd.Store fault) = Unit {0}
-IsStop end = ⊥
-
--- lines couldn't be written, or memory was wanted for them
-abbrev pub IsUnwritten : TapeEnd → Type 0
-IsUnwritten end = (end ≡ TapeEnd.WriteFault) ⊎ (end ≡ TapeEnd.Memory)
-
--- all of a text was written, or a front of it
-abbrev pub IsReported : TapeEnd → List ℕ → List ℕ → List ℕ → Type 0
-IsReported TapeEnd.WriteFault text old new = AddsFront old new text
-IsReported TapeEnd.Memory text old new = AddsFront old new text
-IsReported end text old new = new ≡ old ++ text
-
--- the last line was written, or a front of it
-abbrev pub Finished : TapeEnd → List ℕ → Bool → List ℕ → List ℕ → Type 0
-Finished TapeEnd.Done line told old new = IsTrue told → new ≡ old ++ line
-Finished TapeEnd.WriteFault line told old new = IsTrue told → AddsFront old new line
-Finished TapeEnd.Memory line told old new = IsTrue told → AddsFront old new line
-Finished end line told old new = ⊥

@@ -1,4 +1,4 @@
--- A part of a run: what it does to the store, the disk, the judges and the output, in a form that goes on by one part after another (own). No public clause cites this file, but for what tells.
+-- A part of a run: what it does to the store, the disk, the judges and the output, in a form that goes on by one part after another (own). No public clause cites this file.
 use Rattle.std.specs.Prelude.{◌≡◌, ◌≢◌, ℕ, Bool, List, ◌++◌, IsTrue}
 use Rattle.relay_disk.specs.Disk.{View}
 use Rattle.relay_disk.specs.Moments.{LeavesOnly}
@@ -14,20 +14,12 @@ use Rattle.relay_store.specs.Batches.{EndsNext, sent}
 use Rattle.relay_store.specs.Store.{StoreState, Keeps}
 use Rattle.relay_store.specs.declared.message.Message.{Message}
 use Rattle.tape_run.specs.Crashes.{IsSoFar, Leaves}
-use Rattle.tape_run.specs.Ends.{AreOver, AreUnder, IsReported, IsStop, StopsAsking, disk_failed, fault_in}
+use Rattle.tape_run.specs.Ends.{AreExtraAt, AreUnder, StopsAsking, disk_failed, fault_in}
 use Rattle.tape_run.specs.Said.{IsNoted, said, text_of}
+use Rattle.tape_run.specs.Stops.{IsReported, IsStop}
+use Rattle.tape_run.specs.Tells.{Tells}
 use Rattle.tape_run.specs.declared.end.TapeEnd.{TapeEnd}
 use Rattle.tape_run.specs.declared.tally.Tally.{Tally}
-
--- which of the parts that are handed in tell what they hold
-pub record Tells : Type 0 where
-  pub disk : Bool
-  pub clock : Bool
-  pub repos : Bool
-  pub output : Bool
-
-abbrev pub tells : Bool → Bool → Bool → Bool → Tells
-tells disk clock repos output = record { disk = disk; clock = clock; repos = repos; output = output }
 
 -- all that a part of a run moves
 pub record Point (D : Type 0) : Type 0 where
@@ -63,20 +55,20 @@ pub record Going {D : Type 0} (view : D → View) (t : Tells) (J : List Row) (me
 pub record Stopped {D : Type 0} (view : D → View) (t : Tells) (J : List Row) (messages : List Message) (old new : Point D) (end : TapeEnd) : Type 0 where
   pub steps : List Step
   pub under : List Step
-  pub over : List Step
+  pub extra : List Step
   pub behind : List Message
   pub stop : IsStop end
   pub which_under : AreUnder end under
-  pub which_over : AreOver end over
-  pub front : messages ≡ sent (steps ++ (under ++ over)) ++ behind
-  pub are : (checks : Checks) → OpensRight checks → LinksRight checks → AreSteps checks J old.tally.ended.items (steps ++ (under ++ over))
-  pub journal : IsJournal (J ++ rows (steps ++ (under ++ over)))
+  pub which_extra : AreExtraAt end extra
+  pub front : messages ≡ sent (steps ++ (under ++ extra)) ++ behind
+  pub are : (checks : Checks) → OpensRight checks → LinksRight checks → AreSteps checks J old.tally.ended.items (steps ++ (under ++ extra))
+  pub journal : IsJournal (J ++ rows (steps ++ (under ++ extra)))
   pub known : end ≢ disk_failed → Holds new.store.core (J ++ rows steps)
-  pub on_disk : IsTrue t.disk → Keeps J old.store (view old.disk) → Leaves J (rows steps) (rows under) (rows over) old.store (view old.disk) new.store (view new.disk) end
+  pub on_disk : IsTrue t.disk → Keeps J old.store (view old.disk) → Leaves J (rows steps) (rows under) (rows extra) old.store (view old.disk) new.store (view new.disk) end
   pub format : new.store.log.format ≡ old.store.log.format
   pub most : new.store.log.most ≡ old.store.log.most
   pub written : IsTrue t.output → IsReported end (text_of (said steps)) old.written new.written
   pub mid : Around
-  pub asked : AllAsked t.clock t.repos J old.around (steps ++ (under ++ over)) mid
+  pub asked : AllAsked t.clock t.repos J old.around (steps ++ (under ++ extra)) mid
   pub stops : StopsAsking t.clock t.repos end behind mid new.around
   pub next : EndsNext new.store.core behind new.around.panel (fault_in end)

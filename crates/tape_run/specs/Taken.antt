@@ -16,8 +16,8 @@ use Rattle.relay_store.specs.Store.{StoreState, Keeps}
 use Rattle.relay_store.specs.declared.message.Message.{Message}
 use Rattle.tape_run.specs.Covered.{CoveredGetThrough}
 use Rattle.tape_run.specs.Crashes.{Leaves}
-use Rattle.tape_run.specs.Ends.{AreOver, AreTaken, AreUnder, IsWritten, StopsAsking, disk_failed, fault_in}
-use Rattle.tape_run.specs.Going.{Tells}
+use Rattle.tape_run.specs.Ends.{AreExtraAt, AreTaken, AreUnder, IsWritten, StopsAsking, disk_failed, fault_in}
+use Rattle.tape_run.specs.Tells.{Tells}
 use Rattle.tape_run.specs.Tapes.{AreRecords, IsOnTape}
 use Rattle.tape_run.specs.declared.end.TapeEnd.{TapeEnd}
 
@@ -37,30 +37,30 @@ pub record Taken {D : Type 0} (view : D → View) (t : Tells) (input_tells : Boo
   -- the steps that are answered, those of a body that was under way when the disk failed, and one whose row found no room or no memory
   pub steps : List Step
   pub under : List Step
-  pub over : List Step
+  pub extra : List Step
   pub which_under : AreUnder end under
-  pub which_over : AreOver end over
+  pub which_extra : AreExtraAt end extra
   -- each is what comes of its message behind the rows before it
-  pub are : (checks : Checks) → OpensRight checks → LinksRight checks → AreSteps checks J [] (steps ++ (under ++ over))
-  pub journal : IsJournal (J ++ rows (steps ++ (under ++ over)))
+  pub are : (checks : Checks) → OpensRight checks → LinksRight checks → AreSteps checks J [] (steps ++ (under ++ extra))
+  pub journal : IsJournal (J ++ rows (steps ++ (under ++ extra)))
   -- their messages, and behind them those that were read and not taken, are the records at the front of the input
   pub behind : List Message
   pub all : AreTaken end behind
-  pub records : AreRecords (sent (steps ++ (under ++ over)) ++ behind)
-  pub from : IsTrue input_tells → IsOnTape limit old.left new.left (sent (steps ++ (under ++ over)) ++ behind) end
+  pub records : AreRecords (sent (steps ++ (under ++ extra)) ++ behind)
+  pub from : IsTrue input_tells → IsOnTape limit old.left new.left (sent (steps ++ (under ++ extra)) ++ behind) end
   -- the store knows the rows of the steps, and where the disk had the journal J it has it with them; so much is left at each moment of a crash
   pub known : end ≢ disk_failed → Holds new.store.core (J ++ rows steps)
-  pub on_disk : IsTrue t.disk → Keeps J old.store (view old.disk) → Leaves J (rows steps) (rows under) (rows over) old.store (view old.disk) new.store (view new.disk) end
+  pub on_disk : IsTrue t.disk → Keeps J old.store (view old.disk) → Leaves J (rows steps) (rows under) (rows extra) old.store (view old.disk) new.store (view new.disk) end
   pub format : new.store.log.format ≡ old.store.log.format
   pub most : new.store.log.most ≡ old.store.log.most
   -- what is written is the report of the steps
   pub written : IsTrue t.output → IsWritten end (lines_from J [] (messages steps) (rows steps)) (end_line J (messages steps) (rows steps)) old.written new.written
   -- what was asked: of each step what it shows, and for one more message at most what came to nothing
   pub mid : Around
-  pub asked : AllAsked t.clock t.repos J old.around (steps ++ (under ++ over)) mid
+  pub asked : AllAsked t.clock t.repos J old.around (steps ++ (under ++ extra)) mid
   pub stops : StopsAsking t.clock t.repos end behind mid new.around
   -- for the next message the numbers have ended, or no authority is left, where that ended it
   pub next : EndsNext new.store.core behind new.around.panel (fault_in end)
   -- a sound journal stays sound with the rows of any of the steps in front, and a covered commit gets through
-  pub sound : (front others : List Step) → steps ++ (under ++ over) ≡ front ++ others → IsSound J → IsSound (J ++ rows front)
-  pub covered : CoveredGetThrough J (steps ++ (under ++ over))
+  pub sound : (front others : List Step) → steps ++ (under ++ extra) ≡ front ++ others → IsSound J → IsSound (J ++ rows front)
+  pub covered : CoveredGetThrough J (steps ++ (under ++ extra))

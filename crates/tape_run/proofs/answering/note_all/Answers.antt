@@ -10,12 +10,12 @@ loop-i-preserved c =
     let below : c.loop-i.i < length group = omega (arith, c.loop-i-test.true, c.min-i-end.ensures) in
     let few : c.loop-i.i < length outcomes = omega (arith, c.loop-i-test.true, c.min-i-end.ensures) in
     record {
-  count = omega (arith, c.in_ok-note.ensures.messages, c.loop-i.invariant.count);
-  noted = note_one group outcomes c.loop-i.i c.index-group-i.result c.index-outcomes-i.result c.as_str-host.result.now below few c.as_str-host.ensures.value (sym c.index-outcomes-i.is)
-      (answered group outcomes) c.args.tally.now c.loop-i.tally c.note.new.self c.loop-i.invariant.noted c.in_ok-note.ensures;
-  text = text_one group outcomes c.loop-i.i c.index-group-i.result c.index-outcomes-i.result c.as_str-host.result.now below few c.as_str-host.ensures.value (sym c.index-outcomes-i.is)
-      (c.args.text.now ++ text_of (answered group outcomes)) c.loop-i.text c.line.new.out c.loop-i.invariant.text c.in_ok-line.ensures.ok;
-}
+      count = omega (arith, c.in_ok-note.ensures.messages, c.loop-i.invariant.count);
+      noted = note_one group outcomes c.loop-i.i c.index-group-i.result c.index-outcomes-i.result c.as_str-host.result.now below few c.as_str-host.ensures.value (sym c.index-outcomes-i.is)
+          (answered group outcomes) c.args.tally.now c.loop-i.tally c.note.new.self c.loop-i.invariant.noted c.in_ok-note.ensures;
+      text = text_one group outcomes c.loop-i.i c.index-group-i.result c.index-outcomes-i.result c.as_str-host.result.now below few c.as_str-host.ensures.value (sym c.index-outcomes-i.is)
+          (c.args.text.now ++ text_of (answered group outcomes)) c.loop-i.text c.line.new.out c.loop-i.invariant.text c.in_ok-line.ensures.ok;
+    }
 
 pub returns-clause-noted : goal.returns-clause-noted
 returns-clause-noted c =

@@ -1,4 +1,4 @@
-use Rattle.std.proofs.Common.{◌≡◌, ◌+◌, ◌-◌, ◌≤◌, List, length, take, drop, refl, sym, arith, ℕ, length-take, length-drop}
+use Rattle.std.proofs.Common.{◌≡◌, ◌+◌, ◌-◌, ◌≤◌, List, length, take, drop, refl, ◌∙◌, sym, arith, ℕ, length-take, length-drop}
 use Rattle.relay_store.specs.declared.message.Message.{Message}
 use Rattle.tape_run.proofs.Groups.{all_left, goes_on, hosts_left, stops_on, taken_more}
 use Rattle.tape_run.proofs.Joining.{nothing_taken}
@@ -9,6 +9,7 @@ batches-init g c = record {
   within = omega arith;
   is_open = c.requires.open;
   on = c.requires.on;
+  side = refl;
   count = omega arith;
   going = λ J of. nothing_taken g.D.Disk.view _ J _ (g.met.D.Disk.is_disk _) of;
   counts = record { disk = omega arith; repos = omega arith; clock = omega arith; input = omega arith; output = omega arith };
@@ -19,13 +20,14 @@ batches-preserved g c =
     let was = c.batches.invariant.counts in
     let now = c.in-Ok.ensures.counts in
     record {
-  within = omega (arith, c.in-Ok.ensures.few, length-take {A = Message}, length-drop {A = Message}, c.batches.invariant.within);
-  is_open = c.in-Ok.ensures.open;
-  on = c.in-Ok.ensures.on;
-  count = omega (arith, c.in-Ok.ensures.count, c.batches.invariant.count);
-  going = λ J of. goes_on g.D.Disk.view _ J _ _ _ _ _ _ (taken_more c.args.group.now c.batches.done c.in-Ok.count) (c.batches.invariant.going J of) c.in-Ok.ensures.took;
-  counts = record { disk = omega (arith, was.disk, now.disk); repos = omega (arith, was.repos, now.repos); clock = omega (arith, was.clock, now.clock); input = omega arith; output = omega (arith, was.output, now.output) };
-}
+      within = omega (arith, c.in-Ok.ensures.few, length-take {A = Message}, length-drop {A = Message}, c.batches.invariant.within);
+      is_open = c.in-Ok.ensures.open;
+      on = c.in-Ok.ensures.on;
+      side = c.in-Ok.ensures.side ∙ c.batches.invariant.side;
+      count = omega (arith, c.in-Ok.ensures.count, c.batches.invariant.count);
+      going = λ J of. goes_on g.D.Disk.view _ J _ _ _ _ _ _ (taken_more c.args.group.now c.batches.done c.in-Ok.count) (c.batches.invariant.going J of) c.in-Ok.ensures.took;
+      counts = record { disk = omega (arith, was.disk, now.disk); repos = omega (arith, was.repos, now.repos); clock = omega (arith, was.clock, now.clock); input = omega arith; output = omega (arith, was.output, now.output) };
+    }
 
 pub returns-in-Err-clause-stopped : goal.returns-in-Err-clause-stopped
 returns-in-Err-clause-stopped g c = λ J of.

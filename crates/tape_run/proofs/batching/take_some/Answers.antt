@@ -17,7 +17,7 @@ returns-in-Ok-clause-took g c = λ J of.
     let first = sym c.index-group-0.is in
     let host : c.as_str.result.now ≡ m.host = c.as_str.ensures.value ∙ ap (λ (x : Message). x.host) first in
     let ended : has_ended c.args.tally.now.ended.items m.host ≡ true =
-      first_ended c.args.tally.now.ended.items c.args.group.now m m.host (c.live_front-live.ensures.ended c.requires.some c.if-live-eq0.true) (ap (λ (x : Message). x.host) (sym first)) in
+    first_ended c.args.tally.now.ended.items c.args.group.now m m.host (c.live_front-live.ensures.ended c.requires.some c.if-live-eq0.true) (ap (λ (x : Message). x.host) (sym first)) in
     pass_goes g.D.Disk.view _ J c.args.group.now m _ c.args.tally.now _ c.args.disk.now _ _ _ c.requires.some first (g.met.D.Disk.is_disk _) of ended
     (subst (λ (h : List ℕ). IsNoted ((h, None) ∷ []) c.args.tally.now c.pass_over.new.tally) host c.in-Ok.ensures.noted)
     (λ told. c.in-Ok.ensures.written told ∙ ap (λ (h : List ℕ). g.O.Sink.written c.args.out.now ++ over_line h) host)
@@ -28,7 +28,7 @@ returns-in-Err-clause-stopped g c = λ J of.
     let first = sym c.index-group-0.is in
     let host : c.as_str.result.now ≡ m.host = c.as_str.ensures.value ∙ ap (λ (x : Message). x.host) first in
     let ended : has_ended c.args.tally.now.ended.items m.host ≡ true =
-      first_ended c.args.tally.now.ended.items c.args.group.now m m.host (c.live_front-live.ensures.ended c.requires.some c.if-live-eq0.true) (ap (λ (x : Message). x.host) (sym first)) in
+    first_ended c.args.tally.now.ended.items c.args.group.now m m.host (c.live_front-live.ensures.ended c.requires.some c.if-live-eq0.true) (ap (λ (x : Message). x.host) (sym first)) in
     pass_unwritten g.D.Disk.view _ J c.args.group.now m _ c.args.tally.now _ c.args.disk.now _ _ _ c.requires.some first (g.met.D.Disk.is_disk _) of ended
     c.in-Err.end c.in-Err.ensures.front.0
     (λ told. subst (λ (h : List ℕ). AddsFront (g.O.Sink.written c.args.out.now) (g.O.Sink.written c.pass_over.new.out) (over_line h)) host (c.in-Err.ensures.front.1 told))

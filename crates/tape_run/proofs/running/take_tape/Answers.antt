@@ -11,6 +11,7 @@ groups-init g c = record {
   reading = starts_reading _ _ _ g.D.Disk.view _ _ (g.met.D.Disk.is_disk _) c.new-tape.ensures.held c.new-tape.ensures.place;
   is_open = c.requires.open;
   on = c.requires.on;
+  side = refl;
   most = c.new-tape.ensures.most;
   few = omega (arith, c.new-tally.ensures.messages);
   counts = record { disk = omega arith; repos = omega arith; clock = omega arith; input = omega arith; output = omega arith };
@@ -21,8 +22,17 @@ take_group-requires-clause-hosts g c = subst AreOfHosts (sym c.as_slice-messages
 
 pub take_group-requires-clause-room : goal.take_group-requires-clause-room
 take_group-requires-clause-room g c =
-    omega (arith, c.groups.invariant.few, c.groups.invariant.most, c.requires.limit, c.read_group-group.ensures.place, c.read_group-group.ensures.most, as_long c.read_group-group.result.messages.items,
-      ap length c.as_slice-messages.ensures.value, c.read_group-group.new.tape.within)
+    omega (
+      arith,
+      c.groups.invariant.few,
+      c.groups.invariant.most,
+      c.requires.limit,
+      c.read_group-group.ensures.place,
+      c.read_group-group.ensures.most,
+      as_long c.read_group-group.result.messages.items,
+      ap length c.as_slice-messages.ensures.value,
+      c.read_group-group.new.tape.within,
+    )
 
 pub returns-in-Err-clause-taken : goal.returns-in-Err-clause-taken
 returns-in-Err-clause-taken g c = λ J of.
@@ -47,12 +57,13 @@ groups-preserved g c =
     let was = c.groups.invariant.counts in
     let now = c.in-Ok.ensures.counts in
     record {
-  reading = reads_on g.I.Source.tells (g.I.Source.left c.args.input.now) c.groups.tape c.read_group-group.new.tape (g.I.Source.left c.groups.input) (g.I.Source.left c.read_group-group.new.input) g.D.Disk.view _ _ _ c.groups.invariant.reading
-      c.read_group-group.result.messages.items c.as_slice-messages.result.now c.read_group-group.result.rest c.as_slice-messages.ensures.value c.read_group-group.ensures.read c.read_group-group.ensures.records c.read_group-group.ensures.place
-      c.in-More.is _ c.in-Ok.ensures.took;
-  is_open = c.in-Ok.ensures.open;
-  on = c.in-Ok.ensures.on;
-  most = c.read_group-group.ensures.most ∙ c.groups.invariant.most;
-  few = omega (arith, c.in-Ok.ensures.count, c.read_group-group.ensures.place, as_long c.read_group-group.result.messages.items, c.groups.invariant.few, ap length c.as_slice-messages.ensures.value);
-  counts = record { disk = omega (arith, was.disk, now.disk); repos = omega (arith, was.repos, now.repos); clock = omega (arith, was.clock, now.clock); input = omega (arith, was.input, c.read_group-group.ensures.counts); output = omega (arith, was.output, now.output) };
-}
+      reading = reads_on g.I.Source.tells (g.I.Source.left c.args.input.now) c.groups.tape c.read_group-group.new.tape (g.I.Source.left c.groups.input) (g.I.Source.left c.read_group-group.new.input) g.D.Disk.view _ _ _ c.groups.invariant.reading
+          c.read_group-group.result.messages.items c.as_slice-messages.result.now c.read_group-group.result.rest c.as_slice-messages.ensures.value c.read_group-group.ensures.read c.read_group-group.ensures.records c.read_group-group.ensures.place
+          c.in-More.is _ c.in-Ok.ensures.took;
+      is_open = c.in-Ok.ensures.open;
+      on = c.in-Ok.ensures.on;
+      side = c.in-Ok.ensures.side ∙ c.groups.invariant.side;
+      most = c.read_group-group.ensures.most ∙ c.groups.invariant.most;
+      few = omega (arith, c.in-Ok.ensures.count, c.read_group-group.ensures.place, as_long c.read_group-group.result.messages.items, c.groups.invariant.few, ap length c.as_slice-messages.ensures.value);
+      counts = record { disk = omega (arith, was.disk, now.disk); repos = omega (arith, was.repos, now.repos); clock = omega (arith, was.clock, now.clock); input = omega (arith, was.input, c.read_group-group.ensures.counts); output = omega (arith, was.output, now.output) };
+    }
