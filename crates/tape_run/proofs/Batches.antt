@@ -37,6 +37,7 @@ use Rattle.tape_run.specs.Tells.{Tells}
 use Rattle.tape_run.specs.Said.{AreLive, IsNoted, Said, answered, said, text_of}
 use Rattle.tape_run.specs.declared.end.TapeEnd.{TapeEnd}
 use Rattle.tape_run.specs.declared.tally.Tally.{Tally}
+use Rattle.tape_run.proofs.Alone.{past_alone}
 use Rattle.tape_run.proofs.Answers.{answered_said}
 use Rattle.tape_run.proofs.Ended.{live_steps}
 use Rattle.tape_run.proofs.Joining.{nothing_kept, so_far_all, so_far_none}
@@ -94,6 +95,7 @@ full_here J s v steps extra e keeps full = record {
   are = subst (λ (K : List Row). AreBodiesOf K keeps.bodies) (sym (append-nil J)) keeps.are;
   starts = keeps.holds.ends;
   full = full.2;
+  past = past_alone s.log (rows steps) full.0 e full.2;
 }
 
 -- ---- a batch

@@ -162,6 +162,7 @@ no_room_behind J xs ys extra log mid e format most h = record {
   are = subst (λ (K : List Row). AreBodiesOf K h.bodies) (append_assoc J xs h.before) h.are;
   starts = h.starts ∙ ap (λ (f : Format). length (made f (bytes_of h.bodies))) format;
   full = record { there = h.full.there; past = subst (λ (n : ℕ). n < end_of h.start (h.last ++ h.row ∷ [])) most h.full.past };
+  past = subst (λ (n : ℕ). n < e) most h.past;
 }
 
 full_behind : (J xs ys extra : List Row) (log mid : LogState) (end : TapeEnd) → mid.format ≡ log.format → mid.most ≡ log.most → IsFullFor (J ++ xs) ys extra mid end → IsFullFor J (xs ++ ys) extra log end

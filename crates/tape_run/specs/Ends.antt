@@ -10,10 +10,12 @@ use Rattle.relay_store.specs.declared.message.Message.{Message}
 use Rattle.tape.specs.declared.fault.TapeFault.{TapeFault}
 use Rattle.tape_run.specs.declared.end.TapeEnd.{TapeEnd}
 
+-- the end that a fault of the store brings
 abbrev pub end_of_store : StoreFault → TapeEnd
 end_of_store StoreFault.Memory = TapeEnd.Memory
 end_of_store fault = TapeEnd.Store fault
 
+-- the end that a fault of the tape brings
 abbrev pub end_of_tape : TapeFault → TapeEnd
 end_of_tape (TapeFault.Torn place) = TapeEnd.Bad place
 end_of_tape (TapeFault.BadName place) = TapeEnd.Bad place
@@ -22,6 +24,7 @@ end_of_tape TapeFault.Failed = TapeEnd.ReadFault
 end_of_tape TapeFault.Budget = TapeEnd.TooLong
 end_of_tape TapeFault.Memory = TapeEnd.Memory
 
+-- the end that a failure of the disk brings
 abbrev pub disk_failed : TapeEnd
 disk_failed = TapeEnd.Store StoreFault.Disk
 
@@ -30,7 +33,7 @@ abbrev pub AreUnder : TapeEnd → List Step → Type 0
 AreUnder (TapeEnd.Store StoreFault.Disk) under = Unit {0}
 AreUnder end under = under ≡ []
 
--- A step whose row found no room is left where the log is full. One that found no room or no memory may be left where the report couldn't be written, memory was wanted, or the disk failed, and where nothing but the tape or another fault of the store ends it, none is. A log that was opened isn't bad, and want of memory is an end of its own.
+-- Which ends leave a step whose row is in no body: where the log is full, the one that found no room; where the report couldn't be written, memory was wanted or the disk failed, one at most; and else none. A log that is open isn't bad, and want of memory is an end of its own.
 abbrev pub AreExtraAt : TapeEnd → List Step → Type 0
 AreExtraAt TapeEnd.WriteFault extra = length extra ≤ 1
 AreExtraAt TapeEnd.Memory extra = length extra ≤ 1

@@ -29,6 +29,7 @@ pub record Point (D : Type 0) : Type 0 where
   pub around : Around
   pub written : List ℕ
 
+-- the same, of its parts
 abbrev pub point : {D : Type 0} → StoreState → Tally → D → Around → List ℕ → Point D
 point store tally disk around written = record { store = store; tally = tally; disk = disk; around = around; written = written }
 
