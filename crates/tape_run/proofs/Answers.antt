@@ -1,17 +1,17 @@
 -- Answers, one after another.
-use Rattle.std.proofs.Common.{◌≡◌, ◌⊎◌, ⊎_elim, inl, inr, ◌<◌, ◌≤◌, ℕ, ◌+◌, Bool, true, false, List, [], ◌∷◌, ◌++◌, length, take, drop, get_or, map, suc, zero, Option, Some, None, refl, ap, ◌∙◌, sym, subst, arith, append_assoc, length-append}
+use Rattle.std.proofs.Common.{◌≡◌, ◌⊎◌, ⊎_elim, inl, inr, ◌<◌, ◌≤◌, ℕ, ◌+◌, true, false, List, [], ◌∷◌, ◌++◌, length, take, drop, get_or, map, suc, zero, Some, refl, ap, ◌∙◌, sym, subst, arith, append_assoc, length-append}
 use Rattle.std.proofs.lemmas.Bool.{cases_lt}
 use Rattle.std.proofs.lemmas.List.{append-nil}
-use Rattle.std.specs.Prelude.{if◌then◌else◌, min}
+use Rattle.std.specs.Prelude.{min}
 use Rattle.relay_core.specs.Runs.{has_ended}
 use Rattle.relay_step.specs.Steps.{Step}
-use Rattle.relay_store.specs.Batches.{is_end, sent}
+use Rattle.relay_store.specs.Batches.{sent}
 use Rattle.relay_store.specs.Lines.{line_of}
 use Rattle.relay_store.specs.Outcomes.{outcome_of}
 use Rattle.relay_store.specs.declared.message.Message.{Message}
 use Rattle.relay_store.specs.declared.outcome.Outcome.{Outcome}
 use Rattle.tape_run.specs.declared.tally.Tally.{Tally}
-use Rattle.tape_run.specs.Said.{Said, AreLive, FirstHasEnded, IsNoted, answered, ended_in, ended_said, given, gives, line_said, refused, refuses, said, said_to, text_of}
+use Rattle.tape_run.specs.Said.{Said, AreLive, FirstHasEnded, IsNoted, answered, ended_in, ended_said, given, line_said, refused, said, text_of}
 
 pub text_joined : (x y : List Said) → text_of (x ++ y) ≡ text_of x ++ text_of y
 text_joined [] y = refl

@@ -1,12 +1,10 @@
 -- What a batch is to a run, and a message that is passed over.
-use Rattle.std.proofs.Common.{◌≡◌, ◌≢◌, ◌⊎◌, inl, inr, ⊎_elim, ℕ, ◌+◌, ◌≤◌, ◌<◌, Bool, true, List, [], ◌∷◌, ◌++◌, length, map, take, drop, get_or, Option, Some, None, IsTrue, refl, ap, ◌∙◌, sym, subst, arith, append_assoc, length-append}
+use Rattle.std.proofs.Common.{◌≡◌, ◌≢◌, inl, inr, ⊎_elim, ℕ, ◌≤◌, ◌<◌, Bool, true, List, [], ◌∷◌, ◌++◌, length, map, take, drop, get_or, Option, Some, None, IsTrue, refl, ap, ◌∙◌, sym, subst, arith, append_assoc, length-append}
 use Rattle.std.proofs.lemmas.List.{append-nil, take_at, length-map}
 use Rattle.std.proofs.Math.Seq.{take-length}
 use Rattle.relay_disk.specs.Disk.{View, IsDisk}
-use Rattle.relay_disk.specs.Moments.{LeavesOnly}
-use Rattle.relay_disk.proofs.Moments.{no_call, now_too, weaker}
+use Rattle.relay_disk.proofs.Moments.{now_too, weaker}
 use Rattle.relay_io.specs.Streams.{AddsFront}
-use Rattle.gate_log.specs.Log.{LogState}
 use Rattle.gate_log.specs.declared.format.Format.{Format}
 use Rattle.relay_row.specs.Journal.{IsJournal}
 use Rattle.relay_row.specs.declared.row.Row.{Row}
@@ -15,12 +13,12 @@ use Rattle.relay_core.specs.Report.{over_line}
 use Rattle.relay_core.specs.Runs.{has_ended}
 use Rattle.at_authority.specs.Panels.{Panel}
 use Rattle.relay_core.specs.declared.journal_state.Core.{Core}
-use Rattle.relay_step.specs.Around.{Around, AllAsked, Asked, AskedNothing}
+use Rattle.relay_step.specs.Around.{Around, AllAsked, Asked}
 use Rattle.relay_step.specs.Causes.{CameToNothing}
 use Rattle.relay_step.specs.Steps.{Step, after_end, rows, step_of, AreSteps}
-use Rattle.relay_store.specs.Batches.{AreAnswers, AreExtra, Batched, EndsFull, EndsNext, HasEnd, InVain, sent}
+use Rattle.relay_store.specs.Batches.{AreAnswers, AreExtra, Batched, EndsFull, EndsNext, InVain, sent}
 use Rattle.relay_store.specs.Batches.{Scene as StoreScene, StopsAsking as StoreStops}
-use Rattle.relay_store.specs.Journals.{AreBodiesOf, IsLogOf, IsOneOf, bytes_of}
+use Rattle.relay_store.specs.Journals.{AreBodiesOf, IsLogOf, IsOneOf}
 use Rattle.relay_store.specs.Outcomes.{outcome_of}
 use Rattle.relay_store.specs.Store.{IsOf, Keeps, StoreState}
 use Rattle.relay_store.specs.declared.fault.StoreFault.{StoreFault}
@@ -29,10 +27,10 @@ use Rattle.relay_store.specs.declared.outcome.Outcome.{Outcome}
 use Rattle.relay_store.proofs.Asks.{all_joined, nothing_here, nothing_in_vain}
 use Rattle.relay_store.proofs.Images.{kept_log}
 use Rattle.relay_store.proofs.Runs.{sent_joined}
-use Rattle.tape_run.specs.Crashes.{HasNoRoom, IsFullFor, IsOnTheWay, IsSoFar, Leaves}
+use Rattle.tape_run.specs.Crashes.{HasNoRoom, IsFullFor, IsSoFar}
 use Rattle.tape_run.specs.Ends.{AreExtraAt, AreUnder, StopsAsking, disk_failed, end_of_store, fault_in}
 use Rattle.tape_run.specs.Stops.{IsReported, IsStop, IsUnwritten}
-use Rattle.tape_run.specs.Going.{Going, Point, Stopped, point}
+use Rattle.tape_run.specs.Going.{Going, Stopped, point}
 use Rattle.tape_run.specs.Tells.{Tells}
 use Rattle.tape_run.specs.Said.{AreLive, IsNoted, Said, answered, said, text_of}
 use Rattle.tape_run.specs.declared.end.TapeEnd.{TapeEnd}

@@ -1,26 +1,24 @@
 -- What the rows of steps count, and their lines.
-use Rattle.std.proofs.Common.{◌≡◌, ◌≢◌, ℕ, ◌+◌, Bool, true, false, not, List, [], ◌∷◌, ◌++◌, length, suc, Option, Some, None, Result, Ok, Err, refl, ap, ◌∙◌, sym, subst, arith, append_assoc, length-append}
+use Rattle.std.proofs.Common.{◌≡◌, ◌≢◌, ℕ, ◌+◌, Bool, true, false, List, [], ◌∷◌, ◌++◌, length, suc, Option, Some, None, Result, Ok, Err, refl, ap, ◌∙◌, sym, subst, arith, length-append}
 use Rattle.std.specs.Prelude.{◌==◌, if◌then◌else◌}
 use Rattle.std.specs.List.{filter}
 use Rattle.std.specs.Option.{is_some}
 use Rattle.std.proofs.lemmas.List.{append-nil}
 use Rattle.at_cbor.specs.Item.{Item}
-use Rattle.at_event.specs.Frames.{announced, event_frame, frame_of, framed, headed, heading_of, items_in, numbered_frame, formed_frame}
-use Rattle.at_event.specs.Table.{event_of, seq_of}
+use Rattle.at_event.specs.Frames.{announced, event_frame, frame_of, framed, headed, items_in, numbered_frame}
+use Rattle.at_event.specs.Table.{seq_of}
 use Rattle.at_event.specs.Seen.{Seen}
 use Rattle.at_event.specs.declared.frame.Frame.{Frame}
 use Rattle.at_event.specs.declared.frame.FrameFault.{FrameFault}
 use Rattle.at_event.specs.declared.kind.EventKind.{EventKind}
 use Rattle.at_event.specs.declared.kind.Heading.{Heading}
 use Rattle.at_event.specs.declared.refusal.Refusal.{Refusal}
-use Rattle.at_event.specs.Refusals.{code_of}
 use Rattle.relay_row.specs.Folds.{events, events_in, events_of, last_seq}
-use Rattle.relay_row.specs.Rules.{loses}
 use Rattle.relay_row.specs.declared.fetched.Fetched.{Fetched}
 use Rattle.relay_row.specs.declared.row.Row.{Row}
 use Rattle.relay_row.specs.declared.taken.Taken.{Taken}
 use Rattle.account_state.specs.Folds.{account}
-use Rattle.relay_core.specs.Decide.{Checks, answers, decided, decided_event, decision_for, refusal_of}
+use Rattle.relay_core.specs.Decide.{Checks, answers, decided_event, decision_for, refusal_of}
 use Rattle.relay_core.specs.Report.{ended_by, is_refused, lines_from, on_row, over_line, passed_line, row_line, taken_line, turn}
 use Rattle.relay_core.specs.Rows.{event_taken, faulty_taken}
 use Rattle.relay_core.specs.Runs.{Message, IsMade, has_ended, passed_by}
@@ -31,10 +29,10 @@ use Rattle.relay_core.specs.declared.decision.Decision.{Decision}
 use Rattle.relay_core.specs.declared.decision.Pass.{Pass}
 use Rattle.relay_step.specs.Steps.{Step, Told, after_end, passed_over, took, AreSteps, IsTold, ended_told, message_of, messages, rows, rows_told}
 use Rattle.relay_store.specs.Lines.{line_of}
-use Rattle.relay_store.specs.Outcomes.{fetch_in, outcome_as, outcome_of, outcome_told, passed_outcome, taken_outcome}
+use Rattle.relay_store.specs.Outcomes.{fetch_in, outcome_as, outcome_told, passed_outcome, taken_outcome}
 use Rattle.relay_store.specs.declared.outcome.Outcome.{Outcome}
 use Rattle.relay_store.proofs.Linework.{lines_report}
-use Rattle.tape_run.specs.Said.{Said, given, gives, gives_fetched, line_said, refused, refuses, said, said_to, text_of}
+use Rattle.tape_run.specs.Said.{given, gives, gives_fetched, line_said, refused, refuses, said, text_of}
 
 -- ---- rows that were made
 

@@ -1,14 +1,13 @@
 -- How taking a tape ends.
-use Rattle.std.proofs.Common.{◌≡◌, ◌≢◌, ◌⊎◌, inl, inr, ⊎_elim, ℕ, ◌+◌, ◌≤◌, ◌<◌, Bool, List, [], ◌∷◌, ◌++◌, length, take, Option, Some, None, IsTrue, refl, ap, ◌∙◌, sym, subst, arith, append_assoc, length-append}
+use Rattle.std.proofs.Common.{◌≡◌, inl, ℕ, Bool, List, [], ◌++◌, length, Option, None, IsTrue, refl, ap, ◌∙◌, sym, subst, arith, append_assoc, length-append}
 use Rattle.std.specs.List.{filter}
 use Rattle.std.proofs.lemmas.List.{append-nil, take-append-le}
-use Rattle.relay_disk.specs.Disk.{View, IsDisk}
-use Rattle.relay_disk.specs.Moments.{LeavesOnly}
+use Rattle.relay_disk.specs.Disk.{View}
 use Rattle.relay_disk.proofs.Moments.{weaker}
 use Rattle.relay_io.specs.Streams.{AddsFront}
 use Rattle.gate_log.specs.Log.{LogState}
 use Rattle.gate_log.specs.declared.format.Format.{Format}
-use Rattle.relay_row.specs.Folds.{events, last_seq}
+use Rattle.relay_row.specs.Folds.{events}
 use Rattle.relay_row.specs.Journal.{IsJournal}
 use Rattle.relay_row.specs.declared.row.Row.{Row}
 use Rattle.relay_core.specs.Decide.{Checks}
@@ -22,29 +21,28 @@ use Rattle.relay_step.proofs.Steps.{steps_join}
 use Rattle.relay_store.specs.Batches.{EndsNext, sent}
 use Rattle.relay_store.specs.Journals.{IsLogOf}
 use Rattle.relay_store.specs.Lines.{end_line_of}
-use Rattle.relay_store.specs.Store.{IsOf, Keeps, StoreState}
 use Rattle.relay_store.specs.declared.fault.StoreFault.{StoreFault}
 use Rattle.relay_store.specs.declared.message.Message.{Message}
 use Rattle.relay_store.proofs.Asks.{nothing_here, nothing_in_vain}
 use Rattle.relay_store.proofs.Images.{kept_log}
 use Rattle.relay_store.proofs.Linework.{lines_report}
-use Rattle.tape.specs.Reading.{coming, held, taken}
+use Rattle.tape.specs.Reading.{coming, held}
 use Rattle.tape.specs.declared.fault.TapeFault.{TapeFault}
 use Rattle.tape.specs.declared.tape.Tape.{Tape}
-use Rattle.tape_run.specs.Crashes.{IsFullFor, Leaves}
+use Rattle.tape_run.specs.Crashes.{IsFullFor}
 use Rattle.tape_run.specs.Ends.{AreExtraAt, AreTaken, AreUnder, IsWritten, StopsAsking, end_of_tape, fault_in}
 use Rattle.tape_run.specs.Stops.{Finished, IsReported, IsStop}
-use Rattle.tape_run.specs.Going.{Going, Keeping, Point, Stopped}
+use Rattle.tape_run.specs.Going.{Going, Point, Stopped}
 use Rattle.tape_run.specs.Tells.{Tells}
 use Rattle.tape_run.specs.Said.{said, text_of}
-use Rattle.tape_run.specs.Taken.{Scene, Taken, scene}
+use Rattle.tape_run.specs.Taken.{Taken, scene}
 use Rattle.tape_run.specs.Tapes.{AreRead, AreRecords, IsGroup, IsOnTape, spelled}
 use Rattle.tape_run.specs.declared.end.TapeEnd.{TapeEnd}
 use Rattle.tape_run.specs.declared.group.Rest.{Rest}
 use Rattle.tape_run.proofs.Batches.{none_next, whole_front}
 use Rattle.tape_run.proofs.Counts.{given_is, lines_are, refused_is, said_length}
 use Rattle.tape_run.proofs.Joining.{front_behind}
-use Rattle.tape_run.proofs.Records.{length_joined, records_front}
+use Rattle.tape_run.proofs.Records.{records_front}
 use Rattle.tape_run.proofs.Sounds.{covered_get_through, sounds}
 
 -- ---- by the end

@@ -1,9 +1,8 @@
 -- One part of a run behind another.
-use Rattle.std.proofs.Common.{◌≡◌, ◌≢◌, ◌⊎◌, inl, inr, ⊎_elim, ℕ, ◌+◌, ◌≤◌, ◌<◌, Bool, false, List, [], ◌∷◌, ◌++◌, length, take, Option, Some, None, IsTrue, refl, ap, ◌∙◌, sym, subst, arith, append_assoc, length-append}
-use Rattle.std.proofs.lemmas.List.{append-nil, take-append-le}
+use Rattle.std.proofs.Common.{◌≡◌, inl, inr, ⊎_elim, ℕ, ◌+◌, ◌<◌, Bool, false, List, [], ◌∷◌, ◌++◌, length, take, Option, Some, None, refl, ap, ◌∙◌, sym, subst, arith, append_assoc, length-append}
+use Rattle.std.proofs.lemmas.List.{append-nil}
 use Rattle.std.proofs.Math.Seq.{take-append-add}
 use Rattle.relay_disk.specs.Disk.{View, IsDisk}
-use Rattle.relay_disk.specs.Moments.{LeavesOnly}
 use Rattle.relay_disk.proofs.Moments.{joined, no_call, weaker}
 use Rattle.at_authority.specs.Panels.{Panel}
 use Rattle.relay_io.specs.Streams.{AddsFront}
@@ -30,8 +29,8 @@ use Rattle.relay_store.specs.declared.message.Message.{Message}
 use Rattle.relay_store.proofs.Asks.{all_joined, nothing_here, nothing_in_vain}
 use Rattle.relay_store.proofs.Images.{kept_log}
 use Rattle.relay_store.proofs.Runs.{rows_joined, sent_joined}
-use Rattle.tape_run.specs.Crashes.{HasNoRoom, IsFullFor, IsOnTheWay, IsSoFar, Leaves}
-use Rattle.tape_run.specs.Ends.{StopsAsking, disk_failed, fault_in}
+use Rattle.tape_run.specs.Crashes.{HasNoRoom, IsFullFor, IsSoFar, Leaves}
+use Rattle.tape_run.specs.Ends.{StopsAsking, fault_in}
 use Rattle.tape_run.specs.Stops.{IsReported}
 use Rattle.tape_run.specs.Going.{Going, Keeping, Point, Stopped}
 use Rattle.tape_run.specs.Tells.{Tells}

@@ -1,9 +1,8 @@
 -- A journal stays sound with the rows of steps, and a covered commit gets through.
-use Rattle.std.proofs.Common.{◌≡◌, ℕ, ◌+◌, ◌<◌, ◌≤◌, Bool, true, false, not, List, [], ◌∷◌, ◌++◌, map, Option, Some, None, Result, Ok, Err, refl, ap, ◌∙◌, sym, subst, arith, append_assoc}
+use Rattle.std.proofs.Common.{◌≡◌, ℕ, ◌+◌, ◌<◌, true, false, List, [], ◌∷◌, ◌++◌, map, Option, Some, None, Result, Ok, refl, ap, ◌∙◌, sym, subst, arith}
 use Rattle.std.specs.Prelude.{if◌then◌else◌, nat_le, nat_lt}
 use Rattle.std.specs.List.{AllByRecursion}
 use Rattle.std.proofs.lemmas.Bool.Decides.{nat_tests}
-use Rattle.std.proofs.lemmas.List.{append-nil}
 use Rattle.at_cid.specs.Link.{IsBytes}
 use Rattle.at_event.specs.Events.{IsEvent}
 use Rattle.at_event.specs.Frames.{frame_of}
@@ -39,7 +38,7 @@ use Rattle.relay_law.proofs.Sent.{stores_sound}
 use Rattle.relay_step.specs.Steps.{Step, Told, after_end, passed_over, took, AreSteps, IsTold, ended_told, message_of, messages, rows, rows_told}
 use Rattle.relay_step.proofs.Steps.{steps_join, steps_run}
 use Rattle.relay_store.specs.Batches.{sent}
-use Rattle.relay_store.proofs.Runs.{rows_joined, sent_joined}
+use Rattle.relay_store.proofs.Runs.{sent_joined}
 use Rattle.tape_run.specs.Covered.{CoveredGetThrough, GetsThrough, IsGood}
 use Rattle.tape_run.specs.Tapes.{AreRecords}
 use Rattle.tape_run.proofs.Joining.{journal_joined}

@@ -1,6 +1,5 @@
 -- Groups of a tape, one behind another, and the ways in which taking it ends.
-use Rattle.std.proofs.Common.{◌≡◌, ℕ, ◌+◌, ◌≤◌, Bool, List, [], ◌∷◌, ◌++◌, length, IsTrue, refl, ap, ◌∙◌, sym, subst, arith, append_assoc}
-use Rattle.std.proofs.lemmas.List.{append-nil}
+use Rattle.std.proofs.Common.{◌≡◌, ℕ, ◌+◌, Bool, List, [], ◌++◌, length, IsTrue, refl, ap, ◌∙◌, sym, subst, arith, append_assoc}
 use Rattle.relay_disk.specs.Disk.{View, IsDisk}
 use Rattle.relay_row.specs.declared.row.Row.{Row}
 use Rattle.relay_core.specs.Report.{end_line, lines_from}
@@ -11,15 +10,14 @@ use Rattle.relay_store.specs.declared.message.Message.{Message}
 use Rattle.tape.specs.Reading.{coming, held}
 use Rattle.tape.specs.declared.fault.TapeFault.{TapeFault}
 use Rattle.tape.specs.declared.tape.Tape.{Tape}
-use Rattle.tape_run.specs.Ends.{IsWritten, end_of_tape}
+use Rattle.tape_run.specs.Ends.{end_of_tape}
 use Rattle.tape_run.specs.Stops.{Finished}
-use Rattle.tape_run.specs.Going.{Going, Point, Stopped, point}
+use Rattle.tape_run.specs.Going.{Going, Point, Stopped}
 use Rattle.tape_run.specs.Tells.{Tells}
 use Rattle.tape_run.specs.Taken.{Taken, scene}
 use Rattle.tape_run.specs.Tapes.{AreRead, AreRecords, IsGroup, IsOnTape, spelled}
 use Rattle.tape_run.specs.declared.end.TapeEnd.{TapeEnd}
 use Rattle.tape_run.specs.declared.group.Rest.{Rest}
-use Rattle.tape_run.specs.declared.tally.Tally.{Tally}
 use Rattle.tape_run.proofs.Ending.{end_on_tape, fault_on_tape, fault_written, last_behind, line_of_run, lines_of_run, quiet_finished, quiet_tape, some_read, taken_going, taken_stopped}
 use Rattle.tape_run.proofs.Groups.{goes_on, stops_on}
 use Rattle.tape_run.proofs.Joining.{nothing_taken}

@@ -1,4 +1,4 @@
-use Rattle.std.proofs.Common.{◌≡◌, ◌+◌, ◌<◌, ◌++◌, length, sym, arith}
+use Rattle.std.proofs.Common.{◌<◌, ◌++◌, length, sym, arith}
 use Rattle.tape_run.specs.Said.{answered, text_of}
 use Rattle.tape_run.proofs.Answers.{note_one, note_all_of, past_one, text_all_of, text_one}
 use Rattle.tape_run.proofs.answering.note_all.Goals as goal

@@ -1,4 +1,4 @@
-use Rattle.std.proofs.Common.{◌≡◌, ◌+◌, length, ℕ, ap, ◌∙◌, subst, arith}
+use Rattle.std.proofs.Common.{arith}
 use Rattle.tape_run.proofs.Answers.{answered_few}
 use Rattle.tape_run.proofs.Batches.{live_goes, live_stops, live_unwritten}
 use Rattle.tape_run.proofs.batching.take_live.Goals as goal

@@ -1,4 +1,4 @@
-use Rattle.std.proofs.Common.{◌≡◌, true, ap, ◌∙◌, sym, subst, None, [], ◌∷◌, List, ℕ, ◌++◌, IsTrue}
+use Rattle.std.proofs.Common.{◌≡◌, true, ap, ◌∙◌, sym, subst, None, [], ◌∷◌, List, ℕ, ◌++◌}
 use Rattle.std.proofs.lemmas.List.{take-append-drop}
 use Rattle.relay_io.specs.Streams.{AddsFront}
 use Rattle.relay_core.specs.Report.{over_line}

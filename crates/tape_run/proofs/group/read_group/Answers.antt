@@ -1,4 +1,4 @@
-use Rattle.std.proofs.Common.{◌≡◌, ◌≤◌, ◌<◌, ℕ, zero, suc, refl, ◌+◌, List, [], ◌∷◌, ◌++◌, length, arith, ap, ◌∙◌, sym, subst, length-append}
+use Rattle.std.proofs.Common.{◌≡◌, ◌<◌, ℕ, zero, suc, refl, List, [], ◌∷◌, ◌++◌, length, arith, ap, ◌∙◌, sym, subst, length-append}
 use Rattle.at_cid.specs.Link.{IsBytes}
 use Rattle.tape.specs.Format.{record_bytes, IsRecord}
 use Rattle.tape.specs.Reading.{coming}
