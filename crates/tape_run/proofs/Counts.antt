@@ -1,26 +1,24 @@
 -- What the rows of steps count, and their lines.
-use Rattle.std.proofs.Common.{◌≡◌, ◌≢◌, ℕ, ◌+◌, Bool, true, false, not, List, [], ◌∷◌, ◌++◌, length, suc, Option, Some, None, Result, Ok, Err, refl, ap, ◌∙◌, sym, subst, arith, append_assoc, length-append}
+use Rattle.std.proofs.Common.{◌≡◌, ◌≢◌, ℕ, ◌+◌, Bool, true, false, List, [], ◌∷◌, ◌++◌, length, suc, Option, Some, None, Result, Ok, Err, refl, ap, ◌∙◌, sym, subst, arith, length-append}
 use Rattle.std.specs.Prelude.{◌==◌, if◌then◌else◌}
 use Rattle.std.specs.List.{filter}
 use Rattle.std.specs.Option.{is_some}
 use Rattle.std.proofs.lemmas.List.{append-nil}
 use Rattle.at_cbor.specs.Item.{Item}
-use Rattle.at_event.specs.Frames.{announced, event_frame, frame_of, framed, headed, heading_of, items_in, numbered_frame, formed_frame}
-use Rattle.at_event.specs.Table.{event_of, seq_of}
+use Rattle.at_event.specs.Frames.{announced, event_frame, frame_of, framed, headed, items_in, numbered_frame}
+use Rattle.at_event.specs.Table.{seq_of}
 use Rattle.at_event.specs.Seen.{Seen}
 use Rattle.at_event.specs.declared.frame.Frame.{Frame}
 use Rattle.at_event.specs.declared.frame.FrameFault.{FrameFault}
 use Rattle.at_event.specs.declared.kind.EventKind.{EventKind}
 use Rattle.at_event.specs.declared.kind.Heading.{Heading}
 use Rattle.at_event.specs.declared.refusal.Refusal.{Refusal}
-use Rattle.at_event.specs.Refusals.{code_of}
 use Rattle.relay_row.specs.Folds.{events, events_in, events_of, last_seq}
-use Rattle.relay_row.specs.Rules.{loses}
 use Rattle.relay_row.specs.declared.fetched.Fetched.{Fetched}
 use Rattle.relay_row.specs.declared.row.Row.{Row}
 use Rattle.relay_row.specs.declared.taken.Taken.{Taken}
 use Rattle.account_state.specs.Folds.{account}
-use Rattle.relay_core.specs.Decide.{Checks, answers, decided, decided_event, decision_for, refusal_of}
+use Rattle.relay_core.specs.Decide.{Checks, answers, decided_event, decision_for, refusal_of}
 use Rattle.relay_core.specs.Report.{ended_by, is_refused, lines_from, on_row, over_line, passed_line, row_line, taken_line, turn}
 use Rattle.relay_core.specs.Rows.{event_taken, faulty_taken}
 use Rattle.relay_core.specs.Runs.{Message, IsMade, has_ended, passed_by}
@@ -31,10 +29,10 @@ use Rattle.relay_core.specs.declared.decision.Decision.{Decision}
 use Rattle.relay_core.specs.declared.decision.Pass.{Pass}
 use Rattle.relay_step.specs.Steps.{Step, Told, after_end, passed_over, took, AreSteps, IsTold, ended_told, message_of, messages, rows, rows_told}
 use Rattle.relay_store.specs.Lines.{line_of}
-use Rattle.relay_store.specs.Outcomes.{fetch_in, outcome_as, outcome_of, outcome_told, passed_outcome, taken_outcome}
+use Rattle.relay_store.specs.Outcomes.{fetch_in, outcome_as, outcome_told, passed_outcome, taken_outcome}
 use Rattle.relay_store.specs.declared.outcome.Outcome.{Outcome}
 use Rattle.relay_store.proofs.Linework.{lines_report}
-use Rattle.tape_run.specs.Said.{Said, given, gives, gives_fetched, line_said, refused, refuses, said, said_to, text_of}
+use Rattle.tape_run.specs.Said.{given, gives, gives_fetched, line_said, refused, refuses, said, text_of}
 
 -- ---- rows that were made
 
@@ -42,7 +40,7 @@ same_taken : (s t : Taken) → Some s ≡ Some t → s ≡ t
 same_taken s t is = cc
 
 -- a row made of an event, or of one with a bad field
-data IsMadeOf (host : List ℕ) (t : Taken) : Type 0 where
+pub data IsMadeOf (host : List ℕ) (t : Taken) : Type 0 where
   of_event : (last : ℕ) (e : Seen) (d : Decision) (x : Answers) → event_taken last host e d x ≡ t → IsMadeOf host t
   of_faulty : (seq : ℕ) (moment : Option ℕ) → faulty_taken host seq moment ≡ t → IsMadeOf host t
 
@@ -166,14 +164,14 @@ said_length (s ∷ steps) = ap suc (said_length steps)
 
 -- ---- lines
 
-turn_ended : (A : Type 0) (b : Bool) (o : Option Pass) (over : A) (passes : Pass → A) (takes : A) → b ≡ true → turn b o over passes takes ≡ over
-turn_ended A b o over passes takes is = ap (λ (c : Bool). turn c o over passes takes) is
+turn_ended : (A : Type 0) (b : Bool) (o : Option Pass) (extra : A) (passes : Pass → A) (takes : A) → b ≡ true → turn b o extra passes takes ≡ extra
+turn_ended A b o extra passes takes is = ap (λ (c : Bool). turn c o extra passes takes) is
 
-turn_passed : (A : Type 0) (b : Bool) (o : Option Pass) (pass : Pass) (over : A) (passes : Pass → A) (takes : A) → b ≡ false → o ≡ Some pass → turn b o over passes takes ≡ passes pass
-turn_passed A b o pass over passes takes is told = ap (λ (c : Bool). turn c o over passes takes) is ∙ ap (λ (p : Option Pass). turn false p over passes takes) told
+turn_passed : (A : Type 0) (b : Bool) (o : Option Pass) (pass : Pass) (extra : A) (passes : Pass → A) (takes : A) → b ≡ false → o ≡ Some pass → turn b o extra passes takes ≡ passes pass
+turn_passed A b o pass extra passes takes is told = ap (λ (c : Bool). turn c o extra passes takes) is ∙ ap (λ (p : Option Pass). turn false p extra passes takes) told
 
-turn_taken : (A : Type 0) (b : Bool) (o : Option Pass) (over : A) (passes : Pass → A) (takes : A) → b ≡ false → o ≡ None → turn b o over passes takes ≡ takes
-turn_taken A b o over passes takes is told = ap (λ (c : Bool). turn c o over passes takes) is ∙ ap (λ (p : Option Pass). turn false p over passes takes) told
+turn_taken : (A : Type 0) (b : Bool) (o : Option Pass) (extra : A) (passes : Pass → A) (takes : A) → b ≡ false → o ≡ None → turn b o extra passes takes ≡ takes
+turn_taken A b o extra passes takes is told = ap (λ (c : Bool). turn c o extra passes takes) is ∙ ap (λ (p : Option Pass). turn false p extra passes takes) told
 
 taken_said : (host : List ℕ) (t : Taken) → t.host ≡ host → line_of host (taken_outcome t) ≡ taken_line t
 taken_said host t is = ap (λ (h : List ℕ). line_of h (taken_outcome t)) (sym is) ∙ lines_report.taken t
@@ -185,8 +183,10 @@ lines_are checks J ended (s ∷ steps) are = by_told s.told are.0 (lines_are che
   where
     m : Message
     m = message_of s
+
     takes : List Row → List ℕ
     takes rows = on_row rows [] (λ row others. row_line row ++ lines_from (J ++ row ∷ []) ended (messages steps) others)
+
     by_told : (t : Told) → IsTold checks J ended m t → text_of (said steps) ≡ lines_from (J ++ rows_told t) (ended_told t s.host ended) (messages steps) (rows steps)
         → line_said (s.host, outcome_told (frame_of s.bytes) t) ++ text_of (said steps) ≡ lines_from J ended (m ∷ messages steps) (rows_told t ++ rows steps)
     by_told after_end told rest =

@@ -2,7 +2,6 @@
 use Rattle.std.proofs.Common.{◌≡◌, ℕ, Bool, true, false, List, [], ◌∷◌, ◌++◌, Option, Some, None, Result, Ok, Err, refl, ap, ◌∙◌, sym, subst}
 use Rattle.std.specs.Prelude.{◌||◌, ◌==◌, if◌then◌else◌, nat_le}
 use Rattle.std.specs.Str.{bytes_eq}
-use Rattle.std.proofs.lemmas.List.{append-nil}
 use Rattle.at_event.specs.Frames.{frame_of}
 use Rattle.at_event.specs.declared.frame.Frame.{Frame}
 use Rattle.at_event.specs.declared.frame.FrameFault.{FrameFault}
@@ -14,9 +13,9 @@ use Rattle.relay_core.specs.Decide.{Checks, old_if}
 use Rattle.relay_core.specs.Report.{ended_by}
 use Rattle.relay_core.specs.Runs.{has_ended, passed_by}
 use Rattle.relay_core.specs.declared.decision.Pass.{Pass}
-use Rattle.relay_step.specs.Steps.{Step, Told, after_end, passed_over, took, AreSteps, IsTold, ended_told, ended_by_all, message_of, rows, rows_told}
+use Rattle.relay_step.specs.Steps.{Step, Told, after_end, passed_over, took, AreSteps, IsTold, ended_told, ended_by_all, message_of, rows_told}
 use Rattle.relay_store.specs.Batches.{is_end, sent}
-use Rattle.relay_store.specs.Outcomes.{outcome_as, outcome_of, outcome_told, passed_outcome, taken_outcome}
+use Rattle.relay_store.specs.Outcomes.{outcome_as, outcome_told, passed_outcome, taken_outcome}
 use Rattle.relay_store.specs.declared.message.Message.{Message}
 use Rattle.relay_store.specs.declared.outcome.Outcome.{Outcome}
 use Rattle.tape_run.specs.Said.{AreLive, ended_in, ended_said, said, said_to}

@@ -1,13 +1,12 @@
 -- Messages as records of a tape, and groups of them.
-use Rattle.std.proofs.Common.{◌≡◌, ◌≤◌, ◌<◌, ℕ, ◌+◌, List, [], ◌∷◌, ◌++◌, length, true, inl, inr, refl, sym, ap, subst, ◌∙◌, arith, append_assoc, length-append}
+use Rattle.std.proofs.Common.{◌≡◌, ◌≤◌, ℕ, ◌+◌, List, [], ◌∷◌, ◌++◌, length, inl, inr, refl, sym, ap, subst, ◌∙◌, arith, append_assoc, length-append}
 use Rattle.std.specs.Prelude.{Err, ◌&&◌}
 use Rattle.std.specs.List.{list_all}
 use Rattle.std.proofs.lemmas.List.{append-nil}
-use Rattle.at_cid.specs.Link.{IsBytes}
 use Rattle.at_syntax.specs.Host.{is_host}
 use Rattle.relay_store.specs.Taking.{AreOfHosts}
 use Rattle.relay_store.specs.declared.message.Message.{Message}
-use Rattle.tape.specs.Format.{record_bytes, IsRecord}
+use Rattle.tape.specs.Format.{record_bytes}
 use Rattle.tape.specs.Reading.{coming, held, IsNext, IsPlaced}
 use Rattle.tape.specs.Shown.{Shows, bad_name, too_long}
 use Rattle.tape.specs.declared.fault.TapeFault.{TapeFault}
