@@ -4,3 +4,5 @@ pub mod Running
 pub mod Linking
 pub mod Fronts
 pub mod Coming
+pub mod Covered
+pub mod Judging

@@ -1,7 +1,7 @@
 //! Laws of journals without one of their premises, none of which holds.
 
 ghost use Rattle.law_premises.specs.Carrying.{CarriedMayBeUnsound};
-ghost use Rattle.law_premises.specs.Checking.{LinkingMayBeWrong};
+ghost use Rattle.law_premises.specs.Checking.{CoveredMayBeRefused, LinkingMayBeWrong};
 ghost use Rattle.law_premises.specs.Histories.{JournalsMayBeOthers};
 ghost use Rattle.law_premises.specs.Runs.{RowsMayBeOfLost, RunsMayBeUnfaithful, RunsMayBeUnsound};
 
@@ -23,6 +23,11 @@ pub fn rows_may_be_of_lost()
 /// Checks that don't open rightly may be wrong, however rightly they link.
 pub fn linking_may_be_wrong()
     ensures { LinkingMayBeWrong }
+{}
+
+/// Without one of its premises, a covered commit may be refused for more than its home and its signature.
+pub fn covered_may_be_refused()
+    ensures { CoveredMayBeRefused }
 {}
 
 /// Without one of its premises, a sound journal whose front gives way to other rows may become unsound.

@@ -5,6 +5,6 @@
 mod instances;
 
 pub use instances::{
-    carried_may_be_unsound, journals_may_be_others, linking_may_be_wrong, rows_may_be_of_lost,
-    runs_may_be_unfaithful, runs_may_be_unsound,
+    carried_may_be_unsound, covered_may_be_refused, journals_may_be_others, linking_may_be_wrong,
+    rows_may_be_of_lost, runs_may_be_unfaithful, runs_may_be_unsound,
 };
