@@ -11,8 +11,6 @@ use Rattle.at_event.specs.Writing.{message_of, out_length, out_of}
 use Rattle.at_event.specs.declared.event.Body.{Body}
 use Rattle.at_event.specs.declared.event.CommitEvent.{CommitEvent}
 use Rattle.at_event.specs.declared.refusal.Refusal.{Refusal}
-use Rattle.event_checks.specs.Lines.{first_of}
-use Rattle.event_checks.specs.Table.{open_lines}
 use Rattle.relay_row.specs.Folds.{cursor, last_seq}
 use Rattle.relay_row.specs.declared.taken.Taken.{Taken}
 use Rattle.account_state.specs.Folds.{account}
@@ -27,9 +25,9 @@ use Rattle.relay_law.specs.Right.{LinksRight, expect_of}
 use Rattle.relay_law.proofs.Choosing.{some_right}
 use Rattle.law_premises.specs.Checking.{CoveredMayBeRefused, IsJudged}
 use Rattle.law_premises.proofs.Covered.{car, covered, holds, is_covered, is_covered_event, nothing_shown, top}
-use Rattle.law_premises.proofs.Messages.{no_car}
+use Rattle.law_premises.proofs.Linking.{nothing_there}
 use Rattle.law_premises.proofs.Running.{empty_event}
-use Rattle.law_premises.proofs.Samples.{commit, commit_of, event, host}
+use Rattle.law_premises.proofs.Samples.{commit_of, event, host}
 
 abbrev good : Outside
 good = record { moment = 0; home = true; verdict = true; fetched = absent }
@@ -133,10 +131,7 @@ strict_refused = rw (opened Item.null) refl
 -- ---- a commit without a CAR
 
 bare_shown : refusal_in (some_right.0.opens (event []) None) ≡ Some Refusal.BadCar
-bare_shown = some_right.1.refusal (event []) None ∙ no_car_shown
-  where
-    no_car_shown : first_of (open_lines (commit []) None) ≡ Some Refusal.BadCar
-    no_car_shown = rw no_car refl
+bare_shown = some_right.1.refusal (event []) None ∙ nothing_there
 
 bare_refused : (row some_right.0 (event [])).refusal ≡ Some Refusal.BadCar
 unfolding account out_length out_of message_of info_of tail_of

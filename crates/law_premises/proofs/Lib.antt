@@ -6,3 +6,4 @@ pub mod Fronts
 pub mod Coming
 pub mod Covered
 pub mod Judging
+pub mod Disagreeing

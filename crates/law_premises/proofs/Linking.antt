@@ -1,20 +1,22 @@
 -- Checks that link rightly and take everything for opened.
-use Rattle.std.proofs.Common.{◌≡◌, Bool, true, false, [], Option, None, Some, Ok, Err, refl, sym, ◌∙◌, subst}
+use Rattle.std.proofs.Common.{◌≡◌, Bool, true, false, [], Option, None, Some, Result, Ok, Err, refl, sym, ◌∙◌, subst}
 use Rattle.std.specs.Prelude.{if◌then◌else◌}
 use Rattle.at_event.specs.Events.{IsEvent}
 use Rattle.at_event.specs.Seen.{Seen}
 use Rattle.at_event.specs.declared.event.Body.{Body}
 use Rattle.at_event.specs.declared.event.CommitEvent.{CommitEvent}
+use Rattle.at_event.specs.declared.head.Head.{Head}
 use Rattle.at_event.specs.declared.refusal.Refusal.{Refusal}
+use Rattle.event_checks.specs.Lines.{first_of}
 use Rattle.event_checks.specs.Opening.{CarResult}
-use Rattle.event_checks.specs.Table.{car_in}
+use Rattle.event_checks.specs.Table.{car_in, open_lines}
 use Rattle.account_state.specs.declared.repo.Repo.{Repo}
 use Rattle.commit_check.specs.Order.{Holds, StopsPast}
 use Rattle.commit_check.specs.Step.{empty_root, is_gap, root_before, Leads}
 use Rattle.relay_core.specs.Decide.{Checks}
 use Rattle.relay_law.specs.Right.{LinksRight, expect_of}
 use Rattle.relay_law.proofs.Choosing.{some_right}
-use Rattle.law_premises.specs.Checking.{LinkingMayBeWrong}
+use Rattle.law_premises.specs.Checking.{LinkingMayBeWrong, LinkingMaySayOtherwise}
 use Rattle.law_premises.proofs.Messages.{no_car}
 use Rattle.law_premises.proofs.Running.{empty_event, no_goes}
 use Rattle.law_premises.proofs.Samples.{commit, event, link, top}
@@ -64,3 +66,11 @@ passes_blind = rw no_car refl
 
 pub linking_wrong : LinkingMayBeWrong
 linking_wrong all = no_goes empty_root (link 0) ((all blind blind_right).goes (event []) (commit []) Repo.Missing None top empty_event refl refl passes_blind)
+
+pub nothing_there : first_of (open_lines (commit []) None) ≡ Some Refusal.BadCar
+nothing_there = rw no_car refl
+
+pub linking_otherwise : LinkingMaySayOtherwise
+linking_otherwise all =
+    let says : ◌≡◌ {A = Result Head Refusal} (Ok top) (Err Refusal.BadCar) = (all blind blind_right).opens (event []) (commit []) None (Err Refusal.BadCar) refl nothing_there in
+    absurd cc

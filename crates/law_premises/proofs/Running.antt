@@ -48,7 +48,7 @@ use Rattle.law_premises.proofs.Samples.{accepted, bare, bare_bytes, bare_car, ba
 
 -- ---- checks that pass everything
 
-abbrev loose : Checks
+abbrev pub loose : Checks
 loose = record { opens = λ e last. Ok top; links = λ e repo. None }
 
 no_bytes : IsBytes []

@@ -10,12 +10,17 @@ use Rattle.relay_row.specs.declared.taken.Taken.{Taken}
 use Rattle.account_state.specs.Folds.{account}
 use Rattle.relay_core.specs.Decide.{Checks, Outside, decided}
 use Rattle.relay_core.specs.Opening.{OpensRight}
+use Rattle.relay_law.specs.Calls.{SayWhatCallsAnswer}
 use Rattle.relay_law.specs.Covered.{IsCovered}
 use Rattle.relay_law.specs.Right.{AreRight, LinksRight}
 
 -- Checks that link rightly aren't right, where they don't open rightly.
 abbrev pub LinkingMayBeWrong : Type 0
 LinkingMayBeWrong = ((checks : Checks) → LinksRight checks → AreRight checks) → ⊥
+
+-- They don't say what the calls answer either.
+abbrev pub LinkingMaySayOtherwise : Type 0
+LinkingMaySayOtherwise = ((checks : Checks) → LinksRight checks → SayWhatCallsAnswer checks) → ⊥
 
 -- a row is refused for its home or its signature alone
 abbrev pub IsJudged : Outside → Taken → Type 0

@@ -2,3 +2,4 @@ pub mod Runs
 pub mod Checking
 pub mod Carrying
 pub mod Histories
+pub mod Merges

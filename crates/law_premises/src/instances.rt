@@ -1,8 +1,9 @@
 //! Laws of journals without one of their premises, none of which holds.
 
 ghost use Rattle.law_premises.specs.Carrying.{CarriedMayBeUnsound};
-ghost use Rattle.law_premises.specs.Checking.{CoveredMayBeRefused, LinkingMayBeWrong};
-ghost use Rattle.law_premises.specs.Histories.{JournalsMayBeOthers};
+ghost use Rattle.law_premises.specs.Checking.{CoveredMayBeRefused, LinkingMayBeWrong, LinkingMaySayOtherwise};
+ghost use Rattle.law_premises.specs.Histories.{JournalsMayBeOthers, UnfoundedComeOn};
+ghost use Rattle.law_premises.specs.Merges.{MergesMayDisagree};
 ghost use Rattle.law_premises.specs.Runs.{RowsMayBeOfLost, RunsMayBeUnfaithful, RunsMayBeUnsound};
 
 /// Without one of its premises, a run behind a sound journal may leave an unsound one.
@@ -25,6 +26,11 @@ pub fn linking_may_be_wrong()
     ensures { LinkingMayBeWrong }
 {}
 
+/// Checks that don't open rightly may say what no call answers, however rightly they link.
+pub fn linking_may_say_otherwise()
+    ensures { LinkingMaySayOtherwise }
+{}
+
 /// Without one of its premises, a covered commit may be refused for more than its home and its signature.
 pub fn covered_may_be_refused()
     ensures { CoveredMayBeRefused }
@@ -38,4 +44,14 @@ pub fn carried_may_be_unsound()
 /// Without one of its premises, a later journal may be of other rows.
 pub fn journals_may_be_others()
     ensures { JournalsMayBeOthers }
+{}
+
+/// A premise of the law of histories that isn't wanted: what the disks of an open store stand for.
+pub fn unfounded_come_on()
+    ensures { UnfoundedComeOn }
+{}
+
+/// Without one of its premises, two merges may disagree.
+pub fn merges_may_disagree()
+    ensures { MergesMayDisagree }
 {}
