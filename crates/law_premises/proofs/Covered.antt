@@ -29,7 +29,7 @@ use Rattle.at_commit.specs.declared.commit.Commit.{Commit}
 use Rattle.at_event.specs.Events.{IsEvent}
 use Rattle.at_event.specs.Seen.{Seen}
 use Rattle.event_checks.specs.Lines.{first_of}
-use Rattle.event_checks.specs.Opening.{object_in}
+use Rattle.event_checks.specs.Opening.{block_in, object_in, root_in}
 use Rattle.event_checks.specs.Table.{car_in, open_lines}
 use Rattle.mst_node.specs.Covers.{AreDistinct, IsBlockOf}
 use Rattle.mst_node.specs.NodeBytes.{node_bytes}
@@ -183,6 +183,12 @@ object_there = rw (car_read, top_found, block_object) refl
 
 abbrev pub holds : Holds (commit_of top car)
 holds = record { roots = top ∷ []; blocks = held; commit = held_object; car = car_read; object = object_there }
+
+pub root_there : root_in (car_in (commit_of top car)) ≡ Some top
+root_there = rw car_read refl
+
+pub block_there : block_in (car_in (commit_of top car)) ≡ Some block
+block_there = rw (car_read, top_found) refl
 
 -- ---- its cover
 

@@ -7,3 +7,4 @@ pub mod Coming
 pub mod Covered
 pub mod Judging
 pub mod Disagreeing
+pub mod Forming

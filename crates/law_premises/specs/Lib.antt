@@ -3,3 +3,4 @@ pub mod Checking
 pub mod Carrying
 pub mod Histories
 pub mod Merges
+pub mod Forming

@@ -2,6 +2,7 @@
 
 ghost use Rattle.law_premises.specs.Carrying.{CarriedMayBeUnsound};
 ghost use Rattle.law_premises.specs.Checking.{CoveredMayBeRefused, LinkingMayBeWrong, LinkingMaySayOtherwise};
+ghost use Rattle.law_premises.specs.Forming.{MadeMayBeIllFormed, OperatedMayBeIllFormed, SyncedMayBeIllFormed};
 ghost use Rattle.law_premises.specs.Histories.{JournalsMayBeOthers, UnfoundedComeOn};
 ghost use Rattle.law_premises.specs.Merges.{MergesMayDisagree};
 ghost use Rattle.law_premises.specs.Runs.{RowsMayBeOfLost, RunsMayBeUnfaithful, RunsMayBeUnsound};
@@ -54,4 +55,19 @@ pub fn unfounded_come_on()
 /// Without one of its premises, two merges may disagree.
 pub fn merges_may_disagree()
     ensures { MergesMayDisagree }
+{}
+
+/// Without one of its premises, the row that is made of a message may be ill formed.
+pub fn made_may_be_ill_formed()
+    ensures { MadeMayBeIllFormed }
+{}
+
+/// Without one of its premises, the row of an account that is taken down or restored may be ill formed.
+pub fn operated_may_be_ill_formed()
+    ensures { OperatedMayBeIllFormed }
+{}
+
+/// Without its premise on what was found, the row of a repository may be ill formed.
+pub fn synced_may_be_ill_formed()
+    ensures { SyncedMayBeIllFormed }
 {}

@@ -1,0 +1,65 @@
+-- Laws of well formed rows, each without one of its premises.
+use Rattle.std.specs.Prelude.{◌≡◌, ℕ, ◌+◌, ◌<◌, Bool, true, List, [], ◌∷◌, ◌++◌, Some}
+use Rattle.at_event.specs.Formed.{IsShortText}
+use Rattle.at_event.specs.declared.frame.Frame.{Frame}
+use Rattle.at_event.specs.declared.head.Head.{Head}
+use Rattle.relay_row.specs.Folds.{cursor, last_seq, seq_in}
+use Rattle.relay_row.specs.Journal.{IsJournal}
+use Rattle.relay_row.specs.Rules.{names_did, names_host}
+use Rattle.relay_row.specs.declared.limits.TheConstants.{NUMBERS}
+use Rattle.relay_row.specs.declared.row.Row.{Row}
+use Rattle.account_state.specs.Folds.{account}
+use Rattle.relay_core.specs.Decide.{whole_under}
+use Rattle.relay_core.specs.Operating.{operated_as}
+use Rattle.relay_core.specs.Rows.{row_of}
+use Rattle.relay_core.specs.Table.{did_of, next_of}
+use Rattle.relay_core.specs.declared.answers.Answers.{Answers}
+use Rattle.relay_core.specs.declared.decision.Decision.{Decision}
+use Rattle.relay_core.specs.declared.decision.Next.{Next}
+use Rattle.relay_law.specs.Formed.{IsReadFrame, AreAnswersFor}
+
+-- the row that takes an account down or restores it
+abbrev pub word : List Row → List ℕ → Bool → List ℕ → ℕ → Row
+word J did down time moment = Row.Operated (operated_as (last_seq J) (account did J) did down time (Some moment))
+
+-- The row of an account that is taken down or restored may be ill formed, or break the order ..
+pub record OperatedMayBeIllFormed : Type 0 where
+  -- where there was no journal
+  pub journal : ((J : List Row) (did : List ℕ) (down : Bool) (time : List ℕ) (moment : ℕ) → names_did did ≡ true → IsShortText time → moment < NUMBERS → last_seq J + 1 < NUMBERS → IsJournal (J ++ word J did down time moment ∷ [])) → ⊥
+  -- where the account has no DID
+  pub did : ((J : List Row) (did : List ℕ) (down : Bool) (time : List ℕ) (moment : ℕ) → IsJournal J → IsShortText time → moment < NUMBERS → last_seq J + 1 < NUMBERS → IsJournal (J ++ word J did down time moment ∷ [])) → ⊥
+  -- where the time is no text
+  pub time : ((J : List Row) (did : List ℕ) (down : Bool) (time : List ℕ) (moment : ℕ) → IsJournal J → names_did did ≡ true → moment < NUMBERS → last_seq J + 1 < NUMBERS → IsJournal (J ++ word J did down time moment ∷ [])) → ⊥
+  -- where the moment is no number
+  pub moment : ((J : List Row) (did : List ℕ) (down : Bool) (time : List ℕ) (moment : ℕ) → IsJournal J → names_did did ≡ true → IsShortText time → last_seq J + 1 < NUMBERS → IsJournal (J ++ word J did down time moment ∷ [])) → ⊥
+  -- where no number is left
+  pub number : ((J : List Row) (did : List ℕ) (down : Bool) (time : List ℕ) (moment : ℕ) → IsJournal J → names_did did ≡ true → IsShortText time → moment < NUMBERS → IsJournal (J ++ word J did down time moment ∷ [])) → ⊥
+
+-- The row of a repository that is ill formed is ill formed.
+abbrev pub SyncedMayBeIllFormed : Type 0
+SyncedMayBeIllFormed = ((J : List Row) (did time : List ℕ) (head : Head) (records : ℕ) (block : List ℕ) (moment : ℕ) → IsJournal J → names_did did ≡ true → moment < NUMBERS → last_seq J + 1 < NUMBERS
+    → IsJournal (J ++ Row.Synced did (whole_under did time head records block (last_seq J + 1)) (Some moment) ∷ [])) → ⊥
+
+-- The row that is made of a message may be ill formed, or break the order ..
+pub record MadeMayBeIllFormed : Type 0 where
+  -- where there was no journal
+  pub journal : ((J : List Row) (host : List ℕ) (frame : Frame) (x : Answers) (d : Decision) (row : Row) → names_host host ≡ true → IsReadFrame frame → AreAnswersFor (last_seq J) (account (did_of frame) J) frame x
+      → next_of (cursor host J) (account (did_of frame) J) frame x ≡ Next.Done d → row_of (last_seq J) host frame d x ≡ Some row → seq_in row < NUMBERS → IsJournal (J ++ row ∷ [])) → ⊥
+  -- where the host has no name
+  pub host : ((J : List Row) (host : List ℕ) (frame : Frame) (x : Answers) (d : Decision) (row : Row) → IsJournal J → IsReadFrame frame → AreAnswersFor (last_seq J) (account (did_of frame) J) frame x
+      → next_of (cursor host J) (account (did_of frame) J) frame x ≡ Next.Done d → row_of (last_seq J) host frame d x ≡ Some row → seq_in row < NUMBERS → IsJournal (J ++ row ∷ [])) → ⊥
+  -- where the frame isn't one that is read
+  pub frame : ((J : List Row) (host : List ℕ) (frame : Frame) (x : Answers) (d : Decision) (row : Row) → IsJournal J → names_host host ≡ true → AreAnswersFor (last_seq J) (account (did_of frame) J) frame x
+      → next_of (cursor host J) (account (did_of frame) J) frame x ≡ Next.Done d → row_of (last_seq J) host frame d x ≡ Some row → seq_in row < NUMBERS → IsJournal (J ++ row ∷ [])) → ⊥
+  -- where an answer isn't right
+  pub answers : ((J : List Row) (host : List ℕ) (frame : Frame) (x : Answers) (d : Decision) (row : Row) → IsJournal J → names_host host ≡ true → IsReadFrame frame
+      → next_of (cursor host J) (account (did_of frame) J) frame x ≡ Next.Done d → row_of (last_seq J) host frame d x ≡ Some row → seq_in row < NUMBERS → IsJournal (J ++ row ∷ [])) → ⊥
+  -- where the message isn't decided
+  pub next : ((J : List Row) (host : List ℕ) (frame : Frame) (x : Answers) (d : Decision) (row : Row) → IsJournal J → names_host host ≡ true → IsReadFrame frame → AreAnswersFor (last_seq J) (account (did_of frame) J) frame x
+      → row_of (last_seq J) host frame d x ≡ Some row → seq_in row < NUMBERS → IsJournal (J ++ row ∷ [])) → ⊥
+  -- where the row isn't its own
+  pub row : ((J : List Row) (host : List ℕ) (frame : Frame) (x : Answers) (d : Decision) (row : Row) → IsJournal J → names_host host ≡ true → IsReadFrame frame → AreAnswersFor (last_seq J) (account (did_of frame) J) frame x
+      → next_of (cursor host J) (account (did_of frame) J) frame x ≡ Next.Done d → seq_in row < NUMBERS → IsJournal (J ++ row ∷ [])) → ⊥
+  -- where no number is left
+  pub number : ((J : List Row) (host : List ℕ) (frame : Frame) (x : Answers) (d : Decision) (row : Row) → IsJournal J → names_host host ≡ true → IsReadFrame frame → AreAnswersFor (last_seq J) (account (did_of frame) J) frame x
+      → next_of (cursor host J) (account (did_of frame) J) frame x ≡ Next.Done d → row_of (last_seq J) host frame d x ≡ Some row → IsJournal (J ++ row ∷ [])) → ⊥
