@@ -126,7 +126,7 @@ top_node : node_in (Item.link top) ≡ Some top
 unfolding node_in
 top_node = refl
 
-is_top : IsTop top
+pub is_top : IsTop top
 is_top = record { link = refl; bytes = top_bytes; node = top_node }
 
 abbrev pub sections : List (List ℕ × List ℕ)
@@ -138,7 +138,7 @@ car = header_bytes (header_of top) ++ sections_bytes sections
 abbrev pub held : BlockMap
 held = map.from_entries sections
 
-car_is : (length car < 256) × (list_all (λ c. ltb c 256) car ≡ true)
+pub car_is : (length car < 256) × (list_all (λ c. ltb c 256) car ≡ true)
 unfolding groups info_of tail_of
 car_is = (lit< tt, refl)
 

@@ -60,14 +60,14 @@ unfolding last_seq
 none_last = lit< tt
 
 -- the greatest number
-abbrev final : Row
+abbrev pub final : Row
 final = Row.Carried (Carried.Last (NUMBERS - 1))
 
 final_formed : is_row final ≡ true
 unfolding is_row is_carried
 final_formed = refl
 
-final_journal : IsJournal (final ∷ [])
+pub final_journal : IsJournal (final ∷ [])
 final_journal = grows [] final no_rows final_formed refl
 
 final_last : last_seq (final ∷ []) + 1 ≡ NUMBERS
@@ -190,7 +190,7 @@ bad_cursor = refl
 abbrev accepted : Decision
 accepted = record { refusal = None; held = false; gives = true }
 
-abbrev its_head : Head
+abbrev pub its_head : Head
 its_head = record { rev = 0; data_root = empty_link; commit = top }
 
 abbrev agreed : Answers

@@ -8,3 +8,4 @@ pub mod Covered
 pub mod Judging
 pub mod Disagreeing
 pub mod Forming
+pub mod Storing

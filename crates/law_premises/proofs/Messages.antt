@@ -22,7 +22,7 @@ use Rattle.at_event.specs.declared.kind.EventKind.{EventKind}
 use Rattle.at_event.proofs.Messages.{message_read, out_again}
 use Rattle.at_event.proofs.Texts.{ascii_text}
 use Rattle.relay_law.specs.Sound.{Follows, GoesFrom, IsCommit}
-use Rattle.law_premises.proofs.Samples.{commit, did, event, fits, is_event, no_frame, payload}
+use Rattle.law_premises.proofs.Samples.{IsTop, commit, did, event, event_of, fits_of, is_event, no_frame, payload_of}
 
 header_fits : Fits (header_of EventKind.Commit) DEPTH
 header_fits = (lit< tt, lit< tt, (ascii_text (codes "t") refl (lit< tt), refl, ascii_text (codes "#commit") refl (lit< tt), (ascii_text (codes "op") refl (lit< tt), refl, lit< tt, tt)))
@@ -41,11 +41,11 @@ unfolding frame_of out_of message_of heading_of named
 odd_unread = rw (message_read (message_of EventKind.Commit Item.null) (header_of EventKind.Commit) Item.null (record { header_form = header_fits; payload_form = tt; spelled = refl })) refl
 
 -- and one whose number is none
-pub late_unread : (blocks : List ℕ) → IsBytes blocks → length blocks < 2 ^ 64 → frame_of (out_of (event blocks) NUMBERS) ≡ Err FrameFault.NoSeq
+pub late_unread : (top : List ℕ) → IsTop top → (blocks : List ℕ) → IsBytes blocks → length blocks < 2 ^ 64 → frame_of (out_of (event_of top blocks) NUMBERS) ≡ Err FrameFault.NoSeq
 unfolding frame_of out_of message_of heading_of named announced event_frame seq_of given number_in
-late_unread blocks bytes short =
-    rw (message_read (message_of EventKind.Commit (payload NUMBERS blocks)) (header_of EventKind.Commit) (payload NUMBERS blocks)
-    (record { header_form = header_fits; payload_form = fits NUMBERS blocks (lit< tt) bytes short; spelled = refl })) refl
+late_unread top is blocks bytes short =
+    rw (message_read (message_of EventKind.Commit (payload_of top NUMBERS blocks)) (header_of EventKind.Commit) (payload_of top NUMBERS blocks)
+    (record { header_form = header_fits; payload_form = fits_of top is NUMBERS blocks (lit< tt) bytes short; spelled = refl })) refl
 
 pub no_commit_in : (message : List ℕ) (fault : FrameFault) → frame_of message ≡ Err fault → (c : CommitEvent) → IsCommit message c → ⊥
 no_commit_in message fault unread c is = let reads : Err fault ≡ Ok (Frame.Event is.event) = sym unread ∙ is.reads in absurd cc

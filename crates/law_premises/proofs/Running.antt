@@ -44,7 +44,7 @@ use Rattle.relay_law.proofs.Choosing.{some_right}
 use Rattle.relay_law.proofs.Right.{checks_right}
 use Rattle.law_premises.specs.Runs.{RowsMayBeOfLost, RunsMayBeUnfaithful, RunsMayBeUnsound}
 use Rattle.law_premises.proofs.Messages.{goes_by, late_unread, no_car, no_step, odd, odd_unread, torn_step}
-use Rattle.law_premises.proofs.Samples.{accepted, bare, bare_bytes, bare_car, bare_short, bytes_by, commit, did, did_text, event, host, host_text, is_event, link, no_frame, top, torn, torn_journal}
+use Rattle.law_premises.proofs.Samples.{accepted, bare, bare_bytes, bare_car, bare_short, bytes_by, commit, did, did_text, event, host, host_text, is_event, link, link_top, no_frame, top, torn, torn_journal}
 
 -- ---- checks that pass everything
 
@@ -200,7 +200,7 @@ pub runs_unsound : RunsMayBeUnsound
 runs_unsound = record {
   right = λ all. bold_unsound (all loose [] ((host, Ok (Frame.Event (event []))) ∷ []) (bold ∷ []) (empty_event, tt) bold_journal none_sound bold_run);
   events = λ all. no_step (out_of odd 1) empty_root (link 0) FrameFault.BadFrame odd_unread (all odd_checks odd_right [] ((host, Ok (Frame.Event odd)) ∷ []) (strange ∷ []) strange_journal none_sound odd_run did).0.0;
-  journal = λ all. no_step (out_of (event bare) NUMBERS) [] (link 0) FrameFault.NoSeq (late_unread bare bare_bytes (omega (arith, bare_short)))
+  journal = λ all. no_step (out_of (event bare) NUMBERS) [] (link 0) FrameFault.NoSeq (late_unread (link 0) link_top bare bare_bytes (omega (arith, bare_short)))
       (all bare_checks bare_right (rootless ∷ []) ((host, Ok (Frame.Event (event bare))) ∷ []) (late ∷ []) (bare_event, tt) rootless_sound late_run did).1.0.0;
   sound = λ all. torn_step empty_root (link 0) (all some_right.0 (checks_right some_right.0 some_right.1 some_right.2) (torn ∷ []) [] [] tt torn_journal refl did).0.0;
   run = λ all. torn_step empty_root (link 0) (all some_right.0 (checks_right some_right.0 some_right.1 some_right.2) [] [] (torn ∷ []) tt torn_journal none_sound did).0.0;
@@ -217,7 +217,7 @@ unread_row seq message fault unread some faithful =
 pub runs_unfaithful : RunsMayBeUnfaithful
 runs_unfaithful = record {
   events = λ all. unread_row 1 (out_of odd 1) FrameFault.BadFrame odd_unread (omega arith) (all odd_checks [] ((host, Ok (Frame.Event odd)) ∷ []) (strange ∷ []) strange_journal odd_run).0;
-  journal = λ all. unread_row NUMBERS (out_of (event bare) NUMBERS) FrameFault.NoSeq (late_unread bare bare_bytes (omega (arith, bare_short))) (omega arith)
+  journal = λ all. unread_row NUMBERS (out_of (event bare) NUMBERS) FrameFault.NoSeq (late_unread (link 0) link_top bare bare_bytes (omega (arith, bare_short))) (omega arith)
       (all bare_checks (rootless ∷ []) ((host, Ok (Frame.Event (event bare))) ∷ []) (late ∷ []) (bare_event, tt) late_run).0;
   run = λ all. unread_row 1 (0 ∷ []) FrameFault.BadFrame no_frame (omega arith) (all loose [] [] (torn ∷ []) tt torn_journal).0;
 }

@@ -154,9 +154,6 @@ is_event_of top is blocks bytes short = record { fits = fits_of top is 1 blocks 
 
 -- ---- under a link of no block that is there
 
-abbrev pub payload : ℕ → List ℕ → Item
-payload n blocks = payload_of (link 0) n blocks
-
 abbrev pub commit : List ℕ → CommitEvent
 commit blocks = commit_of (link 0) blocks
 
@@ -167,11 +164,8 @@ link_node : node_in (Item.link (link 0)) ≡ Some (link 0)
 unfolding node_in
 link_node = refl
 
-link_top : IsTop (link 0)
+pub link_top : IsTop (link 0)
 link_top = record { link = refl; bytes = link_bytes; node = link_node }
-
-pub fits : (n : ℕ) (blocks : List ℕ) → n < 2 ^ 63 → IsBytes blocks → length blocks < 2 ^ 64 → Fits (payload n blocks) DEPTH
-fits n blocks low bytes short = fits_of (link 0) link_top n blocks low bytes short
 
 pub is_event : (blocks : List ℕ) → IsBytes blocks → length blocks < 2 ^ 64 → IsEvent (event blocks)
 is_event blocks bytes short = is_event_of (link 0) link_top blocks bytes short

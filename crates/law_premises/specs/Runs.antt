@@ -1,13 +1,17 @@
 -- Laws of runs, each without one of its premises.
-use Rattle.std.specs.Prelude.{List, ◌++◌}
+use Rattle.std.specs.Prelude.{ℕ, List, ◌++◌}
+use Rattle.std.specs.List.{AllByRecursion}
+use Rattle.at_cid.specs.Link.{IsBytes}
 use Rattle.relay_row.specs.Journal.{IsJournal}
 use Rattle.relay_row.specs.declared.row.Row.{Row}
 use Rattle.relay_core.specs.Decide.{Checks}
+use Rattle.relay_core.specs.Opening.{OpensRight}
 use Rattle.relay_core.specs.Runs.{Message, Run}
+use Rattle.relay_law.specs.Calls.{as_read}
 use Rattle.relay_law.specs.Carried.{AreOfKnown}
 use Rattle.relay_law.specs.Faithful.{AreFaithful}
 use Rattle.relay_law.specs.Laws.{AreEvents}
-use Rattle.relay_law.specs.Right.{AreRight}
+use Rattle.relay_law.specs.Right.{AreRight, LinksRight}
 use Rattle.relay_law.specs.Sound.{IsSound}
 
 -- A run behind a sound journal may leave an unsound one ..
@@ -35,3 +39,14 @@ pub record RunsMayBeUnfaithful : Type 0 where
 -- Rows of no run may accept a commit of an account that was lost, however right the checks.
 abbrev pub RowsMayBeOfLost : Type 0
 RowsMayBeOfLost = ((checks : Checks) → AreRight checks → (J : List Row) (messages : List Message) (rows : List Row) → AreOfKnown J rows) → ⊥
+
+-- What a store took may leave an unsound journal, whichever checks open and link rightly ..
+pub record StoresMayBeUnsound : Type 0 where
+  -- where the rows are no journal
+  pub journal : ((J : List Row) (sent : List (List ℕ × List ℕ)) (rows : List Row) → AllByRecursion (λ m. IsBytes m.1) sent → IsSound J
+      → ((checks : Checks) → OpensRight checks → LinksRight checks → Run checks J (as_read sent) rows) → IsSound (J ++ rows)) → ⊥
+  -- where the journal wasn't sound
+  pub sound : ((J : List Row) (sent : List (List ℕ × List ℕ)) (rows : List Row) → AllByRecursion (λ m. IsBytes m.1) sent → IsJournal (J ++ rows)
+      → ((checks : Checks) → OpensRight checks → LinksRight checks → Run checks J (as_read sent) rows) → IsSound (J ++ rows)) → ⊥
+  -- where the rows are of no run
+  pub run : ((J : List Row) (sent : List (List ℕ × List ℕ)) (rows : List Row) → AllByRecursion (λ m. IsBytes m.1) sent → IsJournal (J ++ rows) → IsSound J → IsSound (J ++ rows)) → ⊥

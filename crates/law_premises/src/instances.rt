@@ -5,11 +5,16 @@ ghost use Rattle.law_premises.specs.Checking.{CoveredMayBeRefused, LinkingMayBeW
 ghost use Rattle.law_premises.specs.Forming.{MadeMayBeIllFormed, OperatedMayBeIllFormed, SyncedMayBeIllFormed};
 ghost use Rattle.law_premises.specs.Histories.{JournalsMayBeOthers, UnfoundedComeOn};
 ghost use Rattle.law_premises.specs.Merges.{MergesMayDisagree};
-ghost use Rattle.law_premises.specs.Runs.{RowsMayBeOfLost, RunsMayBeUnfaithful, RunsMayBeUnsound};
+ghost use Rattle.law_premises.specs.Runs.{RowsMayBeOfLost, RunsMayBeUnfaithful, RunsMayBeUnsound, StoresMayBeUnsound};
 
 /// Without one of its premises, a run behind a sound journal may leave an unsound one.
 pub fn runs_may_be_unsound()
     ensures { RunsMayBeUnsound }
+{}
+
+/// Without one of its premises, what a store took behind a sound journal may leave an unsound one.
+pub fn stores_may_be_unsound()
+    ensures { StoresMayBeUnsound }
 {}
 
 /// Without one of its premises, what the rows of a run send out may read as something else.
