@@ -38,7 +38,7 @@ use Rattle.law_premises.proofs.Samples.{ascii, did, did_named, host, host_named,
 -- ---- rows in front
 
 -- a last number that is none
-abbrev bad : Row
+abbrev pub bad : Row
 bad = Row.Carried (Carried.Last 0)
 
 bad_ill : is_row bad ≡ false
@@ -48,7 +48,7 @@ bad_ill = refl
 ill_formed : (rows : List Row) (row : Row) → is_row row ≡ false → IsJournal (rows ++ row ∷ []) → ⊥
 ill_formed rows row ill is = false≢true (sym ill ∙ (grew rows row is).0)
 
-behind_bad : (row : Row) → IsJournal (bad ∷ row ∷ []) → ⊥
+pub behind_bad : (row : Row) → IsJournal (bad ∷ row ∷ []) → ⊥
 behind_bad row is = ill_formed [] bad bad_ill (fronts (bad ∷ []) (row ∷ []) is)
 
 bad_last : last_seq (bad ∷ []) + 1 < NUMBERS
@@ -103,10 +103,10 @@ no_time : are_bytes (operated_message (account did []) true did (300 ∷ []) (la
 unfolding message_of account_payload info_of tail_of last_seq
 no_time = refl
 
-above_all : is_moment (Some NUMBERS) ≡ true → ⊥
+pub above_all : is_moment (Some NUMBERS) ≡ true → ⊥
 above_all is = false≢true is
 
-no_number : (n : ℕ) → n ≡ NUMBERS → is_positive n ≡ true → ⊥
+pub no_number : (n : ℕ) → n ≡ NUMBERS → is_positive n ≡ true → ⊥
 no_number n is positive = let less : nat_lt n NUMBERS ≡ true = (and_parts (nat_lt 0 n) (is_number n) positive).1 in false≢true (subst (λ (m : ℕ). nat_lt m NUMBERS ≡ true) is less)
 
 pub operated_ill_formed : OperatedMayBeIllFormed
@@ -118,7 +118,7 @@ operated_ill_formed = record {
   number = λ all. no_number (last_seq (final ∷ []) + 1) final_last (word_parts (final ∷ []) _ (all (final ∷ []) did true (codes "t") 0 final_journal did_named is_text_short (lit< tt))).1;
 }
 
-abbrev headless : Head
+abbrev pub headless : Head
 headless = record { rev = 0; data_root = []; commit = [] }
 
 whole_head : (w : Whole) → is_whole w ≡ true → is_head w.head ≡ true
@@ -140,10 +140,10 @@ at_moment m = record no_answers { moment = Some m }
 abbrev refused : Decision
 refused = record { refusal = Some Refusal.BadEvent; held = false; gives = false }
 
-abbrev faulty : List ℕ → ℕ → ℕ → Row
+abbrev pub faulty : List ℕ → ℕ → ℕ → Row
 faulty h seq m = Row.Taken (faulty_taken h seq (Some m))
 
-taken_parts : (t : Taken) → is_row (Row.Taken t) ≡ true → (names_host t.host ≡ true) × (is_number t.host_seq ≡ true) × (is_moment t.moment ≡ true) × (is_decided t.refusal t ≡ true)
+pub taken_parts : (t : Taken) → is_row (Row.Taken t) ≡ true → (names_host t.host ≡ true) × (is_number t.host_seq ≡ true) × (is_moment t.moment ≡ true) × (is_decided t.refusal t ≡ true)
 unfolding is_row is_taken
 taken_parts t is =
     let one = and_parts (names_host t.host) (is_number t.host_seq && (is_about t.kind t.did && (is_moment t.moment && is_decided t.refusal t))) is in
@@ -160,14 +160,14 @@ faulty_first : keeps_order [] (faulty host 1 0) ≡ true
 unfolding cursor last_seq
 faulty_first = refl
 
-faulty_journal : IsJournal (faulty host 1 0 ∷ [])
+pub faulty_journal : IsJournal (faulty host 1 0 ∷ [])
 faulty_journal = grows [] (faulty host 1 0) no_rows faulty_formed faulty_first
 
-faulty_again : keeps_order (faulty host 1 0 ∷ []) (faulty host 1 0) ≡ false
+pub faulty_again : keeps_order (faulty host 1 0 ∷ []) (faulty host 1 0) ≡ false
 unfolding cursor last_seq
 faulty_again = refl
 
-no_host : names_host [] ≡ true → ⊥
+pub no_host : names_host [] ≡ true → ⊥
 unfolding is_host
 no_host is = false≢true (and_parts (is_utf8 [] && true) false is).1
 
@@ -177,11 +177,11 @@ moment_is m n low same = let is : m ≡ n = cc in subst (λ (k : ℕ). k < NUMBE
 next_in : (J : List Row) (h : List ℕ) (seq m : ℕ) → nat_le seq (cursor h J) ≡ false → next_of (cursor h J) (account [] J) (Frame.Faulty seq) (at_moment m) ≡ Next.Done refused
 next_in J h seq m above = rw above refl
 
-first_cursor : (h : List ℕ) → cursor h [] ≡ 0
+pub first_cursor : (h : List ℕ) → cursor h [] ≡ 0
 unfolding cursor
 first_cursor h = refl
 
-bad_cursor : cursor host (bad ∷ []) ≡ 0
+pub bad_cursor : cursor host (bad ∷ []) ≡ 0
 unfolding cursor
 bad_cursor = refl
 
@@ -222,7 +222,7 @@ alone : (b : Bool) → b || false ≡ true → b ≡ true
 alone true is = refl
 alone false is = is
 
-accepted_number : (t : Taken) → t.refusal ≡ None → t.kind ≡ 1 → is_decided t.refusal t ≡ true → is_positive t.seq ≡ true
+pub accepted_number : (t : Taken) → t.refusal ≡ None → t.kind ≡ 1 → is_decided t.refusal t ≡ true → is_positive t.seq ≡ true
 unfolding is_accepted
 accepted_number t none kind is =
     let whole : is_accepted t ≡ true = subst (λ (q : Option Refusal). is_decided q t ≡ true) none is in

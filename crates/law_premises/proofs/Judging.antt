@@ -29,11 +29,11 @@ use Rattle.law_premises.proofs.Linking.{nothing_there}
 use Rattle.law_premises.proofs.Running.{empty_event}
 use Rattle.law_premises.proofs.Samples.{commit_of, event, host}
 
-abbrev good : Outside
+abbrev pub good : Outside
 good = record { moment = 0; home = true; verdict = true; fetched = absent }
 
 -- the event with another payload
-abbrev with_payload : Item → Seen
+abbrev pub with_payload : Item → Seen
 with_payload payload = record { seq = covered.seq; did = covered.did; time = covered.time; body = covered.body; payload = payload }
 
 its : (payload : Item) → nat_lt LONGEST_MESSAGE (out_length (with_payload payload)) ≡ false → IsCovered [] host (with_payload payload) 0
@@ -90,7 +90,7 @@ cut = record { opens = some_right.0.opens; links = λ e repo. Some Refusal.Gap }
 cut_right : OpensRight cut
 cut_right = record { refusal = some_right.1.refusal; head = some_right.1.head }
 
-opened : (payload : Item) → refusal_in (some_right.0.opens (with_payload payload) None) ≡ None
+pub opened : (payload : Item) → refusal_in (some_right.0.opens (with_payload payload) None) ≡ None
 opened payload = some_right.1.refusal (with_payload payload) None ∙ nothing_shown
 
 cut_refused : (row cut covered).refusal ≡ Some Refusal.Gap

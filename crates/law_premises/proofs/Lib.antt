@@ -9,3 +9,4 @@ pub mod Judging
 pub mod Disagreeing
 pub mod Forming
 pub mod Storing
+pub mod Deciding

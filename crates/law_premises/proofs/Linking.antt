@@ -30,7 +30,7 @@ abbrev blind_links : Body → Seen → Repo → Option Refusal
 blind_links (Body.Commit c) e repo = links_blind (car_in c) c e repo
 blind_links other e repo = None
 
-abbrev blind : Checks
+abbrev pub blind : Checks
 blind = record { opens = λ e last. Ok top; links = λ e repo. blind_links e.body e repo }
 
 none_if : (b : Bool) → (if b then Some Refusal.Gap else None) ≡ None → b ≡ false
@@ -54,14 +54,14 @@ module _ (e : Seen) (c : CommitEvent) (repo : Repo) (body : e.body ≡ Body.Comm
   stops h refusal read (Err fault) is linked = let no : ◌≡◌ {A = CarResult} (Err fault) (Ok (h.roots, h.blocks)) = sym is ∙ h.car in absurd cc
   stops h refusal read (Ok car) is linked = some_right.2.stops e c repo h refusal read body linked
 
-blind_right : LinksRight blind
+pub blind_right : LinksRight blind
 blind_right = record {
   no_gap = λ e c repo body linked. no_gap e c repo body (car_in c) (said e c repo body None linked);
   leads = λ e c repo h read body linked. leads e c repo body h read (car_in c) refl (said e c repo body None linked);
   stops = λ e c repo h refusal read body linked. stops e c repo body h refusal read (car_in c) refl (said e c repo body (Some refusal) linked);
 }
 
-passes_blind : links_blind (car_in (commit [])) (commit []) (event []) Repo.Missing ≡ None
+pub passes_blind : links_blind (car_in (commit [])) (commit []) (event []) Repo.Missing ≡ None
 passes_blind = rw no_car refl
 
 pub linking_wrong : LinkingMayBeWrong

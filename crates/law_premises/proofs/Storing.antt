@@ -77,10 +77,10 @@ message_bytes : list_all (λ c. ltb c 256) message ≡ true
 unfolding message_of info_of tail_of groups
 message_bytes = refl
 
-abbrev row : Row
+abbrev pub row : Row
 row = accepted 1 NUMBERS (out_of covered NUMBERS) its_head
 
-made : (checks : Checks) → OpensRight checks → LinksRight checks → IsMade checks (final ∷ []) (host, Ok (Frame.Event covered)) row
+pub made : (checks : Checks) → OpensRight checks → LinksRight checks → IsMade checks (final ∷ []) (host, Ok (Frame.Event covered)) row
 unfolding account last_seq out_length out_of message_of info_of tail_of groups
 made checks opens links = rw (opened checks opens, linked checks links) refl
 

@@ -1,5 +1,5 @@
 -- Laws of well formed rows, each without one of its premises.
-use Rattle.std.specs.Prelude.{◌≡◌, ℕ, ◌+◌, ◌<◌, Bool, true, List, [], ◌∷◌, ◌++◌, Some}
+use Rattle.std.specs.Prelude.{◌≡◌, ℕ, ◌+◌, ◌<◌, Bool, true, List, [], ◌∷◌, ◌++◌, Some, None}
 use Rattle.at_event.specs.Formed.{IsShortText}
 use Rattle.at_event.specs.declared.frame.Frame.{Frame}
 use Rattle.at_event.specs.declared.head.Head.{Head}
@@ -8,15 +8,18 @@ use Rattle.relay_row.specs.Journal.{IsJournal}
 use Rattle.relay_row.specs.Rules.{names_did, names_host}
 use Rattle.relay_row.specs.declared.limits.TheConstants.{NUMBERS}
 use Rattle.relay_row.specs.declared.row.Row.{Row}
+use Rattle.relay_row.specs.declared.taken.Taken.{Taken}
 use Rattle.account_state.specs.Folds.{account}
-use Rattle.relay_core.specs.Decide.{whole_under}
+use Rattle.relay_core.specs.Decide.{Checks, Outside, decided, passed, whole_under}
+use Rattle.relay_core.specs.Opening.{OpensRight}
 use Rattle.relay_core.specs.Operating.{operated_as}
 use Rattle.relay_core.specs.Rows.{row_of}
 use Rattle.relay_core.specs.Table.{did_of, next_of}
 use Rattle.relay_core.specs.declared.answers.Answers.{Answers}
 use Rattle.relay_core.specs.declared.decision.Decision.{Decision}
 use Rattle.relay_core.specs.declared.decision.Next.{Next}
-use Rattle.relay_law.specs.Formed.{IsReadFrame, AreAnswersFor}
+use Rattle.relay_law.specs.Formed.{IsReadFrame, AreAnswersFor, AreFormedFor}
+use Rattle.relay_law.specs.Right.{LinksRight}
 
 -- the row that takes an account down or restores it
 abbrev pub word : List Row → List ℕ → Bool → List ℕ → ℕ → Row
@@ -63,3 +66,33 @@ pub record MadeMayBeIllFormed : Type 0 where
   -- where no number is left
   pub number : ((J : List Row) (host : List ℕ) (frame : Frame) (x : Answers) (d : Decision) (row : Row) → IsJournal J → names_host host ≡ true → IsReadFrame frame → AreAnswersFor (last_seq J) (account (did_of frame) J) frame x
       → next_of (cursor host J) (account (did_of frame) J) frame x ≡ Next.Done d → row_of (last_seq J) host frame d x ≡ Some row → IsJournal (J ++ row ∷ [])) → ⊥
+
+-- The row that is decided for answers to all questions may be ill formed, or break the order ..
+pub record DecidedMayBeIllFormed : Type 0 where
+  -- where the checks don't open rightly
+  pub opens : ((checks : Checks) → LinksRight checks → (J : List Row) (host : List ℕ) (frame : Frame) (o : Outside) (t : Taken) → IsJournal J → names_host host ≡ true → IsReadFrame frame → AreFormedFor (last_seq J) frame o
+      → passed (cursor host J) frame ≡ None → decided checks (last_seq J) (account (did_of frame) J) host frame o ≡ Some t → seq_in (Row.Taken t) < NUMBERS → IsJournal (J ++ Row.Taken t ∷ [])) → ⊥
+  -- where they don't link rightly
+  pub links : ((checks : Checks) → OpensRight checks → (J : List Row) (host : List ℕ) (frame : Frame) (o : Outside) (t : Taken) → IsJournal J → names_host host ≡ true → IsReadFrame frame → AreFormedFor (last_seq J) frame o
+      → passed (cursor host J) frame ≡ None → decided checks (last_seq J) (account (did_of frame) J) host frame o ≡ Some t → seq_in (Row.Taken t) < NUMBERS → IsJournal (J ++ Row.Taken t ∷ [])) → ⊥
+  -- where there was no journal
+  pub journal : ((checks : Checks) → OpensRight checks → LinksRight checks → (J : List Row) (host : List ℕ) (frame : Frame) (o : Outside) (t : Taken) → names_host host ≡ true → IsReadFrame frame → AreFormedFor (last_seq J) frame o → passed (cursor host J) frame ≡ None
+      → decided checks (last_seq J) (account (did_of frame) J) host frame o ≡ Some t → seq_in (Row.Taken t) < NUMBERS → IsJournal (J ++ Row.Taken t ∷ [])) → ⊥
+  -- where the host has no name
+  pub host : ((checks : Checks) → OpensRight checks → LinksRight checks → (J : List Row) (host : List ℕ) (frame : Frame) (o : Outside) (t : Taken) → IsJournal J → IsReadFrame frame → AreFormedFor (last_seq J) frame o → passed (cursor host J) frame ≡ None
+      → decided checks (last_seq J) (account (did_of frame) J) host frame o ≡ Some t → seq_in (Row.Taken t) < NUMBERS → IsJournal (J ++ Row.Taken t ∷ [])) → ⊥
+  -- where the frame isn't one that is read
+  pub frame : ((checks : Checks) → OpensRight checks → LinksRight checks → (J : List Row) (host : List ℕ) (frame : Frame) (o : Outside) (t : Taken) → IsJournal J → names_host host ≡ true → AreFormedFor (last_seq J) frame o → passed (cursor host J) frame ≡ None
+      → decided checks (last_seq J) (account (did_of frame) J) host frame o ≡ Some t → seq_in (Row.Taken t) < NUMBERS → IsJournal (J ++ Row.Taken t ∷ [])) → ⊥
+  -- where an answer from outside isn't in form
+  pub answers : ((checks : Checks) → OpensRight checks → LinksRight checks → (J : List Row) (host : List ℕ) (frame : Frame) (o : Outside) (t : Taken) → IsJournal J → names_host host ≡ true → IsReadFrame frame → passed (cursor host J) frame ≡ None
+      → decided checks (last_seq J) (account (did_of frame) J) host frame o ≡ Some t → seq_in (Row.Taken t) < NUMBERS → IsJournal (J ++ Row.Taken t ∷ [])) → ⊥
+  -- where the message is passed over
+  pub over : ((checks : Checks) → OpensRight checks → LinksRight checks → (J : List Row) (host : List ℕ) (frame : Frame) (o : Outside) (t : Taken) → IsJournal J → names_host host ≡ true → IsReadFrame frame → AreFormedFor (last_seq J) frame o
+      → decided checks (last_seq J) (account (did_of frame) J) host frame o ≡ Some t → seq_in (Row.Taken t) < NUMBERS → IsJournal (J ++ Row.Taken t ∷ [])) → ⊥
+  -- where the row isn't what is decided
+  pub own : ((checks : Checks) → OpensRight checks → LinksRight checks → (J : List Row) (host : List ℕ) (frame : Frame) (o : Outside) (t : Taken) → IsJournal J → names_host host ≡ true → IsReadFrame frame → AreFormedFor (last_seq J) frame o
+      → passed (cursor host J) frame ≡ None → seq_in (Row.Taken t) < NUMBERS → IsJournal (J ++ Row.Taken t ∷ [])) → ⊥
+  -- where no number is left
+  pub number : ((checks : Checks) → OpensRight checks → LinksRight checks → (J : List Row) (host : List ℕ) (frame : Frame) (o : Outside) (t : Taken) → IsJournal J → names_host host ≡ true → IsReadFrame frame → AreFormedFor (last_seq J) frame o
+      → passed (cursor host J) frame ≡ None → decided checks (last_seq J) (account (did_of frame) J) host frame o ≡ Some t → IsJournal (J ++ Row.Taken t ∷ [])) → ⊥

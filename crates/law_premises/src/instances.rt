@@ -2,7 +2,7 @@
 
 ghost use Rattle.law_premises.specs.Carrying.{CarriedMayBeUnsound};
 ghost use Rattle.law_premises.specs.Checking.{CoveredMayBeRefused, LinkingMayBeWrong, LinkingMaySayOtherwise};
-ghost use Rattle.law_premises.specs.Forming.{MadeMayBeIllFormed, OperatedMayBeIllFormed, SyncedMayBeIllFormed};
+ghost use Rattle.law_premises.specs.Forming.{DecidedMayBeIllFormed, MadeMayBeIllFormed, OperatedMayBeIllFormed, SyncedMayBeIllFormed};
 ghost use Rattle.law_premises.specs.Histories.{JournalsMayBeOthers, UnfoundedComeOn};
 ghost use Rattle.law_premises.specs.Merges.{MergesMayDisagree};
 ghost use Rattle.law_premises.specs.Runs.{RowsMayBeOfLost, RunsMayBeUnfaithful, RunsMayBeUnsound, StoresMayBeUnsound};
@@ -75,4 +75,9 @@ pub fn operated_may_be_ill_formed()
 /// Without its premise on what was found, the row of a repository may be ill formed.
 pub fn synced_may_be_ill_formed()
     ensures { SyncedMayBeIllFormed }
+{}
+
+/// Without one of its premises, the row that is decided for answers to all questions may be ill formed.
+pub fn decided_may_be_ill_formed()
+    ensures { DecidedMayBeIllFormed }
 {}
