@@ -1,35 +1,32 @@
 -- Rows that are decided for answers to all questions, and are ill formed or break the order.
-use Rattle.std.proofs.Common.{◌≡◌, ℕ, ◌+◌, ◌<◌, Bool, true, false, ◌&&◌, List, [], ◌∷◌, ◌++◌, Option, None, Some, Result, Ok, Err, refl, sym, ◌∙◌, subst, lit<}
+use Rattle.std.proofs.Common.{◌≡◌, ℕ, true, false, ◌&&◌, List, [], ◌∷◌, None, Some, Ok, refl, sym, ◌∙◌, lit<}
 use Rattle.std.proofs.lemmas.Bool.{and_parts, false≢true}
 use Rattle.std.specs.Prelude.{◌==◌, ◌||◌, nat_le}
-use Rattle.std.specs.Bool.{beq}
 use Rattle.at_cbor.specs.Spelling.{info_of, tail_of}
 use Rattle.at_car.specs.Varint.{groups}
 use Rattle.at_form.specs.declared.forms.TheConstants.{NUMBERS}
 use Rattle.at_event.specs.Refusals.{code_of}
 use Rattle.at_event.specs.Writing.{message_of, out_length, out_of}
 use Rattle.at_event.specs.declared.frame.Frame.{Frame}
-use Rattle.at_event.specs.declared.head.Head.{Head}
 use Rattle.at_event.specs.declared.refusal.Refusal.{Refusal}
 use Rattle.relay_row.specs.Folds.{cursor, last_seq}
-use Rattle.relay_row.specs.Rules.{is_accepted, is_decided, is_detail, is_effect, is_empty, is_fetched, is_head, is_message, is_nothing, is_positive, is_refused, is_row, is_timed, loses}
+use Rattle.relay_row.specs.Rules.{is_accepted, is_decided, is_detail, is_effect, is_refused, is_timed}
 use Rattle.relay_row.specs.declared.fetched.Fetched.{Fetched}
 use Rattle.relay_row.specs.declared.row.Row.{Row}
 use Rattle.relay_row.specs.declared.taken.Effect.{Effect}
 use Rattle.relay_row.specs.declared.taken.Taken.{Taken}
 use Rattle.relay_row.proofs.Journals.{grew, no_rows}
 use Rattle.account_state.specs.Folds.{account}
-use Rattle.relay_core.specs.Decide.{Checks, Outside, absent, decided, old_if, passed}
+use Rattle.relay_core.specs.Decide.{Checks, Outside, decided, passed}
 use Rattle.relay_core.specs.Opening.{OpensRight}
 use Rattle.relay_core.specs.Rows.{faulty_taken}
-use Rattle.relay_core.specs.declared.decision.Pass.{Pass}
 use Rattle.relay_law.specs.Right.{LinksRight}
 use Rattle.relay_law.proofs.Choosing.{some_right}
 use Rattle.law_premises.specs.Forming.{DecidedMayBeIllFormed}
 use Rattle.law_premises.proofs.Covered.{covered, is_covered_event}
 use Rattle.law_premises.proofs.Forming.{above_all, accepted_number, bad, bad_cursor, behind_bad, faulty, faulty_again, faulty_journal, final, final_journal, first_cursor, headless, no_host, no_number, taken_parts}
 use Rattle.law_premises.proofs.Judging.{good, opened}
-use Rattle.law_premises.proofs.Linking.{blind, blind_right, passes_blind}
+use Rattle.law_premises.proofs.Linking.{blind, blind_right}
 use Rattle.law_premises.proofs.Messages.{no_car}
 use Rattle.law_premises.proofs.Running.{empty_event}
 use Rattle.law_premises.proofs.Samples.{did, event, host, host_named}

@@ -14,10 +14,9 @@ use Rattle.at_event.specs.declared.head.Head.{Head}
 use Rattle.at_event.specs.declared.refusal.Refusal.{Refusal}
 use Rattle.relay_row.specs.Folds.{cursor, last_seq}
 use Rattle.relay_row.specs.Journal.{IsJournal, keeps_order}
-use Rattle.relay_row.specs.Rules.{are_bytes, is_about, is_accepted, is_carried, is_decided, is_effect, is_empty, is_fetched, is_head, is_message, is_moment, is_number, is_operated, is_positive, is_refused, is_row, is_string, is_taken, is_timed, is_whole, names_did, names_host}
+use Rattle.relay_row.specs.Rules.{are_bytes, is_about, is_accepted, is_carried, is_decided, is_effect, is_empty, is_fetched, is_message, is_moment, is_number, is_operated, is_positive, is_refused, is_row, is_string, is_taken, is_timed, names_did, names_host}
 use Rattle.relay_row.specs.declared.carried.Carried.{Carried}
 use Rattle.relay_row.specs.declared.limits.TheConstants.{NUMBERS}
-use Rattle.relay_row.specs.declared.fetched.Whole.{Whole}
 use Rattle.relay_row.specs.declared.operated.Operated.{Operated}
 use Rattle.relay_row.specs.declared.row.Row.{Row}
 use Rattle.relay_row.specs.declared.taken.Taken.{Taken}
@@ -31,7 +30,7 @@ use Rattle.relay_core.specs.declared.decision.Decision.{Decision}
 use Rattle.relay_core.specs.declared.decision.Next.{Next}
 use Rattle.relay_core.specs.Opening.{IsHeadOf}
 use Rattle.relay_law.specs.Formed.{AreAnswersFor, IsOpenedAs}
-use Rattle.law_premises.specs.Forming.{MadeMayBeIllFormed, OperatedMayBeIllFormed, SyncedMayBeIllFormed}
+use Rattle.law_premises.specs.Forming.{MadeMayBeIllFormed, OperatedMayBeIllFormed}
 use Rattle.law_premises.proofs.Covered.{block, block_there, covered, empty_link, held_object, is_covered_event, nothing_shown, object_there, root_there, top}
 use Rattle.law_premises.proofs.Samples.{ascii, did, did_named, host, host_named, host_text}
 
@@ -51,11 +50,11 @@ ill_formed rows row ill is = false≢true (sym ill ∙ (grew rows row is).0)
 pub behind_bad : (row : Row) → IsJournal (bad ∷ row ∷ []) → ⊥
 behind_bad row is = ill_formed [] bad bad_ill (fronts (bad ∷ []) (row ∷ []) is)
 
-bad_last : last_seq (bad ∷ []) + 1 < NUMBERS
+pub bad_last : last_seq (bad ∷ []) + 1 < NUMBERS
 unfolding last_seq
 bad_last = lit< tt
 
-none_last : last_seq [] + 1 < NUMBERS
+pub none_last : last_seq [] + 1 < NUMBERS
 unfolding last_seq
 none_last = lit< tt
 
@@ -70,7 +69,7 @@ final_formed = refl
 pub final_journal : IsJournal (final ∷ [])
 final_journal = grows [] final no_rows final_formed refl
 
-final_last : last_seq (final ∷ []) + 1 ≡ NUMBERS
+pub final_last : last_seq (final ∷ []) + 1 ≡ NUMBERS
 unfolding last_seq
 final_last = refl
 
@@ -84,15 +83,15 @@ operated_parts o is =
     let three = and_parts (is_message o.message) (is_moment o.moment) two.1 in
     (one.0, two.0, three.0, three.1)
 
-word_parts : (J : List Row) (o : Operated) → IsJournal (J ++ Row.Operated o ∷ []) → (names_did o.did ≡ true) × (is_positive o.seq ≡ true) × (is_message o.message ≡ true) × (is_moment o.moment ≡ true)
+pub word_parts : (J : List Row) (o : Operated) → IsJournal (J ++ Row.Operated o ∷ []) → (names_did o.did ≡ true) × (is_positive o.seq ≡ true) × (is_message o.message ≡ true) × (is_moment o.moment ≡ true)
 unfolding is_row
 word_parts J o is = operated_parts o (grew J (Row.Operated o) is).0
 
-no_did : names_did [] ≡ true → ⊥
+pub no_did : names_did [] ≡ true → ⊥
 unfolding is_did
 no_did is = false≢true (and_parts (is_utf8 [] && true) false is).1
 
-is_text_short : IsShortText (codes "t")
+pub is_text_short : IsShortText (codes "t")
 is_text_short = record { text = ascii (codes "t") refl (lit< tt); short = omega arith }
 
 message_bytes : (message : List ℕ) → is_message message ≡ true → are_bytes message ≡ true
@@ -120,17 +119,6 @@ operated_ill_formed = record {
 
 abbrev pub headless : Head
 headless = record { rev = 0; data_root = []; commit = [] }
-
-whole_head : (w : Whole) → is_whole w ≡ true → is_head w.head ≡ true
-unfolding is_whole
-whole_head w is = (and_parts (is_head w.head) (is_number w.records && is_message w.message) (and_parts (is_positive w.seq) (is_head w.head && (is_number w.records && is_message w.message)) is).1).0
-
-synced_whole : (d : List ℕ) (w : Whole) (moment : Option ℕ) → is_row (Row.Synced d w moment) ≡ true → is_whole w ≡ true
-unfolding is_row
-synced_whole d w moment is = (and_parts (is_whole w) (is_moment moment) (and_parts (names_did d) (is_whole w && is_moment moment) is).1).0
-
-pub synced_ill_formed : SyncedMayBeIllFormed
-synced_ill_formed all = false≢true (whole_head _ (synced_whole did _ (Some 0) (grew [] _ (all [] did [] headless 0 [] 0 no_rows did_named (lit< tt) none_last)).0))
 
 -- ---- rows of messages
 

@@ -10,3 +10,4 @@ pub mod Disagreeing
 pub mod Forming
 pub mod Storing
 pub mod Deciding
+pub mod Speaking

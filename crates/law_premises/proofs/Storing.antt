@@ -1,10 +1,9 @@
 -- What a store took, by all checks that open and link rightly, and left unsound.
-use Rattle.std.proofs.Common.{◌≡◌, ◌≢◌, ℕ, ◌<◌, ◌^◌, Bool, true, false, ltb, List, [], ◌∷◌, ◌++◌, length, Option, None, Some, Result, Ok, Err, refl, sym, ◌∙◌, ap, subst, lit<, arith}
+use Rattle.std.proofs.Common.{◌≡◌, ℕ, Bool, true, false, ltb, List, [], ◌∷◌, Option, None, Some, Result, Ok, Err, refl, sym, ◌∙◌, ap, subst, arith}
 use Rattle.std.specs.List.{list_all}
 use Rattle.at_cbor.specs.Spelling.{info_of, tail_of}
 use Rattle.at_car.specs.Blocks.{BlockMap}
 use Rattle.at_car.specs.Varint.{groups}
-use Rattle.at_cid.specs.Link.{IsBytes}
 use Rattle.at_form.specs.declared.forms.TheConstants.{NUMBERS}
 use Rattle.at_commit.specs.declared.commit.Commit.{Commit}
 use Rattle.at_event.specs.Frames.{frame_of}
@@ -22,7 +21,7 @@ use Rattle.account_state.specs.declared.repo.Repo.{Repo}
 use Rattle.commit_check.specs.Step.{StopsAt, empty_root}
 use Rattle.relay_core.specs.Decide.{Checks}
 use Rattle.relay_core.specs.Opening.{IsHeadOf, OpensRight}
-use Rattle.relay_core.specs.Runs.{IsMade, Message, Run}
+use Rattle.relay_core.specs.Runs.{IsMade, Run}
 use Rattle.relay_core.specs.Table.{refusal_in}
 use Rattle.relay_law.specs.Chains.{chains}
 use Rattle.relay_law.specs.Right.{LinksRight}

@@ -10,7 +10,7 @@ use Rattle.relay_row.specs.declared.limits.TheConstants.{NUMBERS}
 use Rattle.relay_row.specs.declared.row.Row.{Row}
 use Rattle.relay_row.specs.declared.taken.Taken.{Taken}
 use Rattle.account_state.specs.Folds.{account}
-use Rattle.relay_core.specs.Decide.{Checks, Outside, decided, passed, whole_under}
+use Rattle.relay_core.specs.Decide.{Checks, Outside, found, decided, passed, whole_under}
 use Rattle.relay_core.specs.Opening.{OpensRight}
 use Rattle.relay_core.specs.Operating.{operated_as}
 use Rattle.relay_core.specs.Rows.{row_of}
@@ -18,7 +18,7 @@ use Rattle.relay_core.specs.Table.{did_of, next_of}
 use Rattle.relay_core.specs.declared.answers.Answers.{Answers}
 use Rattle.relay_core.specs.declared.decision.Decision.{Decision}
 use Rattle.relay_core.specs.declared.decision.Next.{Next}
-use Rattle.relay_law.specs.Formed.{IsReadFrame, AreAnswersFor, AreFormedFor}
+use Rattle.relay_law.specs.Formed.{IsReadFrame, AreAnswersFor, AreFormedFor, IsFormedFound}
 use Rattle.relay_law.specs.Right.{LinksRight}
 
 -- the row that takes an account down or restores it
@@ -38,10 +38,22 @@ pub record OperatedMayBeIllFormed : Type 0 where
   -- where no number is left
   pub number : ((J : List Row) (did : List ℕ) (down : Bool) (time : List ℕ) (moment : ℕ) → IsJournal J → names_did did ≡ true → IsShortText time → moment < NUMBERS → IsJournal (J ++ word J did down time moment ∷ [])) → ⊥
 
--- The row of a repository that is ill formed is ill formed.
-abbrev pub SyncedMayBeIllFormed : Type 0
-SyncedMayBeIllFormed = ((J : List Row) (did time : List ℕ) (head : Head) (records : ℕ) (block : List ℕ) (moment : ℕ) → IsJournal J → names_did did ≡ true → moment < NUMBERS → last_seq J + 1 < NUMBERS
-    → IsJournal (J ++ Row.Synced did (whole_under did time head records block (last_seq J + 1)) (Some moment) ∷ [])) → ⊥
+-- the row of a repository that was fetched at an operator's word
+abbrev pub repository : List Row → List ℕ → List ℕ → Head → ℕ → List ℕ → ℕ → Row
+repository J did time head records block moment = Row.Synced did (whole_under did time head records block (last_seq J + 1)) (Some moment)
+
+-- The row of a repository that was fetched at an operator's word may be ill formed, or break the order ..
+pub record SyncedMayBeIllFormed : Type 0 where
+  -- where there was no journal
+  pub journal : ((J : List Row) (did time : List ℕ) (head : Head) (records : ℕ) (block : List ℕ) (moment : ℕ) → names_did did ≡ true → IsFormedFound (last_seq J) did time (found head records block) → moment < NUMBERS → last_seq J + 1 < NUMBERS → IsJournal (J ++ repository J did time head records block moment ∷ [])) → ⊥
+  -- where the account has no DID
+  pub did : ((J : List Row) (did time : List ℕ) (head : Head) (records : ℕ) (block : List ℕ) (moment : ℕ) → IsJournal J → IsFormedFound (last_seq J) did time (found head records block) → moment < NUMBERS → last_seq J + 1 < NUMBERS → IsJournal (J ++ repository J did time head records block moment ∷ [])) → ⊥
+  -- where what was found hasn't its forms
+  pub fetched : ((J : List Row) (did time : List ℕ) (head : Head) (records : ℕ) (block : List ℕ) (moment : ℕ) → IsJournal J → names_did did ≡ true → moment < NUMBERS → last_seq J + 1 < NUMBERS → IsJournal (J ++ repository J did time head records block moment ∷ [])) → ⊥
+  -- where the moment is no number
+  pub moment : ((J : List Row) (did time : List ℕ) (head : Head) (records : ℕ) (block : List ℕ) (moment : ℕ) → IsJournal J → names_did did ≡ true → IsFormedFound (last_seq J) did time (found head records block) → last_seq J + 1 < NUMBERS → IsJournal (J ++ repository J did time head records block moment ∷ [])) → ⊥
+  -- where no number is left
+  pub number : ((J : List Row) (did time : List ℕ) (head : Head) (records : ℕ) (block : List ℕ) (moment : ℕ) → IsJournal J → names_did did ≡ true → IsFormedFound (last_seq J) did time (found head records block) → moment < NUMBERS → IsJournal (J ++ repository J did time head records block moment ∷ [])) → ⊥
 
 -- The row that is made of a message may be ill formed, or break the order ..
 pub record MadeMayBeIllFormed : Type 0 where

@@ -5,7 +5,7 @@ ghost use Rattle.law_premises.specs.Checking.{CoveredMayBeRefused, LinkingMayBeW
 ghost use Rattle.law_premises.specs.Forming.{DecidedMayBeIllFormed, MadeMayBeIllFormed, OperatedMayBeIllFormed, SyncedMayBeIllFormed};
 ghost use Rattle.law_premises.specs.Histories.{JournalsMayBeOthers, UnfoundedComeOn};
 ghost use Rattle.law_premises.specs.Merges.{MergesMayDisagree};
-ghost use Rattle.law_premises.specs.Runs.{RowsMayBeOfLost, RunsMayBeUnfaithful, RunsMayBeUnsound, StoresMayBeUnsound};
+ghost use Rattle.law_premises.specs.Runs.{OperatorsMayBeUnfaithful, RowsMayBeOfLost, RunsMayBeUnfaithful, RunsMayBeUnsound, StoresMayBeUnsound};
 
 /// Without one of its premises, a run behind a sound journal may leave an unsound one.
 pub fn runs_may_be_unsound()
@@ -72,7 +72,7 @@ pub fn operated_may_be_ill_formed()
     ensures { OperatedMayBeIllFormed }
 {}
 
-/// Without its premise on what was found, the row of a repository may be ill formed.
+/// Without one of its premises, the row of a repository may be ill formed.
 pub fn synced_may_be_ill_formed()
     ensures { SyncedMayBeIllFormed }
 {}
@@ -80,4 +80,9 @@ pub fn synced_may_be_ill_formed()
 /// Without one of its premises, the row that is decided for answers to all questions may be ill formed.
 pub fn decided_may_be_ill_formed()
     ensures { DecidedMayBeIllFormed }
+{}
+
+/// Without one of its premises, what operators' words send out may read as something else.
+pub fn operators_may_be_unfaithful()
+    ensures { OperatorsMayBeUnfaithful }
 {}
