@@ -1,5 +1,5 @@
 -- A covered commit that is refused, or one that passes, without a premise.
-use Rattle.std.proofs.Common.{◌≡◌, ℕ, true, false, nat_lt, [], Option, None, Some, Err, refl, sym, ◌∙◌, subst}
+use Rattle.std.proofs.Common.{◌∷◌, ◌≡◌, ℕ, true, false, nat_lt, [], Option, None, Some, Err, refl, sym, ◌∙◌, subst}
 use Rattle.at_cbor.specs.Item.{Item}
 use Rattle.at_cbor.specs.Spelling.{info_of, tail_of}
 use Rattle.at_car.specs.Varint.{groups}
@@ -16,16 +16,20 @@ use Rattle.relay_row.specs.declared.taken.Taken.{Taken}
 use Rattle.account_state.specs.Folds.{account}
 use Rattle.account_state.specs.declared.repo.Repo.{Repo}
 use Rattle.commit_check.specs.Step.{is_gap}
+use Rattle.commit_check.specs.Opening.{IsOpened}
+use Rattle.commit_check.specs.declared.opened.Opened.{Opened}
+use Rattle.sha2.specs.Sha256.{sha256}
 use Rattle.relay_core.specs.Decide.{Checks, Outside, absent, decided_event}
 use Rattle.relay_core.specs.Opening.{OpensRight}
 use Rattle.relay_core.specs.Table.{refusal_in}
 use Rattle.relay_core.specs.declared.limits.TheConstants.{LONGEST_MESSAGE}
+use Rattle.relay_law.specs.Calls.{SayWhatCallsAnswer}
 use Rattle.relay_law.specs.Covered.{IsCovered}
 use Rattle.relay_law.specs.Right.{LinksRight, expect_of}
 use Rattle.relay_law.proofs.Choosing.{some_right}
-use Rattle.law_premises.specs.Checking.{CoveredMayBeRefused, IsJudged}
-use Rattle.law_premises.proofs.Covered.{car, covered, holds, is_covered, is_covered_event, nothing_shown, top}
-use Rattle.law_premises.proofs.Linking.{nothing_there}
+use Rattle.law_premises.specs.Checking.{ChecksMaySayOtherwise, CoveredMayBeRefused, IsJudged}
+use Rattle.law_premises.proofs.Covered.{car, car_read, covered, empty_is, empty_link, held, held_object, holds, is_covered, is_covered_event, nothing_shown, object_there, top}
+use Rattle.law_premises.proofs.Linking.{blind, blind_right, nothing_there, opens_otherwise}
 use Rattle.law_premises.proofs.Running.{empty_event}
 use Rattle.law_premises.proofs.Samples.{commit_of, event, host}
 
@@ -146,3 +150,19 @@ covered_refused = record {
   covered = λ all. refused (row some_right.0 (event [])) Refusal.BadCar bare_refused (all some_right.0 some_right.1 some_right.2 [] host (event []) good (row some_right.0 (event [])) empty_event refl);
   decided = λ all. refused (row shut covered) Refusal.BadCar shut_refused (all some_right.0 some_right.1 some_right.2 [] host covered good (row shut covered) is_covered_event own);
 }
+
+-- ---- what is handed on of the commit when it is opened
+
+abbrev handed_on : Opened
+handed_on = record { head = record { rev = 0; data_root = empty_link; commit = top }; digest = sha256 held_object.unsigned; sig = []; car = record { roots = top ∷ []; blocks = held } }
+
+is_opened : IsOpened (commit_of top car) handed_on
+is_opened = record { car = car_read; commit = held_object; object = object_there; own = refl; head = record { rev = refl; data_root = refl; link = refl; digest = refl; sig = refl } }
+
+links_otherwise : SayWhatCallsAnswer cut → ⊥
+links_otherwise says =
+    let said : Some Refusal.Gap ≡ None = says.links covered (commit_of top car) handed_on Repo.Missing None is_covered_event refl is_opened (refl, sym empty_is) in
+    absurd cc
+
+pub checks_otherwise : ChecksMaySayOtherwise
+checks_otherwise = record { opens = λ all. opens_otherwise (all blind blind_right); links = λ all. links_otherwise (all cut cut_right) }

@@ -14,9 +14,10 @@ use Rattle.account_state.specs.declared.repo.Repo.{Repo}
 use Rattle.commit_check.specs.Order.{Holds, StopsPast}
 use Rattle.commit_check.specs.Step.{empty_root, is_gap, root_before, Leads}
 use Rattle.relay_core.specs.Decide.{Checks}
+use Rattle.relay_law.specs.Calls.{SayWhatCallsAnswer}
 use Rattle.relay_law.specs.Right.{LinksRight, expect_of}
 use Rattle.relay_law.proofs.Choosing.{some_right}
-use Rattle.law_premises.specs.Checking.{LinkingMayBeWrong, LinkingMaySayOtherwise}
+use Rattle.law_premises.specs.Checking.{LinkingMayBeWrong}
 use Rattle.law_premises.proofs.Messages.{no_car}
 use Rattle.law_premises.proofs.Running.{empty_event, no_goes}
 use Rattle.law_premises.proofs.Samples.{commit, event, link, top}
@@ -70,7 +71,7 @@ linking_wrong all = no_goes empty_root (link 0) ((all blind blind_right).goes (e
 pub nothing_there : first_of (open_lines (commit []) None) ≡ Some Refusal.BadCar
 nothing_there = rw no_car refl
 
-pub linking_otherwise : LinkingMaySayOtherwise
-linking_otherwise all =
-    let says : ◌≡◌ {A = Result Head Refusal} (Ok top) (Err Refusal.BadCar) = (all blind blind_right).opens (event []) (commit []) None (Err Refusal.BadCar) refl nothing_there in
+pub opens_otherwise : SayWhatCallsAnswer blind → ⊥
+opens_otherwise says =
+    let said : ◌≡◌ {A = Result Head Refusal} (Ok top) (Err Refusal.BadCar) = says.opens (event []) (commit []) None (Err Refusal.BadCar) refl nothing_there in
     absurd cc

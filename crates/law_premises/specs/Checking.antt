@@ -18,9 +18,12 @@ use Rattle.relay_law.specs.Right.{AreRight, LinksRight}
 abbrev pub LinkingMayBeWrong : Type 0
 LinkingMayBeWrong = ((checks : Checks) → LinksRight checks → AreRight checks) → ⊥
 
--- They don't say what the calls answer either.
-abbrev pub LinkingMaySayOtherwise : Type 0
-LinkingMaySayOtherwise = ((checks : Checks) → LinksRight checks → SayWhatCallsAnswer checks) → ⊥
+-- Checks may say otherwise than the calls answer ..
+pub record ChecksMaySayOtherwise : Type 0 where
+  -- where they don't open rightly
+  pub opens : ((checks : Checks) → LinksRight checks → SayWhatCallsAnswer checks) → ⊥
+  -- where they don't link rightly
+  pub links : ((checks : Checks) → OpensRight checks → SayWhatCallsAnswer checks) → ⊥
 
 -- a row is refused for its home or its signature alone
 abbrev pub IsJudged : Outside → Taken → Type 0

@@ -1,7 +1,7 @@
 //! Laws of journals without one of their premises, none of which holds.
 
 ghost use Rattle.law_premises.specs.Carrying.{CarriedMayBeUnsound};
-ghost use Rattle.law_premises.specs.Checking.{CoveredMayBeRefused, LinkingMayBeWrong, LinkingMaySayOtherwise};
+ghost use Rattle.law_premises.specs.Checking.{ChecksMaySayOtherwise, CoveredMayBeRefused, LinkingMayBeWrong};
 ghost use Rattle.law_premises.specs.Forming.{DecidedMayBeIllFormed, MadeMayBeIllFormed, OperatedMayBeIllFormed, SyncedMayBeIllFormed};
 ghost use Rattle.law_premises.specs.Histories.{JournalsMayBeOthers, UnfoundedComeOn};
 ghost use Rattle.law_premises.specs.Merges.{MergesMayDisagree};
@@ -32,9 +32,9 @@ pub fn linking_may_be_wrong()
     ensures { LinkingMayBeWrong }
 {}
 
-/// Checks that don't open rightly may say what no call answers, however rightly they link.
-pub fn linking_may_say_otherwise()
-    ensures { LinkingMaySayOtherwise }
+/// Checks that don't open rightly, or don't link rightly, may say what no call answers.
+pub fn checks_may_say_otherwise()
+    ensures { ChecksMaySayOtherwise }
 {}
 
 /// Without one of its premises, a covered commit may be refused for more than its home and its signature.
