@@ -1,5 +1,5 @@
 -- The places of events, in the order of their numbers (own).
-use Rattle.std.specs.Prelude.{ℕ, ◌<◌, Bool, List, [], ◌∷◌, Option, Some, None, nat_le, if◌then◌else◌}
+use Rattle.std.specs.Prelude.{ℕ, ◌<◌, Bool, List, [], ◌∷◌, nat_le, if◌then◌else◌}
 use Rattle.event_window.specs.declared.place.Place.{Place}
 
 -- the places, and for how many more there is room
@@ -15,7 +15,7 @@ AreAbove n (p ∷ places) = (n < p.seq) × AreAbove p.seq places
 abbrev pub is_at_most : ℕ → Place → Bool
 is_at_most seq p = nat_le p.seq seq
 
--- the first place of a number above a number, if there is one
-abbrev pub first_above : ℕ → List Place → Option Place
-first_above seq [] = None
-first_above seq (p ∷ places) = if is_at_most seq p then first_above seq places else Some p
+-- the places of the numbers above a number
+abbrev pub all_above : ℕ → List Place → List Place
+all_above seq [] = []
+all_above seq (p ∷ places) = if is_at_most seq p then all_above seq places else p ∷ places

@@ -1,6 +1,7 @@
 //! Who gives out events.
 
 ghost use Rattle.std.specs.Prelude.{◌≡◌, ◌≤◌, ℕ, Bool, IsTrue, IfOk};
+ghost use Rattle.at_cid.specs.Counts.{Rose};
 ghost use Rattle.event_window.specs.Held.{Held, IsNext, oldest_of};
 ghost use Rattle.event_window.specs.declared.fault.EventsFault.{EventsFault};
 
@@ -15,6 +16,12 @@ pub trait Events {
     /// These are the events that it holds.
     ghost holds: { Self → Held → Type 0 };
 
+    /// The faults so far.
+    ghost faults: { Self → ℕ };
+
+    /// The second is what calls made of the first.
+    ghost later: { Self → Self → Type 0 };
+
     /// The last number that was given, or 0.
     fn last_seq(&self) -> u64
         ensures { IsTrue tells → (held : Held) → holds self.now held → result ≡ held.last };
@@ -26,7 +33,16 @@ pub trait Events {
     /// The next event above a number that is shown: its number, and its message, which is put into the room in place of what was
     /// there. Where there is none, and after a fault, nothing is said of the room.
     fn next_after(&mut self, seq: u64, room: &mut Octets) -> Result<Option<u64>, EventsFault>
+        requires known { IsTrue tells → (held : Held) × holds self.old held }
         ensures next { IfOk result (λ found. IsTrue tells → (held : Held) → holds self.old held → IsNext seq held.shown found room.new) }
         ensures same { IsTrue tells → (held : Held) → holds self.old held → holds self.new held }
+        ensures later { later self.old self.new }
+        ensures disk { result ≡ Err EventsFault.Disk → Rose (faults self.old) (faults self.new) }
+        ensures counts { faults self.old ≤ faults self.new }
         ensures no_bad_log { (place : ℕ) → result ≡ Err (EventsFault.BadLog place) → IsTrue tells → (held : Held) → holds self.old held → ⊥ };
+
+    /// No call changes nothing, and calls behind others are calls.
+    ghost later_here: { (events : Self) → later events events };
+
+    ghost later_again: { (one two three : Self) → later one two → later two three → later one three };
 }

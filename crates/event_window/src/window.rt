@@ -1,7 +1,7 @@
 //! The places of events, in the order of their numbers.
 
-ghost use Rattle.std.specs.Prelude.{◌≡◌, ◌≤◌, ◌<◌, ◌+◌, ◌++◌, ◌∷◌, [], length, slice_get, vec_len, vec_capacity, OnOk};
-ghost use Rattle.event_window.specs.Window.{AreAbove, first_above, is_at_most};
+ghost use Rattle.std.specs.Prelude.{◌≡◌, ◌≤◌, ◌<◌, ◌+◌, ◌++◌, ◌∷◌, [], length, drop, slice_get, vec_len, vec_capacity, OnOk};
+ghost use Rattle.event_window.specs.Window.{AreAbove, all_above, is_at_most};
 
 use crate::place::Place;
 use at_cid::Memory;
@@ -85,21 +85,18 @@ impl Window {
         Some(self.places[0])
     }
 
-    /// The place of the least number above a number, where the numbers rise.
-    pub fn after(&self, seq: u64) -> Option<Place>
-        ensures { AreAbove 0 self.now.places → result ≡ first_above seq self.now.places }
+    /// The places of the numbers above a number, where the numbers rise.
+    pub fn above(&self, seq: u64) -> &[Place]
+        ensures { AreAbove 0 self.now.places → result.now ≡ all_above seq self.now.places }
     {
         let index = upto(self.places.as_slice(), seq);
-        if index == self.places.len() {
-            return None;
-        }
-        Some(self.places[index])
+        &self.places[index..]
     }
 }
 
 // How many stand in front of the first whose number is above a number, where the numbers rise.
 fn upto(places: &[Place], seq: u64) -> usize
-    ensures upto { AreAbove 0 places.now → first_above seq places.now ≡ slice_get places.now result }
+    ensures upto { AreAbove 0 places.now → all_above seq places.now ≡ drop result places.now }
     ensures bound { result ≤ length places.now }
 {
     places.partition_point(

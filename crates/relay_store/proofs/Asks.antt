@@ -1,9 +1,8 @@
 -- What steps ask, one after another.
-use Rattle.std.proofs.Common.{◌≡◌, inl, inr, ◌⊎◌, ⊎_elim, ℕ, ◌≤◌, List, [], ◌∷◌, ◌++◌, length, Bool, Option, Some, None, Result, Ok, Err, IsTrue, refl, sym, ◌∙◌, ap, subst, arith, append_assoc}
+use Rattle.std.proofs.Common.{inl, ℕ, List, [], ◌∷◌, ◌++◌, Bool, Option, Some, None, Result, Ok, Err, refl, sym, ◌∙◌, subst, arith, append_assoc}
 use Rattle.std.proofs.lemmas.List.{append-nil}
 use Rattle.at_authority.specs.Panels.{Panel}
 use Rattle.at_event.specs.Frames.{frame_of}
-use Rattle.at_event.specs.Refusals.{code_of}
 use Rattle.at_event.specs.declared.frame.Frame.{Frame}
 use Rattle.at_event.specs.declared.frame.FrameFault.{FrameFault}
 use Rattle.at_event.specs.declared.refusal.Refusal.{Refusal}
@@ -12,7 +11,7 @@ use Rattle.relay_row.specs.declared.taken.Taken.{Taken}
 use Rattle.account_state.specs.Folds.{account, last_rev}
 use Rattle.relay_core.specs.Shown.{found_in, or_zero}
 use Rattle.relay_step.specs.Around.{Around, Asked, AskedNothing, AllAsked, IsTimed, SameRepositories}
-use Rattle.relay_step.specs.Asked.{Answered, AskedInVain}
+use Rattle.relay_step.specs.Asked.{Answered}
 use Rattle.relay_step.specs.Causes.{AskedInVainOf, CameToNothing}
 use Rattle.relay_step.specs.Fetching.{IsFetched, IsFetchedFrom, IsFetchedTold, fetched_good}
 use Rattle.relay_step.specs.Steps.{Step, Told, after_end, passed_over, took, rows, rows_told}

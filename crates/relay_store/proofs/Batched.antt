@@ -1,5 +1,5 @@
 -- What was taken ahead of the disk, once it is durable.
-use Rattle.std.proofs.Common.{◌≡◌, ◌≢◌, inl, inr, ◌⊎◌, ⊎_elim, ℕ, ◌+◌, ◌≤◌, List, [], ◌∷◌, ◌++◌, length, map, Bool, Option, Some, None, IsTrue, refl, sym, ◌∙◌, ap, subst, arith, append_assoc}
+use Rattle.std.proofs.Common.{◌≡◌, ◌≢◌, inl, inr, ◌⊎◌, ⊎_elim, ◌≤◌, List, [], ◌++◌, length, map, Bool, Option, Some, None, IsTrue, refl, sym, ◌∙◌, ap, subst, arith, append_assoc}
 use Rattle.std.proofs.lemmas.List.{append-nil}
 use Rattle.event_window.specs.declared.place.Place.{Place}
 use Rattle.relay_disk.specs.Disk.{View, IsDisk}
@@ -14,13 +14,13 @@ use Rattle.relay_row.specs.Journal.{IsJournal}
 use Rattle.relay_step.specs.Around.{Around}
 use Rattle.relay_step.specs.Causes.{CameToNothing}
 use Rattle.relay_step.specs.Steps.{Step, rows}
-use Rattle.relay_store.specs.Batches.{AreAnswers, AreExtra, AskedInTurn, Batched, EndsLast, InVain, StopsAsking, scene, sent}
-use Rattle.relay_store.specs.Drafts.{Fits, HasRows, IsAhead, end_of}
+use Rattle.relay_store.specs.Batches.{AreAnswers, AreExtra, Batched, EndsLast, InVain, StopsAsking, scene, sent}
+use Rattle.relay_store.specs.Drafts.{HasRows, IsAhead, end_of}
 use Rattle.relay_store.specs.Journals.{IsOneOf, bytes_of}
 use Rattle.relay_store.specs.Outcomes.{outcome_of}
 use Rattle.relay_store.specs.Places.{places_in, places_of}
 use Rattle.relay_store.specs.Store.{IsKept, IsOf, Keeps, StoreState, seen}
-use Rattle.relay_store.specs.Taking.{Gathered, Stopped}
+use Rattle.relay_store.specs.Taking.{Stopped}
 use Rattle.relay_store.specs.declared.draft.Draft.{Draft}
 use Rattle.relay_store.specs.declared.fault.StoreFault.{StoreFault}
 use Rattle.relay_store.specs.declared.message.Message.{Message}

@@ -1,6 +1,6 @@
 -- What an append makes of a journal and of rows that are known ahead of it.
 use Rattle.gate_log.specs.declared.fault.LogFault.{LogFault}
-use Rattle.std.proofs.Common.{◌≡◌, arith, inl, inr, ⊎_elim, ◌⊎◌, ℕ, ◌+◌, ◌≤◌, ◌<◌, List, [], ◌∷◌, ◌++◌, length, drop, take, refl, sym, ◌∙◌, ap, subst}
+use Rattle.std.proofs.Common.{◌≡◌, arith, inl, inr, ⊎_elim, ℕ, ◌≤◌, List, [], ◌∷◌, ◌++◌, length, drop, refl, sym, ◌∙◌, ap, subst}
 use Rattle.std.proofs.lemmas.List.{append-nil}
 use Rattle.at_cbor.specs.declared.major.Major.{Major}
 use Rattle.at_cbor.specs.Spelling.{front_of}
@@ -10,7 +10,7 @@ use Rattle.relay_disk.specs.Moments.{LeavesOnly}
 use Rattle.relay_disk.proofs.Moments.{weaker, no_call}
 use Rattle.gate_log.specs.declared.drafts.TheConstants.{AHEAD}
 use Rattle.gate_log.specs.declared.format.Format.{Format}
-use Rattle.gate_log.specs.Image.{made, IsMade}
+use Rattle.gate_log.specs.Image.{IsMade}
 use Rattle.gate_log.specs.Crash.{IsBeforeOrAfter}
 use Rattle.gate_log.specs.Log.{LogState}
 use Rattle.gate_log.specs.Log.{Holds as HasBodies}
@@ -21,7 +21,7 @@ use Rattle.relay_core.specs.declared.journal_state.Core.{Core}
 use Rattle.relay_core.specs.Entries.{Holds}
 use Rattle.relay_store.specs.Journals.{bytes_of, AreBodiesOf, IsOneOf}
 use Rattle.relay_store.specs.Places.{places_in, places_of}
-use Rattle.relay_store.specs.Drafts.{HasRows, IsAhead, Fits, draft_body}
+use Rattle.relay_store.specs.Drafts.{HasRows, IsAhead}
 use Rattle.relay_store.specs.declared.draft.Draft.{Draft}
 use Rattle.relay_store.proofs.Folds.{joined_push, bytes_push, each_push, places_push}
 use Rattle.relay_store.proofs.Spellings.{a_body, draft_is}

@@ -1,5 +1,5 @@
 -- Messages taken one after another, ahead of the disk.
-use Rattle.std.proofs.Common.{◌≡◌, ◌≢◌, inl, inr, ◌⊎◌, ⊎_elim, ℕ, zero, suc, ◌+◌, ◌<◌, ◌≤◌, List, [], ◌∷◌, ◌++◌, length, map, drop, get_or, Bool, true, false, Option, Some, None, Result, Ok, Err, IsTrue, refl, sym, ◌∙◌, ap, subst, arith, append_assoc, length-append}
+use Rattle.std.proofs.Common.{◌≡◌, ◌≢◌, inl, inr, ◌⊎◌, ℕ, zero, suc, ◌+◌, ◌<◌, List, [], ◌∷◌, ◌++◌, length, map, drop, get_or, Bool, true, false, Option, Some, None, Result, refl, sym, ◌∙◌, ap, subst, arith, append_assoc, length-append}
 use Rattle.std.proofs.lemmas.List.{append-nil, drop_more}
 use Rattle.std.specs.List.{list_all}
 use Rattle.std.proofs.lemmas.Bool.{and_parts}
@@ -15,18 +15,16 @@ use Rattle.relay_row.specs.declared.row.Row.{Row}
 use Rattle.relay_core.specs.Decide.{Checks}
 use Rattle.relay_core.specs.Entries.{Holds}
 use Rattle.relay_core.specs.Opening.{OpensRight}
-use Rattle.relay_core.specs.Report.{ended_by}
-use Rattle.relay_core.specs.declared.decision.Pass.{Pass}
 use Rattle.relay_core.specs.declared.journal_state.Core.{Core}
 use Rattle.relay_law.specs.Right.{LinksRight}
-use Rattle.relay_step.specs.Around.{Around, Asked, AllAsked}
-use Rattle.relay_step.specs.Causes.{AskedInVainOf, CameToNothing, IsSpentFor}
+use Rattle.relay_step.specs.Around.{Around, AllAsked}
+use Rattle.relay_step.specs.Causes.{CameToNothing, IsSpentFor}
 use Rattle.relay_step.specs.Messages.{EndsNumbers, KeepsJournal}
-use Rattle.relay_step.specs.Steps.{Step, Told, after_end, passed_over, took, AreSteps, IsTold, ended_told, ended_by_all, message_of, rows, rows_told, step_of}
-use Rattle.relay_store.specs.Batches.{AreExtra, AskedInTurn, EndsFull, EndsLast, EndsNext, HasEnd, InVain, NoneEnds, StopsAsking, is_end, sent}
+use Rattle.relay_step.specs.Steps.{Step, Told, after_end, passed_over, took, AreSteps, IsTold, ended_told, rows, rows_told, step_of}
+use Rattle.relay_store.specs.Batches.{AreExtra, EndsFull, EndsNext, HasEnd, InVain, NoneEnds, StopsAsking, is_end, sent}
 use Rattle.relay_store.specs.Drafts.{Fits, HasRows, IsUnchanged}
 use Rattle.relay_store.specs.Faults.{IsCause}
-use Rattle.relay_store.specs.Outcomes.{outcome_of, outcome_told, passed_outcome}
+use Rattle.relay_store.specs.Outcomes.{outcome_told, passed_outcome}
 use Rattle.relay_store.specs.Places.{places_in}
 use Rattle.relay_store.specs.Taking.{AreAdded, ComesOfAsking, Gathered, IsGathering, IsInVain, IsTaken, IsTooLate, Stopped}
 use Rattle.relay_store.specs.declared.draft.Draft.{Draft}

@@ -1,7 +1,6 @@
 -- Bytes are an image of one journal at most.
 use Rattle.std.proofs.Common.{◌≡◌, inl, inr, ℕ, List, [], ◌∷◌, ◌++◌, length, get_or, drop, refl, sym, ◌∙◌, ap, subst, arith, append_assoc}
 use Rattle.relay_disk.specs.Disk.{View}
-use Rattle.gate_log.specs.declared.picking.Side.{Side}
 use Rattle.gate_log.specs.Image.{IsImage, IsMade}
 use Rattle.gate_log.specs.Pick.{IsPairImage, of_side}
 use Rattle.gate_log.proofs.Unique.{same_image}

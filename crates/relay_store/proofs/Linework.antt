@@ -1,16 +1,16 @@
 -- The lines of what was answered are those of the report.
-use Rattle.std.proofs.Common.{◌≡◌, ◌≢◌, ℕ, List, [], ◌∷◌, ◌++◌, Bool, true, false, Option, Some, None, Ok, Err, refl, ap, ◌∙◌, append_assoc}
+use Rattle.std.proofs.Common.{◌≡◌, ◌≢◌, ℕ, List, [], ◌∷◌, ◌++◌, true, false, Option, Some, None, Ok, Err, refl, ap, ◌∙◌, append_assoc}
 use Rattle.std.specs.Prelude.{codes, decimal, ◌==◌, if◌then◌else◌}
 use Rattle.at_event.specs.declared.frame.Frame.{Frame}
 use Rattle.at_event.specs.declared.frame.FrameFault.{FrameFault}
 use Rattle.at_event.specs.declared.refusal.Refusal.{Refusal}
 use Rattle.relay_row.specs.declared.fetched.Fetched.{Fetched}
 use Rattle.relay_row.specs.declared.taken.Taken.{Taken}
-use Rattle.relay_core.specs.Report.{fetch_of, passed_line, refused_of, taken_line}
+use Rattle.relay_core.specs.Report.{fetch_of, passed_line, refused_of}
 use Rattle.relay_core.specs.Report.{outcome_of as outcome_text}
 use Rattle.relay_core.specs.Runs.{Message}
-use Rattle.relay_store.specs.Lines.{LinesReport, fetch_word, line_of, outcome_word}
-use Rattle.relay_store.specs.Outcomes.{fetch_in, outcome_as, passed_outcome, taken_outcome}
+use Rattle.relay_store.specs.Lines.{LinesReport, fetch_word, line_of}
+use Rattle.relay_store.specs.Outcomes.{fetch_in, outcome_as, passed_outcome}
 use Rattle.relay_store.specs.declared.outcome.Outcome.{Outcome}
 
 parts : (host number word end : List ℕ) → host ++ ((codes " " ++ (number ++ word)) ++ end) ≡ host ++ (codes " " ++ (number ++ (word ++ end)))
@@ -48,6 +48,3 @@ lines_report = record {
   passed = passed_by;
   end = λ J messages rows. refl;
 }
-
-pub joined : (old mid new one other : List ℕ) → mid ≡ old ++ one → new ≡ mid ++ other → new ≡ old ++ (one ++ other)
-joined old mid new one other h k = k ∙ ap (λ m. m ++ other) h ∙ append_assoc old one other

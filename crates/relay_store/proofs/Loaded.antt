@@ -34,10 +34,10 @@ rest_cases [] = inl refl
 rest_cases (body ∷ after) = inr (body, after, refl)
 
 -- the length of a log is that of its front bodies and of the rest
-length_made : (format : Format) (xs ys : List (List ℕ)) → length (made format (xs ++ ys)) ≡ length (made format xs) + length (records ys)
+pub length_made : (format : Format) (xs ys : List (List ℕ)) → length (made format (xs ++ ys)) ≡ length (made format xs) + length (records ys)
 length_made format xs ys = omega (arith, ap length (records-append xs ys), length-append (records xs) (records ys), length-append (front format) (records (xs ++ ys)), length-append (front format) (records xs))
 
-some_records : (body : List ℕ) (after : List (List ℕ)) → 0 < length (records (body ∷ after))
+pub some_records : (body : List ℕ) (after : List (List ℕ)) → 0 < length (records (body ∷ after))
 some_records body after = omega (arith, length-append (behind_gate body) (records after))
 
 a_body_of : (rows : List Row) (body : List ℕ) → IsBody rows body → IsBody rows (body_of rows)

@@ -1,5 +1,5 @@
 -- What the other faults say of the next message: nothing.
-use Rattle.std.proofs.Common.{◌≡◌, List, [], ◌∷◌, Option, Some, None}
+use Rattle.std.proofs.Common.{List, [], ◌∷◌, Some, None}
 use Rattle.at_authority.specs.Panels.{Panel}
 use Rattle.relay_core.specs.declared.journal_state.Core.{Core}
 use Rattle.relay_store.specs.Batches.{EndsNext}

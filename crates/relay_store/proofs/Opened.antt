@@ -1,12 +1,12 @@
 -- What opening a pair of disks, and reading its log back, leaves.
-use Rattle.std.proofs.Common.{◌≡◌, inl, inr, ⊎_elim, Err, ℕ, List, [], ◌∷◌, ◌++◌, length, refl, sym, ◌∙◌, ap, subst, arith, length-append}
+use Rattle.std.proofs.Common.{◌≡◌, inl, ℕ, List, [], ◌∷◌, length, refl, sym, ◌∙◌, ap, subst, arith, length-append}
 use Rattle.relay_disk.specs.Disk.{View, Goes, Same, IsDisk, IsSynced}
 use Rattle.relay_disk.specs.Moments.{PairLeavesOnly}
 use Rattle.relay_disk.proofs.Moments.{unchanged, still_again, pair_still_one, pair_still_two, pair_weaker}
-use Rattle.gate_log.specs.Image.{IsImage, IsMade, IsUnmade}
+use Rattle.gate_log.specs.Image.{IsMade, IsUnmade}
 use Rattle.gate_log.specs.Log.{LogState}
 use Rattle.gate_log.specs.Log.{Holds as HasBodies}
-use Rattle.gate_log.specs.Pick.{IsPicked, IsPairImage, IsPairImageOfOne, LeavesPairImages, LeavesSide, of_side, other_side, view_of_side}
+use Rattle.gate_log.specs.Pick.{IsPicked, IsPairImage, IsPairImageOfOne, LeavesPairImages, LeavesSide, of_side, view_of_side}
 use Rattle.gate_log.specs.declared.picking.Side.{Side}
 use Rattle.gate_log.specs.declared.picking.Side.TheVariants.{One, Two}
 use Rattle.gate_log.specs.declared.fault.LogFault.{LogFault}

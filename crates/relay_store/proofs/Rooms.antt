@@ -1,5 +1,5 @@
 -- Whether a row has room.
-use Rattle.std.proofs.Common.{◌≡◌, ℕ, ◌+◌, ◌-◌, ◌≤◌, ◌<◌, ◌⊎◌, inl, inr, List, [], ◌∷◌, ◌++◌, length, drop, refl, sym, ◌∙◌, ap, subst, arith, length-append, length-drop, Result, Err, Bool, true, false}
+use Rattle.std.proofs.Common.{◌≡◌, ℕ, ◌+◌, ◌-◌, ◌≤◌, ◌<◌, inr, List, [], ◌∷◌, ◌++◌, length, drop, refl, ◌∙◌, ap, arith, length-append, length-drop, Result, Err, false}
 use Rattle.std.specs.Prelude.{◌==◌, ◌↔◌}
 use Rattle.std.proofs.lemmas.Bool.Decides.{nat_tests}
 use Rattle.at_cbor.specs.declared.major.Major.{Major}
@@ -7,11 +7,11 @@ use Rattle.at_cbor.specs.Spelling.{front_of}
 use Rattle.gate_log.specs.Log.{LogState}
 use Rattle.gate_log.specs.declared.fault.LogFault.{LogFault}
 use Rattle.gate_log.specs.declared.drafts.TheConstants.{AHEAD}
-use Rattle.gate_log.specs.declared.limits.TheConstants.{AROUND_BODY, BEFORE_BODY}
+use Rattle.gate_log.specs.declared.limits.TheConstants.{BEFORE_BODY}
 use Rattle.relay_row.specs.Bodies.{body_of, row_spelling, spelled}
 use Rattle.relay_row.specs.declared.row.Row.{Row}
 use Rattle.relay_row.proofs.Bodies.{spelled_joined}
-use Rattle.relay_store.specs.Drafts.{Fits, FitsWith, HasRows, IsFull, IsFullWith, behind, behind_draft, draft_body, end_of, length_with}
+use Rattle.relay_store.specs.Drafts.{Fits, FitsWith, HasRows, IsFull, IsFullWith, behind, behind_draft, draft_body, length_with}
 use Rattle.relay_store.specs.declared.draft.Draft.{Draft}
 use Rattle.relay_store.proofs.Spellings.{draft_is, length_body, length_one}
 

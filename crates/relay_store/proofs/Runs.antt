@@ -1,5 +1,5 @@
 -- Steps behind steps.
-use Rattle.std.proofs.Common.{◌≡◌, ◌≢◌, inl, inr, ℕ, ◌+◌, ◌≤◌, List, [], ◌∷◌, ◌++◌, length, map, Bool, true, false, Option, Some, None, Result, Ok, Err, refl, sym, ◌∙◌, ap, subst, arith, append_assoc, length-append}
+use Rattle.std.proofs.Common.{◌≡◌, ℕ, ◌≤◌, List, [], ◌∷◌, ◌++◌, length, map, Bool, true, false, Option, Some, Result, Ok, Err, refl, sym, ◌∙◌, ap, subst, arith, append_assoc}
 use Rattle.std.specs.Prelude.{nat_le}
 use Rattle.std.proofs.lemmas.List.{append-nil}
 use Rattle.at_event.specs.declared.frame.Frame.{Frame}
@@ -12,7 +12,7 @@ use Rattle.relay_core.specs.Runs.{passed_by}
 use Rattle.relay_core.specs.declared.decision.Pass.{Pass}
 use Rattle.relay_step.specs.Steps.{Step, Told, after_end, passed_over, took, AreSteps, IsTold, ended_told, ended_by_all, message_of, rows, rows_told}
 use Rattle.relay_store.specs.Batches.{EndsLast, NoneEnds, is_end, sent}
-use Rattle.relay_store.specs.Outcomes.{outcome_of, outcome_told, passed_outcome}
+use Rattle.relay_store.specs.Outcomes.{outcome_of, passed_outcome}
 use Rattle.relay_store.specs.declared.message.Message.{Message}
 use Rattle.relay_store.specs.declared.outcome.Outcome.{Outcome}
 

@@ -1,5 +1,5 @@
 -- An operator's word, ahead of the disk and once it is durable.
-use Rattle.std.proofs.Common.{◌≡◌, ◌≢◌, inl, inr, ◌⊎◌, ⊎_elim, ℕ, ◌+◌, ◌≤◌, List, [], ◌∷◌, ◌++◌, length, Bool, Result, Ok, Err, IsTrue, refl, sym, ◌∙◌, ap, subst, arith, append_assoc}
+use Rattle.std.proofs.Common.{◌≡◌, inl, inr, ◌⊎◌, ⊎_elim, ℕ, ◌≤◌, List, [], ◌++◌, length, Bool, Ok, Err, IsTrue, refl, sym, ◌∙◌, ap, subst, arith}
 use Rattle.std.proofs.lemmas.List.{append-nil}
 use Rattle.event_window.specs.declared.place.Place.{Place}
 use Rattle.relay_disk.specs.Disk.{View, IsDisk}
@@ -13,7 +13,7 @@ use Rattle.relay_core.specs.Entries.{Holds}
 use Rattle.relay_core.specs.declared.journal_state.Core.{Core}
 use Rattle.relay_step.specs.Words.{rows_said}
 use Rattle.relay_step.specs.declared.word.Word.{Word}
-use Rattle.relay_store.specs.Drafts.{Fits, HasRows, IsAhead, IsFull, IsUnchanged, end_of}
+use Rattle.relay_store.specs.Drafts.{Fits, HasRows, IsAhead, IsUnchanged}
 use Rattle.relay_store.specs.Journals.{IsOneOf}
 use Rattle.relay_store.specs.Places.{places_in}
 use Rattle.relay_store.specs.Store.{IsOf, Keeps, seen}

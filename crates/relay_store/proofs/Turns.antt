@@ -1,5 +1,5 @@
 -- What comes of one message.
-use Rattle.std.proofs.Common.{◌≡◌, inl, inr, ◌⊎◌, ⊎_elim, ℕ, ◌+◌, ◌≤◌, List, [], ◌∷◌, ◌++◌, length, drop, Option, Some, None, Result, Ok, Err, refl, sym, ◌∙◌, ap, subst, arith, append_assoc, length-append, Bool}
+use Rattle.std.proofs.Common.{◌≡◌, inl, inr, ◌⊎◌, ℕ, List, [], ◌∷◌, ◌++◌, length, drop, Some, Result, Ok, Err, refl, sym, ◌∙◌, ap, subst, arith, length-append, Bool}
 use Rattle.std.specs.Prelude.{⊤, IfErr, IfOk, OnErr, OnOk}
 use Rattle.std.proofs.lemmas.List.{append-nil, drop-append-le}
 use Rattle.event_window.specs.declared.place.Place.{Place}
@@ -17,10 +17,9 @@ use Rattle.relay_step.specs.Causes.{IsCause as IsStepCause}
 use Rattle.relay_step.specs.Messages.{EndsNumbers}
 use Rattle.relay_step.specs.Steps.{Told, rows_told}
 use Rattle.relay_step.specs.declared.fault.StepFault.{StepFault}
-use Rattle.relay_store.specs.Drafts.{HasRows, IsAdded, IsFull, IsUnchanged}
+use Rattle.relay_store.specs.Drafts.{HasRows, IsAdded, IsUnchanged}
 use Rattle.relay_store.specs.Faults.{IsCause, IsRisen, of_step}
 use Rattle.relay_store.specs.Outcomes.{outcome_told}
-use Rattle.relay_store.specs.Places.{place_of, places_in}
 use Rattle.relay_store.specs.Taking.{AreAdded, ComesOfAsking, IsInVain, IsTaken, IsTooLate, Prepared}
 use Rattle.relay_store.specs.declared.draft.Draft.{Draft}
 use Rattle.relay_store.specs.declared.fault.StoreFault.{StoreFault}

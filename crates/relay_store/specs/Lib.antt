@@ -9,4 +9,6 @@ pub mod Taking
 pub mod Words
 pub mod Faults
 pub mod Shown
+pub mod Events
+pub mod Rereading
 pub mod Lines

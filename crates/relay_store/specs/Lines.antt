@@ -1,7 +1,6 @@
 -- The lines of a report, by what was answered (own). Links are their texts, numbers are decimal, and each line ends in a line feed.
-use Rattle.std.specs.Prelude.{◌≡◌, ◌≢◌, ℕ, List, [], ◌∷◌, ◌++◌, length, Some, Err, codes, decimal}
+use Rattle.std.specs.Prelude.{◌≡◌, ◌≢◌, ℕ, List, [], ◌∷◌, ◌++◌, length, Err, codes, decimal}
 use Rattle.std.specs.List.{filter}
-use Rattle.at_event.specs.Frames.{frame_of}
 use Rattle.at_event.specs.declared.frame.FrameFault.{FrameFault}
 use Rattle.relay_row.specs.Folds.{events, last_seq}
 use Rattle.relay_row.specs.declared.row.Row.{Row}

@@ -1,5 +1,5 @@
 -- What opening a store finds (own).
-use Rattle.std.specs.Prelude.{◌≡◌, ⊤, ℕ, Bool, List, [], ◌∷◌, ◌++◌, length, Result, IsTrue, IfOk}
+use Rattle.std.specs.Prelude.{◌≡◌, ⊤, ℕ, Bool, List, ◌∷◌, ◌++◌, length, Result, IsTrue, IfOk}
 use Rattle.event_window.specs.declared.place.Place.{Place}
 use Rattle.relay_disk.specs.Disk.{View, Goes, Same}
 use Rattle.relay_disk.specs.Moments.{PairLeavesOnly}

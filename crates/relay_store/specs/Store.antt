@@ -1,5 +1,5 @@
 -- A store as contracts see it, and the journal that it has (own).
-use Rattle.std.specs.Prelude.{◌≡◌, ℕ, List, []}
+use Rattle.std.specs.Prelude.{◌≡◌, List}
 use Rattle.event_window.specs.declared.place.Place.{Place}
 use Rattle.relay_disk.specs.Disk.{View}
 use Rattle.gate_log.specs.Log.{LogState}

@@ -1,5 +1,5 @@
 -- What an operator's word does (own).
-use Rattle.std.specs.Prelude.{◌≡◌, ◌≢◌, ◌⊎◌, ◌≤◌, ℕ, Bool, List, [], ◌∷◌, ◌++◌, Result, Ok, Err, IsTrue}
+use Rattle.std.specs.Prelude.{◌≡◌, ◌≢◌, ◌⊎◌, ◌≤◌, Bool, List, [], ◌∷◌, ◌++◌, Result, Ok, Err, IsTrue}
 use Rattle.relay_disk.specs.Disk.{View}
 use Rattle.relay_disk.specs.Moments.{LeavesOnly}
 use Rattle.gate_log.specs.Log.{LogState}

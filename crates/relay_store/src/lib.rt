@@ -6,7 +6,9 @@ mod adding;
 mod committing;
 mod done;
 mod draft;
+mod events;
 mod fault;
+mod finding;
 mod gathering;
 mod laws;
 mod learning;
@@ -16,11 +18,13 @@ mod message;
 mod opening;
 mod outcome;
 mod preparing;
+mod showing;
 mod speaking;
 mod store;
 mod taking;
 
 pub use done::Done;
+pub use events::Reader;
 pub use fault::StoreFault;
 pub use laws::{
     faults_are_no_journals, faults_have_one_place, lines_are_the_reports, pairs_have_one_journal,

@@ -1,67 +1,12 @@
 //! The lines of a report.
 
 ghost use Rattle.std.specs.Prelude.{◌≡◌, ◌++◌, ◌∷◌, [], IfOk, OnOk, OnErr, decimal};
-ghost use Rattle.at_cid.specs.Text.{text_of};
-ghost use Rattle.relay_core.specs.Report.{detail_of, refused_of};
 ghost use Rattle.relay_store.specs.Lines.{end_line_of, end_word, fetch_word, line_of, outcome_word};
 
 use crate::outcome::{End, Fetch, Outcome};
-use at_cid::{Cid, Memory, Octets, TEXT_LEN};
-use at_event::Refusal;
-use itoa::Buffer;
+use at_cid::{Memory, Octets};
+use report_lines::{add_number, add_refusal};
 use std::alloc::Global;
-
-fn add_number(line: &mut Octets, number: u64) -> Result<(), Memory>
-    ensures { OnOk result (line.new ≡ line.old ++ decimal number) }
-{
-    line.extend(Buffer::new().format(number).as_bytes())
-}
-
-fn add_link(line: &mut Octets, link: &Cid) -> Result<(), Memory>
-    ensures { OnOk result (line.new ≡ line.old ++ text_of link.now) }
-{
-    let mut text = [0; TEXT_LEN];
-    link.write_text(&mut text);
-    line.extend(&text)
-}
-
-// What is said of a refusal behind its name.
-fn add_detail(line: &mut Octets, refusal: &Refusal) -> Result<(), Memory>
-    ensures { OnOk result (line.new ≡ line.old ++ detail_of refusal.now) }
-{
-    match refusal {
-        Refusal::BadNode(link) => {
-            line.extend(b" at ")?;
-            add_link(line, link)?;
-        }
-        Refusal::OtherOp(op) | Refusal::NotCovered(op) => {
-            line.extend(b" op ")?;
-            add_number(line, u64::from(*op))?;
-        }
-        Refusal::OtherData(want, got) => {
-            line.extend(b" want ")?;
-            add_link(line, want)?;
-            line.extend(b" got ")?;
-            add_link(line, got)?;
-        }
-        Refusal::RepositoryRefused(number) => {
-            line.extend(b" ")?;
-            add_number(line, u64::from(*number))?;
-        }
-        _ => {}
-    }
-    Ok(())
-}
-
-fn add_refusal(line: &mut Octets, refusal: &Refusal) -> Result<(), Memory>
-    ensures { OnOk result (line.new ≡ line.old ++ refused_of refusal.now) }
-{
-    line.extend(b"refused ")?;
-    add_number(line, u64::from(refusal.code()))?;
-    line.extend(b" ")?;
-    line.extend(refusal.name().as_bytes())?;
-    add_detail(line, refusal)
-}
 
 fn add_fetch(line: &mut Octets, fetch: &Fetch) -> Result<(), Memory>
     ensures { OnOk result (line.new ≡ line.old ++ fetch_word fetch.now) }

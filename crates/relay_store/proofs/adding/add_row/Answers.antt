@@ -1,5 +1,4 @@
-use Rattle.std.proofs.Common.{◌≡◌, ◌∙◌, rules, refl, sym, ap, arith, Err, List, ℕ, ◌+◌, ◌++◌}
-use Rattle.relay_store.specs.Drafts.{HasRows}
+use Rattle.std.proofs.Common.{◌≡◌, ◌∙◌, rules, refl, ap, Err, List, ℕ, ◌+◌, ◌++◌}
 use Rattle.relay_store.specs.declared.draft.Draft.{Draft}
 use Rattle.relay_store.specs.declared.fault.StoreFault.{StoreFault}
 use Rattle.relay_store.proofs.Rooms.{full_of, fits_more}

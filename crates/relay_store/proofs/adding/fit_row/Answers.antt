@@ -1,4 +1,4 @@
-use Rattle.std.proofs.Common.{◌≡◌, rules, arith}
+use Rattle.std.proofs.Common.{◌≡◌, arith}
 use Rattle.relay_store.proofs.Rooms.{past_end, length_more}
 use Rattle.relay_store.proofs.adding.fit_row.Goals as goal
 

@@ -1,5 +1,5 @@
-use Rattle.std.proofs.Common.{◌∙◌, sym, arith}
-use Rattle.relay_store.proofs.Rooms.{behind_none, behind_some, length_draft, length_more}
+use Rattle.std.proofs.Common.{arith}
+use Rattle.relay_store.proofs.Rooms.{behind_none, behind_some, length_draft}
 use Rattle.relay_store.proofs.adding.own_end.Goals as goal
 
 pub returns-then-draft-eq0 : goal.returns-then-draft-eq0

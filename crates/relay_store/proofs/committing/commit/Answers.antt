@@ -1,4 +1,4 @@
-use Rattle.std.proofs.Common.{◌≡◌, ◌∙◌, Err, ⊎_elim, refl, sym, ap, arith, length, inl, inr, List, ℕ, take, ◌++◌, drop}
+use Rattle.std.proofs.Common.{◌≡◌, ◌∙◌, Err, ⊎_elim, refl, ap, arith, length, List, ℕ, take, ◌++◌, drop}
 use Rattle.at_cbor.specs.declared.major.Major.{Major}
 use Rattle.at_cbor.specs.Spelling.{front_of}
 use Rattle.gate_log.specs.Log.{LogState}

@@ -1,4 +1,4 @@
-use Rattle.std.proofs.Common.{◌≡◌, ◌∙◌, ◌+◌, ◌++◌, ◌∷◌, [], List, length, drop, inl, inr, ⊎_elim, Some, None, arith, refl, sym, ap, subst, length-drop, true, IsTrue}
+use Rattle.std.proofs.Common.{◌≡◌, ◌∙◌, ◌+◌, ◌++◌, ◌∷◌, [], List, drop, inl, ⊎_elim, Some, None, arith, refl, sym, ap, subst, length-drop}
 use Rattle.std.proofs.lemmas.List.{drop_all}
 use Rattle.at_syntax.specs.Host.{is_host}
 use Rattle.relay_step.specs.Around.{Around, around}

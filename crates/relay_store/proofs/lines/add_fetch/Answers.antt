@@ -1,6 +1,6 @@
-use Rattle.std.proofs.Common.{◌≡◌, ◌++◌, ℕ, sym, ap, ◌∙◌, codes, decimal}
+use Rattle.std.proofs.Common.{◌++◌, ℕ, sym, ap, ◌∙◌, codes, decimal}
 use Rattle.relay_store.specs.Lines.{fetch_word}
-use Rattle.relay_store.proofs.Linework.{joined}
+use Rattle.report_lines.proofs.Joining.{joined}
 use Rattle.relay_store.proofs.lines.add_fetch.Goals as goal
 
 pub returns-in_ok-add_number-in-Refused : goal.returns-in_ok-add_number-in-Refused

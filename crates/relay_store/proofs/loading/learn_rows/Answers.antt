@@ -1,4 +1,4 @@
-use Rattle.std.proofs.Common.{◌≡◌, ◌∙◌, ◌++◌, List, refl, ap}
+use Rattle.std.proofs.Common.{◌∙◌, ◌++◌, List, refl, ap}
 use Rattle.event_window.specs.declared.place.Place.{Place}
 use Rattle.relay_store.specs.Places.{place_of}
 use Rattle.relay_store.proofs.RowsLearned.{learning_more, learning_stops}

@@ -1,4 +1,4 @@
-use Rattle.std.proofs.Common.{rules, ◌≡◌, Err, arith, subst, ap, length}
+use Rattle.std.proofs.Common.{rules, ◌≡◌, Err, arith, subst}
 use Rattle.relay_disk.proofs.Moments.{still_here, still_again}
 use Rattle.gate_log.specs.Log.{Holds as HasBodies}
 use Rattle.relay_store.specs.Journals.{bytes_of, joined}

@@ -1,4 +1,4 @@
-use Rattle.std.proofs.Common.{◌≡◌, ◌∙◌, Err, refl, sym, ap, subst}
+use Rattle.std.proofs.Common.{◌∙◌, Err, refl, sym, ap, subst}
 use Rattle.relay_row.specs.declared.row.Row.{Row}
 use Rattle.relay_step.specs.Messages.{told_as}
 use Rattle.relay_step.specs.Steps.{rows_told, took}

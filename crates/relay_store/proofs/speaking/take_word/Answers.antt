@@ -1,4 +1,4 @@
-use Rattle.std.proofs.Common.{◌≡◌, ◌∙◌, [], ◌∷◌, Err, refl, sym, ap, subst}
+use Rattle.std.proofs.Common.{◌∙◌, [], ◌∷◌, Err, refl, sym, ap, subst}
 use Rattle.relay_step.specs.Words.{rows_said}
 use Rattle.relay_step.specs.declared.word.Word.{Word}
 use Rattle.relay_store.specs.Taking.{AreAdded}

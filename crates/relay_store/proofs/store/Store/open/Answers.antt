@@ -1,7 +1,5 @@
 use Rattle.std.proofs.Common.{rules, ◌≡◌, ◌∙◌, Err, inl, inr, sym, ap}
 use Rattle.gate_log.specs.Pick.{other_side}
-use Rattle.gate_log.specs.declared.fault.LogFault.{LogFault}
-use Rattle.relay_store.specs.Faults.{of_log}
 use Rattle.relay_store.specs.declared.fault.StoreFault.{StoreFault}
 use Rattle.relay_store.proofs.Opened.{bad_journal, journals_leave, log_bad, opened_journal, pair_images, side_again, side_stays, then_read}
 use Rattle.relay_store.proofs.store.Store.open.Goals as goal

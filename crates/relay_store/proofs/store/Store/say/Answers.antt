@@ -1,4 +1,4 @@
-use Rattle.std.proofs.Common.{rules, ◌≡◌, [], Some, Err, arith, ap, subst}
+use Rattle.std.proofs.Common.{rules, ◌≡◌, [], Some, arith, subst}
 use Rattle.std.proofs.lemmas.Option.{same_Some}
 use Rattle.relay_step.specs.Words.{rows_said}
 use Rattle.relay_store.specs.Words.{IsOfSaying}

@@ -1,4 +1,4 @@
-use Rattle.std.proofs.Common.{rules, ◌≡◌, ◌≢◌, ◌∙◌, [], ◌∷◌, List, Some, None, ⊎_elim, refl, arith, length}
+use Rattle.std.proofs.Common.{rules, ◌≡◌, ◌≢◌, ◌∙◌, [], ◌∷◌, Some, None, ⊎_elim, refl, arith}
 use Rattle.relay_step.specs.Around.{Around, around}
 use Rattle.relay_store.specs.Batches.{message_from}
 use Rattle.relay_store.specs.Store.{seen_in}

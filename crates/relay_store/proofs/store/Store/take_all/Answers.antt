@@ -1,4 +1,4 @@
-use Rattle.std.proofs.Common.{rules, ◌≡◌, Some, refl}
+use Rattle.std.proofs.Common.{rules, ◌≡◌, Some}
 use Rattle.relay_store.specs.Store.{seen_in}
 use Rattle.relay_store.specs.declared.fault.StoreFault.{StoreFault}
 use Rattle.relay_store.proofs.Batched.{batched, batched_fails_as, batched_none, few_rows, has_rows, of_kept}

@@ -1,8 +1,8 @@
 use Rattle.std.proofs.Common.{◌++◌, sym, ap, ◌∙◌, codes}
 use Rattle.at_cid.specs.Text.{text_of}
 use Rattle.relay_core.specs.Report.{detail_of}
-use Rattle.relay_cli.proofs.Lines.{joined}
-use Rattle.relay_cli.proofs.report.add_detail.Goals as goal
+use Rattle.report_lines.proofs.Joining.{joined}
+use Rattle.report_lines.proofs.pieces.add_detail.Goals as goal
 
 pub returns-in_ok-add_link-in-BadNode : goal.returns-in_ok-add_link-in-BadNode
 returns-in_ok-add_link-in-BadNode c =

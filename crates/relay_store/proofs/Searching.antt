@@ -1,0 +1,72 @@
+-- The search for the first event that is shown.
+use Rattle.std.proofs.Common.{◌≡◌, ℕ, ◌-◌, ◌≤◌, ◌<◌, Bool, true, false, List, [], ◌∷◌, ◌++◌, length, take, drop, slice_index_or, refl, sym, ◌∙◌, ap, subst, arith}
+use Rattle.std.specs.Prelude.{if◌then◌else◌, IsTrue}
+use Rattle.std.proofs.lemmas.List.{take_all}
+use Rattle.relay_disk.specs.Disk.{View}
+use Rattle.event_window.specs.Held.{Event}
+use Rattle.event_window.specs.declared.place.Place.{Place}
+use Rattle.gate_log.specs.Image.{made}
+use Rattle.gate_log.specs.Log.{LogState}
+use Rattle.gate_log.specs.Log.{Holds as HasBodies}
+use Rattle.gate_log.specs.declared.format.Format.{Format}
+use Rattle.relay_row.specs.Bodies.{IsBody, body_of}
+use Rattle.relay_row.specs.Folds.{events_in}
+use Rattle.relay_row.specs.declared.row.Row.{Row}
+use Rattle.relay_core.specs.Entries.{Holds}
+use Rattle.relay_core.specs.declared.journal_state.Core.{Core}
+use Rattle.relay_store.specs.Events.{AllStand, IsRest, IsToldOf, StandsAt, message_of}
+use Rattle.relay_store.specs.Journals.{AllBodies, bytes_of}
+use Rattle.relay_store.specs.Shown.{is_shown, shown_of}
+use Rattle.relay_store.proofs.Loaded.{length_made, some_records}
+
+pub each_at : (before : List (List Row)) (rows : List Row) (after : List (List Row)) → AllBodies (before ++ rows ∷ after) → IsBody rows (body_of rows)
+each_at [] rows after each = each.0
+each_at (b ∷ before) rows after each = each_at before rows after each.1
+
+-- a body stands before the end
+pub body_inside : (format : Format) (before : List (List ℕ)) (body : List ℕ) (after : List (List ℕ)) → length (made format before) < length (made format (before ++ body ∷ after))
+body_inside format before body after = omega (arith, length_made format before (body ∷ after), some_records body after)
+
+pub split_first : (left : List Place) (d : Place) → 1 ≤ length left → left ≡ slice_index_or left 0 d ∷ take (length left - 1) (drop 1 left)
+split_first [] d some = absurd (omega (arith, some))
+split_first (p ∷ left) d some = ap (λ (l : List Place). p ∷ l) (sym (take_all (length (p ∷ left) - 1) left (omega arith)))
+
+one_shown : (J : List Row) (p : Place) (row : Row) (room : List ℕ) (es : List Event) → true ≡ is_shown J row → events_in row ≡ (p.seq, message_of (events_in row)) ∷ [] → room ≡ message_of (events_in row)
+    → (if is_shown J row then events_in row else []) ++ es ≡ (p.seq, room) ∷ es
+one_shown J p row room es shown sends message =
+    ap (λ (b : Bool). (if b then events_in row else []) ++ es) (sym shown) ∙ ap (λ (l : List Event). l ++ es) sends ∙ ap (λ (m : List ℕ). (p.seq, m) ∷ es) (sym message)
+
+module _ (tells : Bool) (log : LogState) (core : Core) (v : View) (bodies : List (List Row)) (rows : List Row) where
+  pub rest_all : (places : List Place) → AllStand log.format bodies places rows → IsRest tells log core v bodies places rows
+  rest_all places all = record { rest = rows; stand = all; same = λ told J each holds of. refl }
+
+  pub rest_none : IsRest tells log core v bodies [] rows → IsTrue tells → (J : List Row) → AllBodies bodies → HasBodies (bytes_of bodies) log v → Holds core J → shown_of J rows ≡ []
+  rest_none is told J each holds of = is.same told J each holds of ∙ ap (shown_of J) is.stand
+
+  -- what stands at the first of the places that are left
+  pub record IsAtFirst (p : Place) (places : List Place) : Type 0 where
+    pub row : Row
+    pub others : List Row
+    pub at : StandsAt log.format bodies p row
+    pub stand : AllStand log.format bodies places others
+    pub same : IsTrue tells → (J : List Row) → AllBodies bodies → HasBodies (bytes_of bodies) log v → Holds core J → shown_of J rows ≡ shown_of J (row ∷ others)
+
+  first_by : (p : Place) (places : List Place) (rest : List Row) → AllStand log.format bodies (p ∷ places) rest
+      → (IsTrue tells → (J : List Row) → AllBodies bodies → HasBodies (bytes_of bodies) log v → Holds core J → shown_of J rows ≡ shown_of J rest) → IsAtFirst p places
+  first_by p places [] stand same = absurd stand
+  first_by p places (row ∷ others) stand same = record { row = row; others = others; at = stand.0; stand = stand.1; same = same }
+
+  pub rest_first : (p : Place) (places left : List Place) → left ≡ p ∷ places → IsRest tells log core v bodies left rows → IsAtFirst p places
+  rest_first p places left split is = first_by p places is.rest (subst (λ (l : List Place). AllStand log.format bodies l is.rest) split is.stand) is.same
+
+  module _ (p : Place) (places : List Place) (first : IsAtFirst p places) (room : List ℕ) where
+    pub rest_more : (IsTrue tells → (J : List Row) → AllBodies bodies → HasBodies (bytes_of bodies) log v → Holds core J → IsToldOf J first.row false room) → IsRest tells log core v bodies places rows
+    rest_more told = record {
+      rest = first.others;
+      stand = first.stand;
+      same = λ tell J each holds of. first.same tell J each holds of
+          ∙ ap (λ (b : Bool). (if b then events_in first.row else []) ++ shown_of J first.others) (sym (told tell J each holds of).is);
+    }
+
+    pub rest_found : IsTrue tells → (J : List Row) → AllBodies bodies → HasBodies (bytes_of bodies) log v → Holds core J → IsToldOf J first.row true room → shown_of J rows ≡ (p.seq, room) ∷ shown_of J first.others
+    rest_found tell J each holds of told = first.same tell J each holds of ∙ one_shown J p first.row room (shown_of J first.others) told.is first.at.sends (told.message refl)

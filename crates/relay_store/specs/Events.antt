@@ -1,0 +1,64 @@
+-- Where the events of a journal are found again, and what is told of them (own).
+use Rattle.std.specs.Prelude.{◌≡◌, ℕ, Bool, true, List, [], ◌∷◌, ◌++◌, length, slice_get, Option, Some, None, IsTrue}
+use Rattle.event_window.specs.Held.{Event, Held}
+use Rattle.event_window.specs.declared.place.Place.{Place}
+use Rattle.relay_disk.specs.Disk.{View, Goes, Same}
+use Rattle.gate_log.specs.declared.format.Format.{Format}
+use Rattle.gate_log.specs.Image.{made}
+use Rattle.gate_log.specs.Log.{LogState, IsOn}
+use Rattle.gate_log.specs.Log.{Holds as HasBodies}
+use Rattle.relay_row.specs.Folds.{events_in}
+use Rattle.relay_row.specs.declared.row.Row.{Row}
+use Rattle.relay_core.specs.Entries.{Holds}
+use Rattle.relay_core.specs.declared.journal_state.Core.{Core}
+use Rattle.relay_store.specs.Journals.{AllBodies, bytes_of}
+use Rattle.relay_store.specs.Shown.{held_by, is_shown, shown_of}
+use Rattle.relay_store.specs.Store.{StoreState, Keeps}
+
+-- The disk is the one that the store is open on, and these are the events of its journal.
+abbrev pub HasEvents : StoreState → View → Held → Type 0
+HasEvents s v held = (J : List Row) × Keeps J s v × (held ≡ held_by J)
+
+-- the message of the first of events, if there is one
+abbrev pub message_of : List Event → List ℕ
+message_of [] = []
+message_of (event ∷ others) = event.1
+
+-- A row stands at a place: at its index of the body there. It sends out the event of that number.
+pub record StandsAt (format : Format) (bodies : List (List Row)) (p : Place) (row : Row) : Type 0 where
+  pub before : List (List Row)
+  pub rows : List Row
+  pub after : List (List Row)
+  pub split : bodies ≡ before ++ rows ∷ after
+  pub here : p.place ≡ length (made format (bytes_of before))
+  pub row_at : slice_get rows p.index ≡ Some row
+  pub sends : events_in row ≡ (p.seq, message_of (events_in row)) ∷ []
+
+-- These rows stand at these places, one at each.
+abbrev pub AllStand : Format → List (List Row) → List Place → List Row → Type 0
+AllStand format bodies [] rows = rows ≡ []
+AllStand format bodies (p ∷ places) [] = ⊥
+AllStand format bodies (p ∷ places) (row ∷ rows) = StandsAt format bodies p row × AllStand format bodies places rows
+
+-- What is told of a row's event as the journal J stands: whether it is shown, and where it is, its message is in the room.
+pub record IsToldOf (J : List Row) (row : Row) (shown : Bool) (room : List ℕ) : Type 0 where
+  pub is : shown ≡ is_shown J row
+  pub message : shown ≡ true → room ≡ message_of (events_in row)
+
+-- This is the first of events, and its message is in the room.
+abbrev pub IsFirst : List Event → Option ℕ → List ℕ → Type 0
+IsFirst events None room = events ≡ []
+IsFirst events (Some n) room = (others : List Event) × (events ≡ (n, room) ∷ others)
+
+-- The rows at the places that are left come behind others of which none is shown.
+pub record IsRest (tells : Bool) (log : LogState) (core : Core) (v : View) (bodies : List (List Row)) (left : List Place) (rows : List Row) : Type 0 where
+  pub rest : List Row
+  pub stand : AllStand log.format bodies left rest
+  pub same : IsTrue tells → (J : List Row) → AllBodies bodies → HasBodies (bytes_of bodies) log v → Holds core J → shown_of J rows ≡ shown_of J rest
+
+-- while the first event that is shown is searched for
+pub record IsSearching (tells : Bool) (log : LogState) (core : Core) (old now : View) (places left : List Place) : Type 0 where
+  pub goes : Goes Same old now
+  pub holds : IsTrue tells → (bodies : List (List ℕ)) → HasBodies bodies log old → HasBodies bodies log now
+  pub on : IsTrue tells → IsOn now log
+  pub rest : (bodies : List (List Row)) (rows : List Row) → AllStand log.format bodies places rows → IsRest tells log core old bodies left rows

@@ -1,0 +1,79 @@
+//! Giving the events of a store out.
+
+ghost use Rattle.std.specs.Prelude.{◌≡◌, List, IsTrue, refl};
+ghost use Rattle.std.proofs.Common.{◌∙◌, ap};
+ghost use Rattle.event_window.specs.Held.{Held};
+ghost use Rattle.relay_row.specs.declared.row.Row.{Row as TheRow};
+ghost use Rattle.relay_store.specs.Events.{HasEvents};
+ghost use Rattle.relay_store.specs.Rereading.{IsReread, reread_again, reread_here};
+ghost use Rattle.relay_store.specs.Shown.{held_by};
+ghost use Rattle.relay_store.specs.Store.{Keeps, seen_in};
+
+use crate::finding::find_shown;
+use crate::store::Store;
+use at_cid::Octets;
+use event_window::{Events, EventsFault};
+use relay_disk::Disk;
+use std::alloc::Global;
+
+/// The events of a store, which are read back from the disk that it is on.
+#[derive(Drop)]
+pub struct Reader<'a, D> {
+    alloc: Global,
+    store: &'a Store,
+    disk: &'a mut D,
+}
+
+impl Store {
+    /// Its events, read back from the disk that it is on. Nothing is read yet.
+    pub fn events<'a, D: Disk>(&'a self, alloc: Global, disk: &'a mut D) -> Reader<'a, D>
+        ensures held { IsTrue D.tells → (J : List TheRow) → Keeps J (seen_in self.now) (D.view disk.old)
+            → HasEvents (seen_in result.store.now) (D.view result.disk.now) (held_by J) }
+        ensures store { result.store.now ≡ self.now }
+        ensures disk { result.disk.now ≡ disk.old }
+        ensures same_reference { result.disk.ghost_name ≡ disk.entry.ghost_name }
+    {
+        Reader {
+            alloc,
+            store: self,
+            disk,
+        }
+    }
+}
+
+impl<D: Disk> Events for Reader<'_, D> {
+    ghost tells = { D.tells };
+
+    ghost holds = { λ reader held. HasEvents (seen_in reader.store.now) (D.view reader.disk.now) held };
+
+    ghost faults = { λ reader. (D.view reader.disk.now).faults };
+
+    ghost later = { λ old new. (new.store.now ≡ old.store.now) × (new.disk.ghost_name ≡ old.disk.ghost_name)
+        × IsReread D.tells (seen_in old.store.now) (D.view old.disk.now) (D.view new.disk.now) };
+
+    ghost later_here = { λ reader. (refl, refl, reread_here D.tells (seen_in reader.store.now) (D.view reader.disk.now)) };
+
+    ghost later_again = { λ one two three first second. (
+      second.0 ∙ first.0,
+      second.1 ∙ first.1,
+      reread_again D.tells (seen_in one.store.now) (seen_in two.store.now) (D.view one.disk.now) (D.view two.disk.now) (D.view three.disk.now)
+          (D.is_disk one.disk.now) (ap seen_in first.0) first.2 second.2,
+    ) };
+
+    fn last_seq(&self) -> u64 {
+        self.store.last_seq()
+    }
+
+    fn oldest(&self) -> u64 {
+        match self.store.window.first() {
+            Some(place) => place.seq,
+            None => self.store.last_seq().saturating_add(1),
+        }
+    }
+
+    fn next_after(&mut self, seq: u64, room: &mut Octets) -> Result<Option<u64>, EventsFault> {
+        let store = self.store;
+        let places = store.window.above(seq);
+        find_shown(self.alloc, &store.log, &store.core, self.disk, places, room)
+    }
+}
