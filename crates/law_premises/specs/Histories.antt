@@ -1,7 +1,7 @@
 -- The law of histories, without one of its premises.
 use Rattle.std.specs.Prelude.{◌≡◌, ◌⊎◌, List, [], ◌∷◌, Option, Some, None}
 use Rattle.relay_row.specs.declared.row.Row.{Row}
-use Rattle.relay_law.specs.Histories.{Change, IsChanged, Point, IsIn, Stands, Calls, Opens, AllCome}
+use Rattle.relay_law.specs.Histories.{Change, IsChanged, Point, IsIn, Stands, Calls, Opens, NextOf, LivesFrom, AllCome}
 
 -- histories whose calls and openings are these
 abbrev pub NextBy : (List Row → Point → Type 0) → (Point → Point → Type 0) → Option (List Row) → Point → Point → Type 0
@@ -44,6 +44,15 @@ pub record OpensAny (p next : Point) : Type 0 where
 pub record OpensLeavingAny (p next : Point) : Type 0 where
   pub ends : (J : List Row) → next.serves ≡ Some J → IsIn J p.leaves
 
+-- histories in which the disks of an open store may stand for anything
+abbrev pub LivesUnfounded : Point → List Point → Type 0
+LivesUnfounded p [] = Unit {0}
+LivesUnfounded p (next ∷ points) = NextOf p.serves p next × LivesUnfounded next points
+
+-- What the disks of an open store stand for is no premise that is wanted: calls say what they leave, whatever was there.
+abbrev pub UnfoundedComeOn : Type 0
+UnfoundedComeOn = (p : Point) (points : List Point) (J : List Row) → LivesUnfounded p points → p.serves ≡ Some J → AllCome J points
+
 -- A journal may be of other rows than those before it ..
 pub record JournalsMayBeOthers : Type 0 where
   -- where a call ends with a journal that it didn't make
@@ -56,3 +65,5 @@ pub record JournalsMayBeOthers : Type 0 where
   pub opens : JournalsComeBy Calls OpensAny → ⊥
   -- where it leaves something else on them
   pub opens_leave : JournalsComeBy Calls OpensLeavingAny → ⊥
+  -- where it isn't the one that is open now
+  pub serves : ((p : Point) (points : List Point) (J : List Row) → LivesFrom p points → AllCome J points) → ⊥
