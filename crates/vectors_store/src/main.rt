@@ -20,7 +20,18 @@ use vector_lines::Suite;
 
 fn compared(rt: &HostRuntime) -> Result<Suite> {
     let mut suite = Suite::new(rt)?;
-    suite.file(rt, "days", &Runs)?;
+    for name in [
+        "days",
+        "histories",
+        "judging",
+        "limits",
+        "groups",
+        "clocks",
+        "repositories",
+        "openings",
+    ] {
+        suite.file(rt, name, &Runs)?;
+    }
     suite.file(rt, "stops", &Stops)?;
     suite.file(rt, "logs", &Logs)?;
     Ok(suite)

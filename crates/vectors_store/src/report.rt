@@ -1,9 +1,9 @@
 //! What the steps of a row answer: lines, of which the store writes those of messages.
 
 use anyhow::{Context, Result, bail};
-use at_cid::Octets;
-use at_event::Refusal;
+use at_cid::{Memory, Octets};
 use relay_store::{Batch, Done, Fetch, Message, Outcome, StoreFault, end_line, line};
+use report_lines::{add_number, add_refusal};
 use std::alloc::Global;
 use vector_lines::{Answer, had};
 
@@ -14,6 +14,33 @@ pub struct Report {
     messages: u64,
     events: u64,
     refused: u64,
+}
+
+// Whether it gives a number, and whether it is a refusal.
+fn counts_of(outcome: &Outcome) -> (bool, bool) {
+    match outcome {
+        Outcome::Event(..) => (true, false),
+        Outcome::Refused(_, _, Fetch::Whole(..)) => (true, true),
+        Outcome::Refused(..) => (false, true),
+        _ => (false, false),
+    }
+}
+
+// Adds what was answered to an operator, as each command prints it.
+fn add_words(line: &mut Octets, done: &Done) -> Result<(), Memory> {
+    match done {
+        Done::Event(seq) => {
+            line.extend(b"event ")?;
+            add_number(line, *seq)
+        }
+        Done::Synced(seq, records) => {
+            line.extend(b"synced ")?;
+            add_number(line, *seq)?;
+            line.extend(b" records ")?;
+            add_number(line, *records)
+        }
+        Done::Refused(refusal) => add_refusal(line, refusal),
+    }
 }
 
 impl Report {
@@ -30,6 +57,16 @@ impl Report {
     pub fn add(&mut self, words: &str) -> Result<()> {
         had(self.lines.extend(words.as_bytes()))?;
         had(self.lines.extend(b"\n"))
+    }
+
+    // With a fault, by its number and its name.
+    fn add_fault(&mut self, alloc: Global, fault: StoreFault) -> Result<()> {
+        if fault == StoreFault::Memory {
+            bail!("out of memory");
+        }
+        let number = fault.number();
+        let text = format!(in alloc; "{number} {fault:?}")?;
+        self.add(text.as_str())
     }
 
     // With the line of what was answered to a message.
@@ -54,16 +91,6 @@ impl Report {
         }
     }
 
-    /// With a fault, by its number and its name.
-    pub fn add_fault(&mut self, alloc: Global, fault: StoreFault) -> Result<()> {
-        if fault == StoreFault::Memory {
-            bail!("out of memory");
-        }
-        let number = fault.number();
-        let text = format!(in alloc; "{number} {fault:?}")?;
-        self.add(text.as_str())
-    }
-
     /// With what was answered to messages. Gives how many were taken, one with a fault too.
     pub fn add_batch(
         &mut self,
@@ -75,21 +102,29 @@ impl Report {
             self.add_outcome(alloc, message.host.as_str(), outcome)?;
         }
         let count = batch.outcomes.len();
-        match batch.fault {
-            None => Ok(count),
-            Some(fault) => {
-                self.add_fault(alloc, fault)?;
-                Ok(count.saturating_add(1))
-            }
-        }
+        let Some(fault) = batch.fault else {
+            return Ok(count);
+        };
+        self.add_fault(alloc, fault)?;
+        Ok(count.saturating_add(1))
     }
 
     /// With what was answered to an operator.
     pub fn add_done(&mut self, alloc: Global, done: Result<Done, StoreFault>) -> Result<()> {
         match done {
-            Ok(done) => self.add(done_text(alloc, &done)?.as_str()),
+            Ok(done) => {
+                had(add_words(&mut self.lines, &done))?;
+                self.add("")
+            }
             Err(fault) => self.add_fault(alloc, fault),
         }
+    }
+
+    /// With the fault of an opening.
+    pub fn unopened(alloc: Global, fault: StoreFault) -> Result<Report> {
+        let mut report = Report::new(alloc);
+        report.add_fault(alloc, fault)?;
+        Ok(report)
     }
 
     /// With the line of the end, behind which it is counted anew.
@@ -109,37 +144,4 @@ impl Report {
         }
         answer.end()
     }
-}
-
-// Whether it gives a number, and whether it is a refusal.
-fn counts_of(outcome: &Outcome) -> (bool, bool) {
-    match outcome {
-        Outcome::Event(..) => (true, false),
-        Outcome::Refused(_, _, Fetch::Whole(..)) => (true, true),
-        Outcome::Refused(..) => (false, true),
-        _ => (false, false),
-    }
-}
-
-// A refusal as each command prints it.
-fn with_refusal(answer: Answer, refusal: &Refusal) -> Answer {
-    let answer = answer.words("refused ").number(u64::from(refusal.code()));
-    let answer = answer.words(" ").words(refusal.name());
-    match refusal {
-        Refusal::RepositoryRefused(number) => answer.words(" ").number(u64::from(*number)),
-        _ => answer,
-    }
-}
-
-fn done_text(alloc: Global, done: &Done) -> Result<String> {
-    let answer = Answer::new(alloc);
-    match done {
-        Done::Event(seq) => answer.words("event ").number(*seq),
-        Done::Synced(seq, records) => {
-            let answer = answer.words("synced ").number(*seq);
-            answer.words(" records ").number(*records)
-        }
-        Done::Refused(refusal) => with_refusal(answer, refusal),
-    }
-    .end()
 }

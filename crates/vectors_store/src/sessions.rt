@@ -43,14 +43,13 @@ fn sitting<P: Judges + Drop>(
     })
 }
 
-// The fault of an opening.
-fn unopened(alloc: Global, fault: StoreFault) -> Result<Told> {
-    let mut report = Report::new(alloc);
-    report.add_fault(alloc, fault)?;
-    Ok(Told {
-        report: report.end(alloc)?,
-        state: said(alloc, "none")?,
-    })
+fn unopened<P>(alloc: Global, fault: StoreFault, judges: P) -> Result<(Told, P)>
+where
+    P: Judges + Drop,
+{
+    let report = Report::unopened(alloc, fault)?.end(alloc)?;
+    let state = said(alloc, "none")?;
+    Ok((Told { report, state }, judges))
 }
 
 fn ended<P: Judges + Drop>(alloc: Global, sitting: Sitting<P>) -> Result<(Told, P)> {
@@ -79,7 +78,7 @@ fn sat<D: Disk, P: Judges + Drop>(
     }
     let store = match Store::open(alloc, one, two, setup.most) {
         Ok(store) => store,
-        Err(fault) => return Ok((unopened(alloc, fault)?, judges)),
+        Err(fault) => return unopened(alloc, fault, judges),
     };
     let side = store.side();
     let mut sitting = sitting(alloc, setup, store, judges)?;
@@ -99,8 +98,10 @@ fn judged<D: Disk>(
 ) -> Result<Told> {
     let mut panel = Panel::new(alloc);
     for text in setup.judges.split(" ; ") {
-        let (method, authority) = authority(alloc, text)?;
-        had(panel.add(method, Box::new(alloc, authority)?))?;
+        if text != "-" {
+            let (method, authority) = authority(alloc, text)?;
+            had(panel.add(method, Box::new(alloc, authority)?))?;
+        }
     }
     let (mut told, panel) = sat(alloc, setup, panel, one, two, steps)?;
     told.report.push_str(fallen(alloc, &panel)?.as_str())?;

@@ -5,7 +5,6 @@ ghost use Rattle.std.specs.List.{list_all};
 ghost use Rattle.at_form.specs.declared.forms.TheConstants.{LONGEST_SHORT_TEXT};
 ghost use Rattle.at_syntax.specs.Did.{is_did};
 ghost use Rattle.at_syntax.specs.Host.{is_host};
-ghost use Rattle.relay_store.specs.Taking.{AreOfHosts};
 
 use crate::report::Report;
 use crate::states::{with_account, with_hosts};
@@ -34,13 +33,9 @@ pub struct Sitting<P: Judges + Drop> {
 }
 
 fn are_of_hosts(group: &[Message]) -> bool
-    ensures { IsTrue result → AreOfHosts group.now }
+    ensures { result ≡ list_all (λ m. is_host m.host) group.now }
 {
-    group.iter().all(
-        |message: &Message| -> bool
-            ensures { result ≡ is_host message.now.host }
-        { host_ok(message.host.as_str()) },
-    )
+    group.iter().all(|message| host_ok(message.host.as_str()))
 }
 
 // Whether an operator may say this of an account.
@@ -63,7 +58,7 @@ fn show(alloc: Global, store: &Store, shown: &Shown<'_>, report: &mut Report) ->
     report.add(answer.end()?.as_str())
 }
 
-fn side_name(side: Side) -> &'static str {
+pub fn side_name(side: Side) -> &'static str {
     match side {
         Side::One => "One",
         Side::Two => "Two",
@@ -119,9 +114,12 @@ impl<P: Judges + Drop> Sitting<P> {
         ensures { Stands D.tells self.new.store (D.view disk.new) }
     {
         let mut rest = messages;
-        'groups: while !rest.is_empty() {
+        'groups: for _ in 0..messages.len() {
+            if rest.is_empty() {
+                break;
+            }
             let count = self.take_group(disk, rest)?;
-            rest = &rest[count.clamp(1, rest.len())..];
+            rest = &rest[count.min(rest.len())..];
         }
         Ok(())
     }

@@ -6,8 +6,10 @@
 
 use crate::sessions::{Told, session};
 use crate::setup::{Setup, disk_of, read_setup, with_room};
+use crate::sitting::side_name;
 use crate::steps::{Step, steps_of};
 use anyhow::{Context, Result};
+use gate_log::Side;
 use relay_disk::{FuseDisk, MemoryDisk, WORST_CASES};
 use std::alloc::Global;
 use vector_lines::{Answer, Subject, had};
@@ -29,6 +31,16 @@ struct Run {
     behind: Told,
     opening: [u64; 2],
     calls: [u64; 2],
+}
+
+impl Run {
+    // The calls on a disk up to the step, and in all.
+    fn calls_on(&self, side: Side) -> [u64; 2] {
+        match side {
+            Side::One => [self.opening[0], self.calls[0]],
+            Side::Two => [self.opening[1], self.calls[1]],
+        }
+    }
 }
 
 // The row behind these steps.
@@ -105,6 +117,14 @@ fn is_same(told: &Told, other: &Told) -> bool {
     told.report.as_str() == other.report.as_str() && told.state.as_str() == other.state.as_str()
 }
 
+// So many calls pass on one disk, and all on the other.
+fn on(side: Side, passes: u64) -> [u64; 2] {
+    match side {
+        Side::One => [passes, u64::MAX],
+        Side::Two => [u64::MAX, passes],
+    }
+}
+
 // The letters of a step that is stopped behind so many calls on each disk.
 fn letters(
     alloc: Global,
@@ -130,35 +150,25 @@ fn letters(
     answer.end()
 }
 
-// The letters of stops on one disk, with a text in front.
+// With the letters of stops on one disk behind: where the step has calls on it, those of the step, and any others that are wrong.
 fn with_letters(
     alloc: Global,
     mut answer: Answer,
     setup: &Setup<'_>,
     steps: &[Step<'_>],
     run: &Run,
-    is_first: bool,
+    side: Side,
 ) -> Result<Answer> {
-    let (opening, calls) = if is_first {
-        (run.opening[0], run.calls[0])
-    } else {
-        (run.opening[1], run.calls[1])
-    };
+    let [opening, calls] = run.calls_on(side);
     if opening < calls {
-        answer = answer.words(if is_first { " ; One" } else { " ; Two" });
+        answer = answer.words(" ; ").words(side_name(side));
     }
     for passes in 0..=calls {
-        let both = if is_first {
-            [passes, u64::MAX]
-        } else {
-            [u64::MAX, passes]
-        };
-        let letters = letters(alloc, setup, steps, run, both)?;
+        let letters = letters(alloc, setup, steps, run, on(side, passes))?;
         if passes < opening && letters.as_str() != "bbb" {
-            answer = answer.words(" ; opening").number(passes);
+            answer = answer.words(" opening:").words(letters.as_str());
         }
-        let is_told = opening < calls && passes >= opening || letters.as_str() != "bbb";
-        if is_told {
+        if opening < calls && passes >= opening {
             answer = answer.words(" ").words(letters.as_str());
         }
     }
@@ -173,7 +183,7 @@ impl Subject for Stops {
         let start = started(alloc, setup, front)?;
         let run = whole(alloc, &start, last)?;
         let answer = Answer::new(alloc).words(run.behind.report.as_str());
-        let answer = with_letters(alloc, answer, &start, last, &run, true)?;
-        with_letters(alloc, answer, &start, last, &run, false)?.end()
+        let answer = with_letters(alloc, answer, &start, last, &run, Side::One)?;
+        with_letters(alloc, answer, &start, last, &run, Side::Two)?.end()
     }
 }
