@@ -119,7 +119,7 @@ impl<P: Judges + Drop> Sitting<P> {
                 break;
             }
             let count = self.take_group(disk, rest)?;
-            rest = &rest[count.min(rest.len())..];
+            rest = rest.get(count..).unwrap_or(&[]);
         }
         Ok(())
     }
