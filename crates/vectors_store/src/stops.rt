@@ -135,15 +135,13 @@ fn letters(
 ) -> Result<String> {
     let left = stopped(alloc, setup, steps, passes)?;
     let is_stopped = passes[0] < run.calls[0] || passes[1] < run.calls[1];
-    let wanted = if is_stopped {
-        "1 Disk"
+    let report = left.told.report.as_str();
+    let is_told = if is_stopped {
+        report.ends_with("Disk")
     } else {
-        run.behind.report.as_str()
+        report == run.behind.report.as_str()
     };
-    let mut answer = Answer::new(alloc);
-    if left.told.report.as_str() != wanted {
-        answer = answer.words(left.told.report.as_str());
-    }
+    let mut answer = Answer::new(alloc).words(if is_told { "" } else { report });
     for i in 0..WORST_CASES {
         answer = answer.words(letter(alloc, setup, steps, run, &left, i)?);
     }
