@@ -2,7 +2,7 @@
 //! one is made. It is stopped behind each number of calls on either disk, and each worst case of a crash there is opened again:
 //! `b` where its state is the one before the step, which can then be made and answers the same, and `a` where it is the one
 //! behind it. There are three letters for each number of calls on the log's disk, from the step's first on; before that all
-//! are `b`.
+//! are `b`. Rows tell so where there is memory to spare: without, a group may end early, and a body take one more call.
 
 use crate::sessions::{Told, session};
 use crate::setup::{Setup, disk_of, read_setup, with_room};
