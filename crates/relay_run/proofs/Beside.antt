@@ -101,7 +101,7 @@ module _ {D : Type 0} (view : D → View) (is_disk : (x : D) → IsDisk (view x)
   view_on One = refl
   view_on Two = refl
 
-  view_now : (side : Side) → view_of_side side (view e) (view f) ≡ view (of_pair side e f)
+  pub view_now : (side : Side) → view_of_side side (view e) (view f) ≡ view (of_pair side e f)
   view_now One = refl
   view_now Two = refl
 
