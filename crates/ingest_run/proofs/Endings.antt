@@ -1,6 +1,7 @@
 -- How taking a tape ends: what the disks show, the causes, and what ends a whole tape.
-use Rattle.std.proofs.Common.{◌≡◌, ◌≢◌, ◌∙◌, ℕ, ◌<◌, List, ◌++◌, length, Bool, IsTrue, refl, sym, ap, subst, arith, length-append}
+use Rattle.std.proofs.Common.{◌≡◌, ◌⊎◌, inl, inr, ⊎_elim, ◌∙◌, ℕ, ◌+◌, ◌<◌, ◌≤◌, List, ◌++◌, length, refl, sym, ap, subst, arith, length-append}
 use Rattle.std.specs.Prelude.{⊤}
+use Rattle.at_cid.specs.Counts.{Rose}
 use Rattle.relay_row.specs.declared.row.Row.{Row}
 use Rattle.relay_step.specs.Steps.{Step}
 use Rattle.relay_store.specs.Journals.{IsBadPairJournalAt, IsPairImageOf}
@@ -86,3 +87,17 @@ completes disk read write repos clock (TapeEnd.Store StoreFault.Authority) over 
 completes disk read write repos clock (TapeEnd.Store StoreFault.Repos) over limit before after xs T which are on all is short caused none = absurd (none.no_repos caused)
 completes disk read write repos clock (TapeEnd.Store StoreFault.Memory) over limit before after xs T which are on all is short caused none = absurd which
 completes disk read write repos clock (TapeEnd.Store StoreFault.Clock) over limit before after xs T which are on all is short caused none = absurd (none.no_clock caused)
+
+-- a count that rose later rose
+rose_more : (old mid now : ℕ) → old ≤ mid → Rose mid now → Rose old now
+rose_more old mid now no_less rose = omega (arith, no_less, rose)
+
+-- what has not happened since a moment has not happened since a later one
+pub none_later : (a b c d e f : ℕ) (read write repos clock : Type 0) → a ≤ b → d ≤ e → NoneOf (Rose a c ⊎ Rose d f) read write repos clock → NoneOf (Rose b c ⊎ Rose e f) read write repos clock
+none_later a b c d e f read write repos clock one other none = record {
+  no_disk = λ rose. none.no_disk (⊎_elim (λ r. inl (rose_more a b c one r)) (λ r. inr (rose_more d e f other r)) rose);
+  no_read = none.no_read;
+  no_write = none.no_write;
+  no_repos = none.no_repos;
+  no_clock = none.no_clock;
+}
