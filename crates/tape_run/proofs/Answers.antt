@@ -1,7 +1,8 @@
 -- Answers, one after another.
 use Rattle.std.proofs.Common.{◌≡◌, ◌⊎◌, ⊎_elim, inl, inr, ◌<◌, ◌≤◌, ℕ, ◌+◌, Bool, true, false, List, [], ◌∷◌, ◌++◌, length, take, drop, get_or, map, suc, zero, Option, Some, None, refl, ap, ◌∙◌, sym, subst, arith, append_assoc, length-append}
+use Rattle.std.proofs.lemmas.Bool.{cases_lt}
 use Rattle.std.proofs.lemmas.List.{append-nil}
-use Rattle.std.specs.Prelude.{if◌then◌else◌}
+use Rattle.std.specs.Prelude.{if◌then◌else◌, min}
 use Rattle.relay_core.specs.Runs.{has_ended}
 use Rattle.relay_step.specs.Steps.{Step}
 use Rattle.relay_store.specs.Batches.{is_end, sent}
@@ -120,3 +121,12 @@ live_more ended group n m host below is live not =
 pub first_ended : (ended : List (List ℕ)) (group : List Message) (m : Message) (host : List ℕ) → FirstHasEnded ended group → host ≡ (get_or group 0 m).host → has_ended ended host ≡ true
 first_ended ended [] m host ended_first is = absurd ended_first
 first_ended ended (x ∷ group) m host ended_first is = subst (λ (h : List ℕ). has_ended ended h ≡ true) (sym is) ended_first
+
+-- past the shorter of two
+pub past_one : (a b i : ℕ) → min a b ≤ i → (a ≤ i) ⊎ (b ≤ i)
+past_one a b i past = ⊎_elim (λ below. inr (omega (arith, below, past))) (λ not. inl (omega (arith, not))) (cases_lt i a)
+
+pub answered_few : (group : List Message) (outcomes : List Outcome) → (length (answered group outcomes) ≤ length group) × (length (answered group outcomes) ≤ length outcomes)
+answered_few group [] = (omega arith, omega arith)
+answered_few [] (o ∷ outcomes) = (omega arith, omega arith)
+answered_few (m ∷ group) (o ∷ outcomes) = let few = answered_few group outcomes in (omega (arith, few.0), omega (arith, few.1))

@@ -42,7 +42,7 @@ same_taken : (s t : Taken) → Some s ≡ Some t → s ≡ t
 same_taken s t is = cc
 
 -- a row made of an event, or of one with a bad field
-data IsMadeOf (host : List ℕ) (t : Taken) : Type 0 where
+pub data IsMadeOf (host : List ℕ) (t : Taken) : Type 0 where
   of_event : (last : ℕ) (e : Seen) (d : Decision) (x : Answers) → event_taken last host e d x ≡ t → IsMadeOf host t
   of_faulty : (seq : ℕ) (moment : Option ℕ) → faulty_taken host seq moment ≡ t → IsMadeOf host t
 
@@ -166,14 +166,14 @@ said_length (s ∷ steps) = ap suc (said_length steps)
 
 -- ---- lines
 
-turn_ended : (A : Type 0) (b : Bool) (o : Option Pass) (over : A) (passes : Pass → A) (takes : A) → b ≡ true → turn b o over passes takes ≡ over
-turn_ended A b o over passes takes is = ap (λ (c : Bool). turn c o over passes takes) is
+turn_ended : (A : Type 0) (b : Bool) (o : Option Pass) (extra : A) (passes : Pass → A) (takes : A) → b ≡ true → turn b o extra passes takes ≡ extra
+turn_ended A b o extra passes takes is = ap (λ (c : Bool). turn c o extra passes takes) is
 
-turn_passed : (A : Type 0) (b : Bool) (o : Option Pass) (pass : Pass) (over : A) (passes : Pass → A) (takes : A) → b ≡ false → o ≡ Some pass → turn b o over passes takes ≡ passes pass
-turn_passed A b o pass over passes takes is told = ap (λ (c : Bool). turn c o over passes takes) is ∙ ap (λ (p : Option Pass). turn false p over passes takes) told
+turn_passed : (A : Type 0) (b : Bool) (o : Option Pass) (pass : Pass) (extra : A) (passes : Pass → A) (takes : A) → b ≡ false → o ≡ Some pass → turn b o extra passes takes ≡ passes pass
+turn_passed A b o pass extra passes takes is told = ap (λ (c : Bool). turn c o extra passes takes) is ∙ ap (λ (p : Option Pass). turn false p extra passes takes) told
 
-turn_taken : (A : Type 0) (b : Bool) (o : Option Pass) (over : A) (passes : Pass → A) (takes : A) → b ≡ false → o ≡ None → turn b o over passes takes ≡ takes
-turn_taken A b o over passes takes is told = ap (λ (c : Bool). turn c o over passes takes) is ∙ ap (λ (p : Option Pass). turn false p over passes takes) told
+turn_taken : (A : Type 0) (b : Bool) (o : Option Pass) (extra : A) (passes : Pass → A) (takes : A) → b ≡ false → o ≡ None → turn b o extra passes takes ≡ takes
+turn_taken A b o extra passes takes is told = ap (λ (c : Bool). turn c o extra passes takes) is ∙ ap (λ (p : Option Pass). turn false p extra passes takes) told
 
 taken_said : (host : List ℕ) (t : Taken) → t.host ≡ host → line_of host (taken_outcome t) ≡ taken_line t
 taken_said host t is = ap (λ (h : List ℕ). line_of h (taken_outcome t)) (sym is) ∙ lines_report.taken t
@@ -185,8 +185,10 @@ lines_are checks J ended (s ∷ steps) are = by_told s.told are.0 (lines_are che
   where
     m : Message
     m = message_of s
+
     takes : List Row → List ℕ
     takes rows = on_row rows [] (λ row others. row_line row ++ lines_from (J ++ row ∷ []) ended (messages steps) others)
+
     by_told : (t : Told) → IsTold checks J ended m t → text_of (said steps) ≡ lines_from (J ++ rows_told t) (ended_told t s.host ended) (messages steps) (rows steps)
         → line_said (s.host, outcome_told (frame_of s.bytes) t) ++ text_of (said steps) ≡ lines_from J ended (m ∷ messages steps) (rows_told t ++ rows steps)
     by_told after_end told rest =

@@ -1,4 +1,6 @@
+pub mod Tells
 pub mod Ends
+pub mod Stops
 pub mod Causes
 pub mod Said
 pub mod Tapes

@@ -5,7 +5,7 @@ ghost use Rattle.at_cid.specs.Counts.{Rose};
 ghost use Rattle.relay_io.specs.Streams.{AddsFront};
 ghost use Rattle.relay_core.specs.Report.{over_line};
 ghost use Rattle.relay_store.specs.Lines.{end_line_of};
-ghost use Rattle.tape_run.specs.Ends.{IsUnwritten, Finished};
+ghost use Rattle.tape_run.specs.Stops.{IsUnwritten, Finished};
 ghost use Rattle.tape_run.specs.declared.end.TapeEnd.{TapeEnd as TheEnd};
 ghost use Rattle.tape_run.specs.Said.{IsNoted, answered, text_of};
 

@@ -7,7 +7,8 @@ ghost use Rattle.relay_step.specs.Around.{around};
 ghost use Rattle.relay_store.specs.Store.{IsKept, IsOf, seen_in};
 ghost use Rattle.relay_store.specs.Taking.{AreOfHosts};
 ghost use Rattle.tape_run.specs.Causes.{Caused, Kept, faults};
-ghost use Rattle.tape_run.specs.Going.{Going, Stopped, point, tells};
+ghost use Rattle.tape_run.specs.Going.{Going, Stopped, point};
+ghost use Rattle.tape_run.specs.Tells.{tells};
 ghost use Rattle.tape_run.specs.Said.{AreLive, FirstHasEnded};
 
 use crate::answering::{answer, pass_over};
@@ -64,6 +65,7 @@ fn take_live<D: Disk, P: Judges, R: Repos, C: Clock, O: Sink>(
     ensures open { OnOk result (IsTrue (seen_in store.new).log.is_open) }
     ensures some { IfOk result (λ n. 1 ≤ n) }
     ensures few { IfOk result (λ n. n ≤ length group.now) }
+    ensures side { (seen_in store.new).side ≡ (seen_in store.old).side }
     ensures count { IfOk result (λ n. tally.new.messages ≤ tally.old.messages + n) }
     ensures counts { Kept (faults (D.view disk.old).faults (R.faults repos.old) (C.faults clock.old) 0 (O.faults out.old)) (faults (D.view disk.new).faults (R.faults repos.new) (C.faults clock.new) 0 (O.faults out.new)) }
     ensures caused { IfErr result (λ end. Caused end (faults (D.view disk.old).faults (R.faults repos.old) (C.faults clock.old) 0 (O.faults out.old)) (faults (D.view disk.new).faults (R.faults repos.new) (C.faults clock.new) 0 (O.faults out.new))) }
@@ -109,6 +111,7 @@ fn take_some<D: Disk, P: Judges, R: Repos, C: Clock, O: Sink>(
     ensures open { OnOk result (IsTrue (seen_in store.new).log.is_open) }
     ensures some { IfOk result (λ n. 1 ≤ n) }
     ensures few { IfOk result (λ n. n ≤ length group.now) }
+    ensures side { (seen_in store.new).side ≡ (seen_in store.old).side }
     ensures count { IfOk result (λ n. tally.new.messages ≤ tally.old.messages + n) }
     ensures counts { Kept (faults (D.view disk.old).faults (R.faults repos.old) (C.faults clock.old) 0 (O.faults out.old)) (faults (D.view disk.new).faults (R.faults repos.new) (C.faults clock.new) 0 (O.faults out.new)) }
     ensures caused { IfErr result (λ end. Caused end (faults (D.view disk.old).faults (R.faults repos.old) (C.faults clock.old) 0 (O.faults out.old)) (faults (D.view disk.new).faults (R.faults repos.new) (C.faults clock.new) 0 (O.faults out.new))) }
@@ -152,6 +155,7 @@ pub(crate) fn take_group<D: Disk, P: Judges, R: Repos, C: Clock, O: Sink>(
         (point (seen_in store.new) tally.new disk.new (around (P.panel judges.new) (C.moments clock.new) (R.repository repos.new)) (O.written out.new)) end) }
     ensures on { OnOk result (IsTrue D.tells → IsKept (seen_in store.new) (D.view disk.new)) }
     ensures open { OnOk result (IsTrue (seen_in store.new).log.is_open) }
+    ensures side { (seen_in store.new).side ≡ (seen_in store.old).side }
     ensures count { OnOk result (tally.new.messages ≤ tally.old.messages + length group.now) }
     ensures counts { Kept (faults (D.view disk.old).faults (R.faults repos.old) (C.faults clock.old) 0 (O.faults out.old)) (faults (D.view disk.new).faults (R.faults repos.new) (C.faults clock.new) 0 (O.faults out.new)) }
     ensures caused { IfErr result (λ end. Caused end (faults (D.view disk.old).faults (R.faults repos.old) (C.faults clock.old) 0 (O.faults out.old)) (faults (D.view disk.new).faults (R.faults repos.new) (C.faults clock.new) 0 (O.faults out.new))) }

@@ -70,11 +70,11 @@ pub(crate) fn read_group<I: Source>(alloc: Global, tape: &mut Tape, input: &mut 
 }
 
 // The message of a record.
-fn message_of(record: Record) -> Message
-    ensures { result ≡ message_from record.host record.message }
+fn message_of(found: Record) -> Message
+    ensures { result ≡ message_from found.host found.message }
 {
     Message {
-        host: record.host,
-        bytes: record.message,
+        host: found.host,
+        bytes: found.message,
     }
 }

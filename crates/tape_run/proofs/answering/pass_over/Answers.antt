@@ -1,6 +1,3 @@
-use Rattle.tape_run.proofs.Ended.{live_steps}
-use Rattle.tape_run.proofs.Counts.{lines_are}
-use Rattle.tape_run.proofs.Joining.{going_more}
 use Rattle.tape_run.proofs.answering.pass_over.Goals as goal
 
 pub returns-in-Ok-write_lines-clause-noted : goal.returns-in-Ok-write_lines-clause-noted

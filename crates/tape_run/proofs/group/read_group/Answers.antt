@@ -23,17 +23,17 @@ reading-preserved g c =
     let placed = rw c.in-Ok-Some.field-0-is at c.in-Ok-Some.ensures.placed in
     let bytes_are : record_bytes m.host m.bytes ≡ record_bytes c.in-Ok-Some.record.host c.in-Ok-Some.record.message = ap (λ (x : Message). record_bytes x.host x.bytes) is in
     record {
-  read = λ told. subst (λ (l : List Message). AreRead c.args.tape.now (g.I.Source.left c.args.input.now) l (coming c.next.new.self (g.I.Source.left c.next.new.source))) (sym items)
-      (read_one c.args.tape.now (g.I.Source.left c.args.input.now) xs m _ _ (c.reading.invariant.read told)
-        ((rw c.in-Ok-Some.field-0-is at (c.in-Ok-Some.ensures.next told)).1 ∙ ap (λ (l : List ℕ). l ++ coming c.next.new.self (g.I.Source.left c.next.new.source)) (sym bytes_are)));
-  records = subst AreRecords (sym items) (records_joined xs (m ∷ []) c.reading.invariant.records
-      (subst (λ (x : Message). IsRecord x.host x.bytes × IsBytes x.bytes × Unit {0}) (sym is) (placed.0, c.as_slice.ensures.bytes, tt)));
-  few = omega (arith, ap length items, length-append xs (m ∷ []), c.reading-test.true);
-  some = λ none. absurd (omega (arith, ap length items, length-append xs (m ∷ []), none));
-  place = omega (arith, placed.2, c.reading.invariant.place, ap (λ (l : List Message). length (spelled l)) items, place_one xs m, ap length bytes_are);
-  most = c.in-Ok-Some.ensures.most ∙ c.reading.invariant.most;
-  counts = omega (arith, c.in-Ok-Some.ensures.counts, c.reading.invariant.counts);
-}
+      read = λ told. subst (λ (l : List Message). AreRead c.args.tape.now (g.I.Source.left c.args.input.now) l (coming c.next.new.self (g.I.Source.left c.next.new.source))) (sym items)
+          (read_one c.args.tape.now (g.I.Source.left c.args.input.now) xs m _ _ (c.reading.invariant.read told)
+          ((rw c.in-Ok-Some.field-0-is at (c.in-Ok-Some.ensures.next told)).1 ∙ ap (λ (l : List ℕ). l ++ coming c.next.new.self (g.I.Source.left c.next.new.source)) (sym bytes_are)));
+      records = subst AreRecords (sym items) (records_joined xs (m ∷ []) c.reading.invariant.records
+          (subst (λ (x : Message). IsRecord x.host x.bytes × IsBytes x.bytes × Unit {0}) (sym is) (placed.0, c.as_slice.ensures.bytes, tt)));
+      few = omega (arith, ap length items, length-append xs (m ∷ []), c.reading-test.true);
+      some = λ none. absurd (omega (arith, ap length items, length-append xs (m ∷ []), none));
+      place = omega (arith, placed.2, c.reading.invariant.place, ap (λ (l : List Message). length (spelled l)) items, place_one xs m, ap length bytes_are);
+      most = c.in-Ok-Some.ensures.most ∙ c.reading.invariant.most;
+      counts = omega (arith, c.in-Ok-Some.ensures.counts, c.reading.invariant.counts);
+    }
 
 pub returns-in-Err-clause-read : goal.returns-in-Err-clause-read
 returns-in-Err-clause-read g c = λ told.
