@@ -9,7 +9,7 @@ use Rattle.relay_store.specs.Opening.{IsOfReading}
 use Rattle.relay_store.specs.declared.fault.StoreFault.{StoreFault}
 use Rattle.relay_store.specs.declared.message.Message.{Message}
 use Rattle.relay_store.proofs.Images.{no_journal}
-use Rattle.tape_run.specs.Ends.{AreOver, end_of_store}
+use Rattle.tape_run.specs.Ends.{AreExtraAt, end_of_store}
 use Rattle.tape_run.specs.Tapes.{AreRecords, IsOnTape, spelled}
 use Rattle.tape_run.specs.declared.end.TapeEnd.{TapeEnd}
 use Rattle.ingest_run.specs.Ends.{IsCausedBy, MayEnd, NoneOf, Shows}
@@ -50,7 +50,7 @@ opening_completes disk read write repos clock StoreFault.Clock one two J image o
 
 -- ---- behind it
 
-pub image_shows : (end : TapeEnd) (over : List Step) (one two : List ℕ) (J : List Row) → AreOver end over → IsPairImageOf J one two → Shows end one two
+pub image_shows : (end : TapeEnd) (over : List Step) (one two : List ℕ) (J : List Row) → AreExtraAt end over → IsPairImageOf J one two → Shows end one two
 image_shows TapeEnd.Done over one two J which image = (J, image)
 image_shows (TapeEnd.Bad place) over one two J which image = (J, image)
 image_shows TapeEnd.ReadFault over one two J which image = (J, image)
@@ -70,7 +70,7 @@ image_shows (TapeEnd.Store StoreFault.Clock) over one two J which image = (J, im
 not_long : (limit : ℕ) (before after part front : List ℕ) → before ≡ front ++ (part ++ after) → length front + length part ≡ limit → length before < limit → ⊥
 not_long limit before after part front is reached short = omega (arith, ap length is, length-append front (part ++ after), length-append part after, reached, short)
 
-pub completes : (disk read write repos clock : Type 0) (end : TapeEnd) (over : List Step) (limit : ℕ) (before after : List ℕ) (xs T : List Message) → AreOver end over → AreRecords xs → IsOnTape limit before after xs end
+pub completes : (disk read write repos clock : Type 0) (end : TapeEnd) (over : List Step) (limit : ℕ) (before after : List ℕ) (xs T : List Message) → AreExtraAt end over → AreRecords xs → IsOnTape limit before after xs end
     → AreRecords T → before ≡ spelled T → length (spelled T) < limit → IsCausedBy disk read write repos clock end → NoneOf disk read write repos clock → MayEnd end
 completes disk read write repos clock TapeEnd.Done over limit before after xs T which are on all is short caused none = tt
 completes disk read write repos clock (TapeEnd.Bad place) over limit before after xs T which are on all is short caused none = absurd (no_fault xs T on.0 are all (sym is ∙ on.1) on.2)

@@ -26,7 +26,7 @@ use Rattle.relay_run.specs.Pairs.{IsOneOfPair, StandsFor, of_pair}
 use Rattle.relay_run.proofs.Beside.{ComesBeside, image_of_side, leaves_on, leaves_stand, log_front, opened_keeps, opened_leaves, run_on, stands_on, view_now, view_on}
 use Rattle.tape_run.specs.Crashes.{IsFullFor, IsOnTheWay, Leaves}
 use Rattle.tape_run.specs.Ends.{disk_failed, end_of_store, fault_in}
-use Rattle.tape_run.specs.Going.{Tells}
+use Rattle.tape_run.specs.Tells.{Tells}
 use Rattle.tape_run.specs.Taken.{Taken, scene}
 use Rattle.tape_run.specs.declared.end.TapeEnd.{TapeEnd}
 use Rattle.ingest_run.specs.Ingested.{Ingested, IsFullOn, IsLogOn, IsNextEnd, IsPairOnTheWay, Unopened, pair_scene}
@@ -119,7 +119,7 @@ module _ {D : Type 0} (view : D → View) (is_disk : (x : D) → IsDisk (view x)
 
   module _ (e f : D) (u : Store) (beside : of_pair (other_side s.side) e f ≡ of_pair (other_side s.side) c d) (input_tells : Bool) (most limit : ℕ) (most_is : s.log.most ≡ most) (old new : Around) (left left_now written written_now : List ℕ) (end : TapeEnd)
       (taken : Taken view t input_tells limit J (scene (seen_in s) (of_pair s.side c d) old left written) (scene (seen_in u) (of_pair s.side e f) new left_now written_now) end) where
-    leaves : Leaves J (rows taken.steps) (rows taken.under) (rows taken.over) (seen_in s) (view (of_pair s.side c d)) (seen_in u) (view (of_pair s.side e f)) end
+    leaves : Leaves J (rows taken.steps) (rows taken.under) (rows taken.extra) (seen_in s) (view (of_pair s.side c d)) (seen_in u) (view (of_pair s.side e f)) end
     leaves = taken.on_disk told (subst (Keeps J (seen_in s)) (view_on view is_disk a b c d e f s.side) keeps)
 
     fronts : (x : List ℕ) → (view (of_pair s.side e f)).may_leave x → HasFront (seen_in s).log.format x
@@ -139,9 +139,9 @@ module _ {D : Type 0} (view : D → View) (is_disk : (x : D) → IsDisk (view x)
     ingested = record {
       steps = taken.steps;
       under = taken.under;
-      over = taken.over;
+      extra = taken.extra;
       which_under = taken.which_under;
-      which_over = taken.which_over;
+      which_extra = taken.which_extra;
       are = taken.are;
       journal = taken.journal;
       behind = taken.behind;
@@ -152,7 +152,7 @@ module _ {D : Type 0} (view : D → View) (is_disk : (x : D) → IsDisk (view x)
       crashes = λ stands. run_on view is_disk a b c d e f s.side J (seen_in s) (IsOnTheWay (seen_in s).log.format J (rows taken.steps) (rows taken.under)) (IsPairOnTheWay J (rows taken.steps) (rows taken.under)) beside keeps
           (opened_leaves t.disk (view a) (view b) (view c) (view d) (Ok s) opened told J stands) leaves.moments (none_yet J (rows taken.steps) (rows taken.under)) (on_the_way s.side J (rows taken.steps) (rows taken.under) (seen_in s).log.format);
       left = left_on view e f s.side (J ++ rows taken.steps) (rows taken.under) (seen_in s).log.format side_left leaves.left;
-      full = full_on most J (rows taken.steps) (rows taken.over) (seen_in s).log (view e) (view f) end most_is log_on leaves.full;
+      full = full_on most J (rows taken.steps) (rows taken.extra) (seen_in s).log (view e) (view f) end most_is log_on leaves.full;
       written = taken.written;
       mid = taken.mid;
       asked = taken.asked;

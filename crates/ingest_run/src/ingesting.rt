@@ -10,7 +10,7 @@ ghost use Rattle.relay_store.specs.Journals.{IsPairImageOf};
 ghost use Rattle.relay_store.specs.Store.{IsKept, IsOf, seen_in};
 ghost use Rattle.relay_store.specs.declared.message.Message.{Message as TheMessage};
 ghost use Rattle.relay_run.specs.Pairs.{of_pair};
-ghost use Rattle.tape_run.specs.Going.{tells};
+ghost use Rattle.tape_run.specs.Tells.{tells};
 ghost use Rattle.tape_run.specs.Taken.{Taken, scene};
 ghost use Rattle.tape_run.specs.Tapes.{AreRecords, spelled};
 ghost use Rattle.ingest_run.specs.Ends.{IsCausedBy, MayEnd, NoneOf, Shows};

@@ -2,7 +2,7 @@ use Rattle.std.proofs.Common.{◌⊎◌, inl, inr, Err, refl, sym, ap, subst}
 use Rattle.at_cid.specs.Counts.{Rose}
 use Rattle.relay_step.specs.Around.{around}
 use Rattle.relay_store.specs.Batches.{sent}
-use Rattle.tape_run.specs.Going.{tells}
+use Rattle.tape_run.specs.Tells.{tells}
 use Rattle.tape_run.specs.declared.end.TapeEnd.{TapeEnd}
 use Rattle.ingest_run.specs.Ends.{IsCausedBy, MayEnd, Shows}
 use Rattle.ingest_run.proofs.Endings.{completes, image_shows, none_later, opening_causes, opening_completes, opening_shows}
@@ -46,10 +46,10 @@ returns-clause-shows g c = λ told.
     let J = kept.0 in
     let image = kept.1 in
     let taken = c.take_on.ensures.taken J (opened_of g.D.Disk.view (λ x. g.met.D.Disk.is_disk x) c.args.disk.now c.args.other.now c.open.new.disk c.open.new.other (tells g.D.Disk.tells g.C.Clock.tells g.R.Repos.tells g.O.Sink.tells) told c.in-Ok.store c.in-Ok.ensures.opened J image) in
-    image_shows c.take_on.result taken.over (g.D.Disk.view c.args.disk.now).content (g.D.Disk.view c.args.other.now).content J taken.which_over image
+    image_shows c.take_on.result taken.extra (g.D.Disk.view c.args.disk.now).content (g.D.Disk.view c.args.other.now).content J taken.which_extra image
 
 pub returns-clause-complete : goal.returns-clause-complete
 returns-clause-complete g c = λ told input_told J image messages are is short none.
     let taken = c.take_on.ensures.taken J (opened_of g.D.Disk.view (λ x. g.met.D.Disk.is_disk x) c.args.disk.now c.args.other.now c.open.new.disk c.open.new.other (tells g.D.Disk.tells g.C.Clock.tells g.R.Repos.tells g.O.Sink.tells) told c.in-Ok.store c.in-Ok.ensures.opened J image) in
-    completes _ _ _ _ _ c.take_on.result taken.over c.args.limit (g.I.Source.left c.args.input.now) (g.I.Source.left c.take_on.new.input) _ messages taken.which_over taken.records (taken.from input_told) are is short c.take_on.ensures.caused
+    completes _ _ _ _ _ c.take_on.result taken.extra c.args.limit (g.I.Source.left c.args.input.now) (g.I.Source.left c.take_on.new.input) _ messages taken.which_extra taken.records (taken.from input_told) are is short c.take_on.ensures.caused
     (none_later (g.D.Disk.view c.args.disk.now).faults (g.D.Disk.view c.open.new.disk).faults (g.D.Disk.view c.take_on.new.disk).faults (g.D.Disk.view c.args.other.now).faults (g.D.Disk.view c.open.new.other).faults (g.D.Disk.view c.take_on.new.other).faults _ _ _ _ c.in-Ok.ensures.counts.0 c.in-Ok.ensures.counts.1 none)
