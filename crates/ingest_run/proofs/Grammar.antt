@@ -1,6 +1,5 @@
 -- A tape of records alone shows no fault behind any of them.
-use Rattle.std.proofs.Common.{◌≡◌, ◌∙◌, inl, inr, ℕ, List, [], ◌∷◌, ◌++◌, length, refl, sym, ap, subst, arith, append_assoc, length-append}
-use Rattle.std.proofs.lemmas.List.{append-nil}
+use Rattle.std.proofs.Common.{◌≡◌, ◌∙◌, inl, inr, ℕ, List, [], ◌∷◌, ◌++◌, refl, sym, ap, subst, append_assoc}
 use Rattle.relay_store.specs.declared.message.Message.{Message}
 use Rattle.tape.specs.Format.{record_bytes}
 use Rattle.tape.specs.Shown.{Shown, Shows, nothing, found, bad_name, too_long, cut}

@@ -1,12 +1,12 @@
 -- What taking a tape did on two disks, from what it did on the one that is picked.
-use Rattle.std.proofs.Common.{◌≡◌, ◌≢◌, inl, inr, ◌⊎◌, ⊎_elim, ℕ, List, [], ◌++◌, Bool, Ok, Err, IsTrue, refl, sym, subst}
+use Rattle.std.proofs.Common.{◌≡◌, ◌≢◌, inl, inr, ⊎_elim, ℕ, List, [], ◌++◌, Bool, Ok, Err, IsTrue, refl, sym, subst}
 use Rattle.std.proofs.lemmas.List.{append-nil}
 use Rattle.at_authority.specs.Panels.{Panel}
 use Rattle.relay_disk.specs.Disk.{View, IsDisk}
 use Rattle.relay_disk.specs.Moments.{PairLeavesOnly}
 use Rattle.gate_log.specs.Image.{HasFront}
 use Rattle.gate_log.specs.Log.{LogState}
-use Rattle.gate_log.specs.Pick.{LeavesSide, of_side, other_side, view_of_side}
+use Rattle.gate_log.specs.Pick.{LeavesSide, other_side, view_of_side}
 use Rattle.gate_log.specs.declared.format.Format.{Format}
 use Rattle.gate_log.specs.declared.picking.Side.{Side}
 use Rattle.gate_log.specs.declared.picking.Side.TheVariants.{One, Two}
@@ -16,7 +16,7 @@ use Rattle.relay_core.specs.declared.journal_state.Core.{Core}
 use Rattle.relay_step.specs.Around.{Around}
 use Rattle.relay_step.specs.Steps.{rows}
 use Rattle.relay_store.specs.Batches.{EndsNext}
-use Rattle.relay_store.specs.Journals.{IsLogOf, IsOneOf, IsPairImageOf}
+use Rattle.relay_store.specs.Journals.{IsOneOf, IsPairImageOf}
 use Rattle.relay_store.specs.Opening.{IsOfReading, Opened}
 use Rattle.relay_store.specs.Store.{IsOf, Keeps, seen_in}
 use Rattle.relay_store.specs.declared.fault.StoreFault.{StoreFault}

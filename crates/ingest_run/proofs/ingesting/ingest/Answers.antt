@@ -1,7 +1,6 @@
 use Rattle.std.proofs.Common.{◌⊎◌, inl, inr, Err, refl, sym, ap, subst}
 use Rattle.at_cid.specs.Counts.{Rose}
 use Rattle.relay_step.specs.Around.{around}
-use Rattle.relay_store.specs.Batches.{sent}
 use Rattle.tape_run.specs.Tells.{tells}
 use Rattle.tape_run.specs.declared.end.TapeEnd.{TapeEnd}
 use Rattle.ingest_run.specs.Ends.{IsCausedBy, MayEnd, Shows}
