@@ -1,7 +1,11 @@
 -- How commands end: what the disks show, and the causes.
+<<<<<<< HEAD
 use Rattle.std.proofs.Common.{◌≡◌, ◌∙◌, ◌⊎◌, inl, inr, ℕ, ◌≤◌, List, Bool, Result, Err, refl, sym, subst, arith}
 use Rattle.std.specs.Prelude.{⊤}
 use Rattle.at_cid.specs.Counts.{Rose}
+=======
+use Rattle.std.proofs.Common.{◌≡◌, ◌∙◌, ◌⊎◌, inl, inr, ℕ, List, Bool, Result, Err, refl, sym, subst}
+>>>>>>> bf62e9c9c766ef5d510f56cbbebc1f715a95e537
 use Rattle.relay_disk.specs.Disk.{View}
 use Rattle.relay_row.specs.declared.row.Row.{Row}
 use Rattle.relay_step.specs.declared.word.Word.{Word}
@@ -85,17 +89,17 @@ image_shows (RunEnd.Fault StoreFault.Clock) one two J image good = (J, image)
 -- what was shown was good
 pub shown_good : (end : RunEnd) → (end ≡ RunEnd.Done) ⊎ (end ≡ RunEnd.WriteFault) → IsBad end → ⊥
 shown_good end (inl is) bad = done_not bad.0 (sym is ∙ bad.1)
-    where
+  where
     done_not : (p : ℕ) → RunEnd.Done ≡ RunEnd.Fault (StoreFault.BadLog p) → ⊥
     done_not p is = cc
 shown_good end (inr is) bad = write_not bad.0 (sym is ∙ bad.1)
-    where
+  where
     write_not : (p : ℕ) → RunEnd.WriteFault ≡ RunEnd.Fault (StoreFault.BadLog p) → ⊥
     write_not p is = cc
 
 pub memory_good : IsBad (RunEnd.Fault StoreFault.Memory) → ⊥
 memory_good bad = memory_not bad.0 bad.1
-    where
+  where
     memory_not : (p : ℕ) → RunEnd.Fault StoreFault.Memory ≡ RunEnd.Fault (StoreFault.BadLog p) → ⊥
     memory_not p is = cc
 
