@@ -1,11 +1,6 @@
 -- How commands end: what the disks show, and the causes.
-<<<<<<< HEAD
 use Rattle.std.proofs.Common.{◌≡◌, ◌∙◌, ◌⊎◌, inl, inr, ℕ, ◌≤◌, List, Bool, Result, Err, refl, sym, subst, arith}
-use Rattle.std.specs.Prelude.{⊤}
 use Rattle.at_cid.specs.Counts.{Rose}
-=======
-use Rattle.std.proofs.Common.{◌≡◌, ◌∙◌, ◌⊎◌, inl, inr, ℕ, List, Bool, Result, Err, refl, sym, subst}
->>>>>>> bf62e9c9c766ef5d510f56cbbebc1f715a95e537
 use Rattle.relay_disk.specs.Disk.{View}
 use Rattle.relay_row.specs.declared.row.Row.{Row}
 use Rattle.relay_step.specs.declared.word.Word.{Word}

@@ -1,8 +1,4 @@
-<<<<<<< HEAD
 use Rattle.std.proofs.Common.{◌≡◌, ◌⊎◌, ◌∙◌, inl, inr, ⊎_elim, ℕ, List, Err, IsTrue, refl, ap}
-=======
-use Rattle.std.proofs.Common.{◌≡◌, ◌⊎◌, Err, IsTrue, refl, ap}
->>>>>>> bf62e9c9c766ef5d510f56cbbebc1f715a95e537
 use Rattle.std.specs.Prelude.{⊤}
 use Rattle.at_cid.specs.Counts.{Rose}
 use Rattle.relay_step.specs.Causes.{OneTaken}
