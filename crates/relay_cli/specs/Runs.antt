@@ -25,7 +25,7 @@ use Rattle.relay_store.specs.Journals.{IsPairImageOf}
 use Rattle.relay_store.specs.declared.fault.StoreFault.{StoreFault}
 use Rattle.state_lines.specs.Lines.{account_text, hosts_text}
 use Rattle.relay_store.specs.declared.message.Message.{Message}
-use Rattle.tape_run.specs.Going.{tells as tape_tells}
+use Rattle.tape_run.specs.Tells.{tells as tape_tells}
 use Rattle.tape_run.specs.Tapes.{AreRecords, spelled}
 use Rattle.tape_run.specs.declared.end.TapeEnd.{TapeEnd}
 use Rattle.relay_cli.specs.declared.command.Command.{Command}

@@ -3,7 +3,7 @@ use Rattle.relay_step.specs.Around.{around}
 use Rattle.relay_run.specs.declared.end.RunEnd.{RunEnd}
 use Rattle.relay_store.specs.declared.fault.StoreFault.{StoreFault}
 use Rattle.relay_cli.specs.declared.command.Command.{Command}
-use Rattle.relay_cli.specs.Runs.{IsOperated, IsSynced, Ran, faults, place, tells}
+use Rattle.relay_cli.specs.Runs.{IsIngested, IsOperated, IsSynced, Ran, faults, place, tells}
 use Rattle.relay_cli.proofs.Words.{operated_of, spent_by, synced_of}
 use Rattle.relay_cli.proofs.running.run.Goals as goal
 
@@ -42,3 +42,14 @@ returns-in-Sync-clause-ran g c =
     } in
     subst (λ (command : Command). Ran (tells g.D.Disk.tells g.C.Clock.tells g.R.Repos.tells g.I.Source.tells g.O.Sink.tells) (place (g.D.Disk.view c.args.disk.now) (g.D.Disk.view c.args.other.now) (around (g.P.Judges.panel c.args.panel.now) (g.C.Clock.moments c.args.clock.now) (g.R.Repos.repository c.args.repos.now)) (g.I.Source.left c.args.input.now) (g.O.Sink.written c.args.out.now)) (place (g.D.Disk.view c.sync.new.disk) (g.D.Disk.view c.sync.new.other) (around (g.P.Judges.panel c.sync.new.judges) (g.C.Clock.moments c.sync.new.clock) (g.R.Repos.repository c.sync.new.repos)) (g.I.Source.left c.args.input.now) (g.O.Sink.written c.sync.new.out)) (faults (g.D.Disk.view c.args.disk.now).faults (g.D.Disk.view c.args.other.now).faults (g.R.Repos.faults c.args.repos.now) (g.C.Clock.faults c.args.clock.now) (g.I.Source.faults c.args.input.now) (g.O.Sink.faults c.args.out.now)) (faults (g.D.Disk.view c.sync.new.disk).faults (g.D.Disk.view c.sync.new.other).faults (g.R.Repos.faults c.sync.new.repos) (g.C.Clock.faults c.sync.new.clock) (g.I.Source.faults c.args.input.now) (g.O.Sink.faults c.sync.new.out)) c.from-in-Sync.result command) (sym c.in-Sync.is)
     (synced_of _ _ _ _ (tells g.D.Disk.tells g.C.Clock.tells g.R.Repos.tells g.I.Source.tells g.O.Sink.tells) (place (g.D.Disk.view c.args.disk.now) (g.D.Disk.view c.args.other.now) (around (g.P.Judges.panel c.args.panel.now) (g.C.Clock.moments c.args.clock.now) (g.R.Repos.repository c.args.repos.now)) (g.I.Source.left c.args.input.now) (g.O.Sink.written c.args.out.now)) (place (g.D.Disk.view c.sync.new.disk) (g.D.Disk.view c.sync.new.other) (around (g.P.Judges.panel c.sync.new.judges) (g.C.Clock.moments c.sync.new.clock) (g.R.Repos.repository c.sync.new.repos)) (g.I.Source.left c.args.input.now) (g.O.Sink.written c.sync.new.out)) _ c.as_str-did-in-Sync.ensures.value c.as_str-time-in-Sync.ensures.value done)
+
+pub returns-in-Ingest-clause-ran : goal.returns-in-Ingest-clause-ran
+returns-in-Ingest-clause-ran g c =
+    let done : IsIngested (tells g.D.Disk.tells g.C.Clock.tells g.R.Repos.tells g.I.Source.tells g.O.Sink.tells) (place (g.D.Disk.view c.args.disk.now) (g.D.Disk.view c.args.other.now) (around (g.P.Judges.panel c.args.panel.now) (g.C.Clock.moments c.args.clock.now) (g.R.Repos.repository c.args.repos.now)) (g.I.Source.left c.args.input.now) (g.O.Sink.written c.args.out.now)) (place (g.D.Disk.view c.ingest.new.disk) (g.D.Disk.view c.ingest.new.other) (around (g.P.Judges.panel c.ingest.new.judges) (g.C.Clock.moments c.ingest.new.clock) (g.R.Repos.repository c.ingest.new.repos)) (g.I.Source.left c.ingest.new.input) (g.O.Sink.written c.ingest.new.out)) (faults (g.D.Disk.view c.args.disk.now).faults (g.D.Disk.view c.args.other.now).faults (g.R.Repos.faults c.args.repos.now) (g.C.Clock.faults c.args.clock.now) (g.I.Source.faults c.args.input.now) (g.O.Sink.faults c.args.out.now)) (faults (g.D.Disk.view c.ingest.new.disk).faults (g.D.Disk.view c.ingest.new.other).faults (g.R.Repos.faults c.ingest.new.repos) (g.C.Clock.faults c.ingest.new.clock) (g.I.Source.faults c.ingest.new.input) (g.O.Sink.faults c.ingest.new.out)) c.from.result = record {
+      end = c.ingest.result;
+      status_is = c.from.ensures;
+      had = c.ingest.ensures.shows;
+      does = c.ingest.ensures.ingested;
+      complete = λ told J image input. c.ingest.ensures.complete told input J image;
+    } in
+    subst (λ (command : Command). Ran (tells g.D.Disk.tells g.C.Clock.tells g.R.Repos.tells g.I.Source.tells g.O.Sink.tells) (place (g.D.Disk.view c.args.disk.now) (g.D.Disk.view c.args.other.now) (around (g.P.Judges.panel c.args.panel.now) (g.C.Clock.moments c.args.clock.now) (g.R.Repos.repository c.args.repos.now)) (g.I.Source.left c.args.input.now) (g.O.Sink.written c.args.out.now)) (place (g.D.Disk.view c.ingest.new.disk) (g.D.Disk.view c.ingest.new.other) (around (g.P.Judges.panel c.ingest.new.judges) (g.C.Clock.moments c.ingest.new.clock) (g.R.Repos.repository c.ingest.new.repos)) (g.I.Source.left c.ingest.new.input) (g.O.Sink.written c.ingest.new.out)) (faults (g.D.Disk.view c.args.disk.now).faults (g.D.Disk.view c.args.other.now).faults (g.R.Repos.faults c.args.repos.now) (g.C.Clock.faults c.args.clock.now) (g.I.Source.faults c.args.input.now) (g.O.Sink.faults c.args.out.now)) (faults (g.D.Disk.view c.ingest.new.disk).faults (g.D.Disk.view c.ingest.new.other).faults (g.R.Repos.faults c.ingest.new.repos) (g.C.Clock.faults c.ingest.new.clock) (g.I.Source.faults c.ingest.new.input) (g.O.Sink.faults c.ingest.new.out)) c.from.result command) (sym c.in-Ingest.is) done
