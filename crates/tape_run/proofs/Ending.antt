@@ -36,7 +36,8 @@ use Rattle.tape_run.specs.Going.{Going, Point, Stopped}
 use Rattle.tape_run.specs.Tells.{Tells}
 use Rattle.tape_run.specs.Said.{said, text_of}
 use Rattle.tape_run.specs.Taken.{Taken, scene}
-use Rattle.tape_run.specs.Tapes.{AreRead, AreRecords, IsGroup, IsOnTape, spelled}
+use Rattle.tape_run.specs.Groups.{AreRead, IsGroup}
+use Rattle.tape_run.specs.Tapes.{AreRecords, IsOnTape, spelled}
 use Rattle.tape_run.specs.declared.end.TapeEnd.{TapeEnd}
 use Rattle.tape_run.specs.declared.group.Rest.{Rest}
 use Rattle.tape_run.proofs.Batches.{none_next, whole_front}

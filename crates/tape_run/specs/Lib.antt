@@ -4,6 +4,7 @@ pub mod Stops
 pub mod Causes
 pub mod Said
 pub mod Tapes
+pub mod Groups
 pub mod Crashes
 pub mod Going
 pub mod Covered

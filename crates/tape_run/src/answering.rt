@@ -74,10 +74,7 @@ pub(crate) fn answer<O: Sink>(
         Ok(()) => {}
         Err(_) => return Err(TapeEnd::Memory),
     }
-    match write_lines(out, &text) {
-        Ok(()) => Ok(()),
-        Err(end) => Err(end),
-    }
+    write_lines(out, &text)
 }
 
 // The line of a message of a host that ended before.
@@ -109,10 +106,7 @@ pub(crate) fn pass_over<O: Sink>(
         Err(_) => return Err(TapeEnd::Memory),
     };
     tally.pass_over();
-    match write_lines(out, &text) {
-        Ok(()) => Ok(()),
-        Err(end) => Err(end),
-    }
+    write_lines(out, &text)
 }
 
 /// Writes the last line, beside the journal's last number, and says how that ended.

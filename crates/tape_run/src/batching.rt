@@ -26,14 +26,12 @@ fn live_front(group: &[Message], tally: &Tally) -> usize
     ensures live { AreLive tally.now.ended.items (take result group.now) }
     ensures ended { 0 < length group.now → result ≡ 0 → FirstHasEnded tally.now.ended.items group.now }
 {
-    let mut n = 0;
-    'looking: while n < group.len() {
-        if tally.has_ended(group[n].host.as_str()) {
+    for (n, message) in group.iter().enumerate() {
+        if tally.has_ended(message.host.as_str()) {
             return n;
         }
-        n += 1;
     }
-    n
+    group.len()
 }
 
 // Takes messages of hosts that haven't ended, writes the lines of those that are answered, and says how many those are.
@@ -124,10 +122,7 @@ fn take_some<D: Disk, P: Judges, R: Repos, C: Clock, O: Sink>(
         };
     }
     let front = &group[..live];
-    match take_live(alloc, store, disk, front, judges, repos, clock, tally, out) {
-        Ok(count) => Ok(count),
-        Err(end) => Err(end),
-    }
+    take_live(alloc, store, disk, front, judges, repos, clock, tally, out)
 }
 
 /// Takes a group of messages in batches: those of hosts that ended before are passed over, and each batch stops at the end of a host.
