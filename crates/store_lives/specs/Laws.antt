@@ -13,11 +13,12 @@ abbrev pub IsFrontOf : List Row → List Row → Type 0
 IsFrontOf J K = (more : List Row) × (K ≡ J ++ more)
 
 module _ {D : Type 0} (view : D → View) where
-  -- the store that is open there has this journal
+  -- the store, where this one is open there, has this journal
   abbrev pub HasIn : List Row → Option StoreState → Machine D → Type 0
   HasIn J None m = ⊥
   HasIn J (Some s) m = Keeps J s (view (disk_of s.side m))
 
+  -- a store is open there, and has it
   abbrev pub Has : List Row → Machine D → Type 0
   Has J m = HasIn J m.store m
 
@@ -26,6 +27,7 @@ module _ {D : Type 0} (view : D → View) where
   IsFrontOfAll m [] = Unit {0}
   IsFrontOfAll m (later ∷ others) = ((J K : List Row) → Has J m → Has K later → IsFrontOf J K) × IsFrontOfAll m others
 
+  -- so is that of each machine of a list, of which this is the first
   abbrev pub AllGrow : Machine D → List (Machine D) → Type 0
   AllGrow m [] = Unit {0}
   AllGrow m (next ∷ others) = IsFrontOfAll m (next ∷ others) × AllGrow next others
