@@ -3,11 +3,12 @@ use Rattle.std.specs.Prelude.{◌≡◌, ◌⊎◌, List, [], ◌∷◌, Option,
 use Rattle.relay_row.specs.declared.row.Row.{Row}
 use Rattle.relay_law.specs.Histories.{Change, IsChanged, Point, IsIn, Stands, Calls, Opens, NextOf, LivesFrom, AllCome}
 
--- histories whose calls and openings are these
+-- a point follows another by a call, or by an opening where no store is open, that are these
 abbrev pub NextBy : (List Row → Point → Type 0) → (Point → Point → Type 0) → Option (List Row) → Point → Point → Type 0
 NextBy calls opens None p next = opens p next
 NextBy calls opens (Some J) p next = calls J next
 
+-- a list of points, each of which follows the one before it by one of these
 abbrev pub LivesBy : (List Row → Point → Type 0) → (Point → Point → Type 0) → Point → List Point → Type 0
 LivesBy calls opens p [] = Stands p
 LivesBy calls opens p (next ∷ points) = Stands p × NextBy calls opens p.serves p next × LivesBy calls opens next points
