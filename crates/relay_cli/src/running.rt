@@ -97,15 +97,11 @@ fn run<P: Judges, R: Repos, D: Disk, I: Source, O: Sink, C: Clock>(
         Command::Hosts => Status::from(hosts(alloc, LONGEST, disk, other, out)),
         Command::Takedown(did, time) => {
             let (did, time) = (did.as_str(), time.as_str());
-            Status::from(operate(
-                alloc, LONGEST, disk, other, did, true, time, clock, out,
-            ))
+            Status::from(operate(alloc, LONGEST, disk, other, did, true, time, clock, out))
         }
         Command::Restore(did, time) => {
             let (did, time) = (did.as_str(), time.as_str());
-            Status::from(operate(
-                alloc, LONGEST, disk, other, did, false, time, clock, out,
-            ))
+            Status::from(operate(alloc, LONGEST, disk, other, did, false, time, clock, out))
         }
         Command::Sync(did, time) => {
             let (did, time) = (did.as_str(), time.as_str());
