@@ -1,5 +1,5 @@
 -- What taking a tape into the journal of two disks does (own).
-use Rattle.std.specs.Prelude.{◌≡◌, ◌≢◌, ◌⊎◌, ⊤, ℕ, Bool, List, [], ◌++◌, length, Some, IsTrue}
+use Rattle.std.specs.Prelude.{◌≡◌, ◌≢◌, ◌⊎◌, ⊤, ℕ, Bool, List, [], ◌++◌, Some, IsTrue}
 use Rattle.at_authority.specs.Panels.{Panel}
 use Rattle.relay_disk.specs.Disk.{View}
 use Rattle.relay_disk.specs.Moments.{PairLeavesOnly}
@@ -23,8 +23,8 @@ use Rattle.relay_store.specs.declared.fault.StoreFault.{StoreFault}
 use Rattle.relay_store.specs.declared.message.Message.{Message}
 use Rattle.tape_run.specs.Covered.{CoveredGetThrough}
 use Rattle.tape_run.specs.Crashes.{HasNoRoom}
-use Rattle.tape_run.specs.Ends.{AreOver, AreTaken, AreUnder, IsWritten, StopsAsking, disk_failed, end_of_store}
-use Rattle.tape_run.specs.Going.{Tells}
+use Rattle.tape_run.specs.Ends.{AreExtraAt, AreTaken, AreUnder, IsWritten, StopsAsking, disk_failed, end_of_store}
+use Rattle.tape_run.specs.Tells.{Tells}
 use Rattle.tape_run.specs.Tapes.{AreRecords, IsOnTape}
 use Rattle.tape_run.specs.declared.end.TapeEnd.{TapeEnd}
 use Rattle.relay_run.specs.Pairs.{IsOneOfPair, StandsFor}
@@ -60,8 +60,8 @@ pub record IsLogOn (log : LogState) (one two : View) : Type 0 where
 
 -- the log is full only where a row has no room in the one that is picked
 abbrev pub IsFullOn : ℕ → List Row → List Row → List Row → View → View → TapeEnd → Type 0
-IsFullOn most J rows over one two (TapeEnd.Store (StoreFault.Full e)) = (log : LogState) × (log.most ≡ most) × IsLogOn log one two × HasNoRoom J rows over log e
-IsFullOn most J rows over one two end = ⊤
+IsFullOn most J rows extra one two (TapeEnd.Store (StoreFault.Full e)) = (log : LogState) × (log.most ≡ most) × IsLogOn log one two × HasNoRoom J rows extra log e
+IsFullOn most J rows extra one two end = ⊤
 
 -- for the next message the numbers end behind this journal, or no authority is left, where that ended it
 abbrev pub IsNextEnd : List Row → List Message → Panel → TapeEnd → Type 0
@@ -85,30 +85,30 @@ pub record Ingested (t : Tells) (input_tells : Bool) (most limit : ℕ) (J : Lis
   -- the steps that are answered, those of a body that was under way when a disk failed, and one whose row found no room or no memory
   pub steps : List Step
   pub under : List Step
-  pub over : List Step
+  pub extra : List Step
   pub which_under : AreUnder end under
-  pub which_over : AreOver end over
+  pub which_extra : AreExtraAt end extra
   -- each is what comes of its message behind the rows before it
-  pub are : (checks : Checks) → OpensRight checks → LinksRight checks → AreSteps checks J [] (steps ++ (under ++ over))
-  pub journal : IsJournal (J ++ rows (steps ++ (under ++ over)))
+  pub are : (checks : Checks) → OpensRight checks → LinksRight checks → AreSteps checks J [] (steps ++ (under ++ extra))
+  pub journal : IsJournal (J ++ rows (steps ++ (under ++ extra)))
   -- their messages, and behind them those that were read and not taken, are the records at the front of the input
   pub behind : List Message
   pub all : AreTaken end behind
-  pub records : AreRecords (sent (steps ++ (under ++ over)) ++ behind)
-  pub from : IsTrue input_tells → IsOnTape limit old.left new.left (sent (steps ++ (under ++ over)) ++ behind) end
+  pub records : AreRecords (sent (steps ++ (under ++ extra)) ++ behind)
+  pub from : IsTrue input_tells → IsOnTape limit old.left new.left (sent (steps ++ (under ++ extra)) ++ behind) end
   -- unless a disk failed, the two stand for the journal with the rows of the steps
   pub stands : end ≢ disk_failed → StandsFor (J ++ rows steps) new.one new.two
   -- Whatever moments a crash strikes the two at, it leaves the journal with some of the rows, or all and those of the body under way, and at the end with all.
   pub crashes : StandsFor J old.one old.two → PairLeavesOnly (IsPairOnTheWay J (rows steps) (rows under)) old.one new.one old.two new.two
   pub left : (c d : List ℕ) → new.one.may_leave c → new.two.may_leave d → IsOneOfPair (J ++ rows steps) (rows under) c d
-  pub full : IsFullOn most J (rows steps) (rows over) new.one new.two end
+  pub full : IsFullOn most J (rows steps) (rows extra) new.one new.two end
   -- what is written is the report of the steps
   pub written : IsTrue t.output → IsWritten end (lines_from J [] (messages steps) (rows steps)) (end_line J (messages steps) (rows steps)) old.written new.written
   -- what was asked: of each step what it shows, and for one more message at most what came to nothing
   pub mid : Around
-  pub asked : AllAsked t.clock t.repos J old.around (steps ++ (under ++ over)) mid
+  pub asked : AllAsked t.clock t.repos J old.around (steps ++ (under ++ extra)) mid
   pub stops : StopsAsking t.clock t.repos end behind mid new.around
   pub next : IsNextEnd (J ++ rows steps) behind new.around.panel end
   -- a sound journal stays sound with the rows of any of the steps in front, and a covered commit gets through
-  pub sound : (front others : List Step) → steps ++ (under ++ over) ≡ front ++ others → IsSound J → IsSound (J ++ rows front)
-  pub covered : CoveredGetThrough J (steps ++ (under ++ over))
+  pub sound : (front others : List Step) → steps ++ (under ++ extra) ≡ front ++ others → IsSound J → IsSound (J ++ rows front)
+  pub covered : CoveredGetThrough J (steps ++ (under ++ extra))

@@ -10,7 +10,7 @@ ghost use Rattle.relay_store.specs.Journals.{IsPairImageOf};
 ghost use Rattle.relay_store.specs.Store.{IsKept, IsOf, seen_in};
 ghost use Rattle.relay_store.specs.declared.message.Message.{Message as TheMessage};
 ghost use Rattle.relay_run.specs.Pairs.{of_pair};
-ghost use Rattle.tape_run.specs.Going.{tells};
+ghost use Rattle.tape_run.specs.Tells.{tells};
 ghost use Rattle.tape_run.specs.Taken.{Taken, scene};
 ghost use Rattle.tape_run.specs.Tapes.{AreRecords, spelled};
 ghost use Rattle.ingest_run.specs.Ends.{IsCausedBy, MayEnd, NoneOf, Shows};
@@ -53,12 +53,8 @@ fn take_on<D: Disk, P: Judges, R: Repos, C: Clock, I: Source, O: Sink>(
     ensures out_counts { O.faults out.old ≤ O.faults out.new }
 {
     match store.side() {
-        Side::One => take_tape(
-            alloc, limit, store, disk, judges, repos, clock, input, out,
-        ),
-        Side::Two => take_tape(
-            alloc, limit, store, other, judges, repos, clock, input, out,
-        ),
+        Side::One => take_tape(alloc, limit, store, disk, judges, repos, clock, input, out),
+        Side::Two => take_tape(alloc, limit, store, other, judges, repos, clock, input, out),
     }
 }
 
@@ -81,7 +77,7 @@ pub fn ingest<D: Disk, P: Judges, R: Repos, C: Clock, I: Source, O: Sink>(
     requires limit { limit < 2 ^ 63 }
     ensures ingested { IsTrue D.tells → (J : List TheRow) → IsPairImageOf J (D.view disk.old).content (D.view other.old).content
         → Unopened J (pair_scene (D.view disk.old) (D.view other.old) (around (P.panel judges.old) (C.moments clock.old) (R.repository repos.old)) (I.left input.old) (O.written out.old)) (pair_scene (D.view disk.new) (D.view other.new) (around (P.panel judges.new) (C.moments clock.new) (R.repository repos.new)) (I.left input.new) (O.written out.new)) result
-            ⊎ Ingested (tells D.tells C.tells R.tells O.tells) I.tells most limit J (pair_scene (D.view disk.old) (D.view other.old) (around (P.panel judges.old) (C.moments clock.old) (R.repository repos.old)) (I.left input.old) (O.written out.old)) (pair_scene (D.view disk.new) (D.view other.new) (around (P.panel judges.new) (C.moments clock.new) (R.repository repos.new)) (I.left input.new) (O.written out.new)) result }
+        ⊎ Ingested (tells D.tells C.tells R.tells O.tells) I.tells most limit J (pair_scene (D.view disk.old) (D.view other.old) (around (P.panel judges.old) (C.moments clock.old) (R.repository repos.old)) (I.left input.old) (O.written out.old)) (pair_scene (D.view disk.new) (D.view other.new) (around (P.panel judges.new) (C.moments clock.new) (R.repository repos.new)) (I.left input.new) (O.written out.new)) result }
     ensures shows { IsTrue D.tells → Shows result (D.view disk.old).content (D.view other.old).content }
     ensures caused { IsCausedBy (Rose (D.view disk.old).faults (D.view disk.new).faults ⊎ Rose (D.view other.old).faults (D.view other.new).faults) (Rose (I.faults input.old) (I.faults input.new)) (Rose (O.faults out.old) (O.faults out.new)) (Rose (R.faults repos.old) (R.faults repos.new)) (Rose (C.faults clock.old) (C.faults clock.new)) result }
 

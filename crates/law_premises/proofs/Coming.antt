@@ -1,13 +1,14 @@
 -- Histories in which a later journal is of other rows.
-use Rattle.std.proofs.Common.{◌≡◌, ◌≢◌, ◌⊎◌, inl, inr, ℕ, Bool, true, false, List, [], ◌∷◌, ◌++◌, Option, None, Some, refl, sym, ◌∙◌, ap, subst, arith}
+use Rattle.std.proofs.Common.{◌≡◌, ◌≢◌, ◌⊎◌, inl, inr, ℕ, Bool, true, false, List, [], ◌∷◌, ◌++◌, map, Option, None, Some, refl, sym, ◌∙◌, ap, subst, arith}
 use Rattle.std.proofs.lemmas.Bool.Decides.{nat_tests}
 use Rattle.std.specs.Prelude.{◌==◌, if◌then◌else◌}
 use Rattle.relay_row.specs.Folds.{folded, last_after, last_seq, seq_in}
 use Rattle.relay_row.specs.declared.carried.Carried.{Carried}
 use Rattle.relay_row.specs.declared.row.Row.{Row}
 use Rattle.relay_row.proofs.Journals.{lasts_joined}
-use Rattle.relay_law.specs.Histories.{Change, adds, cuts, AreChanged, Calls, Comes, IsChanged, IsCut, IsIn, Opens, Point, Stands}
-use Rattle.law_premises.specs.Histories.{JournalsMayBeOthers}
+use Rattle.relay_law.specs.Histories.{Change, adds, cuts, AreChanged, Calls, Comes, IsChanged, IsCut, IsIn, NextOf, LivesFrom, AllCome, Opens, Point, Stands}
+use Rattle.relay_law.proofs.Coming.{come_on}
+use Rattle.law_premises.specs.Histories.{JournalsMayBeOthers, LivesUnfounded, UnfoundedComeOn}
 
 -- ---- a journal that gave a number comes to none that gave none
 
@@ -95,4 +96,45 @@ journals_others = record {
       (stands_closed ([] ∷ []), record { ends = λ J is. inl (empty_is J is) }, stands_bare (Some [])),
     ),
   ) refl).1.1.0 [] refl);
+  serves = λ all. apart ((all (at (Some []) []) (at (Some []) [] ∷ []) given
+      (stands_bare (Some []), record { change = adds []; changed = []; is_change = refl; ends = inl refl; leaves = λ K among. absurd among }, stands_bare (Some []))).0 [] refl);
 }
+
+-- ---- what the disks of an open store stand for
+
+abbrev left_of : Option (List Row) → List (List Row) → List (List Row)
+left_of None leaves = leaves
+left_of (Some J) leaves = []
+
+-- the point, with nothing on the disks where a store is open
+abbrev founded : Point → Point
+founded p = at p.serves (left_of p.serves p.leaves)
+
+founded_stands : (o : Option (List Row)) (leaves : List (List Row)) → Stands (at o (left_of o leaves))
+founded_stands None leaves J is K among = absurd cc
+founded_stands (Some I) leaves J is K among = absurd among
+
+fewer : (o : Option (List Row)) (leaves : List (List Row)) (K : List Row) → IsIn K (left_of o leaves) → IsIn K leaves
+fewer None leaves K among = among
+fewer (Some J) leaves K among = absurd among
+
+founded_next : (o : Option (List Row)) (p next : Point) → p.serves ≡ o → NextOf o p next → NextOf o (founded p) (founded next)
+founded_next None p next closed opens =
+    let all : (K : List Row) → IsIn K p.leaves → IsIn K (left_of p.serves p.leaves) = λ K among. subst (λ (o : Option (List Row)). IsIn K (left_of o p.leaves)) (sym closed) among in
+    record { ends = λ J is. all J (opens.ends J is); leaves = λ K among. all K (opens.leaves K (fewer next.serves next.leaves K among)) }
+founded_next (Some J) p next is call =
+    record { change = call.change; changed = call.changed; is_change = call.is_change; ends = call.ends; leaves = λ K among. call.leaves K (fewer next.serves next.leaves K among) }
+
+abbrev all_founded : List Point → List Point
+all_founded points = map founded points
+
+founded_lives : (p : Point) (points : List Point) → LivesUnfounded p points → LivesFrom (founded p) (all_founded points)
+founded_lives p [] lives = founded_stands p.serves p.leaves
+founded_lives p (next ∷ points) lives = (founded_stands p.serves p.leaves, founded_next p.serves p next refl lives.0, founded_lives next points lives.1)
+
+all_come_back : (J : List Row) (points : List Point) → AllCome J (all_founded points) → AllCome J points
+all_come_back J [] all = tt
+all_come_back J (p ∷ points) all = (all.0, all_come_back J points all.1)
+
+pub unfounded : UnfoundedComeOn
+unfounded p points J lives is = all_come_back J points (come_on (founded p) (all_founded points) J (founded_lives p points lives) is)

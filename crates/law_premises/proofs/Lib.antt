@@ -4,3 +4,10 @@ pub mod Running
 pub mod Linking
 pub mod Fronts
 pub mod Coming
+pub mod Covered
+pub mod Judging
+pub mod Disagreeing
+pub mod Forming
+pub mod Storing
+pub mod Deciding
+pub mod Speaking

@@ -2,7 +2,6 @@
 use Rattle.std.proofs.Common.{◌≡◌, ◌≢◌, ℕ, ◌-◌, ◌≤◌, Bool, true, false, List, [], ◌∷◌, length, Option, None, Some, Ok, Err, refl, sym, ◌∙◌, ap, subst, lit<, arith}
 use Rattle.std.proofs.lemmas.Bool.Decides.{nat_tests}
 use Rattle.std.specs.Prelude.{if◌then◌else◌}
-use Rattle.at_cbor.specs.Item.{Item}
 use Rattle.at_cbor.specs.Spelling.{info_of, tail_of}
 use Rattle.at_car.specs.Varint.{groups}
 use Rattle.at_car.specs.declared.fault.CarFault.{CarFault}
@@ -45,11 +44,11 @@ use Rattle.relay_law.proofs.Choosing.{some_right}
 use Rattle.relay_law.proofs.Right.{checks_right}
 use Rattle.law_premises.specs.Runs.{RowsMayBeOfLost, RunsMayBeUnfaithful, RunsMayBeUnsound}
 use Rattle.law_premises.proofs.Messages.{goes_by, late_unread, no_car, no_step, odd, odd_unread, torn_step}
-use Rattle.law_premises.proofs.Samples.{accepted, bare, bare_bytes, bare_car, bare_short, bytes_by, commit, did, did_text, event, host, host_text, is_event, link, no_frame, top, torn, torn_journal}
+use Rattle.law_premises.proofs.Samples.{accepted, bare, bare_bytes, bare_car, bare_short, bytes_by, commit, did, did_text, event, host, host_text, is_event, link, link_top, no_frame, top, torn, torn_journal}
 
 -- ---- checks that pass everything
 
-abbrev loose : Checks
+abbrev pub loose : Checks
 loose = record { opens = λ e last. Ok top; links = λ e repo. None }
 
 no_bytes : IsBytes []
@@ -94,38 +93,25 @@ unless_lost (Repo.Lost rev) = Some Refusal.Gap
 unless_lost Repo.Missing = None
 unless_lost (Repo.Good head) = None
 
-abbrev links_odd : Item → Repo → Option Refusal
-links_odd Item.null repo = unless_lost repo
-links_odd other repo = Some Refusal.Gap
+-- what has no number is no event
+abbrev links_odd : Option ℕ → Repo → Option Refusal
+links_odd None repo = unless_lost repo
+links_odd (Some n) repo = Some Refusal.Gap
 
 abbrev odd_checks : Checks
-odd_checks = record { opens = λ e last. Ok top; links = λ e repo. links_odd e.payload repo }
+odd_checks = record { opens = λ e last. Ok top; links = λ e repo. links_odd (seq_of e.payload) repo }
 
-odd_lost : (i : Item) (rev : Option ℕ) → links_odd i (Repo.Lost rev) ≢ None
-odd_lost Item.null rev e = absurd cc
-odd_lost (Item.int z) rev e = absurd cc
-odd_lost (Item.bytes bs) rev e = absurd cc
-odd_lost (Item.text bs) rev e = absurd cc
-odd_lost (Item.list is) rev e = absurd cc
-odd_lost (Item.map fs) rev e = absurd cc
-odd_lost (Item.link bs) rev e = absurd cc
-odd_lost (Item.bool b) rev e = absurd cc
+odd_lost : (n : Option ℕ) (rev : Option ℕ) → links_odd n (Repo.Lost rev) ≢ None
+odd_lost None rev e = absurd cc
+odd_lost (Some n) rev e = absurd cc
 
-odd_none : (i : Item) (n : ℕ) (repo : Repo) → seq_of i ≡ Some n → links_odd i repo ≡ None → ⊥
-unfolding seq_of given
-odd_none Item.null n repo number e = absurd cc
-odd_none (Item.int z) n repo number e = absurd cc
-odd_none (Item.bytes bs) n repo number e = absurd cc
-odd_none (Item.text bs) n repo number e = absurd cc
-odd_none (Item.list is) n repo number e = absurd cc
-odd_none (Item.map fs) n repo number e = absurd cc
-odd_none (Item.link bs) n repo number e = absurd cc
-odd_none (Item.bool b) n repo number e = absurd cc
+odd_none : (n : ℕ) (repo : Repo) → links_odd (Some n) repo ≢ None
+odd_none n repo e = absurd cc
 
 odd_right : AreRight odd_checks
 odd_right = record {
-  not_lost = λ e c rev body. odd_lost e.payload rev;
-  goes = λ e c repo last head read body opened linked. absurd (odd_none e.payload e.seq repo read.number linked);
+  not_lost = λ e c rev body. odd_lost (seq_of e.payload) rev;
+  goes = λ e c repo last head read body opened linked. absurd (odd_none e.seq repo (subst (λ (n : Option ℕ). links_odd n repo ≡ None) read.number linked));
 }
 
 abbrev strange : Row
@@ -139,7 +125,7 @@ strange_journal : IsJournal (strange ∷ [])
 strange_journal = grows [] strange no_rows strange_formed (first_next (out_of odd 1))
 
 odd_run : Run odd_checks [] ((host, Ok (Frame.Event odd)) ∷ []) (strange ∷ [])
-unfolding account cursor last_seq out_length out_of message_of info_of tail_of
+unfolding account cursor last_seq out_length out_of message_of info_of tail_of seq_of given
 odd_run = (strange, [], refl, refl, refl)
 
 -- ---- right checks that pass what starts from no tree
@@ -214,7 +200,7 @@ pub runs_unsound : RunsMayBeUnsound
 runs_unsound = record {
   right = λ all. bold_unsound (all loose [] ((host, Ok (Frame.Event (event []))) ∷ []) (bold ∷ []) (empty_event, tt) bold_journal none_sound bold_run);
   events = λ all. no_step (out_of odd 1) empty_root (link 0) FrameFault.BadFrame odd_unread (all odd_checks odd_right [] ((host, Ok (Frame.Event odd)) ∷ []) (strange ∷ []) strange_journal none_sound odd_run did).0.0;
-  journal = λ all. no_step (out_of (event bare) NUMBERS) [] (link 0) FrameFault.NoSeq (late_unread bare bare_bytes (omega (arith, bare_short)))
+  journal = λ all. no_step (out_of (event bare) NUMBERS) [] (link 0) FrameFault.NoSeq (late_unread (link 0) link_top bare bare_bytes (omega (arith, bare_short)))
       (all bare_checks bare_right (rootless ∷ []) ((host, Ok (Frame.Event (event bare))) ∷ []) (late ∷ []) (bare_event, tt) rootless_sound late_run did).1.0.0;
   sound = λ all. torn_step empty_root (link 0) (all some_right.0 (checks_right some_right.0 some_right.1 some_right.2) (torn ∷ []) [] [] tt torn_journal refl did).0.0;
   run = λ all. torn_step empty_root (link 0) (all some_right.0 (checks_right some_right.0 some_right.1 some_right.2) [] [] (torn ∷ []) tt torn_journal none_sound did).0.0;
@@ -231,7 +217,7 @@ unread_row seq message fault unread some faithful =
 pub runs_unfaithful : RunsMayBeUnfaithful
 runs_unfaithful = record {
   events = λ all. unread_row 1 (out_of odd 1) FrameFault.BadFrame odd_unread (omega arith) (all odd_checks [] ((host, Ok (Frame.Event odd)) ∷ []) (strange ∷ []) strange_journal odd_run).0;
-  journal = λ all. unread_row NUMBERS (out_of (event bare) NUMBERS) FrameFault.NoSeq (late_unread bare bare_bytes (omega (arith, bare_short))) (omega arith)
+  journal = λ all. unread_row NUMBERS (out_of (event bare) NUMBERS) FrameFault.NoSeq (late_unread (link 0) link_top bare bare_bytes (omega (arith, bare_short))) (omega arith)
       (all bare_checks (rootless ∷ []) ((host, Ok (Frame.Event (event bare))) ∷ []) (late ∷ []) (bare_event, tt) late_run).0;
   run = λ all. unread_row 1 (0 ∷ []) FrameFault.BadFrame no_frame (omega arith) (all loose [] [] (torn ∷ []) tt torn_journal).0;
 }

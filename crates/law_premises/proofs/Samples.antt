@@ -12,7 +12,7 @@ use Rattle.at_cbor.specs.Reading.{body_of as item_body, item_at}
 use Rattle.at_cbor.specs.Spelling.{Fits, IsText, info_of, spelling, tail_of}
 use Rattle.at_cbor.specs.Taking.{item_from_front, whole_item}
 use Rattle.at_cbor.specs.declared.decoding.TheConstants.{DEPTH}
-use Rattle.at_cid.specs.Link.{IsBytes}
+use Rattle.at_cid.specs.Link.{IsBytes, is_link}
 use Rattle.at_cid.specs.Order.{key_cmp}
 use Rattle.at_car.specs.Blocks.{BlockMap}
 use Rattle.at_car.specs.Car.{car_of}
@@ -28,7 +28,7 @@ use Rattle.at_syntax.specs.Tid.{is_tid, tid_of}
 use Rattle.at_event.specs.Events.{IsEvent}
 use Rattle.at_event.specs.Frames.{frame_of, items_in}
 use Rattle.at_event.specs.Seen.{Seen}
-use Rattle.at_event.specs.Table.{body_of, commit_of, event_of, kind_of, ops_in, ops_of, seq_of, too_big_in}
+use Rattle.at_event.specs.Table.{body_of, commit_of as commit_in, event_of as event_in, kind_of, ops_in, ops_of, seq_of, too_big_in}
 use Rattle.at_event.specs.declared.event.Body.{Body}
 use Rattle.at_event.specs.declared.event.CommitEvent.{CommitEvent}
 use Rattle.at_event.specs.declared.frame.FrameFault.{FrameFault}
@@ -76,38 +76,44 @@ bytes_by (c ∷ bytes) h (suc i) = bytes_by bytes (and_parts (ltb c 256) (list_a
 pub link_bytes : IsBytes (link 0)
 link_bytes = bytes_by (link 0) refl
 
--- ---- a commit without operations, with these blocks, under a number
+-- ---- a commit without operations under this link, with these blocks, under a number
 
-abbrev pub payload : ℕ → List ℕ → Item
-payload n blocks = Item.map (
+abbrev pub payload_of : List ℕ → ℕ → List ℕ → Item
+payload_of top n blocks = Item.map (
     field (codes "ops") (Item.list no_items)
     (field (codes "rev") (Item.text rev)
     (field (codes "seq") (Item.int (pos n))
     (field (codes "repo") (Item.text did)
     (field (codes "time") (Item.text (codes "t"))
     (field (codes "blocks") (Item.bytes blocks)
-    (field (codes "commit") (Item.link (link 0)) no_fields)))))))
+    (field (codes "commit") (Item.link top) no_fields)))))))
 
-abbrev pub commit : List ℕ → CommitEvent
-commit blocks = record { repo = did; rev = 0; since = None; prev_data = None; commit = link 0; too_big = false; blocks = blocks; ops = [] }
+abbrev pub commit_of : List ℕ → List ℕ → CommitEvent
+commit_of top blocks = record { repo = did; rev = 0; since = None; prev_data = None; commit = top; too_big = false; blocks = blocks; ops = [] }
 
-abbrev pub event : List ℕ → Seen
-event blocks = record { seq = 1; did = did; time = codes "t"; body = Body.Commit (commit blocks); payload = payload 1 blocks }
+abbrev pub event_of : List ℕ → List ℕ → Seen
+event_of top blocks = record { seq = 1; did = did; time = codes "t"; body = Body.Commit (commit_of top blocks); payload = payload_of top 1 blocks }
 
-numbered : (blocks : List ℕ) → seq_of (payload 1 blocks) ≡ Some 1
+numbered : (top blocks : List ℕ) → seq_of (payload_of top 1 blocks) ≡ Some 1
 unfolding seq_of given number_in
-numbered blocks = refl
+numbered top blocks = refl
 
-read : (blocks : List ℕ) → event_of (kind_of (Body.Commit (commit blocks))) 1 (payload 1 blocks) ≡ Some (event blocks)
-unfolding event_of body_of commit_of ops_in ops_of too_big_in did_in is_did short_text_in tid_in tid_of is_tid given node_in
-read blocks = refl
+read : (top blocks : List ℕ) → node_in (Item.link top) ≡ Some top → event_in (kind_of (Body.Commit (commit_of top blocks))) 1 (payload_of top 1 blocks) ≡ Some (event_of top blocks)
+unfolding event_in body_of commit_in ops_in ops_of too_big_in did_in is_did short_text_in tid_in tid_of is_tid given
+read top blocks node = rw node refl
 
-ascii : (text : List ℕ) → list_all (λ c. ltb c 128) text ≡ true → length text < 2 ^ 64 → IsText text
+pub ascii : (text : List ℕ) → list_all (λ c. ltb c 128) text ≡ true → length text < 2 ^ 64 → IsText text
 ascii text h short = ascii_text text h short
 
-pub fits : (n : ℕ) (blocks : List ℕ) → n < 2 ^ 63 → IsBytes blocks → length blocks < 2 ^ 64 → Fits (payload n blocks) DEPTH
+-- a link of kind Node, as fields have it
+pub record IsTop (top : List ℕ) : Type 0 where
+  pub link : is_link top ≡ true
+  pub bytes : IsBytes top
+  pub node : node_in (Item.link top) ≡ Some top
+
+pub fits_of : (top : List ℕ) → IsTop top → (n : ℕ) (blocks : List ℕ) → n < 2 ^ 63 → IsBytes blocks → length blocks < 2 ^ 64 → Fits (payload_of top n blocks) DEPTH
 unfolding key_cmp
-fits n blocks low bytes short = (
+fits_of top is n blocks low bytes short = (
   lit< tt,
   lit< tt,
   (
@@ -134,7 +140,7 @@ fits n blocks low bytes short = (
               ascii (codes "blocks") refl (lit< tt),
               refl,
               (short, bytes),
-              (ascii (codes "commit") refl (lit< tt), refl, (refl, link_bytes), tt),
+              (ascii (codes "commit") refl (lit< tt), refl, (is.link, is.bytes), tt),
             ),
           ),
         ),
@@ -143,13 +149,43 @@ fits n blocks low bytes short = (
   ),
 )
 
+pub is_event_of : (top : List ℕ) → IsTop top → (blocks : List ℕ) → IsBytes blocks → length blocks < 2 ^ 64 → IsEvent (event_of top blocks)
+is_event_of top is blocks bytes short = record { fits = fits_of top is 1 blocks (lit< tt) bytes short; number = numbered top blocks; read = read top blocks is.node }
+
+-- ---- under a link of no block that is there
+
+abbrev pub commit : List ℕ → CommitEvent
+commit blocks = commit_of (link 0) blocks
+
+abbrev pub event : List ℕ → Seen
+event blocks = event_of (link 0) blocks
+
+link_node : node_in (Item.link (link 0)) ≡ Some (link 0)
+unfolding node_in
+link_node = refl
+
+pub link_top : IsTop (link 0)
+link_top = record { link = refl; bytes = link_bytes; node = link_node }
+
 pub is_event : (blocks : List ℕ) → IsBytes blocks → length blocks < 2 ^ 64 → IsEvent (event blocks)
-is_event blocks bytes short = record { fits = fits 1 blocks (lit< tt) bytes short; number = numbered blocks; read = read blocks }
+is_event blocks bytes short = is_event_of (link 0) link_top blocks bytes short
 
 -- ---- a CAR without blocks
 
 abbrev pub none_held : BlockMap
 none_held = map.from_entries []
+
+pub header_fits : (root : List ℕ) → is_link root ≡ true → IsBytes root → Fits (header_of root) DEPTH
+header_fits root is bytes = (
+  lit< tt,
+  lit< tt,
+  (
+    ascii (codes "roots") refl (lit< tt),
+    refl,
+    (lit< tt, lit< tt, ((is, bytes), tt)),
+    (ascii (codes "version") refl (lit< tt), refl, lit< tt, tt),
+  ),
+)
 
 abbrev bare_header : Item
 bare_header = header_of (link 0)
@@ -171,21 +207,9 @@ header_short : length (spelling bare_header) < VARINTS
 unfolding info_of tail_of
 header_short = lit< tt
 
-header_fits : Fits bare_header DEPTH
-header_fits = (
-  lit< tt,
-  lit< tt,
-  (
-    ascii (codes "roots") refl (lit< tt),
-    refl,
-    (lit< tt, lit< tt, ((refl, link_bytes), tt)),
-    (ascii (codes "version") refl (lit< tt), refl, lit< tt, tt),
-  ),
-)
-
 bare_form : IsCar bare bare_header (link 0 ∷ []) []
 bare_form = record {
-  header_form = record { item = header_fits; short = header_short; roots = refl };
+  header_form = record { item = header_fits (link 0) refl link_bytes; short = header_short; roots = refl };
   sections_form = tt;
   spelled = refl;
 }

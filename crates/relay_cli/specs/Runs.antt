@@ -1,11 +1,12 @@
 -- What a run of a command does to the outside (own).
-use Rattle.std.specs.Prelude.{◌≡◌, ⊤, ℕ, ◌+◌, ◌≤◌, Bool, true, false, List, [], ◌++◌, length, IsTrue, ◌⊎◌}
+use Rattle.std.specs.Prelude.{◌≡◌, ⊤, ℕ, ◌+◌, ◌≤◌, ◌<◌, Bool, true, false, List, [], ◌++◌, length, IsTrue, ◌⊎◌}
 use Rattle.at_authority.specs.Panels.{IsSpent}
 use Rattle.at_cid.specs.Counts.{Rose}
 use Rattle.at_syntax.specs.Did.{method_of}
 use Rattle.account_state.specs.Folds.{account}
 use Rattle.host_state.specs.Folds.{hosts}
-use Rattle.ingest_run.specs.Ingested.{HadJournal as TapeHadJournal, Ingested, IsQuiet as IsQuietTape, TwoDisks, two_disks}
+use Rattle.ingest_run.specs.Ends.{MayEnd, NoneOf, Shows as TapeHadJournal}
+use Rattle.ingest_run.specs.Ingested.{Ingested, PairScene, Unopened, pair_scene}
 use Rattle.relay_disk.specs.Disk.{View}
 use Rattle.relay_io.specs.Streams.{AddsFront}
 use Rattle.relay_io.specs.declared.feed.TheConstants.{LONGEST_MESSAGE}
@@ -23,6 +24,9 @@ use Rattle.relay_store.specs.Faults.{IsCause}
 use Rattle.relay_store.specs.Journals.{IsPairImageOf}
 use Rattle.relay_store.specs.declared.fault.StoreFault.{StoreFault}
 use Rattle.state_lines.specs.Lines.{account_text, hosts_text}
+use Rattle.relay_store.specs.declared.message.Message.{Message}
+use Rattle.tape_run.specs.Tells.{tells as tape_tells}
+use Rattle.tape_run.specs.Tapes.{AreRecords, spelled}
 use Rattle.tape_run.specs.declared.end.TapeEnd.{TapeEnd}
 use Rattle.relay_cli.specs.declared.command.Command.{Command}
 use Rattle.relay_cli.specs.declared.running.TheConstants.{LONGEST}
@@ -138,8 +142,8 @@ abbrev pub disks : Place → Outside
 disks p = outside p.one p.two p.written
 
 -- and all that taking a tape moves
-abbrev pub all_of : Place → TwoDisks
-all_of p = two_disks p.one p.two p.around p.left p.written
+abbrev pub all_of : Place → PairScene
+all_of p = pair_scene p.one p.two p.around p.left p.written
 
 -- what a command does with the journal of the two disks, where they tell it
 abbrev pub OnJournal : Tells → Place → (List Row → Type 0) → Type 0
@@ -172,13 +176,18 @@ IsSynced did time t old new status = Ended t old new status (λ end. (new.left �
     × IsCause (Knows J (λ core. EndsFetched core did (told_where t.repos (old.around.repository did)) old.around.panel new.around.panel)) ⊤ ⊤ ⊤ fault)
     (λ word. Knows J (λ core. SyncedAt t.clock t.repos core did time old.around word new.around)) (disks old) (disks new) end)))
 
--- A tape was taken into the journal, and ended so.
-pub record TapeEnded (t : Tells) (old new : Place) (status : Status) : Type 0 where
+-- no count rose
+abbrev pub IsFlawless : Faults → Faults → Type 0
+IsFlawless old new = NoneOf (Rose old.disk new.disk ⊎ Rose old.other new.other) (Rose old.input new.input) (Rose old.output new.output) (Rose old.repos new.repos) (Rose old.clock new.clock)
+
+-- A tape was to be taken into the journal. The disks weren't opened, or it was taken and ended so; and the end tells what the disks were.
+pub record IsIngested (t : Tells) (old new : Place) (failed failed_now : Faults) (status : Status) : Type 0 where
   pub end : TapeEnd
   pub status_is : status ≡ status_of_tape end
   pub had : IsTrue t.disk → TapeHadJournal end old.one.content old.two.content
-  pub quiet : IsTrue t.output → IsQuietTape end old.written new.written
-  pub does : OnJournal t old (λ J. Ingested t.clock t.repos t.input t.output LONGEST LONGEST J (all_of old) (all_of new) end)
+  pub does : OnJournal t old (λ J. Unopened J (all_of old) (all_of new) end ⊎ Ingested (tape_tells t.disk t.clock t.repos t.output) t.input LONGEST LONGEST J (all_of old) (all_of new) end)
+  -- a whole tape is taken where nothing fails, unless memory is wanted, the log is full, or the numbers or the authorities end
+  pub complete : OnJournal t old (λ J. IsTrue t.input → (messages : List Message) → AreRecords messages → old.left ≡ spelled messages → length (spelled messages) < LONGEST → IsFlawless failed failed_now → MayEnd end)
 
 abbrev pub is_built : Command → Bool
 is_built (Command.Follow host count) = false
@@ -196,10 +205,10 @@ is_on_journal command = is_built command
 abbrev pub Ran : Tells → Place → Place → Faults → Faults → Status → Command → Type 0
 Ran t old new failed failed_now status Command.Check =
     Checked LONGEST_MESSAGE (streams t.input old.left failed.input t.output old.written failed.output) (streams t.input new.left failed_now.input t.output new.written failed_now.output) status
-Ran t old new failed failed_now status Command.Ingest = TapeEnded t old new status
+Ran t old new failed failed_now status Command.Ingest = IsIngested t old new failed failed_now status
 Ran t old new failed failed_now status (Command.Account did) = IsShown (λ J. account_text did (account did J)) t old new status
 Ran t old new failed failed_now status Command.Hosts = IsShown (λ J. hosts_text (hosts J)) t old new status
 Ran t old new failed failed_now status (Command.Takedown did time) = IsOperated did true time t old new status
 Ran t old new failed failed_now status (Command.Restore did time) = IsOperated did false time t old new status
 Ran t old new failed failed_now status (Command.Sync did time) = IsSynced did time t old new status
-Ran t old new failed failed_now status command = (status ≡ Status.NotBuilt) ⊎ (status ≡ Status.Memory)
+Ran t old new failed failed_now status command = status ≡ Status.NotBuilt

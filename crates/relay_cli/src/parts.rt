@@ -32,13 +32,20 @@ pub fn disk_in<'a>(
 }
 
 /// The repositories in the folder's folder `repos`.
-pub fn repos_in<'a>(rt: &'a HostRuntime, folder: &str) -> Result<FileRepos<&'a HostRuntime>, Memory> {
+pub fn repos_in<'a>(
+    rt: &'a HostRuntime,
+    folder: &str,
+) -> Result<FileRepos<&'a HostRuntime>, Memory> {
     let path = path_in(rt.alloc(), folder, "repos")?;
     Ok(FileRepos::new(rt, rt.alloc(), path))
 }
 
 // An authority over a table of the folder, which is read at the first question.
-fn authority_in(rt: &HostRuntime, folder: &str, name: &str) -> Result<FileAuthority<HostRuntime>, Memory> {
+fn authority_in(
+    rt: &HostRuntime,
+    folder: &str,
+    name: &str,
+) -> Result<FileAuthority<HostRuntime>, Memory> {
     let path = path_in(rt.alloc(), folder, name)?;
     Ok(FileAuthority::new(rt.clone()?, rt.alloc(), path))
 }

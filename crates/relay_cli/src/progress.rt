@@ -1,4 +1,5 @@
 //! How far a long run is, said on standard error where that is a terminal.
+ghost use Rattle.std.specs.Prelude.{◌≡◌};
 
 use relay_io::{Failed, Sink, Source};
 use std::cell::Cell;
@@ -34,7 +35,8 @@ impl<I: Source> Source for Counted<'_, I> {
 
     fn read(&mut self, room: &mut [u8]) -> Result<usize, Failed> {
         let count = self.input.read(room)?;
-        self.taken.set(self.taken.get().saturating_add(count as u64));
+        self.taken
+            .set(self.taken.get().saturating_add(count as u64));
         Ok(count)
     }
 }
@@ -137,7 +139,9 @@ impl<'a, O: Sink> Watched<'a, O> {
         Some(gone)
     }
 
-    fn tell(&mut self) {
+    fn tell(&mut self)
+        ensures out { self.new.out ≡ self.old.out }
+    {
         let Some(gone) = self.is_due() else {
             return;
         };
@@ -146,12 +150,9 @@ impl<'a, O: Sink> Watched<'a, O> {
         let lines = self.lines;
         let rate = lines.messages.saturating_mul(1_000) / gone.max(1);
         let megabytes = self.taken.get() / 1_000_000;
-        let _ = eprint!(
-            self.rt;
+        let _ = eprint!(self.rt;
             "\r{} messages, {megabytes} MB, {} events, {} refused, {rate} messages a second ",
-            lines.messages,
-            lines.events,
-            lines.refused
+            lines.messages, lines.events, lines.refused
         );
     }
 }

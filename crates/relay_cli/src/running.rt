@@ -30,12 +30,13 @@ pub fn relay<P: Judges, R: Repos, D: Disk, I: Source, O: Sink, C: Clock>(
     out: &mut O,
     clock: &mut C,
 ) -> Status
-    // What the words say is done.
-    ensures ran { (command : Command) → IsSpelled (map string_bytes words.now) command → Ran (tells D.tells C.tells R.tells I.tells O.tells)
+    // What the words say is done, unless memory is wanted for the words.
+    ensures ran { ((command : Command) → IsSpelled (map string_bytes words.now) command → Ran (tells D.tells C.tells R.tells I.tells O.tells)
         (place (D.view disk.old) (D.view other.old) (around (P.panel panel.old) (C.moments clock.old) (R.repository repos.old)) (I.left input.old) (O.written out.old))
         (place (D.view disk.new) (D.view other.new) (around (P.panel panel.new) (C.moments clock.new) (R.repository repos.new)) (I.left input.new) (O.written out.new))
         (faults (D.view disk.old).faults (D.view other.old).faults (R.faults repos.old) (C.faults clock.old) (I.faults input.old) (O.faults out.old))
-        (faults (D.view disk.new).faults (D.view other.new).faults (R.faults repos.new) (C.faults clock.new) (I.faults input.new) (O.faults out.new)) result command }
+        (faults (D.view disk.new).faults (D.view other.new).faults (R.faults repos.new) (C.faults clock.new) (I.faults input.new) (O.faults out.new)) result command)
+        ⊎ ((result ≡ Status.Memory) × ((panel.new ≡ panel.old) × ((repos.new ≡ repos.old) × ((disk.new ≡ disk.old) × ((other.new ≡ other.old) × ((input.new ≡ input.old) × ((out.new ≡ out.old) × (clock.new ≡ clock.old)))))))) }
 
     // `check` works on its streams alone. A command that isn't built, and words that are none, touch nothing.
     ensures alone { ((command : Command) → IsSpelled (map string_bytes words.now) command → is_on_journal command ≡ false)
@@ -96,15 +97,11 @@ fn run<P: Judges, R: Repos, D: Disk, I: Source, O: Sink, C: Clock>(
         Command::Hosts => Status::from(hosts(alloc, LONGEST, disk, other, out)),
         Command::Takedown(did, time) => {
             let (did, time) = (did.as_str(), time.as_str());
-            Status::from(operate(
-                alloc, LONGEST, disk, other, did, true, time, clock, out,
-            ))
+            Status::from(operate(alloc, LONGEST, disk, other, did, true, time, clock, out))
         }
         Command::Restore(did, time) => {
             let (did, time) = (did.as_str(), time.as_str());
-            Status::from(operate(
-                alloc, LONGEST, disk, other, did, false, time, clock, out,
-            ))
+            Status::from(operate(alloc, LONGEST, disk, other, did, false, time, clock, out))
         }
         Command::Sync(did, time) => {
             let (did, time) = (did.as_str(), time.as_str());

@@ -30,7 +30,7 @@ log_front format J c log = made_front format (bytes_of log.bodies) c log.is_made
 first_beside : (J K : List Row) (format : Format) (u c d : List ℕ) → HasFront format u → IsPairImageOf J u d → IsLogOf format K c → IsPairImageOf J c d ⊎ IsPairImageOf K c d
 first_beside J K format u c d front image log =
     by_side image.image.0 (same_side_of_first u d c format image.image.0 front (log_front format K c log) image.image.1) image.image.2
-    where
+  where
     by_side : (side : Side) → IsPicked c d side → IsImage (bytes_of image.bodies) (of_side side u d) → IsPairImageOf J c d ⊎ IsPairImageOf K c d
     by_side One picked was = inr (image_of_side K One format c d picked log)
     by_side Two picked was = inl (record { bodies = image.bodies; are = image.are; image = (Two, picked, was) })
@@ -38,7 +38,7 @@ first_beside J K format u c d front image log =
 second_beside : (J K : List Row) (format : Format) (c u d : List ℕ) → HasFront format u → IsPairImageOf J c u → IsLogOf format K d → IsPairImageOf J c d ⊎ IsPairImageOf K c d
 second_beside J K format c u d front image log =
     by_side image.image.0 (same_side_of_second c u d format image.image.0 front (log_front format K d log) image.image.1) image.image.2
-    where
+  where
     by_side : (side : Side) → IsPicked c d side → IsImage (bytes_of image.bodies) (of_side side c u) → IsPairImageOf J c d ⊎ IsPairImageOf K c d
     by_side One picked was = inl (record { bodies = image.bodies; are = image.are; image = (One, picked, was) })
     by_side Two picked was = inr (image_of_side K Two format c d picked log)
@@ -55,8 +55,8 @@ pub opened_leaves : (tells : Bool) (one two one_now two_now : View) (result : Re
     → PairLeavesOnly (IsPairImageOf J) one one_now two two_now
 opened_leaves tells one two one_now two_now result opened told J stands =
     pair_weaker (IsPairJournalOfOne one two) (IsPairImageOf J) one one_now two two_now (opened.moments told (λ c d left beside. (J, stands.left c d left beside))) (λ c d has.
-        let could = has.1 in
-        subst (λ (K : List Row). IsPairImageOf K c d) (same_pair_journal has.0 J could.0 could.1 could.4 (stands.left could.0 could.1 could.2 could.3)) has.2)
+    let could = has.1 in
+    subst (λ (K : List Row). IsPairImageOf K c d) (same_pair_journal has.0 J could.0 could.1 could.4 (stands.left could.0 could.1 could.2 could.3)) has.2)
 
 -- where crashes leave the journal at each moment, the disks stand for it
 pub leaves_stand : (J : List Row) (one two one_now two_now : View) → IsDisk one_now → IsDisk two_now → PairLeavesOnly (IsPairImageOf J) one one_now two two_now → StandsFor J one_now two_now
@@ -101,7 +101,7 @@ module _ {D : Type 0} (view : D → View) (is_disk : (x : D) → IsDisk (view x)
   view_on One = refl
   view_on Two = refl
 
-  view_now : (side : Side) → view_of_side side (view e) (view f) ≡ view (of_pair side e f)
+  pub view_now : (side : Side) → view_of_side side (view e) (view f) ≡ view (of_pair side e f)
   view_now One = refl
   view_now Two = refl
 
@@ -111,12 +111,12 @@ module _ {D : Type 0} (view : D → View) (is_disk : (x : D) → IsDisk (view x)
       → ((x y : List ℕ) → IsPairImageOf J x y → R x y) → ComesBeside side J s.log.format Q R → PairLeavesOnly R (view a) (view e) (view b) (view f)
   run_on One J s Q R same keeps opened run before behind = subst (λ (x : D). PairLeavesOnly R (view a) (view e) (view b) (view x)) (sym same)
       (pair_then_one (IsPairImageOf J) R Q (view a) (view c) (view e) (view b) (view d) opened run before (λ x y has left.
-          let now = (is_disk c).counts_now (view a).moment (view c).content opened.one_later (is_disk c).possible in
-          behind x y has (λ K log. first_beside J K s.log.format (view c).content x y (kept_front J s (view c) (is_disk c) keeps) (opened.each (view c).content y now left) log)))
+      let now = (is_disk c).counts_now (view a).moment (view c).content opened.one_later (is_disk c).possible in
+      behind x y has (λ K log. first_beside J K s.log.format (view c).content x y (kept_front J s (view c) (is_disk c) keeps) (opened.each (view c).content y now left) log)))
   run_on Two J s Q R same keeps opened run before behind = subst (λ (x : D). PairLeavesOnly R (view a) (view x) (view b) (view f)) (sym same)
       (pair_then_two (IsPairImageOf J) R Q (view a) (view c) (view b) (view d) (view f) opened run before (λ x y left has.
-          let now = (is_disk d).counts_now (view b).moment (view d).content opened.two_later (is_disk d).possible in
-          behind x y has (λ K log. second_beside J K s.log.format x (view d).content y (kept_front J s (view d) (is_disk d) keeps) (opened.each x (view d).content left now) log)))
+      let now = (is_disk d).counts_now (view b).moment (view d).content opened.two_later (is_disk d).possible in
+      behind x y has (λ K log. second_beside J K s.log.format x (view d).content y (kept_front J s (view d) (is_disk d) keeps) (opened.each x (view d).content left now) log)))
 
   -- and behind it the side stays picked
   pub leaves_on : (side : Side) (J : List Row) (s : StoreState) → of_pair (other_side side) e f ≡ of_pair (other_side side) c d → Keeps J s (view_of_side side (view c) (view d))

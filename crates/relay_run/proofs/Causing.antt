@@ -1,6 +1,6 @@
 -- How commands end: what the disks show, and the causes.
-use Rattle.std.proofs.Common.{◌≡◌, ◌∙◌, ◌⊎◌, inl, inr, ℕ, List, Bool, Result, Err, refl, sym, subst}
-use Rattle.std.specs.Prelude.{⊤}
+use Rattle.std.proofs.Common.{◌≡◌, ◌∙◌, ◌⊎◌, inl, inr, ℕ, ◌≤◌, List, Bool, Result, Err, refl, sym, subst, arith}
+use Rattle.at_cid.specs.Counts.{Rose}
 use Rattle.relay_disk.specs.Disk.{View}
 use Rattle.relay_row.specs.declared.row.Row.{Row}
 use Rattle.relay_step.specs.declared.word.Word.{Word}
@@ -47,6 +47,10 @@ opening_causes disk write spent repos clock StoreFault.Repos of cause = absurd o
 opening_causes disk write spent repos clock StoreFault.Memory of cause = tt
 opening_causes disk write spent repos clock StoreFault.Clock of cause = absurd of
 
+-- a count that rose behind one that hadn't fallen
+pub rose_behind : (before mid now : ℕ) → before ≤ mid → Rose mid now → Rose before now
+rose_behind before mid now le rose = omega (arith, le, rose)
+
 -- an account that is taken down or restored asks neither judges nor repositories
 pub operating_causes : (disk write clock : Type 0) (fault : StoreFault) → IsOfOperating fault → (fault ≡ StoreFault.Disk → disk) → (fault ≡ StoreFault.Clock → clock) → IsCausedBy disk write ⊥ ⊥ clock (RunEnd.Fault fault)
 operating_causes disk write clock StoreFault.Disk of failed stopped = failed refl
@@ -80,17 +84,17 @@ image_shows (RunEnd.Fault StoreFault.Clock) one two J image good = (J, image)
 -- what was shown was good
 pub shown_good : (end : RunEnd) → (end ≡ RunEnd.Done) ⊎ (end ≡ RunEnd.WriteFault) → IsBad end → ⊥
 shown_good end (inl is) bad = done_not bad.0 (sym is ∙ bad.1)
-    where
+  where
     done_not : (p : ℕ) → RunEnd.Done ≡ RunEnd.Fault (StoreFault.BadLog p) → ⊥
     done_not p is = cc
 shown_good end (inr is) bad = write_not bad.0 (sym is ∙ bad.1)
-    where
+  where
     write_not : (p : ℕ) → RunEnd.WriteFault ≡ RunEnd.Fault (StoreFault.BadLog p) → ⊥
     write_not p is = cc
 
 pub memory_good : IsBad (RunEnd.Fault StoreFault.Memory) → ⊥
 memory_good bad = memory_not bad.0 bad.1
-    where
+  where
     memory_not : (p : ℕ) → RunEnd.Fault StoreFault.Memory ≡ RunEnd.Fault (StoreFault.BadLog p) → ⊥
     memory_not p is = cc
 

@@ -1,8 +1,7 @@
 -- What a command that shows a journal did, from what opening found.
-use Rattle.std.proofs.Common.{◌≡◌, ◌∙◌, ◌⊎◌, ⊎_elim, ℕ, List, Bool, Ok, Err, Option, IsTrue, refl, ap, subst}
+use Rattle.std.proofs.Common.{◌≡◌, ◌∙◌, ⊎_elim, ℕ, List, Bool, Ok, Err, Option, IsTrue, refl, ap, subst}
 use Rattle.std.specs.Option.{unwrap_or}
 use Rattle.relay_disk.specs.Disk.{View, IsDisk}
-use Rattle.relay_disk.specs.Moments.{PairLeavesOnly}
 use Rattle.gate_log.specs.Pick.{view_of_side}
 use Rattle.relay_row.specs.declared.row.Row.{Row}
 use Rattle.account_state.specs.Entries.{entry}
@@ -18,7 +17,7 @@ use Rattle.relay_store.specs.Store.{Keeps, seen_in}
 use Rattle.relay_store.specs.declared.fault.StoreFault.{StoreFault}
 use Rattle.relay_store.specs.declared.store.Store.{Store}
 use Rattle.relay_run.specs.Ends.{IsWritten}
-use Rattle.relay_run.specs.Pairs.{StandsFor, outside}
+use Rattle.relay_run.specs.Pairs.{outside}
 use Rattle.relay_run.specs.Shown.{Shown}
 use Rattle.relay_run.specs.declared.end.RunEnd.{RunEnd}
 use Rattle.relay_run.proofs.Beside.{kept_stands, leaves_stand, opened_keeps, opened_leaves}

@@ -1,13 +1,11 @@
 -- What an operator's command did, from what the store answered.
-use Rattle.std.proofs.Common.{◌≡◌, ◌≢◌, inl, inr, ◌⊎◌, ⊎_elim, ℕ, ◌<◌, List, [], ◌∷◌, ◌++◌, length, Bool, Result, Ok, Err, IsTrue, refl, sym, ◌∙◌, ap, subst, arith}
+use Rattle.std.proofs.Common.{◌≡◌, inl, inr, ⊎_elim, ℕ, List, [], ◌∷◌, ◌++◌, length, Bool, Result, Ok, Err, IsTrue, refl, sym, ◌∙◌, ap, subst, arith}
 use Rattle.std.specs.Prelude.{⊤}
 use Rattle.std.proofs.lemmas.List.{append-nil}
 use Rattle.relay_disk.specs.Disk.{View, IsDisk}
 use Rattle.relay_disk.specs.Moments.{LeavesOnly, PairLeavesOnly}
 use Rattle.relay_disk.proofs.Moments.{pair_weaker}
-use Rattle.gate_log.specs.Pick.{LeavesSide, of_side, other_side, view_of_side}
-use Rattle.gate_log.specs.declared.picking.Side.{Side}
-use Rattle.gate_log.specs.declared.picking.Side.TheVariants.{One, Two}
+use Rattle.gate_log.specs.Pick.{other_side, view_of_side}
 use Rattle.relay_row.specs.Journal.{IsJournal}
 use Rattle.relay_row.specs.declared.row.Row.{Row}
 use Rattle.relay_core.specs.Entries.{Holds}
@@ -21,14 +19,14 @@ use Rattle.relay_store.specs.Journals.{IsOneOf, IsPairImageOf}
 use Rattle.relay_store.specs.Opening.{IsOfReading, Opened}
 use Rattle.relay_store.specs.Store.{IsOf, Keeps, StoreState, seen_in}
 use Rattle.relay_store.specs.Taking.{ComesOfAsking}
-use Rattle.relay_store.specs.Words.{IsAnswer, Spoken, Unsaid, Worded, added, done_of, done_row}
+use Rattle.relay_store.specs.Words.{IsAnswer, Spoken, done_of, done_row}
 use Rattle.relay_store.specs.declared.done.Done.{Done}
 use Rattle.relay_store.specs.declared.fault.StoreFault.{StoreFault}
 use Rattle.relay_store.specs.declared.store.Store.{Store}
 use Rattle.relay_run.specs.Ends.{IsWritten}
 use Rattle.relay_run.specs.Lines.{IsEndOf, done_text}
 use Rattle.relay_run.specs.Pairs.{IsOneOfPair, StandsFor, of_pair, outside}
-use Rattle.relay_run.specs.Spoke.{Came, EndsWord, HasNoRoom, Knows, Spoke, in_vain, rows_kept, said, unopened}
+use Rattle.relay_run.specs.Spoke.{EndsWord, HasNoRoom, Knows, Spoke, in_vain, rows_kept, said, unopened}
 use Rattle.relay_run.specs.declared.end.RunEnd.{RunEnd}
 use Rattle.relay_run.proofs.Causing.{answered, same_fault}
 use Rattle.relay_run.proofs.Beside.{both_same, kept_stands, leaves_stand, one_beside, opened_keeps, opened_leaves, run_on, stands_on, view_on}
@@ -85,7 +83,7 @@ fault_word : (no_room : Row → ℕ → Type 0) (word : Word) (fault : StoreFaul
 fault_word no_room (Word.Made row) StoreFault.Disk s is full = tt
 fault_word no_room (Word.Made row) (StoreFault.BadLog p) s is full = absurd is
 fault_word no_room (Word.Made row) (StoreFault.Full e) s is full = full row e refl (subst (λ (l : List Row). IsFull s.log [] (head_or row l) e) (sym is.1) is.2)
-    where
+  where
     head_or : Row → List Row → Row
     head_or d [] = d
     head_or d (r ∷ rs) = r

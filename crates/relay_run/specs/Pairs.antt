@@ -1,7 +1,6 @@
 -- Two disks that stand for a journal (own).
-use Rattle.std.specs.Prelude.{◌≡◌, ◌⊎◌, ℕ, List, ◌++◌, length}
+use Rattle.std.specs.Prelude.{◌⊎◌, ℕ, List, ◌++◌}
 use Rattle.relay_disk.specs.Disk.{View}
-use Rattle.gate_log.specs.declared.format.Format.{Format}
 use Rattle.gate_log.specs.declared.picking.Side.{Side}
 use Rattle.gate_log.specs.declared.picking.Side.TheVariants.{One, Two}
 use Rattle.relay_row.specs.declared.row.Row.{Row}

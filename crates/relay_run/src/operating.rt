@@ -78,9 +78,9 @@ pub fn operate<D: Disk, C: Clock, O: Sink>(
     requires time { length time.now ≤ LONGEST_SHORT_TEXT }
     ensures spoke { IsTrue D.tells → (J : List TheRow) → IsPairImageOf J (D.view disk.old).content (D.view other.old).content
         → Spoke O.tells most J (C.moments clock.new ≡ C.moments clock.old)
-            (λ fault. (IsTrue C.tells → OneTaken (C.moments clock.old) (C.moments clock.new)) × IsCause (Knows J (λ core. EndsBehind core did.now down)) ⊤ ⊤ ⊤ fault)
-            (λ word. Knows J (λ core. OperatedAt C.tells core did.now down time.now (C.moments clock.old) word (C.moments clock.new)))
-            (outside (D.view disk.old) (D.view other.old) (O.written out.old)) (outside (D.view disk.new) (D.view other.new) (O.written out.new)) result }
+        (λ fault. (IsTrue C.tells → OneTaken (C.moments clock.old) (C.moments clock.new)) × IsCause (Knows J (λ core. EndsBehind core did.now down)) ⊤ ⊤ ⊤ fault)
+        (λ word. Knows J (λ core. OperatedAt C.tells core did.now down time.now (C.moments clock.old) word (C.moments clock.new)))
+        (outside (D.view disk.old) (D.view other.old) (O.written out.old)) (outside (D.view disk.new) (D.view other.new) (O.written out.new)) result }
     ensures shows { IsTrue D.tells → Shows result (D.view disk.old).content (D.view other.old).content }
     ensures quiet { IsTrue O.tells → IsQuiet result (O.written out.old) (O.written out.new) }
     ensures caused { IsCausedBy (Rose (D.view disk.old).faults (D.view disk.new).faults ⊎ Rose (D.view other.old).faults (D.view other.new).faults) (Rose (O.faults out.old) (O.faults out.new)) ⊥ ⊥ (Rose (C.faults clock.old) (C.faults clock.new)) result }

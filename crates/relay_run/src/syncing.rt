@@ -87,10 +87,10 @@ pub fn sync<D: Disk, P: Judges, R: Repos, C: Clock, O: Sink>(
     requires time { length time.now ≤ LONGEST_SHORT_TEXT }
     ensures spoke { IsTrue D.tells → (J : List TheRow) → IsPairImageOf J (D.view disk.old).content (D.view other.old).content
         → Spoke O.tells most J (around (P.panel judges.new) (C.moments clock.new) (R.repository repos.new) ≡ around (P.panel judges.old) (C.moments clock.old) (R.repository repos.old))
-            (λ fault. CameToNothing C.tells R.tells (AskedInVain (P.panel judges.old) did.now (P.panel judges.new)) (around (P.panel judges.old) (C.moments clock.old) (R.repository repos.old)) (around (P.panel judges.new) (C.moments clock.new) (R.repository repos.new))
-                × IsCause (Knows J (λ core. EndsFetched core did.now (told_where R.tells (R.repository repos.old did.now)) (P.panel judges.old) (P.panel judges.new))) ⊤ ⊤ ⊤ fault)
-            (λ word. Knows J (λ core. SyncedAt C.tells R.tells core did.now time.now (around (P.panel judges.old) (C.moments clock.old) (R.repository repos.old)) word (around (P.panel judges.new) (C.moments clock.new) (R.repository repos.new))))
-            (outside (D.view disk.old) (D.view other.old) (O.written out.old)) (outside (D.view disk.new) (D.view other.new) (O.written out.new)) result }
+        (λ fault. CameToNothing C.tells R.tells (AskedInVain (P.panel judges.old) did.now (P.panel judges.new)) (around (P.panel judges.old) (C.moments clock.old) (R.repository repos.old)) (around (P.panel judges.new) (C.moments clock.new) (R.repository repos.new))
+        × IsCause (Knows J (λ core. EndsFetched core did.now (told_where R.tells (R.repository repos.old did.now)) (P.panel judges.old) (P.panel judges.new))) ⊤ ⊤ ⊤ fault)
+        (λ word. Knows J (λ core. SyncedAt C.tells R.tells core did.now time.now (around (P.panel judges.old) (C.moments clock.old) (R.repository repos.old)) word (around (P.panel judges.new) (C.moments clock.new) (R.repository repos.new))))
+        (outside (D.view disk.old) (D.view other.old) (O.written out.old)) (outside (D.view disk.new) (D.view other.new) (O.written out.new)) result }
     ensures shows { IsTrue D.tells → Shows result (D.view disk.old).content (D.view other.old).content }
     ensures quiet { IsTrue O.tells → IsQuiet result (O.written out.old) (O.written out.new) }
     ensures caused { IsCausedBy (Rose (D.view disk.old).faults (D.view disk.new).faults ⊎ Rose (D.view other.old).faults (D.view other.new).faults) (Rose (O.faults out.old) (O.faults out.new)) (IsSpent (P.panel judges.new (method_of did.now))) (Rose (R.faults repos.old) (R.faults repos.new)) (Rose (C.faults clock.old) (C.faults clock.new)) result }
@@ -104,7 +104,9 @@ pub fn sync<D: Disk, P: Judges, R: Repos, C: Clock, O: Sink>(
         Ok(store) => store,
         Err(fault) => return RunEnd::Fault(fault),
     };
-    match sync_on(alloc, &mut store, disk, other, did, time, judges, repos, clock) {
+    match sync_on(
+        alloc, &mut store, disk, other, did, time, judges, repos, clock,
+    ) {
         Ok(done) => answer(alloc, &done, out),
         Err(fault) => RunEnd::Fault(fault),
     }

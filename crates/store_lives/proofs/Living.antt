@@ -16,7 +16,7 @@ use Rattle.relay_store.specs.declared.done.Done.{Done}
 use Rattle.relay_store.specs.declared.fault.StoreFault.{StoreFault}
 use Rattle.relay_store.specs.declared.store.Store.{Store}
 use Rattle.relay_store.proofs.Images.{kept_log, same_kept, same_pair_journal}
-use Rattle.store_lives.specs.Laws.{IsFrontOf, HasIn, Has, IsFrontOfAll, AllGrow, JournalsOnlyGrow, AnswersAreKept}
+use Rattle.store_lives.specs.Laws.{IsFrontOf, HasIn, Has, AllGrow, JournalsOnlyGrow, AnswersAreKept, IsFrontOfEach, HasAnswered, AnswersStand, AnswersStay}
 use Rattle.store_lives.specs.Lives.{Machine, IsCall, Calls, Opens, GoesFrom, Goes, Crashes, Steps, LivesFrom, disk_of, fault_said, open_after, rows_answered, rows_spoken, stopped, store_in}
 use Rattle.store_lives.proofs.Pairs.{HasAll, IsOnSide, call_leaves, itself}
 
@@ -210,11 +210,11 @@ module _ {D : Type 0} (view : D → View) (tells : Bool) (told : IsTrue tells) (
   front_in C K (Some s) m runs has = subst (IsFrontOf C) (same_kept runs.journal K s (view (disk_of s.side m)) runs.keeps has) runs.front
 
   -- what is certain at a machine is a front of each later journal
-  all_behind : (m q : Machine D) (others : List (Machine D)) → ((J : List Row) → Has view J m → IsSafe J q) → LivesFrom view tells q others → IsFrontOfAll view m others
-  all_behind m q [] safe lives = tt
-  all_behind m q (next ∷ others) safe lives =
-      let now : (J : List Row) → Has view J m → IsSafe J next = λ J has. steps J q next (safe J has) lives.0 in
-      (λ J K has later. front_in J K next.store next (now J has) later, all_behind m next others now lives.1)
+  each_behind : (C : List Row) (q : Machine D) (others : List (Machine D)) → IsSafe C q → LivesFrom view tells q others → IsFrontOfEach view C others
+  each_behind C q [] safe lives = tt
+  each_behind C q (next ∷ others) safe lives =
+      let now : IsSafe C next = steps C q next safe lives.0 in
+      (λ K has. front_in C K next.store next now has, each_behind C next others now lives.1)
 
   -- an open store has some journal, on the side that is picked
   abbrev IsKnownIn : Option StoreState → Machine D → Type 0
@@ -254,7 +254,7 @@ module _ {D : Type 0} (view : D → View) (tells : Bool) (told : IsTrue tells) (
   all_grow : (m : Machine D) (others : List (Machine D)) → IsKnown m → LivesFrom view tells m others → AllGrow view m others
   all_grow m [] known lives = tt
   all_grow m (next ∷ others) known lives = (
-    all_behind m m (next ∷ others) (λ J has. safe_in J m.store m known has) lives,
+    λ J has. each_behind J m (next ∷ others) (safe_in J m.store m known has) lives,
     all_grow next others (known_next m next known lives.0) lives.1,
   )
 
@@ -279,3 +279,21 @@ module _ {D : Type 0} (view : D → View) (tells : Bool) (told : IsTrue tells) (
       let K : List Row = J ++ rows_answered view tells J s calls.s_now (disk_of s.side old) (disk_of s.side now) calls.fault of calls.call in
       subst (λ (o : Option StoreState). HasIn view K o now) (sym (calls.store ∙ still_open calls.fault calls.s_now not))
       (subst (λ (side : Side). Keeps K calls.s_now (view (disk_of side now))) (sym calls.side) (what.keeps not))
+
+  answered_there : (J rows : List Row) (m next : Machine D) → HasAnswered view tells J rows m next → Has view J m → Has view (J ++ rows) next
+  answered_there J rows m next a has =
+      let there = subst (λ (o : Option StoreState). HasIn view J o m) a.open_there has in
+      subst (λ (R : List Row). Has view (J ++ R) next) (sym a.rows_are) (kept a.store m next a.calls J a.of a.answers there)
+
+  answers_from : (m : Machine D) (others : List (Machine D)) → IsKnown m → LivesFrom view tells m others → AnswersStand view tells m others
+  answers_from m [] known lives = tt
+  answers_from m (next ∷ others) known lives =
+      let known_there = known_next m next known lives.0 in (
+        λ J rows a has.
+            let safe : IsSafe (J ++ rows) next = safe_in (J ++ rows) next.store next known_there (answered_there J rows m next a has) in
+            (λ K later. front_in (J ++ rows) K next.store next safe later, each_behind (J ++ rows) next others safe lives.1),
+        answers_from next others known_there lives.1,
+      )
+
+  pub stay : AnswersStay view tells
+  stay m others none lives = answers_from m others (none_known m none) lives

@@ -27,6 +27,7 @@ pub record Machine (D : Type 0) : Type 0 where
   pub one : D
   pub two : D
 
+-- the disk of a side
 abbrev pub disk_of : {D : Type 0} → Side → Machine D → D
 disk_of Side.One m = m.one
 disk_of Side.Two m = m.two
@@ -40,10 +41,12 @@ abbrev pub open_after : Option StoreFault → StoreState → Option StoreState
 open_after (Some StoreFault.Disk) s = None
 open_after fault s = Some s
 
+-- the fault that is answered to an operator's word, if one is
 abbrev pub fault_said : Result Done StoreFault → Option StoreFault
 fault_said (Ok done) = None
 fault_said (Err fault) = Some fault
 
+-- the store that an opening gives, if it does, as contracts see it
 abbrev pub store_in : Result Store StoreFault → Option StoreState
 store_in (Ok s) = Some (seen_in s)
 store_in (Err fault) = None
@@ -115,11 +118,12 @@ module _ {D : Type 0} (view : D → View) (tells : Bool) where
     pub opened : Opened tells (view old.one) (view old.two) (view now.one) (view now.two) result
     pub store : now.store ≡ store_in result
 
+  -- a call of the store that is open, or an opening where none is
   abbrev pub GoesFrom : Option StoreState → Machine D → Machine D → Type 0
   GoesFrom None old now = Opens old now
   GoesFrom (Some s) old now = Calls s old now
 
-  -- where a store is open it is called, and where none is the disks are opened; or the store is let go
+  -- one of these, or the store is let go
   abbrev pub Goes : Machine D → Machine D → Type 0
   Goes old now = GoesFrom old.store old now ⊎ (now ≡ stopped old)
 

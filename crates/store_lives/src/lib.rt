@@ -4,4 +4,4 @@
 
 mod laws;
 
-pub use laws::{answers_are_kept, journals_only_grow, numbers_stand_for_one_event};
+pub use laws::{answers_are_kept, answers_stay, journals_only_grow, numbers_stand_for_one_event};

@@ -1,16 +1,17 @@
 -- Answers, one after another.
-use Rattle.std.proofs.Common.{◌≡◌, ◌⊎◌, ⊎_elim, inl, inr, ◌<◌, ◌≤◌, ℕ, ◌+◌, Bool, true, false, List, [], ◌∷◌, ◌++◌, length, take, drop, get_or, map, suc, zero, Option, Some, None, refl, ap, ◌∙◌, sym, subst, arith, append_assoc, length-append}
-use Rattle.std.proofs.lemmas.List.{append-nil}
-use Rattle.std.specs.Prelude.{if◌then◌else◌}
+use Rattle.std.proofs.Common.{◌≡◌, ◌⊎◌, ⊎_elim, inl, inr, ◌<◌, ◌≤◌, ℕ, ◌+◌, true, false, List, [], ◌∷◌, ◌++◌, length, take, drop, get_or, map, suc, zero, Some, refl, ap, ◌∙◌, sym, subst, arith, append_assoc, length-append}
+use Rattle.std.proofs.lemmas.Bool.{cases_lt}
+use Rattle.std.proofs.lemmas.List.{append-nil, take_more}
+use Rattle.std.specs.Prelude.{min}
 use Rattle.relay_core.specs.Runs.{has_ended}
 use Rattle.relay_step.specs.Steps.{Step}
-use Rattle.relay_store.specs.Batches.{is_end, sent}
+use Rattle.relay_store.specs.Batches.{sent}
 use Rattle.relay_store.specs.Lines.{line_of}
 use Rattle.relay_store.specs.Outcomes.{outcome_of}
 use Rattle.relay_store.specs.declared.message.Message.{Message}
 use Rattle.relay_store.specs.declared.outcome.Outcome.{Outcome}
 use Rattle.tape_run.specs.declared.tally.Tally.{Tally}
-use Rattle.tape_run.specs.Said.{Said, AreLive, FirstHasEnded, IsNoted, answered, ended_in, ended_said, given, gives, line_said, refused, refuses, said, said_to, text_of}
+use Rattle.tape_run.specs.Said.{Said, AreLive, FirstHasEnded, IsNoted, answered, ended_in, ended_said, given, line_said, refused, said, text_of}
 
 pub text_joined : (x y : List Said) → text_of (x ++ y) ≡ text_of x ++ text_of y
 text_joined [] y = refl
@@ -105,18 +106,20 @@ live_joined : (ended : List (List ℕ)) (group : List Message) (m : Message) →
 live_joined ended [] m live not = (not, tt)
 live_joined ended (x ∷ group) m live not = (live.0, live_joined ended group m live.1 not)
 
-take_next : (xs : List Message) (i : ℕ) (d : Message) → i < length xs → take (suc i) xs ≡ take i xs ++ get_or xs i d ∷ []
-take_next [] i d h = absurd (omega (arith, h))
-take_next (y ∷ ys) zero d h = refl
-take_next (y ∷ ys) (suc i) d h = ap (λ (l : List Message). y ∷ l) (take_next ys i d (omega (arith, h)))
-
 pub live_more : (ended : List (List ℕ)) (group : List Message) (n : ℕ) (m : Message) (host : List ℕ) → n < length group → host ≡ (get_or group n m).host → AreLive ended (take n group) → has_ended ended host ≡ false
     → AreLive ended (take (n + 1) group)
 live_more ended group n m host below is live not =
-    let next : suc n ≡ n + 1 = omega arith in
-    subst (λ (k : ℕ). AreLive ended (take k group)) next
-    (subst (AreLive ended) (sym (take_next group n m below)) (live_joined ended (take n group) (get_or group n m) live (subst (λ (x : List ℕ). has_ended ended x ≡ false) is not)))
+    subst (AreLive ended) (sym (take_more group n m below)) (live_joined ended (take n group) (get_or group n m) live (subst (λ (x : List ℕ). has_ended ended x ≡ false) is not))
 
 pub first_ended : (ended : List (List ℕ)) (group : List Message) (m : Message) (host : List ℕ) → FirstHasEnded ended group → host ≡ (get_or group 0 m).host → has_ended ended host ≡ true
 first_ended ended [] m host ended_first is = absurd ended_first
 first_ended ended (x ∷ group) m host ended_first is = subst (λ (h : List ℕ). has_ended ended h ≡ true) (sym is) ended_first
+
+-- past the shorter of two
+pub past_one : (a b i : ℕ) → min a b ≤ i → (a ≤ i) ⊎ (b ≤ i)
+past_one a b i past = ⊎_elim (λ below. inr (omega (arith, below, past))) (λ not. inl (omega (arith, not))) (cases_lt i a)
+
+pub answered_few : (group : List Message) (outcomes : List Outcome) → (length (answered group outcomes) ≤ length group) × (length (answered group outcomes) ≤ length outcomes)
+answered_few group [] = (omega arith, omega arith)
+answered_few [] (o ∷ outcomes) = (omega arith, omega arith)
+answered_few (m ∷ group) (o ∷ outcomes) = let few = answered_few group outcomes in (omega (arith, few.0), omega (arith, few.1))

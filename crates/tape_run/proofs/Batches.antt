@@ -1,12 +1,10 @@
 -- What a batch is to a run, and a message that is passed over.
-use Rattle.std.proofs.Common.{◌≡◌, ◌≢◌, ◌⊎◌, inl, inr, ⊎_elim, ℕ, ◌+◌, ◌≤◌, ◌<◌, Bool, true, List, [], ◌∷◌, ◌++◌, length, map, take, drop, get_or, Option, Some, None, IsTrue, refl, ap, ◌∙◌, sym, subst, arith, append_assoc, length-append}
+use Rattle.std.proofs.Common.{◌≡◌, ◌≢◌, inl, inr, ⊎_elim, ℕ, ◌≤◌, ◌<◌, Bool, true, List, [], ◌∷◌, ◌++◌, length, map, take, drop, get_or, Option, Some, None, IsTrue, refl, ap, ◌∙◌, sym, subst, arith, append_assoc, length-append}
 use Rattle.std.proofs.lemmas.List.{append-nil, take_at, length-map}
 use Rattle.std.proofs.Math.Seq.{take-length}
 use Rattle.relay_disk.specs.Disk.{View, IsDisk}
-use Rattle.relay_disk.specs.Moments.{LeavesOnly}
-use Rattle.relay_disk.proofs.Moments.{no_call, now_too, weaker}
+use Rattle.relay_disk.proofs.Moments.{now_too, weaker}
 use Rattle.relay_io.specs.Streams.{AddsFront}
-use Rattle.gate_log.specs.Log.{LogState}
 use Rattle.gate_log.specs.declared.format.Format.{Format}
 use Rattle.relay_row.specs.Journal.{IsJournal}
 use Rattle.relay_row.specs.declared.row.Row.{Row}
@@ -15,12 +13,12 @@ use Rattle.relay_core.specs.Report.{over_line}
 use Rattle.relay_core.specs.Runs.{has_ended}
 use Rattle.at_authority.specs.Panels.{Panel}
 use Rattle.relay_core.specs.declared.journal_state.Core.{Core}
-use Rattle.relay_step.specs.Around.{Around, AllAsked, Asked, AskedNothing}
+use Rattle.relay_step.specs.Around.{Around, AllAsked, Asked}
 use Rattle.relay_step.specs.Causes.{CameToNothing}
 use Rattle.relay_step.specs.Steps.{Step, after_end, rows, step_of, AreSteps}
-use Rattle.relay_store.specs.Batches.{AreAnswers, AreExtra, Batched, EndsFull, EndsNext, HasEnd, InVain, sent}
+use Rattle.relay_store.specs.Batches.{AreAnswers, AreExtra, Batched, EndsFull, EndsNext, InVain, sent}
 use Rattle.relay_store.specs.Batches.{Scene as StoreScene, StopsAsking as StoreStops}
-use Rattle.relay_store.specs.Journals.{AreBodiesOf, IsLogOf, IsOneOf, bytes_of}
+use Rattle.relay_store.specs.Journals.{AreBodiesOf, IsLogOf, IsOneOf}
 use Rattle.relay_store.specs.Outcomes.{outcome_of}
 use Rattle.relay_store.specs.Store.{IsOf, Keeps, StoreState}
 use Rattle.relay_store.specs.declared.fault.StoreFault.{StoreFault}
@@ -29,12 +27,15 @@ use Rattle.relay_store.specs.declared.outcome.Outcome.{Outcome}
 use Rattle.relay_store.proofs.Asks.{all_joined, nothing_here, nothing_in_vain}
 use Rattle.relay_store.proofs.Images.{kept_log}
 use Rattle.relay_store.proofs.Runs.{sent_joined}
-use Rattle.tape_run.specs.Crashes.{HasNoRoom, IsFullFor, IsOnTheWay, IsSoFar, Leaves}
-use Rattle.tape_run.specs.Ends.{AreOver, AreUnder, IsReported, IsStop, IsUnwritten, StopsAsking, disk_failed, end_of_store, fault_in}
-use Rattle.tape_run.specs.Going.{Going, Point, Stopped, Tells, point}
+use Rattle.tape_run.specs.Crashes.{HasNoRoom, IsFullFor, IsSoFar}
+use Rattle.tape_run.specs.Ends.{AreExtraAt, AreUnder, StopsAsking, disk_failed, end_of_store, fault_in}
+use Rattle.tape_run.specs.Stops.{IsReported, IsStop, IsUnwritten}
+use Rattle.tape_run.specs.Going.{Going, Stopped, point}
+use Rattle.tape_run.specs.Tells.{Tells}
 use Rattle.tape_run.specs.Said.{AreLive, IsNoted, Said, answered, said, text_of}
 use Rattle.tape_run.specs.declared.end.TapeEnd.{TapeEnd}
 use Rattle.tape_run.specs.declared.tally.Tally.{Tally}
+use Rattle.tape_run.proofs.Alone.{past_alone}
 use Rattle.tape_run.proofs.Answers.{answered_said}
 use Rattle.tape_run.proofs.Ended.{live_steps}
 use Rattle.tape_run.proofs.Joining.{nothing_kept, so_far_all, so_far_none}
@@ -52,23 +53,23 @@ answers_of (Some StoreFault.Repos) steps outcomes not are = are
 answers_of (Some StoreFault.Memory) steps outcomes not are = are
 answers_of (Some StoreFault.Clock) steps outcomes not are = are
 
-few_over : (fault : Option StoreFault) (extra : List Step) → AreExtra fault extra → length extra ≤ 1
-few_over None extra which = omega (arith, ap length which)
-few_over (Some StoreFault.Disk) extra which = which
-few_over (Some (StoreFault.BadLog place)) extra which = absurd which
-few_over (Some (StoreFault.Full e)) extra which = omega (arith, which)
-few_over (Some StoreFault.SeqEnd) extra which = omega (arith, ap length which)
-few_over (Some StoreFault.Authority) extra which = omega (arith, ap length which)
-few_over (Some StoreFault.Repos) extra which = omega (arith, ap length which)
-few_over (Some StoreFault.Memory) extra which = which
-few_over (Some StoreFault.Clock) extra which = omega (arith, ap length which)
+few_extra : (fault : Option StoreFault) (extra : List Step) → AreExtra fault extra → length extra ≤ 1
+few_extra None extra which = omega (arith, ap length which)
+few_extra (Some StoreFault.Disk) extra which = which
+few_extra (Some (StoreFault.BadLog place)) extra which = absurd which
+few_extra (Some (StoreFault.Full e)) extra which = omega (arith, which)
+few_extra (Some StoreFault.SeqEnd) extra which = omega (arith, ap length which)
+few_extra (Some StoreFault.Authority) extra which = omega (arith, ap length which)
+few_extra (Some StoreFault.Repos) extra which = omega (arith, ap length which)
+few_extra (Some StoreFault.Memory) extra which = which
+few_extra (Some StoreFault.Clock) extra which = omega (arith, ap length which)
 
 came_of : (C R : Bool) (fault : Option StoreFault) (behind : List Message) (mid new : Around) → StoreStops C R fault behind mid new → CameToNothing C R (InVain behind mid.panel new.panel) mid new
 came_of C R None behind mid new stops = nothing_in_vain C R mid new behind stops
 came_of C R (Some (StoreFault.Full e)) behind mid new stops = nothing_in_vain C R mid new behind stops
 came_of C R (Some fault) behind mid new stops = stops
 
-none_next : (core : Core) (behind : List Message) (panel : Panel) → EndsNext core behind panel None
+pub none_next : (core : Core) (behind : List Message) (panel : Panel) → EndsNext core behind panel None
 none_next core [] panel = tt
 none_next core (m ∷ behind) panel = tt
 
@@ -76,7 +77,7 @@ disk_next : (core : Core) (behind : List Message) (panel : Panel) → EndsNext c
 disk_next core [] panel = tt
 disk_next core (m ∷ behind) panel = tt
 
-whole_front : (old now text : List ℕ) → now ≡ old ++ text → AddsFront old now text
+pub whole_front : (old now text : List ℕ) → now ≡ old ++ text → AddsFront old now text
 whole_front old now text is = (length text, omega arith, is ∙ ap (λ (l : List ℕ). old ++ l) (sym (take-length text)))
 
 -- where the log is full
@@ -92,6 +93,7 @@ full_here J s v steps extra e keeps full = record {
   are = subst (λ (K : List Row). AreBodiesOf K keeps.bodies) (sym (append-nil J)) keeps.are;
   starts = keeps.holds.ends;
   full = full.2;
+  past = past_alone s.log (rows steps) full.0 e full.2;
 }
 
 -- ---- a batch
@@ -107,17 +109,17 @@ module _ {D : Type 0} (view : D → View) (t : Tells) (J : List Row) (group : Li
       ap (λ (l : List Message). answered l outcomes) front ∙ answered_said b.steps (sent b.extra ++ b.behind) outcomes (answers_of fault b.steps outcomes not b.answers)
 
   -- it stops, and the disk hasn't failed
-  stops_kept : fault ≢ Some StoreFault.Disk → (after : Tally) (w x : List ℕ) (end : TapeEnd) → IsStop end → AreUnder end [] → AreOver end b.extra → StopsAsking t.clock t.repos end b.behind b.asked.mid u.around
+  stops_kept : fault ≢ Some StoreFault.Disk → (after : Tally) (w x : List ℕ) (end : TapeEnd) → IsStop end → AreUnder end [] → AreExtraAt end b.extra → StopsAsking t.clock t.repos end b.behind b.asked.mid u.around
       → EndsNext u.store.core b.behind u.around.panel (fault_in end) → (IsTrue t.output → IsReported end (text_of (answered group outcomes)) w x) → (Keeps J s.store (view s.disk) → IsFullFor J (rows b.steps) (rows b.extra) s.store.log end)
       → Stopped view t J group (point s.store tally s.disk s.around w) (point u.store after u.disk u.around x) end
-  stops_kept not after w x end stop under over stops next written full = record {
+  stops_kept not after w x end stop under extra stops next written full = record {
     steps = b.steps;
     under = [];
-    over = b.extra;
+    extra = b.extra;
     behind = b.behind;
     stop = stop;
     which_under = under;
-    which_over = over;
+    which_extra = extra;
     front = b.front;
     are = λ checks opens links. live_steps checks J tally.ended.items group (b.steps ++ b.extra) b.behind live b.front (b.are checks opens links);
     journal = b.journal;
@@ -142,11 +144,11 @@ module _ {D : Type 0} (view : D → View) (t : Tells) (J : List Row) (group : Li
   stops_failed is is_disk after w x written = record {
     steps = [];
     under = b.steps;
-    over = b.extra;
+    extra = b.extra;
     behind = b.behind;
     stop = tt;
     which_under = tt;
-    which_over = few_over fault b.extra b.which;
+    which_extra = few_extra fault b.extra b.which;
     front = b.front;
     are = λ checks opens links. live_steps checks J tally.ended.items group (b.steps ++ b.extra) b.behind live b.front (b.are checks opens links);
     journal = b.journal;
@@ -154,13 +156,13 @@ module _ {D : Type 0} (view : D → View) (t : Tells) (J : List Row) (group : Li
     on_disk = λ told keeps.
         let none : J ≡ J ++ [] = sym (append-nil J) in
         record {
-      keeps = λ n. absurd (n refl);
-      moments = weaker _ _ (view s.disk) (view u.disk) (b.moments told keeps) (λ c h. ⊎_elim
-          (λ k. inl (so_far_none s.store.log.format J [] c k))
-          (λ k. inr (subst (λ (K : List Row). IsLogOf s.store.log.format (K ++ rows b.steps) c) none k)) h);
-      left = λ c now. subst (λ (K : List Row). IsOneOf s.store.log.format K (rows b.steps) c) none (now_too _ (view s.disk) (view u.disk) is_disk (b.moments told keeps) c now);
-      full = tt;
-    };
+          keeps = λ n. absurd (n refl);
+          moments = weaker _ _ (view s.disk) (view u.disk) (b.moments told keeps) (λ c h. ⊎_elim
+              (λ k. inl (so_far_none s.store.log.format J [] c k))
+              (λ k. inr (subst (λ (K : List Row). IsLogOf s.store.log.format (K ++ rows b.steps) c) none k)) h);
+          left = λ c now. subst (λ (K : List Row). IsOneOf s.store.log.format K (rows b.steps) c) none (now_too _ (view s.disk) (view u.disk) is_disk (b.moments told keeps) c now);
+          full = tt;
+        };
     format = b.format;
     most = b.most;
     written = λ told.
@@ -177,15 +179,15 @@ module _ {D : Type 0} (view : D → View) (t : Tells) (J : List Row) (group : Li
       → Stopped view t J group (point s.store tally s.disk s.around w) (point u.store after u.disk u.around x) end
   batch_unwritten some after w x end one written =
       let not : fault ≢ Some StoreFault.Disk = λ is. (
-        let nothing : outcomes ≡ [] = subst (λ (f : Option StoreFault). AreAnswers f b.steps outcomes) is b.answers in
-        absurd (omega (arith, some, ap length nothing))) in
-      let few = few_over fault b.extra b.which in
+      let nothing : outcomes ≡ [] = subst (λ (f : Option StoreFault). AreAnswers f b.steps outcomes) is b.answers in
+      absurd (omega (arith, some, ap length nothing))) in
+      let few = few_extra fault b.extra b.which in
       let came = came_of t.clock t.repos fault b.behind b.asked.mid u.around b.asked.stops in
       ⊎_elim
       (λ is. subst (λ (x' : TapeEnd). Stopped view t J group (point s.store tally s.disk s.around w) (point u.store after u.disk u.around x) x') (sym is)
-        (stops_kept not after w x TapeEnd.WriteFault tt refl few came (none_next u.store.core b.behind u.around.panel) written (λ keeps. tt)))
+      (stops_kept not after w x TapeEnd.WriteFault tt refl few came (none_next u.store.core b.behind u.around.panel) written (λ keeps. tt)))
       (λ is. subst (λ (x' : TapeEnd). Stopped view t J group (point s.store tally s.disk s.around w) (point u.store after u.disk u.around x) x') (sym is)
-        (stops_kept not after w x TapeEnd.Memory tt refl few came (none_next u.store.core b.behind u.around.panel) written (λ keeps. tt)))
+      (stops_kept not after w x TapeEnd.Memory tt refl few came (none_next u.store.core b.behind u.around.panel) written (λ keeps. tt)))
       one
 
 -- a fault of the store stops it, once the lines are written
@@ -237,22 +239,44 @@ module _ {D : Type 0} (view : D → View) (t : Tells) (J : List Row) (group : Li
       let n_is : n ≡ length (sent b.steps) = count (some_taken some) few ∙ as_many ∙ sym (sent_length b.steps) in
       let whole : J ++ rows (b.steps ++ b.extra) ≡ J ++ rows b.steps = ap (λ (l : List Step). J ++ rows l) all_steps in
       record {
-    steps = b.steps;
-    of = sym (ap (λ (l : List Message). take n l) front_is ∙ take_at (sent b.steps) b.behind n (sym n_is));
-    are = λ checks opens links. live_steps checks J tally.ended.items group b.steps b.behind live front_is (subst (λ (l : List Step). AreSteps checks J [] l) all_steps (b.are checks opens links));
-    journal = subst IsJournal whole b.journal;
-    known = b.known not;
-    on_disk = λ told keeps. record {
-      keeps = b.keeps not told keeps;
-      moments = weaker _ _ (view s.disk) (view u.disk) (b.moments told keeps) (λ c h. one_of view t J group s u outcomes None b tally live told keeps c h);
-    };
-    format = b.format;
-    most = b.most;
-    noted = subst (λ (l : List Said). IsNoted l tally after) said_are noted;
-    written = λ told. written told ∙ ap (λ (l : List Said). w ++ text_of l) said_are;
-    asked = subst (λ (l : List Step). AllAsked t.clock t.repos J s.around l u.around) (append-nil b.steps)
-        (all_joined t.clock t.repos J s.around b.asked.mid u.around b.steps [] (subst (λ (l : List Step). AllAsked t.clock t.repos J s.around l b.asked.mid) all_steps b.asked.turns) b.asked.stops);
-  }
+        steps = b.steps;
+        of = sym (ap (λ (l : List Message). take n l) front_is ∙ take_at (sent b.steps) b.behind n (sym n_is));
+        are = λ checks opens links. live_steps checks J tally.ended.items group b.steps b.behind live front_is (subst (λ (l : List Step). AreSteps checks J [] l) all_steps (b.are checks opens links));
+        journal = subst IsJournal whole b.journal;
+        known = b.known not;
+        on_disk = λ told keeps. record {
+          keeps = b.keeps not told keeps;
+          moments = weaker _ _ (view s.disk) (view u.disk) (b.moments told keeps) (λ c h. one_of view t J group s u outcomes None b tally live told keeps c h);
+        };
+        format = b.format;
+        most = b.most;
+        noted = subst (λ (l : List Said). IsNoted l tally after) said_are noted;
+        written = λ told. written told ∙ ap (λ (l : List Said). w ++ text_of l) said_are;
+        asked = subst (λ (l : List Step). AllAsked t.clock t.repos J s.around l u.around) (append-nil b.steps)
+            (all_joined t.clock t.repos J s.around b.asked.mid u.around b.steps [] (subst (λ (l : List Step). AllAsked t.clock t.repos J s.around l b.asked.mid) all_steps b.asked.turns) b.asked.stops);
+      }
+
+-- ---- the same, of the slice of outcomes that is read
+
+module _ {D : Type 0} (view : D → View) (t : Tells) (J : List Row) (group : List Message) (s u : StoreScene D) (outcomes : List Outcome) (fault : Option StoreFault)
+    (b : Batched view t.disk t.clock t.repos J group s u outcomes fault) (os : List Outcome) (same : os ≡ outcomes) (tally : Tally) (live : AreLive tally.ended.items group) (after : Tally) (w x : List ℕ) where
+  of_slice : Batched view t.disk t.clock t.repos J group s u os fault
+  of_slice = subst (λ (l : List Outcome). Batched view t.disk t.clock t.repos J group s u l fault) (sym same) b
+
+  pub live_unwritten : 0 < length os → (end : TapeEnd) → IsUnwritten end → (IsTrue t.output → AddsFront w x (text_of (answered group os)))
+      → Stopped view t J group (point s.store tally s.disk s.around w) (point u.store after u.disk u.around x) end
+  live_unwritten some end one written = batch_unwritten view t J group s u os fault of_slice tally live some after w x end one written
+
+  pub live_stops : (f : StoreFault) → fault ≡ Some f → IsDisk (view u.disk) → (IsTrue t.output → x ≡ w ++ text_of (answered group os)) → (end : TapeEnd) → end ≡ end_of_store f
+      → Stopped view t J group (point s.store tally s.disk s.around w) (point u.store after u.disk u.around x) end
+  live_stops f is is_disk written end end_is =
+      subst (λ (e : TapeEnd). Stopped view t J group (point s.store tally s.disk s.around w) (point u.store after u.disk u.around x) e) (sym end_is)
+      (batch_stops view t J group s u os f (subst (λ (g : Option StoreFault). Batched view t.disk t.clock t.repos J group s u os g) is of_slice) tally live is_disk after w x written)
+
+  pub live_goes : fault ≡ None → 1 ≤ length group → IsNoted (answered group os) tally after → (IsTrue t.output → x ≡ w ++ text_of (answered group os)) → (n : ℕ) → (1 ≤ length os → length os ≤ length group → n ≡ length os)
+      → Going view t J (take n group) (point s.store tally s.disk s.around w) (point u.store after u.disk u.around x)
+  live_goes is some noted written n count =
+      batch_goes view t J group s u os (subst (λ (g : Option StoreFault). Batched view t.disk t.clock t.repos J group s u os g) is of_slice) some tally live after noted w x written n count
 
 -- ---- a message of a host that ended before
 
@@ -296,16 +320,16 @@ module _ {D : Type 0} (view : D → View) (t : Tells) (J : List Row) (group : Li
   }
 
   -- its line couldn't be written, at either end
-  pass_ends : (end : TapeEnd) → IsStop end → AreUnder end [] → AreOver end [] → StopsAsking t.clock t.repos end (drop 1 group) around around → EndsNext store.core (drop 1 group) around.panel (fault_in end) → IsFullFor J [] [] store.log end
+  pass_ends : (end : TapeEnd) → IsStop end → AreUnder end [] → AreExtraAt end [] → StopsAsking t.clock t.repos end (drop 1 group) around around → EndsNext store.core (drop 1 group) around.panel (fault_in end) → IsFullFor J [] [] store.log end
       → (IsTrue t.output → IsReported end (over_line m.host ++ []) w x) → Stopped view t J group (point store tally disk around w) (point store after disk around x) end
-  pass_ends end stop under over stops next full written = record {
+  pass_ends end stop under extra stops next full written = record {
     steps = passed m ∷ [];
     under = [];
-    over = [];
+    extra = [];
     behind = drop 1 group;
     stop = stop;
     which_under = under;
-    which_over = over;
+    which_extra = extra;
     front = first_in group m some first;
     are = λ checks opens links. (ended, tt);
     journal = subst IsJournal (sym same) of.journal;
@@ -313,11 +337,11 @@ module _ {D : Type 0} (view : D → View) (t : Tells) (J : List Row) (group : Li
     on_disk = λ told keeps.
         let kept = nothing_kept J store (view disk) is_disk keeps in
         record {
-      keeps = λ not. kept.keeps;
-      moments = weaker _ _ (view disk) (view disk) kept.moments (λ c h. inl h);
-      left = λ c now. inl (kept_log (J ++ []) store (view disk) kept.keeps c now);
-      full = full;
-    };
+          keeps = λ not. kept.keeps;
+          moments = weaker _ _ (view disk) (view disk) kept.moments (λ c h. inl h);
+          left = λ c now. inl (kept_log (J ++ []) store (view disk) kept.keeps c now);
+          full = full;
+        };
     format = refl;
     most = refl;
     written = written;
@@ -334,7 +358,7 @@ module _ {D : Type 0} (view : D → View) (t : Tells) (J : List Row) (group : Li
       let came = nothing_in_vain t.clock t.repos around around (drop 1 group) (nothing_here t.clock t.repos around) in
       ⊎_elim
       (λ is. subst (λ (e : TapeEnd). Stopped view t J group (point store tally disk around w) (point store after disk around x) e) (sym is)
-        (pass_ends TapeEnd.WriteFault tt refl (omega arith) came (none_next store.core (drop 1 group) around.panel) tt front))
+      (pass_ends TapeEnd.WriteFault tt refl (omega arith) came (none_next store.core (drop 1 group) around.panel) tt front))
       (λ is. subst (λ (e : TapeEnd). Stopped view t J group (point store tally disk around w) (point store after disk around x) e) (sym is)
-        (pass_ends TapeEnd.Memory tt refl (omega arith) came (none_next store.core (drop 1 group) around.panel) tt front))
+      (pass_ends TapeEnd.Memory tt refl (omega arith) came (none_next store.core (drop 1 group) around.panel) tt front))
       one

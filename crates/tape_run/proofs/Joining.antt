@@ -1,9 +1,8 @@
 -- One part of a run behind another.
-use Rattle.std.proofs.Common.{◌≡◌, ◌≢◌, ◌⊎◌, inl, inr, ⊎_elim, ℕ, ◌+◌, ◌≤◌, ◌<◌, Bool, false, List, [], ◌∷◌, ◌++◌, length, take, Option, Some, None, IsTrue, refl, ap, ◌∙◌, sym, subst, arith, append_assoc, length-append}
-use Rattle.std.proofs.lemmas.List.{append-nil, take-append-le}
+use Rattle.std.proofs.Common.{◌≡◌, inl, inr, ⊎_elim, ℕ, ◌+◌, ◌<◌, Bool, false, List, [], ◌∷◌, ◌++◌, length, take, Option, Some, None, refl, ap, ◌∙◌, sym, subst, arith, append_assoc, length-append}
+use Rattle.std.proofs.lemmas.List.{append-nil}
 use Rattle.std.proofs.Math.Seq.{take-append-add}
 use Rattle.relay_disk.specs.Disk.{View, IsDisk}
-use Rattle.relay_disk.specs.Moments.{LeavesOnly}
 use Rattle.relay_disk.proofs.Moments.{joined, no_call, weaker}
 use Rattle.at_authority.specs.Panels.{Panel}
 use Rattle.relay_io.specs.Streams.{AddsFront}
@@ -30,9 +29,11 @@ use Rattle.relay_store.specs.declared.message.Message.{Message}
 use Rattle.relay_store.proofs.Asks.{all_joined, nothing_here, nothing_in_vain}
 use Rattle.relay_store.proofs.Images.{kept_log}
 use Rattle.relay_store.proofs.Runs.{rows_joined, sent_joined}
-use Rattle.tape_run.specs.Crashes.{HasNoRoom, IsFullFor, IsOnTheWay, IsSoFar, Leaves}
-use Rattle.tape_run.specs.Ends.{IsReported, StopsAsking, disk_failed, fault_in}
-use Rattle.tape_run.specs.Going.{Going, Keeping, Point, Stopped, Tells}
+use Rattle.tape_run.specs.Crashes.{HasNoRoom, IsFullFor, IsSoFar, Leaves}
+use Rattle.tape_run.specs.Ends.{StopsAsking, fault_in}
+use Rattle.tape_run.specs.Stops.{IsReported}
+use Rattle.tape_run.specs.Going.{Going, Keeping, Point, Stopped}
+use Rattle.tape_run.specs.Tells.{Tells}
 use Rattle.tape_run.specs.Said.{IsNoted, Said, said, said_to, text_of}
 use Rattle.tape_run.specs.declared.end.TapeEnd.{TapeEnd}
 use Rattle.tape_run.proofs.Answers.{noted_more, noted_none, text_joined}
@@ -85,18 +86,18 @@ pub nothing_taken : {D : Type 0} (view : D → View) (t : Tells) (J : List Row) 
 nothing_taken view t J a is_disk of =
     let same : J ++ [] ≡ J = append-nil J in
     record {
-  steps = [];
-  of = refl;
-  are = λ checks opens links. tt;
-  journal = subst IsJournal (sym same) of.journal;
-  known = subst (Holds a.store.core) (sym same) of.holds;
-  on_disk = λ told keeps. nothing_kept J a.store (view a.disk) is_disk keeps;
-  format = refl;
-  most = refl;
-  noted = noted_none a.tally;
-  written = λ told. sym (append-nil a.written);
-  asked = nothing_here t.clock t.repos a.around;
-}
+      steps = [];
+      of = refl;
+      are = λ checks opens links. tt;
+      journal = subst IsJournal (sym same) of.journal;
+      known = subst (Holds a.store.core) (sym same) of.holds;
+      on_disk = λ told keeps. nothing_kept J a.store (view a.disk) is_disk keeps;
+      format = refl;
+      most = refl;
+      noted = noted_none a.tally;
+      written = λ told. sym (append-nil a.written);
+      asked = nothing_here t.clock t.repos a.around;
+    }
 
 -- ---- more behind
 
@@ -119,7 +120,7 @@ module _ {D : Type 0} (view : D → View) (t : Tells) (J : List Row) (messages :
         one.are checks opens links,
         steps_same checks (J ++ rows one.steps) b.tally.ended.items (ended_by_all one.steps a.tally.ended.items) steps
             (subst (λ (e : List (List ℕ)). SameEnded e (ended_by_all one.steps a.tally.ended.items)) (sym one.noted.ends)
-              (ends_alike checks J a.tally.ended.items a.tally.ended.items a.tally.ended.items one.steps (λ name. refl) (one.are checks opens links)))
+            (ends_alike checks J a.tally.ended.items a.tally.ended.items a.tally.ended.items one.steps (λ name. refl) (one.are checks opens links)))
             are,
       )
 
@@ -128,28 +129,28 @@ module _ {D : Type 0} (view : D → View) (t : Tells) (J : List Row) (messages :
       let xs = one.steps in
       let ys = two.steps in
       record {
-    steps = xs ++ ys;
-    of = sent_joined xs ys ∙ ap (λ (l : List Message). l ++ sent ys) one.of ∙ ap (λ (l : List Message). messages ++ l) two.of;
-    are = λ checks opens links. go_on checks opens links ys (two.are checks opens links);
-    journal = subst IsJournal (journal_joined J xs ys) two.journal;
-    known = subst (Holds c.store.core) (journal_joined J xs ys) two.known;
-    on_disk = λ told keeps.
-        let first = one.on_disk told keeps in
-        subst (λ (l : List Row). Keeping J l a.store (view a.disk) c.store (view c.disk)) (sym (rows_joined xs ys))
-        (keeping_more J (rows xs) (rows ys) a.store b.store c.store (view a.disk) (view b.disk) (view c.disk) one.format first (two.on_disk told first.keeps));
-    format = two.format ∙ one.format;
-    most = two.most ∙ one.most;
-    noted = subst (λ (x : List Said). IsNoted x a.tally c.tally) (sym (said_joined xs ys)) (noted_more (said xs) (said ys) a.tally b.tally c.tally one.noted two.noted);
-    written = λ told. two.written told ∙ ap (λ (l : List ℕ). l ++ text_of (said ys)) (one.written told)
-        ∙ append_assoc a.written (text_of (said xs)) (text_of (said ys))
-        ∙ ap (λ (l : List ℕ). a.written ++ l) (sym (text_joined (said xs) (said ys)) ∙ ap text_of (sym (said_joined xs ys)));
-    asked = all_joined t.clock t.repos J a.around b.around c.around xs ys one.asked two.asked;
-  }
+        steps = xs ++ ys;
+        of = sent_joined xs ys ∙ ap (λ (l : List Message). l ++ sent ys) one.of ∙ ap (λ (l : List Message). messages ++ l) two.of;
+        are = λ checks opens links. go_on checks opens links ys (two.are checks opens links);
+        journal = subst IsJournal (journal_joined J xs ys) two.journal;
+        known = subst (Holds c.store.core) (journal_joined J xs ys) two.known;
+        on_disk = λ told keeps.
+            let first = one.on_disk told keeps in
+            subst (λ (l : List Row). Keeping J l a.store (view a.disk) c.store (view c.disk)) (sym (rows_joined xs ys))
+            (keeping_more J (rows xs) (rows ys) a.store b.store c.store (view a.disk) (view b.disk) (view c.disk) one.format first (two.on_disk told first.keeps));
+        format = two.format ∙ one.format;
+        most = two.most ∙ one.most;
+        noted = subst (λ (x : List Said). IsNoted x a.tally c.tally) (sym (said_joined xs ys)) (noted_more (said xs) (said ys) a.tally b.tally c.tally one.noted two.noted);
+        written = λ told. two.written told ∙ ap (λ (l : List ℕ). l ++ text_of (said ys)) (one.written told)
+            ∙ append_assoc a.written (text_of (said xs)) (text_of (said ys))
+            ∙ ap (λ (l : List ℕ). a.written ++ l) (sym (text_joined (said xs) (said ys)) ∙ ap text_of (sym (said_joined xs ys)));
+        asked = all_joined t.clock t.repos J a.around b.around c.around xs ys one.asked two.asked;
+      }
 
 -- ---- a stop behind
 
-no_room_behind : (J xs ys over : List Row) (log mid : LogState) (e : ℕ) → mid.format ≡ log.format → mid.most ≡ log.most → HasNoRoom (J ++ xs) ys over mid e → HasNoRoom J (xs ++ ys) over log e
-no_room_behind J xs ys over log mid e format most h = record {
+no_room_behind : (J xs ys extra : List Row) (log mid : LogState) (e : ℕ) → mid.format ≡ log.format → mid.most ≡ log.most → HasNoRoom (J ++ xs) ys extra mid e → HasNoRoom J (xs ++ ys) extra log e
+no_room_behind J xs ys extra log mid e format most h = record {
   before = xs ++ h.before;
   last = h.last;
   split = ap (λ (l : List Row). xs ++ l) h.split ∙ sym (append_assoc xs h.before h.last);
@@ -160,25 +161,26 @@ no_room_behind J xs ys over log mid e format most h = record {
   are = subst (λ (K : List Row). AreBodiesOf K h.bodies) (append_assoc J xs h.before) h.are;
   starts = h.starts ∙ ap (λ (f : Format). length (made f (bytes_of h.bodies))) format;
   full = record { there = h.full.there; past = subst (λ (n : ℕ). n < end_of h.start (h.last ++ h.row ∷ [])) most h.full.past };
+  past = subst (λ (n : ℕ). n < e) most h.past;
 }
 
-full_behind : (J xs ys over : List Row) (log mid : LogState) (end : TapeEnd) → mid.format ≡ log.format → mid.most ≡ log.most → IsFullFor (J ++ xs) ys over mid end → IsFullFor J (xs ++ ys) over log end
-full_behind J xs ys over log mid (TapeEnd.Store (StoreFault.Full e)) format most h = no_room_behind J xs ys over log mid e format most h
-full_behind J xs ys over log mid end format most h = tt
+full_behind : (J xs ys extra : List Row) (log mid : LogState) (end : TapeEnd) → mid.format ≡ log.format → mid.most ≡ log.most → IsFullFor (J ++ xs) ys extra mid end → IsFullFor J (xs ++ ys) extra log end
+full_behind J xs ys extra log mid (TapeEnd.Store (StoreFault.Full e)) format most h = no_room_behind J xs ys extra log mid e format most h
+full_behind J xs ys extra log mid end format most h = tt
 
-leaves_behind : (J xs ys under over : List Row) (s m u : StoreState) (v w z : View) (end : TapeEnd) → m.log.format ≡ s.log.format → m.log.most ≡ s.log.most → Keeping J xs s v m w → Leaves (J ++ xs) ys under over m w u z end → Leaves J (xs ++ ys) under over s v u z end
-leaves_behind J xs ys under over s m u v w z end format most one two =
+leaves_behind : (J xs ys under extra : List Row) (s m u : StoreState) (v w z : View) (end : TapeEnd) → m.log.format ≡ s.log.format → m.log.most ≡ s.log.most → Keeping J xs s v m w → Leaves (J ++ xs) ys under extra m w u z end → Leaves J (xs ++ ys) under extra s v u z end
+leaves_behind J xs ys under extra s m u v w z end format most one two =
     let whole : (J ++ xs) ++ ys ≡ J ++ (xs ++ ys) = append_assoc J xs ys in
     record {
-  keeps = λ not. subst (λ (K : List Row). Keeps K u z) whole (two.keeps not);
-  moments = joined _ v w z
-      (weaker _ _ v w one.moments (λ c h. inl (so_far_front s.log.format J xs ys c h)))
-      (weaker _ _ w z two.moments (λ c h. ⊎_elim
+      keeps = λ not. subst (λ (K : List Row). Keeps K u z) whole (two.keeps not);
+      moments = joined _ v w z
+          (weaker _ _ v w one.moments (λ c h. inl (so_far_front s.log.format J xs ys c h)))
+          (weaker _ _ w z two.moments (λ c h. ⊎_elim
           (λ k. inl (so_far_behind s.log.format J xs ys c (subst (λ (f : Format). IsSoFar f (J ++ xs) ys c) format k)))
           (λ k. inr (subst (λ (K : List Row). IsLogOf s.log.format (K ++ under) c) whole (subst (λ (f : Format). IsLogOf f (((J ++ xs) ++ ys) ++ under) c) format k))) h));
-  left = λ c now. subst (λ (K : List Row). IsOneOf s.log.format K under c) whole (subst (λ (f : Format). IsOneOf f ((J ++ xs) ++ ys) under c) format (two.left c now));
-  full = full_behind J xs ys over s.log m.log end format most two.full;
-}
+      left = λ c now. subst (λ (K : List Row). IsOneOf s.log.format K under c) whole (subst (λ (f : Format). IsOneOf f ((J ++ xs) ++ ys) under c) format (two.left c now));
+      full = full_behind J xs ys extra s.log m.log end format most two.full;
+    }
 
 pub front_behind : (old mid now t u : List ℕ) → mid ≡ old ++ t → AddsFront mid now u → AddsFront old now (t ++ u)
 front_behind old mid now t u is h = (
@@ -198,34 +200,34 @@ module _ {D : Type 0} (view : D → View) (t : Tells) (J : List Row) (messages o
   going_stops c end two =
       let xs = one.steps in
       let ys = two.steps in
-      let more = two.under ++ two.over in
+      let more = two.under ++ two.extra in
       let all : (xs ++ ys) ++ more ≡ xs ++ (ys ++ more) = append_assoc xs ys more in
       record {
-    steps = xs ++ ys;
-    under = two.under;
-    over = two.over;
-    behind = two.behind;
-    stop = two.stop;
-    which_under = two.which_under;
-    which_over = two.which_over;
-    front = ap (λ (l : List Message). messages ++ l) two.front ∙ sym (append_assoc messages (sent (ys ++ more)) two.behind)
-        ∙ ap (λ (l : List Message). l ++ two.behind) (ap (λ (l : List Message). l ++ sent (ys ++ more)) (sym one.of) ∙ sym (sent_joined xs (ys ++ more)) ∙ ap sent (sym all));
-    are = λ checks opens links. subst (λ (l : List Step). AreSteps checks J a.tally.ended.items l) (sym all) (go_on view t J messages a b one checks opens links (ys ++ more) (two.are checks opens links));
-    journal = subst IsJournal (journal_joined J xs (ys ++ more) ∙ ap (λ (l : List Step). J ++ rows l) (sym all)) two.journal;
-    known = λ not. subst (Holds c.store.core) (journal_joined J xs ys) (two.known not);
-    on_disk = λ told keeps.
-        let first = one.on_disk told keeps in
-        subst (λ (l : List Row). Leaves J l (rows two.under) (rows two.over) a.store (view a.disk) c.store (view c.disk) end) (sym (rows_joined xs ys))
-        (leaves_behind J (rows xs) (rows ys) (rows two.under) (rows two.over) a.store b.store c.store (view a.disk) (view b.disk) (view c.disk) end one.format one.most first (two.on_disk told first.keeps));
-    format = two.format ∙ one.format;
-    most = two.most ∙ one.most;
-    written = λ told. subst (λ (x : List ℕ). IsReported end x a.written c.written) (sym (text_joined (said xs) (said ys)) ∙ ap text_of (sym (said_joined xs ys)))
-        (report_behind end a.written b.written c.written (text_of (said xs)) (text_of (said ys)) (one.written told) (two.written told));
-    mid = two.mid;
-    asked = subst (λ (l : List Step). AllAsked t.clock t.repos J a.around l two.mid) (sym all) (all_joined t.clock t.repos J a.around b.around two.mid xs (ys ++ more) one.asked two.asked);
-    stops = two.stops;
-    next = two.next;
-  }
+        steps = xs ++ ys;
+        under = two.under;
+        extra = two.extra;
+        behind = two.behind;
+        stop = two.stop;
+        which_under = two.which_under;
+        which_extra = two.which_extra;
+        front = ap (λ (l : List Message). messages ++ l) two.front ∙ sym (append_assoc messages (sent (ys ++ more)) two.behind)
+            ∙ ap (λ (l : List Message). l ++ two.behind) (ap (λ (l : List Message). l ++ sent (ys ++ more)) (sym one.of) ∙ sym (sent_joined xs (ys ++ more)) ∙ ap sent (sym all));
+        are = λ checks opens links. subst (λ (l : List Step). AreSteps checks J a.tally.ended.items l) (sym all) (go_on view t J messages a b one checks opens links (ys ++ more) (two.are checks opens links));
+        journal = subst IsJournal (journal_joined J xs (ys ++ more) ∙ ap (λ (l : List Step). J ++ rows l) (sym all)) two.journal;
+        known = λ not. subst (Holds c.store.core) (journal_joined J xs ys) (two.known not);
+        on_disk = λ told keeps.
+            let first = one.on_disk told keeps in
+            subst (λ (l : List Row). Leaves J l (rows two.under) (rows two.extra) a.store (view a.disk) c.store (view c.disk) end) (sym (rows_joined xs ys))
+            (leaves_behind J (rows xs) (rows ys) (rows two.under) (rows two.extra) a.store b.store c.store (view a.disk) (view b.disk) (view c.disk) end one.format one.most first (two.on_disk told first.keeps));
+        format = two.format ∙ one.format;
+        most = two.most ∙ one.most;
+        written = λ told. subst (λ (x : List ℕ). IsReported end x a.written c.written) (sym (text_joined (said xs) (said ys)) ∙ ap text_of (sym (said_joined xs ys)))
+            (report_behind end a.written b.written c.written (text_of (said xs)) (text_of (said ys)) (one.written told) (two.written told));
+        mid = two.mid;
+        asked = subst (λ (l : List Step). AllAsked t.clock t.repos J a.around l two.mid) (sym all) (all_joined t.clock t.repos J a.around b.around two.mid xs (ys ++ more) one.asked two.asked);
+        stops = two.stops;
+        next = two.next;
+      }
 
 -- ---- more messages behind those of a stop
 
@@ -263,12 +265,12 @@ pub stops_longer : {D : Type 0} (view : D → View) (t : Tells) (J : List Row) (
 stops_longer view t J xs ys whole a c end is h = record {
   steps = h.steps;
   under = h.under;
-  over = h.over;
+  extra = h.extra;
   behind = h.behind ++ ys;
   stop = h.stop;
   which_under = h.which_under;
-  which_over = h.which_over;
-  front = is ∙ ap (λ (l : List Message). l ++ ys) h.front ∙ append_assoc (sent (h.steps ++ (h.under ++ h.over))) h.behind ys;
+  which_extra = h.which_extra;
+  front = is ∙ ap (λ (l : List Message). l ++ ys) h.front ∙ append_assoc (sent (h.steps ++ (h.under ++ h.extra))) h.behind ys;
   are = h.are;
   journal = h.journal;
   known = h.known;

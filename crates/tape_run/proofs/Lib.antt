@@ -1,6 +1,12 @@
+pub mod Alone
 pub mod Answers
 pub mod Records
 pub mod Ended
 pub mod Counts
 pub mod Joining
 pub mod Batches
+pub mod Causing
+pub mod Groups
+pub mod Sounds
+pub mod Ending
+pub mod Whole

@@ -1,7 +1,10 @@
+pub mod Tells
 pub mod Ends
+pub mod Stops
 pub mod Causes
 pub mod Said
 pub mod Tapes
+pub mod Groups
 pub mod Crashes
 pub mod Going
 pub mod Covered

@@ -5,7 +5,7 @@ ghost use Rattle.at_cid.specs.Counts.{Rose};
 ghost use Rattle.relay_io.specs.Streams.{AddsFront};
 ghost use Rattle.relay_core.specs.Report.{over_line};
 ghost use Rattle.relay_store.specs.Lines.{end_line_of};
-ghost use Rattle.tape_run.specs.Ends.{IsUnwritten, Finished};
+ghost use Rattle.tape_run.specs.Stops.{IsUnwritten, Finished};
 ghost use Rattle.tape_run.specs.declared.end.TapeEnd.{TapeEnd as TheEnd};
 ghost use Rattle.tape_run.specs.Said.{IsNoted, answered, text_of};
 
@@ -74,10 +74,7 @@ pub(crate) fn answer<O: Sink>(
         Ok(()) => {}
         Err(_) => return Err(TapeEnd::Memory),
     }
-    match write_lines(out, &text) {
-        Ok(()) => Ok(()),
-        Err(end) => Err(end),
-    }
+    write_lines(out, &text)
 }
 
 // The line of a message of a host that ended before.
@@ -109,10 +106,7 @@ pub(crate) fn pass_over<O: Sink>(
         Err(_) => return Err(TapeEnd::Memory),
     };
     tally.pass_over();
-    match write_lines(out, &text) {
-        Ok(()) => Ok(()),
-        Err(end) => Err(end),
-    }
+    write_lines(out, &text)
 }
 
 /// Writes the last line, beside the journal's last number, and says how that ended.

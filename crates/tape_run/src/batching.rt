@@ -7,7 +7,8 @@ ghost use Rattle.relay_step.specs.Around.{around};
 ghost use Rattle.relay_store.specs.Store.{IsKept, IsOf, seen_in};
 ghost use Rattle.relay_store.specs.Taking.{AreOfHosts};
 ghost use Rattle.tape_run.specs.Causes.{Caused, Kept, faults};
-ghost use Rattle.tape_run.specs.Going.{Going, Stopped, point, tells};
+ghost use Rattle.tape_run.specs.Going.{Going, Stopped, point};
+ghost use Rattle.tape_run.specs.Tells.{tells};
 ghost use Rattle.tape_run.specs.Said.{AreLive, FirstHasEnded};
 
 use crate::answering::{answer, pass_over};
@@ -25,14 +26,12 @@ fn live_front(group: &[Message], tally: &Tally) -> usize
     ensures live { AreLive tally.now.ended.items (take result group.now) }
     ensures ended { 0 < length group.now → result ≡ 0 → FirstHasEnded tally.now.ended.items group.now }
 {
-    let mut n = 0;
-    'looking: while n < group.len() {
-        if tally.has_ended(group[n].host.as_str()) {
+    for (n, message) in group.iter().enumerate() {
+        if tally.has_ended(message.host.as_str()) {
             return n;
         }
-        n += 1;
     }
-    n
+    group.len()
 }
 
 // Takes messages of hosts that haven't ended, writes the lines of those that are answered, and says how many those are.
@@ -64,6 +63,7 @@ fn take_live<D: Disk, P: Judges, R: Repos, C: Clock, O: Sink>(
     ensures open { OnOk result (IsTrue (seen_in store.new).log.is_open) }
     ensures some { IfOk result (λ n. 1 ≤ n) }
     ensures few { IfOk result (λ n. n ≤ length group.now) }
+    ensures side { (seen_in store.new).side ≡ (seen_in store.old).side }
     ensures count { IfOk result (λ n. tally.new.messages ≤ tally.old.messages + n) }
     ensures counts { Kept (faults (D.view disk.old).faults (R.faults repos.old) (C.faults clock.old) 0 (O.faults out.old)) (faults (D.view disk.new).faults (R.faults repos.new) (C.faults clock.new) 0 (O.faults out.new)) }
     ensures caused { IfErr result (λ end. Caused end (faults (D.view disk.old).faults (R.faults repos.old) (C.faults clock.old) 0 (O.faults out.old)) (faults (D.view disk.new).faults (R.faults repos.new) (C.faults clock.new) 0 (O.faults out.new))) }
@@ -109,6 +109,7 @@ fn take_some<D: Disk, P: Judges, R: Repos, C: Clock, O: Sink>(
     ensures open { OnOk result (IsTrue (seen_in store.new).log.is_open) }
     ensures some { IfOk result (λ n. 1 ≤ n) }
     ensures few { IfOk result (λ n. n ≤ length group.now) }
+    ensures side { (seen_in store.new).side ≡ (seen_in store.old).side }
     ensures count { IfOk result (λ n. tally.new.messages ≤ tally.old.messages + n) }
     ensures counts { Kept (faults (D.view disk.old).faults (R.faults repos.old) (C.faults clock.old) 0 (O.faults out.old)) (faults (D.view disk.new).faults (R.faults repos.new) (C.faults clock.new) 0 (O.faults out.new)) }
     ensures caused { IfErr result (λ end. Caused end (faults (D.view disk.old).faults (R.faults repos.old) (C.faults clock.old) 0 (O.faults out.old)) (faults (D.view disk.new).faults (R.faults repos.new) (C.faults clock.new) 0 (O.faults out.new))) }
@@ -121,10 +122,7 @@ fn take_some<D: Disk, P: Judges, R: Repos, C: Clock, O: Sink>(
         };
     }
     let front = &group[..live];
-    match take_live(alloc, store, disk, front, judges, repos, clock, tally, out) {
-        Ok(count) => Ok(count),
-        Err(end) => Err(end),
-    }
+    take_live(alloc, store, disk, front, judges, repos, clock, tally, out)
 }
 
 /// Takes a group of messages in batches: those of hosts that ended before are passed over, and each batch stops at the end of a host.
@@ -152,6 +150,7 @@ pub(crate) fn take_group<D: Disk, P: Judges, R: Repos, C: Clock, O: Sink>(
         (point (seen_in store.new) tally.new disk.new (around (P.panel judges.new) (C.moments clock.new) (R.repository repos.new)) (O.written out.new)) end) }
     ensures on { OnOk result (IsTrue D.tells → IsKept (seen_in store.new) (D.view disk.new)) }
     ensures open { OnOk result (IsTrue (seen_in store.new).log.is_open) }
+    ensures side { (seen_in store.new).side ≡ (seen_in store.old).side }
     ensures count { OnOk result (tally.new.messages ≤ tally.old.messages + length group.now) }
     ensures counts { Kept (faults (D.view disk.old).faults (R.faults repos.old) (C.faults clock.old) 0 (O.faults out.old)) (faults (D.view disk.new).faults (R.faults repos.new) (C.faults clock.new) 0 (O.faults out.new)) }
     ensures caused { IfErr result (λ end. Caused end (faults (D.view disk.old).faults (R.faults repos.old) (C.faults clock.old) 0 (O.faults out.old)) (faults (D.view disk.new).faults (R.faults repos.new) (C.faults clock.new) 0 (O.faults out.new))) }

@@ -17,7 +17,7 @@ pub enum TapeEnd {
     ReadFault,
     /// The report couldn't be written.
     WriteFault,
-    /// As many bytes were taken as may be, and the tape goes on.
+    /// As many bytes were taken as may be, and the end of the tape wasn't among them.
     TooLong,
     /// The store answered this fault, which isn't want of memory.
     Store(StoreFault),

@@ -5,7 +5,7 @@ ghost use Rattle.relay_row.specs.declared.row.Row.{Row as TheRow};
 ghost use Rattle.relay_step.specs.Around.{around};
 ghost use Rattle.relay_store.specs.Store.{IsKept, IsOf, seen_in};
 ghost use Rattle.tape_run.specs.Causes.{Caused, Kept, faults};
-ghost use Rattle.tape_run.specs.Going.{tells};
+ghost use Rattle.tape_run.specs.Tells.{tells};
 ghost use Rattle.tape_run.specs.Taken.{Taken, scene};
 
 use crate::answering::finish;
@@ -39,6 +39,7 @@ pub fn take_tape<D: Disk, P: Judges, R: Repos, C: Clock, I: Source, O: Sink>(
     ensures taken { (J : List TheRow) → IsOf J store.old.core → Taken D.view (tells D.tells C.tells R.tells O.tells) I.tells limit J
         (scene (seen_in store.old) disk.old (around (P.panel judges.old) (C.moments clock.old) (R.repository repos.old)) (I.left input.old) (O.written out.old))
         (scene (seen_in store.new) disk.new (around (P.panel judges.new) (C.moments clock.new) (R.repository repos.new)) (I.left input.new) (O.written out.new)) result }
+    ensures side { (seen_in store.new).side ≡ (seen_in store.old).side }
     ensures counts { Kept (faults (D.view disk.old).faults (R.faults repos.old) (C.faults clock.old) (I.faults input.old) (O.faults out.old)) (faults (D.view disk.new).faults (R.faults repos.new) (C.faults clock.new) (I.faults input.new) (O.faults out.new)) }
     ensures caused { Caused result (faults (D.view disk.old).faults (R.faults repos.old) (C.faults clock.old) (I.faults input.old) (O.faults out.old)) (faults (D.view disk.new).faults (R.faults repos.new) (C.faults clock.new) (I.faults input.new) (O.faults out.new)) }
 {

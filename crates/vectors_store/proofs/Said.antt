@@ -1,5 +1,5 @@
 -- The disk is still the store's behind an operator's word.
-use Rattle.std.proofs.Common.{◌≡◌, ◌≢◌, ⊎_elim, List, Bool, Result, Err, IsTrue, sym, subst}
+use Rattle.std.proofs.Common.{◌≡◌, ◌≢◌, ⊎_elim, List, Bool, true, false, Result, Err, IsTrue, sym, subst}
 use Rattle.relay_disk.specs.Disk.{View}
 use Rattle.relay_row.specs.declared.row.Row.{Row}
 use Rattle.relay_step.specs.declared.word.Word.{Word}
@@ -16,3 +16,7 @@ kept_said {D = D} view tells is_word failed old new disk disk_now result spoken 
     ⊎_elim (λ said. (_, said.3.keeps not told kept.1))
     (λ unsaid. subst (λ (s : StoreState). IsKept s (view disk_now)) (sym unsaid.same) (subst (λ (d : D). IsKept old (view d)) (sym unsaid.disk_same) kept))
     (spoken kept.0 (of_kept old (view disk) kept))
+
+pub shut : (b : Bool) → b ≡ false → IsTrue b → ⊥
+shut true is told = cc
+shut false is told = cc

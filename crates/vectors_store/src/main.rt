@@ -29,6 +29,7 @@ fn compared(rt: &HostRuntime) -> Result<Suite> {
         "clocks",
         "repositories",
         "openings",
+        "readings",
     ] {
         suite.file(rt, name, &Runs)?;
     }

@@ -2,6 +2,7 @@
 
 use anyhow::{Context, Result, bail};
 use at_cid::{Memory, Octets};
+use event_window::EventsFault;
 use relay_store::{Batch, Done, Fetch, Message, Outcome, StoreFault, end_line, line};
 use report_lines::{add_number, add_refusal};
 use std::alloc::Global;
@@ -118,6 +119,25 @@ impl Report {
             }
             Err(fault) => self.add_fault(alloc, fault),
         }
+    }
+
+    /// With the next event, or that there is none, behind the numbers between which there are some.
+    pub fn add_event(
+        &mut self,
+        alloc: Global,
+        ends: (u64, u64),
+        found: Result<Option<u64>, EventsFault>,
+        message: &[u8],
+    ) -> Result<()> {
+        let answer = Answer::new(alloc).words("oldest ").number(ends.0);
+        let answer = answer.words(" last ").number(ends.1);
+        let answer = match found {
+            Ok(None) => answer.words(" none"),
+            Ok(Some(seq)) => answer.words(" next ").number(seq).words(" ").bytes(message),
+            Err(EventsFault::Disk) => answer.words(" Disk"),
+            Err(fault) => bail!("{fault:?}"),
+        };
+        self.add(answer.end()?.as_str())
     }
 
     /// With the fault of an opening.

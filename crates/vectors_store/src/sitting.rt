@@ -11,8 +11,10 @@ use crate::states::{with_account, with_hosts};
 use crate::steps::{Shown, Step};
 use anyhow::{Result, bail};
 use at_authority::Judges;
+use at_cid::Octets;
 use at_form::LONGEST_SHORT_TEXT;
 use at_syntax::{did_ok, host_ok};
+use event_window::Events;
 use gate_log::Side;
 use relay_disk::Disk;
 use relay_io::{ListClock, MemoryRepos};
@@ -119,7 +121,7 @@ impl<P: Judges + Drop> Sitting<P> {
                 break;
             }
             let count = self.take_group(disk, rest)?;
-            rest = &rest[count.min(rest.len())..];
+            rest = rest.get(count..).unwrap_or(&[]);
         }
         Ok(())
     }
@@ -155,6 +157,22 @@ impl<P: Judges + Drop> Sitting<P> {
         self.report.add_done(self.alloc, done)
     }
 
+    // Adds the next event above a number, and between which numbers there are some.
+    fn read_next<D: Disk>(&mut self, disk: &mut D, seq: u64) -> Result<()>
+        requires { Stands D.tells self.old.store (D.view disk.old) }
+        ensures { Stands D.tells self.new.store (D.view disk.new) }
+    {
+        if !self.store.is_open() {
+            bail!("a closed store");
+        }
+        let mut room = Octets::new(self.alloc);
+        let mut reader = self.store.events(self.alloc, disk);
+        let ends = (reader.oldest(), reader.last_seq());
+        let found = reader.next_after(seq, &mut room);
+        self.report
+            .add_event(self.alloc, ends, found, room.as_slice())
+    }
+
     fn make<D: Disk>(&mut self, disk: &mut D, step: &Step<'_>) -> Result<()>
         requires { Stands D.tells self.old.store (D.view disk.old) }
         ensures { Stands D.tells self.new.store (D.view disk.new) }
@@ -168,6 +186,7 @@ impl<P: Judges + Drop> Sitting<P> {
             Step::All(messages) => self.take_each(disk, messages.as_slice()),
             Step::Operate(down, did, time) => self.operate(disk, *down, did, time),
             Step::Sync(did, time) => self.sync_now(disk, did, time),
+            Step::After(seq) => self.read_next(disk, *seq),
             Step::Told(what) => show(self.alloc, &self.store, what, &mut self.report),
         }
     }

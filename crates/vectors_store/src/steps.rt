@@ -4,7 +4,7 @@ use anyhow::{Result, bail};
 use at_cid::{Octets, Words};
 use relay_store::Message;
 use std::alloc::Global;
-use vector_lines::{bytes, had, parted};
+use vector_lines::{bytes, had, number, parted};
 
 /// A step, or what is told between two.
 #[derive(Drop)]
@@ -19,6 +19,8 @@ pub enum Step<'a> {
     Operate(bool, &'a str, &'a str),
     /// `sync DID TIME`.
     Sync(&'a str, &'a str),
+    /// `after NUMBER`: the next event above it.
+    After(u64),
     Told(Shown<'a>),
 }
 
@@ -75,6 +77,7 @@ fn step_of(alloc: Global, words: &str) -> Result<Step<'_>> {
     let (verb, rest) = parted(words, " ")?;
     match verb {
         "take" => Ok(Step::Take(message_of(alloc, rest)?)),
+        "after" => Ok(Step::After(number(rest)?)),
         "group" => Ok(Step::Group(messages_of(alloc, rest)?)),
         _ => step_on(verb, rest),
     }

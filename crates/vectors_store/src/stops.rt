@@ -2,7 +2,7 @@
 //! one is made. It is stopped behind each number of calls on either disk, and each worst case of a crash there is opened again:
 //! `b` where its state is the one before the step, which can then be made and answers the same, and `a` where it is the one
 //! behind it. There are three letters for each number of calls on the log's disk, from the step's first on; before that all
-//! are `b`.
+//! are `b`. Rows tell so where there is memory to spare: without, a group may end early, and a body take one more call.
 
 use crate::sessions::{Told, session};
 use crate::setup::{Setup, disk_of, read_setup, with_room};
@@ -135,15 +135,13 @@ fn letters(
 ) -> Result<String> {
     let left = stopped(alloc, setup, steps, passes)?;
     let is_stopped = passes[0] < run.calls[0] || passes[1] < run.calls[1];
-    let wanted = if is_stopped {
-        "1 Disk"
+    let report = left.told.report.as_str();
+    let is_told = if is_stopped {
+        report.ends_with("Disk")
     } else {
-        run.behind.report.as_str()
+        report == run.behind.report.as_str()
     };
-    let mut answer = Answer::new(alloc);
-    if left.told.report.as_str() != wanted {
-        answer = answer.words(left.told.report.as_str());
-    }
+    let mut answer = Answer::new(alloc).words(if is_told { "" } else { report });
     for i in 0..WORST_CASES {
         answer = answer.words(letter(alloc, setup, steps, run, &left, i)?);
     }

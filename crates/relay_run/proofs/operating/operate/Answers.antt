@@ -1,4 +1,4 @@
-use Rattle.std.proofs.Common.{◌≡◌, ◌⊎◌, ◌∙◌, ℕ, List, Err, IsTrue, refl, ap}
+use Rattle.std.proofs.Common.{◌≡◌, ◌⊎◌, ◌∙◌, inl, inr, ⊎_elim, ℕ, List, Err, IsTrue, refl, ap}
 use Rattle.std.specs.Prelude.{⊤}
 use Rattle.at_cid.specs.Counts.{Rose}
 use Rattle.relay_step.specs.Causes.{OneTaken}
@@ -6,7 +6,7 @@ use Rattle.relay_step.specs.Words.{EndsBehind, OperatedAt}
 use Rattle.relay_store.specs.Faults.{IsCause}
 use Rattle.relay_store.specs.Store.{seen_in}
 use Rattle.relay_run.specs.Spoke.{Knows}
-use Rattle.relay_run.proofs.Causing.{done_causes, done_good, image_shows, opening_causes, opening_shows, operating_causes, spoken_good}
+use Rattle.relay_run.proofs.Causing.{done_causes, done_good, image_shows, opening_causes, opening_shows, operating_causes, rose_behind, spoken_good}
 use Rattle.relay_run.proofs.Sounds.{operated_stays}
 use Rattle.relay_run.proofs.Uttered.{opened_knows, opened_of, spoke_err, spoke_ok, spoke_unopened, vain_by}
 use Rattle.relay_run.proofs.operating.operate.Goals as goal
@@ -60,4 +60,6 @@ returns-clause-shows g c = λ told.
     (c.in-Err-operate_on.ensures.spoken J (opened_of g.D.Disk.view (λ x. g.met.D.Disk.is_disk x) c.args.disk.now c.args.other.now c.open.new.disk c.open.new.other g.D.Disk.tells told c.in-Ok.store c.in-Ok.ensures.opened J image)))
 
 pub returns-clause-caused : goal.returns-clause-caused
-returns-clause-caused g c = operating_causes _ _ _ c.in-Err-operate_on.fault (c.in-Err-operate_on.ensures.few c.in-Err-operate_on.fault refl) (λ is. c.in-Err-operate_on.ensures.disk (ap Err is)) (λ is. c.in-Err-operate_on.ensures.clock (ap Err is))
+returns-clause-caused g c = operating_causes _ (Rose (g.O.Sink.faults c.args.out.now) (g.O.Sink.faults c.args.out.now)) _ c.in-Err-operate_on.fault (c.in-Err-operate_on.ensures.few c.in-Err-operate_on.fault refl)
+    (λ is. ⊎_elim (λ first. inl (rose_behind _ _ _ c.in-Ok.ensures.counts.0 first)) (λ second. inr (rose_behind _ _ _ c.in-Ok.ensures.counts.1 second)) (c.in-Err-operate_on.ensures.disk (ap Err is)))
+    (λ is. c.in-Err-operate_on.ensures.clock (ap Err is))

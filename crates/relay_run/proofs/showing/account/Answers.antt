@@ -1,11 +1,11 @@
-use Rattle.std.proofs.Common.{◌∙◌, ℕ, List, Err, refl, ap}
+use Rattle.std.proofs.Common.{◌∙◌, Err, refl, ap}
 use Rattle.std.specs.Prelude.{option_map}
 use Rattle.state_lines.specs.Lines.{account_text}
 use Rattle.account_state.specs.Folds.{account as account_of}
 use Rattle.account_state.specs.State.{state_of}
 use Rattle.relay_store.specs.declared.fault.StoreFault.{StoreFault}
 use Rattle.relay_run.specs.declared.end.RunEnd.{RunEnd}
-use Rattle.relay_run.proofs.Causing.{image_shows, memory_good, opening_shows, shown_good}
+use Rattle.relay_run.proofs.Causing.{image_shows, opening_shows, shown_good}
 use Rattle.relay_run.proofs.Seen.{account_is, shown_opened, shown_unopened}
 use Rattle.relay_run.proofs.showing.account.Goals as goal
 
@@ -27,7 +27,7 @@ returns-in-Ok-account_line-clause-shown g c = λ told J image.
     shown_opened g.D.Disk.tells (g.D.Disk.view c.args.disk.now) (g.D.Disk.view c.args.other.now) (g.D.Disk.view c.open.new.disk) (g.D.Disk.view c.open.new.other) (g.met.D.Disk.is_disk c.open.new.disk) (g.met.D.Disk.is_disk c.open.new.other) c.in-Ok.store c.in-Ok.ensures.opened told J image
     g.O.Sink.tells (account_text c.args.did.now (account_of c.args.did.now J)) c.as_slice.result.now (g.O.Sink.written c.args.out.now) (g.O.Sink.written c.show.new.out) c.show.result
     (account_is g.D.Disk.tells (g.D.Disk.view c.args.disk.now) (g.D.Disk.view c.args.other.now) (g.D.Disk.view c.open.new.disk) (g.D.Disk.view c.open.new.other) (g.met.D.Disk.is_disk c.open.new.disk) (g.met.D.Disk.is_disk c.open.new.other) c.in-Ok.store c.in-Ok.ensures.opened told J image
-        c.args.did.now c.as_slice.result.now (option_map (λ a. state_of a.now) c.account.result) (c.as_slice.ensures.value ∙ c.in-Ok-account_line.ensures) c.account.ensures)
+    c.args.did.now c.as_slice.result.now (option_map (λ a. state_of a.now) c.account.result) (c.as_slice.ensures.value ∙ c.in-Ok-account_line.ensures) c.account.ensures)
     c.show.ensures.written
 
 pub returns-in-Ok-account_line-clause-shows : goal.returns-in-Ok-account_line-clause-shows

@@ -1,9 +1,9 @@
-use Rattle.std.proofs.Common.{◌∙◌, ℕ, List, Err, refl, ap}
+use Rattle.std.proofs.Common.{◌∙◌, Err, refl, ap}
 use Rattle.state_lines.specs.Lines.{hosts_text}
 use Rattle.host_state.specs.Folds.{hosts as hosts_of}
 use Rattle.relay_store.specs.declared.fault.StoreFault.{StoreFault}
 use Rattle.relay_run.specs.declared.end.RunEnd.{RunEnd}
-use Rattle.relay_run.proofs.Causing.{image_shows, memory_good, opening_shows, shown_good}
+use Rattle.relay_run.proofs.Causing.{image_shows, opening_shows, shown_good}
 use Rattle.relay_run.proofs.Seen.{hosts_are, shown_opened, shown_unopened}
 use Rattle.relay_run.proofs.showing.hosts.Goals as goal
 
@@ -25,7 +25,7 @@ returns-in-Ok-host_lines-clause-shown g c = λ told J image.
     shown_opened g.D.Disk.tells (g.D.Disk.view c.args.disk.now) (g.D.Disk.view c.args.other.now) (g.D.Disk.view c.open.new.disk) (g.D.Disk.view c.open.new.other) (g.met.D.Disk.is_disk c.open.new.disk) (g.met.D.Disk.is_disk c.open.new.other) c.in-Ok.store c.in-Ok.ensures.opened told J image
     g.O.Sink.tells (hosts_text (hosts_of J)) c.as_slice.result.now (g.O.Sink.written c.args.out.now) (g.O.Sink.written c.show.new.out) c.show.result
     (hosts_are g.D.Disk.tells (g.D.Disk.view c.args.disk.now) (g.D.Disk.view c.args.other.now) (g.D.Disk.view c.open.new.disk) (g.D.Disk.view c.open.new.other) (g.met.D.Disk.is_disk c.open.new.disk) (g.met.D.Disk.is_disk c.open.new.other) c.in-Ok.store c.in-Ok.ensures.opened told J image
-        c.as_slice.result.now c.hosts.result.now (c.as_slice.ensures.value ∙ c.in-Ok-host_lines.ensures) c.hosts.ensures)
+    c.as_slice.result.now c.hosts.result.now (c.as_slice.ensures.value ∙ c.in-Ok-host_lines.ensures) c.hosts.ensures)
     c.show.ensures.written
 
 pub returns-in-Ok-host_lines-clause-shows : goal.returns-in-Ok-host_lines-clause-shows

@@ -1,4 +1,4 @@
-use Rattle.std.proofs.Common.{◌≡◌, ◌⊎◌, ◌∙◌, ℕ, List, Err, IsTrue, refl, ap}
+use Rattle.std.proofs.Common.{◌≡◌, ◌⊎◌, Err, refl, ap}
 use Rattle.std.specs.Prelude.{⊤}
 use Rattle.at_cid.specs.Counts.{Rose}
 use Rattle.at_authority.specs.Panels.{IsSpent}

@@ -1,5 +1,5 @@
-use Rattle.std.proofs.Common.{IsTrue, subst}
+use Rattle.vectors_store.proofs.Said.{shut}
 use Rattle.vectors_store.proofs.sitting.Sitting.take.Goals as goal
 
 pub returns : goal.returns
-returns g c = λ told opened. c.take-taken.ensures.on (λ closed. subst IsTrue (c.take-taken.ensures.closed closed) opened) told
+returns g c = λ told opened. c.take-taken.ensures.on (λ closed. shut _ (c.take-taken.ensures.closed closed) opened) told

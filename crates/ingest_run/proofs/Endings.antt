@@ -1,0 +1,102 @@
+-- How taking a tape ends: what the disks show, the causes, and what ends a whole tape.
+use Rattle.std.proofs.Common.{◌≡◌, ◌⊎◌, inl, inr, ⊎_elim, ◌∙◌, ℕ, ◌+◌, ◌<◌, ◌≤◌, List, ◌++◌, length, refl, sym, ap, subst, arith, length-append}
+use Rattle.at_cid.specs.Counts.{Rose}
+use Rattle.relay_row.specs.declared.row.Row.{Row}
+use Rattle.relay_step.specs.Steps.{Step}
+use Rattle.relay_store.specs.Journals.{IsBadPairJournalAt, IsPairImageOf}
+use Rattle.relay_store.specs.Opening.{IsOfReading}
+use Rattle.relay_store.specs.declared.fault.StoreFault.{StoreFault}
+use Rattle.relay_store.specs.declared.message.Message.{Message}
+use Rattle.relay_store.proofs.Images.{no_journal}
+use Rattle.tape_run.specs.Ends.{AreExtraAt, end_of_store}
+use Rattle.tape_run.specs.Tapes.{AreRecords, IsOnTape, spelled}
+use Rattle.tape_run.specs.declared.end.TapeEnd.{TapeEnd}
+use Rattle.ingest_run.specs.Ends.{IsCausedBy, MayEnd, NoneOf, Shows}
+use Rattle.ingest_run.proofs.Grammar.{no_fault}
+
+-- ---- opening
+
+pub opening_shows : (fault : StoreFault) (one two : List ℕ) → IsOfReading fault → ((p : ℕ) → fault ≡ StoreFault.BadLog p → IsBadPairJournalAt p one two) → Shows (end_of_store fault) one two
+opening_shows StoreFault.Disk one two of bad = tt
+opening_shows (StoreFault.BadLog p) one two of bad = bad p refl
+opening_shows (StoreFault.Full e) one two of bad = absurd of
+opening_shows StoreFault.SeqEnd one two of bad = absurd of
+opening_shows StoreFault.Authority one two of bad = absurd of
+opening_shows StoreFault.Repos one two of bad = absurd of
+opening_shows StoreFault.Memory one two of bad = tt
+opening_shows StoreFault.Clock one two of bad = absurd of
+
+pub opening_causes : (disk read write repos clock : Type 0) (fault : StoreFault) → IsOfReading fault → (fault ≡ StoreFault.Disk → disk) → IsCausedBy disk read write repos clock (end_of_store fault)
+opening_causes disk read write repos clock StoreFault.Disk of cause = cause refl
+opening_causes disk read write repos clock (StoreFault.BadLog p) of cause = tt
+opening_causes disk read write repos clock (StoreFault.Full e) of cause = absurd of
+opening_causes disk read write repos clock StoreFault.SeqEnd of cause = absurd of
+opening_causes disk read write repos clock StoreFault.Authority of cause = absurd of
+opening_causes disk read write repos clock StoreFault.Repos of cause = absurd of
+opening_causes disk read write repos clock StoreFault.Memory of cause = tt
+opening_causes disk read write repos clock StoreFault.Clock of cause = absurd of
+
+pub opening_completes : (disk read write repos clock : Type 0) (fault : StoreFault) (one two : List ℕ) (J : List Row) → IsPairImageOf J one two → IsOfReading fault → (fault ≡ StoreFault.Disk → disk)
+    → ((p : ℕ) → fault ≡ StoreFault.BadLog p → IsBadPairJournalAt p one two) → NoneOf disk read write repos clock → MayEnd (end_of_store fault)
+opening_completes disk read write repos clock StoreFault.Disk one two J image of cause bad none = absurd (none.no_disk (cause refl))
+opening_completes disk read write repos clock (StoreFault.BadLog p) one two J image of cause bad none = absurd (no_journal p one two J image (bad p refl))
+opening_completes disk read write repos clock (StoreFault.Full e) one two J image of cause bad none = absurd of
+opening_completes disk read write repos clock StoreFault.SeqEnd one two J image of cause bad none = absurd of
+opening_completes disk read write repos clock StoreFault.Authority one two J image of cause bad none = absurd of
+opening_completes disk read write repos clock StoreFault.Repos one two J image of cause bad none = absurd of
+opening_completes disk read write repos clock StoreFault.Memory one two J image of cause bad none = tt
+opening_completes disk read write repos clock StoreFault.Clock one two J image of cause bad none = absurd of
+
+-- ---- behind it
+
+pub image_shows : (end : TapeEnd) (over : List Step) (one two : List ℕ) (J : List Row) → AreExtraAt end over → IsPairImageOf J one two → Shows end one two
+image_shows TapeEnd.Done over one two J which image = (J, image)
+image_shows (TapeEnd.Bad place) over one two J which image = (J, image)
+image_shows TapeEnd.ReadFault over one two J which image = (J, image)
+image_shows TapeEnd.WriteFault over one two J which image = (J, image)
+image_shows TapeEnd.TooLong over one two J which image = (J, image)
+image_shows TapeEnd.Memory over one two J which image = tt
+image_shows (TapeEnd.Store StoreFault.Disk) over one two J which image = tt
+image_shows (TapeEnd.Store (StoreFault.BadLog p)) over one two J which image = absurd which
+image_shows (TapeEnd.Store (StoreFault.Full e)) over one two J which image = (J, image)
+image_shows (TapeEnd.Store StoreFault.SeqEnd) over one two J which image = (J, image)
+image_shows (TapeEnd.Store StoreFault.Authority) over one two J which image = (J, image)
+image_shows (TapeEnd.Store StoreFault.Repos) over one two J which image = (J, image)
+image_shows (TapeEnd.Store StoreFault.Memory) over one two J which image = absurd which
+image_shows (TapeEnd.Store StoreFault.Clock) over one two J which image = (J, image)
+
+-- what was read ahead of a limit is shorter than the whole
+not_long : (limit : ℕ) (before after part front : List ℕ) → before ≡ front ++ (part ++ after) → length front + length part ≡ limit → length before < limit → ⊥
+not_long limit before after part front is reached short = omega (arith, ap length is, length-append front (part ++ after), length-append part after, reached, short)
+
+pub completes : (disk read write repos clock : Type 0) (end : TapeEnd) (over : List Step) (limit : ℕ) (before after : List ℕ) (xs T : List Message) → AreExtraAt end over → AreRecords xs → IsOnTape limit before after xs end
+    → AreRecords T → before ≡ spelled T → length (spelled T) < limit → IsCausedBy disk read write repos clock end → NoneOf disk read write repos clock → MayEnd end
+completes disk read write repos clock TapeEnd.Done over limit before after xs T which are on all is short caused none = tt
+completes disk read write repos clock (TapeEnd.Bad place) over limit before after xs T which are on all is short caused none = absurd (no_fault xs T on.0 are all (sym is ∙ on.1) on.2)
+completes disk read write repos clock TapeEnd.ReadFault over limit before after xs T which are on all is short caused none = absurd (none.no_read caused)
+completes disk read write repos clock TapeEnd.WriteFault over limit before after xs T which are on all is short caused none = absurd (none.no_write caused)
+completes disk read write repos clock TapeEnd.TooLong over limit before after xs T which are on all is short caused none =
+    absurd (not_long limit before after on.0 (spelled xs) on.1 on.3 (subst (λ (l : List ℕ). length l < limit) (sym is) short))
+completes disk read write repos clock TapeEnd.Memory over limit before after xs T which are on all is short caused none = tt
+completes disk read write repos clock (TapeEnd.Store StoreFault.Disk) over limit before after xs T which are on all is short caused none = absurd (none.no_disk caused)
+completes disk read write repos clock (TapeEnd.Store (StoreFault.BadLog p)) over limit before after xs T which are on all is short caused none = absurd which
+completes disk read write repos clock (TapeEnd.Store (StoreFault.Full e)) over limit before after xs T which are on all is short caused none = tt
+completes disk read write repos clock (TapeEnd.Store StoreFault.SeqEnd) over limit before after xs T which are on all is short caused none = tt
+completes disk read write repos clock (TapeEnd.Store StoreFault.Authority) over limit before after xs T which are on all is short caused none = tt
+completes disk read write repos clock (TapeEnd.Store StoreFault.Repos) over limit before after xs T which are on all is short caused none = absurd (none.no_repos caused)
+completes disk read write repos clock (TapeEnd.Store StoreFault.Memory) over limit before after xs T which are on all is short caused none = absurd which
+completes disk read write repos clock (TapeEnd.Store StoreFault.Clock) over limit before after xs T which are on all is short caused none = absurd (none.no_clock caused)
+
+-- a count that rose later rose
+rose_more : (old mid now : ℕ) → old ≤ mid → Rose mid now → Rose old now
+rose_more old mid now no_less rose = omega (arith, no_less, rose)
+
+-- what has not happened since a moment has not happened since a later one
+pub none_later : (a b c d e f : ℕ) (read write repos clock : Type 0) → a ≤ b → d ≤ e → NoneOf (Rose a c ⊎ Rose d f) read write repos clock → NoneOf (Rose b c ⊎ Rose e f) read write repos clock
+none_later a b c d e f read write repos clock one other none = record {
+  no_disk = λ rose. none.no_disk (⊎_elim (λ r. inl (rose_more a b c one r)) (λ r. inr (rose_more d e f other r)) rose);
+  no_read = none.no_read;
+  no_write = none.no_write;
+  no_repos = none.no_repos;
+  no_clock = none.no_clock;
+}

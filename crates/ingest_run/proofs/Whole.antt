@@ -1,0 +1,163 @@
+-- What taking a tape did on two disks, from what it did on the one that is picked.
+use Rattle.std.proofs.Common.{◌≡◌, ◌≢◌, inl, inr, ⊎_elim, ℕ, List, [], ◌++◌, Bool, Ok, Err, IsTrue, refl, sym, subst}
+use Rattle.std.proofs.lemmas.List.{append-nil}
+use Rattle.at_authority.specs.Panels.{Panel}
+use Rattle.relay_disk.specs.Disk.{View, IsDisk}
+use Rattle.relay_disk.specs.Moments.{PairLeavesOnly}
+use Rattle.gate_log.specs.Image.{HasFront}
+use Rattle.gate_log.specs.Log.{LogState}
+use Rattle.gate_log.specs.Pick.{LeavesSide, other_side, view_of_side}
+use Rattle.gate_log.specs.declared.format.Format.{Format}
+use Rattle.gate_log.specs.declared.picking.Side.{Side}
+use Rattle.gate_log.specs.declared.picking.Side.TheVariants.{One, Two}
+use Rattle.relay_row.specs.declared.row.Row.{Row}
+use Rattle.relay_core.specs.Entries.{Holds}
+use Rattle.relay_core.specs.declared.journal_state.Core.{Core}
+use Rattle.relay_step.specs.Around.{Around}
+use Rattle.relay_step.specs.Steps.{rows}
+use Rattle.relay_store.specs.Batches.{EndsNext}
+use Rattle.relay_store.specs.Journals.{IsOneOf, IsPairImageOf}
+use Rattle.relay_store.specs.Opening.{IsOfReading, Opened}
+use Rattle.relay_store.specs.Store.{IsOf, Keeps, seen_in}
+use Rattle.relay_store.specs.declared.fault.StoreFault.{StoreFault}
+use Rattle.relay_store.specs.declared.message.Message.{Message}
+use Rattle.relay_store.specs.declared.store.Store.{Store}
+use Rattle.relay_run.specs.Pairs.{IsOneOfPair, StandsFor, of_pair}
+use Rattle.relay_run.proofs.Beside.{ComesBeside, image_of_side, leaves_on, leaves_stand, log_front, opened_keeps, opened_leaves, run_on, stands_on, view_now, view_on}
+use Rattle.tape_run.specs.Crashes.{IsFullFor, IsOnTheWay, Leaves}
+use Rattle.tape_run.specs.Ends.{disk_failed, end_of_store, fault_in}
+use Rattle.tape_run.specs.Tells.{Tells}
+use Rattle.tape_run.specs.Taken.{Taken, scene}
+use Rattle.tape_run.specs.declared.end.TapeEnd.{TapeEnd}
+use Rattle.ingest_run.specs.Ingested.{Ingested, IsFullOn, IsLogOn, IsNextEnd, IsPairOnTheWay, Unopened, pair_scene}
+
+-- they weren't opened
+pub unopened : (tells : Bool) (one two one_now two_now : View) (fault : StoreFault) (J : List Row) (around : Around) (left written : List ℕ) (end : TapeEnd) → IsDisk one_now → IsDisk two_now
+    → Opened tells one two one_now two_now (Err fault) → IsTrue tells → IsOfReading fault → end ≡ end_of_store fault → Unopened J (pair_scene one two around left written) (pair_scene one_now two_now around left written) end
+unopened tells one two one_now two_now fault J around left written end first second opened told of is =
+    let leaves : StandsFor J one two → PairLeavesOnly (IsPairImageOf J) one one_now two two_now = opened_leaves tells one two one_now two_now (Err fault) opened told J in
+    record {
+      fault = fault;
+      is = is;
+      of_reading = of;
+      around = refl;
+      left = refl;
+      written = refl;
+      stands = λ stands. leaves_stand J one two one_now two_now first second (leaves stands);
+      crashes = leaves;
+    }
+
+-- ---- facts by the end
+
+full_on : (most : ℕ) (J R O : List Row) (log : LogState) (one two : View) (end : TapeEnd) → log.most ≡ most → IsLogOn log one two → IsFullFor J R O log end → IsFullOn most J R O one two end
+full_on most J R O log one two (TapeEnd.Store (StoreFault.Full e)) is on full = (log, is, on, full)
+full_on most J R O log one two (TapeEnd.Store StoreFault.Disk) is on full = tt
+full_on most J R O log one two (TapeEnd.Store (StoreFault.BadLog p)) is on full = tt
+full_on most J R O log one two (TapeEnd.Store StoreFault.SeqEnd) is on full = tt
+full_on most J R O log one two (TapeEnd.Store StoreFault.Authority) is on full = tt
+full_on most J R O log one two (TapeEnd.Store StoreFault.Repos) is on full = tt
+full_on most J R O log one two (TapeEnd.Store StoreFault.Memory) is on full = tt
+full_on most J R O log one two (TapeEnd.Store StoreFault.Clock) is on full = tt
+full_on most J R O log one two TapeEnd.Done is on full = tt
+full_on most J R O log one two (TapeEnd.Bad place) is on full = tt
+full_on most J R O log one two TapeEnd.ReadFault is on full = tt
+full_on most J R O log one two TapeEnd.WriteFault is on full = tt
+full_on most J R O log one two TapeEnd.TooLong is on full = tt
+full_on most J R O log one two TapeEnd.Memory is on full = tt
+
+seq_not : TapeEnd.Store StoreFault.SeqEnd ≡ disk_failed → ⊥
+seq_not is = cc
+
+authority_not : TapeEnd.Store StoreFault.Authority ≡ disk_failed → ⊥
+authority_not is = cc
+
+next_end : (K : List Row) (core : Core) (behind : List Message) (panel : Panel) (end : TapeEnd) → (end ≢ disk_failed → Holds core K) → EndsNext core behind panel (fault_in end) → IsNextEnd K behind panel end
+next_end K core behind panel (TapeEnd.Store StoreFault.SeqEnd) known next = (core, known seq_not, next)
+next_end K core behind panel (TapeEnd.Store StoreFault.Authority) known next = (core, known authority_not, next)
+next_end K core behind panel (TapeEnd.Store StoreFault.Disk) known next = tt
+next_end K core behind panel (TapeEnd.Store (StoreFault.BadLog p)) known next = tt
+next_end K core behind panel (TapeEnd.Store (StoreFault.Full e)) known next = tt
+next_end K core behind panel (TapeEnd.Store StoreFault.Repos) known next = tt
+next_end K core behind panel (TapeEnd.Store StoreFault.Memory) known next = tt
+next_end K core behind panel (TapeEnd.Store StoreFault.Clock) known next = tt
+next_end K core behind panel TapeEnd.Done known next = tt
+next_end K core behind panel (TapeEnd.Bad place) known next = tt
+next_end K core behind panel TapeEnd.ReadFault known next = tt
+next_end K core behind panel TapeEnd.WriteFault known next = tt
+next_end K core behind panel TapeEnd.TooLong known next = tt
+next_end K core behind panel TapeEnd.Memory known next = tt
+
+-- ---- crashes
+
+-- the journal with none of the rows
+none_yet : (J R U : List Row) (c d : List ℕ) → IsPairImageOf J c d → IsPairOnTheWay J R U c d
+none_yet J R U c d image = inl (record { front = []; others = R; split = refl; image = subst (λ (K : List Row). IsPairImageOf K c d) (sym (append-nil J)) image })
+
+on_the_way : (side : Side) (J R U : List Row) (format : Format) → ComesBeside side J format (IsOnTheWay format J R U) (IsPairOnTheWay J R U)
+on_the_way side J R U format c d (inl so_far) image =
+    ⊎_elim (none_yet J R U c d) (λ some. inl (record { front = so_far.front; others = so_far.others; split = so_far.split; image = some })) (image (J ++ so_far.front) so_far.log)
+on_the_way side J R U format c d (inr log) image = ⊎_elim (none_yet J R U c d) (λ all. inr all) (image ((J ++ R) ++ U) log)
+
+module _ {D : Type 0} (view : D → View) (e f : D) where
+  -- what is left of the side that is picked is left of the two
+  left_on : (side : Side) (K rows : List Row) (format : Format) → LeavesSide side (view e) (view f) → ((z : List ℕ) → (view (of_pair side e f)).may_leave z → IsOneOf format K rows z)
+      → (x y : List ℕ) → (view e).may_leave x → (view f).may_leave y → IsOneOfPair K rows x y
+  left_on One K rows format leaves logs x y left beside =
+      ⊎_elim (λ log. inl (image_of_side K One format x y (leaves x y left beside) log)) (λ log. inr (image_of_side (K ++ rows) One format x y (leaves x y left beside) log)) (logs x left)
+  left_on Two K rows format leaves logs x y left beside =
+      ⊎_elim (λ log. inl (image_of_side K Two format x y (leaves x y left beside) log)) (λ log. inr (image_of_side (K ++ rows) Two format x y (leaves x y left beside) log)) (logs y beside)
+
+-- ---- the whole command
+
+module _ {D : Type 0} (view : D → View) (is_disk : (x : D) → IsDisk (view x)) (a b c d : D) (t : Tells) (told : IsTrue t.disk) (s : Store) (opened : Opened t.disk (view a) (view b) (view c) (view d) (Ok s))
+    (J : List Row) (image : IsPairImageOf J (view a).content (view b).content) where
+  keeps : Keeps J (seen_in s) (view_of_side s.side (view c) (view d))
+  keeps = opened_keeps t.disk (view a) (view b) (view c) (view d) s opened told J image
+
+  pub opened_of : IsOf J (seen_in s).core
+  opened_of = record { holds = keeps.core; journal = keeps.are.journal }
+
+  module _ (e f : D) (u : Store) (beside : of_pair (other_side s.side) e f ≡ of_pair (other_side s.side) c d) (input_tells : Bool) (most limit : ℕ) (most_is : s.log.most ≡ most) (old new : Around) (left left_now written written_now : List ℕ) (end : TapeEnd)
+      (taken : Taken view t input_tells limit J (scene (seen_in s) (of_pair s.side c d) old left written) (scene (seen_in u) (of_pair s.side e f) new left_now written_now) end) where
+    leaves : Leaves J (rows taken.steps) (rows taken.under) (rows taken.extra) (seen_in s) (view (of_pair s.side c d)) (seen_in u) (view (of_pair s.side e f)) end
+    leaves = taken.on_disk told (subst (Keeps J (seen_in s)) (view_on view is_disk a b c d e f s.side) keeps)
+
+    fronts : (x : List ℕ) → (view (of_pair s.side e f)).may_leave x → HasFront (seen_in s).log.format x
+    fronts x is = ⊎_elim (log_front (seen_in s).log.format (J ++ rows taken.steps) x) (log_front (seen_in s).log.format ((J ++ rows taken.steps) ++ rows taken.under) x) (leaves.left x is)
+
+    side_left : LeavesSide s.side (view e) (view f)
+    side_left = leaves_on view is_disk a b c d e f s.side J (seen_in s) beside keeps fronts (opened.side told)
+
+    log_on : IsLogOn (seen_in s).log (view e) (view f)
+    log_on = record {
+      side = s.side;
+      picked = side_left (view e).content (view f).content (is_disk e).possible (is_disk f).possible;
+      front = subst (λ (v : View). HasFront (seen_in s).log.format v.content) (sym (view_now view is_disk a b c d e f s.side)) (fronts (view (of_pair s.side e f)).content (is_disk (of_pair s.side e f)).possible);
+    }
+
+    pub ingested : Ingested t input_tells most limit J (pair_scene (view a) (view b) old left written) (pair_scene (view e) (view f) new left_now written_now) end
+    ingested = record {
+      steps = taken.steps;
+      under = taken.under;
+      extra = taken.extra;
+      which_under = taken.which_under;
+      which_extra = taken.which_extra;
+      are = taken.are;
+      journal = taken.journal;
+      behind = taken.behind;
+      all = taken.all;
+      records = taken.records;
+      from = taken.from;
+      stands = λ n. stands_on view is_disk a b c d e f s.side J (J ++ rows taken.steps) (seen_in s) (seen_in u) beside taken.format keeps (leaves.keeps n) (opened.side told);
+      crashes = λ stands. run_on view is_disk a b c d e f s.side J (seen_in s) (IsOnTheWay (seen_in s).log.format J (rows taken.steps) (rows taken.under)) (IsPairOnTheWay J (rows taken.steps) (rows taken.under)) beside keeps
+          (opened_leaves t.disk (view a) (view b) (view c) (view d) (Ok s) opened told J stands) leaves.moments (none_yet J (rows taken.steps) (rows taken.under)) (on_the_way s.side J (rows taken.steps) (rows taken.under) (seen_in s).log.format);
+      left = left_on view e f s.side (J ++ rows taken.steps) (rows taken.under) (seen_in s).log.format side_left leaves.left;
+      full = full_on most J (rows taken.steps) (rows taken.extra) (seen_in s).log (view e) (view f) end most_is log_on leaves.full;
+      written = taken.written;
+      mid = taken.mid;
+      asked = taken.asked;
+      stops = taken.stops;
+      next = next_end (J ++ rows taken.steps) (seen_in u).core taken.behind new.panel end taken.known taken.next;
+      sound = taken.sound;
+      covered = taken.covered;
+    }

@@ -1,0 +1,18 @@
+-- Operators' words as texts that are equal.
+use Rattle.std.proofs.Common.{◌≡◌, ℕ, Bool, List, subst}
+use Rattle.relay_run.specs.Ends.{IsCausedBy}
+use Rattle.relay_run.specs.declared.end.RunEnd.{RunEnd}
+use Rattle.relay_store.specs.declared.fault.StoreFault.{StoreFault}
+use Rattle.relay_cli.specs.declared.status.Status.{Status}
+use Rattle.relay_cli.specs.Runs.{IsOperated, IsSynced, Place, Tells}
+
+pub operated_of : (did given time told : List ℕ) (down : Bool) (t : Tells) (old new : Place) (status : Status) → given ≡ did → told ≡ time → IsOperated given down told t old new status → IsOperated did down time t old new status
+operated_of did given time told down t old new status same at done =
+    subst (λ (x : List ℕ). IsOperated x down time t old new status) same (subst (λ (y : List ℕ). IsOperated given down y t old new status) at done)
+
+pub synced_of : (did given time told : List ℕ) (t : Tells) (old new : Place) (status : Status) → given ≡ did → told ≡ time → IsSynced given told t old new status → IsSynced did time t old new status
+synced_of did given time told t old new status same at done = subst (λ (x : List ℕ). IsSynced x time t old new status) same (subst (λ (y : List ℕ). IsSynced given y t old new status) at done)
+
+-- no authority is left where that ended it
+pub spent_by : (disk write spent repos clock : Type 0) (end : RunEnd) → IsCausedBy disk write spent repos clock end → end ≡ RunEnd.Fault StoreFault.Authority → spent
+spent_by disk write spent repos clock end caused is = subst (IsCausedBy disk write spent repos clock) is caused

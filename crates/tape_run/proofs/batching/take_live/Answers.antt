@@ -1,0 +1,24 @@
+use Rattle.std.proofs.Common.{arith}
+use Rattle.tape_run.proofs.Answers.{answered_few}
+use Rattle.tape_run.proofs.Batches.{live_goes, live_stops, live_unwritten}
+use Rattle.tape_run.proofs.batching.take_live.Goals as goal
+
+pub returns-in-Err-clause-stopped : goal.returns-in-Err-clause-stopped
+returns-in-Err-clause-stopped g c = λ J of.
+    live_unwritten g.D.Disk.view _ J c.args.group.now _ _ _ _ (c.take_all-batch.ensures.batched J of) c.as_slice-outcomes.result.now c.as_slice-outcomes.ensures.value c.args.tally.now c.requires.live _ _ _
+    c.in-Err.ensures.some c.in-Err.end c.in-Err.ensures.front.0 c.in-Err.ensures.front.1
+
+pub returns-in-None-clause-took : goal.returns-in-None-clause-took
+returns-in-None-clause-took g c = λ J of.
+    live_goes g.D.Disk.view _ J c.args.group.now _ _ _ _ (c.take_all-batch.ensures.batched J of) c.as_slice-outcomes.result.now c.as_slice-outcomes.ensures.value c.args.tally.now c.requires.live _ _ _
+    c.in-None.is c.requires.some c.in-Ok.ensures.noted c.in-Ok.ensures.written c.min.result (λ some few. omega (arith, some, few, c.max.ensures, c.min.ensures))
+
+pub returns-in-None-clause-count : goal.returns-in-None-clause-count
+returns-in-None-clause-count g c =
+    let few = answered_few c.args.group.now c.as_slice-outcomes.result.now in
+    omega (arith, c.in-Ok.ensures.noted.messages, few.0, few.1, c.max.ensures, c.min.ensures)
+
+pub returns-clause-stopped : goal.returns-clause-stopped
+returns-clause-stopped g c = λ J of.
+    live_stops g.D.Disk.view _ J c.args.group.now _ _ _ _ (c.take_all-batch.ensures.batched J of) c.as_slice-outcomes.result.now c.as_slice-outcomes.ensures.value c.args.tally.now c.requires.live _ _ _
+    c.in-Some.fault c.in-Some.is (g.met.D.Disk.is_disk _) c.in-Ok.ensures.written c.of_store.result c.of_store.ensures
