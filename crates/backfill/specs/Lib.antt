@@ -1,0 +1,6 @@
+pub mod Target
+pub mod Notices
+pub mod Served
+pub mod Faults
+pub mod Serving
+pub mod Writing
