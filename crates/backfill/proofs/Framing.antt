@@ -1,11 +1,10 @@
 -- Writing messages, one after another.
-use Rattle.std.proofs.Common.{◌≡◌, ◌≢◌, ℕ, ◌+◌, ◌≤◌, ◌^◌, List, [], ◌∷◌, ◌++◌, length, take, map, nat_le, Bool, true, false, ◌||◌, IsTrue, OnOk, IfOk, Option, Some, None, Result, Ok, Err, refl, sym, ap, ◌∙◌, subst, arith, append_assoc, length-append}
+use Rattle.std.proofs.Common.{◌≡◌, ◌≢◌, ℕ, ◌+◌, ◌≤◌, ◌^◌, List, [], ◌∷◌, ◌++◌, length, take, Bool, true, false, ◌||◌, IsTrue, Some, None, Result, Ok, Err, IsErr, refl, sym, ap, ◌∙◌, subst, arith, append_assoc, length-append}
 use Rattle.std.proofs.Math.Seq.{take-append-add, take-length}
-use Rattle.std.specs.List.{flat_map}
+use Rattle.std.specs.Int.{w32, to_be_bytes}
 use Rattle.std.proofs.lemmas.Bool.Decides.{nat_tests}
 use Rattle.std.proofs.lemmas.Grind.{flat_map-append}
 use Rattle.std.proofs.lemmas.List.{append-nil, take-append-le}
-use Rattle.std.proofs.lemmas.List.Folds.{list_any-append}
 use Rattle.event_window.specs.Held.{Event, Held, event_above}
 use Rattle.relay_io.specs.Streams.{AddsFront}
 use Rattle.backfill.specs.Served.{all_above, following, messages_of, notice, notice_of, served, served_events, standing_of}
@@ -22,10 +21,12 @@ front_of_first old new one other (n, short, is) =
 
 -- the first piece, and a front of the second
 pub front_of_second : (old mid new one other : List ℕ) → mid ≡ old ++ one → AddsFront mid new other → AddsFront old new (one ++ other)
-front_of_second old mid new one other first (n, short, is) =
-    (length one + n, omega (arith, short, length-append one other),
-      is ∙ ap (λ (l : List ℕ). l ++ take n other) first ∙ append_assoc old one (take n other)
-      ∙ ap (λ (l : List ℕ). old ++ l) (sym (take-append-add one other n)))
+front_of_second old mid new one other first (n, short, is) = (
+  length one + n,
+  omega (arith, short, length-append one other),
+  is ∙ ap (λ (l : List ℕ). l ++ take n other) first ∙ append_assoc old one (take n other)
+      ∙ ap (λ (l : List ℕ). old ++ l) (sym (take-append-add one other n)),
+)
 
 -- all of it
 front_whole : (old new piece : List ℕ) → new ≡ old ++ piece → AddsFront old new piece
@@ -63,17 +64,119 @@ pub writing_done : (tells : Bool) (events : List Event) (first last n : ℕ) (ol
     → Writes tells (messages_of (all_above first events)) old now (Ok n) × (n ≡ length (messages_of (all_above first events)))
 writing_done tells events first last n old now is none =
     let all : messages_of (all_above first events) ≡ is.written =
-        is.split ∙ ap (λ (l : List Event). is.written ++ messages_of l) (above_none last events none) ∙ append-nil is.written in
+    is.split ∙ ap (λ (l : List Event). is.written ++ messages_of l) (above_none last events none) ∙ append-nil is.written in
     let whole : IsTrue tells → now ≡ old ++ framed (messages_of (all_above first events)) = λ t. is.bytes t ∙ ap (λ (l : List (List ℕ)). old ++ framed l) (sym all) in
     (record { front = λ t. front_whole old now (framed (messages_of (all_above first events))) (whole t); whole = whole }, is.count ∙ ap length (sym all))
 
--- it failed behind those that were written, and a front of more
-pub writing_failed : {A : Type 0} (tells : Bool) (events : List Event) (first last n : ℕ) (more : List (List ℕ)) (old now new : List ℕ) (f : ReplayFault)
+-- nothing of a piece
+front_none : (bytes piece : List ℕ) → AddsFront bytes bytes piece
+front_none bytes piece = (0, omega arith, sym (append-nil bytes))
+
+writing_failed : (tells : Bool) (events : List Event) (first last n : ℕ) (old now new : List ℕ) (f : ReplayFault)
     → IsWriting tells events first last n old now → (IsTrue tells → AddsFront now new (framed (messages_of (all_above last events))))
-    → Writes {A} tells (messages_of (all_above first events)) old new (Err f)
-writing_failed tells events first last n more old now new f is front = record {
+    → Writes tells (messages_of (all_above first events)) old new (Err f)
+writing_failed tells events first last n old now new f is front = record {
   front = λ t. subst (λ (l : List ℕ). AddsFront old new l)
       (sym (ap framed is.split ∙ flat_map-append frame_of is.written (messages_of (all_above last events))))
       (front_of_second old now new (framed is.written) (framed (messages_of (all_above last events))) (is.bytes t) (front t));
   whole = tt;
 }
+
+-- it failed behind those that were written
+pub writing_stopped : (tells : Bool) (events : List Event) (first last n : ℕ) (old now : List ℕ) (f : ReplayFault)
+    → IsWriting tells events first last n old now → Writes tells (messages_of (all_above first events)) old now (Err f)
+writing_stopped tells events first last n old now f is =
+    writing_failed tells events first last n old now now f is (λ t. front_none now (framed (messages_of (all_above last events))))
+
+-- it failed in the next event
+pub writing_broken : (tells : Bool) (events : List Event) (first last n number : ℕ) (message : List ℕ) (old now new : List ℕ) (f : ReplayFault)
+    → IsWriting tells events first last n old now → event_above last events ≡ Some (number, message) → (IsTrue tells → AddsFront now new (frame_of message))
+    → Writes tells (messages_of (all_above first events)) old new (Err f)
+writing_broken tells events first last n number message old now new f is next front =
+    writing_failed tells events first last n old now new f is
+    (λ t. subst (λ (l : List Event). AddsFront now new (framed (messages_of l))) (sym (above_first last events number message next))
+    (front_of_first now new (frame_of message) (framed (messages_of (all_above number events))) (front t)))
+
+or_true : (b c : Bool) → c ≡ true → (b || c) ≡ true
+or_true true c is = refl
+or_true false c is = is
+
+true_is : (b : Bool) → b ≡ true → IsTrue b
+true_is b is = is
+
+has_one : (one other : List (List ℕ)) → has_long other ≡ true → has_long (one ++ other) ≡ true
+has_one [] other long = long
+has_one (message ∷ one) other long = or_true (is_long message) (has_long (one ++ other)) (has_one one other long)
+
+-- the next event is too long
+pub next_long : (tells : Bool) (events : List Event) (first last n number : ℕ) (message : List ℕ) (old now : List ℕ)
+    → IsWriting tells events first last n old now → event_above last events ≡ Some (number, message) → 2 ^ 32 ≤ length message
+    → IsTrue (has_long (messages_of (all_above first events)))
+next_long tells events first last n number message old now is next long =
+    let test : is_long message ≡ true = grind (arith, nat_tests) in
+    let this : has_long (message ∷ messages_of (all_above number events)) ≡ true = rw test refl in
+    let left : has_long (messages_of (all_above last events)) ≡ true = ap (λ (l : List Event). has_long (messages_of l)) (above_first last events number message next) ∙ this in
+    true_is _ (ap has_long is.split ∙ has_one is.written (messages_of (all_above last events)) left)
+
+-- the notice was written to a front
+pub notice_broken : (tells : Bool) (held : Held) (cursor : ℕ) (standing : Standing) (old new : List ℕ) (f : ReplayFault)
+    → standing ≡ standing_of held cursor → (IsTrue tells → AddsFront old new (framed (notice_of standing)))
+    → Writes tells (served held (Some cursor)) old new (Err f)
+notice_broken tells held cursor standing old new f stands front = record {
+  front = λ t. subst (λ (l : List ℕ). AddsFront old new l) (sym (flat_map-append frame_of (notice held (Some cursor)) (served_events held (Some cursor))))
+      (front_of_first old new (framed (notice held (Some cursor))) (framed (served_events held (Some cursor)))
+      (subst (λ (s : Standing). AddsFront old new (framed (notice_of s))) stands (front t)));
+  whole = tt;
+}
+
+-- a cursor above the last number is told alone
+pub writes_future : (tells : Bool) (held : Held) (cursor : ℕ) (standing : Standing) (old new : List ℕ)
+    → standing ≡ standing_of held cursor → standing ≡ Standing.Future → (IsTrue tells → new ≡ old ++ framed (notice_of standing))
+    → Writes tells (served held (Some cursor)) old new (Ok 0) × (0 ≡ length (served_events held (Some cursor)))
+writes_future tells held cursor standing old new stands future writes =
+    let is : Standing.Future ≡ standing_of held cursor = sym future ∙ stands in
+    let whole : IsTrue tells → new ≡ old ++ framed (notice_of Standing.Future) = λ t. writes t ∙ ap (λ (s : Standing). old ++ framed (notice_of s)) future in
+    subst (λ (s : Standing). Writes tells (notice_of s ++ following s held.shown cursor) old new (Ok 0) × (0 ≡ length (following s held.shown cursor))) is
+    (record { front = λ t. front_whole old new (framed (notice_of Standing.Future)) (whole t); whole = whole }, refl)
+
+writes_behind : (tells : Bool) (one other : List (List ℕ)) (old now new : List ℕ) (result : Result ℕ ReplayFault)
+    → (IsTrue tells → now ≡ old ++ framed one) → Writes tells other now new result → Writes tells (one ++ other) old new result
+writes_behind tells one other old now new (Ok a) first behind = record {
+  front = λ t. front_whole old new (framed (one ++ other)) (written_more old now new one other (first t) (behind.whole t));
+  whole = λ t. written_more old now new one other (first t) (behind.whole t);
+}
+writes_behind tells one other old now new (Err f) first behind = record {
+  front = λ t. subst (λ (l : List ℕ). AddsFront old new l) (sym (flat_map-append frame_of one other))
+      (front_of_second old now new (framed one) (framed other) (first t) (behind.front t));
+  whole = tt;
+}
+
+-- behind another cursor the events follow what is said of it
+pub events_follow : (held : Held) (cursor : ℕ) (standing : Standing) → standing ≡ standing_of held cursor → standing ≢ Standing.Future
+    → served_events held (Some cursor) ≡ messages_of (all_above cursor held.shown)
+events_follow held cursor standing stands other =
+    subst (λ (s : Standing). following s held.shown cursor ≡ messages_of (all_above cursor held.shown)) stands (all_follow standing held.shown cursor other)
+
+pub writes_events : (tells : Bool) (held : Held) (cursor : ℕ) (standing : Standing) (old now new : List ℕ) (result : Result ℕ ReplayFault)
+    → standing ≡ standing_of held cursor → standing ≢ Standing.Future → (IsTrue tells → now ≡ old ++ framed (notice_of standing))
+    → Writes tells (messages_of (all_above cursor held.shown)) now new result → Writes tells (served held (Some cursor)) old new result
+writes_events tells held cursor standing old now new result stands other first behind =
+    subst (λ (messages : List (List ℕ)). Writes tells (notice held (Some cursor) ++ messages) old new result) (sym (events_follow held cursor standing stands other))
+    (writes_behind tells (notice held (Some cursor)) (messages_of (all_above cursor held.shown)) old now new result
+    (λ t. first t ∙ ap (λ (s : Standing). old ++ framed (notice_of s)) stands) behind)
+
+-- a front of the length of a message
+pub length_broken : (old new bytes message : List ℕ) → bytes ≡ to_be_bytes w32 (length message) → AddsFront old new bytes → AddsFront old new (frame_of message)
+length_broken old new bytes message is front = front_of_first old new (to_be_bytes w32 (length message)) message (subst (λ (l : List ℕ). AddsFront old new l) is front)
+
+-- a front of a message behind its length
+pub message_broken : (old now new bytes message : List ℕ) → bytes ≡ to_be_bytes w32 (length message) → now ≡ old ++ bytes → AddsFront now new message
+    → AddsFront old new (frame_of message)
+message_broken old now new bytes message is first front =
+    front_of_second old now new (to_be_bytes w32 (length message)) message (first ∙ ap (λ (l : List ℕ). old ++ l) is) front
+
+-- what holds of each fault holds of a result that is one
+pub writing_result : (tells : Bool) (messages : List (List ℕ)) (old new : List ℕ) (result : Result ℕ ReplayFault) → IsErr result
+    → ((f : ReplayFault) → Writes tells messages old new (Err f)) → Writes tells messages old new result
+writing_result tells messages old new (Ok n) failed each = absurd (cc)
+writing_result tells messages old new (Err f) failed each = each f

@@ -1,5 +1,5 @@
 -- Sending messages, one after another.
-use Rattle.std.proofs.Common.{◌≡◌, ◌≢◌, ℕ, ◌+◌, ◌-◌, List, [], ◌∷◌, ◌++◌, length, map, Bool, IsTrue, OnOk, Option, Some, None, Result, Ok, Err, refl, sym, ap, ◌∙◌, subst, arith, append_assoc, length-append}
+use Rattle.std.proofs.Common.{◌≡◌, ◌≢◌, ℕ, ◌+◌, List, [], ◌∷◌, ◌++◌, length, Bool, IsTrue, Some, None, Result, Ok, Err, refl, sym, ap, ◌∙◌, subst, arith, append_assoc, length-append}
 use Rattle.std.proofs.lemmas.List.{append-nil, map-append}
 use Rattle.event_window.specs.Held.{Event, Held, event_above}
 use Rattle.relay_io.specs.declared.door.Turn.{Turn}
@@ -9,7 +9,8 @@ use Rattle.backfill.specs.declared.standing.Standing.{Standing}
 use Rattle.backfill.specs.declared.serve_fault.ServeFault.{ServeFault}
 use Rattle.backfill.proofs.Above.{above_first, above_none}
 
-all_follow : (standing : Standing) (events : List Event) (cursor : ℕ) → standing ≢ Standing.Future
+-- behind a cursor that isn't above the last number all events above it follow
+pub all_follow : (standing : Standing) (events : List Event) (cursor : ℕ) → standing ≢ Standing.Future
     → following standing events cursor ≡ messages_of (all_above cursor events)
 all_follow Standing.Future events cursor other = absurd (other refl)
 all_follow Standing.Outdated events cursor other = refl

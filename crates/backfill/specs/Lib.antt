@@ -4,3 +4,4 @@ pub mod Served
 pub mod Faults
 pub mod Serving
 pub mod Writing
+pub mod Laws

@@ -1,5 +1,5 @@
 -- What a guest was sent.
-use Rattle.std.specs.Prelude.{◌≡◌, ⊤, ℕ, ◌-◌, List, [], ◌∷◌, ◌++◌, length, map, Bool, IsTrue, OnOk, Option, Result, Ok, Err}
+use Rattle.std.specs.Prelude.{◌≡◌, ⊤, ℕ, ◌-◌, List, [], ◌++◌, length, map, Bool, IsTrue, OnOk, Option, Result, Ok, Err}
 use Rattle.event_window.specs.Held.{Event, Held}
 use Rattle.relay_io.specs.declared.door.Turn.{Turn}
 use Rattle.backfill.specs.Served.{all_above, messages_of, notice, served}

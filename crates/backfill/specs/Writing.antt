@@ -22,7 +22,7 @@ abbrev pub has_long : List (List ℕ) → Bool
 has_long messages = list_any is_long messages
 
 -- A front of these messages was written, each behind its length: all of them where the call succeeded.
-pub record Writes {A : Type 0} (tells : Bool) (messages : List (List ℕ)) (old new : List ℕ) (result : Result A ReplayFault) : Type 0 where
+pub record Writes (tells : Bool) (messages : List (List ℕ)) (old new : List ℕ) (result : Result ℕ ReplayFault) : Type 0 where
   pub front : IsTrue tells → AddsFront old new (framed messages)
   pub whole : OnOk result (IsTrue tells → new ≡ old ++ framed messages)
 

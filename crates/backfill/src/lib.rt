@@ -3,16 +3,20 @@
 #![tactic(auto)]
 
 mod following;
+mod laws;
 mod notices;
 mod replay_fault;
+mod replaying;
 mod serve_fault;
 mod serving;
 mod standing;
 mod target;
 mod target_fault;
 
+pub use laws::greater_follow;
 pub use notices::{future_cursor, outdated_cursor};
 pub use replay_fault::ReplayFault;
+pub use replaying::replay;
 pub use serve_fault::ServeFault;
 pub use serving::{Served, serve};
 pub use standing::{Standing, standing_of};

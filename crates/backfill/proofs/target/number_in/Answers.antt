@@ -1,4 +1,4 @@
-use Rattle.std.proofs.Common.{◌∙◌, sym}
+use Rattle.std.proofs.Common.{sym}
 use Rattle.backfill.proofs.Numbers.{unread}
 use Rattle.backfill.proofs.target.number_in.Goals as goal
 
