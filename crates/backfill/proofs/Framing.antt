@@ -7,8 +7,8 @@ use Rattle.std.proofs.lemmas.Grind.{flat_map-append}
 use Rattle.std.proofs.lemmas.List.{append-nil, take-append-le}
 use Rattle.event_window.specs.Held.{Event, Held, event_above}
 use Rattle.relay_io.specs.Streams.{AddsFront}
-use Rattle.backfill.specs.Served.{all_above, following, messages_of, notice, notice_of, served, served_events, standing_of}
-use Rattle.backfill.specs.Writing.{IsWriting, Writes, frame_of, framed, has_long, is_long}
+use Rattle.backfill.specs.Served.{rising_above, following, messages_of, notice, notice_of, served, served_events, standing_of}
+use Rattle.backfill.specs.Writing.{Writes, frame_of, framed, has_long, is_long}
 use Rattle.backfill.specs.declared.replay_fault.ReplayFault.{ReplayFault}
 use Rattle.backfill.specs.declared.standing.Standing.{Standing}
 use Rattle.backfill.proofs.Above.{above_first, above_none}
@@ -42,9 +42,12 @@ written_more old now new one other first then =
 one_framed : (message : List ℕ) → framed (message ∷ []) ≡ frame_of message
 one_framed message = append-nil (frame_of message)
 
--- nothing was written yet
-pub writing_none : (tells : Bool) (events : List Event) (seq : ℕ) (bytes : List ℕ) → IsWriting tells events seq seq 0 bytes bytes
-writing_none tells events seq bytes = record { written = []; split = refl; bytes = λ _. sym (append-nil bytes); count = refl }
+-- While the events above a number are written: so many were, and those above another one are left.
+pub record IsWriting (tells : Bool) (events : List Event) (first last n : ℕ) (old now : List ℕ) : Type 0 where
+  pub written : List (List ℕ)
+  pub split : messages_of (rising_above first events) ≡ written ++ messages_of (rising_above last events)
+  pub bytes : IsTrue tells → now ≡ old ++ framed written
+  pub count : n ≡ length written
 
 -- the next event was written
 pub writing_more : (tells : Bool) (events : List Event) (first last n number : ℕ) (message : List ℕ) (old now new : List ℕ)
@@ -53,7 +56,7 @@ pub writing_more : (tells : Bool) (events : List Event) (first last n number : �
 writing_more tells events first last n number message old now new is next writes = record {
   written = is.written ++ message ∷ [];
   split = is.split ∙ ap (λ (l : List Event). is.written ++ messages_of l) (above_first last events number message next)
-      ∙ sym (append_assoc is.written (message ∷ []) (messages_of (all_above number events)));
+      ∙ sym (append_assoc is.written (message ∷ []) (messages_of (rising_above number events)));
   bytes = λ t. written_more old now new is.written (message ∷ []) (is.bytes t) (writes t ∙ ap (λ (l : List ℕ). now ++ l) (sym (one_framed message)));
   count = omega (arith, is.count, length-append is.written (message ∷ []));
 }
@@ -61,41 +64,41 @@ writing_more tells events first last n number message old now new is next writes
 -- no event is left
 pub writing_done : (tells : Bool) (events : List Event) (first last n : ℕ) (old now : List ℕ)
     → IsWriting tells events first last n old now → event_above last events ≡ None
-    → Writes tells (messages_of (all_above first events)) old now (Ok n) × (n ≡ length (messages_of (all_above first events)))
+    → Writes tells (messages_of (rising_above first events)) old now (Ok n) × (n ≡ length (messages_of (rising_above first events)))
 writing_done tells events first last n old now is none =
-    let all : messages_of (all_above first events) ≡ is.written =
+    let all : messages_of (rising_above first events) ≡ is.written =
     is.split ∙ ap (λ (l : List Event). is.written ++ messages_of l) (above_none last events none) ∙ append-nil is.written in
-    let whole : IsTrue tells → now ≡ old ++ framed (messages_of (all_above first events)) = λ t. is.bytes t ∙ ap (λ (l : List (List ℕ)). old ++ framed l) (sym all) in
-    (record { front = λ t. front_whole old now (framed (messages_of (all_above first events))) (whole t); whole = whole }, is.count ∙ ap length (sym all))
+    let whole : IsTrue tells → now ≡ old ++ framed (messages_of (rising_above first events)) = λ t. is.bytes t ∙ ap (λ (l : List (List ℕ)). old ++ framed l) (sym all) in
+    (record { front = λ t. front_whole old now (framed (messages_of (rising_above first events))) (whole t); whole = whole }, is.count ∙ ap length (sym all))
 
 -- nothing of a piece
 front_none : (bytes piece : List ℕ) → AddsFront bytes bytes piece
 front_none bytes piece = (0, omega arith, sym (append-nil bytes))
 
 writing_failed : (tells : Bool) (events : List Event) (first last n : ℕ) (old now new : List ℕ) (f : ReplayFault)
-    → IsWriting tells events first last n old now → (IsTrue tells → AddsFront now new (framed (messages_of (all_above last events))))
-    → Writes tells (messages_of (all_above first events)) old new (Err f)
+    → IsWriting tells events first last n old now → (IsTrue tells → AddsFront now new (framed (messages_of (rising_above last events))))
+    → Writes tells (messages_of (rising_above first events)) old new (Err f)
 writing_failed tells events first last n old now new f is front = record {
   front = λ t. subst (λ (l : List ℕ). AddsFront old new l)
-      (sym (ap framed is.split ∙ flat_map-append frame_of is.written (messages_of (all_above last events))))
-      (front_of_second old now new (framed is.written) (framed (messages_of (all_above last events))) (is.bytes t) (front t));
+      (sym (ap framed is.split ∙ flat_map-append frame_of is.written (messages_of (rising_above last events))))
+      (front_of_second old now new (framed is.written) (framed (messages_of (rising_above last events))) (is.bytes t) (front t));
   whole = tt;
 }
 
 -- it failed behind those that were written
 pub writing_stopped : (tells : Bool) (events : List Event) (first last n : ℕ) (old now : List ℕ) (f : ReplayFault)
-    → IsWriting tells events first last n old now → Writes tells (messages_of (all_above first events)) old now (Err f)
+    → IsWriting tells events first last n old now → Writes tells (messages_of (rising_above first events)) old now (Err f)
 writing_stopped tells events first last n old now f is =
-    writing_failed tells events first last n old now now f is (λ t. front_none now (framed (messages_of (all_above last events))))
+    writing_failed tells events first last n old now now f is (λ t. front_none now (framed (messages_of (rising_above last events))))
 
 -- it failed in the next event
 pub writing_broken : (tells : Bool) (events : List Event) (first last n number : ℕ) (message : List ℕ) (old now new : List ℕ) (f : ReplayFault)
     → IsWriting tells events first last n old now → event_above last events ≡ Some (number, message) → (IsTrue tells → AddsFront now new (frame_of message))
-    → Writes tells (messages_of (all_above first events)) old new (Err f)
+    → Writes tells (messages_of (rising_above first events)) old new (Err f)
 writing_broken tells events first last n number message old now new f is next front =
     writing_failed tells events first last n old now new f is
     (λ t. subst (λ (l : List Event). AddsFront now new (framed (messages_of l))) (sym (above_first last events number message next))
-    (front_of_first now new (frame_of message) (framed (messages_of (all_above number events))) (front t)))
+    (front_of_first now new (frame_of message) (framed (messages_of (rising_above number events))) (front t)))
 
 or_true : (b c : Bool) → c ≡ true → (b || c) ≡ true
 or_true true c is = refl
@@ -111,33 +114,12 @@ has_one (message ∷ one) other long = or_true (is_long message) (has_long (one 
 -- the next event is too long
 pub next_long : (tells : Bool) (events : List Event) (first last n number : ℕ) (message : List ℕ) (old now : List ℕ)
     → IsWriting tells events first last n old now → event_above last events ≡ Some (number, message) → 2 ^ 32 ≤ length message
-    → IsTrue (has_long (messages_of (all_above first events)))
+    → IsTrue (has_long (messages_of (rising_above first events)))
 next_long tells events first last n number message old now is next long =
     let test : is_long message ≡ true = grind (arith, nat_tests) in
-    let this : has_long (message ∷ messages_of (all_above number events)) ≡ true = rw test refl in
-    let left : has_long (messages_of (all_above last events)) ≡ true = ap (λ (l : List Event). has_long (messages_of l)) (above_first last events number message next) ∙ this in
-    true_is _ (ap has_long is.split ∙ has_one is.written (messages_of (all_above last events)) left)
-
--- the notice was written to a front
-pub notice_broken : (tells : Bool) (held : Held) (cursor : ℕ) (standing : Standing) (old new : List ℕ) (f : ReplayFault)
-    → standing ≡ standing_of held cursor → (IsTrue tells → AddsFront old new (framed (notice_of standing)))
-    → Writes tells (served held (Some cursor)) old new (Err f)
-notice_broken tells held cursor standing old new f stands front = record {
-  front = λ t. subst (λ (l : List ℕ). AddsFront old new l) (sym (flat_map-append frame_of (notice held (Some cursor)) (served_events held (Some cursor))))
-      (front_of_first old new (framed (notice held (Some cursor))) (framed (served_events held (Some cursor)))
-      (subst (λ (s : Standing). AddsFront old new (framed (notice_of s))) stands (front t)));
-  whole = tt;
-}
-
--- a cursor above the last number is told alone
-pub writes_future : (tells : Bool) (held : Held) (cursor : ℕ) (standing : Standing) (old new : List ℕ)
-    → standing ≡ standing_of held cursor → standing ≡ Standing.Future → (IsTrue tells → new ≡ old ++ framed (notice_of standing))
-    → Writes tells (served held (Some cursor)) old new (Ok 0) × (0 ≡ length (served_events held (Some cursor)))
-writes_future tells held cursor standing old new stands future writes =
-    let is : Standing.Future ≡ standing_of held cursor = sym future ∙ stands in
-    let whole : IsTrue tells → new ≡ old ++ framed (notice_of Standing.Future) = λ t. writes t ∙ ap (λ (s : Standing). old ++ framed (notice_of s)) future in
-    subst (λ (s : Standing). Writes tells (notice_of s ++ following s held.shown cursor) old new (Ok 0) × (0 ≡ length (following s held.shown cursor))) is
-    (record { front = λ t. front_whole old new (framed (notice_of Standing.Future)) (whole t); whole = whole }, refl)
+    let this : has_long (message ∷ messages_of (rising_above number events)) ≡ true = rw test refl in
+    let left : has_long (messages_of (rising_above last events)) ≡ true = ap (λ (l : List Event). has_long (messages_of l)) (above_first last events number message next) ∙ this in
+    true_is _ (ap has_long is.split ∙ has_one is.written (messages_of (rising_above last events)) left)
 
 writes_behind : (tells : Bool) (one other : List (List ℕ)) (old now new : List ℕ) (result : Result ℕ ReplayFault)
     → (IsTrue tells → now ≡ old ++ framed one) → Writes tells other now new result → Writes tells (one ++ other) old new result
@@ -153,16 +135,16 @@ writes_behind tells one other old now new (Err f) first behind = record {
 
 -- behind another cursor the events follow what is said of it
 pub events_follow : (held : Held) (cursor : ℕ) (standing : Standing) → standing ≡ standing_of held cursor → standing ≢ Standing.Future
-    → served_events held (Some cursor) ≡ messages_of (all_above cursor held.shown)
+    → served_events held (Some cursor) ≡ messages_of (rising_above cursor held.shown)
 events_follow held cursor standing stands other =
-    subst (λ (s : Standing). following s held.shown cursor ≡ messages_of (all_above cursor held.shown)) stands (all_follow standing held.shown cursor other)
+    subst (λ (s : Standing). following s held.shown cursor ≡ messages_of (rising_above cursor held.shown)) stands (all_follow standing held.shown cursor other)
 
 pub writes_events : (tells : Bool) (held : Held) (cursor : ℕ) (standing : Standing) (old now new : List ℕ) (result : Result ℕ ReplayFault)
     → standing ≡ standing_of held cursor → standing ≢ Standing.Future → (IsTrue tells → now ≡ old ++ framed (notice_of standing))
-    → Writes tells (messages_of (all_above cursor held.shown)) now new result → Writes tells (served held (Some cursor)) old new result
+    → Writes tells (messages_of (rising_above cursor held.shown)) now new result → Writes tells (served held (Some cursor)) old new result
 writes_events tells held cursor standing old now new result stands other first behind =
     subst (λ (messages : List (List ℕ)). Writes tells (notice held (Some cursor) ++ messages) old new result) (sym (events_follow held cursor standing stands other))
-    (writes_behind tells (notice held (Some cursor)) (messages_of (all_above cursor held.shown)) old now new result
+    (writes_behind tells (notice held (Some cursor)) (messages_of (rising_above cursor held.shown)) old now new result
     (λ t. first t ∙ ap (λ (s : Standing). old ++ framed (notice_of s)) stands) behind)
 
 -- a front of the length of a message

@@ -4,7 +4,7 @@ ghost use Rattle.std.specs.Prelude.{◌≡◌, ◌≤◌, ◌^◌, ◌++◌, ℕ
 ghost use Rattle.at_cid.specs.Counts.{Rose};
 ghost use Rattle.event_window.specs.Held.{Held};
 ghost use Rattle.relay_io.specs.Streams.{AddsFront};
-ghost use Rattle.backfill.specs.Served.{all_above, messages_of, notice_of, served, served_events};
+ghost use Rattle.backfill.specs.Served.{rising_above, messages_of, notice_of, served, served_events};
 ghost use Rattle.backfill.specs.Writing.{Writes, frame_of, framed, has_long};
 ghost use Rattle.backfill.specs.declared.replay_fault.ReplayFault.{ReplayFault};
 
@@ -63,8 +63,8 @@ fn write_events<E: Events, O: Sink>(
 ) -> Result<u64, ReplayFault>
     requires { IsTrue E.tells → (held : Held) × E.holds events.old held }
     ensures written { IsTrue E.tells → (held : Held) → E.holds events.old held
-        → Writes O.tells (messages_of (all_above seq held.shown)) (O.written out.old) (O.written out.new) result }
-    ensures count { IfOk result (λ n. IsTrue E.tells → (held : Held) → E.holds events.old held → n ≡ length (messages_of (all_above seq held.shown))) }
+        → Writes O.tells (messages_of (rising_above seq held.shown)) (O.written out.old) (O.written out.new) result }
+    ensures count { IfOk result (λ n. IsTrue E.tells → (held : Held) → E.holds events.old held → n ≡ length (messages_of (rising_above seq held.shown))) }
     ensures same { IsTrue E.tells → (held : Held) → E.holds events.old held → E.holds events.new held }
     ensures later { E.later events.old events.new }
     ensures event_counts { E.faults events.old ≤ E.faults events.new }
@@ -73,7 +73,7 @@ fn write_events<E: Events, O: Sink>(
     ensures counts { O.faults out.old ≤ O.faults out.new }
     ensures failed { result ≡ Err ReplayFault.Output → Rose (O.faults out.old) (O.faults out.new) }
     ensures too_long { result ≡ Err ReplayFault.TooLong → IsTrue E.tells → (held : Held) → E.holds events.old held
-        → IsTrue (has_long (messages_of (all_above seq held.shown))) }
+        → IsTrue (has_long (messages_of (rising_above seq held.shown))) }
 {
     let mut last = seq;
     let mut written = 0;

@@ -4,7 +4,7 @@ ghost use Rattle.std.specs.Prelude.{◌≡◌, ◌≤◌, ◌++◌, ◌∷◌, [
 ghost use Rattle.at_cid.specs.Counts.{Rose};
 ghost use Rattle.event_window.specs.Held.{Held};
 ghost use Rattle.relay_io.specs.declared.door.Turn.{Turn};
-ghost use Rattle.backfill.specs.Served.{all_above, is_future, messages_of, notice_of};
+ghost use Rattle.backfill.specs.Served.{rising_above, is_future, messages_of, notice_of};
 ghost use Rattle.backfill.specs.Serving.{Sends, Serves, sendings};
 ghost use Rattle.backfill.specs.declared.serve_fault.ServeFault.{ServeFault};
 
@@ -57,7 +57,7 @@ fn send_events<E: Events, G: Door>(
     requires known { IsTrue E.tells → (held : Held) × E.holds events.old held }
     requires waits { IsTrue (G.waits door.old) }
     ensures sent { IsTrue E.tells → (held : Held) → E.holds events.old held
-        → Sends G.tells (messages_of (all_above seq held.shown)) 0 (G.turns door.old) (G.turns door.new) result }
+        → Sends G.tells (messages_of (rising_above seq held.shown)) 0 (G.turns door.old) (G.turns door.new) result }
     ensures same { IsTrue E.tells → (held : Held) → E.holds events.old held → E.holds events.new held }
     ensures later { E.later events.old events.new }
     ensures event_counts { E.faults events.old ≤ E.faults events.new }

@@ -1,7 +1,7 @@
 use Rattle.std.proofs.Common.{rules, ◌≡◌, ◌++◌, ◌<◌, ◌≤◌, ◌^◌, ℕ, List, Option, IfSome, Err, length, arith, subst}
 use Rattle.event_window.specs.Held.{IsNext}
 use Rattle.relay_io.specs.Streams.{AddsFront}
-use Rattle.backfill.specs.Served.{all_above, messages_of}
+use Rattle.backfill.specs.Served.{rising_above, messages_of}
 use Rattle.backfill.specs.Writing.{frame_of}
 use Rattle.backfill.specs.declared.replay_fault.ReplayFault.{ReplayFault}
 use Rattle.backfill.proofs.Framing.{next_long, writing_broken, writing_done, writing_more, writing_result, writing_stopped}
@@ -9,7 +9,7 @@ use Rattle.backfill.proofs.replaying.write_events.Goals as goal
 
 pub returns-in_err-number-clause-written : goal.returns-in_err-number-clause-written
 returns-in_err-number-clause-written g c = λ told held holds.
-    writing_result g.O.Sink.tells (messages_of (all_above c.args.seq held.shown)) (g.O.Sink.written c.args.out.now) (g.O.Sink.written c.events.out) c.from_residual.result (search rules)
+    writing_result g.O.Sink.tells (messages_of (rising_above c.args.seq held.shown)) (g.O.Sink.written c.args.out.now) (g.O.Sink.written c.events.out) c.from_residual.result (search rules)
     (λ f. writing_stopped g.O.Sink.tells held.shown c.args.seq c.events.last c.events.written (g.O.Sink.written c.args.out.now) (g.O.Sink.written c.events.out) f
     (c.events.invariant.writing told held holds))
 
@@ -17,7 +17,7 @@ pub returns-in_err-write_framed-clause-written : goal.returns-in_err-write_frame
 returns-in_err-write_framed-clause-written g c = λ told held holds.
     let next = subst (λ (found : Option ℕ). IsNext c.events.last held.shown found c.next_above.new.room) c.in-Some.is
     (c.in_ok-number.ensures.next told held (c.events.invariant.holds told held holds)) in
-    writing_result g.O.Sink.tells (messages_of (all_above c.args.seq held.shown)) (g.O.Sink.written c.args.out.now) (g.O.Sink.written c.write_framed.new.out)
+    writing_result g.O.Sink.tells (messages_of (rising_above c.args.seq held.shown)) (g.O.Sink.written c.args.out.now) (g.O.Sink.written c.write_framed.new.out)
     c.from_residual-in_err-write_framed.result (search rules)
     (λ f. writing_broken g.O.Sink.tells held.shown c.args.seq c.events.last c.events.written c.in-Some.number c.next_above.new.room
     (g.O.Sink.written c.args.out.now) (g.O.Sink.written c.events.out) (g.O.Sink.written c.write_framed.new.out) f

@@ -1,6 +1,6 @@
 use Rattle.std.proofs.Common.{◌≤◌, ◌-◌, ◌^◌, IsTrue}
 use Rattle.event_window.specs.Held.{Held}
-use Rattle.backfill.specs.Writing.{IsWriting}
+use Rattle.backfill.proofs.Framing.{IsWriting}
 use Rattle.backfill.proofs.replaying.write_events.Given as goal
 
 abbrev pub invariant-events : goal.invariant-events
