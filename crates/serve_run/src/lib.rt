@@ -1,0 +1,8 @@
+//! The commands that give the events of a journal on two disks out, each from opening to its last line.
+#![tactic(auto)]
+
+mod end;
+mod replaying;
+
+pub use end::ServeEnd;
+pub use replaying::replay;
