@@ -41,3 +41,21 @@ IsCausedBy disk write door ServeEnd.WriteFault = write
 IsCausedBy disk write door ServeEnd.Door = door
 IsCausedBy disk write door ServeEnd.Disk = disk
 IsCausedBy disk write door end = ⊤
+
+-- a line isn't written: the output failed, or memory was wanted
+abbrev pub IsUnwritten : ServeEnd → Type 0
+IsUnwritten ServeEnd.WriteFault = ⊤
+IsUnwritten ServeEnd.Memory = ⊤
+IsUnwritten end = ⊥
+
+-- a session was broken off: the disk failed or has no event where one was, or memory was wanted
+abbrev pub IsOfSession : ServeEnd → Type 0
+IsOfSession ServeEnd.Disk = ⊤
+IsOfSession (ServeEnd.BadLog place) = ⊤
+IsOfSession ServeEnd.Memory = ⊤
+IsOfSession end = ⊥
+
+-- no guest was served: so, or the door failed
+abbrev pub IsOfMeeting : ServeEnd → Type 0
+IsOfMeeting ServeEnd.Door = ⊤
+IsOfMeeting end = IsOfSession end

@@ -1,2 +1,4 @@
 pub mod Ends
 pub mod Replayed
+pub mod Sessions
+pub mod AtDoor

@@ -3,6 +3,8 @@
 
 mod end;
 mod replaying;
+mod session;
 
 pub use end::ServeEnd;
 pub use replaying::replay;
+pub use session::Session;
