@@ -8,7 +8,7 @@ use Rattle.backfill.specs.Serving.{sendings}
 use Rattle.backfill.specs.Target.{cursor_in}
 use Rattle.backfill.specs.declared.target_fault.TargetFault.{TargetFault}
 use Rattle.serve_run.specs.Ends.{IsOfMeeting}
-use Rattle.serve_run.specs.Sessions.{AllVisits, AreCounted, IsCut, IsFailed, IsWhole, Visit, guests_of, turns_of}
+use Rattle.serve_run.specs.Sessions.{AllVisits, AreCounted, IsCut, IsFailed, IsVisit, IsWhole, Visit, guests_of, turns_of}
 use Rattle.serve_run.specs.declared.end.ServeEnd.{ServeEnd}
 use Rattle.serve_run.specs.declared.session.Session.{Session}
 
@@ -25,6 +25,12 @@ at_door guests turns faults = record { guests = guests; turns = turns; faults = 
 abbrev pub Sat : Bool → Held → Result (Option ℕ) TargetFault → List Turn → List Turn → Result Session ServeEnd → Type 0
 Sat tells held asked old new (Ok session) = (sent : List (List ℕ)) × (IsWhole held asked sent session ⊎ IsFailed held asked sent session) × (IsTrue tells → new ≡ old ++ sendings sent)
 Sat tells held asked old new (Err end) = (sent : List (List ℕ)) × IsCut held asked sent × (IsTrue tells → new ≡ old ++ sendings sent)
+
+-- Who came had a session, or is nobody, or waited and the session was broken off.
+abbrev pub Received : Bool → Held → Guest → List Turn → List Turn → Result (Option Session) ServeEnd → Type 0
+Received tells held guest old new (Ok (Some session)) = (sent : List (List ℕ)) × IsVisit held guest sent session × (IsTrue tells → new ≡ old ++ sendings sent)
+Received tells held guest old new (Ok None) = (guest ≡ Guest.End) × (IsTrue tells → new ≡ old)
+Received tells held guest old new (Err end) = (target : List ℕ) × (guest ≡ Guest.Target target) × ((sent : List (List ℕ)) × IsCut held (cursor_in target) sent × (IsTrue tells → new ≡ old ++ sendings sent))
 
 -- These visits were made, one after another.
 pub record Visited (tells : Bool) (held : Held) (visits : List Visit) (old new : AtDoor) : Type 0 where

@@ -1,9 +1,11 @@
 -- How a command ends that gives events out (own).
-use Rattle.std.specs.Prelude.{⊤, ℕ, List}
+use Rattle.std.specs.Prelude.{⊤, ℕ, List, Result, Ok, Err}
 use Rattle.relay_row.specs.declared.row.Row.{Row}
 use Rattle.relay_store.specs.Journals.{IsBadPairJournalAt, IsPairImageOf}
 use Rattle.relay_store.specs.declared.fault.StoreFault.{StoreFault}
 use Rattle.backfill.specs.declared.replay_fault.ReplayFault.{ReplayFault}
+use Rattle.backfill.specs.declared.serve_fault.ServeFault.{ServeFault}
+use Rattle.serve_run.specs.declared.session.Session.{Session}
 use Rattle.serve_run.specs.declared.end.ServeEnd.{ServeEnd}
 
 -- the end where the store wasn't opened: with a fault of reading
@@ -19,6 +21,13 @@ end_of_replay ReplayFault.Disk = ServeEnd.Disk
 end_of_replay ReplayFault.Memory = ServeEnd.Memory
 end_of_replay (ReplayFault.BadLog place) = ServeEnd.BadLog place
 end_of_replay ReplayFault.TooLong = ServeEnd.TooLong
+
+-- what a fault of serving brings: the session failed, or was broken off
+abbrev pub end_of_serving : ServeFault → Result Session ServeEnd
+end_of_serving (ServeFault.Door events) = Ok (Session.Failed events)
+end_of_serving ServeFault.Disk = Err ServeEnd.Disk
+end_of_serving ServeFault.Memory = Err ServeEnd.Memory
+end_of_serving (ServeFault.BadLog place) = Err (ServeEnd.BadLog place)
 
 -- it was opened: the end is none that opening may come to
 abbrev pub IsOpened : ServeEnd → Type 0

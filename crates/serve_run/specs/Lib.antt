@@ -2,3 +2,4 @@ pub mod Ends
 pub mod Replayed
 pub mod Sessions
 pub mod AtDoor
+pub mod Guests

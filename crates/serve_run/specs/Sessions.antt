@@ -1,5 +1,5 @@
 -- Sessions of guests, and their lines (own): numbers are decimal, and each line ends in a line feed.
-use Rattle.std.specs.Prelude.{◌≡◌, ◌⊎◌, ◌≤◌, ℕ, ◌+◌, ◌-◌, List, [], ◌∷◌, ◌++◌, length, nat_lt, Option, Some, None, Result, Ok, Err, codes, if◌then◌else◌}
+use Rattle.std.specs.Prelude.{◌≡◌, ◌⊎◌, ◌≤◌, ℕ, ◌+◌, ◌-◌, List, [], ◌∷◌, ◌++◌, length, nat_lt, Bool, Option, Some, None, Result, Ok, Err, codes, if◌then◌else◌}
 use Rattle.at_cid.specs.Counts.{Rose}
 use Rattle.event_window.specs.Held.{Held}
 use Rattle.relay_io.specs.declared.door.Guest.{Guest}
@@ -35,6 +35,11 @@ end_line count = numbered (codes "end ") count ++ codes " sessions\n"
 abbrev pub session_of : Held → Option ℕ → Session
 session_of held None = Session.Sent held.last 0
 session_of held (Some cursor) = if nat_lt held.last cursor then Session.Future cursor else Session.Sent cursor (length (served_events held (Some cursor)))
+
+-- what comes of a guest who was sent so many events, or is told that the cursor is above the last number
+abbrev pub came_of : ℕ → Option ℕ → ℕ → Bool → Session
+came_of last None events future = Session.Sent last events
+came_of last (Some cursor) events future = if future then Session.Future cursor else Session.Sent cursor events
 
 -- a front of what is to be sent, by what the target asks for: nothing where it is refused
 abbrev pub IsCut : Held → Result (Option ℕ) TargetFault → List (List ℕ) → Type 0

@@ -3,8 +3,11 @@
 
 mod end;
 mod replaying;
+mod serving;
 mod session;
+mod sitting;
 
 pub use end::ServeEnd;
 pub use replaying::replay;
+pub use serving::serve;
 pub use session::Session;
