@@ -5,6 +5,9 @@ use Rattle.at_cid.specs.Counts.{Rose}
 use Rattle.at_syntax.specs.Did.{method_of}
 use Rattle.account_state.specs.Folds.{account}
 use Rattle.host_state.specs.Folds.{hosts}
+use Rattle.follow_run.specs.Ends.{tape_end}
+use Rattle.follow_run.specs.Followed.{Followed}
+use Rattle.follow_run.specs.declared.end.FeedEnd.{FeedEnd}
 use Rattle.ingest_run.specs.Ends.{MayEnd, NoneOf, Shows as TapeHadJournal}
 use Rattle.ingest_run.specs.Ingested.{Ingested, PairScene, Unopened, pair_scene}
 use Rattle.relay_disk.specs.Disk.{View}
@@ -23,6 +26,11 @@ use Rattle.relay_step.specs.Words.{EndsBehind, EndsFetched, OperatedAt, SyncedAt
 use Rattle.relay_store.specs.Faults.{IsCause}
 use Rattle.relay_store.specs.Journals.{IsPairImageOf}
 use Rattle.relay_store.specs.declared.fault.StoreFault.{StoreFault}
+use Rattle.serve_run.specs.AtDoor.{AtDoor}
+use Rattle.serve_run.specs.Ends.{Shows as ServeHadJournal}
+use Rattle.serve_run.specs.Guests.{ServedAt}
+use Rattle.serve_run.specs.Replayed.{Replayed}
+use Rattle.serve_run.specs.declared.end.ServeEnd.{ServeEnd}
 use Rattle.state_lines.specs.Lines.{account_text, hosts_text}
 use Rattle.relay_store.specs.declared.message.Message.{Message}
 use Rattle.tape_run.specs.Tells.{tells as tape_tells}
@@ -32,7 +40,7 @@ use Rattle.relay_cli.specs.declared.command.Command.{Command}
 use Rattle.relay_cli.specs.declared.running.TheConstants.{LONGEST}
 use Rattle.relay_cli.specs.declared.status.Status.{Status}
 use Rattle.relay_cli.specs.declared.verdict.Verdict.{Verdict}
-use Rattle.relay_cli.specs.Statuses.{status_of, status_of_run, status_of_tape}
+use Rattle.relay_cli.specs.Statuses.{status_of, status_of_feed, status_of_run, status_of_serving, status_of_tape}
 use Rattle.relay_cli.specs.Report.{line_of}
 use Rattle.relay_cli.specs.Verdicts.{IsVerdict}
 
@@ -92,9 +100,11 @@ pub record Tells : Type 0 where
   pub repos : Bool
   pub input : Bool
   pub output : Bool
+  pub feed : Bool
+  pub door : Bool
 
-abbrev pub tells : Bool → Bool → Bool → Bool → Bool → Tells
-tells disk clock repos input output = record { disk = disk; clock = clock; repos = repos; input = input; output = output }
+abbrev pub tells : Bool → Bool → Bool → Bool → Bool → Bool → Bool → Tells
+tells disk clock repos input output feed door = record { disk = disk; clock = clock; repos = repos; input = input; output = output; feed = feed; door = door }
 
 -- How often each object of a run has failed.
 pub record Faults : Type 0 where
@@ -104,9 +114,12 @@ pub record Faults : Type 0 where
   pub clock : ℕ
   pub input : ℕ
   pub output : ℕ
+  pub feed : ℕ
+  pub door : ℕ
 
-abbrev pub faults : ℕ → ℕ → ℕ → ℕ → ℕ → ℕ → Faults
-faults disk other repos clock input output = record { disk = disk; other = other; repos = repos; clock = clock; input = input; output = output }
+abbrev pub faults : ℕ → ℕ → ℕ → ℕ → ℕ → ℕ → ℕ → ℕ → Faults
+faults disk other repos clock input output feed door =
+    record { disk = disk; other = other; repos = repos; clock = clock; input = input; output = output; feed = feed; door = door }
 
 -- no count fell
 pub record Kept (old new : Faults) : Type 0 where
@@ -116,6 +129,8 @@ pub record Kept (old new : Faults) : Type 0 where
   pub clock : old.clock ≤ new.clock
   pub input : old.input ≤ new.input
   pub output : old.output ≤ new.output
+  pub feed : old.feed ≤ new.feed
+  pub door : old.door ≤ new.door
 
 -- a status that speaks of a failure comes only where a count rose
 abbrev pub Caused : Status → Faults → Faults → Type 0
@@ -124,18 +139,24 @@ Caused Status.Repos old new = Rose old.repos new.repos
 Caused Status.Clock old new = Rose old.clock new.clock
 Caused Status.ReadFault old new = Rose old.input new.input
 Caused Status.WriteFault old new = Rose old.output new.output
+Caused Status.Feed old new = Rose old.feed new.feed
+Caused Status.Door old new = Rose old.door new.door
 Caused status old new = ⊤
 
--- What the objects of a run hold at one moment: the two disks; what the judges, the clock and the repositories tell; what is left of the input, and what is written.
+-- What the objects of a run hold at one moment: the two disks; what the judges, the clock and the repositories tell; what is left of the input, and what is written; what the feed gives of each host behind each number, and what is left of the stream that is open; and who comes to the door, and what happened there.
 pub record Place : Type 1 where
   pub one : View
   pub two : View
   pub around : Around
   pub left : List ℕ
   pub written : List ℕ
+  pub given : List ℕ → ℕ → List (List ℕ)
+  pub coming : List (List ℕ)
+  pub door : AtDoor
 
-abbrev pub place : View → View → Around → List ℕ → List ℕ → Place
-place one two around left written = record { one = one; two = two; around = around; left = left; written = written }
+abbrev pub place : View → View → Around → List ℕ → List ℕ → (List ℕ → ℕ → List (List ℕ)) → List (List ℕ) → AtDoor → Place
+place one two around left written given coming door =
+    record { one = one; two = two; around = around; left = left; written = written; given = given; coming = coming; door = door }
 
 -- the two disks and what is written
 abbrev pub disks : Place → Outside
@@ -189,10 +210,36 @@ pub record IsIngested (t : Tells) (old new : Place) (failed failed_now : Faults)
   -- a whole tape is taken where nothing fails, unless memory is wanted, the log is full, or the numbers or the authorities end
   pub complete : OnJournal t old (λ J. IsTrue t.input → (messages : List Message) → AreRecords messages → old.left ≡ spelled messages → length (spelled messages) < LONGEST → IsFlawless failed failed_now → MayEnd end)
 
+-- all that following a host moves but the feed
+abbrev pub all_but_feed : Place → PairScene
+all_but_feed p = pair_scene p.one p.two p.around [] p.written
+
+-- no count rose, with the feed's in the place of the input's
+abbrev pub IsFlawlessFeed : Faults → Faults → Type 0
+IsFlawlessFeed old new = NoneOf (Rose old.disk new.disk ⊎ Rose old.other new.other) (Rose old.feed new.feed) (Rose old.output new.output) (Rose old.repos new.repos) (Rose old.clock new.clock)
+
+-- A host was to be followed. The disks weren't opened, or messages of its feed were taken into the journal, and it ended so.
+pub record IsFollowed (host : List ℕ) (count : ℕ) (t : Tells) (old new : Place) (failed failed_now : Faults) (status : Status) : Type 0 where
+  pub end : FeedEnd
+  pub status_is : status ≡ status_of_feed end
+  pub had : IsTrue t.disk → TapeHadJournal (tape_end end) old.one.content old.two.content
+  pub unread : new.left ≡ old.left
+  pub does : OnJournal t old (λ J. (Unopened J (all_but_feed old) (all_but_feed new) (tape_end end) × (new.coming ≡ old.coming))
+      ⊎ Followed (tape_tells t.disk t.clock t.repos t.output) t.feed host LONGEST count (old.given host) new.coming J (all_but_feed old) (all_but_feed new) end)
+  -- it is done where nothing fails, unless memory is wanted, the log is full, or the numbers or the authorities end
+  pub complete : OnJournal t old (λ J. IsFlawlessFeed failed failed_now → MayEnd (tape_end end))
+
+-- Events were to be given out, and nothing else was asked or read. The end tells what the disks were, and where they have no journal nothing was written.
+pub record IsGivenOut (t : Tells) (old new : Place) (status : Status) (Does : ServeEnd → Type 0) : Type 0 where
+  pub end : ServeEnd
+  pub status_is : status ≡ status_of_serving end
+  pub had : IsTrue t.disk → ServeHadJournal end old.one.content old.two.content
+  pub quiet : (place : ℕ) → end ≡ ServeEnd.BadLog place → IsTrue t.disk → IsTrue t.output → new.written ≡ old.written
+  pub unasked : new.around ≡ old.around
+  pub unread : new.left ≡ old.left
+  pub does : Does end
+
 abbrev pub is_built : Command → Bool
-is_built (Command.Follow host count) = false
-is_built (Command.Replay cursor) = false
-is_built (Command.Serve count) = false
 is_built (Command.Trial start count) = false
 is_built command = true
 
@@ -200,6 +247,15 @@ is_built command = true
 abbrev pub is_on_journal : Command → Bool
 is_on_journal Command.Check = false
 is_on_journal command = is_built command
+
+-- whether a command asks the feed, or the door
+abbrev pub uses_feed : Command → Bool
+uses_feed (Command.Follow host count) = true
+uses_feed command = false
+
+abbrev pub uses_door : Command → Bool
+uses_door (Command.Serve count) = true
+uses_door command = false
 
 -- What a run of each command does.
 abbrev pub Ran : Tells → Place → Place → Faults → Faults → Status → Command → Type 0
@@ -211,4 +267,7 @@ Ran t old new failed failed_now status Command.Hosts = IsShown (λ J. hosts_text
 Ran t old new failed failed_now status (Command.Takedown did time) = IsOperated did true time t old new status
 Ran t old new failed failed_now status (Command.Restore did time) = IsOperated did false time t old new status
 Ran t old new failed failed_now status (Command.Sync did time) = IsSynced did time t old new status
+Ran t old new failed failed_now status (Command.Follow host count) = IsFollowed host count t old new failed failed_now status
+Ran t old new failed failed_now status (Command.Replay cursor) = IsGivenOut t old new status (λ end. OnJournal t old (λ J. Replayed t.output J cursor (disks old) (disks new) end))
+Ran t old new failed failed_now status (Command.Serve count) = IsGivenOut t old new status (λ end. OnJournal t old (λ J. ServedAt t.door t.output count J old.door new.door (disks old) (disks new) end))
 Ran t old new failed failed_now status command = status ≡ Status.NotBuilt

@@ -1,8 +1,10 @@
 -- The numbers that the program ends with, own.
 use Rattle.std.specs.Prelude.{ℕ}
 use Rattle.at_event.specs.Refusals.{code_of}
+use Rattle.follow_run.specs.declared.end.FeedEnd.{FeedEnd}
 use Rattle.relay_run.specs.declared.end.RunEnd.{RunEnd}
 use Rattle.relay_store.specs.declared.fault.StoreFault.{StoreFault}
+use Rattle.serve_run.specs.declared.end.ServeEnd.{ServeEnd}
 use Rattle.tape_run.specs.declared.end.TapeEnd.{TapeEnd}
 use Rattle.relay_cli.specs.declared.status.Status.{Status}
 use Rattle.relay_cli.specs.declared.verdict.Verdict.{Verdict}
@@ -16,6 +18,8 @@ code_of_status Status.WriteFault = 4
 code_of_status Status.Disk = 5
 code_of_status Status.Authority = 6
 code_of_status Status.Repos = 7
+code_of_status Status.Feed = 8
+code_of_status Status.Door = 9
 code_of_status (Status.BadLog place) = 10
 code_of_status (Status.Full end) = 11
 code_of_status Status.SeqEnd = 12
@@ -57,3 +61,21 @@ status_of_tape TapeEnd.WriteFault = Status.WriteFault
 status_of_tape TapeEnd.TooLong = Status.TooLong
 status_of_tape (TapeEnd.Store fault) = status_of_fault fault
 status_of_tape TapeEnd.Memory = Status.Memory
+
+-- of a host's feed
+abbrev pub status_of_feed : FeedEnd → Status
+status_of_feed FeedEnd.Done = Status.Done
+status_of_feed FeedEnd.Feed = Status.Feed
+status_of_feed FeedEnd.WriteFault = Status.WriteFault
+status_of_feed (FeedEnd.Store fault) = status_of_fault fault
+status_of_feed FeedEnd.Memory = Status.Memory
+
+-- of a command that gives events out; no message of a journal is too long to be written behind its length
+abbrev pub status_of_serving : ServeEnd → Status
+status_of_serving ServeEnd.Done = Status.Done
+status_of_serving ServeEnd.WriteFault = Status.WriteFault
+status_of_serving ServeEnd.Door = Status.Door
+status_of_serving ServeEnd.Disk = Status.Disk
+status_of_serving (ServeEnd.BadLog place) = Status.BadLog place
+status_of_serving ServeEnd.Memory = Status.Memory
+status_of_serving ServeEnd.TooLong = Status.Memory

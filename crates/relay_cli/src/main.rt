@@ -25,6 +25,15 @@ pub use status::Status;
 use std::cell::Cell;
 use std::env;
 use std::process::ExitCode;
+use ws_edge::{DOOR_PORT, WsDoor, WsFeed};
+
+// Whether the words are those of a run that writes a report, of which it is said how far it is.
+fn is_reported(words: &[String]) -> bool {
+    match words.first() {
+        Some(word) => word == "ingest" || word == "follow",
+        None => false,
+    }
+}
 
 // Runs the words on the real objects of a folder.
 fn run_in(rt: &HostRuntime, folder: &str, words: &[String]) -> Result<Status, Memory> {
@@ -39,16 +48,20 @@ fn run_in(rt: &HostRuntime, folder: &str, words: &[String]) -> Result<Status, Me
     let mut clock = SystemClock::new(rt);
     let taken = Cell::new(0);
     let mut input = Counted::new(ReaderSource::new(rt.stdin()), &taken);
-    let mut out = Watched::new(WriterSink::new(rt.stdout()), rt, &taken);
+    let mut out = Watched::new(WriterSink::new(rt.stdout()), rt, &taken, is_reported(words));
+    let mut feed = WsFeed::new(rt.alloc(), rt);
+    let mut door = WsDoor::new(rt.alloc(), rt, DOOR_PORT);
     let status = relay(
         rt.alloc(),
         words,
         &mut panel,
+        &mut feed,
         &mut repos,
         &mut disk,
         &mut other,
         &mut input,
         &mut out,
+        &mut door,
         &mut clock,
     );
     out.end();

@@ -104,9 +104,9 @@ pub struct Watched<'a, O: Sink> {
 }
 
 impl<'a, O: Sink> Watched<'a, O> {
-    /// The same sink. `taken` are the bytes of the input so far.
-    pub fn new(out: O, rt: &'a HostRuntime, taken: &'a Cell<u64>) -> Self {
-        let start = if rt.stderr().is_terminal() {
+    /// The same sink. `taken` are the bytes of the input so far; nothing is said unless `is_reported`.
+    pub fn new(out: O, rt: &'a HostRuntime, taken: &'a Cell<u64>, is_reported: bool) -> Self {
+        let start = if is_reported && rt.stderr().is_terminal() {
             Instant::now(rt).ok()
         } else {
             None
@@ -166,7 +166,7 @@ impl<O: Sink> Sink for Watched<'_, O> {
 
     fn write(&mut self, piece: &[u8]) -> Result<usize, Failed> {
         let count = self.out.write(piece)?;
-        if !piece.starts_with(b"end ") {
+        if self.start.is_some() && !piece.starts_with(b"end ") {
             self.lines.read(&piece[..count]);
             self.tell();
         }

@@ -2,8 +2,10 @@
 ghost use Rattle.std.specs.Prelude.{◌≡◌};
 ghost use Rattle.relay_cli.specs.Statuses.{code_of_status};
 
+use follow_run::FeedEnd;
 use relay_run::RunEnd;
 use relay_store::StoreFault;
+use serve_run::ServeEnd;
 use tape_run::TapeEnd;
 
 /// How a run ended. A place or an end is in bytes from the front of its tape or log.
@@ -25,6 +27,10 @@ pub enum Status {
     Authority,
     /// A call of the repositories failed.
     Repos,
+    /// A call of the feed failed.
+    Feed,
+    /// The door didn't say who comes next.
+    Door,
     /// The disks hold no journal, and show it at this place.
     BadLog(u64),
     /// The log has no room for the next row, which would end there.
@@ -57,6 +63,8 @@ impl Status {
             Status::Disk => 5,
             Status::Authority => 6,
             Status::Repos => 7,
+            Status::Feed => 8,
+            Status::Door => 9,
             Status::BadLog(_) => 10,
             Status::Full(_) => 11,
             Status::SeqEnd => 12,
@@ -117,6 +125,39 @@ impl From<TapeEnd> for Status {
             TapeEnd::TooLong => Status::TooLong,
             TapeEnd::Store(fault) => Status::from(fault),
             TapeEnd::Memory => Status::Memory,
+        }
+    }
+}
+
+impl From<FeedEnd> for Status {
+    ghost use Rattle.relay_cli.specs.Statuses.{status_of_feed};
+
+    ghost from_gives = { λ end status. status ≡ status_of_feed end };
+
+    fn from(end: FeedEnd) -> Status {
+        match end {
+            FeedEnd::Done => Status::Done,
+            FeedEnd::Feed => Status::Feed,
+            FeedEnd::WriteFault => Status::WriteFault,
+            FeedEnd::Store(fault) => Status::from(fault),
+            FeedEnd::Memory => Status::Memory,
+        }
+    }
+}
+
+impl From<ServeEnd> for Status {
+    ghost use Rattle.relay_cli.specs.Statuses.{status_of_serving};
+
+    ghost from_gives = { λ end status. status ≡ status_of_serving end };
+
+    fn from(end: ServeEnd) -> Status {
+        match end {
+            ServeEnd::Done => Status::Done,
+            ServeEnd::WriteFault => Status::WriteFault,
+            ServeEnd::Door => Status::Door,
+            ServeEnd::Disk => Status::Disk,
+            ServeEnd::BadLog(place) => Status::BadLog(place),
+            ServeEnd::Memory | ServeEnd::TooLong => Status::Memory,
         }
     }
 }

@@ -1,0 +1,191 @@
+-- While guests are served, and how that ends.
+use Rattle.std.proofs.Common.{◌≡◌, ◌∙◌, ◌⊎◌, ⊎_elim, inl, inr, ℕ, ◌+◌, ◌-◌, ◌≤◌, ◌<◌, List, [], ◌∷◌, ◌++◌, length, Bool, Option, Some, None, Result, Ok, Err, IsTrue, refl, sym, ap, arith, append_assoc, length-append, subst}
+use Rattle.std.proofs.lemmas.List.{append-nil}
+use Rattle.event_window.specs.Held.{Held}
+use Rattle.relay_disk.specs.Disk.{View, Goes, Same}
+use Rattle.relay_disk.proofs.Moments.{unchanged}
+use Rattle.gate_log.specs.Image.{IsMade}
+use Rattle.gate_log.specs.Pick.{view_of_side}
+use Rattle.gate_log.specs.declared.picking.Side.{Side}
+use Rattle.gate_log.specs.declared.picking.Side.TheVariants.{One, Two}
+use Rattle.relay_io.specs.Streams.{AddsFront}
+use Rattle.relay_row.specs.declared.row.Row.{Row}
+use Rattle.relay_store.specs.Journals.{bytes_of}
+use Rattle.relay_store.specs.Store.{Keeps, StoreState}
+use Rattle.relay_run.proofs.Writing.{front_of_first, front_of_second}
+use Rattle.serve_run.specs.AtDoor.{AtDoor, IsOver, IsStill, Met, Visited}
+use Rattle.serve_run.specs.Ends.{IsCausedBy, IsOfMeeting, IsUnwritten}
+use Rattle.serve_run.specs.Guests.{GuestsServed, IsBehind, IsTold}
+use Rattle.serve_run.specs.Sessions.{Visit, end_line, lines_behind, session_line}
+use Rattle.serve_run.specs.declared.end.ServeEnd.{ServeEnd}
+use Rattle.serve_run.specs.declared.session.Session.{Session}
+use Rattle.serve_run.proofs.Meeting.{lines_more, visited_more, visited_none}
+
+-- ---- the disks
+
+-- what was only read has the journal still
+pub keeps_still : (J : List Row) (s : StoreState) (v w : View) → Goes Same v w → Keeps J s v → Keeps J s w
+keeps_still J s v w goes keeps = record {
+  bodies = keeps.bodies;
+  are = keeps.are;
+  holds = record {
+    ends = keeps.holds.ends;
+    now = subst (λ (c : List ℕ). IsMade s.log.format (bytes_of keeps.bodies) c) (sym goes.content) keeps.holds.now;
+    left = λ c left. keeps.holds.left c (unchanged v w goes c left);
+  };
+  core = keeps.core;
+  window = keeps.window;
+}
+
+pub goes_side : (side : Side) (one two one_now two_now : View) → Goes Same one one_now → Goes Same two two_now → Goes Same (view_of_side side one two) (view_of_side side one_now two_now)
+goes_side One one two one_now two_now first second = first
+goes_side Two one two one_now two_now first second = second
+
+-- ---- the guests
+
+-- While guests are served: these visits were made, and their lines written.
+pub record IsServing (door_tells output_tells : Bool) (count served : ℕ) (held : Held) (door door_now : AtDoor) (old now : List ℕ) : Type 0 where
+  pub visits : List Visit
+  pub visited : Visited door_tells held visits door door_now
+  pub number : served ≡ length visits
+  pub few : served ≤ count
+  pub written : IsTrue output_tells → now ≡ old ++ lines_behind 0 visits
+
+pub serving_none : (door_tells output_tells : Bool) (count : ℕ) (held : Held) (door : AtDoor) (old : List ℕ) → IsServing door_tells output_tells count 0 held door door old old
+serving_none door_tells output_tells count held door old = record {
+  visits = []; visited = visited_none door_tells held door; number = refl; few = omega arith; written = λ _. sym (append-nil old);
+}
+
+still_same : (tells : Bool) (door : AtDoor) → IsStill tells door door
+still_same tells door = λ _. (refl, refl)
+
+-- the lines of these visits and of one more
+lines_then : (visits : List Visit) (v : Visit) (served : ℕ) (session : Session) → served ≡ length visits → v.session ≡ session → lines_behind 0 (visits ++ v ∷ []) ≡ lines_behind 0 visits ++ session_line (served + 1) session
+lines_then visits v served session number is =
+    lines_more 0 visits v ∙ ap (λ (n : ℕ). lines_behind 0 visits ++ session_line (n + 1) v.session) (sym number) ∙ ap (λ (s : Session). lines_behind 0 visits ++ session_line (served + 1) s) is
+
+told_behind : (tells : Bool) (held : Held) (all : Type 0) (end : ServeEnd) (old new : AtDoor) → IsUnwritten end → IsStill tells old new ⊎ IsOver tells old new → IsBehind tells held all end old new
+told_behind tells held all ServeEnd.Done old new un was = absurd un
+told_behind tells held all ServeEnd.WriteFault old new un was = was
+told_behind tells held all ServeEnd.Door old new un was = absurd un
+told_behind tells held all ServeEnd.Disk old new un was = absurd un
+told_behind tells held all (ServeEnd.BadLog p) old new un was = absurd un
+told_behind tells held all ServeEnd.Memory old new un (inl still) = inl still
+told_behind tells held all ServeEnd.Memory old new un (inr over) = inr (inl over)
+told_behind tells held all ServeEnd.TooLong old new un was = absurd un
+
+told_front : (end : ServeEnd) (lines last old new : List ℕ) → IsUnwritten end → AddsFront old new (lines ++ last) → IsTold end lines last old new
+told_front ServeEnd.Done lines last old new un front = absurd un
+told_front ServeEnd.WriteFault lines last old new un front = front
+told_front ServeEnd.Door lines last old new un front = absurd un
+told_front ServeEnd.Disk lines last old new un front = absurd un
+told_front (ServeEnd.BadLog p) lines last old new un front = absurd un
+told_front ServeEnd.Memory lines last old new un front = front
+told_front ServeEnd.TooLong lines last old new un front = absurd un
+
+-- all of a text is a front of it and more
+whole_front : (old text more : List ℕ) → AddsFront old (old ++ text) (text ++ more)
+whole_front old text more = front_of_second old (old ++ text) (old ++ text) text more refl (0, omega arith, sym (append-nil (old ++ text)))
+
+module _ (door_tells output_tells : Bool) (count served : ℕ) (held : Held) (door mid new : AtDoor) (old now : List ℕ) (serving : IsServing door_tells output_tells count served held door mid old now) where
+  -- one more guest was served
+  pub serving_more : (session : Session) (then : List ℕ) → Met door_tells held (count - served) mid new (Ok (Some session)) → 0 < count - served → (IsTrue output_tells → then ≡ now ++ session_line (served + 1) session)
+      → IsServing door_tells output_tells count (served + 1) held door new old then
+  serving_more session then met some writes = record {
+    visits = serving.visits ++ met.0 ∷ [];
+    visited = visited_more door_tells held serving.visits met.0 door mid new serving.visited met.2;
+    number = omega (arith, serving.number, length-append serving.visits (met.0 ∷ []));
+    few = omega (arith, serving.few, some);
+    written = λ t. writes t ∙ ap (λ (l : List ℕ). l ++ session_line (served + 1) session) (serving.written t) ∙ append_assoc old (lines_behind 0 serving.visits) (session_line (served + 1) session)
+        ∙ ap (λ (l : List ℕ). old ++ l) (sym (lines_then serving.visits met.0 served session serving.number met.1));
+  }
+
+  -- the line of its session wasn't written
+  pub serving_unwritten : (session : Session) (then : List ℕ) (end : ServeEnd) → Met door_tells held (count - served) mid new (Ok (Some session)) → 0 < count - served → IsUnwritten end
+      → (IsTrue output_tells → AddsFront now then (session_line (served + 1) session)) → GuestsServed door_tells output_tells count held door new old then end
+  serving_unwritten session then end met some un front =
+      let visits = serving.visits ++ met.0 ∷ [] in
+      record {
+        visits = visits;
+        mid = new;
+        visited = visited_more door_tells held serving.visits met.0 door mid new serving.visited met.2;
+        few = omega (arith, serving.few, some, serving.number, length-append serving.visits (met.0 ∷ []));
+        behind = told_behind door_tells held (length visits ≡ count) end new new un (inl (still_same door_tells new));
+        written = λ t. told_front end (lines_behind 0 visits) (end_line (length visits)) old then un
+            (front_of_first old then (lines_behind 0 visits) (end_line (length visits))
+            (subst (λ (l : List ℕ). AddsFront old then l) (sym (lines_then serving.visits met.0 served session serving.number met.1))
+            (front_of_second old now then (lines_behind 0 serving.visits) (session_line (served + 1) session) (serving.written t) (front t))));
+      }
+
+  -- no more guest was met
+  pub serving_stopped : (end : ServeEnd) → IsOfMeeting end → Met door_tells held (count - served) mid new (Err end) → GuestsServed door_tells output_tells count held door new old now end
+  serving_stopped ServeEnd.Done of met = absurd of
+  serving_stopped ServeEnd.WriteFault of met = absurd of
+  serving_stopped ServeEnd.Door of met = record {
+    visits = serving.visits; mid = mid; visited = serving.visited; few = omega (arith, serving.few, serving.number); behind = met; written = serving.written;
+  }
+  serving_stopped ServeEnd.Disk of met = record {
+    visits = serving.visits; mid = mid; visited = serving.visited; few = omega (arith, serving.few, serving.number); behind = met; written = serving.written;
+  }
+  serving_stopped (ServeEnd.BadLog p) of met = record {
+    visits = serving.visits; mid = mid; visited = serving.visited; few = omega (arith, serving.few, serving.number); behind = met; written = serving.written;
+  }
+  serving_stopped ServeEnd.Memory of met = record {
+    visits = serving.visits;
+    mid = mid;
+    visited = serving.visited;
+    few = omega (arith, serving.few, serving.number);
+    behind = ⊎_elim (λ still. inl still) (λ broken. inr (inr broken)) met;
+    written = λ t. subst (λ (l : List ℕ). AddsFront old l (lines_behind 0 serving.visits ++ end_line (length serving.visits))) (sym (serving.written t)) (whole_front old (lines_behind 0 serving.visits) (end_line (length serving.visits)));
+  }
+  serving_stopped ServeEnd.TooLong of met = absurd of
+
+  at_last : Met door_tells held (count - served) mid new (Ok None) → ((length serving.visits ≡ count) × IsStill door_tells mid new) ⊎ IsOver door_tells mid new
+  at_last (inl (none, still)) = inl (omega (arith, none, serving.few, serving.number), still)
+  at_last (inr over) = inr over
+
+  -- none is left, and the last line was written
+  pub serving_done : (then : List ℕ) → Met door_tells held (count - served) mid new (Ok None) → (IsTrue output_tells → then ≡ now ++ end_line served) → GuestsServed door_tells output_tells count held door new old then ServeEnd.Done
+  serving_done then met writes = record {
+    visits = serving.visits;
+    mid = mid;
+    visited = serving.visited;
+    few = omega (arith, serving.few, serving.number);
+    behind = at_last met;
+    written = λ t. writes t ∙ ap (λ (l : List ℕ). l ++ end_line served) (serving.written t) ∙ append_assoc old (lines_behind 0 serving.visits) (end_line served)
+        ∙ ap (λ (n : ℕ). old ++ (lines_behind 0 serving.visits ++ end_line n)) serving.number;
+  }
+
+  -- none is left, and the last line wasn't
+  pub serving_untold : (then : List ℕ) (end : ServeEnd) → Met door_tells held (count - served) mid new (Ok None) → IsUnwritten end → (IsTrue output_tells → AddsFront now then (end_line served))
+      → GuestsServed door_tells output_tells count held door new old then end
+  serving_untold then end met un front = record {
+    visits = serving.visits;
+    mid = mid;
+    visited = serving.visited;
+    few = omega (arith, serving.few, serving.number);
+    behind = told_behind door_tells held (length serving.visits ≡ count) end mid new un (⊎_elim (λ whole. inl whole.1) (λ over. inr over) (at_last met));
+    written = λ t. told_front end (lines_behind 0 serving.visits) (end_line (length serving.visits)) old then un
+        (subst (λ (n : ℕ). AddsFront old then (lines_behind 0 serving.visits ++ end_line n)) serving.number
+        (front_of_second old now then (lines_behind 0 serving.visits) (end_line served) (serving.written t) (front t)));
+  }
+
+-- ---- causes
+
+pub meeting_causes : (disk write door : Type 0) (end : ServeEnd) → IsOfMeeting end → (end ≡ ServeEnd.Disk → disk) → (end ≡ ServeEnd.Door → door) → IsCausedBy disk write door end
+meeting_causes disk write door ServeEnd.Done of failed gone = absurd of
+meeting_causes disk write door ServeEnd.WriteFault of failed gone = absurd of
+meeting_causes disk write door ServeEnd.Door of failed gone = gone refl
+meeting_causes disk write door ServeEnd.Disk of failed gone = failed refl
+meeting_causes disk write door (ServeEnd.BadLog p) of failed gone = tt
+meeting_causes disk write door ServeEnd.Memory of failed gone = tt
+meeting_causes disk write door ServeEnd.TooLong of failed gone = absurd of
+
+pub unwritten_causes : (disk write door : Type 0) (end : ServeEnd) → IsUnwritten end → (end ≡ ServeEnd.WriteFault → write) → IsCausedBy disk write door end
+unwritten_causes disk write door ServeEnd.Done of failed = absurd of
+unwritten_causes disk write door ServeEnd.WriteFault of failed = failed refl
+unwritten_causes disk write door ServeEnd.Door of failed = absurd of
+unwritten_causes disk write door ServeEnd.Disk of failed = absurd of
+unwritten_causes disk write door (ServeEnd.BadLog p) of failed = absurd of
+unwritten_causes disk write door ServeEnd.Memory of failed = tt
+unwritten_causes disk write door ServeEnd.TooLong of failed = absurd of

@@ -1,0 +1,83 @@
+-- How commands end that give events out.
+use Rattle.std.proofs.Common.{◌≡◌, ℕ, List, refl, sym, subst}
+use Rattle.relay_io.specs.Streams.{AddsFront}
+use Rattle.relay_row.specs.declared.row.Row.{Row}
+use Rattle.relay_store.specs.Journals.{IsBadPairJournalAt, IsPairImageOf}
+use Rattle.relay_store.specs.declared.fault.StoreFault.{StoreFault}
+use Rattle.backfill.specs.declared.replay_fault.ReplayFault.{ReplayFault}
+use Rattle.serve_run.specs.Ends.{IsOpened, Shows, end_of_opening, end_of_replay}
+use Rattle.serve_run.specs.Replayed.{IsReplayed}
+use Rattle.serve_run.specs.declared.end.ServeEnd.{ServeEnd}
+
+-- ---- opening
+
+pub not_opened : (fault : StoreFault) → IsOpened (end_of_opening fault) → ⊥
+not_opened StoreFault.Disk is = is
+not_opened (StoreFault.BadLog p) is = is
+not_opened (StoreFault.Full e) is = is
+not_opened StoreFault.SeqEnd is = is
+not_opened StoreFault.Authority is = is
+not_opened StoreFault.Repos is = is
+not_opened StoreFault.Memory is = is
+not_opened StoreFault.Clock is = is
+
+pub opening_shows : (fault : StoreFault) (one two : List ℕ) → ((p : ℕ) → fault ≡ StoreFault.BadLog p → IsBadPairJournalAt p one two) → Shows (end_of_opening fault) one two
+opening_shows StoreFault.Disk one two bad = tt
+opening_shows (StoreFault.BadLog p) one two bad = bad p refl
+opening_shows (StoreFault.Full e) one two bad = tt
+opening_shows StoreFault.SeqEnd one two bad = tt
+opening_shows StoreFault.Authority one two bad = tt
+opening_shows StoreFault.Repos one two bad = tt
+opening_shows StoreFault.Memory one two bad = tt
+opening_shows StoreFault.Clock one two bad = tt
+
+-- ---- behind it
+
+pub image_shows : (end : ServeEnd) (one two : List ℕ) (J : List Row) → IsPairImageOf J one two → ((p : ℕ) → end ≡ ServeEnd.BadLog p → ⊥) → (end ≡ ServeEnd.TooLong → ⊥) → Shows end one two
+image_shows ServeEnd.Done one two J image good short = (J, image)
+image_shows ServeEnd.WriteFault one two J image good short = (J, image)
+image_shows ServeEnd.Door one two J image good short = (J, image)
+image_shows ServeEnd.Disk one two J image good short = tt
+image_shows (ServeEnd.BadLog p) one two J image good short = absurd (good p refl)
+image_shows ServeEnd.Memory one two J image good short = tt
+image_shows ServeEnd.TooLong one two J image good short = absurd (short refl)
+
+-- ---- a replay
+
+front_written : (fault : ReplayFault) (text old new : List ℕ) → AddsFront old new text → IsReplayed (end_of_replay fault) text old new
+front_written ReplayFault.Output text old new front = front
+front_written ReplayFault.Disk text old new front = front
+front_written ReplayFault.Memory text old new front = front
+front_written (ReplayFault.BadLog p) text old new front = front
+front_written ReplayFault.TooLong text old new front = front
+
+pub fault_written : (fault : ReplayFault) (end : ServeEnd) (text old new : List ℕ) → end ≡ end_of_replay fault → AddsFront old new text → IsReplayed end text old new
+fault_written fault end text old new is front = subst (λ (e : ServeEnd). IsReplayed e text old new) (sym is) (front_written fault text old new front)
+
+pub replay_bad : (fault : ReplayFault) (p : ℕ) → end_of_replay fault ≡ ServeEnd.BadLog p → fault ≡ ReplayFault.BadLog p
+replay_bad ReplayFault.Output p is = absurd cc
+replay_bad ReplayFault.Disk p is = absurd cc
+replay_bad ReplayFault.Memory p is = absurd cc
+replay_bad (ReplayFault.BadLog q) p is = cc
+replay_bad ReplayFault.TooLong p is = absurd cc
+
+pub replay_long : (fault : ReplayFault) → end_of_replay fault ≡ ServeEnd.TooLong → fault ≡ ReplayFault.TooLong
+replay_long ReplayFault.Output is = absurd cc
+replay_long ReplayFault.Disk is = absurd cc
+replay_long ReplayFault.Memory is = absurd cc
+replay_long (ReplayFault.BadLog q) is = absurd cc
+replay_long ReplayFault.TooLong is = refl
+
+-- nothing was written
+none_written : (fault : StoreFault) (text bytes : List ℕ) → AddsFront bytes bytes text → IsReplayed (end_of_opening fault) text bytes bytes
+none_written StoreFault.Disk text bytes front = front
+none_written (StoreFault.BadLog p) text bytes front = front
+none_written (StoreFault.Full e) text bytes front = front
+none_written StoreFault.SeqEnd text bytes front = front
+none_written StoreFault.Authority text bytes front = front
+none_written StoreFault.Repos text bytes front = front
+none_written StoreFault.Memory text bytes front = front
+none_written StoreFault.Clock text bytes front = front
+
+pub nothing_written : (fault : StoreFault) (end : ServeEnd) (text bytes : List ℕ) → end ≡ end_of_opening fault → AddsFront bytes bytes text → IsReplayed end text bytes bytes
+nothing_written fault end text bytes is front = subst (λ (e : ServeEnd). IsReplayed e text bytes bytes) (sym is) (none_written fault text bytes front)

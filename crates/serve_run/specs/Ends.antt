@@ -1,0 +1,70 @@
+-- How a command ends that gives events out (own).
+use Rattle.std.specs.Prelude.{⊤, ℕ, List, Result, Ok, Err}
+use Rattle.relay_row.specs.declared.row.Row.{Row}
+use Rattle.relay_store.specs.Journals.{IsBadPairJournalAt, IsPairImageOf}
+use Rattle.relay_store.specs.declared.fault.StoreFault.{StoreFault}
+use Rattle.backfill.specs.declared.replay_fault.ReplayFault.{ReplayFault}
+use Rattle.backfill.specs.declared.serve_fault.ServeFault.{ServeFault}
+use Rattle.serve_run.specs.declared.session.Session.{Session}
+use Rattle.serve_run.specs.declared.end.ServeEnd.{ServeEnd}
+
+-- the end where the store wasn't opened: with a fault of reading
+abbrev pub end_of_opening : StoreFault → ServeEnd
+end_of_opening StoreFault.Disk = ServeEnd.Disk
+end_of_opening (StoreFault.BadLog place) = ServeEnd.BadLog place
+end_of_opening fault = ServeEnd.Memory
+
+-- the end that a fault of a replay brings
+abbrev pub end_of_replay : ReplayFault → ServeEnd
+end_of_replay ReplayFault.Output = ServeEnd.WriteFault
+end_of_replay ReplayFault.Disk = ServeEnd.Disk
+end_of_replay ReplayFault.Memory = ServeEnd.Memory
+end_of_replay (ReplayFault.BadLog place) = ServeEnd.BadLog place
+end_of_replay ReplayFault.TooLong = ServeEnd.TooLong
+
+-- what a fault of serving brings: the session failed, or was broken off
+abbrev pub end_of_serving : ServeFault → Result Session ServeEnd
+end_of_serving (ServeFault.Door events) = Ok (Session.Failed events)
+end_of_serving ServeFault.Disk = Err ServeEnd.Disk
+end_of_serving ServeFault.Memory = Err ServeEnd.Memory
+end_of_serving (ServeFault.BadLog place) = Err (ServeEnd.BadLog place)
+
+-- it was opened: the end is none that opening may come to
+abbrev pub IsOpened : ServeEnd → Type 0
+IsOpened ServeEnd.Disk = ⊥
+IsOpened (ServeEnd.BadLog place) = ⊥
+IsOpened ServeEnd.Memory = ⊥
+IsOpened end = ⊤
+
+-- what the bytes of the two disks were: no image of a journal, which they show at this place, or an image of one, none of whose messages is too long; where the disk failed or memory was wanted nothing is said
+abbrev pub Shows : ServeEnd → List ℕ → List ℕ → Type 0
+Shows ServeEnd.Disk one two = ⊤
+Shows ServeEnd.Memory one two = ⊤
+Shows (ServeEnd.BadLog place) one two = IsBadPairJournalAt place one two
+Shows ServeEnd.TooLong one two = ⊥
+Shows end one two = (J : List Row) × IsPairImageOf J one two
+
+-- the cause of an end: a count of faults rose
+abbrev pub IsCausedBy : Type 0 → Type 0 → Type 0 → ServeEnd → Type 0
+IsCausedBy disk write door ServeEnd.WriteFault = write
+IsCausedBy disk write door ServeEnd.Door = door
+IsCausedBy disk write door ServeEnd.Disk = disk
+IsCausedBy disk write door end = ⊤
+
+-- a line isn't written: the output failed, or memory was wanted
+abbrev pub IsUnwritten : ServeEnd → Type 0
+IsUnwritten ServeEnd.WriteFault = ⊤
+IsUnwritten ServeEnd.Memory = ⊤
+IsUnwritten end = ⊥
+
+-- a session was broken off: the disk failed or has no event where one was, or memory was wanted
+abbrev pub IsOfSession : ServeEnd → Type 0
+IsOfSession ServeEnd.Disk = ⊤
+IsOfSession (ServeEnd.BadLog place) = ⊤
+IsOfSession ServeEnd.Memory = ⊤
+IsOfSession end = ⊥
+
+-- no guest was served: so, or the door failed
+abbrev pub IsOfMeeting : ServeEnd → Type 0
+IsOfMeeting ServeEnd.Door = ⊤
+IsOfMeeting end = IsOfSession end

@@ -1,0 +1,5 @@
+pub mod Ends
+pub mod Replayed
+pub mod Sessions
+pub mod AtDoor
+pub mod Guests

@@ -1,0 +1,30 @@
+-- What a replay of two disks does (own).
+use Rattle.std.specs.Prelude.{◌≡◌, ◌⊎◌, ℕ, Bool, List, ◌++◌, Some, IsTrue}
+use Rattle.relay_disk.specs.Disk.{View}
+use Rattle.relay_disk.specs.Moments.{PairLeavesOnly}
+use Rattle.relay_io.specs.Streams.{AddsFront}
+use Rattle.relay_row.specs.declared.row.Row.{Row}
+use Rattle.relay_store.specs.Journals.{IsPairImageOf}
+use Rattle.relay_store.specs.Shown.{held_by}
+use Rattle.relay_run.specs.Pairs.{Outside, StandsFor}
+use Rattle.backfill.specs.Served.{served}
+use Rattle.backfill.specs.Writing.{framed}
+use Rattle.serve_run.specs.Ends.{IsOpened}
+use Rattle.serve_run.specs.declared.end.ServeEnd.{ServeEnd}
+
+-- The two disks, which have the journal J, were only read.
+pub record OnlyRead (J : List Row) (opened : Type 0) (one two one_now two_now : View) : Type 0 where
+  -- once they were opened they stand for the journal, and where they stood for it they do again
+  pub stands : opened ⊎ StandsFor J one two → StandsFor J one_now two_now
+  -- and then, whatever moments a crash strikes the two at, it leaves the journal
+  pub crashes : StandsFor J one two → PairLeavesOnly (IsPairImageOf J) one one_now two two_now
+
+-- the whole text was written where all was done, and else a front of it
+abbrev pub IsReplayed : ServeEnd → List ℕ → List ℕ → List ℕ → Type 0
+IsReplayed ServeEnd.Done text old new = new ≡ old ++ text
+IsReplayed end text old new = AddsFront old new text
+
+-- The messages that a guest with this cursor is sent were written, each behind its length.
+pub record Replayed (output_tells : Bool) (J : List Row) (cursor : ℕ) (old new : Outside) (end : ServeEnd) : Type 0 where
+  pub written : IsTrue output_tells → IsReplayed end (framed (served (held_by J) (Some cursor))) old.written new.written
+  pub read : OnlyRead J (IsOpened end) old.one old.two new.one new.two

@@ -1,0 +1,55 @@
+//! How a command ends that gives events out.
+
+ghost use Rattle.std.specs.Prelude.{◌≡◌};
+
+use backfill::ReplayFault;
+use relay_store::StoreFault;
+
+/// How a command ended that gives events out.
+#[derive(Clone, Copy, Debug, PartialEq, Eq)]
+pub enum ServeEnd {
+    /// All was done.
+    Done,
+    /// A call of the output failed.
+    WriteFault,
+    /// The door didn't say who comes next.
+    Door,
+    /// A disk failed, as its count of faults shows.
+    Disk,
+    /// The disks are no image of a journal, and show it at this place.
+    BadLog(u64),
+    /// Memory was wanted.
+    Memory,
+    /// A message has more bytes than four bytes of length can say. No journal of disks that tell their content has one.
+    TooLong,
+}
+
+impl ServeEnd {
+    ghost use Rattle.relay_store.specs.declared.fault.StoreFault.{StoreFault as TheFault};
+    ghost use Rattle.relay_store.specs.Opening.{IsOfReading};
+    ghost use Rattle.serve_run.specs.Ends.{end_of_opening, end_of_replay};
+
+    // How it ends where the store wasn't opened: with a fault of reading.
+    pub(crate) fn of_opening(fault: StoreFault) -> ServeEnd
+        ensures { result ≡ end_of_opening fault }
+    {
+        match fault {
+            StoreFault::Disk => ServeEnd::Disk,
+            StoreFault::BadLog(place) => ServeEnd::BadLog(place),
+            _ => ServeEnd::Memory,
+        }
+    }
+
+    // How a replay ends with a fault.
+    pub(crate) fn of_replay(fault: ReplayFault) -> ServeEnd
+        ensures { result ≡ end_of_replay fault }
+    {
+        match fault {
+            ReplayFault::Output => ServeEnd::WriteFault,
+            ReplayFault::Disk => ServeEnd::Disk,
+            ReplayFault::Memory => ServeEnd::Memory,
+            ReplayFault::BadLog(place) => ServeEnd::BadLog(place),
+            ReplayFault::TooLong => ServeEnd::TooLong,
+        }
+    }
+}

@@ -1,0 +1,105 @@
+//! The command that writes what a guest would be sent.
+
+ghost use Rattle.std.specs.Prelude.{◌≡◌, ◌≤◌, ◌⊎◌, ⊤, ℕ, List, Some, IsTrue};
+ghost use Rattle.at_cid.specs.Counts.{Rose};
+ghost use Rattle.relay_disk.specs.Disk.{Goes, Same};
+ghost use Rattle.gate_log.specs.Pick.{view_of_side};
+ghost use Rattle.gate_log.specs.declared.limits.TheConstants.{LAST_END};
+ghost use Rattle.relay_row.specs.declared.row.Row.{Row as TheRow};
+ghost use Rattle.relay_store.specs.Journals.{IsPairImageOf};
+ghost use Rattle.relay_store.specs.Shown.{held_by};
+ghost use Rattle.relay_store.specs.Store.{IsKept, Keeps, seen_in};
+ghost use Rattle.relay_run.specs.Pairs.{outside};
+ghost use Rattle.backfill.specs.Served.{served, served_events};
+ghost use Rattle.backfill.specs.Writing.{framed, has_long};
+ghost use Rattle.serve_run.specs.Ends.{IsCausedBy, Shows};
+ghost use Rattle.serve_run.specs.Replayed.{IsReplayed, Replayed};
+ghost use Rattle.serve_run.specs.declared.end.ServeEnd.{ServeEnd as TheEnd};
+
+use crate::end::ServeEnd;
+use gate_log::Side;
+use relay_disk::Disk;
+use relay_io::Sink;
+use relay_store::Store;
+use std::alloc::Global;
+
+// Writes the messages, read back from the disk that the store is on.
+fn replay_from<D: Disk, O: Sink>(
+    alloc: Global,
+    store: &Store,
+    disk: &mut D,
+    cursor: u64,
+    out: &mut O,
+) -> ServeEnd
+    requires { IsTrue D.tells → IsKept (seen_in store.now) (D.view disk.old) }
+    ensures written { IsTrue D.tells → (J : List TheRow) → Keeps J (seen_in store.now) (D.view disk.old)
+        → IsTrue O.tells → IsReplayed result (framed (served (held_by J) (Some cursor))) (O.written out.old) (O.written out.new) }
+    ensures goes { Goes Same (D.view disk.old) (D.view disk.new) }
+    ensures disk { result ≡ ServeEnd.Disk → Rose (D.view disk.old).faults (D.view disk.new).faults }
+    ensures failed { result ≡ ServeEnd.WriteFault → Rose (O.faults out.old) (O.faults out.new) }
+    ensures no_door { result ≡ ServeEnd.Door → ⊥ }
+    ensures no_bad_log { (place : ℕ) → result ≡ ServeEnd.BadLog place → IsTrue D.tells → ⊥ }
+    ensures too_long { result ≡ ServeEnd.TooLong → IsTrue D.tells → (J : List TheRow) → Keeps J (seen_in store.now) (D.view disk.old)
+        → IsTrue (has_long (served_events (held_by J) (Some cursor))) }
+    ensures counts { O.faults out.old ≤ O.faults out.new }
+{
+    let mut events = store.events(alloc, disk);
+    match backfill::replay(alloc, &mut events, cursor, out) {
+        Ok(_) => ServeEnd::Done,
+        Err(fault) => ServeEnd::of_replay(fault),
+    }
+}
+
+// Writes the messages, read back from the disk of the store's side.
+fn replay_on<D: Disk, O: Sink>(
+    alloc: Global,
+    store: &Store,
+    disk: &mut D,
+    other: &mut D,
+    cursor: u64,
+    out: &mut O,
+) -> ServeEnd
+    requires { IsTrue D.tells → IsKept (seen_in store.now) (view_of_side (seen_in store.now).side (D.view disk.old) (D.view other.old)) }
+    ensures written { IsTrue D.tells → (J : List TheRow) → Keeps J (seen_in store.now) (view_of_side (seen_in store.now).side (D.view disk.old) (D.view other.old))
+        → IsTrue O.tells → IsReplayed result (framed (served (held_by J) (Some cursor))) (O.written out.old) (O.written out.new) }
+    ensures one { Goes Same (D.view disk.old) (D.view disk.new) }
+    ensures two { Goes Same (D.view other.old) (D.view other.new) }
+    ensures disk { result ≡ ServeEnd.Disk → Rose (D.view disk.old).faults (D.view disk.new).faults ⊎ Rose (D.view other.old).faults (D.view other.new).faults }
+    ensures failed { result ≡ ServeEnd.WriteFault → Rose (O.faults out.old) (O.faults out.new) }
+    ensures no_door { result ≡ ServeEnd.Door → ⊥ }
+    ensures no_bad_log { (place : ℕ) → result ≡ ServeEnd.BadLog place → IsTrue D.tells → ⊥ }
+    ensures too_long { result ≡ ServeEnd.TooLong → IsTrue D.tells → (J : List TheRow) → Keeps J (seen_in store.now) (view_of_side (seen_in store.now).side (D.view disk.old) (D.view other.old))
+        → IsTrue (has_long (served_events (held_by J) (Some cursor))) }
+    ensures counts { O.faults out.old ≤ O.faults out.new }
+{
+    match store.side() {
+        Side::One => replay_from(alloc, store, disk, cursor, out),
+        Side::Two => replay_from(alloc, store, other, cursor, out),
+    }
+}
+
+/// Writes each message that [`serve`](crate::serve) sends to a guest with this cursor, behind its length in four bytes, the highest
+/// first. No row of the log is to end past `most`, which is in bytes.
+pub fn replay<D: Disk, O: Sink>(
+    alloc: Global,
+    most: u64,
+    disk: &mut D,
+    other: &mut D,
+    cursor: u64,
+    out: &mut O,
+) -> ServeEnd
+    requires { most ≤ LAST_END }
+    ensures replayed { IsTrue D.tells → (J : List TheRow) → IsPairImageOf J (D.view disk.old).content (D.view other.old).content
+        → Replayed O.tells J cursor (outside (D.view disk.old) (D.view other.old) (O.written out.old)) (outside (D.view disk.new) (D.view other.new) (O.written out.new)) result }
+    ensures shows { IsTrue D.tells → Shows result (D.view disk.old).content (D.view other.old).content }
+    ensures quiet { (place : ℕ) → result ≡ ServeEnd.BadLog place → IsTrue D.tells → IsTrue O.tells → O.written out.new ≡ O.written out.old }
+    ensures caused { IsCausedBy (Rose (D.view disk.old).faults (D.view disk.new).faults ⊎ Rose (D.view other.old).faults (D.view other.new).faults) (Rose (O.faults out.old) (O.faults out.new)) ⊥ result }
+    ensures disk_counts { (D.view disk.old).faults ≤ (D.view disk.new).faults }
+    ensures other_counts { (D.view other.old).faults ≤ (D.view other.new).faults }
+    ensures out_counts { O.faults out.old ≤ O.faults out.new }
+{
+    match Store::open(alloc, disk, other, most) {
+        Ok(store) => replay_on(alloc, &store, disk, other, cursor, out),
+        Err(fault) => ServeEnd::of_opening(fault),
+    }
+}
