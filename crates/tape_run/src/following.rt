@@ -92,9 +92,7 @@ fn take_open<D: Disk, P: Judges, R: Repos, C: Clock, F: Feed, O: Sink>(
             Err(end) => return end,
         };
         let group = [message];
-        match take_group(
-            alloc, store, disk, &group, judges, repos, clock, tally, out,
-        ) {
+        match take_group(alloc, store, disk, &group, judges, repos, clock, tally, out) {
             Ok(()) => {}
             Err(end) => return end,
         }
