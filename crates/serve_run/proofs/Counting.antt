@@ -1,5 +1,5 @@
 -- While guests are served, and how that ends.
-use Rattle.std.proofs.Common.{◌≡◌, ◌∙◌, ◌⊎◌, ⊎_elim, inl, inr, ℕ, ◌+◌, ◌-◌, ◌≤◌, ◌<◌, List, [], ◌∷◌, ◌++◌, length, Bool, Option, Some, None, Result, Ok, Err, IsTrue, refl, sym, ap, arith, append_assoc, length-append, subst}
+use Rattle.std.proofs.Common.{◌≡◌, ◌∙◌, ◌⊎◌, ⊎_elim, inl, inr, ℕ, ◌+◌, ◌-◌, ◌≤◌, ◌<◌, List, [], ◌∷◌, ◌++◌, length, Bool, Option, Some, None, Result, Ok, Err, IsTrue, IfErr, OnOk, refl, sym, ap, arith, append_assoc, length-append, subst}
 use Rattle.std.proofs.lemmas.List.{append-nil}
 use Rattle.event_window.specs.Held.{Held}
 use Rattle.relay_disk.specs.Disk.{View, Goes, Same}
@@ -15,7 +15,7 @@ use Rattle.relay_store.specs.Store.{Keeps, StoreState}
 use Rattle.relay_run.proofs.Writing.{front_of_first, front_of_second}
 use Rattle.serve_run.specs.AtDoor.{AtDoor, IsOver, IsStill, Met, Visited}
 use Rattle.serve_run.specs.Ends.{IsCausedBy, IsOfMeeting, IsUnwritten}
-use Rattle.serve_run.specs.Guests.{GuestsServed, IsBehind, IsTold}
+use Rattle.serve_run.specs.Guests.{GuestsServed, IsBehind, IsTold, end_in}
 use Rattle.serve_run.specs.Sessions.{Visit, end_line, lines_behind, session_line}
 use Rattle.serve_run.specs.declared.end.ServeEnd.{ServeEnd}
 use Rattle.serve_run.specs.declared.session.Session.{Session}
@@ -62,7 +62,8 @@ still_same tells door = λ _. (refl, refl)
 -- the lines of these visits and of one more
 lines_then : (visits : List Visit) (v : Visit) (served : ℕ) (session : Session) → served ≡ length visits → v.session ≡ session → lines_behind 0 (visits ++ v ∷ []) ≡ lines_behind 0 visits ++ session_line (served + 1) session
 lines_then visits v served session number is =
-    lines_more 0 visits v ∙ ap (λ (n : ℕ). lines_behind 0 visits ++ session_line (n + 1) v.session) (sym number) ∙ ap (λ (s : Session). lines_behind 0 visits ++ session_line (served + 1) s) is
+    let next : 0 + length visits + 1 ≡ served + 1 = omega (arith, number) in
+    lines_more 0 visits v ∙ ap (λ (n : ℕ). lines_behind 0 visits ++ session_line n v.session) next ∙ ap (λ (s : Session). lines_behind 0 visits ++ session_line (served + 1) s) is
 
 told_behind : (tells : Bool) (held : Held) (all : Type 0) (end : ServeEnd) (old new : AtDoor) → IsUnwritten end → IsStill tells old new ⊎ IsOver tells old new → IsBehind tells held all end old new
 told_behind tells held all ServeEnd.Done old new un was = absurd un
@@ -169,6 +170,20 @@ module _ (door_tells output_tells : Bool) (count served : ℕ) (held : Held) (do
         (subst (λ (n : ℕ). AddsFront old then (lines_behind 0 serving.visits ++ end_line n)) serving.number
         (front_of_second old now then (lines_behind 0 serving.visits) (end_line served) (serving.written t) (front t)));
   }
+
+  -- however the last line ended
+  pub serving_end : (then : List ℕ) (result : Result (Unit {0}) ServeEnd) → Met door_tells held (count - served) mid new (Ok None) → OnOk result (IsTrue output_tells → then ≡ now ++ end_line served)
+      → IfErr result (λ end. IsUnwritten end × (IsTrue output_tells → AddsFront now then (end_line served))) → GuestsServed door_tells output_tells count held door new old then (end_in result)
+  serving_end then (Ok done) met writes front = serving_done then met writes
+  serving_end then (Err end) met writes front = serving_untold then end met front.0 front.1
+
+-- a fault as it is handed up
+abbrev pub ended : ServeEnd → Result (Unit {0}) ServeEnd
+ended end = Err end
+
+-- what holds of each end holds of a result that is one
+pub ended_too : (P : ServeEnd → Type 0) (result : Result (Unit {0}) ServeEnd) (end : ServeEnd) → result ≡ ended end → P end → P (end_in result)
+ended_too P result end is holds = subst (λ (r : Result (Unit {0}) ServeEnd). P (end_in r)) (sym is) holds
 
 -- ---- causes
 
