@@ -1,5 +1,5 @@
 -- While guests are served, and how that ends.
-use Rattle.std.proofs.Common.{◌≡◌, ◌∙◌, ◌⊎◌, ⊎_elim, inl, inr, ℕ, ◌+◌, ◌-◌, ◌≤◌, ◌<◌, List, [], ◌∷◌, ◌++◌, length, Bool, Option, Some, None, Result, Ok, Err, IsTrue, IfErr, OnOk, refl, sym, ap, arith, append_assoc, length-append, subst}
+use Rattle.std.proofs.Common.{◌≡◌, ◌∙◌, ◌⊎◌, ⊎_elim, inl, inr, ℕ, ◌+◌, ◌-◌, ◌≤◌, ◌<◌, List, [], ◌∷◌, ◌++◌, length, Bool, Some, None, Result, Ok, Err, IsTrue, IfErr, OnOk, refl, sym, ap, arith, append_assoc, length-append, subst}
 use Rattle.std.proofs.lemmas.List.{append-nil}
 use Rattle.event_window.specs.Held.{Held}
 use Rattle.relay_disk.specs.Disk.{View, Goes, Same}
@@ -12,9 +12,10 @@ use Rattle.relay_io.specs.Streams.{AddsFront}
 use Rattle.relay_row.specs.declared.row.Row.{Row}
 use Rattle.relay_store.specs.Journals.{bytes_of}
 use Rattle.relay_store.specs.Store.{Keeps, StoreState}
+use Rattle.relay_store.specs.declared.fault.StoreFault.{StoreFault}
 use Rattle.relay_run.proofs.Writing.{front_of_first, front_of_second}
 use Rattle.serve_run.specs.AtDoor.{AtDoor, IsOver, IsStill, Met, Visited}
-use Rattle.serve_run.specs.Ends.{IsCausedBy, IsOfMeeting, IsUnwritten}
+use Rattle.serve_run.specs.Ends.{IsCausedBy, IsOfMeeting, IsUnwritten, end_of_opening}
 use Rattle.serve_run.specs.Guests.{GuestsServed, IsBehind, IsTold, end_in}
 use Rattle.serve_run.specs.Sessions.{Visit, end_line, lines_behind, session_line}
 use Rattle.serve_run.specs.declared.end.ServeEnd.{ServeEnd}
@@ -53,7 +54,11 @@ pub record IsServing (door_tells output_tells : Bool) (count served : ℕ) (held
 
 pub serving_none : (door_tells output_tells : Bool) (count : ℕ) (held : Held) (door : AtDoor) (old : List ℕ) → IsServing door_tells output_tells count 0 held door door old old
 serving_none door_tells output_tells count held door old = record {
-  visits = []; visited = visited_none door_tells held door; number = refl; few = omega arith; written = λ _. sym (append-nil old);
+  visits = [];
+  visited = visited_none door_tells held door;
+  number = refl;
+  few = omega arith;
+  written = λ _. sym (append-nil old);
 }
 
 still_same : (tells : Bool) (door : AtDoor) → IsStill tells door door
@@ -123,13 +128,28 @@ module _ (door_tells output_tells : Bool) (count served : ℕ) (held : Held) (do
   serving_stopped ServeEnd.Done of met = absurd of
   serving_stopped ServeEnd.WriteFault of met = absurd of
   serving_stopped ServeEnd.Door of met = record {
-    visits = serving.visits; mid = mid; visited = serving.visited; few = omega (arith, serving.few, serving.number); behind = met; written = serving.written;
+    visits = serving.visits;
+    mid = mid;
+    visited = serving.visited;
+    few = omega (arith, serving.few, serving.number);
+    behind = met;
+    written = serving.written;
   }
   serving_stopped ServeEnd.Disk of met = record {
-    visits = serving.visits; mid = mid; visited = serving.visited; few = omega (arith, serving.few, serving.number); behind = met; written = serving.written;
+    visits = serving.visits;
+    mid = mid;
+    visited = serving.visited;
+    few = omega (arith, serving.few, serving.number);
+    behind = met;
+    written = serving.written;
   }
   serving_stopped (ServeEnd.BadLog p) of met = record {
-    visits = serving.visits; mid = mid; visited = serving.visited; few = omega (arith, serving.few, serving.number); behind = met; written = serving.written;
+    visits = serving.visits;
+    mid = mid;
+    visited = serving.visited;
+    few = omega (arith, serving.few, serving.number);
+    behind = met;
+    written = serving.written;
   }
   serving_stopped ServeEnd.Memory of met = record {
     visits = serving.visits;
@@ -204,3 +224,40 @@ unwritten_causes disk write door ServeEnd.Disk of failed = absurd of
 unwritten_causes disk write door (ServeEnd.BadLog p) of failed = absurd of
 unwritten_causes disk write door ServeEnd.Memory of failed = tt
 unwritten_causes disk write door ServeEnd.TooLong of failed = absurd of
+
+-- ---- disks that weren't opened
+
+none_behind : (tells : Bool) (held : Held) (all : Type 0) (fault : StoreFault) (door : AtDoor) → IsBehind tells held all (end_of_opening fault) door door
+none_behind tells held all StoreFault.Disk door = inl (still_same tells door)
+none_behind tells held all (StoreFault.BadLog p) door = inl (still_same tells door)
+none_behind tells held all (StoreFault.Full e) door = inl (still_same tells door)
+none_behind tells held all StoreFault.SeqEnd door = inl (still_same tells door)
+none_behind tells held all StoreFault.Authority door = inl (still_same tells door)
+none_behind tells held all StoreFault.Repos door = inl (still_same tells door)
+none_behind tells held all StoreFault.Memory door = inl (still_same tells door)
+none_behind tells held all StoreFault.Clock door = inl (still_same tells door)
+
+none_told : (fault : StoreFault) (last old : List ℕ) → IsTold (end_of_opening fault) [] last old old
+none_told StoreFault.Disk last old = sym (append-nil old)
+none_told (StoreFault.BadLog p) last old = sym (append-nil old)
+none_told (StoreFault.Full e) last old = (0, omega arith, sym (append-nil old))
+none_told StoreFault.SeqEnd last old = (0, omega arith, sym (append-nil old))
+none_told StoreFault.Authority last old = (0, omega arith, sym (append-nil old))
+none_told StoreFault.Repos last old = (0, omega arith, sym (append-nil old))
+none_told StoreFault.Memory last old = (0, omega arith, sym (append-nil old))
+none_told StoreFault.Clock last old = (0, omega arith, sym (append-nil old))
+
+none_served : (door_tells output_tells : Bool) (count : ℕ) (held : Held) (door : AtDoor) (old : List ℕ) (fault : StoreFault) → GuestsServed door_tells output_tells count held door door old old (end_of_opening fault)
+none_served door_tells output_tells count held door old fault = record {
+  visits = [];
+  mid = door;
+  visited = visited_none door_tells held door;
+  few = omega arith;
+  behind = none_behind door_tells held (0 ≡ count) fault door;
+  written = λ _. none_told fault (end_line 0) old;
+}
+
+-- nobody was served
+pub served_unopened : (door_tells output_tells : Bool) (count : ℕ) (held : Held) (door : AtDoor) (old : List ℕ) (fault : StoreFault) (end : ServeEnd) → end ≡ end_of_opening fault → GuestsServed door_tells output_tells count held door door old old end
+served_unopened door_tells output_tells count held door old fault end is =
+    subst (λ (e : ServeEnd). GuestsServed door_tells output_tells count held door door old old e) (sym is) (none_served door_tells output_tells count held door old fault)
