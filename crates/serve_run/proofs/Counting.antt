@@ -1,5 +1,5 @@
 -- While guests are served, and how that ends.
-use Rattle.std.proofs.Common.{◌≡◌, ◌∙◌, ◌⊎◌, ⊎_elim, inl, inr, ℕ, ◌+◌, ◌-◌, ◌≤◌, ◌<◌, List, [], ◌∷◌, ◌++◌, length, Bool, Option, Some, None, Result, Ok, Err, IsTrue, refl, sym, ap, arith, append_assoc, length-append, subst}
+use Rattle.std.proofs.Common.{◌≡◌, ◌∙◌, ◌⊎◌, ⊎_elim, inl, inr, ℕ, ◌+◌, ◌-◌, ◌≤◌, ◌<◌, List, [], ◌∷◌, ◌++◌, length, Bool, Some, None, Result, Ok, Err, IsTrue, IfErr, OnOk, refl, sym, ap, arith, append_assoc, length-append, subst}
 use Rattle.std.proofs.lemmas.List.{append-nil}
 use Rattle.event_window.specs.Held.{Held}
 use Rattle.relay_disk.specs.Disk.{View, Goes, Same}
@@ -12,10 +12,11 @@ use Rattle.relay_io.specs.Streams.{AddsFront}
 use Rattle.relay_row.specs.declared.row.Row.{Row}
 use Rattle.relay_store.specs.Journals.{bytes_of}
 use Rattle.relay_store.specs.Store.{Keeps, StoreState}
+use Rattle.relay_store.specs.declared.fault.StoreFault.{StoreFault}
 use Rattle.relay_run.proofs.Writing.{front_of_first, front_of_second}
 use Rattle.serve_run.specs.AtDoor.{AtDoor, IsOver, IsStill, Met, Visited}
-use Rattle.serve_run.specs.Ends.{IsCausedBy, IsOfMeeting, IsUnwritten}
-use Rattle.serve_run.specs.Guests.{GuestsServed, IsBehind, IsTold}
+use Rattle.serve_run.specs.Ends.{IsCausedBy, IsOfMeeting, IsUnwritten, end_of_opening}
+use Rattle.serve_run.specs.Guests.{GuestsServed, IsBehind, IsTold, end_in}
 use Rattle.serve_run.specs.Sessions.{Visit, end_line, lines_behind, session_line}
 use Rattle.serve_run.specs.declared.end.ServeEnd.{ServeEnd}
 use Rattle.serve_run.specs.declared.session.Session.{Session}
@@ -53,7 +54,11 @@ pub record IsServing (door_tells output_tells : Bool) (count served : ℕ) (held
 
 pub serving_none : (door_tells output_tells : Bool) (count : ℕ) (held : Held) (door : AtDoor) (old : List ℕ) → IsServing door_tells output_tells count 0 held door door old old
 serving_none door_tells output_tells count held door old = record {
-  visits = []; visited = visited_none door_tells held door; number = refl; few = omega arith; written = λ _. sym (append-nil old);
+  visits = [];
+  visited = visited_none door_tells held door;
+  number = refl;
+  few = omega arith;
+  written = λ _. sym (append-nil old);
 }
 
 still_same : (tells : Bool) (door : AtDoor) → IsStill tells door door
@@ -62,7 +67,8 @@ still_same tells door = λ _. (refl, refl)
 -- the lines of these visits and of one more
 lines_then : (visits : List Visit) (v : Visit) (served : ℕ) (session : Session) → served ≡ length visits → v.session ≡ session → lines_behind 0 (visits ++ v ∷ []) ≡ lines_behind 0 visits ++ session_line (served + 1) session
 lines_then visits v served session number is =
-    lines_more 0 visits v ∙ ap (λ (n : ℕ). lines_behind 0 visits ++ session_line (n + 1) v.session) (sym number) ∙ ap (λ (s : Session). lines_behind 0 visits ++ session_line (served + 1) s) is
+    let next : 0 + length visits + 1 ≡ served + 1 = omega (arith, number) in
+    lines_more 0 visits v ∙ ap (λ (n : ℕ). lines_behind 0 visits ++ session_line n v.session) next ∙ ap (λ (s : Session). lines_behind 0 visits ++ session_line (served + 1) s) is
 
 told_behind : (tells : Bool) (held : Held) (all : Type 0) (end : ServeEnd) (old new : AtDoor) → IsUnwritten end → IsStill tells old new ⊎ IsOver tells old new → IsBehind tells held all end old new
 told_behind tells held all ServeEnd.Done old new un was = absurd un
@@ -122,13 +128,28 @@ module _ (door_tells output_tells : Bool) (count served : ℕ) (held : Held) (do
   serving_stopped ServeEnd.Done of met = absurd of
   serving_stopped ServeEnd.WriteFault of met = absurd of
   serving_stopped ServeEnd.Door of met = record {
-    visits = serving.visits; mid = mid; visited = serving.visited; few = omega (arith, serving.few, serving.number); behind = met; written = serving.written;
+    visits = serving.visits;
+    mid = mid;
+    visited = serving.visited;
+    few = omega (arith, serving.few, serving.number);
+    behind = met;
+    written = serving.written;
   }
   serving_stopped ServeEnd.Disk of met = record {
-    visits = serving.visits; mid = mid; visited = serving.visited; few = omega (arith, serving.few, serving.number); behind = met; written = serving.written;
+    visits = serving.visits;
+    mid = mid;
+    visited = serving.visited;
+    few = omega (arith, serving.few, serving.number);
+    behind = met;
+    written = serving.written;
   }
   serving_stopped (ServeEnd.BadLog p) of met = record {
-    visits = serving.visits; mid = mid; visited = serving.visited; few = omega (arith, serving.few, serving.number); behind = met; written = serving.written;
+    visits = serving.visits;
+    mid = mid;
+    visited = serving.visited;
+    few = omega (arith, serving.few, serving.number);
+    behind = met;
+    written = serving.written;
   }
   serving_stopped ServeEnd.Memory of met = record {
     visits = serving.visits;
@@ -170,6 +191,20 @@ module _ (door_tells output_tells : Bool) (count served : ℕ) (held : Held) (do
         (front_of_second old now then (lines_behind 0 serving.visits) (end_line served) (serving.written t) (front t)));
   }
 
+  -- however the last line ended
+  pub serving_end : (then : List ℕ) (result : Result (Unit {0}) ServeEnd) → Met door_tells held (count - served) mid new (Ok None) → OnOk result (IsTrue output_tells → then ≡ now ++ end_line served)
+      → IfErr result (λ end. IsUnwritten end × (IsTrue output_tells → AddsFront now then (end_line served))) → GuestsServed door_tells output_tells count held door new old then (end_in result)
+  serving_end then (Ok done) met writes front = serving_done then met writes
+  serving_end then (Err end) met writes front = serving_untold then end met front.0 front.1
+
+-- a fault as it is handed up
+abbrev pub ended : ServeEnd → Result (Unit {0}) ServeEnd
+ended end = Err end
+
+-- what holds of each end holds of a result that is one
+pub ended_too : (P : ServeEnd → Type 0) (result : Result (Unit {0}) ServeEnd) (end : ServeEnd) → result ≡ ended end → P end → P (end_in result)
+ended_too P result end is holds = subst (λ (r : Result (Unit {0}) ServeEnd). P (end_in r)) (sym is) holds
+
 -- ---- causes
 
 pub meeting_causes : (disk write door : Type 0) (end : ServeEnd) → IsOfMeeting end → (end ≡ ServeEnd.Disk → disk) → (end ≡ ServeEnd.Door → door) → IsCausedBy disk write door end
@@ -189,3 +224,40 @@ unwritten_causes disk write door ServeEnd.Disk of failed = absurd of
 unwritten_causes disk write door (ServeEnd.BadLog p) of failed = absurd of
 unwritten_causes disk write door ServeEnd.Memory of failed = tt
 unwritten_causes disk write door ServeEnd.TooLong of failed = absurd of
+
+-- ---- disks that weren't opened
+
+none_behind : (tells : Bool) (held : Held) (all : Type 0) (fault : StoreFault) (door : AtDoor) → IsBehind tells held all (end_of_opening fault) door door
+none_behind tells held all StoreFault.Disk door = inl (still_same tells door)
+none_behind tells held all (StoreFault.BadLog p) door = inl (still_same tells door)
+none_behind tells held all (StoreFault.Full e) door = inl (still_same tells door)
+none_behind tells held all StoreFault.SeqEnd door = inl (still_same tells door)
+none_behind tells held all StoreFault.Authority door = inl (still_same tells door)
+none_behind tells held all StoreFault.Repos door = inl (still_same tells door)
+none_behind tells held all StoreFault.Memory door = inl (still_same tells door)
+none_behind tells held all StoreFault.Clock door = inl (still_same tells door)
+
+none_told : (fault : StoreFault) (last old : List ℕ) → IsTold (end_of_opening fault) [] last old old
+none_told StoreFault.Disk last old = sym (append-nil old)
+none_told (StoreFault.BadLog p) last old = sym (append-nil old)
+none_told (StoreFault.Full e) last old = (0, omega arith, sym (append-nil old))
+none_told StoreFault.SeqEnd last old = (0, omega arith, sym (append-nil old))
+none_told StoreFault.Authority last old = (0, omega arith, sym (append-nil old))
+none_told StoreFault.Repos last old = (0, omega arith, sym (append-nil old))
+none_told StoreFault.Memory last old = (0, omega arith, sym (append-nil old))
+none_told StoreFault.Clock last old = (0, omega arith, sym (append-nil old))
+
+none_served : (door_tells output_tells : Bool) (count : ℕ) (held : Held) (door : AtDoor) (old : List ℕ) (fault : StoreFault) → GuestsServed door_tells output_tells count held door door old old (end_of_opening fault)
+none_served door_tells output_tells count held door old fault = record {
+  visits = [];
+  mid = door;
+  visited = visited_none door_tells held door;
+  few = omega arith;
+  behind = none_behind door_tells held (0 ≡ count) fault door;
+  written = λ _. none_told fault (end_line 0) old;
+}
+
+-- nobody was served
+pub served_unopened : (door_tells output_tells : Bool) (count : ℕ) (held : Held) (door : AtDoor) (old : List ℕ) (fault : StoreFault) (end : ServeEnd) → end ≡ end_of_opening fault → GuestsServed door_tells output_tells count held door door old old end
+served_unopened door_tells output_tells count held door old fault end is =
+    subst (λ (e : ServeEnd). GuestsServed door_tells output_tells count held door door old old e) (sym is) (none_served door_tells output_tells count held door old fault)

@@ -1,5 +1,5 @@
 -- Guests who come, one after another.
-use Rattle.std.proofs.Common.{◌≡◌, ◌∙◌, ◌⊎◌, inl, inr, ℕ, ◌+◌, ◌≤◌, ◌<◌, List, [], ◌∷◌, ◌++◌, length, Bool, Option, Some, None, Result, Ok, Err, IsTrue, IfOk, IfErr, IfSome, refl, sym, ap, arith, append_assoc, subst}
+use Rattle.std.proofs.Common.{◌≡◌, ◌∙◌, inr, ℕ, ◌+◌, ◌≤◌, List, [], ◌∷◌, ◌++◌, length, Bool, Option, Some, None, Result, Ok, Err, IsTrue, IfOk, IfErr, IfSome, refl, sym, ap, arith, append_assoc, subst}
 use Rattle.std.proofs.lemmas.List.{append-nil}
 use Rattle.event_window.specs.Held.{Held}
 use Rattle.relay_io.specs.Guests.{next_of, others_of}
@@ -7,7 +7,7 @@ use Rattle.relay_io.specs.declared.door.Guest.{Guest}
 use Rattle.relay_io.specs.declared.door.Turn.{Turn}
 use Rattle.backfill.specs.Serving.{sendings}
 use Rattle.backfill.specs.Target.{cursor_in}
-use Rattle.serve_run.specs.AtDoor.{AtDoor, IsBroken, IsOver, IsStill, IsStopped, Met, Received, Sat, Visited}
+use Rattle.serve_run.specs.AtDoor.{AtDoor, IsBroken, Met, Received, Sat, Visited}
 use Rattle.serve_run.specs.Ends.{IsOfSession}
 use Rattle.serve_run.specs.Sessions.{AllVisits, AreCounted, IsCounted, IsVisit, Visit, guests_of, lines_behind, session_line, turns_of}
 use Rattle.serve_run.specs.declared.end.ServeEnd.{ServeEnd}
@@ -49,13 +49,16 @@ module _ (tells : Bool) (held : Held) (most : ℕ) (guest : Guest) (old mid new 
   left t = same t ∙ gone t
 
   met_session : (session : Session) → IsCounted session old.faults new.faults → Received tells held guest mid.turns new.turns (Ok (Some session)) → Met tells held most old new (Ok (Some session))
-  met_session session counted received =
-      (record { guest = guest; sent = received.0; session = session; faults = new.faults }, refl, record {
-        each = (received.1, tt);
-        guests = λ t. came_first guest old.guests (next t) (no_end held guest received.0 session received.1) ∙ ap (λ (l : List Guest). guest ∷ l) (sym (left t));
-        turns = λ t. then_sent old.turns mid.turns new.turns guest received.0 (came t) (received.2 t) ∙ ap (λ (l : List Turn). old.turns ++ Turn.Came guest ∷ l) (sym (append-nil (sendings received.0)));
-        counted = (counted, omega arith);
-      })
+  met_session session counted received = (
+    record { guest = guest; sent = received.0; session = session; faults = new.faults },
+    refl,
+    record {
+      each = (received.1, tt);
+      guests = λ t. came_first guest old.guests (next t) (no_end held guest received.0 session received.1) ∙ ap (λ (l : List Guest). guest ∷ l) (sym (left t));
+      turns = λ t. then_sent old.turns mid.turns new.turns guest received.0 (came t) (received.2 t) ∙ ap (λ (l : List Turn). old.turns ++ Turn.Came guest ∷ l) (sym (append-nil (sendings received.0)));
+      counted = (counted, omega arith);
+    },
+  )
 
   met_nobody : Received tells held guest mid.turns new.turns (Ok None) → Met tells held most old new (Ok None)
   met_nobody received = inr (λ t. (

@@ -1,10 +1,10 @@
 -- What a guest was sent, and what comes of it.
-use Rattle.std.proofs.Common.{◌≡◌, ◌∙◌, ◌⊎◌, inl, inr, ℕ, ◌+◌, ◌-◌, List, [], ◌∷◌, ◌++◌, length, Bool, true, false, nat_lt, Option, Some, None, Result, Ok, Err, IsTrue, refl, sym, ap, arith, length-append, subst, if◌then◌else◌}
+use Rattle.std.proofs.Common.{◌≡◌, ◌∙◌, ◌⊎◌, inl, inr, ℕ, ◌-◌, List, [], ◌++◌, length, Bool, Option, Some, None, Result, Ok, Err, IsTrue, refl, sym, ap, arith, length-append, subst}
 use Rattle.std.proofs.lemmas.List.{append-nil}
 use Rattle.event_window.specs.Held.{Held}
 use Rattle.relay_io.specs.declared.door.Turn.{Turn}
 use Rattle.backfill.specs.Served.{is_future, notice, served, served_events}
-use Rattle.backfill.specs.Serving.{Sends, Serves, sendings}
+use Rattle.backfill.specs.Serving.{Serves, sendings}
 use Rattle.backfill.specs.declared.serve_fault.ServeFault.{ServeFault}
 use Rattle.backfill.specs.declared.serving.Served.{Served}
 use Rattle.backfill.specs.declared.target_fault.TargetFault.{TargetFault}

@@ -1,5 +1,5 @@
 -- What happens at a door where guests are served (own).
-use Rattle.std.specs.Prelude.{◌≡◌, ◌⊎◌, ◌<◌, ℕ, Bool, List, [], ◌∷◌, ◌++◌, length, Option, Some, None, Result, Ok, Err, IsTrue}
+use Rattle.std.specs.Prelude.{◌≡◌, ◌⊎◌, ℕ, Bool, List, [], ◌∷◌, ◌++◌, Option, Some, None, Result, Ok, Err, IsTrue}
 use Rattle.event_window.specs.Held.{Held}
 use Rattle.relay_io.specs.Guests.{next_of, others_of}
 use Rattle.relay_io.specs.declared.door.Guest.{Guest}
@@ -7,7 +7,6 @@ use Rattle.relay_io.specs.declared.door.Turn.{Turn}
 use Rattle.backfill.specs.Serving.{sendings}
 use Rattle.backfill.specs.Target.{cursor_in}
 use Rattle.backfill.specs.declared.target_fault.TargetFault.{TargetFault}
-use Rattle.serve_run.specs.Ends.{IsOfMeeting}
 use Rattle.serve_run.specs.Sessions.{AllVisits, AreCounted, IsCut, IsFailed, IsVisit, IsWhole, Visit, guests_of, turns_of}
 use Rattle.serve_run.specs.declared.end.ServeEnd.{ServeEnd}
 use Rattle.serve_run.specs.declared.session.Session.{Session}

@@ -1,4 +1,4 @@
-use Rattle.std.proofs.Common.{◌≤◌, ◌-◌, ℕ, List, IsTrue}
+use Rattle.std.proofs.Common.{◌≤◌, ◌-◌, List, IsTrue}
 use Rattle.relay_disk.specs.Disk.{Goes, Same}
 use Rattle.gate_log.specs.Pick.{view_of_side}
 use Rattle.relay_row.specs.declared.row.Row.{Row}

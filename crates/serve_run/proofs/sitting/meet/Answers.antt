@@ -1,4 +1,4 @@
-use Rattle.std.proofs.Common.{ℕ, IfOk, IfSome, sym, subst}
+use Rattle.std.proofs.Common.{ℕ, IfOk, IfSome, subst}
 use Rattle.relay_store.specs.Shown.{held_by}
 use Rattle.serve_run.specs.AtDoor.{at_door}
 use Rattle.serve_run.specs.Sessions.{IsCounted}
