@@ -1,0 +1,92 @@
+-- What following a host did on two disks, from what it did on the one that is picked.
+use Rattle.std.proofs.Common.{◌≡◌, ℕ, ◌⊎◌, Bool, false, List, ◌++◌, refl, sym, subst}
+use Rattle.relay_row.specs.Folds.{cursor}
+use Rattle.relay_row.specs.declared.row.Row.{Row}
+use Rattle.relay_step.specs.Steps.{Step}
+use Rattle.relay_store.specs.Batches.{sent}
+use Rattle.relay_store.specs.declared.fault.StoreFault.{StoreFault}
+use Rattle.relay_store.specs.declared.message.Message.{Message}
+use Rattle.tape_run.specs.Ends.{AreExtraAt, end_of_store}
+use Rattle.tape_run.specs.Feeds.{IsFeedEnd, IsOnFeed}
+use Rattle.tape_run.specs.Tells.{Tells}
+use Rattle.tape_run.specs.declared.end.TapeEnd.{TapeEnd}
+use Rattle.ingest_run.specs.Ends.{IsCausedBy, MayEnd, NoneOf, Shows}
+use Rattle.ingest_run.specs.Ingested.{Ingested, PairScene}
+use Rattle.follow_run.specs.Ends.{feed_end, tape_end}
+use Rattle.follow_run.specs.Followed.{Followed}
+use Rattle.follow_run.specs.declared.end.FeedEnd.{FeedEnd}
+
+-- an end that a feed brings is kept
+end_kept : (feed_tells : Bool) (host : List ℕ) (most : ℕ) (steps : List Step) (rest : List (List ℕ)) (end : TapeEnd) → IsFeedEnd feed_tells host most steps rest end → end ≡ tape_end (feed_end end)
+end_kept feed_tells host most steps rest TapeEnd.Done is = refl
+end_kept feed_tells host most steps rest (TapeEnd.Bad place) is = absurd is
+end_kept feed_tells host most steps rest TapeEnd.ReadFault is = refl
+end_kept feed_tells host most steps rest TapeEnd.WriteFault is = refl
+end_kept feed_tells host most steps rest TapeEnd.TooLong is = absurd is
+end_kept feed_tells host most steps rest (TapeEnd.Store fault) is = refl
+end_kept feed_tells host most steps rest TapeEnd.Memory is = refl
+
+-- so is one of the store
+pub fault_kept : (fault : StoreFault) → end_of_store fault ≡ tape_end (feed_end (end_of_store fault))
+fault_kept StoreFault.Disk = refl
+fault_kept (StoreFault.BadLog place) = refl
+fault_kept (StoreFault.Full e) = refl
+fault_kept StoreFault.SeqEnd = refl
+fault_kept StoreFault.Authority = refl
+fault_kept StoreFault.Repos = refl
+fault_kept StoreFault.Memory = refl
+fault_kept StoreFault.Clock = refl
+
+-- what holds of an end of the store holds of the feed's
+pub kept_of_store : (P : TapeEnd → Type 0) (fault : StoreFault) (taking : TapeEnd) (end : FeedEnd) → taking ≡ end_of_store fault → end ≡ feed_end taking → P (end_of_store fault) → P (tape_end end)
+kept_of_store P fault taking end taking_is end_is holds =
+    subst (λ (e : FeedEnd). P (tape_end e)) (sym end_is) (subst (λ (e : TapeEnd). P (tape_end (feed_end e))) (sym taking_is) (subst P (fault_kept fault) holds))
+
+pub cause_kept : (disk read write repos clock : Type 0) (taking : TapeEnd) (end : FeedEnd) → end ≡ feed_end taking → IsCausedBy disk read write repos clock taking → IsCausedBy disk read write repos clock (tape_end end)
+cause_kept disk read write repos clock taking end is caused = subst (λ (e : FeedEnd). IsCausedBy disk read write repos clock (tape_end e)) (sym is) (by_end taking caused)
+  where
+    by_end : (e : TapeEnd) → IsCausedBy disk read write repos clock e → IsCausedBy disk read write repos clock (tape_end (feed_end e))
+    by_end TapeEnd.Done h = tt
+    by_end (TapeEnd.Bad place) h = tt
+    by_end TapeEnd.ReadFault h = h
+    by_end TapeEnd.WriteFault h = h
+    by_end TapeEnd.TooLong h = tt
+    by_end (TapeEnd.Store fault) h = h
+    by_end TapeEnd.Memory h = tt
+
+module _ (t : Tells) (feed_tells : Bool) (host : List ℕ) (most count : ℕ) (given : ℕ → List (List ℕ)) (left : List (List ℕ)) (J : List Row) (old new : PairScene) where
+  -- messages that were taken so, and are on the feed
+  abbrev Both : TapeEnd → Type 0
+  Both end = (taken : Ingested t false most 0 J old new end)
+      × IsOnFeed feed_tells host count (given (cursor host J)) left (taken.steps ++ (taken.under ++ taken.extra)) (sent (taken.steps ++ (taken.under ++ taken.extra)) ++ taken.behind) end
+
+  pub followed : (taking : TapeEnd) (end : FeedEnd) → end ≡ feed_end taking → (taken : Ingested t false most 0 J old new taking) (steps : List Step) (behind : List Message)
+      → (taken.steps ++ (taken.under ++ taken.extra) ≡ steps) × (taken.behind ≡ behind) → IsOnFeed feed_tells host count (given (cursor host J)) left steps (sent steps ++ behind) taking → Followed t feed_tells host most count given left J old new end
+  followed taking end is taken steps behind takes on =
+      let both : Both taking = (
+        taken,
+        subst (λ (l : List Step). IsOnFeed feed_tells host count (given (cursor host J)) left l (sent l ++ taken.behind) taking) (sym takes.0)
+            (subst (λ (l : List Message). IsOnFeed feed_tells host count (given (cursor host J)) left steps (sent steps ++ l) taking) (sym takes.1) on),
+      ) in
+      let kept : Both (tape_end end) = subst (λ (e : FeedEnd). Both (tape_end e)) (sym is) (subst Both (end_kept feed_tells host count steps on.rest taking on.ends) both) in
+      record { taken = kept.0; feed = kept.1 }
+
+-- ---- what ends it
+
+-- behind an opening, what no failure brings
+pub completes : (disk read write repos clock : Type 0) (feed_tells : Bool) (host : List ℕ) (most : ℕ) (steps over : List Step) (rest : List (List ℕ)) (end : TapeEnd) → IsFeedEnd feed_tells host most steps rest end → AreExtraAt end over
+    → IsCausedBy disk read write repos clock end → NoneOf disk read write repos clock → MayEnd end
+completes disk read write repos clock feed_tells host most steps over rest TapeEnd.Done ends which caused none = tt
+completes disk read write repos clock feed_tells host most steps over rest (TapeEnd.Bad place) ends which caused none = absurd ends
+completes disk read write repos clock feed_tells host most steps over rest TapeEnd.ReadFault ends which caused none = absurd (none.no_read caused)
+completes disk read write repos clock feed_tells host most steps over rest TapeEnd.WriteFault ends which caused none = absurd (none.no_write caused)
+completes disk read write repos clock feed_tells host most steps over rest TapeEnd.TooLong ends which caused none = absurd ends
+completes disk read write repos clock feed_tells host most steps over rest TapeEnd.Memory ends which caused none = tt
+completes disk read write repos clock feed_tells host most steps over rest (TapeEnd.Store StoreFault.Disk) ends which caused none = absurd (none.no_disk caused)
+completes disk read write repos clock feed_tells host most steps over rest (TapeEnd.Store (StoreFault.BadLog p)) ends which caused none = absurd which
+completes disk read write repos clock feed_tells host most steps over rest (TapeEnd.Store (StoreFault.Full e)) ends which caused none = tt
+completes disk read write repos clock feed_tells host most steps over rest (TapeEnd.Store StoreFault.SeqEnd) ends which caused none = tt
+completes disk read write repos clock feed_tells host most steps over rest (TapeEnd.Store StoreFault.Authority) ends which caused none = tt
+completes disk read write repos clock feed_tells host most steps over rest (TapeEnd.Store StoreFault.Repos) ends which caused none = absurd (none.no_repos caused)
+completes disk read write repos clock feed_tells host most steps over rest (TapeEnd.Store StoreFault.Memory) ends which caused none = absurd which
+completes disk read write repos clock feed_tells host most steps over rest (TapeEnd.Store StoreFault.Clock) ends which caused none = absurd (none.no_clock caused)
