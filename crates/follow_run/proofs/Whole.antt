@@ -1,17 +1,28 @@
 -- What following a host did on two disks, from what it did on the one that is picked.
-use Rattle.std.proofs.Common.{◌≡◌, ℕ, ◌⊎◌, Bool, false, List, ◌++◌, refl, sym, subst}
+use Rattle.std.proofs.Common.{◌≡◌, ◌≤◌, ◌⊎◌, inl, inr, ⊎_elim, ℕ, Bool, false, List, [], ◌++◌, Ok, IsTrue, refl, sym, subst, arith}
+use Rattle.at_cid.specs.Counts.{Rose}
+use Rattle.relay_disk.specs.Disk.{View, IsDisk}
+use Rattle.gate_log.specs.Pick.{other_side}
 use Rattle.relay_row.specs.Folds.{cursor}
 use Rattle.relay_row.specs.declared.row.Row.{Row}
+use Rattle.relay_step.specs.Around.{Around}
 use Rattle.relay_step.specs.Steps.{Step}
 use Rattle.relay_store.specs.Batches.{sent}
 use Rattle.relay_store.specs.declared.fault.StoreFault.{StoreFault}
+use Rattle.relay_store.specs.Journals.{IsPairImageOf}
+use Rattle.relay_store.specs.Opening.{Opened}
+use Rattle.relay_store.specs.Store.{seen_in}
 use Rattle.relay_store.specs.declared.message.Message.{Message}
+use Rattle.relay_store.specs.declared.store.Store.{Store}
+use Rattle.relay_run.specs.Pairs.{of_pair}
 use Rattle.tape_run.specs.Ends.{AreExtraAt, end_of_store}
-use Rattle.tape_run.specs.Feeds.{IsFeedEnd, IsOnFeed}
+use Rattle.tape_run.specs.Feeds.{IsFeedEnd, IsOnFeed, TakenOfFeed}
+use Rattle.tape_run.specs.Taken.{scene}
 use Rattle.tape_run.specs.Tells.{Tells}
 use Rattle.tape_run.specs.declared.end.TapeEnd.{TapeEnd}
 use Rattle.ingest_run.specs.Ends.{IsCausedBy, MayEnd, NoneOf, Shows}
-use Rattle.ingest_run.specs.Ingested.{Ingested, PairScene}
+use Rattle.ingest_run.specs.Ingested.{Ingested, PairScene, pair_scene}
+use Rattle.ingest_run.proofs.Whole.{ingested, ingested_takes}
 use Rattle.follow_run.specs.Ends.{feed_end, tape_end}
 use Rattle.follow_run.specs.Followed.{Followed}
 use Rattle.follow_run.specs.declared.end.FeedEnd.{FeedEnd}
@@ -42,17 +53,32 @@ pub kept_of_store : (P : TapeEnd → Type 0) (fault : StoreFault) (taking : Tape
 kept_of_store P fault taking end taking_is end_is holds =
     subst (λ (e : FeedEnd). P (tape_end e)) (sym end_is) (subst (λ (e : TapeEnd). P (tape_end (feed_end e))) (sym taking_is) (subst P (fault_kept fault) holds))
 
-pub cause_kept : (disk read write repos clock : Type 0) (taking : TapeEnd) (end : FeedEnd) → end ≡ feed_end taking → IsCausedBy disk read write repos clock taking → IsCausedBy disk read write repos clock (tape_end end)
-cause_kept disk read write repos clock taking end is caused = subst (λ (e : FeedEnd). IsCausedBy disk read write repos clock (tape_end e)) (sym is) (by_end taking caused)
-  where
-    by_end : (e : TapeEnd) → IsCausedBy disk read write repos clock e → IsCausedBy disk read write repos clock (tape_end (feed_end e))
-    by_end TapeEnd.Done h = tt
-    by_end (TapeEnd.Bad place) h = tt
-    by_end TapeEnd.ReadFault h = h
-    by_end TapeEnd.WriteFault h = h
-    by_end TapeEnd.TooLong h = tt
-    by_end (TapeEnd.Store fault) h = h
-    by_end TapeEnd.Memory h = tt
+-- what holds of an end that a feed brings
+pub kept_of_taking : (P : TapeEnd → Type 0) (feed_tells : Bool) (host : List ℕ) (most : ℕ) (steps : List Step) (rest : List (List ℕ)) (taking : TapeEnd) (end : FeedEnd) → end ≡ feed_end taking → IsFeedEnd feed_tells host most steps rest taking → P taking → P (tape_end end)
+kept_of_taking P feed_tells host most steps rest taking end is ends holds =
+    subst (λ (e : FeedEnd). P (tape_end e)) (sym is) (subst P (end_kept feed_tells host most steps rest taking ends) holds)
+
+cause_of : (disk disk_more read write repos clock : Type 0) → (disk → disk_more) → (e : TapeEnd) → IsCausedBy disk read write repos clock e → IsCausedBy disk_more read write repos clock (tape_end (feed_end e))
+cause_of disk disk_more read write repos clock more TapeEnd.Done h = tt
+cause_of disk disk_more read write repos clock more (TapeEnd.Bad place) h = tt
+cause_of disk disk_more read write repos clock more TapeEnd.ReadFault h = h
+cause_of disk disk_more read write repos clock more TapeEnd.WriteFault h = h
+cause_of disk disk_more read write repos clock more TapeEnd.TooLong h = tt
+cause_of disk disk_more read write repos clock more (TapeEnd.Store StoreFault.Disk) h = more h
+cause_of disk disk_more read write repos clock more (TapeEnd.Store (StoreFault.BadLog place)) h = tt
+cause_of disk disk_more read write repos clock more (TapeEnd.Store (StoreFault.Full e)) h = tt
+cause_of disk disk_more read write repos clock more (TapeEnd.Store StoreFault.SeqEnd) h = tt
+cause_of disk disk_more read write repos clock more (TapeEnd.Store StoreFault.Authority) h = tt
+cause_of disk disk_more read write repos clock more (TapeEnd.Store StoreFault.Repos) h = h
+cause_of disk disk_more read write repos clock more (TapeEnd.Store StoreFault.Memory) h = tt
+cause_of disk disk_more read write repos clock more (TapeEnd.Store StoreFault.Clock) h = h
+cause_of disk disk_more read write repos clock more TapeEnd.Memory h = tt
+
+-- the cause of an end is one since the disks were opened
+pub cause_kept : (a b c d e f : ℕ) (read write repos clock : Type 0) (taking : TapeEnd) (end : FeedEnd) → a ≤ b → d ≤ e → end ≡ feed_end taking → IsCausedBy (Rose b c ⊎ Rose e f) read write repos clock taking → IsCausedBy (Rose a c ⊎ Rose d f) read write repos clock (tape_end end)
+cause_kept a b c d e f read write repos clock taking end one two is caused =
+    subst (λ (x : FeedEnd). IsCausedBy (Rose a c ⊎ Rose d f) read write repos clock (tape_end x)) (sym is)
+    (cause_of (Rose b c ⊎ Rose e f) (Rose a c ⊎ Rose d f) read write repos clock (⊎_elim (λ rose. inl (omega (arith, one, rose))) (λ rose. inr (omega (arith, two, rose)))) taking caused)
 
 module _ (t : Tells) (feed_tells : Bool) (host : List ℕ) (most count : ℕ) (given : ℕ → List (List ℕ)) (left : List (List ℕ)) (J : List Row) (old new : PairScene) where
   -- messages that were taken so, and are on the feed
@@ -60,7 +86,7 @@ module _ (t : Tells) (feed_tells : Bool) (host : List ℕ) (most count : ℕ) (g
   Both end = (taken : Ingested t false most 0 J old new end)
       × IsOnFeed feed_tells host count (given (cursor host J)) left (taken.steps ++ (taken.under ++ taken.extra)) (sent (taken.steps ++ (taken.under ++ taken.extra)) ++ taken.behind) end
 
-  pub followed : (taking : TapeEnd) (end : FeedEnd) → end ≡ feed_end taking → (taken : Ingested t false most 0 J old new taking) (steps : List Step) (behind : List Message)
+  followed : (taking : TapeEnd) (end : FeedEnd) → end ≡ feed_end taking → (taken : Ingested t false most 0 J old new taking) (steps : List Step) (behind : List Message)
       → (taken.steps ++ (taken.under ++ taken.extra) ≡ steps) × (taken.behind ≡ behind) → IsOnFeed feed_tells host count (given (cursor host J)) left steps (sent steps ++ behind) taking → Followed t feed_tells host most count given left J old new end
   followed taking end is taken steps behind takes on =
       let both : Both taking = (
@@ -70,6 +96,19 @@ module _ (t : Tells) (feed_tells : Bool) (host : List ℕ) (most count : ℕ) (g
       ) in
       let kept : Both (tape_end end) = subst (λ (e : FeedEnd). Both (tape_end e)) (sym is) (subst Both (end_kept feed_tells host count steps on.rest taking on.ends) both) in
       record { taken = kept.0; feed = kept.1 }
+
+-- ---- the whole command
+
+module _ {D : Type 0} (view : D → View) (is_disk : (x : D) → IsDisk (view x)) (a b c d : D) (t : Tells) (told : IsTrue t.disk) (s : Store) (opened : Opened t.disk (view a) (view b) (view c) (view d) (Ok s))
+    (J : List Row) (image : IsPairImageOf J (view a).content (view b).content) (e f : D) (u : Store) (beside : of_pair (other_side s.side) e f ≡ of_pair (other_side s.side) c d) (feed_tells : Bool) (host : List ℕ) (most count : ℕ) (most_is : s.log.most ≡ most)
+    (given : ℕ → List (List ℕ)) (left : List (List ℕ)) (old new : Around) (written written_now : List ℕ) (taking : TapeEnd) (end : FeedEnd) (end_is : end ≡ feed_end taking)
+    (taken : TakenOfFeed view t feed_tells host count (given (cursor host J)) left J (scene (seen_in s) (of_pair s.side c d) old [] written) (scene (seen_in u) (of_pair s.side e f) new [] written_now) taking) where
+  pub followed_on : Followed t feed_tells host most count given left J (pair_scene (view a) (view b) old [] written) (pair_scene (view e) (view f) new [] written_now) end
+  followed_on =
+      followed t feed_tells host most count given left J (pair_scene (view a) (view b) old [] written) (pair_scene (view e) (view f) new [] written_now) taking end end_is
+      (ingested view is_disk a b c d t told s opened J image e f u beside false most 0 most_is old new [] [] written written_now taking taken.taken) _ _
+      (ingested_takes view is_disk a b c d t told s opened J image e f u beside false most 0 most_is old new [] [] written written_now taking taken.taken)
+      taken.feed
 
 -- ---- what ends it
 
