@@ -3,6 +3,8 @@ use Rattle.std.proofs.Common.{◌≡◌, ◌≤◌, ◌⊎◌, inl, inr, ⊎_eli
 use Rattle.at_cid.specs.Counts.{Rose}
 use Rattle.relay_disk.specs.Disk.{View, IsDisk}
 use Rattle.gate_log.specs.Pick.{other_side}
+use Rattle.gate_log.specs.declared.picking.Side.{Side}
+use Rattle.gate_log.specs.declared.picking.Side.TheVariants.{One, Two}
 use Rattle.relay_row.specs.Folds.{cursor}
 use Rattle.relay_row.specs.declared.row.Row.{Row}
 use Rattle.relay_step.specs.Around.{Around}
@@ -20,7 +22,7 @@ use Rattle.tape_run.specs.Feeds.{IsFeedEnd, IsOnFeed, TakenOfFeed}
 use Rattle.tape_run.specs.Taken.{scene}
 use Rattle.tape_run.specs.Tells.{Tells}
 use Rattle.tape_run.specs.declared.end.TapeEnd.{TapeEnd}
-use Rattle.ingest_run.specs.Ends.{IsCausedBy, MayEnd, NoneOf, Shows}
+use Rattle.ingest_run.specs.Ends.{IsCausedBy, MayEnd, NoneOf}
 use Rattle.ingest_run.specs.Ingested.{Ingested, PairScene, pair_scene}
 use Rattle.ingest_run.proofs.Whole.{ingested, ingested_takes}
 use Rattle.follow_run.specs.Ends.{feed_end, tape_end}
@@ -96,6 +98,14 @@ module _ (t : Tells) (feed_tells : Bool) (host : List ℕ) (most count : ℕ) (g
       ) in
       let kept : Both (tape_end end) = subst (λ (e : FeedEnd). Both (tape_end e)) (sym is) (subst Both (end_kept feed_tells host count steps on.rest taking on.ends) both) in
       record { taken = kept.0; feed = kept.1 }
+
+-- ---- the disk of a side
+
+pub on_one : {D : Type 0} (P : D → D → Type 0) (side : Side) → side ≡ One → (a b c d : D) → P a c → P (of_pair side a b) (of_pair side c d)
+on_one P side is a b c d holds = subst (λ (s : Side). P (of_pair s a b) (of_pair s c d)) (sym is) holds
+
+pub on_two : {D : Type 0} (P : D → D → Type 0) (side : Side) → side ≡ Two → (a b c d : D) → P b d → P (of_pair side a b) (of_pair side c d)
+on_two P side is a b c d holds = subst (λ (s : Side). P (of_pair s a b) (of_pair s c d)) (sym is) holds
 
 -- ---- the whole command
 

@@ -59,8 +59,12 @@ fn take_on<D: Disk, P: Judges, R: Repos, C: Clock, F: Feed, O: Sink>(
     ensures out_counts { O.faults out.old ≤ O.faults out.new }
 {
     match store.side() {
-        Side::One => take_feed(alloc, host, count, store, disk, judges, repos, clock, feed, out),
-        Side::Two => take_feed(alloc, host, count, store, other, judges, repos, clock, feed, out),
+        Side::One => take_feed(
+            alloc, host, count, store, disk, judges, repos, clock, feed, out,
+        ),
+        Side::Two => take_feed(
+            alloc, host, count, store, other, judges, repos, clock, feed, out,
+        ),
     }
 }
 

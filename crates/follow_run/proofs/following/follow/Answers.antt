@@ -1,4 +1,4 @@
-use Rattle.std.proofs.Common.{◌≡◌, ◌⊎◌, inl, inr, ap, refl, Err, []}
+use Rattle.std.proofs.Common.{◌⊎◌, inl, inr, ap, refl, Err, []}
 use Rattle.at_cid.specs.Counts.{Rose}
 use Rattle.relay_step.specs.Around.{around}
 use Rattle.tape_run.specs.Tells.{tells}
