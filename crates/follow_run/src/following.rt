@@ -1,30 +1,34 @@
 //! The command by which a host is followed.
 
-ghost use Rattle.std.specs.Prelude.{◌≡◌, ◌≤◌, ◌<◌, ◌^◌, ◌⊎◌, ℕ, List, length, IsTrue};
+ghost use Rattle.std.specs.Prelude.{◌≡◌, ◌≤◌, ◌<◌, ◌^◌, ◌⊎◌, ℕ, List, [], true, IsTrue};
 ghost use Rattle.at_cid.specs.Counts.{Rose};
+ghost use Rattle.at_syntax.specs.Host.{is_host};
 ghost use Rattle.gate_log.specs.Pick.{other_side, view_of_side};
 ghost use Rattle.gate_log.specs.declared.limits.TheConstants.{LAST_END};
+ghost use Rattle.relay_row.specs.Folds.{cursor};
 ghost use Rattle.relay_row.specs.declared.row.Row.{Row as TheRow};
 ghost use Rattle.relay_step.specs.Around.{around};
 ghost use Rattle.relay_store.specs.Journals.{IsPairImageOf};
 ghost use Rattle.relay_store.specs.Store.{IsKept, IsOf, seen_in};
-ghost use Rattle.relay_store.specs.declared.message.Message.{Message as TheMessage};
 ghost use Rattle.relay_run.specs.Pairs.{of_pair};
 ghost use Rattle.tape_run.specs.Tells.{tells};
-ghost use Rattle.tape_run.specs.Taken.{Taken, scene};
-ghost use Rattle.tape_run.specs.Tapes.{AreRecords, spelled};
+ghost use Rattle.tape_run.specs.Feeds.{TakenOfFeed};
+ghost use Rattle.tape_run.specs.Taken.{scene};
 ghost use Rattle.ingest_run.specs.Ends.{IsCausedBy, MayEnd, NoneOf, Shows};
-ghost use Rattle.ingest_run.specs.Ingested.{Ingested, Unopened, pair_scene};
+ghost use Rattle.ingest_run.specs.Ingested.{Unopened, pair_scene};
+ghost use Rattle.follow_run.specs.Ends.{tape_end};
+ghost use Rattle.follow_run.specs.Followed.{Followed};
 
+use crate::end::FeedEnd;
 use at_authority::Judges;
 use gate_log::Side;
 use relay_disk::Disk;
-use relay_io::{Clock, Repos, Sink, Source};
+use relay_io::{Clock, Feed, Repos, Sink};
 use relay_store::Store;
 use std::alloc::Global;
-use tape_run::{TapeEnd, take_tape};
+use tape_run::{TapeEnd, take_feed};
 
-// Takes a tape, on the disk of the store's side.
+// Takes the messages of a feed, on the disk of the store's side.
 fn take_on<D: Disk, P: Judges, R: Repos, C: Clock, F: Feed, O: Sink>(
     alloc: Global,
     host: &str,
@@ -55,15 +59,19 @@ fn take_on<D: Disk, P: Judges, R: Repos, C: Clock, F: Feed, O: Sink>(
     ensures out_counts { O.faults out.old ≤ O.faults out.new }
 {
     match store.side() {
-        Side::One => take_feed(alloc, host, count, store, disk, judges, repos, clock, feed, out),
-        Side::Two => take_feed(alloc, host, count, store, other, judges, repos, clock, feed, out),
+        Side::One => take_feed(
+            alloc, host, count, store, disk, judges, repos, clock, feed, out,
+        ),
+        Side::Two => take_feed(
+            alloc, host, count, store, other, judges, repos, clock, feed, out,
+        ),
     }
 }
 
-/// Takes the messages of a tape into the journal of two disks, and writes the report: a line for each message once its row is durable,
-/// and at the end of the tape one more. Of the input at most `limit` bytes are taken, and no row of the log is to end past `most`, which
-/// is in bytes.
-pub fn ingest<D: Disk, P: Judges, R: Repos, C: Clock, F: Feed, O: Sink>(
+/// Takes the messages that a feed gives of a host behind its cursor into the journal of two disks, at most `count` of them and none
+/// behind the host's end, and writes the report: a line for each message once its row is durable, and one more where it is done. No row
+/// of the log is to end past `most`, which is in bytes.
+pub fn follow<D: Disk, P: Judges, R: Repos, C: Clock, F: Feed, O: Sink>(
     alloc: Global,
     most: u64,
     host: &str,
@@ -75,20 +83,19 @@ pub fn ingest<D: Disk, P: Judges, R: Repos, C: Clock, F: Feed, O: Sink>(
     clock: &mut C,
     feed: &mut F,
     out: &mut O,
-) -> TapeEnd
+) -> FeedEnd
     requires most { most ≤ LAST_END }
     requires host { is_host host.now ≡ true }
     requires count { count < 2 ^ 63 }
-    ensures ingested { IsTrue D.tells → (J : List TheRow) → IsPairImageOf J (D.view disk.old).content (D.view other.old).content
-        → Unopened J (pair_scene (D.view disk.old) (D.view other.old) (around (P.panel judges.old) (C.moments clock.old) (R.repository repos.old)) [] (O.written out.old)) (pair_scene (D.view disk.new) (D.view other.new) (around (P.panel judges.new) (C.moments clock.new) (R.repository repos.new)) [] (O.written out.new)) result
-        ⊎ Ingested (tells D.tells C.tells R.tells O.tells) I.tells most limit J (pair_scene (D.view disk.old) (D.view other.old) (around (P.panel judges.old) (C.moments clock.old) (R.repository repos.old)) [] (O.written out.old)) (pair_scene (D.view disk.new) (D.view other.new) (around (P.panel judges.new) (C.moments clock.new) (R.repository repos.new)) [] (O.written out.new)) result }
-    ensures shows { IsTrue D.tells → Shows result (D.view disk.old).content (D.view other.old).content }
-    ensures caused { IsCausedBy (Rose (D.view disk.old).faults (D.view disk.new).faults ⊎ Rose (D.view other.old).faults (D.view other.new).faults) (Rose (F.faults feed.old) (F.faults feed.new)) (Rose (O.faults out.old) (O.faults out.new)) (Rose (R.faults repos.old) (R.faults repos.new)) (Rose (C.faults clock.old) (C.faults clock.new)) result }
+    ensures followed { IsTrue D.tells → (J : List TheRow) → IsPairImageOf J (D.view disk.old).content (D.view other.old).content
+        → (Unopened J (pair_scene (D.view disk.old) (D.view other.old) (around (P.panel judges.old) (C.moments clock.old) (R.repository repos.old)) [] (O.written out.old)) (pair_scene (D.view disk.new) (D.view other.new) (around (P.panel judges.new) (C.moments clock.new) (R.repository repos.new)) [] (O.written out.new)) (tape_end result) × (F.left feed.new ≡ F.left feed.old))
+        ⊎ Followed (tells D.tells C.tells R.tells O.tells) F.tells host.now most count (λ n. F.behind feed.old host.now n) (F.left feed.new) J (pair_scene (D.view disk.old) (D.view other.old) (around (P.panel judges.old) (C.moments clock.old) (R.repository repos.old)) [] (O.written out.old)) (pair_scene (D.view disk.new) (D.view other.new) (around (P.panel judges.new) (C.moments clock.new) (R.repository repos.new)) [] (O.written out.new)) result }
+    ensures shows { IsTrue D.tells → Shows (tape_end result) (D.view disk.old).content (D.view other.old).content }
+    ensures caused { IsCausedBy (Rose (D.view disk.old).faults (D.view disk.new).faults ⊎ Rose (D.view other.old).faults (D.view other.new).faults) (Rose (F.faults feed.old) (F.faults feed.new)) (Rose (O.faults out.old) (O.faults out.new)) (Rose (R.faults repos.old) (R.faults repos.new)) (Rose (C.faults clock.old) (C.faults clock.new)) (tape_end result) }
 
-    // A whole tape is taken, unless memory is wanted, the log is full, or the numbers or the authorities end.
-    ensures complete { IsTrue D.tells → IsTrue I.tells → (J : List TheRow) → IsPairImageOf J (D.view disk.old).content (D.view other.old).content
-        → (messages : List TheMessage) → AreRecords messages → I.left input.old ≡ spelled messages → length (spelled messages) < limit
-        → NoneOf (Rose (D.view disk.old).faults (D.view disk.new).faults ⊎ Rose (D.view other.old).faults (D.view other.new).faults) (Rose (F.faults feed.old) (F.faults feed.new)) (Rose (O.faults out.old) (O.faults out.new)) (Rose (R.faults repos.old) (R.faults repos.new)) (Rose (C.faults clock.old) (C.faults clock.new)) → MayEnd result }
+    // It is done, unless memory is wanted, the log is full, or the numbers or the authorities end.
+    ensures complete { IsTrue D.tells → (J : List TheRow) → IsPairImageOf J (D.view disk.old).content (D.view other.old).content
+        → NoneOf (Rose (D.view disk.old).faults (D.view disk.new).faults ⊎ Rose (D.view other.old).faults (D.view other.new).faults) (Rose (F.faults feed.old) (F.faults feed.new)) (Rose (O.faults out.old) (O.faults out.new)) (Rose (R.faults repos.old) (R.faults repos.new)) (Rose (C.faults clock.old) (C.faults clock.new)) → MayEnd (tape_end result) }
     ensures disk_counts { (D.view disk.old).faults ≤ (D.view disk.new).faults }
     ensures other_counts { (D.view other.old).faults ≤ (D.view other.new).faults }
     ensures repos_count { R.faults repos.old ≤ R.faults repos.new }
@@ -98,9 +105,10 @@ pub fn ingest<D: Disk, P: Judges, R: Repos, C: Clock, F: Feed, O: Sink>(
 {
     let mut store = match Store::open(alloc, disk, other, most) {
         Ok(store) => store,
-        Err(fault) => return TapeEnd::of_store(fault),
+        Err(fault) => return FeedEnd::of_taking(TapeEnd::of_store(fault)),
     };
-    take_on(
-        alloc, limit, &mut store, disk, other, judges, repos, clock, feed, out,
-    )
+    let end = take_on(
+        alloc, host, count, &mut store, disk, other, judges, repos, clock, feed, out,
+    );
+    FeedEnd::of_taking(end)
 }

@@ -161,3 +161,8 @@ module _ {D : Type 0} (view : D → View) (is_disk : (x : D) → IsDisk (view x)
       sound = taken.sound;
       covered = taken.covered;
     }
+
+    -- its steps and messages are those that were taken
+    pub ingested_takes : (ingested.steps ++ (ingested.under ++ ingested.extra) ≡ taken.steps ++ (taken.under ++ taken.extra)) × (ingested.behind ≡ taken.behind)
+    unfolding ingested
+    ingested_takes = (refl, refl)

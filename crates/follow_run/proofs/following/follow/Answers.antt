@@ -1,0 +1,66 @@
+use Rattle.std.proofs.Common.{◌⊎◌, inl, inr, ap, refl, Err, []}
+use Rattle.at_cid.specs.Counts.{Rose}
+use Rattle.relay_step.specs.Around.{around}
+use Rattle.tape_run.specs.Tells.{tells}
+use Rattle.tape_run.specs.declared.end.TapeEnd.{TapeEnd}
+use Rattle.ingest_run.specs.Ends.{IsCausedBy, MayEnd, Shows}
+use Rattle.ingest_run.specs.Ingested.{Unopened, pair_scene}
+use Rattle.ingest_run.proofs.Endings.{image_shows, none_later, opening_causes, opening_completes, opening_shows}
+use Rattle.ingest_run.proofs.Whole.{opened_of, unopened}
+use Rattle.follow_run.proofs.Whole.{cause_kept, completes, followed_on, kept_of_store, kept_of_taking}
+use Rattle.follow_run.proofs.following.follow.Goals as goal
+
+pub returns-in-Err-clause-followed : goal.returns-in-Err-clause-followed
+returns-in-Err-clause-followed g c = λ told J image.
+    let old = pair_scene (g.D.Disk.view c.args.disk.now) (g.D.Disk.view c.args.other.now) (around (g.P.Judges.panel c.args.judges.now) (g.C.Clock.moments c.args.clock.now) (g.R.Repos.repository c.args.repos.now)) [] (g.O.Sink.written c.args.out.now) in
+    let new = pair_scene (g.D.Disk.view c.open.new.disk) (g.D.Disk.view c.open.new.other) (around (g.P.Judges.panel c.args.judges.now) (g.C.Clock.moments c.args.clock.now) (g.R.Repos.repository c.args.repos.now)) [] (g.O.Sink.written c.args.out.now) in
+    inl (
+      kept_of_store (λ (e : TapeEnd). Unopened J old new e) c.in-Err.fault c.of_store.result c.of_taking.result c.of_store.ensures c.of_taking.ensures
+          (unopened g.D.Disk.tells (g.D.Disk.view c.args.disk.now) (g.D.Disk.view c.args.other.now) (g.D.Disk.view c.open.new.disk) (g.D.Disk.view c.open.new.other) c.in-Err.fault J (around (g.P.Judges.panel c.args.judges.now) (g.C.Clock.moments c.args.clock.now) (g.R.Repos.repository c.args.repos.now))
+          [] (g.O.Sink.written c.args.out.now) _ (g.met.D.Disk.is_disk c.open.new.disk) (g.met.D.Disk.is_disk c.open.new.other) c.in-Err.ensures.opened told (c.in-Err.ensures.few c.in-Err.fault refl) refl),
+      refl,
+    )
+
+pub returns-in-Err-clause-shows : goal.returns-in-Err-clause-shows
+returns-in-Err-clause-shows g c = λ told.
+    kept_of_store (λ (e : TapeEnd). Shows e (g.D.Disk.view c.args.disk.now).content (g.D.Disk.view c.args.other.now).content) c.in-Err.fault c.of_store.result c.of_taking.result c.of_store.ensures c.of_taking.ensures
+    (opening_shows c.in-Err.fault (g.D.Disk.view c.args.disk.now).content (g.D.Disk.view c.args.other.now).content (c.in-Err.ensures.few c.in-Err.fault refl) (λ p is. c.in-Err.ensures.bad_log p (ap Err is) told))
+
+pub returns-in-Err-clause-caused : goal.returns-in-Err-clause-caused
+returns-in-Err-clause-caused g c =
+    kept_of_store (IsCausedBy (Rose (g.D.Disk.view c.args.disk.now).faults (g.D.Disk.view c.open.new.disk).faults ⊎ Rose (g.D.Disk.view c.args.other.now).faults (g.D.Disk.view c.open.new.other).faults) (Rose (g.F.Feed.faults c.args.feed.now) (g.F.Feed.faults c.args.feed.now)) (Rose (g.O.Sink.faults c.args.out.now) (g.O.Sink.faults c.args.out.now)) (Rose (g.R.Repos.faults c.args.repos.now) (g.R.Repos.faults c.args.repos.now)) (Rose (g.C.Clock.faults c.args.clock.now) (g.C.Clock.faults c.args.clock.now))) c.in-Err.fault c.of_store.result c.of_taking.result c.of_store.ensures c.of_taking.ensures
+    (opening_causes (Rose (g.D.Disk.view c.args.disk.now).faults (g.D.Disk.view c.open.new.disk).faults ⊎ Rose (g.D.Disk.view c.args.other.now).faults (g.D.Disk.view c.open.new.other).faults) (Rose (g.F.Feed.faults c.args.feed.now) (g.F.Feed.faults c.args.feed.now)) (Rose (g.O.Sink.faults c.args.out.now) (g.O.Sink.faults c.args.out.now)) (Rose (g.R.Repos.faults c.args.repos.now) (g.R.Repos.faults c.args.repos.now)) (Rose (g.C.Clock.faults c.args.clock.now) (g.C.Clock.faults c.args.clock.now)) c.in-Err.fault (c.in-Err.ensures.few c.in-Err.fault refl) (λ is. c.in-Err.ensures.disk (ap Err is)))
+
+pub returns-in-Err-clause-complete : goal.returns-in-Err-clause-complete
+returns-in-Err-clause-complete g c = λ told J image none.
+    kept_of_store MayEnd c.in-Err.fault c.of_store.result c.of_taking.result c.of_store.ensures c.of_taking.ensures
+    (opening_completes (Rose (g.D.Disk.view c.args.disk.now).faults (g.D.Disk.view c.open.new.disk).faults ⊎ Rose (g.D.Disk.view c.args.other.now).faults (g.D.Disk.view c.open.new.other).faults) (Rose (g.F.Feed.faults c.args.feed.now) (g.F.Feed.faults c.args.feed.now)) (Rose (g.O.Sink.faults c.args.out.now) (g.O.Sink.faults c.args.out.now)) (Rose (g.R.Repos.faults c.args.repos.now) (g.R.Repos.faults c.args.repos.now)) (Rose (g.C.Clock.faults c.args.clock.now) (g.C.Clock.faults c.args.clock.now)) c.in-Err.fault (g.D.Disk.view c.args.disk.now).content (g.D.Disk.view c.args.other.now).content J image (c.in-Err.ensures.few c.in-Err.fault refl) (λ is. c.in-Err.ensures.disk (ap Err is))
+    (λ p is. c.in-Err.ensures.bad_log p (ap Err is) told) none)
+
+pub returns-clause-followed : goal.returns-clause-followed
+returns-clause-followed g c = λ told J image.
+    inr (followed_on g.D.Disk.view (λ x. g.met.D.Disk.is_disk x) c.args.disk.now c.args.other.now c.open.new.disk c.open.new.other (tells g.D.Disk.tells g.C.Clock.tells g.R.Repos.tells g.O.Sink.tells) told c.in-Ok.store c.in-Ok.ensures.opened J image
+    c.take_on-end.new.disk c.take_on-end.new.other c.take_on-end.new.store c.take_on-end.ensures.beside g.F.Feed.tells c.args.host.now c.args.most c.args.count c.in-Ok.ensures.open.1
+    (λ n. g.F.Feed.behind c.args.feed.now c.args.host.now n) (g.F.Feed.left c.take_on-end.new.feed) (around (g.P.Judges.panel c.args.judges.now) (g.C.Clock.moments c.args.clock.now) (g.R.Repos.repository c.args.repos.now)) (around (g.P.Judges.panel c.take_on-end.new.judges) (g.C.Clock.moments c.take_on-end.new.clock) (g.R.Repos.repository c.take_on-end.new.repos)) (g.O.Sink.written c.args.out.now) (g.O.Sink.written c.take_on-end.new.out)
+    c.take_on-end.result c.of_taking-2.result c.of_taking-2.ensures (c.take_on-end.ensures.taken J (opened_of g.D.Disk.view (λ x. g.met.D.Disk.is_disk x) c.args.disk.now c.args.other.now c.open.new.disk c.open.new.other (tells g.D.Disk.tells g.C.Clock.tells g.R.Repos.tells g.O.Sink.tells) told c.in-Ok.store c.in-Ok.ensures.opened J image)))
+
+pub returns-clause-shows : goal.returns-clause-shows
+returns-clause-shows g c = λ told.
+    let kept = c.in-Ok.ensures.opened.keeps told in
+    let J = kept.0 in
+    let image = kept.1 in
+    let taken = c.take_on-end.ensures.taken J (opened_of g.D.Disk.view (λ x. g.met.D.Disk.is_disk x) c.args.disk.now c.args.other.now c.open.new.disk c.open.new.other (tells g.D.Disk.tells g.C.Clock.tells g.R.Repos.tells g.O.Sink.tells) told c.in-Ok.store c.in-Ok.ensures.opened J image) in
+    kept_of_taking (λ (e : TapeEnd). Shows e (g.D.Disk.view c.args.disk.now).content (g.D.Disk.view c.args.other.now).content) g.F.Feed.tells c.args.host.now c.args.count _ _ c.take_on-end.result c.of_taking-2.result c.of_taking-2.ensures taken.feed.ends
+    (image_shows c.take_on-end.result taken.taken.extra (g.D.Disk.view c.args.disk.now).content (g.D.Disk.view c.args.other.now).content J taken.taken.which_extra image)
+
+pub returns-clause-caused : goal.returns-clause-caused
+returns-clause-caused g c =
+    cause_kept (g.D.Disk.view c.args.disk.now).faults (g.D.Disk.view c.open.new.disk).faults (g.D.Disk.view c.take_on-end.new.disk).faults (g.D.Disk.view c.args.other.now).faults (g.D.Disk.view c.open.new.other).faults (g.D.Disk.view c.take_on-end.new.other).faults _ _ _ _
+    c.take_on-end.result c.of_taking-2.result c.in-Ok.ensures.counts.0 c.in-Ok.ensures.counts.1 c.of_taking-2.ensures c.take_on-end.ensures.caused
+
+pub returns-clause-complete : goal.returns-clause-complete
+returns-clause-complete g c = λ told J image none.
+    let taken = c.take_on-end.ensures.taken J (opened_of g.D.Disk.view (λ x. g.met.D.Disk.is_disk x) c.args.disk.now c.args.other.now c.open.new.disk c.open.new.other (tells g.D.Disk.tells g.C.Clock.tells g.R.Repos.tells g.O.Sink.tells) told c.in-Ok.store c.in-Ok.ensures.opened J image) in
+    kept_of_taking MayEnd g.F.Feed.tells c.args.host.now c.args.count _ _ c.take_on-end.result c.of_taking-2.result c.of_taking-2.ensures taken.feed.ends
+    (completes _ _ _ _ _ g.F.Feed.tells c.args.host.now c.args.count _ taken.taken.extra _ c.take_on-end.result taken.feed.ends taken.taken.which_extra c.take_on-end.ensures.caused
+    (none_later (g.D.Disk.view c.args.disk.now).faults (g.D.Disk.view c.open.new.disk).faults (g.D.Disk.view c.take_on-end.new.disk).faults (g.D.Disk.view c.args.other.now).faults (g.D.Disk.view c.open.new.other).faults (g.D.Disk.view c.take_on-end.new.other).faults _ _ _ _ c.in-Ok.ensures.counts.0 c.in-Ok.ensures.counts.1 none))
