@@ -4,7 +4,7 @@ use Rattle.relay_run.specs.Ends.{IsCausedBy}
 use Rattle.relay_run.specs.declared.end.RunEnd.{RunEnd}
 use Rattle.relay_store.specs.declared.fault.StoreFault.{StoreFault}
 use Rattle.relay_cli.specs.declared.status.Status.{Status}
-use Rattle.relay_cli.specs.Runs.{IsOperated, IsSynced, Place, Tells}
+use Rattle.relay_cli.specs.Runs.{Faults, IsFollowed, IsOperated, IsSynced, Place, Tells}
 
 pub operated_of : (did given time told : List ℕ) (down : Bool) (t : Tells) (old new : Place) (status : Status) → given ≡ did → told ≡ time → IsOperated given down told t old new status → IsOperated did down time t old new status
 operated_of did given time told down t old new status same at done =
@@ -16,3 +16,6 @@ synced_of did given time told t old new status same at done = subst (λ (x : Lis
 -- no authority is left where that ended it
 pub spent_by : (disk write spent repos clock : Type 0) (end : RunEnd) → IsCausedBy disk write spent repos clock end → end ≡ RunEnd.Fault StoreFault.Authority → spent
 spent_by disk write spent repos clock end caused is = subst (IsCausedBy disk write spent repos clock) is caused
+
+pub followed_of : (host given : List ℕ) (count : ℕ) (t : Tells) (old new : Place) (failed failed_now : Faults) (status : Status) → given ≡ host → IsFollowed given count t old new failed failed_now status → IsFollowed host count t old new failed failed_now status
+followed_of host given count t old new failed failed_now status same done = subst (λ (x : List ℕ). IsFollowed x count t old new failed failed_now status) same done

@@ -30,7 +30,7 @@ use ws_edge::{DOOR_PORT, WsDoor, WsFeed};
 // Whether the words are those of a run that writes a report, of which it is said how far it is.
 fn is_reported(words: &[String]) -> bool {
     match words.first() {
-        Some(word) => word == "ingest" || word == "follow",
+        Some(word) => matches!(word.as_str(), "ingest" | "follow"),
         None => false,
     }
 }
