@@ -73,6 +73,7 @@ IsVisit held (Guest.Target target) sent session = IsWhole held (cursor_in target
 IsVisit held Guest.NoHandshake sent session = (sent ≡ []) × (session ≡ Session.NoHandshake)
 IsVisit held Guest.End sent session = ⊥
 
+-- each of these visits was such
 abbrev pub AllVisits : Held → List Visit → Type 0
 AllVisits held [] = Unit {0}
 AllVisits held (v ∷ visits) = IsVisit held v.guest v.sent v.session × AllVisits held visits
