@@ -17,6 +17,7 @@ pub record AtDoor : Type 0 where
   pub turns : List Turn
   pub faults : ℕ
 
+-- the door at one moment, of its parts
 abbrev pub at_door : List Guest → List Turn → ℕ → AtDoor
 at_door guests turns faults = record { guests = guests; turns = turns; faults = faults }
 

@@ -64,7 +64,7 @@ IsOfSession (ServeEnd.BadLog place) = ⊤
 IsOfSession ServeEnd.Memory = ⊤
 IsOfSession end = ⊥
 
--- no guest was served: so, or the door failed
+-- no session came of the next guest: it was broken off so, or the door failed, or memory was wanted there
 abbrev pub IsOfMeeting : ServeEnd → Type 0
 IsOfMeeting ServeEnd.Door = ⊤
 IsOfMeeting end = IsOfSession end

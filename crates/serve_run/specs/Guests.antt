@@ -11,6 +11,7 @@ use Rattle.serve_run.specs.Replayed.{OnlyRead}
 use Rattle.serve_run.specs.Sessions.{Visit, end_line, lines_behind}
 use Rattle.serve_run.specs.declared.end.ServeEnd.{ServeEnd}
 
+-- how serving ends by what it answers
 abbrev pub end_in : Result (Unit {0}) ServeEnd → ServeEnd
 end_in (Ok done) = ServeEnd.Done
 end_in (Err end) = end

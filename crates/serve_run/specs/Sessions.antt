@@ -1,5 +1,5 @@
 -- Sessions of guests, and their lines (own): numbers are decimal, and each line ends in a line feed.
-use Rattle.std.specs.Prelude.{◌≡◌, ◌⊎◌, ◌≤◌, ℕ, ◌+◌, ◌-◌, List, [], ◌∷◌, ◌++◌, length, nat_lt, Bool, Option, Some, None, Result, Ok, Err, codes, if◌then◌else◌}
+use Rattle.std.specs.Prelude.{◌≡◌, ⊤, false, ◌⊎◌, ◌≤◌, ℕ, ◌+◌, ◌-◌, List, [], ◌∷◌, ◌++◌, length, nat_lt, Bool, Option, Some, None, Result, Ok, Err, codes, if◌then◌else◌}
 use Rattle.at_cid.specs.Counts.{Rose}
 use Rattle.event_window.specs.Held.{Held}
 use Rattle.relay_io.specs.declared.door.Guest.{Guest}
@@ -73,9 +73,15 @@ IsVisit held (Guest.Target target) sent session = IsWhole held (cursor_in target
 IsVisit held Guest.NoHandshake sent session = (sent ≡ []) × (session ≡ Session.NoHandshake)
 IsVisit held Guest.End sent session = ⊥
 
+-- each of these visits was such
 abbrev pub AllVisits : Held → List Visit → Type 0
 AllVisits held [] = Unit {0}
 AllVisits held (v ∷ visits) = IsVisit held v.guest v.sent v.session × AllVisits held visits
+
+-- a session that didn't fail is ended: nobody waits
+abbrev pub IsClosed : Session → Bool → Type 0
+IsClosed (Session.Failed events) waits = ⊤
+IsClosed session waits = waits ≡ false
 
 -- the count of a session's failures: it rose where the session failed
 abbrev pub IsCounted : Session → ℕ → ℕ → Type 0

@@ -71,6 +71,7 @@ pub fn serve<D: Disk, G: Door, O: Sink>(
         → ServedAt G.tells O.tells count J (at_door (G.guests door.old) (G.turns door.old) (G.session_faults door.old)) (at_door (G.guests door.new) (G.turns door.new) (G.session_faults door.new))
         (outside (D.view disk.old) (D.view other.old) (O.written out.old)) (outside (D.view disk.new) (D.view other.new) (O.written out.new)) result }
     ensures shows { IsTrue D.tells → Shows result (D.view disk.old).content (D.view other.old).content }
+    ensures no_long { result ≡ ServeEnd.TooLong → ⊥ }
     ensures quiet { (place : ℕ) → result ≡ ServeEnd.BadLog place → IsTrue D.tells
         → (IsTrue O.tells → O.written out.new ≡ O.written out.old) × (IsTrue G.tells → (G.guests door.new ≡ G.guests door.old) × (G.turns door.new ≡ G.turns door.old)) }
     ensures caused { IsCausedBy (Rose (D.view disk.old).faults (D.view disk.new).faults ⊎ Rose (D.view other.old).faults (D.view other.new).faults) (Rose (O.faults out.old) (O.faults out.new)) (Rose (G.faults door.old) (G.faults door.new)) result }

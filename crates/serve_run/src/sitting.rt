@@ -12,7 +12,7 @@ ghost use Rattle.relay_io.specs.Guests.{does_wait};
 ghost use Rattle.backfill.specs.Target.{cursor_in};
 ghost use Rattle.serve_run.specs.AtDoor.{Met, Received, Sat, at_door};
 ghost use Rattle.serve_run.specs.Ends.{IsOfMeeting, IsOfSession, end_of_serving};
-ghost use Rattle.serve_run.specs.Sessions.{IsCounted, came_of};
+ghost use Rattle.serve_run.specs.Sessions.{IsClosed, IsCounted, came_of};
 ghost use Rattle.serve_run.specs.declared.end.ServeEnd.{ServeEnd as TheEnd};
 ghost use Rattle.serve_run.specs.declared.session.Session.{Session as TheSession};
 
@@ -63,6 +63,7 @@ fn sit_from<D: Disk, G: Door>(
     ensures guests { IsTrue G.tells → G.guests door.new ≡ G.guests door.old }
     ensures goes { Goes Same (D.view disk.old) (D.view disk.new) }
     ensures counted { IfOk result (λ session. IsCounted session (G.session_faults door.old) (G.session_faults door.new)) }
+    ensures closed { IfOk result (λ session. IsClosed session (G.waits door.new)) }
     ensures few { IfErr result (λ end. IsOfSession end) }
     ensures disk { result ≡ Err ServeEnd.Disk → Rose (D.view disk.old).faults (D.view disk.new).faults }
     ensures no_bad_log { (place : ℕ) → result ≡ Err (ServeEnd.BadLog place) → IsTrue D.tells → ⊥ }
@@ -94,6 +95,7 @@ fn sit_on<D: Disk, G: Door>(
     ensures one { Goes Same (D.view disk.old) (D.view disk.new) }
     ensures two { Goes Same (D.view other.old) (D.view other.new) }
     ensures counted { IfOk result (λ session. IsCounted session (G.session_faults door.old) (G.session_faults door.new)) }
+    ensures closed { IfOk result (λ session. IsClosed session (G.waits door.new)) }
     ensures few { IfErr result (λ end. IsOfSession end) }
     ensures disk { result ≡ Err ServeEnd.Disk → Rose (D.view disk.old).faults (D.view disk.new).faults ⊎ Rose (D.view other.old).faults (D.view other.new).faults }
     ensures no_bad_log { (place : ℕ) → result ≡ Err (ServeEnd.BadLog place) → IsTrue D.tells → ⊥ }
@@ -111,6 +113,7 @@ fn turn_away<G: Door>(door: &mut G) -> Session
     requires { IsTrue (G.waits door.old) }
     ensures session { (result ≡ Session.BadTarget) ⊎ (result ≡ Session.Failed 0) }
     ensures same { IsTrue G.tells → (G.guests door.new ≡ G.guests door.old) × (G.turns door.new ≡ G.turns door.old) }
+    ensures closed { IsClosed result (G.waits door.new) }
     ensures counted { IsCounted result (G.session_faults door.old) (G.session_faults door.new) }
     ensures counts { G.faults door.new ≡ G.faults door.old }
     ensures session_counts { G.session_faults door.old ≤ G.session_faults door.new }
@@ -138,6 +141,7 @@ fn sit<D: Disk, G: Door>(
     ensures one { Goes Same (D.view disk.old) (D.view disk.new) }
     ensures two { Goes Same (D.view other.old) (D.view other.new) }
     ensures counted { IfOk result (λ session. IsCounted session (G.session_faults door.old) (G.session_faults door.new)) }
+    ensures closed { IfOk result (λ session. IsClosed session (G.waits door.new)) }
     ensures few { IfErr result (λ end. IsOfSession end) }
     ensures disk { result ≡ Err ServeEnd.Disk → Rose (D.view disk.old).faults (D.view disk.new).faults ⊎ Rose (D.view other.old).faults (D.view other.new).faults }
     ensures no_bad_log { (place : ℕ) → result ≡ Err (ServeEnd.BadLog place) → IsTrue D.tells → ⊥ }
@@ -168,6 +172,7 @@ fn receive<D: Disk, G: Door>(
     ensures one { Goes Same (D.view disk.old) (D.view disk.new) }
     ensures two { Goes Same (D.view other.old) (D.view other.new) }
     ensures counted { IfOk result (λ found. IfSome found (λ session. IsCounted session (G.session_faults door.old) (G.session_faults door.new))) }
+    ensures closed { IfOk result (λ found. IfSome found (λ session. IsClosed session (G.waits door.new))) }
     ensures few { IfErr result (λ end. IsOfSession end) }
     ensures disk { result ≡ Err ServeEnd.Disk → Rose (D.view disk.old).faults (D.view disk.new).faults ⊎ Rose (D.view other.old).faults (D.view other.new).faults }
     ensures no_bad_log { (place : ℕ) → result ≡ Err (ServeEnd.BadLog place) → IsTrue D.tells → ⊥ }
@@ -201,6 +206,7 @@ pub(crate) fn meet<D: Disk, G: Door>(
     ensures some { IfOk result (λ found. IfSome found (λ _. 0 < most)) }
     ensures one { Goes Same (D.view disk.old) (D.view disk.new) }
     ensures two { Goes Same (D.view other.old) (D.view other.new) }
+    ensures closed { IfOk result (λ found. IfSome found (λ session. IsClosed session (G.waits door.new))) }
     ensures few { IfErr result (λ end. IsOfMeeting end) }
     ensures disk { result ≡ Err ServeEnd.Disk → Rose (D.view disk.old).faults (D.view disk.new).faults ⊎ Rose (D.view other.old).faults (D.view other.new).faults }
     ensures door { result ≡ Err ServeEnd.Door → Rose (G.faults door.old) (G.faults door.new) }
