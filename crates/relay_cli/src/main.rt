@@ -14,9 +14,10 @@ mod verb;
 mod verdict;
 mod words_fault;
 
+use at_authority::Panel;
 use at_cid::Memory;
 pub use checking::check;
-use parts::{disk_in, panel_in, repos_in};
+use parts::{TABLES, authority_in, disk_in, repos_in};
 use progress::{Counted, Watched};
 use relay_io::{ReaderSource, SystemClock, WriterSink};
 pub use running::relay;
@@ -27,7 +28,11 @@ use std::process::ExitCode;
 
 // Runs the words on the real objects of a folder.
 fn run_in(rt: &HostRuntime, folder: &str, words: &[String]) -> Result<Status, Memory> {
-    let mut panel = panel_in(rt, folder)?;
+    let mut panel = Panel::new(rt.alloc());
+    for (method, name) in TABLES {
+        let authority = Box::new(rt.alloc(), authority_in(rt, folder, name)?)?;
+        panel.add(method, authority)?;
+    }
     let mut repos = repos_in(rt, folder)?;
     let mut disk = disk_in(rt, folder, "log")?;
     let mut other = disk_in(rt, folder, "log.2")?;

@@ -1,13 +1,13 @@
 //! The objects that a run works on, over the files of a folder.
 
-use at_authority::{FileAuthority, Panel};
+use at_authority::FileAuthority;
 use at_cid::Memory;
 use relay_disk::{FileDisk, LazyFile};
 use relay_io::FileRepos;
 use std::alloc::Global;
 
 /// The tables of authorities, by method, in the order in which they are asked.
-const TABLES: [(&str, &str); 4] = [
+pub const TABLES: [(&str, &str); 4] = [
     ("plc", "plc.1"),
     ("plc", "plc.2"),
     ("web", "web.1"),
@@ -40,22 +40,12 @@ pub fn repos_in<'a>(
     Ok(FileRepos::new(rt, rt.alloc(), path))
 }
 
-// An authority over a table of the folder, which is read at the first question.
-fn authority_in(
+/// The authority over a table of the folder, which is read at the first question.
+pub fn authority_in(
     rt: &HostRuntime,
     folder: &str,
     name: &str,
 ) -> Result<FileAuthority<HostRuntime>, Memory> {
     let path = path_in(rt.alloc(), folder, name)?;
     Ok(FileAuthority::new(rt.clone()?, rt.alloc(), path))
-}
-
-/// The authorities over the folder's tables.
-pub fn panel_in(rt: &HostRuntime, folder: &str) -> Result<Panel, Memory> {
-    let mut panel = Panel::new(rt.alloc());
-    for (method, name) in TABLES {
-        let authority = Box::new(rt.alloc(), authority_in(rt, folder, name)?)?;
-        panel.add(method, authority)?;
-    }
-    Ok(panel)
 }

@@ -1,0 +1,24 @@
+//! What is sent to who asks for the events behind a cursor: the cursor that a target names, and the messages that follow from
+//! it, to a guest at a door or onto an output.
+#![tactic(auto)]
+
+mod following;
+mod laws;
+mod notices;
+mod replay_fault;
+mod replaying;
+mod serve_fault;
+mod serving;
+mod standing;
+mod target;
+mod target_fault;
+
+pub use laws::greater_follow;
+pub use notices::{future_cursor, outdated_cursor};
+pub use replay_fault::ReplayFault;
+pub use replaying::replay;
+pub use serve_fault::ServeFault;
+pub use serving::{Served, serve};
+pub use standing::{Standing, standing_of};
+pub use target::{LAST_CURSOR, LONGEST_CURSOR, cursor_of};
+pub use target_fault::TargetFault;

@@ -1,0 +1,97 @@
+//! The edge by itself, to be tried against other programs.
+//!
+//! `edge_run feed HOST CURSOR` writes each message of a host's stream behind the cursor, after its
+//! length in four bytes (the most significant first), and ends with 0 where the host closed and with
+//! 1 where the feed failed.
+//!
+//! `edge_run door GUESTS MESSAGES LENGTH` serves so many guests, one after another. Each gets so many
+//! messages of so many bytes, all of them the letter `m`. It prints a line for each guest.
+#![tactic(auto)]
+
+ghost use Rattle.std.specs.Prelude.{IsTrue};
+
+use anyhow::{Context, Result, bail};
+use at_cid::Octets;
+use relay_io::{Door, Feed, Guest, WriterSink, write_all};
+use std::env;
+use std::process::ExitCode;
+use ws_edge::{DOOR_PORT, WsDoor, WsFeed};
+
+// Writes what a host gives.
+fn follow(rt: &HostRuntime, host: &str, cursor: u64) -> Result<()> {
+    let mut feed = WsFeed::new(rt.alloc(), rt);
+    let mut out = WriterSink::new(rt.stdout());
+    let mut message = Octets::new(rt.alloc());
+    feed.open(host, cursor)?;
+    for _ in 0..u64::MAX {
+        if !feed.next(&mut message)? {
+            break;
+        }
+        let length = message.len() as u32;
+        write_all(&mut out, &length.to_be_bytes())?;
+        write_all(&mut out, message.as_slice())?;
+    }
+    Ok(())
+}
+
+// Sends the message so many times to the guest who waits, and says how many were taken.
+fn send_times<G: Door>(door: &mut G, times: u64, message: &[u8]) -> u64
+    requires { IsTrue (G.waits door.old) }
+    ensures { IsTrue (G.waits door.new) }
+{
+    'sends: for i in 0..times {
+        if door.send(message).is_err() {
+            return i;
+        }
+    }
+    times
+}
+
+// Serves guests, each of whom gets the message so many times.
+fn serve(rt: &HostRuntime, guests: u64, times: u64, message: &[u8]) -> Result<()> {
+    let mut door = WsDoor::new(rt.alloc(), rt, DOOR_PORT);
+    for _ in 0..guests {
+        match door.next()? {
+            Guest::Target(target) => {
+                let sent = send_times(&mut door, times, message);
+                let end = if door.close().is_ok() {
+                    "closed"
+                } else {
+                    "failed"
+                };
+                println!(rt; "{} sent {sent} {end}", target.as_str())?;
+            }
+            Guest::NoHandshake => println!(rt; "no handshake")?,
+            Guest::End => println!(rt; "end")?,
+        }
+    }
+    Ok(())
+}
+
+fn run(rt: &HostRuntime) -> Result<()> {
+    let mut words = env::args(rt)?;
+    let _program = words.next();
+    let word = words.next().context("feed or door")?;
+    let first = words.next().context("a host, or how many guests")?;
+    let second = words.next().context("a cursor, or how many messages")?;
+    let second = second.parse::<u64>()?;
+    if word.as_str() == "feed" {
+        return follow(rt, first.as_str(), second);
+    }
+    if word.as_str() != "door" {
+        bail!("feed or door");
+    }
+    let length = words.next().context("how long a message is")?;
+    let message = vec![in rt.alloc(); b'm'; length.parse::<usize>()?]?;
+    serve(rt, first.parse::<u64>()?, second, message.as_slice())
+}
+
+fn main(rt: HostRuntime) -> ExitCode {
+    match run(&rt) {
+        Ok(()) => ExitCode::SUCCESS,
+        Err(error) => {
+            let _ = eprintln!(rt; "{error}");
+            ExitCode::from(1)
+        }
+    }
+}

@@ -1,0 +1,50 @@
+//! How long the edge waits, and how much it takes. Seconds are those that calls wait for the other
+//! side; what the relay does in between costs nobody anything.
+
+/// The seconds in which a guest's request has to come and its answer to leave.
+pub(crate) const WELCOME_SECONDS: u64 = 5;
+
+/// The seconds for telling a refused guest why.
+pub(crate) const REFUSAL_SECONDS: u64 = 1;
+
+/// The most seconds for which the messages of a session may wait to leave. Each byte that is handed
+/// over gives a microsecond back, so that a session waits no longer than this and a second for each
+/// megabyte.
+pub(crate) const SESSION_SECONDS: u64 = 30;
+
+/// The seconds for what a close sends off, and for the guest's own close.
+pub(crate) const CLOSE_SECONDS: u64 = 10;
+
+/// The seconds in which a host has to take the connection.
+pub(crate) const CONNECT_SECONDS: u64 = 10;
+
+/// The seconds in which a host has to answer the request for its stream.
+pub(crate) const ANSWER_SECONDS: u64 = 10;
+
+/// The seconds without a message after which a host is sent a ping.
+pub(crate) const QUIET_SECONDS: u64 = 30;
+
+/// The seconds that a host has for a pong, or for anything else that is whole.
+pub(crate) const PONG_SECONDS: u64 = 30;
+
+/// The longest head of a request or an answer, in bytes.
+pub(crate) const LONGEST_HEAD: usize = 16_384;
+
+/// The most fields of a head.
+pub(crate) const MOST_FIELDS: usize = 100;
+
+/// The longest payload of a ping, a pong or a close, in bytes (RFC 6455, section 5.5).
+pub(crate) const LONGEST_SIGN: u64 = 125;
+
+/// The most pings and pongs of a host that are passed over before it is sent a ping.
+pub(crate) const MOST_SIGNS: usize = 1000;
+
+/// The longest message of a guest, in bytes: a consumer has nothing to say.
+pub(crate) const LONGEST_WORD: usize = 4096;
+
+/// The most messages of a guest that are read at a time.
+pub(crate) const MOST_WORDS: usize = 1000;
+
+/// How many bytes of messages are kept to leave in one write, and how many are handed over between
+/// two looks at what the guest says.
+pub(crate) const WRITE_SIZE: usize = 131_072;

@@ -1,0 +1,141 @@
+//! The door over WebSockets.
+ghost use Rattle.std.specs.Prelude.{◌≡◌, [], false, is_some};
+
+use crate::handshake_fault::HandshakeFault;
+use crate::limits::WRITE_SIZE;
+use crate::serving::{Session, close_with, hear, send_to};
+use crate::welcome::welcome;
+use relay_io::{Door, DoorFault, Failed, Guest};
+use std::alloc::Global;
+use std::io::ErrorKind;
+use std::net::{Ipv4Addr, Net, OpenListener, SocketAddr};
+use std::time::Clock;
+
+/// The port at which consumers come in.
+pub const DOOR_PORT: u16 = 2470;
+
+/// A door on a port of 127.0.0.1, which opens at the first call of `next`. A guest whose connection
+/// goes away before the handshake is whole, or who is refused, is one without a handshake. No call
+/// says that no more will come.
+#[derive(Drop)]
+pub struct WsDoor<R: Net + Clock + Copy> {
+    alloc: Global,
+    rt: R,
+    port: u16,
+    listener: Option<R::Listener>,
+    guest: Option<Session<R::Stream, R>>,
+    // The bytes that were handed over since the last look at what the guest says.
+    unseen: usize,
+    // Whether a message of this session was not taken.
+    broken: bool,
+    faults: u64,
+    session_faults: u64,
+}
+
+impl<R: Net + Clock + Copy> WsDoor<R> {
+    /// A door that isn't open yet.
+    pub fn new(alloc: Global, rt: R, port: u16) -> WsDoor<R>
+        ensures waits { is_some result.guest ≡ false }
+        ensures faults { result.faults ≡ 0 }
+        ensures session_faults { result.session_faults ≡ 0 }
+    {
+        WsDoor {
+            alloc,
+            rt,
+            port,
+            listener: None,
+            guest: None,
+            unseen: 0,
+            broken: false,
+            faults: 0,
+            session_faults: 0,
+        }
+    }
+}
+
+impl<R: Net + Clock + Copy> Door for WsDoor<R> {
+    ghost tells = { false };
+
+    ghost guests = { λ _. [] };
+
+    ghost turns = { λ _. [] };
+
+    ghost waits = { λ door. is_some door.guest };
+
+    ghost faults = { λ door. door.faults };
+
+    ghost session_faults = { λ door. door.session_faults };
+
+    fn next(&mut self) -> Result<Guest, DoorFault> {
+        self.guest = None;
+        self.unseen = 0;
+        self.broken = false;
+        let stream = match connection(&self.rt, self.port, &mut self.listener) {
+            Ok(Some(stream)) => stream,
+            Ok(None) => return Ok(Guest::NoHandshake),
+            Err(Failed) => {
+                self.faults = self.faults.saturating_add(1);
+                return Err(DoorFault::Failed);
+            }
+        };
+        match welcome(self.alloc, stream, self.rt) {
+            Ok((target, session)) => {
+                self.guest = Some(session);
+                Ok(Guest::Target(target))
+            }
+            Err(HandshakeFault::Refused(_)) => Ok(Guest::NoHandshake),
+            Err(HandshakeFault::Memory) => Err(DoorFault::Memory),
+        }
+    }
+
+    /// A message that is handed over may leave with later ones, or with the close.
+    fn send(&mut self, message: &[u8]) -> Result<(), DoorFault> {
+        let Some(session) = &mut self.guest else {
+            return Ok(());
+        };
+        let mut sent = send_to(self.alloc, session, message);
+        self.unseen = self.unseen.saturating_add(message.len());
+        if self.unseen >= WRITE_SIZE && sent.is_ok() {
+            self.unseen = 0;
+            sent = hear(session);
+        }
+        if let Err(DoorFault::Failed) = sent {
+            self.broken = true;
+            self.session_faults = self.session_faults.saturating_add(1);
+        }
+        sent
+    }
+
+    fn close(&mut self) -> Result<(), Failed> {
+        let Some(mut session) = self.guest.take() else {
+            return Ok(());
+        };
+        if !self.broken && close_with(&mut session) {
+            return Ok(());
+        }
+        self.session_faults = self.session_faults.saturating_add(1);
+        Err(Failed)
+    }
+}
+
+// The next connection, or `None` where it went away before it was taken.
+fn connection<R: Net>(
+    rt: &R,
+    port: u16,
+    listener: &mut Option<R::Listener>,
+) -> Result<Option<R::Stream>, Failed> {
+    if listener.is_none() {
+        match rt.bind(SocketAddr::from((Ipv4Addr::LOCALHOST, port))) {
+            Ok(bound) => *listener = Some(bound),
+            Err(_) => return Err(Failed),
+        }
+    }
+    let Some(listener) = listener else {
+        return Err(Failed);
+    };
+    match listener.accept() {
+        Ok((stream, _)) => Ok(Some(stream)),
+        Err(e) if e.kind() == ErrorKind::ConnectionAborted => Ok(None),
+        Err(_) => Err(Failed),
+    }
+}
