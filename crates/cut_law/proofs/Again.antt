@@ -88,7 +88,7 @@ accounts_listed rows [] listed = refl
 accounts_listed rows (d ∷ ds) listed = accounts_listed rows ds listed
 
 same_hosts : (rows : List Row) → IsJournal rows → hosts (carried rows) ≡ hosts rows
-unfolding carried
+unfolding carried hosts
 same_hosts rows is =
     let first = Row.Carried (Carried.Last (last_seq rows)) in
     let all = account_rows rows (dids rows) in

@@ -25,7 +25,7 @@ put_behind : (low did : List ℕ) (ds : List (List ℕ)) → is_before low did �
 put_behind low did [] less are = (less, tt)
 put_behind low did (d ∷ ds) less are =
     elim (is_before did d) as (λ b. is_before did d ≡ b → AreBehind low (cond b (did ∷ d ∷ ds) (cond (bytes_eq did d) (d ∷ ds) (d ∷ put_did did ds)))) [
-      | true ↦ λ e. (less, e, are.1)
+      | true ↦ λ e. (less, (e, are.1))
       | false ↦ λ e. elim (bytes_eq did d) as (λ b. bytes_eq did d ≡ b → AreBehind low (cond b (d ∷ ds) (d ∷ put_did did ds))) [
         | true ↦ λ k. are
         | false ↦ λ k. (are.0, put_behind d did ds (before_total did d e k) are.1)
@@ -102,14 +102,14 @@ first_named : (low x : List ℕ) (ds : List (List ℕ)) → is_before low x ≡ 
 first_named low x ds less = or_left (names x x) (list_any (names x) ds) (names_itself x (above_text low x less))
 
 -- what is named among ascending DIDs is the first, or stands behind it
-among_first : (x y : List ℕ) (ds : List (List ℕ)) → AreBehind y ds → list_any (names x) (y ∷ ds) ≡ true → is_before x y ≡ false
+pub among_first : (x y : List ℕ) (ds : List (List ℕ)) → AreBehind y ds → list_any (names x) (y ∷ ds) ≡ true → is_before x y ≡ false
 among_first x y ds are some =
     elim (is_before x y) as (λ b. is_before x y ≡ b → b ≡ false) [
       | true ↦ λ e. absurd (true≢false (sym some ∙ not_among x (y ∷ ds) (e, are)))
       | false ↦ λ e. refl
     ] refl
 
-same_first : (x y : List ℕ) → is_before x y ≡ false → is_before y x ≡ false → x ≡ y
+pub same_first : (x y : List ℕ) → is_before x y ≡ false → is_before y x ≡ false → x ≡ y
 same_first x y less more =
     elim (bytes_eq x y) as (λ b. bytes_eq x y ≡ b → x ≡ y) [
       | true ↦ λ e. same_text x y e

@@ -1,6 +1,7 @@
 pub mod Fronts
 pub mod Hosts
 pub mod Dids
+pub mod Nexts
 pub mod Carrying
 pub mod Numbers
 pub mod Accounts

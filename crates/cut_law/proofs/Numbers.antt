@@ -54,10 +54,10 @@ few_if true xs ys one other = one
 few_if false xs ys one other = other
 
 pub few_in : (row : Row) → AreFew (events_in row)
-pub few_in (Row.Taken t) = few_if (t.seq == 0) (events_of t.fetched) ((t.seq, t.message) ∷ []) (few_of t.fetched) tt
-pub few_in (Row.Synced did whole moment) = tt
-pub few_in (Row.Operated o) = tt
-pub few_in (Row.Carried c) = tt
+few_in (Row.Taken t) = few_if (t.seq == 0) (events_of t.fetched) ((t.seq, t.message) ∷ []) (few_of t.fetched) tt
+few_in (Row.Synced did whole moment) = tt
+few_in (Row.Operated o) = tt
+few_in (Row.Carried c) = tt
 
 pub one_of_few : (xs : List Event) (e f : Event) → AreFew xs → IsIn e xs → IsIn f xs → e ≡ f
 one_of_few [] e f few one other = absurd one
