@@ -13,10 +13,11 @@ use Rattle.relay_row.specs.declared.row.Row.{Row}
 use Rattle.relay_row.proofs.Journals.{cursors_joined, events_joined, lasts_joined}
 use Rattle.relay_law.specs.Histories.{Change, adds, cuts, IsCut, IsChanged, AreChanged}
 use Rattle.relay_law.proofs.Tracking.{names_same}
-use Rattle.cut_law.specs.Lives.{AreJournals, AreBelow, WasCut}
-use Rattle.cut_law.proofs.Cutting.{each_in}
+use Rattle.cut_law.specs.Cut.{cut, MayCut}
+use Rattle.cut_law.specs.Lives.{AreJournals, AllCuts, ComesFrom, WasCut}
+use Rattle.cut_law.proofs.Cutting.{cut_is, each_in}
 use Rattle.cut_law.proofs.Dids.{names_none}
-use Rattle.cut_law.proofs.Following.{cut_cursor, cut_last, cut_sends}
+use Rattle.cut_law.proofs.Following.{cut_cursor, cut_journal, cut_last, cut_sends}
 use Rattle.cut_law.proofs.Hosts.{zero_is}
 use Rattle.cut_law.proofs.Numbers.{Event, IsIn, all_rise, behind, in_joined, is_in, lasts_rise, one_event, within}
 use Rattle.cut_law.proofs.Ordered.{AreNext, nexts}
@@ -126,7 +127,7 @@ event_stays J number K e is more one =
     (λ others. others)
     (Contains-append_cases (events is.front) (events is.others) e there))
 
-pub events_stay : (J : List Row) (changes : List Change) (K : List Row) → AreChanged J changes K → (e : Event) → AreBelow e.0 changes → Contains (events J) e → Contains (events K) e
+pub events_stay : (J : List Row) (changes : List Change) (K : List Row) → AreChanged J changes K → (e : Event) → AllCuts (λ at. at < e.0) changes → Contains (events J) e → Contains (events K) e
 events_stay J [] K came e below one = subst (λ (R : List Row). Contains (events R) e) (sym came) one
 events_stay J (adds rows ∷ changes) K (middle, is, came) e below one =
     let there : Contains (events middle) e = subst (λ (es : List Event). Contains es e) (sym (ap events is ∙ events_joined J rows)) (Contains-append_left (events J) (events rows) e one) in
@@ -146,3 +147,37 @@ rows_stay J (cuts at ∷ changes) K (middle, is, came) row one =
     ⊎_elim (λ there. inl there) (λ taken. inr (inr taken))
     (rows_stay middle changes K came row (subst (λ (R : List Row). Contains R row) (sym is.now) (Contains-append_right is.carried is.others row others))))
     (Contains-append_cases is.front is.others row (subst (λ (R : List Row). Contains R row) is.whole one))
+
+-- ---- without a cut
+
+pub all_stay : (J : List Row) (changes : List Change) (K : List Row) → AreChanged J changes K → AllCuts (λ at. ⊥) changes → (more : List Row) × (K ≡ J ++ more)
+all_stay J [] K came none = ([], came ∙ sym (append-nil J))
+all_stay J (adds rows ∷ changes) K (middle, is, came) none =
+    let more = all_stay middle changes K came none in
+    (rows ++ more.0, more.1 ∙ ap (λ (R : List Row). R ++ more.0) is ∙ append_assoc J rows more.0)
+all_stay J (cuts at ∷ changes) K (middle, is, came) none = absurd none.0
+
+-- ---- one change more
+
+more_changes : (P : ℕ → Type 0) (J : List Row) (changes : List Change) (K : List Row) (came : AreChanged J changes K) → AreJournals J changes K came → AllCuts P changes
+    → (change : Change) (L : List Row) → IsChanged K change L → AllCuts P (change ∷ []) → IsJournal L → ComesFrom P J L
+more_changes P J [] K came are all change L step at journal =
+    let Q : List Row → Type 0 = λ R. IsChanged R change L in
+    record { changes = change ∷ []; came = (L, subst Q came step, refl); journals = (are, journal); numbers = at }
+more_changes P J (adds rows ∷ changes) K (middle, is, came) are all change L step at journal =
+    let onwards = more_changes P middle changes K came are.1 all change L step at journal in
+    record { changes = adds rows ∷ onwards.changes; came = (middle, is, onwards.came); journals = (are.0, onwards.journals); numbers = onwards.numbers }
+more_changes P J (cuts number ∷ changes) K (middle, is, came) are all change L step at journal =
+    let onwards = more_changes P middle changes K came are.1 all.1 change L step at journal in
+    record { changes = cuts number ∷ onwards.changes; came = (middle, is, onwards.came); journals = (are.0, onwards.journals); numbers = (all.0, onwards.numbers) }
+
+pub comes_itself : (P : ℕ → Type 0) (J : List Row) → IsJournal J → ComesFrom P J J
+comes_itself P J is = record { changes = []; came = refl; journals = is; numbers = tt }
+
+pub comes_longer : (P : ℕ → Type 0) (J K rows : List Row) → ComesFrom P J K → IsJournal (K ++ rows) → ComesFrom P J (K ++ rows)
+comes_longer P J K rows from is = more_changes P J from.changes K from.came from.journals from.numbers (adds rows) (K ++ rows) refl tt is
+
+pub comes_cut : (P : ℕ → Type 0) (J K : List Row) (number : ℕ) → ComesFrom P J K → P number → IsJournal K → MayCut K number → ComesFrom P J (cut K number)
+comes_cut P J K number from at is may =
+    let step = cut_is K number is may in
+    more_changes P J from.changes K from.came from.journals from.numbers (cuts number) (cut K number) step (at, tt) (cut_journal K number (cut K number) step is)

@@ -1,5 +1,5 @@
 -- What holds of all cuts of journals.
-use Rattle.std.specs.Prelude.{◌≡◌, ◌⊎◌, ℕ, ◌≤◌, List, [], ◌∷◌, ◌++◌, length, take, drop, nat_lt, if◌then◌else◌, Contains}
+use Rattle.std.specs.Prelude.{◌≡◌, ◌⊎◌, ℕ, ◌<◌, ◌≤◌, List, [], ◌∷◌, ◌++◌, length, take, drop, nat_lt, if◌then◌else◌, Contains}
 use Rattle.std.specs.List.{filter}
 use Rattle.relay_row.specs.Folds.{cursor, events, is_named, last_seq}
 use Rattle.relay_row.specs.Journal.{IsJournal}
@@ -10,7 +10,7 @@ use Rattle.relay_law.specs.Carried.{AreOfKnown}
 use Rattle.relay_law.specs.Histories.{Change, IsCut, AreChanged}
 use Rattle.relay_law.specs.Sound.{IsSound}
 use Rattle.cut_law.specs.Cut.{is_old, front, rest, cut, MayCut}
-use Rattle.cut_law.specs.Lives.{AreJournals, AreBelow, WasCut}
+use Rattle.cut_law.specs.Lives.{AreJournals, AllCuts, WasCut}
 
 -- What follows from a journal's rows follows from what cutting leaves of them: accounts, and which DIDs are named, cursors, and the last number. And the hosts are listed in the same order.
 pub record CutsSayTheSame : Type 0 where
@@ -41,12 +41,13 @@ pub record FrontsAreFound : Type 0 where
   pub front_is : (c : ℕ) (rows : List Row) → take (length (front c rows)) rows ≡ front c rows
   pub rest_is : (c : ℕ) (rows : List Row) → drop (length (front c rows)) rows ≡ rest c rows
 
--- Over rows that are added and cuts, each of which leaves a journal, the last number and the cursors never fall; no number stands before two events; an event stays at its number unless a cut there or above comes; and each row stays, or is of the front that a cut took.
+-- Over rows that are added and cuts, each of which leaves a journal, the last number and the cursors never fall; no number stands before two events; an event stays at its number unless a cut there or above comes; each row stays, or is of the front that a cut took; and without a cut all rows stay.
 pub record LivesKeep : Type 0 where
   pub last : (J : List Row) (changes : List Change) (K : List Row) (came : AreChanged J changes K) → AreJournals J changes K came → last_seq J ≤ last_seq K
   pub cursors : (J : List Row) (changes : List Change) (K : List Row) (came : AreChanged J changes K) → AreJournals J changes K came → (host : List ℕ) → cursor host J ≤ cursor host K
   pub numbers : (J : List Row) (changes : List Change) (K : List Row) (came : AreChanged J changes K) → AreJournals J changes K came
       → (number : ℕ) (message other : List ℕ) → Contains (events J) (number, message) → Contains (events K) (number, other) → message ≡ other
   pub events : (J : List Row) (changes : List Change) (K : List Row) → AreChanged J changes K
-      → (number : ℕ) (message : List ℕ) → AreBelow number changes → Contains (events J) (number, message) → Contains (events K) (number, message)
+      → (number : ℕ) (message : List ℕ) → AllCuts (λ at. at < number) changes → Contains (events J) (number, message) → Contains (events K) (number, message)
   pub rows : (J : List Row) (changes : List Change) (K : List Row) (came : AreChanged J changes K) (row : Row) → Contains J row → Contains K row ⊎ WasCut row J changes K came
+  pub grows : (J : List Row) (changes : List Change) (K : List Row) → AreChanged J changes K → AllCuts (λ at. ⊥) changes → (more : List Row) × (K ≡ J ++ more)
