@@ -1,5 +1,5 @@
 -- The accounts of a journal have the forms of carried ones.
-use Rattle.std.proofs.Common.{◌≡◌, ℕ, Bool, true, false, ◌&&◌, ◌||◌, cond, List, [], ◌∷◌, ◌++◌, Option, Some, None, refl, sym, ap, ◌∙◌, subst, append_assoc}
+use Rattle.std.proofs.Common.{◌≡◌, ℕ, Bool, true, false, ◌&&◌, ◌||◌, cond, List, [], ◌∷◌, ◌++◌, Option, Some, None, refl, sym, subst, append_assoc}
 use Rattle.std.proofs.lemmas.List.{append-nil}
 use Rattle.std.specs.Bool.{beq}
 use Rattle.std.specs.Prelude.{◌==◌, nat_le}
@@ -8,7 +8,7 @@ use Rattle.at_event.specs.Refusals.{code_of}
 use Rattle.at_event.specs.declared.refusal.Refusal.{Refusal}
 use Rattle.relay_row.specs.Folds.{names, did_in}
 use Rattle.relay_row.specs.Journal.{IsJournal}
-use Rattle.relay_row.specs.Rules.{is_about, is_carried, is_cid, is_decided, is_detail, is_empty, is_fetched, is_head, is_moment, is_node, is_nothing, is_number, is_refused, is_repo, is_rev, is_rev_or_none, is_row, is_status, is_taken, is_timed, loses, names_did, names_host}
+use Rattle.relay_row.specs.Rules.{is_about, is_carried, is_cid, is_decided, is_detail, is_empty, is_fetched, is_moment, is_node, is_nothing, is_number, is_refused, is_repo, is_rev, is_rev_or_none, is_row, is_status, is_taken, is_timed, loses, names_did, names_host}
 use Rattle.relay_row.specs.declared.carried.Carried.{Carried}
 use Rattle.relay_row.specs.declared.carried.CarriedRepo.{CarriedRepo}
 use Rattle.relay_row.specs.declared.fetched.Fetched.{Fetched}
@@ -20,7 +20,7 @@ use Rattle.account_state.specs.Folds.{account, account_after, effected, last_rev
 use Rattle.account_state.specs.State.{State}
 use Rattle.account_state.specs.declared.repo.Repo.{Repo}
 use Rattle.account_state.proofs.Joined.{joined}
-use Rattle.relay_law.proofs.Heads.{IsFormedRepo, IsFormedAccount, accounts_are_formed}
+use Rattle.relay_law.proofs.Heads.{IsFormedRepo, accounts_are_formed}
 use Rattle.cut_law.specs.Cut.{repo_over}
 use Rattle.cut_law.proofs.Numbers.{formed_at}
 

@@ -1,15 +1,15 @@
 -- What carries rows over says the same as they do.
-use Rattle.std.proofs.Common.{◌≡◌, ℕ, Bool, true, false, ◌||◌, cond, List, [], ◌∷◌, ◌++◌, map, refl, sym, ap, ◌∙◌, subst}
-use Rattle.std.proofs.lemmas.Bool.{and_parts, or_parts}
+use Rattle.std.proofs.Common.{◌≡◌, ℕ, Bool, true, false, ◌||◌, cond, List, [], ◌∷◌, ◌++◌, refl, sym, ap, ◌∙◌}
+use Rattle.std.proofs.lemmas.Bool.{or_parts}
 use Rattle.std.proofs.lemmas.List.Folds.{list_any-append}
 use Rattle.std.specs.List.{list_any}
-use Rattle.std.specs.Prelude.{not, ◌&&◌, ◌==◌}
+use Rattle.std.specs.Prelude.{◌==◌}
 use Rattle.std.specs.Str.{bytes_eq}
-use Rattle.relay_row.specs.Folds.{folded, names, did_in, host_in, is_named, cursor_after, cursor, last_after, last_seq}
+use Rattle.relay_row.specs.Folds.{folded, names, did_in, is_named, cursor_after, cursor, last_after, last_seq}
 use Rattle.relay_row.specs.declared.carried.Carried.{Carried}
 use Rattle.relay_row.specs.declared.row.Row.{Row}
 use Rattle.relay_row.proofs.Journals.{folded_joined}
-use Rattle.account_state.specs.Folds.{fresh, moved, carried_as, repo_carried, account_after, account}
+use Rattle.account_state.specs.Folds.{fresh, moved, repo_carried, account_after, account}
 use Rattle.account_state.specs.State.{State}
 use Rattle.account_state.specs.declared.repo.Repo.{Repo}
 use Rattle.host_state.specs.Folds.{hosts, cursor_of}
@@ -156,7 +156,7 @@ same_last rows =
 
 -- ---- so folds over the cut are those over the journal
 
-pub same_fold : {A : Type 0} (step : A → Row → A) (a : A) (J : List Row) (c : ℕ) → folded step a (carried (front c J)) ≡ folded step a (front c J) → folded step a (cut J c) ≡ folded step a J
+same_fold : {A : Type 0} (step : A → Row → A) (a : A) (J : List Row) (c : ℕ) → folded step a (carried (front c J)) ≡ folded step a (front c J) → folded step a (cut J c) ≡ folded step a J
 unfolding cut
 same_fold step a J c same =
     folded_joined step a (carried (front c J)) (rest c J) ∙ ap (λ b. folded step b (rest c J)) same

@@ -1,10 +1,10 @@
 -- The cut of a journal is one in the sense of histories.
-use Rattle.std.proofs.Common.{◌≡◌, ◌⊎◌, inl, inr, ⊎_elim, ℕ, ◌<◌, ◌≤◌, Bool, true, false, ◌&&◌, ◌||◌, cond, List, [], ◌∷◌, ◌++◌, refl, sym, ap, ◌∙◌, subst, arith}
+use Rattle.std.proofs.Common.{◌≡◌, inl, inr, ⊎_elim, ℕ, ◌<◌, ◌≤◌, Bool, true, false, cond, List, [], ◌∷◌, ◌++◌, refl, sym, ◌∙◌, subst, arith}
 use Rattle.std.specs.List.{list_all, list_any}
 use Rattle.std.specs.Prelude.{nat_le, nat_lt}
-use Rattle.std.proofs.lemmas.Bool.{and_from, and_parts, false≢true, true≢false, le-leb, leb-true, leb-false, lt-ltb, or_cases, or_parts}
-use Rattle.relay_row.specs.Folds.{events, events_in, folded, last_after, last_seq, seq_in}
-use Rattle.relay_row.specs.Journal.{IsJournal, is_carried_row}
+use Rattle.std.proofs.lemmas.Bool.{and_from, and_parts, false≢true, le-leb, leb-true, leb-false, lt-ltb, or_cases, or_parts}
+use Rattle.relay_row.specs.Folds.{events, events_in, last_after, last_seq}
+use Rattle.relay_row.specs.Journal.{IsJournal}
 use Rattle.relay_row.specs.declared.row.Row.{Row}
 use Rattle.relay_row.proofs.Journals.{fronts}
 use Rattle.relay_law.specs.Histories.{IsCut}
@@ -16,7 +16,7 @@ use Rattle.cut_law.proofs.Ordered.{all_carried, carried_journal}
 
 -- ---- what passes among events
 
-pub all_in : (p : Event → Bool) (es : List Event) → ((e : Event) → IsIn e es → p e ≡ true) → list_all p es ≡ true
+all_in : (p : Event → Bool) (es : List Event) → ((e : Event) → IsIn e es → p e ≡ true) → list_all p es ≡ true
 all_in p [] each = refl
 all_in p (e ∷ es) each = and_from (p e) (list_all p es) (each e (inl refl)) (all_in p es (λ x one. each x (inr one)))
 

@@ -1,6 +1,6 @@
 -- The DIDs that rows name, in ascending order.
 use Rattle.std.proofs.Common.{◌≡◌, ℕ, Bool, true, false, ◌||◌, cond, List, [], ◌∷◌, refl, sym, ap, ◌∙◌, subst, arith, suc, length}
-use Rattle.std.proofs.lemmas.Bool.{and_parts, and_right, eqb-true, false≢true, true≢false, or_left, or_parts}
+use Rattle.std.proofs.lemmas.Bool.{and_parts, and_right, eqb-true, false≢true, true≢false, or_left}
 use Rattle.std.specs.List.{list_all, list_any}
 use Rattle.std.specs.Prelude.{not, ◌&&◌, ◌==◌}
 use Rattle.std.specs.Str.{bytes_eq}
@@ -9,7 +9,7 @@ use Rattle.relay_row.specs.Rules.{is_about, is_carried, is_decided, is_empty, is
 use Rattle.relay_row.specs.declared.carried.Carried.{Carried}
 use Rattle.relay_row.specs.declared.row.Row.{Row}
 use Rattle.account_state.specs.Entries.{is_before}
-use Rattle.account_state.proofs.Order.{before_apart, before_total, before_trans, is_text, not_back, same_text}
+use Rattle.account_state.proofs.Order.{before_apart, before_total, before_trans, is_text, same_text}
 use Rattle.cut_law.specs.Cut.{put_did, dids}
 
 -- ascending DIDs behind one
@@ -87,7 +87,7 @@ dids_named did (row ∷ rows) =
     ] refl
 
 -- a DID isn't among those behind it
-pub not_among : (did : List ℕ) (ds : List (List ℕ)) → AreBehind did ds → list_any (names did) ds ≡ false
+not_among : (did : List ℕ) (ds : List (List ℕ)) → AreBehind did ds → list_any (names did) ds ≡ false
 not_among did [] are = refl
 not_among did (d ∷ ds) are =
     let other : names did d ≡ false = and_right (not (bytes_eq did [])) (bytes_eq did d) (before_apart did d are.0) in

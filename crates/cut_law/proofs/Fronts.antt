@@ -18,10 +18,6 @@ pub split : (c : ℕ) (rows : List Row) → front c rows ++ rest c rows ≡ rows
 split c [] = refl
 split c (row ∷ rows) = split_by (have_old c (row ∷ rows)) row (front c rows) (rest c rows) rows (split c rows)
 
-pub front_none : (c : ℕ) (rows : List Row) → have_old c rows ≡ false → front c rows ≡ []
-front_none c [] none = refl
-front_none c (row ∷ rows) none = ap (λ (b : Bool). cond b (row ∷ front c rows) []) none
-
 -- behind the front no row is old
 pub rest_new : (c : ℕ) (rows : List Row) → have_old c (rest c rows) ≡ false
 rest_new c [] = refl
@@ -40,7 +36,7 @@ front_old c (row ∷ rows) =
       | false ↦ λ e. refl
     ] refl
 
-or_nothing : (b : Bool) → b || false ≡ b
+pub or_nothing : (b : Bool) → b || false ≡ b
 or_nothing true = refl
 or_nothing false = refl
 

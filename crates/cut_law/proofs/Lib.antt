@@ -4,6 +4,7 @@ pub mod Dids
 pub mod Nexts
 pub mod Carrying
 pub mod Numbers
+pub mod Tests
 pub mod Accounts
 pub mod Ordered
 pub mod Cutting

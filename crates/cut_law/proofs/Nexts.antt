@@ -2,9 +2,7 @@
 use Rattle.std.proofs.Common.{◌≡◌, ℕ, Bool, true, false, ◌||◌, cond, List, [], ◌∷◌, refl, sym, ap, ◌∙◌, subst}
 use Rattle.std.specs.List.{list_any}
 use Rattle.std.specs.Prelude.{if◌then◌else◌}
-use Rattle.std.proofs.lemmas.Bool.{and_right, or_left, or_parts, false_from_ne_true, false≢true, true≢false}
-use Rattle.std.specs.Prelude.{not, ◌&&◌}
-use Rattle.std.specs.Str.{bytes_eq}
+use Rattle.std.proofs.lemmas.Bool.{or_left, or_parts, false_from_ne_true, false≢true}
 use Rattle.relay_row.specs.Folds.{names, is_named}
 use Rattle.relay_row.specs.declared.row.Row.{Row}
 use Rattle.relay_law.proofs.Tracking.{names_same}

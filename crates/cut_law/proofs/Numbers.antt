@@ -17,7 +17,7 @@ use Rattle.relay_row.specs.declared.fetched.Whole.{Whole}
 use Rattle.relay_row.specs.declared.operated.Operated.{Operated}
 use Rattle.relay_row.specs.declared.row.Row.{Row}
 use Rattle.relay_row.specs.declared.taken.Taken.{Taken}
-use Rattle.relay_row.proofs.Journals.{events_joined, lasts_joined}
+use Rattle.relay_row.proofs.Journals.{lasts_joined}
 
 abbrev pub Event : Type 0
 Event = ℕ × List ℕ
@@ -149,7 +149,7 @@ synced_positive : (did : List ℕ) (whole : Whole) (moment : Option ℕ) → is_
 unfolding is_row
 synced_positive did whole moment is = whole_positive whole (and_parts (is_whole whole) (is_moment moment) (and_parts (names_did did) (is_whole whole && is_moment moment) is).1).0
 
-sent_positive : (row : Row) (e : Event) → is_row row ≡ true → IsIn e (events_in row) → is_positive e.0 ≡ true
+pub sent_positive : (row : Row) (e : Event) → is_row row ≡ true → IsIn e (events_in row) → is_positive e.0 ≡ true
 unfolding is_row
 sent_positive (Row.Taken t) e is one = in_if (t.seq == 0) t e refl (taken_sent t is) one
 sent_positive (Row.Synced did whole moment) e is (inl one) = positive_at (whole.seq, whole.message) e one (synced_positive did whole moment is)
@@ -211,7 +211,7 @@ first_alone [] n none = ⊎_elim (λ zero. inl zero) (λ more. inr more) (zero_o
     zero_or_more (suc n) = inr (omega arith)
 first_alone (row ∷ before) n none = absurd cc
 
-pub rises : (before : List Row) (row : Row) → keeps_order before row ≡ true → (seq_in row ≡ 0) ⊎ (last_seq before < seq_in row)
+rises : (before : List Row) (row : Row) → keeps_order before row ≡ true → (seq_in row ≡ 0) ⊎ (last_seq before < seq_in row)
 rises before (Row.Taken t) is = above (last_seq before) (seq_in (Row.Taken t)) (and_parts (nat_lt (cursor t.host before) t.host_seq) (is_above (last_seq before) (seq_in (Row.Taken t))) is).1
 rises before (Row.Synced did whole moment) is = above (last_seq before) whole.seq is
 rises before (Row.Operated o) is = above (last_seq before) o.seq is
@@ -238,7 +238,7 @@ last_stays last row none = let test : (seq_in row == 0) ≡ true = grind (arith,
 pub last_moves : (last : ℕ) (row : Row) → 0 < seq_in row → last_after last row ≡ seq_in row
 last_moves last row some = let test : (seq_in row == 0) ≡ false = grind (arith, nat_tests) in rw test refl
 
-pub last_rises : (last : ℕ) (row : Row) → (seq_in row ≡ 0) ⊎ (last < seq_in row) → last ≤ last_after last row
+last_rises : (last : ℕ) (row : Row) → (seq_in row ≡ 0) ⊎ (last < seq_in row) → last ≤ last_after last row
 last_rises last row (inl none) = omega (arith, last_stays last row none)
 last_rises last row (inr less) = omega (arith, less, last_moves last row (omega (arith, less)))
 

@@ -1,20 +1,18 @@
 -- Journals by their rows, one behind the other, and the rows that carry others over as a journal.
-use Rattle.std.proofs.Common.{◌≡◌, ℕ, ◌<◌, Bool, true, false, ◌&&◌, ◌||◌, cond, List, [], ◌∷◌, ◌++◌, Option, Some, None, refl, sym, ap, ◌∙◌, subst, arith, append_assoc}
-use Rattle.std.specs.Bool.{beq}
+use Rattle.std.proofs.Common.{◌≡◌, ℕ, ◌<◌, Bool, true, false, ◌&&◌, cond, List, [], ◌∷◌, ◌++◌, refl, sym, ap, ◌∙◌, subst, arith, append_assoc}
 use Rattle.std.specs.List.{list_all, list_any}
-use Rattle.std.specs.Prelude.{◌==◌, not, nat_le, nat_lt}
+use Rattle.std.specs.Prelude.{◌==◌, not, nat_lt}
 use Rattle.std.specs.Str.{bytes_eq}
-use Rattle.std.proofs.lemmas.Bool.{and_from, and_parts, and_right, cond-false, lt-ltb, not_from_false, or_from, or_right}
+use Rattle.std.proofs.lemmas.Bool.{and_from, and_right, cond-false, lt-ltb, not_from_false, or_from}
 use Rattle.std.proofs.lemmas.Bool.Decides.{nat_tests}
 use Rattle.std.proofs.lemmas.List.{append-nil}
 use Rattle.std.proofs.lemmas.List.Folds.{list_all-append}
-use Rattle.relay_row.specs.Folds.{names, did_in, is_named, cursor, cursor_after, last_seq}
+use Rattle.relay_row.specs.Folds.{names, did_in, is_named, cursor, last_seq}
 use Rattle.relay_row.specs.Journal.{IsJournal, are_none, is_carried_row, is_last_or_host, keeps_order}
 use Rattle.relay_row.specs.Rules.{is_carried, is_number, is_positive, is_repo, is_row, is_status, names_did, names_host}
 use Rattle.relay_row.specs.declared.carried.Carried.{Carried}
 use Rattle.relay_row.specs.declared.row.Row.{Row}
 use Rattle.relay_row.proofs.Journals.{cursors_joined, grows, no_rows}
-use Rattle.account_state.specs.Entries.{is_before}
 use Rattle.account_state.specs.Folds.{account}
 use Rattle.account_state.specs.State.{State}
 use Rattle.account_state.proofs.Order.{behind_apart}
