@@ -62,9 +62,9 @@ front_up_to c last [] e rise one = absurd one
 front_up_to c last (row ∷ rows) e rise one =
     elim (have_old c (row ∷ rows)) as (λ b. have_old c (row ∷ rows) ≡ b → IsIn e (events (cond b (row ∷ front c rows) [])) → e.0 ≤ c) [
       | true ↦ λ some here. ⊎_elim
-        (λ first. row_old c last row rows e rise some first)
-        (λ later. front_up_to c (last_after last row) rows e rise.2 later)
-        (in_joined (events_in row) (events (front c rows)) e here)
+          (λ first. row_old c last row rows e rise some first)
+          (λ later. front_up_to c (last_after last row) rows e rise.2 later)
+          (in_joined (events_in row) (events (front c rows)) e here)
       | false ↦ λ none here. absurd here
     ] refl one
 

@@ -60,7 +60,7 @@ free_more : (before : List Row) (host : List ℕ) (n : ℕ) (hs : List (List ℕ
 free_more before host n [] away free = tt
 free_more before host n (h ∷ hs) away free = (
   cursors_joined h.0 before (Row.Carried (Carried.Host host n) ∷ [])
-  ∙ cond-false (names h.0 host) n (cursor h.0 before) (and_right (not (bytes_eq h.0 [])) (bytes_eq h.0 host) (turned host h.0 away.0)) ∙ free.0,
+      ∙ cond-false (names h.0 host) n (cursor h.0 before) (and_right (not (bytes_eq h.0 [])) (bytes_eq h.0 host) (turned host h.0 away.0)) ∙ free.0,
   free_more before host n hs away.1 free.1,
 )
 
@@ -79,7 +79,7 @@ hosts_next before (h ∷ hs) some kinds apart are free =
       | false ↦ λ e. (
         host_row h.0 h.1 are.0.0 are.0.1 e,
         and_from (not (are_none before)) (list_all is_last_or_host before && cursor h.0 before == 0) (not_from_false (are_none before) some)
-        (and_from (list_all is_last_or_host before) (cursor h.0 before == 0) kinds (ap (λ (n : ℕ). n == 0) free.0)),
+            (and_from (list_all is_last_or_host before) (cursor h.0 before == 0) kinds (ap (λ (n : ℕ). n == 0) free.0)),
         hosts_next (before ++ row ∷ []) hs (some_more before row) (all_more is_last_or_host before row kinds refl) apart.1 are.1 (free_more before h.0 h.1 hs apart.0 free.1),
       )
     ] refl
@@ -103,7 +103,7 @@ new_more : (before : List Row) (did : List ℕ) (a : State) (ds : List (List ℕ
 new_more before did a [] are new = tt
 new_more before did a (d ∷ ds) are new = (
   named_more d before (account_row did a)
-  ∙ or_from (is_named d before) (names d did) new.0 (and_right (not (bytes_eq d [])) (bytes_eq d did) (behind_apart did d are.0)),
+      ∙ or_from (is_named d before) (names d did) new.0 (and_right (not (bytes_eq d [])) (bytes_eq d did) (behind_apart did d are.0)),
   new_more before did a ds (behind_lower did d ds are.0 are.1) new.1,
 )
 
@@ -120,7 +120,7 @@ accounts_next before rows low (did ∷ ds) formed some kinds are named new =
     let row = account_row did a in (
       account_formed did a named.0 (formed did),
       and_from (not (are_none before)) (list_all is_carried_row before && not (is_named did before)) (not_from_false (are_none before) some)
-      (and_from (list_all is_carried_row before) (not (is_named did before)) kinds (not_from_false (is_named did before) new.0)),
+          (and_from (list_all is_carried_row before) (not (is_named did before)) kinds (not_from_false (is_named did before) new.0)),
       accounts_next (before ++ row ∷ []) rows did ds formed (some_more before row) (all_more is_carried_row before row kinds refl) are.1 named.1 (new_more before did a ds are.1 new.1),
     )
 

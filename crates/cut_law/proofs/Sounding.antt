@@ -59,7 +59,7 @@ same_known before over [] same known = tt
 same_known before over (row ∷ rows) same known = (
   λ did m d rev is. subst (λ (a : State). a.repo ≢ Repo.Lost rev) (sym (same did)) (known.0 did m d rev is),
   same_known (before ++ row ∷ []) (over ++ row ∷ []) rows
-  (λ did. joined did over (row ∷ []) ∙ ap (λ (a : State). account_after did a row) (same did) ∙ sym (joined did before (row ∷ []))) known.1,
+      (λ did. joined did over (row ∷ []) ∙ ap (λ (a : State). account_after did a row) (same did) ∙ sym (joined did before (row ∷ []))) known.1,
 )
 
 -- ---- over a cut
