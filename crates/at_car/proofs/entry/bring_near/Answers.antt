@@ -1,4 +1,4 @@
-use Rattle.std.proofs.Common.{ap, rules, arith, ℕ, ◌≡◌, false}
+use Rattle.std.proofs.Common.{rules, arith, ℕ, ◌≡◌, false}
 use Rattle.std.proofs.lemmas.Bool.Decides.{nat_tests}
 use Rattle.std.specs.Ordering.{is_lt, nat_cmp}
 use Rattle.std.proofs.lemmas.Fn.{always_returns_same}
