@@ -1,6 +1,6 @@
 -- The front of a journal and the rows behind it.
 use Rattle.std.proofs.Common.{◌≡◌, ℕ, Bool, true, false, ◌||◌, cond, List, [], ◌∷◌, ◌++◌, length, take, drop, refl, sym, ap, ◌∙◌}
-use Rattle.std.proofs.lemmas.Bool.{or_right}
+use Rattle.std.proofs.lemmas.Bool.{or_left, or_right}
 use Rattle.std.proofs.lemmas.List.{take_at, drop_at}
 use Rattle.std.proofs.lemmas.List.Folds.{list_any-append}
 use Rattle.std.specs.List.{list_any}
@@ -82,3 +82,25 @@ behind c (x ∷ xs) ys old =
       front_is = ap (λ (b : Bool). cond b (x ∷ front c (xs ++ ys)) []) here ∙ ap (λ (l : List Row). x ∷ l) more.front_is;
       rest_is = ap (λ (b : Bool). cond b (rest c (xs ++ ys)) (x ∷ (xs ++ ys))) here ∙ more.rest_is;
     }
+
+-- ---- the front ends with the last old row
+
+none_front : (c : ℕ) (rows : List Row) → have_old c rows ≡ false → front c rows ≡ []
+none_front c [] none = refl
+none_front c (row ∷ rows) none = ap (λ (b : Bool). cond b (row ∷ front c rows) []) none
+
+none_rest : (c : ℕ) (rows : List Row) → have_old c rows ≡ false → rest c rows ≡ rows
+none_rest c [] none = refl
+none_rest c (row ∷ rows) none = ap (λ (b : Bool). cond b (rest c rows) (row ∷ rows)) none
+
+module _ (c : ℕ) (before : List Row) (row : Row) (after : List Row) (old : is_old c row ≡ true) (new : have_old c after ≡ false) where
+  some : have_old c (row ∷ after) ≡ true
+  some = or_left (is_old c row) (have_old c after) old
+
+  pub front_at : front c (before ++ row ∷ after) ≡ before ++ row ∷ []
+  front_at =
+      (behind c before (row ∷ after) some).front_is
+      ∙ ap (λ (l : List Row). before ++ l) (ap (λ (b : Bool). cond b (row ∷ front c after) []) some ∙ ap (λ (l : List Row). row ∷ l) (none_front c after new))
+
+  pub rest_at : rest c (before ++ row ∷ after) ≡ after
+  rest_at = (behind c before (row ∷ after) some).rest_is ∙ ap (λ (b : Bool). cond b (rest c after) (row ∷ after)) some ∙ none_rest c after new
