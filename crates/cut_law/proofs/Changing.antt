@@ -1,9 +1,9 @@
 -- What stays over rows that are added and cuts.
-use Rattle.std.proofs.Common.{◌≡◌, ◌⊎◌, inl, inr, ⊎_elim, ℕ, ◌<◌, ◌≤◌, true, false, ◌&&◌, cond, List, [], ◌∷◌, ◌++◌, Contains, refl, sym, ap, ◌∙◌, subst, arith, append_assoc}
+use Rattle.std.proofs.Common.{◌≡◌, ◌⊎◌, inl, inr, ⊎_elim, ℕ, ◌<◌, ◌≤◌, Bool, true, false, ◌&&◌, cond, List, [], ◌∷◌, ◌++◌, Contains, refl, sym, ap, ◌∙◌, subst, arith, append_assoc}
 use Rattle.std.specs.Prelude.{◌==◌, not, nat_le, nat_lt}
 use Rattle.std.specs.List.{list_all}
 use Rattle.std.specs.Str.{bytes_eq}
-use Rattle.std.proofs.lemmas.Bool.{and_parts, leb-true, ltb-true, true≢false}
+use Rattle.std.proofs.lemmas.Bool.{and_parts, leb-true, ltb-true, false≢true, true≢false}
 use Rattle.std.proofs.lemmas.List.{append-nil}
 use Rattle.std.proofs.lemmas.List.Elements.{Contains-append_left, Contains-append_right, Contains-append_cases}
 use Rattle.relay_row.specs.Folds.{names, host_in, host_seq_in, cursor, cursor_after, events, last_seq, seq_in}
@@ -127,12 +127,12 @@ event_stays J number K e is more one =
     (λ others. others)
     (Contains-append_cases (events is.front) (events is.others) e there))
 
-pub events_stay : (J : List Row) (changes : List Change) (K : List Row) → AreChanged J changes K → (e : Event) → AllCuts (λ at. at < e.0) changes → Contains (events J) e → Contains (events K) e
+pub events_stay : (J : List Row) (changes : List Change) (K : List Row) → AreChanged J changes K → (e : Event) → AllCuts (λ at. nat_lt at e.0) changes → Contains (events J) e → Contains (events K) e
 events_stay J [] K came e below one = subst (λ (R : List Row). Contains (events R) e) (sym came) one
 events_stay J (adds rows ∷ changes) K (middle, is, came) e below one =
     let there : Contains (events middle) e = subst (λ (es : List Event). Contains es e) (sym (ap events is ∙ events_joined J rows)) (Contains-append_left (events J) (events rows) e one) in
     events_stay middle changes K came e below there
-events_stay J (cuts at ∷ changes) K (middle, is, came) e below one = events_stay middle changes K came e below.1 (event_stays J at middle e is below.0 one)
+events_stay J (cuts at ∷ changes) K (middle, is, came) e below one = events_stay middle changes K came e below.1 (event_stays J at middle e is (ltb-true at e.0 below.0) one)
 
 -- ---- and each row, or a cut took it
 
@@ -150,34 +150,34 @@ rows_stay J (cuts at ∷ changes) K (middle, is, came) row one =
 
 -- ---- without a cut
 
-pub all_stay : (J : List Row) (changes : List Change) (K : List Row) → AreChanged J changes K → AllCuts (λ at. ⊥) changes → (more : List Row) × (K ≡ J ++ more)
+pub all_stay : (J : List Row) (changes : List Change) (K : List Row) → AreChanged J changes K → AllCuts (λ at. false) changes → (more : List Row) × (K ≡ J ++ more)
 all_stay J [] K came none = ([], came ∙ sym (append-nil J))
 all_stay J (adds rows ∷ changes) K (middle, is, came) none =
     let more = all_stay middle changes K came none in
     (rows ++ more.0, more.1 ∙ ap (λ (R : List Row). R ++ more.0) is ∙ append_assoc J rows more.0)
-all_stay J (cuts at ∷ changes) K (middle, is, came) none = absurd none.0
+all_stay J (cuts at ∷ changes) K (middle, is, came) none = absurd (false≢true none.0)
 
 -- ---- one change more
 
-more_changes : (P : ℕ → Type 0) (J : List Row) (changes : List Change) (K : List Row) (came : AreChanged J changes K) → AreJournals J changes K came → AllCuts P changes
-    → (change : Change) (L : List Row) → IsChanged K change L → AllCuts P (change ∷ []) → IsJournal L → ComesFrom P J L
-more_changes P J [] K came are all change L step at journal =
+more_changes : (passes : ℕ → Bool) (J : List Row) (changes : List Change) (K : List Row) (came : AreChanged J changes K) → AreJournals J changes K came → AllCuts passes changes
+    → (change : Change) (L : List Row) → IsChanged K change L → AllCuts passes (change ∷ []) → IsJournal L → ComesFrom passes J L
+more_changes passes J [] K came are all change L step at journal =
     let Q : List Row → Type 0 = λ R. IsChanged R change L in
     record { changes = change ∷ []; came = (L, subst Q came step, refl); journals = (are, journal); numbers = at }
-more_changes P J (adds rows ∷ changes) K (middle, is, came) are all change L step at journal =
-    let onwards = more_changes P middle changes K came are.1 all change L step at journal in
+more_changes passes J (adds rows ∷ changes) K (middle, is, came) are all change L step at journal =
+    let onwards = more_changes passes middle changes K came are.1 all change L step at journal in
     record { changes = adds rows ∷ onwards.changes; came = (middle, is, onwards.came); journals = (are.0, onwards.journals); numbers = onwards.numbers }
-more_changes P J (cuts number ∷ changes) K (middle, is, came) are all change L step at journal =
-    let onwards = more_changes P middle changes K came are.1 all.1 change L step at journal in
+more_changes passes J (cuts number ∷ changes) K (middle, is, came) are all change L step at journal =
+    let onwards = more_changes passes middle changes K came are.1 all.1 change L step at journal in
     record { changes = cuts number ∷ onwards.changes; came = (middle, is, onwards.came); journals = (are.0, onwards.journals); numbers = (all.0, onwards.numbers) }
 
-pub comes_itself : (P : ℕ → Type 0) (J : List Row) → IsJournal J → ComesFrom P J J
-comes_itself P J is = record { changes = []; came = refl; journals = is; numbers = tt }
+pub comes_itself : (passes : ℕ → Bool) (J : List Row) → IsJournal J → ComesFrom passes J J
+comes_itself passes J is = record { changes = []; came = refl; journals = is; numbers = tt }
 
-pub comes_longer : (P : ℕ → Type 0) (J K rows : List Row) → ComesFrom P J K → IsJournal (K ++ rows) → ComesFrom P J (K ++ rows)
-comes_longer P J K rows from is = more_changes P J from.changes K from.came from.journals from.numbers (adds rows) (K ++ rows) refl tt is
+pub comes_longer : (passes : ℕ → Bool) (J K rows : List Row) → ComesFrom passes J K → IsJournal (K ++ rows) → ComesFrom passes J (K ++ rows)
+comes_longer passes J K rows from is = more_changes passes J from.changes K from.came from.journals from.numbers (adds rows) (K ++ rows) refl tt is
 
-pub comes_cut : (P : ℕ → Type 0) (J K : List Row) (number : ℕ) → ComesFrom P J K → P number → IsJournal K → MayCut K number → ComesFrom P J (cut K number)
-comes_cut P J K number from at is may =
+pub comes_cut : (passes : ℕ → Bool) (J K : List Row) (number : ℕ) → ComesFrom passes J K → passes number ≡ true → IsJournal K → MayCut K number → ComesFrom passes J (cut K number)
+comes_cut passes J K number from at is may =
     let step = cut_is K number is may in
-    more_changes P J from.changes K from.came from.journals from.numbers (cuts number) (cut K number) step (at, tt) (cut_journal K number (cut K number) step is)
+    more_changes passes J from.changes K from.came from.journals from.numbers (cuts number) (cut K number) step (at, tt) (cut_journal K number (cut K number) step is)

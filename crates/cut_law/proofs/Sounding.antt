@@ -1,9 +1,9 @@
 -- What cutting a sound journal leaves is sound.
-use Rattle.std.proofs.Common.{◌≡◌, ◌≢◌, ℕ, Bool, true, false, cond, List, [], ◌∷◌, ◌++◌, Option, refl, sym, ap, ◌∙◌, subst, append_assoc}
+use Rattle.std.proofs.Common.{◌≡◌, ◌≢◌, ℕ, true, List, [], ◌∷◌, ◌++◌, sym, ap, ◌∙◌, subst, append_assoc}
 use Rattle.std.specs.List.{list_all}
 use Rattle.std.proofs.lemmas.Bool.{and_parts, false≢true}
 use Rattle.std.proofs.lemmas.List.{append-nil}
-use Rattle.relay_row.specs.Folds.{folded, names, did_in}
+use Rattle.relay_row.specs.Folds.{names, did_in}
 use Rattle.relay_row.specs.Journal.{IsJournal, is_carried_row}
 use Rattle.relay_row.specs.declared.carried.Carried.{Carried}
 use Rattle.relay_row.specs.declared.carried.CarriedRepo.{CarriedRepo}
@@ -12,8 +12,8 @@ use Rattle.account_state.specs.Folds.{account, account_after}
 use Rattle.account_state.specs.State.{State}
 use Rattle.account_state.specs.declared.repo.Repo.{Repo}
 use Rattle.account_state.proofs.Joined.{joined}
-use Rattle.relay_law.specs.Carried.{IsOfKnown, AreOfKnown}
-use Rattle.relay_law.specs.Chains.{commits, carried_part, part_in, part_of}
+use Rattle.relay_law.specs.Carried.{AreOfKnown}
+use Rattle.relay_law.specs.Chains.{commits, carried_part, part_in}
 use Rattle.relay_law.specs.Histories.{IsCut}
 use Rattle.relay_law.specs.Sound.{IsSound}
 use Rattle.relay_law.proofs.Carrying.{carried_sound}

@@ -1,5 +1,5 @@
 -- What holds of all cuts of journals.
-use Rattle.std.specs.Prelude.{◌≡◌, ◌⊎◌, ℕ, ◌<◌, ◌≤◌, List, [], ◌∷◌, ◌++◌, length, take, drop, nat_lt, if◌then◌else◌, Contains}
+use Rattle.std.specs.Prelude.{◌≡◌, ◌⊎◌, ℕ, ◌≤◌, false, List, [], ◌∷◌, ◌++◌, length, take, drop, nat_lt, if◌then◌else◌, Contains}
 use Rattle.std.specs.List.{filter}
 use Rattle.relay_row.specs.Folds.{cursor, events, is_named, last_seq}
 use Rattle.relay_row.specs.Journal.{IsJournal}
@@ -48,6 +48,6 @@ pub record LivesKeep : Type 0 where
   pub numbers : (J : List Row) (changes : List Change) (K : List Row) (came : AreChanged J changes K) → AreJournals J changes K came
       → (number : ℕ) (message other : List ℕ) → Contains (events J) (number, message) → Contains (events K) (number, other) → message ≡ other
   pub events : (J : List Row) (changes : List Change) (K : List Row) → AreChanged J changes K
-      → (number : ℕ) (message : List ℕ) → AllCuts (λ at. at < number) changes → Contains (events J) (number, message) → Contains (events K) (number, message)
+      → (number : ℕ) (message : List ℕ) → AllCuts (λ at. nat_lt at number) changes → Contains (events J) (number, message) → Contains (events K) (number, message)
   pub rows : (J : List Row) (changes : List Change) (K : List Row) (came : AreChanged J changes K) (row : Row) → Contains J row → Contains K row ⊎ WasCut row J changes K came
-  pub grows : (J : List Row) (changes : List Change) (K : List Row) → AreChanged J changes K → AllCuts (λ at. ⊥) changes → (more : List Row) × (K ≡ J ++ more)
+  pub grows : (J : List Row) (changes : List Change) (K : List Row) → AreChanged J changes K → AllCuts (λ at. false) changes → (more : List Row) × (K ≡ J ++ more)
