@@ -12,3 +12,4 @@ pub mod Following
 pub mod Again
 pub mod Changing
 pub mod Sounding
+pub mod Wanting

@@ -1,6 +1,7 @@
 //! The laws of cuts, each the contract of a function that does nothing.
 
 ghost use Rattle.cut_law.specs.Laws.{CutsAreJournals, CutsOfCuts, CutsSayTheSame, CutsStaySound, FrontsAreFound, LivesKeep};
+ghost use Rattle.cut_law.specs.Wanted.{PremisesAreWanted};
 
 /// What follows from a journal follows from what cutting leaves of it.
 pub fn cuts_say_the_same()
@@ -30,4 +31,9 @@ pub fn fronts_are_found()
 /// What stays over rows that are added and cuts.
 pub fn lives_keep()
     ensures { LivesKeep }
+{}
+
+/// Laws of cuts without one of their premises, none of which holds.
+pub fn premises_are_wanted()
+    ensures { PremisesAreWanted }
 {}
