@@ -6,7 +6,7 @@ use Rattle.std.specs.Ordering.{is_eq}
 use Rattle.std.specs.Str.{bytes_eq}
 use Rattle.std.proofs.lemmas.Slice.Eq.{bytes_eq-Decides}
 use Rattle.at_cid.specs.Distinct.{is_absent, all_differ}
-use Rattle.mst_view.specs.HoleLinks.{first_word}
+use Rattle.at_car.specs.Links.{first_word}
 
 -- numbers as a search tree tells them apart
 abbrev pub same : ℕ → ℕ → Bool
