@@ -1,4 +1,4 @@
-use Rattle.std.proofs.Common.{◌≡◌, ◌-◌, true, false, not, cond, ◌&&◌, ◌∷◌, drop, map, sym, ap, ◌∙◌, arith, nat_cmp}
+use Rattle.std.proofs.Common.{◌≡◌, ◌-◌, true, not, cond, ◌&&◌, ◌∷◌, drop, map, sym, ap, ◌∙◌, arith, nat_cmp}
 use Rattle.std.specs.BTreeMap.{is_at}
 use Rattle.std.specs.Str.{bytes_eq}
 use Rattle.at_cid.specs.Distinct.{is_absent, all_differ}

@@ -1,4 +1,4 @@
-use Rattle.std.proofs.Common.{◌≡◌, ℕ, ◌≤◌, List, length, drop, true, not, map, nat_cmp}
+use Rattle.std.proofs.Common.{◌≡◌, ℕ, ◌≤◌, length, drop, true, not, map, nat_cmp}
 use Rattle.std.specs.BTreeSet.{contains}
 use Rattle.std.specs.Str.{bytes_eq}
 use Rattle.at_cid.specs.Distinct.{is_absent, all_differ}
