@@ -9,8 +9,9 @@ ghost use Rattle.at_event.specs.declared.refusal.Refusal.{Refusal};
 use crate::checked::Checked;
 use crate::edits::edits;
 use crate::fault::CheckFault;
-use crate::leading::lead_back;
+use crate::leading::{lead_from, tree_at_hand};
 use crate::linking::some_lacks_prev;
+use crate::opened::Opened;
 use crate::opening::open_commit;
 use at_cid::Cid;
 use at_event::{CommitEvent, Refusal};
@@ -53,17 +54,16 @@ pub fn check(alloc: Global, event: &CommitEvent) -> Result<Checked, CheckFault>
     }
     let from = start_of(event);
     let ops = edits(alloc, event)?;
-    opened.car.blocks.tell_linked();
-    lead_back(
-        alloc,
-        &opened.car.blocks,
-        &from,
-        &opened.head.data_root,
-        &ops,
-    )?;
+    let Opened { head, car, .. } = opened;
+    let to = head.data_root;
+    car.blocks.tell_linked();
+    let tree = tree_at_hand(alloc, &car.blocks, &to, &ops)?;
+    // The tree has all that is wanted of the blocks.
+    drop(car);
+    lead_from(alloc, tree, &from, &to, &ops)?;
     Ok(Checked {
         from,
-        to: opened.head.data_root,
+        to,
         ops: event.ops.len() as u32,
     })
 }

@@ -1,12 +1,12 @@
 -- Links that begin differently.
-use Rattle.std.proofs.Common.{◌≡◌, ℕ, Bool, true, false, not, cond, ◌&&◌, List, [], ◌∷◌, map, refl, sym, ap, ◌∙◌, Ordering, Equal, nat_cmp}
+use Rattle.std.proofs.Common.{◌≡◌, ℕ, Bool, true, false, not, cond, ◌&&◌, List, [], ◌∷◌, map, refl, sym, ap, ◌∙◌, Equal, nat_cmp}
 use Rattle.std.specs.BTreeMap.{is_at}
 use Rattle.std.specs.Cmp.{nat_cmp_is}
 use Rattle.std.specs.Ordering.{is_eq}
 use Rattle.std.specs.Str.{bytes_eq}
 use Rattle.std.proofs.lemmas.Slice.Eq.{bytes_eq-Decides}
-use Rattle.at_cid.specs.Distinct.{is_absent, all_differ}
-use Rattle.mst_view.specs.HoleLinks.{first_word}
+use Rattle.at_cid.specs.Distinct.{is_absent}
+use Rattle.at_car.specs.Links.{first_word}
 
 -- numbers as a search tree tells them apart
 abbrev pub same : ℕ → ℕ → Bool

@@ -1,5 +1,7 @@
 -- Steps of a reading.
 use Rattle.std.proofs.Common.{◌≡◌, ℕ, zero, suc, ◌<◌, true, List, [], ◌∷◌, ◌++◌, length, get_or, refl, sym, ap, ◌∙◌, Option, Some, None, Result, Ok, Err, arith, append_assoc, append-nil, length-append}
+use Rattle.std.specs.Prelude.{reverse}
+use Rattle.std.proofs.lemmas.List.{reverse-append}
 use Rattle.std.specs.FinMap.{FinMap}
 use Rattle.at_cid.specs.Link.{cid}
 use Rattle.at_car.specs.Blocks.{AreLinked}
@@ -101,3 +103,8 @@ some_items h first parts None [] l f k s = absurd (cc)
 some_items h first [] None (e ∷ es) l f k s = absurd (cc)
 some_items h first (p ∷ parts) None (e ∷ es) l f k s = let both = length-append (below_items h first) (rest_items h (p ∷ parts)) in omega arith
 some_items h first parts (Some c) es l f k s = let low = some_first h first c l f in let both = length-append (below_items h first) (rest_items h parts) in omega arith
+
+-- ---- entries of which the first stands last
+
+pub taken : (old new : List Entry) (e : Entry) → old ≡ new ++ e ∷ [] → reverse old ≡ e ∷ reverse new
+taken old new e is = ap reverse is ∙ reverse-append new (e ∷ [])

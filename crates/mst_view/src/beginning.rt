@@ -3,22 +3,11 @@
 ghost use Rattle.std.specs.Prelude.{◌≡◌, IfOk, true};
 ghost use Rattle.std.specs.Str.{bytes_eq};
 ghost use Rattle.at_cid.specs.Distinct.{all_differ};
-ghost use Rattle.mst_view.specs.HoleLinks.{first_word};
 
+use at_car::first_word;
 use at_cid::{Cid, Memory};
 use std::alloc::Global;
 use std::collections::BTreeSet;
-
-/// The first eight bytes of a link's digest as a number.
-#[tactic(auto, unfolding(crate::specs::HoleLinks::first_word))]
-fn first_word(link: &Cid) -> u64
-    ensures { result ≡ first_word link.now }
-{
-    let bytes = link.as_bytes();
-    u64::from_be_bytes([
-        bytes[4], bytes[5], bytes[6], bytes[7], bytes[8], bytes[9], bytes[10], bytes[11],
-    ])
-}
 
 /// Whether no link begins as another, so that none stands twice: a search tree holds the numbers of those behind the one
 /// at hand, which are compared faster than links.

@@ -1,6 +1,6 @@
 //! Reading trees from blocks.
 
-ghost use Rattle.std.specs.Prelude.{◌≡◌, IfOk, Some, None, true, option_map};
+ghost use Rattle.std.specs.Prelude.{◌≡◌, IfOk, Some, None, true, option_map, reverse};
 ghost use Rattle.at_cid.specs.Link.{cid};
 ghost use Rattle.at_cid.specs.Memory.{Gives};
 ghost use Rattle.mst_node.specs.NodeBytes.{node_bytes};
@@ -20,7 +20,6 @@ use at_car::Blocks;
 use at_cid::{Cid, Memory};
 use mst_node::{Entries, Entry, Node, NodeFault, next_key, node_fits, read_node};
 use std::alloc::{AllocError, AllocFailed, Global};
-use std::collections::VecDeque;
 
 /// Why a tree can't be read.
 #[derive(Debug, Drop)]
@@ -90,13 +89,26 @@ fn read_below(
     Ok(Below::Tree(Box::new(alloc, branch)?))
 }
 
-/// The key at which what hangs before some entries ends: that of the first one, or else the bound behind them.
-fn bound_before<'a>(high: Option<&'a [u8]>, entries: &'a VecDeque<Entry>) -> Option<&'a [u8]>
-    ensures { option_map (λ k. k.now) result ≡ next_bound (option_map (λ k. k.now) high.entry) entries.now.items }
+/// The key at which what hangs before some entries ends, of which the first stands last: that of the first one, or else the
+/// bound behind them.
+fn bound_before<'a>(high: Option<&'a [u8]>, entries: &'a [Entry]) -> Option<&'a [u8]>
+    ensures { option_map (λ k. k.now) result ≡ next_bound (option_map (λ k. k.now) high.entry) (reverse entries.now) }
 {
-    match entries.front() {
+    match entries.last() {
         Some(entry) => Some(entry.key.as_slice()),
         None => high,
+    }
+}
+
+/// The room of so many entries is given back at once.
+const MANY_ENTRIES: usize = 1_024;
+
+/// Gives back the room behind some entries, where it is much.
+fn give_back(entries: &mut Vec<Entry>)
+    ensures { entries.new.items ≡ entries.old.items }
+{
+    if entries.capacity().saturating_sub(entries.len()) >= MANY_ENTRIES {
+        entries.shrink_to_fit();
     }
 }
 
@@ -115,10 +127,13 @@ fn read_rest(
     ensures keeps { IfOk result (λ rest. entries_of rest.items ≡ entries) }
 {
     let mut rest = Vec::with_capacity(alloc, entries.len())?;
-    let mut left = VecDeque::from_vec(entries.into_vec());
-    'entries: while let Some(entry) = left.pop_front() {
+    let mut left = entries.into_vec();
+    // The first is taken from the end, so that the room of those that were taken can be given back.
+    left.reverse();
+    'entries: while let Some(entry) = left.pop() {
+        give_back(&mut left);
         let Entry { key, value, right } = entry;
-        let high = bound_before(high, &left);
+        let high = bound_before(high, left.as_slice());
         let below = read_below(alloc, blocks, layer, Some(key.as_slice()), high, right)?;
         rest.push(Part { key, value, below })?;
     }

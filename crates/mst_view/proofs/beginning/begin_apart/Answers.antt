@@ -1,8 +1,8 @@
-use Rattle.std.proofs.Common.{◌≡◌, ◌-◌, true, false, not, cond, ◌&&◌, ◌∷◌, drop, map, sym, ap, ◌∙◌, arith, nat_cmp}
+use Rattle.std.proofs.Common.{◌≡◌, ◌-◌, true, not, cond, ◌&&◌, ◌∷◌, drop, map, sym, ap, ◌∙◌, arith, nat_cmp}
 use Rattle.std.specs.BTreeMap.{is_at}
 use Rattle.std.specs.Str.{bytes_eq}
 use Rattle.at_cid.specs.Distinct.{is_absent, all_differ}
-use Rattle.mst_view.specs.HoleLinks.{first_word}
+use Rattle.at_car.specs.Links.{first_word}
 use Rattle.mst_view.proofs.FirstWords.{same, new_word, word_seen}
 use Rattle.mst_view.proofs.HoleLinks.{from_place, not_not}
 use Rattle.mst_view.proofs.beginning.begin_apart.Goals as goal

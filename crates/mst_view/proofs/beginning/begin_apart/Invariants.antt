@@ -1,8 +1,8 @@
-use Rattle.std.proofs.Common.{◌≡◌, ℕ, ◌≤◌, List, length, drop, true, not, map, nat_cmp}
+use Rattle.std.proofs.Common.{◌≡◌, ℕ, ◌≤◌, length, drop, true, not, map, nat_cmp}
 use Rattle.std.specs.BTreeSet.{contains}
 use Rattle.std.specs.Str.{bytes_eq}
 use Rattle.at_cid.specs.Distinct.{is_absent, all_differ}
-use Rattle.mst_view.specs.HoleLinks.{first_word}
+use Rattle.at_car.specs.Links.{first_word}
 use Rattle.mst_view.proofs.FirstWords.{same}
 use Rattle.mst_view.proofs.beginning.begin_apart.Given as goal
 

@@ -1,5 +1,5 @@
 use Rattle.std.proofs.Common.{length, ◌≡◌, ◌++◌, ◌+◌, ◌*◌}
-use Rattle.std.specs.Prelude.{option_map}
+use Rattle.std.specs.Prelude.{option_map, reverse}
 use Rattle.mst_node.specs.FirstFault.{in_part}
 use Rattle.mst_node.specs.TreeReading.{part_at, rights_of}
 use Rattle.mst_view.specs.Layered.{AllAt, rest_items, entries_of}
@@ -19,9 +19,9 @@ decreases-read_parts l = 3 * l.layer + 2
 abbrev pub invariant-read_rest-entries : goal.invariant-read_rest-entries
 invariant-read_rest-entries l = record {
   at : AllAt l.layer l.rest.items;
-  hang : AllHang l.layer l.left.items;
-  keeps : entries_of l.rest.items ++ l.left.items ≡ l.fn.entries;
-  reads : with_front (rest_items l.layer l.rest.items) (rights_of (part_at in_part node_of l.blocks l.layer) (option_map (λ k. k.now) l.high) l.left.items) ≡ rights_of (part_at in_part node_of l.blocks l.layer) (option_map (λ k. k.now) l.high) l.fn.entries;
+  hang : AllHang l.layer (reverse l.left.items);
+  keeps : entries_of l.rest.items ++ reverse l.left.items ≡ l.fn.entries;
+  reads : with_front (rest_items l.layer l.rest.items) (rights_of (part_at in_part node_of l.blocks l.layer) (option_map (λ k. k.now) l.high) (reverse l.left.items)) ≡ rights_of (part_at in_part node_of l.blocks l.layer) (option_map (λ k. k.now) l.high) l.fn.entries;
 }
 
 abbrev pub decreases-read_rest-entries : goal.decreases-read_rest-entries
