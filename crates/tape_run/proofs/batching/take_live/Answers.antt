@@ -1,5 +1,5 @@
-use Rattle.std.proofs.Common.{arith}
-use Rattle.tape_run.proofs.Answers.{answered_few}
+use Rattle.std.proofs.Common.{ap, arith, length}
+use Rattle.tape_run.proofs.Answers.{answered_few, some_answered}
 use Rattle.tape_run.proofs.Batches.{live_goes, live_stops, live_unwritten}
 use Rattle.tape_run.proofs.batching.take_live.Goals as goal
 
@@ -11,12 +11,20 @@ returns-in-Err-clause-stopped g c = λ J of.
 pub returns-in-None-clause-took : goal.returns-in-None-clause-took
 returns-in-None-clause-took g c = λ J of.
     live_goes g.D.Disk.view _ J c.args.group.now _ _ _ _ (c.take_all-batch.ensures.batched J of) c.as_slice-outcomes.result.now c.as_slice-outcomes.ensures.value c.args.tally.now c.requires.live _ _ _
-    c.in-None.is c.requires.some c.in-Ok.ensures.noted c.in-Ok.ensures.written c.min.result (λ some few. omega (arith, some, few, c.max.ensures, c.min.ensures))
+    c.in-None.is c.in-Ok.ensures.noted c.in-Ok.ensures.written c.len.result c.len.ensures
 
 pub returns-in-None-clause-count : goal.returns-in-None-clause-count
 returns-in-None-clause-count g c =
     let few = answered_few c.args.group.now c.as_slice-outcomes.result.now in
-    omega (arith, c.in-Ok.ensures.noted.messages, few.0, few.1, c.max.ensures, c.min.ensures)
+    omega (arith, c.in-Ok.ensures.noted.messages, few.1, c.len.ensures)
+
+pub returns-in-None-clause-some : goal.returns-in-None-clause-some
+returns-in-None-clause-some g c =
+    let some = some_answered c.args.group.now c.take_all-batch.result.outcomes.items c.requires.some (c.take_all-batch.ensures.all c.in-None.is) in
+    omega (arith, some, c.len.ensures, ap length c.as_slice-outcomes.ensures.value)
+
+pub returns-in-None-clause-few : goal.returns-in-None-clause-few
+returns-in-None-clause-few g c = omega (arith, c.take_all-batch.ensures.few, c.len.ensures, ap length c.as_slice-outcomes.ensures.value)
 
 pub returns-clause-stopped : goal.returns-clause-stopped
 returns-clause-stopped g c = λ J of.
