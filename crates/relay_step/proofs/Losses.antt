@@ -318,13 +318,13 @@ no_moment (Some m) h = absurd (h m refl)
 pub pass_told : (clock_tells repos_tell : Bool) (c : Core) (host : List ℕ) (e : Seen) (x : Answers) (pass : Pass) (why : Passed) → why ≡ passed_as (Ok (Frame.Event e)) → (old : Around) (new : Panel) (left : List ℕ)
     → AreAsked clock_tells c.last (cursor_in c host) (account_in c e.did) host e x old.panel old.moments new left → next_of (cursor_in c host) (account_in c e.did) (Frame.Event e) x ≡ Next.Pass pass
     → EventTold clock_tells repos_tell c host e (Outcome.Passed why) old (around new left old.repository)
-pass_told clock_tells repos_tell c host e x pass why as old new left so_far passed_is =
+pass_told clock_tells repos_tell c host e x pass why why_is old new left so_far passed_is =
     let over = passes_over (cursor_in c host) (account_in c e.did) e x pass passed_is in
     let none = so_far.tidy.early (no_moment x.moment (λ m same. false≢true (sym (so_far.above m same) ∙ over.0))) in
     let P : List Call → Type 0 = λ l. AreCalls old.panel l new in
     let M : Option ℕ → Type 0 = λ m. IsTrue clock_tells → IsTimedSo old.moments m left in (
-      as,
-      ap old_if over.0 ∙ ap (λ (w : Passed). Some (pass_of w)) (sym as),
+      why_is,
+      ap old_if over.0 ∙ ap (λ (w : Passed). Some (pass_of w)) (sym why_is),
       record {
         panel = subst P (early_none (account_in c e.did) host e x none) so_far.calls;
         moments = subst M (ap (λ (y : Answers). y.moment) none) so_far.timed;

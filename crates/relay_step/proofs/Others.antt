@@ -67,7 +67,7 @@ old_only true pass is = cc
 old_only false pass is = let no : ⊥ = cc in absurd no
 
 pub passed_same : (cursor : ℕ) (frame : Frame) (pass : Pass) (why : Passed) → passed cursor frame ≡ Some pass → why ≡ passed_as (Ok frame) → passed cursor frame ≡ Some (pass_of why)
-passed_same cursor frame pass why is as = is ∙ ap Some (sym (ap pass_of as ∙ same_pass frame is))
+passed_same cursor frame pass why is why_is = is ∙ ap Some (sym (ap pass_of why_is ∙ same_pass frame is))
   where
     same_pass : (f : Frame) → passed cursor f ≡ Some pass → pass_of (passed_as (Ok f)) ≡ pass
     same_pass (Frame.Event e) h = old_only (nat_le e.seq cursor) pass h

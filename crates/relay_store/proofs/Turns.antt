@@ -52,11 +52,11 @@ added_one end row state state_now places places_now d d_now added = record {
 
 -- what is answered to a message that makes no row is of the reason that is told of it
 pub passed_told : (told : Decided) (why : Passed) (o : Outcome) → told ≡ Decided.Passed why → o ≡ outcome_passed why → (frame : Result Frame FrameFault) → IsPassedAs frame told → outcome_told frame (told_as told) ≡ Some o
-passed_told told why o is made frame as =
-    subst (λ (t : Decided). outcome_told frame (told_as t) ≡ Some o) (sym is) (ap Some (ap outcome_passed (sym (subst (IsPassedAs frame) is as)) ∙ sym made))
+passed_told told why o is made frame why_is =
+    subst (λ (t : Decided). outcome_told frame (told_as t) ≡ Some o) (sym is) (ap Some (ap outcome_passed (sym (subst (IsPassedAs frame) is why_is)) ∙ sym made))
 
 pub took_told : (told : Decided) (t : Taken) (o : Outcome) → told ≡ Decided.Took t → o ≡ taken_outcome t → (frame : Result Frame FrameFault) → IsPassedAs frame told → outcome_told frame (told_as told) ≡ Some o
-took_told told t o is made frame as = subst (λ (x : Decided). outcome_told frame (told_as x) ≡ Some o) (sym is) (ap Some (sym made))
+took_told told t o is made frame why_is = subst (λ (x : Decided). outcome_told frame (told_as x) ≡ Some o) (sym is) (ap Some (sym made))
 
 pub late_one : (log : LogState) (d : Draft) (told : Told) (row : Row) (f : StoreFault) → ((f ≡ StoreFault.Memory) ⊎ ((e : ℕ) × (f ≡ StoreFault.Full e)))
     → ((e : ℕ) → f ≡ StoreFault.Full e → IsTooLate log d told (StoreFault.Full e)) → IsTooLate log d told f
