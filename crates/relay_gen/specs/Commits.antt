@@ -3,13 +3,9 @@ use Rattle.std.specs.Prelude.{ℕ, zero, suc, ◌+◌, ◌*◌, ◌%◌, ◌==�
 use Rattle.mst_list.specs.declared.item.Item.{Item}
 use Rattle.mst_list.specs.declared.op.Op.{Op}
 use Rattle.mst_node.specs.Trees.{root}
+use Rattle.relay_gen.specs.declared.past.Past.{Past}
 use Rattle.relay_gen.specs.Draws.{next, drawn}
 use Rattle.relay_gen.specs.Drafts.{Draft, drafted, played}
-
--- what a commit says of the one before it: its revision and the root of its map
-pub record Past : Type 0 where
-  pub rev : ℕ
-  pub data_root : List ℕ
 
 -- a commit of an account, its number in the stream of its host, and the map that it leaves
 pub record Commit : Type 0 where

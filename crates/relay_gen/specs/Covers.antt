@@ -9,13 +9,17 @@ use Rattle.mst_node.specs.Fits.{is_under}
 use Rattle.mst_node.specs.Reading.{is_over}
 use Rattle.mst_node.specs.Trees.{nodes}
 
--- the block is on the way to the key: it is spelled over a part of the map whose bounds lie round the key
-abbrev pub is_on_way : List ℕ → Spelled → Bool
-is_on_way k e = is_over e.low k && is_under k e.high
+-- one of the keys lies between two bounds
+abbrev pub one_between : Option (List ℕ) → Option (List ℕ) → List (List ℕ) → Bool
+one_between low high keys = list_any (λ k. is_over low k && is_under k high) keys
 
--- the block is on the way to one of the keys
+-- the block is on the way to one of the keys: it is spelled over a part of the map whose bounds lie round the key
 abbrev pub is_on_ways : List (List ℕ) → Spelled → Bool
-is_on_ways keys e = list_any (λ k. is_on_way k e) keys
+is_on_ways keys e = one_between e.low e.high keys
+
+-- the blocks that are on the way to one of the keys
+abbrev pub on_ways : List (List ℕ) → List Spelled → List (List ℕ)
+on_ways keys blocks = map (λ (e : Spelled). e.block) (filter (is_on_ways keys) blocks)
 
 abbrev pub key_or_none : Option (List ℕ) → List (List ℕ)
 key_or_none None = []
@@ -33,7 +37,7 @@ covered_keys t (op ∷ ops) = op.key ∷ (neighbours t op.key op.was ++ covered_
 
 -- the blocks of the tree of t that cover the operations, parents first
 abbrev pub cover : List Item → List Op → List (List ℕ)
-cover t ops = map (λ (e : Spelled). e.block) (filter (is_on_ways (covered_keys t ops)) (spelled t))
+cover t ops = on_ways (covered_keys t ops) (spelled t)
 
 -- the blocks that are given: the empty node where the map is empty, and else the cover
 abbrev pub given : List Item → List Op → List (List ℕ)

@@ -5,4 +5,7 @@ pub mod Commits
 pub mod Covers
 pub mod Messages
 pub mod Histories
+pub mod Records
+pub mod Walks
+pub mod States
 pub mod Laws

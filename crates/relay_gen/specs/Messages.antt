@@ -14,16 +14,17 @@ use Rattle.at_event.specs.Writing.{message_of, number_item}
 use Rattle.mst_list.specs.declared.op.Op.{Op}
 use Rattle.mst_node.specs.Trees.{root}
 use Rattle.relay_gen.specs.Names.{did_of, host_of}
-use Rattle.relay_gen.specs.Commits.{Commit, Past}
+use Rattle.relay_gen.specs.declared.past.Past.{Past}
+use Rattle.relay_gen.specs.Commits.{Commit}
 use Rattle.relay_gen.specs.Covers.{given}
 
 -- the commit object: its signature is 64 zeros
 unfoldable pub object_of : List ℕ → ℕ → List ℕ → List ℕ
-object_of did rev data = spelling (Item.map (fields_of (
+object_of did rev data_root = spelling (Item.map (fields_of (
     (codes "did", Item.text did)
     ∷ (codes "rev", Item.text (digits_of rev))
     ∷ (codes "sig", Item.bytes (repeat 64 (0 ∷ [])))
-    ∷ (codes "data", Item.link data)
+    ∷ (codes "data", Item.link data_root)
     ∷ (codes "prev", Item.null)
     ∷ (codes "version", Item.int (pos 3))
     ∷ [])))
@@ -59,21 +60,29 @@ abbrev pub prev_data : Option Past → List (List ℕ × Item)
 prev_data None = []
 prev_data (Some past) = (codes "prevData", Item.link past.data_root) ∷ []
 
--- the payload of a `#commit`
-unfoldable pub payload_of : List ℕ → ℕ → ℕ → Option Past → List Op → List ℕ → List ℕ → Item
-payload_of did seq rev past ops commit blocks = Item.map (fields_of (
+-- the fields of a `#commit`, in their order: those up to the DID, and those behind it
+abbrev pub front_fields : List Op → ℕ → ℕ → List ℕ → List (List ℕ × Item)
+front_fields ops rev seq did =
     (codes "ops", Item.list (items_of (map op_item ops)))
     ∷ (codes "rev", Item.text (digits_of rev))
     ∷ (codes "seq", number_item seq)
     ∷ (codes "repo", Item.text did)
-    ∷ (codes "time", Item.text (codes "2025-01-01T00:00:00Z"))
+    ∷ []
+
+abbrev pub back_fields : Option Past → List ℕ → List ℕ → List (List ℕ × Item)
+back_fields past blocks commit =
+    (codes "time", Item.text (codes "2025-01-01T00:00:00Z"))
     ∷ (codes "blobs", Item.list no_items)
     ∷ (codes "since", since_item past)
     ∷ (codes "blocks", Item.bytes blocks)
     ∷ (codes "commit", Item.link commit)
     ∷ (codes "rebase", Item.bool false)
     ∷ (codes "tooBig", Item.bool false)
-    ∷ prev_data past))
+    ∷ prev_data past
+
+-- the payload of a `#commit`
+unfoldable pub payload_of : List ℕ → ℕ → ℕ → Option Past → List Op → List ℕ → List ℕ → Item
+payload_of did seq rev past ops commit blocks = Item.map (fields_of (front_fields ops rev seq did ++ back_fields past blocks commit))
 
 -- the commit object of a commit
 abbrev pub object : Commit → List ℕ

@@ -1,5 +1,11 @@
 //! What a commit is to do.
 
+ghost use Rattle.std.specs.Prelude.{◌≡◌, ◌≤◌, ◌<◌, map, OnOk, IfOk};
+ghost use Rattle.relay_gen.specs.declared.history.TheConstants.{MOST_MESSAGES};
+ghost use Rattle.relay_gen.specs.Names.{value_of};
+ghost use Rattle.relay_gen.specs.Drafts.{drafted, with_drawn, with_op};
+ghost use Rattle.relay_gen.specs.Records.{item_of, op_of};
+
 use crate::draws::Draws;
 use crate::paths::path_of;
 use crate::records::{Change, Record};
@@ -8,7 +14,10 @@ use at_cid::{Cid, Memory, Octets, cid_of};
 use std::alloc::Global;
 
 /// The link of the value of a number: the object `{n}`.
-fn value_of(alloc: Global, number: u32) -> Result<Cid, Memory> {
+#[tactic(auto, unfolding(crate::specs::Names::value_of))]
+fn value_of(alloc: Global, number: u32) -> Result<Cid, Memory>
+    ensures { IfOk result (λ value. value ≡ value_of number) }
+{
     let mut object = Octets::new(alloc);
     write_map_front(&mut object, 1)?;
     write_text(&mut object, "n")?;
@@ -17,7 +26,9 @@ fn value_of(alloc: Global, number: u32) -> Result<Cid, Memory> {
 }
 
 /// Adds a change, unless the record is changed already.
-fn add(changes: &mut Vec<Change>, change: Change) -> Result<(), Memory> {
+fn add(changes: &mut Vec<Change>, change: Change) -> Result<(), Memory>
+    ensures { OnOk result (map op_of changes.new.items ≡ with_op (map op_of changes.old.items) (op_of change)) }
+{
     for other in changes.as_slice() {
         if other.path == change.path {
             return Ok(());
@@ -35,7 +46,11 @@ fn draft_one(
     number: u32,
     place: u32,
     changes: &mut Vec<Change>,
-) -> Result<(), Memory> {
+) -> Result<(), Memory>
+    requires number { number ≤ MOST_MESSAGES }
+    requires place { place < 4 }
+    ensures { OnOk result (record { ops = map op_of changes.new.items; state = draws.new } ≡ with_drawn (map item_of records.now) number place (record { ops = map op_of changes.old.items; state = draws.old })) }
+{
     let kind = draws.draw(8);
     let value = value_of(alloc, number * 8 + place)?;
     if kind < 5 || records.is_empty() {
@@ -63,7 +78,10 @@ pub(crate) fn draft(
     draws: &mut Draws,
     records: &[Record],
     number: u32,
-) -> Result<Vec<Change>, Memory> {
+) -> Result<Vec<Change>, Memory>
+    requires { number ≤ MOST_MESSAGES }
+    ensures { IfOk result (λ changes. record { ops = map op_of changes.items; state = draws.new } ≡ drafted (map item_of records.now) number draws.old) }
+{
     let count = 1 + draws.draw(4) as u32;
     let mut changes = Vec::new(alloc);
     for place in 0..count {

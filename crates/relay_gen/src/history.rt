@@ -1,7 +1,10 @@
 //! A made history.
 
-ghost use Rattle.std.specs.Prelude.{◌≡◌, ◌≤◌, ◌-◌, length, slice_get, option_map, Some, IfOk};
+ghost use Rattle.std.specs.Prelude.{◌≡◌, ◌≤◌, ◌<◌, ◌-◌, [], length, slice_get, option_map, Some, OnOk, IfOk};
+ghost use Rattle.relay_gen.specs.Commits.{Drawn, with_commit, keys_below};
 ghost use Rattle.relay_gen.specs.Histories.{history};
+ghost use Rattle.relay_gen.specs.Names.{did_of, host_of};
+ghost use Rattle.relay_gen.specs.States.{AreBefore, IsBehind, IsLast};
 
 use crate::account::Account;
 use crate::draws::Draws;
@@ -21,7 +24,11 @@ const ACCOUNTS: usize = 16;
 /// How many hosts there are.
 const HOSTS: usize = 4;
 
-fn did_of(account: u8) -> &'static str {
+#[tactic(auto, unfolding(crate::specs::Names::did_of))]
+fn did_of(account: u8) -> &'static str
+    requires { account < 16 }
+    ensures { result.now ≡ did_of account }
+{
     match account {
         0 => "did:plc:gena",
         1 => "did:plc:genb",
@@ -42,7 +49,10 @@ fn did_of(account: u8) -> &'static str {
     }
 }
 
-fn host_of(account: u8) -> &'static str {
+#[tactic(auto, unfolding(crate::specs::Names::host_of))]
+fn host_of(account: u8) -> &'static str
+    ensures { result.now ≡ host_of account }
+{
     match account % 4 {
         0 => "h0.gen",
         1 => "h1.gen",
@@ -85,7 +95,9 @@ struct Maker {
 }
 
 impl Maker {
-    fn new(alloc: Global, start: u64) -> Result<Maker, Memory> {
+    fn new(alloc: Global, start: u64) -> Result<Maker, Memory>
+        ensures { IfOk result (λ maker. IsBehind (record { commits = []; state = start }) maker.draws maker.accounts.items maker.seqs) }
+    {
         let mut accounts = Vec::with_capacity(alloc, ACCOUNTS)?;
         for _ in 0..ACCOUNTS {
             accounts.push(Account::new(alloc))?;
@@ -98,12 +110,18 @@ impl Maker {
     }
 
     /// The message of a number, counted from 1.
-    fn next(&mut self, alloc: Global, number: u32) -> Result<Sent, Memory> {
+    fn next(&mut self, alloc: Global, number: u32) -> Result<Sent, Memory>
+        requires number { number ≤ MOST_MESSAGES }
+        requires before { (d : Drawn) × IsBehind d self.old.draws self.old.accounts.items self.old.seqs × AreBefore number d.commits }
+        ensures behind { (d : Drawn) → IsBehind d self.old.draws self.old.accounts.items self.old.seqs → OnOk result (IsBehind (with_commit number d) self.new.draws self.new.accounts.items self.new.seqs) }
+        ensures sent { (d : Drawn) → IsBehind d self.old.draws self.old.accounts.items self.old.seqs → IfOk result (λ sent. IsLast (with_commit number d).commits sent.account sent.message) }
+    {
         let at = self.draws.draw(ACCOUNTS as u64) as u8;
         let account = &mut self.accounts[at as usize];
-        let changes = match account.last {
-            None => Vec::new(alloc),
-            Some(_) => draft(alloc, &mut self.draws, account.records.as_slice(), number)?,
+        let changes = if account.has_commit() {
+            draft(alloc, &mut self.draws, account.records(), number)?
+        } else {
+            Vec::new(alloc)
         };
         let host = at as usize % HOSTS;
         self.seqs[host] += 1;
@@ -116,10 +134,12 @@ impl Maker {
     }
 
     /// How many records there are.
-    fn keys(&self) -> u64 {
+    fn keys(&self) -> u64
+        ensures { (d : Drawn) → IsBehind d self.now.draws self.now.accounts.items self.now.seqs → result ≡ keys_below 16 d.commits }
+    {
         let mut keys = 0;
         for account in self.accounts.as_slice() {
-            keys += account.records.len() as u64;
+            keys += account.records().len() as u64;
         }
         keys
     }

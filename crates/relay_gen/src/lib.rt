@@ -9,6 +9,7 @@ mod fault;
 mod history;
 mod laws;
 mod messages;
+mod past;
 mod paths;
 mod records;
 mod settling;

@@ -1,5 +1,8 @@
 //! The paths of records.
 
+ghost use Rattle.std.specs.Prelude.{◌≡◌, IfOk};
+ghost use Rattle.relay_gen.specs.Names.{path_of};
+
 use at_cid::{Memory, Words};
 use std::alloc::Global;
 
@@ -7,7 +10,9 @@ use std::alloc::Global;
 const DIGITS: u32 = 8;
 
 /// The path of the record of a number.
-pub(crate) fn path_of(alloc: Global, number: u32) -> Result<Words, Memory> {
+pub(crate) fn path_of(alloc: Global, number: u32) -> Result<Words, Memory>
+    ensures { IfOk result (λ path. path ≡ path_of number) }
+{
     let mut path = Words::from_str(alloc, "app.gen.item/")?;
     for place in 0..DIGITS {
         let digit = number / 10u32.pow(DIGITS - 1 - place) % 10;

@@ -1,0 +1,4 @@
+pub mod Ways
+pub mod Plays
+pub mod Ascending
+pub mod Older
