@@ -3,6 +3,7 @@ use Rattle.std.specs.Prelude.{◌≡◌, ◌<◌, ◌≤◌, ◌*◌, ℕ, List,
 use Rattle.mst_list.specs.declared.item.Item.{Item}
 use Rattle.mst_list.specs.declared.item.Item.TheVariants.{Key, Hole}
 use Rattle.mst_list.specs.declared.op.Op.{Op}
+use Rattle.mst_list.specs.Lists.{IsMap}
 use Rattle.mst_list.specs.Edits.{value_at, AreApart, AreFormedOps}
 use Rattle.relay_gen.specs.declared.past.Past.{Past}
 use Rattle.relay_gen.specs.Commits.{Commit, Drawn, last_of, last_seq, map_of, past_of}
@@ -44,7 +45,7 @@ AreOlder n (Hole l c ∷ s) = ⊥
 -- the commits are from before commit i
 abbrev pub AreBefore : ℕ → List Commit → Type 0
 AreBefore i [] = Unit {0}
-AreBefore i (c ∷ commits) = AreOlder (i * 4) c.map × (c.seq < i) × AreBefore i commits
+AreBefore i (c ∷ commits) = IsMap c.map × AreOlder (i * 4) c.map × (c.seq < i) × AreBefore i commits
 
 -- what a making holds behind commits: the state of the draws, each account's repository, and the last number of each host
 pub record IsBehind (d : Drawn) (state : ℕ) (accounts : List Repository) (seqs : List ℕ) : Type 0 where

@@ -1,0 +1,253 @@
+-- Made messages are read as events of their accounts.
+use Rattle.std.proofs.Common.{◌≡◌, ◌×◌, ℕ, zero, suc, ◌+◌, ◌*◌, ◌/◌, ◌%◌, ◌^◌, ◌<◌, ◌≤◌, ◌==◌, ◌&&◌, Bool, true, false, cond, ltb, pos, List, [], ◌∷◌, ◌++◌, length, map, codes, refl, sym, ap, ◌∙◌, subst, Option, Some, None, Ok, Err, arith, lit<, length-append}
+use Rattle.std.specs.List.{Contains, list_all}
+use Rattle.std.proofs.lemmas.Bool.{and_from, lt-ltb}
+use Rattle.std.proofs.lemmas.List.Elements.{Contains-push_cases}
+use Rattle.at_cid.specs.Link.{IsBytes, IsLink, IsLinkOrNone, cid}
+use Rattle.at_cid.specs.Order.{key_cmp}
+use Rattle.at_cid.proofs.Bytes.{cid_is_link}
+use Rattle.at_cbor.specs.declared.major.Major.{Major}
+use Rattle.at_cbor.specs.Item.{Item, Fields, Items, items_of, fields_of, no_fields, field}
+use Rattle.at_cbor.specs.Spelling.{Fits, FieldsFit, ItemsFit, IsString, IsText, fields_count, fields_spelling, front_of, items_count, spelling, text_spelling}
+use Rattle.at_cbor.specs.Taking.{◌>>=◌, link_item}
+use Rattle.at_syntax.specs.Did.{is_did}
+use Rattle.at_syntax.specs.Tid.{digits_of}
+use Rattle.at_form.specs.Forms.{did_in, required}
+use Rattle.at_form.proofs.Held.{some_same, step_from}
+use Rattle.at_event.specs.declared.frame.Frame.{Frame}
+use Rattle.at_event.specs.declared.frame.FrameFault.{FrameFault}
+use Rattle.at_event.specs.declared.event.Body.{Body}
+use Rattle.at_event.specs.declared.kind.EventKind.{EventKind}
+use Rattle.at_event.specs.Frames.{IsMessage, announced, event_frame, formed_frame, frame_of, heading_of, named, numbered_frame}
+use Rattle.at_event.specs.Seen.{Seen}
+use Rattle.at_event.specs.Table.{body_of, event_of, seq_of}
+use Rattle.at_event.specs.Writing.{header_of, message_of, number_item}
+use Rattle.at_event.proofs.Messages.{message_read}
+use Rattle.at_event.proofs.Texts.{ascii_text, digits_text, is_ascii_text}
+use Rattle.mst_list.specs.declared.op.Op.{Op}
+use Rattle.mst_list.specs.Edits.{AreFormedOps, IsFormedOp}
+use Rattle.mst_node.specs.Trees.{root, spell, top_layer}
+use Rattle.relay_gen.specs.declared.past.Past.{Past}
+use Rattle.relay_gen.specs.Draws.{next, drawn}
+use Rattle.relay_gen.specs.Names.{did_of, digits, host_of, path_of}
+use Rattle.relay_gen.specs.Commits.{Commit, commits_from, last_of, ops_of, past_of}
+use Rattle.relay_gen.specs.Messages.{back_fields, car_with, ends_of, front_fields, message, object, op_item, payload_of, prev_data, since_item}
+use Rattle.relay_gen.specs.Covers.{given}
+use Rattle.relay_gen.specs.Histories.{history, sent}
+use Rattle.relay_gen.specs.Laws.{HostsTellOfTheirOwn, IsOfItsHost}
+use Rattle.relay_gen.specs.States.{AreBefore}
+use Rattle.relay_gen.proofs.Older.{AreOpsOlder, IsGood}
+use Rattle.relay_gen.proofs.Befores.{commits_before, ops_good, seq_before}
+
+digits_ascii : (k n : ℕ) → is_ascii_text (digits k n) ≡ true
+digits_ascii zero n = refl
+digits_ascii (suc k) n = let low : 48 + n / 10 ^ k % 10 < 128 = omega arith in and_from (ltb (48 + n / 10 ^ k % 10) 128) (is_ascii_text (digits k n)) (lt-ltb (48 + n / 10 ^ k % 10) 128 low) (digits_ascii k n)
+
+ascii_joined : (A B : List ℕ) → is_ascii_text A ≡ true → is_ascii_text B ≡ true → is_ascii_text (A ++ B) ≡ true
+ascii_joined [] B a b = b
+ascii_joined (c ∷ A) B a b = go (ltb c 128) refl a
+  where
+    go : (x : Bool) → ltb c 128 ≡ x → (x && is_ascii_text A) ≡ true → (ltb c 128 && is_ascii_text (A ++ B)) ≡ true
+    go true e t = rw e (ascii_joined A B t b)
+    go false e t = absurd cc
+
+length_digits : (k n : ℕ) → length (digits k n) ≡ k
+length_digits zero n = refl
+length_digits (suc k) n = ap suc (length_digits k n)
+
+path_text : (n : ℕ) → IsText (path_of n)
+unfolding path_of
+path_text n =
+    let long = length-append (codes "app.gen.item/") (digits 8 n) in let eight = length_digits 8 n in
+    ascii_text (codes "app.gen.item/" ++ digits 8 n) (ascii_joined (codes "app.gen.item/") (digits 8 n) refl (digits_ascii 8 n)) (omega arith)
+
+did_text : (a : ℕ) → a < 16 → IsText (did_of a)
+unfolding did_of
+did_text a low =
+    let small : 97 + a < 128 = omega arith in
+    ascii_text (codes "did:plc:gen" ++ (97 + a) ∷ []) (ascii_joined (codes "did:plc:gen") ((97 + a) ∷ []) refl (and_from (ltb (97 + a) 128) true (lt-ltb (97 + a) 128 small) refl)) (lit< tt)
+
+child_item : (depth : ℕ) (o : Option (List ℕ)) → IsLinkOrNone o → Fits (link_item o) depth
+child_item depth None l = tt
+child_item depth (Some c) l = (l.link, l.bytes)
+
+ends_fit : (depth : ℕ) (was now : Option (List ℕ)) → IsLinkOrNone was → FieldsFit (fields_of (ends_of was now)) (Some (codes "path")) depth
+unfolding key_cmp
+ends_fit depth None now l = (ascii_text (codes "action") refl (lit< tt), refl, ascii_text (codes "create") refl (lit< tt), tt)
+ends_fit depth (Some was) (Some now) l = (ascii_text (codes "prev") refl (lit< tt), refl, (l.link, l.bytes), (ascii_text (codes "action") refl (lit< tt), refl, ascii_text (codes "update") refl (lit< tt), tt))
+ends_fit depth (Some was) None l = (ascii_text (codes "prev") refl (lit< tt), refl, (l.link, l.bytes), (ascii_text (codes "action") refl (lit< tt), refl, ascii_text (codes "delete") refl (lit< tt), tt))
+
+count_ends : (was now : Option (List ℕ)) → fields_count (fields_of (ends_of was now)) ≤ 2
+count_ends None now = omega arith
+count_ends (Some was) now = omega arith
+
+op_fits : (op : Op) → IsFormedOp op → IsText op.key → Fits (op_item op) 62
+unfolding op_item key_cmp
+op_fits op f text =
+    let few = count_ends op.was op.now in
+    (lit< tt, omega (arith, few), (ascii_text (codes "cid") refl (lit< tt), refl, child_item 61 op.now f.2.1.0, (ascii_text (codes "path") refl (lit< tt), refl, text, ends_fit 61 op.was op.now f.2.0)))
+
+ops_fit : (n : ℕ) (ops : List Op) → AreFormedOps ops → AreOpsOlder n ops → ItemsFit (items_of (map op_item ops)) 62
+ops_fit n [] f o = tt
+ops_fit n (op ∷ ops) f o = (op_fits op f.0 (subst IsText (sym o.0.2.1) (path_text o.0.0)), ops_fit n ops f.1 o.1)
+
+count_items : (is : List Item) → items_count (items_of is) ≡ length is
+count_items [] = refl
+count_items (i ∷ is) = ap suc (count_items is)
+
+abbrev IsPastLink : Option Past → Type 0
+IsPastLink None = Unit {0}
+IsPastLink (Some past) = (past.rev < 2 ^ 64) × IsLink past.data_root
+
+since_fits : (past : Option Past) → IsPastLink past → Fits (since_item past) 63
+since_fits None p = tt
+since_fits (Some past) p = digits_text past.rev p.0
+
+prev_fits : (past : Option Past) → IsPastLink past → FieldsFit (fields_of (prev_data past)) (Some (codes "tooBig")) 63
+unfolding key_cmp
+prev_fits None p = tt
+prev_fits (Some past) p = (ascii_text (codes "prevData") refl (lit< tt), refl, (p.1.link, p.1.bytes), tt)
+
+count_prev : (past : Option Past) → fields_count (fields_of (prev_data past)) ≤ 1
+count_prev None = omega arith
+count_prev (Some past) = omega arith
+
+-- what holds of a commit that is sent
+record CanBeSent (c : Commit) : Type 0 where
+  account : c.account < 16
+  seq : c.seq < 2 ^ 63
+  rev : c.rev < 2 ^ 64
+  past : IsPastLink c.past
+  formed : AreFormedOps c.ops
+  most : ℕ
+  older : AreOpsOlder most c.ops
+  few : length c.ops ≤ 4
+
+length_items : (ops : List Op) → length (map op_item ops) ≡ length ops
+length_items [] = refl
+length_items (op ∷ ops) = ap suc (length_items ops)
+
+payload_fits : (c : Commit) (commit blocks : List ℕ) → CanBeSent c → IsLink commit → IsString blocks → Fits (payload_of (did_of c.account) c.seq c.rev c.past c.ops commit blocks) 64
+unfolding payload_of key_cmp
+payload_fits c commit blocks s l b =
+    let few = count_prev c.past in let four = s.few in let count = count_items (map op_item c.ops) ∙ length_items c.ops in
+    (lit< tt, omega (arith, few), (
+      ascii_text (codes "ops") refl (lit< tt), refl, (lit< tt, omega (arith, count, four), ops_fit s.most c.ops s.formed s.older), (
+      ascii_text (codes "rev") refl (lit< tt), refl, digits_text c.rev s.rev, (
+      ascii_text (codes "seq") refl (lit< tt), refl, omega (arith, s.seq), (
+      ascii_text (codes "repo") refl (lit< tt), refl, did_text c.account s.account, (
+      ascii_text (codes "time") refl (lit< tt), refl, ascii_text (codes "2025-01-01T00:00:00Z") refl (lit< tt), (
+      ascii_text (codes "blobs") refl (lit< tt), refl, (lit< tt, lit< tt, tt), (
+      ascii_text (codes "since") refl (lit< tt), refl, since_fits c.past s.past, (
+      ascii_text (codes "blocks") refl (lit< tt), refl, b, (
+      ascii_text (codes "commit") refl (lit< tt), refl, (l.link, l.bytes), (
+      ascii_text (codes "rebase") refl (lit< tt), refl, tt, (
+      ascii_text (codes "tooBig") refl (lit< tt), refl, tt, prev_fits c.past s.past))))))))))))
+
+string_back : (A B : List ℕ) → IsString (A ++ B) → IsString B
+string_back [] B s = s
+string_back (a ∷ A) B s = let low = s.0 in string_back A B (omega arith, λ i. s.1 (suc i))
+
+string_front : (A B : List ℕ) → IsString (A ++ B) → IsString A
+string_front A B s = let n = length-append A B in let low = s.0 in (omega arith, bytes_front A s.1)
+  where
+    bytes_front : (A : List ℕ) → IsBytes (A ++ B) → IsBytes A
+    bytes_front [] b i = omega arith
+    bytes_front (a ∷ A) b zero = b 0
+    bytes_front (a ∷ A) b (suc i) = bytes_front A (λ j. b (suc j)) i
+
+string_next : (k : List ℕ) (i : Item) (fs : Fields) → IsString (fields_spelling (field k i fs)) → IsString (fields_spelling fs)
+string_next k i fs s = string_back (spelling i) (fields_spelling fs) (string_back (text_spelling k) (spelling i ++ fields_spelling fs) s)
+
+string_value : (k : List ℕ) (i : Item) (fs : Fields) → IsString (fields_spelling (field k i fs)) → IsString (spelling i)
+string_value k i fs s = string_front (spelling i) (fields_spelling fs) (string_back (text_spelling k) (spelling i ++ fields_spelling fs) s)
+
+blocks_string : (did : List ℕ) (seq rev : ℕ) (past : Option Past) (ops : List Op) (commit blocks : List ℕ) → IsString (message_of EventKind.Commit (payload_of did seq rev past ops commit blocks)) → IsString blocks
+unfolding message_of payload_of
+blocks_string did seq rev past ops commit blocks s =
+    string_back (front_of Major.Bytes (length blocks)) blocks (string_value _ _ _ (string_next _ _ _ (string_next _ _ _ (string_next _ _ _ (string_next _ _ _ (string_next _ _ _ (string_next _ _ _ (string_next _ _ _
+    (string_back _ _ (string_back (spelling (header_of EventKind.Commit)) _ s))))))))))
+
+header_form : Fits (header_of EventKind.Commit) 64
+unfolding key_cmp
+header_form = (lit< tt, lit< tt, (ascii_text (codes "t") refl (lit< tt), refl, ascii_text (codes "#commit") refl (lit< tt), (ascii_text (codes "op") refl (lit< tt), refl, lit< tt, tt)))
+
+-- an event of a payload has the payload's DID
+read_did : (did : List ℕ) (seq rev : ℕ) (past : Option Past) (ops : List Op) (commit blocks : List ℕ) (n : ℕ) (e : Seen) → event_of EventKind.Commit n (payload_of did seq rev past ops commit blocks) ≡ Some e → e.did ≡ did
+unfolding event_of payload_of did_in
+read_did did seq rev past ops commit blocks n e h =
+    let p = payload_of did seq rev past ops commit blocks in
+    let one = step_from (required did_in p (codes "repo")) _ e h in
+    let two = step_from _ _ e one.2 in
+    let three = step_from _ _ e two.2 in
+    sym (ap (λ (x : Seen). x.did) (some_same _ e three.2)) ∙ same (is_did did) one.0 one.1
+  where
+    same : (b : Bool) (found : List ℕ) → cond b (Some did) None ≡ Some found → found ≡ did
+    same true found q = sym (some_same did found q)
+    same false found q = absurd cc
+
+framed_event : (payload : Item) (e : Seen) → event_frame EventKind.Commit payload ≡ Ok (Frame.Event e) → (n : ℕ) × (event_of EventKind.Commit n payload ≡ Some e)
+unfolding event_frame
+framed_event payload e h = go (seq_of payload) h
+  where
+    formed : (n : ℕ) (o : Option Seen) → Ok (formed_frame n o) ≡ Ok (Frame.Event e) → o ≡ Some e
+    formed n None q = absurd cc
+    formed n (Some x) q = cc
+    go : (o : Option ℕ) → numbered_frame EventKind.Commit payload o ≡ Ok (Frame.Event e) → (n : ℕ) × (event_of EventKind.Commit n payload ≡ Some e)
+    go None q = absurd cc
+    go (Some n) q = (n, formed n (event_of EventKind.Commit n payload) q)
+
+frame_is : (did : List ℕ) (seq rev : ℕ) (past : Option Past) (ops : List Op) (commit blocks : List ℕ) → Fits (payload_of did seq rev past ops commit blocks) 64 → frame_of (message_of EventKind.Commit (payload_of did seq rev past ops commit blocks)) ≡ event_frame EventKind.Commit (payload_of did seq rev past ops commit blocks)
+unfolding frame_of heading_of named announced payload_of
+frame_is did seq rev past ops commit blocks f =
+    rw (message_read (message_of EventKind.Commit (payload_of did seq rev past ops commit blocks)) (header_of EventKind.Commit) (payload_of did seq rev past ops commit blocks) (record { header_form = header_form; payload_form = f; spelled = message_is did seq rev past ops commit blocks })) refl
+  where
+    message_is : (did : List ℕ) (seq rev : ℕ) (past : Option Past) (ops : List Op) (commit blocks : List ℕ) → message_of EventKind.Commit (payload_of did seq rev past ops commit blocks) ≡ spelling (header_of EventKind.Commit) ++ spelling (payload_of did seq rev past ops commit blocks)
+    unfolding message_of
+    message_is did seq rev past ops commit blocks = refl
+
+of_account : (c : Commit) (e : Seen) → CanBeSent c → IsString (message c) → frame_of (message c) ≡ Ok (Frame.Event e) → e.did ≡ did_of c.account
+unfolding message
+of_account c e s string h =
+    let blocks = car_with (object c) (given c.map c.ops) in let commit = cid (object c) in let l = cid_is_link (object c) in
+    let fits = payload_fits c commit blocks s (record { link = l.link; bytes = l.bytes }) (blocks_string (did_of c.account) c.seq c.rev c.past c.ops commit blocks string) in
+    let found = framed_event (payload_of (did_of c.account) c.seq c.rev c.past c.ops commit blocks) e (sym (frame_is (did_of c.account) c.seq c.rev c.past c.ops commit blocks fits) ∙ h) in
+    read_did (did_of c.account) c.seq c.rev c.past c.ops commit blocks found.0 e found.1
+
+abbrev AllSent : List Commit → Type 0
+AllSent [] = Unit {0}
+AllSent (c ∷ commits) = CanBeSent c × AllSent commits
+
+root_link : (c : Commit) → IsLink (root c.map)
+root_link c = let l = cid_is_link (spell (top_layer c.map) c.map) in record { link = l.link; bytes = l.bytes }
+
+past_sent : (a : ℕ) (commits : List Commit) → AllSent commits → IsPastLink (past_of (last_of a commits))
+past_sent a [] s = tt
+past_sent a (c ∷ commits) s = go (c.account == a)
+  where
+    go : (x : Bool) → IsPastLink (past_of (cond x (Some c) (last_of a commits)))
+    go true = (s.0.rev, root_link c)
+    go false = past_sent a commits s.1
+
+all_sent : (start i : ℕ) → i ≤ 100000 → AllSent (commits_from start i).commits
+unfolding drawn
+all_sent start zero most = tt
+all_sent start (suc i) most =
+    let d = commits_from start i in let x = next d.state in let a = drawn 16 x in
+    let before = commits_before start i (omega arith) in
+    let g = ops_good (suc i) a x d.commits most before in
+    let low = seq_before (suc i) (a % 4) d.commits (omega arith) before in
+    let rest = all_sent start i (omega arith) in
+    (record { account = omega arith; seq = omega arith; rev = omega arith; past = past_sent a d.commits rest; formed = g.formed; most = suc i * 4 + 4; older = g.older; few = g.few }, rest)
+
+own_hosts : (commits : List Commit) (host bytes : List ℕ) (e : Seen) → AllSent commits → IsString bytes → Contains (sent commits) (host, bytes) → frame_of bytes ≡ Ok (Frame.Event e) → IsOfItsHost host e.did
+own_hosts [] host bytes e s string there h = absurd (let low = there.1 in omega arith)
+own_hosts (c ∷ commits) host bytes e s string there h = elim (Contains-push_cases (sent commits) (host_of c.account, message c) (host, bytes) there) [
+    | inl before ↦ own_hosts commits host bytes e s.1 string before h
+    | inr same ↦
+        let m : message c ≡ bytes = ap (λ (p : List ℕ × List ℕ). p.1) same in
+        record { account = c.account; low = s.0.account; did_is = of_account c e s.0 (subst IsString (sym m) string) (ap frame_of m ∙ h); host_is = sym (ap (λ (p : List ℕ × List ℕ). p.0) same) }
+  ]
+
+pub own_messages : HostsTellOfTheirOwn
+own_messages start n host bytes e most string there h = own_hosts (commits_from start n).commits host bytes e (all_sent start n most) string there h
