@@ -1,7 +1,7 @@
 -- Entries that are put in order: each link keeps its first place.
-use Rattle.std.proofs.Common.{◌≡◌, ℕ, List, [], ◌∷◌, Bool, true, false, cond, Some, Ordering, Less, Equal, Greater, refl, sym, ap, ◌∙◌}
+use Rattle.std.proofs.Common.{◌≡◌, ℕ, List, [], ◌∷◌, Bool, true, false, cond, Some, refl, sym, ap, ◌∙◌}
 use Rattle.std.specs.Prelude.{nat_eq, not, ◌&&◌}
-use Rattle.std.specs.Ordering.{is_eq, is_lt, eq_by_cmp, ordering_reverse}
+use Rattle.std.specs.Ordering.{is_lt, eq_by_cmp}
 use Rattle.std.specs.List.{filter, dedup, dedup_from}
 use Rattle.std.specs.List.Sorted.{ties, IsStableBy, IsSorted}
 use Rattle.std.specs.Cmp.{IsTotalOrder, on_total}
@@ -9,6 +9,7 @@ use Rattle.std.specs.Cmp.Lexicographic.{pointwise}
 use Rattle.std.proofs.lemmas.List.Kept.{IsStrictlySortedBy-dedup}
 use Rattle.at_cid.specs.Order.{key_cmp}
 use Rattle.at_cid.specs.OrderLaws.{key_total, key_ties}
+use Rattle.at_cid.proofs.Order.{cmp_same}
 use Rattle.at_car.specs.declared.entry.Entry.{Entry}
 use Rattle.at_car.specs.Entries.{by_link, AreInOrder, place_of}
 use Rattle.at_car.proofs.Same.{same_link}
@@ -40,31 +41,32 @@ pub left_of_each : (q : List ℕ) (xs : List Entry) → place_of q (dedup same x
 left_of_each q [] = refl
 left_of_each q (x ∷ xs) = left_from q x xs
 
--- ---- a stable sort keeps which entry of a link is the first
+-- ---- a sort of entries by their links alone that is stable keeps which entry of a link is the first
 
-one_of : (o : Ordering) → (not (is_lt o) && not (is_lt (ordering_reverse o))) ≡ is_eq o
-one_of Less = refl
-one_of Equal = refl
-one_of Greater = refl
-
-tie : (q l : List ℕ) → (not (is_lt (key_cmp q l)) && not (is_lt (key_cmp l q))) ≡ eq_by_cmp key_cmp q l
-tie q l = ap (λ o. not (is_lt (key_cmp q l)) && not (is_lt o)) (key_total.antisymm l q) ∙ one_of (key_cmp q l)
+of_kept : (q : List ℕ) (kept : Entry → Bool) → ((e : Entry) → q ≡ e.link → kept e ≡ true) → (es : List Entry) → place_of q (filter kept es) ≡ place_of q es
+of_kept q kept all [] = refl
+of_kept q kept all (e ∷ es) =
+    let rest = filter kept es in
+    elim (eq_by_cmp key_cmp q e.link) as (λ t. eq_by_cmp key_cmp q e.link ≡ t → place_of q (cond (kept e) (e ∷ rest) rest) ≡ cond t (Some e.place) (place_of q es)) [
+      | true ↦ λ h. ap (λ t. place_of q (cond t (e ∷ rest) rest)) (all e (same_link q e.link h)) ∙ ap (λ t. cond t (Some e.place) (place_of q rest)) h
+      | false ↦ λ h.
+          elim (kept e) as (λ t. place_of q (cond t (e ∷ rest) rest) ≡ place_of q es) [
+            | true ↦ ap (λ t. cond t (Some e.place) (place_of q rest)) h ∙ of_kept q kept all es
+            | false ↦ of_kept q kept all es
+          ]
+    ] refl
 
 abbrev under : List ℕ → Entry
 under q = record { link = q; place = record { start = 0; len = 0 } }
 
-of_ties : (q : List ℕ) (es : List Entry) → place_of q (filter (ties before (under q)) es) ≡ place_of q es
-of_ties q [] = refl
-of_ties q (e ∷ es) =
-    let rest = filter (ties before (under q)) es in
-    ap (λ t. place_of q (cond t (e ∷ rest) rest)) (tie q e.link)
-    ∙ elim (eq_by_cmp key_cmp q e.link) as (λ t. eq_by_cmp key_cmp q e.link ≡ t → place_of q (cond t (e ∷ rest) rest) ≡ cond t (Some e.place) (place_of q es)) [
-      | true ↦ λ h. ap (λ t. cond t (Some e.place) (place_of q rest)) h
-      | false ↦ λ h. of_ties q es
-    ] refl
+pub stable_places : (less : List ℕ → List ℕ → Bool) → ((l : List ℕ) → less l l ≡ false) → (q : List ℕ) (xs ys : List Entry) → IsStableBy (λ (a b : Entry). less a.link b.link) xs ys → place_of q ys ≡ place_of q xs
+stable_places less never q xs ys h =
+    let by : Entry → Entry → Bool = λ a b. less a.link b.link in
+    let all : (e : Entry) → q ≡ e.link → ties by (under q) e ≡ true = λ e s. ap (λ l. not (less q l) && not (less l q)) (sym s) ∙ ap (λ t. not t && not t) (never q) in
+    sym (of_kept q (ties by (under q)) all ys) ∙ ap (place_of q) (h (under q)) ∙ of_kept q (ties by (under q)) all xs
 
 pub sorted_places : (q : List ℕ) (xs ys : List Entry) → IsStableBy before xs ys → place_of q ys ≡ place_of q xs
-sorted_places q xs ys h = sym (of_ties q ys) ∙ ap (place_of q) (h (under q)) ∙ of_ties q xs
+sorted_places = stable_places (λ a b. is_lt (key_cmp a b)) (λ l. ap is_lt (cmp_same l))
 
 -- ---- in order
 

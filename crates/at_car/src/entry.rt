@@ -9,8 +9,10 @@ ghost use Rattle.std.specs.declared.cmp.Ordering.TheVariants.{Less, Equal, Great
 ghost use Rattle.at_cid.specs.Order.{key_cmp};
 ghost use Rattle.at_cid.specs.OrderLaws.{key_po, key_total, key_ties};
 ghost use Rattle.at_car.specs.Entries.{AreInOrder, place_of};
+ghost use Rattle.at_car.specs.Links.{first_word};
 ghost use Rattle.at_car.specs.Logs.{IsTold};
 
+use crate::links::first_word;
 use crate::place::Place;
 use at_cid::{Cid, Memory};
 use std::cmp::Ordering;
@@ -68,12 +70,36 @@ impl Ord for Entry {
     }
 }
 
+/// From so many entries on they are put in order by first words, which take less to compare and to move than links.
+const MANY: usize = 1_024;
+
+/// The words of so many entries take too much memory.
+const TOO_MANY: usize = 65_536;
+
+/// Puts many entries in order of the first words of their links. Those of one word keep their order.
+fn bring_near(entries: &mut Vec<Entry>) -> Result<(), Memory>
+    ensures places { (link : List ℕ) → place_of link entries.new.items ≡ place_of link entries.old.items }
+    ensures told { (buffer : List ℕ) → All (IsTold buffer) entries.old.items → All (IsTold buffer) entries.new.items }
+{
+    if !(MANY..TOO_MANY).contains(&entries.len()) {
+        return Ok(());
+    }
+    entries.sort_by_cached_key(
+        |entry: &Entry| -> u64
+            ensures { result ≡ first_word entry.now.link }
+        { first_word(&entry.link) },
+    )?;
+    Ok(())
+}
+
 /// Puts entries in ascending order of their links. A link that stands twice keeps its first place.
 pub(crate) fn settle(entries: &mut Vec<Entry>) -> Result<(), Memory>
     ensures places { (link : List ℕ) → place_of link entries.new.items ≡ place_of link entries.old.items }
     ensures order { OnOk result (AreInOrder entries.new.items) }
     ensures told { (buffer : List ℕ) → All (IsTold buffer) entries.old.items → All (IsTold buffer) entries.new.items }
 {
+    bring_near(entries)?;
+    // Few links begin alike, and few are of the other kind.
     entries.sort()?;
     entries.dedup();
     Ok(())

@@ -3,7 +3,7 @@
 ghost use Rattle.std.specs.Prelude.{◌≡◌, length};
 ghost use Rattle.std.specs.List.Sorted.{IsStrictlySortedBy};
 ghost use Rattle.at_cid.specs.Order.{key_cmp};
-ghost use Rattle.at_car.specs.Links.{has};
+ghost use Rattle.at_car.specs.Links.{first_word, has};
 
 use at_cid::Cid;
 use std::marker::Model;
@@ -50,4 +50,15 @@ impl Links {
     {
         self.links.as_slice().binary_search(link).is_ok()
     }
+}
+
+/// The first eight bytes of a link's digest as a number, the highest first.
+#[tactic(auto, unfolding(crate::specs::Links::first_word))]
+pub fn first_word(link: &Cid) -> u64
+    ensures { result ≡ first_word link.now }
+{
+    let bytes = link.as_bytes();
+    u64::from_be_bytes([
+        bytes[4], bytes[5], bytes[6], bytes[7], bytes[8], bytes[9], bytes[10], bytes[11],
+    ])
 }

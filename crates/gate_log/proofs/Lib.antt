@@ -1,7 +1,9 @@
 pub mod Ahead
 pub mod Apart
 pub mod Append
+pub mod Beside
 pub mod BodyAt
+pub mod Closed
 pub mod Fronts
 pub mod BothDisks
 pub mod OneSide

@@ -1,3 +1,5 @@
+pub mod Beside
+pub mod Build
 pub mod Crash
 pub mod Drafts
 pub mod Image

@@ -2,6 +2,7 @@
 #![tactic(auto)]
 
 mod bodies;
+mod building;
 mod drafts;
 mod ending;
 mod fault;
@@ -16,6 +17,7 @@ mod picking;
 mod records;
 mod steps;
 
+pub use building::Build;
 pub use drafts::{AHEAD, HEAD, begin};
 pub use fault::LogFault;
 pub use format::Format;

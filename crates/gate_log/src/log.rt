@@ -1,5 +1,5 @@
 //! The log itself: its end on the disk, and the room in which records are put together.
-ghost use Rattle.std.specs.Prelude.{◌≡◌, ◌≤◌, ◌<◌, ◌+◌, ◌↔◌, ◌++◌, ◌∷◌, [], List, ℕ, false, max, length, vec_capacity, IsTrue, IfOk, OnOk, OnErr};
+ghost use Rattle.std.specs.Prelude.{◌≡◌, ◌≤◌, ◌<◌, ◌+◌, ◌↔◌, ◌++◌, ◌∷◌, [], List, ℕ, false, true, max, length, vec_capacity, IsTrue, IfOk, OnOk, OnErr};
 ghost use Rattle.at_cid.specs.Counts.{Rose};
 ghost use Rattle.relay_disk.specs.Disk.{Goes, Same, IsSynced};
 ghost use Rattle.relay_disk.specs.Moments.{LeavesOnly};
@@ -108,6 +108,23 @@ impl Log {
         })
     }
 
+    // The log of these parts, on a disk that holds it.
+    pub(crate) fn of_parts(format: Format, end: u64, most: u64, room: Vec<u8>) -> Log
+        requires room { BEFORE_BODY ≤ vec_capacity room }
+        requires end { end < SIZES }
+        requires most { most ≤ LAST_END }
+        ensures { result ≡ record { format = format; end = end; most = most; spare = 0; is_open = true } }
+    {
+        Log {
+            format,
+            end,
+            most,
+            spare: 0,
+            is_open: true,
+            room,
+        }
+    }
+
     /// Makes room for a body of so many bytes.
     pub fn reserve(&mut self, len: u32) -> Result<(), Memory>
         ensures ok { OnOk result (self.new ≡ record self.old { spare = max self.old.spare len }) }
@@ -177,11 +194,18 @@ impl Log {
         self.format.generation()
     }
 
-    /// Whether no append has answered `Disk` since it was opened.
+    /// Whether no append has answered `Disk` since it was opened, and it wasn't closed.
     pub fn is_open(&self) -> bool
         ensures { result ≡ self.now.is_open }
     {
         self.is_open
+    }
+
+    /// Closes the log: no body can be added until it is opened again.
+    pub fn close(&mut self)
+        ensures { self.new ≡ record self.old { is_open = false } }
+    {
+        self.is_open = false;
     }
 
     /// Adds a body, and answers its place. At `Ok` it is durable. At `Disk` the log is closed, and the disk has to

@@ -9,10 +9,13 @@ use Rattle.at_car.proofs.Settles.{same, left_of_each, sorted_places, in_order}
 use Rattle.at_car.proofs.entry.settle.Goals as goal
 
 pub returns-clause-places : goal.returns-clause-places
-returns-clause-places c = λ link. ap (place_of link) (dedup_is same _ _ c.dedup.ensures.filtered) ∙ left_of_each link _ ∙ sorted_places link _ _ c.sort.ensures.stable
+returns-clause-places c = λ link. ap (place_of link) (dedup_is same _ _ c.dedup.ensures.filtered) ∙ left_of_each link _ ∙ sorted_places link _ _ c.sort.ensures.stable ∙ c.bring_near.ensures.places link
 
 pub returns-clause-order : goal.returns-clause-order
 returns-clause-order c = subst AreInOrder (sym (dedup_is same _ _ c.dedup.ensures.filtered)) (in_order _ c.in_ok-sort.ensures.sorted)
 
 pub returns-clause-told : goal.returns-clause-told
-returns-clause-told c = λ buffer h. subst (λ (l : List Entry). All (IsTold buffer) l) (sym (dedup_is same _ _ c.dedup.ensures.filtered)) (All-dedup same (IsTold buffer) _ (All-permutation (IsTold buffer) _ _ c.sort.ensures.permutation h))
+returns-clause-told c = λ buffer h. subst (λ (l : List Entry). All (IsTold buffer) l) (sym (dedup_is same _ _ c.dedup.ensures.filtered)) (All-dedup same (IsTold buffer) _ (All-permutation (IsTold buffer) _ _ c.sort.ensures.permutation (c.bring_near.ensures.told buffer h)))
+
+pub returns-in_err-sort-clause-told : goal.returns-in_err-sort-clause-told
+returns-in_err-sort-clause-told c = λ buffer h. All-permutation (IsTold buffer) _ _ c.sort.ensures.permutation (c.bring_near.ensures.told buffer h)

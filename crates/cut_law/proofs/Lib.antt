@@ -1,0 +1,13 @@
+pub mod Fronts
+pub mod Hosts
+pub mod Dids
+pub mod Nexts
+pub mod Carrying
+pub mod Numbers
+pub mod Accounts
+pub mod Ordered
+pub mod Cutting
+pub mod Following
+pub mod Again
+pub mod Changing
+pub mod Sounding
