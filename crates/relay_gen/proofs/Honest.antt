@@ -1,18 +1,17 @@
 -- Made messages are read as events of their accounts.
-use Rattle.std.proofs.Common.{◌≡◌, ◌×◌, ℕ, zero, suc, ◌+◌, ◌*◌, ◌/◌, ◌%◌, ◌^◌, ◌<◌, ◌≤◌, ◌==◌, ◌&&◌, Bool, true, false, cond, ltb, pos, List, [], ◌∷◌, ◌++◌, length, map, codes, refl, sym, ap, ◌∙◌, subst, Option, Some, None, Ok, Err, arith, lit<, length-append}
+use Rattle.std.proofs.Common.{◌≡◌, ℕ, zero, suc, ◌+◌, ◌*◌, ◌/◌, ◌%◌, ◌^◌, ◌<◌, ◌≤◌, ◌==◌, ◌&&◌, Bool, true, false, cond, ltb, pos, List, [], ◌∷◌, ◌++◌, length, map, codes, refl, sym, ap, ◌∙◌, subst, Option, Some, None, Result, Ok, Err, ◌⊎◌, inl, inr, slice_index, arith, lit<, length-append}
 use Rattle.std.specs.List.{Contains, list_all}
-use Rattle.std.proofs.lemmas.Bool.{and_from, lt-ltb}
 use Rattle.std.proofs.lemmas.List.Elements.{Contains-push_cases}
 use Rattle.at_cid.specs.Link.{IsBytes, IsLink, IsLinkOrNone, cid}
 use Rattle.at_cid.specs.Order.{key_cmp}
 use Rattle.at_cid.proofs.Bytes.{cid_is_link}
 use Rattle.at_cbor.specs.declared.major.Major.{Major}
-use Rattle.at_cbor.specs.Item.{Item, Fields, Items, items_of, fields_of, no_fields, field}
+use Rattle.at_cbor.specs.Item.{Item, Fields, Items, items_of, fields_of, no_items}
 use Rattle.at_cbor.specs.Spelling.{Fits, FieldsFit, ItemsFit, IsString, IsText, fields_count, fields_spelling, front_of, items_count, spelling, text_spelling}
 use Rattle.at_cbor.specs.Taking.{◌>>=◌, link_item}
 use Rattle.at_syntax.specs.Did.{is_did}
 use Rattle.at_syntax.specs.Tid.{digits_of}
-use Rattle.at_form.specs.Forms.{did_in, required}
+use Rattle.at_form.specs.Forms.{did_in, required, short_text_in}
 use Rattle.at_form.proofs.Held.{some_same, step_from}
 use Rattle.at_event.specs.declared.frame.Frame.{Frame}
 use Rattle.at_event.specs.declared.frame.FrameFault.{FrameFault}
@@ -23,7 +22,7 @@ use Rattle.at_event.specs.Seen.{Seen}
 use Rattle.at_event.specs.Table.{body_of, event_of, seq_of}
 use Rattle.at_event.specs.Writing.{header_of, message_of, number_item}
 use Rattle.at_event.proofs.Messages.{message_read}
-use Rattle.at_event.proofs.Texts.{ascii_text, digits_text, is_ascii_text}
+use Rattle.at_event.proofs.Texts.{ascii_text, digits_text}
 use Rattle.mst_list.specs.declared.op.Op.{Op}
 use Rattle.mst_list.specs.Edits.{AreFormedOps, IsFormedOp}
 use Rattle.mst_node.specs.Trees.{root, spell, top_layer}
@@ -31,41 +30,15 @@ use Rattle.relay_gen.specs.declared.past.Past.{Past}
 use Rattle.relay_gen.specs.Draws.{next, drawn}
 use Rattle.relay_gen.specs.Names.{did_of, digits, host_of, path_of}
 use Rattle.relay_gen.specs.Commits.{Commit, commits_from, last_of, ops_of, past_of}
-use Rattle.relay_gen.specs.Messages.{back_fields, car_with, ends_of, front_fields, message, object, op_item, payload_of, prev_data, since_item}
+use Rattle.relay_gen.specs.Messages.{back_fields, car_with, ends_of, front_fields, message, middle_fields, object, op_item, payload_of, prev_data, since_item}
 use Rattle.relay_gen.specs.Covers.{given}
 use Rattle.relay_gen.specs.Histories.{history, sent}
 use Rattle.relay_gen.specs.Laws.{HostsTellOfTheirOwn, IsOfItsHost}
 use Rattle.relay_gen.specs.States.{AreBefore}
+use Rattle.relay_gen.proofs.Counts.{payload_spelled}
+use Rattle.relay_gen.proofs.Texts.{did_text, path_text}
 use Rattle.relay_gen.proofs.Older.{AreOpsOlder, IsGood}
 use Rattle.relay_gen.proofs.Befores.{commits_before, ops_good, seq_before}
-
-digits_ascii : (k n : ℕ) → is_ascii_text (digits k n) ≡ true
-digits_ascii zero n = refl
-digits_ascii (suc k) n = let low : 48 + n / 10 ^ k % 10 < 128 = omega arith in and_from (ltb (48 + n / 10 ^ k % 10) 128) (is_ascii_text (digits k n)) (lt-ltb (48 + n / 10 ^ k % 10) 128 low) (digits_ascii k n)
-
-ascii_joined : (A B : List ℕ) → is_ascii_text A ≡ true → is_ascii_text B ≡ true → is_ascii_text (A ++ B) ≡ true
-ascii_joined [] B a b = b
-ascii_joined (c ∷ A) B a b = go (ltb c 128) refl a
-  where
-    go : (x : Bool) → ltb c 128 ≡ x → (x && is_ascii_text A) ≡ true → (ltb c 128 && is_ascii_text (A ++ B)) ≡ true
-    go true e t = rw e (ascii_joined A B t b)
-    go false e t = absurd cc
-
-length_digits : (k n : ℕ) → length (digits k n) ≡ k
-length_digits zero n = refl
-length_digits (suc k) n = ap suc (length_digits k n)
-
-path_text : (n : ℕ) → IsText (path_of n)
-unfolding path_of
-path_text n =
-    let long = length-append (codes "app.gen.item/") (digits 8 n) in let eight = length_digits 8 n in
-    ascii_text (codes "app.gen.item/" ++ digits 8 n) (ascii_joined (codes "app.gen.item/") (digits 8 n) refl (digits_ascii 8 n)) (omega arith)
-
-did_text : (a : ℕ) → a < 16 → IsText (did_of a)
-unfolding did_of
-did_text a low =
-    let small : 97 + a < 128 = omega arith in
-    ascii_text (codes "did:plc:gen" ++ (97 + a) ∷ []) (ascii_joined (codes "did:plc:gen") ((97 + a) ∷ []) refl (and_from (ltb (97 + a) 128) true (lt-ltb (97 + a) 128 small) refl)) (lit< tt)
 
 child_item : (depth : ℕ) (o : Option (List ℕ)) → IsLinkOrNone o → Fits (link_item o) depth
 child_item depth None l = tt
@@ -85,11 +58,11 @@ op_fits : (op : Op) → IsFormedOp op → IsText op.key → Fits (op_item op) 62
 unfolding op_item key_cmp
 op_fits op f text =
     let few = count_ends op.was op.now in
-    (lit< tt, omega (arith, few), (ascii_text (codes "cid") refl (lit< tt), refl, child_item 61 op.now f.2.1.0, (ascii_text (codes "path") refl (lit< tt), refl, text, ends_fit 61 op.was op.now f.2.0)))
+    (lit< tt, omega (arith, few), (ascii_text (codes "cid") refl (lit< tt), refl, child_item 61 op.now f.2, (ascii_text (codes "path") refl (lit< tt), refl, text, ends_fit 61 op.was op.now f.1)))
 
 ops_fit : (n : ℕ) (ops : List Op) → AreFormedOps ops → AreOpsOlder n ops → ItemsFit (items_of (map op_item ops)) 62
 ops_fit n [] f o = tt
-ops_fit n (op ∷ ops) f o = (op_fits op f.0 (subst IsText (sym o.0.2.1) (path_text o.0.0)), ops_fit n ops f.1 o.1)
+ops_fit n (op ∷ ops) f o = (op_fits op f.0 (subst IsText (sym o.0.2) (path_text o.0.0)), ops_fit n ops f.1 o.1)
 
 count_items : (is : List Item) → items_count (items_of is) ≡ length is
 count_items [] = refl
@@ -148,63 +121,86 @@ string_back : (A B : List ℕ) → IsString (A ++ B) → IsString B
 string_back [] B s = s
 string_back (a ∷ A) B s = let low = s.0 in string_back A B (omega arith, λ i. s.1 (suc i))
 
+bytes_front : (A B : List ℕ) (i : ℕ) → ((j : ℕ) → slice_index (A ++ B) j < 256) → slice_index A i < 256
+bytes_front [] B i b = omega arith
+bytes_front (a ∷ A) B zero b = b 0
+bytes_front (a ∷ A) B (suc i) b = bytes_front A B i (λ j. b (suc j))
+
 string_front : (A B : List ℕ) → IsString (A ++ B) → IsString A
-string_front A B s = let n = length-append A B in let low = s.0 in (omega arith, bytes_front A s.1)
-  where
-    bytes_front : (A : List ℕ) → IsBytes (A ++ B) → IsBytes A
-    bytes_front [] b i = omega arith
-    bytes_front (a ∷ A) b zero = b 0
-    bytes_front (a ∷ A) b (suc i) = bytes_front A (λ j. b (suc j)) i
+string_front A B s = let n = length-append A B in let low = s.0 in (omega arith, λ i. bytes_front A B i s.1)
 
-string_next : (k : List ℕ) (i : Item) (fs : Fields) → IsString (fields_spelling (field k i fs)) → IsString (fields_spelling fs)
-string_next k i fs s = string_back (spelling i) (fields_spelling fs) (string_back (text_spelling k) (spelling i ++ fields_spelling fs) s)
+string_rest : (f : List ℕ × Item) (fs : List (List ℕ × Item)) → IsString (fields_spelling (fields_of (f ∷ fs))) → IsString (fields_spelling (fields_of fs))
+string_rest f fs s = string_back (spelling f.1) (fields_spelling (fields_of fs)) (string_back (text_spelling f.0) (spelling f.1 ++ fields_spelling (fields_of fs)) s)
 
-string_value : (k : List ℕ) (i : Item) (fs : Fields) → IsString (fields_spelling (field k i fs)) → IsString (spelling i)
-string_value k i fs s = string_front (spelling i) (fields_spelling fs) (string_back (text_spelling k) (spelling i ++ fields_spelling fs) s)
+string_value : (f : List ℕ × Item) (fs : List (List ℕ × Item)) → IsString (fields_spelling (fields_of (f ∷ fs))) → IsString (spelling f.1)
+string_value f fs s = string_front (spelling f.1) (fields_spelling (fields_of fs)) (string_back (text_spelling f.0) (spelling f.1 ++ fields_spelling (fields_of fs)) s)
+
+middle_string : (past : Option Past) (blocks : List ℕ) → IsString (fields_spelling (fields_of (middle_fields past blocks))) → IsString blocks
+middle_string past blocks s =
+    let T : List ℕ × Item = (codes "time", Item.text (codes "2025-01-01T00:00:00Z")) in let L : List ℕ × Item = (codes "blobs", Item.list no_items) in let S : List ℕ × Item = (codes "since", since_item past) in let B : List ℕ × Item = (codes "blocks", Item.bytes blocks) in
+    string_back (front_of Major.Bytes (length blocks)) blocks (string_value B [] (string_rest S (B ∷ []) (string_rest L (S ∷ B ∷ []) (string_rest T (L ∷ S ∷ B ∷ []) s))))
+
+message_is : (payload : Item) → message_of EventKind.Commit payload ≡ spelling (header_of EventKind.Commit) ++ spelling payload
+unfolding message_of
+message_is payload = refl
 
 blocks_string : (did : List ℕ) (seq rev : ℕ) (past : Option Past) (ops : List Op) (commit blocks : List ℕ) → IsString (message_of EventKind.Commit (payload_of did seq rev past ops commit blocks)) → IsString blocks
-unfolding message_of payload_of
 blocks_string did seq rev past ops commit blocks s =
-    string_back (front_of Major.Bytes (length blocks)) blocks (string_value _ _ _ (string_next _ _ _ (string_next _ _ _ (string_next _ _ _ (string_next _ _ _ (string_next _ _ _ (string_next _ _ _ (string_next _ _ _
-    (string_back _ _ (string_back (spelling (header_of EventKind.Commit)) _ s))))))))))
+    let H = spelling (header_of EventKind.Commit) in let N = front_of Major.Map (11 + fields_count (fields_of (prev_data past))) in
+    let F = fields_spelling (fields_of (front_fields ops rev seq did)) in let M = fields_spelling (fields_of (middle_fields past blocks)) in let B = fields_spelling (fields_of (back_fields past commit)) in
+    let whole = subst IsString (message_is (payload_of did seq rev past ops commit blocks) ∙ ap (λ x. H ++ x) (payload_spelled did seq rev past ops commit blocks)) s in
+    middle_string past blocks (string_front M B (string_back F (M ++ B) (string_back N (F ++ (M ++ B)) (string_back H (N ++ (F ++ (M ++ B))) whole))))
 
 header_form : Fits (header_of EventKind.Commit) 64
 unfolding key_cmp
 header_form = (lit< tt, lit< tt, (ascii_text (codes "t") refl (lit< tt), refl, ascii_text (codes "#commit") refl (lit< tt), (ascii_text (codes "op") refl (lit< tt), refl, lit< tt, tt)))
 
 -- an event of a payload has the payload's DID
+abbrev seen : ℕ → List ℕ → List ℕ → Body → Item → Seen
+seen n did time body payload = record { seq = n; did = did; time = time; body = body; payload = payload }
+
+same_did : (did : List ℕ) (b : Bool) (found : List ℕ) → cond b (Some did) None ≡ Some found → found ≡ did
+same_did did true found q = sym (some_same did found q)
+same_did did false found q = absurd cc
+
+did_read : (did : List ℕ) (seq rev : ℕ) (past : Option Past) (ops : List Op) (commit blocks found : List ℕ) → required did_in (payload_of did seq rev past ops commit blocks) (codes "repo") ≡ Some found → found ≡ did
+unfolding payload_of did_in
+did_read did seq rev past ops commit blocks found h = same_did did (is_did did) found h
+
+-- an event has the DID of its payload
+event_did : (n : ℕ) (p : Item) (e : Seen) → event_of EventKind.Commit n p ≡ Some e → (found : List ℕ) × (required did_in p (codes "repo") ≡ Some found) × (e.did ≡ found)
+unfolding event_of
+event_did n p e h =
+    let one = step_from (required did_in p (codes "repo")) (λ did. required short_text_in p (codes "time") >>= λ time. body_of EventKind.Commit p >>= λ body. Some (seen n did time body p)) e h in
+    let two = step_from (required short_text_in p (codes "time")) (λ time. body_of EventKind.Commit p >>= λ body. Some (seen n one.0 time body p)) e one.2 in
+    let three = step_from (body_of EventKind.Commit p) (λ body. Some (seen n one.0 two.0 body p)) e two.2 in
+    (one.0, one.1, sym (ap (λ (x : Seen). x.did) (some_same (seen n one.0 two.0 three.0 p) e three.2)))
+
 read_did : (did : List ℕ) (seq rev : ℕ) (past : Option Past) (ops : List Op) (commit blocks : List ℕ) (n : ℕ) (e : Seen) → event_of EventKind.Commit n (payload_of did seq rev past ops commit blocks) ≡ Some e → e.did ≡ did
-unfolding event_of payload_of did_in
 read_did did seq rev past ops commit blocks n e h =
-    let p = payload_of did seq rev past ops commit blocks in
-    let one = step_from (required did_in p (codes "repo")) _ e h in
-    let two = step_from _ _ e one.2 in
-    let three = step_from _ _ e two.2 in
-    sym (ap (λ (x : Seen). x.did) (some_same _ e three.2)) ∙ same (is_did did) one.0 one.1
-  where
-    same : (b : Bool) (found : List ℕ) → cond b (Some did) None ≡ Some found → found ≡ did
-    same true found q = sym (some_same did found q)
-    same false found q = absurd cc
+    let found = event_did n (payload_of did seq rev past ops commit blocks) e h in
+    found.2 ∙ did_read did seq rev past ops commit blocks found.0 found.1
+
+formed_seen : (n : ℕ) (o : Option Seen) (e : Seen) → formed_frame n o ≡ Frame.Event e → o ≡ Some e
+formed_seen n None e q = absurd cc
+formed_seen n (Some x) e q = cc
+
+ok_same : (x y : Frame) → ◌≡◌ {A = Result Frame FrameFault} (Ok x) (Ok y) → x ≡ y
+ok_same x y h = cc
+
+numbered_event : (payload : Item) (e : Seen) (o : Option ℕ) → numbered_frame EventKind.Commit payload o ≡ Ok (Frame.Event e) → (n : ℕ) × (event_of EventKind.Commit n payload ≡ Some e)
+numbered_event payload e None q = absurd cc
+numbered_event payload e (Some n) q = (n, formed_seen n (event_of EventKind.Commit n payload) e (ok_same (formed_frame n (event_of EventKind.Commit n payload)) (Frame.Event e) q))
 
 framed_event : (payload : Item) (e : Seen) → event_frame EventKind.Commit payload ≡ Ok (Frame.Event e) → (n : ℕ) × (event_of EventKind.Commit n payload ≡ Some e)
 unfolding event_frame
-framed_event payload e h = go (seq_of payload) h
-  where
-    formed : (n : ℕ) (o : Option Seen) → Ok (formed_frame n o) ≡ Ok (Frame.Event e) → o ≡ Some e
-    formed n None q = absurd cc
-    formed n (Some x) q = cc
-    go : (o : Option ℕ) → numbered_frame EventKind.Commit payload o ≡ Ok (Frame.Event e) → (n : ℕ) × (event_of EventKind.Commit n payload ≡ Some e)
-    go None q = absurd cc
-    go (Some n) q = (n, formed n (event_of EventKind.Commit n payload) q)
+framed_event payload e h = numbered_event payload e (seq_of payload) h
 
 frame_is : (did : List ℕ) (seq rev : ℕ) (past : Option Past) (ops : List Op) (commit blocks : List ℕ) → Fits (payload_of did seq rev past ops commit blocks) 64 → frame_of (message_of EventKind.Commit (payload_of did seq rev past ops commit blocks)) ≡ event_frame EventKind.Commit (payload_of did seq rev past ops commit blocks)
 unfolding frame_of heading_of named announced payload_of
 frame_is did seq rev past ops commit blocks f =
-    rw (message_read (message_of EventKind.Commit (payload_of did seq rev past ops commit blocks)) (header_of EventKind.Commit) (payload_of did seq rev past ops commit blocks) (record { header_form = header_form; payload_form = f; spelled = message_is did seq rev past ops commit blocks })) refl
-  where
-    message_is : (did : List ℕ) (seq rev : ℕ) (past : Option Past) (ops : List Op) (commit blocks : List ℕ) → message_of EventKind.Commit (payload_of did seq rev past ops commit blocks) ≡ spelling (header_of EventKind.Commit) ++ spelling (payload_of did seq rev past ops commit blocks)
-    unfolding message_of
-    message_is did seq rev past ops commit blocks = refl
+    let p = payload_of did seq rev past ops commit blocks in
+    rw (message_read (message_of EventKind.Commit p) (header_of EventKind.Commit) p (record { header_form = header_form; payload_form = f; spelled = message_is p })) refl
 
 of_account : (c : Commit) (e : Seen) → CanBeSent c → IsString (message c) → frame_of (message c) ≡ Ok (Frame.Event e) → e.did ≡ did_of c.account
 unfolding message
@@ -223,11 +219,7 @@ root_link c = let l = cid_is_link (spell (top_layer c.map) c.map) in record { li
 
 past_sent : (a : ℕ) (commits : List Commit) → AllSent commits → IsPastLink (past_of (last_of a commits))
 past_sent a [] s = tt
-past_sent a (c ∷ commits) s = go (c.account == a)
-  where
-    go : (x : Bool) → IsPastLink (past_of (cond x (Some c) (last_of a commits)))
-    go true = (s.0.rev, root_link c)
-    go false = past_sent a commits s.1
+past_sent a (c ∷ commits) s = elim (c.account == a) as (λ x. IsPastLink (past_of (cond x (Some c) (last_of a commits)))) [ true ↦ (s.0.rev, root_link c) | false ↦ past_sent a commits s.1 ]
 
 all_sent : (start i : ℕ) → i ≤ 100000 → AllSent (commits_from start i).commits
 unfolding drawn

@@ -18,22 +18,9 @@ use Rattle.relay_gen.specs.Draws.{next, drawn}
 use Rattle.relay_gen.specs.Names.{digits, path_of, value_of}
 use Rattle.relay_gen.specs.Drafts.{Draft, creation, drafted, played, with_drawn, with_edit, with_more, with_op}
 use Rattle.relay_gen.specs.States.{AllApply, AreOlder, CanPlay}
-use Rattle.relay_gen.proofs.Ascending.{digits_bytes, length_digits, path_less}
+use Rattle.relay_gen.proofs.Ascending.{path_less}
+use Rattle.relay_gen.proofs.Texts.{path_key}
 use Rattle.relay_gen.proofs.Plays.{apart_more}
-
-front_bytes : (A xs : List ℕ) → IsBytes A → IsBytes xs → IsBytes (A ++ xs)
-front_bytes [] xs a b = b
-front_bytes (c ∷ A) xs a b zero = a 0
-front_bytes (c ∷ A) xs a b (suc i) = front_bytes A xs (λ j. a (suc j)) b i
-
-prefix_bytes : IsBytes (codes "app.gen.item/")
-prefix_bytes i = search
-
-pub path_key : (n : ℕ) → IsKey (path_of n)
-unfolding path_of
-path_key n =
-    let long = length-append (codes "app.gen.item/") (digits 8 n) in let eight = length_digits 8 n in
-    record { least = omega arith; most = omega arith; bytes = front_bytes (codes "app.gen.item/") (digits 8 n) prefix_bytes (digits_bytes 8 n) }
 
 pub value_link : (n : ℕ) → IsLink (value_of n)
 unfolding value_of
@@ -45,13 +32,13 @@ none_older n m [] o le most = refl
 none_older n m (Hole l c ∷ s) o le most = absurd o
 none_older n m (Key k v ∷ s) o le most =
     let low = o.0.1 in
-    let less : key_cmp k (path_of m) ≡ Less = ap (λ x. key_cmp x (path_of m)) o.0.2.1 ∙ path_less o.0.0 m (omega arith) most in
+    let less : key_cmp k (path_of m) ≡ Less = ap (λ x. key_cmp x (path_of m)) o.0.2 ∙ path_less o.0.0 m (omega arith) most in
     rw less (none_older n m s o.1 le most)
 
 pub older_more : (n m : ℕ) (s : List Item) → n ≤ m → AreOlder n s → AreOlder m s
 older_more n m [] le o = tt
 older_more n m (Hole l c ∷ s) le o = o
-older_more n m (Key k v ∷ s) le o = let low = o.0.1 in ((o.0.0, omega arith, o.0.2.1), older_more n m s le o.1)
+older_more n m (Key k v ∷ s) le o = let low = o.0.1 in ((o.0.0, omega arith, o.0.2), older_more n m s le o.1)
 
 same_text : (a b : List ℕ) → a ≡ b → bytes_eq a b ≡ true
 same_text a b e = (bytes_eq-Decides a b).1 e
@@ -59,11 +46,11 @@ same_text a b e = (bytes_eq-Decides a b).1 e
 -- an operation whose key none has is new to them
 is_new : (k : List ℕ) (ops : List Op) → list_any (λ (o : Op). bytes_eq o.key k) ops ≡ false → IsNewTo k ops
 is_new k [] e = tt
-is_new k (op ∷ ops) e = go (bytes_eq op.key k) refl e
-  where
-    go : (b : Bool) → bytes_eq op.key k ≡ b → (b || list_any (λ (o : Op). bytes_eq o.key k) ops) ≡ false → IsNewTo k (op ∷ ops)
-    go true f e = absurd cc
-    go false f e = (λ same. let t = same_text op.key k (sym same) in absurd cc, is_new k ops e)
+is_new k (op ∷ ops) e =
+    elim (bytes_eq op.key k) as (λ b. bytes_eq op.key k ≡ b → (b || list_any (λ (o : Op). bytes_eq o.key k) ops) ≡ false → IsNewTo k (op ∷ ops)) [
+      | true ↦ λ f e. absurd cc
+      | false ↦ λ f e. (λ same. let t = same_text op.key k (sym same) in absurd cc, is_new k ops e)
+    ] refl e
 
 -- each key is the path of a number below another
 abbrev pub AreOpsOlder : ℕ → List Op → Type 0
@@ -72,7 +59,7 @@ AreOpsOlder n (op ∷ ops) = ((m : ℕ) × (m < n) × (op.key ≡ path_of m)) ×
 
 ops_older_more : (n m : ℕ) (ops : List Op) → n ≤ m → AreOpsOlder n ops → AreOpsOlder m ops
 ops_older_more n m [] le o = tt
-ops_older_more n m (op ∷ ops) le o = let low = o.0.1 in ((o.0.0, omega arith, o.0.2.1), ops_older_more n m ops le o.1)
+ops_older_more n m (op ∷ ops) le o = let low = o.0.1 in ((o.0.0, omega arith, o.0.2), ops_older_more n m ops le o.1)
 
 ops_older_last : (n : ℕ) (ops : List Op) (op : Op) → AreOpsOlder n ops → (m : ℕ) × (m < n) × (op.key ≡ path_of m) → AreOpsOlder n (ops ++ op ∷ [])
 ops_older_last n [] op o l = (l, tt)
@@ -91,18 +78,18 @@ pub record IsGood (s : List Item) (n count : ℕ) (ops : List Op) : Type 0 where
   pub older : AreOpsOlder n ops
 
 good_with : (s : List Item) (n m count : ℕ) (ops : List Op) (op : Op) → n ≤ m → IsGood s n count ops → value_at op.key s ≡ op.was → IsFormedOp op → (l : ℕ) × (l < m) × (op.key ≡ path_of l) → IsGood s m (suc count) (with_op ops op)
-good_with s n m count ops op le g v f l = go (list_any (λ (o : Op). bytes_eq o.key op.key) ops) refl
-  where
-    more = ops_older_more n m ops le g.older
-    go : (b : Bool) → list_any (λ (o : Op). bytes_eq o.key op.key) ops ≡ b → IsGood s m (suc count) (cond b ops (ops ++ op ∷ []))
-    go true e = let few = g.few in record { apply = g.apply; apart = g.apart; formed = g.formed; few = omega arith; older = more }
-    go false e = let few = g.few in let n = length-append ops (op ∷ []) in record {
-      apply = apply_last s ops op g.apply v;
-      apart = apart_more ops op g.apart (is_new op.key ops e);
-      formed = ops_more ops (ops ++ op ∷ []) op refl g.formed f;
-      few = omega arith;
-      older = ops_older_last m ops op more l;
-    }
+good_with s n m count ops op le g v f l =
+    let more = ops_older_more n m ops le g.older in let few = g.few in
+    elim (list_any (λ (o : Op). bytes_eq o.key op.key) ops) as (λ b. list_any (λ (o : Op). bytes_eq o.key op.key) ops ≡ b → IsGood s m (suc count) (cond b ops (ops ++ op ∷ []))) [
+      | true ↦ λ e. record { apply = g.apply; apart = g.apart; formed = g.formed; few = omega arith; older = more }
+      | false ↦ λ e. let n = length-append ops (op ∷ []) in record {
+          apply = apply_last s ops op g.apply v;
+          apart = apart_more ops op g.apart (is_new op.key ops e);
+          formed = ops_more ops (ops ++ op ∷ []) op refl g.formed f;
+          few = omega arith;
+          older = ops_older_last m ops op more l;
+        }
+    ] refl
 
 -- what is known of an item of a map
 record IsHere (n : ℕ) (s : List Item) (k w : List ℕ) : Type 0 where
@@ -127,7 +114,7 @@ here_at n (Key j v ∷ s) zero k w f a o e =
       value = ap (λ x. by_order (key_cmp x k) (value_at k s) (Some v) None) same ∙ ap (λ r. by_order r (value_at k s) (Some v) None) (cmp_same k) ∙ ap Some value;
       key = subst IsKey same f.0.0;
       link = subst IsLink value f.0.1;
-      older = (o.0.0, o.0.1, sym same ∙ o.0.2.1);
+      older = (o.0.0, o.0.1, sym same ∙ o.0.2);
     }
 here_at n (Key j v ∷ s) (suc i) k w f a o e =
     let h = here_at n s i k w f.1 a.1 o.1 e in
@@ -140,26 +127,32 @@ edited_formed kind k was now f l m = go (kind == 7)
     go true = (f, l, tt, λ none. absurd cc)
     go false = (f, l, m, λ none. absurd cc)
 
-good_edit : (s : List Item) (n count kind number i : ℕ) (ops : List Op) → IsMap s → AreOlder n s → (m : ℕ) → n ≤ m → (l : ℕ) → l ≤ m → IsGood s l count ops → IsGood s m (suc count) (with_edit ops kind (value_of number) (slice_get s i))
-good_edit s n count kind number i ops map o m le l low g = go (slice_get s i) refl
+good_same : (s : List Item) (l m count : ℕ) (ops : List Op) → l ≤ m → IsGood s l count ops → IsGood s m (suc count) ops
+good_same s l m count ops low g = let few = g.few in record { apply = g.apply; apart = g.apart; formed = g.formed; few = omega arith; older = ops_older_more l m ops low g.older }
+
+good_edit : (s : List Item) (n l m count kind number i : ℕ) (ops : List Op) → IsMap s → AreOlder n s → n ≤ m → l ≤ m → IsGood s l count ops → IsGood s m (suc count) (with_edit ops kind (value_of number) (slice_get s i))
+good_edit s n l m count kind number i ops map o le low g = go (slice_get s i) refl
   where
-    same = let few = g.few in record { apply = g.apply; apart = g.apart; formed = g.formed; few = omega arith; older = ops_older_more l m ops low g.older }
     go : (item : Option Item) → slice_get s i ≡ item → IsGood s m (suc count) (with_edit ops kind (value_of number) item)
-    go None e = same
-    go (Some (Hole h c)) e = same
+    go None e = good_same s l m count ops low g
+    go (Some (Hole h c)) e = good_same s l m count ops low g
     go (Some (Key k w)) e =
         let h = here_at n s i k w map.formed map.ascends o e in
         let small = h.older.1 in
         good_with s l m count ops (record { key = k; was = Some w; now = cond (kind == 7) None (Some (value_of number)) }) low g h.value (edited_formed kind k w (value_of number) h.key h.link (value_link number)) (h.older.0, omega arith, h.older.2)
 
+abbrev drafts_ops : Draft → List Op
+drafts_ops d = d.ops
+
 good_drawn : (s : List Item) (i j : ℕ) (d : Draft) → IsMap s → AreOlder (i * 4) s → i * 4 + j < 10 ^ 8 → IsGood s (i * 4 + j) j d.ops → IsGood s (i * 4 + suc j) (suc j) (with_drawn s i j d).ops
-good_drawn s i j d map o most g = go (nat_lt (drawn 8 (next d.state)) 5 || length s == 0)
-  where
-    create = good_with s (i * 4 + j) (i * 4 + suc j) j d.ops (creation i j) (omega arith) g (none_older (i * 4) (i * 4 + j) s o (omega arith) most) (path_key (i * 4 + j), tt, value_link (i * 8 + j), λ none some. absurd cc) (i * 4 + j, omega arith, refl)
-    edit = good_edit s (i * 4) j (drawn 8 (next d.state)) (i * 8 + j) (drawn (length s) (next (next d.state))) d.ops map o (i * 4 + suc j) (omega arith) (i * 4 + j) (omega arith) g
-    go : (b : Bool) → IsGood s (i * 4 + suc j) (suc j) (cond b (record { ops = with_op d.ops (creation i j); state = next d.state }) (record { ops = with_edit d.ops (drawn 8 (next d.state)) (value_of (i * 8 + j)) (slice_get s (drawn (length s) (next (next d.state)))); state = next (next d.state) })).ops
-    go true = create
-    go false = edit
+good_drawn s i j d map o most g =
+    let n = i * 4 + j in let kind = drawn 8 (next d.state) in let place = drawn (length s) (next (next d.state)) in
+    let x : Draft = record { ops = with_op d.ops (creation i j); state = next d.state } in
+    let y : Draft = record { ops = with_edit d.ops kind (value_of (i * 8 + j)) (slice_get s place); state = next (next d.state) } in
+    elim (nat_lt kind 5 || length s == 0) as (λ b. IsGood s (i * 4 + suc j) (suc j) (drafts_ops (cond {A = Draft} b x y))) [
+      | true ↦ good_with s n (i * 4 + suc j) j d.ops (creation i j) (omega arith) g (none_older (i * 4) n s o (omega arith) most) (path_key n, tt, value_link (i * 8 + j), λ none some. absurd cc) (n, omega arith, refl)
+      | false ↦ good_edit s (i * 4) n (i * 4 + suc j) j kind (i * 8 + j) place d.ops map o (omega arith) (omega arith) g
+    ]
 
 good_more : (s : List Item) (i j left : ℕ) (d : Draft) → IsMap s → AreOlder (i * 4) s → i * 4 + (j + left) < 10 ^ 8 → IsGood s (i * 4 + j) j d.ops → IsGood s (i * 4 + (j + left)) (j + left) (with_more s i j left d).ops
 good_more s i j zero d map o most g = subst (λ n. IsGood s (i * 4 + n) n d.ops) (omega arith) g
@@ -202,3 +195,8 @@ older_put n k o s l old =
 pub older_played : (n : ℕ) (s : List Item) (ops : List Op) → AreOlder n s → AreOpsOlder n ops → AreOlder n (played s ops)
 older_played n s [] o l = o
 older_played n s (op ∷ ops) o l = older_played n (put op.key op.now s) ops (older_put n op.key op.now s l.0 o) l.1
+
+-- an edit that is drawn
+pub drawn_edit : (s : List Item) (i j : ℕ) (d : Draft) (k was : List ℕ) (now : Option (List ℕ)) → nat_lt (drawn 8 (next d.state)) 5 ≡ false → (length s == 0) ≡ false → slice_get s (drawn (length s) (next (next d.state))) ≡ Some (Key k was) → cond (drawn 8 (next d.state) == 7) None (Some (value_of (i * 8 + j))) ≡ now
+    → record { ops = with_op d.ops (record { key = k; was = Some was; now = now }); state = next (next d.state) } ≡ with_drawn s i j d
+drawn_edit s i j d k was now low some item is = rw (low, some, item, is) refl

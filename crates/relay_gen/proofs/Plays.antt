@@ -1,5 +1,5 @@
 -- Playing operations is undoing them turned round.
-use Rattle.std.proofs.Common.{◌≡◌, ◌≢◌, ℕ, List, [], ◌∷◌, ◌++◌, length, refl, sym, ap, ◌∙◌, subst, Option, Some, None, arith, length-append}
+use Rattle.std.proofs.Common.{◌≡◌, ◌≢◌, ℕ, zero, suc, ◌<◌, ◌≤◌, List, [], ◌∷◌, ◌++◌, length, map, drop, get_or, refl, sym, ap, ◌∙◌, subst, Option, Some, None, arith, length-append}
 use Rattle.at_cid.specs.Link.{IsLinkOrNone}
 use Rattle.mst_list.specs.declared.item.Item.{Item}
 use Rattle.mst_list.specs.declared.item.Item.TheVariants.{Key, Hole}
@@ -10,6 +10,8 @@ use Rattle.mst_list.proofs.Fills.{formed_value, keys_only_parts}
 use Rattle.mst_list.proofs.Places.{rebuilt}
 use Rattle.mst_list.proofs.Undo.{map_put}
 use Rattle.relay_gen.specs.Drafts.{played}
+use Rattle.relay_gen.specs.declared.records.Change.{Change}
+use Rattle.relay_gen.specs.Records.{op_of}
 use Rattle.relay_gen.specs.States.{AllApply, CanPlay, turned_of}
 
 abbrev turn : Op → Op
@@ -80,7 +82,7 @@ turned_apart [] a = tt
 turned_apart (op ∷ ops) a = apart_more (turned_of ops) (turn op) (turned_apart ops a.1) (new_turned op.key ops a.0)
 
 pub turned_formed : (op : Op) → IsFormedOp op → IsFormedOp (turn op)
-turned_formed op f = (f.0, f.2.0, f.1, λ none was. f.2.1 was none)
+turned_formed op f = (f.0, f.2, f.1, λ none was. f.3 was none)
 
 pub length_turned : (ops : List Op) → length (turned_of ops) ≡ length ops
 length_turned [] = refl
@@ -89,4 +91,19 @@ length_turned (op ∷ ops) = let n = length-append (turned_of ops) (turn op ∷ 
 -- a map is left
 pub played_map : (s : List Item) (ops : List Op) → IsMap s → AreFormedOps ops → IsMap (played s ops)
 played_map s [] m f = m
-played_map s (op ∷ ops) m f = played_map (put op.key op.now s) ops (map_put op.key op.now s (formed_value op.key op.now f.0.0 f.0.2.0) m) f.1
+played_map s (op ∷ ops) m f = played_map (put op.key op.now s) ops (map_put op.key op.now s (formed_value op.key op.now f.0.0 f.0.2) m) f.1
+
+length_ops : (cs : List Change) → length (map op_of cs) ≡ length cs
+length_ops [] = refl
+length_ops (c ∷ cs) = ap suc (length_ops cs)
+
+-- an operation at a place
+pub formed_at : (cs : List Change) (i : ℕ) (c : Change) → AreFormedOps (map op_of cs) → i < length cs → c ≡ get_or cs i c → IsFormedOp (op_of c)
+formed_at [] i c f low e = absurd (omega arith)
+formed_at (x ∷ cs) zero c f low e = let P : Change → Type 0 = λ y. IsFormedOp (op_of y) in subst P (sym e) f.0
+formed_at (x ∷ cs) (suc i) c f low e = formed_at cs i c f.1 (omega arith) e
+
+pub few_turned : (n : ℕ) (cs : List Change) → length (turned_of (map op_of (drop n cs))) ≤ length cs
+few_turned zero cs = let a = length_turned (map op_of cs) in let b = length_ops cs in omega arith
+few_turned (suc n) [] = omega arith
+few_turned (suc n) (c ∷ cs) = let rest = few_turned n cs in omega arith

@@ -1,5 +1,5 @@
 -- The search among records.
-use Rattle.std.proofs.Common.{◌≡◌, ◌≢◌, ℕ, zero, suc, ◌+◌, ◌-◌, ◌<◌, ◌≤◌, Bool, true, false, cond, List, [], ◌∷◌, ◌++◌, length, map, take, drop, get_or, slice_get, is_some, refl, sym, ap, ◌∙◌, subst, Option, Some, None, Ordering, Less, Equal, Greater, arith}
+use Rattle.std.proofs.Common.{◌≡◌, ◌≢◌, ℕ, zero, suc, ◌+◌, ◌-◌, ◌<◌, ◌≤◌, Bool, true, false, cond, List, [], ◌∷◌, ◌++◌, length, map, take, drop, get_or, slice_get, set, insert, remove, is_some, refl, sym, ap, ◌∙◌, subst, Option, Some, None, Ordering, Less, Equal, Greater, arith}
 use Rattle.std.specs.List.Sorted.{IsPartitionedBy, IsPartitionPoint}
 use Rattle.std.specs.Str.{bytes_eq}
 use Rattle.std.proofs.lemmas.Slice.Eq.{bytes_eq-Decides}
@@ -12,8 +12,8 @@ use Rattle.mst_list.specs.Edits.{by_order, before, after, value_at}
 use Rattle.mst_node.specs.Covers.{last_key, first_key}
 use Rattle.mst_node.specs.Fits.{is_less}
 use Rattle.relay_gen.specs.declared.records.Record.{Record}
-use Rattle.relay_gen.specs.Covers.{key_or_none}
-use Rattle.relay_gen.specs.Records.{has_path, is_below, item_of}
+use Rattle.relay_gen.specs.Covers.{key_or_none, neighbours}
+use Rattle.relay_gen.specs.Records.{behind, has_path, is_below, item_of, last_path, path_or_none}
 
 pub keys_only : (rs : List Record) → KeysOnly (map item_of rs)
 keys_only [] = tt
@@ -78,16 +78,8 @@ found_at k (r ∷ rs) =
       | Greater ↦ λ e. other_texts r.path k (λ same. let alike : key_cmp r.path k ≡ Equal = ap (λ x. key_cmp x k) same ∙ cmp_same k in absurd cc)
     ] refl
 
-abbrev pub path_or_none : Option Record → List (List ℕ)
-path_or_none None = []
-path_or_none (Some r) = r.path ∷ []
-
--- the place behind that of a path, where the path is there
-abbrev pub behind : Bool → ℕ → ℕ
-behind there n = cond there (n + 1) n
-
 behind_suc : (b : Bool) (n : ℕ) → behind b (suc n) ≡ suc (behind b n)
-behind_suc true n = refl
+behind_suc true n = omega arith
 behind_suc false n = refl
 
 first_path : (rs : List Record) → key_or_none (first_key (map item_of rs)) ≡ path_or_none (slice_get rs 0)
@@ -105,10 +97,6 @@ next_path k (r ∷ rs) =
       | Greater ↦ refl
     ]
 
-abbrev pub last_path : List Record → ℕ → List (List ℕ)
-last_path rs zero = []
-last_path rs (suc n) = path_or_none (slice_get rs n)
-
 last_step : (r : Record) (rs : List Record) (X : List Item) → key_or_none (last_key X) ≡ last_path rs (length X) → key_or_none (last_key (item_of r ∷ X)) ≡ last_path (r ∷ rs) (suc (length X))
 last_step r rs [] ih = refl
 last_step r rs (y ∷ X) ih = ih
@@ -123,3 +111,33 @@ path_before k (r ∷ rs) =
       | Equal ↦ refl
       | Greater ↦ refl
     ]
+
+-- edits of records are edits of the list of their keys
+pub insert_items : (rs : List Record) (n : ℕ) (r : Record) → map item_of (insert rs n r) ≡ insert (map item_of rs) n (item_of r)
+insert_items rs zero r = refl
+insert_items [] (suc n) r = refl
+insert_items (x ∷ rs) (suc n) r = ap (λ y. item_of x ∷ y) (insert_items rs n r)
+
+pub remove_items : (rs : List Record) (n : ℕ) → map item_of (remove rs n) ≡ remove (map item_of rs) n
+remove_items [] zero = refl
+remove_items [] (suc n) = refl
+remove_items (x ∷ rs) zero = refl
+remove_items (x ∷ rs) (suc n) = ap (λ y. item_of x ∷ y) (remove_items rs n)
+
+pub length_items : (rs : List Record) → length (map item_of rs) ≡ length rs
+length_items [] = refl
+length_items (r ∷ rs) = ap suc (length_items rs)
+
+-- the neighbours of a path, by its place
+pub beside : (k : List ℕ) (rs : List Record) (n : ℕ) → n ≡ length (before k (map item_of rs)) → last_path rs n ++ path_or_none (slice_get rs (behind (has_path k (slice_get rs n)) n)) ≡ neighbours (map item_of rs) k None
+beside k rs n e =
+    ap (λ m. last_path rs m ++ path_or_none (slice_get rs (behind (has_path k (slice_get rs m)) m))) e
+    ∙ ap (λ b. last_path rs (length (before k (map item_of rs))) ++ path_or_none (slice_get rs (behind b (length (before k (map item_of rs)))))) (found_at k rs)
+    ∙ ap (λ x. x ++ path_or_none (slice_get rs (behind (is_some (value_at k (map item_of rs))) (length (before k (map item_of rs)))))) (sym (path_before k rs))
+    ∙ ap (λ x. key_or_none (last_key (before k (map item_of rs))) ++ x) (sym (next_path k rs))
+
+-- the item at a place
+pub item_at : (rs : List Record) (i : ℕ) (r : Record) → i < length rs → r ≡ get_or rs i r → slice_get (map item_of rs) i ≡ Some (item_of r)
+item_at [] i r low e = absurd (omega arith)
+item_at (x ∷ rs) zero r low e = ap (λ y. Some (item_of y)) (sym e)
+item_at (x ∷ rs) (suc i) r low e = item_at rs i r (omega arith) e

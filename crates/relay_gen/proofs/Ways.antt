@@ -4,7 +4,8 @@ use Rattle.std.specs.List.{filter, list_any}
 use Rattle.std.proofs.lemmas.List.{map-append}
 use Rattle.std.proofs.lemmas.List.Elements.{filter-append}
 use Rattle.std.specs.FinMap as finite
-use Rattle.at_cid.specs.Link.{cid}
+use Rattle.sha2.specs.Sha256.{sha256}
+use Rattle.at_cid.specs.Link.{cid, digest_of}
 use Rattle.at_cid.specs.Order.{key_cmp}
 use Rattle.at_cid.proofs.Order.{cmp_trans}
 use Rattle.at_car.specs.Blocks.{BlockMap, kept}
@@ -21,10 +22,12 @@ use Rattle.mst_node.specs.Reading.{is_over}
 use Rattle.mst_node.specs.Trees.{first_part, spell, KeysUnder}
 use Rattle.mst_node.proofs.Joins.{first_joined}
 use Rattle.mst_node.proofs.Layers.{eqb_not, eqb_same}
-use Rattle.mst_view.specs.Layered.{AllAt, LiesBelow, below_items, rest_items}
+use Rattle.mst_node.specs.NodeBytes.{node_bytes}
+use Rattle.mst_view.specs.Value.{Layered}
+use Rattle.mst_view.specs.Layered.{AllAt, LiesBelow, below_items, below_link, entries_of, layered, rest_items}
 use Rattle.mst_view.specs.declared.branch.Below.{Below}
 use Rattle.mst_view.specs.declared.branch.Part.{Part}
-use Rattle.mst_view.proofs.Spelled.{below_keys, starts}
+use Rattle.mst_view.proofs.Spelled.{below_keys, spelled_node, starts}
 use Rattle.relay_gen.specs.Covers.{one_between, is_on_ways, on_ways}
 use Rattle.relay_gen.specs.Messages.{with_blocks}
 use Rattle.relay_gen.specs.Walks.{AreBetween, IsRange, node_spelled, part_bound}
@@ -65,24 +68,20 @@ inside_high : (outer : Option (List ℕ)) (j : List ℕ) → IsUnder j outer →
 inside_high None j under k e = refl
 inside_high (Some i) j under k e = rw (cmp_trans k j i (less_true k j e) under) refl
 
+or_back : (x y : Bool) → (x || y) ≡ false → y ≡ false
+or_back true y e = absurd cc
+or_back false y e = e
+
+narrow_step : (p q r s x y : Bool) → (p ≡ true → r ≡ true) → (q ≡ true → s ≡ true) → ((r && s) || x) ≡ false → (x ≡ false → y ≡ false) → ((p && q) || y) ≡ false
+narrow_step false q r s x y a b e ih = ih (or_back (r && s) x e)
+narrow_step true false r s x y a b e ih = ih (or_back (r && s) x e)
+narrow_step true true true true x y a b e ih = absurd cc
+narrow_step true true false s x y a b e ih = absurd (let t = a refl in cc)
+narrow_step true true true false x y a b e ih = absurd (let t = b refl in cc)
+
 narrower : (low high l h : Option (List ℕ)) (keys : List (List ℕ)) → IsInsideLow low l → IsInsideHigh high h → one_between low high keys ≡ false → one_between l h keys ≡ false
 narrower low high l h [] a b e = refl
-narrower low high l h (k ∷ keys) a b e = go (is_over l k) (is_under k h) refl refl (is_over low k) (is_under k high) refl refl e
-  where
-    go : (p q : Bool) → is_over l k ≡ p → is_under k h ≡ q → (r s : Bool) → is_over low k ≡ r → is_under k high ≡ s → ((r && s) || one_between low high keys) ≡ false → ((p && q) || one_between l h keys) ≡ false
-    go false q f g r s u v w = narrower low high l h keys a b (rest (r && s) (one_between low high keys) w)
-      where
-        rest : (x y : Bool) → (x || y) ≡ false → y ≡ false
-        rest true y z = absurd cc
-        rest false y z = z
-    go true false f g r s u v w = narrower low high l h keys a b (rest (r && s) (one_between low high keys) w)
-      where
-        rest : (x y : Bool) → (x || y) ≡ false → y ≡ false
-        rest true y z = absurd cc
-        rest false y z = z
-    go true true f g true true u v w = absurd cc
-    go true true f g false s u v w = absurd (let t = a k f in cc)
-    go true true f g true false u v w = absurd (let t = b k g in cc)
+narrower low high l h (k ∷ keys) a b e = narrow_step (is_over l k) (is_under k h) (is_over low k) (is_under k high) (one_between low high keys) (one_between l h keys) (a k) (b k) e (narrower low high l h keys a b)
 
 between_parts : (l h : Option (List ℕ)) (A B : List Item) → AreBetween l h (A ++ B) → AreBetween l h A × AreBetween l h B
 between_parts l h [] B w = (tt, w)
@@ -212,3 +211,55 @@ pub between_ends : (F : List Item) → AreBetween None None F
 between_ends [] = tt
 between_ends (Key k v ∷ F) = (tt, tt, between_ends F)
 between_ends (Hole l c ∷ F) = between_ends F
+
+-- what lies below layer h is a node of the layer below
+pub tree_spelled : (h n : ℕ) (low high : Option (List ℕ)) (F : List Item) → n + 1 ≡ h → 0 < length F → part_spelled h low high F ≡ node_spelled n low high F
+unfolding part_spelled
+tree_spelled h n low high [] e some = absurd (omega arith)
+tree_spelled zero n low high (x ∷ F) e some = absurd (omega arith)
+tree_spelled (suc m) n low high (x ∷ F) e some = let same : m ≡ n = omega arith in ap (λ i. node_spelled i low high (x ∷ F)) same
+
+pub empty_part : (h : ℕ) (low high : Option (List ℕ)) → part_spelled h low high [] ≡ []
+unfolding part_spelled
+empty_part zero low high = refl
+empty_part (suc h) low high = refl
+
+pub digest_cid : (block : List ℕ) → digest_of (cid block) ≡ sha256 block
+unfolding cid
+digest_cid block = refl
+
+-- the block of a node, of which its link is
+pub block_spelled : (h : ℕ) (first : Below) (parts : List Part) (v : Layered) (block : List ℕ) → LiesBelow h first → AllAt h parts → layered h first parts ≡ v → block ≡ node_bytes (below_link first) (entries_of parts) → block ≡ spell v.layer v.items
+block_spelled h first parts v block l a e b = b ∙ sym (spelled_node h first parts l a) ∙ ap (λ (x : Layered). spell x.layer x.items) e
+
+pub link_spelled : (link block : List ℕ) (v : Layered) → link ≡ cid (spell v.layer v.items) → block ≡ spell v.layer v.items → digest_of link ≡ sha256 block
+link_spelled link block v l b = ap digest_of l ∙ digest_cid (spell v.layer v.items) ∙ ap sha256 (sym b)
+
+node_steps : (keys : List (List ℕ)) (m : BlockMap) (n : ℕ) (low high : Option (List ℕ)) (first : Below) (parts : List Part) → LiesBelow n first → AllAt n parts → one_between low high keys ≡ true → (block : List ℕ) → block ≡ spell n (below_items n first ++ rest_items n parts)
+    → with_blocks m (on_ways keys (node_spelled n low high (below_items n first ++ rest_items n parts)))
+    ≡ with_blocks (with_blocks (kept m (cid block) block) (on_ways keys (part_spelled n low (part_bound high parts) (below_items n first)))) (on_ways keys (right_spelled (part_spelled n) n high (rest_items n parts)))
+node_steps keys m n low high first parts l a one block b =
+    let F = below_items n first ++ rest_items n parts in let here : Spelled = record { low = low; high = high; block = spell n F } in
+    let X = part_spelled n low (part_bound high parts) (below_items n first) in let Y = right_spelled (part_spelled n) n high (rest_items n parts) in
+    ap (λ Z. with_blocks m (on_ways keys Z)) (node_parts n low high first parts l a)
+    ∙ ap (with_blocks m) (taken keys here (X ++ Y) one)
+    ∙ ap (λ c. with_blocks (kept m (cid c) c) (on_ways keys (X ++ Y))) (sym b)
+    ∙ with_both keys (kept m (cid block) block) X Y
+
+-- what is added of a node: its block, what is on the ways below it before the first key, and behind the keys
+pub node_done : (keys : List (List ℕ)) (m : BlockMap) (n : ℕ) (low high : Option (List ℕ)) (first : Below) (parts : List Part) (v : Layered) → LiesBelow n first → AllAt n parts → layered n first parts ≡ v → one_between low high keys ≡ true → (link block : List ℕ) → link ≡ cid (spell v.layer v.items) → block ≡ spell v.layer v.items
+    → with_blocks m (on_ways keys (node_spelled v.layer low high v.items))
+    ≡ with_blocks (with_blocks (kept m link block) (on_ways keys (part_spelled n low (part_bound high parts) (below_items n first)))) (on_ways keys (right_spelled (part_spelled n) n high (rest_items n parts)))
+node_done keys m n low high first parts v l a e one link block k b =
+    let E : Layered → Type 0 = λ x. block ≡ spell x.layer x.items in
+    ap (λ (x : Layered). with_blocks m (on_ways keys (node_spelled x.layer low high x.items))) (sym e)
+    ∙ node_steps keys m n low high first parts l a one block (subst E (sym e) b)
+    ∙ ap (λ c. with_blocks (with_blocks (kept m c block) (on_ways keys (part_spelled n low (part_bound high parts) (below_items n first)))) (on_ways keys (right_spelled (part_spelled n) n high (rest_items n parts)))) (ap cid b ∙ sym k)
+
+-- the same of a part of a node and the parts behind it
+pub parts_done : (keys : List (List ℕ)) (m : BlockMap) (n : ℕ) (high : Option (List ℕ)) (p : Part) (parts : List Part) → AllAt n (p ∷ parts)
+    → with_blocks m (on_ways keys (right_spelled (part_spelled n) n high (rest_items n (p ∷ parts))))
+    ≡ with_blocks (with_blocks m (on_ways keys (part_spelled n (Some p.key) (part_bound high parts) (below_items n p.below)))) (on_ways keys (right_spelled (part_spelled n) n high (rest_items n parts)))
+parts_done keys m n high p parts a =
+    ap (λ Z. with_blocks m (on_ways keys Z)) (right_parts n high p parts a)
+    ∙ with_both keys m (part_spelled n (Some p.key) (part_bound high parts) (below_items n p.below)) (right_spelled (part_spelled n) n high (rest_items n parts))

@@ -60,7 +60,7 @@ abbrev pub commits_from : ℕ → ℕ → Drawn
 commits_from start zero = record { commits = []; state = start }
 commits_from start (suc i) = with_commit (suc i) (commits_from start i)
 
--- the keys of the last maps of the accounts below one
-abbrev pub keys_below : ℕ → List Commit → ℕ
-keys_below zero commits = 0
-keys_below (suc a) commits = keys_below a commits + length (map_of (last_of a commits))
+-- how many keys the last maps of accounts have: of so many, from one on
+abbrev pub keys_from : ℕ → ℕ → List Commit → ℕ
+keys_from a zero commits = 0
+keys_from a (suc left) commits = length (map_of (last_of a commits)) + keys_from (suc a) left commits

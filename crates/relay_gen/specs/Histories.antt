@@ -1,6 +1,6 @@
 -- Made histories (own): the messages of four hosts about sixteen accounts, drawn from a number.
 use Rattle.std.specs.Prelude.{ℕ, List, [], ◌∷◌, ◌++◌}
-use Rattle.relay_gen.specs.Commits.{Commit, commits_from, keys_below}
+use Rattle.relay_gen.specs.Commits.{Commit, commits_from, keys_from}
 use Rattle.relay_gen.specs.Messages.{message}
 use Rattle.relay_gen.specs.Names.{host_of}
 
@@ -16,4 +16,4 @@ sent (c ∷ commits) = sent commits ++ (host_of c.account, message c) ∷ []
 
 -- the history of n messages that is drawn from a number
 abbrev pub history : ℕ → ℕ → History
-history start n = record { messages = sent (commits_from start n).commits; keys = keys_below 16 (commits_from start n).commits }
+history start n = record { messages = sent (commits_from start n).commits; keys = keys_from 0 16 (commits_from start n).commits }

@@ -60,7 +60,7 @@ abbrev pub prev_data : Option Past → List (List ℕ × Item)
 prev_data None = []
 prev_data (Some past) = (codes "prevData", Item.link past.data_root) ∷ []
 
--- the fields of a `#commit`, in their order: those up to the DID, and those behind it
+-- the fields of a `#commit`, in their order: those up to the DID, those up to the blocks, and those behind
 abbrev pub front_fields : List Op → ℕ → ℕ → List ℕ → List (List ℕ × Item)
 front_fields ops rev seq did =
     (codes "ops", Item.list (items_of (map op_item ops)))
@@ -69,20 +69,24 @@ front_fields ops rev seq did =
     ∷ (codes "repo", Item.text did)
     ∷ []
 
-abbrev pub back_fields : Option Past → List ℕ → List ℕ → List (List ℕ × Item)
-back_fields past blocks commit =
+abbrev pub middle_fields : Option Past → List ℕ → List (List ℕ × Item)
+middle_fields past blocks =
     (codes "time", Item.text (codes "2025-01-01T00:00:00Z"))
     ∷ (codes "blobs", Item.list no_items)
     ∷ (codes "since", since_item past)
     ∷ (codes "blocks", Item.bytes blocks)
-    ∷ (codes "commit", Item.link commit)
+    ∷ []
+
+abbrev pub back_fields : Option Past → List ℕ → List (List ℕ × Item)
+back_fields past commit =
+    (codes "commit", Item.link commit)
     ∷ (codes "rebase", Item.bool false)
     ∷ (codes "tooBig", Item.bool false)
     ∷ prev_data past
 
 -- the payload of a `#commit`
 unfoldable pub payload_of : List ℕ → ℕ → ℕ → Option Past → List Op → List ℕ → List ℕ → Item
-payload_of did seq rev past ops commit blocks = Item.map (fields_of (front_fields ops rev seq did ++ back_fields past blocks commit))
+payload_of did seq rev past ops commit blocks = Item.map (fields_of (front_fields ops rev seq did ++ (middle_fields past blocks ++ back_fields past commit)))
 
 -- the commit object of a commit
 abbrev pub object : Commit → List ℕ

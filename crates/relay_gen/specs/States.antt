@@ -45,7 +45,7 @@ AreOlder n (Hole l c ∷ s) = ⊥
 -- the commits are from before commit i
 abbrev pub AreBefore : ℕ → List Commit → Type 0
 AreBefore i [] = Unit {0}
-AreBefore i (c ∷ commits) = IsMap c.map × AreOlder (i * 4) c.map × (c.seq < i) × AreBefore i commits
+AreBefore i (c ∷ commits) = IsMap c.map × AreOlder (i * 4) c.map × (length c.map ≤ i * 4) × (c.seq < i) × AreBefore i commits
 
 -- what a making holds behind commits: the state of the draws, each account's repository, and the last number of each host
 pub record IsBehind (d : Drawn) (state : ℕ) (accounts : List Repository) (seqs : List ℕ) : Type 0 where

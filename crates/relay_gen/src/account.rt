@@ -75,7 +75,8 @@ fn changed(alloc: Global, tree: StubTree, changes: &[Change]) -> Result<StubTree
         Ok(left) => settled(alloc, left),
         Err(UndoFault::Memory) => Err(Memory),
         // They can be played, so they can be undone.
-        Err(UndoFault::OtherOp(_) | UndoFault::NotCovered(_)) => unreachable!(),
+        Err(UndoFault::OtherOp(_)) => unreachable!(),
+        Err(UndoFault::NotCovered(_)) => unreachable!(),
     }
 }
 

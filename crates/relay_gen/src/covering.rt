@@ -1,6 +1,6 @@
 //! The blocks that cover a commit's operations.
 
-ghost use Rattle.std.specs.Prelude.{◌≡◌, ◌++◌, ◌&&◌, List, ℕ, map, option_map, None, OnOk, IfOk};
+ghost use Rattle.std.specs.Prelude.{◌≡◌, ◌++◌, ◌&&◌, List, ℕ, map, option_map, slice_get, length, ◌≤◌, None, OnOk, IfOk};
 ghost use Rattle.mst_list.specs.Lists.{Ascends};
 ghost use Rattle.mst_node.specs.Covers.{part_spelled, right_spelled};
 ghost use Rattle.mst_node.specs.Fits.{is_under};
@@ -9,7 +9,7 @@ ghost use Rattle.mst_view.specs.Layered.{AllAt, LiesBelow, below_items, rest_ite
 ghost use Rattle.mst_view.specs.StubTree.{IsTop, top_items};
 ghost use Rattle.relay_gen.specs.Covers.{covered_keys, neighbours, on_ways, one_between};
 ghost use Rattle.relay_gen.specs.Messages.{with_blocks};
-ghost use Rattle.relay_gen.specs.Records.{item_of, op_of};
+ghost use Rattle.relay_gen.specs.Records.{behind, has_path, item_of, last_path, op_of, path_or_none};
 ghost use Rattle.relay_gen.specs.Walks.{IsRange, given_for, node_spelled, part_bound};
 
 use crate::records::{Change, Record, is_at, place_of};
@@ -39,12 +39,11 @@ fn lies_between(low: Option<&[u8]>, path: &[u8], high: Option<&[u8]>) -> bool
 fn one_lies_between(low: Option<&[u8]>, paths: &[Words], high: Option<&[u8]>) -> bool
     ensures { result ≡ one_between (option_map (λ k. k.now) low.entry) (option_map (λ k. k.now) high.entry) paths.now }
 {
-    for path in paths {
-        if lies_between(low, path.as_bytes(), high) {
-            return true;
-        }
-    }
-    false
+    paths.iter().any(
+        |path: &Words| -> bool
+            ensures { result ≡ (is_over (option_map (λ k. k.now) low.entry) path.now && is_under path.now (option_map (λ k. k.now) high.entry)) }
+        { lies_between(low, path.as_bytes(), high) },
+    )
 }
 
 /// Adds the blocks of what lies below a layer between two bounds that are on the way to one of the paths.
@@ -158,12 +157,43 @@ fn add_neighbours(
     ensures { OnOk result (paths.new.items ≡ paths.old.items ++ neighbours (map item_of records.now) path.now None) }
 {
     let at = place_of(records, path);
-    let behind = if is_at(records, at, path) { at + 1 } else { at };
-    if at > 0 {
-        paths.push(records[at - 1].path.try_clone()?)?;
+    let next = behind(records, at, path);
+    add_before(records, at, paths)?;
+    add_at(records, next, paths)?;
+    Ok(())
+}
+
+/// The place behind that of a path, where the path is there.
+fn behind(records: &[Record], at: usize, path: &Words) -> usize
+    requires { at ≤ length records.now }
+    ensures { result ≡ behind (has_path path.now (slice_get records.now at)) at }
+{
+    if is_at(records, at, path) {
+        at + 1
+    } else {
+        at
     }
-    if let Some(next) = records.get(behind) {
-        paths.push(next.path.try_clone()?)?;
+}
+
+/// Adds the path of the record at a place, where there is one.
+fn add_at(records: &[Record], at: usize, paths: &mut Vec<Words>) -> Result<(), Memory>
+    ensures { OnOk result (paths.new.items ≡ paths.old.items ++ path_or_none (slice_get records.now at)) }
+{
+    match records.get(at) {
+        Some(record) => {
+            paths.push(record.path.try_clone()?)?;
+            Ok(())
+        }
+        None => Ok(()),
+    }
+}
+
+/// Adds the path of the record before a place, where there is one.
+fn add_before(records: &[Record], at: usize, paths: &mut Vec<Words>) -> Result<(), Memory>
+    ensures { OnOk result (paths.new.items ≡ paths.old.items ++ last_path records.now at) }
+{
+    if at > 0 {
+        add_at(records, at - 1, paths)?;
     }
     Ok(())
 }

@@ -1,6 +1,9 @@
 //! What a commit is to do.
 
 ghost use Rattle.std.specs.Prelude.{◌≡◌, ◌≤◌, ◌<◌, map, OnOk, IfOk};
+ghost use Rattle.std.specs.List.{list_any};
+ghost use Rattle.std.specs.Str.{bytes_eq};
+ghost use Rattle.mst_list.specs.declared.op.Op.{Op};
 ghost use Rattle.relay_gen.specs.declared.history.TheConstants.{MOST_MESSAGES};
 ghost use Rattle.relay_gen.specs.Names.{value_of};
 ghost use Rattle.relay_gen.specs.Drafts.{drafted, with_drawn, with_op};
@@ -10,7 +13,7 @@ use crate::draws::Draws;
 use crate::paths::path_of;
 use crate::records::{Change, Record};
 use at_cbor::{write_int, write_map_front, write_text};
-use at_cid::{Cid, Memory, Octets, cid_of};
+use at_cid::{Cid, Memory, Octets, Words, cid_of};
 use std::alloc::Global;
 
 /// The link of the value of a number: the object `{n}`.
@@ -25,14 +28,28 @@ fn value_of(alloc: Global, number: u32) -> Result<Cid, Memory>
     Ok(cid_of(object.as_slice()))
 }
 
+/// Whether a record is changed.
+fn is_changed(changes: &[Change], path: &Words) -> bool
+    ensures { result ≡ list_any (λ (o : Op). bytes_eq o.key path.now) (map op_of changes.now) }
+{
+    let mut rest = changes;
+    'changes: loop {
+        let [change, others @ ..] = rest else {
+            return false;
+        };
+        if change.path == *path {
+            return true;
+        }
+        rest = others;
+    }
+}
+
 /// Adds a change, unless the record is changed already.
 fn add(changes: &mut Vec<Change>, change: Change) -> Result<(), Memory>
     ensures { OnOk result (map op_of changes.new.items ≡ with_op (map op_of changes.old.items) (op_of change)) }
 {
-    for other in changes.as_slice() {
-        if other.path == change.path {
-            return Ok(());
-        }
+    if is_changed(changes.as_slice(), &change.path) {
+        return Ok(());
     }
     changes.push(change)?;
     Ok(())

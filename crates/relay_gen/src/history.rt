@@ -1,15 +1,17 @@
 //! A made history.
 
-ghost use Rattle.std.specs.Prelude.{◌≡◌, ◌≤◌, ◌<◌, ◌-◌, [], length, slice_get, option_map, Some, OnOk, IfOk};
-ghost use Rattle.relay_gen.specs.Commits.{Drawn, with_commit, keys_below};
+ghost use Rattle.std.specs.Prelude.{◌≡◌, ◌≤◌, ◌+◌, ◌<◌, ◌-◌, [], length, map, slice_get, option_map, Option, Some, OnOk, IfOk};
+ghost use Rattle.relay_gen.specs.Commits.{Commit, Drawn, ops_of, with_commit, keys_from};
 ghost use Rattle.relay_gen.specs.Histories.{history};
 ghost use Rattle.relay_gen.specs.Names.{did_of, host_of};
-ghost use Rattle.relay_gen.specs.States.{AreBefore, IsBehind, IsLast};
+ghost use Rattle.relay_gen.specs.States.{AreBefore, IsBehind, IsLast, repository_of};
+ghost use Rattle.relay_gen.specs.Records.{op_of};
 
 use crate::account::Account;
 use crate::draws::Draws;
 use crate::drafting::draft;
 use crate::fault::GenFault;
+use crate::records::Change;
 use at_cid::{Memory, Octets};
 use at_syntax::Tid;
 use std::alloc::Global;
@@ -94,12 +96,29 @@ struct Maker {
     seqs: [u64; HOSTS],
 }
 
+/// What the commit of a number does to an account: nothing where it is the account's first.
+fn changes_of(
+    alloc: Global,
+    draws: &mut Draws,
+    account: &Account,
+    number: u32,
+) -> Result<Vec<Change>, Memory>
+    requires { number ≤ MOST_MESSAGES }
+    ensures { (o : Option Commit) → account.now ≡ repository_of o → IfOk result (λ changes. record { ops = map op_of changes.items; state = draws.new } ≡ ops_of o number draws.old) }
+{
+    if account.has_commit() {
+        draft(alloc, draws, account.records(), number)
+    } else {
+        Ok(Vec::new(alloc))
+    }
+}
+
 impl Maker {
     fn new(alloc: Global, start: u64) -> Result<Maker, Memory>
         ensures { IfOk result (λ maker. IsBehind (record { commits = []; state = start }) maker.draws maker.accounts.items maker.seqs) }
     {
         let mut accounts = Vec::with_capacity(alloc, ACCOUNTS)?;
-        for _ in 0..ACCOUNTS {
+        'accounts: for _ in 0..ACCOUNTS {
             accounts.push(Account::new(alloc))?;
         }
         Ok(Maker {
@@ -118,11 +137,7 @@ impl Maker {
     {
         let at = self.draws.draw(ACCOUNTS as u64) as u8;
         let account = &mut self.accounts[at as usize];
-        let changes = if account.has_commit() {
-            draft(alloc, &mut self.draws, account.records(), number)?
-        } else {
-            Vec::new(alloc)
-        };
+        let changes = changes_of(alloc, &mut self.draws, account, number)?;
         let host = at as usize % HOSTS;
         self.seqs[host] += 1;
         let rev = Tid::from_value(u64::from(number) * 1024);
@@ -135,10 +150,11 @@ impl Maker {
 
     /// How many records there are.
     fn keys(&self) -> u64
-        ensures { (d : Drawn) → IsBehind d self.now.draws self.now.accounts.items self.now.seqs → result ≡ keys_below 16 d.commits }
+        requires { (d : Drawn) × IsBehind d self.now.draws self.now.accounts.items self.now.seqs × AreBefore (MOST_MESSAGES + 1) d.commits }
+        ensures { (d : Drawn) → IsBehind d self.now.draws self.now.accounts.items self.now.seqs → result ≡ keys_from 0 16 d.commits }
     {
         let mut keys = 0;
-        for account in self.accounts.as_slice() {
+        'accounts: for account in self.accounts.as_slice() {
             keys += account.records().len() as u64;
         }
         keys
@@ -154,7 +170,7 @@ pub fn make(alloc: Global, start: u64, n: u32) -> Result<History, GenFault>
 {
     let mut maker = Maker::new(alloc, start)?;
     let mut sent = Vec::new(alloc);
-    for i in 0..n {
+    'messages: for i in 0..n {
         sent.push(maker.next(alloc, i + 1)?)?;
     }
     Ok(History {

@@ -1,13 +1,14 @@
 //! The commit objects and the messages of a history.
 
-ghost use Rattle.std.specs.Prelude.{◌≡◌, ◌++◌, ◌∷◌, ◌<◌, ◌^◌, [], codes, false, map, OnOk, IfOk};
-ghost use Rattle.at_cbor.specs.Item.{Item, fields_of, items_of};
-ghost use Rattle.at_cbor.specs.Spelling.{spelling, fields_spelling};
+ghost use Rattle.std.specs.Prelude.{◌≡◌, ◌++◌, ◌+◌, ◌∷◌, ◌<◌, ◌^◌, [], codes, false, map, OnOk, IfOk};
+ghost use Rattle.at_cbor.specs.Item.{Item, fields_of, items_of, no_items};
+ghost use Rattle.at_cbor.specs.Spelling.{spelling, fields_count, fields_spelling, front_of, items_spelling};
+ghost use Rattle.at_cbor.specs.declared.major.Major.{Major};
 ghost use Rattle.at_cbor.specs.Taking.{link_item};
 ghost use Rattle.at_syntax.specs.Tid.{digits_of};
 ghost use Rattle.at_event.specs.declared.kind.EventKind.{EventKind};
 ghost use Rattle.at_event.specs.Writing.{field_spelling, header_of, message_of, number_item};
-ghost use Rattle.relay_gen.specs.Messages.{action_of, back_fields, ends_of, front_fields, object_of, op_item, payload_of, prev_data, since_item};
+ghost use Rattle.relay_gen.specs.Messages.{action_of, back_fields, ends_of, front_fields, middle_fields, object_of, op_item, payload_of, prev_data, since_item};
 ghost use Rattle.relay_gen.specs.Records.{op_of};
 
 use crate::past::Past;
@@ -140,16 +141,32 @@ fn write_op(out: &mut Octets, change: &Change) -> Result<(), Memory>
     write_ends(out, change)
 }
 
-/// Adds the operations.
+/// Adds operations, one behind the other.
+fn write_each(out: &mut Octets, changes: &[Change]) -> Result<(), Memory>
+    ensures { OnOk result (out.new ≡ out.old ++ items_spelling (items_of (map op_item (map op_of changes.now)))) }
+{
+    for change in changes {
+        write_op(out, change)?;
+    }
+    Ok(())
+}
+
+/// Adds the field of the operations.
 fn write_ops(out: &mut Octets, changes: &[Change]) -> Result<(), Memory>
     ensures { OnOk result (out.new ≡ out.old ++ field_spelling (codes "ops") (Item.list (items_of (map op_item (map op_of changes.now))))) }
 {
     write_text(out, "ops")?;
     write_list_front(out, changes.len())?;
-    for change in changes {
-        write_op(out, change)?;
-    }
-    Ok(())
+    write_each(out, changes)
+}
+
+/// Adds the field of blobs, of which there are none.
+#[tactic(auto, unfolding(at_cbor::specs::Spelling::info_of, at_cbor::specs::Spelling::tail_of))]
+fn write_blobs(out: &mut Octets) -> Result<(), Memory>
+    ensures { OnOk result (out.new ≡ out.old ++ field_spelling (codes "blobs") (Item.list no_items)) }
+{
+    write_text(out, "blobs")?;
+    write_list_front(out, 0)
 }
 
 /// Adds the revision of the commit before, or null.
@@ -196,19 +213,34 @@ fn write_front(out: &mut Octets, stated: &Stated) -> Result<(), Memory>
     write_text_field(out, "repo", stated.did)
 }
 
-/// Adds the fields behind the DID.
-fn write_back(out: &mut Octets, stated: &Stated) -> Result<(), Memory>
-    ensures { OnOk result (out.new ≡ out.old ++ fields_spelling (fields_of (back_fields stated.now.past stated.now.blocks.now stated.now.commit))) }
+/// Adds the fields from the time to the blocks.
+fn write_middle(out: &mut Octets, stated: &Stated) -> Result<(), Memory>
+    ensures { OnOk result (out.new ≡ out.old ++ fields_spelling (fields_of (middle_fields stated.now.past stated.now.blocks.now))) }
 {
     write_text_field(out, "time", TIME)?;
-    write_text(out, "blobs")?;
-    write_list_front(out, 0)?;
+    write_blobs(out)?;
     write_since(out, &stated.past)?;
-    write_bytes_field(out, "blocks", stated.blocks)?;
+    write_bytes_field(out, "blocks", stated.blocks)
+}
+
+/// Adds the fields behind the blocks.
+fn write_back(out: &mut Octets, stated: &Stated) -> Result<(), Memory>
+    ensures { OnOk result (out.new ≡ out.old ++ fields_spelling (fields_of (back_fields stated.now.past stated.now.commit))) }
+{
     write_link_field(out, "commit", &stated.commit)?;
     write_false_field(out, "rebase")?;
     write_false_field(out, "tooBig")?;
     write_prev_data(out, &stated.past)
+}
+
+/// Adds the front of the payload: how many fields follow.
+fn write_count(out: &mut Octets, past: &Option<Past>) -> Result<(), Memory>
+    ensures { OnOk result (out.new ≡ out.old ++ front_of Major.Map (11 + fields_count (fields_of (prev_data past.now)))) }
+{
+    match past {
+        Some(_) => write_map_front(out, 12),
+        None => write_map_front(out, 11),
+    }
 }
 
 /// Adds the header of a commit.
@@ -221,15 +253,15 @@ fn write_header(out: &mut Octets) -> Result<(), Memory>
 }
 
 /// The message of a commit.
-#[tactic(auto, unfolding(crate::specs::Messages::payload_of, at_event::specs::Writing::message_of))]
 pub(crate) fn message(alloc: Global, stated: &Stated) -> Result<Octets, Memory>
     requires { stated.now.seq < 2 ^ 63 }
     ensures { IfOk result (λ message. message ≡ message_of EventKind.Commit (payload_of stated.now.did.now stated.now.seq stated.now.rev stated.now.past (map op_of stated.now.changes.now) stated.now.commit stated.now.blocks.now)) }
 {
     let mut out = Octets::new(alloc);
     write_header(&mut out)?;
-    write_map_front(&mut out, if stated.past.is_some() { 12 } else { 11 })?;
+    write_count(&mut out, &stated.past)?;
     write_front(&mut out, stated)?;
+    write_middle(&mut out, stated)?;
     write_back(&mut out, stated)?;
     Ok(out)
 }

@@ -57,18 +57,21 @@ pub(crate) fn put(
     ensures { OnOk result (map item_of records.new.items ≡ put path.now value (map item_of records.old.items)) }
 {
     let at = place_of(records.as_slice(), path);
-    let is_there = is_at(records.as_slice(), at, path);
+    let visible = is_at(records.as_slice(), at, path);
     match value {
         Some(value) => {
-            if is_there {
-                records[at].value = value;
+            let record = Record {
+                path: path.try_clone()?,
+                value,
+            };
+            if visible {
+                records[at] = record;
             } else {
-                let path = path.try_clone()?;
-                records.insert(at, Record { path, value })?;
+                records.insert(at, record)?;
             }
         }
         None => {
-            if is_there {
+            if visible {
                 records.remove(at);
             }
         }

@@ -1,0 +1,64 @@
+-- A making goes on by a commit.
+use Rattle.std.proofs.Common.{◌≡◌, ◌≢◌, ℕ, zero, suc, ◌+◌, ◌*◌, ◌%◌, ◌<◌, ◌≤◌, ◌==◌, Bool, true, false, cond, eqb, List, [], ◌∷◌, ◌++◌, length, map, set, slice_get, slice_index, is_some, refl, sym, ap, ◌∙◌, subst, Option, Some, None, arith}
+use Rattle.mst_list.specs.declared.item.Item.{Item}
+use Rattle.mst_list.specs.declared.op.Op.{Op}
+use Rattle.mst_node.proofs.Layers.{eqb_no, eqb_yes}
+use Rattle.relay_gen.specs.Draws.{next, drawn}
+use Rattle.relay_gen.specs.Drafts.{Draft, drafted}
+use Rattle.relay_gen.specs.Commits.{Commit, Drawn, commit_of, last_of, last_seq, map_of, ops_of, past_of, with_commit}
+use Rattle.relay_gen.specs.States.{IsBehind, Repository, after_commit, repository_of}
+
+get_here : (xs : List Repository) (i : ℕ) (x : Repository) → i < length xs → slice_get (set xs i x) i ≡ Some x
+get_here [] i x low = absurd (omega arith)
+get_here (y ∷ xs) zero x low = refl
+get_here (y ∷ xs) (suc i) x low = get_here xs i x (omega arith)
+
+get_other : (xs : List Repository) (i j : ℕ) (x : Repository) → i ≢ j → slice_get (set xs i x) j ≡ slice_get xs j
+get_other [] i j x n = refl
+get_other (y ∷ xs) zero zero x n = absurd (n refl)
+get_other (y ∷ xs) zero (suc j) x n = refl
+get_other (y ∷ xs) (suc i) zero x n = refl
+get_other (y ∷ xs) (suc i) (suc j) x n = get_other xs i j x (λ e. n (ap suc e))
+
+index_here : (xs : List ℕ) (i x : ℕ) → i < length xs → slice_index (set xs i x) i ≡ x
+index_here [] i x low = absurd (omega arith)
+index_here (y ∷ xs) zero x low = refl
+index_here (y ∷ xs) (suc i) x low = index_here xs i x (omega arith)
+
+index_other : (xs : List ℕ) (i j x : ℕ) → i ≢ j → slice_index (set xs i x) j ≡ slice_index xs j
+index_other [] i j x n = refl
+index_other (y ∷ xs) zero zero x n = absurd (n refl)
+index_other (y ∷ xs) zero (suc j) x n = refl
+index_other (y ∷ xs) (suc i) zero x n = refl
+index_other (y ∷ xs) (suc i) (suc j) x n = index_other xs i j x (λ e. n (ap suc e))
+
+length_set : (xs : List Repository) (i : ℕ) (x : Repository) → length (set xs i x) ≡ length xs
+length_set [] i x = refl
+length_set (y ∷ xs) zero x = refl
+length_set (y ∷ xs) (suc i) x = ap suc (length_set xs i x)
+
+-- the account's repository after its commit, and the number of its host
+pub behind_next : (i : ℕ) (d : Drawn) (state : ℕ) (accounts : List Repository) (seqs : List ℕ) → IsBehind d state accounts seqs → length seqs ≡ 4 → drawn 16 (next d.state) < 16 →
+    let a = drawn 16 (next d.state) in let o = last_of a d.commits in let draft = ops_of o i (next d.state) in
+    IsBehind (with_commit i d) draft.state (set accounts a (after_commit (i * 1024) (map_of o) draft.ops)) (set seqs (a % 4) (suc (last_seq (a % 4) d.commits)))
+behind_next i d state accounts seqs b four low =
+    let a = drawn 16 (next d.state) in let o = last_of a d.commits in let draft = ops_of o i (next d.state) in
+    let c = commit_of i a d.commits draft.ops in let r = after_commit (i * 1024) (map_of o) draft.ops in
+    let count = b.count in
+    record {
+      draws = refl;
+      count = length_set accounts a r ∙ b.count;
+      repositories = λ other in_range. elim (a == other) as (λ x. a == other ≡ x → slice_get (set accounts a r) other ≡ Some (repository_of (cond x (Some c) (last_of other d.commits)))) [
+        | true ↦ λ e. let same = eqb_yes a other e in ap (slice_get (set accounts a r)) (sym same) ∙ get_here accounts a r (omega arith)
+        | false ↦ λ e. get_other accounts a other r (eqb_no a other e) ∙ b.repositories other in_range
+      ] refl;
+      numbers = λ host in_range. elim (a % 4 == host) as (λ x. a % 4 == host ≡ x → slice_index (set seqs (a % 4) (suc (last_seq (a % 4) d.commits))) host ≡ cond x (suc (last_seq (a % 4) d.commits)) (last_seq host d.commits)) [
+        | true ↦ λ e. let same = eqb_yes (a % 4) host e in ap (slice_index (set seqs (a % 4) (suc (last_seq (a % 4) d.commits)))) (sym same) ∙ index_here seqs (a % 4) (suc (last_seq (a % 4) d.commits)) (omega arith)
+        | false ↦ λ e. index_other seqs (a % 4) host (suc (last_seq (a % 4) d.commits)) (eqb_no (a % 4) host e) ∙ b.numbers host in_range
+      ] refl;
+    }
+
+-- an account without a commit has no last one
+pub ops_drawn : (o : Option Commit) (i x : ℕ) (draft : Draft) → (is_some (past_of o) ≡ true → draft ≡ drafted (map_of o) i x) → (is_some (past_of o) ≡ false → draft ≡ record { ops = []; state = x }) → draft ≡ ops_of o i x
+ops_drawn None i x draft some none = none refl
+ops_drawn (Some c) i x draft some none = some refl
