@@ -1,5 +1,5 @@
 -- What holds of the commits before a commit.
-use Rattle.std.proofs.Common.{◌≡◌, ℕ, zero, suc, ◌+◌, ◌*◌, ◌%◌, ◌^◌, ◌<◌, ◌≤◌, ◌==◌, Bool, true, false, cond, List, [], ◌∷◌, ◌++◌, length, slice_get, refl, sym, ap, ◌∙◌, subst, Option, Some, None, arith, length-append}
+use Rattle.std.proofs.Common.{◌≡◌, ℕ, zero, suc, ◌+◌, ◌-◌, ◌*◌, ◌%◌, ◌^◌, ◌<◌, ◌≤◌, ◌==◌, Bool, true, false, cond, List, [], ◌∷◌, ◌++◌, length, slice_get, refl, sym, ap, ◌∙◌, subst, Option, Some, None, arith, length-append}
 use Rattle.mst_list.specs.declared.item.Item.{Item}
 use Rattle.mst_list.specs.declared.op.Op.{Op}
 use Rattle.mst_list.specs.Lists.{IsMap}
@@ -96,3 +96,10 @@ commits_before start zero most = tt
 commits_before start (suc i) most =
     let d = commits_from start i in
     commit_before (suc i) (drawn 16 (next d.state)) (next d.state) d.commits (omega arith) most (commits_before start i (omega arith))
+
+before_by : (k i : ℕ) (commits : List Commit) → AreBefore i commits → AreBefore (k + i) commits
+before_by zero i commits b = let e : i ≡ 0 + i = omega arith in subst (λ n. AreBefore n commits) e b
+before_by (suc k) i commits b = let e : suc (k + i) ≡ suc k + i = omega arith in subst (λ n. AreBefore n commits) e (before_more (k + i) commits (before_by k i commits b))
+
+pub before_up : (i m : ℕ) (commits : List Commit) → i ≤ m → AreBefore i commits → AreBefore m commits
+before_up i m commits le b = let e : (m - i) + i ≡ m = omega arith in subst (λ n. AreBefore n commits) e (before_by (m - i) i commits b)

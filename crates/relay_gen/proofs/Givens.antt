@@ -1,10 +1,11 @@
 -- The blocks that are given with a commit.
-use Rattle.std.proofs.Common.{◌≡◌, ℕ, ◌==◌, true, List, [], ◌∷◌, length, map, refl, sym, ap, ◌∙◌, subst, None}
+use Rattle.std.proofs.Common.{◌≡◌, ℕ, ◌==◌, true, List, [], ◌∷◌, length, map, refl, sym, ap, ◌∙◌, subst, None, arith}
 use Rattle.at_cid.specs.Link.{cid}
 use Rattle.at_car.specs.Blocks.{BlockMap, kept}
 use Rattle.at_cbor.specs.Spelling.{info_of, tail_of}
 use Rattle.mst_list.specs.declared.item.Item.{Item}
 use Rattle.mst_list.specs.declared.op.Op.{Op}
+use Rattle.mst_node.proofs.Layers.{eqb_yes}
 use Rattle.mst_node.specs.NodeBytes.{node_bytes}
 use Rattle.mst_node.specs.Trees.{nodes, part_link, part_nodes}
 use Rattle.relay_gen.specs.declared.records.Record.{Record}
@@ -26,7 +27,7 @@ given_is (x ∷ t) ops = refl
 
 none_there : (rs : List Record) → (length rs == 0) ≡ true → map item_of rs ≡ []
 none_there [] e = refl
-none_there (r ∷ rs) e = absurd cc
+none_there (r ∷ rs) e = let z = eqb_yes (length (r ∷ rs)) 0 e in absurd (omega arith)
 
 -- where there are no records the empty node is given
 pub empty_given : (rs : List Record) (keys : List (List ℕ)) (m : BlockMap) (link : List ℕ) → (length rs == 0) ≡ true → link ≡ cid empty_block → kept m link empty_block ≡ with_blocks m (given_for (map item_of rs) keys)

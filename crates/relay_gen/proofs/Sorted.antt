@@ -141,3 +141,8 @@ pub item_at : (rs : List Record) (i : ℕ) (r : Record) → i < length rs → r 
 item_at [] i r low e = absurd (omega arith)
 item_at (x ∷ rs) zero r low e = ap (λ y. Some (item_of y)) (sym e)
 item_at (x ∷ rs) (suc i) r low e = item_at rs i r (omega arith) e
+
+pub none_at : (rs : List Record) (i : ℕ) → length rs ≤ i → slice_get rs i ≡ None
+none_at [] i low = refl
+none_at (r ∷ rs) zero low = absurd (omega arith)
+none_at (r ∷ rs) (suc i) low = none_at rs i (omega arith)

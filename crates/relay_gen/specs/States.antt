@@ -51,6 +51,7 @@ AreBefore i (c ∷ commits) = IsMap c.map × AreOlder (i * 4) c.map × (length c
 pub record IsBehind (d : Drawn) (state : ℕ) (accounts : List Repository) (seqs : List ℕ) : Type 0 where
   pub draws : state ≡ d.state
   pub count : length accounts ≡ 16
+  pub hosts : length seqs ≡ 4
   pub repositories : (a : ℕ) → a < 16 → slice_get accounts a ≡ Some (repository_of (last_of a d.commits))
   pub numbers : (host : ℕ) → host < 4 → slice_index seqs host ≡ last_seq host d.commits
 

@@ -17,7 +17,7 @@ use crate::settling::settled;
 use at_car::{Blocks, write};
 use at_cid::{Memory, Octets, cid_of};
 use at_syntax::Tid;
-use mst_list::{Op, OpList, UndoFault};
+use mst_list::{Op, OpList};
 use mst_undo::undo;
 use mst_view::StubTree;
 use std::alloc::Global;
@@ -73,10 +73,8 @@ fn changed(alloc: Global, tree: StubTree, changes: &[Change]) -> Result<StubTree
     let ops = turned(alloc, changes)?;
     match undo(alloc, tree, &ops) {
         Ok(left) => settled(alloc, left),
-        Err(UndoFault::Memory) => Err(Memory),
-        // They can be played, so they can be undone.
-        Err(UndoFault::OtherOp(_)) => unreachable!(),
-        Err(UndoFault::NotCovered(_)) => unreachable!(),
+        // The operations can be undone, so nothing but memory was wanted.
+        Err(_) => Err(Memory),
     }
 }
 

@@ -130,7 +130,8 @@ impl Maker {
 
     /// The message of a number, counted from 1.
     fn next(&mut self, alloc: Global, number: u32) -> Result<Sent, Memory>
-        requires number { number ≤ MOST_MESSAGES }
+        requires least { 1 ≤ number }
+        requires most { number ≤ MOST_MESSAGES }
         requires before { (d : Drawn) × IsBehind d self.old.draws self.old.accounts.items self.old.seqs × AreBefore number d.commits }
         ensures behind { (d : Drawn) → IsBehind d self.old.draws self.old.accounts.items self.old.seqs → OnOk result (IsBehind (with_commit number d) self.new.draws self.new.accounts.items self.new.seqs) }
         ensures sent { (d : Drawn) → IsBehind d self.old.draws self.old.accounts.items self.old.seqs → IfOk result (λ sent. IsLast (with_commit number d).commits sent.account sent.message) }

@@ -1,4 +1,4 @@
-use Rattle.std.proofs.Common.{◌≡◌, ◌+◌, ◌++◌, ◌∷◌, ℕ, List, None, Some, true, false, refl, sym, ap, ◌∙◌, subst, arith, inl, inr}
+use Rattle.std.proofs.Common.{◌≡◌, ◌≤◌, ◌-◌, [], length, take, drop, get_or, ◌+◌, ◌++◌, ◌∷◌, ℕ, List, None, Some, true, false, refl, sym, ap, ◌∙◌, subst, arith, inl, inr}
 use Rattle.std.specs.Prelude.{option_map}
 use Rattle.std.proofs.lemmas.Result.{on_ok_weaker}
 use Rattle.mst_list.specs.Lists.{KeysOnly}
@@ -89,8 +89,38 @@ cover_branch-returns t c =
         ∙ ap (λ m. with_blocks m (on_ways keys (part_spelled h low (part_bound high parts) (below_items h first)))) c.in_ok-put.ensures.ok)
     ∙ sym done) c.cover_parts.ensures
 
+rest_split : (xs : List Part) (p : Part) → 1 ≤ length xs → p ≡ get_or xs 0 p → xs ≡ p ∷ take (length xs - 1) (drop 1 xs)
+rest_split [] p low e = absurd (omega arith)
+rest_split (x ∷ xs) p low e = let n : length xs ≡ length (x ∷ xs) - 1 = omega arith in ap (λ y. y ∷ xs) (sym e) ∙ ap (λ y. p ∷ y) (sym (take_all xs) ∙ ap (λ m. take m xs) n)
+  where
+    take_all : (ys : List Part) → take (length ys) ys ≡ ys
+    take_all [] = refl
+    take_all (y ∷ ys) = ap (λ z. y ∷ z) (take_all ys)
+
 pub cover_parts-cover_below-requires : goal.cover_parts-cover_below-requires
-cover_parts-cover_below-requires t c = ?
+cover_parts-cover_below-requires t c =
+    let high = option_map (λ k. k.now) c.args.high in let h = c.args.layer in let p = c.part-item.result in let rest = c.parts.rest.now in let others = take (length rest - 1) (drop 1 rest) in
+    let here = rest_split rest p c.in-len1-up.len_at_least c.part-item.is in
+    let A : List Part → Type 0 = λ x. AllAt h x in let R : List Part → Type 0 = λ x. IsRange None high (rest_items h x) in
+    let at = subst A here c.parts.invariant.at in let range = range_part h high p others (subst R here c.parts.invariant.range) in
+    let inner = range_first h (Some p.key) high (below_items h p.below) others range in
+    (omega arith, (at.1, subst (λ o. IsRange (Some c.as_slice.result.now) o (below_items h p.below)) (sym c.bound_before-bound.ensures) (subst (λ k. IsRange (Some k) (part_bound high others) (below_items h p.below)) (sym c.as_slice.ensures.value) inner)))
 
 pub cover_parts-parts-preserved : goal.cover_parts-parts-preserved
-cover_parts-parts-preserved t c = ?
+cover_parts-parts-preserved t c =
+    let high = option_map (λ k. k.now) c.args.high in let h = c.args.layer in let p = c.part-item.result in let rest = c.parts.rest.now in let others = take (length rest - 1) (drop 1 rest) in
+    let keys = c.args.paths.now in let old = c.parts.blocks in let X = below_items h p.below in
+    let here = rest_split rest p c.in-len1-up.len_at_least c.part-item.is in
+    let A : List Part → Type 0 = λ x. AllAt h x in let R : List Part → Type 0 = λ x. IsRange None high (rest_items h x) in
+    let at = subst A here c.parts.invariant.at in let range = range_part h high p others (subst R here c.parts.invariant.range) in
+    let B = on_ways keys (right_spelled (part_spelled h) h high (rest_items h others)) in
+    record {
+      at = at.2;
+      range = range_rest h (Some p.key) high X others range;
+      blocks = ap (λ m. with_blocks m B) (c.in_ok-cover_below.ensures
+            ∙ ap (λ k. with_blocks old (on_ways keys (part_spelled h (Some k) (option_map (λ k. k.now) c.bound_before-bound.result) X))) c.as_slice.ensures.value
+            ∙ ap (λ o. with_blocks old (on_ways keys (part_spelled h (Some p.key) o X))) c.bound_before-bound.ensures)
+          ∙ sym (parts_done keys old h high p others at)
+          ∙ ap (λ x. with_blocks old (on_ways keys (right_spelled (part_spelled h) h high (rest_items h x)))) (sym here)
+          ∙ c.parts.invariant.blocks;
+    }

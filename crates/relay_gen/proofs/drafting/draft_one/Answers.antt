@@ -27,10 +27,10 @@ returns c =
     let some : (length s == 0) ≡ false = ap (λ m. m == 0) (length_items rs) ∙ sym c.is_empty.ensures ∙ c.if-is_empty.false in
     let place : c.draw-index.result ≡ drawn (length s) (next (next d.state)) = c.draw-index.ensures.value ∙ ap (λ x. drawn (length rs) (next x)) c.draw-kind.ensures.state ∙ ap (λ m. drawn m (next (next d.state))) (sym (length_items rs)) in
     let item : slice_get s (drawn (length s) (next (next d.state))) ≡ Some (Key r.path r.value) = ap (slice_get s) (sym place) ∙ item_at rs c.draw-index.result r c.draw-index.ensures.below c.index-records-index.is in
-    let op : op_of c.if-kind-lt7.change ≡ edit r.path r.value (cond (kind == 7) None (Some value)) = elim c.if-kind-lt7.branch [
-      | then-kind-lt7 w ↦ ap op_of w.change-is ∙ ap (λ p. edit p r.value (Some c.in_ok-value.value)) c.in_ok-try_clone.ensures ∙ ap (λ v. edit r.path r.value (Some v)) c.in_ok-value.ensures
+    let op : edit c.in_ok-try_clone.field-0 r.value c.if-kind-lt7.change ≡ edit r.path r.value (cond (kind == 7) None (Some value)) = ap (λ p. edit p r.value c.if-kind-lt7.change) c.in_ok-try_clone.ensures ∙ elim c.if-kind-lt7.branch [
+      | then-kind-lt7 w ↦ ap (edit r.path r.value) w.change-is ∙ ap (λ v. edit r.path r.value (Some v)) c.in_ok-value.ensures
           ∙ ap (λ b. edit r.path r.value (cond b None (Some value))) (sym (eqb_not kind 7 (λ e. let small = w.if-kind-lt7.true in absurd (omega arith))))
-      | else-kind-lt7 w ↦ ap op_of w.change-is ∙ ap (λ p. edit p r.value None) c.in_ok-try_clone.ensures
+      | else-kind-lt7 w ↦ ap (edit r.path r.value) w.change-is
           ∙ ap (λ k. edit r.path r.value (cond (k == 7) None (Some value))) (let large = w.if-kind-lt7.false in let seven : 7 ≡ kind = omega arith in seven)
     ] in
     on_ok_weaker c.add-2.result (λ e.
