@@ -19,7 +19,10 @@ fn write_record<W: Write>(out: &mut W, host: &str, message: &[u8]) -> Result<()>
 fn made(rt: &HostRuntime) -> Result<()> {
     let mut given = env::args(rt)?;
     let _program = given.next();
-    let start = given.next().context("a number to start from")?.parse::<u64>()?;
+    let start = given
+        .next()
+        .context("a number to start from")?
+        .parse::<u64>()?;
     let count = given.next().context("how many messages")?.parse::<u32>()?;
     if count == 0 || count > MOST_MESSAGES {
         bail!("1 to {MOST_MESSAGES} messages");

@@ -1,5 +1,5 @@
 -- What holds of the commits before a commit.
-use Rattle.std.proofs.Common.{◌≡◌, ℕ, zero, suc, ◌+◌, ◌-◌, ◌*◌, ◌%◌, ◌^◌, ◌<◌, ◌≤◌, ◌==◌, Bool, true, false, cond, List, [], ◌∷◌, ◌++◌, length, slice_get, refl, sym, ap, ◌∙◌, subst, Option, Some, None, arith, length-append}
+use Rattle.std.proofs.Common.{◌≡◌, ℕ, zero, suc, ◌+◌, ◌-◌, ◌*◌, ◌%◌, ◌<◌, ◌≤◌, ◌==◌, true, false, cond, List, [], ◌∷◌, ◌++◌, length, slice_get, refl, ap, ◌∙◌, subst, Option, Some, None, arith, length-append}
 use Rattle.mst_list.specs.declared.item.Item.{Item}
 use Rattle.mst_list.specs.declared.op.Op.{Op}
 use Rattle.mst_list.specs.Lists.{IsMap}
@@ -8,7 +8,7 @@ use Rattle.mst_list.proofs.Places.{rebuilt}
 use Rattle.at_form.proofs.Held.{some_same}
 use Rattle.relay_gen.specs.Draws.{next, drawn}
 use Rattle.relay_gen.specs.Drafts.{played}
-use Rattle.relay_gen.specs.Commits.{Commit, Drawn, commit_of, commits_from, keys_from, last_of, last_seq, map_of, ops_of, with_commit}
+use Rattle.relay_gen.specs.Commits.{Commit, commit_of, commits_from, keys_from, last_of, last_seq, map_of, ops_of}
 use Rattle.relay_gen.specs.States.{AreBefore, AreOlder, CanPlay, Repository, repository_of}
 use Rattle.relay_gen.proofs.Older.{AreOpsOlder, IsGood, drafted_good, older_more, older_played}
 use Rattle.relay_gen.proofs.Plays.{played_map}
@@ -69,6 +69,7 @@ keys_told a commits (r ∷ rs) e =
     let here : length r.map ≡ length (map_of (last_of a commits)) = one ∙ ap (λ n. length (map_of (last_of n commits))) same in
     let rest = keys_told (suc a) commits rs (λ i low. let next : a + suc i ≡ suc a + i = omega arith in e (suc i) (omega arith) ∙ ap (λ n. Some (repository_of (last_of n commits))) next) in
     omega (arith, here, rest)
+
 pub ops_good : (i a x : ℕ) (commits : List Commit) → i ≤ 100000 → AreBefore i commits → IsGood (map_of (last_of a commits)) (i * 4 + 4) 4 (ops_of (last_of a commits) i x).ops
 ops_good i a x commits most b = go (last_of a commits) (last_before i a commits b)
   where
@@ -84,12 +85,13 @@ commit_before i a x commits some most b =
     let s = map_of (last_of a commits) in let ops = (ops_of (last_of a commits) i x).ops in
     let p = last_before i a commits b in let g = ops_good i a x commits most b in
     let low = seq_before i (a % 4) commits some b in
-    let four : i * 4 + 4 ≡ suc i * 4 = omega arith in
-    (played_map s ops p.is_map g.formed,
-     older_played (suc i * 4) s ops (older_more (i * 4) (suc i * 4) s (omega arith) p.older) (subst (λ n. AreOpsOlder n ops) four g.older),
-     (let grown = length_played s ops in let size = p.size in let few = g.few in omega arith),
-     omega arith,
-     before_more i commits b)
+    let four : i * 4 + 4 ≡ suc i * 4 = omega arith in (
+      played_map s ops p.is_map g.formed,
+      older_played (suc i * 4) s ops (older_more (i * 4) (suc i * 4) s (omega arith) p.older) (subst (λ n. AreOpsOlder n ops) four g.older),
+      (let grown = length_played s ops in let size = p.size in let few = g.few in omega arith),
+      omega arith,
+      before_more i commits b,
+    )
 
 pub commits_before : (start i : ℕ) → i ≤ 100000 → AreBefore (suc i) (commits_from start i).commits
 commits_before start zero most = tt

@@ -1,26 +1,25 @@
 -- Made messages are read as events of their accounts.
-use Rattle.std.proofs.Common.{◌≡◌, ℕ, zero, suc, ◌+◌, ◌*◌, ◌/◌, ◌%◌, ◌^◌, ◌<◌, ◌≤◌, ◌==◌, ◌&&◌, Bool, true, false, cond, ltb, pos, List, [], ◌∷◌, ◌++◌, length, map, codes, refl, sym, ap, ◌∙◌, subst, Option, Some, None, Result, Ok, Err, ◌⊎◌, inl, inr, slice_index, arith, lit<, length-append}
-use Rattle.std.specs.List.{Contains, list_all}
+use Rattle.std.proofs.Common.{◌≡◌, ℕ, zero, suc, ◌+◌, ◌*◌, ◌%◌, ◌^◌, ◌<◌, ◌≤◌, ◌==◌, Bool, true, false, cond, List, [], ◌∷◌, ◌++◌, length, map, codes, refl, sym, ap, ◌∙◌, subst, Option, Some, None, Result, Ok, inl, inr, slice_index, arith, lit<, length-append}
+use Rattle.std.specs.List.{Contains}
 use Rattle.std.proofs.lemmas.List.Elements.{Contains-push_cases}
-use Rattle.at_cid.specs.Link.{IsBytes, IsLink, IsLinkOrNone, cid}
+use Rattle.at_cid.specs.Link.{IsLink, IsLinkOrNone, cid}
 use Rattle.at_cid.specs.Order.{key_cmp}
 use Rattle.at_cid.proofs.Bytes.{cid_is_link}
 use Rattle.at_cbor.specs.declared.major.Major.{Major}
-use Rattle.at_cbor.specs.Item.{Item, Fields, Items, items_of, fields_of, no_items}
+use Rattle.at_cbor.specs.Item.{Item, items_of, fields_of, no_items}
 use Rattle.at_cbor.specs.Spelling.{Fits, FieldsFit, ItemsFit, IsString, IsText, fields_count, fields_spelling, front_of, items_count, spelling, text_spelling}
 use Rattle.at_cbor.specs.Taking.{◌>>=◌, link_item}
 use Rattle.at_syntax.specs.Did.{is_did}
-use Rattle.at_syntax.specs.Tid.{digits_of}
 use Rattle.at_form.specs.Forms.{did_in, required, short_text_in}
 use Rattle.at_form.proofs.Held.{some_same, step_from}
 use Rattle.at_event.specs.declared.frame.Frame.{Frame}
 use Rattle.at_event.specs.declared.frame.FrameFault.{FrameFault}
 use Rattle.at_event.specs.declared.event.Body.{Body}
 use Rattle.at_event.specs.declared.kind.EventKind.{EventKind}
-use Rattle.at_event.specs.Frames.{IsMessage, announced, event_frame, formed_frame, frame_of, heading_of, named, numbered_frame}
+use Rattle.at_event.specs.Frames.{announced, event_frame, formed_frame, frame_of, heading_of, named, numbered_frame}
 use Rattle.at_event.specs.Seen.{Seen}
 use Rattle.at_event.specs.Table.{body_of, event_of, seq_of}
-use Rattle.at_event.specs.Writing.{header_of, message_of, number_item}
+use Rattle.at_event.specs.Writing.{header_of, message_of}
 use Rattle.at_event.proofs.Messages.{message_read}
 use Rattle.at_event.proofs.Texts.{ascii_text, digits_text}
 use Rattle.mst_list.specs.declared.op.Op.{Op}
@@ -28,16 +27,15 @@ use Rattle.mst_list.specs.Edits.{AreFormedOps, IsFormedOp}
 use Rattle.mst_node.specs.Trees.{root, spell, top_layer}
 use Rattle.relay_gen.specs.declared.past.Past.{Past}
 use Rattle.relay_gen.specs.Draws.{next, drawn}
-use Rattle.relay_gen.specs.Names.{did_of, digits, host_of, path_of}
-use Rattle.relay_gen.specs.Commits.{Commit, commits_from, last_of, ops_of, past_of}
+use Rattle.relay_gen.specs.Names.{did_of, host_of}
+use Rattle.relay_gen.specs.Commits.{Commit, commits_from, last_of, past_of}
 use Rattle.relay_gen.specs.Messages.{back_fields, car_with, ends_of, front_fields, message, middle_fields, object, op_item, payload_of, prev_data, since_item}
 use Rattle.relay_gen.specs.Covers.{given}
-use Rattle.relay_gen.specs.Histories.{history, sent}
+use Rattle.relay_gen.specs.Histories.{sent}
 use Rattle.relay_gen.specs.Laws.{HostsTellOfTheirOwn, IsOfItsHost}
-use Rattle.relay_gen.specs.States.{AreBefore}
 use Rattle.relay_gen.proofs.Counts.{payload_spelled}
 use Rattle.relay_gen.proofs.Texts.{did_text, path_text}
-use Rattle.relay_gen.proofs.Older.{AreOpsOlder, IsGood}
+use Rattle.relay_gen.proofs.Older.{AreOpsOlder}
 use Rattle.relay_gen.proofs.Befores.{commits_before, ops_good, seq_before}
 
 child_item : (depth : ℕ) (o : Option (List ℕ)) → IsLinkOrNone o → Fits (link_item o) depth
@@ -103,19 +101,66 @@ length_items (op ∷ ops) = ap suc (length_items ops)
 payload_fits : (c : Commit) (commit blocks : List ℕ) → CanBeSent c → IsLink commit → IsString blocks → Fits (payload_of (did_of c.account) c.seq c.rev c.past c.ops commit blocks) 64
 unfolding payload_of key_cmp
 payload_fits c commit blocks s l b =
-    let few = count_prev c.past in let four = s.few in let count = count_items (map op_item c.ops) ∙ length_items c.ops in
-    (lit< tt, omega (arith, few), (
-      ascii_text (codes "ops") refl (lit< tt), refl, (lit< tt, omega (arith, count, four), ops_fit s.most c.ops s.formed s.older), (
-      ascii_text (codes "rev") refl (lit< tt), refl, digits_text c.rev s.rev, (
-      ascii_text (codes "seq") refl (lit< tt), refl, omega (arith, s.seq), (
-      ascii_text (codes "repo") refl (lit< tt), refl, did_text c.account s.account, (
-      ascii_text (codes "time") refl (lit< tt), refl, ascii_text (codes "2025-01-01T00:00:00Z") refl (lit< tt), (
-      ascii_text (codes "blobs") refl (lit< tt), refl, (lit< tt, lit< tt, tt), (
-      ascii_text (codes "since") refl (lit< tt), refl, since_fits c.past s.past, (
-      ascii_text (codes "blocks") refl (lit< tt), refl, b, (
-      ascii_text (codes "commit") refl (lit< tt), refl, (l.link, l.bytes), (
-      ascii_text (codes "rebase") refl (lit< tt), refl, tt, (
-      ascii_text (codes "tooBig") refl (lit< tt), refl, tt, prev_fits c.past s.past))))))))))))
+    let few = count_prev c.past in let four = s.few in let count = count_items (map op_item c.ops) ∙ length_items c.ops in (
+      lit< tt,
+      omega (arith, few),
+      (
+        ascii_text (codes "ops") refl (lit< tt),
+        refl,
+        (lit< tt, omega (arith, count, four), ops_fit s.most c.ops s.formed s.older),
+        (
+          ascii_text (codes "rev") refl (lit< tt),
+          refl,
+          digits_text c.rev s.rev,
+          (
+            ascii_text (codes "seq") refl (lit< tt),
+            refl,
+            omega (arith, s.seq),
+            (
+              ascii_text (codes "repo") refl (lit< tt),
+              refl,
+              did_text c.account s.account,
+              (
+                ascii_text (codes "time") refl (lit< tt),
+                refl,
+                ascii_text (codes "2025-01-01T00:00:00Z") refl (lit< tt),
+                (
+                  ascii_text (codes "blobs") refl (lit< tt),
+                  refl,
+                  (lit< tt, lit< tt, tt),
+                  (
+                    ascii_text (codes "since") refl (lit< tt),
+                    refl,
+                    since_fits c.past s.past,
+                    (
+                      ascii_text (codes "blocks") refl (lit< tt),
+                      refl,
+                      b,
+                      (
+                        ascii_text (codes "commit") refl (lit< tt),
+                        refl,
+                        (l.link, l.bytes),
+                        (
+                          ascii_text (codes "rebase") refl (lit< tt),
+                          refl,
+                          tt,
+                          (
+                            ascii_text (codes "tooBig") refl (lit< tt),
+                            refl,
+                            tt,
+                            prev_fits c.past s.past,
+                          ),
+                        ),
+                      ),
+                    ),
+                  ),
+                ),
+              ),
+            ),
+          ),
+        ),
+      ),
+    )
 
 string_back : (A B : List ℕ) → IsString (A ++ B) → IsString B
 string_back [] B s = s
@@ -235,11 +280,11 @@ all_sent start (suc i) most =
 own_hosts : (commits : List Commit) (host bytes : List ℕ) (e : Seen) → AllSent commits → IsString bytes → Contains (sent commits) (host, bytes) → frame_of bytes ≡ Ok (Frame.Event e) → IsOfItsHost host e.did
 own_hosts [] host bytes e s string there h = absurd (let low = there.1 in omega arith)
 own_hosts (c ∷ commits) host bytes e s string there h = elim (Contains-push_cases (sent commits) (host_of c.account, message c) (host, bytes) there) [
-    | inl before ↦ own_hosts commits host bytes e s.1 string before h
-    | inr same ↦
-        let m : message c ≡ bytes = ap (λ (p : List ℕ × List ℕ). p.1) same in
-        record { account = c.account; low = s.0.account; did_is = of_account c e s.0 (subst IsString (sym m) string) (ap frame_of m ∙ h); host_is = sym (ap (λ (p : List ℕ × List ℕ). p.0) same) }
-  ]
+  | inl before ↦ own_hosts commits host bytes e s.1 string before h
+  | inr same ↦
+      let m : message c ≡ bytes = ap (λ (p : List ℕ × List ℕ). p.1) same in
+      record { account = c.account; low = s.0.account; did_is = of_account c e s.0 (subst IsString (sym m) string) (ap frame_of m ∙ h); host_is = sym (ap (λ (p : List ℕ × List ℕ). p.0) same) }
+]
 
 pub own_messages : HostsTellOfTheirOwn
 own_messages start n host bytes e most string there h = own_hosts (commits_from start n).commits host bytes e (all_sent start n most) string there h

@@ -1,6 +1,5 @@
 -- A making goes on by a commit.
-use Rattle.std.proofs.Common.{◌≡◌, ◌≢◌, ℕ, zero, suc, ◌+◌, ◌*◌, ◌%◌, ◌<◌, ◌≤◌, ◌==◌, Bool, true, false, cond, eqb, List, [], ◌∷◌, ◌++◌, length, map, set, slice_get, slice_index, slice_index_or, is_some, refl, sym, ap, ◌∙◌, subst, Option, Some, None, arith}
-use Rattle.mst_list.specs.declared.item.Item.{Item}
+use Rattle.std.proofs.Common.{◌≡◌, ◌≢◌, ℕ, zero, suc, ◌*◌, ◌%◌, ◌<◌, ◌==◌, true, false, cond, List, [], ◌∷◌, length, set, slice_get, slice_index, slice_index_or, is_some, refl, sym, ap, ◌∙◌, Option, Some, None, arith}
 use Rattle.mst_list.specs.declared.op.Op.{Op}
 use Rattle.mst_node.proofs.Layers.{eqb_no, eqb_yes}
 use Rattle.at_form.proofs.Held.{some_same}

@@ -1,11 +1,11 @@
 -- What is drawn for a map of older paths can be played on it.
-use Rattle.std.proofs.Common.{◌≡◌, ◌≢◌, ℕ, zero, suc, ◌+◌, ◌*◌, ◌^◌, ◌<◌, ◌≤◌, Bool, true, false, ◌==◌, ◌||◌, cond, nat_lt, List, [], ◌∷◌, ◌++◌, length, slice_get, codes, refl, sym, ap, ◌∙◌, subst, Option, Some, None, Ordering, Less, Equal, Greater, arith, length-append}
+use Rattle.std.proofs.Common.{◌≡◌, ℕ, zero, suc, ◌+◌, ◌*◌, ◌^◌, ◌<◌, ◌≤◌, Bool, true, false, ◌==◌, ◌||◌, cond, nat_lt, List, [], ◌∷◌, ◌++◌, length, slice_get, refl, sym, ap, ◌∙◌, subst, Option, Some, None, Less, arith, length-append}
 use Rattle.std.specs.List.{list_any}
 use Rattle.std.specs.Str.{bytes_eq}
-use Rattle.at_cid.specs.Link.{IsBytes, IsLink, cid}
+use Rattle.at_cid.specs.Link.{IsLink}
 use Rattle.at_cid.specs.Order.{key_cmp}
 use Rattle.at_cid.proofs.Bytes.{cid_is_link}
-use Rattle.at_cid.proofs.Order.{cmp_same, cmp_above}
+use Rattle.at_cid.proofs.Order.{cmp_same}
 use Rattle.mst_list.specs.declared.item.Item.{Item}
 use Rattle.mst_list.specs.declared.item.Item.TheVariants.{Key, Hole}
 use Rattle.mst_list.specs.declared.op.Op.{Op}
@@ -15,9 +15,9 @@ use Rattle.mst_list.proofs.Formed.{ops_more}
 use Rattle.mst_list.proofs.Places.{rebuilt}
 use Rattle.std.proofs.lemmas.Slice.Eq.{bytes_eq-Decides}
 use Rattle.relay_gen.specs.Draws.{next, drawn}
-use Rattle.relay_gen.specs.Names.{digits, path_of, value_of}
+use Rattle.relay_gen.specs.Names.{path_of, value_of}
 use Rattle.relay_gen.specs.Drafts.{Draft, creation, drafted, played, with_drawn, with_edit, with_more, with_op}
-use Rattle.relay_gen.specs.States.{AllApply, AreOlder, CanPlay}
+use Rattle.relay_gen.specs.States.{AllApply, AreOlder}
 use Rattle.relay_gen.proofs.Ascending.{path_less}
 use Rattle.relay_gen.proofs.Texts.{path_key}
 use Rattle.relay_gen.proofs.Plays.{apart_more}
@@ -83,12 +83,12 @@ good_with s n m count ops op le g v f l =
     elim (list_any (λ (o : Op). bytes_eq o.key op.key) ops) as (λ b. list_any (λ (o : Op). bytes_eq o.key op.key) ops ≡ b → IsGood s m (suc count) (cond b ops (ops ++ op ∷ []))) [
       | true ↦ λ e. record { apply = g.apply; apart = g.apart; formed = g.formed; few = omega arith; older = more }
       | false ↦ λ e. let n = length-append ops (op ∷ []) in record {
-          apply = apply_last s ops op g.apply v;
-          apart = apart_more ops op g.apart (is_new op.key ops e);
-          formed = ops_more ops (ops ++ op ∷ []) op refl g.formed f;
-          few = omega arith;
-          older = ops_older_last m ops op more l;
-        }
+        apply = apply_last s ops op g.apply v;
+        apart = apart_more ops op g.apart (is_new op.key ops e);
+        formed = ops_more ops (ops ++ op ∷ []) op refl g.formed f;
+        few = omega arith;
+        older = ops_older_last m ops op more l;
+      }
     ] refl
 
 -- what is known of an item of a map

@@ -1,6 +1,5 @@
 -- Playing operations is undoing them turned round.
-use Rattle.std.proofs.Common.{◌≡◌, ◌≢◌, ℕ, zero, suc, ◌<◌, ◌≤◌, List, [], ◌∷◌, ◌++◌, length, map, drop, get_or, refl, sym, ap, ◌∙◌, subst, Option, Some, None, arith, length-append}
-use Rattle.at_cid.specs.Link.{IsLinkOrNone}
+use Rattle.std.proofs.Common.{◌≡◌, ℕ, zero, suc, ◌<◌, ◌≤◌, List, [], ◌∷◌, ◌++◌, length, map, drop, get_or, refl, sym, ap, ◌∙◌, subst, Option, Some, None, arith, length-append}
 use Rattle.mst_list.specs.declared.item.Item.{Item}
 use Rattle.mst_list.specs.declared.item.Item.TheVariants.{Key, Hole}
 use Rattle.mst_list.specs.declared.op.Op.{Op}
@@ -12,7 +11,7 @@ use Rattle.mst_list.proofs.Undo.{map_put}
 use Rattle.relay_gen.specs.Drafts.{played}
 use Rattle.relay_gen.specs.declared.records.Change.{Change}
 use Rattle.relay_gen.specs.Records.{op_of}
-use Rattle.relay_gen.specs.States.{AllApply, CanPlay, turned_of}
+use Rattle.relay_gen.specs.States.{AllApply, turned_of}
 
 abbrev turn : Op → Op
 turn op = record { key = op.key; was = op.now; now = op.was }

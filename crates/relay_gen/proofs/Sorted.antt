@@ -1,12 +1,11 @@
 -- The search among records.
-use Rattle.std.proofs.Common.{◌≡◌, ◌≢◌, ℕ, zero, suc, ◌+◌, ◌-◌, ◌<◌, ◌≤◌, Bool, true, false, cond, List, [], ◌∷◌, ◌++◌, length, map, take, drop, get_or, slice_get, set, insert, remove, is_some, refl, sym, ap, ◌∙◌, subst, Option, Some, None, Ordering, Less, Equal, Greater, arith}
+use Rattle.std.proofs.Common.{◌≡◌, ℕ, zero, suc, ◌<◌, ◌≤◌, Bool, true, false, List, [], ◌∷◌, ◌++◌, length, map, get_or, slice_get, insert, remove, is_some, refl, sym, ap, ◌∙◌, Some, None, Ordering, Less, Equal, Greater, arith}
 use Rattle.std.specs.List.Sorted.{IsPartitionedBy, IsPartitionPoint}
 use Rattle.std.specs.Str.{bytes_eq}
 use Rattle.std.proofs.lemmas.Slice.Eq.{bytes_eq-Decides}
 use Rattle.at_cid.specs.Order.{key_cmp}
 use Rattle.at_cid.proofs.Order.{cmp_trans, cmp_exact, cmp_same}
 use Rattle.mst_list.specs.declared.item.Item.{Item}
-use Rattle.mst_list.specs.declared.item.Item.TheVariants.{Key, Hole}
 use Rattle.mst_list.specs.Lists.{AllAbove, Ascends, KeysOnly}
 use Rattle.mst_list.specs.Edits.{by_order, before, after, value_at}
 use Rattle.mst_node.specs.Covers.{last_key, first_key}

@@ -1,5 +1,5 @@
 -- Paths and DIDs are texts.
-use Rattle.std.proofs.Common.{◌≡◌, ℕ, zero, suc, ◌+◌, ◌/◌, ◌%◌, ◌^◌, ◌<◌, ◌&&◌, Bool, true, false, ltb, List, [], ◌∷◌, ◌++◌, length, codes, refl, ap, arith, lit<, length-append}
+use Rattle.std.proofs.Common.{◌≡◌, ℕ, zero, suc, ◌+◌, ◌/◌, ◌%◌, ◌^◌, ◌<◌, ◌&&◌, true, false, ltb, List, [], ◌∷◌, ◌++◌, length, codes, refl, ap, arith, lit<}
 use Rattle.std.proofs.lemmas.Bool.{and_from, lt-ltb}
 use Rattle.at_cbor.specs.Spelling.{IsText}
 use Rattle.at_event.proofs.Texts.{ascii_text, is_ascii_text}

@@ -1,9 +1,8 @@
 -- The blocks on the ways to keys, part by part.
-use Rattle.std.proofs.Common.{◌≡◌, ℕ, zero, suc, ◌+◌, ◌<◌, Bool, true, false, ◌&&◌, ◌||◌, cond, eqb, List, [], ◌∷◌, ◌++◌, length, map, refl, sym, ap, ◌∙◌, subst, Option, Some, None, Ordering, Less, Equal, Greater, arith}
-use Rattle.std.specs.List.{filter, list_any}
+use Rattle.std.proofs.Common.{◌≡◌, ℕ, zero, suc, ◌+◌, ◌<◌, Bool, true, false, ◌&&◌, ◌||◌, cond, eqb, List, [], ◌∷◌, ◌++◌, length, map, refl, sym, ap, ◌∙◌, subst, Option, Some, None, Less, Equal, Greater, arith}
+use Rattle.std.specs.List.{filter}
 use Rattle.std.proofs.lemmas.List.{map-append}
 use Rattle.std.proofs.lemmas.List.Elements.{filter-append}
-use Rattle.std.specs.FinMap as finite
 use Rattle.sha2.specs.Sha256.{sha256}
 use Rattle.at_cid.specs.Link.{cid, digest_of}
 use Rattle.at_cid.specs.Order.{key_cmp}
@@ -13,7 +12,7 @@ use Rattle.mst_list.specs.declared.item.Item.{Item}
 use Rattle.mst_list.specs.declared.item.Item.TheVariants.{Key, Hole}
 use Rattle.mst_list.specs.Edits.{by_order}
 use Rattle.mst_list.specs.Height.{height}
-use Rattle.mst_list.specs.Lists.{AllAbove, Ascends, KeysOnly}
+use Rattle.mst_list.specs.Lists.{AllAbove}
 use Rattle.mst_list.proofs.Places.{AllBelow}
 use Rattle.mst_list.proofs.Fills.{below_key, is_below_parts, keys_only_parts}
 use Rattle.mst_node.specs.Covers.{Spelled, IsOver, IsUnder, bound_at, part_spelled, right_spelled}

@@ -3,7 +3,7 @@ use Rattle.std.specs.Prelude.{ℕ, zero, suc, ◌+◌, ◌*◌, ◌==◌, ◌||�
 use Rattle.std.specs.List.{list_any}
 use Rattle.std.specs.Str.{bytes_eq}
 use Rattle.mst_list.specs.declared.item.Item.{Item}
-use Rattle.mst_list.specs.declared.item.Item.TheVariants.{Key, Hole}
+use Rattle.mst_list.specs.declared.item.Item.TheVariants.{Key}
 use Rattle.mst_list.specs.declared.op.Op.{Op}
 use Rattle.mst_list.specs.Edits.{put}
 use Rattle.relay_gen.specs.Draws.{next, drawn}

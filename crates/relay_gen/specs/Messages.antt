@@ -1,9 +1,9 @@
 -- The message of a made commit (own), by the Lexicon `com.atproto.sync.subscribeRepos` and the Repository specification.
-use Rattle.std.specs.Prelude.{ℕ, pos, Bool, true, false, List, [], ◌∷◌, ◌++◌, map, codes, Option, Some, None}
+use Rattle.std.specs.Prelude.{ℕ, pos, false, List, [], ◌∷◌, ◌++◌, map, codes, Option, Some, None}
 use Rattle.std.specs.FinMap as finite
 use Rattle.std.specs.List.{repeat}
 use Rattle.at_cid.specs.Link.{cid}
-use Rattle.at_cbor.specs.Item.{Item, Fields, items_of, fields_of, no_items, no_fields, field}
+use Rattle.at_cbor.specs.Item.{Item, items_of, fields_of, no_items}
 use Rattle.at_cbor.specs.Spelling.{spelling}
 use Rattle.at_cbor.specs.Taking.{link_item}
 use Rattle.at_car.specs.Blocks.{BlockMap, kept}
@@ -13,7 +13,7 @@ use Rattle.at_event.specs.declared.kind.EventKind.{EventKind}
 use Rattle.at_event.specs.Writing.{message_of, number_item}
 use Rattle.mst_list.specs.declared.op.Op.{Op}
 use Rattle.mst_node.specs.Trees.{root}
-use Rattle.relay_gen.specs.Names.{did_of, host_of}
+use Rattle.relay_gen.specs.Names.{did_of}
 use Rattle.relay_gen.specs.declared.past.Past.{Past}
 use Rattle.relay_gen.specs.Commits.{Commit}
 use Rattle.relay_gen.specs.Covers.{given}

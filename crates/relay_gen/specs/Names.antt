@@ -1,5 +1,5 @@
 -- The names and the values of made records (own).
-use Rattle.std.specs.Prelude.{ℕ, zero, suc, ◌+◌, ◌*◌, ◌/◌, ◌%◌, ◌^◌, pos, List, [], ◌∷◌, ◌++◌, codes}
+use Rattle.std.specs.Prelude.{ℕ, zero, suc, ◌+◌, ◌/◌, ◌%◌, ◌^◌, pos, List, [], ◌∷◌, ◌++◌, codes}
 use Rattle.at_cid.specs.Link.{cid}
 use Rattle.at_cbor.specs.Item.{Item, no_fields, field}
 use Rattle.at_cbor.specs.Spelling.{spelling}

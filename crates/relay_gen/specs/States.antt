@@ -1,5 +1,5 @@
 -- The state of a making. No public clause cites this file.
-use Rattle.std.specs.Prelude.{◌≡◌, ◌<◌, ◌≤◌, ◌*◌, ℕ, List, [], ◌∷◌, ◌++◌, length, slice_get, slice_index, Option, Some, None}
+use Rattle.std.specs.Prelude.{◌≡◌, ◌<◌, ◌≤◌, ◌*◌, ℕ, List, [], ◌∷◌, ◌++◌, length, slice_get, slice_index, Option, Some}
 use Rattle.mst_list.specs.declared.item.Item.{Item}
 use Rattle.mst_list.specs.declared.item.Item.TheVariants.{Key, Hole}
 use Rattle.mst_list.specs.declared.op.Op.{Op}

@@ -88,7 +88,15 @@ fn cover_branch(
     let link = branch.link_of(alloc)?;
     blocks.put(link, block.as_slice())?;
     let layer = branch.layer;
-    cover_below(alloc, layer, &branch.first, low, bound_before(parts, high), paths, blocks)?;
+    cover_below(
+        alloc,
+        layer,
+        &branch.first,
+        low,
+        bound_before(parts, high),
+        paths,
+        blocks,
+    )?;
     cover_parts(alloc, layer, parts, high, paths, blocks)
 }
 
@@ -148,11 +156,7 @@ pub(crate) fn covered_paths(
 }
 
 /// Adds the paths beside a path.
-fn add_neighbours(
-    records: &[Record],
-    path: &Words,
-    paths: &mut Vec<Words>,
-) -> Result<(), Memory>
+fn add_neighbours(records: &[Record], path: &Words, paths: &mut Vec<Words>) -> Result<(), Memory>
     requires { Ascends (map item_of records.now) }
     ensures { OnOk result (paths.new.items ≡ paths.old.items ++ neighbours (map item_of records.now) path.now None) }
 {
@@ -168,11 +172,7 @@ fn behind(records: &[Record], at: usize, path: &Words) -> usize
     requires { at ≤ length records.now }
     ensures { result ≡ behind (has_path path.now (slice_get records.now at)) at }
 {
-    if is_at(records, at, path) {
-        at + 1
-    } else {
-        at
-    }
+    if is_at(records, at, path) { at + 1 } else { at }
 }
 
 /// Adds the path of the record at a place, where there is one.

@@ -20,6 +20,7 @@ impl Model for Draws {
 }
 
 const FACTOR: u64 = 6_364_136_223_846_793_005;
+
 const SUMMAND: u64 = 1_442_695_040_888_963_407;
 
 impl Draws {

@@ -8,8 +8,8 @@ ghost use Rattle.relay_gen.specs.States.{AreBefore, IsBehind, IsLast, repository
 ghost use Rattle.relay_gen.specs.Records.{op_of};
 
 use crate::account::Account;
-use crate::draws::Draws;
 use crate::drafting::draft;
+use crate::draws::Draws;
 use crate::fault::GenFault;
 use crate::records::Change;
 use at_cid::{Memory, Octets};

@@ -48,11 +48,7 @@ pub(crate) fn is_at(records: &[Record], at: usize, path: &Words) -> bool
 }
 
 /// Gives a path the value, or takes its record out.
-pub(crate) fn put(
-    records: &mut Vec<Record>,
-    path: &Words,
-    value: Option<Cid>,
-) -> Result<(), Memory>
+pub(crate) fn put(records: &mut Vec<Record>, path: &Words, value: Option<Cid>) -> Result<(), Memory>
     requires { Ascends (map item_of records.old.items) }
     ensures { OnOk result (map item_of records.new.items ≡ put path.now value (map item_of records.old.items)) }
 {

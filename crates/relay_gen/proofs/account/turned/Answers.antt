@@ -1,4 +1,4 @@
-use Rattle.std.proofs.Common.{◌≡◌, ◌-◌, length, map, sym, ap, ◌∙◌, subst, arith}
+use Rattle.std.proofs.Common.{◌-◌, length, sym, ap, ◌∙◌, subst, arith}
 use Rattle.mst_list.specs.Lists.{IsKey}
 use Rattle.relay_gen.proofs.Plays.{few_turned, formed_at}
 use Rattle.relay_gen.proofs.account.turned.Goals as goal

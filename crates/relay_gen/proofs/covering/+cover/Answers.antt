@@ -1,4 +1,4 @@
-use Rattle.std.proofs.Common.{◌≡◌, ◌≤◌, ◌-◌, [], length, take, drop, get_or, ◌+◌, ◌++◌, ◌∷◌, ℕ, List, None, Some, true, false, refl, sym, ap, ◌∙◌, subst, arith, inl, inr}
+use Rattle.std.proofs.Common.{◌≡◌, ◌≤◌, ◌-◌, [], length, take, drop, get_or, ◌∷◌, ℕ, List, None, Some, refl, sym, ap, ◌∙◌, subst, arith, inl, inr}
 use Rattle.std.specs.Prelude.{option_map}
 use Rattle.std.proofs.lemmas.Result.{on_ok_weaker}
 use Rattle.mst_list.specs.Lists.{KeysOnly}
@@ -7,7 +7,6 @@ use Rattle.mst_view.specs.Value.{Layered}
 use Rattle.mst_view.specs.Layered.{AllAt, LiesBelow, below_items, layered, rest_items}
 use Rattle.mst_view.specs.declared.branch.Below.{Below}
 use Rattle.mst_view.specs.declared.branch.Part.{Part}
-use Rattle.at_car.specs.Blocks.{BlockMap, kept}
 use Rattle.relay_gen.specs.Covers.{on_ways}
 use Rattle.relay_gen.specs.Messages.{with_blocks}
 use Rattle.relay_gen.specs.Walks.{IsRange, node_spelled, part_bound}
@@ -85,8 +84,8 @@ cover_branch-returns t c =
     let B = on_ways keys (right_spelled (part_spelled h) h high (rest_items h parts)) in
     on_ok_weaker c.cover_parts.result (λ e. e
     ∙ ap (λ m. with_blocks m B) (c.in_ok-cover_below.ensures
-        ∙ ap (λ o. with_blocks c.put.new.self (on_ways keys (part_spelled h low o (below_items h first)))) c.bound_before.ensures
-        ∙ ap (λ m. with_blocks m (on_ways keys (part_spelled h low (part_bound high parts) (below_items h first)))) c.in_ok-put.ensures.ok)
+    ∙ ap (λ o. with_blocks c.put.new.self (on_ways keys (part_spelled h low o (below_items h first)))) c.bound_before.ensures
+    ∙ ap (λ m. with_blocks m (on_ways keys (part_spelled h low (part_bound high parts) (below_items h first)))) c.in_ok-put.ensures.ok)
     ∙ sym done) c.cover_parts.ensures
 
 rest_split : (xs : List Part) (p : Part) → 1 ≤ length xs → p ≡ get_or xs 0 p → xs ≡ p ∷ take (length xs - 1) (drop 1 xs)
@@ -118,8 +117,8 @@ cover_parts-parts-preserved t c =
       at = at.2;
       range = range_rest h (Some p.key) high X others range;
       blocks = ap (λ m. with_blocks m B) (c.in_ok-cover_below.ensures
-            ∙ ap (λ k. with_blocks old (on_ways keys (part_spelled h (Some k) (option_map (λ k. k.now) c.bound_before-bound.result) X))) c.as_slice.ensures.value
-            ∙ ap (λ o. with_blocks old (on_ways keys (part_spelled h (Some p.key) o X))) c.bound_before-bound.ensures)
+          ∙ ap (λ k. with_blocks old (on_ways keys (part_spelled h (Some k) (option_map (λ k. k.now) c.bound_before-bound.result) X))) c.as_slice.ensures.value
+          ∙ ap (λ o. with_blocks old (on_ways keys (part_spelled h (Some p.key) o X))) c.bound_before-bound.ensures)
           ∙ sym (parts_done keys old h high p others at)
           ∙ ap (λ x. with_blocks old (on_ways keys (right_spelled (part_spelled h) h high (rest_items h x)))) (sym here)
           ∙ c.parts.invariant.blocks;

@@ -1,6 +1,6 @@
-use Rattle.std.proofs.Common.{◌≡◌, ◌++◌, List, ℕ, slice_get, sym, ap, ◌∙◌}
+use Rattle.std.proofs.Common.{◌++◌, slice_get, ap, ◌∙◌}
 use Rattle.std.proofs.lemmas.List.{append_assoc}
-use Rattle.relay_gen.specs.Records.{behind, has_path, last_path, path_or_none}
+use Rattle.relay_gen.specs.Records.{last_path, path_or_none}
 use Rattle.relay_gen.proofs.Sorted.{beside}
 use Rattle.relay_gen.proofs.covering.add_neighbours.Goals as goal
 

@@ -1,4 +1,4 @@
-use Rattle.std.proofs.Common.{◌≡◌, List, map, Some, None, sym, ap, ◌∙◌, subst}
+use Rattle.std.proofs.Common.{List, sym, ap, ◌∙◌, subst}
 use Rattle.std.proofs.lemmas.Result.{on_ok_weaker}
 use Rattle.at_cid.specs.Link.{digest_of}
 use Rattle.mst_list.specs.declared.item.Item.{Item}
@@ -6,7 +6,6 @@ use Rattle.mst_list.specs.Lists.{KeysOnly}
 use Rattle.mst_view.specs.Value.{Layered}
 use Rattle.mst_view.specs.StubTree.{IsTop, top_items}
 use Rattle.std.specs.Prelude.{Option}
-use Rattle.relay_gen.specs.Records.{item_of}
 use Rattle.relay_gen.proofs.Givens.{empty_block, empty_given}
 use Rattle.relay_gen.proofs.Sorted.{keys_only}
 use Rattle.relay_gen.proofs.Ways.{between_ends, digest_cid}

@@ -1,4 +1,4 @@
-use Rattle.std.proofs.Common.{◌≡◌, ◌+◌, ◌-◌, suc, map, sym, ap, ◌∙◌, add-one, arith}
+use Rattle.std.proofs.Common.{◌≡◌, ◌+◌, ◌-◌, suc, map, ap, ◌∙◌, arith}
 use Rattle.relay_gen.specs.Drafts.{Draft, with_drawn, with_more}
 use Rattle.relay_gen.specs.Records.{item_of, op_of}
 use Rattle.relay_gen.proofs.drafting.draft.Goals as goal

@@ -1,4 +1,4 @@
-use Rattle.std.proofs.Common.{◌≡◌, ◌+◌, ◌*◌, ◌<◌, ◌==◌, ℕ, List, length, map, cond, true, false, nat_lt, slice_get, Option, Some, None, refl, sym, ap, ◌∙◌, subst, arith}
+use Rattle.std.proofs.Common.{◌≡◌, ◌+◌, ◌*◌, ◌==◌, ℕ, List, length, map, cond, false, nat_lt, slice_get, Option, Some, None, refl, sym, ap, ◌∙◌, arith}
 use Rattle.std.proofs.lemmas.Bool.{le-ltb}
 use Rattle.std.proofs.lemmas.Result.{on_ok_weaker}
 use Rattle.mst_list.specs.declared.item.Item.TheVariants.{Key}
@@ -34,9 +34,9 @@ returns c =
           ∙ ap (λ k. edit r.path r.value (cond (k == 7) None (Some value))) (let large = w.if-kind-lt7.false in let seven : 7 ≡ kind = omega arith in seven)
     ] in
     on_ok_weaker c.add-2.result (λ e.
-        ap (λ o. with_state o c.draw-index.new.self) (e ∙ ap (with_op d.ops) op)
-        ∙ ap (with_state (with_op d.ops (edit r.path r.value (cond (kind == 7) None (Some value))))) state
-        ∙ drawn_edit s n j d r.path r.value (cond (kind == 7) None (Some value)) low some item refl) c.add-2.ensures
+    ap (λ o. with_state o c.draw-index.new.self) (e ∙ ap (with_op d.ops) op)
+    ∙ ap (with_state (with_op d.ops (edit r.path r.value (cond (kind == 7) None (Some value))))) state
+    ∙ drawn_edit s n j d r.path r.value (cond (kind == 7) None (Some value)) low some item refl) c.add-2.ensures
   where
     with_state : List Op → ℕ → Draft
     with_state ops x = record { ops = ops; state = x }

@@ -6,7 +6,7 @@ use Rattle.relay_gen.specs.Commits.{commit_of, commits_from, last_of, ops_of, wi
 use Rattle.relay_gen.specs.Histories.{sent}
 use Rattle.relay_gen.specs.Messages.{message}
 use Rattle.relay_gen.specs.Names.{host_of}
-use Rattle.relay_gen.specs.States.{AreBefore, IsBehind}
+use Rattle.relay_gen.specs.States.{IsBehind}
 use Rattle.relay_gen.proofs.Befores.{before_up, commits_before}
 use Rattle.relay_gen.proofs.history.make.Goals as goal
 

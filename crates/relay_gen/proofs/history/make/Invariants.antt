@@ -1,4 +1,4 @@
-use Rattle.std.proofs.Common.{◌≡◌, ◌≤◌, map}
+use Rattle.std.proofs.Common.{◌≡◌, map}
 use Rattle.relay_gen.specs.Commits.{commits_from}
 use Rattle.relay_gen.specs.Histories.{sent}
 use Rattle.relay_gen.specs.Names.{host_of}

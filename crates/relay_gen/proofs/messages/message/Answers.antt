@@ -1,4 +1,4 @@
-use Rattle.std.proofs.Common.{◌≡◌, ◌++◌, ◌+◌, map, List, ℕ, sym, ap, ◌∙◌}
+use Rattle.std.proofs.Common.{◌++◌, ◌+◌, map, sym, ap, ◌∙◌}
 use Rattle.at_cbor.specs.declared.major.Major.{Major}
 use Rattle.at_cbor.specs.Item.{fields_of}
 use Rattle.at_cbor.specs.Spelling.{fields_count, fields_spelling, front_of, spelling}

@@ -1,4 +1,4 @@
-use Rattle.std.proofs.Common.{◌≡◌, suc, List, [], ◌∷◌, drop, map, sym, ap, ◌∙◌, subst, add-one, drop-cons}
+use Rattle.std.proofs.Common.{◌≡◌, suc, ◌∷◌, drop, map, sym, ap, ◌∙◌, subst, add-one, drop-cons}
 use Rattle.mst_list.specs.Lists.{Ascends}
 use Rattle.mst_list.proofs.Seen.{edit_law}
 use Rattle.relay_gen.specs.Drafts.{played}

@@ -1,9 +1,9 @@
-use Rattle.std.proofs.Common.{◌≡◌, suc, List, [], ◌∷◌, ◌++◌, drop, refl, sym, ap, ◌∙◌, subst, arith}
+use Rattle.std.proofs.Common.{◌≡◌, List, [], ◌∷◌, ◌++◌, sym, ap, ◌∙◌, subst, arith}
 use Rattle.mst_list.specs.declared.item.Item.TheVariants.{Key}
 use Rattle.mst_view.specs.declared.branch.Part.{Part}
 use Rattle.at_cid.specs.Link.{cid}
 use Rattle.mst_node.specs.NodeBytes.{node_bytes}
-use Rattle.mst_view.specs.Layered.{AllAt, below_items, below_link, entries_of, rest_items}
+use Rattle.mst_view.specs.Layered.{AllAt, below_link, entries_of, rest_items}
 use Rattle.mst_view.proofs.Spelled.{spelled_node}
 use Rattle.mst_view.proofs.Steps.{at_pushed, items_pushed}
 use Rattle.relay_gen.proofs.settling.+settle.Goals as goal

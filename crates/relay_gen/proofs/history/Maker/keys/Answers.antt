@@ -1,8 +1,7 @@
-use Rattle.std.proofs.Common.{◌≡◌, ◌+◌, ◌*◌, ◌<◌, ℕ, suc, List, [], ◌∷◌, drop, length, map, slice_get, Some, sym, ap, ◌∙◌, subst, arith, drop-cons}
+use Rattle.std.proofs.Common.{◌≡◌, ◌+◌, ℕ, suc, ◌∷◌, drop, length, slice_get, Some, sym, ap, ◌∙◌, subst, arith, drop-cons}
 use Rattle.std.proofs.lemmas.List.{drop_all}
 use Rattle.relay_gen.specs.Commits.{keys_from, last_of}
-use Rattle.relay_gen.specs.Records.{item_of}
-use Rattle.relay_gen.specs.States.{Repository, repository_of}
+use Rattle.relay_gen.specs.States.{repository_of}
 use Rattle.relay_gen.proofs.Befores.{keys_few, keys_of, keys_told}
 use Rattle.relay_gen.proofs.Sorted.{length_items}
 use Rattle.relay_gen.proofs.history.Maker.keys.Goals as goal

@@ -1,10 +1,10 @@
-use Rattle.std.proofs.Common.{◌≡◌, ◌+◌, ◌*◌, ◌%◌, ◌<◌, ℕ, suc, List, length, map, set, slice_get, slice_index, slice_index_or, Some, refl, sym, ap, ◌∙◌, subst, arith}
+use Rattle.std.proofs.Common.{◌≡◌, ◌+◌, ◌*◌, ◌%◌, ◌<◌, ℕ, suc, List, map, set, slice_index, slice_index_or, sym, ap, ◌∙◌, subst, arith}
 use Rattle.mst_list.specs.declared.op.Op.{Op}
 use Rattle.relay_gen.specs.Draws.{drawn, next}
-use Rattle.relay_gen.specs.Drafts.{Draft, played}
+use Rattle.relay_gen.specs.Drafts.{Draft}
 use Rattle.relay_gen.specs.Commits.{Drawn, last_of, last_seq, map_of, ops_of, with_commit}
 use Rattle.relay_gen.specs.Records.{op_of}
-use Rattle.relay_gen.specs.States.{CanPlay, IsBehind, Repository, after_commit, commit_message, repository_of}
+use Rattle.relay_gen.specs.States.{CanPlay, IsBehind, Repository, after_commit, repository_of}
 use Rattle.relay_gen.proofs.Befores.{can_play, seq_before}
 use Rattle.relay_gen.proofs.Making.{behind_next, got, index_here, message_same}
 use Rattle.relay_gen.proofs.history.Maker.next.Goals as goal
@@ -53,9 +53,9 @@ returns-clause-behind c = λ d b.
     let state : c.changes_of.new.draws ≡ (ops_of o n x).state = ap (λ (y : Draft). y.state) draft in
     let rev : c.from_value-rev.result ≡ n * 1024 = c.from_value-rev.ensures ∙ ap (λ m. m * 1024) c.from.ensures in
     let account : c.commit.new.self ≡ after_commit (n * 1024) (map_of o) (ops_of o n x).ops = c.in_ok-message.ensures.repository
-        ∙ ap (λ m. after_commit m c.index_mut-account.result.now.map (map op_of c.as_slice.result.now)) rev
-        ∙ ap (λ (y : Repository). after_commit (n * 1024) y.map (map op_of c.as_slice.result.now)) r
-        ∙ ap (after_commit (n * 1024) (map_of o)) ops in
+    ∙ ap (λ m. after_commit m c.index_mut-account.result.now.map (map op_of c.as_slice.result.now)) rev
+    ∙ ap (λ (y : Repository). after_commit (n * 1024) y.map (map op_of c.as_slice.result.now)) r
+    ∙ ap (after_commit (n * 1024) (map_of o)) ops in
     let number = number_is d c.args.self.now.draws a accounts seqs b c.draw-at.ensures.value in
     let W = with_commit n d in let low = c.draw-at.ensures.below in
     let next = behind_next n d c.args.self.now.draws accounts seqs b (subst (λ m. m < 16) at low) in
