@@ -2,16 +2,16 @@
 #![tactic(auto)]
 
 use anyhow::{Context, Result, bail};
-use relay_gen::{History, MOST_MESSAGES, make};
+use relay_gen::{MOST_MESSAGES, make};
 use std::env;
 use std::io::{BufWriter, Write};
 use std::process::ExitCode;
 
 /// Adds a record of a tape: the host's name behind its length, and the message behind its own.
 fn write_record<W: Write>(out: &mut W, host: &str, message: &[u8]) -> Result<()> {
-    out.write_all(&[host.len() as u8])?;
+    out.write_all(&[u8::try_from(host.len())?])?;
     out.write_all(host.as_bytes())?;
-    out.write_all(&(message.len() as u32).to_be_bytes())?;
+    out.write_all(&u32::try_from(message.len())?.to_be_bytes())?;
     out.write_all(message)?;
     Ok(())
 }
@@ -31,7 +31,7 @@ fn made(rt: &HostRuntime) -> Result<()> {
         bail!("out of memory");
     };
     let mut out = BufWriter::new(rt.alloc(), rt.stdout())?;
-    for i in 0..count {
+    for i in 0..u32::try_from(history.len())? {
         write_record(&mut out, history.host(i + 1), history.message(i + 1))?;
     }
     out.flush()?;
