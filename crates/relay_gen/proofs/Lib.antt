@@ -1,0 +1,11 @@
+pub mod Ways
+pub mod Plays
+pub mod Ascending
+pub mod Texts
+pub mod Older
+pub mod Befores
+pub mod Honest
+pub mod Sorted
+pub mod Counts
+pub mod Making
+pub mod Givens

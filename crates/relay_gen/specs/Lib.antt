@@ -1,0 +1,11 @@
+pub mod Draws
+pub mod Names
+pub mod Drafts
+pub mod Commits
+pub mod Covers
+pub mod Messages
+pub mod Histories
+pub mod Records
+pub mod Walks
+pub mod States
+pub mod Laws
