@@ -4,6 +4,7 @@ import sys
 
 sys.path.insert(0, str(pathlib.Path(__file__).resolve().parents[2] / "bench"))
 import messages as m  # noqa: E402
+from items import tid_value  # noqa: E402
 
 FIRST_REV = 1 << 20
 REV_STEP = 1 << 10
@@ -105,5 +106,4 @@ class Account:
         elif known.head != self.head:
             self.head, self.is_lost = None, True
         if known.last is not None:
-            digits = [m.DIGITS.index(character) for character in known.last.decode()]
-            self.rev = max(self.rev, sum(digit << 60 - 5 * i for i, digit in enumerate(digits)))
+            self.rev = max(self.rev, tid_value(known.last))

@@ -4,6 +4,8 @@ import messages as m
 VALUES = (None, True, False, 0, 1, -1, 23, 24, 2**53 - 1, 2**53, 2**63 - 1, -(2**63), "", "a", "create", "update", "delete", "did:plc:m0001",
           "did:web:x:", m.TIME, "t" * 65, "2222222222222", "jzzzzzzzzzzzz", "kzzzzzzzzzzzz", b"", b"a", [], {}, [None], m.value(1),
           m.Link(b"\x01\x55\x12\x20" + bytes(32)), m.Link(bytes.fromhex("01711220") + bytes(32)))
+NAMES = ("op", "t", "ops", "seq", "rev", "repo", "did", "time", "blobs", "blocks", "since", "prevData", "commit", "status", "active",
+         "path", "cid", "prev")
 PATHS = ("app.bsky.feed.post/0000", "a/b", "app.bsky.feed.post/", "/a", "a", "a/..", "a/b/c", "c" * 317 + "/" + "k" * 512,
          "c" * 318 + "/k", "c/" + "k" * 513, "app.bsky.feed.post/é")
 
@@ -35,13 +37,12 @@ def splice(draw, message, others):
 
 
 def heads(message):
-    """Where the heads of items may stand: behind the keys of fields, and in front."""
+    """Where heads of items stand: in front, and at the keys of fields and behind them."""
     found = [0]
-    for name in (b"aop", b"at", b"cops", b"cseq", b"crev", b"drepo", b"dtime", b"eblobs", b"fblocks", b"esince", b"hprevData", b"fcommit",
-                 b"fstatus", b"factive", b"cdid", b"dpath", b"ccid", b"dprev", b"factive"):
-        at = message.find(bytes([0x60 + len(name) - 1]) + name[1:])
+    for key in map(m.spell, NAMES):
+        at = message.find(key)
         if at >= 0:
-            found += [at, at + len(name)]
+            found += [at, at + len(key)]
     return [at for at in found if at < len(message)]
 
 
