@@ -142,4 +142,5 @@ def main():
         (folder / f"{name}.blocks").write_bytes(b"".join(len(b).to_bytes(4, "big") + b for b in blocks))
 
 
-main()
+if __name__ == "__main__":
+    main()

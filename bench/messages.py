@@ -51,6 +51,13 @@ def height(key):
     return (256 - bits.bit_length()) // 2
 
 
+def shared(left, right):
+    """How many bytes two keys have in common at their front."""
+    count = min(len(left), len(right))
+    differing = int.from_bytes(left[:count], "big") ^ int.from_bytes(right[:count], "big")
+    return count - (differing.bit_length() + 7) // 8
+
+
 def tid(value):
     return "".join(DIGITS[value >> shift & 31] for shift in range(60, -1, -5))
 
@@ -94,10 +101,9 @@ class Tree:
             parts.append(self.node(layer - 1, left + 1, right) if right - left > 1 else None)
         entries, before = [], b""
         for i, right in zip(own, parts[1:]):
-            key, shared = self.keys[i], 0
-            while shared < min(len(before), len(key)) and before[shared] == key[shared]:
-                shared += 1
-            entries.append({"k": key[shared:], "p": shared, "t": right, "v": self.pairs[key]})
+            key = self.keys[i]
+            count = shared(before, key)
+            entries.append({"k": key[count:], "p": count, "t": right, "v": self.pairs[key]})
             before = key
         block = spell({"e": entries, "l": parts[0]})
         link = link_of(block)
