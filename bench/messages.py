@@ -97,9 +97,10 @@ class Tree:
             key, shared = self.keys[i], 0
             while shared < min(len(before), len(key)) and before[shared] == key[shared]:
                 shared += 1
-            entries.append({"k": key[shared:], "p": shared, "t": right, "v": self.pairs[key]})
+            entries.append(b"\xa4\x61k" + spell(key[shared:]) + b"\x61p" + head(0, shared) + b"\x61t" + spell(right)
+                           + b"\x61v" + spell(self.pairs[key]))
             before = key
-        block = spell({"e": entries, "l": parts[0]})
+        block = b"\xa2\x61e" + head(4, len(entries)) + b"".join(entries) + b"\x61l" + spell(parts[0])
         link = link_of(block)
         self.nodes[layer, start, end] = link, block
         return link
