@@ -103,9 +103,10 @@ class Tree:
         for i, right in zip(own, parts[1:]):
             key = self.keys[i]
             count = shared(before, key)
-            entries.append({"k": key[count:], "p": count, "t": right, "v": self.pairs[key]})
+            entries.append(b"\xa4\x61k" + spell(key[count:]) + b"\x61p" + head(0, count) + b"\x61t" + spell(right)
+                           + b"\x61v" + spell(self.pairs[key]))
             before = key
-        block = spell({"e": entries, "l": parts[0]})
+        block = b"\xa2\x61e" + head(4, len(entries)) + b"".join(entries) + b"\x61l" + spell(parts[0])
         link = link_of(block)
         self.nodes[layer, start, end] = link, block
         return link

@@ -1,0 +1,125 @@
+"""Tapes of honest hosts, made by the plain model of messages.py: for each, what the authorities' table has to say, and what
+any relay has to hash of it."""
+import random
+
+import messages as m
+
+HOST = b"a.example"
+
+
+def record(message, host=HOST):
+    """A record of a tape."""
+    return bytes([len(host)]) + host + len(message).to_bytes(4, "big") + message
+
+
+def did_of(i):
+    return f"did:plc:{i:024x}"
+
+
+def table(dids, host=HOST):
+    """The table of an authority that knows these accounts, and trusts their signatures."""
+    return "".join(f"home {did} {host.decode()}\ntrust {did}\n" for did in dids)
+
+
+def sync(seq, rev, tree, did):
+    """A `#sync` that says where an account's repository stands."""
+    block = m.commit_block(m.tid(rev), tree.root, did)
+    root = m.link_of(block)
+    payload = {"did": did, "rev": m.tid(rev), "seq": seq, "time": m.TIME, "blocks": m.car(root, [(root, block)])}
+    return m.spell({"t": "#sync", "op": 1}) + m.spell(payload)
+
+
+def keys_in(block):
+    """The keys of a node's block of which `k` is spelled by one of the model's heads, put together."""
+    keys, before, at = [], b"", 0
+    while (at := block.find(b"\xa4\x61k", at)) >= 0:
+        at += 3
+        size, at = (block[at] & 31, at + 1) if block[at] < 0x58 else (block[at + 1], at + 2)
+        own, at = block[at:at + size], at + size + 2
+        shared, at = (block[at], at + 1) if block[at] < 24 else (block[at + 1], at + 2)
+        before = before[:shared] + own
+        keys.append(before)
+    return keys
+
+
+class Repository:
+    """An account's records, of 300 bytes each, and its last commit."""
+
+    def __init__(self, did, keys, heights, draw):
+        self.did, self.heights, self.draw, self.rev = did, heights, draw, 1
+        self.pairs = {key: m.link_of(body(i)) for i, key in enumerate(keys)}
+        self.tree = m.Tree(dict(self.pairs), heights)
+
+    def commit(self, seq, operations):
+        """The next commit, and what has to be hashed of it: the blocks that it carries, each once, the nodes of the tree
+        before it that aren't there any more, and the keys of all nodes that it carries."""
+        changes, records, before, sorted_keys = {}, [], self.tree, sorted(self.pairs)
+        for _ in range(operations):
+            known = self.draw.random() < 0.4
+            key = self.draw.choice(sorted_keys) if known else post(self.draw)
+            now = None
+            if not (known and self.draw.random() < 0.5):
+                block = body(self.draw.getrandbits(60))
+                now = m.link_of(block)
+                records.append((now, block))
+            changes[key] = self.pairs.get(key), now
+        for key, (_, now) in changes.items():
+            self.pairs.pop(key, None)
+            if now is not None:
+                self.pairs[key] = now
+        self.tree = m.Tree(dict(self.pairs), self.heights)
+        nodes = list(self.tree.cover(changes).items())
+        self.rev += 1
+        made = m.message(seq, m.tid(self.rev), m.tid(self.rev - 1), self.tree.root, before.root, dict(sorted(changes.items())),
+                         nodes + records, self.did)
+        commit = m.commit_block(m.tid(self.rev), self.tree.root, self.did)
+        return made, hashed(before, self.tree, changes, [commit, *(block for _, block in nodes + records)], nodes)
+
+
+def hashed(before, after, changes, carried, nodes):
+    there = {link for link, _ in after.nodes.values()}
+    undone = {}
+    for key in changes:
+        before.way(key, undone)
+    gone = [block for link, block in undone.items() if link not in there]
+    keys = {key for _, block in nodes for key in keys_in(block)}
+    return [*carried, *gone, *keys]
+
+
+def body(n):
+    """A record of 300 bytes."""
+    return m.spell({"n": n, "text": "x" * (300 - len(m.spell({"n": n, "text": ""})) - 1)})
+
+
+def post(draw):
+    return b"app.bsky.feed.post/" + m.tid(draw.getrandbits(62)).encode()
+
+
+def firehose(accounts, keys, commits):
+    """The `#sync` of each account, with so many records; then commits of 1 to 4 operations of one account and another; and
+    what has to be hashed of these."""
+    draw, heights = random.Random(11), {}
+    held = sorted({post(draw) for _ in range(keys)})
+    repositories = [Repository(did_of(i), held, heights, draw) for i in range(accounts)]
+    begin = [sync(i + 1, 1, it.tree, it.did) for i, it in enumerate(repositories)]
+    made = [draw.choice(repositories).commit(accounts + i + 1, 1 + i % 4) for i in range(commits)]
+    return begin, [message for message, _ in made], [it for _, blocks in made for it in blocks]
+
+
+def first_commits(start, end):
+    """The first commit, of one record, of each account from the start to the end."""
+    key, block = b"app.bsky.feed.post/one", body(1)
+    now = m.link_of(block)
+    changes = {key: (None, now)}
+    tree = m.Tree({key: now})
+    nodes = [it for it in tree.nodes.values()]
+    # One message is spelled, and the others differ in the account, the commit that names it, and the number.
+    base = 1 << 16
+    did = did_of(0)
+    model = m.message(base, m.tid(1), None, tree.root, None, changes, nodes + [(now, block)], did)
+    commit = m.commit_block(m.tid(1), tree.root, did)
+    root, number = m.link_of(commit), m.spell("seq") + m.spell(base)
+    for i in range(start, end):
+        own = commit.replace(did.encode(), did_of(i).encode())
+        yield (model.replace(commit, own).replace(root, m.link_of(own)).replace(did.encode(), did_of(i).encode())
+               .replace(number, m.spell("seq") + m.spell(base + i)))
