@@ -41,11 +41,12 @@ use Rattle.relay_core.specs.Table.{did_of, no_answers}
 use Rattle.relay_step.specs.Around.{Around, SameRepositories, around}
 use Rattle.relay_step.specs.Fetches.{is_good}
 use Rattle.relay_step.specs.Fetching.{IsFetchedFrom}
-use Rattle.relay_step.specs.Messages.{EndsNumbers}
+use Rattle.relay_step.specs.Messages.{EndsNumbers, pass_of, passed_as}
 use Rattle.relay_step.specs.Operators.{AnsweredFetch}
 use Rattle.relay_step.specs.Questions.{IsLinkAnswer, IsTimedSo}
 use Rattle.relay_step.specs.Taking.{EventTold, IsFetchOf, IsFetchedSo, LostTook}
 use Rattle.relay_step.specs.declared.fault.StepFault.{StepFault}
+use Rattle.relay_step.specs.declared.told.Passed.{Passed}
 use Rattle.relay_step.specs.declared.told.Told.{Told as Outcome}
 use Rattle.relay_step.proofs.Calls.{moment_there}
 use Rattle.relay_step.proofs.Decisions.{passes_over}
@@ -314,15 +315,16 @@ no_moment None h = refl
 no_moment (Some m) h = absurd (h m refl)
 
 -- an event that is passed over: nothing was asked
-pub pass_told : (clock_tells repos_tell : Bool) (c : Core) (host : List ℕ) (e : Seen) (x : Answers) (pass : Pass) (old : Around) (new : Panel) (left : List ℕ)
+pub pass_told : (clock_tells repos_tell : Bool) (c : Core) (host : List ℕ) (e : Seen) (x : Answers) (pass : Pass) (why : Passed) → why ≡ passed_as (Ok (Frame.Event e)) → (old : Around) (new : Panel) (left : List ℕ)
     → AreAsked clock_tells c.last (cursor_in c host) (account_in c e.did) host e x old.panel old.moments new left → next_of (cursor_in c host) (account_in c e.did) (Frame.Event e) x ≡ Next.Pass pass
-    → EventTold clock_tells repos_tell c host e (Outcome.Passed pass) old (around new left old.repository)
-pass_told clock_tells repos_tell c host e x pass old new left so_far passed_is =
+    → EventTold clock_tells repos_tell c host e (Outcome.Passed why) old (around new left old.repository)
+pass_told clock_tells repos_tell c host e x pass why why_is old new left so_far passed_is =
     let over = passes_over (cursor_in c host) (account_in c e.did) e x pass passed_is in
     let none = so_far.tidy.early (no_moment x.moment (λ m same. false≢true (sym (so_far.above m same) ∙ over.0))) in
     let P : List Call → Type 0 = λ l. AreCalls old.panel l new in
     let M : Option ℕ → Type 0 = λ m. IsTrue clock_tells → IsTimedSo old.moments m left in (
-      ap old_if over.0 ∙ ap Some (sym over.1),
+      why_is,
+      ap old_if over.0 ∙ ap (λ (w : Passed). Some (pass_of w)) (sym why_is),
       record {
         panel = subst P (early_none (account_in c e.did) host e x none) so_far.calls;
         moments = subst M (ap (λ (y : Answers). y.moment) none) so_far.timed;

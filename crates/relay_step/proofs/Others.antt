@@ -32,9 +32,10 @@ use Rattle.relay_core.specs.declared.journal_state.Core.{Core}
 use Rattle.relay_law.specs.Formed.{AreAnswersTo}
 use Rattle.relay_law.specs.Laws.{MadeRowsAreFormed}
 use Rattle.relay_step.specs.Around.{Around, AskedNothing, AskedOf, SameRepositories, around}
-use Rattle.relay_step.specs.Messages.{IsAskedOf, IsDecided, KeepsJournal, told_as}
+use Rattle.relay_step.specs.Messages.{IsAskedOf, IsDecided, IsPassedAs, KeepsJournal, pass_of, passed_as, told_as}
 use Rattle.relay_step.specs.Steps.{passed_over, took, rows_told}
 use Rattle.relay_step.specs.Taking.{EventTold, EventTook, FaultyTook, IsFetchedSo, OtherTold}
+use Rattle.relay_step.specs.declared.told.Passed.{Passed}
 use Rattle.relay_step.specs.declared.told.Told.{Told as Outcome}
 use Rattle.relay_step.proofs.Taken.{cursor_tells, event_asked, event_decided, fetched_there, sent_gives}
 
@@ -59,6 +60,21 @@ nothing_asked clock_tells repos_tell c old new host frame pass is J holds = reco
 
 pub keeps_none : (c : Core) → KeepsJournal c []
 keeps_none c J holds journal = let P : List Row → Type 0 = λ K. IsJournal K in subst P (sym (append-nil J)) journal
+
+-- a frame that is passed over makes no row for what it is
+old_only : (test : Bool) (pass : Pass) → old_if test ≡ Some pass → Pass.Old ≡ pass
+old_only true pass is = cc
+old_only false pass is = let no : ⊥ = cc in absurd no
+
+pub passed_same : (cursor : ℕ) (frame : Frame) (pass : Pass) (why : Passed) → passed cursor frame ≡ Some pass → why ≡ passed_as (Ok frame) → passed cursor frame ≡ Some (pass_of why)
+passed_same cursor frame pass why is why_is = is ∙ ap Some (sym (ap pass_of why_is ∙ same_pass frame is))
+  where
+    same_pass : (f : Frame) → passed cursor f ≡ Some pass → pass_of (passed_as (Ok f)) ≡ pass
+    same_pass (Frame.Event e) h = old_only (nat_le e.seq cursor) pass h
+    same_pass (Frame.Faulty seq) h = old_only (nat_le seq cursor) pass h
+    same_pass Frame.Info h = cc
+    same_pass Frame.Error h = cc
+    same_pass Frame.Unknown h = cc
 
 -- ---- an event with a bad field
 
@@ -139,27 +155,35 @@ event_kept clock_tells repos_tell c host e t old new is law event named J holds 
 -- ---- what came of an event, or of another message
 
 pub told_event : (clock_tells repos_tell : Bool) (c : Core) (host : List ℕ) (e : Seen) (told : Outcome) (old new : Around) → EventTold clock_tells repos_tell c host e told old new → IsDecided c host (Ok (Frame.Event e)) (told_as told)
-told_event clock_tells repos_tell c host e (Outcome.Passed pass) old new is = passed_decided c host (Frame.Event e) pass is.0
+told_event clock_tells repos_tell c host e (Outcome.Passed why) old new is = passed_decided c host (Frame.Event e) (pass_of why) is.1
 told_event clock_tells repos_tell c host e (Outcome.Took t) old new is = event_decided clock_tells repos_tell c host e t old new is
 
+pub passed_event : (clock_tells repos_tell : Bool) (c : Core) (host : List ℕ) (e : Seen) (told : Outcome) (old new : Around) → EventTold clock_tells repos_tell c host e told old new → IsPassedAs (Ok (Frame.Event e)) told
+passed_event clock_tells repos_tell c host e (Outcome.Passed why) old new is = is.0
+passed_event clock_tells repos_tell c host e (Outcome.Took t) old new is = tt
+
 pub asked_event : (clock_tells repos_tell : Bool) (c : Core) (host : List ℕ) (e : Seen) (told : Outcome) (old new : Around) → EventTold clock_tells repos_tell c host e told old new → IsAskedOf clock_tells repos_tell c old host (Ok (Frame.Event e)) (told_as told) new
-asked_event clock_tells repos_tell c host e (Outcome.Passed pass) old new is = nothing_asked clock_tells repos_tell c old new host (Ok (Frame.Event e)) pass is.1
+asked_event clock_tells repos_tell c host e (Outcome.Passed why) old new is = nothing_asked clock_tells repos_tell c old new host (Ok (Frame.Event e)) (pass_of why) is.2
 asked_event clock_tells repos_tell c host e (Outcome.Took t) old new is = event_asked clock_tells repos_tell c host e t old new is
 
 pub kept_event : (clock_tells repos_tell : Bool) (c : Core) (host : List ℕ) (e : Seen) (told : Outcome) (old new : Around) → EventTold clock_tells repos_tell c host e told old new → MadeRowsAreFormed → IsEvent e → names_host host ≡ true → KeepsJournal c (rows_told (told_as told))
-kept_event clock_tells repos_tell c host e (Outcome.Passed pass) old new is law event named = keeps_none c
+kept_event clock_tells repos_tell c host e (Outcome.Passed why) old new is law event named = keeps_none c
 kept_event clock_tells repos_tell c host e (Outcome.Took t) old new is law event named = event_kept clock_tells repos_tell c host e t old new is law event named
 
 pub told_other : (clock_tells : Bool) (c : Core) (host : List ℕ) (frame : Frame) (told : Outcome) (moments left : List ℕ) → OtherTold clock_tells c host frame told moments left → IsDecided c host (Ok frame) (told_as told)
-told_other clock_tells c host frame (Outcome.Passed pass) moments left is = passed_decided c host frame pass is.0
+told_other clock_tells c host frame (Outcome.Passed why) moments left is = passed_decided c host frame (pass_of why) is.1
 told_other clock_tells c host frame (Outcome.Took t) moments left is = faulty_decided clock_tells c host frame t moments left is
+
+pub passed_other : (clock_tells : Bool) (c : Core) (host : List ℕ) (frame : Frame) (told : Outcome) (moments left : List ℕ) → OtherTold clock_tells c host frame told moments left → IsPassedAs (Ok frame) told
+passed_other clock_tells c host frame (Outcome.Passed why) moments left is = is.0
+passed_other clock_tells c host frame (Outcome.Took t) moments left is = tt
 
 pub asked_other : (clock_tells repos_tell : Bool) (c : Core) (host : List ℕ) (frame : Frame) (told : Outcome) (panel : Panel) (moments left : List ℕ) (repository : List ℕ → Option (List ℕ)) → OtherTold clock_tells c host frame told moments left
     → IsAskedOf clock_tells repos_tell c (around panel moments repository) host (Ok frame) (told_as told) (around panel left repository)
-asked_other clock_tells repos_tell c host frame (Outcome.Passed pass) panel moments left repository is =
-    nothing_asked clock_tells repos_tell c (around panel moments repository) (around panel left repository) host (Ok frame) pass (record { panel = refl; moments = is.1; same = λ tells did. refl })
+asked_other clock_tells repos_tell c host frame (Outcome.Passed why) panel moments left repository is =
+    nothing_asked clock_tells repos_tell c (around panel moments repository) (around panel left repository) host (Ok frame) (pass_of why) (record { panel = refl; moments = is.2; same = λ tells did. refl })
 asked_other clock_tells repos_tell c host frame (Outcome.Took t) panel moments left repository is = faulty_asked clock_tells c host frame t moments left is repos_tell panel repository repository (λ tells did. refl)
 
 pub kept_other : (clock_tells : Bool) (c : Core) (host : List ℕ) (frame : Frame) (told : Outcome) (moments left : List ℕ) → OtherTold clock_tells c host frame told moments left → MadeRowsAreFormed → IsFormedFrame frame → names_host host ≡ true → KeepsJournal c (rows_told (told_as told))
-kept_other clock_tells c host frame (Outcome.Passed pass) moments left is law formed named = keeps_none c
+kept_other clock_tells c host frame (Outcome.Passed why) moments left is law formed named = keeps_none c
 kept_other clock_tells c host frame (Outcome.Took t) moments left is law formed named = faulty_kept clock_tells c host frame t moments left is law formed named

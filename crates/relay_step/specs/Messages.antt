@@ -13,16 +13,42 @@ use Rattle.relay_core.specs.Entries.{Holds}
 use Rattle.relay_core.specs.Opening.{OpensRight}
 use Rattle.relay_core.specs.Runs.{passed_by}
 use Rattle.relay_core.specs.Table.{did_of}
+use Rattle.relay_core.specs.declared.decision.Pass.{Pass}
 use Rattle.relay_core.specs.declared.journal_state.Core.{Core}
 use Rattle.relay_law.specs.Right.{LinksRight}
 use Rattle.relay_step.specs.Around.{Around, Asked, AskedOf}
 use Rattle.relay_step.specs.Steps.{Told, passed_over, took, Step, IsTold}
+use Rattle.relay_step.specs.declared.told.Passed.{Passed}
 use Rattle.relay_step.specs.declared.told.Told.{Told as Outcome}
+
+-- why a message that makes no row makes none, as it reads
+abbrev pub passed_as : Result Frame FrameFault → Passed
+passed_as (Ok (Frame.Event e)) = Passed.Old e.seq
+passed_as (Ok (Frame.Faulty seq)) = Passed.Old seq
+passed_as (Ok Frame.Info) = Passed.Info
+passed_as (Ok Frame.Unknown) = Passed.Unknown
+passed_as (Ok Frame.Error) = Passed.Error
+passed_as (Err FrameFault.NoSeq) = Passed.NoSeq
+passed_as (Err fault) = Passed.BadFrame
+
+-- what is decided of it
+abbrev pub pass_of : Passed → Pass
+pass_of (Passed.Old seq) = Pass.Old
+pass_of Passed.Unknown = Pass.Unknown
+pass_of Passed.Info = Pass.Info
+pass_of Passed.BadFrame = Pass.Ended
+pass_of Passed.NoSeq = Pass.Ended
+pass_of Passed.Error = Pass.Ended
 
 -- what came of a message of a host that hasn't ended
 abbrev pub told_as : Outcome → Told
-told_as (Outcome.Passed pass) = passed_over pass
+told_as (Outcome.Passed why) = passed_over (pass_of why)
 told_as (Outcome.Took t) = took t
+
+-- Where it makes no row, this says why.
+abbrev pub IsPassedAs : Result Frame FrameFault → Outcome → Type 0
+IsPassedAs frame (Outcome.Passed why) = why ≡ passed_as frame
+IsPassedAs frame (Outcome.Took t) = Unit {0}
 
 -- This is what comes of a host's message, by all checks that open and link rightly.
 abbrev pub IsDecided : Core → List ℕ → Result Frame FrameFault → Told → Type 0

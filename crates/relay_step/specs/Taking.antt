@@ -1,5 +1,5 @@
 -- What an event came to, and all that was asked about it (own).
-use Rattle.std.specs.Prelude.{◌≡◌, ℕ, ◌+◌, ◌<◌, Bool, true, false, List, [], ◌++◌, Option, Some, None, Result, IsTrue, nat_le}
+use Rattle.std.specs.Prelude.{◌≡◌, ℕ, ◌+◌, ◌<◌, Bool, true, false, List, [], ◌++◌, Option, Some, None, Result, Ok, IsTrue, nat_le}
 use Rattle.at_authority.specs.Calls.{Call, AreCalls}
 use Rattle.at_authority.specs.Panels.{Panel}
 use Rattle.at_event.specs.Seen.{Seen}
@@ -26,6 +26,7 @@ use Rattle.relay_law.specs.Formed.{AreAnswersTo, IsFetchedBehind}
 use Rattle.relay_step.specs.Around.{Around, AskedNothing, SameRepositories}
 use Rattle.relay_step.specs.Fetches.{MayBeKept, is_good}
 use Rattle.relay_step.specs.Fetching.{IsFetchedFrom}
+use Rattle.relay_step.specs.Messages.{pass_of, passed_as}
 use Rattle.relay_step.specs.Operators.{AreFoundCalls}
 use Rattle.relay_step.specs.Questions.{IsLinkAnswer, IsTidy, IsTimedSo, calls_told}
 use Rattle.relay_step.specs.Words.{IsNow}
@@ -64,7 +65,7 @@ pub record EventTook (clock_tells repos_tell : Bool) (c : Core) (host : List ℕ
   pub same : IsTrue repos_tell → SameRepositories old.repository new.repository
 
 abbrev pub EventTold : Bool → Bool → Core → List ℕ → Seen → Outcome → Around → Around → Type 0
-EventTold clock_tells repos_tell c host e (Outcome.Passed pass) old new = (passed (cursor_in c host) (Frame.Event e) ≡ Some pass) × AskedNothing clock_tells repos_tell old new
+EventTold clock_tells repos_tell c host e (Outcome.Passed why) old new = (why ≡ passed_as (Ok (Frame.Event e))) × (passed (cursor_in c host) (Frame.Event e) ≡ Some (pass_of why)) × AskedNothing clock_tells repos_tell old new
 EventTold clock_tells repos_tell c host e (Outcome.Took t) old new = EventTook clock_tells repos_tell c host e t old new
 
 -- what came of an account's fetch, and of the event that was to wait for it
@@ -91,7 +92,7 @@ pub record FaultyTook (clock_tells : Bool) (c : Core) (host : List ℕ) (frame :
 
 -- what came of a message that is no event
 abbrev pub OtherTold : Bool → Core → List ℕ → Frame → Outcome → List ℕ → List ℕ → Type 0
-OtherTold clock_tells c host frame (Outcome.Passed pass) moments left = (passed (cursor_in c host) frame ≡ Some pass) × (IsTrue clock_tells → left ≡ moments)
+OtherTold clock_tells c host frame (Outcome.Passed why) moments left = (why ≡ passed_as (Ok frame)) × (passed (cursor_in c host) frame ≡ Some (pass_of why)) × (IsTrue clock_tells → left ≡ moments)
 OtherTold clock_tells c host frame (Outcome.Took t) moments left = FaultyTook clock_tells c host frame t moments left
 
 abbrev pub is_event : Frame → Bool

@@ -11,7 +11,7 @@ ghost use Rattle.at_event.specs.declared.frame.Frame.{Frame as AFrame};
 ghost use Rattle.relay_step.specs.Around.{around};
 ghost use Rattle.relay_step.specs.Asked.{AskedInVain};
 ghost use Rattle.relay_step.specs.Causes.{AskedInVainOf, CameToNothing, IsCause, IsSpentFor, OneTaken};
-ghost use Rattle.relay_step.specs.Messages.{EndsNumbers, IsAsked, IsAskedOf, IsDecided, KeepsJournal, told_as};
+ghost use Rattle.relay_step.specs.Messages.{EndsNumbers, IsAsked, IsAskedOf, IsDecided, IsPassedAs, KeepsJournal, told_as};
 ghost use Rattle.relay_step.specs.Steps.{rows_told, step_of};
 ghost use Rattle.relay_step.specs.Taking.{EventTold, OtherTold, is_event};
 
@@ -20,10 +20,10 @@ use crate::fault::StepFault;
 use crate::losing::take_lost;
 use crate::outside::{ask_moment, tell_text};
 use crate::taking::take;
-use crate::told::Told;
+use crate::told::{Passed, Told, pass_over};
 use at_authority::Judges;
 use at_event::{Event, Frame, FrameFault, read_frame};
-use relay_core::{Answers, Core, Next, Pass, Question};
+use relay_core::{Answers, Core, Next, Question};
 use relay_io::{Clock, Repos};
 use relay_law::made_rows_are_formed;
 use relay_row::Row;
@@ -52,7 +52,7 @@ fn decide_event<P: Judges, R: Repos, C: Clock>(
     event.tell_event();
     let (next, answers) = ask_all(alloc, core, host, frame, event, judges, clock)?;
     match next {
-        Next::Pass(pass) => Ok(Told::Passed(pass)),
+        Next::Pass(_) => Ok(Told::Passed(pass_over(frame))),
         Next::Done(decision) => take(alloc, core, host, frame, event, &decision, answers),
         Next::Ask(_) => take_lost(alloc, core, host, frame, event, answers, judges, repos),
     }
@@ -74,7 +74,7 @@ fn decide_other<C: Clock>(
 {
     let mut answers = Answers::new();
     match core.next(host, frame, &answers) {
-        Next::Pass(pass) => return Ok(Told::Passed(pass)),
+        Next::Pass(_) => return Ok(Told::Passed(pass_over(frame))),
         Next::Ask(Question::Moment) => answers.moment = Some(ask_moment(clock)?),
         _ => unreachable!(),
     }
@@ -100,6 +100,7 @@ fn decide_frame<P: Judges, R: Repos, C: Clock>(
     requires host { IsTrue (is_host host.now) }
     requires frame { IsFormedFrame frame.now }
     ensures told { IfOk result (λ told. IsDecided core.now host.now (Ok frame.now) (told_as told)) }
+    ensures passed { IfOk result (IsPassedAs (Ok frame.now)) }
     ensures asked { IfOk result (λ told. IsAskedOf C.tells R.tells core.now (around (P.panel judges.old) (C.moments clock.old) (R.repository repos.old)) host.now (Ok frame.now) (told_as told)
         (around (P.panel judges.new) (C.moments clock.new) (R.repository repos.new))) }
     ensures formed { IfOk result (λ told. KeepsJournal core.now (rows_told (told_as told))) }
@@ -137,6 +138,8 @@ pub fn decide_message<P: Judges, R: Repos, C: Clock>(
     requires host { IsTrue (is_host host.now) }
     // Behind each journal for which the state stands, this is what comes of the message.
     ensures told { IfOk result (λ told. IsDecided core.now host.now (frame_of message.now) (told_as told)) }
+    // Where it makes no row, it says why, as the message reads.
+    ensures passed { IfOk result (IsPassedAs (frame_of message.now)) }
     // This was asked around, and nothing else.
     ensures asked { IfOk result (λ told. IsAsked C.tells R.tells core.now (around (P.panel judges.old) (C.moments clock.old) (R.repository repos.old))
         (step_of host.now message.now (told_as told)) (around (P.panel judges.new) (C.moments clock.new) (R.repository repos.new))) }
@@ -152,7 +155,8 @@ pub fn decide_message<P: Judges, R: Repos, C: Clock>(
 {
     match read_frame(alloc, message) {
         Ok(frame) => decide_frame(alloc, core, host, &frame, judges, repos, clock),
-        Err(FrameFault::BadFrame | FrameFault::NoSeq) => Ok(Told::Passed(Pass::Ended)),
+        Err(FrameFault::BadFrame) => Ok(Told::Passed(Passed::BadFrame)),
+        Err(FrameFault::NoSeq) => Ok(Told::Passed(Passed::NoSeq)),
         Err(FrameFault::Memory) => Err(StepFault::Memory),
     }
 }

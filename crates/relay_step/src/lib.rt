@@ -21,5 +21,5 @@ pub use fault::StepFault;
 pub use laws::{steps_join, steps_run};
 pub use operating::operate;
 pub use syncing::sync_now;
-pub use told::Told;
+pub use told::{Passed, Told};
 pub use word::Word;

@@ -1,6 +1,6 @@
 -- What was taken ahead of the disk, once it is durable.
-use Rattle.std.proofs.Common.{◌≡◌, ◌≢◌, inl, inr, ◌⊎◌, ⊎_elim, ◌≤◌, List, [], ◌++◌, length, map, Bool, Option, Some, None, IsTrue, refl, sym, ◌∙◌, ap, subst, arith, append_assoc}
-use Rattle.std.proofs.lemmas.List.{append-nil}
+use Rattle.std.proofs.Common.{◌≡◌, ◌≢◌, inl, inr, ◌⊎◌, ⊎_elim, ◌≤◌, List, [], ◌++◌, length, map, Bool, Option, Some, None, IsTrue, refl, sym, ◌∙◌, ap, subst, arith, append_assoc, length-append, ◌+◌, ℕ}
+use Rattle.std.proofs.lemmas.List.{append-nil, length-map}
 use Rattle.event_window.specs.declared.place.Place.{Place}
 use Rattle.relay_disk.specs.Disk.{View, IsDisk}
 use Rattle.relay_disk.specs.Moments.{LeavesOnly}
@@ -14,8 +14,8 @@ use Rattle.relay_row.specs.Journal.{IsJournal}
 use Rattle.relay_step.specs.Around.{Around}
 use Rattle.relay_step.specs.Causes.{CameToNothing}
 use Rattle.relay_step.specs.Steps.{Step, rows}
-use Rattle.relay_store.specs.Batches.{AreAnswers, AreExtra, Batched, EndsLast, InVain, StopsAsking, scene, sent}
-use Rattle.relay_store.specs.Drafts.{HasRows, IsAhead, end_of}
+use Rattle.relay_store.specs.Batches.{AreAnswers, AreExtra, Batched, EndsLast, HasEnd, InVain, StopsAsking, message_from, scene, sent}
+use Rattle.relay_store.specs.Drafts.{HasRows, IsAhead, behind_draft, end_of}
 use Rattle.relay_store.specs.Journals.{IsOneOf, bytes_of}
 use Rattle.relay_store.specs.Outcomes.{outcome_of}
 use Rattle.relay_store.specs.Places.{places_in, places_of}
@@ -29,6 +29,7 @@ use Rattle.relay_store.proofs.Asks.{nothing_here, nothing_in_vain}
 use Rattle.relay_store.proofs.Commits.{no_rows}
 use Rattle.relay_store.proofs.Images.{kept_log}
 use Rattle.relay_store.proofs.Nexts.{next_none}
+use Rattle.relay_store.proofs.Rooms.{behind_is}
 use Rattle.relay_store.proofs.Runs.{sent_joined}
 use Rattle.relay_store.proofs.Spellings.{draft_is}
 
@@ -90,6 +91,25 @@ module _ (C R : Bool) (log : LogState) (group : List Message) (state state_now :
   pub has_rows : (rows : List Row) × HasRows rows d_now
   has_rows = (rows st.gathered.steps, st.gathered.draft)
 
+  as_many : length outcomes ≡ length st.gathered.steps
+  as_many = sym (length-map outcomes Some) ∙ ap length st.gathered.answers ∙ length-map st.gathered.steps outcome_of
+
+  in_front : length group ≡ length st.gathered.steps + length st.left
+  in_front = omega (arith, ap length st.gathered.front, length-append (sent st.gathered.steps) st.left, length-map st.gathered.steps (λ s. message_from s.host s.bytes))
+
+  -- no message has two outcomes
+  pub answers_few : length outcomes ≤ length group
+  answers_few = omega (arith, as_many, in_front)
+
+  -- and unless a fault came each has one, or each up to the end of a host
+  pub answers_all : fault ≡ None → (length outcomes ≡ length group) ⊎ HasEnd outcomes
+  answers_all none =
+      let no_extra : st.extra ≡ [] = subst (λ (f : Option StoreFault). AreExtra f st.extra) none st.which in
+      ⊎_elim
+      (λ last. inl (omega (arith, as_many, in_front, ap length st.next, ap (λ (l : List Step). length (sent l ++ st.behind)) no_extra, ap length last)))
+      (λ ends. inr ends)
+      (st.all none)
+
   pub few_rows : length group ≤ 64 → d_now.count ≤ 64
   few_rows few = omega (arith, few, st.gathered.few, st.gathered.draft.count)
 
@@ -112,10 +132,10 @@ module _ (C R : Bool) (log : LogState) (group : List Message) (state state_now :
         let same = untouched (st.gathered.draft.count ∙ ap length none) in
         (same.0, (st.gathered.window ∙ ap (λ (l : List Row). places ++ places_in log.end 0 l) none ∙ append-nil places, same.1))
 
-    pub batched : fault ≢ Some StoreFault.Disk
+    pub batched : fault ≢ Some StoreFault.Disk → log_now.end ≡ behind_draft log.end d_now
         → (IsTrue tells → (J rows : List Row) → HasRows rows d_now → IsAhead J rows log state_now places_now (view disk) → IsAhead (J ++ rows) [] log_now state_now places_now (view disk_now))
         → (J : List Row) → IsOf J state → Batched view tells C R J group (scene (seen log side state places) disk a) (scene (seen log_now side state_now places_now) disk_now b) outcomes fault
-    batched not added J of = record {
+    batched not ends added J of = record {
       steps = st.gathered.steps;
       extra = st.extra;
       which = st.which;
@@ -132,6 +152,7 @@ module _ (C R : Bool) (log : LogState) (group : List Message) (state state_now :
       next = st.ends_next;
       format = format.0;
       most = format.1;
+      end = λ n. ends ∙ behind_is log.end (rows st.gathered.steps) d_now st.gathered.draft;
       known = λ n. st.gathered.core J of.holds;
       keeps = λ n told keeps. kept_of (J ++ rows st.gathered.steps) log_now side state_now places_now (view disk_now) (added told J (rows st.gathered.steps) st.gathered.draft (ahead J (view disk) keeps));
       untouched = untouched_by;
@@ -159,6 +180,7 @@ module _ (C R : Bool) (log : LogState) (group : List Message) (state state_now :
           next = next_none state_now st.behind b.panel StoreFault.Disk tt;
           format = format.0;
           most = format.1;
+          end = λ n. absurd (n refl);
           known = λ n. absurd (n refl);
           keeps = λ n. absurd (n refl);
           untouched = untouched_by;
@@ -191,6 +213,7 @@ batched_none view tells C R J group log side state places disk a outcomes no_out
   next = next_none state group a.panel StoreFault.Memory tt;
   format = refl;
   most = refl;
+  end = λ n. refl;
   known = λ n. subst (Holds state) (sym (append-nil J)) of.holds;
   keeps = λ n told keeps. subst (λ (K : List Row). Keeps K (seen log side state places) (view disk)) (sym (append-nil J)) keeps;
   untouched = λ none. (refl, (refl, refl));

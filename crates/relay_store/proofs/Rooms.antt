@@ -35,7 +35,7 @@ length_draft d = omega (arith, length-append (front_of Major.List d.count) (drop
 pub length_more : (d : Draft) → length_with d ≡ length (front_of Major.List (d.count + 1)) + ((length d.body - AHEAD) + length d.row)
 length_more d = omega (arith, length-drop AHEAD d.body)
 
-behind_is : (end : ℕ) (rows : List Row) (d : Draft) → HasRows rows d → behind_draft end d ≡ behind end rows
+pub behind_is : (end : ℕ) (rows : List Row) (d : Draft) → HasRows rows d → behind_draft end d ≡ behind end rows
 behind_is end [] d has = behind_none end d has.count
 behind_is end (row ∷ rows) d has =
     let some : d.count ≡ 0 → ⊥ = λ none. absurd (omega (arith, none, has.count)) in

@@ -6,7 +6,9 @@ use Rattle.at_event.specs.declared.frame.FrameFault.{FrameFault}
 use Rattle.at_event.specs.declared.refusal.Refusal.{Refusal}
 use Rattle.relay_row.specs.declared.fetched.Fetched.{Fetched}
 use Rattle.relay_row.specs.declared.taken.Taken.{Taken}
+use Rattle.relay_step.specs.Messages.{passed_as}
 use Rattle.relay_step.specs.Steps.{Told, after_end, passed_over, took, Step}
+use Rattle.relay_step.specs.declared.told.Passed.{Passed}
 use Rattle.relay_store.specs.declared.outcome.End.{End}
 use Rattle.relay_store.specs.declared.outcome.Fetch.{Fetch}
 use Rattle.relay_store.specs.declared.outcome.Outcome.{Outcome}
@@ -25,15 +27,18 @@ outcome_as (Some r) t = Outcome.Refused t.host_seq r (fetch_in t.fetched)
 abbrev pub taken_outcome : Taken → Outcome
 taken_outcome t = outcome_as t.refusal t
 
--- of a message that makes none, as it reads
+-- of a message that makes none, for this reason
+abbrev pub outcome_passed : Passed → Outcome
+outcome_passed (Passed.Old seq) = Outcome.Old seq
+outcome_passed Passed.Unknown = Outcome.Unknown
+outcome_passed Passed.Info = Outcome.Info
+outcome_passed Passed.BadFrame = Outcome.Ended End.BadFrame
+outcome_passed Passed.NoSeq = Outcome.Ended End.NoSeq
+outcome_passed Passed.Error = Outcome.Ended End.Error
+
+-- of one that makes none, as it reads
 abbrev pub passed_outcome : Result Frame FrameFault → Outcome
-passed_outcome (Ok (Frame.Event e)) = Outcome.Old e.seq
-passed_outcome (Ok (Frame.Faulty seq)) = Outcome.Old seq
-passed_outcome (Ok Frame.Info) = Outcome.Info
-passed_outcome (Ok Frame.Unknown) = Outcome.Unknown
-passed_outcome (Ok Frame.Error) = Outcome.Ended End.Error
-passed_outcome (Err FrameFault.NoSeq) = Outcome.Ended End.NoSeq
-passed_outcome (Err fault) = Outcome.Ended End.BadFrame
+passed_outcome frame = outcome_passed (passed_as frame)
 
 -- nothing is answered to a message of a host that ended before
 abbrev pub outcome_told : Result Frame FrameFault → Told → Option Outcome

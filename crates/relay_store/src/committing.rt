@@ -8,7 +8,7 @@ ghost use Rattle.event_window.specs.declared.place.Place.{Place as ThePlace};
 ghost use Rattle.relay_row.specs.declared.limits.TheConstants.{MOST_ROWS};
 ghost use Rattle.relay_row.specs.declared.row.Row.{Row as TheRow};
 ghost use Rattle.relay_core.specs.declared.journal_state.Core.{Core as TheCore};
-ghost use Rattle.relay_store.specs.Drafts.{Fits, HasRows, IsAhead};
+ghost use Rattle.relay_store.specs.Drafts.{Fits, HasRows, IsAhead, behind_draft};
 ghost use Rattle.relay_store.specs.Journals.{IsOneOf};
 ghost use Rattle.relay_store.specs.declared.fault.StoreFault.{StoreFault as TheFault};
 
@@ -34,6 +34,7 @@ pub(crate) fn commit<D: Disk>(
         → IsAhead J rows log.old core window (D.view disk.old) → IsAhead (J ++ rows) [] log.new core window (D.view disk.new)) }
     ensures moments { IsTrue D.tells → (J rows : List TheRow) (core : TheCore) (window : List ThePlace) → HasRows rows draft.old
         → IsAhead J rows log.old core window (D.view disk.old) → LeavesOnly (IsOneOf log.old.format J rows) (D.view disk.old) (D.view disk.new) }
+    ensures end { OnOk result (log.new.end ≡ behind_draft log.old.end draft.old) }
     ensures format { (log.new.format ≡ log.old.format) × (log.new.most ≡ log.old.most) }
     ensures untouched { draft.old.count ≡ 0 → (log.new ≡ log.old) × (disk.new ≡ disk.old) }
     ensures open { OnOk result (IsTrue log.new.is_open) }

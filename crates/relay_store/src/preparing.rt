@@ -1,17 +1,19 @@
 //! One message decided, and its row taken, ahead of the disk.
 
-ghost use Rattle.std.specs.Prelude.{◌≡◌, ◌≤◌, ◌<◌, ℕ, length, IsTrue, IfOk, IfErr, OnOk, OnErr, Some};
+ghost use Rattle.std.specs.Prelude.{◌≡◌, ◌≤◌, ◌<◌, ℕ, length, IsTrue, IfOk, IfErr, OnOk, OnErr, Some, Result};
 ghost use Rattle.at_cid.specs.Counts.{Rose};
 ghost use Rattle.at_event.specs.Frames.{frame_of};
+ghost use Rattle.at_event.specs.declared.frame.Frame.{Frame as TheFrame};
+ghost use Rattle.at_event.specs.declared.frame.FrameFault.{FrameFault as TheFrameFault};
 ghost use Rattle.at_syntax.specs.Host.{is_host};
 ghost use Rattle.gate_log.specs.declared.drafts.TheConstants.{AHEAD};
 ghost use Rattle.relay_row.specs.declared.limits.TheConstants.{MOST_ROWS};
 ghost use Rattle.relay_step.specs.Around.{around};
-ghost use Rattle.relay_step.specs.Messages.{told_as};
+ghost use Rattle.relay_step.specs.Messages.{IsPassedAs, told_as};
 ghost use Rattle.relay_step.specs.Steps.{rows_told};
 ghost use Rattle.relay_store.specs.Drafts.{Fits, IsUnchanged};
 ghost use Rattle.relay_store.specs.Faults.{IsRisen};
-ghost use Rattle.relay_store.specs.Outcomes.{fetch_in, outcome_told, passed_outcome, taken_outcome};
+ghost use Rattle.relay_store.specs.Outcomes.{fetch_in, outcome_passed, outcome_told, taken_outcome};
 ghost use Rattle.relay_store.specs.Taking.{AreAdded, IsTooLate, Prepared};
 
 use crate::StoreFault;
@@ -19,14 +21,12 @@ use crate::adding::add_row;
 use crate::draft::Draft;
 use crate::outcome::{End, Fetch, Outcome};
 use at_authority::Judges;
-use at_cid::Memory;
-use at_event::{Frame, FrameFault, read_frame};
 use event_window::Window;
 use gate_log::Log;
 use relay_core::Core;
 use relay_io::{Clock, Repos};
 use relay_row::{Fetched, Row, Taken};
-use relay_step::{Told, decide_message};
+use relay_step::{Passed, Told, decide_message};
 use std::alloc::Global;
 
 fn fetch_of(fetched: &Fetched) -> Fetch
@@ -52,29 +52,25 @@ fn outcome_of_taken(taken: &Taken) -> Outcome
 }
 
 // What is answered to a message that makes no row.
-fn outcome_of_passed(alloc: Global, message: &[u8]) -> Result<Outcome, Memory>
-    ensures { IfOk result (λ o. o ≡ passed_outcome (frame_of message.now)) }
+fn outcome_of_passed(why: Passed) -> Outcome
+    ensures { result ≡ outcome_passed why }
 {
-    match read_frame(alloc, message) {
-        Ok(Frame::Event(event)) => Ok(Outcome::Old(event.seq)),
-        Ok(Frame::Faulty(seq)) => Ok(Outcome::Old(seq)),
-        Ok(Frame::Info) => Ok(Outcome::Info),
-        Ok(Frame::Unknown) => Ok(Outcome::Unknown),
-        Ok(Frame::Error) => Ok(Outcome::Ended(End::Error)),
-        Err(FrameFault::BadFrame) => Ok(Outcome::Ended(End::BadFrame)),
-        Err(FrameFault::NoSeq) => Ok(Outcome::Ended(End::NoSeq)),
-        Err(FrameFault::Memory) => Err(Memory),
+    match why {
+        Passed::Old(seq) => Outcome::Old(seq),
+        Passed::Unknown => Outcome::Unknown,
+        Passed::Info => Outcome::Info,
+        Passed::BadFrame => Outcome::Ended(End::BadFrame),
+        Passed::NoSeq => Outcome::Ended(End::NoSeq),
+        Passed::Error => Outcome::Ended(End::Error),
     }
 }
 
 // Takes what came of a message: its row, if it makes one, is learned and goes into the body under way.
 fn take_told(
-    alloc: Global,
     log: &Log,
     core: &mut Core,
     window: &mut Window,
     draft: &mut Draft,
-    message: &[u8],
     told: Told,
 ) -> Result<Outcome, StoreFault>
     requires few { draft.old.count < MOST_ROWS }
@@ -82,16 +78,13 @@ fn take_told(
     requires fits { Fits log.now draft.old }
     ensures begun { AHEAD ≤ length draft.new.body }
     ensures fits { Fits log.now draft.new }
-    ensures ok { IfOk result (λ o. outcome_told (frame_of message.now) (told_as told) ≡ Some o) }
+    ensures ok { IfOk result (λ o. (frame : Result TheFrame TheFrameFault) → IsPassedAs frame told → outcome_told frame (told_as told) ≡ Some o) }
     ensures added { OnOk result (AreAdded log.now.end (rows_told (told_as told)) core.old core.new window.old.places window.new.places draft.old draft.new) }
     ensures as_before { OnErr result (IsUnchanged core.old core.new window.old.places window.new.places draft.old draft.new) }
     ensures late { IfErr result (IsTooLate log.now draft.old (told_as told)) }
 {
     match told {
-        Told::Passed(_) => match outcome_of_passed(alloc, message) {
-            Ok(outcome) => Ok(outcome),
-            Err(_) => Err(StoreFault::Memory),
-        },
+        Told::Passed(why) => Ok(outcome_of_passed(why)),
         Told::Took(taken) => {
             let outcome = outcome_of_taken(&taken);
             match add_row(log, core, window, draft, Row::Taken(taken)) {
@@ -128,7 +121,7 @@ pub(crate) fn prepare<P: Judges, R: Repos, C: Clock>(
     ensures repos_count { R.faults repos.old ≤ R.faults repos.new }
 {
     match decide_message(alloc, core, host, message, judges, repos, clock) {
-        Ok(told) => take_told(alloc, log, core, window, draft, message, told),
+        Ok(told) => take_told(log, core, window, draft, told),
         Err(fault) => Err(StoreFault::from(fault)),
     }
 }

@@ -1,12 +1,12 @@
 //! Messages of hosts taken.
 
-ghost use Rattle.std.specs.Prelude.{◌≡◌, ◌≢◌, ◌≤◌, ⊤, [], ◌∷◌, Some, ℕ, List, length, false, IsTrue, IfSome};
+ghost use Rattle.std.specs.Prelude.{◌≡◌, ◌≢◌, ◌⊎◌, ◌≤◌, ⊤, [], ◌∷◌, Some, None, ℕ, List, length, false, IsTrue, IfSome};
 ghost use Rattle.at_cid.specs.Counts.{Rose};
 ghost use Rattle.at_syntax.specs.Host.{is_host};
 ghost use Rattle.relay_row.specs.declared.limits.TheConstants.{MOST_ROWS};
 ghost use Rattle.relay_row.specs.declared.row.Row.{Row as TheRow};
 ghost use Rattle.relay_step.specs.Around.{around};
-ghost use Rattle.relay_store.specs.Batches.{Batched, scene, outcomes_in, fault_in, message_from};
+ghost use Rattle.relay_store.specs.Batches.{Batched, HasEnd, scene, outcomes_in, fault_in, message_from};
 ghost use Rattle.relay_store.specs.Faults.{IsRisenOf};
 ghost use Rattle.relay_store.specs.Store.{IsKept, IsOf, seen_in};
 ghost use Rattle.relay_store.specs.Taking.{AreOfHosts};
@@ -53,6 +53,9 @@ impl Store {
         ensures batched { (J : List TheRow) → IsOf J self.old.core → Batched D.view D.tells C.tells R.tells J group.now
             (scene (seen_in self.old) disk.old (around (P.panel judges.old) (C.moments clock.old) (R.repository repos.old)))
             (scene (seen_in self.new) disk.new (around (P.panel judges.new) (C.moments clock.new) (R.repository repos.new))) result.outcomes.items result.fault }
+        // Of any disk: no message has two outcomes, and unless a fault came each has one, or each up to the end of a host.
+        ensures few { length result.outcomes.items ≤ length group.now }
+        ensures all { result.fault ≡ None → (length result.outcomes.items ≡ length group.now) ⊎ HasEnd result.outcomes.items }
         ensures on { result.fault ≢ Some StoreFault.Disk → IsTrue D.tells → IsKept (seen_in self.new) (D.view disk.new) }
         ensures open { result.fault ≢ Some StoreFault.Disk → IsTrue self.new.log.is_open }
         ensures closed { result.fault ≡ Some StoreFault.Disk → self.new.log.is_open ≡ false }

@@ -1,11 +1,9 @@
 -- Answers, one after another.
 use Rattle.std.proofs.Common.{◌≡◌, ◌⊎◌, ⊎_elim, inl, inr, ◌<◌, ◌≤◌, ℕ, ◌+◌, true, false, List, [], ◌∷◌, ◌++◌, length, take, drop, get_or, map, suc, zero, Some, refl, ap, ◌∙◌, sym, subst, arith, append_assoc, length-append}
-use Rattle.std.proofs.lemmas.Bool.{cases_lt}
-use Rattle.std.proofs.lemmas.List.{append-nil, take_more}
-use Rattle.std.specs.Prelude.{min}
+use Rattle.std.proofs.lemmas.List.{append-nil, drop_all, take_more}
 use Rattle.relay_core.specs.Runs.{has_ended}
 use Rattle.relay_step.specs.Steps.{Step}
-use Rattle.relay_store.specs.Batches.{sent}
+use Rattle.relay_store.specs.Batches.{HasEnd, sent}
 use Rattle.relay_store.specs.Lines.{line_of}
 use Rattle.relay_store.specs.Outcomes.{outcome_of}
 use Rattle.relay_store.specs.declared.message.Message.{Message}
@@ -48,20 +46,8 @@ left_answers (x ∷ group) [] i m o below few = absurd (omega (arith, few))
 left_answers (x ∷ group) (p ∷ outcomes) zero m o below few = refl
 left_answers (x ∷ group) (p ∷ outcomes) (suc i) m o below few = left_answers group outcomes i m o (omega (arith, below)) (omega (arith, few))
 
-no_answers : (group : List Message) (outcomes : List Outcome) (i : ℕ) → (length group ≤ i) ⊎ (length outcomes ≤ i) → answered (drop i group) (drop i outcomes) ≡ []
-no_answers group [] i past = ap (λ (l : List Outcome). answered (drop i group) l) (drop_none i)
-  where
-    drop_none : (j : ℕ) → drop {A = Outcome} j [] ≡ []
-    drop_none zero = refl
-    drop_none (suc j) = refl
-no_answers [] (o ∷ outcomes) zero past = refl
-no_answers [] (o ∷ outcomes) (suc i) past = nothing_left (drop i outcomes)
-  where
-    nothing_left : (os : List Outcome) → answered [] os ≡ []
-    nothing_left [] = refl
-    nothing_left (p ∷ os) = refl
-no_answers (m ∷ group) (o ∷ outcomes) zero past = absurd (⊎_elim (λ h. omega (arith, h)) (λ h. omega (arith, h)) past)
-no_answers (m ∷ group) (o ∷ outcomes) (suc i) past = no_answers group outcomes i (⊎_elim (λ h. inl (omega (arith, h))) (λ h. inr (omega (arith, h))) past)
+no_answers : (group : List Message) (outcomes : List Outcome) (i : ℕ) → length outcomes ≤ i → answered (drop i group) (drop i outcomes) ≡ []
+no_answers group outcomes i past = ap (λ (l : List Outcome). answered (drop i group) l) (drop_all i outcomes past)
 
 -- one more answer is noted
 module _ (group : List Message) (outcomes : List Outcome) (i : ℕ) (m : Message) (o : Outcome) (host : List ℕ) (below : i < length group) (few : i < length outcomes) (host_is : host ≡ (get_or group i m).host) (outcome_is : get_or outcomes i o ≡ o) where
@@ -83,11 +69,11 @@ module _ (group : List Message) (outcomes : List Outcome) (i : ℕ) (m : Message
       ∙ ap (λ (l : List Said). t ++ text_of l) (sym one_left) ∙ so_far
 
 -- all are noted
-pub note_all_of : (group : List Message) (outcomes : List Outcome) (i : ℕ) (whole : List Said) (a b : Tally) → (length group ≤ i) ⊎ (length outcomes ≤ i)
+pub note_all_of : (group : List Message) (outcomes : List Outcome) (i : ℕ) (whole : List Said) (a b : Tally) → length outcomes ≤ i
     → ((new : Tally) → IsNoted (answered (drop i group) (drop i outcomes)) b new → IsNoted whole a new) → IsNoted whole a b
 note_all_of group outcomes i whole a b past so_far = so_far b (subst (λ (l : List Said). IsNoted l b b) (sym (no_answers group outcomes i past)) (noted_none b))
 
-pub text_all_of : (group : List Message) (outcomes : List Outcome) (i : ℕ) (whole t : List ℕ) → (length group ≤ i) ⊎ (length outcomes ≤ i) → t ++ text_of (answered (drop i group) (drop i outcomes)) ≡ whole → t ≡ whole
+pub text_all_of : (group : List Message) (outcomes : List Outcome) (i : ℕ) (whole t : List ℕ) → length outcomes ≤ i → t ++ text_of (answered (drop i group) (drop i outcomes)) ≡ whole → t ≡ whole
 text_all_of group outcomes i whole t past so_far = sym (append-nil t) ∙ ap (λ (l : List Said). t ++ text_of l) (sym (no_answers group outcomes i past)) ∙ so_far
 
 -- the answers to steps are what is said to them
@@ -115,9 +101,12 @@ pub first_ended : (ended : List (List ℕ)) (group : List Message) (m : Message)
 first_ended ended [] m host ended_first is = absurd ended_first
 first_ended ended (x ∷ group) m host ended_first is = subst (λ (h : List ℕ). has_ended ended h ≡ true) (sym is) ended_first
 
--- past the shorter of two
-pub past_one : (a b i : ℕ) → min a b ≤ i → (a ≤ i) ⊎ (b ≤ i)
-past_one a b i past = ⊎_elim (λ below. inr (omega (arith, below, past))) (λ not. inl (omega (arith, not))) (cases_lt i a)
+-- unless a fault came, some message has an outcome
+pub some_answered : (group : List Message) (outcomes : List Outcome) → 1 ≤ length group → (length outcomes ≡ length group) ⊎ HasEnd outcomes → 1 ≤ length outcomes
+some_answered group outcomes some all = ⊎_elim
+    (λ each. omega (arith, some, each))
+    (λ end. omega (arith, ap length end.2, length-append end.0 (end.1 ∷ [])))
+    all
 
 pub answered_few : (group : List Message) (outcomes : List Outcome) → (length (answered group outcomes) ≤ length group) × (length (answered group outcomes) ≤ length outcomes)
 answered_few group [] = (omega arith, omega arith)

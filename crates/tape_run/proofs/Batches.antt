@@ -223,20 +223,12 @@ module _ {D : Type 0} (view : D → View) (t : Tells) (J : List Row) (group : Li
   sent_length : (steps : List Step) → length (sent steps) ≡ length steps
   sent_length steps = length-map steps _
 
-  -- with no fault a message was taken
-  some_taken : 1 ≤ length group → 1 ≤ length outcomes
-  some_taken some = ⊎_elim
-      (λ none. omega (arith, some, as_many, sent_length b.steps, ap length front_is, length-append (sent b.steps) b.behind, ap length none))
-      (λ end. omega (arith, ap length end.2, length-append end.0 (end.1 ∷ [])))
-      (b.all refl)
-
-  pub batch_goes : 1 ≤ length group → (tally : Tally) → AreLive tally.ended.items group → (after : Tally) → IsNoted (answered group outcomes) tally after → (w x : List ℕ) → (IsTrue t.output → x ≡ w ++ text_of (answered group outcomes))
-      → (n : ℕ) → ((1 ≤ length outcomes) → length outcomes ≤ length group → n ≡ length outcomes) → Going view t J (take n group) (point s.store tally s.disk s.around w) (point u.store after u.disk u.around x)
-  batch_goes some tally live after noted w x written n count =
+  pub batch_goes : (tally : Tally) → AreLive tally.ended.items group → (after : Tally) → IsNoted (answered group outcomes) tally after → (w x : List ℕ) → (IsTrue t.output → x ≡ w ++ text_of (answered group outcomes))
+      → (n : ℕ) → n ≡ length outcomes → Going view t J (take n group) (point s.store tally s.disk s.around w) (point u.store after u.disk u.around x)
+  batch_goes tally live after noted w x written n count =
       let not : None ≢ Some StoreFault.Disk = λ is. let no : ⊥ = cc in no in
       let said_are = said_is view t J group s u outcomes None b tally live not in
-      let few : length outcomes ≤ length group = omega (arith, as_many, sent_length b.steps, ap length front_is, length-append (sent b.steps) b.behind) in
-      let n_is : n ≡ length (sent b.steps) = count (some_taken some) few ∙ as_many ∙ sym (sent_length b.steps) in
+      let n_is : n ≡ length (sent b.steps) = count ∙ as_many ∙ sym (sent_length b.steps) in
       let whole : J ++ rows (b.steps ++ b.extra) ≡ J ++ rows b.steps = ap (λ (l : List Step). J ++ rows l) all_steps in
       record {
         steps = b.steps;
@@ -273,10 +265,10 @@ module _ {D : Type 0} (view : D → View) (t : Tells) (J : List Row) (group : Li
       subst (λ (e : TapeEnd). Stopped view t J group (point s.store tally s.disk s.around w) (point u.store after u.disk u.around x) e) (sym end_is)
       (batch_stops view t J group s u os f (subst (λ (g : Option StoreFault). Batched view t.disk t.clock t.repos J group s u os g) is of_slice) tally live is_disk after w x written)
 
-  pub live_goes : fault ≡ None → 1 ≤ length group → IsNoted (answered group os) tally after → (IsTrue t.output → x ≡ w ++ text_of (answered group os)) → (n : ℕ) → (1 ≤ length os → length os ≤ length group → n ≡ length os)
+  pub live_goes : fault ≡ None → IsNoted (answered group os) tally after → (IsTrue t.output → x ≡ w ++ text_of (answered group os)) → (n : ℕ) → n ≡ length os
       → Going view t J (take n group) (point s.store tally s.disk s.around w) (point u.store after u.disk u.around x)
-  live_goes is some noted written n count =
-      batch_goes view t J group s u os (subst (λ (g : Option StoreFault). Batched view t.disk t.clock t.repos J group s u os g) is of_slice) some tally live after noted w x written n count
+  live_goes is noted written n count =
+      batch_goes view t J group s u os (subst (λ (g : Option StoreFault). Batched view t.disk t.clock t.repos J group s u os g) is of_slice) tally live after noted w x written n count
 
 -- ---- a message of a host that ended before
 

@@ -24,11 +24,12 @@ fn note_all(
     tally: &mut Tally,
     text: &mut Octets,
 ) -> Result<(), Memory>
+    requires few { length outcomes.now ≤ length group.now }
     requires room { tally.old.messages + length group.now ≤ 2 ^ 63 }
     ensures noted { OnOk result (IsNoted (answered group.now outcomes.now) tally.old tally.new) }
     ensures text { OnOk result (text.new ≡ text.old ++ text_of (answered group.now outcomes.now)) }
 {
-    for i in 0..group.len().min(outcomes.len()) {
+    for i in 0..outcomes.len() {
         let host = group[i].host.as_str();
         let outcome = &outcomes[i];
         tally.note(alloc, host, outcome)?;
@@ -58,6 +59,7 @@ pub(crate) fn answer<O: Sink>(
     tally: &mut Tally,
     out: &mut O,
 ) -> Result<(), TapeEnd>
+    requires few { length outcomes.now ≤ length group.now }
     requires room { tally.old.messages + length group.now ≤ 2 ^ 63 }
     ensures noted { OnOk result (IsNoted (answered group.now outcomes.now) tally.old tally.new) }
     ensures written { OnOk result (IsTrue O.tells → O.written out.new ≡ O.written out.old ++ text_of (answered group.now outcomes.now)) }

@@ -75,8 +75,7 @@ fn take_live<D: Disk, P: Judges, R: Repos, C: Clock, O: Sink>(
         Err(end) => return Err(end),
     }
     match batch.fault {
-        // Where nothing stops it, a batch takes one message at least.
-        None => Ok(outcomes.len().max(1).min(group.len())),
+        None => Ok(outcomes.len()),
         Some(fault) => Err(TapeEnd::of_store(fault)),
     }
 }

@@ -1,6 +1,8 @@
-use Rattle.std.proofs.Common.{◌∙◌, refl, sym}
+use Rattle.std.proofs.Common.{◌∙◌, Ok, ap, refl, sym}
+use Rattle.at_event.specs.declared.frame.Frame.{Frame}
 use Rattle.at_event.proofs.Formed.{events_formed}
 use Rattle.relay_step.specs.Around.{around}
+use Rattle.relay_step.specs.Messages.{passed_as}
 use Rattle.relay_step.proofs.Vain.{cause_as, cause_lost, if_err, last_fetch, map_err, on_err, one_taken, plain_none, vain_with}
 use Rattle.relay_step.proofs.Losses.{done_ends, done_told, lost_ends, lost_told, pass_told}
 use Rattle.relay_step.proofs.deciding.decide_event.Goals as goal
@@ -16,7 +18,7 @@ take_lost-requires-clause-time g c = (events_formed c.args.event.now c.tell_even
 
 pub returns-in-Pass-clause-told : goal.returns-in-Pass-clause-told
 returns-in-Pass-clause-told g c =
-    pass_told g.C.Clock.tells g.R.Repos.tells c.args.core.now c.args.host.now c.args.event.now c.in_ok-next.answers c.in-Pass.pass (around (g.P.Judges.panel c.args.judges.now) (g.C.Clock.moments c.args.clock.now) (g.R.Repos.repository c.args.repos.now))
+    pass_told g.C.Clock.tells g.R.Repos.tells c.args.core.now c.args.host.now c.args.event.now c.in_ok-next.answers c.in-Pass.field-0 c.pass_over.result (c.pass_over.ensures ∙ ap (λ (f : Frame). passed_as (Ok f)) c.requires.frame) (around (g.P.Judges.panel c.args.judges.now) (g.C.Clock.moments c.args.clock.now) (g.R.Repos.repository c.args.repos.now))
     (g.P.Judges.panel c.ask_all.new.judges) (g.C.Clock.moments c.ask_all.new.clock) c.in_ok-next.ensures.asked (sym c.in_ok-next.ensures.next ∙ c.in-Pass.is)
 
 pub returns-in-Done-clause-told : goal.returns-in-Done-clause-told

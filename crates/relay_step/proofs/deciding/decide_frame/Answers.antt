@@ -5,9 +5,9 @@ use Rattle.at_syntax.specs.Host.{is_host}
 use Rattle.relay_row.specs.Rules.{is_text}
 use Rattle.at_event.specs.declared.frame.Frame.{Frame}
 use Rattle.relay_step.specs.Around.{around}
-use Rattle.relay_step.specs.Messages.{IsAskedOf, IsDecided, told_as}
+use Rattle.relay_step.specs.Messages.{IsAskedOf, IsDecided, IsPassedAs, told_as}
 use Rattle.relay_step.proofs.Vain.{if_ok}
-use Rattle.relay_step.proofs.Others.{asked_event, kept_event, kept_other, told_event, told_other}
+use Rattle.relay_step.proofs.Others.{asked_event, kept_event, kept_other, passed_event, passed_other, told_event, told_other}
 use Rattle.relay_step.proofs.Sending.{text_tested}
 use Rattle.relay_step.proofs.deciding.decide_frame.Goals as goal
 
@@ -22,6 +22,15 @@ returns-in-Event-clause-asked g c =
     let new = around (g.P.Judges.panel c.decide_event.new.judges) (g.C.Clock.moments c.decide_event.new.clock) (g.R.Repos.repository c.decide_event.new.repos) in
     let P : Frame → Type 0 = λ f. IfOk c.decide_event.result (λ t. IsAskedOf g.C.Clock.tells g.R.Repos.tells c.args.core.now old c.args.host.now (Ok f) (told_as t) new) in
     subst P (sym c.in-Event.is) (if_ok c.decide_event.result _ _ (λ t. asked_event g.C.Clock.tells g.R.Repos.tells c.args.core.now c.args.host.now c.in-Event.event t old new) c.decide_event.ensures.told)
+
+pub returns-in-Event-clause-passed : goal.returns-in-Event-clause-passed
+returns-in-Event-clause-passed g c =
+    let P : Frame → Type 0 = λ f. IfOk c.decide_event.result (IsPassedAs (Ok f)) in
+    subst P (sym c.in-Event.is) (if_ok c.decide_event.result _ _ (λ t. passed_event g.C.Clock.tells g.R.Repos.tells c.args.core.now c.args.host.now c.in-Event.event t _ _) c.decide_event.ensures.told)
+
+pub returns-in-Faulty-clause-passed : goal.returns-in-Faulty-clause-passed
+returns-in-Faulty-clause-passed g c =
+    if_ok c.decide_other.result _ _ (λ t. passed_other g.C.Clock.tells c.args.core.now c.args.host.now c.args.frame.now t (g.C.Clock.moments c.args.clock.now) (g.C.Clock.moments c.decide_other.new.clock)) c.decide_other.ensures.told
 
 pub returns-in-Faulty-clause-told : goal.returns-in-Faulty-clause-told
 returns-in-Faulty-clause-told g c =

@@ -1,5 +1,7 @@
 use Rattle.std.proofs.Common.{inl, sym, subst}
+use Rattle.std.proofs.lemmas.Result.{IfOk-weaker}
 use Rattle.at_cid.specs.Counts.{Rose}
+use Rattle.at_event.specs.Frames.{frame_of}
 use Rattle.relay_step.specs.Around.{Around, around}
 use Rattle.relay_step.specs.Messages.{told_as}
 use Rattle.relay_store.specs.Faults.{IsRisen}
@@ -13,7 +15,8 @@ returns-in-Ok-clause-prepared g c =
     let a : Around = around (g.P.Judges.panel c.args.judges.now) (g.C.Clock.moments c.args.clock.now) (g.R.Repos.repository c.args.repos.now) in
     let b : Around = around (g.P.Judges.panel c.decide_message.new.judges) (g.C.Clock.moments c.decide_message.new.clock) (g.R.Repos.repository c.decide_message.new.repos) in
     let taken : IsTaken g.C.Clock.tells g.R.Repos.tells c.args.core.now c.args.host.now c.args.message.now (told_as c.in-Ok.told) a b = record { decided = c.in-Ok.ensures.told; asked = c.in-Ok.ensures.asked; journal = c.in-Ok.ensures.formed } in
-    prepared_by g.C.Clock.tells g.R.Repos.tells c.args.log.now c.args.host.now c.args.message.now _ _ _ _ _ _ a b (told_as c.in-Ok.told) taken c.take_told.result c.take_told.ensures.ok c.take_told.ensures.added c.take_told.ensures.as_before c.take_told.ensures.late
+    prepared_by g.C.Clock.tells g.R.Repos.tells c.args.log.now c.args.host.now c.args.message.now _ _ _ _ _ _ a b (told_as c.in-Ok.told) taken c.take_told.result
+    (IfOk-weaker c.take_told.result _ _ (λ o is. is (frame_of c.args.message.now) c.in-Ok.ensures.passed) c.take_told.ensures.ok) c.take_told.ensures.added c.take_told.ensures.as_before c.take_told.ensures.late
 
 pub returns-in-Err-clause-prepared : goal.returns-in-Err-clause-prepared
 returns-in-Err-clause-prepared g c =

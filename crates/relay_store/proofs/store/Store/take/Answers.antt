@@ -1,4 +1,4 @@
-use Rattle.std.proofs.Common.{rules, ◌≡◌, ◌≢◌, ◌∙◌, [], ◌∷◌, Some, None, ⊎_elim, refl, arith}
+use Rattle.std.proofs.Common.{rules, ◌≡◌, ◌≢◌, ◌∙◌, [], ◌∷◌, Some, None, ⊎_elim, refl, sym, arith}
 use Rattle.relay_step.specs.Around.{Around, around}
 use Rattle.relay_store.specs.Batches.{message_from}
 use Rattle.relay_store.specs.Store.{seen_in}
@@ -7,6 +7,7 @@ use Rattle.relay_store.specs.declared.message.Message.{Message}
 use Rattle.relay_store.proofs.Batched.{batched, batched_fails_as, batched_none, few_rows, has_rows, of_kept}
 use Rattle.relay_store.proofs.Commits.{nothing_added, nothing_leaves}
 use Rattle.relay_store.proofs.Gathers.{at_start, gathering_last, late_not_disk, stops_in_vain, stops_late, vain_not_disk}
+use Rattle.relay_store.proofs.Rooms.{behind_none}
 use Rattle.relay_store.proofs.store.Store.take.Goals as goal
 
 pub returns-in-Err-clause-batched : goal.returns-in-Err-clause-batched
@@ -26,7 +27,7 @@ returns-in-Err-prepare-clause-batched g c =
     let count : c.prepare.new.draft.count ≡ 0 = made.0.count ∙ c.in-Ok.ensures.count in
     batched _ _ _ _ _ _ _ _ _ _ _ _ _ st c.args.self.now.side g.D.Disk.view g.D.Disk.tells c.args.disk.now c.args.disk.now c.args.self.now.log
     (λ tells J rows has on. nothing_leaves J rows _ _ _ _ on (g.met.D.Disk.is_disk c.args.disk.now)) (refl, refl) (λ none. (refl, refl))
-    not (λ tells J rows has on. nothing_added J rows _ _ _ _ on (omega (arith, has.count, count)))
+    not (sym (behind_none c.args.self.now.log.end c.prepare.new.draft count)) (λ tells J rows has on. nothing_added J rows _ _ _ _ on (omega (arith, has.count, count)))
 
 pub commit-requires-clause-rows : goal.commit-requires-clause-rows
 commit-requires-clause-rows g c =
@@ -56,7 +57,7 @@ returns-in-Ok-commit-clause-batched g c =
     let not : None ≢ Some StoreFault.Disk = λ is. let no : ⊥ = cc in no in
     batched _ _ _ _ _ _ _ _ _ _ _ _ _ st c.args.self.now.side g.D.Disk.view g.D.Disk.tells c.args.disk.now c.commit.new.disk c.commit.new.log
     (λ tells J rows has on. c.commit.ensures.moments tells J rows _ _ has on) c.commit.ensures.format c.commit.ensures.untouched
-    not (λ tells J rows has on. c.in-Ok-commit.ensures.added tells J rows _ _ has on)
+    not c.in-Ok-commit.ensures.end (λ tells J rows has on. c.in-Ok-commit.ensures.added tells J rows _ _ has on)
 
 pub returns-in-Ok-commit-clause-on : goal.returns-in-Ok-commit-clause-on
 returns-in-Ok-commit-clause-on g c = λ not tells.

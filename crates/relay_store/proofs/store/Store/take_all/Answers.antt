@@ -1,7 +1,7 @@
 use Rattle.std.proofs.Common.{rules, ◌≡◌, Some}
 use Rattle.relay_store.specs.Store.{seen_in}
 use Rattle.relay_store.specs.declared.fault.StoreFault.{StoreFault}
-use Rattle.relay_store.proofs.Batched.{batched, batched_fails_as, batched_none, few_rows, has_rows, of_kept}
+use Rattle.relay_store.proofs.Batched.{answers_all, answers_few, batched, batched_fails_as, batched_none, few_rows, has_rows, of_kept}
 use Rattle.relay_store.proofs.store.Store.take_all.Goals as goal
 
 pub commit-requires-clause-rows : goal.commit-requires-clause-rows
@@ -20,7 +20,13 @@ pub returns-in-Ok-commit-clause-batched : goal.returns-in-Ok-commit-clause-batch
 returns-in-Ok-commit-clause-batched g c =
     batched _ _ _ _ _ _ _ _ _ _ _ _ _ c.gather-fault.ensures.stopped c.args.self.now.side g.D.Disk.view g.D.Disk.tells c.args.disk.now c.commit.new.disk c.commit.new.log
     (λ tells J rows has on. c.commit.ensures.moments tells J rows _ _ has on) c.commit.ensures.format c.commit.ensures.untouched
-    c.gather-fault.ensures.no_disk (λ tells J rows has on. c.in-Ok-commit.ensures.added tells J rows _ _ has on)
+    c.gather-fault.ensures.no_disk c.in-Ok-commit.ensures.end (λ tells J rows has on. c.in-Ok-commit.ensures.added tells J rows _ _ has on)
+
+pub returns-in-Ok-commit-clause-few : goal.returns-in-Ok-commit-clause-few
+returns-in-Ok-commit-clause-few g c = answers_few _ _ _ _ _ _ _ _ _ _ _ _ _ c.gather-fault.ensures.stopped c.args.self.now.side
+
+pub returns-in-Ok-commit-clause-all : goal.returns-in-Ok-commit-clause-all
+returns-in-Ok-commit-clause-all g c = answers_all _ _ _ _ _ _ _ _ _ _ _ _ _ c.gather-fault.ensures.stopped c.args.self.now.side
 
 pub returns-in-Ok-commit-clause-on : goal.returns-in-Ok-commit-clause-on
 returns-in-Ok-commit-clause-on g c = λ not tells.
