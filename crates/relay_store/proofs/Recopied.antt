@@ -1,6 +1,7 @@
 -- Bodies that are read again, one after another.
-use Rattle.std.proofs.Common.{◌≡◌, inl, inr, ⊎_elim, ◌⊎◌, ℕ, ◌+◌, ◌≤◌, ◌<◌, Bool, List, [], ◌∷◌, ◌++◌, length, IsTrue, refl, sym, ◌∙◌, ap, subst, arith, append_assoc, length-append}
-use Rattle.std.proofs.lemmas.List.{append-nil}
+use Rattle.std.proofs.Common.{◌≡◌, inl, inr, ⊎_elim, ◌⊎◌, ℕ, ◌+◌, ◌≤◌, ◌<◌, Bool, List, [], ◌∷◌, ◌++◌, length, drop, min, IsTrue, refl, sym, ◌∙◌, ap, subst, arith, append_assoc, length-append}
+use Rattle.std.proofs.lemmas.Bool.{cases_lt}
+use Rattle.std.proofs.lemmas.List.{append-nil, drop_all}
 use Rattle.relay_disk.specs.Disk.{View, Goes, Same}
 use Rattle.gate_log.specs.Image.{made, records, behind_gate}
 use Rattle.gate_log.specs.Log.{LogState, IsOn}
@@ -46,7 +47,28 @@ module _ (format : Format) (done rest : List (List Row)) (place : ℕ) (here : p
 pub split_more : (all done rest : List (List Row)) (there : List Row) (more : List (List Row)) → all ≡ done ++ rest → rest ≡ there ∷ more → all ≡ (done ++ there ∷ []) ++ more
 split_more all done rest there more split is = split ∙ ap (λ (bs : List (List Row)). done ++ bs) is ∙ sym (append_assoc done (there ∷ []) more)
 
--- ---- while a state is moved
+-- ---- while a state is moved by rows
+
+-- some moved it, and these are left
+pub record IsMoving (rows left : List Row) (core now : Core) : Type 0 where
+  pub done : List Row
+  pub split : rows ≡ done ++ left
+  pub moved : (J : List Row) → Holds core J → Holds now (J ++ done)
+
+pub moving_none : (rows left : List Row) (core : Core) → rows ≡ left → IsMoving rows left core core
+moving_none rows left core is = record { done = []; split = is; moved = λ J holds. subst (Holds core) (sym (append-nil J)) holds }
+
+pub moving_more : (rows left rest : List Row) (row : Row) (core now : Core) (f : IsMoving rows left core now) → left ≡ row ∷ rest → (next : Core) → ((J : List Row) → Holds now J → Holds next (J ++ row ∷ [])) → IsMoving rows rest core next
+moving_more rows left rest row core now f is next moves = record {
+  done = f.done ++ row ∷ [];
+  split = f.split ∙ ap (λ (l : List Row). f.done ++ l) is ∙ sym (append_assoc f.done (row ∷ []) rest);
+  moved = λ J holds. subst (Holds next) (append_assoc J f.done (row ∷ [])) (moves (J ++ f.done) (f.moved J holds));
+}
+
+pub moving_all : (rows : List Row) (core now : Core) → IsMoving rows [] core now → (J : List Row) → Holds core J → Holds now (J ++ rows)
+moving_all rows core now f J holds = subst (λ (l : List Row). Holds now (J ++ l)) (sym (f.split ∙ append-nil f.done)) (f.moved J holds)
+
+-- ---- while a state is moved by bodies
 
 -- the bodies up to this place moved it, of those before another place
 pub record IsFolded (format : Format) (before : List (List Row)) (place : ℕ) (core : Core) : Type 0 where
@@ -147,3 +169,9 @@ module _ (format : Format) (before after : List (List Row)) (place end : ℕ) (r
       here = next_there format (before ++ f.done) f.rest place f.here there next next_is ∙ ap (λ (bs : List (List Row)). length (made format (bytes_of bs))) (append_assoc before f.done (there ∷ []));
       rows_are = ap (λ (l : List Row). l ++ there) f.rows_are ∙ sym (joined_push f.done there);
     }
+
+pub drop_least : (n : ℕ) (xs : List Row) (k : ℕ) → k ≡ min n (length xs) → drop k xs ≡ drop n xs
+drop_least n xs k is = elim (cases_lt n (length xs)) [
+  | inl less ↦ let same : k ≡ n = omega (arith, is, less) in ap (λ (m : ℕ). drop m xs) same
+  | inr more ↦ drop_all k xs (omega (arith, is, more)) ∙ sym (drop_all n xs (omega (arith, more)))
+]

@@ -1,5 +1,5 @@
 -- Rows that are written anew, each as a body of its own.
-use Rattle.std.proofs.Common.{◌≡◌, inl, inr, ⊎_elim, ℕ, ◌+◌, ◌<◌, ◌≤◌, Bool, List, [], ◌∷◌, ◌++◌, length, IsTrue, refl, sym, ◌∙◌, ap, subst, arith, append_assoc, length-append}
+use Rattle.std.proofs.Common.{◌≡◌, inl, inr, ⊎_elim, ℕ, ◌+◌, ◌<◌, ◌≤◌, Bool, List, [], ◌∷◌, ◌++◌, length, IsTrue, Result, Ok, Err, OnOk, refl, sym, ◌∙◌, ap, subst, arith, append_assoc, length-append}
 use Rattle.std.proofs.lemmas.List.{append-nil}
 use Rattle.std.proofs.lemmas.Bool.{cases_lt}
 use Rattle.event_window.specs.declared.place.Place.{Place}
@@ -8,15 +8,19 @@ use Rattle.relay_disk.specs.Moments.{LeavesOnly}
 use Rattle.relay_disk.proofs.Moments.{joined as run_on, no_call}
 use Rattle.gate_log.specs.Build.{BuildState, HasBuilt, IsBuiltOn, IsClosed}
 use Rattle.gate_log.specs.Image.{made, records, behind_gate}
+use Rattle.gate_log.specs.declared.fault.LogFault.{LogFault}
 use Rattle.gate_log.specs.declared.format.Format.{Format}
 use Rattle.gate_log.specs.declared.limits.TheConstants.{AROUND_BODY, BEFORE_BODY}
 use Rattle.gate_log.proofs.Append.{records-append}
 use Rattle.relay_row.specs.Bodies.{body_of}
 use Rattle.relay_row.specs.declared.row.Row.{Row}
 use Rattle.relay_core.specs.Entries.{Holds}
+use Rattle.relay_store.specs.Faults.{of_log}
 use Rattle.relay_store.specs.Journals.{bytes_of, joined}
 use Rattle.relay_store.specs.Places.{place_of, places_behind, places_in}
-use Rattle.relay_store.specs.Rewriting.{singles, end_behind, IsCopied, HasNoRoom}
+use Rattle.relay_store.specs.Opening.{IsOfReading}
+use Rattle.relay_store.specs.Rewriting.{singles, end_behind, IsCopied, HasNoRoom, IsOfAdding, IsOfRewriting}
+use Rattle.relay_store.specs.declared.fault.StoreFault.{StoreFault}
 use Rattle.relay_store.specs.declared.rewriting.Rewrite.{Rewrite}
 use Rattle.relay_store.proofs.Loaded.{length_made}
 use Rattle.relay_store.proofs.Standing.{bytes_joined}
@@ -131,6 +135,39 @@ module _ (tells : Bool) where
       run = λ told. run_on IsClosed v0 v1 v2 (first.run told) (second.run told);
       counts = omega (arith, first.counts, second.counts);
     }
+
+pub not_both : (r : Result ℕ LogFault) (x : ℕ) (f : LogFault) → r ≡ Ok x → r ≡ Err f → ⊥
+not_both r x f ok err = let same : ◌≡◌ {A = Result ℕ LogFault} (Ok x) (Err f) = sym ok ∙ err in let wrong : ⊥ = cc in wrong
+
+pub log_full : (f : LogFault) (e : ℕ) → of_log f ≡ StoreFault.Full e → f ≡ LogFault.Full e
+log_full LogFault.Disk e is = let no : ⊥ = cc in absurd no
+log_full (LogFault.BadLog p) e is = let no : ⊥ = cc in absurd no
+log_full (LogFault.Full d) e is = let same : d ≡ e = cc in ap LogFault.Full same
+log_full LogFault.Memory e is = let no : ⊥ = cc in absurd no
+
+pub reading_is : (f : StoreFault) → IsOfReading f → IsOfRewriting f
+reading_is StoreFault.Disk is = is
+reading_is (StoreFault.BadLog p) is = is
+reading_is (StoreFault.Full e) is = absurd is
+reading_is StoreFault.SeqEnd is = is
+reading_is StoreFault.Authority is = is
+reading_is StoreFault.Repos is = is
+reading_is StoreFault.Memory is = is
+reading_is StoreFault.Clock is = is
+
+pub adding_is : (f : StoreFault) → IsOfAdding f → IsOfRewriting f
+adding_is StoreFault.Disk is = is
+adding_is (StoreFault.BadLog p) is = absurd is
+adding_is (StoreFault.Full e) is = is
+adding_is StoreFault.SeqEnd is = is
+adding_is StoreFault.Authority is = is
+adding_is StoreFault.Repos is = is
+adding_is StoreFault.Memory is = is
+adding_is StoreFault.Clock is = is
+
+pub on_ok_as : {T E P Q : Type 0} (r : Result T E) → (P → Q) → OnOk r P → OnOk r Q
+on_ok_as (Ok x) so is = so is
+on_ok_as (Err e) so is = tt
 
 -- ---- a row that has no room
 

@@ -74,7 +74,10 @@ fn begin<D: Disk>(alloc: Global, log: &Log, other: &mut D) -> Result<Rewrite, St
     ensures memory { result ≡ Err StoreFault.Memory → other.new ≡ other.old }
     ensures few { (f : TheFault) → result ≡ Err f → (f ≡ StoreFault.Disk) ⊎ (f ≡ StoreFault.Memory) }
 {
-    let build = Build::begin(alloc, other, log.generation() + 1, log.most())?;
+    let build = match Build::begin(alloc, other, log.generation() + 1, log.most()) {
+        Ok(build) => build,
+        Err(fault) => return Err(StoreFault::from(fault)),
+    };
     Ok(Rewrite {
         build,
         core: Core::new(alloc),
@@ -165,8 +168,10 @@ impl Store {
             window,
             ..
         } = rewrite;
-        let log = build.finish(other)?;
-        Ok(Anew { log, core, window })
+        match build.finish(other) {
+            Ok(log) => Ok(Anew { log, core, window }),
+            Err(_) => Err(StoreFault::Disk),
+        }
     }
 
     /// The least number that it holds, and where it holds none, the one behind the last.

@@ -49,7 +49,10 @@ pub(crate) fn body_at<D: Disk>(
     if place >= log.end() {
         return Err(StoreFault::BadLog(place));
     }
-    let (body, next) = log.read(alloc, disk, place)?;
+    let (body, next) = match log.read(alloc, disk, place) {
+        Ok(found) => found,
+        Err(fault) => return Err(StoreFault::from(fault)),
+    };
     match read_rows(alloc, body.as_slice()) {
         Ok(rows) => Ok((rows.into_vec(), next)),
         Err(RowFault::BadRow) => Err(StoreFault::BadLog(place)),

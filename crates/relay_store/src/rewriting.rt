@@ -60,7 +60,10 @@ pub(crate) fn put_row<D: Disk>(
 {
     spell_body(&mut rewrite.body, &row)?;
     make_room(&mut rewrite.core, &mut rewrite.window, &row)?;
-    let place = rewrite.build.add(other, rewrite.body.as_slice())?;
+    let place = match rewrite.build.add(other, rewrite.body.as_slice()) {
+        Ok(place) => place,
+        Err(fault) => return Err(StoreFault::from(fault)),
+    };
     learn(&mut rewrite.core, &mut rewrite.window, place, 0, row);
     Ok(())
 }
