@@ -11,13 +11,14 @@ use Rattle.gate_log.specs.Build.{IsBuiltOn}
 use Rattle.relay_row.specs.Folds.{is_named}
 use Rattle.relay_row.specs.declared.carried.Carried.{Carried}
 use Rattle.relay_row.specs.declared.row.Row.{Row}
+use Rattle.host_state.specs.Table.{listed}
 use Rattle.account_state.specs.Entries.{Entry, entry, is_before, known_in}
 use Rattle.account_state.specs.Folds.{account, fresh}
 use Rattle.account_state.specs.State.{State}
 use Rattle.account_state.proofs.Order.{before_apart, before_trans, is_text, same_text}
 use Rattle.relay_core.specs.Entries.{Holds}
 use Rattle.relay_core.specs.declared.journal_state.Core.{Core}
-use Rattle.cut_law.specs.Cut.{account_row, account_rows, dids, host_rows}
+use Rattle.cut_law.specs.Cut.{account_row, account_rows, carried, cut, dids, front, host_rows, rest}
 use Rattle.cut_law.proofs.Nexts.{all_later, last_did, later, next_did}
 use Rattle.relay_store.specs.Rewriting.{HasNoRoom, IsCopied}
 use Rattle.relay_store.specs.declared.rewriting.Rewrite.{Rewrite}
@@ -138,3 +139,13 @@ module _ (tells : Bool) (core : Core) (did : List ℕ) (r now : Rewrite) (v w : 
         subst (λ (l : List Row). HasNoRoom r.build.end r.build.most l e) (sym (so_far.rest_is A holds ∙ ap (λ (l : List Row). so_far.rows ++ l) (next_rows A holds)))
         (no_room_behind tells so_far.rows (account_row x s ∷ account_rows A (later x (dids A))) r now v w e so_far.copied
         (no_room_front now.build.end now.build.most (account_row x s ∷ []) (account_rows A (later x (dids A))) e full))
+
+-- ---- all of them
+
+pub carried_is : (core : Core) (A : List Row) (n : ℕ) (rows : List Row) → Holds core A → n ≡ core.last → rows ≡ account_rows A (dids A) → ((Row.Carried (Carried.Last n) ∷ []) ++ host_rows (listed core.hosts)) ++ rows ≡ carried A
+unfolding carried
+carried_is core A n rows holds is rows_are = λ i. Row.Carried (Carried.Last ((is ∙ holds.last) i)) ∷ (host_rows (holds.hosts i) ++ rows_are i)
+
+pub cut_is : (J : List Row) (c : ℕ) → cut J c ≡ carried (front c J) ++ rest c J
+unfolding cut
+cut_is J c = refl
