@@ -12,6 +12,7 @@ use Rattle.relay_row.specs.Folds.{is_named}
 use Rattle.relay_row.specs.declared.carried.Carried.{Carried}
 use Rattle.relay_row.specs.declared.row.Row.{Row}
 use Rattle.host_state.specs.Table.{listed}
+use Rattle.host_state.specs.declared.hosts.Hosts.{Hosts}
 use Rattle.account_state.specs.Entries.{Entry, entry, is_before, known_in}
 use Rattle.account_state.specs.Folds.{account, fresh}
 use Rattle.account_state.specs.State.{State}
@@ -54,7 +55,7 @@ module _ (tells : Bool) (hosts : List (List ℕ × ℕ)) (n : ℕ) (x : List ℕ
 -- ---- accounts
 
 -- how many entries stand behind a DID
-pub behind_count : List ℕ → List Entry → ℕ
+abbrev pub behind_count : List ℕ → List Entry → ℕ
 behind_count did [] = 0
 behind_count did (e ∷ es) = cond (is_before did e.0) (suc (behind_count did es)) (behind_count did es)
 
@@ -71,9 +72,9 @@ count_lt false true m n so lt = omega (arith, lt)
 count_lt false false m n so lt = lt
 
 count_here : (a b : Bool) (m n : ℕ) → a ≡ false → b ≡ true → m ≤ n → cond a (suc m) m < cond b (suc n) n
-count_here true b m n no yes le = absurd (true≢false no)
-count_here false true m n no yes le = omega (arith, le)
-count_here false false m n no yes le = absurd (false≢true yes)
+count_here true b m n off on le = absurd (true≢false off)
+count_here false true m n off on le = omega (arith, le)
+count_here false false m n off on le = absurd (false≢true on)
 
 module _ (did x : List ℕ) (less : is_before did x ≡ true) where
   fewer : (es : List Entry) → behind_count x es ≤ behind_count did es
@@ -142,9 +143,10 @@ module _ (tells : Bool) (core : Core) (did : List ℕ) (r now : Rewrite) (v w : 
 
 -- ---- all of them
 
-pub carried_is : (core : Core) (A : List Row) (n : ℕ) (rows : List Row) → Holds core A → n ≡ core.last → rows ≡ account_rows A (dids A) → ((Row.Carried (Carried.Last n) ∷ []) ++ host_rows (listed core.hosts)) ++ rows ≡ carried A
+pub carried_is : (core : Core) (A : List Row) (n : ℕ) (hosts : Hosts) (rows : List Row) → Holds core A → n ≡ core.last → hosts ≡ core.hosts → rows ≡ account_rows A (dids A)
+    → ((Row.Carried (Carried.Last n) ∷ []) ++ host_rows (listed hosts)) ++ rows ≡ carried A
 unfolding carried
-carried_is core A n rows holds is rows_are = λ i. Row.Carried (Carried.Last ((is ∙ holds.last) i)) ∷ (host_rows (holds.hosts i) ++ rows_are i)
+carried_is core A n hosts rows holds is hosts_is rows_are = λ i. Row.Carried (Carried.Last ((is ∙ holds.last) i)) ∷ (host_rows ((ap listed hosts_is ∙ holds.hosts) i) ++ rows_are i)
 
 pub cut_is : (J : List Row) (c : ℕ) → cut J c ≡ carried (front c J) ++ rest c J
 unfolding cut

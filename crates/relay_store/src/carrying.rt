@@ -17,6 +17,7 @@ use crate::StoreFault;
 use crate::rewriting::{Rewrite, put_row};
 use account_state::{Account, Repo};
 use at_cid::{Memory, Words};
+use host_state::Hosts;
 use relay_core::Core;
 use relay_disk::Disk;
 use relay_row::{Carried, CarriedAccount, CarriedRepo, Row};
@@ -76,21 +77,20 @@ fn carry_host<D: Disk>(
 // Carries the hosts over, in first-seen order.
 fn carry_hosts<D: Disk>(
     alloc: Global,
-    core: &Core,
+    hosts: &Hosts,
     rewrite: &mut Rewrite,
     other: &mut D,
 ) -> Result<(), StoreFault>
     requires { IsTrue D.tells → IsBuiltOn (D.view other.old) rewrite.old.build }
-    ensures copied { OnOk result (IsCopied D.tells (host_rows (listed core.now.hosts)) rewrite.old rewrite.new (D.view other.old) (D.view other.new)) }
+    ensures copied { OnOk result (IsCopied D.tells (host_rows (listed hosts.now)) rewrite.old rewrite.new (D.view other.old) (D.view other.new)) }
     ensures run { IsTrue D.tells → LeavesOnly IsClosed (D.view other.old) (D.view other.new) }
     ensures disk { result ≡ Err StoreFault.Disk → Rose (D.view other.old).faults (D.view other.new).faults }
     ensures counts { (D.view other.old).faults ≤ (D.view other.new).faults }
     ensures full { (e : ℕ) → result ≡ Err (StoreFault.Full e)
-        → HasNoRoom rewrite.old.build.end rewrite.old.build.most (host_rows (listed core.now.hosts)) e }
+        → HasNoRoom rewrite.old.build.end rewrite.old.build.most (host_rows (listed hosts.now)) e }
     ensures few { (f : TheFault) → result ≡ Err f → IsOfAdding f }
 {
-    let hosts = core.hosts();
-    'hosts: for place in 0..hosts.len() {
+    'each: for place in 0..hosts.len() {
         let Some((name, cursor)) = hosts.at(place) else {
             unreachable!()
         };
@@ -151,6 +151,6 @@ pub(crate) fn carry<D: Disk>(
 {
     let last = Row::Carried(Carried::Last(core.last_seq()));
     put_row(rewrite, other, last)?;
-    carry_hosts(alloc, core, rewrite, other)?;
+    carry_hosts(alloc, core.hosts(), rewrite, other)?;
     carry_accounts(alloc, core, rewrite, other)
 }

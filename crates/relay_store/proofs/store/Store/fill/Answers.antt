@@ -11,7 +11,7 @@ use Rattle.relay_store.specs.declared.fault.StoreFault.{StoreFault}
 use Rattle.relay_store.proofs.Carried.{cut_is}
 use Rattle.relay_store.proofs.CutFronts.{kept_at}
 use Rattle.relay_store.proofs.Rewritten.{adding_is, copied_both, no_room_behind, no_room_front, on_ok_as, reading_is}
-use Rattle.relay_store.proofs.cutting.Store.fill.Goals as goal
+use Rattle.relay_store.proofs.store.Store.fill.Goals as goal
 
 pub returns-in_err-front-clause-full : goal.returns-in_err-front-clause-full
 returns-in_err-front-clause-full g c = λ e is.
