@@ -1,5 +1,5 @@
 use Rattle.std.proofs.Common.{◌≡◌, ◌∙◌, ◌∷◌, ◌++◌, List, ℕ, Err, arith, rules, subst, sym}
-use Rattle.relay_disk.proofs.Moments.{joined, no_call}
+use Rattle.relay_disk.proofs.Moments.{joined, no_call, still_again}
 use Rattle.gate_log.specs.Build.{IsClosed}
 use Rattle.gate_log.specs.Log.{Holds as HasBodies}
 use Rattle.relay_row.specs.declared.row.Row.{Row}
@@ -87,3 +87,9 @@ returns-clause-no_bad_log g c = λ p is tells J n keeps last.
     let each = subst AllBodies at.split keeps.are.each in
     let held = subst (λ (bs : List (List Row)). HasBodies (bytes_of bs) c.args.self.now.log (g.D.Disk.view c.args.disk.now)) at.split keeps.holds in
     c.copy_behind.ensures.no_bad_log p is tells at.before at.there at.after each (c.fold_upto.ensures.holds tells (bytes_of (at.before ++ at.there ∷ at.after)) held) at.here
+
+pub returns-clause-run : goal.returns-clause-run
+returns-clause-run g c = λ tells. joined _ _ _ _ (c.carry.ensures.run tells) (c.copy_behind.ensures.run tells)
+
+pub returns-clause-goes : goal.returns-clause-goes
+returns-clause-goes g c = still_again _ _ _ (g.met.D.Disk.is_disk _) c.fold_upto.ensures.goes c.copy_behind.ensures.goes
