@@ -59,8 +59,8 @@ kept_cut tells K rows r0 r w0 w w_now log side are told begun core window copied
   holds = opened (bytes_of (singles K)) (built tells rows K r0 r w0 w told begun copied is);
   core = subst (Holds r.core) is (copied.core [] core);
   window = copied.window [] begun.ends
-      ∙ (λ i. window i ++ places_of (copied.format (~ i)) (singles rows))
-      ∙ (λ i. places_of (format (~ i)) (singles (is i)));
+      ∙ (λ i. window i ++ places_of (sym copied.format i) (singles rows))
+      ∙ (λ i. places_of (sym format i) (singles (is i)));
 }
 
 -- ---- the pair

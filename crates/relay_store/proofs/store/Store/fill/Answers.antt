@@ -76,9 +76,10 @@ returns-clause-full g c = λ e is tells J n keeps last.
     let state = subst (Holds c.in_ok-front.front) (sym at.front_is) (c.in_ok-front.ensures.core tells at.before at.there at.after each held at.here) in
     let now = c.fold_upto.ensures.holds tells (bytes_of (at.before ++ at.there ∷ at.after)) held in
     let first = c.in_ok-carry.ensures.copied.2 (front n J) state in
+    let behind = sym at.rest_is in
     let full = c.copy_behind.ensures.full e is tells at.before at.there at.after each now at.here in
     subst (λ (l : List Row). HasNoRoom c.args.rewrite.now.build.end c.args.rewrite.now.build.most l e)
-    ((λ i. first i ++ at.rest_is (~ i)) ∙ sym (cut_is J n))
+    ((λ i. first i ++ behind i) ∙ sym (cut_is J n))
     (no_room_behind _ c.in_ok-carry.ensures.copied.0 _ _ _ _ _ e c.in_ok-carry.ensures.copied.1 full)
 
 pub returns-clause-no_bad_log : goal.returns-clause-no_bad_log
