@@ -1,7 +1,8 @@
 -- A pair of disks while a cut journal is written on the other one.
-use Rattle.std.proofs.Common.{◌≡◌, inl, inr, ⊎_elim, ℕ, ◌+◌, ◌<◌, ◌≤◌, Bool, true, ◌&&◌, List, [], ◌∷◌, ◌++◌, length, IsTrue, Result, Ok, Err, IfOk, OnOk, OnErr, refl, sym, ◌∙◌, ap, subst, arith}
+use Rattle.std.proofs.Common.{◌≡◌, inl, inr, ◌⊎◌, ⊎_elim, ℕ, ◌+◌, ◌<◌, ◌≤◌, Bool, true, ◌&&◌, List, [], ◌∷◌, ◌++◌, length, IsTrue, Result, Ok, Err, OnErr, refl, sym, ◌∙◌, ap, subst, arith}
 use Rattle.std.specs.List.{list_all}
 use Rattle.std.proofs.lemmas.Bool.{and_parts}
+use Rattle.event_window.specs.Window.{IsLastUpto}
 use Rattle.event_window.specs.declared.place.Place.{Place}
 use Rattle.relay_disk.specs.Disk.{View, IsDisk, Goes, Same}
 use Rattle.relay_disk.specs.Moments.{LeavesOnly, PairLeavesOnly}
@@ -19,19 +20,22 @@ use Rattle.gate_log.specs.declared.picking.Side.{Side}
 use Rattle.gate_log.specs.declared.picking.Side.TheVariants.{One, Two}
 use Rattle.gate_log.proofs.Beside.{built_beside, leaves_new, live_stays}
 use Rattle.gate_log.proofs.Fronts.{made_front}
+use Rattle.relay_row.specs.Folds.{last_seq}
 use Rattle.relay_row.specs.Journal.{IsJournal}
 use Rattle.relay_row.specs.Rules.{is_row}
 use Rattle.relay_row.specs.declared.row.Row.{Row}
 use Rattle.relay_core.specs.Entries.{Holds}
-use Rattle.cut_law.specs.Cut.{MayCut, cut}
+use Rattle.cut_law.specs.Cut.{MayCut, carried, cut}
 use Rattle.cut_law.proofs.Cutting.{cut_is}
 use Rattle.cut_law.proofs.Following.{cut_journal}
 use Rattle.relay_store.specs.Cutting.{IsEitherBeside, IsImageBeside}
 use Rattle.relay_store.specs.Journals.{AllBodies, AreBodiesOf, bytes_of, joined}
 use Rattle.relay_store.specs.Places.{places_of}
-use Rattle.relay_store.specs.Rewriting.{singles, IsCopied}
+use Rattle.relay_store.specs.Rewriting.{singles, IsCopied, IsOfRewriting}
 use Rattle.relay_store.specs.Store.{StoreState, Keeps, seen}
+use Rattle.relay_store.specs.declared.fault.StoreFault.{StoreFault}
 use Rattle.relay_store.specs.declared.rewriting.Rewrite.{Rewrite}
+use Rattle.relay_store.proofs.CutFronts.{kept_at}
 use Rattle.relay_store.proofs.Rewritten.{joined_singles}
 
 -- ---- a journal in bodies of one row each
@@ -46,6 +50,18 @@ pub cut_bodies : (J : List Row) (c : ℕ) → IsJournal J → MayCut J c → Are
 cut_bodies J c is may =
     let journal = cut_journal J c (cut J c) (cut_is J c is may) is in
     record { each = each_single (cut J c) journal.formed; rows = joined_singles (cut J c); journal = journal }
+
+-- where the front ends at the last place up to the number
+pub may_at : (J : List Row) (s : StoreState) (v : View) (keeps : Keeps J s v) (c : ℕ) (p : Place) → IsLastUpto c p s.window → c ≤ last_seq J → MayCut J c
+may_at J s v keeps c p last held = record { held = held; some = (kept_at J s v keeps c p last).some }
+
+pub bodies_at : (J : List Row) (s : StoreState) (v : View) (keeps : Keeps J s v) (c : ℕ) (p : Place) → IsLastUpto c p s.window → c ≤ last_seq J → AreBodiesOf (cut J c) (singles (cut J c))
+bodies_at J s v keeps c p last held = cut_bodies J c keeps.are.journal (may_at J s v keeps c p last held)
+
+-- a cut journal has a row
+pub cut_some : (J : List Row) (c : ℕ) → cut J c ≡ [] → ⊥
+unfolding cut carried
+cut_some J c none = let wrong : ⊥ = cc in wrong
 
 -- what was built
 pub built : (tells : Bool) (rows K : List Row) (r0 r : Rewrite) (w0 w : View) → IsTrue tells → HasBuilt [] r0.build w0 → IsCopied tells rows r0 r w0 w → rows ≡ K → HasBuilt (bytes_of (singles K)) r.build w
@@ -115,6 +131,20 @@ pub live_now : (side : Side) (disk other : View) → ((c d : List ℕ) → disk.
 live_now One disk other picked = picked
 live_now Two disk other picked = λ c d left beside. picked d c beside left
 
-pub on_err_always : {T E P : Type 0} (r : Result T E) → P → OnErr r P
-on_err_always (Ok x) is = tt
-on_err_always (Err e) is = is
+-- ---- faults
+
+pub on_err_by : {T E P : Type 0} (r : Result T E) → ((f : E) → r ≡ Err f → P) → OnErr r P
+on_err_by (Ok x) so = tt
+on_err_by (Err e) so = so e refl
+
+pub few_full : (e : ℕ) → (StoreFault.Full e ≡ StoreFault.Disk) ⊎ (StoreFault.Full e ≡ StoreFault.Memory) → ⊥
+few_full e (inl is) = let wrong : ⊥ = cc in wrong
+few_full e (inr is) = let wrong : ⊥ = cc in wrong
+
+pub few_bad : (p : ℕ) → (StoreFault.BadLog p ≡ StoreFault.Disk) ⊎ (StoreFault.BadLog p ≡ StoreFault.Memory) → ⊥
+few_bad p (inl is) = let wrong : ⊥ = cc in wrong
+few_bad p (inr is) = let wrong : ⊥ = cc in wrong
+
+pub few_is : (f : StoreFault) → (f ≡ StoreFault.Disk) ⊎ (f ≡ StoreFault.Memory) → IsOfRewriting f
+few_is f (inl is) = subst IsOfRewriting (sym is) tt
+few_is f (inr is) = subst IsOfRewriting (sym is) tt

@@ -1,10 +1,9 @@
 //! Cutting a store's journal.
 
-ghost use Rattle.std.specs.Prelude.{◌≡◌, ◌≢◌, ◌≤◌, ◌<◌, ◌+◌, ◌⊎◌, ◌++◌, ◌∷◌, [], ℕ, List, length, map, false, IsTrue, IfOk, OnOk, OnErr};
+ghost use Rattle.std.specs.Prelude.{◌≡◌, ◌≢◌, ◌≤◌, ◌<◌, ◌+◌, ◌⊎◌, ◌++◌, ◌∷◌, [], ℕ, List, length, false, IsTrue, IfOk, OnOk, OnErr};
 ghost use Rattle.at_cid.specs.Counts.{Rose};
 ghost use Rattle.at_event.specs.declared.refusal.Refusal.{Refusal as TheRefusal};
-ghost use Rattle.event_window.specs.Held.{first_or, oldest_of};
-ghost use Rattle.event_window.specs.declared.place.Place.{Place as ThePlace};
+ghost use Rattle.event_window.specs.Held.{oldest_of};
 ghost use Rattle.event_window.specs.Window.{IsLastUpto};
 ghost use Rattle.relay_disk.specs.Disk.{Goes, Same};
 ghost use Rattle.relay_disk.specs.Moments.{LeavesOnly, PairLeavesOnly};
@@ -15,7 +14,6 @@ ghost use Rattle.gate_log.specs.Build.{HasBuilt, IsBuiltOn, IsClosed, IsFormerOr
 ghost use Rattle.gate_log.specs.Beside.{LeavesLive};
 ghost use Rattle.gate_log.specs.declared.limits.TheConstants.{GENERATIONS};
 ghost use Rattle.relay_row.specs.Folds.{last_seq};
-ghost use Rattle.relay_row.specs.declared.limits.TheConstants.{NUMBERS};
 ghost use Rattle.relay_row.specs.declared.row.Row.{Row as TheRow};
 ghost use Rattle.relay_core.specs.Entries.{Holds};
 ghost use Rattle.cut_law.specs.Cut.{MayCut, cut};
@@ -171,16 +169,6 @@ impl Store {
         match build.finish(other) {
             Ok(log) => Ok(Anew { log, core, window }),
             Err(_) => Err(StoreFault::Disk),
-        }
-    }
-
-    /// The least number that it holds, and where it holds none, the one behind the last.
-    fn oldest(&self) -> u64
-        ensures { self.now.core.last < NUMBERS → result ≡ first_or (map (λ (p : ThePlace). p.seq) self.now.window.places) (self.now.core.last + 1) }
-    {
-        match self.window.first() {
-            Some(place) => place.seq,
-            None => self.core.last_seq().saturating_add(1),
         }
     }
 
