@@ -6,25 +6,20 @@ use Rattle.event_window.specs.declared.place.Place.{Place}
 use Rattle.gate_log.specs.Log.{LogState}
 use Rattle.gate_log.specs.declared.drafts.TheConstants.{AHEAD}
 use Rattle.at_event.specs.Frames.{frame_of}
-use Rattle.at_event.specs.declared.frame.Frame.{Frame}
-use Rattle.at_event.specs.declared.frame.FrameFault.{FrameFault}
 use Rattle.relay_row.specs.Bodies.{row_spelling, spelled}
 use Rattle.relay_row.specs.declared.row.Row.{Row}
-use Rattle.relay_row.specs.declared.taken.Taken.{Taken}
 use Rattle.relay_row.proofs.Bodies.{spelled_joined}
 use Rattle.relay_core.specs.declared.journal_state.Core.{Core}
 use Rattle.relay_core.specs.Entries.{Holds}
 use Rattle.relay_step.specs.Around.{Around}
 use Rattle.relay_step.specs.Causes.{AskedInVainOf, CameToNothing, IsSpentFor}
 use Rattle.relay_step.specs.Causes.{IsCause as IsStepCause}
-use Rattle.relay_step.specs.Messages.{EndsNumbers, IsPassedAs, told_as}
+use Rattle.relay_step.specs.Messages.{EndsNumbers}
 use Rattle.relay_step.specs.Steps.{Told, rows_told}
 use Rattle.relay_step.specs.declared.fault.StepFault.{StepFault}
-use Rattle.relay_step.specs.declared.told.Passed.{Passed}
-use Rattle.relay_step.specs.declared.told.Told.{Told as Decided}
 use Rattle.relay_store.specs.Drafts.{HasRows, IsAdded, IsUnchanged}
 use Rattle.relay_store.specs.Faults.{IsCause, IsRisen, of_step}
-use Rattle.relay_store.specs.Outcomes.{outcome_passed, outcome_told, taken_outcome}
+use Rattle.relay_store.specs.Outcomes.{outcome_told}
 use Rattle.relay_store.specs.Taking.{AreAdded, ComesOfAsking, IsInVain, IsTaken, IsTooLate, Prepared}
 use Rattle.relay_store.specs.declared.draft.Draft.{Draft}
 use Rattle.relay_store.specs.declared.fault.StoreFault.{StoreFault}
@@ -49,14 +44,6 @@ added_one end row state state_now places places_now d d_now added = record {
     count = omega (arith, added.count, has.count, length-append before (row ∷ []));
   };
 }
-
--- what is answered to a message that makes no row is of the reason that is told of it
-pub passed_told : (told : Decided) (why : Passed) (o : Outcome) → told ≡ Decided.Passed why → o ≡ outcome_passed why → (frame : Result Frame FrameFault) → IsPassedAs frame told → outcome_told frame (told_as told) ≡ Some o
-passed_told told why o is made frame why_is =
-    subst (λ (t : Decided). outcome_told frame (told_as t) ≡ Some o) (sym is) (ap Some (ap outcome_passed (sym (subst (IsPassedAs frame) is why_is)) ∙ sym made))
-
-pub took_told : (told : Decided) (t : Taken) (o : Outcome) → told ≡ Decided.Took t → o ≡ taken_outcome t → (frame : Result Frame FrameFault) → IsPassedAs frame told → outcome_told frame (told_as told) ≡ Some o
-took_told told t o is made frame why_is = subst (λ (x : Decided). outcome_told frame (told_as x) ≡ Some o) (sym is) (ap Some (sym made))
 
 pub late_one : (log : LogState) (d : Draft) (told : Told) (row : Row) (f : StoreFault) → ((f ≡ StoreFault.Memory) ⊎ ((e : ℕ) × (f ≡ StoreFault.Full e)))
     → ((e : ℕ) → f ≡ StoreFault.Full e → IsTooLate log d told (StoreFault.Full e)) → IsTooLate log d told f

@@ -17,7 +17,8 @@ use Rattle.relay_step.specs.Causes.{AskedInVainOf, CameToNothing, IsSpentFor}
 use Rattle.relay_step.specs.Messages.{EndsNumbers}
 use Rattle.relay_step.specs.Steps.{Step, rows, AreSteps}
 use Rattle.relay_store.specs.Journals.{IsOneOf}
-use Rattle.relay_store.specs.Drafts.{IsFull, behind, end_of}
+use Rattle.relay_store.specs.Drafts.{IsFull, end_of}
+use Rattle.relay_store.specs.Drafts.{behind as end_behind}
 use Rattle.relay_store.specs.Outcomes.{outcome_of}
 use Rattle.relay_store.specs.Store.{StoreState, Keeps}
 use Rattle.relay_store.specs.declared.fault.StoreFault.{StoreFault}
@@ -122,7 +123,7 @@ pub record Batched {D : Type 0} (view : D → View) (tells clock_tells repos_tel
   pub format : new.store.log.format ≡ old.store.log.format
   pub most : new.store.log.most ≡ old.store.log.most
   -- the next body goes behind the one of the rows
-  pub end : fault ≢ Some StoreFault.Disk → new.store.log.end ≡ behind old.store.log.end (rows steps)
+  pub end : fault ≢ Some StoreFault.Disk → new.store.log.end ≡ end_behind old.store.log.end (rows steps)
   -- after every fault but the disk's the rows of the steps are known, and the disk holds them
   pub known : fault ≢ Some StoreFault.Disk → Holds new.store.core (J ++ rows steps)
   pub keeps : fault ≢ Some StoreFault.Disk → IsTrue tells → Keeps J old.store (view old.disk) → Keeps (J ++ rows steps) new.store (view new.disk)

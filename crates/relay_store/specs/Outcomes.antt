@@ -1,5 +1,5 @@
 -- What is answered to messages (own).
-use Rattle.std.specs.Prelude.{Option, Some, None, Result, Ok, Err, ◌==◌, if◌then◌else◌}
+use Rattle.std.specs.Prelude.{Option, Some, None, Result, ◌==◌, if◌then◌else◌}
 use Rattle.at_event.specs.Frames.{frame_of}
 use Rattle.at_event.specs.declared.frame.Frame.{Frame}
 use Rattle.at_event.specs.declared.frame.FrameFault.{FrameFault}

@@ -7,13 +7,13 @@ use Rattle.relay_store.specs.Taking.{AreAdded, IsTooLate}
 use Rattle.relay_store.proofs.Turns.{added_one, late_one}
 use Rattle.relay_store.proofs.preparing.take_told.Goals as goal
 
-pub returns-in-Ok-add_row-clause-added : goal.returns-in-Ok-add_row-clause-added
-returns-in-Ok-add_row-clause-added c =
+pub returns-in-Ok-clause-added : goal.returns-in-Ok-clause-added
+returns-in-Ok-clause-added c =
     subst (λ (t : Told). AreAdded c.args.log.now.end (rows_told (told_as t)) c.args.core.now c.add_row.new.core c.args.window.now.places c.add_row.new.window.places c.args.draft.now c.add_row.new.draft) (sym c.in-Took.is)
-    (added_one c.args.log.now.end (Row.Taken c.in-Took.taken) _ _ _ _ _ _ c.in-Ok-add_row.ensures.ok)
+    (added_one c.args.log.now.end (Row.Taken c.in-Took.taken) _ _ _ _ _ _ c.in-Ok.ensures.ok)
 
-pub returns-in-Err-add_row-clause-late : goal.returns-in-Err-add_row-clause-late
-returns-in-Err-add_row-clause-late c =
-    subst (λ (t : Told). IsTooLate c.args.log.now c.args.draft.now (told_as t) c.in-Err-add_row.fault) (sym c.in-Took.is)
-    (late_one c.args.log.now c.args.draft.now (took c.in-Took.taken) (Row.Taken c.in-Took.taken) c.in-Err-add_row.fault c.in-Err-add_row.ensures.cause
-    (λ e is. (Row.Taken c.in-Took.taken, refl, λ before has. c.add_row.ensures.full e (c.in-Err-add_row.is ∙ ap Err is) before has)))
+pub returns-in-Err-clause-late : goal.returns-in-Err-clause-late
+returns-in-Err-clause-late c =
+    subst (λ (t : Told). IsTooLate c.args.log.now c.args.draft.now (told_as t) c.in-Err.fault) (sym c.in-Took.is)
+    (late_one c.args.log.now c.args.draft.now (took c.in-Took.taken) (Row.Taken c.in-Took.taken) c.in-Err.fault c.in-Err.ensures.cause
+    (λ e is. (Row.Taken c.in-Took.taken, refl, λ before has. c.add_row.ensures.full e (c.in-Err.is ∙ ap Err is) before has)))
