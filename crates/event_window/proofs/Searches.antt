@@ -1,9 +1,10 @@
 -- The search among numbers that rise.
-use Rattle.std.proofs.Common.{◌≡◌, ℕ, zero, suc, ◌<◌, ◌≤◌, List, [], ◌∷◌, length, get_or, drop, true, false, refl, arith}
+use Rattle.std.proofs.Common.{◌≡◌, ℕ, zero, suc, ◌+◌, ◌<◌, ◌≤◌, Bool, cond, List, [], ◌∷◌, ◌++◌, length, get_or, slice_get, take, drop, take-append-drop, length-drop, Some, true, false, refl, sym, ◌∙◌, ap, subst, arith}
 use Rattle.std.specs.List.Sorted.{IsPartitionedBy, IsPartitionPoint}
 use Rattle.std.proofs.lemmas.Bool.Decides.{nat_tests}
+use Rattle.std.proofs.lemmas.Option.{same_Some}
 use Rattle.event_window.specs.declared.place.Place.{Place}
-use Rattle.event_window.specs.Window.{AreAbove, is_at_most, all_above}
+use Rattle.event_window.specs.Window.{AreAbove, IsLastUpto, is_at_most, all_above}
 
 first_low : (seq n : ℕ) (places : List Place) (i : ℕ) (d : Place) → AreAbove n places → i < length places → is_at_most seq (get_or places i d) ≡ true → n ≤ seq
 first_low seq n [] i d above low t = absurd (omega arith)
@@ -32,3 +33,34 @@ found_at seq (p ∷ places) zero le at = rw (at.1 0 p (omega arith) (omega arith
 found_at seq (p ∷ places) (suc n) le at =
     rw (at.0 0 p (omega arith) (omega arith))
     (found_at seq places n (omega arith) (λ i d a b. at.0 (suc i) d (omega arith) (omega arith), λ i d a b. at.1 (suc i) d (omega arith) (omega arith)))
+
+-- what stands in front of those above is low
+last_low : (seq : ℕ) (places : List Place) (n : ℕ) (p : Place) → slice_get places n ≡ Some p → all_above seq places ≡ drop (suc n) places → p.seq ≤ seq
+last_low seq [] n p got is = absurd cc
+last_low seq (q ∷ places) zero p got is = at_first (is_at_most seq q) refl is
+  where
+    at_first : (b : Bool) → is_at_most seq q ≡ b → cond b (all_above seq places) (q ∷ places) ≡ places → p.seq ≤ seq
+    at_first true le is = let same : q ≡ p = same_Some q p got in subst (λ (r : Place). r.seq ≤ seq) same (grind (arith, nat_tests, le))
+    at_first false le is = absurd (omega (arith, ap length is))
+last_low seq (q ∷ places) (suc n) p got is = at_later (is_at_most seq q) is (last_low seq places n p got)
+  where
+    at_later : (b : Bool) → cond b (all_above seq places) (q ∷ places) ≡ drop (suc n) places → (all_above seq places ≡ drop (suc n) places → p.seq ≤ seq) → p.seq ≤ seq
+    at_later true is more = more is
+    at_later false is more = absurd (omega (arith, ap length is, length-drop (suc n) places))
+
+here_of : (places : List Place) (n : ℕ) (p : Place) → slice_get places n ≡ Some p → drop n places ≡ p ∷ drop (suc n) places
+here_of [] n p got = absurd cc
+here_of (q ∷ places) zero p got = ap (λ (r : Place). r ∷ places) (same_Some q p got)
+here_of (q ∷ places) (suc n) p got = here_of places n p got
+
+pub got_of : (places : List Place) (n : ℕ) (p : Place) → n < length places → p ≡ get_or places n p → slice_get places n ≡ Some p
+got_of [] n p within is = absurd (omega (arith, within))
+got_of (q ∷ places) zero p within is = ap Some (sym is)
+got_of (q ∷ places) (suc n) p within is = got_of places n p (omega (arith, within)) is
+
+pub last_upto : (seq : ℕ) (places : List Place) (n : ℕ) (p : Place) → slice_get places n ≡ Some p → all_above seq places ≡ drop (suc n) places → IsLastUpto seq p places
+last_upto seq places n p got is = record {
+  front = take n places;
+  split = sym (take-append-drop n places) ∙ ap (λ (l : List Place). take n places ++ l) (here_of places n p got ∙ ap (λ (l : List Place). p ∷ l) (sym is));
+  low = last_low seq places n p got is;
+}

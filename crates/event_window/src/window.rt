@@ -1,7 +1,7 @@
 //! The places of events, in the order of their numbers.
 
-ghost use Rattle.std.specs.Prelude.{◌≡◌, ◌≤◌, ◌<◌, ◌+◌, ◌++◌, ◌∷◌, [], length, drop, slice_get, vec_len, vec_capacity, OnOk};
-ghost use Rattle.event_window.specs.Window.{AreAbove, all_above, is_at_most};
+ghost use Rattle.std.specs.Prelude.{◌≡◌, ◌≤◌, ◌<◌, ◌+◌, ◌++◌, ◌∷◌, [], length, drop, slice_get, vec_len, vec_capacity, None, IfSome, OnOk};
+ghost use Rattle.event_window.specs.Window.{AreAbove, IsLastUpto, all_above, is_at_most};
 
 use crate::place::Place;
 use at_cid::Memory;
@@ -83,6 +83,18 @@ impl Window {
             return None;
         }
         Some(self.places[0])
+    }
+
+    /// The last of the places of the numbers up to a number, where the numbers rise.
+    pub fn last_upto(&self, seq: u64) -> Option<Place>
+        ensures none { result ≡ None → AreAbove 0 self.now.places → self.now.places ≡ all_above seq self.now.places }
+        ensures last { IfSome result (λ p. AreAbove 0 self.now.places → IsLastUpto seq p self.now.places) }
+    {
+        let count = upto(self.places.as_slice(), seq);
+        if count == 0 {
+            return None;
+        }
+        Some(self.places[count - 1])
     }
 
     /// The places of the numbers above a number, where the numbers rise.

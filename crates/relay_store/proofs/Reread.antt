@@ -103,7 +103,7 @@ none_taken : (b : Bool) (t : Taken) → b ≡ (t.seq == 0) → is_taken t ≡ tr
 none_taken true t b is zero = let sends = taken_sent t is in fetched_numbered sends.0 (is_timed t.moment) t.fetched sends.1 zero
 none_taken false t b is zero = let no : false ≡ true = b ∙ zero in absurd cc
 
-none_sent : (row : Row) → is_row row ≡ true → (number_in row == 0) ≡ true → events_in row ≡ []
+pub none_sent : (row : Row) → is_row row ≡ true → (number_in row == 0) ≡ true → events_in row ≡ []
 unfolding is_row
 none_sent (Row.Taken t) is zero = none_taken (t.seq == 0) t refl is zero
 none_sent (Row.Synced did whole moment) is zero = absurd (positive whole.seq (whole_numbered whole (and_parts (is_whole whole) (is_moment moment) (and_parts (names_did did) (is_whole whole && is_moment moment) is).1).0) zero)
@@ -177,7 +177,7 @@ last_fits J is = lasts_fit 0 J (omega arith) is.formed
 -- ---- the events of a store
 
 module _ (J : List Row) (s : StoreState) (v : View) (keeps : Keeps J s v) where
-  all_stand : AllStand s.log.format keeps.bodies s.window (sent J)
+  pub all_stand : AllStand s.log.format keeps.bodies s.window (sent J)
   all_stand =
       subst (λ (rows : List Row). AllStand s.log.format keeps.bodies s.window (sent rows)) keeps.are.rows
       (subst (λ (places : List Place). AllStand s.log.format keeps.bodies places (sent (joined keeps.bodies))) (sym keeps.window) (bodies_stand s.log.format keeps.bodies [] keeps.bodies refl))

@@ -49,7 +49,7 @@ one_taken : (b : Bool) (t : Taken) → IsOne (if b then events_of t.fetched else
 one_taken true t = one_fetched t.fetched
 one_taken false t = inr ((t.seq, t.message), refl)
 
-one_event : (row : Row) → IsOne (events_in row)
+pub one_event : (row : Row) → IsOne (events_in row)
 one_event (Row.Taken t) = one_taken (t.seq == 0) t
 one_event (Row.Synced did whole moment) = inr ((whole.seq, whole.message), refl)
 one_event (Row.Operated o) = inr ((o.seq, o.message), refl)

@@ -12,3 +12,5 @@ pub mod Shown
 pub mod Events
 pub mod Rereading
 pub mod Lines
+pub mod Rewriting
+pub mod Cutting

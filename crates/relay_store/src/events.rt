@@ -65,10 +65,7 @@ impl<D: Disk> Events for Reader<'_, D> {
     }
 
     fn oldest(&self) -> u64 {
-        match self.store.window.first() {
-            Some(place) => place.seq,
-            None => self.store.last_seq().saturating_add(1),
-        }
+        self.store.oldest()
     }
 
     fn next_after(&mut self, seq: u64, room: &mut Octets) -> Result<Option<u64>, EventsFault> {

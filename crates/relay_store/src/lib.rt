@@ -3,7 +3,10 @@
 #![tactic(auto)]
 
 mod adding;
+mod carrying;
 mod committing;
+mod copying;
+mod cutting;
 mod done;
 mod draft;
 mod events;
@@ -18,11 +21,14 @@ mod message;
 mod opening;
 mod outcome;
 mod preparing;
+mod rereading;
+mod rewriting;
 mod showing;
 mod speaking;
 mod store;
 mod taking;
 
+pub use cutting::CutDone;
 pub use done::Done;
 pub use events::Reader;
 pub use fault::StoreFault;

@@ -19,9 +19,12 @@ pub struct Store {
 }
 
 impl Store {
-    ghost use Rattle.std.specs.Prelude.{◌≡◌, option_map};
+    ghost use Rattle.std.specs.Prelude.{◌≡◌, ◌<◌, ◌+◌, map, option_map};
     ghost use Rattle.account_state.specs.Entries.{entry};
     ghost use Rattle.account_state.specs.State.{state_of};
+    ghost use Rattle.event_window.specs.Held.{first_or};
+    ghost use Rattle.event_window.specs.declared.place.Place.{Place as ThePlace};
+    ghost use Rattle.relay_row.specs.declared.limits.TheConstants.{NUMBERS};
 
     /// The account of a DID, where a row names it.
     pub fn account(&self, did: &str) -> Option<&Account>
@@ -49,6 +52,16 @@ impl Store {
         ensures { result ≡ self.now.core.last }
     {
         self.core.last_seq()
+    }
+
+    /// The least number that it holds, and where it holds none, the one behind the last.
+    pub(crate) fn oldest(&self) -> u64
+        ensures { self.now.core.last < NUMBERS → result ≡ first_or (map (λ (p : ThePlace). p.seq) self.now.window.places) (self.now.core.last + 1) }
+    {
+        match self.window.first() {
+            Some(place) => place.seq,
+            None => self.last_seq().saturating_add(1),
+        }
     }
 
     /// Whether no call has answered `Disk` since it was opened.

@@ -2,6 +2,7 @@
 #![tactic(auto)]
 
 mod appends;
+mod builds;
 mod clocks;
 mod disks;
 mod files;
@@ -21,6 +22,7 @@ mod worst;
 
 use anyhow::Result;
 use appends::{Appends, LogCalls};
+use builds::Builds;
 use clocks::{Clocks, Moments};
 use disks::Disks;
 use files::{FileDisks, FileLogs};
@@ -70,6 +72,7 @@ fn compare_logs(rt: &HostRuntime, suite: &mut Suite) -> Result<()> {
 fn compare_crashes(rt: &HostRuntime, suite: &mut Suite) -> Result<()> {
     suite.file(rt, "stops", &Stops)?;
     suite.file(rt, "pairs", &Pairs)?;
+    suite.file(rt, "builds", &Builds)?;
     suite.file(rt, "file_logs", &FileLogs { rt })
 }
 

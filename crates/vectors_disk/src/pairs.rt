@@ -48,8 +48,8 @@ fn added<D: Disk>(
     Ok((side, place))
 }
 
-// The side that has the log of a pair, and what the log holds.
-fn pair_held<D: Disk>(alloc: Global, one: &mut D, two: &mut D) -> Result<String> {
+/// The side that has the log of a pair, and what the log holds.
+pub fn pair_held<D: Disk>(alloc: Global, one: &mut D, two: &mut D) -> Result<String> {
     match open_pair(alloc, one, two, MOST) {
         Ok((side, log)) => {
             let held = match side {

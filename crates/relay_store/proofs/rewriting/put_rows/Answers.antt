@@ -1,0 +1,42 @@
+use Rattle.std.proofs.Common.{◌≡◌, [], List, Err, arith, rules, subst}
+use Rattle.relay_disk.proofs.Moments.{joined}
+use Rattle.relay_row.specs.declared.row.Row.{Row}
+use Rattle.relay_store.specs.declared.fault.StoreFault.{StoreFault}
+use Rattle.relay_store.proofs.Rewritten.{IsPutting, copied_none, put_all, put_full, put_more}
+use Rattle.relay_store.proofs.rewriting.put_rows.Goals as goal
+
+pub rows-init : goal.rows-init
+rows-init g c = record { done = []; split = search rules; copied = copied_none _ _ _ (g.met.D.Disk.is_disk _) c.requires.on }
+
+pub put_row-requires : goal.put_row-requires
+put_row-requires g c = record { on = c.rows.invariant.copied.on }
+
+pub rows-preserved : goal.rows-preserved
+rows-preserved g c = put_more _ _ _ _ _ _ _ _ _ c.rows.invariant c.in-Some.ensures.items _ _ c.in_ok-put_row.ensures.copied
+
+pub returns-in_err-put_row-clause-run : goal.returns-in_err-put_row-clause-run
+returns-in_err-put_row-clause-run g c = λ tells. joined _ _ _ _ (c.rows.invariant.copied.run tells) (c.put_row.ensures.run tells)
+
+pub returns-in_err-put_row-clause-disk : goal.returns-in_err-put_row-clause-disk
+returns-in_err-put_row-clause-disk g c = λ is.
+    let failed : c.put_row.result ≡ Err StoreFault.Disk = search rules in
+    omega (arith, c.rows.invariant.copied.counts, c.put_row.ensures.disk failed)
+
+pub returns-in_err-put_row-clause-counts : goal.returns-in_err-put_row-clause-counts
+returns-in_err-put_row-clause-counts g c = omega (arith, c.rows.invariant.copied.counts, c.put_row.ensures.counts)
+
+pub returns-in_err-put_row-clause-full : goal.returns-in_err-put_row-clause-full
+returns-in_err-put_row-clause-full g c = λ e is.
+    let failed : c.put_row.result ≡ Err (StoreFault.Full e) = search rules in
+    put_full _ _ _ _ _ _ _ _ _ c.rows.invariant c.in-Some.ensures.items e (c.put_row.ensures.full e failed)
+
+pub returns-clause-copied : goal.returns-clause-copied
+returns-clause-copied g c =
+    let none : c.rows.left.items ≡ [] = search rules in
+    put_all _ _ _ _ _ _ (subst (λ (l : List Row). IsPutting g.D.Disk.tells c.args.rows.items l c.args.rewrite.now c.rows.rewrite (g.D.Disk.view c.args.other.now) (g.D.Disk.view c.rows.other)) none c.rows.invariant)
+
+pub returns-clause-run : goal.returns-clause-run
+returns-clause-run g c = c.rows.invariant.copied.run
+
+pub returns-clause-counts : goal.returns-clause-counts
+returns-clause-counts g c = c.rows.invariant.copied.counts

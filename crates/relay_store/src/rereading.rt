@@ -1,0 +1,132 @@
+//! Reading a journal's rows again, body by body.
+
+ghost use Rattle.std.specs.Prelude.{◌≡◌, ◌≤◌, ◌<◌, ◌+◌, ◌++◌, ◌∷◌, [], ℕ, List, length, take, IsTrue, IfOk, OnOk};
+ghost use Rattle.at_cid.specs.Counts.{Rose};
+ghost use Rattle.relay_disk.specs.Disk.{Goes, Same};
+ghost use Rattle.gate_log.specs.Image.{made};
+ghost use Rattle.gate_log.specs.Log.{Holds as HasBodies, IsOn};
+ghost use Rattle.gate_log.specs.declared.limits.TheConstants.{BEFORE_BODY};
+ghost use Rattle.relay_row.specs.Bodies.{IsBody, body_of};
+ghost use Rattle.relay_row.specs.declared.row.Row.{Row as TheRow};
+ghost use Rattle.relay_core.specs.Entries.{Holds};
+ghost use Rattle.relay_store.specs.Journals.{AllBodies, bytes_of, joined};
+ghost use Rattle.relay_store.specs.Opening.{IsOfReading};
+ghost use Rattle.relay_store.specs.declared.fault.StoreFault.{StoreFault as TheFault};
+
+use crate::StoreFault;
+use at_cid::Memory;
+use event_window::Place;
+use gate_log::Log;
+use relay_core::Core;
+use relay_disk::Disk;
+use relay_row::{Row, RowFault, read_rows};
+use std::alloc::Global;
+use std::collections::VecDeque;
+
+/// The rows of the body at this place, and the place of the next body.
+pub(crate) fn body_at<D: Disk>(
+    alloc: Global,
+    log: &Log,
+    disk: &mut D,
+    place: u64,
+) -> Result<(Vec<Row>, u64), StoreFault>
+    requires on { IsTrue D.tells → IsOn (D.view disk.old) log.now }
+    ensures next { IfOk result (λ found. (place < found.1) × (found.1 ≤ log.now.end)) }
+    ensures rows { IfOk result (λ found. IsTrue D.tells → (before : List (List TheRow)) (there : List TheRow) (after : List (List TheRow))
+        → IsBody there (body_of there) → HasBodies (bytes_of (before ++ there ∷ after)) log.now (D.view disk.old)
+        → place ≡ length (made log.now.format (bytes_of before))
+        → (found.0.items ≡ there) × (found.1 ≡ place + BEFORE_BODY + length (body_of there))) }
+    ensures no_bad_log { (p : ℕ) → result ≡ Err (StoreFault.BadLog p) → IsTrue D.tells
+        → (before : List (List TheRow)) (there : List TheRow) (after : List (List TheRow))
+        → IsBody there (body_of there) → HasBodies (bytes_of (before ++ there ∷ after)) log.now (D.view disk.old)
+        → place ≡ length (made log.now.format (bytes_of before)) → ⊥ }
+    ensures goes { Goes Same (D.view disk.old) (D.view disk.new) }
+    ensures holds { IsTrue D.tells → (bodies : List (List ℕ)) → HasBodies bodies log.now (D.view disk.old) → HasBodies bodies log.now (D.view disk.new) }
+    ensures on { IsTrue D.tells → IsOn (D.view disk.new) log.now }
+    ensures disk { result ≡ Err StoreFault.Disk → Rose (D.view disk.old).faults (D.view disk.new).faults }
+    ensures few { (f : TheFault) → result ≡ Err f → IsOfReading f }
+{
+    if place >= log.end() {
+        return Err(StoreFault::BadLog(place));
+    }
+    let (body, next) = match log.read(alloc, disk, place) {
+        Ok(found) => found,
+        Err(fault) => return Err(StoreFault::from(fault)),
+    };
+    match read_rows(alloc, body.as_slice()) {
+        Ok(rows) => Ok((rows.into_vec(), next)),
+        Err(RowFault::BadRow) => Err(StoreFault::BadLog(place)),
+        Err(RowFault::Memory) => Err(StoreFault::Memory),
+    }
+}
+
+// Moves a state by rows.
+fn fold_rows(core: &mut Core, rows: Vec<Row>) -> Result<(), Memory>
+    ensures { OnOk result ((J : List TheRow) → Holds core.old J → Holds core.new (J ++ rows.items)) }
+{
+    let mut left = VecDeque::from_vec(rows);
+    'rows: while let Some(row) = left.pop_front() {
+        core.touch(row.host(), row.did())?;
+        core.apply(row);
+    }
+    Ok(())
+}
+
+// Moves the state of the empty journal by the rows of a log's bodies up to the one at a place.
+fn fold_before<D: Disk>(
+    alloc: Global,
+    log: &Log,
+    disk: &mut D,
+    upto: u64,
+    core: &mut Core,
+) -> Result<(), StoreFault>
+    requires on { IsTrue D.tells → IsOn (D.view disk.old) log.now }
+    requires core { Holds core.old [] }
+    ensures core { OnOk result (IsTrue D.tells → (before after : List (List TheRow)) → AllBodies (before ++ after)
+        → HasBodies (bytes_of (before ++ after)) log.now (D.view disk.old) → upto ≡ length (made log.now.format (bytes_of before))
+        → Holds core.new (joined before)) }
+    ensures no_bad_log { (p : ℕ) → result ≡ Err (StoreFault.BadLog p) → IsTrue D.tells → (before after : List (List TheRow)) → AllBodies (before ++ after)
+        → HasBodies (bytes_of (before ++ after)) log.now (D.view disk.old) → upto ≡ length (made log.now.format (bytes_of before)) → ⊥ }
+    ensures goes { Goes Same (D.view disk.old) (D.view disk.new) }
+    ensures holds { IsTrue D.tells → (bodies : List (List ℕ)) → HasBodies bodies log.now (D.view disk.old) → HasBodies bodies log.now (D.view disk.new) }
+    ensures on { IsTrue D.tells → IsOn (D.view disk.new) log.now }
+    ensures disk { result ≡ Err StoreFault.Disk → Rose (D.view disk.old).faults (D.view disk.new).faults }
+    ensures few { (f : TheFault) → result ≡ Err f → IsOfReading f }
+{
+    let mut place = log.first();
+    'bodies: while place < upto {
+        let (rows, next) = body_at(alloc, log, disk, place)?;
+        fold_rows(core, rows)?;
+        place = next;
+    }
+    Ok(())
+}
+
+/// The state behind the rows of a log up to the one at a place, with that one.
+pub(crate) fn fold_upto<D: Disk>(
+    alloc: Global,
+    log: &Log,
+    disk: &mut D,
+    last: Place,
+) -> Result<Core, StoreFault>
+    requires on { IsTrue D.tells → IsOn (D.view disk.old) log.now }
+    ensures core { IfOk result (λ core. IsTrue D.tells → (before : List (List TheRow)) (there : List TheRow) (after : List (List TheRow))
+        → AllBodies (before ++ there ∷ after) → HasBodies (bytes_of (before ++ there ∷ after)) log.now (D.view disk.old)
+        → last.place ≡ length (made log.now.format (bytes_of before)) → Holds core (joined before ++ take (last.index + 1) there)) }
+    ensures no_bad_log { (p : ℕ) → result ≡ Err (StoreFault.BadLog p) → IsTrue D.tells
+        → (before : List (List TheRow)) (there : List TheRow) (after : List (List TheRow))
+        → AllBodies (before ++ there ∷ after) → HasBodies (bytes_of (before ++ there ∷ after)) log.now (D.view disk.old)
+        → last.place ≡ length (made log.now.format (bytes_of before)) → ⊥ }
+    ensures goes { Goes Same (D.view disk.old) (D.view disk.new) }
+    ensures holds { IsTrue D.tells → (bodies : List (List ℕ)) → HasBodies bodies log.now (D.view disk.old) → HasBodies bodies log.now (D.view disk.new) }
+    ensures on { IsTrue D.tells → IsOn (D.view disk.new) log.now }
+    ensures disk { result ≡ Err StoreFault.Disk → Rose (D.view disk.old).faults (D.view disk.new).faults }
+    ensures few { (f : TheFault) → result ≡ Err f → IsOfReading f }
+{
+    let mut core = Core::new(alloc);
+    fold_before(alloc, log, disk, last.place, &mut core)?;
+    let (mut rows, _) = body_at(alloc, log, disk, last.place)?;
+    rows.truncate(usize::from(last.index) + 1);
+    fold_rows(&mut core, rows)?;
+    Ok(core)
+}

@@ -1,0 +1,90 @@
+//! A journal written anew into a log that is being built, each row as a body of its own.
+
+ghost use Rattle.std.specs.Prelude.{◌≡◌, ◌≤◌, ◌<◌, ◌∷◌, [], ℕ, length, IsTrue, OnOk};
+ghost use Rattle.at_cid.specs.Counts.{Rose};
+ghost use Rattle.relay_disk.specs.Moments.{LeavesOnly};
+ghost use Rattle.gate_log.specs.Build.{IsBuiltOn, IsClosed};
+ghost use Rattle.gate_log.specs.declared.limits.TheConstants.{BODY_LENGTHS};
+ghost use Rattle.relay_row.specs.Bodies.{body_of};
+ghost use Rattle.relay_store.specs.Rewriting.{IsCopied, HasNoRoom, IsOfAdding};
+ghost use Rattle.relay_store.specs.declared.fault.StoreFault.{StoreFault as TheFault};
+
+use crate::StoreFault;
+use crate::learning::{learn, make_room};
+use at_cbor::write_list_front;
+use at_cid::{Memory, Octets};
+use event_window::Window;
+use gate_log::{BODY_LENGTHS, Build};
+use relay_core::Core;
+use relay_disk::Disk;
+use relay_row::{Row, write_row};
+use std::collections::VecDeque;
+
+/// A journal that is being written anew: the log, which is built behind a closed gate, and what is known of its rows.
+#[derive(Drop)]
+pub(crate) struct Rewrite {
+    pub(crate) build: Build,
+    pub(crate) core: Core,
+    pub(crate) window: Window,
+    pub(crate) body: Octets,
+}
+
+// Puts the body of one row together.
+#[tactic(auto, unfolding(relay_row::specs::Bodies::body_of))]
+fn spell_body(body: &mut Octets, row: &Row) -> Result<(), Memory>
+    ensures body { OnOk result (body.new ≡ body_of (row.now ∷ [])) }
+    ensures short { OnOk result (length body.new < BODY_LENGTHS) }
+{
+    body.clear();
+    write_list_front(body, 1)?;
+    write_row(body, row)?;
+    if body.len() as u64 >= BODY_LENGTHS {
+        return Err(Memory);
+    }
+    Ok(())
+}
+
+/// Adds a row as a body of its own.
+pub(crate) fn put_row<D: Disk>(
+    rewrite: &mut Rewrite,
+    other: &mut D,
+    row: Row,
+) -> Result<(), StoreFault>
+    requires on { IsTrue D.tells → IsBuiltOn (D.view other.old) rewrite.old.build }
+    ensures copied { OnOk result (IsCopied D.tells (row ∷ []) rewrite.old rewrite.new (D.view other.old) (D.view other.new)) }
+    ensures run { IsTrue D.tells → LeavesOnly IsClosed (D.view other.old) (D.view other.new) }
+    ensures disk { result ≡ Err StoreFault.Disk → Rose (D.view other.old).faults (D.view other.new).faults }
+    ensures counts { (D.view other.old).faults ≤ (D.view other.new).faults }
+    ensures full { (e : ℕ) → result ≡ Err (StoreFault.Full e) → HasNoRoom rewrite.old.build.end rewrite.old.build.most (row ∷ []) e }
+    ensures few { (f : TheFault) → result ≡ Err f → IsOfAdding f }
+{
+    spell_body(&mut rewrite.body, &row)?;
+    make_room(&mut rewrite.core, &mut rewrite.window, &row)?;
+    let place = match rewrite.build.add(other, rewrite.body.as_slice()) {
+        Ok(place) => place,
+        Err(fault) => return Err(StoreFault::from(fault)),
+    };
+    learn(&mut rewrite.core, &mut rewrite.window, place, 0, row);
+    Ok(())
+}
+
+/// Adds rows, each as a body of its own.
+pub(crate) fn put_rows<D: Disk>(
+    rewrite: &mut Rewrite,
+    other: &mut D,
+    rows: Vec<Row>,
+) -> Result<(), StoreFault>
+    requires on { IsTrue D.tells → IsBuiltOn (D.view other.old) rewrite.old.build }
+    ensures copied { OnOk result (IsCopied D.tells rows.items rewrite.old rewrite.new (D.view other.old) (D.view other.new)) }
+    ensures run { IsTrue D.tells → LeavesOnly IsClosed (D.view other.old) (D.view other.new) }
+    ensures disk { result ≡ Err StoreFault.Disk → Rose (D.view other.old).faults (D.view other.new).faults }
+    ensures counts { (D.view other.old).faults ≤ (D.view other.new).faults }
+    ensures full { (e : ℕ) → result ≡ Err (StoreFault.Full e) → HasNoRoom rewrite.old.build.end rewrite.old.build.most rows.items e }
+    ensures few { (f : TheFault) → result ≡ Err f → IsOfAdding f }
+{
+    let mut left = VecDeque::from_vec(rows);
+    'rows: while let Some(row) = left.pop_front() {
+        put_row(rewrite, other, row)?;
+    }
+    Ok(())
+}
