@@ -23,7 +23,7 @@ impl Subject for Messages {
             return Answer::new(alloc).number(history.keys()).end();
         }
         let i = number(asked)?;
-        if i == 0 || i > count {
+        if i == 0 || i > history.len() as u64 {
             bail!("another message");
         }
         Answer::new(alloc)
