@@ -1,3 +1,3 @@
 pub mod Pairs
+pub mod Cut
 pub mod Living
-pub mod Numbers

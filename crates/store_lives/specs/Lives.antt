@@ -1,10 +1,16 @@
--- The life of a machine that has a store: calls, failed calls, openings, and crashes at any moment of them (own).
-use Rattle.std.specs.Prelude.{◌≡◌, ◌⊎◌, ℕ, Bool, List, [], ◌∷◌, Option, Some, None, Result, Ok, Err, IsTrue}
+-- The life of a machine that has a store: calls, failed calls, cuts, openings, and crashes at any moment of them (own).
+use Rattle.std.specs.Prelude.{◌≡◌, ◌≢◌, ◌⊎◌, ◌+◌, ◌<◌, ℕ, Bool, true, List, [], ◌∷◌, Option, Some, None, Result, Ok, Err, IsTrue, OnErr}
 use Rattle.std.proofs.Common.{inl, inr}
 use Rattle.relay_disk.specs.Disk.{View, IsSettled}
+use Rattle.relay_disk.specs.Moments.{PairLeavesOnly}
+use Rattle.gate_log.specs.Beside.{LeavesLive}
+use Rattle.gate_log.specs.Image.{generation}
 use Rattle.gate_log.specs.Pick.{other_side}
+use Rattle.gate_log.specs.declared.limits.TheConstants.{GENERATIONS}
 use Rattle.gate_log.specs.declared.picking.Side.{Side}
+use Rattle.at_event.specs.declared.refusal.Refusal.{Refusal}
 use Rattle.relay_row.specs.declared.row.Row.{Row}
+use Rattle.cut_law.specs.Cut.{cut, MayCut}
 use Rattle.relay_step.specs.Around.{Around}
 use Rattle.relay_step.specs.Asked.{AskedInVain}
 use Rattle.relay_step.specs.Causes.{CameToNothing, OneTaken}
@@ -12,8 +18,10 @@ use Rattle.relay_step.specs.Steps.{rows}
 use Rattle.relay_step.specs.Words.{OperatedAt, SyncedAt, rows_said}
 use Rattle.relay_step.specs.declared.word.Word.{Word}
 use Rattle.relay_store.specs.Batches.{Batched, scene}
+use Rattle.relay_store.specs.Cutting.{IsEitherBeside}
+use Rattle.relay_store.specs.declared.cutting.CutDone.{CutDone}
 use Rattle.relay_store.specs.Opening.{Opened}
-use Rattle.relay_store.specs.Store.{StoreState, IsOf, seen_in}
+use Rattle.relay_store.specs.Store.{StoreState, IsOf, Keeps, seen_in}
 use Rattle.relay_store.specs.Words.{Spoken, added}
 use Rattle.relay_store.specs.declared.done.Done.{Done}
 use Rattle.relay_store.specs.declared.fault.StoreFault.{StoreFault}
@@ -118,15 +126,6 @@ module _ {D : Type 0} (view : D → View) (tells : Bool) where
     pub opened : Opened tells (view old.one) (view old.two) (view now.one) (view now.two) result
     pub store : now.store ≡ store_in result
 
-  -- a call of the store that is open, or an opening where none is
-  abbrev pub GoesFrom : Option StoreState → Machine D → Machine D → Type 0
-  GoesFrom None old now = Opens old now
-  GoesFrom (Some s) old now = Calls s old now
-
-  -- one of these, or the store is let go
-  abbrev pub Goes : Machine D → Machine D → Type 0
-  Goes old now = GoesFrom old.store old now ⊎ (now ≡ stopped old)
-
   -- The machine stops at some moments between old and now, and starts again with bytes that a crash there left on each disk.
   pub record Crashes (old now next : Machine D) : Type 0 where
     pub no_store : next.store ≡ None
@@ -137,9 +136,47 @@ module _ {D : Type 0} (view : D → View) (tells : Bool) where
     pub one_settled : IsSettled (view next.one) first
     pub two_settled : IsSettled (view next.two) second
 
+-- the fault that is answered to a cut, if one is
+abbrev pub fault_cut : Result CutDone StoreFault → Option StoreFault
+fault_cut (Ok done) = None
+fault_cut (Err fault) = Some fault
+
+module _ {D : Type 0} (view : D → View) (tells : Bool) where
+  -- The journal was to be cut at a number, on the disk of the store's side and the other, as `cut` promises.
+  pub record CutAs (s s_now : StoreState) (number : ℕ) (disk other disk_now other_now : D) (result : Result CutDone StoreFault) : Type 0 where
+    pub may : ((why : Refusal) → result ≢ Ok (CutDone.Refused why)) → IsTrue tells → (J : List Row) → Keeps J s (view disk) → MayCut J number × (generation s.log.format + 1 < GENERATIONS)
+    pub keeps : (oldest last : ℕ) → result ≡ Ok (CutDone.Cut oldest last) → IsTrue tells → (J : List Row) → Keeps J s (view disk) → Keeps (cut J number) s_now (view other_now)
+    pub side : (oldest last : ℕ) → result ≡ Ok (CutDone.Cut oldest last) → s_now.side ≡ other_side s.side
+    pub live : (oldest last : ℕ) → result ≡ Ok (CutDone.Cut oldest last) → IsTrue tells → LeavesLive s_now.side (view other_now) (view disk_now)
+    pub moments : IsTrue tells → (J : List Row) → Keeps J s (view disk) → PairLeavesOnly (IsEitherBeside s.side J (cut J number)) (view disk) (view disk_now) (view other) (view other_now)
+    pub as_before : OnErr result (result ≢ Err StoreFault.Disk → (s_now ≡ s) × (IsTrue tells → LeavesLive s.side (view disk_now) (view other_now)))
+    pub kept : IsTrue tells → (J : List Row) → Keeps J s (view disk) → Keeps J s (view disk_now)
+
+-- Lives in which journals are cut at numbers that pass.
+module _ {D : Type 0} (view : D → View) (tells : Bool) (passes : ℕ → Bool) where
+  -- A cut of the open store's journal at one of these numbers, done or failed. One that is refused touches nothing, and is no step.
+  pub record Cuts (s : StoreState) (old now : Machine D) : Type 0 where
+    pub s_now : StoreState
+    pub number : ℕ
+    pub at : passes number ≡ true
+    pub result : Result CutDone StoreFault
+    pub done : (why : Refusal) → result ≢ Ok (CutDone.Refused why)
+    pub cuts : IsTrue tells → LeavesLive s.side (view (disk_of s.side old)) (view (disk_of (other_side s.side) old))
+        → CutAs view tells s s_now number (disk_of s.side old) (disk_of (other_side s.side) old) (disk_of s.side now) (disk_of (other_side s.side) now) result
+    pub store : now.store ≡ open_after (fault_cut result) s_now
+
+  -- a call of the store that is open, or a cut, or an opening where none is
+  abbrev pub GoesFrom : Option StoreState → Machine D → Machine D → Type 0
+  GoesFrom None old now = Opens view tells old now
+  GoesFrom (Some s) old now = Calls view tells s old now ⊎ Cuts s old now
+
+  -- one of these, or the store is let go
+  abbrev pub Goes : Machine D → Machine D → Type 0
+  Goes old now = GoesFrom old.store old now ⊎ (now ≡ stopped old)
+
   -- what begins comes to its end, or a crash cuts it short
   abbrev pub Steps : Machine D → Machine D → Type 0
-  Steps old next = (now : Machine D) × Goes old now × ((next ≡ now) ⊎ Crashes old now next)
+  Steps old next = (now : Machine D) × Goes old now × ((next ≡ now) ⊎ Crashes view tells old now next)
 
   -- machines, each of which follows the one before it by a step
   abbrev pub LivesFrom : Machine D → List (Machine D) → Type 0

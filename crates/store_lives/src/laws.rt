@@ -1,13 +1,14 @@
 //! The laws of a store's life, each the contract of a function that does nothing.
 
 ghost use Rattle.std.specs.Prelude.{IsTrue};
-ghost use Rattle.store_lives.specs.Laws.{AnswersAreKept, AnswersStay, JournalsOnlyGrow, NumbersStandForOneEvent};
+ghost use Rattle.store_lives.specs.Laws.{AnswersAreKept, AnswersStay, LaterJournalsCome};
 
 use relay_disk::Disk;
 
-/// On disks that tell their content, each journal that an open store has is a front of each later one.
-pub fn journals_only_grow<D: Disk>()
-    ensures { IsTrue D.tells → JournalsOnlyGrow D.view D.tells }
+/// On disks that tell their content, each journal that an open store has comes from each earlier one by rows that were
+/// added and by cuts.
+pub fn later_journals_come<D: Disk>()
+    ensures { IsTrue D.tells → LaterJournalsCome D.view D.tells }
 {}
 
 /// On disks that tell their content, what a call answered stands in the journal that its store then has.
@@ -15,12 +16,7 @@ pub fn answers_are_kept<D: Disk>()
     ensures { IsTrue D.tells → AnswersAreKept D.view D.tells }
 {}
 
-/// On disks that tell their content, each later journal has what was answered at any step.
+/// On disks that tell their content, each later journal comes from one that has what was answered at any step.
 pub fn answers_stay<D: Disk>()
     ensures { IsTrue D.tells → AnswersStay D.view D.tells }
-{}
-
-/// In a journal and its fronts a number stands for one event.
-pub fn numbers_stand_for_one_event()
-    ensures { NumbersStandForOneEvent }
 {}
