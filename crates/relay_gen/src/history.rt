@@ -26,8 +26,9 @@ const ACCOUNTS: usize = 16;
 /// How many hosts there are.
 const HOSTS: usize = 4;
 
+/// The DID of an account, counted from 0.
 #[tactic(auto, unfolding(crate::specs::Names::did_of))]
-fn did_of(account: u8) -> &'static str
+pub fn did_of(account: u8) -> &'static str
     requires { account < 16 }
     ensures { result.now ≡ did_of account }
 {
@@ -51,8 +52,9 @@ fn did_of(account: u8) -> &'static str
     }
 }
 
+/// The host of an account, counted from 0.
 #[tactic(auto, unfolding(crate::specs::Names::host_of))]
-fn host_of(account: u8) -> &'static str
+pub fn host_of(account: u8) -> &'static str
     ensures { result.now ≡ host_of account }
 {
     match account % 4 {

@@ -15,5 +15,5 @@ mod records;
 mod settling;
 
 pub use fault::GenFault;
-pub use history::{History, MOST_MESSAGES, make};
+pub use history::{History, MOST_MESSAGES, did_of, host_of, make};
 pub use laws::hosts_tell_of_their_own;

@@ -1,0 +1,4 @@
+pub mod Merging
+pub mod Summary
+pub mod Taking
+pub mod Tried
