@@ -153,6 +153,12 @@ header_length EventKind.Sync = refl
 header_length EventKind.Identity = refl
 header_length EventKind.Account = refl
 
+pub name_short : (kind : EventKind) → length (name_of kind) ≤ 9
+name_short EventKind.Commit = omega arith
+name_short EventKind.Sync = omega arith
+name_short EventKind.Identity = omega arith
+name_short EventKind.Account = omega arith
+
 -- the length of the frame of an event under a number
 frame_length : (event : Seen) (n : ℕ) → IsEvent event
     → length (out_of event n) + length (spelling (number_item event.seq)) ≡ length (spelling event.payload) + length (spelling (number_item n)) + (length (name_of (kind_of event.body)) + 8)
@@ -197,31 +203,26 @@ is_within payload old p q p_is q_is small inside =
     elim (min_cases payload most_number) [ inl c ↦ omega (arith, c.1, p_is, q_old, inside) | inr c ↦ omega (arith, c.1, p_is, q_old, small) ]
 
 -- The sum that is taken, where payload is the length of the payload, old that of its number, new that of the other, and frame that of the frame.
-module _ (payload old new names frame : ℕ) (p q r : ℕ) (p_is : p ≡ min payload most_number) (q_is : q ≡ min old most_number) (r_is : r ≡ min (p - q + (9 + (names + 8))) most_number) (small : old ≤ 9) (inside : old ≤ payload) (parts : frame + old ≡ payload + new + (names + 8)) where
+module _ (payload old new names frame : ℕ) (p q s r : ℕ) (p_is : p ≡ min payload most_number) (q_is : q ≡ min old most_number) (s_is : s ≡ min new most_number) (r_is : r ≡ min (p - q + (s + (names + 8))) most_number) (small : old ≤ 9) (inside : old ≤ payload) (some : 1 ≤ new) (most : new ≤ 9) (parts : frame + old ≡ payload + new + (names + 8)) where
   q_old : q ≡ old
   q_old = old_is old q q_is small
 
-  sum_nine : new ≡ 9 → r ≡ min frame most_number
-  sum_nine nine =
+  s_new : s ≡ new
+  s_new = old_is new s s_is most
+
+  sum_is : r ≡ min frame most_number
+  sum_is =
       elim (min_cases payload most_number) [
         | inl c ↦
-            let same : p - q + (9 + (names + 8)) ≡ frame = omega (arith, c.1, p_is, q_old, parts, nine, inside) in
+            let same : p - q + (s + (names + 8)) ≡ frame = omega (arith, c.1, p_is, q_old, s_new, parts, inside) in
             r_is ∙ ap (λ (n : ℕ). min n most_number) same
         | inr c ↦
-            let full : r ≡ most_number = r_is ∙ min-eq_right (omega (arith, c.1, p_is, q_old, small)) in
-            full ∙ sym (min-eq_right (omega (arith, c.0, parts, nine, small)))
+            let full : r ≡ most_number = r_is ∙ min-eq_right (omega (arith, c.1, p_is, q_old, s_new, small, some)) in
+            full ∙ sym (min-eq_right (omega (arith, c.0, parts, small, some)))
       ]
 
-  sum_most : new ≤ 9 → min frame most_number ≤ r
-  sum_most most =
-      elim (min_cases (p - q + (9 + (names + 8))) most_number) [
-        | inl d ↦
-            elim (min_cases payload most_number) [
-              | inl c ↦ omega (arith, min-le_left frame most_number, c.1, p_is, q_old, parts, most, inside, d.1, r_is)
-              | inr c ↦ omega (arith, min-le_right frame most_number, c.1, p_is, q_old, small, d.1, r_is)
-            ]
-        | inr d ↦ omega (arith, min-le_right frame most_number, d.1, r_is)
-      ]
+number_some : (n : ℕ) → 1 ≤ length (spelling (number_item n))
+number_some n = omega arith
 
 module _ (event : Seen) (h : IsEvent event) (p q : ℕ) (p_is : p ≡ min (length (spelling event.payload)) most_number) (q_is : q ≡ min (length (spelling (number_item event.seq))) most_number) where
   inside_of : length (spelling (number_item event.seq)) ≤ length (spelling event.payload)
@@ -230,14 +231,24 @@ module _ (event : Seen) (h : IsEvent event) (p q : ℕ) (p_is : p ≡ min (lengt
   pub number_within : q ≤ p
   number_within = is_within (length (spelling event.payload)) (length (spelling (number_item event.seq))) p q p_is q_is (number_most event.seq) inside_of
 
-module _ (event : Seen) (h : IsEvent event) (names p q r : ℕ) (p_is : p ≡ min (length (spelling event.payload)) most_number) (q_is : q ≡ min (length (spelling (number_item event.seq))) most_number) (names_is : names ≡ length (name_of (kind_of event.body))) (r_is : r ≡ min (p - q + (9 + (names + 8))) most_number) where
-  parts_of : (n : ℕ) → length (out_of event n) + length (spelling (number_item event.seq)) ≡ length (spelling event.payload) + length (spelling (number_item n)) + (names + 8)
-  parts_of n = omega (arith, frame_length event n h, names_is)
+  pub length_of : (n names s r : ℕ) → s ≡ min (length (spelling (number_item n))) most_number → names ≡ length (name_of (kind_of event.body)) → r ≡ min (p - q + (s + (names + 8))) most_number
+      → r ≡ min (length (out_of event n)) most_number
+  length_of n names s r s_is names_is r_is =
+      sum_is (length (spelling event.payload)) (length (spelling (number_item event.seq))) (length (spelling (number_item n))) names (length (out_of event n)) p q s r p_is q_is s_is r_is
+      (number_most event.seq) inside_of (number_some n) (number_most n) (omega (arith, frame_length event n h, names_is))
 
-  pub nine_bytes : (n : ℕ) → 2 ^ 32 ≤ n → r ≡ min (length (out_of event n)) most_number
-  nine_bytes n least =
-      sum_nine (length (spelling event.payload)) (length (spelling (number_item event.seq))) (length (spelling (number_item n))) names (length (out_of event n)) p q r p_is q_is r_is (number_most event.seq) (inside_of event h p q p_is q_is) (parts_of n) (number_nine n least)
+-- a number's length is 9 bytes at most
+pub number_short : (n s : ℕ) → s ≡ min (length (spelling (number_item n))) most_number → s ≤ 9
+number_short n s s_is = omega (arith, old_is (length (spelling (number_item n))) s s_is (number_most n), number_most n)
 
-  pub most_bytes : (n : ℕ) → min (length (out_of event n)) most_number ≤ r
-  most_bytes n =
-      sum_most (length (spelling event.payload)) (length (spelling (number_item event.seq))) (length (spelling (number_item n))) names (length (out_of event n)) p q r p_is q_is r_is (number_most event.seq) (inside_of event h p q p_is q_is) (parts_of n) (number_most n)
+-- all numbers of nine bytes make frames of one length
+pub nine_bytes : (event : Seen) → IsEvent event → (n m : ℕ) → 2 ^ 32 ≤ n → 2 ^ 32 ≤ m → length (out_of event n) ≡ length (out_of event m)
+nine_bytes event h n m n_least m_least = omega (arith, frame_length event n h, frame_length event m h, number_nine n n_least, number_nine m m_least)
+
+-- and none a longer one
+pub most_bytes : (event : Seen) → IsEvent event → (n m : ℕ) → 2 ^ 32 ≤ m → length (out_of event n) ≤ length (out_of event m)
+most_bytes event h n m least = omega (arith, frame_length event n h, frame_length event m h, number_most n, number_nine m least)
+
+pub less_of : (a b : ℕ) → a ≤ b → min a most_number ≤ min b most_number
+less_of a b le =
+    elim (min_cases b most_number) [ inl c ↦ omega (arith, c.1, min-le_left a most_number, le) | inr c ↦ omega (arith, c.1, min-le_right a most_number) ]

@@ -24,4 +24,4 @@ pub use ops::{Action, EventOp, EventOps};
 pub use own::{account_frame, sync_frame};
 pub use reading::read_frame;
 pub use refusal::Refusal;
-pub use writing::{out_frame, out_len};
+pub use writing::{frame_len, out_frame, out_len, write_frame};

@@ -1,6 +1,6 @@
 //! The frames in which events go out.
 
-ghost use Rattle.std.specs.Prelude.{◌≡◌, ◌++◌, ◌-◌, ◌^◌, ◌<◌, ◌≤◌, ℕ, map, length, codes, min, OnOk, IfOk, Ok};
+ghost use Rattle.std.specs.Prelude.{◌≡◌, ◌++◌, ◌-◌, ◌^◌, ◌<◌, ◌≤◌, ℕ, map, length, take, codes, min, OnOk, OnErr, IfOk, Ok};
 ghost use Rattle.at_cbor.specs.Item.{fields_of};
 ghost use Rattle.at_cbor.specs.Spelling.{spelling, fields_spelling};
 ghost use Rattle.at_cbor.specs.View.{item_of, pair_of};
@@ -13,6 +13,7 @@ use crate::event::Event;
 use crate::kind::EventKind;
 use at_cbor::{Value, spelled_len, write_int, write_map_front, write_text, write_value};
 use at_cid::{Memory, Octets, Words};
+use at_form::NUMBERS;
 use std::alloc::Global;
 
 fn name(kind: EventKind) -> &'static str
@@ -28,7 +29,8 @@ fn name(kind: EventKind) -> &'static str
 
 /// Adds the header of an event.
 pub fn write_header(out: &mut Octets, kind: EventKind) -> Result<(), Memory>
-    ensures { OnOk result (out.new ≡ out.old ++ spelling (header_of kind)) }
+    ensures written { OnOk result (out.new ≡ out.old ++ spelling (header_of kind)) }
+    ensures err { OnErr result (take (length out.old) out.new ≡ out.old) }
 {
     write_map_front(out, 2)?;
     write_text(out, "t")?;
@@ -40,14 +42,16 @@ pub fn write_header(out: &mut Octets, kind: EventKind) -> Result<(), Memory>
 /// Adds an event's number.
 pub fn write_number(out: &mut Octets, seq: u64) -> Result<(), Memory>
     requires { seq < NUMBERS }
-    ensures { OnOk result (out.new ≡ out.old ++ spelling (number_item seq)) }
+    ensures written { OnOk result (out.new ≡ out.old ++ spelling (number_item seq)) }
+    ensures err { OnErr result (take (length out.old) out.new ≡ out.old) }
 {
     write_int(out, seq as i64)
 }
 
 fn write_field(out: &mut Octets, key: &Words, value: &Value, seq: u64) -> Result<(), Memory>
     requires { seq < NUMBERS }
-    ensures { OnOk result (out.new ≡ out.old ++ fields_spelling (field_with (codes "seq") (number_item seq) key.now (item_of value.now))) }
+    ensures written { OnOk result (out.new ≡ out.old ++ fields_spelling (field_with (codes "seq") (number_item seq) key.now (item_of value.now))) }
+    ensures err { OnErr result (take (length out.old) out.new ≡ out.old) }
 {
     write_text(out, key.as_str())?;
     if key.as_str() == "seq" {
@@ -59,7 +63,8 @@ fn write_field(out: &mut Octets, key: &Words, value: &Value, seq: u64) -> Result
 
 fn write_fields(out: &mut Octets, fields: &[(Words, Value)], seq: u64) -> Result<(), Memory>
     requires { seq < NUMBERS }
-    ensures { OnOk result (out.new ≡ out.old ++ fields_spelling (with_value (codes "seq") (number_item seq) (fields_of (map pair_of fields.now)))) }
+    ensures written { OnOk result (out.new ≡ out.old ++ fields_spelling (with_value (codes "seq") (number_item seq) (fields_of (map pair_of fields.now)))) }
+    ensures err { OnErr result (take (length out.old) out.new ≡ out.old) }
 {
     for (key, value) in fields {
         write_field(out, key, value, seq)?;
@@ -69,7 +74,8 @@ fn write_fields(out: &mut Octets, fields: &[(Words, Value)], seq: u64) -> Result
 
 fn write_payload(out: &mut Octets, payload: &Value, seq: u64) -> Result<(), Memory>
     requires { seq < NUMBERS }
-    ensures { OnOk result (out.new ≡ out.old ++ spelling (with_seq seq (item_of payload.now))) }
+    ensures written { OnOk result (out.new ≡ out.old ++ spelling (with_seq seq (item_of payload.now))) }
+    ensures err { OnErr result (take (length out.old) out.new ≡ out.old) }
 {
     match payload {
         Value::Map(fields) => {
@@ -81,16 +87,19 @@ fn write_payload(out: &mut Octets, payload: &Value, seq: u64) -> Result<(), Memo
     }
 }
 
+/// Adds the frame in which an event goes out under a number: its payload with `seq` replaced, behind the header `{t, op}`. Where
+/// memory is wanted, what was there stays in front.
 #[tactic(auto, unfolding(crate::specs::Writing::out_of, crate::specs::Writing::message_of))]
-fn write_event(out: &mut Octets, event: &Event, seq: u64) -> Result<(), Memory>
+pub fn write_frame(out: &mut Octets, event: &Event, seq: u64) -> Result<(), Memory>
     requires { seq < NUMBERS }
-    ensures { OnOk result (out.new ≡ out.old ++ out_of event.now seq) }
+    ensures written { OnOk result (out.new ≡ out.old ++ out_of event.now seq) }
+    ensures err { OnErr result (take (length out.old) out.new ≡ out.old) }
 {
     write_header(out, event.kind())?;
     write_payload(out, &event.payload, seq)
 }
 
-/// The frame in which an event goes out under a number: its payload with `seq` replaced, behind the header `{t, op}`.
+/// The frame in which an event goes out under a number, with its own memory.
 pub fn out_frame(alloc: Global, event: &Event, seq: u64) -> Result<Octets, Memory>
     requires { seq < NUMBERS }
     ensures spelled { IfOk result (λ bytes. bytes ≡ out_of event.now seq) }
@@ -99,7 +108,7 @@ pub fn out_frame(alloc: Global, event: &Event, seq: u64) -> Result<Octets, Memor
 {
     event.tell_event();
     let mut out = Octets::new(alloc);
-    write_event(&mut out, event, seq)?;
+    write_frame(&mut out, event, seq)?;
     Ok(out)
 }
 
@@ -110,6 +119,17 @@ fn number_len(seq: u64) -> u64
     spelled_len(&Value::Int(seq as i64))
 }
 
+/// How long the frame of an event is under a number; at most `u64::MAX`. Takes no memory.
+pub fn frame_len(event: &Event, seq: u64) -> u64
+    requires { seq < NUMBERS }
+    ensures { result ≡ min (length (out_of event.now seq)) (2 ^ 64 - 1) }
+{
+    let header = name(event.kind()).len() as u64 + 8;
+    let number = number_len(event.seq);
+    let payload = spelled_len(&event.payload);
+    (payload - number).saturating_add(number_len(seq) + header)
+}
+
 /// How long the frame of an event is where its number takes nine bytes, as each from 2^32 does; at most `u64::MAX`.
 /// Takes no memory.
 pub fn out_len(event: &Event) -> u64
@@ -118,8 +138,6 @@ pub fn out_len(event: &Event) -> u64
     // No frame of the event is longer.
     ensures most { (n : ℕ) → n < NUMBERS → min (length (out_of event.now n)) (2 ^ 64 - 1) ≤ result }
 {
-    let header = name(event.kind()).len() as u64 + 8;
-    let number = number_len(event.seq);
-    let payload = spelled_len(&event.payload);
-    (payload - number).saturating_add(9 + header)
+    event.tell_event();
+    frame_len(event, NUMBERS - 1)
 }

@@ -3,6 +3,7 @@
 #![tactic(auto)]
 
 mod following;
+mod gathered;
 mod laws;
 mod notices;
 mod replay_fault;

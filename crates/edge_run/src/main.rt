@@ -4,8 +4,8 @@
 //! length in four bytes (the most significant first), and ends with 0 where the host closed and with
 //! 1 where the feed failed.
 //!
-//! `edge_run door GUESTS MESSAGES LENGTH` serves so many guests, one after another. Each gets so many
-//! messages of so many bytes, all of them the letter `m`. It prints a line for each guest.
+//! `edge_run door GUESTS MESSAGES LENGTH [PORT]` serves so many guests, one after another. Each gets so
+//! many messages of so many bytes, all of them the letter `m`. It prints a line for each guest.
 #![tactic(auto)]
 
 ghost use Rattle.std.specs.Prelude.{IsTrue};
@@ -48,8 +48,8 @@ fn send_times<G: Door>(door: &mut G, times: u64, message: &[u8]) -> u64
 }
 
 // Serves guests, each of whom gets the message so many times.
-fn serve(rt: &HostRuntime, guests: u64, times: u64, message: &[u8]) -> Result<()> {
-    let mut door = WsDoor::new(rt.alloc(), rt, DOOR_PORT);
+fn serve(rt: &HostRuntime, port: u16, guests: u64, times: u64, message: &[u8]) -> Result<()> {
+    let mut door = WsDoor::new(rt.alloc(), rt, port);
     for _ in 0..guests {
         match door.next()? {
             Guest::Target(target) => {
@@ -83,7 +83,11 @@ fn run(rt: &HostRuntime) -> Result<()> {
     }
     let length = words.next().context("how long a message is")?;
     let message = vec![in rt.alloc(); b'm'; length.parse::<usize>()?]?;
-    serve(rt, first.parse::<u64>()?, second, message.as_slice())
+    let port = match words.next() {
+        Some(word) => word.parse::<u16>()?,
+        None => DOOR_PORT,
+    };
+    serve(rt, port, first.parse::<u64>()?, second, message.as_slice())
 }
 
 fn main(rt: HostRuntime) -> ExitCode {

@@ -1,5 +1,5 @@
 -- Words are the spelling of one command at most.
-use Rattle.std.proofs.Common.{rules, ◌≡◌, ◌<◌, ◌≤◌, ◌^◌, ℕ, List, ◌∷◌, [], arith, decimal}
+use Rattle.std.proofs.Common.{rules, ◌≡◌, ◌<◌, ◌^◌, ℕ, List, arith, decimal}
 use Rattle.std.proofs.lemmas.Fmt.{decimal_injective}
 use Rattle.relay_cli.specs.declared.command.Command.{Command}
 use Rattle.relay_cli.specs.declared.command.TheConstants.{LAST_NUMBER, MOST, MOST_TRIED}
@@ -35,6 +35,12 @@ one_command words (Command.Serve m) (Command.Serve n) one other =
     let v = other.words_are in
     let texts : decimal m ≡ decimal n = cc in
     let number = same_count m n one.in_form other.in_form texts in
+    cc
+one_command words (Command.Cut m) (Command.Cut n) one other =
+    let u = one.words_are in
+    let v = other.words_are in
+    let texts : decimal m ≡ decimal n = cc in
+    let number = same_cursor m n one.in_form other.in_form texts in
     cc
 one_command words (Command.Trial s m) (Command.Trial t n) one other =
     let u = one.words_are in

@@ -19,6 +19,7 @@ name_of Verb.Hosts = codes "hosts"
 name_of Verb.Takedown = codes "takedown"
 name_of Verb.Restore = codes "restore"
 name_of Verb.Sync = codes "sync"
+name_of Verb.Cut = codes "cut"
 name_of Verb.Trial = codes "trial"
 
 abbrev pub verb_of : Command → Verb
@@ -32,6 +33,7 @@ verb_of Command.Hosts = Verb.Hosts
 verb_of (Command.Takedown did time) = Verb.Takedown
 verb_of (Command.Restore did time) = Verb.Restore
 verb_of (Command.Sync did time) = Verb.Sync
+verb_of (Command.Cut seq) = Verb.Cut
 verb_of (Command.Trial start count) = Verb.Trial
 
 -- the words behind the first; numbers in decimal, without sign and without zeros in front
@@ -46,6 +48,7 @@ rest_of Command.Hosts = []
 rest_of (Command.Takedown did time) = did ∷ time ∷ []
 rest_of (Command.Restore did time) = did ∷ time ∷ []
 rest_of (Command.Sync did time) = did ∷ time ∷ []
+rest_of (Command.Cut seq) = decimal seq ∷ []
 rest_of (Command.Trial start count) = decimal start ∷ decimal count ∷ []
 
 pub record IsNumber (least most n : ℕ) : Type 0 where
@@ -69,6 +72,7 @@ IsInForm Command.Hosts = ⊤
 IsInForm (Command.Takedown did time) = IsTrue (is_did did) × IsTime time
 IsInForm (Command.Restore did time) = IsTrue (is_did did) × IsTime time
 IsInForm (Command.Sync did time) = IsTrue (is_did did) × IsTime time
+IsInForm (Command.Cut seq) = IsNumber 0 LAST_NUMBER seq
 IsInForm (Command.Trial start count) = IsNumber 0 LAST_NUMBER start × IsNumber 1 MOST_TRIED count
 
 -- the command has this first word and these words behind it

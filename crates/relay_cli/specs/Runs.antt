@@ -14,6 +14,7 @@ use Rattle.relay_disk.specs.Disk.{View}
 use Rattle.relay_io.specs.Streams.{AddsFront}
 use Rattle.relay_io.specs.declared.feed.TheConstants.{LONGEST_MESSAGE}
 use Rattle.relay_row.specs.declared.row.Row.{Row}
+use Rattle.relay_run.specs.Cutting.{IsOfCutting, WasCut}
 use Rattle.relay_run.specs.Ends.{IsOfShowing, IsQuiet as IsQuietEnd, Shows as HadJournal}
 use Rattle.relay_run.specs.Pairs.{Outside, outside}
 use Rattle.relay_run.specs.Shown.{Shown}
@@ -36,11 +37,13 @@ use Rattle.relay_store.specs.declared.message.Message.{Message}
 use Rattle.tape_run.specs.Tells.{tells as tape_tells}
 use Rattle.tape_run.specs.Tapes.{AreRecords, spelled}
 use Rattle.tape_run.specs.declared.end.TapeEnd.{TapeEnd}
+use Rattle.trial_run.specs.Tried.{Tried}
+use Rattle.trial_run.specs.declared.end.TrialEnd.{TrialEnd}
 use Rattle.relay_cli.specs.declared.command.Command.{Command}
 use Rattle.relay_cli.specs.declared.running.TheConstants.{LONGEST}
 use Rattle.relay_cli.specs.declared.status.Status.{Status}
 use Rattle.relay_cli.specs.declared.verdict.Verdict.{Verdict}
-use Rattle.relay_cli.specs.Statuses.{status_of, status_of_feed, status_of_run, status_of_serving, status_of_tape}
+use Rattle.relay_cli.specs.Statuses.{status_of, status_of_feed, status_of_run, status_of_serving, status_of_tape, status_of_trial}
 use Rattle.relay_cli.specs.Report.{line_of}
 use Rattle.relay_cli.specs.Verdicts.{IsVerdict}
 
@@ -86,7 +89,6 @@ IsTooLong limit old new = IsTrue old.input_told → length old.left ≡ limit + 
 -- What `check` does on a message of at most so many bytes.
 abbrev pub Checked : ℕ → Streams → Streams → Status → Type 0
 Checked limit old new Status.Usage = ⊥
-Checked limit old new Status.NotBuilt = ⊥
 Checked limit old new Status.ReadFault = Rose old.read_faults new.read_faults × IsQuiet old new
 Checked limit old new Status.WriteFault = (verdict : Verdict) × StoppedAt limit old new verdict
 Checked limit old new Status.TooLong = IsTooLong limit old new × IsQuiet old new
@@ -197,6 +199,10 @@ IsSynced did time t old new status = Ended t old new status (λ end. (new.left �
     × IsCause (Knows J (λ core. EndsFetched core did (told_where t.repos (old.around.repository did)) old.around.panel new.around.panel)) ⊤ ⊤ ⊤ fault)
     (λ word. Knows J (λ core. SyncedAt t.clock t.repos core did time old.around word new.around)) (disks old) (disks new) end)))
 
+-- the journal is cut at a number, and nothing else is asked or read
+abbrev pub IsCut : {D : Type 0} → (D → View) → ℕ → Tells → Place → Place → Status → Type 0
+IsCut view seq t old new status = Ended t old new status (λ end. IsOfCutting end × ((new.around ≡ old.around) × ((new.left ≡ old.left) × OnJournal t old (λ J. WasCut view t.output LONGEST J seq (disks old) (disks new) end))))
+
 -- no count rose
 abbrev pub IsFlawless : Faults → Faults → Type 0
 IsFlawless old new = NoneOf (Rose old.disk new.disk ⊎ Rose old.other new.other) (Rose old.input new.input) (Rose old.output new.output) (Rose old.repos new.repos) (Rose old.clock new.clock)
@@ -239,16 +245,26 @@ pub record IsGivenOut (t : Tells) (old new : Place) (status : Status) (Does : Se
   pub unread : new.left ≡ old.left
   pub does : Does end
 
-abbrev pub is_built : Command → Bool
-is_built (Command.Trial start count) = false
-is_built command = true
+-- A trial was run on two disks of its own, which hold these bytes in the end; of what was handed in it has the output alone.
+pub record IsTried (start count : ℕ) (t : Tells) (old new : Place) (status : Status) : Type 0 where
+  pub end : TrialEnd
+  pub status_is : status ≡ status_of_trial end
+  pub first : List ℕ
+  pub second : List ℕ
+  pub tried : Tried t.output start count first second old.written new.written end
 
 -- whether a command works on the journal
 abbrev pub is_on_journal : Command → Bool
 is_on_journal Command.Check = false
-is_on_journal command = is_built command
+is_on_journal (Command.Trial start count) = false
+is_on_journal command = true
 
--- whether a command asks the feed, or the door
+-- whether a command reads the input, asks the feed, or the door
+abbrev pub uses_input : Command → Bool
+uses_input Command.Check = true
+uses_input Command.Ingest = true
+uses_input command = false
+
 abbrev pub uses_feed : Command → Bool
 uses_feed (Command.Follow host count) = true
 uses_feed command = false
@@ -257,17 +273,18 @@ abbrev pub uses_door : Command → Bool
 uses_door (Command.Serve count) = true
 uses_door command = false
 
--- What a run of each command does.
-abbrev pub Ran : Tells → Place → Place → Faults → Faults → Status → Command → Type 0
-Ran t old new failed failed_now status Command.Check =
+-- What a run of each command does, on disks that are seen so.
+abbrev pub Ran : {D : Type 0} → (D → View) → Tells → Place → Place → Faults → Faults → Status → Command → Type 0
+Ran view t old new failed failed_now status Command.Check =
     Checked LONGEST_MESSAGE (streams t.input old.left failed.input t.output old.written failed.output) (streams t.input new.left failed_now.input t.output new.written failed_now.output) status
-Ran t old new failed failed_now status Command.Ingest = IsIngested t old new failed failed_now status
-Ran t old new failed failed_now status (Command.Account did) = IsShown (λ J. account_text did (account did J)) t old new status
-Ran t old new failed failed_now status Command.Hosts = IsShown (λ J. hosts_text (hosts J)) t old new status
-Ran t old new failed failed_now status (Command.Takedown did time) = IsOperated did true time t old new status
-Ran t old new failed failed_now status (Command.Restore did time) = IsOperated did false time t old new status
-Ran t old new failed failed_now status (Command.Sync did time) = IsSynced did time t old new status
-Ran t old new failed failed_now status (Command.Follow host count) = IsFollowed host count t old new failed failed_now status
-Ran t old new failed failed_now status (Command.Replay cursor) = IsGivenOut t old new status (λ end. OnJournal t old (λ J. Replayed t.output J cursor (disks old) (disks new) end))
-Ran t old new failed failed_now status (Command.Serve count) = IsGivenOut t old new status (λ end. OnJournal t old (λ J. ServedAt t.door t.output count J old.door new.door (disks old) (disks new) end))
-Ran t old new failed failed_now status command = status ≡ Status.NotBuilt
+Ran view t old new failed failed_now status Command.Ingest = IsIngested t old new failed failed_now status
+Ran view t old new failed failed_now status (Command.Account did) = IsShown (λ J. account_text did (account did J)) t old new status
+Ran view t old new failed failed_now status Command.Hosts = IsShown (λ J. hosts_text (hosts J)) t old new status
+Ran view t old new failed failed_now status (Command.Takedown did time) = IsOperated did true time t old new status
+Ran view t old new failed failed_now status (Command.Restore did time) = IsOperated did false time t old new status
+Ran view t old new failed failed_now status (Command.Sync did time) = IsSynced did time t old new status
+Ran view t old new failed failed_now status (Command.Cut seq) = IsCut view seq t old new status
+Ran view t old new failed failed_now status (Command.Follow host count) = IsFollowed host count t old new failed failed_now status
+Ran view t old new failed failed_now status (Command.Replay cursor) = IsGivenOut t old new status (λ end. OnJournal t old (λ J. Replayed t.output J cursor (disks old) (disks new) end))
+Ran view t old new failed failed_now status (Command.Serve count) = IsGivenOut t old new status (λ end. OnJournal t old (λ J. ServedAt t.door t.output count J old.door new.door (disks old) (disks new) end))
+Ran view t old new failed failed_now status (Command.Trial start count) = IsTried start count t old new status

@@ -6,6 +6,7 @@ use Rattle.relay_run.specs.declared.end.RunEnd.{RunEnd}
 use Rattle.relay_store.specs.declared.fault.StoreFault.{StoreFault}
 use Rattle.serve_run.specs.declared.end.ServeEnd.{ServeEnd}
 use Rattle.tape_run.specs.declared.end.TapeEnd.{TapeEnd}
+use Rattle.trial_run.specs.declared.end.TrialEnd.{TrialEnd}
 use Rattle.relay_cli.specs.declared.status.Status.{Status}
 use Rattle.relay_cli.specs.declared.verdict.Verdict.{Verdict}
 
@@ -26,7 +27,6 @@ code_of_status Status.SeqEnd = 12
 code_of_status Status.TooLong = 13
 code_of_status Status.Memory = 14
 code_of_status (Status.Refused code) = 15
-code_of_status Status.NotBuilt = 16
 code_of_status Status.Clock = 17
 
 -- how a run ends that came to this verdict
@@ -79,3 +79,9 @@ status_of_serving ServeEnd.Disk = Status.Disk
 status_of_serving (ServeEnd.BadLog place) = Status.BadLog place
 status_of_serving ServeEnd.Memory = Status.Memory
 status_of_serving ServeEnd.TooLong = Status.Memory
+
+-- of a trial
+abbrev pub status_of_trial : TrialEnd → Status
+status_of_trial TrialEnd.Done = Status.Done
+status_of_trial TrialEnd.WriteFault = Status.WriteFault
+status_of_trial TrialEnd.Memory = Status.Memory

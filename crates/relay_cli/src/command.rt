@@ -41,6 +41,8 @@ pub enum Command {
     Restore(Words, Words),
     /// Fetches and checks the repository of this DID, at this time.
     Sync(Words, Words),
+    /// Takes the events up to this number out of the journal.
+    Cut(u64),
     /// Runs so many made messages from this start, in two merges.
     Trial(u64, u64),
 }
@@ -89,6 +91,7 @@ fn with_one(alloc: Global, verb: Verb, one: &str) -> Result<Command, WordsFault>
         Verb::Replay => Ok(Command::Replay(number_from(one, 0, LAST_NUMBER)?)),
         Verb::Serve => Ok(Command::Serve(number_from(one, 1, MOST)?)),
         Verb::Account => Ok(Command::Account(did_from(alloc, one)?)),
+        Verb::Cut => Ok(Command::Cut(number_from(one, 0, LAST_NUMBER)?)),
         _ => Err(WordsFault::NoCommand),
     }
 }

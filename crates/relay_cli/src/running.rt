@@ -3,7 +3,7 @@ ghost use Rattle.std.specs.Prelude.{◌≡◌, ◌⊎◌, map, string_bytes, fal
 ghost use Rattle.relay_step.specs.Around.{around};
 ghost use Rattle.relay_cli.specs.Commands.{IsInForm, IsSpelled};
 ghost use Rattle.serve_run.specs.AtDoor.{at_door};
-ghost use Rattle.relay_cli.specs.Runs.{Caused, Kept, Ran, faults, is_built, is_on_journal, place, tells, uses_door, uses_feed};
+ghost use Rattle.relay_cli.specs.Runs.{Caused, Kept, Ran, faults, is_on_journal, place, tells, uses_door, uses_feed, uses_input};
 
 use crate::checking::check;
 use crate::command::{Command, command_from};
@@ -14,9 +14,10 @@ use follow_run::follow;
 use ingest_run::ingest;
 use relay_disk::Disk;
 use relay_io::{Clock, Door, Feed, LONGEST_MESSAGE, Repos, Sink, Source};
-use relay_run::{account, hosts, operate, sync};
+use relay_run::{account, cut, hosts, operate, sync};
 use serve_run::{replay, serve};
 use std::alloc::Global;
+use trial_run::trial;
 
 /// The most bytes of a log, and of a tape.
 pub const LONGEST: u64 = 1 << 40;
@@ -36,17 +37,18 @@ pub fn relay<P: Judges, F: Feed, R: Repos, D: Disk, I: Source, O: Sink, G: Door,
     clock: &mut C,
 ) -> Status
     // What the words say is done, unless memory is wanted for the words.
-    ensures ran { ((command : Command) → IsSpelled (map string_bytes words.now) command → Ran (tells D.tells C.tells R.tells I.tells O.tells F.tells G.tells)
+    ensures ran { ((command : Command) → IsSpelled (map string_bytes words.now) command → Ran D.view (tells D.tells C.tells R.tells I.tells O.tells F.tells G.tells)
         (place (D.view disk.old) (D.view other.old) (around (P.panel panel.old) (C.moments clock.old) (R.repository repos.old)) (I.left input.old) (O.written out.old) (F.behind feed.old) (F.left feed.old) (at_door (G.guests door.old) (G.turns door.old) (G.session_faults door.old)))
         (place (D.view disk.new) (D.view other.new) (around (P.panel panel.new) (C.moments clock.new) (R.repository repos.new)) (I.left input.new) (O.written out.new) (F.behind feed.new) (F.left feed.new) (at_door (G.guests door.new) (G.turns door.new) (G.session_faults door.new)))
         (faults (D.view disk.old).faults (D.view other.old).faults (R.faults repos.old) (C.faults clock.old) (I.faults input.old) (O.faults out.old) (F.faults feed.old) (G.faults door.old))
         (faults (D.view disk.new).faults (D.view other.new).faults (R.faults repos.new) (C.faults clock.new) (I.faults input.new) (O.faults out.new) (F.faults feed.new) (G.faults door.new)) result command)
         ⊎ ((result ≡ Status.Memory) × ((panel.new ≡ panel.old) × ((repos.new ≡ repos.old) × ((disk.new ≡ disk.old) × ((other.new ≡ other.old) × ((input.new ≡ input.old) × ((out.new ≡ out.old) × ((clock.new ≡ clock.old) × ((feed.new ≡ feed.old) × (door.new ≡ door.old)))))))))) }
 
-    // `check` works on its streams alone. A command that isn't built, and words that are none, touch nothing.
+    // `check` works on its streams alone, and `trial` on the output alone. Words that are no command touch nothing.
     ensures alone { ((command : Command) → IsSpelled (map string_bytes words.now) command → is_on_journal command ≡ false)
         → (panel.new ≡ panel.old) × ((repos.new ≡ repos.old) × ((disk.new ≡ disk.old) × ((other.new ≡ other.old) × (clock.new ≡ clock.old)))) }
-    ensures untouched { ((command : Command) → IsSpelled (map string_bytes words.now) command → is_built command ≡ false) → (input.new ≡ input.old) × (out.new ≡ out.old) }
+    ensures unread { ((command : Command) → IsSpelled (map string_bytes words.now) command → uses_input command ≡ false) → input.new ≡ input.old }
+    ensures unwritten { ((command : Command) → IsSpelled (map string_bytes words.now) command → ⊥) → out.new ≡ out.old }
     ensures unasked_feed { ((command : Command) → IsSpelled (map string_bytes words.now) command → uses_feed command ≡ false) → feed.new ≡ feed.old }
     ensures unasked_door { ((command : Command) → IsSpelled (map string_bytes words.now) command → uses_door command ≡ false) → door.new ≡ door.old }
     ensures no_command { ((command : Command) → IsSpelled (map string_bytes words.now) command → ⊥) → (result ≡ Status.Usage) ⊎ (result ≡ Status.Memory) }
@@ -82,13 +84,13 @@ fn run<P: Judges, F: Feed, R: Repos, D: Disk, I: Source, O: Sink, G: Door, C: Cl
     clock: &mut C,
 ) -> Status
     requires form { IsInForm command.now }
-    ensures ran { Ran (tells D.tells C.tells R.tells I.tells O.tells F.tells G.tells)
+    ensures ran { Ran D.view (tells D.tells C.tells R.tells I.tells O.tells F.tells G.tells)
         (place (D.view disk.old) (D.view other.old) (around (P.panel panel.old) (C.moments clock.old) (R.repository repos.old)) (I.left input.old) (O.written out.old) (F.behind feed.old) (F.left feed.old) (at_door (G.guests door.old) (G.turns door.old) (G.session_faults door.old)))
         (place (D.view disk.new) (D.view other.new) (around (P.panel panel.new) (C.moments clock.new) (R.repository repos.new)) (I.left input.new) (O.written out.new) (F.behind feed.new) (F.left feed.new) (at_door (G.guests door.new) (G.turns door.new) (G.session_faults door.new)))
         (faults (D.view disk.old).faults (D.view other.old).faults (R.faults repos.old) (C.faults clock.old) (I.faults input.old) (O.faults out.old) (F.faults feed.old) (G.faults door.old))
         (faults (D.view disk.new).faults (D.view other.new).faults (R.faults repos.new) (C.faults clock.new) (I.faults input.new) (O.faults out.new) (F.faults feed.new) (G.faults door.new)) result command.now }
     ensures alone { is_on_journal command.now ≡ false → (panel.new ≡ panel.old) × ((repos.new ≡ repos.old) × ((disk.new ≡ disk.old) × ((other.new ≡ other.old) × (clock.new ≡ clock.old)))) }
-    ensures untouched { is_built command.now ≡ false → (input.new ≡ input.old) × (out.new ≡ out.old) }
+    ensures unread { uses_input command.now ≡ false → input.new ≡ input.old }
     ensures unasked_feed { uses_feed command.now ≡ false → feed.new ≡ feed.old }
     ensures unasked_door { uses_door command.now ≡ false → door.new ≡ door.old }
     ensures no_usage { result ≡ Status.Usage → ⊥ }
@@ -126,12 +128,13 @@ fn run<P: Judges, F: Feed, R: Repos, D: Disk, I: Source, O: Sink, G: Door, C: Cl
                 alloc, LONGEST, host, *count, disk, other, panel, repos, clock, feed, out,
             ))
         }
+        Command::Cut(seq) => Status::from(cut(alloc, LONGEST, disk, other, *seq, out)),
         Command::Replay(cursor) => {
             Status::from(replay(alloc, LONGEST, disk, other, *cursor, out))
         }
         Command::Serve(count) => {
             Status::from(serve(alloc, LONGEST, *count, disk, other, door, out))
         }
-        Command::Trial(_, _) => Status::NotBuilt,
+        Command::Trial(start, count) => Status::from(trial(alloc, *start, *count, out)),
     }
 }

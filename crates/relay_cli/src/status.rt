@@ -7,6 +7,7 @@ use relay_run::RunEnd;
 use relay_store::StoreFault;
 use serve_run::ServeEnd;
 use tape_run::TapeEnd;
+use trial_run::TrialEnd;
 
 /// How a run ended. A place or an end is in bytes from the front of its tape or log.
 #[derive(Clone, Copy, Debug, PartialEq, Eq)]
@@ -43,8 +44,6 @@ pub enum Status {
     Memory,
     /// The message or the word was refused, with this number.
     Refused(u8),
-    /// The command isn't built.
-    NotBuilt,
     /// A call of the clock failed.
     Clock,
 }
@@ -71,7 +70,6 @@ impl Status {
             Status::TooLong => 13,
             Status::Memory => 14,
             Status::Refused(_) => 15,
-            Status::NotBuilt => 16,
             Status::Clock => 17,
         }
     }
@@ -158,6 +156,20 @@ impl From<ServeEnd> for Status {
             ServeEnd::Disk => Status::Disk,
             ServeEnd::BadLog(place) => Status::BadLog(place),
             ServeEnd::Memory | ServeEnd::TooLong => Status::Memory,
+        }
+    }
+}
+
+impl From<TrialEnd> for Status {
+    ghost use Rattle.relay_cli.specs.Statuses.{status_of_trial};
+
+    ghost from_gives = { λ end status. status ≡ status_of_trial end };
+
+    fn from(end: TrialEnd) -> Status {
+        match end {
+            TrialEnd::Done => Status::Done,
+            TrialEnd::WriteFault => Status::WriteFault,
+            TrialEnd::Memory => Status::Memory,
         }
     }
 }

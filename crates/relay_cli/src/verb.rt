@@ -15,6 +15,7 @@ pub enum Verb {
     Takedown,
     Restore,
     Sync,
+    Cut,
     Trial,
 }
 
@@ -42,6 +43,8 @@ pub fn verb_from(word: &str) -> Option<Verb>
         Some(Verb::Restore)
     } else if word == "sync" {
         Some(Verb::Sync)
+    } else if word == "cut" {
+        Some(Verb::Cut)
     } else if word == "trial" {
         Some(Verb::Trial)
     } else {

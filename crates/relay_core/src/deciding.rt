@@ -3,6 +3,7 @@
 
 ghost use Rattle.std.specs.Prelude.{◌≡◌, [], ◌∷◌, if◌then◌else◌};
 ghost use Rattle.at_event.specs.declared.event.Body.{Body};
+ghost use Rattle.at_event.specs.declared.frame.Frame.{Frame as TheFrame};
 ghost use Rattle.account_state.specs.State.{State};
 ghost use Rattle.relay_core.specs.Entries.{state_in};
 ghost use Rattle.relay_core.specs.Table.{walk, next_at, next_of, refused, accepted, is_ahead, home_line, link_line, repo_lines, body_lines, event_lines, faulty_lines};
@@ -157,13 +158,27 @@ fn next_of_faulty(answers: &Answers) -> Next
     refuse(Refusal::BadEvent, answers)
 }
 
+/// What comes next for an event, at its host's cursor and the account of its DID.
+pub fn next_for_event(
+    cursor: u64,
+    account: Option<&Account>,
+    event: &Event,
+    answers: &Answers,
+) -> Next
+    ensures { result ≡ next_of cursor (state_in account.entry) (TheFrame.Event event.now) answers.now }
+{
+    if event.seq <= cursor {
+        return Next::Pass(Pass::Old);
+    }
+    next_of_event(account, event, answers)
+}
+
 /// What comes next for a message, at its host's cursor and the account of its DID.
 pub fn next_for(cursor: u64, account: Option<&Account>, frame: &Frame, answers: &Answers) -> Next
     ensures { result ≡ next_of cursor (state_in account.entry) frame.now answers.now }
 {
     match frame {
-        Frame::Event(event) if event.seq <= cursor => Next::Pass(Pass::Old),
-        Frame::Event(event) => next_of_event(account, event, answers),
+        Frame::Event(event) => next_for_event(cursor, account, event, answers),
         Frame::Faulty(seq) if *seq <= cursor => Next::Pass(Pass::Old),
         Frame::Faulty(_) => next_of_faulty(answers),
         Frame::Info => Next::Pass(Pass::Info),

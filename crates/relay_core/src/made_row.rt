@@ -1,6 +1,6 @@
 //! The row of a decided message.
 
-ghost use Rattle.std.specs.Prelude.{◌≡◌, ◌+◌, ◌<◌, true, IfOk};
+ghost use Rattle.std.specs.Prelude.{◌≡◌, ◌+◌, ◌<◌, true, IfOk, option_map, if◌then◌else◌};
 ghost use Rattle.relay_row.specs.declared.limits.TheConstants.{NUMBERS};
 ghost use Rattle.relay_row.specs.declared.row.Row.{Row};
 ghost use Rattle.relay_core.specs.Rows.{kind_of, head_effect, effect_of, own_effect, fetched_of, goes_out, event_taken, faulty_taken, row_of};
@@ -9,8 +9,8 @@ use crate::answers::Answers;
 use crate::decision::Decision;
 use crate::journal_state::Core;
 use at_cid::{Memory, Octets, Words};
-use at_event::{Body, Event, Frame, Head, Refusal, out_frame};
-use relay_row::{Effect, Fetched, Row, Taken, loses};
+use at_event::{Body, Event, Frame, Head, Refusal};
+use relay_row::{Effect, Fetched, Fresh, Taken, loses};
 use std::alloc::Global;
 
 fn kind(body: &Body) -> u8
@@ -74,45 +74,59 @@ fn goes_out(decision: &Decision) -> bool
     }
 }
 
+// The number of what goes out, behind the last one, or 0.
+fn number(last: u64, decision: &Decision) -> u64
+    requires { goes_out decision.now.refusal decision.now.held ≡ true → last + 1 < NUMBERS }
+    ensures { result ≡ (if goes_out decision.now.refusal decision.now.held then last + 1 else 0) }
+{
+    if goes_out(decision) { last + 1 } else { 0 }
+}
+
+fn own_effect(refusal: Option<Refusal>, body: &Body, answers: &Answers) -> Result<Effect, Memory>
+    ensures { IfOk result (λ made. made ≡ own_effect refusal body.now answers.now) }
+{
+    match refusal {
+        None => effect(body, answers),
+        Some(_) => Ok(Effect::Nothing),
+    }
+}
+
 fn take_event(
     alloc: Global,
     last: u64,
     host: &str,
-    event: &Event,
+    event: Event,
     decision: &Decision,
     answers: Answers,
-) -> Result<Taken, Memory>
+) -> Result<Fresh, Memory>
     requires { goes_out decision.now.refusal decision.now.held ≡ true → last + 1 < NUMBERS }
-    ensures { IfOk result (λ taken. taken ≡ event_taken last host.now event.now decision.now answers) }
+    ensures { IfOk result (λ taken. taken ≡ event_taken last host.now event decision.now answers) }
 {
-    let (seq, message) = if goes_out(decision) {
-        (last + 1, out_frame(alloc, event, last + 1)?)
-    } else {
-        (0, Octets::new(alloc))
-    };
-    let effect = match decision.refusal {
-        None => effect(&event.body, &answers)?,
-        Some(_) => Effect::Nothing,
-    };
+    let effect = own_effect(decision.refusal, &event.body, &answers)?;
     let moment = answers.moment;
-    Ok(Taken {
+    let taken = Taken {
         host: Words::from_str(alloc, host)?,
         host_seq: event.seq,
         did: event.did.try_clone()?,
         kind: kind(&event.body),
         refusal: decision.refusal,
-        seq,
-        message,
+        seq: number(last, decision),
+        message: Octets::new(alloc),
         effect,
         fetched: fetched(decision.refusal, answers.fetched),
         moment,
-    })
+    };
+    if goes_out(decision) {
+        Ok(Fresh::of_event(taken, event))
+    } else {
+        Ok(Fresh::new(taken))
+    }
 }
 
-fn take_faulty(alloc: Global, host: &str, seq: u64, moment: Option<u64>) -> Result<Taken, Memory>
+fn take_faulty(alloc: Global, host: &str, seq: u64, moment: Option<u64>) -> Result<Fresh, Memory>
     ensures { IfOk result (λ taken. taken ≡ faulty_taken host.now seq moment) }
 {
-    Ok(Taken {
+    Ok(Fresh::new(Taken {
         host: Words::from_str(alloc, host)?,
         host_seq: seq,
         did: Words::new(alloc),
@@ -123,31 +137,31 @@ fn take_faulty(alloc: Global, host: &str, seq: u64, moment: Option<u64>) -> Resu
         effect: Effect::Nothing,
         fetched: Fetched::NotAsked,
         moment,
-    })
+    }))
 }
 
 impl Core {
     /// The row of a message that is decided so, behind the last number; none for a message that
-    /// makes no row. The answers move into it.
+    /// makes no row. The message and the answers move into it.
     pub fn row(
         &self,
         alloc: Global,
         host: &str,
-        frame: &Frame,
+        frame: Frame,
         decision: &Decision,
         answers: Answers,
-    ) -> Result<Option<Row>, Memory>
+    ) -> Result<Option<Fresh>, Memory>
         requires { goes_out decision.now.refusal decision.now.held ≡ true → self.now.last + 1 < NUMBERS }
-        ensures { IfOk result (λ row. row ≡ row_of self.now.last host.now frame.now decision.now answers) }
+        ensures { IfOk result (λ row. option_map Row.Taken row ≡ row_of self.now.last host.now frame decision.now answers) }
     {
         match frame {
             Frame::Event(event) => {
-                let taken = take_event(alloc, self.last, host, event, decision, answers)?;
-                Ok(Some(Row::Taken(taken)))
+                let row = take_event(alloc, self.last, host, event, decision, answers)?;
+                Ok(Some(row))
             }
             Frame::Faulty(seq) => {
-                let taken = take_faulty(alloc, host, *seq, answers.moment)?;
-                Ok(Some(Row::Taken(taken)))
+                let row = take_faulty(alloc, host, seq, answers.moment)?;
+                Ok(Some(row))
             }
             Frame::Info | Frame::Error | Frame::Unknown => Ok(None),
         }

@@ -2,6 +2,7 @@
 
 ghost use Rattle.std.specs.Prelude.{◌≡◌, ◌≢◌, List, ℕ, [], ◌++◌, ◌∷◌, Some, None, true, option_map, OnOk, IfSome};
 ghost use Rattle.std.specs.String.{string_bytes};
+ghost use Rattle.at_event.specs.declared.frame.Frame.{Frame as TheFrame};
 ghost use Rattle.relay_row.specs.Folds.{host_in, did_in};
 ghost use Rattle.relay_row.specs.Journal.{is_above, keeps_order};
 ghost use Rattle.relay_row.specs.declared.row.Row.{Row};
@@ -14,14 +15,14 @@ ghost use Rattle.relay_core.specs.Entries.{account_in, cursor_in, is_next_in, Ho
 ghost use Rattle.relay_core.specs.Table.{next_of, did_of};
 
 use crate::answers::Answers;
-use crate::deciding::next_for;
+use crate::deciding::{next_for, next_for_event};
 use crate::decision::Next;
 use crate::following::{last_after, stage_after};
 use crate::journal_state::Core;
 use crate::stage::{Stage, is_start, takes_accounts, takes_hosts};
 use account_state::{Account, Accounts};
 use at_cid::Memory;
-use at_event::Frame;
+use at_event::{Event, Frame};
 use host_state::Hosts;
 use relay_row::{Carried, Row};
 use std::alloc::Global;
@@ -95,17 +96,22 @@ impl Core {
         Ok(())
     }
 
+    /// What comes next for an event of a host, by the answers so far.
+    pub fn next_for_event(&self, host: &str, event: &Event, answers: &Answers) -> Next
+        ensures { result ≡ next_of (cursor_in self.now host.now) (account_in self.now event.now.did) (TheFrame.Event event.now) answers.now }
+    {
+        let cursor = self.cursor(host);
+        next_for_event(cursor, self.account(event.did.as_str()), event, answers)
+    }
+
     /// What comes next for a message of a host, by the answers so far.
     pub fn next(&self, host: &str, frame: &Frame, answers: &Answers) -> Next
         ensures { result ≡ next_of (cursor_in self.now host.now) (account_in self.now (did_of frame.now)) frame.now answers.now }
     {
-        let cursor = self.cursor(host);
         match frame {
-            Frame::Event(event) => {
-                next_for(cursor, self.account(event.did.as_str()), frame, answers)
-            }
+            Frame::Event(event) => self.next_for_event(host, event, answers),
             Frame::Faulty(_) | Frame::Info | Frame::Error | Frame::Unknown => {
-                next_for(cursor, None, frame, answers)
+                next_for(self.cursor(host), None, frame, answers)
             }
         }
     }

@@ -1,3 +1,4 @@
+pub mod Alike
 pub mod AnyBytes
 pub mod KeptCalls
 pub mod Moments

@@ -13,12 +13,14 @@ use at_cid::{Failures, Memory};
 use std::alloc::Global;
 
 /// A disk in memory. It tells its content, takes its memory when it is made and by `reserve`, and keeps the
-/// calls that were done, so that all that a crash may leave can be told.
+/// calls that were done, so that all that a crash may leave can be told. At a sync it copies what stands behind the bytes in
+/// front that no call since the last one has changed.
 #[derive(Drop)]
 pub struct MemoryDisk {
     pub(crate) first: Vec<u8>,
     pub(crate) content: Vec<u8>,
     pub(crate) settled: Vec<u8>,
+    pub(crate) unchanged: usize,
     pub(crate) calls: Vec<Call>,
     pub(crate) pieces: Vec<u8>,
     pub(crate) room: Room,
@@ -26,6 +28,8 @@ pub struct MemoryDisk {
     ghost in_step: { content.items ≡ (after (opened first.items) (works_of calls.items pieces.items)).content },
     ghost in_sync: { settled.items ≡ (after (opened first.items) (works_of calls.items pieces.items)).settled },
     ghost inside: { AreInside (length settled.items) (after (opened first.items) (works_of calls.items pieces.items)).since } by { AreInside-prop (length settled.items) (after (opened first.items) (works_of calls.items pieces.items)).since },
+    ghost alike: { take unchanged settled.items ≡ take unchanged content.items },
+    ghost in_content: { unchanged ≤ length content.items },
     ghost call_room: { vec_len calls + room.calls ≤ vec_capacity calls },
     ghost piece_room: { vec_len pieces + room.bytes ≤ vec_capacity pieces },
     ghost content_room: { vec_len content + room.bytes ≤ vec_capacity content },
@@ -61,14 +65,16 @@ fn keep(calls: &mut Vec<Call>, pieces: &mut Vec<u8>, call: Call, piece: &[u8])
     let _ = pieces.extend_from_slice(piece);
 }
 
-// Copies the content over what was settled, where there is room for it.
-fn settle(settled: &mut Vec<u8>, content: &[u8])
-    requires { length content.now ≤ vec_capacity settled.old }
+// Copies the content over what was settled, where there is room for it, from behind the bytes that are alike in both.
+fn settle(settled: &mut Vec<u8>, content: &[u8], alike: usize)
+    requires alike { take alike settled.old.items ≡ take alike content.now }
+    requires inside { alike ≤ length content.now }
+    requires room { length content.now ≤ vec_capacity settled.old }
     ensures items { settled.new.items ≡ content.now }
     ensures capacity { vec_capacity settled.old ≤ vec_capacity settled.new }
 {
-    settled.clear();
-    let _ = settled.extend_from_slice(content);
+    settled.truncate(alike);
+    let _ = settled.extend_from_slice(&content[alike..]);
 }
 
 impl MemoryDisk {
@@ -93,6 +99,7 @@ impl MemoryDisk {
             first: Vec::from_slice(alloc, content)?,
             content: Vec::from_slice(alloc, content)?,
             settled: Vec::from_slice(alloc, content)?,
+            unchanged: content.len(),
             calls: Vec::new(alloc),
             pieces: Vec::new(alloc),
             room,
@@ -198,6 +205,7 @@ impl Disk for MemoryDisk {
     {
         self.room.take(piece.len())?;
         put(&mut self.content, place as usize, piece);
+        self.unchanged = self.unchanged.min(place as usize);
         let call = Call::Write(place, piece.len());
         keep(&mut self.calls, &mut self.pieces, call, piece);
         Ok(())
@@ -215,6 +223,7 @@ impl Disk for MemoryDisk {
     {
         self.room.take(0)?;
         self.content.truncate(size as usize);
+        self.unchanged = self.unchanged.min(size as usize);
         keep(&mut self.calls, &mut self.pieces, Call::Cut(size), &[]);
         Ok(())
     }
@@ -229,7 +238,8 @@ impl Disk for MemoryDisk {
         ensures not_done { OnErr result (DoesNothing self.old self.new) }
     {
         self.room.take(0)?;
-        settle(&mut self.settled, &self.content);
+        settle(&mut self.settled, &self.content, self.unchanged);
+        self.unchanged = self.content.len();
         keep(&mut self.calls, &mut self.pieces, Call::Sync, &[]);
         Ok(())
     }

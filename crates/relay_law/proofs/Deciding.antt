@@ -15,7 +15,7 @@ use Rattle.at_event.specs.declared.frame.Frame.{Frame}
 use Rattle.at_event.specs.declared.head.Head.{Head}
 use Rattle.at_event.specs.declared.refusal.Refusal.{Refusal}
 use Rattle.at_event.proofs.Formed.{events_formed}
-use Rattle.at_event.proofs.OutLengths.{nine_bytes, most_bytes}
+use Rattle.at_event.proofs.OutLengths.{less_of, most_bytes}
 use Rattle.at_event.proofs.Renumbered.{with_seq_fits}
 use Rattle.relay_row.specs.Folds.{cursor, events_of, last_seq, seq_of, seq_in}
 use Rattle.relay_row.specs.Journal.{IsJournal, is_above, keeps_order}
@@ -63,12 +63,7 @@ sent_seq last n message others is = rw (ne_eqb n 0 (λ zero. omega (arith, is, z
 
 most_out : (e : Seen) → IsEvent e → (n : ℕ) → min (length (out_of e n)) (2 ^ 64 - 1) ≤ out_length e
 unfolding out_length
-most_out e is n =
-    let p = min (length (spelling e.payload)) (2 ^ 64 - 1) in
-    let q = min (length (spelling (number_item e.seq))) (2 ^ 64 - 1) in
-    let names = length (name_of (event_kind e.body)) in
-    let r = min (p - q + (9 + (names + 8))) (2 ^ 64 - 1) in
-    subst (λ (k : ℕ). min (length (out_of e n)) (2 ^ 64 - 1) ≤ k) (nine_bytes e is names p q r refl refl refl refl (NUMBERS - 1) (lit≤ tt)) (most_bytes e is names p q r refl refl refl refl n)
+most_out e is n = less_of (length (out_of e n)) (length (out_of e (NUMBERS - 1))) (most_bytes e is n (NUMBERS - 1) (lit≤ tt))
 
 short_out : (n : ℕ) → min n (2 ^ 64 - 1) ≤ 4194304 → n < 2 ^ 64
 short_out n h =

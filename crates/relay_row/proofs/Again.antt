@@ -1,12 +1,12 @@
 -- What is spelled of a row's parts is read again.
-use Rattle.std.proofs.Common.{◌≡◌, ℕ, zero, suc, ◌+◌, ◌-◌, ◌*◌, ◌≤◌, ◌<◌, ◌^◌, ◌⊎◌, inl, inr, Bool, true, false, cond, ◌&&◌, ◌||◌, List, [], ◌∷◌, ◌++◌, length, Option, Some, None, refl, sym, ap, ◌∙◌, subst, arith, leb, ltb, eqb, append_assoc, lit<}
+use Rattle.std.proofs.Common.{◌≡◌, ℕ, suc, ◌+◌, ◌*◌, ◌≤◌, ◌<◌, ◌^◌, inl, inr, Bool, true, false, ◌&&◌, List, [], ◌∷◌, ◌++◌, length, Option, Some, None, refl, sym, ap, ◌∙◌, subst, arith, leb, ltb, eqb, append_assoc, lit<}
 use Rattle.std.proofs.lemmas.Bool.{ltb-true, leb-true, eqb-true, eq-eqb, lt-ltb, and_parts}
 use Rattle.std.proofs.lemmas.Bool.Decides.{nat_tests, eqb_tells}
 use Rattle.std.specs.Str.{is_utf8}
 use Rattle.at_cid.specs.Link.{IsBytes, is_link, kind_of}
 use Rattle.at_cbor.specs.declared.major.Major.{Major}
-use Rattle.at_cbor.specs.Item.{Item, items_of}
-use Rattle.at_cbor.specs.Spelling.{front_of, spelling, items_spelling, info_of, tail_of, IsText, IsString}
+use Rattle.at_cbor.specs.Item.{Item}
+use Rattle.at_cbor.specs.Spelling.{front_of, spelling, info_of, IsText, IsString}
 use Rattle.at_cbor.proofs.Fronts.{form_0}
 use Rattle.at_event.specs.Refusals.{code_of}
 use Rattle.at_event.specs.declared.head.Head.{Head}
@@ -17,10 +17,10 @@ use Rattle.relay_row.specs.declared.taken.Effect.{Effect}
 use Rattle.relay_row.specs.declared.carried.CarriedRepo.{CarriedRepo}
 use Rattle.relay_row.specs.Items.{number, rev_text, list, or_null, if_there, head_items, whole_items, code, detail_items, effect_item, fetched_item, repo_item}
 use Rattle.relay_row.specs.Rules.{is_number, is_positive, is_moment, are_bytes, is_text, is_string, is_cid, is_rev, is_rev_or_none, is_node_kind, is_node, is_head, is_empty, is_message, is_status, is_whole, is_detail, is_repo_number, is_repo}
-use Rattle.relay_row.specs.Readers.{Reading, ◌>>=◌, behind, give, given, number_at, count_at, or_null_at}
-use Rattle.relay_row.specs.Reading.{head_at, whole_items_at, whole_at, plain, one_detail, two_details, details, detail_at, account_effect, effect_of, effect_at, number_or_whole, fetched_at, repo_of, repo_at, moment_at}
+use Rattle.relay_row.specs.Readers.{Reading, ◌>>=◌, behind, give, number_at, count_at, or_null_at}
+use Rattle.relay_row.specs.Reading.{head_at, whole_items_at, whole_at, plain, one_detail, two_details, detail_at, account_effect, effect_of, effect_at, number_or_whole, fetched_at, repo_of, repo_at, moment_at}
 use Rattle.relay_row.proofs.Bytes.{tested_bytes}
-use Rattle.relay_row.proofs.Atoms.{IsTextOrNone, IsRevOrNone, number_again, byte_again, place_again, text_again, bytes_again, bool_again, link_again, rev_again, null_or_rev_again, null_or_text_again}
+use Rattle.relay_row.proofs.Atoms.{IsTextOrNone, IsRevOrNone, number_again, place_again, bytes_again, bool_again, link_again, rev_again, null_or_rev_again, null_or_text_again}
 use Rattle.relay_row.proofs.Counts.{count_again, items_count_is}
 use Rattle.relay_row.proofs.Found.{spell}
 

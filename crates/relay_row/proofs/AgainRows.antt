@@ -1,15 +1,14 @@
 -- What is spelled of rows is read again.
-use Rattle.std.proofs.Common.{◌≡◌, ℕ, zero, suc, ◌+◌, ◌-◌, ◌*◌, ◌≤◌, ◌<◌, ◌^◌, ◌⊎◌, inl, inr, Bool, true, false, cond, ◌&&◌, ◌||◌, not, List, [], ◌∷◌, ◌++◌, length, Option, Some, None, refl, sym, ap, ◌∙◌, subst, arith, leb, ltb, eqb, append_assoc, lit<}
+use Rattle.std.proofs.Common.{◌≡◌, ℕ, suc, ◌+◌, ◌<◌, ◌^◌, ◌⊎◌, inl, inr, Bool, true, false, cond, ◌&&◌, ◌||◌, List, [], ◌∷◌, ◌++◌, length, Option, Some, None, refl, sym, ap, ◌∙◌, subst, arith, leb, ltb, eqb, append_assoc, lit<}
 use Rattle.std.specs.List.{list_all}
 use Rattle.std.specs.Bool.{beq}
-use Rattle.std.proofs.lemmas.Bool.{ltb-true, leb-true, eqb-true, eq-eqb, lt-ltb, le-leb, and_parts, and_from}
-use Rattle.std.proofs.lemmas.Bool.Decides.{nat_tests}
+use Rattle.std.proofs.lemmas.Bool.{leb-true, eqb-true, lt-ltb, le-leb, and_parts}
 use Rattle.std.proofs.lemmas.List.{append-nil}
 use Rattle.at_cbor.specs.declared.major.Major.{Major}
 use Rattle.at_cbor.specs.Item.{Item}
 use Rattle.at_cbor.specs.Spelling.{front_of, spelling, IsText}
-use Rattle.at_syntax.specs.Did.{is_did, is_named, scheme_of}
-use Rattle.at_syntax.specs.Host.{is_host, is_host_character}
+use Rattle.at_syntax.specs.Did.{is_did}
+use Rattle.at_syntax.specs.Host.{is_host}
 use Rattle.at_event.proofs.Texts.{ascii_text}
 use Rattle.at_event.specs.Refusals.{code_of}
 use Rattle.at_event.specs.declared.refusal.Refusal.{Refusal}
@@ -18,19 +17,16 @@ use Rattle.relay_row.specs.declared.operated.Operated.{Operated}
 use Rattle.relay_row.specs.declared.fetched.Whole.{Whole}
 use Rattle.relay_row.specs.declared.taken.Effect.{Effect}
 use Rattle.relay_row.specs.declared.fetched.Fetched.{Fetched}
-use Rattle.relay_row.specs.declared.carried.CarriedAccount.{CarriedAccount}
 use Rattle.relay_row.specs.declared.carried.Carried.{Carried}
 use Rattle.relay_row.specs.declared.row.Row.{Row}
-use Rattle.relay_row.specs.Items.{number, list, or_null, if_there, whole_items, code, detail_items, effect_item, fetched_item, repo_item, carried_items, row_items}
+use Rattle.relay_row.specs.Items.{number, list, if_there, code, detail_items, carried_items, row_items}
 use Rattle.relay_row.specs.Bodies.{row_spelling, spelled, body_of, IsBody}
 use Rattle.relay_row.specs.Rules.{is_number, is_positive, is_moment, is_text, is_empty, is_message, is_status, is_whole, is_detail, loses, is_repo_number, is_fetched, is_nothing, is_effect, is_timed, is_head, is_accepted, is_refused, is_decided, is_about, names_host, names_did, is_taken, is_operated, is_repo, is_carried, is_row}
-use Rattle.relay_row.specs.Readers.{Reading, behind, give, fail, number_at, byte_at, count_at}
+use Rattle.relay_row.specs.Readers.{Reading, behind, give, count_at}
 use Rattle.relay_row.specs.Reading.{detail_at, taken_at, synced_at, operated_at, account_at, host_at, carried_of, carried_at, row_of, row_items_at, well_formed, row_at, rows_at, all_of, few, rows_in}
-use Rattle.relay_row.proofs.Atoms.{number_again, byte_again, text_again, bytes_again, bool_again, null_or_text_again}
-use Rattle.relay_row.proofs.Counts.{count_again, items_count_is}
-use Rattle.relay_row.proofs.Found.{spell}
-use Rattle.relay_row.proofs.Again.{then_spell, then_is, list_then, go, number_fits, positive_fits, text_fits, message_fits, empty_fits, status_fits, whole_again, detail_again, no_detail_again, FitsEffect, effect_again, FitsFetched, fetched_again, repo_again, moment_again}
-use Rattle.at_cid.specs.Link.{IsBytes}
+use Rattle.relay_row.proofs.Atoms.{byte_again, text_again, bytes_again, bool_again, null_or_text_again}
+use Rattle.relay_row.proofs.Counts.{count_again}
+use Rattle.relay_row.proofs.Again.{then_spell, list_then, go, number_fits, positive_fits, text_fits, message_fits, empty_fits, status_fits, whole_again, detail_again, no_detail_again, FitsEffect, effect_again, FitsFetched, fetched_again, repo_again, moment_again}
 use Rattle.at_cbor.specs.Spelling.{IsString}
 
 -- ---- tests

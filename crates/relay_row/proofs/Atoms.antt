@@ -1,20 +1,19 @@
 -- The single items of rows: what is read of each is spelled so, and read again.
-use Rattle.std.proofs.Common.{◌≡◌, ℕ, ◌+◌, ◌-◌, ◌≤◌, ◌<◌, ◌^◌, ◌⊎◌, inl, inr, pos, negsuc, ℤ, Bool, true, false, cond, List, [], ◌∷◌, ◌++◌, length, drop, Option, Some, None, refl, sym, ap, ◌∙◌, subst, arith, leb, ltb, eqb, lit<}
+use Rattle.std.proofs.Common.{◌≡◌, ℕ, ◌<◌, ◌^◌, inl, inr, pos, negsuc, Bool, true, List, ◌++◌, Option, Some, None, refl, ap, ◌∙◌, arith, ltb, lit<}
 use Rattle.std.proofs.lemmas.Str.{is_utf8-from_IsUtf8}
 use Rattle.std.specs.Prelude.{option_map}
-use Rattle.std.proofs.lemmas.Bool.{lt-ltb, le-leb, ltb-true, leb-true, ltb-false}
+use Rattle.std.proofs.lemmas.Bool.{lt-ltb}
 use Rattle.at_cid.specs.Link.{IsBytes, is_link}
 use Rattle.at_cbor.specs.Item.{Item}
-use Rattle.at_cbor.specs.Kinds.{int_in, text_in, bytes_in, bool_in, link_in}
-use Rattle.at_cbor.specs.Spelling.{spelling, front_of, info_of, tail_of, Fits, IsText, IsString}
-use Rattle.at_cbor.proofs.Steps.{Takes, chosen}
-use Rattle.at_cbor.proofs.Fronts.{form_0, form_1}
+use Rattle.at_cbor.specs.Kinds.{text_in, bytes_in, bool_in, link_in}
+use Rattle.at_cbor.specs.Spelling.{spelling, IsText, IsString}
+use Rattle.at_cbor.proofs.Steps.{chosen}
 use Rattle.at_syntax.specs.Tid.{tid_of, is_tid, value_of, digits_of}
 use Rattle.at_syntax.proofs.Tids.{tid_again, written_read}
 use Rattle.at_syntax.proofs.Texts.{digits_ascii, digits_utf8}
 use Rattle.relay_row.specs.Items.{number, rev_text, or_null}
-use Rattle.relay_row.specs.Readers.{Reading, behind, give, given, formed, natural, natural_of, number_in, below, tid_from, rev_in, null_or, number_at, byte_at, place_at, text_at, bytes_at, bool_at, link_at, rev_at, null_or_rev_at, null_or_text_at}
-use Rattle.relay_row.proofs.Steps.{some_is, Sound, Complete, Tells, formed_sound, formed_again}
+use Rattle.relay_row.specs.Readers.{number_in, below, rev_in, null_or, number_at, byte_at, place_at, text_at, bytes_at, bool_at, link_at, rev_at, null_or_rev_at, null_or_text_at}
+use Rattle.relay_row.proofs.Steps.{some_is, Sound, Tells, formed_sound, formed_again}
 
 digits_text : (rev : ℕ) → IsText (digits_of rev)
 unfolding digits_of

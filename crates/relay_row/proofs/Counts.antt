@@ -1,10 +1,8 @@
 -- The fronts of lists: what is read of one is spelled so, and read again.
-use Rattle.std.proofs.Common.{◌≡◌, ℕ, suc, ◌+◌, ◌-◌, ◌*◌, ◌^◌, ◌≤◌, ◌<◌, ◌⊎◌, inl, inr, Bool, true, false, cond, ◌&&◌, List, [], ◌∷◌, ◌++◌, length, Option, Some, None, refl, sym, ap, ◌∙◌, subst, arith, leb, ltb, eqb}
-use Rattle.std.proofs.lemmas.Bool.{lt-ltb, le-leb, ltb-true, leb-true, eqb-true, and_parts, cases_lt}
-use Rattle.at_cid.specs.Link.{IsBytes}
+use Rattle.std.proofs.Common.{◌≡◌, ℕ, suc, ◌^◌, ◌<◌, ◌⊎◌, inl, inr, Bool, true, false, cond, List, [], ◌∷◌, ◌++◌, length, Some, refl, ap}
 use Rattle.at_cbor.specs.declared.major.Major.{Major}
 use Rattle.at_cbor.specs.Item.{Item, items_of}
-use Rattle.at_cbor.specs.Spelling.{front_of, items_spelling, items_count}
+use Rattle.at_cbor.specs.Spelling.{front_of, items_count}
 use Rattle.at_cbor.proofs.Taken.{number_takes, number_again as front_again}
 use Rattle.relay_row.specs.Readers.{Reading, fail, count_at}
 use Rattle.relay_row.proofs.Steps.{Sound}

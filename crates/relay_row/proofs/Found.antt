@@ -1,23 +1,21 @@
 -- What is read of a row's parts stands in front of the bytes, spelled.
-use Rattle.std.proofs.Common.{◌≡◌, ℕ, suc, ◌+◌, ◌-◌, ◌*◌, ◌≤◌, ◌<◌, ◌⊎◌, inl, inr, Bool, true, false, cond, ◌&&◌, List, [], ◌∷◌, ◌++◌, length, Option, Some, None, refl, sym, ap, ◌∙◌, subst, arith, leb, ltb, eqb, append_assoc}
-use Rattle.std.proofs.lemmas.Bool.{ltb-true, leb-true, eqb-true, and_parts}
+use Rattle.std.proofs.Common.{◌≡◌, ℕ, suc, ◌+◌, ◌*◌, ◌<◌, inl, inr, Bool, true, false, ◌&&◌, List, [], ◌∷◌, ◌++◌, length, Option, Some, None, refl, sym, ap, ◌∙◌, subst, arith, ltb, eqb, append_assoc}
+use Rattle.std.proofs.lemmas.Bool.{ltb-true, eqb-true, and_parts}
 use Rattle.at_cid.specs.Link.{IsBytes}
 use Rattle.at_cbor.specs.declared.major.Major.{Major}
 use Rattle.at_cbor.specs.Item.{Item, items_of}
-use Rattle.at_cbor.specs.Spelling.{front_of, spelling, items_spelling, items_count, info_of, tail_of}
+use Rattle.at_cbor.specs.Spelling.{front_of, spelling, items_spelling}
 use Rattle.at_cbor.proofs.Steps.{Takes, Takes-then, chosen}
 use Rattle.at_cbor.proofs.Fronts.{form_0}
-use Rattle.at_event.specs.declared.head.Head.{Head}
 use Rattle.at_event.specs.declared.refusal.Refusal.{Refusal}
-use Rattle.relay_row.specs.declared.fetched.Whole.{Whole}
 use Rattle.relay_row.specs.declared.fetched.Fetched.{Fetched}
 use Rattle.relay_row.specs.declared.taken.Effect.{Effect}
 use Rattle.relay_row.specs.declared.carried.CarriedRepo.{CarriedRepo}
 use Rattle.relay_row.specs.Items.{number, rev_text, list, or_null, if_there, head_items, whole_items, code, detail_items, effect_item, fetched_item, repo_item}
-use Rattle.relay_row.specs.Readers.{Reading, behind, give, fail, given, number_at, byte_at, place_at, text_at, bytes_at, bool_at, link_at, rev_at, null_or_rev_at, null_or_text_at, count_at, or_null_at}
-use Rattle.relay_row.specs.Reading.{head_at, whole_items_at, whole_of, whole_at, bare, found_in, plain, one_detail, two_details, details, detail_at, account_effect, effect_of, effect_at, number_or_whole, fetched_at, repo_of, repo_at, moment_at}
-use Rattle.relay_row.proofs.Steps.{some_is, found, pair_parts, Sound, Step, step, none_taken, given_some}
-use Rattle.relay_row.proofs.Atoms.{number_sound, byte_sound, place_sound, text_sound, bytes_sound, bool_sound, link_sound, rev_sound, null_or_rev_sound, null_or_text_sound}
+use Rattle.relay_row.specs.Readers.{Reading, behind, give, given, count_at, or_null_at}
+use Rattle.relay_row.specs.Reading.{head_at, whole_items_at, whole_at, bare, found_in, plain, one_detail, two_details, details, detail_at, account_effect, effect_of, effect_at, number_or_whole, fetched_at, repo_of, repo_at, moment_at}
+use Rattle.relay_row.proofs.Steps.{some_is, found, pair_parts, Sound, step, none_taken, given_some}
+use Rattle.relay_row.proofs.Atoms.{number_sound, place_sound, bytes_sound, bool_sound, link_sound, rev_sound, null_or_rev_sound, null_or_text_sound}
 use Rattle.relay_row.proofs.Counts.{count_sound, items_count_is, chosen_at, passed_at}
 
 -- items one behind the other

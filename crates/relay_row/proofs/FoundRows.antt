@@ -1,8 +1,8 @@
 -- What is read of rows stands in front of the bytes, spelled.
-use Rattle.std.proofs.Common.{◌≡◌, ℕ, zero, suc, ◌+◌, ◌-◌, ◌≤◌, ◌<◌, ◌⊎◌, inl, inr, Bool, true, false, cond, ◌&&◌, List, [], ◌∷◌, ◌++◌, length, Option, Some, None, refl, sym, ap, ◌∙◌, subst, arith, leb, ltb, eqb}
+use Rattle.std.proofs.Common.{◌≡◌, ℕ, zero, suc, inl, inr, true, ◌&&◌, List, [], ◌∷◌, ◌++◌, length, Option, Some, None, refl, sym, ap, ◌∙◌, subst, arith, leb, eqb}
 use Rattle.std.specs.List.{list_all}
 use Rattle.std.proofs.lemmas.List.{append-nil}
-use Rattle.std.proofs.lemmas.Bool.{ltb-true, leb-true, eqb-true, and_parts, and_from}
+use Rattle.std.proofs.lemmas.Bool.{leb-true, eqb-true, and_parts, and_from}
 use Rattle.at_cid.specs.Link.{IsBytes}
 use Rattle.at_cbor.specs.declared.major.Major.{Major}
 use Rattle.at_cbor.specs.Item.{Item}
@@ -13,14 +13,14 @@ use Rattle.relay_row.specs.declared.operated.Operated.{Operated}
 use Rattle.relay_row.specs.declared.carried.CarriedAccount.{CarriedAccount}
 use Rattle.relay_row.specs.declared.carried.Carried.{Carried}
 use Rattle.relay_row.specs.declared.row.Row.{Row}
-use Rattle.relay_row.specs.Items.{number, list, or_null, if_there, whole_items, code, detail_items, effect_item, fetched_item, repo_item, carried_items, row_items}
+use Rattle.relay_row.specs.Items.{number, list, carried_items, row_items}
 use Rattle.relay_row.specs.Bodies.{row_spelling, spelled, body_of, IsBody}
 use Rattle.relay_row.specs.Rules.{is_row}
-use Rattle.relay_row.specs.Readers.{Reading, behind, give, fail, number_at, byte_at, count_at}
-use Rattle.relay_row.specs.Reading.{taken_at, synced_at, operated_at, account_at, host_at, carried_of, carried_at, row_of, row_items_at, well_formed, row_at, rows_at, all_of, few, rows_in}
-use Rattle.relay_row.proofs.Steps.{some_is, Sound, Step, step, along, along_with, none_taken, behind_some}
+use Rattle.relay_row.specs.Readers.{give}
+use Rattle.relay_row.specs.Reading.{taken_at, synced_at, operated_at, account_at, host_at, carried_of, carried_at, row_of, row_items_at, well_formed, row_at, rows_at, all_of, rows_in}
+use Rattle.relay_row.proofs.Steps.{step, along, along_with, none_taken, behind_some}
 use Rattle.relay_row.proofs.Atoms.{number_sound, byte_sound, text_sound, bytes_sound, bool_sound, null_or_text_sound}
-use Rattle.relay_row.proofs.Counts.{count_sound, items_count_is, chosen_at, passed_at}
+use Rattle.relay_row.proofs.Counts.{count_sound, chosen_at, passed_at}
 use Rattle.relay_row.proofs.Found.{spell, and, last, finish, list_taken, detail_sound, effect_sound, fetched_sound, repo_sound, whole_sound, moment_sound}
 
 -- the items behind the first, and how many there are with it

@@ -9,3 +9,4 @@ pub mod Again
 pub mod AgainRows
 pub mod Bodies
 pub mod Journals
+pub mod BytesFronts

@@ -1,11 +1,11 @@
 -- Steps of a reader that found something, and what a reader takes from the front.
-use Rattle.std.proofs.Common.{◌≡◌, ℕ, ◌+◌, ◌-◌, ◌≤◌, ◌<◌, ◌⊎◌, inl, inr, pos, negsuc, ℤ, Bool, true, false, cond, List, [], ◌∷◌, ◌++◌, length, drop, Option, Some, None, refl, sym, ap, ◌∙◌, subst, arith}
+use Rattle.std.proofs.Common.{◌≡◌, ℕ, List, [], ◌++◌, Option, Some, None, refl, ap, subst}
 use Rattle.at_cid.specs.Link.{IsBytes}
 use Rattle.at_cbor.specs.Item.{Item}
-use Rattle.at_cbor.specs.Spelling.{spelling, front_of, info_of, tail_of, Fits}
-use Rattle.at_cbor.proofs.Steps.{Takes, Takes-then, chosen}
+use Rattle.at_cbor.specs.Spelling.{spelling, Fits}
+use Rattle.at_cbor.proofs.Steps.{Takes}
 use Rattle.at_cbor.proofs.Taken.{item_taken, item_taken_again}
-use Rattle.relay_row.specs.Readers.{Reading, behind, give, fail, given, item_at, formed}
+use Rattle.relay_row.specs.Readers.{Reading, behind, given, item_at, formed}
 
 pub some_is : {A : Type 0} (x y : A) → Some x ≡ Some y → x ≡ y
 some_is x y e = cc

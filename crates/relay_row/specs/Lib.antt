@@ -7,3 +7,4 @@ pub mod Answers
 pub mod Laws
 pub mod Journal
 pub mod Folds
+pub mod Fresh

@@ -1,15 +1,19 @@
 //! The spelling of rows, added to bytes piece by piece.
 
-ghost use Rattle.std.specs.Prelude.{◌≡◌, ◌++◌, ◌+◌, ◌<◌, ◌≤◌, ◌^◌, ◌∷◌, [], length, Some, IfOk, OnOk};
+ghost use Rattle.std.specs.Prelude.{◌≡◌, ◌++◌, ◌+◌, ◌<◌, ◌≤◌, ◌^◌, ◌∷◌, [], length, take, Some, None, IfOk, IfSome, OnOk, OnErr};
 ghost use Rattle.at_cbor.specs.declared.major.Major.{Major};
 ghost use Rattle.at_cbor.specs.Item.{Item, items_of};
 ghost use Rattle.at_cbor.specs.Spelling.{front_of, spelling, items_spelling};
+ghost use Rattle.at_event.specs.Writing.{out_of};
 ghost use Rattle.relay_row.specs.Bodies.{row_spelling, spelled, body_of};
+ghost use Rattle.relay_row.specs.Fresh.{HasNumber, message_of, with_message};
 ghost use Rattle.relay_row.specs.Items.{number, rev_text, list, or_null, if_there, head_items, whole_items, code, detail_items, effect_item, fetched_item, repo_item, carried_items, row_items};
+ghost use Rattle.relay_row.specs.declared.limits.TheConstants.{NUMBERS};
 ghost use Rattle.relay_row.specs.declared.row.Row.{Row};
 
 use crate::carried::{Carried, CarriedAccount, CarriedRepo};
 use crate::fetched::{Fetched, Whole};
+use crate::fresh::Fresh;
 use crate::operated::Operated;
 use crate::row::Row;
 use crate::rows::Rows;
@@ -18,19 +22,21 @@ use at_cbor::{
     write_bool, write_bytes, write_link, write_list_front, write_null, write_number, write_text,
 };
 use at_cid::{Memory, Octets, Words};
-use at_event::{Head, Refusal};
+use at_event::{Event, Head, Refusal, frame_len, write_frame};
 use at_syntax::{TID_LEN, Tid};
 use std::alloc::Global;
 
 fn write_rev(out: &mut Octets, rev: Tid) -> Result<(), Memory>
-    ensures { OnOk result (out.new ≡ out.old ++ spelling (rev_text rev)) }
+    ensures written { OnOk result (out.new ≡ out.old ++ spelling (rev_text rev)) }
+    ensures err { OnErr result (take (length out.old) out.new ≡ out.old) }
 {
     let mut digits = [0; TID_LEN];
     write_text(out, rev.write_text(&mut digits))
 }
 
 fn write_head(out: &mut Octets, head: &Head) -> Result<(), Memory>
-    ensures { OnOk result (out.new ≡ out.old ++ items_spelling (items_of (head_items head.now))) }
+    ensures written { OnOk result (out.new ≡ out.old ++ items_spelling (items_of (head_items head.now))) }
+    ensures err { OnErr result (take (length out.old) out.new ≡ out.old) }
 {
     write_rev(out, head.rev)?;
     write_link(out, &head.data_root)?;
@@ -38,7 +44,8 @@ fn write_head(out: &mut Octets, head: &Head) -> Result<(), Memory>
 }
 
 fn write_whole(out: &mut Octets, whole: &Whole) -> Result<(), Memory>
-    ensures { OnOk result (out.new ≡ out.old ++ spelling (list (whole_items whole.now))) }
+    ensures written { OnOk result (out.new ≡ out.old ++ spelling (list (whole_items whole.now))) }
+    ensures err { OnErr result (take (length out.old) out.new ≡ out.old) }
 {
     write_list_front(out, 6)?;
     write_number(out, whole.seq)?;
@@ -48,7 +55,8 @@ fn write_whole(out: &mut Octets, whole: &Whole) -> Result<(), Memory>
 }
 
 fn write_code(out: &mut Octets, refusal: &Option<Refusal>) -> Result<(), Memory>
-    ensures { OnOk result (out.new ≡ out.old ++ spelling (number (code refusal.now))) }
+    ensures written { OnOk result (out.new ≡ out.old ++ spelling (number (code refusal.now))) }
+    ensures err { OnErr result (take (length out.old) out.new ≡ out.old) }
 {
     match refusal {
         Some(refusal) => write_number(out, u64::from(refusal.code())),
@@ -57,7 +65,8 @@ fn write_code(out: &mut Octets, refusal: &Option<Refusal>) -> Result<(), Memory>
 }
 
 fn write_refusal(out: &mut Octets, refusal: &Refusal) -> Result<(), Memory>
-    ensures { OnOk result (out.new ≡ out.old ++ spelling (list (detail_items (Some refusal.now)))) }
+    ensures written { OnOk result (out.new ≡ out.old ++ spelling (list (detail_items (Some refusal.now)))) }
+    ensures err { OnErr result (take (length out.old) out.new ≡ out.old) }
 {
     match refusal {
         Refusal::BadNode(link) => {
@@ -78,7 +87,8 @@ fn write_refusal(out: &mut Octets, refusal: &Refusal) -> Result<(), Memory>
 }
 
 fn write_detail(out: &mut Octets, refusal: &Option<Refusal>) -> Result<(), Memory>
-    ensures { OnOk result (out.new ≡ out.old ++ spelling (list (detail_items refusal.now))) }
+    ensures written { OnOk result (out.new ≡ out.old ++ spelling (list (detail_items refusal.now))) }
+    ensures err { OnErr result (take (length out.old) out.new ≡ out.old) }
 {
     match refusal {
         Some(refusal) => write_refusal(out, refusal),
@@ -87,7 +97,8 @@ fn write_detail(out: &mut Octets, refusal: &Option<Refusal>) -> Result<(), Memor
 }
 
 fn write_status(out: &mut Octets, status: &Option<Words>) -> Result<(), Memory>
-    ensures { OnOk result (out.new ≡ out.old ++ spelling (or_null Item.text status.now)) }
+    ensures written { OnOk result (out.new ≡ out.old ++ spelling (or_null Item.text status.now)) }
+    ensures err { OnErr result (take (length out.old) out.new ≡ out.old) }
 {
     match status {
         Some(status) => write_text(out, status.as_str()),
@@ -96,7 +107,8 @@ fn write_status(out: &mut Octets, status: &Option<Words>) -> Result<(), Memory>
 }
 
 fn write_effect(out: &mut Octets, effect: &Effect) -> Result<(), Memory>
-    ensures { OnOk result (out.new ≡ out.old ++ spelling (effect_item effect.now)) }
+    ensures written { OnOk result (out.new ≡ out.old ++ spelling (effect_item effect.now)) }
+    ensures err { OnErr result (take (length out.old) out.new ≡ out.old) }
 {
     match effect {
         Effect::Nothing => write_null(out),
@@ -113,7 +125,8 @@ fn write_effect(out: &mut Octets, effect: &Effect) -> Result<(), Memory>
 }
 
 fn write_fetched(out: &mut Octets, fetched: &Fetched) -> Result<(), Memory>
-    ensures { OnOk result (out.new ≡ out.old ++ spelling (fetched_item fetched.now)) }
+    ensures written { OnOk result (out.new ≡ out.old ++ spelling (fetched_item fetched.now)) }
+    ensures err { OnErr result (take (length out.old) out.new ≡ out.old) }
 {
     match fetched {
         Fetched::NotAsked => write_null(out),
@@ -124,7 +137,8 @@ fn write_fetched(out: &mut Octets, fetched: &Fetched) -> Result<(), Memory>
 }
 
 fn write_null_or_rev(out: &mut Octets, rev: Option<Tid>) -> Result<(), Memory>
-    ensures { OnOk result (out.new ≡ out.old ++ spelling (or_null rev_text rev)) }
+    ensures written { OnOk result (out.new ≡ out.old ++ spelling (or_null rev_text rev)) }
+    ensures err { OnErr result (take (length out.old) out.new ≡ out.old) }
 {
     match rev {
         Some(rev) => write_rev(out, rev),
@@ -133,7 +147,8 @@ fn write_null_or_rev(out: &mut Octets, rev: Option<Tid>) -> Result<(), Memory>
 }
 
 fn write_repo(out: &mut Octets, repo: &CarriedRepo) -> Result<(), Memory>
-    ensures { OnOk result (out.new ≡ out.old ++ spelling (repo_item repo.now)) }
+    ensures written { OnOk result (out.new ≡ out.old ++ spelling (repo_item repo.now)) }
+    ensures err { OnErr result (take (length out.old) out.new ≡ out.old) }
 {
     match repo {
         CarriedRepo::Missing => write_null(out),
@@ -149,7 +164,8 @@ fn write_repo(out: &mut Octets, repo: &CarriedRepo) -> Result<(), Memory>
 }
 
 fn write_moment(out: &mut Octets, moment: Option<u64>) -> Result<(), Memory>
-    ensures { OnOk result (out.new ≡ out.old ++ items_spelling (items_of (if_there number moment))) }
+    ensures written { OnOk result (out.new ≡ out.old ++ items_spelling (items_of (if_there number moment))) }
+    ensures err { OnErr result (take (length out.old) out.new ≡ out.old) }
 {
     match moment {
         Some(moment) => write_number(out, moment),
@@ -160,7 +176,8 @@ fn write_moment(out: &mut Octets, moment: Option<u64>) -> Result<(), Memory>
 // The front of a list of so many items, and one more where there is a moment.
 fn write_front(out: &mut Octets, others: usize, moment: Option<u64>) -> Result<(), Memory>
     requires { others < 24 }
-    ensures { OnOk result (out.new ≡ out.old ++ front_of Major.List (others + length (if_there number moment))) }
+    ensures written { OnOk result (out.new ≡ out.old ++ front_of Major.List (others + length (if_there number moment))) }
+    ensures err { OnErr result (take (length out.old) out.new ≡ out.old) }
 {
     match moment {
         Some(_) => write_list_front(out, others + 1),
@@ -170,7 +187,8 @@ fn write_front(out: &mut Octets, others: usize, moment: Option<u64>) -> Result<(
 
 // Whose message it is.
 fn write_source(out: &mut Octets, taken: &Taken) -> Result<(), Memory>
-    ensures { OnOk result (out.new ≡ out.old ++ items_spelling (items_of (number 1 ∷ Item.text taken.now.host ∷ number taken.now.host_seq ∷ Item.text taken.now.did ∷ number taken.now.kind ∷ []))) }
+    ensures written { OnOk result (out.new ≡ out.old ++ items_spelling (items_of (number 1 ∷ Item.text taken.now.host ∷ number taken.now.host_seq ∷ Item.text taken.now.did ∷ number taken.now.kind ∷ []))) }
+    ensures err { OnErr result (take (length out.old) out.new ≡ out.old) }
 {
     write_number(out, 1)?;
     write_text(out, taken.host.as_str())?;
@@ -179,31 +197,74 @@ fn write_source(out: &mut Octets, taken: &Taken) -> Result<(), Memory>
     write_number(out, u64::from(taken.kind))
 }
 
+// The front of so many bytes: that of a number, but for the major type.
+fn write_bytes_front(out: &mut Octets, len: u64) -> Result<(), Memory>
+    ensures written { OnOk result (out.new ≡ out.old ++ front_of Major.Bytes len) }
+    ensures err { OnErr result (take (length out.old) out.new ≡ out.old) }
+{
+    let place = out.len();
+    write_number(out, len)?;
+    let first = out.as_slice()[place];
+    out.overwrite(place, &[64 + first]);
+    Ok(())
+}
+
+// The message of an event under a number.
+fn write_event(out: &mut Octets, event: &Event, seq: u64) -> Result<(), Memory>
+    requires { seq < NUMBERS }
+    ensures written { OnOk result (out.new ≡ out.old ++ spelling (Item.bytes (out_of event.now seq))) }
+    ensures err { OnErr result (take (length out.old) out.new ≡ out.old) }
+{
+    let len = frame_len(event, seq);
+    if len == u64::MAX {
+        return Err(Memory);
+    }
+    write_bytes_front(out, len)?;
+    write_frame(out, event, seq)
+}
+
+// The message of a row, or of the event of which it isn't spelled yet.
+fn write_message(out: &mut Octets, taken: &Taken, event: &Option<Event>) -> Result<(), Memory>
+    requires { HasNumber taken.now event.now }
+    ensures written { OnOk result (out.new ≡ out.old ++ spelling (Item.bytes (message_of taken.now event.now))) }
+    ensures err { OnErr result (take (length out.old) out.new ≡ out.old) }
+{
+    match event {
+        Some(event) => write_event(out, event, taken.seq),
+        None => write_bytes(out, taken.message.as_slice()),
+    }
+}
+
 // What was decided, and what goes out.
-fn write_decision(out: &mut Octets, taken: &Taken) -> Result<(), Memory>
-    ensures { OnOk result (out.new ≡ out.old ++ items_spelling (items_of (number (code taken.now.refusal) ∷ list (detail_items taken.now.refusal) ∷ number taken.now.seq ∷ Item.bytes taken.now.message ∷ []))) }
+fn write_decision(out: &mut Octets, taken: &Taken, event: &Option<Event>) -> Result<(), Memory>
+    requires { HasNumber taken.now event.now }
+    ensures written { OnOk result (out.new ≡ out.old ++ items_spelling (items_of (number (code taken.now.refusal) ∷ list (detail_items taken.now.refusal) ∷ number taken.now.seq ∷ Item.bytes (message_of taken.now event.now) ∷ []))) }
+    ensures err { OnErr result (take (length out.old) out.new ≡ out.old) }
 {
     write_code(out, &taken.refusal)?;
     write_detail(out, &taken.refusal)?;
     write_number(out, taken.seq)?;
-    write_bytes(out, taken.message.as_slice())
+    write_message(out, taken, event)
 }
 
 // What follows from it, and when it was.
 fn write_outcome(out: &mut Octets, taken: &Taken) -> Result<(), Memory>
-    ensures { OnOk result (out.new ≡ out.old ++ items_spelling (items_of (effect_item taken.now.effect ∷ fetched_item taken.now.fetched ∷ if_there number taken.now.moment))) }
+    ensures written { OnOk result (out.new ≡ out.old ++ items_spelling (items_of (effect_item taken.now.effect ∷ fetched_item taken.now.fetched ∷ if_there number taken.now.moment))) }
+    ensures err { OnErr result (take (length out.old) out.new ≡ out.old) }
 {
     write_effect(out, &taken.effect)?;
     write_fetched(out, &taken.fetched)?;
     write_moment(out, taken.moment)
 }
 
-fn write_taken(out: &mut Octets, taken: &Taken) -> Result<(), Memory>
-    ensures { OnOk result (out.new ≡ out.old ++ spelling (list (row_items (Row.Taken taken.now)))) }
+fn write_taken(out: &mut Octets, taken: &Taken, event: &Option<Event>) -> Result<(), Memory>
+    requires { HasNumber taken.now event.now }
+    ensures written { OnOk result (out.new ≡ out.old ++ spelling (list (row_items (Row.Taken (with_message taken.now event.now))))) }
+    ensures err { OnErr result (take (length out.old) out.new ≡ out.old) }
 {
     write_front(out, 11, taken.moment)?;
     write_source(out, taken)?;
-    write_decision(out, taken)?;
+    write_decision(out, taken, event)?;
     write_outcome(out, taken)
 }
 
@@ -213,7 +274,8 @@ fn write_synced(
     whole: &Whole,
     moment: Option<u64>,
 ) -> Result<(), Memory>
-    ensures { OnOk result (out.new ≡ out.old ++ spelling (list (row_items (Row.Synced did.now whole.now moment)))) }
+    ensures written { OnOk result (out.new ≡ out.old ++ spelling (list (row_items (Row.Synced did.now whole.now moment)))) }
+    ensures err { OnErr result (take (length out.old) out.new ≡ out.old) }
 {
     write_front(out, 3, moment)?;
     write_number(out, 2)?;
@@ -222,20 +284,30 @@ fn write_synced(
     write_moment(out, moment)
 }
 
-fn write_operated(out: &mut Octets, operated: &Operated) -> Result<(), Memory>
-    ensures { OnOk result (out.new ≡ out.old ++ spelling (list (row_items (Row.Operated operated.now)))) }
+// Whom an operator spoke of, and what he said.
+fn write_said(out: &mut Octets, operated: &Operated) -> Result<(), Memory>
+    ensures written { OnOk result (out.new ≡ out.old ++ items_spelling (items_of (number 3 ∷ Item.text operated.now.did ∷ Item.bool operated.now.down ∷ []))) }
+    ensures err { OnErr result (take (length out.old) out.new ≡ out.old) }
 {
-    write_front(out, 5, operated.moment)?;
     write_number(out, 3)?;
     write_text(out, operated.did.as_str())?;
-    write_bool(out, operated.down)?;
+    write_bool(out, operated.down)
+}
+
+fn write_operated(out: &mut Octets, operated: &Operated) -> Result<(), Memory>
+    ensures written { OnOk result (out.new ≡ out.old ++ spelling (list (row_items (Row.Operated operated.now)))) }
+    ensures err { OnErr result (take (length out.old) out.new ≡ out.old) }
+{
+    write_front(out, 5, operated.moment)?;
+    write_said(out, operated)?;
     write_number(out, operated.seq)?;
     write_bytes(out, operated.message.as_slice())?;
     write_moment(out, operated.moment)
 }
 
 fn write_account(out: &mut Octets, account: &CarriedAccount) -> Result<(), Memory>
-    ensures { OnOk result (out.new ≡ out.old ++ items_spelling (items_of (Item.text account.now.did ∷ Item.bool account.now.active ∷ or_null Item.text account.now.status ∷ Item.bool account.now.down ∷ repo_item account.now.repo ∷ []))) }
+    ensures written { OnOk result (out.new ≡ out.old ++ items_spelling (items_of (Item.text account.now.did ∷ Item.bool account.now.active ∷ or_null Item.text account.now.status ∷ Item.bool account.now.down ∷ repo_item account.now.repo ∷ []))) }
+    ensures err { OnErr result (take (length out.old) out.new ≡ out.old) }
 {
     write_text(out, account.did.as_str())?;
     write_bool(out, account.active)?;
@@ -245,7 +317,8 @@ fn write_account(out: &mut Octets, account: &CarriedAccount) -> Result<(), Memor
 }
 
 fn write_carried_front(out: &mut Octets, count: usize, which: u64) -> Result<(), Memory>
-    ensures { OnOk result (out.new ≡ out.old ++ (front_of Major.List count ++ (spelling (number 4) ++ spelling (number which)))) }
+    ensures written { OnOk result (out.new ≡ out.old ++ (front_of Major.List count ++ (spelling (number 4) ++ spelling (number which)))) }
+    ensures err { OnErr result (take (length out.old) out.new ≡ out.old) }
 {
     write_list_front(out, count)?;
     write_number(out, 4)?;
@@ -253,7 +326,8 @@ fn write_carried_front(out: &mut Octets, count: usize, which: u64) -> Result<(),
 }
 
 fn write_carried(out: &mut Octets, carried: &Carried) -> Result<(), Memory>
-    ensures { OnOk result (out.new ≡ out.old ++ spelling (list (carried_items carried.now))) }
+    ensures written { OnOk result (out.new ≡ out.old ++ spelling (list (carried_items carried.now))) }
+    ensures err { OnErr result (take (length out.old) out.new ≡ out.old) }
 {
     match carried {
         Carried::Last(seq) => {
@@ -272,17 +346,28 @@ fn write_carried(out: &mut Octets, carried: &Carried) -> Result<(), Memory>
     }
 }
 
-/// Adds the one spelling of a row.
+/// Adds the one spelling of a row. Where memory is wanted, what was there stays in front.
 #[tactic(auto, unfolding(crate::specs::Bodies::row_spelling))]
 pub fn write_row(out: &mut Octets, row: &Row) -> Result<(), Memory>
-    ensures { OnOk result (out.new ≡ out.old ++ row_spelling row.now) }
+    ensures written { OnOk result (out.new ≡ out.old ++ row_spelling row.now) }
+    ensures err { OnErr result (take (length out.old) out.new ≡ out.old) }
 {
     match row {
-        Row::Taken(taken) => write_taken(out, taken),
+        Row::Taken(taken) => write_taken(out, taken, &None),
         Row::Synced(did, whole, moment) => write_synced(out, did, whole, *moment),
         Row::Operated(operated) => write_operated(out, operated),
         Row::Carried(carried) => write_carried(out, carried),
     }
+}
+
+/// Adds the one spelling of a row whose message isn't spelled yet: it is spelled here alone. Where memory is wanted, what was there
+/// stays in front.
+#[tactic(auto, unfolding(crate::specs::Bodies::row_spelling))]
+pub fn write_fresh(out: &mut Octets, fresh: &Fresh) -> Result<(), Memory>
+    ensures written { OnOk result (out.new ≡ out.old ++ row_spelling (Row.Taken fresh.now)) }
+    ensures err { OnErr result (take (length out.old) out.new ≡ out.old) }
+{
+    write_taken(out, &fresh.taken, &fresh.event)
 }
 
 /// Adds rows, one behind the other, without the front of a list.

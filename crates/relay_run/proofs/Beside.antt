@@ -75,7 +75,7 @@ kept_stands Two J s one two first second leaves keeps =
     record { now = left one.content two.content first.possible second.possible; left = left }
 
 -- what a disk keeps begins with the front of its log
-kept_front : (J : List Row) (s : StoreState) (v : View) → IsDisk v → Keeps J s v → HasFront s.log.format v.content
+pub kept_front : (J : List Row) (s : StoreState) (v : View) → IsDisk v → Keeps J s v → HasFront s.log.format v.content
 kept_front J s v disk keeps = log_front s.log.format J v.content (kept_log J s v keeps v.content disk.possible)
 
 -- the disk of the side that is picked gets other rows behind the front that it had: that side stays picked

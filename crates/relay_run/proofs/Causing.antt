@@ -103,7 +103,7 @@ done_good (Done.Event seq) end is bad = subst (IsEndOf (Done.Event seq)) bad.1 i
 done_good (Done.Synced seq records) end is bad = subst (IsEndOf (Done.Synced seq records)) bad.1 is
 done_good (Done.Refused r) end is bad = subst (IsEndOf (Done.Refused r)) bad.1 is
 
-same_bad : (fault : StoreFault) (p : ℕ) → RunEnd.Fault fault ≡ RunEnd.Fault (StoreFault.BadLog p) → fault ≡ StoreFault.BadLog p
+pub same_bad : (fault : StoreFault) (p : ℕ) → RunEnd.Fault fault ≡ RunEnd.Fault (StoreFault.BadLog p) → fault ≡ StoreFault.BadLog p
 same_bad fault p is = cc
 
 -- a fault as what was answered to a word

@@ -3,3 +3,4 @@ pub mod Ends
 pub mod Lines
 pub mod Shown
 pub mod Spoke
+pub mod Cutting

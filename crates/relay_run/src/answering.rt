@@ -18,7 +18,7 @@ use report_lines::add_refusal;
 use std::alloc::Global;
 
 // A word and a number.
-fn write_number<O: Sink>(out: &mut O, word: &[u8], number: u64) -> Result<(), Failed>
+pub(crate) fn write_number<O: Sink>(out: &mut O, word: &[u8], number: u64) -> Result<(), Failed>
     ensures written { OnOk result (IsTrue O.tells → O.written out.new ≡ O.written out.old ++ numbered word.now number) }
     ensures front { IsTrue O.tells → AddsFront (O.written out.old) (O.written out.new) (numbered word.now number) }
     ensures counts { O.faults out.old ≤ O.faults out.new }
@@ -28,23 +28,14 @@ fn write_number<O: Sink>(out: &mut O, word: &[u8], number: u64) -> Result<(), Fa
     write_all(out, Buffer::new().format(number).as_bytes())
 }
 
-fn write_event<O: Sink>(out: &mut O, seq: u64) -> Result<(), Failed>
-    ensures written { OnOk result (IsTrue O.tells → O.written out.new ≡ O.written out.old ++ done_text (Done.Event seq)) }
-    ensures front { IsTrue O.tells → AddsFront (O.written out.old) (O.written out.new) (done_text (Done.Event seq)) }
+// A word and a number at the end of a line.
+pub(crate) fn write_last<O: Sink>(out: &mut O, word: &[u8], number: u64) -> Result<(), Failed>
+    ensures written { OnOk result (IsTrue O.tells → O.written out.new ≡ O.written out.old ++ (numbered word.now number ++ 10 ∷ [])) }
+    ensures front { IsTrue O.tells → AddsFront (O.written out.old) (O.written out.new) (numbered word.now number ++ 10 ∷ []) }
     ensures counts { O.faults out.old ≤ O.faults out.new }
     ensures failed { OnErr result (Rose (O.faults out.old) (O.faults out.new)) }
 {
-    write_number(out, b"event ", seq)?;
-    write_all(out, b"\n")
-}
-
-fn write_records<O: Sink>(out: &mut O, records: u64) -> Result<(), Failed>
-    ensures written { OnOk result (IsTrue O.tells → O.written out.new ≡ O.written out.old ++ (numbered (codes " records ") records ++ 10 ∷ [])) }
-    ensures front { IsTrue O.tells → AddsFront (O.written out.old) (O.written out.new) (numbered (codes " records ") records ++ 10 ∷ []) }
-    ensures counts { O.faults out.old ≤ O.faults out.new }
-    ensures failed { OnErr result (Rose (O.faults out.old) (O.faults out.new)) }
-{
-    write_number(out, b" records ", records)?;
+    write_number(out, word, number)?;
     write_all(out, b"\n")
 }
 
@@ -55,7 +46,7 @@ fn write_synced<O: Sink>(out: &mut O, seq: u64, records: u64) -> Result<(), Fail
     ensures failed { OnErr result (Rose (O.faults out.old) (O.faults out.new)) }
 {
     write_number(out, b"synced ", seq)?;
-    write_records(out, records)
+    write_last(out, b" records ", records)
 }
 
 fn refused_line(alloc: Global, refusal: &Refusal) -> Result<Octets, Memory>
@@ -67,7 +58,8 @@ fn refused_line(alloc: Global, refusal: &Refusal) -> Result<Octets, Memory>
     Ok(line)
 }
 
-fn answer_refused<O: Sink>(alloc: Global, refusal: &Refusal, out: &mut O) -> RunEnd
+// The line of a refusal, for which memory is taken.
+pub(crate) fn answer_refused<O: Sink>(alloc: Global, refusal: &Refusal, out: &mut O) -> RunEnd
     ensures ends { IsEndOf (Done.Refused refusal.now) result }
     ensures written { IsTrue O.tells → IsWritten result (done_text (Done.Refused refusal.now)) (O.written out.old) (O.written out.new) }
     ensures failed { result ≡ RunEnd.WriteFault → Rose (O.faults out.old) (O.faults out.new) }
@@ -91,7 +83,7 @@ pub(crate) fn answer<O: Sink>(alloc: Global, done: &Done, out: &mut O) -> RunEnd
     ensures counts { O.faults out.old ≤ O.faults out.new }
 {
     let written = match done {
-        Done::Event(seq) => write_event(out, *seq),
+        Done::Event(seq) => write_last(out, b"event ", *seq),
         Done::Synced(seq, records) => write_synced(out, *seq, *records),
         Done::Refused(refusal) => return answer_refused(alloc, refusal, out),
     };

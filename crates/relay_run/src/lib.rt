@@ -2,11 +2,13 @@
 #![tactic(auto)]
 
 mod answering;
+mod cutting;
 mod end;
 mod operating;
 mod showing;
 mod syncing;
 
+pub use cutting::cut;
 pub use end::RunEnd;
 pub use operating::operate;
 pub use showing::{account, hosts};

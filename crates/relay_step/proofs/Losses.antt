@@ -37,7 +37,7 @@ use Rattle.account_state.specs.declared.repo.Repo.{Repo}
 use Rattle.relay_core.specs.Decide.{old_if}
 use Rattle.relay_core.specs.Rows.{goes_out}
 use Rattle.relay_core.specs.Shown.{or_zero}
-use Rattle.relay_core.specs.Table.{did_of, no_answers}
+use Rattle.relay_core.specs.Table.{no_answers}
 use Rattle.relay_step.specs.Around.{Around, SameRepositories, around}
 use Rattle.relay_step.specs.Fetches.{is_good}
 use Rattle.relay_step.specs.Fetching.{IsFetchedFrom}
@@ -178,13 +178,6 @@ made_sendable last e (found h k b) named short may sent head records block same 
     }))
 
 -- ---- the row of an event whose account was lost
-
-pub same_frame : (c : Core) (host : List ℕ) (frame : Frame) (e : Seen) (x : Answers) → frame ≡ Frame.Event e → next_of (cursor_in c host) (account_in c (did_of frame)) frame x ≡ next_of (cursor_in c host) (account_in c e.did) (Frame.Event e) x
-same_frame c host frame e x is = ap (λ (f : Frame). next_of (cursor_in c host) (account_in c (did_of f)) f x) is
-
--- what comes next of the event
-pub next_event : (c : Core) (host : List ℕ) (frame : Frame) (e : Seen) (x : Answers) (n : Next) → frame ≡ Frame.Event e → n ≡ next_of (cursor_in c host) (account_in c (did_of frame)) frame x → next_of (cursor_in c host) (account_in c e.did) (Frame.Event e) x ≡ n
-next_event c host frame e x n is next = sym (next ∙ same_frame c host frame e x is)
 
 pub beside_last : (c : Core) (did d : List ℕ) (last : Option ℕ) (repo : Repo) → last ≡ last_rev repo → repo ≡ (account_in c d).repo → d ≡ did → last ≡ last_rev (account_in c did).repo
 beside_last c did d last repo one two same = one ∙ ap last_rev two ∙ ap (λ (x : List ℕ). last_rev (account_in c x).repo) same

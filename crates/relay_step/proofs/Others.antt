@@ -1,6 +1,6 @@
 -- What is owed of messages that make no row, or the row of an event with a bad field; and that rows keep journals.
 use Rattle.std.proofs.Common.{◌≡◌, ℕ, ◌+◌, ◌<◌, Bool, true, false, cond, List, [], ◌∷◌, Option, Some, None, Result, Ok, Err, refl, sym, ap, ◌∙◌, subst, lit<, append-nil}
-use Rattle.std.specs.Prelude.{nat_le, IsTrue}
+use Rattle.std.specs.Prelude.{nat_le, option_map, IsTrue}
 use Rattle.at_authority.specs.Calls.{Call}
 use Rattle.at_authority.specs.Panels.{Panel}
 use Rattle.at_event.specs.Events.{IsEvent}
@@ -20,11 +20,12 @@ use Rattle.account_state.specs.Folds.{account}
 use Rattle.account_state.specs.State.{State}
 use Rattle.relay_core.specs.Decide.{Found, absent, unfit, found, made, old_if, passed}
 use Rattle.relay_core.specs.Entries.{account_in, cursor_in}
-use Rattle.relay_core.specs.Rows.{event_taken, faulty_taken, fetched_of, goes_out}
+use Rattle.relay_core.specs.Rows.{event_taken, faulty_taken, fetched_of, goes_out, row_of}
 use Rattle.relay_core.specs.Sending.{IsSendable}
 use Rattle.relay_core.specs.Shown.{or_zero}
-use Rattle.relay_core.specs.Table.{next_of, no_answers}
+use Rattle.relay_core.specs.Table.{did_of, next_of, no_answers}
 use Rattle.relay_core.specs.declared.answers.Answers.{Answers}
+use Rattle.relay_core.specs.declared.answers.Question.{Question}
 use Rattle.relay_core.specs.declared.decision.Decision.{Decision}
 use Rattle.relay_core.specs.declared.decision.Next.{Next}
 use Rattle.relay_core.specs.declared.decision.Pass.{Pass}
@@ -34,7 +35,8 @@ use Rattle.relay_law.specs.Laws.{MadeRowsAreFormed}
 use Rattle.relay_step.specs.Around.{Around, AskedNothing, AskedOf, SameRepositories, around}
 use Rattle.relay_step.specs.Messages.{IsAskedOf, IsDecided, IsPassedAs, KeepsJournal, pass_of, passed_as, told_as}
 use Rattle.relay_step.specs.Steps.{passed_over, took, rows_told}
-use Rattle.relay_step.specs.Taking.{EventTold, EventTook, FaultyTook, IsFetchedSo, OtherTold}
+use Rattle.relay_step.specs.Taking.{EventTold, EventTook, FaultyTook, IsFetchedSo, OtherTold, is_event}
+use Rattle.relay_step.specs.Words.{IsNow}
 use Rattle.relay_step.specs.declared.told.Passed.{Passed}
 use Rattle.relay_step.specs.declared.told.Told.{Told as Outcome}
 use Rattle.relay_step.proofs.Taken.{cursor_tells, event_asked, event_decided, fetched_there, sent_gives}
@@ -77,6 +79,31 @@ passed_same cursor frame pass why is why_is = is ∙ ap Some (sym (ap pass_of wh
     same_pass Frame.Unknown h = cc
 
 -- ---- an event with a bad field
+
+above_of : (b : Bool) (n : Next) (q : Question) → cond b (Next.Pass Pass.Old) n ≡ Next.Ask q → b ≡ false
+above_of true n q h = absurd cc
+above_of false n q h = refl
+
+same_taken : (t u : Taken) → Some (Row.Taken t) ≡ Some (Row.Taken u) → t ≡ u
+same_taken t u h = cc
+
+-- what is taken where something is asked of a message that is no event
+pub took_faulty : (clock_tells : Bool) (c : Core) (host : List ℕ) (frame : Frame) (t : Taken) (d : Decision) (q : Question) (moment : ℕ) (x y : Answers) (moments left : List ℕ) → is_event frame ≡ false
+    → next_of (cursor_in c host) (account_in c (did_of frame)) frame x ≡ Next.Ask q → y.moment ≡ Some moment → option_map Row.Taken (Some t) ≡ row_of c.last host frame d y → moment < NUMBERS → (IsTrue clock_tells → IsNow moments moment left)
+    → FaultyTook clock_tells c host frame t moments left
+took_faulty clock_tells c host (Frame.Event e) t d q moment x y moments left other asks there row number timed = absurd cc
+took_faulty clock_tells c host (Frame.Faulty seq) t d q moment x y moments left other asks there row number timed = record {
+  seq = seq;
+  moment = moment;
+  is = refl;
+  above = above_of (nat_le seq (cursor_in c host)) _ q asks;
+  number = number;
+  taken = same_taken t (faulty_taken host seq y.moment) row ∙ ap (faulty_taken host seq) there;
+  timed = timed;
+}
+took_faulty clock_tells c host Frame.Info t d q moment x y moments left other asks there row number timed = absurd cc
+took_faulty clock_tells c host Frame.Error t d q moment x y moments left other asks there row number timed = absurd cc
+took_faulty clock_tells c host Frame.Unknown t d q moment x y moments left other asks there row number timed = absurd cc
 
 made_faulty : (seq : ℕ) (host : List ℕ) (moment : ℕ) (t : Taken) → t ≡ faulty_taken host seq (Some moment) → Some (faulty_taken host seq (Some (or_zero t.moment))) ≡ Some t
 made_faulty seq host moment t is = let P : Taken → Type 0 = λ u. Some (faulty_taken host seq (Some (or_zero u.moment))) ≡ Some u in subst P (sym is) refl

@@ -18,7 +18,7 @@ use crate::outside::{ask_home, ask_moment, ask_refresh};
 use crate::reading::{Read, follow, judge, last_rev, open};
 use account_state::Repo;
 use at_authority::Judges;
-use at_event::{Event, Frame};
+use at_event::Event;
 use relay_core::{Answers, Core, Next, Question};
 use relay_io::Clock;
 use std::alloc::Global;
@@ -105,12 +105,10 @@ pub(crate) fn ask_all<P: Judges, C: Clock>(
     alloc: Global,
     core: &Core,
     host: &str,
-    frame: &Frame,
     event: &Event,
     judges: &mut P,
     clock: &mut C,
 ) -> Result<(Next, Answers), StepFault>
-    requires frame { frame.now ≡ AFrame.Event event.now }
     requires did { IsTrue (is_did event.now.did) }
     ensures asked { IfOk result (λ x. AreAsked C.tells core.now.last (cursor_in core.now host.now) (account_in core.now event.now.did) host.now event.now x.1 (P.panel judges.old) (C.moments clock.old) (P.panel judges.new) (C.moments clock.new)) }
     ensures next { IfOk result (λ x. x.0 ≡ next_of (cursor_in core.now host.now) (account_in core.now event.now.did) (AFrame.Event event.now) x.1) }
@@ -124,7 +122,7 @@ pub(crate) fn ask_all<P: Judges, C: Clock>(
     let mut answers = Answers::new();
     let mut read = Read::Nothing;
     'asking: loop {
-        match core.next(host, frame, &answers) {
+        match core.next_for_event(host, event, &answers) {
             Next::Ask(question) => {
                 if is_fetch(question) {
                     return Ok((Next::Ask(question), answers));

@@ -26,7 +26,6 @@ use at_event::{Event, Frame, FrameFault, read_frame};
 use relay_core::{Answers, Core, Next, Question};
 use relay_io::{Clock, Repos};
 use relay_law::made_rows_are_formed;
-use relay_row::Row;
 use std::alloc::Global;
 
 /// Decides an event.
@@ -34,27 +33,25 @@ fn decide_event<P: Judges, R: Repos, C: Clock>(
     alloc: Global,
     core: &Core,
     host: &str,
-    frame: &Frame,
-    event: &Event,
+    event: Event,
     judges: &mut P,
     repos: &mut R,
     clock: &mut C,
 ) -> Result<Told, StepFault>
-    requires frame { frame.now ≡ AFrame.Event event.now }
-    ensures told { IfOk result (λ told. EventTold C.tells R.tells core.now host.now event.now told (around (P.panel judges.old) (C.moments clock.old) (R.repository repos.old)) (around (P.panel judges.new) (C.moments clock.new) (R.repository repos.new))) }
-    ensures in_vain { OnErr result (CameToNothing C.tells R.tells (AskedInVain (P.panel judges.old) event.now.did (P.panel judges.new))
+    ensures told { IfOk result (λ told. EventTold C.tells R.tells core.now host.now event told (around (P.panel judges.old) (C.moments clock.old) (R.repository repos.old)) (around (P.panel judges.new) (C.moments clock.new) (R.repository repos.new))) }
+    ensures in_vain { OnErr result (CameToNothing C.tells R.tells (AskedInVain (P.panel judges.old) event.did (P.panel judges.new))
         (around (P.panel judges.old) (C.moments clock.old) (R.repository repos.old)) (around (P.panel judges.new) (C.moments clock.new) (R.repository repos.new))) }
-    ensures caused { IfErr result (IsCause (EndsNumbers core.now host.now (Ok (AFrame.Event event.now))) (IsSpent (P.panel judges.new (method_of event.now.did)))
+    ensures caused { IfErr result (IsCause (EndsNumbers core.now host.now (Ok (AFrame.Event event))) (IsSpent (P.panel judges.new (method_of event.did)))
         (Rose (R.faults repos.old) (R.faults repos.new)) (Rose (C.faults clock.old) (C.faults clock.new))) }
     ensures clock_counts { C.faults clock.old ≤ C.faults clock.new }
     ensures repos_count { R.faults repos.old ≤ R.faults repos.new }
 {
     event.tell_event();
-    let (next, answers) = ask_all(alloc, core, host, frame, event, judges, clock)?;
+    let (next, answers) = ask_all(alloc, core, host, &event, judges, clock)?;
     match next {
-        Next::Pass(_) => Ok(Told::Passed(pass_over(frame))),
-        Next::Done(decision) => take(alloc, core, host, frame, event, &decision, answers),
-        Next::Ask(_) => take_lost(alloc, core, host, frame, event, answers, judges, repos),
+        Next::Pass(_) => Ok(Told::Passed(Passed::Old(event.seq))),
+        Next::Done(decision) => take(alloc, core, host, event, &decision, answers),
+        Next::Ask(_) => take_lost(alloc, core, host, event, answers, judges, repos),
     }
 }
 
@@ -63,27 +60,27 @@ fn decide_other<C: Clock>(
     alloc: Global,
     core: &Core,
     host: &str,
-    frame: &Frame,
+    frame: Frame,
     clock: &mut C,
 ) -> Result<Told, StepFault>
-    requires other { is_event frame.now ≡ false }
-    ensures told { IfOk result (λ told. OtherTold C.tells core.now host.now frame.now told (C.moments clock.old) (C.moments clock.new)) }
+    requires other { is_event frame ≡ false }
+    ensures told { IfOk result (λ told. OtherTold C.tells core.now host.now frame told (C.moments clock.old) (C.moments clock.new)) }
     ensures in_vain { OnErr result (IsTrue C.tells → OneTaken (C.moments clock.old) (C.moments clock.new)) }
     ensures caused { IfErr result (IsCause ⊥ ⊥ ⊥ (Rose (C.faults clock.old) (C.faults clock.new))) }
     ensures counts { C.faults clock.old ≤ C.faults clock.new }
 {
     let mut answers = Answers::new();
-    match core.next(host, frame, &answers) {
-        Next::Pass(_) => return Ok(Told::Passed(pass_over(frame))),
+    match core.next(host, &frame, &answers) {
+        Next::Pass(_) => return Ok(Told::Passed(pass_over(&frame))),
         Next::Ask(Question::Moment) => answers.moment = Some(ask_moment(clock)?),
         _ => unreachable!(),
     }
-    let Next::Done(decision) = core.next(host, frame, &answers) else {
+    let Next::Done(decision) = core.next(host, &frame, &answers) else {
         unreachable!()
     };
     match core.row(alloc, host, frame, &decision, answers)? {
-        Some(Row::Taken(taken)) => Ok(Told::Took(taken)),
-        _ => unreachable!(),
+        Some(row) => Ok(Told::Took(row)),
+        None => unreachable!(),
     }
 }
 
@@ -92,21 +89,21 @@ fn decide_frame<P: Judges, R: Repos, C: Clock>(
     alloc: Global,
     core: &Core,
     host: &str,
-    frame: &Frame,
+    frame: Frame,
     judges: &mut P,
     repos: &mut R,
     clock: &mut C,
 ) -> Result<Told, StepFault>
     requires host { IsTrue (is_host host.now) }
-    requires frame { IsFormedFrame frame.now }
-    ensures told { IfOk result (λ told. IsDecided core.now host.now (Ok frame.now) (told_as told)) }
-    ensures passed { IfOk result (IsPassedAs (Ok frame.now)) }
-    ensures asked { IfOk result (λ told. IsAskedOf C.tells R.tells core.now (around (P.panel judges.old) (C.moments clock.old) (R.repository repos.old)) host.now (Ok frame.now) (told_as told)
+    requires frame { IsFormedFrame frame }
+    ensures told { IfOk result (λ told. IsDecided core.now host.now (Ok frame) (told_as told)) }
+    ensures passed { IfOk result (IsPassedAs (Ok frame)) }
+    ensures asked { IfOk result (λ told. IsAskedOf C.tells R.tells core.now (around (P.panel judges.old) (C.moments clock.old) (R.repository repos.old)) host.now (Ok frame) (told_as told)
         (around (P.panel judges.new) (C.moments clock.new) (R.repository repos.new))) }
     ensures formed { IfOk result (λ told. KeepsJournal core.now (rows_told (told_as told))) }
-    ensures in_vain { OnErr result (CameToNothing C.tells R.tells (AskedInVainOf (P.panel judges.old) (Ok frame.now) (P.panel judges.new))
+    ensures in_vain { OnErr result (CameToNothing C.tells R.tells (AskedInVainOf (P.panel judges.old) (Ok frame) (P.panel judges.new))
         (around (P.panel judges.old) (C.moments clock.old) (R.repository repos.old)) (around (P.panel judges.new) (C.moments clock.new) (R.repository repos.new))) }
-    ensures caused { IfErr result (IsCause (EndsNumbers core.now host.now (Ok frame.now)) (IsSpentFor (Ok frame.now) (P.panel judges.new))
+    ensures caused { IfErr result (IsCause (EndsNumbers core.now host.now (Ok frame)) (IsSpentFor (Ok frame) (P.panel judges.new))
         (Rose (R.faults repos.old) (R.faults repos.new)) (Rose (C.faults clock.old) (C.faults clock.new))) }
     ensures clock_counts { C.faults clock.old ≤ C.faults clock.new }
     ensures repos_count { R.faults repos.old ≤ R.faults repos.new }
@@ -116,10 +113,10 @@ fn decide_frame<P: Judges, R: Repos, C: Clock>(
     match frame {
         Frame::Event(event) => {
             event.tell_event();
-            decide_event(alloc, core, host, frame, event, judges, repos, clock)
+            decide_event(alloc, core, host, event, judges, repos, clock)
         }
-        Frame::Faulty(_) | Frame::Info | Frame::Error | Frame::Unknown => {
-            decide_other(alloc, core, host, frame, clock)
+        other @ (Frame::Faulty(_) | Frame::Info | Frame::Error | Frame::Unknown) => {
+            decide_other(alloc, core, host, other, clock)
         }
     }
 }
@@ -154,7 +151,7 @@ pub fn decide_message<P: Judges, R: Repos, C: Clock>(
     ensures repos_count { R.faults repos.old ≤ R.faults repos.new }
 {
     match read_frame(alloc, message) {
-        Ok(frame) => decide_frame(alloc, core, host, &frame, judges, repos, clock),
+        Ok(frame) => decide_frame(alloc, core, host, frame, judges, repos, clock),
         Err(FrameFault::BadFrame) => Ok(Told::Passed(Passed::BadFrame)),
         Err(FrameFault::NoSeq) => Ok(Told::Passed(Passed::NoSeq)),
         Err(FrameFault::Memory) => Err(StepFault::Memory),

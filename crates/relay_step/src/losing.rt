@@ -23,7 +23,7 @@ use crate::reading::last_rev;
 use crate::taking::take;
 use crate::told::Told;
 use at_authority::Judges;
-use at_event::{Event, Frame};
+use at_event::Event;
 use relay_core::{Answers, Core, Next};
 use relay_io::Repos;
 use std::alloc::Global;
@@ -33,20 +33,18 @@ pub(crate) fn take_lost<P: Judges, R: Repos>(
     alloc: Global,
     core: &Core,
     host: &str,
-    frame: &Frame,
-    event: &Event,
+    event: Event,
     mut answers: Answers,
     judges: &mut P,
     repos: &mut R,
 ) -> Result<Told, StepFault>
-    requires frame { frame.now ≡ AFrame.Event event.now }
-    requires did { IsTrue (is_did event.now.did) }
-    requires time { length event.now.time ≤ LONGEST_SHORT_TEXT }
-    requires asks { next_of (cursor_in core.now host.now) (account_in core.now event.now.did) (AFrame.Event event.now) answers ≡ ANext.Ask AQuestion.Fetch }
-    ensures took { IfOk result (λ told. LostTook R.tells core.now host.now event.now answers told (P.panel judges.old) (R.repository repos.old) (P.panel judges.new)) }
+    requires did { IsTrue (is_did event.did) }
+    requires time { length event.time ≤ LONGEST_SHORT_TEXT }
+    requires asks { next_of (cursor_in core.now host.now) (account_in core.now event.did) (AFrame.Event event) answers ≡ ANext.Ask AQuestion.Fetch }
+    ensures took { IfOk result (λ told. LostTook R.tells core.now host.now event answers told (P.panel judges.old) (R.repository repos.old) (P.panel judges.new)) }
     ensures same { IsTrue R.tells → SameRepositories (R.repository repos.old) (R.repository repos.new) }
-    ensures in_vain { OnErr result (AskedPlain (P.panel judges.old) event.now.did (P.panel judges.new)) }
-    ensures caused { IfErr result (IsCause (NUMBERS ≤ core.now.last + 1) (IsSpent (P.panel judges.new (method_of event.now.did))) (Rose (R.faults repos.old) (R.faults repos.new)) ⊥) }
+    ensures in_vain { OnErr result (AskedPlain (P.panel judges.old) event.did (P.panel judges.new)) }
+    ensures caused { IfErr result (IsCause (NUMBERS ≤ core.now.last + 1) (IsSpent (P.panel judges.new (method_of event.did))) (Rose (R.faults repos.old) (R.faults repos.new)) ⊥) }
     ensures counts { R.faults repos.old ≤ R.faults repos.new }
 {
     let did = event.did.as_str();
@@ -63,8 +61,8 @@ pub(crate) fn take_lost<P: Judges, R: Repos>(
     )?;
     let fetched = make(alloc, core, did, event.time.as_str(), found)?;
     answers.fetched = Some(fetched);
-    let Next::Done(decision) = core.next(host, frame, &answers) else {
+    let Next::Done(decision) = core.next_for_event(host, &event, &answers) else {
         unreachable!()
     };
-    take(alloc, core, host, frame, event, &decision, answers)
+    take(alloc, core, host, event, &decision, answers)
 }

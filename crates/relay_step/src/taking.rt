@@ -1,7 +1,6 @@
 //! The row of a decided event.
 
 ghost use Rattle.std.specs.Prelude.{◌≡◌, ◌+◌, ◌≤◌, ◌<◌, true, false, IfOk, IfErr, OnOk};
-ghost use Rattle.at_event.specs.declared.frame.Frame.{Frame as AFrame};
 ghost use Rattle.relay_row.specs.declared.limits.TheConstants.{NUMBERS as BOUND};
 ghost use Rattle.relay_core.specs.Rows.{event_taken, goes_out};
 ghost use Rattle.relay_step.specs.Causes.{IsCause};
@@ -11,7 +10,7 @@ use crate::fault::StepFault;
 use crate::told::Told;
 use at_event::{Event, Frame};
 use relay_core::{Answers, Core, Decision};
-use relay_row::{NUMBERS, Row};
+use relay_row::NUMBERS;
 use std::alloc::Global;
 
 /// Whether there is no number behind the last one.
@@ -28,26 +27,24 @@ fn goes_out(decision: &Decision) -> bool
     decision.refusal.is_none() && !decision.held
 }
 
-/// The row of an event that is decided so. The answers move into it.
+/// The row of an event that is decided so. The event and the answers move into it.
 pub(crate) fn take(
     alloc: Global,
     core: &Core,
     host: &str,
-    frame: &Frame,
-    event: &Event,
+    event: Event,
     decision: &Decision,
     answers: Answers,
 ) -> Result<Told, StepFault>
-    requires frame { frame.now ≡ AFrame.Event event.now }
-    ensures took { IfOk result (λ told. told ≡ Outcome.Took (event_taken core.now.last host.now event.now decision.now answers)) }
+    ensures took { IfOk result (λ told. told ≡ Outcome.Took (event_taken core.now.last host.now event decision.now answers)) }
     ensures number { OnOk result (goes_out decision.now.refusal decision.now.held ≡ true → core.now.last + 1 < BOUND) }
     ensures caused { IfErr result (IsCause ((BOUND ≤ core.now.last + 1) × (goes_out decision.now.refusal decision.now.held ≡ true)) ⊥ ⊥ ⊥) }
 {
     if goes_out(decision) && is_full(core) {
         return Err(StepFault::SeqEnd);
     }
-    match core.row(alloc, host, frame, decision, answers)? {
-        Some(Row::Taken(taken)) => Ok(Told::Took(taken)),
-        _ => unreachable!(),
+    match core.row(alloc, host, Frame::Event(event), decision, answers)? {
+        Some(row) => Ok(Told::Took(row)),
+        None => unreachable!(),
     }
 }

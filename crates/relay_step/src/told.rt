@@ -4,7 +4,7 @@ ghost use Rattle.std.specs.Prelude.{◌≡◌, Ok};
 ghost use Rattle.relay_step.specs.Messages.{passed_as};
 
 use at_event::Frame;
-use relay_row::Taken;
+use relay_row::Fresh;
 
 /// Why a message makes no row.
 #[derive(Clone, Copy, Debug, PartialEq, Eq)]
@@ -41,6 +41,6 @@ pub(crate) fn pass_over(frame: &Frame) -> Passed
 pub enum Told {
     /// It makes no row.
     Passed(Passed),
-    /// It makes this row.
-    Took(Taken),
+    /// It makes this row, whose message isn't spelled yet.
+    Took(Fresh),
 }

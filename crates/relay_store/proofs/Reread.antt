@@ -4,7 +4,7 @@ use Rattle.std.specs.Prelude.{◌==◌, if◌then◌else◌, map, nat_le, nat_lt
 use Rattle.std.specs.Bool.{beq}
 use Rattle.std.specs.List.{list_all}
 use Rattle.std.proofs.lemmas.Bool.{and_parts, eqb-true, ltb-true}
-use Rattle.event_window.specs.Held.{Event, IsNext, first_or, oldest_of}
+use Rattle.event_window.specs.Held.{Event, Held, IsNext, first_or, oldest_of}
 use Rattle.event_window.specs.Window.{AreAbove, all_above}
 use Rattle.event_window.specs.declared.place.Place.{Place}
 use Rattle.relay_disk.specs.Disk.{View}
@@ -21,7 +21,7 @@ use Rattle.relay_row.specs.declared.limits.TheConstants.{NUMBERS}
 use Rattle.relay_row.specs.declared.operated.Operated.{Operated}
 use Rattle.relay_row.specs.declared.row.Row.{Row}
 use Rattle.relay_row.specs.declared.taken.Taken.{Taken}
-use Rattle.relay_store.specs.Events.{AllStand, IsFirst}
+use Rattle.relay_store.specs.Events.{AllStand, HasEvents, IsFirst, IsPageOf}
 use Rattle.relay_store.specs.Journals.{bytes_of, joined}
 use Rattle.relay_store.specs.Places.{number_in}
 use Rattle.relay_store.specs.Shown.{held_by, is_shown, shown_of}
@@ -204,3 +204,9 @@ module _ (J : List Row) (s : StoreState) (v : View) (keeps : Keeps J s v) where
 -- the bodies are still there
 pub still_kept : (J : List Row) (s : StoreState) (v w : View) (keeps : Keeps J s v) → HasBodies (bytes_of keeps.bodies) s.log w → Keeps J s w
 still_kept J s v w keeps holds = record { bodies = keeps.bodies; are = keeps.are; holds = holds; core = keeps.core; window = keeps.window }
+
+-- and so are the events, whichever page was read last
+pub still_has : (J : List Row) (s : StoreState) (v w : View) (place : ℕ) (rows : List Row) (held : Held) (keeps : Keeps J s v) → HasBodies (bytes_of keeps.bodies) s.log w → held ≡ held_by J
+    → IsPageOf s.log.format keeps.bodies place rows → HasEvents s w place rows held
+unfolding still_kept
+still_has J s v w place rows held keeps holds is page = (J, still_kept J s v w keeps holds, is, page)

@@ -1,7 +1,8 @@
 -- Whether a row has room.
-use Rattle.std.proofs.Common.{◌≡◌, ℕ, ◌+◌, ◌-◌, ◌≤◌, ◌<◌, inr, List, [], ◌∷◌, ◌++◌, length, drop, refl, ◌∙◌, ap, arith, length-append, length-drop, Result, Err, false}
+use Rattle.std.proofs.Common.{◌≡◌, ℕ, ◌+◌, ◌-◌, ◌≤◌, ◌<◌, inr, List, [], ◌∷◌, ◌++◌, length, take, drop, refl, sym, ◌∙◌, ap, subst, arith, length-append, length-drop, Result, Err, false}
 use Rattle.std.specs.Prelude.{◌==◌, ◌↔◌}
 use Rattle.std.proofs.lemmas.Bool.Decides.{nat_tests}
+use Rattle.std.proofs.lemmas.List.{length-take}
 use Rattle.at_cbor.specs.declared.major.Major.{Major}
 use Rattle.at_cbor.specs.Spelling.{front_of}
 use Rattle.gate_log.specs.Log.{LogState}
@@ -11,7 +12,7 @@ use Rattle.gate_log.specs.declared.limits.TheConstants.{BEFORE_BODY}
 use Rattle.relay_row.specs.Bodies.{body_of, row_spelling, spelled}
 use Rattle.relay_row.specs.declared.row.Row.{Row}
 use Rattle.relay_row.proofs.Bodies.{spelled_joined}
-use Rattle.relay_store.specs.Drafts.{Fits, FitsWith, HasRows, IsFull, IsFullWith, behind, behind_draft, draft_body, length_with}
+use Rattle.relay_store.specs.Drafts.{Fits, FitsWith, HasRows, IsFull, IsFullWith, behind, behind_draft, cut_to, draft_body, length_with}
 use Rattle.relay_store.specs.declared.draft.Draft.{Draft}
 use Rattle.relay_store.proofs.Spellings.{draft_is, length_body, length_one}
 
@@ -32,8 +33,11 @@ behind_some end d some = let test : (d.count == 0) ≡ false = grind (arith, nat
 pub length_draft : (d : Draft) → length (draft_body d) ≡ length (front_of Major.List d.count) + (length d.body - AHEAD)
 length_draft d = omega (arith, length-append (front_of Major.List d.count) (drop AHEAD d.body), length-drop AHEAD d.body)
 
-pub length_more : (d : Draft) → length_with d ≡ length (front_of Major.List (d.count + 1)) + ((length d.body - AHEAD) + length d.row)
+pub length_more : (d : Draft) → length_with d ≡ length (front_of Major.List (d.count + 1)) + (length d.body - AHEAD)
 length_more d = omega (arith, length-drop AHEAD d.body)
+
+pub length_cut : (start : ℕ) (d : Draft) → start ≤ length d.body → length (draft_body (cut_to start d)) ≡ length (front_of Major.List d.count) + (start - AHEAD)
+length_cut start d within = omega (arith, length_draft (cut_to start d), length-take start d.body, within)
 
 pub behind_is : (end : ℕ) (rows : List Row) (d : Draft) → HasRows rows d → behind_draft end d ≡ behind end rows
 behind_is end [] d has = behind_none end d has.count
@@ -41,30 +45,63 @@ behind_is end (row ∷ rows) d has =
     let some : d.count ≡ 0 → ⊥ = λ none. absurd (omega (arith, none, has.count)) in
     behind_some end d some ∙ ap (λ (b : List ℕ). end + BEFORE_BODY + length b) (draft_is (row ∷ rows) d has)
 
--- the body with the row that is spelled beside it
-with_row : (rows : List Row) (row : Row) (d : Draft) → HasRows rows d → d.row ≡ row_spelling row → length_with d ≡ length (body_of (rows ++ row ∷ []))
-with_row rows row d has is =
+-- ---- a row was spelled behind the draft d, which made of it the draft e
+
+pub front_kept : (old more : List ℕ) → take (length old) (old ++ more) ≡ old
+front_kept [] more = refl
+front_kept (x ∷ old) more = ap (λ (l : List ℕ). x ∷ l) (front_kept old more)
+
+end_kept : (old more : List ℕ) → drop (length old) (old ++ more) ≡ more
+end_kept [] more = refl
+end_kept (x ∷ old) more = end_kept old more
+
+pub cut_again : (start : ℕ) (old more body : List ℕ) → start ≡ length old → body ≡ old ++ more → take start body ≡ old
+cut_again start old more body here is = rw (here, is) (front_kept old more)
+
+rest_again : (start : ℕ) (old more body : List ℕ) → start ≡ length old → body ≡ old ++ more → drop start body ≡ more
+rest_again start old more body here is = rw (here, is) (end_kept old more)
+
+has_again : (rows : List Row) (d : Draft) (body : List ℕ) → HasRows rows d → body ≡ d.body → HasRows rows (record { body = body; count = d.count })
+has_again rows d body has is = record {
+  begun = subst (λ (l : List ℕ). AHEAD ≤ length l) (sym is) has.begun;
+  spelled_are = ap (drop AHEAD) is ∙ has.spelled_are;
+  count = has.count;
+}
+
+pub fits_again : (log : LogState) (d : Draft) (body : List ℕ) → Fits log d → body ≡ d.body → Fits log (record { body = body; count = d.count })
+fits_again log d body fits is = subst (λ (l : List ℕ). Fits log (record { body = l; count = d.count })) (sym is) fits
+
+-- the body with the row
+with_row : (rows : List Row) (row : Row) (d : Draft) (body : List ℕ) → HasRows rows d → body ≡ d.body ++ row_spelling row → length_with (record { body = body; count = d.count }) ≡ length (body_of (rows ++ row ∷ []))
+with_row rows row d body has is =
     let count : length (rows ++ row ∷ []) ≡ d.count + 1 = omega (arith, length-append rows (row ∷ []), has.count) in
     let front = ap (λ (n : ℕ). length (front_of Major.List n)) count in
     omega (
       arith,
       front,
+      length_more (record { body = body; count = d.count }),
       length_body (rows ++ row ∷ []),
       ap length (spelled_joined rows (row ∷ [])),
       length-append (spelled rows) (row_spelling row ++ []),
       length-append (row_spelling row) [],
       ap length has.spelled_are,
+      length-drop AHEAD d.body,
       ap length is,
+      length-append d.body (row_spelling row),
+      has.begun,
     )
 
-pub full_of : (log : LogState) (rows : List Row) (row : Row) (d : Draft) (e : ℕ) → HasRows rows d → d.row ≡ row_spelling row → IsFullWith log d e → IsFull log rows row e
-full_of log rows row d e has is full = record {
-  there = omega (arith, full.there, behind_is log.end rows d has, length_one row, ap length is);
-  past = omega (arith, full.past, with_row rows row d has is);
-}
+pub full_of : (log : LogState) (rows : List Row) (row : Row) (d : Draft) (body : List ℕ) (start e : ℕ) → HasRows rows d → start ≡ length d.body → body ≡ d.body ++ row_spelling row → IsFullWith log start (record { body = body; count = d.count }) e → IsFull log rows row e
+full_of log rows row d body start e has here is full =
+    let cut = has_again rows d (take start body) has (cut_again start d.body (row_spelling row) body here is) in
+    record {
+      there = omega (arith, full.there, behind_is log.end rows (record { body = take start body; count = d.count }) cut, length_one row, ap length (rest_again start d.body (row_spelling row) body here is));
+      past = omega (arith, full.past, with_row rows row d body has is);
+    }
 
-pub fits_more : (log : LogState) (d d_now : Draft) → AHEAD ≤ length d.body → FitsWith log d → d_now.body ≡ d.body ++ d.row → d_now.count ≡ d.count + 1 → Fits log d_now
+-- the row is counted
+pub fits_more : (log : LogState) (d d_now : Draft) → AHEAD ≤ length d.body → FitsWith log d → d_now.body ≡ d.body → d_now.count ≡ d.count + 1 → Fits log d_now
 fits_more log d d_now begun fits body count =
     let front = ap (λ (n : ℕ). length (front_of Major.List n)) count in
-    let same : length (draft_body d_now) ≡ length_with d = omega (arith, front, length_draft d_now, length_more d, ap length body, length-append d.body d.row, begun) in
+    let same : length (draft_body d_now) ≡ length_with d = omega (arith, front, length_draft d_now, length_more d, ap length body, begun) in
     inr (omega (arith, same, fits.fits), omega (arith, same, fits.short))

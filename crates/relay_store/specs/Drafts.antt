@@ -1,5 +1,5 @@
 -- The body that is put together while steps are taken, and what is known ahead of the disk (own).
-use Rattle.std.specs.Prelude.{◌≡◌, ◌⊎◌, ℕ, ◌+◌, ◌<◌, ◌≤◌, List, [], ◌∷◌, ◌++◌, length, drop, ◌==◌, if◌then◌else◌}
+use Rattle.std.specs.Prelude.{◌≡◌, ◌⊎◌, ℕ, ◌+◌, ◌<◌, ◌≤◌, List, [], ◌∷◌, ◌++◌, length, take, drop, ◌==◌, if◌then◌else◌}
 use Rattle.at_cbor.specs.declared.major.Major.{Major}
 use Rattle.at_cbor.specs.Spelling.{front_of}
 use Rattle.event_window.specs.declared.place.Place.{Place}
@@ -53,16 +53,27 @@ pub record IsAdded (end : ℕ) (row : Row) (state state_now : Core) (places plac
   pub body : d_now.body ≡ d.body ++ row_spelling row
   pub count : d_now.count ≡ d.count + 1
 
--- Nothing is learned, and the draft is as it was, but for the room of a row.
+-- A row that stands in the draft already is learned.
+pub record IsLearned (end : ℕ) (row : Row) (state state_now : Core) (places places_now : List Place) (d d_now : Draft) : Type 0 where
+  pub core : (J : List Row) → Holds state J → Holds state_now (J ++ row ∷ [])
+  pub window : places_now ≡ places ++ place_of end d.count row
+  pub body : d_now.body ≡ d.body
+  pub count : d_now.count ≡ d.count + 1
+
+-- Nothing is learned, and the draft is as it was.
 pub record IsUnchanged (state state_now : Core) (places places_now : List Place) (d d_now : Draft) : Type 0 where
   pub core : (J : List Row) → Holds state J → Holds state_now J
   pub window : places_now ≡ places
   pub body : d_now.body ≡ d.body
   pub count : d_now.count ≡ d.count
 
--- the length of the body with one row more, which is spelled beside it
+-- the draft without the bytes behind so many
+abbrev pub cut_to : ℕ → Draft → Draft
+cut_to len d = record { body = take len d.body; count = d.count }
+
+-- the length of the body with one row more, which stands in it already
 abbrev pub length_with : Draft → ℕ
-length_with d = length (front_of Major.List (d.count + 1)) + (length (drop AHEAD d.body) + length d.row)
+length_with d = length (front_of Major.List (d.count + 1)) + length (drop AHEAD d.body)
 
 -- there is room for it
 pub record FitsWith (log : LogState) (d : Draft) : Type 0 where
@@ -73,9 +84,9 @@ pub record FitsWith (log : LogState) (d : Draft) : Type 0 where
 abbrev pub behind_draft : ℕ → Draft → ℕ
 behind_draft end d = if d.count == 0 then end else end + BEFORE_BODY + length (draft_body d)
 
--- there is none
-pub record IsFullWith (log : LogState) (d : Draft) (e : ℕ) : Type 0 where
-  pub there : e ≡ behind_draft log.end d + AROUND_BODY + (1 + length d.row)
+-- there is none, and it begins at this place
+pub record IsFullWith (log : LogState) (start : ℕ) (d : Draft) (e : ℕ) : Type 0 where
+  pub there : e ≡ behind_draft log.end (cut_to start d) + AROUND_BODY + (1 + length (drop start d.body))
   pub past : log.most < log.end + AROUND_BODY + length_with d
 
 -- The disk holds the journal J, and what is known is of J followed by these rows.

@@ -15,9 +15,14 @@ use Rattle.relay_store.specs.Journals.{AllBodies, bytes_of}
 use Rattle.relay_store.specs.Shown.{held_by, is_shown, shown_of}
 use Rattle.relay_store.specs.Store.{StoreState, Keeps}
 
--- The disk is the one that the store is open on, and these are the events of its journal.
-abbrev pub HasEvents : StoreState → View → Held → Type 0
-HasEvents s v held = (J : List Row) × Keeps J s v × (held ≡ held_by J)
+-- Where one of these bodies stands at the place, these are its rows.
+abbrev pub IsPageOf : Format → List (List Row) → ℕ → List Row → Type 0
+IsPageOf format bodies place rows = (before : List (List Row)) (there : List Row) (after : List (List Row))
+    → bodies ≡ before ++ there ∷ after → place ≡ length (made format (bytes_of before)) → rows ≡ there
+
+-- The disk is the one that the store is open on, these are the events of its journal, and the rows that were read at this place are those that stand there.
+abbrev pub HasEvents : StoreState → View → ℕ → List Row → Held → Type 0
+HasEvents s v place rows held = (J : List Row) × (keeps : Keeps J s v) × (held ≡ held_by J) × IsPageOf s.log.format keeps.bodies place rows
 
 -- the message of the first of events, if there is one
 abbrev pub message_of : List Event → List ℕ
@@ -56,9 +61,10 @@ pub record IsRest (tells : Bool) (log : LogState) (core : Core) (v : View) (bodi
   pub stand : AllStand log.format bodies left rest
   pub same : IsTrue tells → (J : List Row) → AllBodies bodies → HasBodies (bytes_of bodies) log v → Holds core J → shown_of J rows ≡ shown_of J rest
 
--- while the first event that is shown is searched for
-pub record IsSearching (tells : Bool) (log : LogState) (core : Core) (old now : View) (places left : List Place) : Type 0 where
+-- while the first event that is shown is searched for, behind the page of the rows that were read last
+pub record IsSearching (tells : Bool) (log : LogState) (core : Core) (old now : View) (page page_now : ℕ × List Row) (places left : List Place) : Type 0 where
   pub goes : Goes Same old now
   pub holds : IsTrue tells → (bodies : List (List ℕ)) → HasBodies bodies log old → HasBodies bodies log now
   pub on : IsTrue tells → IsOn now log
-  pub rest : (bodies : List (List Row)) (rows : List Row) → AllStand log.format bodies places rows → IsRest tells log core old bodies left rows
+  pub fits : IsTrue tells → (bodies : List (List Row)) → AllBodies bodies → HasBodies (bytes_of bodies) log old → IsPageOf log.format bodies page.0 page.1 → IsPageOf log.format bodies page_now.0 page_now.1
+  pub rest : (bodies : List (List Row)) (rows : List Row) → IsPageOf log.format bodies page.0 page.1 → AllStand log.format bodies places rows → IsRest tells log core old bodies left rows

@@ -5,17 +5,17 @@ ghost use Rattle.at_cbor.specs.declared.major.Major.{Major};
 ghost use Rattle.at_cbor.specs.Spelling.{front_of};
 ghost use Rattle.gate_log.specs.declared.drafts.TheConstants.{HEAD};
 ghost use Rattle.relay_row.specs.declared.limits.TheConstants.{MOST_ROWS};
-ghost use Rattle.relay_store.specs.Drafts.{HasRows};
+ghost use Rattle.relay_store.specs.Drafts.{HasRows, cut_to};
 
 use at_cid::{Memory, Octets};
 use gate_log::{HEAD, begin};
 use std::alloc::Global;
+use std::mem;
 
-/// The rows of a body under way, as they are spelled, behind the room for what stands ahead of them; and room for one more row.
+/// The rows of a body under way, as they are spelled, behind the room for what stands ahead of them.
 #[derive(Drop)]
 pub(crate) struct Draft {
     pub(crate) body: Octets,
-    pub(crate) row: Octets,
     pub(crate) count: usize,
 }
 
@@ -23,7 +23,6 @@ impl Draft {
     pub(crate) fn new(alloc: Global) -> Draft {
         Draft {
             body: Octets::new(alloc),
-            row: Octets::new(alloc),
             count: 0,
         }
     }
@@ -34,6 +33,15 @@ impl Draft {
     {
         self.count = 0;
         begin(&mut self.body)
+    }
+
+    /// Drops the bytes behind so many. Takes no memory.
+    pub(crate) fn cut_back(&mut self, alloc: Global, len: usize)
+        ensures { self.new ≡ cut_to len self.old }
+    {
+        let mut bytes = mem::replace(&mut self.body, Octets::new(alloc)).into_vec();
+        bytes.truncate(len);
+        self.body = Octets::from_vec(bytes);
     }
 }
 

@@ -10,25 +10,44 @@ ghost use Rattle.relay_store.specs.Shown.{held_by};
 ghost use Rattle.relay_store.specs.Store.{Keeps, seen_in};
 
 use crate::finding::find_shown;
+use crate::page::Page;
 use crate::store::Store;
 use at_cid::Octets;
 use event_window::{Events, EventsFault};
 use relay_disk::Disk;
 use std::alloc::Global;
 
-/// The events of a store, which are read back from the disk that it is on.
-#[derive(Drop)]
-pub struct Reader<'a, D> {
+/// The events of a store, which are read back from the disk that it is on, body by body: the one that was read last is kept.
+///
+/// P is the type of that body.
+pub struct Reader<'a, D, P = Page> {
     alloc: Global,
     store: &'a Store,
     disk: &'a mut D,
+    page: P,
+}
+
+impl<D, P: Drop> Drop for Reader<'_, D, P> {
+    ghost use Rattle.std.specs.Prelude.{◌≡◌};
+
+    fn drop(self)
+        ensures disk { self.exit.1.1.0.now ≡ self.entry.disk.now }
+    {
+        let Reader {
+            alloc: _,
+            store: _,
+            disk: _,
+            page,
+        } = self;
+        drop(page);
+    }
 }
 
 impl Store {
     /// Its events, read back from the disk that it is on. Nothing is read yet.
     pub fn events<'a, D: Disk>(&'a self, alloc: Global, disk: &'a mut D) -> Reader<'a, D>
         ensures held { IsTrue D.tells → (J : List TheRow) → Keeps J (seen_in self.now) (D.view disk.old)
-            → HasEvents (seen_in result.store.now) (D.view result.disk.now) (held_by J) }
+            → HasEvents (seen_in result.store.now) (D.view result.disk.now) result.page.place result.page.rows (held_by J) }
         ensures store { result.store.now ≡ self.now }
         ensures disk { result.disk.now ≡ disk.old }
         ensures same_reference { result.disk.ghost_name ≡ disk.entry.ghost_name }
@@ -37,6 +56,7 @@ impl Store {
             alloc,
             store: self,
             disk,
+            page: Page::new(alloc),
         }
     }
 }
@@ -44,7 +64,7 @@ impl Store {
 impl<D: Disk> Events for Reader<'_, D> {
     ghost tells = { D.tells };
 
-    ghost holds = { λ reader held. HasEvents (seen_in reader.store.now) (D.view reader.disk.now) held };
+    ghost holds = { λ reader held. HasEvents (seen_in reader.store.now) (D.view reader.disk.now) reader.page.place reader.page.rows held };
 
     ghost faults = { λ reader. (D.view reader.disk.now).faults };
 
@@ -71,6 +91,14 @@ impl<D: Disk> Events for Reader<'_, D> {
     fn next_after(&mut self, seq: u64, room: &mut Octets) -> Result<Option<u64>, EventsFault> {
         let store = self.store;
         let places = store.window.above(seq);
-        find_shown(self.alloc, &store.log, &store.core, self.disk, places, room)
+        find_shown(
+            self.alloc,
+            &store.log,
+            &store.core,
+            self.disk,
+            places,
+            &mut self.page,
+            room,
+        )
     }
 }

@@ -20,6 +20,7 @@ mod loading;
 mod message;
 mod opening;
 mod outcome;
+mod page;
 mod preparing;
 mod rereading;
 mod rewriting;

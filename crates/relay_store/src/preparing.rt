@@ -17,7 +17,7 @@ ghost use Rattle.relay_store.specs.Outcomes.{fetch_in, outcome_passed, outcome_t
 ghost use Rattle.relay_store.specs.Taking.{AreAdded, IsTooLate, Prepared};
 
 use crate::StoreFault;
-use crate::adding::add_row;
+use crate::adding::add_fresh;
 use crate::draft::Draft;
 use crate::outcome::{End, Fetch, Outcome};
 use at_authority::Judges;
@@ -25,7 +25,7 @@ use event_window::Window;
 use gate_log::Log;
 use relay_core::Core;
 use relay_io::{Clock, Repos};
-use relay_row::{Fetched, Row, Taken};
+use relay_row::{Fetched, Taken};
 use relay_step::{Passed, Told, decide_message};
 use std::alloc::Global;
 
@@ -67,6 +67,7 @@ fn outcome_of_passed(why: Passed) -> Outcome
 
 // Takes what came of a message: its row, if it makes one, is learned and goes into the body under way.
 fn take_told(
+    alloc: Global,
     log: &Log,
     core: &mut Core,
     window: &mut Window,
@@ -85,9 +86,9 @@ fn take_told(
 {
     match told {
         Told::Passed(why) => Ok(outcome_of_passed(why)),
-        Told::Took(taken) => {
-            let outcome = outcome_of_taken(&taken);
-            match add_row(log, core, window, draft, Row::Taken(taken)) {
+        Told::Took(fresh) => {
+            let outcome = outcome_of_taken(fresh.parts());
+            match add_fresh(alloc, log, core, window, draft, fresh) {
                 Ok(()) => Ok(outcome),
                 Err(fault) => Err(fault),
             }
@@ -121,7 +122,7 @@ pub(crate) fn prepare<P: Judges, R: Repos, C: Clock>(
     ensures repos_count { R.faults repos.old ≤ R.faults repos.new }
 {
     match decide_message(alloc, core, host, message, judges, repos, clock) {
-        Ok(told) => take_told(log, core, window, draft, told),
+        Ok(told) => take_told(alloc, log, core, window, draft, told),
         Err(fault) => Err(StoreFault::from(fault)),
     }
 }

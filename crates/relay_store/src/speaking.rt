@@ -47,6 +47,7 @@ fn done_of_row(row: &Row) -> Done
 
 // Takes a word: its row, if it makes one, is learned and goes into the body under way.
 fn take_word(
+    alloc: Global,
     log: &Log,
     core: &mut Core,
     window: &mut Window,
@@ -66,7 +67,7 @@ fn take_word(
         Word::Refused(refusal) => Ok(Done::Refused(refusal)),
         Word::Made(row) => {
             let done = done_of_row(&row);
-            match add_row(log, core, window, draft, row) {
+            match add_row(alloc, log, core, window, draft, row) {
                 Ok(()) => Ok(done),
                 Err(fault) => Err(fault),
             }
@@ -76,7 +77,7 @@ fn take_word(
 
 impl Store {
     // Takes a word, and makes its row durable.
-    fn say<D: Disk>(&mut self, disk: &mut D, word: Word) -> Result<Done, StoreFault>
+    fn say<D: Disk>(&mut self, alloc: Global, disk: &mut D, word: Word) -> Result<Done, StoreFault>
         requires open { IsTrue self.old.log.is_open }
         requires on { IsTrue D.tells → IsKept (seen_in self.old) (D.view disk.old) }
         requires rows { HasRows [] self.old.draft }
@@ -88,6 +89,7 @@ impl Store {
         ensures few { (f : TheFault) → result ≡ Err f → IsOfSaying f }
     {
         match take_word(
+            alloc,
             &self.log,
             &mut self.core,
             &mut self.window,
@@ -132,7 +134,7 @@ impl Store {
             Err(_) => return Err(StoreFault::Memory),
         }
         match operate(alloc, &self.core, did, down, time, clock) {
-            Ok(word) => self.say(disk, word),
+            Ok(word) => self.say(alloc, disk, word),
             Err(fault) => Err(StoreFault::from(fault)),
         }
     }
@@ -172,7 +174,7 @@ impl Store {
             Err(_) => return Err(StoreFault::Memory),
         }
         match sync_now(alloc, &self.core, did, time, judges, repos, clock) {
-            Ok(word) => self.say(disk, word),
+            Ok(word) => self.say(alloc, disk, word),
             Err(fault) => Err(StoreFault::from(fault)),
         }
     }

@@ -2,6 +2,7 @@
 
 ghost use Rattle.std.specs.Prelude.{◌≡◌, ◌≤◌, ◌⊎◌, ⊤, ℕ, List, Some, IsTrue};
 ghost use Rattle.at_cid.specs.Counts.{Rose};
+ghost use Rattle.event_window.specs.Held.{Held};
 ghost use Rattle.relay_disk.specs.Disk.{Goes, Same};
 ghost use Rattle.gate_log.specs.Pick.{view_of_side};
 ghost use Rattle.gate_log.specs.declared.limits.TheConstants.{LAST_END};
@@ -17,11 +18,37 @@ ghost use Rattle.serve_run.specs.Replayed.{IsReplayed, Replayed};
 ghost use Rattle.serve_run.specs.declared.end.ServeEnd.{ServeEnd as TheEnd};
 
 use crate::end::ServeEnd;
+use event_window::Events;
 use gate_log::Side;
 use relay_disk::Disk;
 use relay_io::Sink;
 use relay_store::Store;
 use std::alloc::Global;
+
+// Writes the messages of these events.
+fn replay_events<E: Events, O: Sink>(
+    alloc: Global,
+    events: &mut E,
+    cursor: u64,
+    out: &mut O,
+) -> ServeEnd
+    requires { IsTrue E.tells → (held : Held) × E.holds events.old held }
+    ensures written { IsTrue E.tells → (held : Held) → E.holds events.old held
+        → IsTrue O.tells → IsReplayed result (framed (served held (Some cursor))) (O.written out.old) (O.written out.new) }
+    ensures later { E.later events.old events.new }
+    ensures disk { result ≡ ServeEnd.Disk → Rose (E.faults events.old) (E.faults events.new) }
+    ensures failed { result ≡ ServeEnd.WriteFault → Rose (O.faults out.old) (O.faults out.new) }
+    ensures no_door { result ≡ ServeEnd.Door → ⊥ }
+    ensures no_bad_log { (place : ℕ) → result ≡ ServeEnd.BadLog place → IsTrue E.tells → (held : Held) → E.holds events.old held → ⊥ }
+    ensures too_long { result ≡ ServeEnd.TooLong → IsTrue E.tells → (held : Held) → E.holds events.old held
+        → IsTrue (has_long (served_events held (Some cursor))) }
+    ensures counts { O.faults out.old ≤ O.faults out.new }
+{
+    match backfill::replay(alloc, events, cursor, out) {
+        Ok(_) => ServeEnd::Done,
+        Err(fault) => ServeEnd::of_replay(fault),
+    }
+}
 
 // Writes the messages, read back from the disk that the store is on.
 fn replay_from<D: Disk, O: Sink>(
@@ -44,10 +71,7 @@ fn replay_from<D: Disk, O: Sink>(
     ensures counts { O.faults out.old ≤ O.faults out.new }
 {
     let mut events = store.events(alloc, disk);
-    match backfill::replay(alloc, &mut events, cursor, out) {
-        Ok(_) => ServeEnd::Done,
-        Err(fault) => ServeEnd::of_replay(fault),
-    }
+    replay_events(alloc, &mut events, cursor, out)
 }
 
 // Writes the messages, read back from the disk of the store's side.

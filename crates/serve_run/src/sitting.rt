@@ -19,6 +19,7 @@ ghost use Rattle.serve_run.specs.declared.session.Session.{Session as TheSession
 use crate::end::ServeEnd;
 use crate::session::Session;
 use backfill::{ServeFault, Served, TargetFault, cursor_of};
+use event_window::Events;
 use gate_log::Side;
 use relay_disk::Disk;
 use relay_io::{Door, DoorFault, Guest};
@@ -48,6 +49,33 @@ fn session_after(fault: ServeFault) -> Result<Session, ServeEnd>
     }
 }
 
+// Serves the guest who waits, from these events.
+fn sit_among<E: Events, G: Door>(
+    alloc: Global,
+    events: &mut E,
+    cursor: Option<u64>,
+    door: &mut G,
+) -> Result<Session, ServeEnd>
+    requires known { IsTrue E.tells → (held : Held) × E.holds events.old held }
+    requires waits { IsTrue (G.waits door.old) }
+    ensures sat { IsTrue E.tells → (held : Held) → E.holds events.old held → Sat G.tells held (Ok cursor) (G.turns door.old) (G.turns door.new) result }
+    ensures guests { IsTrue G.tells → G.guests door.new ≡ G.guests door.old }
+    ensures later { E.later events.old events.new }
+    ensures counted { IfOk result (λ session. IsCounted session (G.session_faults door.old) (G.session_faults door.new)) }
+    ensures closed { IfOk result (λ session. IsClosed session (G.waits door.new)) }
+    ensures few { IfErr result (λ end. IsOfSession end) }
+    ensures disk { result ≡ Err ServeEnd.Disk → Rose (E.faults events.old) (E.faults events.new) }
+    ensures no_bad_log { (place : ℕ) → result ≡ Err (ServeEnd.BadLog place) → IsTrue E.tells → (held : Held) → E.holds events.old held → ⊥ }
+    ensures counts { G.faults door.new ≡ G.faults door.old }
+    ensures session_counts { G.session_faults door.old ≤ G.session_faults door.new }
+{
+    let last = events.last_seq();
+    match backfill::serve(alloc, events, cursor, door) {
+        Ok(served) => Ok(session_of(last, cursor, served)),
+        Err(fault) => session_after(fault),
+    }
+}
+
 // Serves the guest who waits, from the events on the disk that the store is on.
 fn sit_from<D: Disk, G: Door>(
     alloc: Global,
@@ -70,12 +98,8 @@ fn sit_from<D: Disk, G: Door>(
     ensures counts { G.faults door.new ≡ G.faults door.old }
     ensures session_counts { G.session_faults door.old ≤ G.session_faults door.new }
 {
-    let last = store.last_seq();
     let mut events = store.events(alloc, disk);
-    match backfill::serve(alloc, &mut events, cursor, door) {
-        Ok(served) => Ok(session_of(last, cursor, served)),
-        Err(fault) => session_after(fault),
-    }
+    sit_among(alloc, &mut events, cursor, door)
 }
 
 // Serves the guest who waits, from the events on the disk of the store's side.

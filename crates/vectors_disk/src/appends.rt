@@ -1,7 +1,8 @@
 //! `CONTENT ; MOST ; BODY .. = what each append answers, the end, and the content`, and
 //! `CONTENT ; BODY .. = the calls of opening the log and appending`.
 
-ghost use Rattle.std.specs.Prelude.{◌≤◌};
+ghost use Rattle.std.specs.Prelude.{◌≤◌, IsTrue, OnOk};
+ghost use Rattle.gate_log.specs.Log.{IsOn};
 
 use crate::logging::{append, append_put};
 use crate::texts::{MOST, with_call};
@@ -38,6 +39,29 @@ fn with_place(
     }
 }
 
+// Appends a body, with what is answered behind.
+fn with_appended<D: Disk>(
+    alloc: Global,
+    answer: Answer,
+    log: &mut Log,
+    disk: &mut D,
+    body: &[u8],
+    way: Way,
+) -> Result<Answer>
+    requires { IsTrue D.tells → IsOn (D.view disk.old) log.old }
+    ensures { OnOk result (IsTrue D.tells → IsOn (D.view disk.new) log.new) }
+{
+    let fits = log.fits(u32::try_from(body.len())?);
+    let appended = match way {
+        Way::Slice => append(log, disk, body),
+        Way::Room => append_put(alloc, log, disk, body),
+    };
+    match appended {
+        Ok(_) | Err(LogFault::Full(_)) => Ok(with_place(answer, fits, appended)),
+        Err(_) => bail!("a log that doesn't take a body"),
+    }
+}
+
 // What each append answers behind another one, and the log.
 fn appended<D: Disk>(
     alloc: Global,
@@ -51,15 +75,7 @@ fn appended<D: Disk>(
     let mut answer = Answer::new(alloc);
     let mut log = Log::open(alloc, disk, most)?;
     for body in bodies {
-        let fits = log.fits(u32::try_from(body.len())?);
-        let appended = match way {
-            Way::Slice => append(&mut log, disk, body.as_slice()),
-            Way::Room => append_put(alloc, &mut log, disk, body.as_slice()),
-        };
-        match appended {
-            Ok(_) | Err(LogFault::Full(_)) => answer = with_place(answer, fits, appended),
-            Err(_) => bail!("a log that doesn't take a body"),
-        }
+        answer = with_appended(alloc, answer, &mut log, disk, body.as_slice(), way)?;
     }
     let text = answer.words("end ").number(log.end()).end()?;
     Ok((text, log))

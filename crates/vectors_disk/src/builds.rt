@@ -6,11 +6,11 @@ ghost use Rattle.gate_log.specs.declared.limits.TheConstants.{GENERATIONS};
 
 use crate::pairs::pair_held;
 use crate::texts::{MOST, told};
-use crate::words::{disk_of, pieces};
+use crate::words::{disk_of, fuse_of, pieces};
 use crate::worst::image;
 use anyhow::{Result, bail};
 use gate_log::{BODY_LENGTHS, Build, GENERATIONS, Log, LogFault};
-use relay_disk::{Disk, FuseDisk, MemoryDisk, WORST_CASES};
+use relay_disk::{Disk, MemoryDisk, WORST_CASES};
 use std::alloc::Global;
 use vector_lines::{Answer, Subject, bytes, parted};
 
@@ -67,17 +67,27 @@ fn held(alloc: Global, start: &Start, other: &mut MemoryDisk) -> Result<String> 
     pair_held(alloc, &mut live, other)
 }
 
+// What a build answers that is stopped behind so many calls, and the other disk behind it.
+fn left(alloc: Global, start: &Start, calls: usize) -> Result<(Result<u64, LogFault>, MemoryDisk)> {
+    let mut other = fuse_of(alloc, &start.other, calls)?;
+    let answer = answered(alloc, start, &mut other)?;
+    Ok((answer, other.into_inner()))
+}
+
+// What the live disk holds beside a worst case of the other.
+fn worst_held(alloc: Global, start: &Start, other: &MemoryDisk, i: u8) -> Result<String> {
+    let mut image = image(alloc, other, i)?;
+    held(alloc, start, &mut image)
+}
+
 // Whether a stop behind so many calls leaves what it must.
 fn is_stopped(alloc: Global, start: &Start, whole: &Run, calls: usize) -> Result<bool> {
-    let mut other = FuseDisk::new(disk_of(alloc, &start.other)?, calls as u64);
-    let answer = answered(alloc, start, &mut other)?;
-    let other = other.into_inner();
+    let (answer, other) = left(alloc, start, calls)?;
     let left = whole.calls.saturating_sub(calls);
     if answer.is_ok() != (left == 0) {
         return Ok(false);
     }
     for i in 0..WORST_CASES {
-        let mut image = image(alloc, &other, i)?;
         // At the last sync the gate is open in the content alone.
         let is_built = left == 0 || (left == 1 && i == 0);
         let wanted = if is_built {
@@ -85,17 +95,22 @@ fn is_stopped(alloc: Global, start: &Start, whole: &Run, calls: usize) -> Result
         } else {
             &whole.before
         };
-        if held(alloc, start, &mut image)?.as_str() != wanted.as_str() {
+        if worst_held(alloc, start, &other, i)?.as_str() != wanted.as_str() {
             return Ok(false);
         }
     }
     Ok(true)
 }
 
+// What the pair holds before.
+fn held_before(alloc: Global, start: &Start) -> Result<String> {
+    let mut other = disk_of(alloc, &start.other)?;
+    held(alloc, start, &mut other)
+}
+
 // A whole build.
 fn whole(alloc: Global, start: &Start) -> Result<Run> {
-    let mut other = disk_of(alloc, &start.other)?;
-    let before = held(alloc, start, &mut other)?;
+    let before = held_before(alloc, start)?;
     let mut other = disk_of(alloc, &start.other)?;
     if answered(alloc, start, &mut other)?.is_err() {
         bail!("a build that fails by itself");
@@ -130,19 +145,28 @@ fn stopped(alloc: Global, start: &Start, whole: &Run) -> Result<String> {
         .end()
 }
 
+// The generation of the live disk's log.
+fn generation_of(alloc: Global, live: &[u8]) -> Result<u64> {
+    let mut disk = disk_of(alloc, live)?;
+    Ok(Log::open(alloc, &mut disk, MOST)?.generation())
+}
+
+fn start_of(alloc: Global, input: &str) -> Result<Start> {
+    let (live, rest) = parted(input, " ; ")?;
+    let (other, bodies) = parted(rest, " ; ")?;
+    let live = bytes(alloc, live)?;
+    let generation = generation_of(alloc, live.as_slice())?;
+    Ok(Start {
+        live,
+        other: bytes(alloc, other)?,
+        generation: generation.saturating_add(1),
+        bodies: pieces(alloc, bodies)?,
+    })
+}
+
 impl Subject for Builds {
     fn answer(&self, alloc: Global, input: &str) -> Result<String> {
-        let (live, rest) = parted(input, " ; ")?;
-        let (other, bodies) = parted(rest, " ; ")?;
-        let live = bytes(alloc, live)?;
-        let mut disk = disk_of(alloc, &live)?;
-        let generation = Log::open(alloc, &mut disk, MOST)?.generation();
-        let start = Start {
-            live,
-            other: bytes(alloc, other)?,
-            generation: generation.saturating_add(1),
-            bodies: pieces(alloc, bodies)?,
-        };
+        let start = start_of(alloc, input)?;
         let whole = whole(alloc, &start)?;
         stopped(alloc, &start, &whole)
     }

@@ -3,57 +3,81 @@
 
 use crate::scripts::{Step, run, script};
 use crate::texts::with_call;
-use crate::words::{ROOM, disk_of};
+use crate::words::{ROOM, disk_of, fuse_of};
 use anyhow::Result;
-use relay_disk::{Call, Failed, FuseDisk, MemoryDisk};
+use relay_disk::{Call, Failed, MemoryDisk};
 use std::alloc::Global;
 use vector_lines::{Answer, Subject, had, said};
 
 pub struct Disks;
 
-// A disk of which the call behind so many fails, since it is listed or since there is no room for it.
-fn failing(alloc: Global, done: usize, is_listed: bool) -> Result<MemoryDisk> {
-    let number = (done as u64).saturating_add(1);
-    if is_listed {
-        let mut disk = had(MemoryDisk::new(alloc, &[], &[number]))?;
-        had(disk.reserve(ROOM, ROOM))?;
-        Ok(disk)
-    } else {
-        let mut disk = had(MemoryDisk::new(alloc, &[], &[]))?;
-        had(disk.reserve(done, ROOM))?;
-        Ok(disk)
-    }
+// What a script answered, and the disk behind it.
+#[derive(Drop)]
+struct Left {
+    answer: Result<[u8; 2], Failed>,
+    disk: MemoryDisk,
 }
 
-// The disk that a script leaves which is stopped behind so many calls, where all ways of stopping it leave the same.
+// A disk on which these calls fail, with room for so many.
+fn failing(alloc: Global, failing: &[u64], calls: usize) -> Result<MemoryDisk> {
+    let mut disk = had(MemoryDisk::new(alloc, &[], failing))?;
+    had(disk.reserve(calls, ROOM))?;
+    Ok(disk)
+}
+
+fn left_by(mut disk: MemoryDisk, steps: &[Step]) -> Left {
+    let answer = run(&mut disk, steps);
+    Left { answer, disk }
+}
+
+// What is left where the call behind so many fails since it is listed.
+fn listed(alloc: Global, steps: &[Step], done: usize) -> Result<Left> {
+    let number = (done as u64).saturating_add(1);
+    Ok(left_by(failing(alloc, &[number], ROOM)?, steps))
+}
+
+// What is left where there is no room for the call behind so many.
+fn short(alloc: Global, steps: &[Step], done: usize) -> Result<Left> {
+    Ok(left_by(failing(alloc, &[], done)?, steps))
+}
+
+// What is left by a disk that passes on so many calls.
+fn fused(alloc: Global, steps: &[Step], done: usize) -> Result<Left> {
+    let mut fuse = fuse_of(alloc, &[], done)?;
+    let answer = run(&mut fuse, steps);
+    let disk = fuse.into_inner();
+    Ok(Left { answer, disk })
+}
+
+fn are_alike(left: &Left, other: &Left) -> bool {
+    left.answer == other.answer
+        && left.disk.content() == other.disk.content()
+        && left.disk.calls() == other.disk.calls()
+}
+
+// Whether a script that is stopped behind so many calls of a whole run, which found these bytes, made just them.
+fn is_front(left: &Left, calls: &[Call], found: &[u8; 2], done: usize) -> bool {
+    let wanted = if done < calls.len() {
+        Err(Failed)
+    } else {
+        Ok(*found)
+    };
+    left.answer == wanted && calls.get(..done) == Some(left.disk.calls())
+}
+
+// What a script leaves that is stopped behind so many calls, where all ways of stopping it leave the same.
 fn stopped(
     alloc: Global,
     steps: &[Step],
     calls: &[Call],
+    found: &[u8; 2],
     done: usize,
-) -> Result<Option<MemoryDisk>> {
-    let mut listed = failing(alloc, done, true)?;
-    let mut short = failing(alloc, done, false)?;
-    let mut fuse = FuseDisk::new(disk_of(alloc, &[])?, done as u64);
-    let wanted = if done < calls.len() {
-        Err(Failed)
-    } else {
-        run(&mut disk_of(alloc, &[])?, steps)
-    };
-    let is_stopped = run(&mut listed, steps) == wanted
-        && run(&mut short, steps) == wanted
-        && run(&mut fuse, steps) == wanted;
-    let fused = fuse.into_inner();
-    let is_alike = listed.content() == fused.content()
-        && short.content() == fused.content()
-        && listed.calls() == fused.calls()
-        && short.calls() == fused.calls()
-        && calls.get(..done) == Some(fused.calls());
-    Ok(if is_stopped && is_alike {
-        Some(fused)
-    } else {
-        None
-    })
+) -> Result<Option<Left>> {
+    let left = fused(alloc, steps, done)?;
+    let is_same = is_front(&left, calls, found, done)
+        && are_alike(&listed(alloc, steps, done)?, &left)
+        && are_alike(&short(alloc, steps, done)?, &left);
+    Ok(if is_same { Some(left) } else { None })
 }
 
 impl Subject for Disks {
@@ -69,20 +93,25 @@ impl Subject for Disks {
 fn told(alloc: Global, steps: &[Step], calls: &[Call], found: &[u8; 2]) -> Result<String> {
     let mut answer = Answer::new(alloc);
     for (i, call) in calls.iter().enumerate() {
-        let Some(disk) = stopped(alloc, steps, calls, i)? else {
+        let Some(left) = stopped(alloc, steps, calls, found, i)? else {
             return said(alloc, "not stopped alike");
         };
-        if i > 0 {
-            answer = answer.bytes(disk.content()).words(" ");
-        }
-        answer = with_call(answer, *call).words(":");
+        answer = with_call(with_content(answer, &left, i), *call).words(":");
     }
-    let Some(disk) = stopped(alloc, steps, calls, calls.len())? else {
+    let Some(left) = stopped(alloc, steps, calls, found, calls.len())? else {
         return said(alloc, "not ended alike");
     };
     answer
-        .bytes(disk.content())
+        .bytes(left.disk.content())
         .words(" read ")
         .bytes(found)
         .end()
+}
+
+// With the content behind, where a call was made before.
+fn with_content(answer: Answer, left: &Left, calls: usize) -> Answer {
+    if calls == 0 {
+        return answer;
+    }
+    answer.bytes(left.disk.content()).words(" ")
 }

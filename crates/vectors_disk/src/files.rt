@@ -32,10 +32,7 @@ fn file_disk<'a>(rt: &'a HostRuntime) -> Result<FileDisk<LazyFile<&'a HostRuntim
 // What a script leaves in a file, by another disk on it, which refuses whatever goes past the end.
 fn left_by(rt: &HostRuntime, steps: &[Step]) -> Result<String> {
     let found = run(&mut file_disk(rt)?, steps)?;
-    let mut disk = file_disk(rt)?;
-    let content = whole(rt, &mut disk)?;
-    let is_refused = is_refused(&mut disk, content.len() as u64);
-    disk.sync()?;
+    let (content, is_refused) = content_left(rt)?;
     Answer::new(rt.alloc())
         .bytes(content.as_slice())
         .words(" read ")
@@ -46,6 +43,15 @@ fn left_by(rt: &HostRuntime, steps: &[Step]) -> Result<String> {
             ", and not refused past the end"
         })
         .end()
+}
+
+// The content of the file, and whether what goes past its end is refused.
+fn content_left(rt: &HostRuntime) -> Result<(Vec<u8>, bool)> {
+    let mut disk = file_disk(rt)?;
+    let content = whole(rt, &mut disk)?;
+    let is_refused = is_refused(&mut disk, content.len() as u64);
+    disk.sync()?;
+    Ok((content, is_refused))
 }
 
 // The whole content of a disk.
@@ -74,14 +80,20 @@ impl Subject for FileDisks<'_> {
     }
 }
 
+// Opens the log of the file, and appends a body.
+fn append_to_file(rt: &HostRuntime, body: &[u8]) -> Result<()> {
+    let mut disk = file_disk(rt)?;
+    let mut log = Log::open(rt.alloc(), &mut disk, MOST)?;
+    append(&mut log, &mut disk, body)?;
+    Ok(())
+}
+
 impl Subject for FileLogs<'_> {
     fn answer(&self, alloc: Global, input: &str) -> Result<String> {
         let bodies = pieces(alloc, input)?;
         let _ = fs::remove_file(self.rt, PATH);
         for body in bodies {
-            let mut disk = file_disk(self.rt)?;
-            let mut log = Log::open(alloc, &mut disk, MOST)?;
-            append(&mut log, &mut disk, body.as_slice())?;
+            append_to_file(self.rt, body.as_slice())?;
         }
         let answer = held(alloc, &mut file_disk(self.rt)?)?;
         fs::remove_file(self.rt, PATH).context("the file of a log")?;

@@ -53,18 +53,29 @@ pub fn append_put<D: Disk>(
     log.append_put(disk, head, &mut room)
 }
 
+// With the end of a log behind, and that there are no bodies, if so.
+fn with_end(answer: Answer, end: u64, has_bodies: bool) -> Answer {
+    answer
+        .words("end ")
+        .number(end)
+        .words(if has_bodies { " bodies" } else { " bodies -" })
+}
+
+// With a body behind.
+fn with_body(answer: Answer, place: u64, body: &Octets) -> Answer {
+    answer
+        .words(" ")
+        .number(place)
+        .words(":")
+        .bytes(body.as_slice())
+}
+
 /// The end of a log, and its bodies, each with the place of its gate.
 pub fn bodies<D: Disk>(alloc: Global, log: &Log, disk: &mut D) -> Result<String>
     requires { IsTrue D.tells → IsOn (D.view disk.old) log.now }
 {
-    let mut answer = Answer::new(alloc)
-        .words("end ")
-        .number(log.end())
-        .words(" bodies");
     let mut next = log.first();
-    if next >= log.end() {
-        answer = answer.words(" -");
-    }
+    let mut answer = with_end(Answer::new(alloc), log.end(), next < log.end());
     'records: for _ in 0..MANY {
         if next >= log.end() {
             break;
@@ -73,11 +84,7 @@ pub fn bodies<D: Disk>(alloc: Global, log: &Log, disk: &mut D) -> Result<String>
             Ok(found) => found,
             Err(fault) => return log_fault(alloc, fault),
         };
-        answer = answer
-            .words(" ")
-            .number(next)
-            .words(":")
-            .bytes(body.as_slice());
+        answer = with_body(answer, next, &body);
         next = behind;
     }
     answer.end()

@@ -22,17 +22,20 @@ impl Subject for Logs {
         if disk.content() == content.as_slice() {
             return Ok(answer);
         }
-        if disk.content() == MADE.as_slice()
-            && answer.as_str() == "ok first 9 generation 0 end 9 bodies -"
-        {
-            return said(alloc, "unmade");
-        }
-        Answer::new(alloc)
-            .words(answer.as_str())
-            .words(", but written over by ")
-            .bytes(disk.content())
-            .end()
+        written_over(alloc, answer.as_str(), disk.content())
     }
+}
+
+// The answer of a disk that isn't as it was before, which is that of an unmade log where it was made.
+fn written_over(alloc: Global, answer: &str, content: &[u8]) -> Result<String> {
+    if content == MADE.as_slice() && answer == "ok first 9 generation 0 end 9 bodies -" {
+        return said(alloc, "unmade");
+    }
+    Answer::new(alloc)
+        .words(answer)
+        .words(", but written over by ")
+        .bytes(content)
+        .end()
 }
 
 // What the log of a disk tells, which is made where it is unmade.
@@ -42,12 +45,16 @@ fn opened(alloc: Global, disk: &mut MemoryDisk) -> Result<String> {
         Err(fault) => return log_fault(alloc, fault),
     };
     let held = bodies(alloc, &log, disk)?;
+    described(alloc, &log, held.as_str())
+}
+
+fn described(alloc: Global, log: &Log, held: &str) -> Result<String> {
     Answer::new(alloc)
         .words("ok first ")
         .number(log.first())
         .words(" generation ")
         .number(log.generation())
         .words(" ")
-        .words(held.as_str())
+        .words(held)
         .end()
 }

@@ -5,11 +5,11 @@
 use crate::logging::{append, bodies};
 use crate::picks::side_name;
 use crate::texts::{MOST, log_fault, told};
-use crate::words::disk_of;
+use crate::words::{disk_of, fuse_of};
 use crate::worst::image;
 use anyhow::Result;
 use gate_log::{LogFault, Side, open_pair};
-use relay_disk::{Disk, FuseDisk, MemoryDisk, WORST_CASES};
+use relay_disk::{Disk, MemoryDisk, WORST_CASES};
 use std::alloc::Global;
 use vector_lines::{Answer, Subject, bytes, parted};
 
@@ -31,6 +31,14 @@ struct Run {
     place: u64,
     before: String,
     after: String,
+}
+
+// What a run answers, and the disks behind it.
+#[derive(Drop)]
+struct Left {
+    answer: Result<(Side, u64), LogFault>,
+    one: MemoryDisk,
+    two: MemoryDisk,
 }
 
 // Opens the log of a pair of disks, and appends a body.
@@ -66,28 +74,54 @@ pub fn pair_held<D: Disk>(alloc: Global, one: &mut D, two: &mut D) -> Result<Str
     }
 }
 
-// Whether each worst case of one disk beside each of the other holds what is after, where it has to be there, and else what
-// was before.
-fn are_right(
-    alloc: Global,
-    one: &MemoryDisk,
-    two: &MemoryDisk,
-    run: &Run,
-    left: [usize; 2],
-) -> Result<bool> {
+// What is left of a run that is stopped behind so many calls on each disk.
+fn left_behind(alloc: Global, start: &Start, passes: [usize; 2]) -> Result<Left> {
+    let [first, second] = passes;
+    let mut one = fuse_of(alloc, &start.one, first)?;
+    let mut two = fuse_of(alloc, &start.two, second)?;
+    let answer = told(added(alloc, &mut one, &mut two, &start.body))?;
+    let (one, two) = (one.into_inner(), two.into_inner());
+    Ok(Left { answer, one, two })
+}
+
+// How many calls of a whole run are left on the log's disk, and on the other.
+fn calls_left(run: &Run, passes: [usize; 2]) -> [usize; 2] {
+    let ones = run.calls[0].saturating_sub(passes[0]);
+    let twos = run.calls[1].saturating_sub(passes[1]);
+    match run.side {
+        Side::One => [ones, twos],
+        Side::Two => [twos, ones],
+    }
+}
+
+// What a worst case of one disk beside one of the other holds.
+fn worst_held(alloc: Global, left: &Left, i: u8, j: u8) -> Result<String> {
+    let mut first = image(alloc, &left.one, i)?;
+    let mut second = image(alloc, &left.two, j)?;
+    pair_held(alloc, &mut first, &mut second)
+}
+
+// What these worst cases have to hold: what is after, where it has to be there, and else what was before.
+fn wanted(run: &Run, left: [usize; 2], i: u8, j: u8) -> &str {
     let [log_left, other_left] = left;
+    // At the last sync the gate is open in the content alone.
+    let is_content = match run.side {
+        Side::One => i == 0,
+        Side::Two => j == 0,
+    };
+    let is_added = other_left == 0 && (log_left == 0 || (log_left == 1 && is_content));
+    if is_added {
+        run.after.as_str()
+    } else {
+        run.before.as_str()
+    }
+}
+
+// Whether each worst case of one disk beside each of the other holds what it has to.
+fn are_right(alloc: Global, left: &Left, run: &Run, calls: [usize; 2]) -> Result<bool> {
     for i in 0..WORST_CASES {
         for j in 0..WORST_CASES {
-            let mut first = image(alloc, one, i)?;
-            let mut second = image(alloc, two, j)?;
-            // At the last sync the gate is open in the content alone.
-            let is_content = match run.side {
-                Side::One => i == 0,
-                Side::Two => j == 0,
-            };
-            let is_added = other_left == 0 && (log_left == 0 || (log_left == 1 && is_content));
-            let wanted = if is_added { &run.after } else { &run.before };
-            if pair_held(alloc, &mut first, &mut second)?.as_str() != wanted.as_str() {
+            if worst_held(alloc, left, i, j)?.as_str() != wanted(run, calls, i, j) {
                 return Ok(false);
             }
         }
@@ -97,30 +131,27 @@ fn are_right(
 
 // Whether a stop behind so many calls on each disk ends and leaves what it must.
 fn is_stopped(alloc: Global, start: &Start, run: &Run, passes: [usize; 2]) -> Result<bool> {
-    let [first, second] = passes;
-    let mut one = FuseDisk::new(disk_of(alloc, &start.one)?, first as u64);
-    let mut two = FuseDisk::new(disk_of(alloc, &start.two)?, second as u64);
-    let answer = told(added(alloc, &mut one, &mut two, &start.body))?;
-    let ones = run.calls[0].saturating_sub(first);
-    let twos = run.calls[1].saturating_sub(second);
-    let wanted = if ones > 0 || twos > 0 {
+    let left = left_behind(alloc, start, passes)?;
+    let calls = calls_left(run, passes);
+    let [log_left, other_left] = calls;
+    let answer = if log_left > 0 || other_left > 0 {
         Err(LogFault::Disk)
     } else {
         Ok((run.side, run.place))
     };
-    let left = match run.side {
-        Side::One => [ones, twos],
-        Side::Two => [twos, ones],
-    };
-    let (one, two) = (one.into_inner(), two.into_inner());
-    Ok(answer == wanted && are_right(alloc, &one, &two, run, left)?)
+    Ok(left.answer == answer && are_right(alloc, &left, run, calls)?)
+}
+
+// What the disks hold before.
+fn held_before(alloc: Global, start: &Start) -> Result<String> {
+    let mut one = disk_of(alloc, &start.one)?;
+    let mut two = disk_of(alloc, &start.two)?;
+    pair_held(alloc, &mut one, &mut two)
 }
 
 // A whole run, or the fault of it.
 fn whole(alloc: Global, start: &Start) -> Result<Result<Run, LogFault>> {
-    let mut one = disk_of(alloc, &start.one)?;
-    let mut two = disk_of(alloc, &start.two)?;
-    let before = pair_held(alloc, &mut one, &mut two)?;
+    let before = held_before(alloc, start)?;
     let mut one = disk_of(alloc, &start.one)?;
     let mut two = disk_of(alloc, &start.two)?;
     let (side, place) = match told(added(alloc, &mut one, &mut two, &start.body))? {
@@ -138,15 +169,19 @@ fn whole(alloc: Global, start: &Start) -> Result<Result<Run, LogFault>> {
     }))
 }
 
+fn start_of(alloc: Global, input: &str) -> Result<Start> {
+    let (one, rest) = parted(input, " ; ")?;
+    let (two, body) = parted(rest, " ; ")?;
+    Ok(Start {
+        one: bytes(alloc, one)?,
+        two: bytes(alloc, two)?,
+        body: bytes(alloc, body)?,
+    })
+}
+
 impl Subject for Pairs {
     fn answer(&self, alloc: Global, input: &str) -> Result<String> {
-        let (one, rest) = parted(input, " ; ")?;
-        let (two, body) = parted(rest, " ; ")?;
-        let start = Start {
-            one: bytes(alloc, one)?,
-            two: bytes(alloc, two)?,
-            body: bytes(alloc, body)?,
-        };
+        let start = start_of(alloc, input)?;
         match whole(alloc, &start)? {
             Ok(run) => stopped(alloc, &start, &run),
             Err(fault) => log_fault(alloc, fault),

@@ -1,11 +1,11 @@
 //! `CONTENT ; PLACE = body BYTES next PLACE, or BadLog(PLACE)`. Reading a body is stopped at each call in turn.
 
 use crate::texts::{MOST, log_fault, told};
-use crate::words::disk_of;
+use crate::words::{disk_of, fuse_of};
 use anyhow::Result;
 use at_cid::Octets;
 use gate_log::{Log, LogFault};
-use relay_disk::{Disk, FuseDisk};
+use relay_disk::{Disk, MemoryDisk};
 use std::alloc::Global;
 use vector_lines::{Answer, Subject, bytes, number, parted};
 
@@ -20,15 +20,35 @@ fn body_at<D: Disk>(alloc: Global, disk: &mut D, place: u64) -> Result<(Octets, 
     log.read(alloc, disk, place)
 }
 
+// What reading a body answers that is stopped behind so many calls.
+fn stopped(
+    alloc: Global,
+    content: &[u8],
+    place: u64,
+    passes: usize,
+) -> Result<Result<(Octets, u64), LogFault>> {
+    let mut fuse = fuse_of(alloc, content, passes)?;
+    told(body_at(alloc, &mut fuse, place))
+}
+
 // Behind how many calls, fewer than all, a stop isn't told as the disk's.
 fn other_stop(alloc: Global, content: &[u8], place: u64, calls: usize) -> Result<Option<usize>> {
     for passes in 0..calls {
-        let mut fuse = FuseDisk::new(disk_of(alloc, content)?, passes as u64);
-        if told(body_at(alloc, &mut fuse, place))?.err() != Some(LogFault::Disk) {
+        if stopped(alloc, content, place, passes)?.err() != Some(LogFault::Disk) {
             return Ok(Some(passes));
         }
     }
     Ok(None)
+}
+
+// What reading a body answers, and how many calls it makes.
+fn whole(
+    alloc: Global,
+    mut disk: MemoryDisk,
+    place: u64,
+) -> Result<(Result<(Octets, u64), LogFault>, usize)> {
+    let answer = told(body_at(alloc, &mut disk, place))?;
+    Ok((answer, disk.calls().len()))
 }
 
 impl Subject for Reads {
@@ -36,21 +56,29 @@ impl Subject for Reads {
         let (content, place) = parted(input, " ; ")?;
         let place = number(place)?;
         let content = bytes(alloc, content)?;
-        let mut disk = disk_of(alloc, content.as_slice())?;
-        let (body, next) = match told(body_at(alloc, &mut disk, place))? {
-            Ok(found) => found,
-            Err(fault) => return log_fault(alloc, fault),
-        };
-        if let Some(passes) = other_stop(alloc, content.as_slice(), place, disk.calls().len())? {
-            return not_stopped(alloc, passes);
-        }
-        Answer::new(alloc)
-            .words("body ")
-            .bytes(body.as_slice())
-            .words(" next ")
-            .number(next)
-            .end()
+        answer_of(alloc, content.as_slice(), place)
     }
+}
+
+fn answer_of(alloc: Global, content: &[u8], place: u64) -> Result<String> {
+    let (answer, calls) = whole(alloc, disk_of(alloc, content)?, place)?;
+    let (body, next) = match answer {
+        Ok(found) => found,
+        Err(fault) => return log_fault(alloc, fault),
+    };
+    match other_stop(alloc, content, place, calls)? {
+        Some(passes) => not_stopped(alloc, passes),
+        None => found(alloc, &body, next),
+    }
+}
+
+fn found(alloc: Global, body: &Octets, next: u64) -> Result<String> {
+    Answer::new(alloc)
+        .words("body ")
+        .bytes(body.as_slice())
+        .words(" next ")
+        .number(next)
+        .end()
 }
 
 fn not_stopped(alloc: Global, passes: usize) -> Result<String> {

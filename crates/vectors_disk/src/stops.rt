@@ -4,11 +4,11 @@
 
 use crate::logging::{append, held};
 use crate::texts::{MOST, log_fault, told};
-use crate::words::disk_of;
+use crate::words::{disk_of, fuse_of};
 use crate::worst::image;
 use anyhow::Result;
 use gate_log::{Log, LogFault};
-use relay_disk::{Disk, FuseDisk, MemoryDisk, WORST_CASES};
+use relay_disk::{Disk, MemoryDisk, WORST_CASES};
 use std::alloc::Global;
 use vector_lines::{Answer, Subject, bytes, parted};
 
@@ -51,6 +51,18 @@ fn is_right(
     )
 }
 
+// What a run answers that is stopped behind so many calls, and the disk behind it.
+fn left(
+    alloc: Global,
+    content: &[u8],
+    body: &[u8],
+    passes: usize,
+) -> Result<(Result<u64, LogFault>, MemoryDisk)> {
+    let mut fuse = fuse_of(alloc, content, passes)?;
+    let answer = told(added(alloc, &mut fuse, body))?;
+    Ok((answer, fuse.into_inner()))
+}
+
 // How a stop behind so many calls goes wrong.
 fn wrong_stop(
     alloc: Global,
@@ -59,17 +71,16 @@ fn wrong_stop(
     run: &Run,
     passes: usize,
 ) -> Result<Option<String>> {
-    let mut fuse = FuseDisk::new(disk_of(alloc, content)?, passes as u64);
-    let answer = told(added(alloc, &mut fuse, body))?;
+    let (answer, disk) = left(alloc, content, body, passes)?;
     let left = run.calls.saturating_sub(passes);
-    let is_told = match answer {
-        Ok(place) => left == 0 && place == run.place,
-        Err(fault) => left > 0 && fault == LogFault::Disk,
+    let wanted = if left == 0 {
+        Ok(run.place)
+    } else {
+        Err(LogFault::Disk)
     };
-    if !is_told {
+    if answer != wanted {
         return wrong(alloc, "another answer", passes);
     }
-    let disk = fuse.into_inner();
     for i in 0..WORST_CASES {
         // At the last sync the gate is open in the content alone.
         let is_added = left == 0 || (left == 1 && i == 0);

@@ -1,7 +1,7 @@
 //! Numbers and disks as a row words them.
 
 use anyhow::Result;
-use relay_disk::MemoryDisk;
+use relay_disk::{FuseDisk, MemoryDisk};
 use std::alloc::Global;
 use vector_lines::{bytes, had, number};
 
@@ -37,6 +37,11 @@ pub fn disk_of(alloc: Global, content: &[u8]) -> Result<MemoryDisk> {
     let mut disk = had(MemoryDisk::new(alloc, content, &[]))?;
     had(disk.reserve(ROOM, ROOM))?;
     Ok(disk)
+}
+
+/// A disk in memory with room that passes on so many calls.
+pub fn fuse_of(alloc: Global, content: &[u8], passes: usize) -> Result<FuseDisk<MemoryDisk>> {
+    Ok(FuseDisk::new(disk_of(alloc, content)?, passes as u64))
 }
 
 /// The disk in memory of content in hexadecimal.

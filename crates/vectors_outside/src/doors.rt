@@ -4,12 +4,12 @@
 ghost use Rattle.std.specs.Prelude.{◌≡◌};
 ghost use Rattle.relay_io.specs.MemoryGuests.{does_one_wait};
 
-use crate::words::{add_word, numbers};
-use anyhow::{Context, Result, bail};
+use crate::words::{numbers, with_blank};
+use anyhow::{Result, bail};
 use at_cid::Words;
 use relay_io::{Door, DoorFault, Guest, MemoryDoor, Turn};
 use std::alloc::Global;
-use vector_lines::{Subject, add_bytes, bytes, had};
+use vector_lines::{Answer, Subject, bytes, had, parted};
 
 pub struct Doors;
 
@@ -49,19 +49,19 @@ fn named(guest: &Guest) -> &str {
 }
 
 impl Watched {
-    fn next(&mut self, alloc: Global) -> Result<String> {
+    fn next(&mut self, answer: Answer) -> Result<Answer> {
         self.waits = false;
         match self.door.next() {
             Ok(guest) => {
                 self.waits = matches!(guest, Guest::Target(_));
-                Ok(named(&guest).to_string(alloc)?)
+                Ok(answer.words(named(&guest)))
             }
-            Err(DoorFault::Failed) => Ok("Failed".to_string(alloc)?),
+            Err(DoorFault::Failed) => Ok(answer.words("Failed")),
             Err(DoorFault::Memory) => bail!("out of memory"),
         }
     }
 
-    fn send(&mut self, alloc: Global, message: &[u8]) -> Result<&'static str> {
+    fn send(&mut self, message: &[u8]) -> Result<&'static str> {
         if !self.waits {
             return Ok("nobody");
         }
@@ -83,57 +83,70 @@ impl Watched {
             "Failed"
         }
     }
-
-    // What a call answers.
-    fn called(&mut self, alloc: Global, word: &str) -> Result<String> {
-        if word == "next" {
-            return self.next(alloc);
-        }
-        if word == "close" {
-            return Ok(self.close().to_string(alloc)?);
-        }
-        let message = word.strip_prefix("send:").context("a call")?;
-        Ok(self.send(alloc, &bytes(alloc, message)?)?.to_string(alloc)?)
-    }
 }
 
-// What happened at a door.
-fn add_turns(text: &mut String, turns: &[Turn]) -> Result<()> {
-    text.push_str(" ;")?;
-    for turn in turns {
-        match turn {
-            Turn::Came(guest) => write!(text, " came:{}", named(guest))?,
-            Turn::Sent(message) => {
-                text.push_str(" sent:")?;
-                add_bytes(text, message.as_slice())?;
-            }
-        }
+// With what a call answers behind.
+fn called(alloc: Global, answer: Answer, watched: &mut Watched, word: &str) -> Result<Answer> {
+    if word == "next" {
+        return watched.next(answer);
     }
-    Ok(())
+    if word == "close" {
+        return Ok(answer.words(watched.close()));
+    }
+    let (verb, message) = parted(word, ":")?;
+    if verb != "send" {
+        bail!("a call");
+    }
+    let message = bytes(alloc, message)?;
+    Ok(answer.words(watched.send(message.as_slice())?))
+}
+
+// With what happened at a door behind.
+fn with_turns(mut answer: Answer, turns: &[Turn]) -> Answer {
+    for turn in turns {
+        answer = match turn {
+            Turn::Came(guest) => answer.words(" came:").words(named(guest)),
+            Turn::Sent(message) => answer.words(" sent:").bytes(message.as_slice()),
+        };
+    }
+    answer
 }
 
 // A door to which these guests come, whose calls with these numbers fail.
-fn watched_door(alloc: Global, coming: &str, failing: &str, in_sessions: &str) -> Result<Watched> {
-    let guests = guests(alloc, coming)?;
-    let (failing, in_sessions) = (numbers(alloc, failing)?, numbers(alloc, in_sessions)?);
-    let Ok(mut door) = MemoryDoor::new(alloc, guests, &failing, &in_sessions) else {
+fn watched_door(
+    alloc: Global,
+    guests: Vec<Guest>,
+    failing: &[u64],
+    in_sessions: &[u64],
+) -> Result<Watched> {
+    let Ok(mut door) = MemoryDoor::new(alloc, guests, failing, in_sessions) else {
         bail!("out of memory");
     };
     had(door.reserve(1, 1))?;
     Ok(Watched { door, waits: false })
 }
 
+fn watched_of(alloc: Global, coming: &str, failing: &str, in_sessions: &str) -> Result<Watched> {
+    let failing = numbers(alloc, failing)?;
+    let in_sessions = numbers(alloc, in_sessions)?;
+    let guests = guests(alloc, coming)?;
+    watched_door(alloc, guests, failing.as_slice(), in_sessions.as_slice())
+}
+
+fn told(alloc: Global, watched: &mut Watched, calls: &str) -> Result<String> {
+    let mut answer = Answer::new(alloc);
+    for (i, word) in calls.split(' ').enumerate() {
+        answer = called(alloc, with_blank(answer, i > 0), watched, word)?;
+    }
+    with_turns(answer.words(" ;"), watched.door.turns()).end()
+}
+
 impl Subject for Doors {
     fn answer(&self, alloc: Global, input: &str) -> Result<String> {
-        let (coming, rest) = input.split_once(" ; ").context("guests")?;
-        let (failing, rest) = rest.split_once(" ; ").context("failing calls")?;
-        let (in_sessions, calls) = rest.split_once(" ; ").context("failing calls in sessions")?;
-        let mut watched = watched_door(alloc, coming, failing, in_sessions)?;
-        let mut answer = String::new(alloc);
-        for word in calls.split(' ') {
-            add_word(&mut answer, &watched.called(alloc, word)?)?;
-        }
-        add_turns(&mut answer, watched.door.turns())?;
-        Ok(answer)
+        let (coming, rest) = parted(input, " ; ")?;
+        let (failing, rest) = parted(rest, " ; ")?;
+        let (in_sessions, calls) = parted(rest, " ; ")?;
+        let mut watched = watched_of(alloc, coming, failing, in_sessions)?;
+        told(alloc, &mut watched, calls)
     }
 }

@@ -1,77 +1,99 @@
 //! `MESSAGES ; FAILING ; CALL .. = what each call answers`: `open:CURSOR`, `next` and `push:NUMBER:BYTES`.
 
-use crate::words::{add_word, numbers};
-use anyhow::{Context, Result, bail};
+use crate::words::{numbers, with_blank};
+use anyhow::{Result, bail};
 use at_cid::Octets;
 use relay_io::{Feed, FeedFault, LONGEST_MESSAGE, MemoryFeed};
 use std::alloc::Global;
-use vector_lines::{Subject, add_bytes, bytes, had};
+use vector_lines::{Answer, Subject, bytes, had, number, parted};
 
 pub struct Feeds;
 
 /// The host whose stream is opened.
-const HOST: &str = "a.example";
+pub const HOST: &str = "a.example";
 
-// Adds the message of `NUMBER:BYTES`.
-fn push(alloc: Global, feed: &mut MemoryFeed, word: &str) -> Result<()> {
-    let (number, message) = word.split_once(':').context("a number and a message")?;
-    let message = Octets::from_vec(bytes(alloc, message)?);
+/// Adds a message to those of a feed.
+pub fn add(feed: &mut MemoryFeed, number: u64, message: Vec<u8>) -> Result<()> {
+    let message = Octets::from_vec(message);
     if message.len() > LONGEST_MESSAGE {
         bail!("a longer message");
     }
-    had(feed.push(number.parse::<u64>()?, message))
+    had(feed.push(number, message))
 }
 
-// What the next message is. The room holds other bytes before.
-fn next(alloc: Global, feed: &mut MemoryFeed) -> Result<String> {
+// Adds the message of `NUMBER:BYTES`.
+fn push(alloc: Global, feed: &mut MemoryFeed, word: &str) -> Result<()> {
+    let (place, message) = parted(word, ":")?;
+    add(feed, number(place)?, bytes(alloc, message)?)
+}
+
+// With what the next message is behind. The room holds other bytes before.
+fn next(alloc: Global, answer: Answer, feed: &mut MemoryFeed) -> Result<Answer> {
     let mut room = had(Octets::from_slice(alloc, b"other bytes"))?;
     match feed.next(&mut room) {
-        Ok(true) => {
-            let mut text = String::new(alloc);
-            add_bytes(&mut text, room.as_slice())?;
-            Ok(text)
-        }
-        Ok(false) => Ok("end".to_string(alloc)?),
-        Err(FeedFault::Failed) => Ok("Failed".to_string(alloc)?),
+        Ok(true) => Ok(answer.bytes(room.as_slice())),
+        Ok(false) => Ok(answer.words("end")),
+        Err(FeedFault::Failed) => Ok(answer.words("Failed")),
         Err(FeedFault::Memory) => bail!("out of memory"),
     }
 }
 
-// What a call answers.
-fn called(alloc: Global, feed: &mut MemoryFeed, word: &str) -> Result<String> {
+fn open(answer: Answer, feed: &mut MemoryFeed, cursor: u64) -> Answer {
+    answer.words(if feed.open(HOST, cursor).is_ok() {
+        "open"
+    } else {
+        "Failed"
+    })
+}
+
+// With what a call answers behind.
+fn called(alloc: Global, answer: Answer, feed: &mut MemoryFeed, word: &str) -> Result<Answer> {
     if word == "next" {
-        return next(alloc, feed);
+        return next(alloc, answer, feed);
     }
-    if let Some(message) = word.strip_prefix("push:") {
-        push(alloc, feed, message)?;
-        return Ok("pushed".to_string(alloc)?);
+    let (verb, rest) = parted(word, ":")?;
+    match verb {
+        "push" => {
+            push(alloc, feed, rest)?;
+            Ok(answer.words("pushed"))
+        }
+        "open" => Ok(open(answer, feed, number(rest)?)),
+        _ => bail!("a call"),
     }
-    let cursor = word.strip_prefix("open:").context("a call")?;
-    let is_open = feed.open(HOST, cursor.parse::<u64>()?).is_ok();
-    Ok((if is_open { "open" } else { "Failed" }).to_string(alloc)?)
+}
+
+fn empty_feed(alloc: Global, failing: &str) -> Result<MemoryFeed> {
+    let failing = numbers(alloc, failing)?;
+    let mut feed = had(MemoryFeed::new(alloc, failing.as_slice()))?;
+    had(feed.reserve(1, 1))?;
+    Ok(feed)
 }
 
 // A feed of these messages, whose calls with these numbers fail.
 fn feed_of(alloc: Global, messages: &str, failing: &str) -> Result<MemoryFeed> {
-    let mut feed = had(MemoryFeed::new(alloc, &numbers(alloc, failing)?))?;
-    had(feed.reserve(1, 1))?;
-    if messages != "-" {
-        for word in messages.split(',') {
-            push(alloc, &mut feed, word)?;
-        }
+    let mut feed = empty_feed(alloc, failing)?;
+    if messages == "-" {
+        return Ok(feed);
+    }
+    for word in messages.split(',') {
+        push(alloc, &mut feed, word)?;
     }
     Ok(feed)
 }
 
+fn told(alloc: Global, feed: &mut MemoryFeed, calls: &str) -> Result<String> {
+    let mut answer = Answer::new(alloc);
+    for (i, word) in calls.split(' ').enumerate() {
+        answer = called(alloc, with_blank(answer, i > 0), feed, word)?;
+    }
+    answer.end()
+}
+
 impl Subject for Feeds {
     fn answer(&self, alloc: Global, input: &str) -> Result<String> {
-        let (messages, rest) = input.split_once(" ; ").context("messages")?;
-        let (failing, calls) = rest.split_once(" ; ").context("failing calls")?;
+        let (messages, rest) = parted(input, " ; ")?;
+        let (failing, calls) = parted(rest, " ; ")?;
         let mut feed = feed_of(alloc, messages, failing)?;
-        let mut answer = String::new(alloc);
-        for word in calls.split(' ') {
-            add_word(&mut answer, &called(alloc, &mut feed, word)?)?;
-        }
-        Ok(answer)
+        told(alloc, &mut feed, calls)
     }
 }

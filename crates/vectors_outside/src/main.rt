@@ -1,5 +1,5 @@
-//! Compares what the feeds, doors, repositories and streams of memory and of files answer, and what is read of tapes, with the
-//! rows of text files, with each call failing in turn.
+//! Compares what the feeds, doors, repositories and streams of memory and of files answer, and what is read of tapes and of
+//! guests' targets, with the rows of text files, with each call failing in turn.
 #![tactic(auto)]
 
 mod doors;
@@ -11,6 +11,7 @@ mod repositories;
 mod sinks;
 mod sources;
 mod tapes;
+mod targets;
 mod words;
 
 use anyhow::Result;
@@ -23,23 +24,37 @@ use sinks::SinkCalls;
 use sources::SourceCalls;
 use std::process::ExitCode;
 use tapes::{LongRecords, TapeCalls, Tapes};
+use targets::Targets;
 use vector_lines::Suite;
 
 fn compared(rt: &HostRuntime) -> Result<Suite> {
     let mut suite = Suite::new(rt)?;
+    compare_streams(rt, &mut suite)?;
+    compare_repositories(rt, &mut suite)?;
+    compare_tapes(rt, &mut suite)?;
+    Ok(suite)
+}
+
+fn compare_streams(rt: &HostRuntime, suite: &mut Suite) -> Result<()> {
     suite.file(rt, "source_calls", &SourceCalls)?;
     suite.file(rt, "sink_calls", &SinkCalls)?;
     suite.file(rt, "feeds", &Feeds)?;
     suite.file(rt, "longest_messages", &LongestMessages)?;
     suite.file(rt, "doors", &Doors)?;
+    suite.file(rt, "targets", &Targets)
+}
+
+fn compare_repositories(rt: &HostRuntime, suite: &mut Suite) -> Result<()> {
     suite.file(rt, "repositories", &Repositories)?;
     suite.file(rt, "pieces", &Pieces)?;
-    suite.file(rt, "file_repositories", &FileRepositories { rt })?;
+    suite.file(rt, "file_repositories", &FileRepositories { rt })
+}
+
+fn compare_tapes(rt: &HostRuntime, suite: &mut Suite) -> Result<()> {
     suite.file(rt, "tapes", &Tapes)?;
     suite.file(rt, "own_tapes", &Tapes)?;
     suite.file(rt, "tape_calls", &TapeCalls)?;
-    suite.file(rt, "long_records", &LongRecords)?;
-    Ok(suite)
+    suite.file(rt, "long_records", &LongRecords)
 }
 
 fn main(rt: HostRuntime) -> ExitCode {

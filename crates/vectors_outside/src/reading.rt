@@ -4,7 +4,7 @@ use anyhow::{Result, bail};
 use at_cid::Octets;
 use relay_io::{Repos, ReposFault};
 use std::alloc::Global;
-use vector_lines::{add_bytes, had};
+use vector_lines::{Answer, had, said};
 
 /// More calls than any row makes.
 const MANY: u32 = 10_000;
@@ -34,15 +34,18 @@ fn added<R: Repos>(
     Ok(Some(count))
 }
 
-/// What reading once into a room of so many bytes gives.
-pub fn piece<R: Repos>(alloc: Global, repos: &mut R, room: usize) -> Result<String> {
+/// With what reading once into a room of so many bytes gives behind.
+pub fn piece<R: Repos>(
+    alloc: Global,
+    answer: Answer,
+    repos: &mut R,
+    room: usize,
+) -> Result<Answer> {
     let mut bytes = Octets::new(alloc);
-    if added(alloc, repos, room, &mut bytes)?.is_none() {
-        return Ok("Failed".to_string(alloc)?);
+    match added(alloc, repos, room, &mut bytes)? {
+        Some(_) => Ok(answer.bytes(bytes.as_slice())),
+        None => Ok(answer.words("Failed")),
     }
-    let mut text = String::new(alloc);
-    add_bytes(&mut text, bytes.as_slice())?;
-    Ok(text)
 }
 
 // Reads until nothing more comes, and gives the number of calls and whether the last one failed.
@@ -62,17 +65,23 @@ fn read_out<R: Repos>(
     bail!("too many calls")
 }
 
+// What is read of the repository that is open.
+fn read_whole<R: Repos>(alloc: Global, repos: &mut R, room: usize) -> Result<String> {
+    let mut bytes = Octets::new(alloc);
+    let (calls, has_failed) = read_out(alloc, repos, room, &mut bytes)?;
+    Answer::new(alloc)
+        .bytes(bytes.as_slice())
+        .words(if has_failed { " Failed" } else { " end" })
+        .words(" at call ")
+        .number(u64::from(calls))
+        .end()
+}
+
 /// What is read of the repository of a DID until nothing more comes, and in how many calls.
 pub fn whole<R: Repos>(alloc: Global, repos: &mut R, did: &str, room: usize) -> Result<String> {
     let answer = opened(repos, did)?;
     if answer != "open" {
-        return Ok(answer.to_string(alloc)?);
+        return said(alloc, answer);
     }
-    let mut bytes = Octets::new(alloc);
-    let (calls, has_failed) = read_out(alloc, repos, room, &mut bytes)?;
-    let mut text = String::new(alloc);
-    add_bytes(&mut text, bytes.as_slice())?;
-    let end = if has_failed { "Failed" } else { "end" };
-    write!(&mut text, " {end} at call {calls}")?;
-    Ok(text)
+    read_whole(alloc, repos, room)
 }

@@ -1,45 +1,62 @@
 //! `STEP ; ROOM ; FAILING ; CALL .. = what each call answers, and what was written`: `write:BYTES` and `reserve:BYTES`.
 
-use crate::words::{add_word, numbers, step_of};
-use anyhow::{Context, Result};
+use crate::words::{numbers, size, with_blank};
+use anyhow::{Result, bail};
 use relay_io::{MemorySink, Sink};
 use std::alloc::Global;
-use vector_lines::{Subject, add_bytes, bytes, had};
+use vector_lines::{Answer, Subject, bytes, had, parted};
 
 pub struct SinkCalls;
 
 // A sink with so much room, whose calls with these numbers fail.
-fn sink_of(alloc: Global, step: &str, room: &str, failing: &str) -> Result<MemorySink> {
-    let step = step_of(step)?;
-    let failing = numbers(alloc, failing)?;
-    had(MemorySink::new(alloc, room.parse::<usize>()?, step, &failing))
+fn sink(alloc: Global, step: usize, room: usize, failing: &[u64]) -> Result<MemorySink> {
+    if step == 0 {
+        bail!("a step of some bytes");
+    }
+    had(MemorySink::new(alloc, room, step, failing))
 }
 
-// What a call answers.
-fn called(alloc: Global, sink: &mut MemorySink, word: &str) -> Result<String> {
-    if let Some(more) = word.strip_prefix("reserve:") {
-        had(sink.reserve(1, more.parse::<usize>()?))?;
-        return Ok("reserved".to_string(alloc)?);
+fn sink_of(alloc: Global, step: &str, room: &str, failing: &str) -> Result<MemorySink> {
+    let failing = numbers(alloc, failing)?;
+    sink(alloc, size(step)?, size(room)?, failing.as_slice())
+}
+
+fn reserved(answer: Answer, sink: &mut MemorySink, more: usize) -> Result<Answer> {
+    had(sink.reserve(1, more))?;
+    Ok(answer.words("reserved"))
+}
+
+fn written(answer: Answer, sink: &mut MemorySink, piece: &[u8]) -> Answer {
+    match sink.write(piece) {
+        Ok(count) => answer.number(count as u64),
+        Err(_) => answer.words("Failed"),
     }
-    let piece = word.strip_prefix("write:").context("a call")?;
-    match sink.write(&bytes(alloc, piece)?) {
-        Ok(count) => Ok(format!(in alloc; "{count}")?),
-        Err(_) => Ok("Failed".to_string(alloc)?),
+}
+
+// With what a call answers behind.
+fn called(alloc: Global, answer: Answer, sink: &mut MemorySink, word: &str) -> Result<Answer> {
+    let (verb, rest) = parted(word, ":")?;
+    match verb {
+        "reserve" => reserved(answer, sink, size(rest)?),
+        "write" => Ok(written(answer, sink, &bytes(alloc, rest)?)),
+        _ => bail!("a call"),
     }
+}
+
+fn told(alloc: Global, sink: &mut MemorySink, calls: &str) -> Result<String> {
+    let mut answer = Answer::new(alloc);
+    for (i, word) in calls.split(' ').enumerate() {
+        answer = called(alloc, with_blank(answer, i > 0), sink, word)?;
+    }
+    answer.words(" ; ").bytes(sink.content()).end()
 }
 
 impl Subject for SinkCalls {
     fn answer(&self, alloc: Global, input: &str) -> Result<String> {
-        let (step, rest) = input.split_once(" ; ").context("a step")?;
-        let (room, rest) = rest.split_once(" ; ").context("a room")?;
-        let (failing, calls) = rest.split_once(" ; ").context("failing calls")?;
+        let (step, rest) = parted(input, " ; ")?;
+        let (room, rest) = parted(rest, " ; ")?;
+        let (failing, calls) = parted(rest, " ; ")?;
         let mut sink = sink_of(alloc, step, room, failing)?;
-        let mut answer = String::new(alloc);
-        for word in calls.split(' ') {
-            add_word(&mut answer, &called(alloc, &mut sink, word)?)?;
-        }
-        answer.push_str(" ; ")?;
-        add_bytes(&mut answer, sink.content())?;
-        Ok(answer)
+        told(alloc, &mut sink, calls)
     }
 }

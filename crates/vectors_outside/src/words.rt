@@ -1,9 +1,8 @@
-//! Numbers and words as a row has them.
+//! Numbers as a row has them, and the blanks between the words of an answer.
 
-ghost use Rattle.std.specs.Prelude.{◌<◌, IfOk};
-
-use anyhow::{Result, bail};
+use anyhow::Result;
 use std::alloc::Global;
+use vector_lines::{Answer, number};
 
 /// The numbers with a comma between two, or `-` for none.
 pub fn numbers(alloc: Global, text: &str) -> Result<Vec<u64>> {
@@ -12,27 +11,17 @@ pub fn numbers(alloc: Global, text: &str) -> Result<Vec<u64>> {
         return Ok(numbers);
     }
     for word in text.split(',') {
-        numbers.push(word.parse::<u64>()?)?;
+        numbers.push(number(word)?)?;
     }
     Ok(numbers)
 }
 
-/// How many bytes are moved at a call, at most: some.
-pub fn step_of(text: &str) -> Result<usize>
-    ensures { IfOk result (λ step. 0 < step) }
-{
-    let step = text.parse::<usize>()?;
-    if step == 0 {
-        bail!("a step of some bytes");
-    }
-    Ok(step)
+/// A number of bytes.
+pub fn size(text: &str) -> Result<usize> {
+    Ok(text.parse::<usize>()?)
 }
 
-/// Adds a word, with a blank behind what stands there.
-pub fn add_word(text: &mut String, word: &str) -> Result<()> {
-    if !text.is_empty() {
-        text.push(' ')?;
-    }
-    text.push_str(word)?;
-    Ok(())
+/// With the blank between two words, where one stands in front.
+pub fn with_blank(answer: Answer, is_behind: bool) -> Answer {
+    answer.words(if is_behind { " " } else { "" })
 }

@@ -5,9 +5,11 @@ use crate::answers::answers_of;
 use crate::cores::core_of;
 use crate::journals::add_row;
 use anyhow::{Context, Result, bail, ensure};
+use at_cbor::write_list_front;
+use at_cid::Octets;
 use at_event::{Frame, read_frame};
 use relay_core::{Answers, Core, Decision, Next, Pass, Question};
-use relay_row::NUMBERS;
+use relay_row::{Fresh, NUMBERS, Row, read_rows, write_fresh};
 use std::alloc::Global;
 use vector_lines::{Subject, bytes, had};
 
@@ -99,20 +101,29 @@ fn add_made(
     text: &mut String,
     alloc: Global,
     core: &Core,
-    sent: &Sent,
+    sent: Sent,
     decision: &Decision,
     answers: Answers,
 ) -> Result<()> {
     ensure!(core.last_seq() < NUMBERS - 1, "no number is left");
-    let row = had(core.row(alloc, sent.host, &sent.frame, decision, answers))?;
-    let row = row.context("a row of an event")?;
+    let row = had(core.row(alloc, sent.host, sent.frame, decision, answers))?;
+    let row = spelled(alloc, &row.context("a row of an event")?)?;
     ensure!(core.is_next(&row), "the row breaks the order");
     add_row(text, alloc, row)
 }
 
-fn decided(alloc: Global, core: &Core, sent: &Sent, given: Answers) -> Result<String> {
+// The row with its message, as it is read back.
+fn spelled(alloc: Global, fresh: &Fresh) -> Result<Row> {
+    let mut body = Octets::new(alloc);
+    had(write_list_front(&mut body, 1))?;
+    had(write_fresh(&mut body, fresh))?;
+    let mut rows = read_rows(alloc, body.as_slice())?.into_vec();
+    rows.pop().context("one row")
+}
+
+fn decided(alloc: Global, core: &Core, sent: Sent, given: Answers) -> Result<String> {
     let mut text = String::new(alloc);
-    let (next, answers) = asked(&mut text, core, sent, given)?;
+    let (next, answers) = asked(&mut text, core, &sent, given)?;
     match next {
         Next::Done(decision) => {
             add_decision(&mut text, &decision)?;
@@ -137,7 +148,7 @@ impl Subject for Decisions {
         decided(
             alloc,
             &core,
-            &Sent { host, frame },
+            Sent { host, frame },
             answers_of(alloc, answers)?,
         )
     }

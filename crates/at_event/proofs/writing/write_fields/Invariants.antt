@@ -1,6 +1,9 @@
-use Rattle.std.proofs.Common.{◌≡◌, ◌++◌, drop}
+use Rattle.std.proofs.Common.{◌≡◌, ◌++◌, length, take, drop}
 use Rattle.at_event.proofs.WriteFields.{renumbered_spelling}
 use Rattle.at_event.proofs.writing.write_fields.Given as goal
 
 abbrev pub invariant-loop-key : goal.invariant-loop-key
-invariant-loop-key l = l.out ++ renumbered_spelling l.seq (drop l.key-index l.fields) ≡ l.fn.out ++ renumbered_spelling l.seq l.fields
+invariant-loop-key l = record {
+  written : l.out ++ renumbered_spelling l.seq (drop l.key-index l.fields) ≡ l.fn.out ++ renumbered_spelling l.seq l.fields;
+  kept : take (length l.fn.out) l.out ≡ l.fn.out;
+}

@@ -5,4 +5,4 @@ use Rattle.relay_run.proofs.answering.write_synced.Goals as goal
 
 pub returns-clause-front : goal.returns-clause-front
 returns-clause-front g c = λ told.
-    front_of_second (g.O.Sink.written c.args.out.now) (g.O.Sink.written c.write_number.new.out) (g.O.Sink.written c.write_records.new.out) (numbered (codes "synced ") c.args.seq) (numbered (codes " records ") c.args.records ++ 10 ∷ []) (c.in_ok-write_number.ensures.written told) (c.write_records.ensures.front told)
+    front_of_second (g.O.Sink.written c.args.out.now) (g.O.Sink.written c.write_number.new.out) (g.O.Sink.written c.write_last.new.out) (numbered (codes "synced ") c.args.seq) (numbered (codes " records ") c.args.records ++ 10 ∷ []) (c.in_ok-write_number.ensures.written told) (c.write_last.ensures.front told)

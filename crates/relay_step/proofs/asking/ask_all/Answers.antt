@@ -1,14 +1,12 @@
 use Rattle.std.proofs.Common.{sym, arith}
-use Rattle.relay_core.specs.declared.decision.Next.{Next}
 use Rattle.relay_step.proofs.Vain.{last_other, vain_with}
-use Rattle.relay_step.proofs.Losses.{next_event}
 use Rattle.relay_step.proofs.asking.ask_all.Goals as goal
 
 pub returns-then-is_fetch-clause-next : goal.returns-then-is_fetch-clause-next
-returns-then-is_fetch-clause-next g c = sym (next_event c.args.core.now c.args.host.now c.args.frame.now c.args.event.now c.asking.answers (Next.Ask c.in-Ask.question) c.requires.frame c.in-Ask.ensures)
+returns-then-is_fetch-clause-next g c = c.in-Ask.ensures
 
 pub ask_one-requires-clause-asks : goal.ask_one-requires-clause-asks
-ask_one-requires-clause-asks g c = next_event c.args.core.now c.args.host.now c.args.frame.now c.args.event.now c.asking.answers (Next.Ask c.in-Ask.question) c.requires.frame c.in-Ask.ensures
+ask_one-requires-clause-asks g c = sym c.in-Ask.ensures
 
 pub asking-preserved : goal.asking-preserved
 asking-preserved g c = record {
@@ -24,8 +22,8 @@ returns-in-Err-clause-in_vain g c =
 pub returns-in_default : goal.returns-in_default
 returns-in_default g c = record {
   asked = c.asking.invariant.asked;
-  next = sym (next_event c.args.core.now c.args.host.now c.args.frame.now c.args.event.now c.asking.answers c.next.result c.requires.frame c.next.ensures);
-  last = last_other c.next.result c.in_default.not-Ask;
+  next = c.next_for_event.ensures;
+  last = last_other c.next_for_event.result c.in_default.not-Ask;
   in_vain = tt;
   moments = tt;
   caused = tt;

@@ -30,11 +30,11 @@ returns-in-Event-clause-passed g c =
 
 pub returns-in-Faulty-clause-passed : goal.returns-in-Faulty-clause-passed
 returns-in-Faulty-clause-passed g c =
-    if_ok c.decide_other.result _ _ (λ t. passed_other g.C.Clock.tells c.args.core.now c.args.host.now c.args.frame.now t (g.C.Clock.moments c.args.clock.now) (g.C.Clock.moments c.decide_other.new.clock)) c.decide_other.ensures.told
+    if_ok c.decide_other.result _ _ (λ t. passed_other g.C.Clock.tells c.args.core.now c.args.host.now c.args.frame t (g.C.Clock.moments c.args.clock.now) (g.C.Clock.moments c.decide_other.new.clock)) c.decide_other.ensures.told
 
 pub returns-in-Faulty-clause-told : goal.returns-in-Faulty-clause-told
 returns-in-Faulty-clause-told g c =
-    if_ok c.decide_other.result _ _ (λ t. told_other g.C.Clock.tells c.args.core.now c.args.host.now c.args.frame.now t (g.C.Clock.moments c.args.clock.now) (g.C.Clock.moments c.decide_other.new.clock)) c.decide_other.ensures.told
+    if_ok c.decide_other.result _ _ (λ t. told_other g.C.Clock.tells c.args.core.now c.args.host.now c.args.frame t (g.C.Clock.moments c.args.clock.now) (g.C.Clock.moments c.decide_other.new.clock)) c.decide_other.ensures.told
 
 pub returns-in-Event-clause-formed : goal.returns-in-Event-clause-formed
 returns-in-Event-clause-formed g c =
@@ -44,4 +44,4 @@ returns-in-Event-clause-formed g c =
 pub returns-in-Faulty-clause-formed : goal.returns-in-Faulty-clause-formed
 returns-in-Faulty-clause-formed g c =
     let named = and_from (is_text c.args.host.now) (is_host c.args.host.now) (text_tested c.args.host.now c.tell_text.ensures.string c.tell_text.ensures.utf8) c.requires.host in
-    if_ok c.decide_other.result _ _ (λ t is. kept_other g.C.Clock.tells c.args.core.now c.args.host.now c.args.frame.now t (g.C.Clock.moments c.args.clock.now) (g.C.Clock.moments c.decide_other.new.clock) is c.made_rows_are_formed.ensures c.requires.frame named) c.decide_other.ensures.told
+    if_ok c.decide_other.result _ _ (λ t is. kept_other g.C.Clock.tells c.args.core.now c.args.host.now c.args.frame t (g.C.Clock.moments c.args.clock.now) (g.C.Clock.moments c.decide_other.new.clock) is c.made_rows_are_formed.ensures c.requires.frame named) c.decide_other.ensures.told

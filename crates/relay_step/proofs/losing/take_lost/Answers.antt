@@ -1,35 +1,34 @@
-use Rattle.std.proofs.Common.{Some, ap, ◌∙◌}
+use Rattle.std.proofs.Common.{ap, sym, ◌∙◌}
 use Rattle.at_event.specs.Seen.{Seen}
 use Rattle.relay_core.specs.Entries.{account_in, cursor_in}
-use Rattle.relay_core.specs.declared.decision.Next.{Next}
 use Rattle.relay_step.specs.Fetches.{found_as}
 use Rattle.relay_step.proofs.Vain.{on_err, plain_as, plain_fetch}
-use Rattle.relay_step.proofs.Losses.{asks_fetch, lost_by, next_event, same_frame}
+use Rattle.relay_step.proofs.Losses.{asks_fetch, lost_by}
 use Rattle.relay_step.proofs.losing.take_lost.Goals as goal
 
 pub returns-in_err-fetched-clause-in_vain : goal.returns-in_err-fetched-clause-in_vain
 returns-in_err-fetched-clause-in_vain g c =
     let did = c.as_str-did.ensures.value ∙ ap (λ (e : Seen). e.did) c.event.view_is in
-    on_err c.from_residual-in_err-fetched.result _ (plain_as (g.P.Judges.panel c.args.judges.now) (g.P.Judges.panel c.fetch.new.judges) c.args.event.now.did c.as_str-did.result.now did
+    on_err c.from_residual-in_err-fetched.result _ (plain_as (g.P.Judges.panel c.args.judges.now) (g.P.Judges.panel c.fetch.new.judges) c.args.event.did c.as_str-did.result.now did
     (plain_fetch (g.P.Judges.panel c.args.judges.now) (g.P.Judges.panel c.fetch.new.judges) c.as_str-did.result.now (found_as c.in_ok-found.found) c.in_ok-found.ensures.asked))
 
-pub unreachable-requires-in_default-next : goal.unreachable-requires-in_default-next
-unreachable-requires-in_default-next g c =
-    let there = asks_fetch (cursor_in c.args.core.now c.args.host.now) (account_in c.args.core.now c.args.event.now.did) c.args.event.now c.args.answers c.requires.asks in
+pub unreachable-requires-in_default-next_for_event : goal.unreachable-requires-in_default-next_for_event
+unreachable-requires-in_default-next_for_event g c =
+    let there = asks_fetch (cursor_in c.args.core.now c.args.host.now) (account_in c.args.core.now c.args.event.did) c.args.event c.args.answers c.requires.asks in
     let other = there.decides c.in_ok-fetched.fetched in
-    c.in_default-next.not-Done other.0 (c.next.ensures ∙ same_frame c.args.core.now c.args.host.now c.args.frame.now c.args.event.now (record c.args.answers { fetched = Some c.in_ok-fetched.fetched }) c.requires.frame ∙ other.1)
+    c.in_default-next_for_event.not-Done other.0 (c.next_for_event.ensures ∙ other.1)
 
 pub returns-clause-took : goal.returns-clause-took
 returns-clause-took g c =
     let did = c.as_str-did.ensures.value ∙ ap (λ (e : Seen). e.did) c.event.view_is in
     let time = c.as_str.ensures.value ∙ ap (λ (e : Seen). e.time) c.event.view_is in
-    let done = next_event c.args.core.now c.args.host.now c.args.frame.now c.args.event.now (record c.args.answers { fetched = Some c.in_ok-fetched.fetched }) (Next.Done c.in-Done.decision) c.requires.frame c.in-Done.ensures in
-    lost_by g.R.Repos.tells c.args.core.now c.args.host.now c.args.event.now c.args.answers c.in_ok-fetched.fetched c.in-Done.decision (found_as c.in_ok-found.found) (g.P.Judges.panel c.args.judges.now) (g.R.Repos.repository c.args.repos.now) (g.P.Judges.panel c.fetch.new.judges)
+    let done = sym c.in-Done.ensures in
+    lost_by g.R.Repos.tells c.args.core.now c.args.host.now c.args.event c.args.answers c.in_ok-fetched.fetched c.in-Done.decision (found_as c.in_ok-found.found) (g.P.Judges.panel c.args.judges.now) (g.R.Repos.repository c.args.repos.now) (g.P.Judges.panel c.fetch.new.judges)
     c.as_str-did.result.now c.as_str.result.now c.last_rev.result c.repo_of.result c.in-Some.moment c.requires.asks did time c.in-Some.is c.last_rev.ensures c.repo_of.ensures c.in_ok-fetched.ensures.made c.requires.did c.requires.time c.in_ok-found.ensures.may c.in_ok-fetched.ensures.sent
     c.in_ok-found.ensures.asked c.in_ok-found.ensures.fetched done c.take.result c.take.ensures.took c.take.ensures.number
 
 pub returns-clause-in_vain : goal.returns-clause-in_vain
 returns-clause-in_vain g c =
     let did = c.as_str-did.ensures.value ∙ ap (λ (e : Seen). e.did) c.event.view_is in
-    on_err c.take.result _ (plain_as (g.P.Judges.panel c.args.judges.now) (g.P.Judges.panel c.fetch.new.judges) c.args.event.now.did c.as_str-did.result.now did
+    on_err c.take.result _ (plain_as (g.P.Judges.panel c.args.judges.now) (g.P.Judges.panel c.fetch.new.judges) c.args.event.did c.as_str-did.result.now did
     (plain_fetch (g.P.Judges.panel c.args.judges.now) (g.P.Judges.panel c.fetch.new.judges) c.as_str-did.result.now (found_as c.in_ok-found.found) c.in_ok-found.ensures.asked))

@@ -1,17 +1,29 @@
-use Rattle.std.proofs.Common.{◌≡◌, ◌∙◌, rules, refl, ap, Err, List, ℕ, ◌+◌, ◌++◌}
-use Rattle.relay_store.specs.declared.draft.Draft.{Draft}
-use Rattle.relay_store.specs.declared.fault.StoreFault.{StoreFault}
-use Rattle.relay_store.proofs.Rooms.{full_of, fits_more}
+use Rattle.std.proofs.Common.{◌∙◌}
+use Rattle.std.proofs.lemmas.Result.{on_ok_weaker, on_err_weaker}
+use Rattle.relay_row.specs.Bodies.{row_spelling}
+use Rattle.relay_store.proofs.Rooms.{cut_again, fits_again, full_of}
 use Rattle.relay_store.proofs.adding.add_row.Goals as goal
 
-pub returns-in_err-fit_row-clause-full : goal.returns-in_err-fit_row-clause-full
-returns-in_err-fit_row-clause-full c = λ e is rows has.
-    let failed : c.fit_row.result ≡ Err (StoreFault.Full e) = search rules in
-    let d : Draft = record { body = c.args.draft.now.body; row = c.write_row.new.out; count = c.args.draft.now.count } in
-    full_of c.args.log.now rows c.args.row d e (record { begun = has.begun; spelled_are = has.spelled_are; count = has.count }) (search rules) (c.fit_row.ensures.full e failed)
+pub take_in-requires-clause-fits : goal.take_in-requires-clause-fits
+take_in-requires-clause-fits c = fits_again c.args.log.now c.args.draft.now _ c.requires.fits (cut_again _ c.args.draft.now.body (row_spelling c.args.row) _ c.len-start.ensures c.in-Ok.ensures.written)
 
-pub returns-clause-fits : goal.returns-clause-fits
-returns-clause-fits c =
-    let d : Draft = record { body = c.args.draft.now.body; row = c.write_row.new.out; count = c.args.draft.now.count } in
-    let now : Draft = record { body = c.extend.new.self; row = c.write_row.new.out; count = c.args.draft.now.count + 1 } in
-    fits_more c.args.log.now d now c.requires.begun c.in_ok-fit_row.ensures.fits (c.in_ok-extend.ensures.ok ∙ ap (λ (l : List ℕ). c.args.draft.now.body ++ l) c.as_slice.ensures.value) refl
+pub returns-in-Ok-clause-ok : goal.returns-in-Ok-clause-ok
+returns-in-Ok-clause-ok c =
+    on_ok_weaker c.take_in.result (λ learned. record {
+      core = learned.core;
+      window = learned.window;
+      body = learned.body ∙ c.in-Ok.ensures.written;
+      count = learned.count;
+    }) c.take_in.ensures.ok
+
+pub returns-in-Ok-clause-as_before : goal.returns-in-Ok-clause-as_before
+returns-in-Ok-clause-as_before c =
+    on_err_weaker c.take_in.result (λ same. record {
+      core = same.core;
+      window = same.window;
+      body = same.body ∙ cut_again _ c.args.draft.now.body (row_spelling c.args.row) _ c.len-start.ensures c.in-Ok.ensures.written;
+      count = same.count;
+    }) c.take_in.ensures.as_before
+
+pub returns-in-Ok-clause-full : goal.returns-in-Ok-clause-full
+returns-in-Ok-clause-full c = λ e is rows has. full_of c.args.log.now rows c.args.row c.args.draft.now _ _ e has c.len-start.ensures c.in-Ok.ensures.written (c.take_in.ensures.full e is)

@@ -1,4 +1,4 @@
-use Rattle.std.proofs.Common.{◌≡◌, ◌∙◌, ◌+◌, ◌∷◌, ◌++◌, [], ℕ, List, Err, min, length, drop, append_assoc, ap, arith, rules, subst, sym}
+use Rattle.std.proofs.Common.{◌≡◌, ◌∙◌, ◌+◌, ◌∷◌, ◌++◌, [], List, Err, min, length, drop, append_assoc, ap, arith, rules, subst, sym}
 use Rattle.relay_disk.proofs.Moments.{no_call}
 use Rattle.gate_log.specs.Build.{IsClosed}
 use Rattle.gate_log.specs.Log.{Holds as HasBodies}

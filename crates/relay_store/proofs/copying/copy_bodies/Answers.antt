@@ -1,4 +1,4 @@
-use Rattle.std.proofs.Common.{◌≡◌, ◌∷◌, ◌++◌, [], List, ℕ, Err, inl, inr, ⊎_elim, ap, arith, rules, subst, sym}
+use Rattle.std.proofs.Common.{◌≡◌, ◌++◌, [], List, Err, inr, arith, rules, subst, sym}
 use Rattle.relay_disk.proofs.Moments.{joined, still_again, still_here}
 use Rattle.gate_log.specs.Log.{Holds as HasBodies}
 use Rattle.relay_row.specs.declared.row.Row.{Row}

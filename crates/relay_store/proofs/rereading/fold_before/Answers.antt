@@ -1,4 +1,4 @@
-use Rattle.std.proofs.Common.{◌≡◌, ◌∷◌, ◌++◌, List, ℕ, Err, ap, arith, rules, subst, sym}
+use Rattle.std.proofs.Common.{◌≡◌, ◌++◌, List, Err, arith, rules, subst}
 use Rattle.relay_disk.proofs.Moments.{still_again, still_here}
 use Rattle.gate_log.specs.Log.{Holds as HasBodies}
 use Rattle.relay_row.specs.declared.row.Row.{Row}

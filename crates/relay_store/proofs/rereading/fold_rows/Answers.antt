@@ -1,4 +1,4 @@
-use Rattle.std.proofs.Common.{[], ◌++◌, append_assoc, rules, sym, subst}
+use Rattle.std.proofs.Common.{rules}
 use Rattle.relay_store.proofs.Recopied.{moving_more, moving_none}
 use Rattle.relay_store.proofs.rereading.fold_rows.Goals as goal
 

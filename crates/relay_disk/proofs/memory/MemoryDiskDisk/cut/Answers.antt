@@ -1,8 +1,10 @@
-use Rattle.std.proofs.Common.{List, ℕ, take, refl, ◌∙◌, ap}
+use Rattle.std.proofs.Common.{List, ℕ, take, refl, ◌∙◌, ap, arith}
+use Rattle.std.proofs.lemmas.List.{take-take}
 use Rattle.relay_disk.specs.Disk.{Cut}
 use Rattle.relay_disk.specs.Works.{cut_to}
 use Rattle.relay_disk.specs.Memory.{works_of}
 use Rattle.relay_disk.proofs.Works.{cut_to_goes}
+use Rattle.relay_disk.proofs.Alike.{still_alike}
 use Rattle.relay_disk.proofs.SinceSync.{still_inside}
 use Rattle.relay_disk.proofs.KeptCalls.{recorded_by, still_kept, next_moment, next_goes, content_after, settled_after, inside_after}
 use Rattle.relay_disk.proofs.memory.MemoryDiskDisk.cut.Goals as goal
@@ -25,3 +27,8 @@ invariant_of-self-2-clause-inside c =
 pub returns-clause-goes : goal.returns-clause-goes
 returns-clause-goes c =
     next_goes (recorded_by c.keep.ensures.calls c.keep.ensures.pieces c.args.self.now.kept refl) c.args.self.now.first.items _ refl (Cut c.args.size) _ _ (cut_to_goes c.args.self.now.first.items _ _ _ c.take.ensures.counts c.args.size)
+
+pub invariant_of-self-2-clause-alike : goal.invariant_of-self-2-clause-alike
+invariant_of-self-2-clause-alike c =
+    still_alike c.args.self.now.unchanged c.args.size _ _ _ _ (omega (arith, c.min-self.ensures)) (omega (arith, c.min-self.ensures)) c.args.self.now.alike
+    (ap (λ (l : List ℕ). take c.args.size l) c.truncate.ensures.items ∙ take-take c.args.size c.args.size c.args.self.now.content.items (omega arith))

@@ -1,8 +1,9 @@
-use Rattle.std.proofs.Common.{List, ℕ, length, refl, ◌∙◌, ap, arith}
+use Rattle.std.proofs.Common.{◌≤◌, List, ℕ, length, take, refl, sym, ◌∙◌, ap, subst, arith}
 use Rattle.relay_disk.specs.Disk.{Torn, written}
 use Rattle.relay_disk.specs.Works.{wrote}
 use Rattle.relay_disk.specs.Memory.{works_of}
-use Rattle.relay_disk.proofs.Works.{wrote_goes}
+use Rattle.relay_disk.proofs.Works.{torn_whole, wrote_goes}
+use Rattle.relay_disk.proofs.Alike.{still_alike}
 use Rattle.relay_disk.proofs.SinceSync.{still_inside}
 use Rattle.relay_disk.proofs.KeptCalls.{recorded_by, still_kept, next_moment, next_goes, content_after, settled_after, inside_after, wrote_whole}
 use Rattle.relay_disk.proofs.memory.MemoryDiskDisk.write_at.Goals as goal
@@ -27,3 +28,8 @@ pub returns-clause-goes : goal.returns-clause-goes
 returns-clause-goes c =
     next_goes (recorded_by c.keep.ensures.calls c.keep.ensures.pieces c.args.self.now.kept (omega arith)) c.args.self.now.first.items _ (wrote_whole c.args.place c.args.piece.now) (Torn c.args.place (length c.args.piece.now)) _ _
     (wrote_goes c.args.self.now.first.items _ _ _ c.take.ensures.counts c.args.place c.args.piece.now (c.requires.inside refl))
+
+pub invariant_of-self-2-clause-alike : goal.invariant_of-self-2-clause-alike
+invariant_of-self-2-clause-alike c =
+    still_alike c.args.self.now.unchanged c.args.place _ _ _ _ (omega (arith, c.min-self.ensures)) (omega (arith, c.min-self.ensures)) c.args.self.now.alike
+    (ap (λ (l : List ℕ). take c.args.place l) c.put.ensures.items ∙ (torn_whole c.args.place c.args.piece.now c.args.self.now.content.items (subst (λ (l : List ℕ). c.args.place ≤ length l) (sym c.args.self.now.in_step) (c.requires.inside refl))).before)

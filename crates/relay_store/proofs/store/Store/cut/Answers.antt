@@ -1,4 +1,4 @@
-use Rattle.std.proofs.Common.{◌≡◌, ◌∙◌, ◌+◌, ◌<◌, ◌≤◌, ℕ, List, Ok, Err, None, arith, rules, ap, sym, subst, refl}
+use Rattle.std.proofs.Common.{◌≡◌, ◌∙◌, ◌+◌, ◌≤◌, ℕ, Err, None, arith, rules, ap, sym, subst, refl}
 use Rattle.std.specs.Prelude.{map}
 use Rattle.at_event.specs.declared.refusal.Refusal.{Refusal}
 use Rattle.event_window.specs.Held.{first_or}

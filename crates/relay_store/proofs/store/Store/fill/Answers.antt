@@ -1,4 +1,4 @@
-use Rattle.std.proofs.Common.{◌≡◌, ◌∙◌, ◌∷◌, ◌++◌, List, ℕ, Err, arith, rules, subst, sym}
+use Rattle.std.proofs.Common.{◌≡◌, ◌∙◌, ◌∷◌, ◌++◌, List, Err, rules, subst, sym}
 use Rattle.relay_disk.proofs.Moments.{joined, no_call, still_again}
 use Rattle.gate_log.specs.Build.{IsClosed}
 use Rattle.gate_log.specs.Log.{Holds as HasBodies}

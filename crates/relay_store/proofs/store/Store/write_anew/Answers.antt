@@ -1,4 +1,4 @@
-use Rattle.std.proofs.Common.{◌≡◌, ◌≢◌, ◌∙◌, ◌+◌, ⊎_elim, ℕ, List, Err, ap, arith, rules, sym, subst}
+use Rattle.std.proofs.Common.{◌≡◌, ◌∙◌, ◌+◌, ⊎_elim, Err, ap, arith, rules, sym, subst}
 use Rattle.relay_disk.proofs.Moments.{now_too, still_here}
 use Rattle.gate_log.specs.Build.{BuildState}
 use Rattle.gate_log.specs.Image.{generation}

@@ -1,8 +1,0 @@
-use Rattle.std.proofs.Common.{[], ◌∷◌, codes}
-use Rattle.relay_run.specs.Lines.{numbered}
-use Rattle.relay_run.proofs.Writing.{front_of_second}
-use Rattle.relay_run.proofs.answering.write_records.Goals as goal
-
-pub returns-clause-front : goal.returns-clause-front
-returns-clause-front g c = λ told.
-    front_of_second (g.O.Sink.written c.args.out.now) (g.O.Sink.written c.write_number.new.out) (g.O.Sink.written c.write_all.new.out) (numbered (codes " records ") c.args.records) (10 ∷ []) (c.in_ok-write_number.ensures.written told) (c.write_all.ensures.front told)

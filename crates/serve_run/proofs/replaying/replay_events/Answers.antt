@@ -1,0 +1,21 @@
+use Rattle.std.proofs.Common.{◌∙◌, Err, sym, ap}
+use Rattle.std.specs.Prelude.{Some}
+use Rattle.backfill.specs.Served.{served}
+use Rattle.backfill.specs.Writing.{framed}
+use Rattle.serve_run.proofs.Ending.{fault_written, replay_bad, replay_long}
+use Rattle.serve_run.proofs.replaying.replay_events.Goals as goal
+
+pub returns-in-Ok-clause-written : goal.returns-in-Ok-clause-written
+returns-in-Ok-clause-written g c = λ told held holds out. (c.in-Ok.ensures.written told held holds).whole out
+
+pub returns-in-Err-clause-written : goal.returns-in-Err-clause-written
+returns-in-Err-clause-written g c = λ told held holds out.
+    fault_written c.in-Err.fault c.of_replay.result (framed (served held (Some c.args.cursor))) _ _ c.of_replay.ensures ((c.in-Err.ensures.written told held holds).front out)
+
+pub returns-in-Err-clause-no_bad_log : goal.returns-in-Err-clause-no_bad_log
+returns-in-Err-clause-no_bad_log g c = λ place is.
+    c.in-Err.ensures.no_bad_log place (ap Err (replay_bad c.in-Err.fault place (sym c.of_replay.ensures ∙ is)))
+
+pub returns-in-Err-clause-too_long : goal.returns-in-Err-clause-too_long
+returns-in-Err-clause-too_long g c = λ is.
+    c.in-Err.ensures.too_long (ap Err (replay_long c.in-Err.fault (sym c.of_replay.ensures ∙ is)))
