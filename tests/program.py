@@ -2,7 +2,9 @@
 
 As a program of its own (`program.py TOLD COMMAND..`) it runs a command and writes to the file TOLD the seconds of processor
 time and the peak of memory in bytes: the system counts to a child the memory of whoever started it, which is little here.
+The variable RELAY_PROGRAM of the environment names another program than the proved one that `./relay` builds.
 """
+import os
 import pathlib
 import re
 import resource
@@ -12,16 +14,28 @@ import tempfile
 
 TOP = pathlib.Path(__file__).resolve().parent.parent
 RELAY = TOP / "relay"
-PROGRAM = TOP / "crates/relay_cli/out/relay_cli"
+PROGRAM = pathlib.Path(os.environ.get("RELAY_PROGRAM", TOP / "crates/relay_cli/out/relay_cli"))
 SAMPLES = TOP / "samples"
 HEADS = ("file", "without", "run", "input", "prints", "ends", "left")  # of the parts of a history
 
 
 def build():
-    """Has the program proved and built, where it is not."""
+    """Has the program proved and built, where it is not, unless another one was named."""
+    if "RELAY_PROGRAM" in os.environ:
+        return
     subprocess.run([RELAY], stdin=subprocess.DEVNULL, stdout=subprocess.DEVNULL, check=False)
     if not PROGRAM.exists():
         sys.exit(125)
+
+
+def built(name):
+    """The proved program of a crate, which is built where it is missing."""
+    path = TOP / "crates" / name / "out" / name
+    if not path.exists():
+        subprocess.run(["rt", "run"], cwd=path.parent.parent, stdin=subprocess.DEVNULL, stdout=subprocess.DEVNULL, check=False)
+    if not path.exists():
+        sys.exit(125)
+    return path
 
 
 def run(folder, *words, given=b"", command=PROGRAM, **options):

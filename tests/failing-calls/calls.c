@@ -1,10 +1,11 @@
 /* Preloaded by `run` into the program under test: counts the calls that it makes of one of its parts, makes the one of a
    number fail, or that one and all behind it, and notes what the disks were told to do. A write that fails has done half of
-   its work. */
+   its work. A call moves at most a number of bytes, where one is given. */
 #define _GNU_SOURCE
 #include <errno.h>
 #include <fcntl.h>
 #include <stdarg.h>
+#include <stdint.h>
 #include <stdio.h>
 #include <stdlib.h>
 #include <string.h>
@@ -20,6 +21,7 @@ static char parts[FILES] = {'i', 'o'};
 static int is_second[FILES];
 static char part;
 static long number, seen;
+static size_t piece;
 static int is_fuse, trace = -1;
 
 static void start(void) __attribute__((constructor));
@@ -27,6 +29,7 @@ static void start(void) {
     part = *getenv("FAILING_PART");
     number = atol(getenv("FAILING_CALL"));
     is_fuse = getenv("FAILING_FUSE") != NULL;
+    piece = getenv("FAILING_PIECE") ? atol(getenv("FAILING_PIECE")) : SIZE_MAX;
     trace = syscall(SYS_openat, AT_FDCWD, getenv("FAILING_TRACE"), O_WRONLY | O_CREAT | O_APPEND, 0600);
 }
 
@@ -40,6 +43,8 @@ static int fails_of(char of) {
 }
 
 static int fails(int file) { return fails_of(file >= 0 && file < FILES ? parts[file] : 0); }
+
+static size_t part_of(size_t count) { return count < piece ? count : piece; }
 
 static int is_at_end(const char *path, const char *end) {
     size_t length = strlen(path), size = strlen(end);
@@ -96,22 +101,23 @@ int close(int file) {
     return syscall(SYS_close, file);
 }
 
-ssize_t read(int file, void *room, size_t count) { return fails(file) ? -1 : syscall(SYS_read, file, room, count); }
+ssize_t read(int file, void *room, size_t count) { return fails(file) ? -1 : syscall(SYS_read, file, room, part_of(count)); }
 
 ssize_t pread(int file, void *room, size_t count, off_t place) {
-    return fails(file) ? -1 : syscall(SYS_pread64, file, room, count, place);
+    return fails(file) ? -1 : syscall(SYS_pread64, file, room, part_of(count), place);
 }
 
 ssize_t pread64(int file, void *room, size_t count, off_t place) { return pread(file, room, count, place); }
 
 ssize_t write(int file, const void *bytes, size_t count) {
-    return fails(file) ? -1 : syscall(SYS_write, file, bytes, count);
+    return fails(file) ? -1 : syscall(SYS_write, file, bytes, part_of(count));
 }
 
 ssize_t pwrite(int file, const void *bytes, size_t count, off_t place) {
     int is_failing = fails(file);
     if (is_failing && seen != number) return -1;
-    if (is_failing) count /= 2;
+    count = is_failing ? count / 2 : count;
+    count = part_of(count);
     ssize_t done = syscall(SYS_pwrite64, file, bytes, count, place);
     if (done >= 0) note(file, "write", place, bytes, done);
     if (is_failing) errno = EIO;

@@ -9,7 +9,7 @@ NAMES = {
     1: "BadEvent", 2: "NotHome", 3: "Inactive", 4: "TakenDown", 5: "TooBig", 6: "BlocksTooLong", 7: "TooManyOps", 8: "BadPath",
     9: "RepeatedPath", 10: "BadOp", 11: "Stale", 12: "BadCar", 13: "WrongRoot", 14: "WrongDigest", 15: "NoCommit", 16: "BadCommit",
     17: "OtherCommit", 18: "BadSignature", 19: "Gap", 20: "BadNode", 21: "OtherOp", 22: "NotCovered", 23: "OtherData", 24: "TooLong",
-    25: "FutureRev"}
+    25: "FutureRev", 30: "NotCommit"}
 LOSES = {5, 19, 20, 21, 22, 23}
 LONGEST_OUT = 4_194_304
 LONGEST_BLOCKS = {"#commit": 2_000_000, "#sync": 10_000}
@@ -94,42 +94,14 @@ class Relay:
             return
         if not account.is_active:
             raise Refused(3)
-        rev, data, blocks = self.opened(event, account.last)
-        if event.kind == "#commit":
-            linked(event, account, data, blocks)
-        account.good(rev, data)
-
-    def opened(self, event, last):
-        """The revision and the data of an event's commit object, and the blocks."""
-        payload = event.payload
-        is_commit = event.kind == "#commit"
-        if is_commit and payload.get("tooBig", False):
-            raise Refused(5)
-        if len(payload["blocks"]) > LONGEST_BLOCKS[event.kind]:
-            raise Refused(6)
-        if is_commit:
-            check_ops(payload["ops"])
-        if last is not None and payload["rev"] <= last:
-            raise Refused(11)
-        try:
-            roots, blocks = car(payload["blocks"])
-        except Fault as wrong:
-            raise Refused(14 if wrong.args else 12) from wrong
-        if not roots or is_commit and roots[0] != payload["commit"]:
-            raise Refused(13)
-        if roots[0] not in blocks:
-            raise Refused(15)
-        try:
-            commit = commit_object(blocks[roots[0]])
-        except Fault as wrong:
-            raise Refused(16) from wrong
-        if commit["did"].decode() != event.did or commit["rev"] != payload["rev"]:
-            raise Refused(17)
-        if self.is_ahead(commit["rev"]):
+        rev, data, blocks = opened(event, account.last)
+        if self.is_ahead(rev):
             raise Refused(25)
         if event.did not in self.trusted:
             raise Refused(18)
-        return commit["rev"], commit["data"], blocks
+        if event.kind == "#commit":
+            linked(event, account, data, blocks)
+        account.good(rev, data)
 
     def is_ahead(self, rev):
         return tid_value(rev) // 1024 > self.moment + AHEAD
@@ -149,6 +121,21 @@ class Relay:
         account.good(rev, data)
         self.last += 1
         return f" synced {self.last} records {records}"
+
+    def sync(self, did):
+        """The status and the line of an operator's word that an account's whole repository be taken over."""
+        account = self.accounts.setdefault(did, Account())
+        if not account.is_active:
+            return 15, "refused 3 Inactive\n"
+        if did not in self.repositories:
+            return 15, "refused 33 NoRepository\n"
+        try:
+            rev, data, records = self.checked(did, account.last)
+        except Refused as why:
+            return 15, f"refused 34 RepositoryRefused {why.code}\n"
+        account.good(rev, data)
+        self.last += 1
+        return 0, f"synced {self.last} records {records}\n"
 
     def checked(self, did, least):
         """The revision, the data and the number of records of an account's whole repository."""
@@ -177,6 +164,35 @@ class Relay:
         return commit["rev"], commit["data"], records
 
 
+def opened(event, last):
+    """The revision and the data of an event's commit object, and the blocks."""
+    payload = event.payload
+    is_commit = event.kind == "#commit"
+    if is_commit and payload.get("tooBig", False):
+        raise Refused(5)
+    if len(payload["blocks"]) > LONGEST_BLOCKS[event.kind]:
+        raise Refused(6)
+    if is_commit:
+        check_ops(payload["ops"])
+    if last is not None and payload["rev"] <= last:
+        raise Refused(11)
+    try:
+        roots, blocks = car(payload["blocks"])
+    except Fault as wrong:
+        raise Refused(14 if wrong.args else 12) from wrong
+    if not roots or is_commit and roots[0] != payload["commit"]:
+        raise Refused(13)
+    if roots[0] not in blocks:
+        raise Refused(15)
+    try:
+        commit = commit_object(blocks[roots[0]])
+    except Fault as wrong:
+        raise Refused(16) from wrong
+    if commit["did"].decode() != event.did or commit["rev"] != payload["rev"]:
+        raise Refused(17)
+    return commit["rev"], commit["data"], blocks
+
+
 def check_ops(ops):
     """Refusals 7 to 10."""
     if len(ops) > MOST_OPS:
@@ -195,7 +211,7 @@ def check_ops(ops):
 
 
 def linked(event, account, data, blocks):
-    """Refusals 19 to 23."""
+    """Refusals 19 to 23 of a commit for its account."""
     payload = event.payload
     since, prev, expected = payload.get("since"), payload.get("prevData"), EMPTY
     if account.is_lost:
@@ -206,6 +222,11 @@ def linked(event, account, data, blocks):
             raise Refused(19)
     elif since is not None or prev not in (None, EMPTY):
         raise Refused(19)
+    led(payload, expected, data, blocks)
+
+
+def led(payload, expected, data, blocks):
+    """The refusals of operations that don't lead from the expected root to the commit's data."""
     if any(bytes(op["action"]) != b"create" and op.get("prev") is None for op in payload["ops"]):
         raise Refused(19)
     changes = [(bytes(op["path"]), op.get("prev"), op.get("cid")) for op in payload["ops"]]
@@ -221,3 +242,30 @@ def linked(event, account, data, blocks):
         got = root(undone(shown, changes))
     if got != expected:
         raise Refused(23, f" want {link_text(expected)} got {link_text(got)}")
+
+
+def checked_alone(message):
+    """The status and the line of a message that is checked by itself."""
+    try:
+        return 0, alone(frame(message))
+    except Refused as why:
+        return 15, f"refused {why.code} {NAMES[why.code]}{why.detail}\n"
+
+
+def alone(event):
+    if not isinstance(event, Event):
+        raise Refused(30)
+    if event.kind is None:
+        raise Refused(1)
+    if event.kind != "#commit":
+        raise Refused(30)
+    if event.out_len() > LONGEST_OUT:
+        raise Refused(24)
+    _, data, blocks = opened(event, None)
+    payload = event.payload
+    prev = payload.get("prevData")
+    if prev is None and payload.get("since") is not None:
+        raise Refused(19)
+    expected = EMPTY if prev is None else prev
+    led(payload, expected, data, blocks)
+    return f"from {link_text(expected)} to {link_text(data)} ops {len(payload['ops'])}\n"

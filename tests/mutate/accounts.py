@@ -29,14 +29,14 @@ class Parts:
 
 
 class Account:
-    """An account as its host has it; `offered` is the commit that was sent last."""
+    """An account as its host has it; `offered` is the commit that was sent last, and `stored` that of its repository."""
 
     def __init__(self, i):
         self.did = f"did:plc:m{i:04}" if i % 10 else f"did:web:m{i:04}.example"
         self.host = f"h{i:04}.example"
         self.is_trusted = i % 20 != 7
         self.seq, self.rev, self.pairs, self.heights = 0, FIRST_REV + i, {}, {}
-        self.head, self.offered = None, None
+        self.head, self.offered, self.stored = None, None, None
         self.is_lost, self.is_active = False, True
 
     def fields(self):
@@ -88,6 +88,17 @@ class Account:
             payload["prevData"] = self.head[1]
         return Parts("#commit", payload, root, [(root, block), *tree.cover(changes).items()])
 
+    def repository(self, draw):
+        """The whole repository, with some more records, mostly of a revision above those of the tape."""
+        rev = m.tid(self.rev + draw.choice((-1, 0, 8, 8, 8, 8)) * REV_STEP)
+        more = {b"app.bsky.feed.post/%04x" % draw.randrange(65536): m.value(draw.getrandbits(30)) for _ in range(draw.randrange(12))}
+        pairs = {**self.pairs, **more}
+        tree = m.Tree(pairs, self.heights)
+        block = m.commit_block(rev, tree.root, self.did)
+        root = m.link_of(block)
+        self.stored = (rev.encode(), tree.root), pairs
+        return Parts("#sync", {"did": self.did, "rev": rev}, root, [(root, block), *dict(tree.nodes.values()).items()])
+
     def ready(self):
         """The messages by which an account that is lost, empty or inactive can be followed again."""
         if not self.is_active:
@@ -101,8 +112,9 @@ class Account:
         if known is None:
             return
         self.is_active, self.is_lost = known.is_active, known.is_lost
-        if self.offered and known.head == self.offered[0]:
-            self.head, self.pairs = self.offered
+        taken = [offer for offer in (self.offered, self.stored) if offer and offer[0] == known.head]
+        if taken:
+            self.head, self.pairs = taken[0]
         elif known.head != self.head:
             self.head, self.is_lost = None, True
         if known.last is not None:

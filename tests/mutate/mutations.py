@@ -200,13 +200,19 @@ def bulk(draw, parts):
         parts.payload["extra"] = bytes(size)
 
 
+LONGEST = 8_388_608  # bytes of a message on a tape
 OF_BYTES = (flip, cut, grow, splice, lengths)
 OF_PARTS = (fields, header, depths, counts, operations, without, sections, front, relinked, commits)
+OF_REPOSITORIES = (without, sections, front, relinked, commits)
 ONE_BULKY_IN = 1000
 
 
 def mutated(draw, parts, others):
-    """The message of these parts, changed; of others of the tape it may get a part."""
+    """The message of these parts, changed, and cut where it is too long for a tape; of others of the tape it may get a part."""
+    return changed(draw, parts, others)[:LONGEST]
+
+
+def changed(draw, parts, others):
     if draw.randrange(ONE_BULKY_IN) == 0:
         bulk(draw, parts)
     if draw.random() < 0.65:
@@ -214,3 +220,11 @@ def mutated(draw, parts, others):
             draw.choice(OF_PARTS)(draw, parts)
         return parts.message()
     return draw.choice(OF_BYTES)(draw, parts.message(), others)
+
+
+def mutated_repository(draw, parts):
+    """The CAR of these parts, changed or not."""
+    for _ in range(draw.choice((0, 1, 1, 2))):
+        draw.choice(OF_REPOSITORIES)(draw, parts)
+    whole = parts.car()
+    return draw.choice((flip, cut, grow))(draw, whole, None) if draw.random() < 0.2 else whole
