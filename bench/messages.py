@@ -77,23 +77,35 @@ def car(root, blocks):
 
 
 class Tree:
-    """The tree of a map from keys to links. Nodes are made on demand and kept by their place, so that a later map that
-    differs in a few keys shares what it can."""
+    """The tree of a map from keys to links. It is made of nothing, or of the tree before some keys changed, whose nodes away
+    from these keys it keeps. Nodes stand under their layer and their first key."""
 
-    def __init__(self, pairs, known=None):
+    def __init__(self, pairs, known=None, before=None, changed=()):
         self.keys = sorted(pairs)
         self.pairs = pairs
         self.heights = known if known is not None else {}
-        for key in self.keys:
+        self.changed = None if before is None else sorted(changed)
+        for key in self.keys if before is None else self.changed:
             if key not in self.heights:
                 self.heights[key] = height(key)
-        self.nodes = {}
-        top = max((self.heights[key] for key in self.keys), default=0)
-        self.top = top
-        self.root = self.node(top, 0, len(self.keys))
+        self.nodes = {} if before is None else dict(before.nodes)
+        self.top = max((self.heights[key] for key in self.keys), default=0)
+        self.root = self.node(self.top, 0, len(self.keys))
+
+    def place(self, layer, start, end):
+        return layer, self.keys[start] if start < end else None
+
+    def is_kept(self, start, end):
+        """Whether no key from the one in front of a node to the one behind it changed."""
+        if self.changed is None:
+            return False
+        at = bisect.bisect_left(self.changed, self.keys[start - 1]) if start > 0 else 0
+        return at == len(self.changed) or (end < len(self.keys) and self.changed[at] > self.keys[end])
 
     def node(self, layer, start, end):
-        """The link of the node at a layer over the keys from start to end; its parts are kept under that place."""
+        """The link of the node at a layer over the keys from start to end."""
+        if self.is_kept(start, end):
+            return self.nodes[self.place(layer, start, end)][0]
         own = [i for i in range(start, end) if self.heights[self.keys[i]] == layer] if layer else list(range(start, end))
         cuts = [start - 1] + own + [end]
         parts = []
@@ -108,7 +120,7 @@ class Tree:
             before = key
         block = b"\xa2\x61e" + head(4, len(entries)) + b"".join(entries) + b"\x61l" + spell(parts[0])
         link = link_of(block)
-        self.nodes[layer, start, end] = link, block
+        self.nodes[self.place(layer, start, end)] = link, block
         return link
 
     def way(self, key, found):
@@ -116,7 +128,8 @@ class Tree:
         layer, start, end = self.top, 0, len(self.keys)
         at = bisect.bisect_left(self.keys, key)
         while True:
-            found[self.nodes[layer, start, end][0]] = self.nodes[layer, start, end][1]
+            link, block = self.nodes[self.place(layer, start, end)]
+            found[link] = block
             left = at - 1
             while left >= start and self.heights[self.keys[left]] < layer:
                 left -= 1

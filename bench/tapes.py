@@ -5,11 +5,23 @@ import random
 import messages as m
 
 HOST = b"a.example"
+LINK = 41  # bytes of a link that is spelled
 
 
 def record(message, host=HOST):
     """A record of a tape."""
     return bytes([len(host)]) + host + len(message).to_bytes(4, "big") + message
+
+
+def records(tape):
+    """The hosts and messages of a tape."""
+    at = 0
+    while at < len(tape):
+        host = tape[at + 1:at + 1 + tape[at]]
+        at += 1 + len(host)
+        message = tape[at + 4:at + 4 + int.from_bytes(tape[at:at + 4], "big")]
+        at += 4 + len(message)
+        yield host, message
 
 
 def did_of(i):
@@ -30,16 +42,26 @@ def sync(seq, rev, tree, did):
 
 
 def keys_in(block):
-    """The keys of a node's block of which `k` is spelled by one of the model's heads, put together."""
-    keys, before, at = [], b"", 0
-    while (at := block.find(b"\xa4\x61k", at)) >= 0:
-        at += 3
-        size, at = (block[at] & 31, at + 1) if block[at] < 0x58 else (block[at + 1], at + 2)
+    """The keys of a node's block, put together."""
+    keys, before, at = [], b"", 3
+    count, at = length_at(block, at)
+    for _ in range(count):
+        size, at = length_at(block, at + 3)
         own, at = block[at:at + size], at + size + 2
-        shared, at = (block[at], at + 1) if block[at] < 24 else (block[at + 1], at + 2)
+        shared, at = length_at(block, at)
         before = before[:shared] + own
         keys.append(before)
+        at += 2
+        at += 1 if block[at] == 0xf6 else LINK
+        at += 2 + LINK
     return keys
+
+
+def length_at(block, at):
+    """The length in a head, and where the head ends."""
+    info = block[at] & 31
+    size = {24: 1, 25: 2, 26: 4}.get(info, 0)
+    return (int.from_bytes(block[at + 1:at + 1 + size], "big") if size else info), at + 1 + size
 
 
 class Repository:
@@ -52,11 +74,11 @@ class Repository:
 
     def commit(self, seq, operations):
         """The next commit, and what has to be hashed of it: the blocks that it carries, each once, the nodes of the tree
-        before it that aren't there any more, and the keys of all nodes that it carries."""
-        changes, records, before, sorted_keys = {}, [], self.tree, sorted(self.pairs)
+        before it that aren't there any more, and the keys of its operations and of all nodes that it carries."""
+        changes, records, before = {}, [], self.tree
         for _ in range(operations):
             known = self.draw.random() < 0.4
-            key = self.draw.choice(sorted_keys) if known else post(self.draw)
+            key = self.draw.choice(before.keys) if known else post(self.draw)
             now = None
             if not (known and self.draw.random() < 0.5):
                 block = body(self.draw.getrandbits(60))
@@ -67,22 +89,21 @@ class Repository:
             self.pairs.pop(key, None)
             if now is not None:
                 self.pairs[key] = now
-        self.tree = m.Tree(dict(self.pairs), self.heights)
+        self.tree = m.Tree(dict(self.pairs), self.heights, before, changes)
         nodes = list(self.tree.cover(changes).items())
         self.rev += 1
         made = m.message(seq, m.tid(self.rev), m.tid(self.rev - 1), self.tree.root, before.root, dict(sorted(changes.items())),
                          nodes + records, self.did)
         commit = m.commit_block(m.tid(self.rev), self.tree.root, self.did)
-        return made, hashed(before, self.tree, changes, [commit, *(block for _, block in nodes + records)], nodes)
+        return made, hashed(before, changes, [commit, *(block for _, block in nodes + records)], nodes)
 
 
-def hashed(before, after, changes, carried, nodes):
-    there = {link for link, _ in after.nodes.values()}
-    undone = {}
+def hashed(before, changes, carried, nodes):
+    there, undone = {link for link, _ in nodes}, {}
     for key in changes:
         before.way(key, undone)
     gone = [block for link, block in undone.items() if link not in there]
-    keys = {key for _, block in nodes for key in keys_in(block)}
+    keys = {*changes, *(key for _, block in nodes for key in keys_in(block))}
     return [*carried, *gone, *keys]
 
 
@@ -93,6 +114,14 @@ def body(n):
 
 def post(draw):
     return b"app.bsky.feed.post/" + m.tid(draw.getrandbits(62)).encode()
+
+
+def accounts(events, count, more):
+    """`#account` messages of so many accounts in turn, small ones, or each with a field of so many bytes, which is handed on."""
+    field = {"more": bytes(more)} if more else {}
+    for i in range(events):
+        payload = {"did": did_of(i % count), "seq": i + 1, "time": m.TIME, "active": True, **field}
+        yield m.spell({"t": "#account", "op": 1}) + m.spell(payload)
 
 
 def firehose(accounts, keys, commits):
