@@ -8,6 +8,7 @@ mod frame;
 mod head;
 mod kind;
 mod laws;
+mod map_fields;
 mod ops;
 mod own;
 mod reading;
@@ -20,6 +21,9 @@ pub use frame::{Frame, FrameFault};
 pub use head::Head;
 pub use kind::EventKind;
 pub use laws::{events_are_formed, frames_are_events, frames_are_renumbered, payloads_are_maps};
+pub use map_fields::{
+    write_bool_field, write_bytes_field, write_number_field, write_text_field, write_tid_field,
+};
 pub use ops::{Action, EventOp, EventOps};
 pub use own::{account_frame, sync_frame};
 pub use reading::read_frame;

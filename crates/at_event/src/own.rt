@@ -1,22 +1,23 @@
 //! The relay's own events.
 
-ghost use Rattle.std.specs.Prelude.{◌≡◌, ◌++◌, ◌^◌, ◌<◌, ◌≤◌, length, option_map, OnOk, IfOk, IfSome, Ok, IsTrue};
+ghost use Rattle.std.specs.Prelude.{◌≡◌, ◌++◌, ◌<◌, ◌≤◌, length, option_map, OnOk, IfOk, IfSome, Ok, IsTrue};
 ghost use Rattle.std.specs.Str.{IsUtf8};
-ghost use Rattle.at_cbor.specs.Item.{Item};
 ghost use Rattle.at_cbor.specs.Spelling.{spelling, IsString};
 ghost use Rattle.at_syntax.specs.Did.{is_did};
-ghost use Rattle.at_syntax.specs.Tid.{digits_of};
 ghost use Rattle.at_form.specs.declared.forms.TheConstants.{LONGEST_SHORT_TEXT, NUMBERS};
 ghost use Rattle.at_event.specs.declared.frame.Frame.{Frame};
 ghost use Rattle.at_event.specs.declared.kind.EventKind.{EventKind};
 ghost use Rattle.at_event.specs.Frames.{frame_of};
-ghost use Rattle.at_event.specs.Writing.{field_spelling, number_item, message_of, sync_payload, sync_seen, account_payload, account_seen};
+ghost use Rattle.at_event.specs.Writing.{message_of, sync_payload, sync_seen, account_payload, account_seen};
 
 use crate::kind::EventKind;
-use crate::writing::{write_header, write_number};
-use at_cbor::{write_bool, write_bytes, write_map_front, write_text};
+use crate::map_fields::{
+    write_bool_field, write_bytes_field, write_number_field, write_text_field, write_tid_field,
+};
+use crate::writing::write_header;
+use at_cbor::write_map_front;
 use at_cid::{Memory, Octets};
-use at_syntax::{TID_LEN, Tid};
+use at_syntax::Tid;
 use std::alloc::Global;
 
 // What the type of a text says of it.
@@ -39,42 +40,6 @@ fn tell_status(status: Option<&str>)
 fn tell_bytes(bytes: &[u8])
     ensures { IsString bytes.now }
 {}
-
-fn write_text_field(out: &mut Octets, key: &str, text: &str) -> Result<(), Memory>
-    ensures { OnOk result (out.new ≡ out.old ++ field_spelling key.now (Item.text text.now)) }
-{
-    write_text(out, key)?;
-    write_text(out, text)
-}
-
-fn write_tid_field(out: &mut Octets, key: &str, tid: Tid) -> Result<(), Memory>
-    ensures { OnOk result (out.new ≡ out.old ++ field_spelling key.now (Item.text (digits_of tid))) }
-{
-    let mut digits = [0; TID_LEN];
-    write_text_field(out, key, tid.write_text(&mut digits))
-}
-
-fn write_number_field(out: &mut Octets, key: &str, number: u64) -> Result<(), Memory>
-    requires { number < NUMBERS }
-    ensures { OnOk result (out.new ≡ out.old ++ field_spelling key.now (number_item number)) }
-{
-    write_text(out, key)?;
-    write_number(out, number)
-}
-
-fn write_bytes_field(out: &mut Octets, key: &str, bytes: &[u8]) -> Result<(), Memory>
-    ensures { OnOk result (out.new ≡ out.old ++ field_spelling key.now (Item.bytes bytes.now)) }
-{
-    write_text(out, key)?;
-    write_bytes(out, bytes)
-}
-
-fn write_bool_field(out: &mut Octets, key: &str, truth: bool) -> Result<(), Memory>
-    ensures { OnOk result (out.new ≡ out.old ++ field_spelling key.now (Item.bool truth)) }
-{
-    write_text(out, key)?;
-    write_bool(out, truth)
-}
 
 #[tactic(auto, unfolding(crate::specs::Writing::sync_payload))]
 fn write_sync(

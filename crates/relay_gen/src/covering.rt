@@ -1,6 +1,6 @@
 //! The blocks that cover a commit's operations.
 
-ghost use Rattle.std.specs.Prelude.{◌≡◌, ◌++◌, ◌&&◌, List, ℕ, map, option_map, slice_get, length, ◌≤◌, None, OnOk, IfOk};
+ghost use Rattle.std.specs.Prelude.{◌≡◌, ◌++◌, ◌&&◌, map, option_map, slice_get, length, ◌≤◌, None, OnOk, IfOk};
 ghost use Rattle.mst_list.specs.Lists.{Ascends};
 ghost use Rattle.mst_node.specs.Covers.{part_spelled, right_spelled};
 ghost use Rattle.mst_node.specs.Fits.{is_under};

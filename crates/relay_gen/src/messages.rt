@@ -1,11 +1,10 @@
 //! The commit objects and the messages of a history.
 
-ghost use Rattle.std.specs.Prelude.{◌≡◌, ◌++◌, ◌+◌, ◌∷◌, ◌<◌, ◌^◌, [], codes, false, map, OnOk, IfOk};
+ghost use Rattle.std.specs.Prelude.{◌≡◌, ◌++◌, ◌+◌, ◌<◌, ◌^◌, codes, map, OnOk, IfOk};
 ghost use Rattle.at_cbor.specs.Item.{Item, fields_of, items_of, no_items};
 ghost use Rattle.at_cbor.specs.Spelling.{spelling, fields_count, fields_spelling, front_of, items_spelling};
 ghost use Rattle.at_cbor.specs.declared.major.Major.{Major};
 ghost use Rattle.at_cbor.specs.Taking.{link_item};
-ghost use Rattle.at_syntax.specs.Tid.{digits_of};
 ghost use Rattle.at_event.specs.declared.kind.EventKind.{EventKind};
 ghost use Rattle.at_event.specs.Writing.{field_spelling, header_of, message_of, number_item};
 ghost use Rattle.relay_gen.specs.Messages.{action_of, back_fields, ends_of, front_fields, middle_fields, object_of, op_item, payload_of, prev_data, since_item};
@@ -13,12 +12,10 @@ ghost use Rattle.relay_gen.specs.Records.{op_of};
 
 use crate::past::Past;
 use crate::records::Change;
-use at_cbor::{
-    write_bool, write_bytes, write_int, write_link, write_list_front, write_map_front, write_null,
-    write_text,
-};
+use at_cbor::{write_int, write_link, write_list_front, write_map_front, write_null, write_text};
 use at_cid::{Cid, Memory, Octets};
-use at_syntax::{TID_LEN, Tid};
+use at_event::{write_bool_field, write_bytes_field, write_text_field, write_tid_field};
+use at_syntax::Tid;
 use std::alloc::Global;
 
 /// When each message says that it was made.
@@ -26,27 +23,6 @@ const TIME: &str = "2025-01-01T00:00:00Z";
 
 /// What stands where a commit object has its signature.
 const SIGNATURE: [u8; 64] = [0; 64];
-
-fn write_text_field(out: &mut Octets, key: &str, text: &str) -> Result<(), Memory>
-    ensures { OnOk result (out.new ≡ out.old ++ field_spelling key.now (Item.text text.now)) }
-{
-    write_text(out, key)?;
-    write_text(out, text)
-}
-
-fn write_tid_field(out: &mut Octets, key: &str, tid: Tid) -> Result<(), Memory>
-    ensures { OnOk result (out.new ≡ out.old ++ field_spelling key.now (Item.text (digits_of tid))) }
-{
-    let mut digits = [0; TID_LEN];
-    write_text_field(out, key, tid.write_text(&mut digits))
-}
-
-fn write_bytes_field(out: &mut Octets, key: &str, bytes: &[u8]) -> Result<(), Memory>
-    ensures { OnOk result (out.new ≡ out.old ++ field_spelling key.now (Item.bytes bytes.now)) }
-{
-    write_text(out, key)?;
-    write_bytes(out, bytes)
-}
 
 fn write_link_field(out: &mut Octets, key: &str, link: &Cid) -> Result<(), Memory>
     ensures { OnOk result (out.new ≡ out.old ++ field_spelling key.now (Item.link link.now)) }
@@ -71,13 +47,6 @@ fn write_int_field(out: &mut Octets, key: &str, number: u64) -> Result<(), Memor
 {
     write_text(out, key)?;
     write_int(out, number as i64)
-}
-
-fn write_false_field(out: &mut Octets, key: &str) -> Result<(), Memory>
-    ensures { OnOk result (out.new ≡ out.old ++ field_spelling key.now (Item.bool false)) }
-{
-    write_text(out, key)?;
-    write_bool(out, false)
 }
 
 fn write_null_field(out: &mut Octets, key: &str) -> Result<(), Memory>
@@ -228,8 +197,8 @@ fn write_back(out: &mut Octets, stated: &Stated) -> Result<(), Memory>
     ensures { OnOk result (out.new ≡ out.old ++ fields_spelling (fields_of (back_fields stated.now.past stated.now.commit))) }
 {
     write_link_field(out, "commit", &stated.commit)?;
-    write_false_field(out, "rebase")?;
-    write_false_field(out, "tooBig")?;
+    write_bool_field(out, "rebase", false)?;
+    write_bool_field(out, "tooBig", false)?;
     write_prev_data(out, &stated.past)
 }
 
