@@ -47,7 +47,7 @@ sorted_beside : (did : List ℕ) (x y : Account) (l r : List Entry) → IsSorted
 sorted_beside did x y [] r s = s
 sorted_beside did x y (z ∷ l) r s = (behind_beside z.0 did x y l r s.0, sorted_beside did x y l r s.1)
 
-module _ (row : Row) (old new : List Entry) (sorted : IsSorted old) (f : Follows row old new) where
+module _ (row : Row) (old new : List Entry) (sorted : IsSorted old) (f : Follows (did_in row) row old new) where
   sorted_was : IsSorted (f.front ++ (did_in row, f.before) ∷ f.back)
   sorted_was = subst IsSorted f.was sorted
 
@@ -111,30 +111,30 @@ pub filled : (row : Row) → (length (did_in row) == 0) ≡ false → did_in row
 filled row full empty = both (length (did_in row) == 0) full (ap (λ (text : List ℕ). length text == 0) empty)
 
 -- the account that follows stands on the left, here, or on the right
-pub follows_left : (row : Row) (old new : List Entry) (y : Entry) (r : List Entry) → Follows row old new → Follows row (old ++ y ∷ r) (new ++ y ∷ r)
-follows_left row old new y r f = record {
+pub follows_left : (did : List ℕ) (row : Row) (old new : List Entry) (y : Entry) (r : List Entry) → Follows did row old new → Follows did row (old ++ y ∷ r) (new ++ y ∷ r)
+follows_left did row old new y r f = record {
   front = f.front;
   back = f.back ++ y ∷ r;
   before = f.before;
   after = f.after;
-  was = ap (λ (es : List Entry). es ++ y ∷ r) f.was ∙ append_assoc f.front ((did_in row, f.before) ∷ f.back) (y ∷ r);
-  is = ap (λ (es : List Entry). es ++ y ∷ r) f.is ∙ append_assoc f.front ((did_in row, f.after) ∷ f.back) (y ∷ r);
+  was = ap (λ (es : List Entry). es ++ y ∷ r) f.was ∙ append_assoc f.front ((did, f.before) ∷ f.back) (y ∷ r);
+  is = ap (λ (es : List Entry). es ++ y ∷ r) f.is ∙ append_assoc f.front ((did, f.after) ∷ f.back) (y ∷ r);
   moves = f.moves;
 }
 
-pub follows_right : (row : Row) (l : List Entry) (y : Entry) (old new : List Entry) → Follows row old new → Follows row (l ++ y ∷ old) (l ++ y ∷ new)
-follows_right row l y old new f = record {
+pub follows_right : (did : List ℕ) (row : Row) (l : List Entry) (y : Entry) (old new : List Entry) → Follows did row old new → Follows did row (l ++ y ∷ old) (l ++ y ∷ new)
+follows_right did row l y old new f = record {
   front = l ++ y ∷ f.front;
   back = f.back;
   before = f.before;
   after = f.after;
-  was = ap (λ (es : List Entry). l ++ y ∷ es) f.was ∙ sym (append_assoc l (y ∷ f.front) ((did_in row, f.before) ∷ f.back));
-  is = ap (λ (es : List Entry). l ++ y ∷ es) f.is ∙ sym (append_assoc l (y ∷ f.front) ((did_in row, f.after) ∷ f.back));
+  was = ap (λ (es : List Entry). l ++ y ∷ es) f.was ∙ sym (append_assoc l (y ∷ f.front) ((did, f.before) ∷ f.back));
+  is = ap (λ (es : List Entry). l ++ y ∷ es) f.is ∙ sym (append_assoc l (y ∷ f.front) ((did, f.after) ∷ f.back));
   moves = f.moves;
 }
 
-pub follows_here : (row : Row) (l : List Entry) (did : List ℕ) (x y : Account) (r : List Entry) → did_in row ≡ did → known y ≡ Some (moved (unwrap_or (known x) fresh) row) → Follows row (l ++ (did, x) ∷ r) (l ++ (did, y) ∷ r)
-follows_here row l did x y r is moves = record {
+pub follows_here : (did : List ℕ) (row : Row) (l : List Entry) (name : List ℕ) (x y : Account) (r : List Entry) → did ≡ name → known y ≡ Some (moved (unwrap_or (known x) fresh) row) → Follows did row (l ++ (name, x) ∷ r) (l ++ (name, y) ∷ r)
+follows_here did row l name x y r is moves = record {
   front = l;
   back = r;
   before = x;
@@ -142,6 +142,18 @@ follows_here row l did x y r is moves = record {
   was = ap (λ (text : List ℕ). l ++ (text, x) ∷ r) (sym is);
   is = ap (λ (text : List ℕ). l ++ (text, y) ∷ r) (sym is);
   moves = moves;
+}
+
+-- a row from which its DID was taken moves its account as before
+pub follows_whole : (did : List ℕ) (rest row : Row) (old new : List Entry) → did ≡ did_in row → ((a : State) → moved a rest ≡ moved a row) → Follows did rest old new → Follows (did_in row) row old new
+follows_whole did rest row old new is same f = record {
+  front = f.front;
+  back = f.back;
+  before = f.before;
+  after = f.after;
+  was = f.was ∙ ap (λ (text : List ℕ). f.front ++ (text, f.before) ∷ f.back) is;
+  is = f.is ∙ ap (λ (text : List ℕ). f.front ++ (text, f.after) ∷ f.back) is;
+  moves = f.moves ∙ ap Some (same (unwrap_or (known f.before) fresh));
 }
 
 pub absent_from : {T : Type 0} → (f : T → Account) (o : Option T) (p : Option Account) → option_map f o ≡ p → is_some o ≡ false → p ≡ None

@@ -57,12 +57,12 @@ abbrev pub next_in : List ℕ → List Entry → Option Entry
 next_in did [] = None
 next_in did (e ∷ es) = if is_before did e.0 && e.1.named then Some e else next_in did es
 
--- the account under a row's DID follows the row, and all else stays
-pub record Follows (row : Row) (old new : List Entry) : Type 0 where
+-- the account under a DID follows a row, and all else stays
+pub record Follows (did : List ℕ) (row : Row) (old new : List Entry) : Type 0 where
   pub front : List Entry
   pub back : List Entry
   pub before : Account
   pub after : Account
-  pub was : old ≡ front ++ (did_in row, before) ∷ back
-  pub is : new ≡ front ++ (did_in row, after) ∷ back
+  pub was : old ≡ front ++ (did, before) ∷ back
+  pub is : new ≡ front ++ (did, after) ∷ back
   pub moves : known after ≡ Some (moved (unwrap_or (known before) fresh) row)

@@ -139,14 +139,14 @@ impl Account {
         };
     }
 
-    fn take_effect(&mut self, effect: Effect)
-        ensures state { state_of self.new ≡ effected (state_of self.old) effect }
+    fn take_effect(&mut self, effect: &mut Effect)
+        ensures state { state_of self.new ≡ effected (state_of self.old) effect.old }
         ensures named { self.new.named ≡ self.old.named }
     {
         match effect {
             Effect::Nothing => {}
-            Effect::Repo(head) => self.set_head(head),
-            Effect::Account(active, status) => self.set_status(active, status),
+            Effect::Repo(head) => self.set_head(*head),
+            Effect::Account(active, status) => self.set_status(*active, status.take()),
         }
     }
 
@@ -171,55 +171,42 @@ impl Account {
         }
     }
 
-    fn take_message(&mut self, taken: Taken)
-        ensures state { state_of self.new ≡ taken_by (state_of self.old) taken }
+    fn take_message(&mut self, taken: &mut Taken)
+        ensures state { state_of self.new ≡ taken_by (state_of self.old) taken.old }
         ensures named { self.new.named ≡ self.old.named }
     {
-        let Taken {
-            effect,
-            refusal,
-            fetched,
-            ..
-        } = taken;
-        self.take_effect(effect);
-        self.take_refusal(&refusal);
-        self.take_fetched(&fetched);
+        self.take_effect(&mut taken.effect);
+        self.take_refusal(&taken.refusal);
+        self.take_fetched(&taken.fetched);
     }
 
-    fn carry_repo(&mut self, repo: CarriedRepo)
-        ensures state { state_of self.new ≡ record (state_of self.old) { repo = repo_carried repo } }
+    fn carry_repo(&mut self, repo: &CarriedRepo)
+        ensures state { state_of self.new ≡ record (state_of self.old) { repo = repo_carried repo.now } }
         ensures named { self.new.named ≡ self.old.named }
     {
         match repo {
             CarriedRepo::Missing => self.links = Links::Missing,
-            CarriedRepo::Good(head) => self.set_head(head),
+            CarriedRepo::Good(head) => self.set_head(*head),
             CarriedRepo::Lost(None) => self.links = Links::LostAtStart,
             CarriedRepo::Lost(Some(rev)) => {
-                self.rev = rev;
+                self.rev = *rev;
                 self.links = Links::Lost;
             }
         }
     }
 
-    fn carry(&mut self, carried: CarriedAccount)
-        ensures state { state_of self.new ≡ carried_as carried }
+    fn carry(&mut self, carried: &mut CarriedAccount)
+        ensures state { state_of self.new ≡ carried_as carried.old }
         ensures named { self.new.named ≡ self.old.named }
     {
-        let CarriedAccount {
-            active,
-            status,
-            down,
-            repo,
-            ..
-        } = carried;
-        self.set_status(active, status);
-        self.down = down;
-        self.carry_repo(repo);
+        self.set_status(carried.active, carried.status.take());
+        self.down = carried.down;
+        self.carry_repo(&carried.repo);
     }
 
-    /// A row names it and moves it. Takes no memory.
-    pub(crate) fn follow(&mut self, row: Row)
-        ensures { known self.new ≡ Some (moved (unwrap_or (known self.old) fresh) row) }
+    /// A row names it and moves it. What the host said of it is taken out of the row, so this takes no memory.
+    pub(crate) fn follow(&mut self, row: &mut Row)
+        ensures { known self.new ≡ Some (moved (unwrap_or (known self.old) fresh) row.old) }
     {
         self.name();
         match row {

@@ -7,6 +7,7 @@ ghost use Rattle.account_state.specs.Entries.{entry, has_room, entry_after, is_b
 ghost use Rattle.account_state.specs.State.{state_of};
 
 use crate::account::Account;
+use crate::taking::take_did;
 use crate::tree::{Node, Tree};
 use at_cid::Memory;
 use relay_row::Row;
@@ -69,15 +70,16 @@ impl Accounts {
     }
 
     /// The accounts after one more row, whose DID was touched, where it names one. Takes no memory.
-    pub fn apply(&mut self, row: Row)
+    pub fn apply(&mut self, mut row: Row)
         requires { did_in row ≢ [] → has_room self.old (did_in row) ≡ true }
         ensures entries { (name : List ℕ) → entry self.new name ≡ entry_after name (entry self.old name) row }
         ensures room { (name : List ℕ) → has_room self.new name ≡ has_room self.old name }
     {
-        if row.did().is_empty() {
+        let did = take_did(self.alloc, &mut row);
+        if did.is_empty() {
             return;
         }
-        self.tree.follow(row);
+        self.tree.follow(did.as_bytes(), &mut row);
     }
 
     /// The next DID that a row names, in the order of bytes, with its account.

@@ -8,6 +8,7 @@ mod laws;
 mod links;
 mod name;
 mod repo;
+mod taking;
 mod tree;
 
 pub use account::Account;

@@ -2,7 +2,6 @@
 
 ghost use Rattle.std.specs.Prelude.{◌≡◌, [], None, true, IfOk, option_map};
 ghost use Rattle.std.specs.Option.{is_some};
-ghost use Rattle.relay_row.specs.Folds.{did_in};
 ghost use Rattle.account_state.specs.Entries.{IsSorted, Follows, found, put, next_in};
 ghost use Rattle.account_state.specs.State.{known};
 
@@ -119,20 +118,20 @@ impl Tree {
         }
     }
 
-    /// The account of a row's DID follows it. Takes no memory.
-    pub(crate) fn follow(&mut self, row: Row)
+    /// The account of a DID follows a row, which is left without what it said of it. Takes no memory.
+    pub(crate) fn follow(&mut self, did: &[u8], row: &mut Row)
         requires sorted { IsSorted self.old }
-        requires there { is_some (found (did_in row) self.old) ≡ true }
-        ensures { Follows row self.old self.new }
+        requires there { is_some (found did.now self.old) ≡ true }
+        ensures { Follows did.now row.old self.old self.new }
     {
         match &mut self.link {
             Link::Empty => unreachable!(),
             Link::Fork(_, node) => {
-                let order = row.did().as_bytes().cmp(node.name.as_bytes());
+                let order = did.cmp(node.name.as_bytes());
                 match order {
-                    Ordering::Less => node.left.follow(row),
+                    Ordering::Less => node.left.follow(did, row),
                     Ordering::Equal => node.account.follow(row),
-                    Ordering::Greater => node.right.follow(row),
+                    Ordering::Greater => node.right.follow(did, row),
                 }
             }
         }

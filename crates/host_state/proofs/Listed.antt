@@ -1,5 +1,5 @@
 -- The list of hosts after the table was written.
-use Rattle.std.proofs.Common.{◌≡◌, ℕ, Bool, true, false, cond, List, [], ◌∷◌, Option, Some, None, refl, sym, ap}
+use Rattle.std.proofs.Common.{◌≡◌, ℕ, Bool, true, false, cond, List, [], ◌∷◌, Some, refl, sym, ap}
 use Rattle.std.specs.Global.{Global}
 use Rattle.std.specs.Map.{lookup, lookup_key, set_value}
 use Rattle.std.specs.Option.{is_some, unwrap_or}

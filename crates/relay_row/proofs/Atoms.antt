@@ -23,7 +23,7 @@ digits_text rev =
 
 -- ---- the forms tell their items
 
-tells_number : Tells number number_in
+pub tells_number : Tells number number_in
 tells_number (Item.int (pos n)) m e = ap number (some_is n m e)
 tells_number (Item.int (negsuc n)) m e = absurd cc
 tells_number i m e = absurd cc
@@ -35,19 +35,19 @@ below_is most None n e = absurd cc
 tells_below : (most : ℕ) → Tells number (λ i. below most (number_in i))
 tells_below most i n e = tells_number i n (below_is most (number_in i) n e)
 
-tells_text : Tells Item.text text_in
+pub tells_text : Tells Item.text text_in
 tells_text (Item.text t) x e = ap Item.text (some_is t x e)
 tells_text i x e = absurd cc
 
-tells_bytes : Tells Item.bytes bytes_in
+pub tells_bytes : Tells Item.bytes bytes_in
 tells_bytes (Item.bytes t) x e = ap Item.bytes (some_is t x e)
 tells_bytes i x e = absurd cc
 
-tells_bool : Tells Item.bool bool_in
+pub tells_bool : Tells Item.bool bool_in
 tells_bool (Item.bool t) x e = ap Item.bool (some_is t x e)
 tells_bool i x e = absurd cc
 
-tells_link : Tells Item.link link_in
+pub tells_link : Tells Item.link link_in
 tells_link (Item.link t) x e = ap Item.link (some_is t x e)
 tells_link i x e = absurd cc
 

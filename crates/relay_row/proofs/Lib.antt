@@ -1,6 +1,7 @@
 pub mod Loops
 pub mod Steps
 pub mod Atoms
+pub mod ByKind
 pub mod Counts
 pub mod Found
 pub mod FoundRows

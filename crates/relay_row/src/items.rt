@@ -1,155 +1,191 @@
-//! Items at the front of bytes.
+//! Items at the front of bytes, each read as the one kind that it is to be.
 
-ghost use Rattle.std.specs.Prelude.{◌≡◌};
-ghost use Rattle.at_cbor.specs.View.{item_of};
-ghost use Rattle.relay_row.specs.Readers.{Reads, item_at, number_at, byte_at, place_at, text_at, bytes_at, bool_at, link_at, rev_at, null_or_rev_at, null_or_text_at, count_at};
+ghost use Rattle.std.specs.Prelude.{◌≡◌, ◌∷◌, [], option_map};
+ghost use Rattle.at_cbor.specs.Taking.{behind as behind_front, number_at as front_at, string_of};
+ghost use Rattle.at_cbor.specs.declared.major.Major.{Major};
+ghost use Rattle.relay_row.specs.Readers.{Reads, behind, number_at, byte_at, place_at, text_at, bytes_at, bool_at, link_at, rev_at, null_or_rev_at, null_or_text_at, count_at};
 
 use crate::fault::RowFault;
 use crate::reader::Reader;
-use at_cbor::{Value, take_item, take_list_front};
-use at_cid::{Cid, Memory, Octets, Words};
+use at_cbor::{Major, take_bytes, take_link, take_list_front, take_number};
+use at_cid::{Cid, Octets, Words};
 use at_syntax::Tid;
 
-#[tactic(auto, unfolding(crate::specs::Readers::item_at))]
-fn read_item(reader: &mut Reader) -> Result<Value, RowFault>
-    ensures { Reads (λ x. (item_of x, reader.new.rest.now)) result (item_at reader.old.rest.now) }
-{
-    match take_item(reader.alloc, reader.rest) {
-        Ok(Some((value, rest))) => {
-            reader.rest = rest;
-            Ok(value)
-        }
-        Ok(None) => Err(RowFault::BadRow),
-        Err(Memory) => Err(RowFault::Memory),
-    }
-}
+/// Integers of DAG-CBOR are below this.
+const INTEGERS: u64 = 1 << 63;
 
 /// A number from 0 on.
-#[tactic(auto, unfolding(crate::specs::Readers::number_at))]
+#[tactic(auto, using(crate::proofs::ByKind::number_is))]
 pub fn read_number(reader: &mut Reader) -> Result<u64, RowFault>
     ensures { Reads (λ x. (x, reader.new.rest.now)) result (number_at reader.old.rest.now) }
 {
-    let value = read_item(reader)?;
-    match value {
-        Value::Int(number) if number >= 0 => Ok(number as u64),
+    reader.tell_bytes();
+    match take_number(Major::Unsigned, reader.rest) {
+        Some((number, rest)) if number < INTEGERS => {
+            reader.rest = rest;
+            Ok(number)
+        }
         _ => Err(RowFault::BadRow),
     }
 }
 
 /// A number of one byte.
-#[tactic(auto, unfolding(crate::specs::Readers::byte_at))]
+#[tactic(auto, using(crate::proofs::ByKind::byte_is))]
 pub fn read_byte(reader: &mut Reader) -> Result<u8, RowFault>
     ensures { Reads (λ x. (x, reader.new.rest.now)) result (byte_at reader.old.rest.now) }
 {
-    let value = read_item(reader)?;
-    match value {
-        Value::Int(number) if number >= 0 && number < 256 => Ok(number as u8),
-        _ => Err(RowFault::BadRow),
+    let number = read_number(reader)?;
+    if number < 256 {
+        Ok(number as u8)
+    } else {
+        Err(RowFault::BadRow)
     }
 }
 
 /// A number of four bytes.
-#[tactic(auto, unfolding(crate::specs::Readers::place_at))]
+#[tactic(auto, using(crate::proofs::ByKind::place_is))]
 pub fn read_place(reader: &mut Reader) -> Result<u32, RowFault>
     ensures { Reads (λ x. (x, reader.new.rest.now)) result (place_at reader.old.rest.now) }
 {
-    let value = read_item(reader)?;
-    match value {
-        Value::Int(number) if number >= 0 && number < 4_294_967_296 => Ok(number as u32),
-        _ => Err(RowFault::BadRow),
+    let number = read_number(reader)?;
+    if number < 4_294_967_296 {
+        Ok(number as u32)
+    } else {
+        Err(RowFault::BadRow)
+    }
+}
+
+/// The bytes of a text, of which there are as many as its head tells.
+fn take_string(bytes: &[u8]) -> Option<(&[u8], &[u8])>
+    ensures { option_map (λ x. (x.0.now, x.1.now)) result ≡ behind (front_at Major.Text bytes.now) string_of }
+{
+    let (count, rest) = take_number(Major::Text, bytes)?;
+    if rest.len() < count as usize {
+        return None;
+    }
+    Some(rest.split_at(count as usize))
+}
+
+/// A text, lent by the bytes that are read.
+#[tactic(auto, using(at_cbor::proofs::Texts::tests_of_text, crate::proofs::ByKind::text_is))]
+fn lend_text<'a>(reader: &mut Reader<'a>) -> Result<&'a str, RowFault>
+    ensures { Reads (λ x. (x.now, reader.new.rest.now)) result (text_at reader.old.rest.now) }
+{
+    reader.tell_bytes();
+    let Some((string, rest)) = take_string(reader.rest) else {
+        return Err(RowFault::BadRow);
+    };
+    match str::from_utf8(string) {
+        Ok(text) => {
+            reader.rest = rest;
+            Ok(text)
+        }
+        Err(_) => Err(RowFault::BadRow),
     }
 }
 
 /// A text.
-#[tactic(auto, unfolding(crate::specs::Readers::text_at))]
 pub fn read_text(reader: &mut Reader) -> Result<Words, RowFault>
     ensures { Reads (λ x. (x, reader.new.rest.now)) result (text_at reader.old.rest.now) }
 {
-    let value = read_item(reader)?;
-    match value {
-        Value::Text(text) => Ok(text),
-        _ => Err(RowFault::BadRow),
-    }
+    let text = lend_text(reader)?;
+    Ok(Words::from_str(reader.alloc, text)?)
 }
 
 /// A string of bytes.
-#[tactic(auto, unfolding(crate::specs::Readers::bytes_at))]
+#[tactic(auto, using(crate::proofs::ByKind::bytes_is))]
 pub fn read_bytes(reader: &mut Reader) -> Result<Octets, RowFault>
     ensures { Reads (λ x. (x, reader.new.rest.now)) result (bytes_at reader.old.rest.now) }
 {
-    let value = read_item(reader)?;
-    match value {
-        Value::Bytes(string) => Ok(string),
-        _ => Err(RowFault::BadRow),
+    reader.tell_bytes();
+    let Some((string, rest)) = take_bytes(reader.rest) else {
+        return Err(RowFault::BadRow);
+    };
+    reader.rest = rest;
+    Ok(Octets::from_slice(reader.alloc, string)?)
+}
+
+/// The bytes behind this one, where it stands in front.
+#[tactic(auto, unfolding(at_cbor::specs::Taking::behind))]
+fn take_byte(byte: u8, bytes: &[u8]) -> Option<&[u8]>
+    ensures { option_map (λ rest. rest.now) result ≡ behind_front (byte ∷ []) bytes.now }
+{
+    match bytes {
+        [first, rest @ ..] if *first == byte => Some(rest),
+        _ => None,
     }
 }
 
 /// True or false.
-#[tactic(auto, unfolding(crate::specs::Readers::bool_at))]
+#[tactic(auto, using(crate::proofs::ByKind::bool_is))]
 pub fn read_bool(reader: &mut Reader) -> Result<bool, RowFault>
     ensures { Reads (λ x. (x, reader.new.rest.now)) result (bool_at reader.old.rest.now) }
 {
-    let value = read_item(reader)?;
-    match value {
-        Value::Bool(truth) => Ok(truth),
-        _ => Err(RowFault::BadRow),
+    reader.tell_bytes();
+    if let Some(rest) = take_byte(0xf4, reader.rest) {
+        reader.rest = rest;
+        return Ok(false);
     }
+    if let Some(rest) = take_byte(0xf5, reader.rest) {
+        reader.rest = rest;
+        return Ok(true);
+    }
+    Err(RowFault::BadRow)
 }
 
 /// A link.
-#[tactic(auto, unfolding(crate::specs::Readers::link_at))]
+#[tactic(auto, using(crate::proofs::ByKind::link_is))]
 pub fn read_link(reader: &mut Reader) -> Result<Cid, RowFault>
     ensures { Reads (λ x. (x, reader.new.rest.now)) result (link_at reader.old.rest.now) }
 {
-    let value = read_item(reader)?;
-    match value {
-        Value::Link(link) => Ok(link),
-        _ => Err(RowFault::BadRow),
+    reader.tell_bytes();
+    match take_link(reader.rest) {
+        Some((link, rest)) => {
+            reader.rest = rest;
+            Ok(link)
+        }
+        None => Err(RowFault::BadRow),
     }
 }
 
 /// A revision.
-#[tactic(auto, unfolding(crate::specs::Readers::rev_at))]
+#[tactic(auto, using(crate::proofs::ByKind::rev_is))]
 pub fn read_rev(reader: &mut Reader) -> Result<Tid, RowFault>
     ensures { Reads (λ x. (x, reader.new.rest.now)) result (rev_at reader.old.rest.now) }
 {
-    let value = read_item(reader)?;
-    let Value::Text(text) = value else {
-        return Err(RowFault::BadRow);
-    };
-    match Tid::parse(text.as_str()) {
+    let text = lend_text(reader)?;
+    match Tid::parse(text) {
         Some(rev) => Ok(rev),
         None => Err(RowFault::BadRow),
     }
 }
 
 /// A revision, or null.
-#[tactic(auto, unfolding(crate::specs::Readers::null_or_rev_at))]
+#[tactic(auto, using(crate::proofs::ByKind::null_or_rev_is))]
 pub fn read_null_or_rev(reader: &mut Reader) -> Result<Option<Tid>, RowFault>
     ensures { Reads (λ x. (x, reader.new.rest.now)) result (null_or_rev_at reader.old.rest.now) }
 {
-    let value = read_item(reader)?;
-    match value {
-        Value::Null => Ok(None),
-        Value::Text(text) => match Tid::parse(text.as_str()) {
-            Some(rev) => Ok(Some(rev)),
-            None => Err(RowFault::BadRow),
-        },
-        _ => Err(RowFault::BadRow),
+    reader.tell_bytes();
+    if let Some(rest) = take_byte(0xf6, reader.rest) {
+        reader.rest = rest;
+        return Ok(None);
     }
+    let rev = read_rev(reader)?;
+    Ok(Some(rev))
 }
 
 /// A text, or null.
-#[tactic(auto, unfolding(crate::specs::Readers::null_or_text_at))]
+#[tactic(auto, using(crate::proofs::ByKind::null_or_text_is))]
 pub fn read_null_or_text(reader: &mut Reader) -> Result<Option<Words>, RowFault>
     ensures { Reads (λ x. (x, reader.new.rest.now)) result (null_or_text_at reader.old.rest.now) }
 {
-    let value = read_item(reader)?;
-    match value {
-        Value::Null => Ok(None),
-        Value::Text(text) => Ok(Some(text)),
-        _ => Err(RowFault::BadRow),
+    reader.tell_bytes();
+    if let Some(rest) = take_byte(0xf6, reader.rest) {
+        reader.rest = rest;
+        return Ok(None);
     }
+    let text = read_text(reader)?;
+    Ok(Some(text))
 }
 
 /// The front of a list: how many items follow.

@@ -1,6 +1,5 @@
-use Rattle.std.proofs.Common.{rules, ◌≡◌, List, ◌∷◌, ◌++◌, sym, ap, ◌∙◌, subst, Less, Equal, Greater}
+use Rattle.std.proofs.Common.{rules, ◌≡◌, List, ◌∷◌, ◌++◌, refl, sym, ap, ◌∙◌, subst, Less, Equal, Greater}
 use Rattle.std.specs.Option.{is_some}
-use Rattle.relay_row.specs.Folds.{did_in}
 use Rattle.account_state.specs.Entries.{Entry, Follows}
 use Rattle.account_state.proofs.Order.{equal_is}
 use Rattle.account_state.proofs.Trees.{opened, ordered, none_there, left_shorter, left_sorted, right_shorter, right_sorted, in_left, in_right}
@@ -9,27 +8,25 @@ use Rattle.account_state.proofs.tree.Tree.+follow.Goals as goal
 use Rattle.account_state.proofs.tree.Tree.+follow.Goals.{in-Less, in-Equal, in-Greater}
 
 pub unreachable-requires : goal.unreachable-requires
-unreachable-requires t c = none_there c.self.view_is c.in-Empty.is (did_in c.args.row) c.requires.there
+unreachable-requires t c = none_there c.self.view_is c.in-Empty.is c.args.did.now c.requires.there
 
 pub follow-requires : goal.follow-requires
 follow-requires t c =
     let n = c.deref_mut.result.now in
     let is = opened c.self.view_is c.in-Fork.is n c.deref_mut.ensures.value in
     let shorter = left_shorter n c.args.self.now is c.requires.sorted in
-    let did : c.as_bytes.result.now ≡ did_in c.args.row = c.as_bytes.ensures.value ∙ c.did.ensures in
-    let name : c.as_bytes-in-Fork.result.now ≡ n.name = cc in
-    let below = ordered (did_in c.args.row) c.as_bytes.result.now n.name c.as_bytes-in-Fork.result.now c.cmp-order.result Less c.cmp-order.ensures did name c.in-Less.is in
-    (search (rules, shorter), (left_sorted n c.args.self.now is c.requires.sorted, ap is_some (sym (in_left n c.args.self.now is c.requires.sorted (did_in c.args.row) below)) ∙ c.requires.there))
+    let name : c.as_bytes.result.now ≡ n.name = cc in
+    let below = ordered c.args.did.now c.args.did.now n.name c.as_bytes.result.now c.cmp-order.result Less c.cmp-order.ensures refl name c.in-Less.is in
+    (search (rules, shorter), (left_sorted n c.args.self.now is c.requires.sorted, ap is_some (sym (in_left n c.args.self.now is c.requires.sorted c.args.did.now below)) ∙ c.requires.there))
 
 pub follow-requires-in-Greater : goal.follow-requires-in-Greater
 follow-requires-in-Greater t c =
     let n = c.deref_mut-in-Greater.result.now in
     let is = opened c.self.view_is c.in-Fork.is n c.deref_mut-in-Greater.ensures.value in
     let shorter = right_shorter n c.args.self.now is c.requires.sorted in
-    let did : c.as_bytes.result.now ≡ did_in c.args.row = c.as_bytes.ensures.value ∙ c.did.ensures in
-    let name : c.as_bytes-in-Fork.result.now ≡ n.name = cc in
-    let above = ordered (did_in c.args.row) c.as_bytes.result.now n.name c.as_bytes-in-Fork.result.now c.cmp-order.result Greater c.cmp-order.ensures did name c.in-Greater.is in
-    (search (rules, shorter), (right_sorted n c.args.self.now is c.requires.sorted, ap is_some (sym (in_right n c.args.self.now is c.requires.sorted (did_in c.args.row) above)) ∙ c.requires.there))
+    let name : c.as_bytes.result.now ≡ n.name = cc in
+    let above = ordered c.args.did.now c.args.did.now n.name c.as_bytes.result.now c.cmp-order.result Greater c.cmp-order.ensures refl name c.in-Greater.is in
+    (search (rules, shorter), (right_sorted n c.args.self.now is c.requires.sorted, ap is_some (sym (in_right n c.args.self.now is c.requires.sorted c.args.did.now above)) ∙ c.requires.there))
 
 pub returns : goal.returns
 returns t c =
@@ -37,16 +34,15 @@ returns t c =
       | in-Less w ↦
           let n = w.deref_mut.result.now in
           let is = opened c.self.view_is c.in-Fork.is n w.deref_mut.ensures.value in
-          rw w.self-inside-is (subst (λ (es : List Entry). Follows c.args.row es (w.follow.new.self ++ (n.name, n.account) ∷ n.right)) (sym is) (follows_left c.args.row n.left w.follow.new.self (n.name, n.account) n.right w.follow.ensures))
+          rw w.self-inside-is (subst (λ (es : List Entry). Follows c.args.did.now c.args.row.now es (w.follow.new.self ++ (n.name, n.account) ∷ n.right)) (sym is) (follows_left c.args.did.now c.args.row.now n.left w.follow.new.self (n.name, n.account) n.right w.follow.ensures))
       | in-Equal w ↦
           let n = w.deref_mut-in-Equal.result.now in
           let is = opened c.self.view_is c.in-Fork.is n w.deref_mut-in-Equal.ensures.value in
-          let did : c.as_bytes.result.now ≡ did_in c.args.row = c.as_bytes.ensures.value ∙ c.did.ensures in
-          let name : c.as_bytes-in-Fork.result.now ≡ n.name = cc in
-          let same = equal_is (did_in c.args.row) n.name (ordered (did_in c.args.row) c.as_bytes.result.now n.name c.as_bytes-in-Fork.result.now c.cmp-order.result Equal c.cmp-order.ensures did name w.in-Equal.is) in
-          rw w.self-inside-is (subst (λ (es : List Entry). Follows c.args.row es (n.left ++ (n.name, w.follow-in-Equal.new.self) ∷ n.right)) (sym is) (follows_here c.args.row n.left n.name n.account w.follow-in-Equal.new.self n.right same w.follow-in-Equal.ensures))
+          let name : c.as_bytes.result.now ≡ n.name = cc in
+          let same = equal_is c.args.did.now n.name (ordered c.args.did.now c.args.did.now n.name c.as_bytes.result.now c.cmp-order.result Equal c.cmp-order.ensures refl name w.in-Equal.is) in
+          rw w.self-inside-is (subst (λ (es : List Entry). Follows c.args.did.now c.args.row.now es (n.left ++ (n.name, w.follow-in-Equal.new.self) ∷ n.right)) (sym is) (follows_here c.args.did.now c.args.row.now n.left n.name n.account w.follow-in-Equal.new.self n.right same w.follow-in-Equal.ensures))
       | in-Greater w ↦
           let n = w.deref_mut-in-Greater.result.now in
           let is = opened c.self.view_is c.in-Fork.is n w.deref_mut-in-Greater.ensures.value in
-          rw w.self-inside-is (subst (λ (es : List Entry). Follows c.args.row es (n.left ++ (n.name, n.account) ∷ w.follow-in-Greater.new.self)) (sym is) (follows_right c.args.row n.left (n.name, n.account) n.right w.follow-in-Greater.new.self w.follow-in-Greater.ensures))
+          rw w.self-inside-is (subst (λ (es : List Entry). Follows c.args.did.now c.args.row.now es (n.left ++ (n.name, n.account) ∷ w.follow-in-Greater.new.self)) (sym is) (follows_right c.args.did.now c.args.row.now n.left (n.name, n.account) n.right w.follow-in-Greater.new.self w.follow-in-Greater.ensures))
     ]

@@ -1,4 +1,4 @@
-use Rattle.std.proofs.Common.{◌≡◌, ℕ, Option, ap, ◌∙◌}
+use Rattle.std.proofs.Common.{ℕ, Option, ap, ◌∙◌}
 use Rattle.std.specs.Option.{unwrap_or}
 use Rattle.host_state.proofs.Listed.{cursor_listed}
 use Rattle.host_state.proofs.hosts.Hosts.cursor.Goals as goal

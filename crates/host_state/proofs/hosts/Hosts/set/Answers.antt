@@ -1,4 +1,4 @@
-use Rattle.std.proofs.Common.{◌≡◌, ℕ, List, Option, arith, ap, sym, ◌∙◌}
+use Rattle.std.proofs.Common.{ℕ, List, Option, arith, ap, sym, ◌∙◌}
 use Rattle.std.specs.Option.{is_some}
 use Rattle.std.specs.Prelude.{map}
 use Rattle.std.proofs.lemmas.Map.Text.{text_keys}
