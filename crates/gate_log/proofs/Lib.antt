@@ -14,3 +14,4 @@ pub mod Searching
 pub mod Sides
 pub mod Unique
 pub mod Unmade
+pub mod Waiting

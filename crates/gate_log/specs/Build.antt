@@ -3,13 +3,15 @@ use Rattle.std.specs.Prelude.{◌≡◌, ◌≢◌, ◌⊎◌, ◌<◌, ℕ, Lis
 use Rattle.relay_disk.specs.Disk.{View}
 use Rattle.gate_log.specs.declared.format.Format.{Format}
 use Rattle.gate_log.specs.declared.limits.TheConstants.{EMPTY_LEN, GENERATIONS}
-use Rattle.gate_log.specs.Image.{made, IsMade, AreShort, generation}
+use Rattle.gate_log.specs.Image.{made, records, IsMade, AreShort, generation}
 
--- a build as contracts see it: the format with the generation, where the next record goes, and how far records may go
+-- a build as contracts see it: the format with the generation, where the next record goes, how far records may go, and
+-- the records that aren't written yet
 pub record BuildState : Type 0 where
   pub format : Format
   pub end : ℕ
   pub most : ℕ
+  pub waiting : List ℕ
 
 -- the first byte isn't an open gate
 abbrev pub IsClosed : List ℕ → Type 0
@@ -31,9 +33,15 @@ pub record Builds (format : Format) (bodies : List (List ℕ)) (end : ℕ) (v : 
   pub short : AreShort bodies
   pub below : generation format < GENERATIONS
 
--- The disk is the one that was begun on, and has these bodies.
-abbrev pub HasBuilt : List (List ℕ) → BuildState → View → Type 0
-HasBuilt bodies build v = Builds build.format bodies build.end v
+-- The disk is the one that was begun on; the records on it and those that wait have these bodies.
+pub record HasBuilt (bodies : List (List ℕ)) (build : BuildState) (v : View) : Type 0 where
+  pub on_disk : List (List ℕ)
+  pub held : List (List ℕ)
+  pub split : bodies ≡ on_disk ++ held
+  pub waits : build.waiting ≡ records held
+  pub ends : build.end ≡ length (made build.format bodies)
+  pub short : AreShort bodies
+  pub built : Builds build.format on_disk (length (made build.format on_disk)) v
 
 -- The disk is the one that was begun on.
 abbrev pub IsBuiltOn : View → BuildState → Type 0

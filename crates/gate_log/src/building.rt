@@ -1,4 +1,4 @@
-//! Building a whole log on a disk, behind a gate that is opened at the end.
+//! Building a whole log on a disk, behind a gate that is opened at the end. Records are gathered, and written many at a time.
 ghost use Rattle.std.specs.Prelude.{◌≡◌, ◌≤◌, ◌<◌, ◌+◌, ◌↔◌, ◌++◌, ◌∷◌, [], List, ℕ, true, drop, length, vec_capacity, IsTrue, IfOk, OnOk, OnErr};
 ghost use Rattle.at_cid.specs.Counts.{Rose};
 ghost use Rattle.relay_disk.specs.Disk.{IsSettled, IsSynced};
@@ -10,7 +10,7 @@ ghost use Rattle.gate_log.specs.Build.{HasBuilt, IsBuiltOn, Builds, IsClosed, Is
 ghost use Rattle.gate_log.specs.declared.limits.TheConstants.{BEFORE_BODY, BODY_LENGTHS, GENERATIONS, LAST_END};
 
 use crate::ending::settle;
-use crate::limits::{AROUND_BODY, BEFORE_BODY, MARK_LEN, SECOND_FRONT_LEN};
+use crate::limits::{AROUND_BODY, BEFORE_BODY, GATHERED, MARK_LEN, SECOND_FRONT_LEN};
 use crate::steps::write_through;
 use crate::{Format, Log, LogFault};
 use at_cid::Memory;
@@ -23,25 +23,29 @@ const BEHIND_GATE: [u8; MARK_LEN - 1] = *b"atrelay\x02";
 
 /// A log of the second format that is being built on a disk, which is handed to each call. Until `finish` no crash
 /// leaves a log on that disk that is picked before another disk's.
+///
+/// Records wait until they are 131,072 bytes or more, and are written together then, and at the end.
 #[derive(Drop)]
 pub struct Build {
     format: Format,
     end: u64,
     most: u64,
+    // The records that wait.
     room: Vec<u8>,
 }
 
 impl Model for Build {
-    ghost use Rattle.std.specs.Prelude.{◌≤◌, ◌<◌, vec_capacity};
-    ghost use Rattle.relay_disk.specs.declared.disk.TheConstants.{SIZES};
+    ghost use Rattle.std.specs.Prelude.{◌≤◌, ◌<◌, length, vec_capacity};
     ghost use Rattle.gate_log.specs.declared.limits.TheConstants.{BEFORE_BODY, LAST_END};
     ghost use Rattle.gate_log.specs.Build.{BuildState};
 
     ghost Value = { BuildState };
 
-    ghost view = { λ b. record { format = b.format; end = b.end; most = b.most } };
+    ghost view = { λ b. record { format = b.format; end = b.end; most = b.most; waiting = b.room.items } };
 
-    ghost invariant = { λ b. (BEFORE_BODY ≤ vec_capacity b.room) × (b.end < SIZES) × (b.most ≤ LAST_END) };
+    // There is room for a closed gate behind what waits, and a log wants some.
+    ghost invariant = { λ b. (length b.room.items < vec_capacity b.room) × (BEFORE_BODY ≤ vec_capacity b.room)
+        × (length b.room.items ≤ b.end) × (b.end ≤ LAST_END) × (b.most ≤ LAST_END) };
 }
 
 // Takes everything off a disk, after closing its gate if that is open.
@@ -131,18 +135,18 @@ fn front_behind(alloc: Global, generation: u64) -> Result<Vec<u8>, Memory>
     Ok(room)
 }
 
-// Puts a record with its gate open together, and the closed gate behind it.
+// Puts a record with its gate open behind what is in a room, and leaves room for a closed gate behind it.
 fn put_open_record(room: &mut Vec<u8>, body: &[u8]) -> Result<(), Memory>
     requires short { length body.now < BODY_LENGTHS }
-    ensures record { OnOk result (room.new.items ≡ 1 ∷ behind_gate body.now ++ 0 ∷ []) }
+    ensures record { OnOk result (room.new.items ≡ room.old.items ++ 1 ∷ behind_gate body.now) }
+    ensures spare { OnOk result (length room.new.items < vec_capacity room.new) }
+    ensures untouched { OnErr result (room.new.items ≡ room.old.items) }
     ensures capacity { vec_capacity room.old ≤ vec_capacity room.new }
 {
-    room.clear();
     room.reserve(body.len() + AROUND_BODY)?;
     let _ = room.push(1);
     let _ = room.extend_from_slice(&(body.len() as u32).to_be_bytes());
     let _ = room.extend_from_slice(body);
-    let _ = room.push(0);
     Ok(())
 }
 
@@ -161,6 +165,7 @@ impl Build {
           format = Format.Two generation;
           end = length (front (Format.Two generation));
           most = most;
+          waiting = [];
         }) }
         ensures begun { IfOk result (λ build. IsTrue D.tells → HasBuilt [] build (D.view disk.new)) }
 
@@ -173,12 +178,13 @@ impl Build {
         ensures no_full { (e : ℕ) → result ≡ Err (LogFault.Full e) → ⊥ }
         ensures no_bad_log { (p : ℕ) → result ≡ Err (LogFault.BadLog p) → ⊥ }
     {
-        let Ok(room) = front_behind(alloc, generation) else {
+        let Ok(mut room) = front_behind(alloc, generation) else {
             return Err(LogFault::Memory);
         };
         let format = Format::Two(generation);
         clear(disk)?;
         lay_front(disk, format, &room)?;
+        room.clear();
         Ok(Build {
             format,
             end: SECOND_FRONT_LEN as u64,
@@ -187,13 +193,14 @@ impl Build {
         })
     }
 
-    /// Adds a body, and answers its place. It isn't durable before `finish`. At `Disk` the build is to be given up.
+    /// Adds a body, and answers its place. It isn't durable before `finish`, and may wait until then. At `Disk` the build is to be
+    /// given up.
     pub fn add<D: Disk>(&mut self, disk: &mut D, body: &[u8]) -> Result<u64, LogFault>
         requires on { IsTrue D.tells → IsBuiltOn (D.view disk.old) self.old }
         requires short { length body.now < BODY_LENGTHS }
 
         ensures place { IfOk result (λ place. place ≡ self.old.end) }
-        ensures build { OnOk result (self.new ≡ record self.old { end = self.old.end + BEFORE_BODY + length body.now }) }
+        ensures build { OnOk result (self.new ≡ record self.old { end = self.old.end + BEFORE_BODY + length body.now; waiting = self.new.waiting }) }
         ensures added { OnOk result (IsTrue D.tells → (bodies : List (List ℕ)) → HasBuilt bodies self.old (D.view disk.old)
             → HasBuilt (bodies ++ body.now ∷ []) self.new (D.view disk.new)) }
         ensures on { OnOk result (IsTrue D.tells → IsBuiltOn (D.view disk.new) self.new) }
@@ -212,11 +219,13 @@ impl Build {
         if end + 1 > self.most {
             return Err(LogFault::Full(end + 1));
         }
-        let Ok(()) = put_open_record(&mut self.room, body) else {
+        let Ok(()) = self.hold(body) else {
             return Err(LogFault::Memory);
         };
-        disk.write_at(gate, &self.room)?;
-        self.end = end;
+        if self.room.len() < GATHERED {
+            return Ok(gate);
+        }
+        self.write_waiting(disk)?;
         Ok(gate)
     }
 
@@ -236,7 +245,44 @@ impl Build {
         ensures disk { OnErr result ((result ≡ Err LogFault.Disk) × Rose (D.view disk.old).faults (D.view disk.new).faults) }
         ensures counts { (D.view disk.old).faults ≤ (D.view disk.new).faults }
     {
-        open_gate(disk, self.format)?;
-        Ok(Log::of_parts(self.format, self.end, self.most, self.room))
+        let mut build = self;
+        build.write_waiting(disk)?;
+        open_gate(disk, build.format)?;
+        Ok(Log::of_parts(build.format, build.end, build.most, build.room))
+    }
+
+    // Lets a record wait.
+    fn hold(&mut self, body: &[u8]) -> Result<(), Memory>
+        requires short { length body.now < BODY_LENGTHS }
+        requires fits { self.old.end + AROUND_BODY + length body.now ≤ self.old.most }
+        ensures held { OnOk result (self.new ≡ record self.old {
+          end = self.old.end + BEFORE_BODY + length body.now;
+          waiting = self.old.waiting ++ 1 ∷ behind_gate body.now;
+        }) }
+        ensures untouched { OnErr result (self.new ≡ self.old) }
+    {
+        put_open_record(&mut self.room, body)?;
+        self.end += (body.len() + BEFORE_BODY) as u64;
+        Ok(())
+    }
+
+    // Writes what waits, and the closed gate behind it.
+    fn write_waiting<D: Disk>(&mut self, disk: &mut D) -> Result<(), Failed>
+        requires { IsTrue D.tells → IsBuiltOn (D.view disk.old) self.old }
+        ensures build { OnOk result (self.new ≡ record self.old { waiting = [] }) }
+        ensures written { OnOk result (IsTrue D.tells → (bodies : List (List ℕ)) → HasBuilt bodies self.old (D.view disk.old)
+            → HasBuilt bodies self.new (D.view disk.new)) }
+        ensures moments { IsTrue D.tells → LeavesOnly IsClosed (D.view disk.old) (D.view disk.new) }
+        ensures failed { OnErr result (Rose (D.view disk.old).faults (D.view disk.new).faults) }
+        ensures counts { (D.view disk.old).faults ≤ (D.view disk.new).faults }
+    {
+        if self.room.is_empty() {
+            return Ok(());
+        }
+        let place = self.end - self.room.len() as u64;
+        let _ = self.room.push(0);
+        let answer = disk.write_at(place, &self.room);
+        self.room.clear();
+        answer
     }
 }

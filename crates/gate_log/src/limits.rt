@@ -27,3 +27,6 @@ pub const BEFORE_BODY: usize = 1 + LENGTH_LEN;
 
 /// How many bytes are wanted around a body that is added: those before it, and the closed gate behind it.
 pub const AROUND_BODY: usize = BEFORE_BODY + 1;
+
+/// A build writes its records together, once they are so many bytes.
+pub const GATHERED: usize = 1 << 17;

@@ -308,22 +308,23 @@ impl Log {
         }
     }
 
-    /// The body at the place of its gate, and the place of the next gate. Where no body stands at the place, it
-    /// answers `BadLog` with the place, or a body of which nothing is said.
-    pub fn read<D: Disk>(
+    /// Puts the body at the place of its gate into a room, in place of what is there, and answers the place of the next gate. Where
+    /// no body stands at the place, it answers `BadLog` with the place, or puts a body there of which nothing is said; after a
+    /// fault nothing is said of the room.
+    pub fn read_into<D: Disk>(
         &self,
-        alloc: Global,
         disk: &mut D,
         place: u64,
-    ) -> Result<(Octets, u64), LogFault>
+        room: &mut Vec<u8>,
+    ) -> Result<u64, LogFault>
         requires on { IsTrue D.tells → IsOn (D.view disk.old) self.now }
         requires below { place < self.now.end }
 
-        // At the place of a body it gives this body.
-        ensures body { IfOk result (λ found. IsTrue D.tells → (before : List (List ℕ)) (body : List ℕ) (after : List (List ℕ))
+        // At the place of a body it puts this body there.
+        ensures body { IfOk result (λ next. IsTrue D.tells → (before : List (List ℕ)) (body : List ℕ) (after : List (List ℕ))
             → Holds (before ++ body ∷ after) self.now (D.view disk.old) → place ≡ place_behind self.now before
-            → (found.0 ≡ body) × (found.1 ≡ place + BEFORE_BODY + length body)) }
-        ensures next { IfOk result (λ found. (place < found.1) × (found.1 ≤ self.now.end)) }
+            → (room.new.items ≡ body) × (next ≡ place + BEFORE_BODY + length body)) }
+        ensures next { IfOk result (λ next. (place < next) × (next ≤ self.now.end)) }
         ensures bad_log { (p : ℕ) → result ≡ Err (LogFault.BadLog p) → IsTrue D.tells
             → (before : List (List ℕ)) (body : List ℕ) (after : List (List ℕ))
             → Holds (before ++ body ∷ after) self.now (D.view disk.old) → place ≡ place_behind self.now before → ⊥ }
@@ -348,7 +349,7 @@ impl Log {
         if next > self.end {
             return Err(LogFault::BadLog(place));
         }
-        let body = read_body(alloc, disk, place + BEFORE_BODY as u64, len as usize)?;
-        Ok((Octets::from_vec(body), next))
+        read_body(disk, place + BEFORE_BODY as u64, len as usize, room)?;
+        Ok(next)
     }
 }

@@ -5,13 +5,14 @@ ghost use Rattle.std.specs.Prelude.{◌≤◌, IsTrue, OnOk};
 ghost use Rattle.gate_log.specs.Log.{IsOn};
 
 use crate::logging::{append, append_put};
+use crate::row::Row;
 use crate::texts::{MOST, with_call};
-use crate::words::{disk_of, pieces};
+use crate::words::disk_of;
 use anyhow::{Result, bail};
 use gate_log::{LAST_END, Log, LogFault};
-use relay_disk::{Disk, MemoryDisk};
+use relay_disk::{Call, Disk, MemoryDisk};
 use std::alloc::Global;
-use vector_lines::{Answer, Subject, bytes, number, parted, said};
+use vector_lines::{Answer, Subject, said};
 
 pub struct Appends;
 
@@ -24,22 +25,37 @@ enum Way {
     Room,
 }
 
-// With the place of a body behind, or that the log is full, as it was told before.
-fn with_place(
-    answer: Answer,
-    fits: Result<(), LogFault>,
-    appended: Result<u64, LogFault>,
-) -> Answer {
-    match appended {
-        Ok(place) if fits.is_ok() => answer.number(place).words(" "),
-        Err(LogFault::Full(end)) if fits == Err(LogFault::Full(end)) => {
-            answer.words("Full(").number(end).words(") ")
-        }
-        _ => answer.words("otherwise than was told "),
+// A row: the content of a disk, where no record of its log is to end past, and the bodies that are appended.
+#[derive(Drop)]
+struct Start {
+    content: Vec<u8>,
+    most: u64,
+    bodies: Vec<Vec<u8>>,
+}
+
+// What appending shows, and the disk behind it.
+#[derive(Drop)]
+struct Run {
+    answer: String,
+    most: u64,
+    spare: u64,
+    disk: MemoryDisk,
+}
+
+// Where a record would end for which a log is full.
+fn full_end<T>(answer: &Result<T, LogFault>) -> Option<u64> {
+    match answer {
+        Err(LogFault::Full(end)) => Some(*end),
+        _ => None,
     }
 }
 
-// Appends a body, with what is answered behind.
+fn length_of(body: &[u8]) -> u32 {
+    u32::try_from(body.len()).unwrap_or(u32::MAX)
+}
+
+// Appends a body, with what is answered behind: its place, or where its record would end in a log that is full, as was told
+// before.
 fn with_appended<D: Disk>(
     alloc: Global,
     answer: Answer,
@@ -51,103 +67,108 @@ fn with_appended<D: Disk>(
     requires { IsTrue D.tells → IsOn (D.view disk.old) log.old }
     ensures { OnOk result (IsTrue D.tells → IsOn (D.view disk.new) log.new) }
 {
-    let fits = log.fits(u32::try_from(body.len())?);
+    let told = full_end(&log.fits(length_of(body)));
     let appended = match way {
         Way::Slice => append(log, disk, body),
         Way::Room => append_put(alloc, log, disk, body),
     };
     match appended {
-        Ok(_) | Err(LogFault::Full(_)) => Ok(with_place(answer, fits, appended)),
-        Err(_) => bail!("a log that doesn't take a body"),
+        Ok(place) if told.is_none() => Ok(answer.number(place).words(" ")),
+        Err(LogFault::Full(end)) if told == Some(end) => {
+            Ok(answer.words("Full(").number(end).words(") "))
+        }
+        _ => bail!("a log that doesn't take a body, or otherwise than was told"),
     }
 }
 
-// What each append answers behind another one, and the log.
+// What each append to an open log answers behind another one, and the end.
 fn appended<D: Disk>(
     alloc: Global,
+    log: &mut Log,
     disk: &mut D,
-    most: u64,
     bodies: &[Vec<u8>],
     way: Way,
-) -> Result<(String, Log)>
-    requires { most ≤ LAST_END }
+) -> Result<String>
+    requires { IsTrue D.tells → IsOn (D.view disk.old) log.old }
 {
     let mut answer = Answer::new(alloc);
-    let mut log = Log::open(alloc, disk, most)?;
     for body in bodies {
-        answer = with_appended(alloc, answer, &mut log, disk, body.as_slice(), way)?;
+        answer = with_appended(alloc, answer, log, disk, body.as_slice(), way)?;
     }
-    let text = answer.words("end ").number(log.end()).end()?;
-    Ok((text, log))
+    answer.words("end ").number(log.end()).end()
+}
+
+// Opens the log of a disk that has the row's content, and appends the bodies.
+fn run_of(alloc: Global, start: &Start, way: Way) -> Result<Run>
+    requires { start.now.most ≤ LAST_END }
+{
+    let mut disk = disk_of(alloc, &start.content)?;
+    let mut log = Log::open(alloc, &mut disk, start.most)?;
+    let answer = appended(alloc, &mut log, &mut disk, &start.bodies, way)?;
+    Ok(Run {
+        answer,
+        most: log.most(),
+        spare: log.spare(),
+        disk,
+    })
 }
 
 // Whether the same comes of it where the bodies are put together in a room.
-fn is_same_put(
-    alloc: Global,
-    content: &[u8],
-    most: u64,
-    bodies: &[Vec<u8>],
-    told: &str,
-    whole: &MemoryDisk,
-) -> Result<bool>
-    requires { most ≤ LAST_END }
-{
-    let mut disk = disk_of(alloc, content)?;
-    let (again, log) = appended(alloc, &mut disk, most, bodies, Way::Room)?;
-    Ok(
-        again.as_str() == told
-            && log.most() == most
-            && disk.content() == whole.content()
-            && disk.calls() == whole.calls(),
-    )
+fn are_alike(run: &Run, put: &Run) -> bool {
+    run.answer == put.answer
+        && run.most == put.most
+        && run.disk.content() == put.disk.content()
+        && run.disk.calls() == put.disk.calls()
 }
 
-// The answer of a row, of which the parts are read.
-fn answer_of(alloc: Global, content: &[u8], most: u64, bodies: &[Vec<u8>]) -> Result<String>
-    requires { most ≤ LAST_END }
-{
-    let mut disk = disk_of(alloc, content)?;
-    let (text, log) = appended(alloc, &mut disk, most, bodies, Way::Slice)?;
-    if !is_same_put(alloc, content, most, bodies, text.as_str(), &disk)? {
+fn told(alloc: Global, run: &Run, put: &Run) -> Result<String> {
+    if !are_alike(run, put) {
         return said(alloc, "another end where bodies are put together in a room");
     }
     Answer::new(alloc)
-        .words(text.as_str())
+        .words(run.answer.as_str())
         .words(" spare ")
-        .number(log.spare())
+        .number(run.spare)
         .words(" content ")
-        .bytes(disk.content())
+        .bytes(run.disk.content())
         .end()
 }
 
 impl Subject for Appends {
     fn answer(&self, alloc: Global, input: &str) -> Result<String> {
-        let (content, rest) = parted(input, " ; ")?;
-        let (most, bodies) = parted(rest, " ; ")?;
-        let most = number(most)?;
-        if most > LAST_END {
-            bail!("a limit past the last end");
-        }
-        let bodies = pieces(alloc, bodies)?;
-        let content = bytes(alloc, content)?;
-        answer_of(alloc, content.as_slice(), most, bodies.as_slice())
+        let mut row = Row::new(alloc, input);
+        let content = row.bytes(" ; ");
+        let most = row.number(" ; ").min(LAST_END);
+        let bodies = row.pieces(" ; ");
+        row.end()?;
+        let start = Start {
+            content,
+            most,
+            bodies,
+        };
+        let whole = run_of(alloc, &start, Way::Slice)?;
+        let put = run_of(alloc, &start, Way::Room)?;
+        told(alloc, &whole, &put)
     }
 }
 
 impl Subject for LogCalls {
     fn answer(&self, alloc: Global, input: &str) -> Result<String> {
-        let (content, bodies) = parted(input, " ; ")?;
-        let bodies = pieces(alloc, bodies)?;
-        let content = bytes(alloc, content)?;
-        let mut disk = disk_of(alloc, content.as_slice())?;
-        appended(alloc, &mut disk, MOST, bodies.as_slice(), Way::Slice)?;
-        calls_of(alloc, &disk)
+        let mut row = Row::new(alloc, input);
+        let start = Start {
+            content: row.bytes(" ; "),
+            most: MOST,
+            bodies: row.pieces(" ; "),
+        };
+        row.end()?;
+        let whole = run_of(alloc, &start, Way::Slice)?;
+        calls_of(alloc, whole.disk.calls())
     }
 }
 
-fn calls_of(alloc: Global, disk: &MemoryDisk) -> Result<String> {
+fn calls_of(alloc: Global, calls: &[Call]) -> Result<String> {
     let mut answer = Answer::new(alloc);
-    for (i, call) in disk.calls().iter().enumerate() {
+    for (i, call) in calls.iter().enumerate() {
         answer = with_call(answer.words(if i > 0 { " " } else { "" }), *call);
     }
     answer.end()

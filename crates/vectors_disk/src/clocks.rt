@@ -2,11 +2,11 @@
 
 ghost use Rattle.std.specs.Prelude.{◌≤◌, ◌-◌, ◌^◌, All, IsTrue};
 
-use crate::words::numbers;
+use crate::row::Row;
 use anyhow::{Result, bail};
 use relay_io::{Clock, LAST_MOMENT, ListClock, SystemClock};
 use std::alloc::Global;
-use vector_lines::{Answer, Subject, had, number, parted, said};
+use vector_lines::{Answer, Subject, had, said};
 
 pub struct Clocks;
 
@@ -32,12 +32,13 @@ fn clock(alloc: Global, moments: &[u64], failing: &[u64]) -> Result<ListClock> {
 
 impl Subject for Clocks {
     fn answer(&self, alloc: Global, input: &str) -> Result<String> {
-        let (moments, rest) = parted(input, " ; ")?;
-        let (failing, calls) = parted(rest, " ; ")?;
-        let moments = numbers(alloc, moments)?;
-        let failing = numbers(alloc, failing)?;
+        let mut row = Row::new(alloc, input);
+        let moments = row.numbers(" ; ");
+        let failing = row.numbers(" ; ");
+        let calls = row.number(" ; ");
+        row.end()?;
         let mut clock = clock(alloc, moments.as_slice(), failing.as_slice())?;
-        told(alloc, &mut clock, number(calls)?)
+        told(alloc, &mut clock, calls)
     }
 }
 
@@ -56,10 +57,11 @@ fn told(alloc: Global, clock: &mut ListClock, calls: u64) -> Result<String> {
 
 impl Subject for Moments<'_> {
     fn answer(&self, alloc: Global, input: &str) -> Result<String> {
-        let (least, most) = parted(input, " ")?;
-        let (least, most) = (number(least)?, number(most)?);
-        let mut clock = SystemClock::new(self.rt);
-        let moment = clock.now()?;
+        let mut row = Row::new(alloc, input);
+        let least = row.number(" ");
+        let most = row.number(" ");
+        row.end()?;
+        let moment = SystemClock::new(self.rt).now()?;
         if moment < least || moment > most {
             return Answer::new(alloc).number(moment).end();
         }

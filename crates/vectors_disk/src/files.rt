@@ -1,13 +1,12 @@
 //! `SCRIPT = CONTENT read BYTES`, made on a file of the folder that the program runs in, and `BODY BODY = ..`, appended to a
 //! log in one.
 
-use crate::logging::{append, held};
+use crate::logging::held;
 use crate::scripts::{Step, run, script};
-use crate::texts::MOST;
+use crate::stops::added;
 use crate::words::pieces;
-use anyhow::{Context, Result};
-use gate_log::Log;
-use relay_disk::{Disk, Failed, FileDisk, LazyFile};
+use anyhow::Result;
+use relay_disk::{Disk, FileDisk, LazyFile};
 use std::alloc::Global;
 use std::fs;
 use vector_lines::{Answer, Subject};
@@ -29,29 +28,44 @@ fn file_disk<'a>(rt: &'a HostRuntime) -> Result<FileDisk<LazyFile<&'a HostRuntim
     Ok(FileDisk::new(rt, PATH.to_string(rt.alloc())?))
 }
 
-// What a script leaves in a file, by another disk on it, which refuses whatever goes past the end.
+fn remove_file(rt: &HostRuntime) {
+    let _ = fs::remove_file(rt, PATH);
+}
+
+// What a script leaves in a file, by other disks on it, which refuse whatever goes past the end.
 fn left_by(rt: &HostRuntime, steps: &[Step]) -> Result<String> {
-    let found = run(&mut file_disk(rt)?, steps)?;
-    let (content, is_refused) = content_left(rt)?;
+    let found = found_by(rt, steps)?;
+    let content = content_left(rt)?;
+    let is_kept = is_kept(rt, content.len() as u64)?;
+    let wrong = if is_kept {
+        ""
+    } else {
+        ", and not refused past the end"
+    };
     Answer::new(rt.alloc())
         .bytes(content.as_slice())
         .words(" read ")
         .bytes(&found)
-        .words(if is_refused {
-            ""
-        } else {
-            ", and not refused past the end"
-        })
+        .words(wrong)
         .end()
 }
 
-// The content of the file, and whether what goes past its end is refused.
-fn content_left(rt: &HostRuntime) -> Result<(Vec<u8>, bool)> {
+// The bytes that a script on the file reads last.
+fn found_by(rt: &HostRuntime, steps: &[Step]) -> Result<[u8; 2]> {
     let mut disk = file_disk(rt)?;
-    let content = whole(rt, &mut disk)?;
-    let is_refused = is_refused(&mut disk, content.len() as u64);
-    disk.sync()?;
-    Ok((content, is_refused))
+    Ok(run(&mut disk, steps)?)
+}
+
+// The content of the file.
+fn content_left(rt: &HostRuntime) -> Result<Vec<u8>> {
+    let mut disk = file_disk(rt)?;
+    whole(rt, &mut disk)
+}
+
+// Whether the file, which has so many bytes, is as long behind calls past its end, which are refused, and behind a sync.
+fn is_kept(rt: &HostRuntime, size: u64) -> Result<bool> {
+    let mut disk = file_disk(rt)?;
+    Ok(is_refused(&mut disk, size) && disk.sync().is_ok())
 }
 
 // The whole content of a disk.
@@ -64,39 +78,49 @@ fn whole<D: Disk>(rt: &HostRuntime, disk: &mut D) -> Result<Vec<u8>> {
 
 // Whether a disk of so many bytes refuses what goes past its end.
 fn is_refused(disk: &mut FileDisk<LazyFile<&HostRuntime>>, size: u64) -> bool {
-    disk.read(size, &mut [0]) == Err(Failed)
-        && disk.write_at(100, &[1]) == Err(Failed)
-        && disk.cut(100) == Err(Failed)
-        && disk.size() == Ok(size)
+    let is_read = disk.read(size, &mut [0]).is_ok();
+    let is_written = disk.write_at(100, &[1]).is_ok();
+    let is_cut = disk.cut(100).is_ok();
+    !(is_read | is_written | is_cut) && disk.size() == Ok(size)
 }
 
 impl Subject for FileDisks<'_> {
     fn answer(&self, alloc: Global, input: &str) -> Result<String> {
         let steps = script(alloc, input)?;
-        let _ = fs::remove_file(self.rt, PATH);
-        let answer = left_by(self.rt, &steps)?;
-        fs::remove_file(self.rt, PATH)?;
-        Ok(answer)
+        remove_file(self.rt);
+        let answer = left_by(self.rt, &steps);
+        remove_file(self.rt);
+        answer
     }
 }
 
 // Opens the log of the file, and appends a body.
 fn append_to_file(rt: &HostRuntime, body: &[u8]) -> Result<()> {
     let mut disk = file_disk(rt)?;
-    let mut log = Log::open(rt.alloc(), &mut disk, MOST)?;
-    append(&mut log, &mut disk, body)?;
+    added(rt.alloc(), &mut disk, body)?;
     Ok(())
+}
+
+// What the log of the file holds.
+fn held_by_file(rt: &HostRuntime) -> Result<String> {
+    let mut disk = file_disk(rt)?;
+    held(rt.alloc(), &mut disk)
+}
+
+// What the log of the file holds behind these bodies, for each of which it is opened again.
+fn logged(rt: &HostRuntime, bodies: &[Vec<u8>]) -> Result<String> {
+    for body in bodies {
+        append_to_file(rt, body)?;
+    }
+    held_by_file(rt)
 }
 
 impl Subject for FileLogs<'_> {
     fn answer(&self, alloc: Global, input: &str) -> Result<String> {
         let bodies = pieces(alloc, input)?;
-        let _ = fs::remove_file(self.rt, PATH);
-        for body in bodies {
-            append_to_file(self.rt, body.as_slice())?;
-        }
-        let answer = held(alloc, &mut file_disk(self.rt)?)?;
-        fs::remove_file(self.rt, PATH).context("the file of a log")?;
-        Ok(answer)
+        remove_file(self.rt);
+        let answer = logged(self.rt, &bodies);
+        remove_file(self.rt);
+        answer
     }
 }

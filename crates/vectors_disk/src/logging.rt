@@ -1,6 +1,6 @@
 //! Appending to a log, and what it holds.
 
-ghost use Rattle.std.specs.Prelude.{◌≡◌, ℕ, IsTrue, OnOk};
+ghost use Rattle.std.specs.Prelude.{◌≡◌, ◌<◌, ℕ, IsTrue, OnOk};
 ghost use Rattle.gate_log.specs.Log.{IsOn};
 ghost use Rattle.gate_log.specs.declared.fault.LogFault.{LogFault};
 
@@ -70,6 +70,22 @@ fn with_body(answer: Answer, place: u64, body: &Octets) -> Answer {
         .bytes(body.as_slice())
 }
 
+/// The body at a place of a log, and the place of the next one.
+pub fn body_at<D: Disk>(
+    alloc: Global,
+    log: &Log,
+    disk: &mut D,
+    place: u64,
+) -> Result<(Octets, u64), LogFault>
+    requires on { IsTrue D.tells → IsOn (D.view disk.old) log.now }
+    requires below { place < log.now.end }
+    ensures on { IsTrue D.tells → IsOn (D.view disk.new) log.now }
+{
+    let mut body = Vec::new(alloc);
+    let next = log.read_into(disk, place, &mut body)?;
+    Ok((Octets::from_vec(body), next))
+}
+
 /// The end of a log, and its bodies, each with the place of its gate.
 pub fn bodies<D: Disk>(alloc: Global, log: &Log, disk: &mut D) -> Result<String>
     requires { IsTrue D.tells → IsOn (D.view disk.old) log.now }
@@ -80,7 +96,7 @@ pub fn bodies<D: Disk>(alloc: Global, log: &Log, disk: &mut D) -> Result<String>
         if next >= log.end() {
             break;
         }
-        let (body, behind) = match log.read(alloc, disk, next) {
+        let (body, behind) = match body_at(alloc, log, disk, next) {
             Ok(found) => found,
             Err(fault) => return log_fault(alloc, fault),
         };

@@ -11,6 +11,7 @@ mod logs;
 mod pairs;
 mod picks;
 mod reads;
+mod row;
 mod scripts;
 mod sinks;
 mod sources;

@@ -4,14 +4,15 @@
 
 use crate::logging::{append, bodies};
 use crate::picks::side_name;
-use crate::texts::{MOST, log_fault, told};
+use crate::row::Row;
+use crate::texts::{MOST, log_fault};
 use crate::words::{disk_of, fuse_of};
 use crate::worst::image;
 use anyhow::Result;
 use gate_log::{LogFault, Side, open_pair};
 use relay_disk::{Disk, MemoryDisk, WORST_CASES};
 use std::alloc::Global;
-use vector_lines::{Answer, Subject, bytes, parted};
+use vector_lines::{Answer, Subject};
 
 pub struct Pairs;
 
@@ -50,28 +51,36 @@ fn added<D: Disk>(
 ) -> Result<(Side, u64), LogFault> {
     let (side, mut log) = open_pair(alloc, one, two, MOST)?;
     let place = match side {
-        Side::One => append(&mut log, one, body)?,
-        Side::Two => append(&mut log, two, body)?,
+        Side::One => append(&mut log, one, body),
+        Side::Two => append(&mut log, two, body),
     };
-    Ok((side, place))
+    Ok((side, place?))
 }
 
 /// The side that has the log of a pair, and what the log holds.
 pub fn pair_held<D: Disk>(alloc: Global, one: &mut D, two: &mut D) -> Result<String> {
     match open_pair(alloc, one, two, MOST) {
-        Ok((side, log)) => {
-            let held = match side {
-                Side::One => bodies(alloc, &log, one)?,
-                Side::Two => bodies(alloc, &log, two)?,
-            };
-            Answer::new(alloc)
-                .words(side_name(side))
-                .words(" ")
-                .words(held.as_str())
-                .end()
-        }
+        Ok((Side::One, log)) => on_side(alloc, Side::One, bodies(alloc, &log, one)),
+        Ok((Side::Two, log)) => on_side(alloc, Side::Two, bodies(alloc, &log, two)),
         Err(fault) => log_fault(alloc, fault),
     }
+}
+
+// What a log holds behind the side that has it.
+fn on_side(alloc: Global, side: Side, held: Result<String>) -> Result<String> {
+    let held = held?;
+    Answer::new(alloc)
+        .words(side_name(side))
+        .words(" ")
+        .words(held.as_str())
+        .end()
+}
+
+/// Two disks in memory of these contents.
+pub fn two_disks(alloc: Global, one: &[u8], two: &[u8]) -> Result<[MemoryDisk; 2]> {
+    let one = disk_of(alloc, one)?;
+    let two = disk_of(alloc, two)?;
+    Ok([one, two])
 }
 
 // What is left of a run that is stopped behind so many calls on each disk.
@@ -79,7 +88,7 @@ fn left_behind(alloc: Global, start: &Start, passes: [usize; 2]) -> Result<Left>
     let [first, second] = passes;
     let mut one = fuse_of(alloc, &start.one, first)?;
     let mut two = fuse_of(alloc, &start.two, second)?;
-    let answer = told(added(alloc, &mut one, &mut two, &start.body))?;
+    let answer = added(alloc, &mut one, &mut two, &start.body);
     let (one, two) = (one.into_inner(), two.into_inner());
     Ok(Left { answer, one, two })
 }
@@ -129,63 +138,74 @@ fn are_right(alloc: Global, left: &Left, run: &Run, calls: [usize; 2]) -> Result
     Ok(true)
 }
 
+// Whether a run, which came to its end or was stopped, answers what it must.
+fn is_told(answer: &Result<(Side, u64), LogFault>, run: &Run, is_whole: bool) -> bool {
+    match answer {
+        Ok((side, place)) => is_whole && *side == run.side && *place == run.place,
+        Err(LogFault::Disk) => !is_whole,
+        Err(_) => false,
+    }
+}
+
 // Whether a stop behind so many calls on each disk ends and leaves what it must.
 fn is_stopped(alloc: Global, start: &Start, run: &Run, passes: [usize; 2]) -> Result<bool> {
     let left = left_behind(alloc, start, passes)?;
     let calls = calls_left(run, passes);
-    let [log_left, other_left] = calls;
-    let answer = if log_left > 0 || other_left > 0 {
-        Err(LogFault::Disk)
-    } else {
-        Ok((run.side, run.place))
-    };
-    Ok(left.answer == answer && are_right(alloc, &left, run, calls)?)
+    if !is_told(&left.answer, run, calls == [0, 0]) {
+        return Ok(false);
+    }
+    are_right(alloc, &left, run, calls)
 }
 
 // What the disks hold before.
 fn held_before(alloc: Global, start: &Start) -> Result<String> {
-    let mut one = disk_of(alloc, &start.one)?;
-    let mut two = disk_of(alloc, &start.two)?;
+    let [mut one, mut two] = two_disks(alloc, &start.one, &start.two)?;
     pair_held(alloc, &mut one, &mut two)
 }
 
-// A whole run, or the fault of it.
-fn whole(alloc: Global, start: &Start) -> Result<Result<Run, LogFault>> {
-    let before = held_before(alloc, start)?;
-    let mut one = disk_of(alloc, &start.one)?;
-    let mut two = disk_of(alloc, &start.two)?;
-    let (side, place) = match told(added(alloc, &mut one, &mut two, &start.body))? {
-        Ok(found) => found,
-        Err(fault) => return Ok(Err(fault)),
-    };
+// A whole run on two disks, which held this before.
+fn run_on(
+    alloc: Global,
+    one: &mut MemoryDisk,
+    two: &mut MemoryDisk,
+    body: &[u8],
+    before: String,
+) -> Result<Run> {
+    let (side, place) = added(alloc, one, two, body)?;
     let calls = [one.calls().len(), two.calls().len()];
-    let after = pair_held(alloc, &mut one, &mut two)?;
-    Ok(Ok(Run {
+    let after = pair_held(alloc, one, two)?;
+    Ok(Run {
         side,
         calls,
         place,
         before,
         after,
-    }))
+    })
+}
+
+// A whole run.
+fn whole(alloc: Global, start: &Start) -> Result<Run> {
+    let before = held_before(alloc, start)?;
+    let [mut one, mut two] = two_disks(alloc, &start.one, &start.two)?;
+    run_on(alloc, &mut one, &mut two, &start.body, before)
 }
 
 fn start_of(alloc: Global, input: &str) -> Result<Start> {
-    let (one, rest) = parted(input, " ; ")?;
-    let (two, body) = parted(rest, " ; ")?;
-    Ok(Start {
-        one: bytes(alloc, one)?,
-        two: bytes(alloc, two)?,
-        body: bytes(alloc, body)?,
-    })
+    let mut row = Row::new(alloc, input);
+    let start = Start {
+        one: row.bytes(" ; "),
+        two: row.bytes(" ; "),
+        body: row.bytes(" ; "),
+    };
+    row.end()?;
+    Ok(start)
 }
 
 impl Subject for Pairs {
     fn answer(&self, alloc: Global, input: &str) -> Result<String> {
         let start = start_of(alloc, input)?;
-        match whole(alloc, &start)? {
-            Ok(run) => stopped(alloc, &start, &run),
-            Err(fault) => log_fault(alloc, fault),
-        }
+        let run = whole(alloc, &start)?;
+        stopped(alloc, &start, &run)
     }
 }
 

@@ -1,11 +1,12 @@
 //! `ONE TWO = One, Two or BadLog(0)`: the disk that has the log, of two.
 
+use crate::pairs::two_disks;
+use crate::row::Row;
 use crate::texts::log_fault;
-use crate::words::disk_of_digits;
 use anyhow::Result;
-use gate_log::{Side, pick};
+use gate_log::{LogFault, Side, pick};
 use std::alloc::Global;
-use vector_lines::{Subject, parted, said};
+use vector_lines::{Subject, said};
 
 pub struct Picks;
 
@@ -18,12 +19,18 @@ pub fn side_name(side: Side) -> &'static str {
 
 impl Subject for Picks {
     fn answer(&self, alloc: Global, input: &str) -> Result<String> {
-        let (one, two) = parted(input, " ")?;
-        let mut one = disk_of_digits(alloc, one)?;
-        let mut two = disk_of_digits(alloc, two)?;
-        match pick(&mut one, &mut two) {
-            Ok(side) => said(alloc, side_name(side)),
-            Err(fault) => log_fault(alloc, fault),
-        }
+        let mut row = Row::new(alloc, input);
+        let one = row.bytes(" ");
+        let two = row.bytes(" ");
+        row.end()?;
+        let [mut one, mut two] = two_disks(alloc, one.as_slice(), two.as_slice())?;
+        told(alloc, pick(&mut one, &mut two))
+    }
+}
+
+fn told(alloc: Global, picked: Result<Side, LogFault>) -> Result<String> {
+    match picked {
+        Ok(side) => said(alloc, side_name(side)),
+        Err(fault) => log_fault(alloc, fault),
     }
 }

@@ -1,5 +1,7 @@
 //! `CONTENT ; PLACE = body BYTES next PLACE, or BadLog(PLACE)`. Reading a body is stopped at each call in turn.
 
+use crate::logging::body_at;
+use crate::row::Row;
 use crate::texts::{MOST, log_fault, told};
 use crate::words::{disk_of, fuse_of};
 use anyhow::Result;
@@ -7,17 +9,17 @@ use at_cid::Octets;
 use gate_log::{Log, LogFault};
 use relay_disk::{Disk, MemoryDisk};
 use std::alloc::Global;
-use vector_lines::{Answer, Subject, bytes, number, parted};
+use vector_lines::{Answer, Subject};
 
 pub struct Reads;
 
 // Opens the log, and reads the body at a place.
-fn body_at<D: Disk>(alloc: Global, disk: &mut D, place: u64) -> Result<(Octets, u64), LogFault> {
+fn opened_at<D: Disk>(alloc: Global, disk: &mut D, place: u64) -> Result<(Octets, u64), LogFault> {
     let log = Log::open(alloc, disk, MOST)?;
     if place >= log.end() {
         return Err(LogFault::BadLog(place));
     }
-    log.read(alloc, disk, place)
+    body_at(alloc, &log, disk, place)
 }
 
 // What reading a body answers that is stopped behind so many calls.
@@ -28,7 +30,7 @@ fn stopped(
     passes: usize,
 ) -> Result<Result<(Octets, u64), LogFault>> {
     let mut fuse = fuse_of(alloc, content, passes)?;
-    told(body_at(alloc, &mut fuse, place))
+    told(opened_at(alloc, &mut fuse, place))
 }
 
 // Behind how many calls, fewer than all, a stop isn't told as the disk's.
@@ -47,15 +49,16 @@ fn whole(
     mut disk: MemoryDisk,
     place: u64,
 ) -> Result<(Result<(Octets, u64), LogFault>, usize)> {
-    let answer = told(body_at(alloc, &mut disk, place))?;
+    let answer = told(opened_at(alloc, &mut disk, place))?;
     Ok((answer, disk.calls().len()))
 }
 
 impl Subject for Reads {
     fn answer(&self, alloc: Global, input: &str) -> Result<String> {
-        let (content, place) = parted(input, " ; ")?;
-        let place = number(place)?;
-        let content = bytes(alloc, content)?;
+        let mut row = Row::new(alloc, input);
+        let content = row.bytes(" ; ");
+        let place = row.number(" ; ");
+        row.end()?;
         answer_of(alloc, content.as_slice(), place)
     }
 }

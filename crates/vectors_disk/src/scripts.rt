@@ -1,9 +1,9 @@
 //! Scripts of calls of a disk.
 
+use crate::row::Row;
 use anyhow::Result;
 use relay_disk::{Disk, Failed};
 use std::alloc::Global;
-use vector_lines::{bytes, number, parted};
 
 /// A call of a script. A call on content asks the disk for its size first, and isn't made where it doesn't fit.
 #[derive(Drop)]
@@ -19,18 +19,15 @@ pub enum Step {
 const LONGEST: u64 = 100;
 
 fn step_of(alloc: Global, word: &str) -> Result<Step> {
-    if word == "sync" {
-        return Ok(Step::Sync);
-    }
-    let (name, rest) = parted(word, ":")?;
-    if name == "cut" {
-        return Ok(Step::Cut(number(rest)?));
-    }
-    if name == "read" {
-        return Ok(Step::Read(number(rest)?));
-    }
-    let (place, piece) = parted(rest, ":")?;
-    Ok(Step::Write(number(place)?, bytes(alloc, piece)?))
+    let mut row = Row::new(alloc, word);
+    let step = match row.part(":") {
+        "sync" => Step::Sync,
+        "cut" => Step::Cut(row.number(":")),
+        "read" => Step::Read(row.number(":")),
+        _ => Step::Write(row.number(":"), row.bytes(":")),
+    };
+    row.end()?;
+    Ok(step)
 }
 
 /// The calls of words `write:PLACE:BYTES`, `cut:SIZE`, `read:PLACE` and `sync`.

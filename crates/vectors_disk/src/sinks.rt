@@ -1,10 +1,10 @@
 //! `BYTES ; STEP ; ROOM ; FAILING = what is written, and whether all is`.
 
-use crate::words::numbers;
+use crate::row::Row;
 use anyhow::{Result, bail};
 use relay_io::{MemorySink, write_all};
 use std::alloc::Global;
-use vector_lines::{Answer, Subject, bytes, had, number, parted};
+use vector_lines::{Answer, Subject, had};
 
 pub struct Sinks;
 
@@ -20,22 +20,22 @@ fn sink(alloc: Global, room: usize, step: usize, failing: &[u64]) -> Result<Memo
 
 impl Subject for Sinks {
     fn answer(&self, alloc: Global, input: &str) -> Result<String> {
-        let (text, rest) = parted(input, " ; ")?;
-        let (step, rest) = parted(rest, " ; ")?;
-        let (room, failing) = parted(rest, " ; ")?;
-        let mut sink = sink_of(alloc, room, step, failing)?;
-        let text = bytes(alloc, text)?;
-        let is_whole = write_all(&mut sink, text.as_slice()).is_ok();
-        Answer::new(alloc)
-            .bytes(sink.content())
-            .words(if is_whole { " all" } else { " a front" })
-            .end()
+        let mut row = Row::new(alloc, input);
+        let content = row.bytes(" ; ");
+        let step = row.size(" ; ");
+        let room = row.size(" ; ");
+        let failing = row.numbers(" ; ");
+        row.end()?;
+        let mut sink = sink(alloc, room, step, failing.as_slice())?;
+        written(alloc, &mut sink, content.as_slice())
     }
 }
 
-fn sink_of(alloc: Global, room: &str, step: &str, failing: &str) -> Result<MemorySink> {
-    let room = usize::try_from(number(room)?)?;
-    let step = usize::try_from(number(step)?)?;
-    let failing = numbers(alloc, failing)?;
-    sink(alloc, room, step, failing.as_slice())
+// What is written of some bytes, and whether all are.
+fn written(alloc: Global, sink: &mut MemorySink, content: &[u8]) -> Result<String> {
+    let is_whole = write_all(sink, content).is_ok();
+    Answer::new(alloc)
+        .bytes(sink.content())
+        .words(if is_whole { " all" } else { " a front" })
+        .end()
 }

@@ -1,11 +1,11 @@
 //! `BYTES ; STEP ; LIMIT ; FAILING = the bytes that are read to the end, or the fault`.
 
-use crate::words::numbers;
+use crate::row::Row;
 use anyhow::{Result, bail};
 use at_cid::Octets;
 use relay_io::{MemorySource, ReadFault, read_to_end};
 use std::alloc::Global;
-use vector_lines::{Answer, Subject, bytes, had, number, parted, said};
+use vector_lines::{Answer, Subject, had, said};
 
 pub struct Sources;
 
@@ -20,20 +20,15 @@ fn source(alloc: Global, bytes: &[u8], step: usize, failing: &[u64]) -> Result<M
 
 impl Subject for Sources {
     fn answer(&self, alloc: Global, input: &str) -> Result<String> {
-        let (text, rest) = parted(input, " ; ")?;
-        let (step, rest) = parted(rest, " ; ")?;
-        let (limit, failing) = parted(rest, " ; ")?;
-        let limit = usize::try_from(number(limit)?)?;
-        let mut source = source_of(alloc, text, step, failing)?;
+        let mut row = Row::new(alloc, input);
+        let content = row.bytes(" ; ");
+        let step = row.size(" ; ");
+        let limit = row.size(" ; ");
+        let failing = row.numbers(" ; ");
+        row.end()?;
+        let mut source = source(alloc, content.as_slice(), step, failing.as_slice())?;
         told(alloc, read_to_end(alloc, &mut source, limit))
     }
-}
-
-fn source_of(alloc: Global, text: &str, step: &str, failing: &str) -> Result<MemorySource> {
-    let failing = numbers(alloc, failing)?;
-    let text = bytes(alloc, text)?;
-    let step = usize::try_from(number(step)?)?;
-    source(alloc, text.as_slice(), step, failing.as_slice())
 }
 
 fn told(alloc: Global, answer: Result<Octets, ReadFault>) -> Result<String> {

@@ -3,25 +3,23 @@
 //! holds what was before, and the body can be appended, or what is after where the last call is all that is left.
 
 use crate::logging::{append, held};
-use crate::texts::{MOST, log_fault, told};
+use crate::row::Row;
+use crate::texts::MOST;
 use crate::words::{disk_of, fuse_of};
 use crate::worst::image;
 use anyhow::Result;
 use gate_log::{Log, LogFault};
 use relay_disk::{Disk, MemoryDisk, WORST_CASES};
 use std::alloc::Global;
-use vector_lines::{Answer, Subject, bytes, parted};
+use vector_lines::{Answer, Subject};
 
 pub struct Stops;
 
-// Opens the log and appends a body. A log that stays open behind a fault is told as a bad one.
-fn added<D: Disk>(alloc: Global, disk: &mut D, body: &[u8]) -> Result<u64, LogFault> {
-    let mut log = Log::open(alloc, disk, MOST)?;
-    let answer = append(&mut log, disk, body);
-    if answer.is_err() && log.is_open() {
-        return Err(LogFault::BadLog(log.end()));
-    }
-    answer
+// The content of the disk and the body of a row.
+#[derive(Drop)]
+struct Start {
+    content: Vec<u8>,
+    body: Vec<u8>,
 }
 
 // What a whole run shows.
@@ -33,109 +31,131 @@ struct Run {
     after: String,
 }
 
-// Whether a worst case holds what is after, or what was before, and the body can then be appended.
+/// Opens the log and appends a body. A log that stays open behind a fault is told as a bad one.
+pub fn added<D: Disk>(alloc: Global, disk: &mut D, body: &[u8]) -> Result<u64, LogFault> {
+    let mut log = Log::open(alloc, disk, MOST)?;
+    let answer = append(&mut log, disk, body);
+    if answer.is_err() && log.is_open() {
+        return Err(LogFault::BadLog(log.end()));
+    }
+    answer
+}
+
+// Whether a disk holds what was before, and the body is appended at the run's place.
+fn is_before(alloc: Global, disk: &mut MemoryDisk, body: &[u8], run: &Run) -> Result<bool> {
+    let is_same = held(alloc, disk)? == run.before;
+    Ok(is_same && added(alloc, disk, body)? == run.place)
+}
+
+// Whether a disk holds what is after, at once or once the body is appended to what was before.
 fn is_right(
     alloc: Global,
-    mut disk: MemoryDisk,
+    disk: &mut MemoryDisk,
     body: &[u8],
     run: &Run,
     is_added: bool,
 ) -> Result<bool> {
-    if is_added {
-        return Ok(held(alloc, &mut disk)? == run.after);
+    if !is_added && !is_before(alloc, disk, body, run)? {
+        return Ok(false);
     }
-    Ok(
-        held(alloc, &mut disk)? == run.before
-            && told(added(alloc, &mut disk, body))? == Ok(run.place)
-            && held(alloc, &mut disk)? == run.after,
-    )
+    Ok(held(alloc, disk)? == run.after)
 }
 
-// What a run answers that is stopped behind so many calls, and the disk behind it.
-fn left(
+// Whether a worst case is right where so many calls of the run are left.
+fn is_worst_right(
     alloc: Global,
-    content: &[u8],
-    body: &[u8],
-    passes: usize,
-) -> Result<(Result<u64, LogFault>, MemoryDisk)> {
-    let mut fuse = fuse_of(alloc, content, passes)?;
-    let answer = told(added(alloc, &mut fuse, body))?;
-    Ok((answer, fuse.into_inner()))
-}
-
-// How a stop behind so many calls goes wrong.
-fn wrong_stop(
-    alloc: Global,
-    content: &[u8],
+    disk: &MemoryDisk,
+    i: u8,
     body: &[u8],
     run: &Run,
-    passes: usize,
-) -> Result<Option<String>> {
-    let (answer, disk) = left(alloc, content, body, passes)?;
-    let left = run.calls.saturating_sub(passes);
-    let wanted = if left == 0 {
-        Ok(run.place)
-    } else {
-        Err(LogFault::Disk)
-    };
-    if answer != wanted {
-        return wrong(alloc, "another answer", passes);
-    }
+    left: usize,
+) -> Result<bool> {
+    // At the last sync the gate is open in the content alone.
+    let is_added = left == 0 || (left == 1 && i == 0);
+    let mut image = image(alloc, disk, i)?;
+    is_right(alloc, &mut image, body, run, is_added)
+}
+
+// Whether each worst case is right where so many calls of the run are left.
+fn are_right(
+    alloc: Global,
+    disk: &MemoryDisk,
+    body: &[u8],
+    run: &Run,
+    left: usize,
+) -> Result<bool> {
     for i in 0..WORST_CASES {
-        // At the last sync the gate is open in the content alone.
-        let is_added = left == 0 || (left == 1 && i == 0);
-        if !is_right(alloc, image(alloc, &disk, i)?, body, run, is_added)? {
-            return wrong(alloc, "a wrong worst case", passes);
+        if !is_worst_right(alloc, disk, i, body, run, left)? {
+            return Ok(false);
         }
     }
-    Ok(None)
+    Ok(true)
 }
 
-fn wrong(alloc: Global, what: &str, passes: usize) -> Result<Option<String>> {
-    let text = Answer::new(alloc)
-        .words(what)
-        .words(" behind ")
-        .number(passes as u64)
-        .words(" calls")
-        .end()?;
-    Ok(Some(text))
+// Whether a run of which so many calls are left answers what it must.
+fn is_told(answer: &Result<u64, LogFault>, run: &Run, left: usize) -> bool {
+    match answer {
+        Ok(place) => left == 0 && *place == run.place,
+        Err(LogFault::Disk) => left > 0,
+        Err(_) => false,
+    }
 }
 
-// A whole run, or the fault of it.
-fn whole(alloc: Global, content: &[u8], body: &[u8]) -> Result<Result<Run, LogFault>> {
-    let before = held(alloc, &mut disk_of(alloc, content)?)?;
-    let mut disk = disk_of(alloc, content)?;
-    let place = match told(added(alloc, &mut disk, body))? {
-        Ok(place) => place,
-        Err(fault) => return Ok(Err(fault)),
-    };
+// Whether a stop behind so many calls ends and leaves what it must.
+fn is_stopped(alloc: Global, start: &Start, run: &Run, passes: usize) -> Result<bool> {
+    let mut fuse = fuse_of(alloc, &start.content, passes)?;
+    let answer = added(alloc, &mut fuse, &start.body);
+    let left = run.calls.saturating_sub(passes);
+    if !is_told(&answer, run, left) {
+        return Ok(false);
+    }
+    are_right(alloc, &fuse.into_inner(), &start.body, run, left)
+}
+
+// What the disk holds before.
+fn held_before(alloc: Global, start: &Start) -> Result<String> {
+    let mut disk = disk_of(alloc, &start.content)?;
+    held(alloc, &mut disk)
+}
+
+// A whole run on a disk, which held this before.
+fn run_on(alloc: Global, disk: &mut MemoryDisk, body: &[u8], before: String) -> Result<Run> {
+    let place = added(alloc, disk, body)?;
     let calls = disk.calls().len();
-    let after = held(alloc, &mut disk)?;
-    Ok(Ok(Run {
+    let after = held(alloc, disk)?;
+    Ok(Run {
         calls,
         place,
         before,
         after,
-    }))
+    })
+}
+
+// A whole run.
+fn whole(alloc: Global, start: &Start) -> Result<Run> {
+    let before = held_before(alloc, start)?;
+    let mut disk = disk_of(alloc, &start.content)?;
+    run_on(alloc, &mut disk, &start.body, before)
 }
 
 impl Subject for Stops {
     fn answer(&self, alloc: Global, input: &str) -> Result<String> {
-        let (content, body) = parted(input, " ; ")?;
-        let content = bytes(alloc, content)?;
-        let body = bytes(alloc, body)?;
-        match whole(alloc, content.as_slice(), body.as_slice())? {
-            Ok(run) => stopped(alloc, content.as_slice(), body.as_slice(), &run),
-            Err(fault) => log_fault(alloc, fault),
-        }
+        let mut row = Row::new(alloc, input);
+        let start = Start {
+            content: row.bytes(" ; "),
+            body: row.bytes(" ; "),
+        };
+        row.end()?;
+        let run = whole(alloc, &start)?;
+        stopped(alloc, &start, &run)
     }
 }
 
 // What a run shows that is stopped behind each number of calls.
-fn stopped(alloc: Global, content: &[u8], body: &[u8], run: &Run) -> Result<String> {
+fn stopped(alloc: Global, start: &Start, run: &Run) -> Result<String> {
     for passes in 0..=run.calls {
-        if let Some(fault) = wrong_stop(alloc, content, body, run, passes)? {
-            return Ok(fault);
+        if !is_stopped(alloc, start, run, passes)? {
+            return wrong(alloc, passes);
         }
     }
     Answer::new(alloc)
@@ -147,5 +167,13 @@ fn stopped(alloc: Global, content: &[u8], body: &[u8], run: &Run) -> Result<Stri
         .words(run.before.as_str())
         .words(" after ")
         .words(run.after.as_str())
+        .end()
+}
+
+fn wrong(alloc: Global, passes: usize) -> Result<String> {
+    Answer::new(alloc)
+        .words("wrong behind ")
+        .number(passes as u64)
+        .words(" calls")
         .end()
 }

@@ -43,9 +43,3 @@ pub fn disk_of(alloc: Global, content: &[u8]) -> Result<MemoryDisk> {
 pub fn fuse_of(alloc: Global, content: &[u8], passes: usize) -> Result<FuseDisk<MemoryDisk>> {
     Ok(FuseDisk::new(disk_of(alloc, content)?, passes as u64))
 }
-
-/// The disk in memory of content in hexadecimal.
-pub fn disk_of_digits(alloc: Global, digits: &str) -> Result<MemoryDisk> {
-    let content = bytes(alloc, digits)?;
-    disk_of(alloc, content.as_slice())
-}

@@ -1,11 +1,12 @@
 //! `CONTENT ; SCRIPT = IMAGE IMAGE IMAGE`: the worst cases of a crash behind a script.
 
-use crate::scripts::{run, script};
+use crate::row::Row;
+use crate::scripts::{Step, run, script};
 use crate::words::{ROOM, disk_of};
 use anyhow::{Context, Result};
 use relay_disk::{MemoryDisk, WORST_CASES};
 use std::alloc::Global;
-use vector_lines::{Answer, Subject, bytes, had, parted};
+use vector_lines::{Answer, Subject, had};
 
 pub struct Worst;
 
@@ -18,13 +19,22 @@ pub fn image(alloc: Global, disk: &MemoryDisk, i: u8) -> Result<MemoryDisk> {
 
 impl Subject for Worst {
     fn answer(&self, alloc: Global, input: &str) -> Result<String> {
-        let (content, steps) = parted(input, " ; ")?;
-        let steps = script(alloc, steps)?;
-        let content = bytes(alloc, content)?;
-        let mut disk = disk_of(alloc, content.as_slice())?;
-        run(&mut disk, steps.as_slice())?;
-        told(alloc, &disk)
+        let mut row = Row::new(alloc, input);
+        let content = row.bytes(" ; ");
+        let steps = script(alloc, row.part(" ; "))?;
+        row.end()?;
+        told(
+            alloc,
+            &left_by(alloc, content.as_slice(), steps.as_slice())?,
+        )
     }
+}
+
+// The disk of this content behind a script.
+fn left_by(alloc: Global, content: &[u8], steps: &[Step]) -> Result<MemoryDisk> {
+    let mut disk = disk_of(alloc, content)?;
+    run(&mut disk, steps)?;
+    Ok(disk)
 }
 
 fn told(alloc: Global, disk: &MemoryDisk) -> Result<String> {
