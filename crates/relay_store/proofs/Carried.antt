@@ -8,7 +8,6 @@ use Rattle.std.proofs.lemmas.Bool.{false≢true, true≢false}
 use Rattle.std.proofs.lemmas.List.{append-nil}
 use Rattle.relay_disk.specs.Disk.{View, IsDisk}
 use Rattle.gate_log.specs.Build.{IsBuiltOn}
-use Rattle.relay_row.specs.Folds.{is_named}
 use Rattle.relay_row.specs.declared.carried.Carried.{Carried}
 use Rattle.relay_row.specs.declared.row.Row.{Row}
 use Rattle.host_state.specs.Table.{listed}

@@ -1,5 +1,5 @@
 -- A pair of disks while a cut journal is written on the other one.
-use Rattle.std.proofs.Common.{◌≡◌, inl, inr, ◌⊎◌, ⊎_elim, ℕ, ◌+◌, ◌<◌, ◌≤◌, Bool, true, ◌&&◌, List, [], ◌∷◌, ◌++◌, length, IsTrue, Result, Ok, Err, OnErr, refl, sym, ◌∙◌, ap, subst, arith}
+use Rattle.std.proofs.Common.{◌≡◌, inl, inr, ◌⊎◌, ⊎_elim, ℕ, ◌<◌, ◌≤◌, Bool, true, ◌&&◌, List, [], ◌∷◌, ◌++◌, IsTrue, Result, Ok, Err, OnErr, refl, sym, ◌∙◌, ap, subst, arith}
 use Rattle.std.specs.List.{list_all}
 use Rattle.std.proofs.lemmas.Bool.{and_parts}
 use Rattle.event_window.specs.Window.{IsLastUpto}
@@ -18,7 +18,7 @@ use Rattle.gate_log.specs.declared.format.Format.{Format}
 use Rattle.gate_log.specs.declared.format.Format.TheVariants as Formats
 use Rattle.gate_log.specs.declared.picking.Side.{Side}
 use Rattle.gate_log.specs.declared.picking.Side.TheVariants.{One, Two}
-use Rattle.gate_log.proofs.Beside.{built_beside, leaves_new, live_stays}
+use Rattle.gate_log.proofs.Beside.{built_beside, live_stays}
 use Rattle.gate_log.proofs.Fronts.{made_front}
 use Rattle.relay_row.specs.Folds.{last_seq}
 use Rattle.relay_row.specs.Journal.{IsJournal}
@@ -29,7 +29,7 @@ use Rattle.cut_law.specs.Cut.{MayCut, carried, cut}
 use Rattle.cut_law.proofs.Cutting.{cut_is}
 use Rattle.cut_law.proofs.Following.{cut_journal}
 use Rattle.relay_store.specs.Cutting.{IsEitherBeside, IsImageBeside}
-use Rattle.relay_store.specs.Journals.{AllBodies, AreBodiesOf, bytes_of, joined}
+use Rattle.relay_store.specs.Journals.{AllBodies, AreBodiesOf, bytes_of}
 use Rattle.relay_store.specs.Places.{places_of}
 use Rattle.relay_store.specs.Rewriting.{singles, IsCopied, IsOfRewriting}
 use Rattle.relay_store.specs.Store.{StoreState, Keeps, seen}

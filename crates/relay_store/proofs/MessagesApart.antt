@@ -1,13 +1,11 @@
 -- What is known of rows doesn't depend on the messages of hosts that they hold.
 use Rattle.std.proofs.Common.{◌≡◌, ℕ, Bool, true, false, cond, List, [], ◌∷◌, ◌++◌, Option, Some, None, refl, sym, ap, ◌∙◌}
 use Rattle.std.specs.Prelude.{◌==◌, if◌then◌else◌}
-use Rattle.std.specs.List.{list_any}
 use Rattle.std.proofs.lemmas.List.Folds.{list_any-append}
-use Rattle.event_window.specs.declared.place.Place.{Place}
 use Rattle.relay_row.specs.declared.fetched.Fetched.{Fetched}
 use Rattle.relay_row.specs.declared.row.Row.{Row}
 use Rattle.relay_row.specs.declared.taken.Taken.{Taken}
-use Rattle.relay_row.specs.Folds.{names, did_in, events_of, is_named, last_after, last_seq, seq_in, seq_of}
+use Rattle.relay_row.specs.Folds.{names, did_in, events_of, is_named, last_after, last_seq, seq_of}
 use Rattle.relay_row.proofs.Journals.{folded_joined}
 use Rattle.account_state.specs.Folds.{account, account_after, fresh}
 use Rattle.host_state.specs.Folds.{hosts, hosts_after}

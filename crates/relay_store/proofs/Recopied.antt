@@ -1,5 +1,5 @@
 -- Bodies that are read again, one after another.
-use Rattle.std.proofs.Common.{◌≡◌, inl, inr, ⊎_elim, ◌⊎◌, ℕ, ◌+◌, ◌≤◌, ◌<◌, Bool, List, [], ◌∷◌, ◌++◌, length, drop, min, IsTrue, refl, sym, ◌∙◌, ap, subst, arith, append_assoc, length-append}
+use Rattle.std.proofs.Common.{◌≡◌, inl, inr, ⊎_elim, ◌⊎◌, ℕ, ◌+◌, ◌<◌, Bool, List, [], ◌∷◌, ◌++◌, length, drop, min, IsTrue, refl, sym, ◌∙◌, ap, subst, arith, append_assoc, length-append}
 use Rattle.std.proofs.lemmas.Bool.{cases_lt}
 use Rattle.std.proofs.lemmas.List.{append-nil, drop_all}
 use Rattle.relay_disk.specs.Disk.{View, Goes, Same}
@@ -9,18 +9,16 @@ use Rattle.gate_log.specs.Log.{Holds as HasBodies}
 use Rattle.gate_log.specs.declared.format.Format.{Format}
 use Rattle.gate_log.specs.declared.limits.TheConstants.{BEFORE_BODY}
 use Rattle.gate_log.proofs.Append.{made-push}
-use Rattle.relay_row.specs.Bodies.{IsBody, body_of}
+use Rattle.relay_row.specs.Bodies.{body_of}
 use Rattle.relay_row.specs.declared.row.Row.{Row}
 use Rattle.relay_core.specs.Entries.{Holds}
 use Rattle.relay_core.specs.declared.journal_state.Core.{Core}
 use Rattle.relay_store.specs.Journals.{AllBodies, bytes_of, joined}
-use Rattle.relay_store.specs.Rewriting.{HasNoRoom, IsCopied}
+use Rattle.relay_store.specs.Rewriting.{IsCopied}
 use Rattle.relay_store.specs.declared.rewriting.Rewrite.{Rewrite}
 use Rattle.relay_store.proofs.CutFronts.{joined_both}
 use Rattle.relay_store.proofs.Folds.{bytes_push, joined_push}
 use Rattle.relay_store.proofs.Loaded.{length_made, some_records}
-use Rattle.relay_store.proofs.Rewritten.{copied_both, no_room_behind, no_room_front}
-use Rattle.relay_store.proofs.Searching.{each_at}
 use Rattle.relay_store.proofs.Standing.{bytes_joined}
 
 rest_cases : (rest : List (List Row)) → (rest ≡ []) ⊎ ((there : List Row) × (more : List (List Row)) × (rest ≡ there ∷ more))

@@ -21,7 +21,7 @@ use Rattle.relay_row.specs.declared.limits.TheConstants.{NUMBERS}
 use Rattle.relay_row.specs.declared.operated.Operated.{Operated}
 use Rattle.relay_row.specs.declared.row.Row.{Row}
 use Rattle.relay_row.specs.declared.taken.Taken.{Taken}
-use Rattle.relay_store.specs.Events.{AllStand, HasEvents, IsFirst, IsPageOf}
+use Rattle.relay_store.specs.Events.{AllStand, HasEvents, IsFirst, IsPageOf, PageState}
 use Rattle.relay_store.specs.Journals.{bytes_of, joined}
 use Rattle.relay_store.specs.Places.{number_in}
 use Rattle.relay_store.specs.Shown.{held_by, is_shown, shown_of}
@@ -206,7 +206,7 @@ pub still_kept : (J : List Row) (s : StoreState) (v w : View) (keeps : Keeps J s
 still_kept J s v w keeps holds = record { bodies = keeps.bodies; are = keeps.are; holds = holds; core = keeps.core; window = keeps.window }
 
 -- and so are the events, whichever page was read last
-pub still_has : (J : List Row) (s : StoreState) (v w : View) (place : ℕ) (rows : List Row) (held : Held) (keeps : Keeps J s v) → HasBodies (bytes_of keeps.bodies) s.log w → held ≡ held_by J
-    → IsPageOf s.log.format keeps.bodies place rows → HasEvents s w place rows held
+pub still_has : (J : List Row) (s : StoreState) (v w : View) (page : PageState) (held : Held) (keeps : Keeps J s v) → HasBodies (bytes_of keeps.bodies) s.log w → held ≡ held_by J
+    → IsPageOf s.log.format keeps.bodies page → HasEvents s w page held
 unfolding still_kept
-still_has J s v w place rows held keeps holds is page = (J, still_kept J s v w keeps holds, is, page)
+still_has J s v w page held keeps holds is fits = (J, still_kept J s v w keeps holds, is, fits)

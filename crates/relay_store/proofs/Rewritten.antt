@@ -68,11 +68,11 @@ module _ (tells : Bool) where
     added = λ told bodies has. subst (λ (bs : List (List ℕ)). HasBuilt bs r.build v) (sym (append-nil bodies)) has;
     core = λ J holds. subst (Holds r.core) (sym (append-nil J)) holds;
     window = λ before here. sym (append-nil r.window.places);
-    run = λ told. no_call IsClosed v disk (on told).1.left;
+    run = λ told. no_call IsClosed v disk (on told).1.built.left;
     counts = omega arith;
   }
 
-  pub copied_one : (row : Row) (r now : Rewrite) (v w : View) → now.build ≡ record r.build { end = r.build.end + BEFORE_BODY + length (body_of (row ∷ [])) }
+  pub copied_one : (row : Row) (r now : Rewrite) (v w : View) → now.build ≡ record r.build { end = r.build.end + BEFORE_BODY + length (body_of (row ∷ [])); waiting = now.build.waiting }
       → (r.build.most < r.build.end + AROUND_BODY + length (body_of (row ∷ [])) → ⊥)
       → (IsTrue tells → IsBuiltOn w now.build)
       → (IsTrue tells → (bodies : List (List ℕ)) → HasBuilt bodies r.build v → HasBuilt (bodies ++ body_of (row ∷ []) ∷ []) now.build w)

@@ -26,6 +26,7 @@ fn copy_bodies<D: Disk>(
     log: &Log,
     disk: &mut D,
     from: u64,
+    room: &mut Vec<u8>,
     rewrite: &mut Rewrite,
     other: &mut D,
 ) -> Result<(), StoreFault>
@@ -49,7 +50,7 @@ fn copy_bodies<D: Disk>(
 {
     let mut place = from;
     'bodies: while place < log.end() {
-        let (rows, next) = body_at(alloc, log, disk, place)?;
+        let (rows, next) = body_at(alloc, log, disk, place, room)?;
         put_rows(rewrite, other, rows)?;
         place = next;
     }
@@ -86,11 +87,12 @@ pub(crate) fn copy_behind<D: Disk>(
     ensures counts { (D.view other.old).faults ≤ (D.view other.new).faults }
     ensures few { (f : TheFault) → result ≡ Err f → IsOfRewriting f }
 {
-    let (mut rows, next) = body_at(alloc, log, disk, last.place)?;
+    let mut room = Vec::new(alloc);
+    let (mut rows, next) = body_at(alloc, log, disk, last.place, &mut room)?;
     let taken = (usize::from(last.index) + 1).min(rows.len());
     let Ok(behind) = rows.split_off(taken) else {
         return Err(StoreFault::Memory);
     };
     put_rows(rewrite, other, behind)?;
-    copy_bodies(alloc, log, disk, next, rewrite, other)
+    copy_bodies(alloc, log, disk, next, &mut room, rewrite, other)
 }

@@ -62,6 +62,7 @@ fn begin<D: Disk>(alloc: Global, log: &Log, other: &mut D) -> Result<Rewrite, St
       format = Format.Two (generation log.now.format + 1);
       end = length (front (Format.Two (generation log.now.format + 1)));
       most = log.now.most;
+      waiting = [];
     }) }
     ensures begun { IfOk result (λ rewrite. IsTrue D.tells → HasBuilt [] rewrite.build (D.view other.new)) }
     ensures core { IfOk result (λ rewrite. Holds rewrite.core []) }
@@ -175,7 +176,8 @@ impl Store {
     /// Takes the events up to a number out of the journal. What is left is written anew on the other disk of the pair, each row as a body
     /// of its own, and the store is on that disk afterwards: `other` is then the one to be handed to each call. While it is written, the
     /// log that is there stays: a crash leaves the journal as it was, or as it is cut. It takes memory for the state behind the events
-    /// that go, and for the new one; and it reads the disk once, but for the body of the last of these events.
+    /// that go, for the new one, and up to some 262,144 bytes for rows that wait to be written; and it reads the disk once, but for
+    /// the body of the last of these events.
     ///
     /// It is refused with `PastEnd`, where the number is above the last one; else with `NothingToCut`, where no event has a number up to
     /// it; else with `LastCut`, where the log has the last generation. Nothing is touched then. After every fault but `Disk` the store is

@@ -21,7 +21,6 @@ use std::alloc::Global;
 ///
 /// P is the type of that body.
 pub struct Reader<'a, D, P = Page> {
-    alloc: Global,
     store: &'a Store,
     disk: &'a mut D,
     page: P,
@@ -31,10 +30,9 @@ impl<D, P: Drop> Drop for Reader<'_, D, P> {
     ghost use Rattle.std.specs.Prelude.{◌≡◌};
 
     fn drop(self)
-        ensures disk { self.exit.1.1.0.now ≡ self.entry.disk.now }
+        ensures disk { self.exit.1.0.now ≡ self.entry.disk.now }
     {
         let Reader {
-            alloc: _,
             store: _,
             disk: _,
             page,
@@ -47,13 +45,12 @@ impl Store {
     /// Its events, read back from the disk that it is on. Nothing is read yet.
     pub fn events<'a, D: Disk>(&'a self, alloc: Global, disk: &'a mut D) -> Reader<'a, D>
         ensures held { IsTrue D.tells → (J : List TheRow) → Keeps J (seen_in self.now) (D.view disk.old)
-            → HasEvents (seen_in result.store.now) (D.view result.disk.now) result.page.place result.page.rows (held_by J) }
+            → HasEvents (seen_in result.store.now) (D.view result.disk.now) result.page (held_by J) }
         ensures store { result.store.now ≡ self.now }
         ensures disk { result.disk.now ≡ disk.old }
         ensures same_reference { result.disk.ghost_name ≡ disk.entry.ghost_name }
     {
         Reader {
-            alloc,
             store: self,
             disk,
             page: Page::new(alloc),
@@ -64,7 +61,7 @@ impl Store {
 impl<D: Disk> Events for Reader<'_, D> {
     ghost tells = { D.tells };
 
-    ghost holds = { λ reader held. HasEvents (seen_in reader.store.now) (D.view reader.disk.now) reader.page.place reader.page.rows held };
+    ghost holds = { λ reader held. HasEvents (seen_in reader.store.now) (D.view reader.disk.now) reader.page held };
 
     ghost faults = { λ reader. (D.view reader.disk.now).faults };
 
@@ -92,7 +89,6 @@ impl<D: Disk> Events for Reader<'_, D> {
         let store = self.store;
         let places = store.window.above(seq);
         find_shown(
-            self.alloc,
             &store.log,
             &store.core,
             self.disk,

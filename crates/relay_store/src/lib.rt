@@ -3,6 +3,7 @@
 #![tactic(auto)]
 
 mod adding;
+mod bodies;
 mod carrying;
 mod committing;
 mod copying;

@@ -69,12 +69,13 @@ fn learn_body(
     learn_rows(core, window, place, rows.into_vec())
 }
 
-// Reads the body at this place and learns it, and answers the next place.
+// Reads the body at this place into a room and learns it, and answers the next place.
 fn load_body<D: Disk>(
     alloc: Global,
     log: &Log,
     disk: &mut D,
     place: u64,
+    room: &mut Vec<u8>,
     core: &mut Core,
     window: &mut Window,
 ) -> Result<u64, StoreFault>
@@ -93,8 +94,8 @@ fn load_body<D: Disk>(
     ensures disk { result ≡ Err StoreFault.Disk → Rose (D.view disk.old).faults (D.view disk.new).faults }
     ensures few { (f : TheFault) → result ≡ Err f → IsOfReading f }
 {
-    let (body, next) = log.read(alloc, disk, place)?;
-    match learn_body(alloc, core, window, place, body.as_slice()) {
+    let next = log.read_into(disk, place, room)?;
+    match learn_body(alloc, core, window, place, room.as_slice()) {
         Ok(()) => Ok(next),
         Err(RowFault::BadRow) => Err(StoreFault::BadLog(place)),
         Err(RowFault::Memory) => Err(StoreFault::Memory),
@@ -121,9 +122,10 @@ pub(crate) fn load<D: Disk>(
     ensures disk { result ≡ Err StoreFault.Disk → Rose (D.view disk.old).faults (D.view disk.new).faults }
     ensures few { (f : TheFault) → result ≡ Err f → IsOfReading f }
 {
+    let mut room = Vec::new(alloc);
     let mut place = log.first();
     'bodies: while place < log.end() {
-        place = load_body(alloc, log, disk, place, core, window)?;
+        place = load_body(alloc, log, disk, place, &mut room, core, window)?;
     }
     Ok(())
 }

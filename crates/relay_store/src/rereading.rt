@@ -14,6 +14,7 @@ ghost use Rattle.relay_store.specs.Opening.{IsOfReading};
 ghost use Rattle.relay_store.specs.declared.fault.StoreFault.{StoreFault as TheFault};
 
 use crate::StoreFault;
+use crate::bodies::read_body;
 use at_cid::Memory;
 use event_window::Place;
 use gate_log::Log;
@@ -23,12 +24,13 @@ use relay_row::{Row, RowFault, read_rows};
 use std::alloc::Global;
 use std::collections::VecDeque;
 
-/// The rows of the body at this place, and the place of the next body.
+/// The rows of the body at this place, which is read into a room, and the place of the next body.
 pub(crate) fn body_at<D: Disk>(
     alloc: Global,
     log: &Log,
     disk: &mut D,
     place: u64,
+    room: &mut Vec<u8>,
 ) -> Result<(Vec<Row>, u64), StoreFault>
     requires on { IsTrue D.tells → IsOn (D.view disk.old) log.now }
     ensures next { IfOk result (λ found. (place < found.1) × (found.1 ≤ log.now.end)) }
@@ -46,14 +48,11 @@ pub(crate) fn body_at<D: Disk>(
     ensures disk { result ≡ Err StoreFault.Disk → Rose (D.view disk.old).faults (D.view disk.new).faults }
     ensures few { (f : TheFault) → result ≡ Err f → IsOfReading f }
 {
-    if place >= log.end() {
-        return Err(StoreFault::BadLog(place));
-    }
-    let (body, next) = match log.read(alloc, disk, place) {
-        Ok(found) => found,
+    let next = match read_body(log, disk, place, room) {
+        Ok(next) => next,
         Err(fault) => return Err(StoreFault::from(fault)),
     };
-    match read_rows(alloc, body.as_slice()) {
+    match read_rows(alloc, room.as_slice()) {
         Ok(rows) => Ok((rows.into_vec(), next)),
         Err(RowFault::BadRow) => Err(StoreFault::BadLog(place)),
         Err(RowFault::Memory) => Err(StoreFault::Memory),
@@ -78,6 +77,7 @@ fn fold_before<D: Disk>(
     log: &Log,
     disk: &mut D,
     upto: u64,
+    room: &mut Vec<u8>,
     core: &mut Core,
 ) -> Result<(), StoreFault>
     requires on { IsTrue D.tells → IsOn (D.view disk.old) log.now }
@@ -95,7 +95,7 @@ fn fold_before<D: Disk>(
 {
     let mut place = log.first();
     'bodies: while place < upto {
-        let (rows, next) = body_at(alloc, log, disk, place)?;
+        let (rows, next) = body_at(alloc, log, disk, place, room)?;
         fold_rows(core, rows)?;
         place = next;
     }
@@ -123,9 +123,10 @@ pub(crate) fn fold_upto<D: Disk>(
     ensures disk { result ≡ Err StoreFault.Disk → Rose (D.view disk.old).faults (D.view disk.new).faults }
     ensures few { (f : TheFault) → result ≡ Err f → IsOfReading f }
 {
+    let mut room = Vec::new(alloc);
     let mut core = Core::new(alloc);
-    fold_before(alloc, log, disk, last.place, &mut core)?;
-    let (mut rows, _) = body_at(alloc, log, disk, last.place)?;
+    fold_before(alloc, log, disk, last.place, &mut room, &mut core)?;
+    let (mut rows, _) = body_at(alloc, log, disk, last.place, &mut room)?;
     rows.truncate(usize::from(last.index) + 1);
     fold_rows(&mut core, rows)?;
     Ok(core)

@@ -8,29 +8,66 @@ use at_syntax::Tid;
 use relay_core::Answers;
 use relay_row::{Fetched, Whole};
 use std::alloc::Global;
-use vector_lines::{bytes, link};
+use vector_lines::{bytes, link, number, parted};
+
+/// Each refusal of a row that says no more than its number.
+const PLAIN: [Refusal; 21] = [
+    Refusal::BadEvent,
+    Refusal::NotHome,
+    Refusal::Inactive,
+    Refusal::TakenDown,
+    Refusal::TooBig,
+    Refusal::BlocksTooLong,
+    Refusal::TooManyOps,
+    Refusal::BadPath,
+    Refusal::RepeatedPath,
+    Refusal::BadOp,
+    Refusal::Stale,
+    Refusal::BadCar,
+    Refusal::WrongRoot,
+    Refusal::WrongDigest,
+    Refusal::NoCommit,
+    Refusal::BadCommit,
+    Refusal::OtherCommit,
+    Refusal::BadSignature,
+    Refusal::Gap,
+    Refusal::TooLong,
+    Refusal::FutureRev,
+];
+
+fn tid_of(text: &str) -> Result<Tid> {
+    Tid::parse(text).context("a revision")
+}
 
 fn head_of(text: &str) -> Result<Head> {
-    let (rev, links) = text.split_once(':').context("a revision")?;
-    let (data_root, commit) = links.split_once(':').context("two links")?;
+    let (rev, links) = parted(text, ":")?;
+    let (data_root, commit) = links_of(links)?;
     Ok(Head {
-        rev: Tid::parse(rev).context("a revision")?,
-        data_root: link(data_root)?,
-        commit: link(commit)?,
+        rev: tid_of(rev)?,
+        data_root,
+        commit,
     })
 }
 
 fn links_of(text: &str) -> Result<(Cid, Cid)> {
-    let (want, got) = text.split_once(':').context("two links")?;
-    Ok((link(want)?, link(got)?))
+    let (first, second) = parted(text, ":")?;
+    Ok((link(first)?, link(second)?))
+}
+
+fn place_of(text: &str) -> Result<u32> {
+    Ok(text.parse::<u32>()?)
+}
+
+fn code_of(text: &str) -> Result<u8> {
+    Ok(text.parse::<u8>()?)
 }
 
 // A refusal that says more than its number.
 fn refusal_with(code: &str, detail: &str) -> Result<Refusal> {
     match code {
         "20" => Ok(Refusal::BadNode(link(detail)?)),
-        "21" => Ok(Refusal::OtherOp(detail.parse::<u32>()?)),
-        "22" => Ok(Refusal::NotCovered(detail.parse::<u32>()?)),
+        "21" => Ok(Refusal::OtherOp(place_of(detail)?)),
+        "22" => Ok(Refusal::NotCovered(place_of(detail)?)),
         "23" => {
             let (want, got) = links_of(detail)?;
             Ok(Refusal::OtherData(want, got))
@@ -41,87 +78,102 @@ fn refusal_with(code: &str, detail: &str) -> Result<Refusal> {
 
 /// The refusal of a number, with what it says.
 pub fn refusal_of(text: &str) -> Result<Refusal> {
-    if let Some((code, detail)) = text.split_once(':') {
-        return refusal_with(code, detail);
+    match text.split_once(':') {
+        Some((code, detail)) => refusal_with(code, detail),
+        None => plain_refusal(code_of(text)?),
     }
-    let number = text.parse::<u8>()?;
-    let mut all = plain_refusals().into_iter();
-    all.find(|it| it.code() == number).context("a refusal")
 }
 
-// Each refusal of a row that says no more than its number.
-fn plain_refusals() -> [Refusal; 21] {
-    [
-        Refusal::BadEvent,
-        Refusal::NotHome,
-        Refusal::Inactive,
-        Refusal::TakenDown,
-        Refusal::TooBig,
-        Refusal::BlocksTooLong,
-        Refusal::TooManyOps,
-        Refusal::BadPath,
-        Refusal::RepeatedPath,
-        Refusal::BadOp,
-        Refusal::Stale,
-        Refusal::BadCar,
-        Refusal::WrongRoot,
-        Refusal::WrongDigest,
-        Refusal::NoCommit,
-        Refusal::BadCommit,
-        Refusal::OtherCommit,
-        Refusal::BadSignature,
-        Refusal::Gap,
-        Refusal::TooLong,
-        Refusal::FutureRev,
-    ]
+fn plain_refusal(code: u8) -> Result<Refusal> {
+    for refusal in &PLAIN {
+        if refusal.code() == code {
+            return Ok(*refusal);
+        }
+    }
+    bail!("a refusal")
 }
 
 fn whole_of(alloc: Global, text: &str) -> Result<Whole> {
-    let (seq, rest) = text.split_once(':').context("a number")?;
-    let (records, rest) = rest.split_once(':').context("how many records")?;
-    let (message, head) = rest.split_once(':').context("a message")?;
+    let (seq, rest) = parted(text, ":")?;
+    let (records, rest) = parted(rest, ":")?;
+    let (message, head) = parted(rest, ":")?;
+    let (seq, records, head) = (number(seq)?, number(records)?, head_of(head)?);
     Ok(Whole {
-        seq: seq.parse::<u64>()?,
-        head: head_of(head)?,
-        records: records.parse::<u64>()?,
+        seq,
+        head,
+        records,
         message: Octets::from_vec(bytes(alloc, message)?),
     })
 }
 
-/// What a fetch found: `absent`, a number, or `NUMBER:RECORDS:MESSAGE:HEAD`.
+/// What a fetch found: `none`, `absent`, a number, or `NUMBER:RECORDS:MESSAGE:HEAD`.
 pub fn fetched_of(alloc: Global, text: &str) -> Result<Fetched> {
     match text {
         "none" => Ok(Fetched::NotAsked),
         "absent" => Ok(Fetched::Absent),
-        whole if whole.contains(':') => Ok(Fetched::Whole(whole_of(alloc, whole)?)),
-        number => Ok(Fetched::Refused(number.parse::<u8>()?)),
+        _ if text.contains(':') => Ok(Fetched::Whole(whole_of(alloc, text)?)),
+        _ => Ok(Fetched::Refused(code_of(text)?)),
     }
 }
 
-fn opened_of(text: &str) -> Result<Result<Head, Refusal>> {
-    if text.len() > 2 {
-        return Ok(Ok(head_of(text)?));
-    }
-    Ok(Err(refusal_of(text)?))
+fn set_moment(answers: &mut Answers, value: &str) -> Result<()> {
+    answers.moment = Some(number(value)?);
+    Ok(())
 }
 
-fn linked_of(text: &str) -> Result<Result<(), Refusal>> {
-    if text == "ok" {
+fn set_opened(answers: &mut Answers, value: &str) -> Result<()> {
+    answers.opened = Some(opened_of(value)?);
+    Ok(())
+}
+
+fn opened_of(value: &str) -> Result<Result<Head, Refusal>> {
+    if value.len() > 2 {
+        return Ok(Ok(head_of(value)?));
+    }
+    Ok(Err(refusal_of(value)?))
+}
+
+fn set_linked(answers: &mut Answers, value: &str) -> Result<()> {
+    answers.linked = Some(linked_of(value)?);
+    Ok(())
+}
+
+fn linked_of(value: &str) -> Result<Result<(), Refusal>> {
+    if value == "ok" {
         return Ok(Ok(()));
     }
-    Ok(Err(refusal_of(text)?))
+    Ok(Err(refusal_of(value)?))
 }
 
-// Adds the answer of one name.
-fn add_answer(answers: &mut Answers, alloc: Global, name: &str, value: &str) -> Result<()> {
+fn set_fetched(answers: &mut Answers, alloc: Global, value: &str) -> Result<()> {
+    answers.fetched = Some(fetched_of(alloc, value)?);
+    Ok(())
+}
+
+// Sets what is answered by yes or no.
+fn set_word(answers: &mut Answers, name: &str, value: &str) -> Result<()> {
     match name {
-        "moment" => answers.moment = Some(value.parse::<u64>()?),
         "home" => answers.home = Some(value == "yes"),
-        "opened" => answers.opened = Some(opened_of(value)?),
         "verdict" => answers.verdict = Some(value == "good"),
-        "linked" => answers.linked = Some(linked_of(value)?),
-        "fetched" => answers.fetched = Some(fetched_of(alloc, value)?),
         _ => bail!("an answer"),
+    }
+    Ok(())
+}
+
+fn set(answers: &mut Answers, alloc: Global, name: &str, value: &str) -> Result<()> {
+    match name {
+        "moment" => set_moment(answers, value),
+        "opened" => set_opened(answers, value),
+        "linked" => set_linked(answers, value),
+        "fetched" => set_fetched(answers, alloc, value),
+        _ => set_word(answers, name, value),
+    }
+}
+
+fn set_all(answers: &mut Answers, alloc: Global, text: &str) -> Result<()> {
+    for word in text.split(' ') {
+        let (name, value) = parted(word, "=")?;
+        set(answers, alloc, name, value)?;
     }
     Ok(())
 }
@@ -129,12 +181,8 @@ fn add_answer(answers: &mut Answers, alloc: Global, name: &str, value: &str) -> 
 /// The answers of a line, or `-` for none.
 pub fn answers_of(alloc: Global, text: &str) -> Result<Answers> {
     let mut answers = Answers::new();
-    if text == "-" {
-        return Ok(answers);
-    }
-    for word in text.split(' ') {
-        let (name, value) = word.split_once('=').context("a name and a value")?;
-        add_answer(&mut answers, alloc, name, value)?;
+    if text != "-" {
+        set_all(&mut answers, alloc, text)?;
     }
     Ok(answers)
 }

@@ -3,15 +3,15 @@
 
 use crate::answers::answers_of;
 use crate::cores::core_of;
-use crate::journals::add_row;
+use crate::journals::{last_row, with_row};
 use anyhow::{Context, Result, bail, ensure};
 use at_cbor::write_list_front;
 use at_cid::Octets;
-use at_event::{Frame, read_frame};
+use at_event::{Frame, Refusal, read_frame};
 use relay_core::{Answers, Core, Decision, Next, Pass, Question};
-use relay_row::{Fresh, NUMBERS, Row, read_rows, write_fresh};
+use relay_row::{Fresh, NUMBERS, Row, write_fresh};
 use std::alloc::Global;
-use vector_lines::{Subject, bytes, had};
+use vector_lines::{Answer, Subject, bytes, had, parted};
 
 pub struct Decisions;
 
@@ -23,6 +23,76 @@ const MOST_QUESTIONS: usize = 8;
 struct Sent<'a> {
     host: &'a str,
     frame: Frame,
+}
+
+impl Subject for Decisions {
+    fn answer(&self, alloc: Global, input: &str) -> Result<String> {
+        let (bodies, rest) = parted(input, " ; ")?;
+        let (host, rest) = parted(rest, " ; ")?;
+        let (message, answers) = parted(rest, " ; ")?;
+        let sent = read_sent(alloc, host, message)?;
+        behind(alloc, bodies, sent, &mut answers_of(alloc, answers)?)
+    }
+}
+
+fn behind(alloc: Global, bodies: &str, sent: Sent, given: &mut Answers) -> Result<String> {
+    let core = core_of(alloc, bodies)?;
+    decided(alloc, &core, sent, given)
+}
+
+fn read_sent<'a>(alloc: Global, host: &'a str, message: &str) -> Result<Sent<'a>> {
+    let frame = frame(alloc, bytes(alloc, message)?.as_slice())?;
+    Ok(Sent { host, frame })
+}
+
+fn frame(alloc: Global, message: &[u8]) -> Result<Frame> {
+    Ok(read_frame(alloc, message)?)
+}
+
+fn decided(alloc: Global, core: &Core, sent: Sent, given: &mut Answers) -> Result<String> {
+    let mut answers = Answers::new();
+    let answer = asked(Answer::new(alloc), core, &sent, &mut answers, given);
+    let next = next(core, &sent, &answers);
+    let Next::Done(decision) = next else {
+        return undecided(answer, next);
+    };
+    let row = made(alloc, core, sent, &decision, answers)?;
+    told(alloc, core, with_decision(answer, &decision), row)
+}
+
+fn told(alloc: Global, core: &Core, answer: Answer, row: Row) -> Result<String> {
+    ensure!(core.is_next(&row), "the row breaks the order");
+    with_row(alloc, answer, row)
+}
+
+fn undecided(answer: Answer, next: Next) -> Result<String> {
+    match next {
+        Next::Pass(pass) => answer.words("; passed ").words(pass_name(pass)).end(),
+        _ => bail!("a question without an answer"),
+    }
+}
+
+// Asks until there is no question, with the names of those that were asked behind the answer.
+fn asked(
+    answer: Answer,
+    core: &Core,
+    sent: &Sent,
+    answers: &mut Answers,
+    given: &mut Answers,
+) -> Answer {
+    let mut answer = answer;
+    for _ in 0..MOST_QUESTIONS {
+        let Next::Ask(question) = next(core, sent, answers) else {
+            return answer;
+        };
+        answer = answer.words(question_name(question)).words(" ");
+        give(answers, given, question);
+    }
+    answer
+}
+
+fn next(core: &Core, sent: &Sent, answers: &Answers) -> Next {
+    core.next(sent.host, &sent.frame, answers)
 }
 
 fn question_name(question: Question) -> &'static str {
@@ -59,97 +129,51 @@ fn give(answers: &mut Answers, given: &mut Answers, question: Question) {
     }
 }
 
-// Asks until there is no question, and adds those that were asked.
-fn asked(
-    text: &mut String,
-    core: &Core,
-    sent: &Sent,
-    mut given: Answers,
-) -> Result<(Next, Answers)> {
-    let mut answers = Answers::new();
-    for _ in 0..MOST_QUESTIONS {
-        match core.next(sent.host, &sent.frame, &answers) {
-            Next::Ask(question) => {
-                text.push_str(question_name(question))?;
-                text.push(' ')?;
-                give(&mut answers, &mut given, question);
-            }
-            next => return Ok((next, answers)),
-        }
-    }
-    bail!("a question without an answer")
+fn with_decision(answer: Answer, decision: &Decision) -> Answer {
+    let answer = match &decision.refusal {
+        Some(refusal) => with_refusal(answer, refusal),
+        None if decision.held => answer.words("; held"),
+        None => answer.words("; accepted"),
+    };
+    answer.words(if decision.gives { " gives ; " } else { " ; " })
 }
 
-fn add_decision(text: &mut String, decision: &Decision) -> Result<()> {
-    match decision.refusal {
-        Some(refusal) => {
-            let (code, name) = (refusal.code(), refusal.name());
-            write!(text, "; refused {code} {name}")?;
-        }
-        None if decision.held => text.push_str("; held")?,
-        None => text.push_str("; accepted")?,
-    }
-    if decision.gives {
-        text.push_str(" gives")?;
-    }
-    text.push_str(" ; ")?;
-    Ok(())
+fn with_refusal(answer: Answer, refusal: &Refusal) -> Answer {
+    answer
+        .words("; refused ")
+        .number(u64::from(refusal.code()))
+        .words(" ")
+        .words(refusal.name())
 }
 
-// Adds the body of the row of a decision.
-fn add_made(
-    text: &mut String,
+// The row of a decision, as it is read back.
+fn made(
     alloc: Global,
     core: &Core,
     sent: Sent,
     decision: &Decision,
     answers: Answers,
-) -> Result<()> {
-    ensure!(core.last_seq() < NUMBERS - 1, "no number is left");
-    let row = had(core.row(alloc, sent.host, sent.frame, decision, answers))?;
-    let row = spelled(alloc, &row.context("a row of an event")?)?;
-    ensure!(core.is_next(&row), "the row breaks the order");
-    add_row(text, alloc, row)
+) -> Result<Row> {
+    let body = spelled(alloc, &fresh(alloc, core, sent, decision, answers)?)?;
+    last_row(alloc, body.as_slice())
 }
 
-// The row with its message, as it is read back.
-fn spelled(alloc: Global, fresh: &Fresh) -> Result<Row> {
+fn fresh(
+    alloc: Global,
+    core: &Core,
+    sent: Sent,
+    decision: &Decision,
+    answers: Answers,
+) -> Result<Fresh> {
+    ensure!(core.last_seq() < NUMBERS - 1, "no number is left");
+    let row = had(core.row(alloc, sent.host, sent.frame, decision, answers))?;
+    row.context("a row of an event")
+}
+
+// The body of the row with its message.
+fn spelled(alloc: Global, fresh: &Fresh) -> Result<Octets> {
     let mut body = Octets::new(alloc);
     had(write_list_front(&mut body, 1))?;
     had(write_fresh(&mut body, fresh))?;
-    let mut rows = read_rows(alloc, body.as_slice())?.into_vec();
-    rows.pop().context("one row")
-}
-
-fn decided(alloc: Global, core: &Core, sent: Sent, given: Answers) -> Result<String> {
-    let mut text = String::new(alloc);
-    let (next, answers) = asked(&mut text, core, &sent, given)?;
-    match next {
-        Next::Done(decision) => {
-            add_decision(&mut text, &decision)?;
-            add_made(&mut text, alloc, core, sent, &decision, answers)?;
-        }
-        Next::Pass(pass) => {
-            text.push_str("; passed ")?;
-            text.push_str(pass_name(pass))?;
-        }
-        Next::Ask(_) => bail!("a question"),
-    }
-    Ok(text)
-}
-
-impl Subject for Decisions {
-    fn answer(&self, alloc: Global, input: &str) -> Result<String> {
-        let (bodies, rest) = input.split_once(" ; ").context("a host")?;
-        let (host, rest) = rest.split_once(" ; ").context("a message")?;
-        let (message, answers) = rest.split_once(" ; ").context("the answers")?;
-        let core = core_of(alloc, bodies)?;
-        let frame = read_frame(alloc, bytes(alloc, message)?.as_slice())?;
-        decided(
-            alloc,
-            &core,
-            Sent { host, frame },
-            answers_of(alloc, answers)?,
-        )
-    }
+    Ok(body)
 }

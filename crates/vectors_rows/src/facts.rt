@@ -4,9 +4,9 @@
 use crate::answers::refusal_of;
 use crate::journals::only_row;
 use anyhow::Result;
-use relay_row::loses;
+use relay_row::{Row, loses};
 use std::alloc::Global;
-use vector_lines::Subject;
+use vector_lines::{Answer, Subject, said};
 
 pub struct Facts;
 
@@ -14,20 +14,26 @@ pub struct Losses;
 
 impl Subject for Facts {
     fn answer(&self, alloc: Global, input: &str) -> Result<String> {
-        let row = only_row(alloc, input)?;
-        let (host, cursor) = (row.host(), row.host_seq());
-        let (did, number) = (row.did(), row.seq());
-        Ok(format!(in alloc; "host {host} {cursor} did {did} number {number}")?)
+        told(alloc, &only_row(alloc, input)?)
     }
+}
+
+fn told(alloc: Global, row: &Row) -> Result<String> {
+    Answer::new(alloc)
+        .words("host ")
+        .words(row.host())
+        .words(" ")
+        .number(row.host_seq())
+        .words(" did ")
+        .words(row.did())
+        .words(" number ")
+        .number(row.seq())
+        .end()
 }
 
 impl Subject for Losses {
     fn answer(&self, alloc: Global, input: &str) -> Result<String> {
-        let word = if loses(&refusal_of(input)?) {
-            "lost"
-        } else {
-            "kept"
-        };
-        Ok(word.to_string(alloc)?)
+        let is_lost = loses(&refusal_of(input)?);
+        said(alloc, if is_lost { "lost" } else { "kept" })
     }
 }

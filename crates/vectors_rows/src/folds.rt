@@ -2,14 +2,15 @@
 //! hosts each folded alone. `nexts`: `BODIES ; DID = DID, or none`. `account_states`: `BODIES ; TOUCHED ; DID = ACCOUNT, or none`.
 
 use crate::cores::core_of;
-use crate::journals::journal;
-use crate::telling::{Named, add_account, add_accounts, add_hosts};
-use account_state::Accounts;
-use anyhow::{Context, Result, bail, ensure};
+use crate::journals::{Follows, follow_all};
+use crate::telling::{Named, with_account, with_accounts, with_hosts};
+use account_state::{Account, Accounts};
+use anyhow::{Result, bail, ensure};
 use host_state::Hosts;
 use relay_core::Core;
+use relay_row::Row;
 use std::alloc::Global;
-use vector_lines::Subject;
+use vector_lines::{Answer, Subject, had, parted, said};
 
 pub struct Folds;
 
@@ -17,89 +18,135 @@ pub struct Nexts;
 
 pub struct States;
 
-fn accounts_of(alloc: Global, text: &str) -> Result<Accounts> {
-    let mut accounts = Accounts::new(alloc);
-    for row in journal(alloc, text)? {
-        if accounts.touch(row.did()).is_err() {
+impl Follows for Accounts {
+    fn follow(&mut self, row: Row) -> Result<()> {
+        if self.touch(row.did()).is_err() {
             bail!("out of memory");
         }
-        accounts.apply(row);
+        self.apply(row);
+        Ok(())
     }
+}
+
+impl Follows for Hosts {
+    fn follow(&mut self, row: Row) -> Result<()> {
+        if self.touch(row.host()).is_err() {
+            bail!("out of memory");
+        }
+        self.apply(&row);
+        Ok(())
+    }
+}
+
+fn accounts_of(alloc: Global, text: &str) -> Result<Accounts> {
+    let mut accounts = Accounts::new(alloc);
+    follow_all(&mut accounts, alloc, text)?;
     Ok(accounts)
 }
 
 fn hosts_of(alloc: Global, text: &str) -> Result<Hosts> {
     let mut hosts = Hosts::new(alloc);
     ensure!(hosts.is_empty(), "no hosts at the start");
-    for row in journal(alloc, text)? {
-        if hosts.touch(row.host()).is_err() {
-            bail!("out of memory");
-        }
-        hosts.apply(&row);
-    }
+    follow_all(&mut hosts, alloc, text)?;
     Ok(hosts)
 }
 
 // The state, told of one who has accounts and of hosts.
 fn told<N: Named>(alloc: Global, last: u64, hosts: &Hosts, named: &N) -> Result<String> {
-    let mut text = format!(in alloc; "last {last} hosts")?;
-    add_hosts(&mut text, hosts)?;
-    text.push_str(" accounts")?;
-    add_accounts(&mut text, alloc, named)?;
-    Ok(text)
+    let answer = Answer::new(alloc).words("last ").number(last);
+    let answer = with_hosts(answer.words(" hosts"), hosts);
+    with_accounts(alloc, answer.words(" accounts"), named)?.end()
+}
+
+// The state, told of its parts, each folded alone.
+fn told_in_parts(alloc: Global, last: u64, text: &str) -> Result<String> {
+    let hosts = hosts_of(alloc, text)?;
+    told_beside(alloc, last, &hosts, text)
+}
+
+fn told_beside(alloc: Global, last: u64, hosts: &Hosts, text: &str) -> Result<String> {
+    let accounts = accounts_of(alloc, text)?;
+    told(alloc, last, hosts, &accounts)
 }
 
 // Whether each host is found under its name.
 fn are_found(core: &Core) -> bool {
+    let mut are_found = true;
     for place in 0..core.hosts().len() {
-        if let Some((host, cursor)) = core.hosts().at(place) {
-            if core.cursor(host) != cursor {
-                return false;
-            }
-        }
+        are_found &= is_found(core, core.hosts().at(place));
     }
-    true
+    are_found
+}
+
+fn is_found(core: &Core, host: Option<(&str, u64)>) -> bool {
+    match host {
+        Some((host, cursor)) => core.cursor(host) == cursor,
+        None => false,
+    }
 }
 
 impl Subject for Folds {
     fn answer(&self, alloc: Global, input: &str) -> Result<String> {
         let core = core_of(alloc, input)?;
-        let whole = told(alloc, core.last_seq(), core.hosts(), &core)?;
-        let (hosts, accounts) = (hosts_of(alloc, input)?, accounts_of(alloc, input)?);
-        let parts = told(alloc, core.last_seq(), &hosts, &accounts)?;
-        ensure!(whole.as_str() == parts.as_str(), "the parts differ");
-        ensure!(are_found(&core), "another cursor");
-        Ok(whole)
+        compared(alloc, &core, input)
+    }
+}
+
+fn compared(alloc: Global, core: &Core, text: &str) -> Result<String> {
+    ensure!(are_found(core), "another cursor");
+    let whole = told(alloc, core.last_seq(), core.hosts(), core)?;
+    ensure_told(alloc, core.last_seq(), text, whole.as_str())?;
+    Ok(whole)
+}
+
+fn ensure_told(alloc: Global, last: u64, text: &str, whole: &str) -> Result<()> {
+    let parts = told_in_parts(alloc, last, text)?;
+    ensure!(whole == parts.as_str(), "the parts differ");
+    Ok(())
+}
+
+// The DID behind another.
+fn next_of<'a>(core: &'a Core, did: &String) -> &'a str {
+    match core.next_after(did) {
+        Some((next, _)) => next,
+        None => "none",
     }
 }
 
 impl Subject for Nexts {
     fn answer(&self, alloc: Global, input: &str) -> Result<String> {
-        let (bodies, did) = input.split_once(" ; ").context("a DID")?;
+        let (bodies, did) = parted(input, " ; ")?;
         let core = core_of(alloc, bodies)?;
-        let did = if did == "-" { "" } else { did };
-        let name = String::from_str(alloc, did)?;
-        let next = core
-            .next_after(&name)
-            .map(|(next, _)| next)
-            .unwrap_or("none");
-        Ok(next.to_string(alloc)?)
+        next_told(alloc, &core, if did == "-" { "" } else { did })
+    }
+}
+
+fn next_told(alloc: Global, core: &Core, did: &str) -> Result<String> {
+    let did = said(alloc, did)?;
+    said(alloc, next_of(core, &did))
+}
+
+// The state behind the rows of bodies, with room for an account, or for none by `-`.
+fn touched(alloc: Global, bodies: &str, did: &str) -> Result<Core> {
+    let mut core = core_of(alloc, bodies)?;
+    if did != "-" {
+        had(core.touch("", did))?;
+    }
+    Ok(core)
+}
+
+fn account_told(alloc: Global, account: Option<&Account>) -> Result<String> {
+    match account {
+        Some(account) => with_account(Answer::new(alloc), account).end(),
+        None => said(alloc, "none"),
     }
 }
 
 impl Subject for States {
     fn answer(&self, alloc: Global, input: &str) -> Result<String> {
-        let (bodies, rest) = input.split_once(" ; ").context("a touched DID")?;
-        let (touched, did) = rest.split_once(" ; ").context("a DID")?;
-        let mut core = core_of(alloc, bodies)?;
-        if touched != "-" && core.touch("", touched).is_err() {
-            bail!("out of memory");
-        }
-        let Some(account) = core.account(did) else {
-            return Ok("none".to_string(alloc)?);
-        };
-        let mut text = String::new(alloc);
-        add_account(&mut text, account)?;
-        Ok(text)
+        let (bodies, rest) = parted(input, " ; ")?;
+        let (room, did) = parted(rest, " ; ")?;
+        let core = touched(alloc, bodies, room)?;
+        account_told(alloc, core.account(did))
     }
 }

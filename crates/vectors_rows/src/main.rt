@@ -10,6 +10,7 @@ mod folds;
 mod journals;
 mod operations;
 mod orders;
+mod sights;
 mod telling;
 
 use anyhow::Result;
@@ -22,21 +23,33 @@ use orders::Orders;
 use std::process::ExitCode;
 use vector_lines::Suite;
 
-fn compared(rt: &HostRuntime) -> Result<Suite> {
-    let mut suite = Suite::new(rt)?;
+fn compare_rows(rt: &HostRuntime, suite: &mut Suite) -> Result<()> {
     suite.file(rt, "bodies", &Bodies)?;
     suite.file(rt, "own_bodies", &Bodies)?;
     suite.file(rt, "facts", &Facts)?;
-    suite.file(rt, "losses", &Losses)?;
+    suite.file(rt, "losses", &Losses)
+}
+
+fn compare_folds(rt: &HostRuntime, suite: &mut Suite) -> Result<()> {
     suite.file(rt, "accounts", &Folds)?;
     suite.file(rt, "folds", &Folds)?;
     suite.file(rt, "nexts", &Nexts)?;
     suite.file(rt, "account_states", &States)?;
-    suite.file(rt, "orders", &Orders)?;
+    suite.file(rt, "orders", &Orders)
+}
+
+fn compare_decisions(rt: &HostRuntime, suite: &mut Suite) -> Result<()> {
     suite.file(rt, "decisions", &Decisions)?;
     suite.file(rt, "own_decisions", &Decisions)?;
     suite.file(rt, "operations", &Operations)?;
-    suite.file(rt, "premises", &Decisions)?;
+    suite.file(rt, "premises", &Decisions)
+}
+
+fn compared(rt: &HostRuntime) -> Result<Suite> {
+    let mut suite = Suite::new(rt)?;
+    compare_rows(rt, &mut suite)?;
+    compare_folds(rt, &mut suite)?;
+    compare_decisions(rt, &mut suite)?;
     Ok(suite)
 }
 

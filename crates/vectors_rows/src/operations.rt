@@ -3,51 +3,78 @@
 
 use crate::answers::fetched_of;
 use crate::cores::core_of;
-use crate::journals::add_row;
-use anyhow::{Context, Result, bail, ensure};
+use crate::journals::with_row;
+use anyhow::{Result, bail, ensure};
 use at_event::Refusal;
 use relay_core::{Core, fetch_refusal};
 use relay_row::{NUMBERS, Row};
 use std::alloc::Global;
-use vector_lines::{Subject, had};
+use vector_lines::{Answer, Subject, had, number, parted, said};
 
 pub struct Operations;
 
-fn refused(alloc: Global, refusal: Option<Refusal>, other: &str) -> Result<String> {
-    match refusal {
-        Some(refusal) => {
-            let (code, name) = (refusal.code(), refusal.name());
-            Ok(format!(in alloc; "refused {code} {name}")?)
-        }
-        None => Ok(other.to_string(alloc)?),
-    }
-}
-
-fn operated(alloc: Global, core: &Core, down: bool, words: &str) -> Result<String> {
-    let (did, rest) = words.split_once(' ').context("a DID")?;
-    let (time, moment) = rest.split_once(' ').context("a time")?;
-    if let Some(refusal) = core.operate_refusal(did, down) {
-        return refused(alloc, Some(refusal), "");
-    }
-    ensure!(core.last_seq() < NUMBERS - 1, "no number is left");
-    let moment = moment.parse::<u64>()?;
-    let row = had(core.operated(alloc, did, down, time, Some(moment)))?;
-    let mut text = String::new(alloc);
-    add_row(&mut text, alloc, Row::Operated(row))?;
-    Ok(text)
-}
-
 impl Subject for Operations {
     fn answer(&self, alloc: Global, input: &str) -> Result<String> {
-        let (bodies, words) = input.split_once(" ; ").context("a word")?;
-        let core = core_of(alloc, bodies)?;
-        let (word, rest) = words.split_once(' ').context("a word")?;
-        match word {
-            "down" => operated(alloc, &core, true, rest),
-            "up" => operated(alloc, &core, false, rest),
-            "sync" => refused(alloc, core.sync_refusal(rest), "fetch"),
-            "fetched" => refused(alloc, fetch_refusal(&fetched_of(alloc, rest)?), "taken"),
-            _ => bail!("a word"),
-        }
+        let (bodies, words) = parted(input, " ; ")?;
+        let (word, rest) = parted(words, " ")?;
+        answered(alloc, &core_of(alloc, bodies)?, word, rest)
     }
+}
+
+fn answered(alloc: Global, core: &Core, word: &str, rest: &str) -> Result<String> {
+    match word {
+        "down" => operated(alloc, core, true, &read_order(rest)?),
+        "up" => operated(alloc, core, false, &read_order(rest)?),
+        "sync" => refused(alloc, core.sync_refusal(rest), "fetch"),
+        "fetched" => fetched(alloc, rest),
+        _ => bail!("a word"),
+    }
+}
+
+fn fetched(alloc: Global, what: &str) -> Result<String> {
+    let refusal = fetch_refusal(&fetched_of(alloc, what)?);
+    refused(alloc, refusal, "taken")
+}
+
+fn refused(alloc: Global, refusal: Option<Refusal>, other: &str) -> Result<String> {
+    let Some(refusal) = refusal else {
+        return said(alloc, other);
+    };
+    Answer::new(alloc)
+        .words("refused ")
+        .number(u64::from(refusal.code()))
+        .words(" ")
+        .words(refusal.name())
+        .end()
+}
+
+/// An operator's order about an account.
+#[derive(Clone, Copy)]
+struct Order<'a> {
+    did: &'a str,
+    time: &'a str,
+    moment: u64,
+}
+
+fn read_order(words: &str) -> Result<Order<'_>> {
+    let (did, rest) = parted(words, " ")?;
+    let (time, moment) = parted(rest, " ")?;
+    let moment = number(moment)?;
+    Ok(Order { did, time, moment })
+}
+
+fn operated(alloc: Global, core: &Core, down: bool, order: &Order<'_>) -> Result<String> {
+    let refusal = core.operate_refusal(order.did, down);
+    if refusal.is_some() {
+        return refused(alloc, refusal, "");
+    }
+    let row = row_of(alloc, core, down, order)?;
+    with_row(alloc, Answer::new(alloc), row)
+}
+
+fn row_of(alloc: Global, core: &Core, down: bool, order: &Order<'_>) -> Result<Row> {
+    ensure!(core.last_seq() < NUMBERS - 1, "no number is left");
+    let moment = Some(order.moment);
+    let row = had(core.operated(alloc, order.did, down, order.time, moment))?;
+    Ok(Row::Operated(row))
 }

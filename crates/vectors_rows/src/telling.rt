@@ -1,13 +1,13 @@
 //! Accounts, hosts and revisions as an answer words them.
 
 use account_state::{Account, Accounts, Repo};
-use anyhow::{Context, Result};
+use anyhow::Result;
 use at_event::Head;
 use at_syntax::{TID_LEN, Tid};
 use host_state::Hosts;
 use relay_core::Core;
 use std::alloc::Global;
-use vector_lines::{add_bytes, add_link};
+use vector_lines::{Answer, said};
 
 // More accounts than a line has.
 const MOST: usize = 1000;
@@ -30,72 +30,74 @@ impl Named for Accounts {
     }
 }
 
-pub fn add_tid(text: &mut String, tid: Tid) -> Result<()> {
+fn with_tid(answer: Answer, tid: Tid) -> Answer {
     let mut digits = [0; TID_LEN];
-    text.push_str(tid.write_text(&mut digits))?;
-    Ok(())
+    answer.words(tid.write_text(&mut digits))
 }
 
-fn add_head(text: &mut String, head: Head) -> Result<()> {
-    text.push_str("good ")?;
-    add_tid(text, head.rev)?;
-    text.push(' ')?;
-    add_link(text, &head.data_root)?;
-    text.push(' ')?;
-    add_link(text, &head.commit)
+fn with_head(answer: Answer, head: &Head) -> Answer {
+    with_tid(answer.words("good "), head.rev)
+        .words(" ")
+        .link(&head.data_root)
+        .words(" ")
+        .link(&head.commit)
 }
 
-fn add_repo(text: &mut String, repo: Repo) -> Result<()> {
+fn with_repo(answer: Answer, repo: &Repo) -> Answer {
     match repo {
-        Repo::Missing => Ok(text.push_str("none")?),
-        Repo::Good(head) => add_head(text, head),
-        Repo::Lost(None) => Ok(text.push_str("lost -")?),
-        Repo::Lost(Some(rev)) => {
-            text.push_str("lost ")?;
-            add_tid(text, rev)
-        }
+        Repo::Missing => answer.words("none"),
+        Repo::Good(head) => with_head(answer, head),
+        Repo::Lost(None) => answer.words("lost -"),
+        Repo::Lost(Some(rev)) => with_tid(answer.words("lost "), *rev),
     }
 }
 
-fn add_status(text: &mut String, status: Option<&str>) -> Result<()> {
+fn with_status(answer: Answer, status: Option<&str>) -> Answer {
     match status {
-        None => Ok(text.push_str("none")?),
-        Some(status) => add_bytes(text, status.as_bytes()),
+        None => answer.words("none"),
+        Some(status) => answer.bytes(status.as_bytes()),
     }
 }
 
-pub fn add_account(text: &mut String, account: &Account) -> Result<()> {
-    text.push_str(if account.is_active() {
-        "active "
-    } else {
-        "inactive "
-    })?;
-    add_status(text, account.status())?;
-    text.push_str(if account.is_down() { " down " } else { " up " })?;
-    add_repo(text, account.repo())
+/// With what an account is behind.
+pub fn with_account(answer: Answer, account: &Account) -> Answer {
+    let (is_active, is_down) = (account.is_active(), account.is_down());
+    let answer = answer.words(if is_active { "active " } else { "inactive " });
+    let answer = with_status(answer, account.status());
+    let answer = answer.words(if is_down { " down " } else { " up " });
+    with_repo(answer, &account.repo())
 }
 
-/// Adds each account behind its DID, in their order.
-pub fn add_accounts<N: Named>(text: &mut String, alloc: Global, named: &N) -> Result<()> {
+fn with_named(answer: Answer, did: &str, account: &Account) -> Answer {
+    with_account(answer.words(" , ").words(did).words(" "), account)
+}
+
+/// With each account behind its DID, in their order.
+pub fn with_accounts<N: Named>(alloc: Global, answer: Answer, named: &N) -> Result<Answer> {
+    let mut answer = answer;
     let mut name = String::new(alloc);
     for _ in 0..MOST {
         let Some((did, account)) = named.next(&name) else {
-            return Ok(());
+            return Ok(answer);
         };
-        text.push_str(" , ")?;
-        text.push_str(did)?;
-        text.push(' ')?;
-        add_account(text, account)?;
-        name = String::from_str(alloc, did)?;
+        answer = with_named(answer, did, account);
+        name = said(alloc, did)?;
     }
-    Ok(())
+    Ok(answer)
 }
 
-/// Adds each host with its cursor, in first-seen order.
-pub fn add_hosts(text: &mut String, hosts: &Hosts) -> Result<()> {
+/// With each host and its cursor behind, in first-seen order.
+pub fn with_hosts(answer: Answer, hosts: &Hosts) -> Answer {
+    let mut answer = answer;
     for place in 0..hosts.len() {
-        let (host, cursor) = hosts.at(place).context("a host at each place")?;
-        write!(text, " , {host} {cursor}")?;
+        answer = with_host(answer.words(" , "), hosts.at(place));
     }
-    Ok(())
+    answer
+}
+
+fn with_host(answer: Answer, found: Option<(&str, u64)>) -> Answer {
+    match found {
+        Some((host, cursor)) => answer.words(host).words(" ").number(cursor),
+        None => answer.words("no host at its place"),
+    }
 }

@@ -22,7 +22,7 @@ returns-in_err-rows-clause-no_bad_log g c = λ p is tells before there after eac
     c.body_at.ensures.no_bad_log p failed tells before there after (each_at before there after each) held here
 
 pub returns-in_err-rows-clause-run : goal.returns-in_err-rows-clause-run
-returns-in_err-rows-clause-run g c = λ tells. no_call IsClosed _ (g.met.D.Disk.is_disk _) (c.requires.build tells).1.left
+returns-in_err-rows-clause-run g c = λ tells. no_call IsClosed _ (g.met.D.Disk.is_disk _) (c.requires.build tells).1.built.left
 
 pub returns-in_err-rows-clause-few : goal.returns-in_err-rows-clause-few
 returns-in_err-rows-clause-few g c = λ f is.

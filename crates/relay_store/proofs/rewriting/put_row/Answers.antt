@@ -20,7 +20,7 @@ returns-clause-copied g c =
     let body : c.as_slice.result.now ≡ body_of (c.args.row ∷ []) = c.as_slice.ensures.value ∙ c.in_ok-spell_body.ensures.body in
     let end = old.build.end + AROUND_BODY + length c.as_slice.result.now in
     copied_one g.D.Disk.tells c.args.row old _ _ _
-    (c.in-Ok.ensures.build ∙ ap (λ (l : List ℕ). record old.build { end = old.build.end + BEFORE_BODY + length l }) body)
+    (c.in-Ok.ensures.build ∙ ap (λ (l : List ℕ). record old.build { end = old.build.end + BEFORE_BODY + length l; waiting = c.add.new.self.waiting }) body)
     (λ past. not_both c.add.result c.in-Ok.place _ c.in-Ok.is ((c.add.ensures.full end).1 (omega arith, omega (arith, past, ap length body))))
     c.in-Ok.ensures.on
     (λ told bodies has. subst (λ (l : List ℕ). HasBuilt (bodies ++ l ∷ []) c.add.new.self (g.D.Disk.view c.add.new.disk)) body (c.in-Ok.ensures.added told bodies has))

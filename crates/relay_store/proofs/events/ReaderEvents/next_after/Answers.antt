@@ -27,7 +27,7 @@ returns-clause-no_bad_log g c = λ place is tells held has.
 pub returns-clause-same : goal.returns-clause-same
 returns-clause-same g c = λ tells held has.
     let keeps = has.1 in
-    still_has has.0 _ _ _ c.find_shown.new.page.place c.find_shown.new.page.rows held keeps (c.find_shown.ensures.holds tells (bytes_of keeps.bodies) keeps.holds) has.2
+    still_has has.0 _ _ _ c.find_shown.new.page held keeps (c.find_shown.ensures.holds tells (bytes_of keeps.bodies) keeps.holds) has.2
     (c.find_shown.ensures.fits tells keeps.bodies keeps.are.each keeps.holds has.3)
 
 pub returns-clause-later : goal.returns-clause-later

@@ -26,7 +26,7 @@ returns-in_err-front-clause-no_bad_log g c = λ p is tells J n keeps last.
     (subst (λ (bs : List (List Row)). HasBodies (bytes_of bs) c.args.self.now.log (g.D.Disk.view c.args.disk.now)) at.split keeps.holds) at.here
 
 pub returns-in_err-front-clause-run : goal.returns-in_err-front-clause-run
-returns-in_err-front-clause-run g c = λ tells. no_call IsClosed _ (g.met.D.Disk.is_disk _) (c.requires.build tells).1.left
+returns-in_err-front-clause-run g c = λ tells. no_call IsClosed _ (g.met.D.Disk.is_disk _) (c.requires.build tells).1.built.left
 
 pub returns-in_err-front-clause-few : goal.returns-in_err-front-clause-few
 returns-in_err-front-clause-few g c = λ f is.

@@ -1,0 +1,4 @@
+pub mod Times
+pub mod Passed
+pub mod Rows
+pub mod Seen
