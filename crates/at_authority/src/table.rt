@@ -1,6 +1,6 @@
 //! What an authority knows, as lines of text.
 
-ghost use Rattle.std.specs.Prelude.{◌≡◌, ℕ, List, [], ◌∷◌, ◌++◌, length, MatchOption, MatchResult, IfOk, OnOk};
+ghost use Rattle.std.specs.Prelude.{◌≡◌, ℕ, List, [], ◌∷◌, ◌++◌, length, MatchOption, IfOk, OnOk};
 ghost use Rattle.std.specs.List.{position_or_len, before_first};
 ghost use Rattle.at_authority.specs.Queries.{Query, asks_home, asks_verdict};
 ghost use Rattle.at_authority.specs.Tables.{IsTable, IsBadAt, is_line_feed, told_by};

@@ -1,6 +1,6 @@
 //! Judges that say yes to everything.
 
-ghost use Rattle.std.specs.Prelude.{◌≡◌, ◌↔◌};
+ghost use Rattle.std.specs.Prelude.{◌≡◌};
 ghost use Rattle.at_authority.specs.Trusting.{trusting};
 
 use crate::{JudgeFault, Judges};

@@ -1,6 +1,6 @@
 //! What the fields of a commit event show.
 
-ghost use Rattle.std.specs.Prelude.{◌≡◌, IfOk, map, None, length};
+ghost use Rattle.std.specs.Prelude.{◌≡◌, IfOk, None};
 ghost use Rattle.std.specs.List.{list_all};
 ghost use Rattle.std.specs.Str.{bytes_eq};
 ghost use Rattle.event_checks.specs.Table.{field_lines, has_path, is_op, paths_of};

@@ -1,6 +1,6 @@
 //! The command by which a tape is taken.
 
-ghost use Rattle.std.specs.Prelude.{◌≡◌, ◌≤◌, ◌<◌, ◌^◌, ◌⊎◌, ℕ, List, length, IsTrue};
+ghost use Rattle.std.specs.Prelude.{◌≡◌, ◌≤◌, ◌<◌, ◌^◌, ◌⊎◌, List, length, IsTrue};
 ghost use Rattle.at_cid.specs.Counts.{Rose};
 ghost use Rattle.gate_log.specs.Pick.{other_side, view_of_side};
 ghost use Rattle.gate_log.specs.declared.limits.TheConstants.{LAST_END};

@@ -1,5 +1,5 @@
 -- Where the blocks on the ways are there, there is a guarded view.
-use Rattle.std.proofs.Common.{◌≡◌, ◌≢◌, ℕ, zero, suc, ◌<◌, ◌≤◌, List, [], ◌∷◌, ◌++◌, length, refl, sym, ap, ◌∙◌, subst, Option, Some, None, ◌⊎◌, inl, inr, arith, Less, Equal, Greater, Ordering, append-nil, append_assoc}
+use Rattle.std.proofs.Common.{◌≡◌, ◌≢◌, ℕ, ◌<◌, List, [], ◌∷◌, ◌++◌, length, refl, sym, ap, ◌∙◌, subst, Option, Some, None, inl, inr, arith, Less, Equal, append-nil}
 use Rattle.std.specs.FinMap as map
 use Rattle.std.specs.FinMap.{FinMap}
 use Rattle.sha2.specs.Sha256.{sha256}
@@ -7,7 +7,7 @@ use Rattle.at_cid.specs.Link.{IsNodeLink}
 use Rattle.at_cid.specs.Order.{key_cmp}
 use Rattle.at_cid.proofs.Bytes.{cid_is_link}
 use Rattle.at_cid.proofs.Order.{cmp_same}
-use Rattle.mst_list.specs.Edits.{AllAgree, AreApart, AreFormedOps, EndsInHole, Filled, GuardedBy, IsClear, IsGuarded, Plays, StartsWithHole, after, before, by_order, put, undone, value_at, with_value}
+use Rattle.mst_list.specs.Edits.{AreApart, AreFormedOps, EndsInHole, Filled, GuardedBy, IsClear, IsGuarded, Plays, StartsWithHole, after, before, by_order, put, undone, value_at, with_value}
 use Rattle.mst_list.specs.Lists.{AllAbove, AreFormed, Ascends, IsMap, IsWellLaid, KeysOnly, NoLoneHole}
 use Rattle.mst_list.specs.declared.item.Item.{Item}
 use Rattle.mst_list.specs.declared.item.Item.TheVariants.{Hole, Key}
@@ -20,7 +20,7 @@ use Rattle.mst_list.proofs.Puts.{visible}
 use Rattle.mst_list.proofs.Replay.{all_below_up}
 use Rattle.mst_list.proofs.Undo.{AllLeft, all_agree, all_left, around, map_put, undone_by_play, value_filled_at}
 use Rattle.mst_node.specs.Covers.{AreDistinct, AreUnderNodeLinks, HoldsCover, IsInCoverOf, IsOnWay, IsOnWayTo, IsThere, bound_at, first_key, last_key, part_spelled, right_spelled, spelled}
-use Rattle.mst_node.specs.Trees.{AllThere, Distinct, Fills, Holds, HolesUnder, IsAmong, IsView, first_part, nodes, nodes_at, root, spell, top_layer}
+use Rattle.mst_node.specs.Trees.{AllThere, Distinct, Holds, HolesUnder, IsAmong, IsView, first_part, nodes, nodes_at, root, spell, top_layer}
 use Rattle.mst_node.proofs.Filling.{one_root, top_alike}
 use Rattle.mst_node.proofs.Layers.{keys_under_top, top_at_most}
 use Rattle.mst_law.specs.Laws.{IsCoveredBy, IsStep}

@@ -1,15 +1,14 @@
 -- A map with the root of a well-laid list fills it, where no two different blocks of both share a digest.
-use Rattle.std.proofs.Common.{◌≡◌, ◌≢◌, ℕ, zero, suc, ◌<◌, ◌≤◌, max, List, [], ◌∷◌, ◌++◌, refl, sym, ap, ◌∙◌, subst, Option, Some, None, ◌⊎◌, inl, inr, arith}
+use Rattle.std.proofs.Common.{◌≡◌, ℕ, suc, List, [], ◌∷◌, ◌++◌, refl, sym, ap, ◌∙◌, subst, inl, arith}
 use Rattle.at_cid.specs.Link.{cid}
 use Rattle.mst_list.specs.Edits.{Filled}
 use Rattle.mst_list.specs.Height.{height}
-use Rattle.mst_list.specs.Lists.{AreFormed, IsMap, IsWellLaid, KeysOnly, Neighbours, NoLoneHole}
+use Rattle.mst_list.specs.Lists.{AreFormed, IsMap, IsWellLaid, KeysOnly, NoLoneHole}
 use Rattle.mst_list.specs.declared.item.Item.{Item}
 use Rattle.mst_list.specs.declared.item.Item.TheVariants.{Hole, Key}
 use Rattle.mst_node.specs.Trees.{Distinct, Holds, KeysUnder, entries_at, first_part, nodes, nodes_at, part_link, root, spell, top_layer}
 use Rattle.mst_node.specs.declared.entry.Entry.{Entry}
-use Rattle.mst_node.proofs.Cuts.{HasEntry, IsWhole}
-use Rattle.mst_node.proofs.Layers.{first_keys, holes_within, keys_under_top, map_near}
+use Rattle.mst_node.proofs.Layers.{holes_within, keys_under_top, map_near}
 use Rattle.mst_node.proofs.Links.{cid_same, entries_formed, first_formed, link_formed}
 use Rattle.mst_node.proofs.Spelling.{entry_of, node_same}
 use Rattle.mst_node.proofs.Telling.{IsWithin, among_first, among_last, links_tell, node_told}

@@ -5,7 +5,7 @@ use Rattle.at_cid.specs.Order.{key_cmp}
 use Rattle.mst_list.specs.declared.item.Item.{Item}
 use Rattle.mst_list.specs.declared.op.Op.{Op}
 use Rattle.mst_list.specs.Lists.{IsMap}
-use Rattle.mst_list.specs.Edits.{undone, Plays, AllAgree, AreApart, AreFormedOps}
+use Rattle.mst_list.specs.Edits.{undone, Plays, AreApart, AreFormedOps}
 use Rattle.mst_list.proofs.Laid.{kept, replayed}
 use Rattle.mst_node.specs.Trees.{root, nodes, Distinct, Holds}
 use Rattle.mst_node.specs.Covers.{HoldsCover, AreUnderNodeLinks, AreDistinct}

@@ -1,11 +1,11 @@
 -- Steps of a count.
-use Rattle.std.proofs.Common.{◌≡◌, ℕ, zero, suc, ◌+◌, ◌-◌, ◌<◌, ◌≤◌, true, false, List, [], ◌∷◌, ◌++◌, length, refl, sym, ap, ◌∙◌, subst, Option, Some, None, Result, Ok, Err, arith, length-append}
+use Rattle.std.proofs.Common.{◌≡◌, ℕ, zero, ◌+◌, ◌-◌, List, [], ◌∷◌, ◌++◌, length, refl, sym, ap, subst, Option, Some, None, Result, Ok, Err, arith, length-append}
 use Rattle.std.specs.FinMap as map
 use Rattle.std.specs.FinMap.{FinMap}
 use Rattle.at_cid.specs.Order.{key_cmp}
 use Rattle.at_cid.specs.Memory.{Gives}
 use Rattle.mst_list.specs.declared.item.Item.{Item}
-use Rattle.mst_list.specs.declared.item.Item.TheVariants.{Key, Hole}
+use Rattle.mst_list.specs.declared.item.Item.TheVariants.{Key}
 use Rattle.mst_node.specs.declared.entry.Entry.{Entry}
 use Rattle.mst_node.specs.Nodes.{Node}
 use Rattle.mst_node.specs.NodeFaults.{next_bound}

@@ -1,6 +1,6 @@
 //! Walks over what was kept of a CAR that came in pieces.
 
-ghost use Rattle.std.specs.Prelude.{◌≡◌, ◌≤◌, ◌||◌, is_some, ℕ, List, IfOk, IfErr, Ok};
+ghost use Rattle.std.specs.Prelude.{◌≡◌, ◌≤◌, ◌||◌, is_some, IfOk, IfErr, Ok};
 ghost use Rattle.std.specs.FinMap as map;
 ghost use Rattle.at_cid.specs.Link.{IsNodeLink};
 ghost use Rattle.at_cid.specs.Memory.{Gives};

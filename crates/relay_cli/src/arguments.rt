@@ -1,5 +1,5 @@
 //! The words of a command behind its first.
-ghost use Rattle.std.specs.Prelude.{◌≡◌, ◌≢◌, ◌≤◌, ℕ, IfOk, IsErrOf, IsTrue, decimal, length};
+ghost use Rattle.std.specs.Prelude.{◌≡◌, ◌≢◌, ℕ, IfOk, IsErrOf, IsTrue, decimal};
 ghost use Rattle.at_syntax.specs.Did.{is_did};
 ghost use Rattle.at_syntax.specs.Host.{is_host};
 ghost use Rattle.relay_cli.specs.declared.words_fault.WordsFault.{WordsFault};

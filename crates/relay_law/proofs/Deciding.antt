@@ -4,12 +4,11 @@ use Rattle.std.specs.Prelude.{◌==◌, Result, Ok, nat_le, nat_lt}
 use Rattle.std.specs.Bool.{beq}
 use Rattle.std.proofs.lemmas.Bool.{and_parts, and_from, lt-ltb, leb-false, ltb-true, ltb-false, ne_eqb}
 use Rattle.std.proofs.Math.Nat.{min-eq_right}
-use Rattle.at_cbor.specs.Spelling.{spelling}
 use Rattle.at_event.specs.Events.{IsEvent}
 use Rattle.at_event.specs.Refusals.{code_of}
 use Rattle.at_event.specs.Seen.{Seen}
 use Rattle.at_event.specs.Table.{kind_of as event_kind}
-use Rattle.at_event.specs.Writing.{name_of, number_item, with_seq, out_of, out_length}
+use Rattle.at_event.specs.Writing.{with_seq, out_of, out_length}
 use Rattle.at_event.specs.declared.event.Body.{Body}
 use Rattle.at_event.specs.declared.frame.Frame.{Frame}
 use Rattle.at_event.specs.declared.head.Head.{Head}

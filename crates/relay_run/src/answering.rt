@@ -1,12 +1,10 @@
 //! The line of what was answered to an operator.
 
-ghost use Rattle.std.specs.Prelude.{◌≡◌, ◌≤◌, ◌++◌, ◌∷◌, [], codes, IsTrue, IfOk, OnOk, OnErr};
+ghost use Rattle.std.specs.Prelude.{◌≡◌, ◌≤◌, ◌++◌, ◌∷◌, [], IsTrue, IfOk, OnOk, OnErr};
 ghost use Rattle.at_cid.specs.Counts.{Rose};
 ghost use Rattle.relay_io.specs.Streams.{AddsFront};
 ghost use Rattle.relay_run.specs.Ends.{IsWritten};
 ghost use Rattle.relay_run.specs.Lines.{IsEndOf, done_text, numbered};
-ghost use Rattle.relay_run.specs.declared.end.RunEnd.{RunEnd as TheEnd};
-ghost use Rattle.relay_store.specs.declared.done.Done.{Done as TheDone};
 
 use crate::end::RunEnd;
 use at_cid::{Memory, Octets};

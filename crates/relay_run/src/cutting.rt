@@ -15,13 +15,11 @@ ghost use Rattle.relay_store.specs.Cutting.{IsUncut};
 ghost use Rattle.relay_store.specs.Journals.{IsPairImageOf};
 ghost use Rattle.relay_store.specs.Rewriting.{HasNoRoom, IsOfRewriting};
 ghost use Rattle.relay_store.specs.Store.{IsKept, Keeps, seen_in};
-ghost use Rattle.relay_store.specs.declared.cutting.CutDone.{CutDone as TheCutDone};
 ghost use Rattle.relay_store.specs.declared.fault.StoreFault.{StoreFault as TheFault};
 ghost use Rattle.relay_run.specs.Cutting.{EndsCut, IsAnswerOf, IsOfCutting, WasCut, cut_text};
 ghost use Rattle.relay_run.specs.Ends.{IsCausedBy, IsQuiet, IsWritten, Shows};
 ghost use Rattle.relay_run.specs.Lines.{numbered};
 ghost use Rattle.relay_run.specs.Pairs.{StandsFor, outside};
-ghost use Rattle.relay_run.specs.declared.end.RunEnd.{RunEnd as TheEnd};
 
 use crate::answering::{answer_refused, write_last, write_number};
 use crate::end::RunEnd;

@@ -1,6 +1,6 @@
 //! The commands by which an account is taken down or restored.
 
-ghost use Rattle.std.specs.Prelude.{◌≡◌, ◌≢◌, ◌≤◌, ◌⊎◌, ⊤, ℕ, List, Err, length, IsTrue};
+ghost use Rattle.std.specs.Prelude.{◌≡◌, ◌≤◌, ◌⊎◌, ⊤, List, Err, length, IsTrue};
 ghost use Rattle.at_cid.specs.Counts.{Rose};
 ghost use Rattle.at_form.specs.declared.forms.TheConstants.{LONGEST_SHORT_TEXT};
 ghost use Rattle.at_syntax.specs.Did.{is_did};
@@ -17,7 +17,6 @@ ghost use Rattle.relay_store.specs.declared.fault.StoreFault.{StoreFault as TheF
 ghost use Rattle.relay_run.specs.Ends.{IsCausedBy, IsQuiet, Shows};
 ghost use Rattle.relay_run.specs.Pairs.{of_pair, outside};
 ghost use Rattle.relay_run.specs.Spoke.{Knows, Spoke};
-ghost use Rattle.relay_run.specs.declared.end.RunEnd.{RunEnd as TheEnd};
 
 use crate::answering::answer;
 use crate::end::RunEnd;

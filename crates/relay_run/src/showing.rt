@@ -1,6 +1,6 @@
 //! The commands that show a journal.
 
-ghost use Rattle.std.specs.Prelude.{◌≡◌, ◌≤◌, ◌⊎◌, ⊤, ℕ, List, IsTrue};
+ghost use Rattle.std.specs.Prelude.{◌≡◌, ◌≤◌, ◌⊎◌, ⊤, List, IsTrue};
 ghost use Rattle.at_cid.specs.Counts.{Rose};
 ghost use Rattle.gate_log.specs.declared.limits.TheConstants.{LAST_END};
 ghost use Rattle.relay_row.specs.declared.row.Row.{Row as TheRow};
@@ -11,7 +11,6 @@ ghost use Rattle.relay_store.specs.Journals.{IsPairImageOf};
 ghost use Rattle.relay_run.specs.Ends.{IsCausedBy, IsOfShowing, IsQuiet, IsWritten, Shows};
 ghost use Rattle.relay_run.specs.Pairs.{outside};
 ghost use Rattle.relay_run.specs.Shown.{Shown};
-ghost use Rattle.relay_run.specs.declared.end.RunEnd.{RunEnd as TheEnd};
 
 use crate::end::RunEnd;
 use relay_disk::Disk;

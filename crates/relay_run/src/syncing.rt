@@ -1,6 +1,6 @@
 //! The command by which an account's repository is fetched and taken over.
 
-ghost use Rattle.std.specs.Prelude.{◌≡◌, ◌≢◌, ◌≤◌, ◌⊎◌, ⊤, ℕ, List, Err, length, IsTrue};
+ghost use Rattle.std.specs.Prelude.{◌≡◌, ◌≤◌, ◌⊎◌, ⊤, List, Err, length, IsTrue};
 ghost use Rattle.at_authority.specs.Panels.{IsSpent};
 ghost use Rattle.at_cid.specs.Counts.{Rose};
 ghost use Rattle.at_form.specs.declared.forms.TheConstants.{LONGEST_SHORT_TEXT};
@@ -16,11 +16,9 @@ ghost use Rattle.relay_store.specs.Faults.{IsCause};
 ghost use Rattle.relay_store.specs.Journals.{IsPairImageOf};
 ghost use Rattle.relay_store.specs.Store.{IsKept, IsOf, seen_in};
 ghost use Rattle.relay_store.specs.Words.{Spoken};
-ghost use Rattle.relay_store.specs.declared.fault.StoreFault.{StoreFault as TheFault};
 ghost use Rattle.relay_run.specs.Ends.{IsCausedBy, IsQuiet, Shows};
 ghost use Rattle.relay_run.specs.Pairs.{of_pair, outside};
 ghost use Rattle.relay_run.specs.Spoke.{Knows, Spoke};
-ghost use Rattle.relay_run.specs.declared.end.RunEnd.{RunEnd as TheEnd};
 
 use crate::answering::answer;
 use crate::end::RunEnd;

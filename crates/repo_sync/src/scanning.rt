@@ -1,6 +1,6 @@
 //! A repository, read in pieces.
 
-ghost use Rattle.std.specs.Prelude.{◌≡◌, ◌≢◌, ◌≤◌, ◌++◌, ℕ, List, [], length, IsTrue, IfOk, IfErr, OnOk, IsErrOf, Err};
+ghost use Rattle.std.specs.Prelude.{◌≡◌, ◌≢◌, ◌≤◌, ◌++◌, ℕ, List, [], length, IsTrue, IfOk, IfErr, IsErrOf, Err};
 ghost use Rattle.at_cid.specs.Counts.{Rose};
 ghost use Rattle.at_cid.specs.Link.{IsBytes};
 ghost use Rattle.at_car.specs.Standing.{StandsFor};

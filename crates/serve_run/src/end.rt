@@ -25,8 +25,6 @@ pub enum ServeEnd {
 }
 
 impl ServeEnd {
-    ghost use Rattle.relay_store.specs.declared.fault.StoreFault.{StoreFault as TheFault};
-    ghost use Rattle.relay_store.specs.Opening.{IsOfReading};
     ghost use Rattle.serve_run.specs.Ends.{end_of_opening, end_of_replay};
 
     // How it ends where the store wasn't opened: with a fault of reading.

@@ -1,6 +1,6 @@
 //! The command that writes what a guest would be sent.
 
-ghost use Rattle.std.specs.Prelude.{◌≡◌, ◌≤◌, ◌⊎◌, ⊤, ℕ, List, Some, IsTrue};
+ghost use Rattle.std.specs.Prelude.{◌≡◌, ◌≤◌, ◌⊎◌, ℕ, List, Some, IsTrue};
 ghost use Rattle.at_cid.specs.Counts.{Rose};
 ghost use Rattle.event_window.specs.Held.{Held};
 ghost use Rattle.relay_disk.specs.Disk.{Goes, Same};
@@ -15,7 +15,6 @@ ghost use Rattle.backfill.specs.Served.{served, served_events};
 ghost use Rattle.backfill.specs.Writing.{framed, has_long};
 ghost use Rattle.serve_run.specs.Ends.{IsCausedBy, Shows};
 ghost use Rattle.serve_run.specs.Replayed.{IsReplayed, Replayed};
-ghost use Rattle.serve_run.specs.declared.end.ServeEnd.{ServeEnd as TheEnd};
 
 use crate::end::ServeEnd;
 use event_window::Events;

@@ -1,6 +1,6 @@
 //! The command that serves guests.
 
-ghost use Rattle.std.specs.Prelude.{◌≡◌, ◌≤◌, ◌⊎◌, ⊤, ℕ, List, Ok, Err, IsTrue, IfErr};
+ghost use Rattle.std.specs.Prelude.{◌≡◌, ◌≤◌, ◌⊎◌, ℕ, List, Ok, Err, IsTrue};
 ghost use Rattle.at_cid.specs.Counts.{Rose};
 ghost use Rattle.relay_disk.specs.Disk.{Goes, Same};
 ghost use Rattle.gate_log.specs.Pick.{view_of_side};
@@ -13,7 +13,6 @@ ghost use Rattle.relay_run.specs.Pairs.{outside};
 ghost use Rattle.serve_run.specs.AtDoor.{at_door};
 ghost use Rattle.serve_run.specs.Ends.{IsCausedBy, Shows};
 ghost use Rattle.serve_run.specs.Guests.{GuestsServed, ServedAt, end_in};
-ghost use Rattle.serve_run.specs.declared.end.ServeEnd.{ServeEnd as TheEnd};
 
 use crate::end::ServeEnd;
 use crate::session::{write_end, write_session};

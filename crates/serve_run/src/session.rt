@@ -1,12 +1,11 @@
 //! What comes of a guest's session, and its line.
 
-ghost use Rattle.std.specs.Prelude.{◌≡◌, ◌≤◌, ◌++◌, Option, IfOk, OnOk, OnErr, IfErr, IsTrue};
+ghost use Rattle.std.specs.Prelude.{◌≡◌, ◌≤◌, ◌++◌, IfOk, OnOk, IfErr, IsTrue};
 ghost use Rattle.at_cid.specs.Counts.{Rose};
 ghost use Rattle.relay_io.specs.Streams.{AddsFront};
 ghost use Rattle.relay_run.specs.Lines.{numbered};
 ghost use Rattle.serve_run.specs.Ends.{IsUnwritten};
 ghost use Rattle.serve_run.specs.Sessions.{end_line, session_line, told};
-ghost use Rattle.serve_run.specs.declared.end.ServeEnd.{ServeEnd as TheEnd};
 
 use crate::end::ServeEnd;
 use at_cid::{Memory, Octets};

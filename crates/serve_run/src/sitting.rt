@@ -1,6 +1,6 @@
 //! One guest's session.
 
-ghost use Rattle.std.specs.Prelude.{◌≡◌, ◌≤◌, ◌<◌, ◌⊎◌, ℕ, List, Ok, Err, Option, IsTrue, IfOk, IfErr, IfSome, false};
+ghost use Rattle.std.specs.Prelude.{◌≡◌, ◌≤◌, ◌<◌, ◌⊎◌, ℕ, List, Ok, Err, Option, IsTrue, IfOk, IfErr, IfSome};
 ghost use Rattle.at_cid.specs.Counts.{Rose};
 ghost use Rattle.event_window.specs.Held.{Held};
 ghost use Rattle.relay_disk.specs.Disk.{Goes, Same};
@@ -13,8 +13,6 @@ ghost use Rattle.backfill.specs.Target.{cursor_in};
 ghost use Rattle.serve_run.specs.AtDoor.{Met, Received, Sat, at_door};
 ghost use Rattle.serve_run.specs.Ends.{IsOfMeeting, IsOfSession, end_of_serving};
 ghost use Rattle.serve_run.specs.Sessions.{IsClosed, IsCounted, came_of};
-ghost use Rattle.serve_run.specs.declared.end.ServeEnd.{ServeEnd as TheEnd};
-ghost use Rattle.serve_run.specs.declared.session.Session.{Session as TheSession};
 
 use crate::end::ServeEnd;
 use crate::session::Session;

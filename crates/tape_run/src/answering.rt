@@ -1,12 +1,11 @@
 //! Lines of the report, as messages are answered.
 
-ghost use Rattle.std.specs.Prelude.{◌≡◌, ◌≤◌, ◌<◌, ◌+◌, ◌^◌, [], ◌∷◌, ◌++◌, Some, None, OnOk, OnErr, IfOk, IfErr, IsTrue, List, ℕ, length};
+ghost use Rattle.std.specs.Prelude.{◌≡◌, ◌≤◌, ◌<◌, ◌+◌, ◌^◌, [], ◌∷◌, ◌++◌, None, OnOk, OnErr, IfOk, IfErr, IsTrue, length};
 ghost use Rattle.at_cid.specs.Counts.{Rose};
 ghost use Rattle.relay_io.specs.Streams.{AddsFront};
 ghost use Rattle.relay_core.specs.Report.{over_line};
 ghost use Rattle.relay_store.specs.Lines.{end_line_of};
 ghost use Rattle.tape_run.specs.Stops.{IsUnwritten, Finished};
-ghost use Rattle.tape_run.specs.declared.end.TapeEnd.{TapeEnd as TheEnd};
 ghost use Rattle.tape_run.specs.Said.{IsNoted, answered, text_of};
 
 use crate::end::TapeEnd;

@@ -1,5 +1,5 @@
 -- What both merges come to.
-use Rattle.std.proofs.Common.{◌≡◌, ◌≤◌, ℕ, true, List, [], ◌∷◌, ◌++◌, length, map, None, refl, sym, ◌∙◌, ap, subst, arith, inl, inr, ⊎_elim, IsTrue}
+use Rattle.std.proofs.Common.{◌≡◌, ◌≤◌, ℕ, List, [], ◌∷◌, ◌++◌, length, None, refl, sym, ◌∙◌, ap, subst, arith, ⊎_elim, IsTrue}
 use Rattle.relay_disk.specs.Disk.{View}
 use Rattle.gate_log.specs.Image.{IsImage, made}
 use Rattle.gate_log.specs.Pick.{of_side}

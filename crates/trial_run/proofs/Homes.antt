@@ -1,5 +1,5 @@
 -- In a made history no two hosts tell of one account.
-use Rattle.std.proofs.Common.{◌≡◌, ◌≤◌, ◌<◌, ℕ, zero, suc, ◌+◌, slice_index_or, Bool, true, List, [], ◌∷◌, ◌++◌, length, map, codes, get_or, Option, Some, None, Result, Ok, Err, refl, sym, ◌∙◌, ap, subst, arith, inl, inr}
+use Rattle.std.proofs.Common.{◌≡◌, ◌≤◌, ◌<◌, ℕ, zero, suc, ◌+◌, slice_index_or, List, [], ◌∷◌, length, get_or, Result, Ok, Err, refl, sym, ◌∙◌, ap, subst, arith, inl, inr}
 use Rattle.std.specs.List.{Contains}
 use Rattle.at_cbor.specs.Spelling.{IsString}
 use Rattle.at_event.specs.Frames.{frame_of}

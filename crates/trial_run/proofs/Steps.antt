@@ -1,5 +1,5 @@
 -- One message more in a merge.
-use Rattle.std.proofs.Common.{◌≡◌, ◌≢◌, ℕ, Bool, true, List, [], ◌∷◌, ◌++◌, map, Option, Some, None, Result, Ok, Err, refl, sym, ◌∙◌, ap, subst, append_assoc}
+use Rattle.std.proofs.Common.{◌≡◌, ℕ, Bool, true, List, [], ◌∷◌, ◌++◌, map, Option, Some, None, Result, Ok, Err, refl, sym, ◌∙◌, ap, subst, append_assoc}
 use Rattle.std.proofs.lemmas.List.{append-nil}
 use Rattle.at_cbor.specs.Spelling.{IsString}
 use Rattle.at_event.specs.Frames.{frame_of}
@@ -27,7 +27,7 @@ use Rattle.relay_law.proofs.Choosing.{some_right}
 use Rattle.relay_step.specs.Around.{Around, around, Asked, AllAsked, AskedNothing, IsTimed}
 use Rattle.relay_step.specs.Steps.{Told, after_end, passed_over, took, Step, AreSteps, IsTold, ended_by_all, ended_told, message_of, rows, rows_told}
 use Rattle.relay_store.specs.Batches.{Batched, message_from, scene, sent}
-use Rattle.relay_store.specs.Outcomes.{outcome_of, outcome_told, passed_outcome, taken_outcome, outcome_as}
+use Rattle.relay_store.specs.Outcomes.{outcome_of, outcome_told, passed_outcome, outcome_as}
 use Rattle.at_authority.specs.Panels.{Panel}
 use Rattle.relay_store.specs.Store.{Keeps, StoreState, seen_in}
 use Rattle.relay_store.specs.declared.message.Message.{Message}

@@ -1,5 +1,5 @@
 -- The pieces of a summary, put together.
-use Rattle.std.proofs.Common.{◌≡◌, ℕ, List, [], ◌∷◌, ◌++◌, codes, ap, sym, ◌∙◌, append_assoc}
+use Rattle.std.proofs.Common.{◌≡◌, ℕ, List, [], ◌∷◌, ◌++◌, codes, ap, ◌∙◌, append_assoc}
 use Rattle.at_cid.specs.Link.{cid}
 use Rattle.at_cid.specs.Text.{text_of}
 

@@ -16,7 +16,7 @@ use Rattle.relay_core.specs.Worlds.{RunsIn, IsMadeIn, CanSendFor, outside_of}
 use Rattle.relay_core.specs.declared.decision.Pass.{Pass}
 use Rattle.relay_law.specs.Calls.{as_read}
 use Rattle.relay_step.specs.Steps.{Told, after_end, passed_over, took, Step, AreSteps, IsTold, ended_told, message_of, messages, rows, rows_told}
-use Rattle.trial_run.specs.Merging.{Sent, trusting}
+use Rattle.trial_run.specs.Merging.{trusting}
 use Rattle.trial_run.specs.Taking.{yes, sent_by, IsTrusted, AllTrusted}
 
 takes : (b : Bool) (o : Option Pass) (ends passes made : Type 0) → b ≡ false → o ≡ None → made → Turn b o ends passes made

@@ -1,6 +1,6 @@
 //! Taking made messages into a store that begins with nothing, on a disk in memory.
 
-ghost use Rattle.std.specs.Prelude.{◌≡◌, ◌≤◌, ◌++◌, ◌∷◌, [], length, true, option_map, IfOk, OnOk};
+ghost use Rattle.std.specs.Prelude.{◌≡◌, ◌++◌, ◌∷◌, [], length, true, option_map, IfOk, OnOk};
 ghost use Rattle.at_cbor.specs.Spelling.{IsString};
 ghost use Rattle.relay_disk.specs.MemoryView.{memory_view};
 ghost use Rattle.trial_run.specs.Merging.{Sent, is_wanted, those, by_host};

@@ -1,6 +1,6 @@
 //! The summary of a trial.
 
-ghost use Rattle.std.specs.Prelude.{◌≡◌, ◌≤◌, ◌<◌, ◌+◌, ◌++◌, ◌∷◌, [], List, ℕ, true, IfOk, OnOk, codes, option_map};
+ghost use Rattle.std.specs.Prelude.{◌≡◌, ◌≤◌, ◌<◌, ◌+◌, ◌++◌, List, ℕ, true, IfOk, OnOk, codes};
 ghost use Rattle.account_state.specs.Folds.{account as account_in};
 ghost use Rattle.relay_core.specs.Entries.{Holds};
 ghost use Rattle.relay_gen.specs.Names.{did_of};

@@ -4,6 +4,7 @@
 use crate::setup::numbers;
 use anyhow::{Result, bail};
 use at_authority::{Panel, Table, TableAuthority, TableFault};
+use at_cid::Memory;
 use std::alloc::Global;
 use vector_lines::{Answer, had, parted};
 
@@ -23,8 +24,14 @@ fn table(alloc: Global, lines: &str) -> Result<Table> {
     match Table::parse(alloc, text_of(alloc, lines)?.as_str()) {
         Ok(table) => Ok(table),
         Err(TableFault::BadLine(_)) => bail!("a table"),
-        Err(TableFault::Memory) => bail!("out of memory"),
+        Err(TableFault::Memory) => had(Err(Memory)),
     }
+}
+
+fn of_tables(alloc: Global, present: &str, later: &str, failing: &str) -> Result<TableAuthority> {
+    let failing = numbers(alloc, failing)?;
+    let (present, later) = (table(alloc, present)?, table(alloc, later)?);
+    had(TableAuthority::new(alloc, present, later, &failing))
 }
 
 /// The method and the authority of a text.
@@ -33,9 +40,7 @@ pub fn authority(alloc: Global, text: &str) -> Result<(&str, TableAuthority)> {
     let (present, rest) = parted(rest, " : ")?;
     let (later, failing) = parted(rest, " : ")?;
     let later = if later == "same" { present } else { later };
-    let failing = numbers(alloc, failing)?;
-    let (present, later) = (table(alloc, present)?, table(alloc, later)?);
-    let authority = had(TableAuthority::new(alloc, present, later, &failing))?;
+    let authority = of_tables(alloc, present, later, failing)?;
     Ok((method, authority))
 }
 

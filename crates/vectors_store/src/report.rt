@@ -1,6 +1,6 @@
 //! What the steps of a row answer: lines, of which the store writes those of messages.
 
-use anyhow::{Context, Result, bail};
+use anyhow::{Context, Result};
 use at_cid::{Memory, Octets};
 use event_window::EventsFault;
 use relay_store::{Batch, Done, Fetch, Message, Outcome, StoreFault, end_line, line};
@@ -44,6 +44,21 @@ fn add_words(line: &mut Octets, done: &Done) -> Result<(), Memory> {
     }
 }
 
+// With the number and the message of an event behind, or why there are none.
+fn with_found(
+    answer: Answer,
+    found: Result<Option<u64>, EventsFault>,
+    message: &[u8],
+) -> Result<Answer, Memory> {
+    match found {
+        Ok(None) => Ok(answer.words(" none")),
+        Ok(Some(seq)) => Ok(answer.words(" next ").number(seq).words(" ").bytes(message)),
+        Err(EventsFault::Disk) => Ok(answer.words(" Disk")),
+        Err(EventsFault::BadLog(place)) => Ok(answer.words(" BadLog ").number(place)),
+        Err(EventsFault::Memory) => Err(Memory),
+    }
+}
+
 impl Report {
     pub fn new(alloc: Global) -> Report {
         Report {
@@ -63,7 +78,7 @@ impl Report {
     // With a fault, by its number and its name.
     fn add_fault(&mut self, alloc: Global, fault: StoreFault) -> Result<()> {
         if fault == StoreFault::Memory {
-            bail!("out of memory");
+            return had(Err(Memory));
         }
         let number = fault.number();
         let text = format!(in alloc; "{number} {fault:?}")?;
@@ -131,12 +146,7 @@ impl Report {
     ) -> Result<()> {
         let answer = Answer::new(alloc).words("oldest ").number(ends.0);
         let answer = answer.words(" last ").number(ends.1);
-        let answer = match found {
-            Ok(None) => answer.words(" none"),
-            Ok(Some(seq)) => answer.words(" next ").number(seq).words(" ").bytes(message),
-            Err(EventsFault::Disk) => answer.words(" Disk"),
-            Err(fault) => bail!("{fault:?}"),
-        };
+        let answer = had(with_found(answer, found, message))?;
         self.add(answer.end()?.as_str())
     }
 
@@ -156,7 +166,7 @@ impl Report {
     }
 
     /// The lines, with ` / ` between two.
-    pub fn end(self, alloc: Global) -> Result<String> {
+    pub fn end(&self, alloc: Global) -> Result<String> {
         let mut answer = Answer::new(alloc);
         let lines = str::from_utf8(self.lines.as_slice()).context("text")?;
         for (i, line) in lines.lines().enumerate() {

@@ -4,7 +4,7 @@
 use crate::sessions::{Told, session};
 use crate::setup::{Setup, disk_of, read_setup};
 use crate::steps::{Step, joined, steps_of};
-use anyhow::{Result, ensure};
+use anyhow::{Result, bail};
 use relay_disk::MemoryDisk;
 use std::alloc::Global;
 use vector_lines::{Answer, Subject};
@@ -25,30 +25,45 @@ fn reopened(alloc: Global, setup: &Setup<'_>, steps: &[Step<'_>]) -> Result<Told
     let (mut one, mut two) = disks(alloc, setup)?;
     let told = session(alloc, setup, &mut one, &mut two, steps)?;
     let again = session(alloc, setup, &mut one, &mut two, &[])?;
-    ensure!(
-        told.state.as_str() == again.state.as_str(),
-        "another state once it was opened again"
-    );
+    if told.state.as_str() != again.state.as_str() {
+        bail!("another state once it was opened again");
+    }
     Ok(told)
+}
+
+// What is told of messages that were taken one by one, and as groups.
+fn compared(alloc: Global, taken: Told, grouped: &Told) -> Result<String> {
+    if taken.is_same(grouped) {
+        return Ok(taken.report);
+    }
+    Answer::new(alloc)
+        .words(taken.report.as_str())
+        .words(", but in groups ")
+        .words(grouped.report.as_str())
+        .end()
+}
+
+fn run(alloc: Global, setup: &Setup<'_>, steps: Vec<Step<'_>>) -> Result<String> {
+    let taken = reopened(alloc, setup, steps.as_slice())?;
+    let groups = joined(alloc, steps)?;
+    let grouped = reopened(alloc, setup, groups.as_slice())?;
+    compared(alloc, taken, &grouped)
+}
+
+fn contents(alloc: Global, setup: &Setup<'_>, steps: &[Step<'_>]) -> Result<String> {
+    let (mut one, mut two) = disks(alloc, setup)?;
+    session(alloc, setup, &mut one, &mut two, steps)?;
+    Answer::new(alloc)
+        .bytes(one.content())
+        .words(" ")
+        .bytes(two.content())
+        .end()
 }
 
 impl Subject for Runs {
     fn answer(&self, alloc: Global, input: &str) -> Result<String> {
         let setup = read_setup(alloc, input)?;
-        let steps = steps_of(alloc, setup.steps)?;
-        let taken = reopened(alloc, &setup, steps.as_slice())?;
-        let groups = joined(alloc, steps)?;
-        let grouped = reopened(alloc, &setup, groups.as_slice())?;
-        if taken.report.as_str() == grouped.report.as_str()
-            && taken.state.as_str() == grouped.state.as_str()
-        {
-            return Ok(taken.report);
-        }
-        Answer::new(alloc)
-            .words(taken.report.as_str())
-            .words(", but in groups ")
-            .words(grouped.report.as_str())
-            .end()
+        run(alloc, &setup, steps_of(alloc, setup.steps)?)
     }
 }
 
@@ -56,12 +71,6 @@ impl Subject for Logs {
     fn answer(&self, alloc: Global, input: &str) -> Result<String> {
         let setup = read_setup(alloc, input)?;
         let steps = steps_of(alloc, setup.steps)?;
-        let (mut one, mut two) = disks(alloc, &setup)?;
-        session(alloc, &setup, &mut one, &mut two, steps.as_slice())?;
-        Answer::new(alloc)
-            .bytes(one.content())
-            .words(" ")
-            .bytes(two.content())
-            .end()
+        contents(alloc, &setup, steps.as_slice())
     }
 }

@@ -23,70 +23,62 @@ pub struct Told {
     pub state: String,
 }
 
+impl Told {
+    /// Whether both are told alike.
+    pub fn is_same(&self, other: &Told) -> bool {
+        self.report.as_str() == other.report.as_str() && self.state.as_str() == other.state.as_str()
+    }
+}
+
 // The store that was opened, with what it asks.
-fn sitting<P: Judges + Drop>(
-    alloc: Global,
-    setup: &Setup<'_>,
-    store: Store,
-    judges: P,
-) -> Result<Sitting<P>>
+fn sitting(alloc: Global, setup: &Setup<'_>, store: Store) -> Result<Sitting>
     ensures { IfOk result (λ made. made.store ≡ store) }
 {
     let report = Report::new(alloc);
     Ok(Sitting {
         alloc,
         store,
-        judges,
         repos: repos_of(alloc, setup.repositories)?,
         clock: clock_of(alloc, setup.moments)?,
         report,
     })
 }
 
-fn unopened<P>(alloc: Global, fault: StoreFault, judges: P) -> Result<(Told, P)>
-where
-    P: Judges + Drop,
-{
+fn unopened(alloc: Global, fault: StoreFault) -> Result<Told> {
     let report = Report::unopened(alloc, fault)?.end(alloc)?;
     let state = said(alloc, "none")?;
-    Ok((Told { report, state }, judges))
+    Ok(Told { report, state })
 }
 
-fn ended<P: Judges + Drop>(alloc: Global, sitting: Sitting<P>) -> Result<(Told, P)> {
-    let Sitting {
-        store,
-        judges,
-        report,
-        ..
-    } = sitting;
-    let state = state(alloc, store.core())?;
-    let report = report.end(alloc)?;
-    Ok((Told { report, state }, judges))
+fn told_by(alloc: Global, sitting: &Sitting) -> Result<Told> {
+    let state = state(alloc, sitting.store.core())?;
+    let report = sitting.report.end(alloc)?;
+    Ok(Told { report, state })
 }
 
-// Opens a store, makes the steps, and gives the judges back.
-fn sat<D: Disk, P: Judges + Drop>(
+// Opens a store, and makes the steps.
+fn sat<D: Disk, P: Judges>(
     alloc: Global,
     setup: &Setup<'_>,
-    judges: P,
+    judges: &mut P,
     one: &mut D,
     two: &mut D,
     steps: &[Step<'_>],
-) -> Result<(Told, P)> {
+) -> Result<Told> {
     if setup.most > LAST_END {
         bail!("a limit past the last end");
     }
     let store = match Store::open(alloc, one, two, setup.most) {
         Ok(store) => store,
-        Err(fault) => return unopened(alloc, fault, judges),
+        Err(fault) => return unopened(alloc, fault),
     };
     let side = store.side();
-    let mut sitting = sitting(alloc, setup, store, judges)?;
+    let mut sitting = sitting(alloc, setup, store)?;
     match side {
-        Side::One => sitting.run(one, steps)?,
-        Side::Two => sitting.run(two, steps)?,
+        Side::One => sitting.run(one, judges, steps)?,
+        Side::Two => sitting.run(two, judges, steps)?,
     }
-    ended(alloc, sitting)
+    told_by(alloc, &sitting)
 }
 
 fn judged<D: Disk>(
@@ -103,7 +95,7 @@ fn judged<D: Disk>(
             had(panel.add(method, Box::new(alloc, authority)?))?;
         }
     }
-    let (mut told, panel) = sat(alloc, setup, panel, one, two, steps)?;
+    let mut told = sat(alloc, setup, &mut panel, one, two, steps)?;
     told.report.push_str(fallen(alloc, &panel)?.as_str())?;
     Ok(told)
 }
@@ -117,8 +109,7 @@ pub fn session<D: Disk>(
     steps: &[Step<'_>],
 ) -> Result<Told> {
     if setup.judges == "all" {
-        let (told, _) = sat(alloc, setup, TrustAll, one, two, steps)?;
-        return Ok(told);
+        return sat(alloc, setup, &mut TrustAll, one, two, steps);
     }
     judged(alloc, setup, one, two, steps)
 }

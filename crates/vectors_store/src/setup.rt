@@ -32,9 +32,7 @@ pub struct Setup<'a> {
 /// The parts of a text.
 pub fn read_setup(alloc: Global, text: &str) -> Result<Setup<'_>> {
     let (disks, rest) = parted(text, " | ")?;
-    let (judges, rest) = parted(rest, " | ")?;
-    let (repositories, rest) = parted(rest, " | ")?;
-    let (moments, steps) = parted(rest, " | ")?;
+    let (judges, repositories, moments, steps) = four_of(rest)?;
     let (one, two, most) = disks_of(alloc, disks)?;
     Ok(Setup {
         one,
@@ -45,6 +43,14 @@ pub fn read_setup(alloc: Global, text: &str) -> Result<Setup<'_>> {
         moments,
         steps,
     })
+}
+
+// The four parts behind the disks.
+fn four_of(text: &str) -> Result<(&str, &str, &str, &str)> {
+    let (judges, rest) = parted(text, " | ")?;
+    let (repositories, rest) = parted(rest, " | ")?;
+    let (moments, steps) = parted(rest, " | ")?;
+    Ok((judges, repositories, moments, steps))
 }
 
 fn disks_of(alloc: Global, text: &str) -> Result<(Vec<u8>, Vec<u8>, u64)> {
@@ -84,6 +90,18 @@ fn repository_of(alloc: Global, text: &str) -> Result<Repository> {
     })
 }
 
+fn repos_in_pieces(
+    alloc: Global,
+    repositories: Vec<Repository>,
+    piece: usize,
+    failing: &[u64],
+) -> Result<MemoryRepos> {
+    if piece == 0 {
+        bail!("pieces of no bytes");
+    }
+    had(MemoryRepos::new(alloc, repositories, piece, failing))
+}
+
 /// The repositories of a row.
 pub fn repos_of(alloc: Global, text: &str) -> Result<MemoryRepos> {
     let mut words = text.split(' ');
@@ -93,11 +111,7 @@ pub fn repos_of(alloc: Global, text: &str) -> Result<MemoryRepos> {
     for word in words {
         repositories.push(repository_of(alloc, word)?)?;
     }
-    let piece = usize::try_from(piece)?;
-    if piece == 0 {
-        bail!("pieces of no bytes");
-    }
-    had(MemoryRepos::new(alloc, repositories, piece, &failing))
+    repos_in_pieces(alloc, repositories, usize::try_from(piece)?, &failing)
 }
 
 fn are_moments(moments: &[u64]) -> bool

@@ -23,12 +23,11 @@ use relay_store::{Message, Store};
 use std::alloc::Global;
 use vector_lines::Answer;
 
-/// An open store, what it asks, and what it answered. The disk that has its log is handed to each call.
+/// An open store, what it asks, and what it answered. The disk that has its log and the judges are handed to each call.
 #[derive(Drop)]
-pub struct Sitting<P: Judges + Drop> {
+pub struct Sitting {
     pub alloc: Global,
     pub store: Store,
-    pub judges: P,
     pub repos: MemoryRepos,
     pub clock: ListClock,
     pub report: Report,
@@ -67,10 +66,15 @@ pub fn side_name(side: Side) -> &'static str {
     }
 }
 
-impl<P: Judges + Drop> Sitting<P> {
+impl Sitting {
     ghost use Rattle.vectors_store.specs.Standing.{Stands};
 
-    fn take<D: Disk>(&mut self, disk: &mut D, message: &Message) -> Result<()>
+    fn take<D: Disk, P: Judges>(
+        &mut self,
+        disk: &mut D,
+        judges: &mut P,
+        message: &Message,
+    ) -> Result<()>
         requires { Stands D.tells self.old.store (D.view disk.old) }
         ensures { Stands D.tells self.new.store (D.view disk.new) }
     {
@@ -83,7 +87,7 @@ impl<P: Judges + Drop> Sitting<P> {
             disk,
             host,
             bytes,
-            &mut self.judges,
+            judges,
             &mut self.repos,
             &mut self.clock,
         );
@@ -91,7 +95,12 @@ impl<P: Judges + Drop> Sitting<P> {
     }
 
     // Hands messages to one call, as many as it may have, and says how many were taken, one with a fault too.
-    fn take_group<D: Disk>(&mut self, disk: &mut D, messages: &[Message]) -> Result<usize>
+    fn take_group<D: Disk, P: Judges>(
+        &mut self,
+        disk: &mut D,
+        judges: &mut P,
+        messages: &[Message],
+    ) -> Result<usize>
         requires { Stands D.tells self.old.store (D.view disk.old) }
         ensures { Stands D.tells self.new.store (D.view disk.new) }
     {
@@ -103,7 +112,7 @@ impl<P: Judges + Drop> Sitting<P> {
             self.alloc,
             disk,
             group,
-            &mut self.judges,
+            judges,
             &mut self.repos,
             &mut self.clock,
         );
@@ -111,7 +120,12 @@ impl<P: Judges + Drop> Sitting<P> {
     }
 
     // Takes messages as groups, up to the last.
-    fn take_each<D: Disk>(&mut self, disk: &mut D, messages: &[Message]) -> Result<()>
+    fn take_each<D: Disk, P: Judges>(
+        &mut self,
+        disk: &mut D,
+        judges: &mut P,
+        messages: &[Message],
+    ) -> Result<()>
         requires { Stands D.tells self.old.store (D.view disk.old) }
         ensures { Stands D.tells self.new.store (D.view disk.new) }
     {
@@ -120,7 +134,7 @@ impl<P: Judges + Drop> Sitting<P> {
             if rest.is_empty() {
                 break;
             }
-            let count = self.take_group(disk, rest)?;
+            let count = self.take_group(disk, judges, rest)?;
             rest = rest.get(count..).unwrap_or(&[]);
         }
         Ok(())
@@ -138,7 +152,13 @@ impl<P: Judges + Drop> Sitting<P> {
         self.report.add_done(alloc, done)
     }
 
-    fn sync_now<D: Disk>(&mut self, disk: &mut D, did: &str, time: &str) -> Result<()>
+    fn sync_now<D: Disk, P: Judges>(
+        &mut self,
+        disk: &mut D,
+        judges: &mut P,
+        did: &str,
+        time: &str,
+    ) -> Result<()>
         requires { Stands D.tells self.old.store (D.view disk.old) }
         ensures { Stands D.tells self.new.store (D.view disk.new) }
     {
@@ -150,7 +170,7 @@ impl<P: Judges + Drop> Sitting<P> {
             disk,
             did,
             time,
-            &mut self.judges,
+            judges,
             &mut self.repos,
             &mut self.clock,
         );
@@ -173,31 +193,41 @@ impl<P: Judges + Drop> Sitting<P> {
             .add_event(self.alloc, ends, found, room.as_slice())
     }
 
-    fn make<D: Disk>(&mut self, disk: &mut D, step: &Step<'_>) -> Result<()>
+    fn make<D: Disk, P: Judges>(
+        &mut self,
+        disk: &mut D,
+        judges: &mut P,
+        step: &Step<'_>,
+    ) -> Result<()>
         requires { Stands D.tells self.old.store (D.view disk.old) }
         ensures { Stands D.tells self.new.store (D.view disk.new) }
     {
         match step {
-            Step::Take(message) => self.take(disk, message),
+            Step::Take(message) => self.take(disk, judges, message),
             Step::Group(messages) => {
-                self.take_group(disk, messages.as_slice())?;
+                self.take_group(disk, judges, messages.as_slice())?;
                 Ok(())
             }
-            Step::All(messages) => self.take_each(disk, messages.as_slice()),
+            Step::All(messages) => self.take_each(disk, judges, messages.as_slice()),
             Step::Operate(down, did, time) => self.operate(disk, *down, did, time),
-            Step::Sync(did, time) => self.sync_now(disk, did, time),
+            Step::Sync(did, time) => self.sync_now(disk, judges, did, time),
             Step::After(seq) => self.read_next(disk, *seq),
             Step::Told(what) => show(self.alloc, &self.store, what, &mut self.report),
         }
     }
 
     /// Makes the steps in their order.
-    pub fn run<D: Disk>(&mut self, disk: &mut D, steps: &[Step<'_>]) -> Result<()>
+    pub fn run<D: Disk, P: Judges>(
+        &mut self,
+        disk: &mut D,
+        judges: &mut P,
+        steps: &[Step<'_>],
+    ) -> Result<()>
         requires { Stands D.tells self.old.store (D.view disk.old) }
         ensures { Stands D.tells self.new.store (D.view disk.new) }
     {
         'steps: for step in steps {
-            self.make(disk, step)?;
+            self.make(disk, judges, step)?;
         }
         Ok(())
     }

@@ -1,6 +1,6 @@
 //! Steps as a row words them, with ` ; ` between two.
 
-use anyhow::{Result, bail};
+use anyhow::{Context, Result};
 use at_cid::{Octets, Words};
 use relay_store::Message;
 use std::alloc::Global;
@@ -53,34 +53,51 @@ fn messages_of(alloc: Global, text: &str) -> Result<Vec<Message>> {
     Ok(messages)
 }
 
+// An operator's word on an account, if it is one.
+fn word_of<'a>(verb: &str, did: &'a str, time: &'a str) -> Option<Step<'a>> {
+    match verb {
+        "down" => Some(Step::Operate(true, did, time)),
+        "up" => Some(Step::Operate(false, did, time)),
+        "sync" => Some(Step::Sync(did, time)),
+        _ => None,
+    }
+}
+
 // A step that names an account.
 fn step_on<'a>(verb: &str, rest: &'a str) -> Result<Step<'a>> {
     if verb == "account" {
         return Ok(Step::Told(Shown::Account(rest)));
     }
     let (did, time) = parted(rest, " ")?;
-    match verb {
-        "down" => Ok(Step::Operate(true, did, time)),
-        "up" => Ok(Step::Operate(false, did, time)),
-        "sync" => Ok(Step::Sync(did, time)),
-        _ => bail!("a step"),
+    word_of(verb, did, time).context("a step")
+}
+
+// What is told between two steps, if it is asked by one word.
+fn told_by(word: &str) -> Option<Shown<'static>> {
+    match word {
+        "hosts" => Some(Shown::Hosts),
+        "side" => Some(Shown::Side),
+        "end" => Some(Shown::End),
+        _ => None,
     }
 }
 
-fn step_of(alloc: Global, words: &str) -> Result<Step<'_>> {
-    match words {
-        "hosts" => return Ok(Step::Told(Shown::Hosts)),
-        "side" => return Ok(Step::Told(Shown::Side)),
-        "end" => return Ok(Step::Told(Shown::End)),
-        _ => {}
-    }
-    let (verb, rest) = parted(words, " ")?;
+// A step of a verb and what stands behind it.
+fn step_with<'a>(alloc: Global, verb: &str, rest: &'a str) -> Result<Step<'a>> {
     match verb {
         "take" => Ok(Step::Take(message_of(alloc, rest)?)),
         "after" => Ok(Step::After(number(rest)?)),
         "group" => Ok(Step::Group(messages_of(alloc, rest)?)),
         _ => step_on(verb, rest),
     }
+}
+
+fn step_of(alloc: Global, words: &str) -> Result<Step<'_>> {
+    if let Some(shown) = told_by(words) {
+        return Ok(Step::Told(shown));
+    }
+    let (verb, rest) = parted(words, " ")?;
+    step_with(alloc, verb, rest)
 }
 
 /// The steps of a text, or `-` for none.

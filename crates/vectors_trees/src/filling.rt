@@ -2,7 +2,7 @@
 
 ghost use Rattle.std.specs.Prelude.{◌≤◌, length};
 
-use crate::trees::{copied, layers_of, subtree};
+use crate::trees::{layers_of, link_below};
 use anyhow::Result;
 use at_car::Blocks;
 use at_cid::compare;
@@ -56,8 +56,8 @@ fn stand_for(alloc: Global, items: &[Item], item: &Item) -> Result<bool> {
         Item::Hole(layer, link) => {
             let layers = layer.saturating_add(1);
             let mut blocks = Blocks::new(alloc);
-            let tree = subtree(alloc, &mut blocks, layers, copied(alloc, items)?, &[])?;
-            Ok(layers_of(items) <= layers && tree.link == Some(*link))
+            let found = link_below(alloc, &mut blocks, layers, items)?;
+            Ok(layers_of(items) <= layers && found == Some(*link))
         }
     }
 }

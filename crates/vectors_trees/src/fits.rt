@@ -3,44 +3,26 @@
 //! key ends.
 
 use crate::parts::node_of;
+use crate::row::Row;
 use crate::spelled::with_yes;
-use anyhow::{Context, Result};
+use anyhow::{Result, bail};
 use mst_node::{Node, layer_of, next_key, node_fits, top_fits};
 use std::alloc::Global;
-use vector_lines::{Answer, Subject, bytes, number, parted};
+use vector_lines::{Answer, Subject};
 
 pub struct Fits;
 
-// The place of a node: its layer and the keys between which it is.
+// The place of a node: its layer and the keys between which it is, which are empty where there are none.
 #[derive(Drop)]
 struct Place {
     layer: u8,
-    low: Option<Vec<u8>>,
-    high: Option<Vec<u8>>,
+    low: Vec<u8>,
+    high: Vec<u8>,
 }
 
-fn bound(alloc: Global, text: &str) -> Result<Option<Vec<u8>>> {
-    if text == "-" {
-        return Ok(None);
-    }
-    Ok(Some(bytes(alloc, text)?))
-}
-
-fn lent(key: &Option<Vec<u8>>) -> Option<&[u8]> {
-    match key {
-        Some(key) => Some(key.as_slice()),
-        None => None,
-    }
-}
-
-fn place_of(alloc: Global, text: &str) -> Result<Place> {
-    let (layer, bounds) = parted(text, " ")?;
-    let (low, high) = parted(bounds, " ")?;
-    Ok(Place {
-        layer: u8::try_from(number(layer)?)?,
-        low: bound(alloc, low)?,
-        high: bound(alloc, high)?,
-    })
+// A bound, which no bytes say that there is none.
+fn bound(key: &[u8]) -> Option<&[u8]> {
+    if key.is_empty() { None } else { Some(key) }
 }
 
 // With what is said of a top node behind.
@@ -51,8 +33,8 @@ fn with_top(answer: Answer, node: &Node) -> Answer {
 }
 
 fn told(alloc: Global, place: &Place, node: &Node) -> Result<String> {
-    let (low, high) = (lent(&place.low), lent(&place.high));
-    let fits = node_fits(place.layer, low, high, node);
+    let high = bound(&place.high);
+    let fits = node_fits(place.layer, bound(&place.low), high, node);
     let next = next_key(high, node.entries.as_slice());
     let answer = with_yes(Answer::new(alloc).words("fits "), fits);
     with_top(answer, node)
@@ -63,9 +45,17 @@ fn told(alloc: Global, place: &Place, node: &Node) -> Result<String> {
 
 impl Subject for Fits {
     fn answer(&self, alloc: Global, input: &str) -> Result<String> {
-        let (front, parts) = parted(input, " ; ")?;
-        let place = place_of(alloc, front)?;
-        let node = node_of(alloc, parts)?.context("a node")?;
-        told(alloc, &place, &node)
+        let mut row = Row::new(alloc, input);
+        let place = Place {
+            layer: row.layer(" "),
+            low: row.bytes(" "),
+            high: row.bytes(" ; "),
+        };
+        let parts = row.part(" ; ");
+        row.end()?;
+        match node_of(alloc, parts)? {
+            Some(node) => told(alloc, &place, &node),
+            None => bail!("a node"),
+        }
     }
 }

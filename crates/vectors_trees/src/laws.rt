@@ -30,6 +30,23 @@ fn is_played(alloc: Global, from: &ItemList, ops: &OpList, to: &ItemList) -> Res
     Ok(played.as_slice() == to.as_slice())
 }
 
+// A list, and a map that fills it.
+#[derive(Clone, Copy)]
+struct Filled<'a> {
+    map: &'a ItemList,
+    list: &'a ItemList,
+}
+
+// Whether the laws hold of what is before the operations and behind them.
+fn is_lawful(alloc: Global, before: Filled<'_>, ops: &OpList, after: Filled<'_>) -> Result<bool> {
+    Ok(
+        guarded(after.list, ops)
+            && is_played(alloc, before.map, ops, after.map)?
+            && is_told(alloc, after.map, before.map, after.list)?
+            && is_told(alloc, before.map, after.map, before.list)?,
+    )
+}
+
 /// The root of a list with operations undone, where the laws hold of it and of a map that fills the list: the map that was
 /// before fills the list that was before, the operations play from map to map, and roots tell the maps of each list apart.
 pub fn former_root(
@@ -38,15 +55,14 @@ pub fn former_root(
     map: &ItemList,
     ops: &OpList,
 ) -> Result<Option<Cid>> {
-    let former_list = undone(alloc, list, ops)?;
     let former_map = undone(alloc, map, ops)?;
-    if guarded(list, ops)
-        && is_played(alloc, &former_map, ops, map)?
-        && is_told(alloc, map, &former_map, list)?
-        && is_told(alloc, &former_map, map, &former_list)?
-    {
-        Ok(Some(root_of(alloc, &former_list)?))
-    } else {
-        Ok(None)
+    let former_list = undone(alloc, list, ops)?;
+    let before = Filled {
+        map: &former_map,
+        list: &former_list,
+    };
+    if !is_lawful(alloc, before, ops, Filled { map, list })? {
+        return Ok(None);
     }
+    Ok(Some(root_of(alloc, &former_list)?))
 }

@@ -14,6 +14,7 @@ mod playing;
 mod replays;
 mod roots;
 mod rounds;
+mod row;
 mod shown;
 mod spelled;
 mod trees;

@@ -2,22 +2,30 @@
 //! map that fills it.
 
 use crate::laws::former_root;
-use crate::words::{formed_list, list_and_operations};
+use crate::row::Row;
+use crate::words::{change_of, formed_list};
 use anyhow::Result;
+use at_cid::Cid;
 use std::alloc::Global;
-use vector_lines::{Answer, Subject, parted, said};
+use vector_lines::{Answer, Subject, said};
 
 pub struct Replays;
 
 impl Subject for Replays {
     fn answer(&self, alloc: Global, input: &str) -> Result<String> {
-        let (items, rest) = parted(input, " ; ")?;
-        let (ops, map) = parted(rest, " ; ")?;
-        let (hidden, ops) = list_and_operations(alloc, items, ops)?;
+        let mut row = Row::new(alloc, input);
+        let (items, ops, map) = (row.part(" ; "), row.part(" ; "), row.part(" ; "));
+        row.end()?;
+        let change = change_of(alloc, items, ops)?;
         let map = formed_list(alloc, map)?;
-        let Some(root) = former_root(alloc, &hidden, &map, &ops)? else {
-            return said(alloc, "against a law");
-        };
-        Answer::new(alloc).words("root ").link(&root).end()
+        let root = former_root(alloc, &change.list, &map, &change.ops)?;
+        told(alloc, root)
+    }
+}
+
+fn told(alloc: Global, root: Option<Cid>) -> Result<String> {
+    match root {
+        Some(root) => Answer::new(alloc).words("root ").link(&root).end(),
+        None => said(alloc, "against a law"),
     }
 }

@@ -1,16 +1,17 @@
 //! `SEED ROUNDS = alike, of each ending more than 5`: undoing generated operations on trees with holes and on their lists.
 
-use crate::shown::seen;
+use crate::row::Row;
+use crate::shown::seen_whole;
 use crate::trees::put_tree;
 use crate::undoing::{undone_list, undone_tree};
-use crate::words::{add_operation, put_block};
+use crate::words::{Change, add_operation, put_block};
 use anyhow::Result;
 use at_car::Blocks;
 use at_cid::{Cid, Octets, cid_of};
 use mst_list::{Item, ItemList, Op, OpList};
 use mst_view::StubTree;
 use std::alloc::Global;
-use vector_lines::{Answer, Subject, had, number, parted, said};
+use vector_lines::{Answer, Subject, had, said};
 
 pub struct Rounds;
 
@@ -52,23 +53,31 @@ fn hold(list: &mut ItemList, key: &Octets) -> Result<()> {
     Ok(())
 }
 
+// Adds a key that the map may hold, and an operation at it, if there was one.
+fn add_key(alloc: Global, seed: &mut u32, place: u32, change: &mut Change) -> Result<()> {
+    let number = place.wrapping_mul(600).wrapping_add(next(seed) % 600);
+    let (was, now, is_held) = operation(seed);
+    let key = numbered_key(alloc, number)?;
+    if is_held {
+        hold(&mut change.list, &key)?;
+    }
+    if was.is_none() && now.is_none() {
+        return Ok(());
+    }
+    add_operation(&mut change.ops, Op { key, was, now })
+}
+
 // A map, and operations at some of its keys and at others, most of which it agrees with.
-fn generated(alloc: Global, seed: &mut u32) -> Result<(ItemList, OpList)> {
-    let mut list = ItemList::new(alloc);
-    let mut ops = OpList::new(alloc);
+fn generated(alloc: Global, seed: &mut u32) -> Result<Change> {
+    let mut change = Change {
+        list: ItemList::new(alloc),
+        ops: OpList::new(alloc),
+    };
     let count = next(seed) % 40;
     for place in 0..count {
-        let number = place.wrapping_mul(600).wrapping_add(next(seed) % 600);
-        let (was, now, is_held) = operation(seed);
-        let key = numbered_key(alloc, number)?;
-        if is_held {
-            hold(&mut list, &key)?;
-        }
-        if was.is_some() || now.is_some() {
-            add_operation(&mut ops, Op { key, was, now })?;
-        }
+        add_key(alloc, seed, place, &mut change)?;
     }
-    Ok((list, ops))
+    Ok(change)
 }
 
 // The root's block, and as many of the others as the share says, of which 6 is none.
@@ -95,16 +104,33 @@ fn some_tree(alloc: Global, seed: &mut u32, map: &ItemList) -> Result<StubTree> 
     let root = put_tree(alloc, &mut blocks, map)?;
     let share = next(seed) % 4;
     let some = some_of(alloc, seed, share, &blocks, root)?;
-    Ok(seen(alloc, &some, root)??)
+    seen_whole(alloc, &some, root)
+}
+
+// How undoing ends on a tree and on its list.
+#[derive(Drop)]
+struct Ends {
+    on_tree: String,
+    on_list: String,
+}
+
+// How undoing ends on the list of a tree.
+fn list_end(alloc: Global, tree: &StubTree, ops: &OpList) -> Result<String> {
+    let list = had(tree.list(alloc))?;
+    undone_list(alloc, &list, ops)
+}
+
+fn ends_of(alloc: Global, tree: StubTree, ops: &OpList) -> Result<Ends> {
+    let on_list = list_end(alloc, &tree, ops)?;
+    let on_tree = undone_tree(alloc, tree, ops)?;
+    Ok(Ends { on_tree, on_list })
 }
 
 // How undoing ends on a generated tree and on its list.
-fn round(alloc: Global, seed: &mut u32) -> Result<(String, String)> {
-    let (map, ops) = generated(alloc, seed)?;
-    let tree = some_tree(alloc, seed, &map)?;
-    let list = had(tree.list(alloc))?;
-    let on_list = undone_list(alloc, &list, &ops)?;
-    Ok((undone_tree(alloc, tree, &ops)?, on_list))
+fn round(alloc: Global, seed: &mut u32) -> Result<Ends> {
+    let change = generated(alloc, seed)?;
+    let tree = some_tree(alloc, seed, &change.list)?;
+    ends_of(alloc, tree, &change.ops)
 }
 
 // How many rounds ended in each way: the operations undone, another one found, or one not covered.
@@ -117,30 +143,25 @@ struct Endings {
 
 impl Endings {
     fn count(&mut self, end: &str) {
-        let ending = if end.starts_with("ok") {
-            &mut self.undone
+        if end.starts_with("ok") {
+            self.undone = self.undone.saturating_add(1);
         } else if end.starts_with("OtherOp") {
-            &mut self.others
+            self.others = self.others.saturating_add(1);
         } else {
-            &mut self.uncovered
-        };
-        *ending = ending.saturating_add(1);
+            self.uncovered = self.uncovered.saturating_add(1);
+        }
     }
 }
 
 fn told(alloc: Global, endings: &Endings) -> Result<String> {
-    let Endings {
-        undone,
-        others,
-        uncovered,
-    } = endings;
-    if *undone.min(others).min(uncovered) < FEWEST {
+    let fewest = endings.undone.min(endings.others).min(endings.uncovered);
+    if fewest < FEWEST {
         return Answer::new(alloc)
-            .number(u64::from(*undone))
+            .number(u64::from(endings.undone))
             .words(" ")
-            .number(u64::from(*others))
+            .number(u64::from(endings.others))
             .words(" ")
-            .number(u64::from(*uncovered))
+            .number(u64::from(endings.uncovered))
             .end();
     }
     said(alloc, "alike, of each ending more than 5")
@@ -148,28 +169,35 @@ fn told(alloc: Global, endings: &Endings) -> Result<String> {
 
 impl Subject for Rounds {
     fn answer(&self, alloc: Global, input: &str) -> Result<String> {
-        let (seed, rounds) = parted(input, " ")?;
-        let mut seed = u32::try_from(number(seed)?)?;
-        let mut endings = Endings {
-            undone: 0,
-            others: 0,
-            uncovered: 0,
-        };
-        for _ in 0..number(rounds)? {
-            let (on_tree, on_list) = round(alloc, &mut seed)?;
-            if on_tree.as_str() != on_list.as_str() {
-                return differing(alloc, on_tree.as_str(), on_list.as_str());
-            }
-            endings.count(on_tree.as_str());
-        }
-        told(alloc, &endings)
+        let mut row = Row::new(alloc, input);
+        let mut seed = u32::try_from(row.number(" ")).unwrap_or(0);
+        let rounds = row.number(" ");
+        row.end()?;
+        played(alloc, &mut seed, rounds)
     }
 }
 
-fn differing(alloc: Global, on_tree: &str, on_list: &str) -> Result<String> {
+// What so many rounds show.
+fn played(alloc: Global, seed: &mut u32, rounds: u64) -> Result<String> {
+    let mut endings = Endings {
+        undone: 0,
+        others: 0,
+        uncovered: 0,
+    };
+    for _ in 0..rounds {
+        let ends = round(alloc, seed)?;
+        if ends.on_tree != ends.on_list {
+            return differing(alloc, &ends);
+        }
+        endings.count(ends.on_tree.as_str());
+    }
+    told(alloc, &endings)
+}
+
+fn differing(alloc: Global, ends: &Ends) -> Result<String> {
     Answer::new(alloc)
-        .words(on_tree)
+        .words(ends.on_tree.as_str())
         .words(" on a tree and on its list ")
-        .words(on_list)
+        .words(ends.on_list.as_str())
         .end()
 }

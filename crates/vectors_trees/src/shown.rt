@@ -3,15 +3,14 @@
 ghost use Rattle.std.specs.Prelude.{IsTrue};
 ghost use Rattle.at_cid.specs.Link.{IsNodeLink};
 
-use crate::trees::{copied, layers_of, put_tree, subtree};
-use crate::words::put_block;
+use crate::trees::{layers_of, put_tree, subtree};
+use crate::words::{add_item, put_block};
 use anyhow::{Result, bail};
 use at_car::Blocks;
 use at_cid::{Cid, Kind};
-use mst_list::ItemList;
+use mst_list::{Item, ItemList};
 use mst_view::{StubTree, ViewFault, view};
 use std::alloc::Global;
-use vector_lines::had;
 
 /// Whether a link is of kind Node.
 pub fn is_node_link(link: &Cid) -> bool
@@ -29,11 +28,17 @@ pub fn seen(alloc: Global, blocks: &Blocks, root: Cid) -> Result<Result<StubTree
     Ok(view(alloc, blocks, &root))
 }
 
+/// The tree that is seen of blocks at a root.
+pub fn seen_whole(alloc: Global, blocks: &Blocks, root: Cid) -> Result<StubTree> {
+    let answer = seen(alloc, blocks, root)?;
+    Ok(answer?)
+}
+
 /// The tree of a list, read from its own blocks.
 pub fn tree_of(alloc: Global, list: &ItemList) -> Result<StubTree> {
     let mut blocks = Blocks::new(alloc);
     let root = put_tree(alloc, &mut blocks, list)?;
-    Ok(seen(alloc, &blocks, root)??)
+    seen_whole(alloc, &blocks, root)
 }
 
 /// Those blocks whose links are among some.
@@ -51,19 +56,14 @@ pub fn blocks_under(alloc: Global, blocks: &Blocks, links: &[Cid]) -> Result<Blo
 pub fn list_shown(alloc: Global, map: &ItemList, links: &[Cid]) -> Result<ItemList> {
     let mut blocks = Blocks::new(alloc);
     let items = map.as_slice();
-    let tree = subtree(
-        alloc,
-        &mut blocks,
-        layers_of(items),
-        copied(alloc, items)?,
-        links,
-    )?;
+    let tree = subtree(alloc, &mut blocks, layers_of(items), items, links)?;
+    list_of(alloc, tree.seen)
+}
+
+fn list_of(alloc: Global, items: Vec<Item>) -> Result<ItemList> {
     let mut list = ItemList::new(alloc);
-    for item in tree.seen {
-        if !item.is_formed() {
-            bail!("a formed item");
-        }
-        had(list.push(item))?;
+    for item in items {
+        add_item(&mut list, item)?;
     }
     Ok(list)
 }

@@ -17,14 +17,30 @@ pub struct Tree {
     pub seen: Vec<Item>,
 }
 
-// A node whose last subtree isn't closed yet, and the items that are seen below it.
+// A node whose last subtree isn't closed yet: the items that are seen below it, and those of the last subtree.
 #[derive(Drop)]
 struct OpenNode {
     left: Option<Cid>,
     entries: Vec<Entry>,
     seen: Vec<Item>,
+    part: Vec<Item>,
 }
 
+fn open_node(alloc: Global) -> OpenNode {
+    OpenNode {
+        left: None,
+        entries: Vec::new(alloc),
+        seen: Vec::new(alloc),
+        part: Vec::new(alloc),
+    }
+}
+
+fn add_copy(items: &mut Vec<Item>, item: &Item) -> Result<()> {
+    items.push(had(item.try_clone())?)?;
+    Ok(())
+}
+
+// Closes the last subtree.
 fn close(node: &mut OpenNode, below: Tree) -> Result<()> {
     match node.entries.last_mut() {
         Some(entry) => entry.right = below.link,
@@ -36,16 +52,22 @@ fn close(node: &mut OpenNode, below: Tree) -> Result<()> {
     Ok(())
 }
 
-fn add_entry(alloc: Global, node: &mut OpenNode, item: Item) -> Result<()> {
-    node.seen.push(had(item.try_clone())?)?;
+fn entry(alloc: Global, key: &[u8], value: &Cid) -> Result<Entry> {
+    Ok(Entry {
+        key: had(KeyBytes::from_slice(alloc, key))?,
+        value: *value,
+        right: None,
+    })
+}
+
+// Adds an item of the node's height, behind which the next subtree begins.
+fn add_entry(alloc: Global, node: &mut OpenNode, item: &Item) -> Result<()> {
+    node.part = Vec::new(alloc);
     if let Item::Key(key, value) = item {
-        node.entries.push(Entry {
-            key: had(KeyBytes::from_slice(alloc, key.as_slice()))?,
-            value,
-            right: None,
-        })?;
+        let entry = entry(alloc, key.as_slice(), value)?;
+        node.entries.push(entry)?;
     }
-    Ok(())
+    add_copy(&mut node.seen, item)
 }
 
 fn is_at(item: &Item, layer: u8) -> bool {
@@ -67,45 +89,57 @@ fn is_among(links: &[Cid], link: &Cid) -> bool {
     links.iter().any(|other| other == link)
 }
 
+// A subtree of which all items are seen.
+fn bare(alloc: Global, link: Option<Cid>, items: &[Item]) -> Result<Tree> {
+    let seen = copied(alloc, items)?;
+    Ok(Tree { link, seen })
+}
+
 /// The subtree of items below so many layers, whose blocks are put among the others. A node whose link isn't among those
 /// shown is seen as a hole.
 pub fn subtree(
     alloc: Global,
     blocks: &mut Blocks,
     layers: u8,
-    items: Vec<Item>,
+    items: &[Item],
     shown: &[Cid],
 ) -> Result<Tree> {
     if layers == 0 || items.is_empty() {
-        return Ok(Tree {
-            link: None,
-            seen: items,
-        });
+        return bare(alloc, None, items);
     }
     let layer = layers - 1;
-    if let Some(link) = lone_hole(items.as_slice(), layer) {
-        return Ok(Tree {
-            link: Some(link),
-            seen: items,
-        });
+    if let Some(link) = lone_hole(items, layer) {
+        return bare(alloc, Some(link), items);
     }
-    let mut node = OpenNode {
-        left: None,
-        entries: Vec::new(alloc),
-        seen: Vec::new(alloc),
-    };
-    let mut part = Vec::new(alloc);
+    let mut node = open_node(alloc);
     for item in items {
-        if is_at(&item, layer) {
-            close(&mut node, subtree(alloc, blocks, layer, part, shown)?)?;
+        if is_at(item, layer) {
+            let below = subtree(alloc, blocks, layer, node.part.as_slice(), shown)?;
+            close(&mut node, below)?;
             add_entry(alloc, &mut node, item)?;
-            part = Vec::new(alloc);
         } else {
-            part.push(item)?;
+            add_copy(&mut node.part, item)?;
         }
     }
-    close(&mut node, subtree(alloc, blocks, layer, part, shown)?)?;
+    let below = subtree(alloc, blocks, layer, node.part.as_slice(), shown)?;
+    close(&mut node, below)?;
     shown_or_hole(alloc, blocks, layer, node, shown)
+}
+
+// Puts the block of a node among the others.
+fn put_node(alloc: Global, blocks: &mut Blocks, node: &OpenNode) -> Result<Cid> {
+    let block = had(spell_node(alloc, &node.left, node.entries.as_slice()))?;
+    put_block(blocks, block.as_slice())
+}
+
+// A subtree that is seen as a hole.
+fn hidden(alloc: Global, layer: u8, link: Cid) -> Result<Tree> {
+    let mut seen = Vec::new(alloc);
+    seen.push(Item::Hole(layer, link))?;
+    Ok(Tree {
+        link: Some(link),
+        seen,
+    })
 }
 
 fn shown_or_hole(
@@ -115,24 +149,20 @@ fn shown_or_hole(
     node: OpenNode,
     shown: &[Cid],
 ) -> Result<Tree> {
-    let block = had(spell_node(alloc, &node.left, node.entries.as_slice()))?;
-    let link = put_block(blocks, block.as_slice())?;
-    let mut seen = Vec::new(alloc);
-    if is_among(shown, &link) {
-        seen = node.seen;
-    } else {
-        seen.push(Item::Hole(layer, link))?;
+    let link = put_node(alloc, blocks, &node)?;
+    if !is_among(shown, &link) {
+        return hidden(alloc, layer, link);
     }
     Ok(Tree {
         link: Some(link),
-        seen,
+        seen: node.seen,
     })
 }
 
-pub fn copied(alloc: Global, items: &[Item]) -> Result<Vec<Item>> {
+fn copied(alloc: Global, items: &[Item]) -> Result<Vec<Item>> {
     let mut copy = Vec::new(alloc);
     for item in items {
-        copy.push(had(item.try_clone())?)?;
+        add_copy(&mut copy, item)?;
     }
     Ok(copy)
 }
@@ -148,11 +178,21 @@ pub fn layers_of(items: &[Item]) -> u8 {
     layers
 }
 
+/// The link of the subtree of items below so many layers, whose blocks are put among the others.
+pub fn link_below(
+    alloc: Global,
+    blocks: &mut Blocks,
+    layers: u8,
+    items: &[Item],
+) -> Result<Option<Cid>> {
+    let tree = subtree(alloc, blocks, layers, items, &[])?;
+    Ok(tree.link)
+}
+
 /// The root of a list, whose tree's blocks are put among the others.
 pub fn put_tree(alloc: Global, blocks: &mut Blocks, list: &ItemList) -> Result<Cid> {
     let items = list.as_slice();
-    let tree = subtree(alloc, blocks, layers_of(items), copied(alloc, items)?, &[])?;
-    match tree.link {
+    match link_below(alloc, blocks, layers_of(items), items)? {
         Some(root) => Ok(root),
         None => put_block(blocks, &EMPTY_NODE),
     }

@@ -3,17 +3,20 @@
 
 use crate::filling::is_map;
 use crate::laws::former_root;
+use crate::row::Row;
 use crate::shown::{seen, tree_of};
 use crate::spelled::{with_tree, with_yes};
 use crate::trees::root_of;
 use crate::views::view_fault;
 use crate::words::{blocks, formed_operations, list, operations};
 use anyhow::{Result, bail};
+use at_car::Blocks;
+use at_cid::Cid;
 use mst_list::{ItemList, OpList, UndoFault, guarded, undo_list};
 use mst_undo::{are_apart, undo};
 use mst_view::StubTree;
 use std::alloc::Global;
-use vector_lines::{Answer, Subject, had, link, parted, said};
+use vector_lines::{Answer, Subject, had, parted, said};
 
 pub struct Undoing;
 
@@ -80,69 +83,83 @@ fn is_lawful(alloc: Global, list: &ItemList, ops: &OpList) -> Result<bool> {
     Ok(former_root(alloc, list, list, ops)?.is_some())
 }
 
-// What is wrong with how undoing on the tree of a list ends, where the other end is that on the list.
-fn wrong_tree_end(
-    alloc: Global,
-    end: &str,
-    list: &ItemList,
-    ops: &OpList,
-) -> Result<Option<&'static str>> {
-    let other = undone_tree(alloc, tree_of(alloc, list)?, ops)?;
-    if other.as_str() != end {
-        return Ok(Some(", but otherwise on a tree"));
+// How undoing on the tree of a list ends.
+fn tree_end(alloc: Global, list: &ItemList, ops: &OpList) -> Result<String> {
+    let tree = tree_of(alloc, list)?;
+    undone_tree(alloc, tree, ops)
+}
+
+// What is wrong with how undoing on a list ends, or nothing.
+fn wrong_end(alloc: Global, end: &str, list: &ItemList, ops: &OpList) -> Result<&'static str> {
+    if !are_apart(ops) {
+        return Ok("");
+    }
+    if tree_end(alloc, list, ops)?.as_str() != end {
+        return Ok(", but otherwise on a tree");
     }
     if end.starts_with("ok") && !is_lawful(alloc, list, ops)? {
-        return Ok(Some(", but against a law"));
+        return Ok(", but against a law");
     }
-    Ok(None)
+    Ok("")
 }
 
 fn answer_of(alloc: Global, list: &ItemList, ops: &OpList) -> Result<String> {
     let end = undone_list(alloc, list, ops)?;
-    let mut wrong = None;
-    if are_apart(ops) {
-        wrong = wrong_tree_end(alloc, end.as_str(), list, ops)?;
-    }
+    let wrong = wrong_end(alloc, end.as_str(), list, ops)?;
     let answer = Answer::new(alloc)
         .words(end.as_str())
-        .words(wrong.unwrap_or(""))
+        .words(wrong)
         .words(" guarded ");
     with_yes(answer, guarded(list, ops)).end()
+}
+
+// The answer of a row with this list.
+fn answer_on(alloc: Global, list: &ItemList, operations_text: &str) -> Result<String> {
+    match operations(alloc, operations_text)? {
+        Some(ops) => answer_of(alloc, list, &ops),
+        None => said(alloc, "no formed operations"),
+    }
 }
 
 impl Subject for Undoing {
     fn answer(&self, alloc: Global, input: &str) -> Result<String> {
         let (items, rest) = parted(input, " ; ")?;
-        let Some(list) = list(alloc, items)? else {
-            return said(alloc, "no formed list");
-        };
-        let Some(ops) = operations(alloc, rest)? else {
-            return said(alloc, "no formed operations");
-        };
-        answer_of(alloc, &list, &ops)
+        match list(alloc, items)? {
+            Some(list) => answer_on(alloc, &list, rest),
+            None => said(alloc, "no formed list"),
+        }
     }
 }
 
 // How undoing on a tree that is seen ends.
 fn root_undone(alloc: Global, tree: StubTree, ops: &OpList) -> Result<String> {
     match undone(alloc, tree, ops)? {
-        Ok(left) => {
-            let root = had(left.top_link(alloc))?;
-            Answer::new(alloc).words("ok root ").link(&root).end()
-        }
+        Ok(left) => root_told(alloc, &left),
         Err(fault) => undo_fault(alloc, fault),
+    }
+}
+
+fn root_told(alloc: Global, tree: &StubTree) -> Result<String> {
+    let root = had(tree.top_link(alloc))?;
+    Answer::new(alloc).words("ok root ").link(&root).end()
+}
+
+// How undoing on what is seen of blocks ends.
+fn seen_undone(alloc: Global, blocks: &Blocks, root: Cid, ops: &OpList) -> Result<String> {
+    match seen(alloc, blocks, root)? {
+        Ok(tree) => root_undone(alloc, tree, ops),
+        Err(fault) => view_fault(alloc, fault),
     }
 }
 
 impl Subject for Commits {
     fn answer(&self, alloc: Global, input: &str) -> Result<String> {
-        let (root, rest) = parted(input, " ; ")?;
-        let (texts, ops) = parted(rest, " ; ")?;
+        let mut row = Row::new(alloc, input);
+        let root = row.link(" ; ");
+        let (texts, ops) = (row.part(" ; "), row.part(" ; "));
+        row.end()?;
         let blocks = blocks(alloc, texts)?;
         let ops = formed_operations(alloc, ops)?;
-        match seen(alloc, &blocks, link(root)?)? {
-            Ok(tree) => root_undone(alloc, tree, &ops),
-            Err(fault) => view_fault(alloc, fault),
-        }
+        seen_undone(alloc, &blocks, root, &ops)
     }
 }

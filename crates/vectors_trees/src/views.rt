@@ -1,6 +1,7 @@
 //! `ROOT ; BLOCKS = view ok ITEMS, or the fault, and then walk ok COUNT, or the fault`: what is seen of blocks at a root, and
 //! how many keys the whole tree has.
 
+use crate::row::Row;
 use crate::shown::seen;
 use crate::spelled::with_items;
 use crate::walks::walked;
@@ -8,9 +9,10 @@ use crate::words::blocks;
 use anyhow::{Result, bail};
 use at_car::Blocks;
 use at_cid::Cid;
+use mst_list::ItemList;
 use mst_view::{Branch, StubTree, ViewFault};
 use std::alloc::Global;
-use vector_lines::{Answer, Subject, had, link, parted, said};
+use vector_lines::{Answer, Subject, had, said};
 
 pub struct Views;
 
@@ -63,22 +65,33 @@ fn is_top_linked(alloc: Global, tree: StubTree, root: Cid) -> Result<bool> {
     }
 }
 
-// The items of a tree, where it has them and the root as it stands, copied and put together again.
-fn items_of(alloc: Global, tree: StubTree, root: Cid) -> Result<String> {
-    let copied = had(tree.try_clone(alloc))?;
-    let again = without_link(tree);
-    if !has_root(alloc, &copied, root)? || !has_root(alloc, &again, root)? {
+// Whether a tree has a list.
+fn has_list(alloc: Global, tree: &StubTree, list: &ItemList) -> Result<bool> {
+    let other = had(tree.list(alloc))?;
+    Ok(other.as_slice() == list.as_slice())
+}
+
+// The items of a tree and of its copy, where both have them and the root.
+fn common_items(alloc: Global, tree: &StubTree, copy: &StubTree, root: Cid) -> Result<String> {
+    if !has_root(alloc, copy, root)? || !has_root(alloc, tree, root)? {
         return said(alloc, "another root than that of the blocks");
     }
-    let list = had(again.list(alloc))?;
-    let copy = had(copied.list(alloc))?;
-    if list.as_slice() != copy.as_slice() {
+    let list = had(tree.list(alloc))?;
+    if !has_list(alloc, copy, &list)? {
         return said(alloc, "another list than that of the copy");
     }
+    with_items(Answer::new(alloc).words("ok "), list.as_slice()).end()
+}
+
+// The items of a tree, where it has them and the root as it stands, copied and put together again.
+fn items_of(alloc: Global, tree: StubTree, root: Cid) -> Result<String> {
+    let copy = had(tree.try_clone(alloc))?;
+    let again = without_link(tree);
+    let items = common_items(alloc, &again, &copy, root)?;
     if !is_top_linked(alloc, again, root)? {
         return said(alloc, "another link than that of the top");
     }
-    with_items(Answer::new(alloc).words("ok "), list.as_slice()).end()
+    Ok(items)
 }
 
 // What is seen of the blocks.
@@ -91,16 +104,22 @@ fn viewed(alloc: Global, blocks: &Blocks, root: Cid) -> Result<String> {
 
 impl Subject for Views {
     fn answer(&self, alloc: Global, input: &str) -> Result<String> {
-        let (root, rest) = parted(input, " ; ")?;
-        let root = link(root)?;
-        let blocks = blocks(alloc, rest)?;
-        let view = viewed(alloc, &blocks, root)?;
-        let walk = walked(alloc, &blocks, root)?;
-        Answer::new(alloc)
-            .words("view ")
-            .words(view.as_str())
-            .words(" ; walk ")
-            .words(walk.as_str())
-            .end()
+        let mut row = Row::new(alloc, input);
+        let root = row.link(" ; ");
+        let texts = row.part(" ; ");
+        row.end()?;
+        let blocks = blocks(alloc, texts)?;
+        told(alloc, &blocks, root)
     }
+}
+
+fn told(alloc: Global, blocks: &Blocks, root: Cid) -> Result<String> {
+    let view = viewed(alloc, blocks, root)?;
+    let walk = walked(alloc, blocks, root)?;
+    Answer::new(alloc)
+        .words("view ")
+        .words(view.as_str())
+        .words(" ; walk ")
+        .words(walk.as_str())
+        .end()
 }

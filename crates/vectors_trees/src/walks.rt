@@ -18,9 +18,8 @@ pub fn walked(alloc: Global, blocks: &Blocks, root: Cid) -> Result<String> {
         bail!("a root of kind Node");
     }
     let whole = end(alloc, walk(alloc, blocks, &root))?;
-    let kept = kept_of(alloc, blocks, &root)?;
-    let again = end(alloc, walk_kept(alloc, &kept, &root))?;
-    if whole.as_str() != again.as_str() {
+    let again = end_over_kept(alloc, blocks, &root)?;
+    if whole != again {
         return said(alloc, "otherwise over what was kept");
     }
     Ok(whole)
@@ -43,12 +42,18 @@ fn end(alloc: Global, ended: Result<u64, WalkFault>) -> Result<String> {
     }
 }
 
-// What is kept of the blocks' CAR, of which the pieces come one by one.
-fn kept_of(alloc: Global, blocks: &Blocks, root: &Cid) -> Result<Kept> {
-    let car = had(write(alloc, root, blocks))?;
+// What is kept of a CAR, of which the pieces come one by one.
+fn kept_of(alloc: Global, car: &[u8]) -> Result<Kept> {
     let mut scan = Scan::new(alloc, NodeSieve::new(alloc));
-    for piece in car.as_slice().chunks(PIECE) {
+    for piece in car.chunks(PIECE) {
         had(scan.push(piece))?;
     }
     Ok(scan.finish()?)
+}
+
+// How a walk over what is kept of the blocks' CAR ends.
+fn end_over_kept(alloc: Global, blocks: &Blocks, root: &Cid) -> Result<String> {
+    let car = had(write(alloc, root, blocks))?;
+    let kept = kept_of(alloc, car.as_slice())?;
+    end(alloc, walk_kept(alloc, &kept, root))
 }

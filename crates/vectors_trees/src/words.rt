@@ -1,14 +1,22 @@
 //! Links, lists, operations and blocks as a row words them.
 
+use crate::row::Row;
 use anyhow::{Context, Result, bail};
 use at_car::Blocks;
-use at_cid::{Cid, Octets, cid_of};
+use at_cid::{Cid, cid_of};
 use mst_list::{Item, ItemList, Op, OpList};
 use std::alloc::Global;
-use vector_lines::{bytes, had, link, number, parted};
+use vector_lines::{bytes, had, link};
 
 /// The most operations of a commit.
 const MOST_OPERATIONS: usize = 200;
+
+/// A list, and operations on it or that led to it.
+#[derive(Drop)]
+pub struct Change {
+    pub list: ItemList,
+    pub ops: OpList,
+}
 
 pub fn link_or_none(text: &str) -> Result<Option<Cid>> {
     if text == "-" {
@@ -17,33 +25,44 @@ pub fn link_or_none(text: &str) -> Result<Option<Cid>> {
     Ok(Some(link(text)?))
 }
 
-pub fn octets(alloc: Global, text: &str) -> Result<Octets> {
-    Ok(Octets::from_vec(bytes(alloc, text)?))
+// The item of a word `K:KEY:LINK` or `H:LAYER:LINK`.
+fn item(alloc: Global, word: &str) -> Result<Item> {
+    let mut row = Row::new(alloc, word);
+    let item = match row.part(":") {
+        "K" => Item::Key(row.octets(":"), row.link(":")),
+        _ => Item::Hole(row.layer(":"), row.link(":")),
+    };
+    row.end()?;
+    Ok(item)
 }
 
-fn item(alloc: Global, word: &str) -> Result<Item> {
-    let (kind, rest) = parted(word, ":")?;
-    let (front, text) = parted(rest, ":")?;
-    let link = link(text)?;
-    if kind == "K" {
-        Ok(Item::Key(octets(alloc, front)?, link))
-    } else {
-        Ok(Item::Hole(u8::try_from(number(front)?)?, link))
+/// Adds an item that is formed.
+pub fn add_item(list: &mut ItemList, item: Item) -> Result<()> {
+    if !item.is_formed() {
+        bail!("a formed item");
     }
+    had(list.push(item))
+}
+
+// Adds the item of a word, where it is formed.
+fn is_item_added(alloc: Global, list: &mut ItemList, word: &str) -> Result<bool> {
+    let item = item(alloc, word)?;
+    if !item.is_formed() {
+        return Ok(false);
+    }
+    had(list.push(item))?;
+    Ok(true)
 }
 
 /// The list of words `K:KEY:LINK` and `H:LAYER:LINK`: none where an item isn't formed.
 pub fn list(alloc: Global, text: &str) -> Result<Option<ItemList>> {
     let mut list = ItemList::new(alloc);
-    if text == "-" {
-        return Ok(Some(list));
-    }
-    for word in text.split(' ') {
-        let item = item(alloc, word)?;
-        if !item.is_formed() {
-            return Ok(None);
+    if text != "-" {
+        for word in text.split(' ') {
+            if !is_item_added(alloc, &mut list, word)? {
+                return Ok(None);
+            }
         }
-        had(list.push(item))?;
     }
     Ok(Some(list))
 }
@@ -55,13 +74,14 @@ pub fn formed_list(alloc: Global, text: &str) -> Result<ItemList> {
 
 /// The operation of a word `KEY:WAS>NOW`.
 pub fn operation(alloc: Global, word: &str) -> Result<Op> {
-    let (key, links) = parted(word, ":")?;
-    let (was, now) = parted(links, ">")?;
-    Ok(Op {
-        key: octets(alloc, key)?,
-        was: link_or_none(was)?,
-        now: link_or_none(now)?,
-    })
+    let mut row = Row::new(alloc, word);
+    let op = Op {
+        key: row.octets(":"),
+        was: row.link_or_none(">"),
+        now: row.link_or_none(">"),
+    };
+    row.end()?;
+    Ok(op)
 }
 
 /// Adds an operation that is formed, where there are at most so many as a commit has.
@@ -72,18 +92,25 @@ pub fn add_operation(ops: &mut OpList, op: Op) -> Result<()> {
     had(ops.push(op))
 }
 
+// Adds the operation of a word, where it is formed.
+fn is_operation_added(alloc: Global, ops: &mut OpList, word: &str) -> Result<bool> {
+    let op = operation(alloc, word)?;
+    if !op.is_formed() {
+        return Ok(false);
+    }
+    add_operation(ops, op)?;
+    Ok(true)
+}
+
 /// The operations of words `KEY:WAS>NOW`: none where one isn't formed.
 pub fn operations(alloc: Global, text: &str) -> Result<Option<OpList>> {
     let mut ops = OpList::new(alloc);
-    if text == "-" {
-        return Ok(Some(ops));
-    }
-    for word in text.split(' ') {
-        let op = operation(alloc, word)?;
-        if !op.is_formed() {
-            return Ok(None);
+    if text != "-" {
+        for word in text.split(' ') {
+            if !is_operation_added(alloc, &mut ops, word)? {
+                return Ok(None);
+            }
         }
-        add_operation(&mut ops, op)?;
     }
     Ok(Some(ops))
 }
@@ -94,14 +121,10 @@ pub fn formed_operations(alloc: Global, text: &str) -> Result<OpList> {
 }
 
 /// The list and the operations of a row in which all are formed.
-pub fn list_and_operations(
-    alloc: Global,
-    items: &str,
-    operations_text: &str,
-) -> Result<(ItemList, OpList)> {
+pub fn change_of(alloc: Global, items: &str, operations_text: &str) -> Result<Change> {
     let list = formed_list(alloc, items)?;
     let ops = formed_operations(alloc, operations_text)?;
-    Ok((list, ops))
+    Ok(Change { list, ops })
 }
 
 /// Puts a block under its link of kind Node, and gives the link.
@@ -114,14 +137,20 @@ pub fn put_block(blocks: &mut Blocks, block: &[u8]) -> Result<Cid> {
     Ok(link)
 }
 
+// Puts the block of a word under its link.
+fn add_block(alloc: Global, blocks: &mut Blocks, word: &str) -> Result<()> {
+    let block = bytes(alloc, word)?;
+    put_block(blocks, block.as_slice())?;
+    Ok(())
+}
+
 /// The blocks in hexadecimal with a comma between two, each under its link of kind Node.
 pub fn blocks(alloc: Global, text: &str) -> Result<Blocks> {
     let mut blocks = Blocks::new(alloc);
-    if text == "-" {
-        return Ok(blocks);
-    }
-    for word in text.split(',') {
-        put_block(&mut blocks, &bytes(alloc, word)?)?;
+    if text != "-" {
+        for word in text.split(',') {
+            add_block(alloc, &mut blocks, word)?;
+        }
     }
     Ok(blocks)
 }

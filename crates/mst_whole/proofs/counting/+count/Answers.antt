@@ -1,13 +1,11 @@
-use Rattle.std.proofs.Common.{◌≡◌, ◌-◌, ℕ, List, ◌<◌, refl, sym, ap, ◌∙◌, Some, Ok, arith}
+use Rattle.std.proofs.Common.{◌≡◌, ◌-◌, ◌<◌, sym, ap, ◌∙◌, Some, Ok, arith}
 use Rattle.std.specs.Prelude.{option_map}
-use Rattle.at_cid.specs.Memory.{Gives}
-use Rattle.mst_node.specs.declared.entry.Entry.{Entry}
 use Rattle.mst_node.specs.Reading.{node_of}
 use Rattle.mst_node.specs.FirstFault.{in_whole}
 use Rattle.mst_node.specs.Fits.{node_fits}
 use Rattle.mst_node.specs.TreeReading.{parts_of, part_at}
 use Rattle.mst_node.proofs.Steps.{at_block, at_lack, block_bad, block_unfit, block_fit}
-use Rattle.mst_whole.specs.Counting.{count, link_at_fault}
+use Rattle.mst_whole.specs.Counting.{count}
 use Rattle.mst_whole.proofs.Steps.{none_at_zero, none_at_none, given_on}
 use Rattle.mst_whole.proofs.counting.+count.Goals as goal
 

@@ -1,4 +1,4 @@
-use Rattle.std.proofs.Common.{length, ◌≡◌, ◌+◌, ◌*◌, ◌≤◌, ◌-◌, ◌^◌}
+use Rattle.std.proofs.Common.{length, ◌≡◌, ◌+◌, ◌*◌, ◌≤◌, ◌-◌}
 use Rattle.std.specs.Prelude.{option_map}
 use Rattle.mst_node.specs.Reading.{node_of}
 use Rattle.mst_node.specs.FirstFault.{in_whole}

@@ -1,5 +1,5 @@
 use Rattle.std.proofs.Common.{[], ◌++◌, ◌∙◌, refl, sym, arith, append-nil, length-append}
-use Rattle.repo_sync.proofs.Pieces.{all_scanned, bytes_joined, ended, joined, quiet_error}
+use Rattle.repo_sync.proofs.Pieces.{all_scanned, bytes_joined, ended, joined}
 use Rattle.repo_sync.proofs.scanning.scan_repo.Goals as goal
 
 pub returns-then-count-eq0-clause-scanned : goal.returns-then-count-eq0-clause-scanned

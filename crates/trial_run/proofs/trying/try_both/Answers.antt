@@ -1,4 +1,4 @@
-use Rattle.std.proofs.Common.{◌≡◌, ◌∙◌, List, ℕ, ap, subst, sym, refl}
+use Rattle.std.proofs.Common.{◌∙◌, ℕ, ap, subst, sym}
 use Rattle.relay_disk.specs.MemoryView.{memory_view}
 use Rattle.relay_core.specs.Entries.{Holds}
 use Rattle.relay_store.specs.declared.store.Store.{Store}

@@ -1,4 +1,4 @@
-use Rattle.std.proofs.Common.{◌≡◌, refl, sym, ◌∙◌, ap, subst, ℕ, List}
+use Rattle.std.proofs.Common.{◌≡◌, refl, sym, ◌∙◌, ap, subst, List}
 use Rattle.relay_disk.specs.MemoryView.{memory_view}
 use Rattle.gate_log.specs.Pick.{view_of_side}
 use Rattle.gate_log.specs.declared.picking.Side.{Side}

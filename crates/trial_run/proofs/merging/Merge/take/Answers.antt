@@ -1,4 +1,3 @@
-use Rattle.std.proofs.Common.{◌≡◌, refl, ℕ, List}
 use Rattle.relay_disk.specs.MemoryView.{memory_view}
 use Rattle.relay_step.specs.Steps.{rows}
 use Rattle.relay_store.specs.Store.{seen_in}

@@ -1,7 +1,5 @@
-use Rattle.std.proofs.Common.{◌≡◌, ◌++◌, ◌∷◌, [], ◌+◌, ◌-◌, ℕ, true, false, take, option_map, refl, sym, ◌∙◌, arith}
-use Rattle.relay_disk.specs.MemoryView.{memory_view}
-use Rattle.trial_run.specs.Merging.{Sent, those}
-use Rattle.trial_run.specs.Taking.{IsMerged}
+use Rattle.std.proofs.Common.{◌≡◌, ◌++◌, ◌∷◌, [], ◌+◌, ◌-◌, true, false, take, option_map, refl, sym, ◌∙◌, arith}
+use Rattle.trial_run.specs.Merging.{those}
 use Rattle.trial_run.proofs.Orders.{those_more, those_same, with_message}
 use Rattle.trial_run.proofs.Steps.{moved}
 use Rattle.trial_run.proofs.merging.Merge.take_those.Goals as goal
