@@ -203,7 +203,7 @@ FitsFetched timed (Fetched.Refused n) = is_repo_number timed n ≡ true
 FitsFetched timed (Fetched.Whole w) = is_whole w ≡ true
 FitsFetched timed fetched = Unit {0}
 
-repo_number_small : (timed : Bool) (n : ℕ) → is_repo_number timed n ≡ true → (1 ≤ n) × (n < 24)
+pub repo_number_small : (timed : Bool) (n : ℕ) → is_repo_number timed n ≡ true → (1 ≤ n) × (n < 24)
 repo_number_small timed n h = grind (arith, nat_tests)
 
 refused_again : (b n : ℕ) (rest : List ℕ) → b ≡ n → 1 ≤ n → n < 24 → or_null_at Fetched.NotAsked number_or_whole (b ∷ rest) ≡ Some (Fetched.Refused n, rest)

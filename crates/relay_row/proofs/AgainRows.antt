@@ -63,7 +63,7 @@ few_with (Some n) others count is h = omega arith
 
 -- ---- what the tests say of a taken row's parts
 
-host_text : (t : List ℕ) → names_host t ≡ true → IsText t
+pub host_text : (t : List ℕ) → names_host t ≡ true → IsText t
 unfolding is_host
 host_text t h =
     let both = and_parts (is_text t) (is_host t) h in
@@ -248,7 +248,7 @@ carried_again (Carried.Account a) rest h =
     refl)
 
 -- a row's items are fewer than 24
-few_items : (row : Row) → length (row_items row) < 24
+pub few_items : (row : Row) → length (row_items row) < 24
 few_items (Row.Taken t) = few_with t.moment 11 (length (row_items (Row.Taken t))) (omega arith) (lit< tt)
 few_items (Row.Synced did whole moment) = few_with moment 3 (length (row_items (Row.Synced did whole moment))) (omega arith) (lit< tt)
 few_items (Row.Operated o) = few_with o.moment 5 (length (row_items (Row.Operated o))) (omega arith) (lit< tt)

@@ -11,3 +11,4 @@ pub mod AgainRows
 pub mod Bodies
 pub mod Journals
 pub mod BytesFronts
+pub mod Left

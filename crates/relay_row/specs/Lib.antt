@@ -8,3 +8,4 @@ pub mod Laws
 pub mod Journal
 pub mod Folds
 pub mod Fresh
+pub mod Left

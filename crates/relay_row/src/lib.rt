@@ -2,6 +2,7 @@
 //! stand. The format is the relay's own, in DAG-CBOR.
 #![tactic(auto)]
 
+mod body_rows;
 mod carried;
 mod copying;
 mod fault;
@@ -21,6 +22,7 @@ mod table;
 mod taken;
 mod writing;
 
+pub use body_rows::BodyRows;
 pub use carried::{Carried, CarriedAccount, CarriedRepo};
 pub use fault::RowFault;
 pub use fetched::{Fetched, Whole};

@@ -1,13 +1,11 @@
 -- Behind a row's spelling stands what stands there.
-use Rattle.std.proofs.Common.{◌≡◌, ℕ, ◌+◌, ◌^◌, ◌<◌, Bool, true, ◌&&◌, leb, ltb, List, [], ◌∷◌, ◌++◌, length, Option, Some, None, ap, ◌∙◌, arith, lit<}
-use Rattle.std.proofs.lemmas.Bool.{ltb-true, leb-true, and_parts}
-use Rattle.std.proofs.lemmas.Bool.Decides.{nat_tests}
+use Rattle.std.proofs.Common.{◌≡◌, ℕ, ◌^◌, ◌<◌, Bool, true, ◌&&◌, ltb, List, [], ◌∷◌, ◌++◌, length, Option, Some, None, ap, ◌∙◌, arith, lit<}
+use Rattle.std.proofs.lemmas.Bool.{ltb-true, and_parts}
 use Rattle.at_cid.proofs.Links.{link_length}
 use Rattle.at_cbor.specs.declared.major.Major.{Major}
 use Rattle.at_cbor.specs.Item.{Item}
 use Rattle.at_cbor.specs.Spelling.{IsText, IsString}
 use Rattle.at_cbor.proofs.Taken.{number_again}
-use Rattle.at_syntax.specs.Host.{is_host}
 use Rattle.at_syntax.specs.Tid.{digits_of}
 use Rattle.at_event.specs.declared.head.Head.{Head}
 use Rattle.at_event.specs.declared.refusal.Refusal.{Refusal}
@@ -20,10 +18,10 @@ use Rattle.relay_row.specs.declared.carried.Carried.{Carried}
 use Rattle.relay_row.specs.declared.row.Row.{Row}
 use Rattle.relay_row.specs.Items.{number, rev_text, list, or_null, if_there, head_items, whole_items, code, detail_items, effect_item, fetched_item, repo_item, carried_items, row_items}
 use Rattle.relay_row.specs.Bodies.{row_spelling}
-use Rattle.relay_row.specs.Rules.{is_number, is_positive, is_moment, is_text, is_rev, is_node, is_cid, is_head, is_message, is_status, is_whole, is_detail, is_repo_number, is_refused, is_decided, is_about, names_host, names_did, is_taken, is_operated, is_repo, is_carried, is_row}
+use Rattle.relay_row.specs.Rules.{is_number, is_positive, is_moment, is_rev, is_node, is_cid, is_head, is_message, is_status, is_whole, is_detail, is_refused, is_decided, is_about, names_host, names_did, is_taken, is_operated, is_repo, is_carried, is_row}
 use Rattle.relay_row.proofs.Atoms.{IsTextOrNone}
-use Rattle.relay_row.proofs.Again.{then_spell, list_then, text_fits, message_fits, cid_fits, node_fits, status_fits, FitsEffect, FitsFetched}
-use Rattle.relay_row.proofs.AgainRows.{taken_fits, did_text}
+use Rattle.relay_row.proofs.Again.{then_spell, list_then, message_fits, cid_fits, node_fits, status_fits, FitsEffect, FitsFetched, repo_number_small}
+use Rattle.relay_row.proofs.AgainRows.{host_text, taken_fits, did_text, few_items}
 use Rattle.row_glance.specs.Passing.{item_content_behind, item_behind, row_behind}
 use Rattle.row_glance.proofs.Passed.{head_passed, IsScalar, AreScalars, scalars_passed, Passes, AllPass, scalar_passes, items_passed}
 
@@ -38,14 +36,6 @@ number_short n h = omega (arith, ltb-true n (2 ^ 53) h)
 
 pub positive_short : (n : ℕ) → is_positive n ≡ true → n < 2 ^ 64
 positive_short n h = number_short n (and_parts (ltb 0 n) (is_number n) h).1
-
-host_text : (t : List ℕ) → names_host t ≡ true → IsText t
-unfolding is_host
-host_text t h =
-    let both = and_parts (is_text t) (is_host t) h in
-    let one = and_parts (ltb 0 (length t) && leb (length t) 255) _ both.1 in
-    let two = and_parts (ltb 0 (length t)) (leb (length t) 255) one.0 in
-    text_fits t both.0 (omega (arith, leb-true (length t) 255 two.1))
 
 rev_short : (rev : ℕ) → length (digits_of rev) < 2 ^ 64
 unfolding digits_of
@@ -130,16 +120,13 @@ effect_passes Effect.Nothing is = scalar_passes Item.null tt
 effect_passes (Effect.Repo head) is = list_passes (head_items head) (lit< tt) (head_scalars head is)
 effect_passes (Effect.Account active status) is = list_passes (Item.bool active ∷ or_null Item.text status ∷ []) (lit< tt) (tt, (text_or_null status (status_fits status is), tt))
 
-pub repo_number_small : (timed : Bool) (n : ℕ) → is_repo_number timed n ≡ true → n < 24
-repo_number_small timed n h = grind (arith, nat_tests)
-
 pub whole_passes : (w : Whole) → is_whole w ≡ true → Passes (list (whole_items w))
 whole_passes w is = list_passes (whole_items w) (lit< tt) (whole_fits w is).all
 
 fetched_passes : (timed : Bool) (x : Fetched) → FitsFetched timed x → Passes (fetched_item x)
 fetched_passes timed Fetched.NotAsked is = scalar_passes Item.null tt
 fetched_passes timed Fetched.Absent is = scalar_passes (number 0) (lit< tt)
-fetched_passes timed (Fetched.Refused n) is = scalar_passes (number n) (omega (arith, repo_number_small timed n is))
+fetched_passes timed (Fetched.Refused n) is = scalar_passes (number n) (omega (arith, (repo_number_small timed n is).1))
 fetched_passes timed (Fetched.Whole w) is = whole_passes w is
 
 moment_passes : (m : Option ℕ) → is_moment m ≡ true → AllPass (if_there number m)
@@ -242,19 +229,6 @@ row_passes (Row.Operated o) h =
       ),
     )
 row_passes (Row.Carried c) h = carried_passes c h
-
-few_with : (moment : Option ℕ) (others count : ℕ) → count ≡ others + length (if_there number moment) → others < 12 → count < 24
-few_with None others count is h = omega arith
-few_with (Some n) others count is h = omega arith
-
--- a row's items are fewer than 24
-pub few_items : (row : Row) → length (row_items row) < 24
-few_items (Row.Taken t) = few_with t.moment 11 (length (row_items (Row.Taken t))) (omega arith) (lit< tt)
-few_items (Row.Synced did whole moment) = few_with moment 3 (length (row_items (Row.Synced did whole moment))) (omega arith) (lit< tt)
-few_items (Row.Operated o) = few_with o.moment 5 (length (row_items (Row.Operated o))) (omega arith) (lit< tt)
-few_items (Row.Carried (Carried.Last seq)) = lit< tt
-few_items (Row.Carried (Carried.Host host cursor)) = lit< tt
-few_items (Row.Carried (Carried.Account a)) = lit< tt
 
 pub row_passed : (row : Row) (rest : List ℕ) → is_row row ≡ true → row_behind (row_spelling row ++ rest) ≡ Some rest
 unfolding row_behind row_spelling

@@ -22,14 +22,14 @@ use Rattle.relay_row.specs.Folds.{did_in, events_of, events_in}
 use Rattle.relay_row.specs.Items.{number, list, if_there, code, detail_items, whole_items, effect_item, fetched_item, row_items}
 use Rattle.relay_row.specs.Bodies.{row_spelling}
 use Rattle.relay_row.specs.Rules.{is_positive, is_moment, is_message, is_whole, is_timed, names_did, is_taken, is_operated, is_row}
-use Rattle.relay_row.proofs.Again.{then_spell, list_then, message_fits, FitsFetched}
-use Rattle.relay_row.proofs.AgainRows.{Readable, taken_fits, did_text}
+use Rattle.relay_row.proofs.Again.{then_spell, list_then, message_fits, FitsFetched, repo_number_small}
+use Rattle.relay_row.proofs.AgainRows.{Readable, taken_fits, did_text, few_items}
 use Rattle.row_glance.specs.declared.sight.Sight.{Sight}
 use Rattle.row_glance.specs.Sight.{is_of_repo, Sees}
 use Rattle.row_glance.specs.Passing.{scalars_behind}
 use Rattle.row_glance.specs.Glancing.{Seen, seen, text_at, message_at, whole_at, outcome_at, taken_at, synced_at, operated_at, sight_at}
 use Rattle.row_glance.proofs.Passed.{scalars_passed, items_passed, scalar_passes}
-use Rattle.row_glance.proofs.Rows.{number_short, positive_short, before_message, whole_fits, detail_passes, effect_passes, repo_number_small, few_items}
+use Rattle.row_glance.proofs.Rows.{number_short, positive_short, before_message, whole_fits, detail_passes, effect_passes}
 
 -- ---- texts and messages
 
@@ -66,7 +66,7 @@ unfolding whole_at
 fetched_seen timed Fetched.NotAsked rest is = refl
 fetched_seen timed Fetched.Absent rest is = no_whole (32 * 0 + info_of 0) (tail_of 0 ++ rest) (omega (arith, (form_0 0 (lit< tt)).0))
 fetched_seen timed (Fetched.Refused n) rest is =
-    let small = repo_number_small timed n is in
+    let small = (repo_number_small timed n is).1 in
     no_whole (32 * 0 + info_of n) (tail_of n ++ rest) (omega (arith, (form_0 n small).0))
 fetched_seen timed (Fetched.Whole w) rest is = whole_seen w rest is
 

@@ -1,7 +1,8 @@
-//! `BODY = ok COUNT, or BadRow`. What was read is spelled again, in each of the ways in which it can be, copied, and seen where it
-//! stands.
+//! `BODY = ok COUNT, or BadRow`. What was read is spelled again, in each of the ways in which it can be, copied, read row by row,
+//! and seen where it stands.
 
 use crate::sights::ensure_seen;
+use crate::walked::{ensure_walked, walked};
 use anyhow::{Result, bail, ensure};
 use at_cid::Octets;
 use relay_row::{Row, RowFault, Rows, is_row, read_rows, write_row, write_rows, write_spelled};
@@ -20,9 +21,17 @@ impl Subject for Bodies {
 fn told(alloc: Global, answer: Result<Rows, RowFault>, body: &[u8]) -> Result<String> {
     match answer {
         Ok(rows) => counted(alloc, &rows, body),
-        Err(RowFault::BadRow) => said(alloc, "BadRow"),
+        Err(RowFault::BadRow) => bad(alloc, body),
         Err(RowFault::Memory) => bail!("out of memory"),
     }
+}
+
+fn bad(alloc: Global, body: &[u8]) -> Result<String> {
+    ensure!(
+        walked(alloc, body)?.is_none(),
+        "one after the other, its rows are read"
+    );
+    said(alloc, "BadRow")
 }
 
 fn counted(alloc: Global, rows: &Rows, body: &[u8]) -> Result<String> {
@@ -44,6 +53,7 @@ fn is_written(alloc: Global, rows: &Rows, body: &[u8]) -> Result<bool> {
 fn ensure_spelled(alloc: Global, rows: &[Row], body: &[u8]) -> Result<()> {
     let out = spelled(alloc, rows)?;
     ensure!(body.ends_with(out.as_slice()), "other rows are spelled");
+    ensure_walked(alloc, body, out.as_slice())?;
     let copies = spelled_copies(alloc, rows)?;
     ensure!(copies.as_slice() == out.as_slice(), "a copy differs");
     Ok(())

@@ -12,6 +12,7 @@ mod operations;
 mod orders;
 mod sights;
 mod telling;
+mod walked;
 
 use anyhow::Result;
 use bodies::Bodies;
