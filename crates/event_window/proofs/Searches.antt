@@ -1,5 +1,5 @@
 -- The search among numbers that rise.
-use Rattle.std.proofs.Common.{◌≡◌, ℕ, zero, suc, ◌+◌, ◌<◌, ◌≤◌, Bool, cond, List, [], ◌∷◌, ◌++◌, length, get_or, slice_get, take, drop, take-append-drop, length-drop, Some, true, false, refl, sym, ◌∙◌, ap, subst, arith}
+use Rattle.std.proofs.Common.{◌≡◌, ℕ, zero, suc, ◌<◌, ◌≤◌, Bool, cond, List, [], ◌∷◌, ◌++◌, length, get_or, slice_get, take, drop, take-append-drop, length-drop, Some, true, false, refl, sym, ◌∙◌, ap, subst, arith}
 use Rattle.std.specs.List.Sorted.{IsPartitionedBy, IsPartitionPoint}
 use Rattle.std.proofs.lemmas.Bool.Decides.{nat_tests}
 use Rattle.std.proofs.lemmas.Option.{same_Some}
@@ -16,6 +16,9 @@ first_low seq n (p ∷ places) (suc i) d above low t =
 
 low : (seq : ℕ) (p : Place) → p.seq ≤ seq → is_at_most seq p ≡ true
 low seq p le = grind (arith, nat_tests)
+
+high : (seq : ℕ) (p : Place) → seq < p.seq → is_at_most seq p ≡ false
+high seq p lt = grind (arith, nat_tests)
 
 pub parted : (seq n : ℕ) (places : List Place) → AreAbove n places → IsPartitionedBy (is_at_most seq) places
 parted seq n [] above i j d le less t = absurd (omega arith)
@@ -64,3 +67,18 @@ last_upto seq places n p got is = record {
   split = sym (take-append-drop n places) ∙ ap (λ (l : List Place). take n places ++ l) (here_of places n p got ∙ ap (λ (l : List Place). p ∷ l) (sym is));
   low = last_low seq places n p got is;
 }
+
+-- between a low one and one that is above, those above begin
+begins_behind : (seq n : ℕ) (places : List Place) (i : ℕ) (d e : Place) → AreAbove n places → suc i < length places → (get_or places i d).seq ≤ seq → seq < (get_or places (suc i) e).seq
+    → all_above seq places ≡ drop (suc i) places
+begins_behind seq n [] i d e above less le lt = absurd (omega (arith, less))
+begins_behind seq n (p ∷ []) i d e above less le lt = absurd (omega (arith, less))
+begins_behind seq n (p ∷ q ∷ places) zero d e above less le lt = rw (low seq p le, high seq q lt) refl
+begins_behind seq n (p ∷ q ∷ places) (suc i) d e above less le lt =
+    let here : p.seq ≤ seq = first_low seq p.seq (q ∷ places) i d above.1 (omega (arith, less)) (low seq (get_or (q ∷ places) i d) le) in
+    rw (low seq p here) (begins_behind seq p.seq (q ∷ places) i d e above.1 (omega (arith, less)) le lt)
+
+pub begins : (seq n : ℕ) (places : List Place) (i k : ℕ) (d e : Place) → AreAbove n places → k ≡ suc i → k < length places → (get_or places i d).seq ≤ seq → seq < (get_or places k e).seq
+    → all_above seq places ≡ drop k places
+begins seq n places i k d e above is less le lt =
+    subst (λ m. m < length places → seq < (get_or places m e).seq → all_above seq places ≡ drop m places) (sym is) (λ short high. begins_behind seq n places i d e above short le high) less lt

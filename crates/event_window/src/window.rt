@@ -1,6 +1,6 @@
 //! The places of events, in the order of their numbers.
 
-ghost use Rattle.std.specs.Prelude.{◌≡◌, ◌≤◌, ◌<◌, ◌+◌, ◌++◌, ◌∷◌, [], length, drop, slice_get, vec_len, vec_capacity, None, IfSome, OnOk};
+ghost use Rattle.std.specs.Prelude.{◌≡◌, ◌≤◌, ◌<◌, ◌+◌, ◌++◌, ◌∷◌, [], length, drop, slice_get, vec_len, vec_capacity, None, IfSome, OnOk, true};
 ghost use Rattle.event_window.specs.Window.{AreAbove, IsLastUpto, all_above, is_at_most};
 
 use crate::place::Place;
@@ -97,13 +97,29 @@ impl Window {
         Some(self.places[count - 1])
     }
 
-    /// The places of the numbers above a number, where the numbers rise.
-    pub fn above(&self, seq: u64) -> &[Place]
+    /// The places of the numbers above a number, where the numbers rise. They are searched for, unless there are as many as `likely`
+    /// says, which is seen at once.
+    pub fn above(&self, seq: u64, likely: usize) -> &[Place]
         ensures { AreAbove 0 self.now.places → result.now ≡ all_above seq self.now.places }
     {
-        let index = upto(self.places.as_slice(), seq);
-        &self.places[index..]
+        let places = self.places.as_slice();
+        let index = places.len().saturating_sub(likely);
+        if begins_at(places, seq, index) {
+            return &places[index..];
+        }
+        &places[upto(places, seq)..]
     }
+}
+
+// Whether the first whose number is above a number stands at an index, where the numbers rise.
+fn begins_at(places: &[Place], seq: u64, index: usize) -> bool
+    ensures begins { result ≡ true → AreAbove 0 places.now → all_above seq places.now ≡ drop index places.now }
+    ensures bound { result ≡ true → index < length places.now }
+{
+    if index >= places.len() || places[index].seq <= seq {
+        return false;
+    }
+    index == 0 || places[index - 1].seq <= seq
 }
 
 // How many stand in front of the first whose number is above a number, where the numbers rise.

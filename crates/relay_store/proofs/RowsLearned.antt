@@ -1,76 +1,89 @@
 -- Rows that are learned one after another.
-use Rattle.std.proofs.Common.{◌≡◌, ℕ, ◌+◌, ◌≤◌, List, [], ◌∷◌, ◌++◌, length, refl, sym, ◌∙◌, ap, subst, arith, append_assoc, length-append, true, false}
+use Rattle.std.proofs.Common.{◌≡◌, ℕ, ◌+◌, List, [], ◌∷◌, ◌++◌, refl, sym, ◌∙◌, ap, subst, arith, append_assoc, length-append, true, false}
 use Rattle.std.proofs.lemmas.List.{append-nil}
 use Rattle.std.proofs.lemmas.Bool.{and_parts}
-use Rattle.std.proofs.lemmas.List.Folds.{list_all-append}
-use Rattle.std.specs.List.{list_all}
+use Rattle.std.specs.Prelude.{Option, Some, Result, Ok, Err}
 use Rattle.event_window.specs.declared.place.Place.{Place}
 use Rattle.relay_row.specs.Journal.{IsJournal, keeps_order}
+use Rattle.relay_row.specs.Left.{RowsLeft, AreBehindFront, AreInFront, AreLeft, TakesNext}
 use Rattle.relay_row.specs.Rules.{is_row}
+use Rattle.relay_row.specs.declared.fault.RowFault.{RowFault}
 use Rattle.relay_row.specs.declared.row.Row.{Row}
 use Rattle.relay_row.proofs.Journals.{grows, grew, fronts}
+use Rattle.relay_row.proofs.Left.{none_read, more_read, all_read, others_left, left_of_body, body_of_left}
 use Rattle.relay_core.specs.declared.journal_state.Core.{Core}
 use Rattle.relay_core.specs.Entries.{Holds}
-use Rattle.relay_store.specs.Opening.{IsLearning}
+use Rattle.relay_store.specs.Opening.{AreLearned, IsLearning, IsLearned, IsBadBody}
 use Rattle.relay_store.specs.Places.{place_of, places_in}
 use Rattle.relay_store.proofs.Folds.{places_append, places_one}
 
-pub learning_none : (place : ℕ) (rows left : List Row) (state : Core) (places : List Place) → left ≡ rows → IsLearning place 0 rows left state state places places
-learning_none place rows left state places is = record {
+pub learning_none : (place : ℕ) (left : RowsLeft) (state : Core) (places : List Place) → IsLearning place 0 left left state state places places
+learning_none place left state places = record {
   done = [];
-  split = sym is;
+  read = none_read left;
   count = refl;
-  core = λ J holds. subst (Holds state) (sym (append-nil J)) holds;
-  journal = λ J holds is. subst IsJournal (sym (append-nil J)) is;
-  window = sym (append-nil places);
+  learned = record {
+    core = λ J holds. subst (Holds state) (sym (append-nil J)) holds;
+    journal = λ J holds is. subst IsJournal (sym (append-nil J)) is;
+    window = sym (append-nil places);
+  };
 }
 
-module _ (place index : ℕ) (rows left rest : List Row) (row : Row) (state state_now : Core) (places places_now : List Place) (so_far : IsLearning place index rows left state state_now places places_now) (is : left ≡ row ∷ rest) where
-  split_here : rows ≡ so_far.done ++ row ∷ rest
-  split_here = so_far.split ∙ ap (λ (l : List Row). so_far.done ++ l) is
+module _ (place index : ℕ) (was mid left : RowsLeft) (row : Row) (state state_now : Core) (places places_now : List Place) (so_far : IsLearning place index was mid state state_now places places_now) (found : Option Row) (next : TakesNext (Ok found) mid left) (is : found ≡ Some row) where
+  here : AreInFront (row ∷ []) mid left
+  here = subst (λ (o : Option Row). TakesNext (Ok o) mid left) is next
 
-  split_next : rows ≡ (so_far.done ++ row ∷ []) ++ rest
-  split_next = split_here ∙ sym (append_assoc so_far.done (row ∷ []) rest)
+  read_next : AreInFront (so_far.done ++ row ∷ []) was left
+  read_next = more_read so_far.done (row ∷ []) was mid left so_far.read here
 
-  row_formed : list_all is_row rows ≡ true → is_row row ≡ true
-  row_formed formed =
-      let all = subst (λ (l : List Row). list_all is_row l ≡ true) split_here formed in
-      let behind = (and_parts (list_all is_row so_far.done) (list_all is_row (row ∷ rest)) (sym (list_all-append is_row so_far.done (row ∷ rest)) ∙ all)).1 in
-      (and_parts (is_row row) (list_all is_row rest) behind).0
+  pub learning_more : (state_next : Core) (places_next : List Place) (then_index : ℕ) → then_index ≡ index + 1 → ((J : List Row) → Holds state_now J → true ≡ keeps_order J row)
+      → ((J : List Row) → Holds state_now J → Holds state_next (J ++ row ∷ [])) → places_next ≡ places_now ++ place_of place index row → IsLearning place then_index was left state state_next places places_next
+  learning_more state_next places_next then_index is_next order core window =
+      let done = so_far.done in
+      let learned = so_far.learned in
+      record {
+        done = done ++ row ∷ [];
+        read = read_next;
+        count = omega (arith, is_next, so_far.count, length-append done (row ∷ []));
+        learned = record {
+          core = λ J holds. subst (Holds state_next) (append_assoc J done (row ∷ [])) (core (J ++ done) (learned.core J holds));
+          journal = λ J holds journal. subst IsJournal (append_assoc J done (row ∷ [])) (grows (J ++ done) row (learned.journal J holds journal) (and_parts (is_row row) true here.formed).0 (sym (order (J ++ done) (learned.core J holds))));
+          window = window ∙ ap (λ (l : List Place). l ++ place_of place index row) learned.window ∙ append_assoc places (places_in place 0 done) (place_of place index row)
+              ∙ ap (λ (l : List Place). places ++ (places_in place 0 done ++ l)) (sym (places_one place index row))
+              ∙ ap (λ (l : List Place). places ++ l) (sym (places_append place 0 index done (row ∷ []) (omega (arith, so_far.count))));
+        };
+      }
 
-  pub few_left : length rows ≤ 64 → index + 1 ≤ 64
-  few_left few = omega (arith, few, so_far.count, ap length split_here, length-append so_far.done (row ∷ rest))
-
-  pub learning_more : (state_next : Core) (places_next : List Place) (next : ℕ) → next ≡ index + 1 → list_all is_row rows ≡ true → ((J : List Row) → Holds state_now J → true ≡ keeps_order J row)
-      → ((J : List Row) → Holds state_now J → Holds state_next (J ++ row ∷ [])) → places_next ≡ places_now ++ place_of place index row → IsLearning place next rows rest state state_next places places_next
-  learning_more state_next places_next next is_next formed order core window = record {
-    done = so_far.done ++ row ∷ [];
-    split = split_next;
-    count = omega (arith, is_next, so_far.count, length-append so_far.done (row ∷ []));
-    core = λ J holds. subst (Holds state_next) (append_assoc J so_far.done (row ∷ [])) (core (J ++ so_far.done) (so_far.core J holds));
-    journal = λ J holds journal. subst IsJournal (append_assoc J so_far.done (row ∷ [])) (grows (J ++ so_far.done) row (so_far.journal J holds journal) (row_formed formed) (sym (order (J ++ so_far.done) (so_far.core J holds))));
-    window = window ∙ ap (λ (l : List Place). l ++ place_of place index row) so_far.window ∙ append_assoc places (places_in place 0 so_far.done) (place_of place index row)
-        ∙ ap (λ (l : List Place). places ++ (places_in place 0 so_far.done ++ l)) (sym (places_one place index row))
-        ∙ ap (λ (l : List Place). places ++ l) (sym (places_append place 0 index so_far.done (row ∷ []) (omega (arith, so_far.count))));
-  }
-
-  pub learning_stops : ((J : List Row) → Holds state_now J → false ≡ keeps_order J row) → (J : List Row) → Holds state J → IsJournal (J ++ rows) → ⊥
-  learning_stops order J holds journal =
-      let all : IsJournal (((J ++ so_far.done) ++ row ∷ []) ++ rest) = subst IsJournal
-      (ap (λ (l : List Row). J ++ l) split_here ∙ sym (append_assoc J so_far.done (row ∷ rest)) ∙ sym (append_assoc (J ++ so_far.done) (row ∷ []) rest)) journal in
-      let kept = (grew (J ++ so_far.done) row (fronts ((J ++ so_far.done) ++ row ∷ []) rest all)).1 in
-      let not = order (J ++ so_far.done) (so_far.core J holds) in
+  pub learning_stops : ((J : List Row) → Holds state_now J → false ≡ keeps_order J row) → (J : List Row) → Holds state J → (rows : List Row) → AreLeft rows was → IsJournal (J ++ rows) → ⊥
+  learning_stops order J holds rows are journal =
+      let done = so_far.done in
+      let others = others_left (done ++ row ∷ []) rows was left read_next are in
+      let all : IsJournal (((J ++ done) ++ row ∷ []) ++ others.0) = subst IsJournal
+      (ap (λ (l : List Row). J ++ l) others.1 ∙ sym (append_assoc J (done ++ row ∷ []) others.0) ∙ ap (λ (l : List Row). l ++ others.0) (sym (append_assoc J done (row ∷ [])))) journal in
+      let kept = (grew (J ++ done) row (fronts ((J ++ done) ++ row ∷ []) others.0 all)).1 in
+      let not = order (J ++ done) (so_far.learned.core J holds) in
       absurd cc
 
-module _ (place index : ℕ) (rows : List Row) (state state_now : Core) (places places_now : List Place) (so_far : IsLearning place index rows [] state state_now places places_now) where
-  all_done : so_far.done ≡ rows
-  all_done = sym (so_far.split ∙ append-nil so_far.done)
+module _ (place index : ℕ) (was left : RowsLeft) (state state_now : Core) (places places_now : List Place) (so_far : IsLearning place index was left state state_now places places_now) where
+  pub all_learned : AreLeft [] left → (rows : List Row) × AreLeft rows was × AreLearned place rows state state_now places places_now
+  all_learned none = (so_far.done, all_read so_far.done was left so_far.read none, so_far.learned)
 
-  pub learned_core : (J : List Row) → Holds state J → Holds state_now (J ++ rows)
-  learned_core J holds = subst (λ (l : List Row). Holds state_now (J ++ l)) all_done (so_far.core J holds)
+  pub no_rows_were : (answer : Result (Option Row) RowFault) (now : RowsLeft) → TakesNext answer left now → answer ≡ Err RowFault.BadRow → (rows : List Row) → AreLeft rows was → ⊥
+  no_rows_were answer now next is rows are =
+      let none : (rows : List Row) → AreLeft rows left → ⊥ = subst (λ (r : Result (Option Row) RowFault). TakesNext r left now) is next in
+      let others = others_left so_far.done rows was left so_far.read are in
+      none others.0 others.2
 
-  pub learned_journal : (J : List Row) → Holds state J → IsJournal J → IsJournal (J ++ rows)
-  learned_journal J holds is = subst (λ (l : List Row). IsJournal (J ++ l)) all_done (so_far.journal J holds is)
+module _ (body : List ℕ) (left : RowsLeft) (behind : AreBehindFront body left) where
+  pub body_learned : (place : ℕ) (state state_now : Core) (places places_now : List Place) → (rows : List Row) × AreLeft rows left × AreLearned place rows state state_now places places_now
+      → (J : List Row) → Holds state J → IsJournal J → IsLearned place body J state_now places places_now
+  body_learned place state state_now places places_now found J holds journal = record {
+    rows = found.0;
+    is = body_of_left found.0 body left behind found.1;
+    journal = found.2.journal J holds journal;
+    core = found.2.core J holds;
+    window = found.2.window;
+  }
 
-  pub learned_window : places_now ≡ places ++ places_in place 0 rows
-  learned_window = so_far.window ∙ ap (λ (l : List Row). places ++ places_in place 0 l) all_done
+  pub body_bad : (J : List Row) → ((rows : List Row) → AreLeft rows left → IsJournal (J ++ rows) → ⊥) → IsBadBody J body
+  body_bad J none = λ rows is journal. none rows (left_of_body rows body left behind is) journal

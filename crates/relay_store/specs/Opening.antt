@@ -10,6 +10,7 @@ use Rattle.gate_log.specs.Pick.{LeavesSide, other_side, view_of_side}
 use Rattle.gate_log.specs.declared.format.Format.{Format}
 use Rattle.relay_row.specs.Bodies.{IsBody}
 use Rattle.relay_row.specs.Journal.{IsJournal}
+use Rattle.relay_row.specs.Left.{RowsLeft, AreInFront}
 use Rattle.relay_row.specs.declared.row.Row.{Row}
 use Rattle.relay_core.specs.declared.journal_state.Core.{Core}
 use Rattle.relay_core.specs.Entries.{Holds}
@@ -37,14 +38,18 @@ pub record IsLearned (place : ℕ) (body : List ℕ) (J : List Row) (state : Cor
   pub core : Holds state (J ++ rows)
   pub window : places_now ≡ places ++ places_in place 0 rows
 
--- while rows of the body at this place are learned: so many are, and these are left
-pub record IsLearning (place index : ℕ) (rows left : List Row) (state state_now : Core) (places places_now : List Place) : Type 0 where
+-- These rows of the body at this place were learned, behind every journal that was known, and they keep its order.
+pub record AreLearned (place : ℕ) (rows : List Row) (state state_now : Core) (places places_now : List Place) : Type 0 where
+  pub core : (J : List Row) → Holds state J → Holds state_now (J ++ rows)
+  pub journal : (J : List Row) → Holds state J → IsJournal J → IsJournal (J ++ rows)
+  pub window : places_now ≡ places ++ places_in place 0 rows
+
+-- while the rows of the body at this place are learned: so many are, and that is left
+pub record IsLearning (place index : ℕ) (was left : RowsLeft) (state state_now : Core) (places places_now : List Place) : Type 0 where
   pub done : List Row
-  pub split : rows ≡ done ++ left
+  pub read : AreInFront done was left
   pub count : index ≡ length done
-  pub core : (J : List Row) → Holds state J → Holds state_now (J ++ done)
-  pub journal : (J : List Row) → Holds state J → IsJournal J → IsJournal (J ++ done)
-  pub window : places_now ≡ places ++ places_in place 0 done
+  pub learned : AreLearned place done state state_now places places_now
 
 -- the body is none of rows that come behind the journal J
 abbrev pub IsBadBody : List Row → List ℕ → Type 0

@@ -23,6 +23,8 @@ use std::alloc::Global;
 pub struct Reader<'a, D, P = Page> {
     store: &'a Store,
     disk: &'a mut D,
+    // How many places stand behind the one that was looked at first, last time.
+    left: usize,
     page: P,
 }
 
@@ -35,6 +37,7 @@ impl<D, P: Drop> Drop for Reader<'_, D, P> {
         let Reader {
             store: _,
             disk: _,
+            left: _,
             page,
         } = self;
         drop(page);
@@ -53,6 +56,7 @@ impl Store {
         Reader {
             store: self,
             disk,
+            left: 0,
             page: Page::new(alloc),
         }
     }
@@ -87,7 +91,8 @@ impl<D: Disk> Events for Reader<'_, D> {
 
     fn next_after(&mut self, seq: u64, room: &mut Octets) -> Result<Option<u64>, EventsFault> {
         let store = self.store;
-        let places = store.window.above(seq);
+        let places = store.window.above(seq, self.left);
+        self.left = places.len().saturating_sub(1);
         find_shown(
             &store.log,
             &store.core,

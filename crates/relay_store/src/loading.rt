@@ -1,19 +1,18 @@
 //! Reading a log's bodies back.
 
-ghost use Rattle.std.specs.Prelude.{◌≡◌, ◌≤◌, ◌<◌, ◌+◌, ◌++◌, ◌∷◌, [], ℕ, List, length, true, IsTrue, IfOk, OnOk};
-ghost use Rattle.std.specs.List.{list_all};
+ghost use Rattle.std.specs.Prelude.{◌≡◌, ◌≤◌, ◌<◌, ◌+◌, ◌++◌, ◌∷◌, [], ℕ, List, length, IsTrue, IfOk, OnOk};
 ghost use Rattle.at_cid.specs.Counts.{Rose};
 ghost use Rattle.relay_disk.specs.Disk.{Goes, Same};
 ghost use Rattle.gate_log.specs.Image.{made};
 ghost use Rattle.gate_log.specs.Log.{Holds as HasBodies, IsOn};
 ghost use Rattle.gate_log.specs.declared.limits.TheConstants.{BEFORE_BODY};
 ghost use Rattle.relay_row.specs.Journal.{IsJournal};
-ghost use Rattle.relay_row.specs.Rules.{is_row};
+ghost use Rattle.relay_row.specs.Left.{AreLeft};
 ghost use Rattle.relay_row.specs.declared.fault.RowFault.{RowFault};
 ghost use Rattle.relay_row.specs.declared.limits.TheConstants.{MOST_ROWS};
 ghost use Rattle.relay_row.specs.declared.row.Row.{Row as TheRow};
 ghost use Rattle.relay_core.specs.Entries.{Holds};
-ghost use Rattle.relay_store.specs.Opening.{IsLearned, IsBadBody, IsLoaded, IsBadAmong, IsOfReading};
+ghost use Rattle.relay_store.specs.Opening.{AreLearned, IsLearned, IsBadBody, IsLoaded, IsBadAmong, IsOfReading};
 ghost use Rattle.relay_store.specs.Places.{places_in};
 ghost use Rattle.relay_store.specs.declared.fault.StoreFault.{StoreFault as TheFault};
 
@@ -23,27 +22,22 @@ use event_window::Window;
 use gate_log::Log;
 use relay_core::Core;
 use relay_disk::Disk;
-use relay_row::{Row, RowFault, read_rows};
+use relay_row::{BodyRows, RowFault};
 use std::alloc::Global;
-use std::collections::VecDeque;
 
-// Learns the rows of the body at this place.
+// Learns the rows that are left of the body at this place.
 fn learn_rows(
     core: &mut Core,
     window: &mut Window,
     place: u64,
-    rows: Vec<Row>,
+    rows: &mut BodyRows,
 ) -> Result<(), RowFault>
-    requires few { length rows.items ≤ MOST_ROWS }
-    requires formed { list_all is_row rows.items ≡ true }
-    ensures journal { OnOk result ((J : List TheRow) → Holds core.old J → IsJournal J → IsJournal (J ++ rows.items)) }
-    ensures core { OnOk result ((J : List TheRow) → Holds core.old J → Holds core.new (J ++ rows.items)) }
-    ensures window { OnOk result (window.new.places ≡ window.old.places ++ places_in place 0 rows.items) }
-    ensures bad { result ≡ Err RowFault.BadRow → (J : List TheRow) → Holds core.old J → IsJournal (J ++ rows.items) → ⊥ }
+    requires few { rows.old.count ≤ MOST_ROWS }
+    ensures learned { OnOk result ((there : List TheRow) × AreLeft there rows.old × AreLearned place there core.old core.new window.old.places window.new.places) }
+    ensures bad { result ≡ Err RowFault.BadRow → (J : List TheRow) → Holds core.old J → (there : List TheRow) → AreLeft there rows.old → IsJournal (J ++ there) → ⊥ }
 {
     let mut index = 0;
-    let mut left = VecDeque::from_vec(rows);
-    'rows: while let Some(row) = left.pop_front() {
+    'rows: while let Some(row) = rows.next()? {
         if !core.is_next(&row) {
             return Err(RowFault::BadRow);
         }
@@ -65,8 +59,8 @@ fn learn_body(
     ensures learned { OnOk result ((J : List TheRow) → Holds core.old J → IsJournal J → IsLearned place body.now J core.new window.old.places window.new.places) }
     ensures bad { result ≡ Err RowFault.BadRow → (J : List TheRow) → Holds core.old J → IsBadBody J body.now }
 {
-    let rows = read_rows(alloc, body)?;
-    learn_rows(core, window, place, rows.into_vec())
+    let mut rows = BodyRows::of(alloc, body)?;
+    learn_rows(core, window, place, &mut rows)
 }
 
 // Reads the body at this place into a room and learns it, and answers the next place.
