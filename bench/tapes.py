@@ -1,5 +1,6 @@
 """Tapes of honest hosts, made by the plain model of messages.py: for each, what the authorities' table has to say, and what
 any relay has to hash of it."""
+import itertools
 import random
 
 import messages as m
@@ -127,12 +128,20 @@ def accounts(events, count, more):
 def firehose(accounts, keys, commits):
     """The `#sync` of each account, with so many records; then commits of 1 to 4 operations of one account and another; and
     what has to be hashed of these."""
+    begin, following = commits_of(accounts, keys)
+    made = [next(following) for _ in range(commits)]
+    return begin, [message for message, _ in made], [it for _, blocks in made for it in blocks]
+
+
+def commits_of(accounts, keys):
+    """The `#sync` of each account, with so many records; and commits of 1 to 4 operations of one account and another without
+    end, each with what has to be hashed of it."""
     draw, heights = random.Random(11), {}
     held = sorted({post(draw) for _ in range(keys)})
     repositories = [Repository(did_of(i), held, heights, draw) for i in range(accounts)]
     begin = [sync(i + 1, 1, it.tree, it.did) for i, it in enumerate(repositories)]
-    made = [draw.choice(repositories).commit(accounts + i + 1, 1 + i % 4) for i in range(commits)]
-    return begin, [message for message, _ in made], [it for _, blocks in made for it in blocks]
+    following = (draw.choice(repositories).commit(accounts + i + 1, 1 + i % 4) for i in itertools.count())
+    return begin, following
 
 
 def first_commits(start, end):
