@@ -2,6 +2,7 @@ pub mod Links
 pub mod Bits
 pub mod Bytes
 pub mod Order
+pub mod Numbers
 pub mod Distinct
 pub mod Texts
 pub mod Utf8

@@ -18,6 +18,7 @@ pub mod Spelled
 pub mod Rounds
 pub mod Lengths
 pub mod Passes
+pub mod Standing
 pub mod Steps
 pub mod Finds
 pub mod Gives

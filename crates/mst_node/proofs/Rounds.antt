@@ -5,7 +5,7 @@ use Rattle.at_cbor.specs.Taking.{◌>>=◌, Taking}
 use Rattle.mst_node.specs.declared.entry.Entry.{Entry}
 use Rattle.mst_node.specs.declared.fault.NodeFault.{NodeFault}
 use Rattle.mst_node.specs.Reading.{key_before}
-use Rattle.mst_node.specs.Taking.{IsTaken, entry_at, entries_at}
+use Rattle.mst_node.specs.Taking.{IsTaken, entry_at, next_at, entries_at}
 
 -- the last entry's key
 pub last_before : (last : List ℕ) (es : List Entry) (e : Entry) → slice_get es (length es - 1) ≡ Some e → e.key ≡ key_before last es
@@ -27,23 +27,36 @@ regroup : (front : List Entry) (e : Entry) (taken : Taking (List Entry)) → wit
 regroup front e (Some x) = ap (λ (es : List Entry). Some (es, x.1)) (simp append_assoc)
 regroup front e None = refl
 
+-- the entries that were taken before, and the next
+abbrev with_next : List Entry → Taking Entry → Taking (List Entry)
+with_next front next = next >>= λ x. Some (front ++ x.0 ∷ [], x.1)
+
+-- the entries that were taken, and so many behind them
+abbrev onward : ℕ → Taking (List Entry) → Taking (List Entry)
+onward n taken = taken >>= λ x. with_front x.0 (entries_at n (key_before [] x.0) x.1)
+
+going_on : (front : List Entry) (n : ℕ) (next : Taking Entry) → with_front front (next >>= λ e. entries_at n e.0.key e.1 >>= λ es. Some (e.0 ∷ es.0, es.1))
+    ≡ onward n (with_next front next)
+going_on front n (Some (e, after)) = rw (key_joined [] front e) (regroup front e (entries_at n e.key after))
+going_on front n None = refl
+
 module _ (front : List Entry) (count i : ℕ) (rest : List ℕ) (total : Taking (List Entry)) where
   abbrev SoFar : Type 0
   SoFar = with_front front (entries_at (count - i) (key_before [] front) rest) ≡ total
 
-  pub go_on : (e : Entry) (after : List ℕ) → i < count → entry_at (key_before [] front) rest ≡ Some (e, after) → SoFar → with_front (front ++ e ∷ []) (entries_at (count - (i + 1)) (key_before [] (front ++ e ∷ [])) after) ≡ total
+  next_round : i < count → SoFar → total ≡ onward (count - (i + 1)) (next_at front rest)
   unfolding entries_at
-  go_on e after low found so_far =
+  next_round low so_far =
       let n : count - i ≡ suc (count - (i + 1)) = omega arith in
-      let one : with_front front (entries_at (count - i) (key_before [] front) rest) ≡ with_front (front ++ e ∷ []) (entries_at (count - (i + 1)) e.key after) = rw (n, found) (regroup front e (entries_at (count - (i + 1)) e.key after)) in
-      rw (key_joined [] front e) (sym one ∙ so_far)
-
-  pub stopped : (f : NodeFault) → i < count → IsTaken (λ (x : Entry × List ℕ). x) (Err f) (entry_at (key_before [] front) rest) → SoFar → IsTaken (λ (x : List Entry × List ℕ). x) (Err f) total
-  unfolding entries_at
-  stopped NodeFault.BadNode low found so_far =
-      let n : count - i ≡ suc (count - (i + 1)) = omega arith in
-      let one : with_front front (entries_at (count - i) (key_before [] front) rest) ≡ None = rw (n, found) refl in
+      let one : with_front front (entries_at (count - i) (key_before [] front) rest) ≡ onward (count - (i + 1)) (next_at front rest) =
+      rw n (going_on front (count - (i + 1)) (entry_at (key_before [] front) rest)) in
       sym so_far ∙ one
+
+  pub go_on : (new : List Entry) (after : List ℕ) → i < count → next_at front rest ≡ Some (new, after) → SoFar → with_front new (entries_at (count - (i + 1)) (key_before [] new) after) ≡ total
+  go_on new after low found so_far = sym (next_round low so_far ∙ ap (onward (count - (i + 1))) found)
+
+  pub stopped : (f : NodeFault) → i < count → IsTaken (λ (x : List Entry × List ℕ). x) (Err f) (next_at front rest) → SoFar → IsTaken (λ (x : List Entry × List ℕ). x) (Err f) total
+  stopped NodeFault.BadNode low found so_far = next_round low so_far ∙ ap (onward (count - (i + 1))) found
   stopped NodeFault.Memory low found so_far = tt
 
   pub done : count ≤ i → SoFar → total ≡ Some (front, rest)

@@ -7,7 +7,7 @@ use Rattle.mst_list.specs.Edits.{by_order}
 use Rattle.mst_node.specs.declared.entry.Entry.{Entry}
 use Rattle.mst_node.specs.NodeFaults.{layer_of}
 use Rattle.mst_node.specs.Nodes.{Node}
-use Rattle.mst_node.specs.Reading.{is_over}
+use Rattle.mst_node.specs.Reading.{is_over, key_before}
 
 -- two keys are in order
 abbrev pub is_less : List ℕ → List ℕ → Bool
@@ -30,6 +30,15 @@ entry_fits h low high e = eqb (height e.key) h && (is_over low e.key && (is_unde
 abbrev pub entries_fit : ℕ → Option (List ℕ) → Option (List ℕ) → List Entry → Bool
 entries_fit h low high [] = true
 entries_fit h low high (e ∷ es) = entry_fits h low high e && entries_fit h (Some e.key) high es
+
+-- an entry stands at layer h, whatever keys are beside its own
+abbrev pub stands : ℕ → Entry → Bool
+stands h e = eqb (height e.key) h && may_hang h e.right
+
+-- the first key is above a bound, and the last one below another
+abbrev pub are_between : Option (List ℕ) → Option (List ℕ) → List Entry → Bool
+are_between low high [] = true
+are_between low high (e ∷ es) = is_over low e.key && is_under (key_before e.key es) high
 
 -- there is an entry or a link
 abbrev pub is_some_node : Node → Bool

@@ -7,6 +7,7 @@ use Rattle.mst_list.specs.declared.item.TheConstants.{MOST_KEY_BYTES}
 use Rattle.mst_node.specs.declared.entry.Entry.{Entry}
 use Rattle.mst_node.specs.declared.fault.NodeFault.{NodeFault}
 use Rattle.mst_node.specs.Nodes.{Node}
+use Rattle.mst_node.specs.Reading.{key_before}
 
 -- the parts of an entry: what of its key isn't shared, how much is, the link to the right, and the value
 pub record Parts : Type 0 where
@@ -46,6 +47,10 @@ entry_made last p = record { key = take p.count last ++ p.tail; value = p.value;
 -- the entry behind the key `last`
 unfoldable pub entry_at : List ℕ → List ℕ → Taking Entry
 entry_at last bytes = parts_at bytes >>= λ p. if may_follow last p.0.count p.0.tail then Some (entry_made last p.0, p.1) else None
+
+-- these entries, and the one behind them
+abbrev pub next_at : List Entry → List ℕ → Taking (List Entry)
+next_at entries bytes = entry_at (key_before [] entries) bytes >>= λ x. Some (entries ++ x.0 ∷ [], x.1)
 
 -- so many entries behind the key `last`
 unfoldable pub entries_at : ℕ → List ℕ → List ℕ → Taking (List Entry)

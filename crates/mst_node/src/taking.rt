@@ -3,7 +3,7 @@
 ghost use Rattle.std.specs.Prelude.{◌≡◌, ◌≤◌, ◌∷◌, ◌++◌, [], Some, length, take, option_map, IfOk};
 ghost use Rattle.at_cbor.specs.Taking.{behind, number_at};
 ghost use Rattle.mst_node.specs.Reading.{key_before};
-ghost use Rattle.mst_node.specs.Taking.{IsTaken, parts_of, parts_at, goes_above, may_follow, entry_at, entries_at, front_at, end_at, node_at};
+ghost use Rattle.mst_node.specs.Taking.{IsTaken, parts_of, parts_at, goes_above, may_follow, next_at, entries_at, front_at, end_at, node_at};
 
 use crate::entries::Entries;
 use crate::entry::Entry;
@@ -114,37 +114,39 @@ fn key_of(alloc: Global, last: &[u8], count: usize, tail: &[u8]) -> Result<KeyBy
     KeyBytes::joined(alloc, last.split_at(count).0, tail)
 }
 
-/// The entry at the front, behind a key.
-#[tactic(auto, unfolding(crate::specs::Taking::entry_at))]
-fn take_entry<'a>(
-    alloc: Global,
-    last: &[u8],
-    bytes: &'a [u8],
-) -> Result<(Entry, &'a [u8]), NodeFault>
-    ensures { IsTaken (λ x. (x.0, x.1.now)) result (entry_at last.now bytes.now) }
-{
-    let Some((parts, rest)) = take_parts(bytes) else {
-        return Err(NodeFault::BadNode);
-    };
-    if !may_follow(last, parts.count, parts.tail) {
-        return Err(NodeFault::BadNode);
-    }
-    let key = key_of(alloc, last, parts.count, parts.tail)?;
-    let entry = Entry {
-        key,
-        value: parts.value,
-        right: parts.right,
-    };
-    Ok((entry, rest))
-}
-
-fn last_key(entries: &[Entry]) -> &[u8]
+/// The key of the last entry, or an empty one.
+pub(crate) fn last_key(entries: &[Entry]) -> &[u8]
     ensures { result.now ≡ key_before [] entries.now }
 {
     match entries.last() {
         Some(entry) => entry.key.as_slice(),
         None => &[],
     }
+}
+
+/// Adds the entry at the front, behind the key of the last one.
+#[tactic(auto, unfolding(crate::specs::Taking::entry_at))]
+fn push_entry<'a>(
+    alloc: Global,
+    entries: &mut Entries,
+    bytes: &'a [u8],
+) -> Result<&'a [u8], NodeFault>
+    ensures { IsTaken (λ rest. (entries.new, rest.now)) result (next_at entries.old bytes.now) }
+{
+    let Some((parts, rest)) = take_parts(bytes) else {
+        return Err(NodeFault::BadNode);
+    };
+    let last = last_key(entries.as_slice());
+    if !may_follow(last, parts.count, parts.tail) {
+        return Err(NodeFault::BadNode);
+    }
+    let key = key_of(alloc, last, parts.count, parts.tail)?;
+    entries.push(Entry {
+        key,
+        value: parts.value,
+        right: parts.right,
+    })?;
+    Ok(rest)
 }
 
 /// The fewest bytes of an entry: its map with four names, a key of one byte, 0, null and a link.
@@ -158,9 +160,7 @@ fn take_entries(alloc: Global, count: usize, bytes: &[u8]) -> Result<(Entries, &
     let mut entries = Entries::with_room(alloc, room)?;
     let mut rest = bytes;
     'entries: for _ in 0..count {
-        let (entry, after) = take_entry(alloc, last_key(entries.as_slice()), rest)?;
-        entries.push(entry)?;
-        rest = after;
+        rest = push_entry(alloc, &mut entries, rest)?;
     }
     Ok((entries, rest))
 }

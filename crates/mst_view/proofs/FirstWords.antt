@@ -1,48 +1,58 @@
 -- Links that begin differently.
-use Rattle.std.proofs.Common.{◌≡◌, ℕ, Bool, true, false, not, cond, ◌&&◌, List, [], ◌∷◌, map, refl, sym, ap, ◌∙◌, Equal, nat_cmp}
-use Rattle.std.specs.BTreeMap.{is_at}
-use Rattle.std.specs.Cmp.{nat_cmp_is}
-use Rattle.std.specs.Ordering.{is_eq}
+use Rattle.std.proofs.Common.{◌≡◌, ℕ, ◌+◌, Bool, true, false, not, ◌&&◌, List, [], ◌∷◌, get_or, map, refl, sym, ap, ◌∙◌, nat_cmp}
+use Rattle.std.specs.List.{AllByRecursion, IsAllAdjacentAnswer, IsDistinct}
+use Rattle.std.specs.List.Sorted.{IsPermutation, IsStrictlyIncreasing}
+use Rattle.std.specs.Ordering.{eq_by_cmp}
+use Rattle.std.specs.Cmp.{IsEquivalence}
 use Rattle.std.specs.Str.{bytes_eq}
+use Rattle.std.proofs.Math.Dec.{ltb}
+use Rattle.std.proofs.lemmas.Bool.{ltb-true}
+use Rattle.std.proofs.lemmas.Cmp.{eq_by_cmp_equiv, nat_cmp_total}
+use Rattle.std.proofs.lemmas.List.Sorted.{IsPermutation-sym}
+use Rattle.std.proofs.lemmas.Map.Keys.{IsDistinct-from_sorted, IsDistinct-head, IsDistinct-tail, IsDistinct-IsPermutation, sorted_from_strictly_increasing}
 use Rattle.std.proofs.lemmas.Slice.Eq.{bytes_eq-Decides}
-use Rattle.at_cid.specs.Distinct.{is_absent}
+use Rattle.at_cid.specs.Distinct.{is_absent, all_differ}
 use Rattle.at_car.specs.Links.{first_word}
 
--- numbers as a search tree tells them apart
-abbrev pub same : ℕ → ℕ → Bool
-same a b = is_eq (nat_cmp a b)
+-- numbers as their order tells them apart
+abbrev same : ℕ → ℕ → Bool
+same a b = eq_by_cmp nat_cmp a b
 
-same_self : (n : ℕ) → same n n ≡ true
-same_self n = ap is_eq (sym (nat_cmp_is n n Equal refl))
-
-both : (a b : Bool) → a && b ≡ true → (a ≡ true) × (b ≡ true)
-both true b e = (refl, e)
-both false b e = absurd cc
+same_laws : IsEquivalence same
+same_laws = eq_by_cmp_equiv nat_cmp_total
 
 join : (a b : Bool) → a ≡ true → b ≡ true → a && b ≡ true
 join a b e f = rw (e, f) refl
 
-apart : (x y : List ℕ) → not (same (first_word y) (first_word x)) ≡ true → not (bytes_eq y x) ≡ true
+apart : (x y : List ℕ) → same (first_word x) (first_word y) ≡ false → not (bytes_eq y x) ≡ true
 apart x y e =
     elim (bytes_eq y x) as (λ t. bytes_eq y x ≡ t → not t ≡ true) [
       | true ↦ λ s.
           let one : y ≡ x = (bytes_eq-Decides y x).0 s in
-          let twice : not (same (first_word y) (first_word x)) ≡ false = ap (λ z. not (same (first_word z) (first_word x))) one ∙ ap not (same_self (first_word x)) in
+          let twice : same (first_word x) (first_word y) ≡ true = ap (λ z. same (first_word x) (first_word z)) one ∙ same_laws.refl (first_word x) in
           absurd cc
       | false ↦ λ s. refl
     ] refl
 
 -- a link that begins as none of these is none of them
-pub new_word : (x : List ℕ) (xs : List (List ℕ)) → is_absent same (first_word x) (map first_word xs) ≡ true → is_absent bytes_eq x xs ≡ true
-new_word x [] e = refl
-new_word x (y ∷ ys) e =
-    let t = both (not (same (first_word y) (first_word x))) (is_absent same (first_word x) (map first_word ys)) e in
-    join (not (bytes_eq y x)) (is_absent bytes_eq x ys) (apart x y t.0) (new_word x ys t.1)
+new_word : (x : List ℕ) (xs : List (List ℕ)) → AllByRecursion (λ w. same (first_word x) w ≡ false) (map first_word xs) → is_absent bytes_eq x xs ≡ true
+new_word x [] h = refl
+new_word x (y ∷ ys) h = join (not (bytes_eq y x)) (is_absent bytes_eq x ys) (apart x y h.0) (new_word x ys h.1)
 
-one_more : (same : Bool) (b : Bool) → cond same true (not b) ≡ not (not same && b)
-one_more true b = refl
-one_more false b = refl
+-- links that begin differently differ
+words_differ : (xs : List (List ℕ)) → IsDistinct same (map first_word xs) → all_differ bytes_eq xs ≡ true
+words_differ [] h = refl
+words_differ (x ∷ xs) h =
+    let words = map first_word xs in
+    join (is_absent bytes_eq x xs) (all_differ bytes_eq xs) (new_word x xs (IsDistinct-head same (first_word x) words h)) (words_differ xs (IsDistinct-tail same (first_word x) words h))
 
--- what a search tree of numbers tells of one, once another is put in
-pub word_seen : (w put : ℕ) (ws : List ℕ) → cond (is_at (nat_cmp put) w) true (not (is_absent same w ws)) ≡ not (is_absent same w (put ∷ ws))
-word_seen w put ws = one_more (same put w) (is_absent same w ws)
+-- numbers of which each is found below the next rise
+pub found_rising : (words : List ℕ) (rise : Bool) → IsAllAdjacentAnswer (λ x y b. b ≡ ltb x y) words rise → rise ≡ true → IsStrictlyIncreasing words
+found_rising words true found e = λ k more. ltb-true (get_or words k 0) (get_or words (k + 1) 0) (sym (found k 0 more))
+found_rising words false found e = absurd cc
+
+-- links whose first words rise in some order differ
+pub rising_differ : (xs : List (List ℕ)) (words : List ℕ) → IsPermutation (map first_word xs) words → IsStrictlyIncreasing words → all_differ bytes_eq xs ≡ true
+rising_differ xs words moved up =
+    let distinct : IsDistinct same words = IsDistinct-from_sorted nat_cmp words (sorted_from_strictly_increasing words up) in
+    words_differ xs (IsDistinct-IsPermutation same same_laws.symm words (map first_word xs) (IsPermutation-sym (map first_word xs) words moved) distinct)

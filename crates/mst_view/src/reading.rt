@@ -130,12 +130,13 @@ fn read_rest(
     let mut left = entries.into_vec();
     // The first is taken from the end, so that the room of those that were taken can be given back.
     left.reverse();
-    'entries: while let Some(entry) = left.pop() {
-        give_back(&mut left);
-        let Entry { key, value, right } = entry;
-        let high = bound_before(high, left.as_slice());
-        let below = read_below(alloc, blocks, layer, Some(key.as_slice()), high, right)?;
+    'entries: while let Some((entry, others)) = left.as_slice().split_last() {
+        let low = Some(entry.key.as_slice());
+        let high = bound_before(high, others);
+        let below = read_below(alloc, blocks, layer, low, high, entry.right)?;
+        let Entry { key, value, .. } = left.pop().unwrap();
         rest.push(Part { key, value, below })?;
+        give_back(&mut left);
     }
     Ok(rest)
 }

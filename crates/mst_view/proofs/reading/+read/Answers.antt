@@ -1,5 +1,6 @@
 use Rattle.std.proofs.Common.{◌≡◌, ℕ, ◌-◌, List, [], ◌∷◌, ◌++◌, true, ◌&&◌, refl, sym, ap, ◌∙◌, subst, Option, Some, Ok, arith}
 use Rattle.std.specs.Prelude.{option_map, reverse}
+use Rattle.std.specs.Option.{option_to_list}
 use Rattle.std.proofs.lemmas.Result.{err_from_is_err_and}
 use Rattle.at_cid.specs.Link.{cid, IsNodeLink}
 use Rattle.mst_node.specs.declared.entry.Entry.{Entry}
@@ -16,7 +17,7 @@ use Rattle.mst_node.proofs.Told.{both_true}
 use Rattle.mst_node.proofs.Passes.{hang_true, fit_true}
 use Rattle.mst_view.proofs.Spelled.{at_layer}
 use Rattle.mst_node.proofs.Steps.{at_none, at_hole, at_block, block_bad, block_unfit, block_fit}
-use Rattle.mst_view.proofs.Steps.{sound, nodes_under, above_zero, hang_of, at_pushed, entries_pushed, reads_on, fails_on, taken, link_of_parts, some_items}
+use Rattle.mst_view.proofs.Steps.{sound, nodes_under, above_zero, hang_of, at_pushed, entries_pushed, reads_on, fails_on, taken, link_of_parts, some_items, last_taken}
 use Rattle.mst_view.proofs.reading.+read.Goals as goal
 use Rattle.mst_node.specs.Reading.{node_of}
 use Rattle.mst_view.specs.Steps.{AllHang, link_at_fault, with_front}
@@ -118,22 +119,29 @@ read_parts-returns-clause-at t c =
 pub read_rest-entries-preserved : goal.read_rest-entries-preserved
 read_rest-entries-preserved t c =
     let high = option_map (λ k. k.now) c.args.high in let h = c.args.layer in let B = c.args.blocks.now in
-    let e = c.in-Some.entry in let more = reverse c.give_back.new.entries.items in let rest = c.entries.rest.items in
-    let here : reverse c.entries.left.items ≡ e ∷ more = taken c.entries.left.items c.pop.new.self.items e c.in-Some.ensures.items ∙ ap (λ x. e ∷ reverse x) (sym c.give_back.ensures) in
+    let last = c.in-Some.entry.now in let others = c.in-Some.others.now in
+    let e = c.unwrap-key.result in let left = c.pop.new.self.items in let more = reverse c.give_back.new.entries.items in let rest = c.entries.rest.items in
+    let gone : c.entries.left.items ≡ left ++ e ∷ [] = c.pop.ensures.items ∙ ap (λ o. left ++ option_to_list o) c.unwrap-key.ensures in
+    let one = last_taken c.entries.left.items others left last e (sym c.as_slice.ensures.value ∙ c.in-Some.ensures.cases.0) gone in
+    let here : reverse c.entries.left.items ≡ e ∷ more = taken c.entries.left.items left e gone ∙ ap (λ x. e ∷ reverse x) (sym c.give_back.ensures) in
     let below = c.in_ok-below.below in let p : Part = record { key = e.key; value = e.value; below = below } in
     let pushed : c.push.new.self.items ≡ rest ++ p ∷ [] = c.in_ok-push.ensures.items in
     let H : List Entry → Type 0 = λ x. AllHang h x in let hang = subst H here c.entries.invariant.hang in
     let A : List Part → Type 0 = λ x. AllAt h x in
-    let next : option_map (λ k. k.now) c.bound_before-high.result ≡ next_bound high more = c.bound_before-high.ensures ∙ ap (λ x. next_bound high (reverse x)) c.as_slice.ensures.value in
-    let one : part_at in_part node_of B h (Some e.key) (next_bound high more) e.right ≡ Ok (below_items h below) =
-    ap (λ k. part_at in_part node_of B h (Some k) (next_bound high more) e.right) (sym c.as_slice-in-Some.ensures.value) ∙ ap (λ x. part_at in_part node_of B h (Some c.as_slice-in-Some.result.now) x e.right) (sym next) ∙ c.in_ok-below.ensures.gives in
-    let same : entry_of e.key e.value (below_link below) ≡ e = ap (λ r. entry_of e.key e.value r) c.in_ok-below.ensures.keeps in
+    let behind : reverse others ≡ more = one.1 ∙ ap reverse (sym c.give_back.ensures) in
+    let next : option_map (λ k. k.now) c.bound_before-high.result ≡ next_bound high more = c.bound_before-high.ensures ∙ ap (next_bound high) behind in
+    let given : part_at in_part node_of B h (Some e.key) (next_bound high more) e.right ≡ Ok (below_items h below) =
+    ap (λ (x : Entry). part_at in_part node_of B h (Some x.key) (next_bound high more) x.right) one.0
+    ∙ ap (λ k. part_at in_part node_of B h (Some k) (next_bound high more) last.right) (sym c.as_slice-in-Some.ensures.value)
+    ∙ ap (λ x. part_at in_part node_of B h (Some c.as_slice-in-Some.result.now) x last.right) (sym next)
+    ∙ c.in_ok-below.ensures.gives in
+    let same : entry_of e.key e.value (below_link below) ≡ e = ap (λ r. entry_of e.key e.value r) (c.in_ok-below.ensures.keeps ∙ ap (λ (x : Entry). x.right) (sym one.0)) in
     record {
       at = subst A (sym pushed) (at_pushed h rest p c.entries.invariant.at hang.0.0 c.in_ok-below.ensures.lies);
       hang = hang.1;
       keeps = ap (λ x. entries_of x ++ more) pushed ∙ entries_pushed rest p more ∙ ap (λ x. entries_of rest ++ (x ∷ more)) same ∙ ap (λ x. entries_of rest ++ x) (sym here) ∙ c.entries.invariant.keeps;
       reads = ap (λ x. with_front (rest_items h x) (rights_of (part_at in_part node_of B h) high more)) pushed
-          ∙ reads_on (part_at in_part node_of B h) h high rest p e more refl refl one
+          ∙ reads_on (part_at in_part node_of B h) h high rest p e more refl refl given
           ∙ ap (λ x. with_front (rest_items h rest) (rights_of (part_at in_part node_of B h) high x)) (sym here)
           ∙ c.entries.invariant.reads;
     }
