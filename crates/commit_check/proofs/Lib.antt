@@ -1,4 +1,5 @@
 pub mod Differing
+pub mod Ascending
 pub mod Keys
 pub mod Apart
 pub mod Formed

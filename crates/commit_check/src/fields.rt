@@ -1,13 +1,15 @@
 //! What the fields of a commit event show.
 
-ghost use Rattle.std.specs.Prelude.{◌≡◌, IfOk, None};
+ghost use Rattle.std.specs.Prelude.{◌≡◌, ◌↔◌, IfOk, IsTrue, None};
 ghost use Rattle.std.specs.List.{list_all};
+ghost use Rattle.std.specs.List.Sorted.{IsStrictlySortedBy};
 ghost use Rattle.std.specs.Str.{bytes_eq};
 ghost use Rattle.event_checks.specs.Table.{field_lines, has_path, is_op, paths_of};
 ghost use Rattle.event_checks.specs.Lines.{first_of};
 ghost use Rattle.at_cid.specs.Distinct.{all_differ};
+ghost use Rattle.at_cid.specs.Order.{key_cmp};
 
-use at_cid::Memory;
+use at_cid::{Memory, compare};
 use at_event::{Action, CommitEvent, EventOp, Refusal};
 use at_syntax::path_ok;
 use event_checks::{MOST_COMMIT_BYTES, MOST_OPS};
@@ -38,10 +40,20 @@ fn are_ops(ops: &[EventOp]) -> bool
     ops.iter().all(is_op)
 }
 
-/// Whether no path stands twice: a search tree holds those behind the one at hand.
+/// Whether each path is above the one before it, in the order of bytes.
+fn paths_ascend(ops: &[EventOp]) -> bool
+    ensures { IsTrue result ↔ IsStrictlySortedBy key_cmp (paths_of ops.now) }
+{
+    ops.is_sorted_by(|a, b| compare(a.path.as_bytes(), b.path.as_bytes()).is_lt())
+}
+
+/// Whether no path stands twice. Paths that ascend differ; of others, a search tree holds those behind the one at hand.
 fn paths_differ(alloc: Global, ops: &[EventOp]) -> Result<bool, Memory>
     ensures { IfOk result (λ differ. differ ≡ all_differ bytes_eq (paths_of ops.now)) }
 {
+    if paths_ascend(ops) {
+        return Ok(true);
+    }
     let mut seen = BTreeSet::new(alloc);
     let mut left = ops.len();
     while left > 0 {

@@ -5,12 +5,16 @@ use Rattle.std.specs.Str.{bytes_eq}
 use Rattle.at_cid.specs.Distinct.{all_differ, is_absent}
 use Rattle.at_cid.proofs.Distinct.{text_seen}
 use Rattle.event_checks.specs.Table.{paths_of}
+use Rattle.commit_check.proofs.Ascending.{ascending_differ}
 use Rattle.commit_check.proofs.Differing.{next_paths, twice_in_paths}
 use Rattle.commit_check.proofs.fields.paths_differ.Goals as goal
 
 not_not : (a b : Bool) → a ≡ not b → not a ≡ b
 not_not a true e = rw e refl
 not_not a false e = rw e refl
+
+pub returns-then-paths_ascend : goal.returns-then-paths_ascend
+returns-then-paths_ascend c = sym (ascending_differ (paths_of c.args.ops.now) (c.paths_ascend.ensures.0 c.if-paths_ascend.true))
 
 pub returns-then-not-branch : goal.returns-then-not-branch
 returns-then-not-branch c =
