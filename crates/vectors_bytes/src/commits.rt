@@ -17,14 +17,23 @@ impl Subject for Commits {
 
 fn told(alloc: Global, answer: Result<Commit, CommitFault>) -> Result<String> {
     match answer {
-        Ok(commit) => {
-            let copy = had(commit.try_clone())?;
-            ensure!(copy.unsigned == commit.unsigned, "the copy is another");
-            whole(alloc, &copy)
-        }
-        Err(CommitFault::Memory) => bail!("memory"),
-        Err(fault) => Ok(format!(in alloc; "{fault:?}")?),
+        Ok(commit) => copied(alloc, &commit),
+        Err(fault) => fault_of(alloc, fault),
     }
+}
+
+fn fault_of(alloc: Global, fault: CommitFault) -> Result<String> {
+    if fault == CommitFault::Memory {
+        bail!("memory");
+    }
+    Ok(format!(in alloc; "{fault:?}")?)
+}
+
+// What a copy says, which is the same.
+fn copied(alloc: Global, commit: &Commit) -> Result<String> {
+    let copy = had(commit.try_clone())?;
+    ensure!(copy.unsigned == commit.unsigned, "the copy is another");
+    whole(alloc, &copy)
 }
 
 // What a commit object says.

@@ -13,12 +13,7 @@ impl Subject for Events {
     // `sync SEQ DID TIME REV BLOCKS` or `account SEQ DID TIME ACTIVE STATUS`: the message.
     fn answer(&self, alloc: Global, input: &str) -> Result<String> {
         let (kind, rest) = parted(input, " ")?;
-        let words = event(rest)?;
-        let frame = match kind {
-            "sync" => sync(alloc, &words)?,
-            "account" => account(alloc, &words)?,
-            _ => bail!("no word of events"),
-        };
+        let frame = framed(alloc, kind, &event(rest)?)?;
         Answer::new(alloc).bytes(frame.as_slice()).end()
     }
 }
@@ -36,15 +31,28 @@ struct Words<'a> {
 fn event(words: &str) -> Result<Words<'_>> {
     let (seq, rest) = parted(words, " ")?;
     let (did, rest) = parted(rest, " ")?;
+    event_of(number(seq)?, did, rest)
+}
+
+// The words of an event of that number and DID.
+fn event_of<'a>(seq: u64, did: &'a str, rest: &'a str) -> Result<Words<'a>> {
     let (time, rest) = parted(rest, " ")?;
     let (more, last) = parted(rest, " ")?;
     Ok(Words {
-        seq: number(seq)?,
+        seq,
         did,
         time,
         more,
         last,
     })
+}
+
+fn framed(alloc: Global, kind: &str, words: &Words<'_>) -> Result<Octets> {
+    match kind {
+        "sync" => sync(alloc, words),
+        "account" => account(alloc, words),
+        _ => bail!("no word of events"),
+    }
 }
 
 fn sync(alloc: Global, words: &Words<'_>) -> Result<Octets> {

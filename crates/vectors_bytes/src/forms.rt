@@ -19,11 +19,21 @@ impl Subject for Forms {
     fn answer(&self, alloc: Global, input: &str) -> Result<String> {
         let (form, rest) = parted(input, " ")?;
         if form.starts_with("optional_") || form == "given" {
-            let (name, digits) = parted(rest, " ")?;
-            return of_field(alloc, form, name, &item(alloc, digits)?);
+            return in_map(alloc, form, rest);
         }
-        of_item(alloc, form, &item(alloc, rest)?)
+        alone(alloc, form, rest)
     }
+}
+
+// An item as it has the form.
+fn alone(alloc: Global, form: &str, digits: &str) -> Result<String> {
+    of_item(alloc, form, &item(alloc, digits)?)
+}
+
+// The field of a name in a map.
+fn in_map(alloc: Global, form: &str, rest: &str) -> Result<String> {
+    let (name, digits) = parted(rest, " ")?;
+    of_field(alloc, form, name, &item(alloc, digits)?)
 }
 
 fn item(alloc: Global, digits: &str) -> Result<Value> {

@@ -10,14 +10,14 @@ pub struct Frames;
 impl Subject for Frames {
     fn answer(&self, alloc: Global, input: &str) -> Result<String> {
         let message = bytes(alloc, input)?;
-        told(alloc, read_frame(alloc, message.as_slice()))
+        told(alloc, &read_frame(alloc, message.as_slice()))
     }
 }
 
-fn told(alloc: Global, answer: Result<Frame, FrameFault>) -> Result<String> {
+fn told(alloc: Global, answer: &Result<Frame, FrameFault>) -> Result<String> {
     match answer {
-        Ok(Frame::Event(event)) => event_told(alloc, &event),
-        Ok(Frame::Faulty(seq)) => faulty(alloc, seq),
+        Ok(Frame::Event(event)) => event_told(alloc, event),
+        Ok(Frame::Faulty(seq)) => faulty(alloc, *seq),
         Ok(Frame::Info) => said(alloc, "Info"),
         Ok(Frame::Error) => said(alloc, "Error"),
         Ok(Frame::Unknown) => said(alloc, "Unknown"),
@@ -54,13 +54,8 @@ fn event_told(alloc: Global, event: &Event) -> Result<String> {
         .end()
 }
 
-/// The event of a message.
-pub fn event_of(alloc: Global, digits: &str) -> Result<Event> {
-    let message = bytes(alloc, digits)?;
-    event_in(read_frame(alloc, message.as_slice()))
-}
-
-fn event_in(answer: Result<Frame, FrameFault>) -> Result<Event> {
+/// The event that a message reads as.
+pub fn event_in(answer: &Result<Frame, FrameFault>) -> Result<&Event> {
     match answer {
         Ok(Frame::Event(event)) => Ok(event),
         _ => bail!("the message is no event"),

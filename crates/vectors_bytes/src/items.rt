@@ -13,11 +13,7 @@ impl Subject for Items {
         match decode(alloc, given.as_slice()) {
             Ok((value, len)) => {
                 let written = had(encode(alloc, &value))?;
-                ensure!(
-                    Some(written.as_slice()) == given.get(..len),
-                    "another spelling"
-                );
-                told(alloc, &value, len)
+                told(alloc, &value, written.as_slice(), given.get(..len))
             }
             Err(fault) => fault_of(alloc, fault),
         }
@@ -31,8 +27,10 @@ fn fault_of(alloc: Global, fault: CborFault) -> Result<String> {
     Ok(format!(in alloc; "{fault:?}")?)
 }
 
-// The kind of a value and the length of its spelling, where a copy is the same.
-fn told(alloc: Global, value: &Value, len: usize) -> Result<String> {
+// The kind of a value and the length of its spelling, where it is written as it was given, and a copy is the same.
+fn told(alloc: Global, value: &Value, written: &[u8], given: Option<&[u8]>) -> Result<String> {
+    ensure!(Some(written) == given, "another spelling");
+    let len = written.len();
     ensure!(is_copied(alloc, value, len)?, "another copy");
     Answer::new(alloc)
         .words(kind(value))

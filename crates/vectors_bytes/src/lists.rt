@@ -24,14 +24,16 @@ impl Subject for Lists {
 // Bytes, one more, and some more: all of them and how many, as a copy has them.
 fn octets(alloc: Global, input: &str) -> Result<String> {
     let (front, rest) = parted(input, " ")?;
-    let (one, more) = parted(rest, " ")?;
     let mut whole = octets_of(alloc, front)?;
-    add_bytes_to(
-        &mut whole,
-        bytes(alloc, one)?.as_slice(),
-        bytes(alloc, more)?.as_slice(),
-    )?;
+    add_both(alloc, &mut whole, rest)?;
     counted(alloc, &octets_again(alloc, &whole)?)
+}
+
+// Adds the bytes of two words.
+fn add_both(alloc: Global, whole: &mut Octets, words: &str) -> Result<()> {
+    let (one, more) = parted(words, " ")?;
+    let one = bytes(alloc, one)?;
+    add_bytes_to(whole, one.as_slice(), bytes(alloc, more)?.as_slice())
 }
 
 // Adds bytes one by one, and then some at once.
@@ -69,13 +71,18 @@ fn counted(alloc: Global, octets: &Octets) -> Result<String> {
 // Bytes with a piece written over those from a place on. All are dropped then.
 fn over(alloc: Global, input: &str) -> Result<String> {
     let (front, rest) = parted(input, " ")?;
-    let (place, piece) = parted(rest, " ")?;
     let mut whole = octets_of(alloc, front)?;
-    overwrite(&mut whole, number(place)?, bytes(alloc, piece)?.as_slice())?;
+    put_over(alloc, &mut whole, rest)?;
     let answer = Answer::new(alloc).bytes(whole.as_slice());
     whole.clear();
     ensure!(whole.is_empty(), "all are dropped");
     answer.end()
+}
+
+// Writes a piece over the bytes from a place on.
+fn put_over(alloc: Global, whole: &mut Octets, words: &str) -> Result<()> {
+    let (place, piece) = parted(words, " ")?;
+    overwrite(whole, number(place)?, bytes(alloc, piece)?.as_slice())
 }
 
 fn overwrite(whole: &mut Octets, place: u64, piece: &[u8]) -> Result<()> {

@@ -78,14 +78,22 @@ fn field_of(alloc: Global, input: &str) -> Result<String> {
 
 // How many fields a map has and its last key, and its spelling when its fields are put together anew.
 fn map_again(alloc: Global, input: &str) -> Result<String> {
-    let map = item(alloc, input)?;
-    let made = copied_fields(alloc, map.as_map().context("a map")?)?;
-    let len = made.len();
-    ensure!(made.is_empty() == (len == 0), "which are empty");
-    ensure!(made.get(len).is_none(), "no field behind the last");
-    let answer = Answer::new(alloc).number(len as u64).words(" ");
-    let answer = answer.words(key_of(made.last_key()));
+    let made = fields_again(alloc, input)?;
+    let answer = told(alloc, &made)?;
     with_spelled(alloc, answer, &Value::Map(made))
+}
+
+fn fields_again(alloc: Global, input: &str) -> Result<Fields> {
+    let map = item(alloc, input)?;
+    copied_fields(alloc, map.as_map().context("a map")?)
+}
+
+fn told(alloc: Global, fields: &Fields) -> Result<Answer> {
+    let len = fields.len();
+    ensure!(fields.is_empty() == (len == 0), "which are empty");
+    ensure!(fields.get(len).is_none(), "no field behind the last");
+    let answer = Answer::new(alloc).number(len as u64).words(" ");
+    Ok(answer.words(key_of(fields.last_key())))
 }
 
 fn key_of(key: Option<&Words>) -> &str {
@@ -122,12 +130,14 @@ fn add_copy(alloc: Global, made: &mut Fields, key: &Words, value: &Value) -> Res
 
 // How many items a list has, and its spelling when it is put together anew.
 fn list_again(alloc: Global, input: &str) -> Result<String> {
-    let list = item(alloc, input)?;
-    let values = list.as_list().context("a list")?;
-    let made = copied_values(alloc, values)?;
-    ensure!(made.as_slice().len() == values.len(), "all are there");
+    let made = values_again(alloc, input)?;
     let answer = Answer::new(alloc).number(made.len() as u64);
     with_spelled(alloc, answer, &Value::List(made))
+}
+
+fn values_again(alloc: Global, input: &str) -> Result<Values> {
+    let list = item(alloc, input)?;
+    copied_values(alloc, list.as_list().context("a list")?)
 }
 
 fn copied_values(alloc: Global, values: &Values) -> Result<Values> {
@@ -137,5 +147,6 @@ fn copied_values(alloc: Global, values: &Values) -> Result<Values> {
         let value = values.get(place).context("an item")?;
         had(made.push(had(value.try_clone(alloc))?))?;
     }
+    ensure!(made.as_slice().len() == values.len(), "all are there");
     Ok(made)
 }

@@ -1,25 +1,32 @@
 //! What a `#commit` says.
 
-use crate::frames::event_of;
+use crate::frames::event_in;
 use anyhow::{Result, bail, ensure};
-use at_event::{Action, Body, CommitEvent, Event, EventOp, EventOps};
+use at_event::{
+    Action, Body, CommitEvent, Event, EventOp, EventOps, Frame, FrameFault, read_frame,
+};
 use at_syntax::{TID_LEN, Tid};
 use std::alloc::Global;
-use vector_lines::{Answer, Subject};
+use vector_lines::{Answer, Subject, bytes};
 
 pub struct Telling;
 
 impl Subject for Telling {
     fn answer(&self, alloc: Global, input: &str) -> Result<String> {
-        let event = event_of(alloc, input)?;
-        let commit = commit_of(&event)?;
-        let answer = Answer::new(alloc).words("time ").words(event.time.as_str());
-        with_ops(
-            with_blocks(with_commit(answer, commit), commit),
-            &commit.ops,
-        )
-        .end()
+        let message = bytes(alloc, input)?;
+        told(alloc, &read_frame(alloc, message.as_slice()))
     }
+}
+
+fn told(alloc: Global, answer: &Result<Frame, FrameFault>) -> Result<String> {
+    let event = event_in(answer)?;
+    let commit = commit_of(event)?;
+    let answer = Answer::new(alloc).words("time ").words(event.time.as_str());
+    with_ops(
+        with_blocks(with_commit(answer, commit), commit),
+        &commit.ops,
+    )
+    .end()
 }
 
 fn commit_of(event: &Event) -> Result<&CommitEvent> {

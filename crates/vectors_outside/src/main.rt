@@ -1,10 +1,11 @@
-//! Compares what the feeds, doors, repositories and streams of memory and of files answer, and what is read of tapes and of
-//! guests' targets, with the rows of text files, with each call failing in turn.
+//! Compares what the feeds, doors, repositories and streams of memory and of files answer, what is read of tapes and of
+//! guests' targets, and what authorities and judges answer, with the rows of text files, with each call failing in turn.
 #![tactic(auto)]
 
 mod doors;
 mod feeds;
 mod files;
+mod judges;
 mod longest;
 mod reading;
 mod repositories;
@@ -32,6 +33,7 @@ fn compared(rt: &HostRuntime) -> Result<Suite> {
     compare_streams(rt, &mut suite)?;
     compare_repositories(rt, &mut suite)?;
     compare_tapes(rt, &mut suite)?;
+    judges::compare(rt, &mut suite)?;
     Ok(suite)
 }
 

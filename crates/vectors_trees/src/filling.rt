@@ -62,15 +62,25 @@ fn stand_for(alloc: Global, items: &[Item], item: &Item) -> Result<bool> {
     }
 }
 
-/// Whether a map is the list with each hole filled.
-pub fn fills(alloc: Global, map: &ItemList, list: &ItemList) -> Result<bool> {
-    let mut rest = map.as_slice();
-    for (i, item) in list.as_slice().iter().enumerate() {
-        let (front, behind) = rest.split_at(reach(rest, item, list.get(i + 1)));
+// What may stand for an item of a list, of which the next one is given, and the items of a map behind.
+fn parted<'a>(items: &'a [Item], item: &Item, next: Option<&Item>) -> (&'a [Item], &'a [Item]) {
+    items.split_at(reach(items, item, next))
+}
+
+// Whether the items of a map stand for those of a list.
+fn are_filling(alloc: Global, map: &[Item], list: &[Item]) -> Result<bool> {
+    let mut rest = map;
+    for (i, item) in list.iter().enumerate() {
+        let (front, behind) = parted(rest, item, list.get(i.saturating_add(1)));
         if !stand_for(alloc, front, item)? {
             return Ok(false);
         }
         rest = behind;
     }
-    Ok(rest.is_empty() && is_map(map.as_slice()))
+    Ok(rest.is_empty())
+}
+
+/// Whether a map is the list with each hole filled.
+pub fn fills(alloc: Global, map: &ItemList, list: &ItemList) -> Result<bool> {
+    Ok(are_filling(alloc, map.as_slice(), list.as_slice())? && is_map(map.as_slice()))
 }

@@ -2,7 +2,7 @@
 
 use crate::nodes::with_node;
 use crate::row::Row;
-use anyhow::{Result, bail};
+use anyhow::Result;
 use at_cid::{Memory, Octets};
 use mst_node::{
     Entries, Entry, KeyBytes, Node, bare_len, entry_len, read_node, write_end, write_entry,
@@ -41,15 +41,11 @@ fn entries(alloc: Global, text: &str) -> Result<Entries> {
 /// The node of parts, where they make one.
 pub fn node_of(alloc: Global, text: &str) -> Result<Option<Node>> {
     let mut row = Row::new(alloc, text);
-    let is_named = row.part(" ") == "left";
+    row.word("left", " ");
     let left = row.link_or_none(" entries ");
     let words = row.part("\n");
     row.end()?;
-    if !is_named {
-        bail!("a left link");
-    }
-    let entries = entries(alloc, words)?;
-    Ok(Node::new(left, entries))
+    Ok(Node::new(left, entries(alloc, words)?))
 }
 
 // Puts the block of a node together piece by piece, and gives how long it was told to be.

@@ -2,7 +2,7 @@
 
 use crate::spelled::with_tree;
 use crate::trees::root_of;
-use crate::words::change_of;
+use crate::words::{Change, change_of};
 use anyhow::{Result, bail};
 use mst_list::{ItemList, PlayFault, play};
 use std::alloc::Global;
@@ -14,11 +14,15 @@ impl Subject for Playing {
     fn answer(&self, alloc: Global, input: &str) -> Result<String> {
         let (items, rest) = parted(input, " ; ")?;
         let change = change_of(alloc, items, rest)?;
-        match play(alloc, &change.list, &change.ops) {
-            Ok(played) => told(alloc, &played),
-            Err(PlayFault::Clash(i)) => clash(alloc, i),
-            Err(PlayFault::Memory) => bail!("out of memory"),
-        }
+        answer_of(alloc, &change)
+    }
+}
+
+fn answer_of(alloc: Global, change: &Change) -> Result<String> {
+    match play(alloc, &change.list, &change.ops) {
+        Ok(played) => told(alloc, &played),
+        Err(PlayFault::Clash(i)) => clash(alloc, i),
+        Err(PlayFault::Memory) => bail!("out of memory"),
     }
 }
 

@@ -3,9 +3,9 @@
 
 use crate::laws::former_root;
 use crate::row::Row;
-use crate::words::{change_of, formed_list};
+use crate::words::{Change, change_of, formed_list};
 use anyhow::Result;
-use at_cid::Cid;
+use mst_list::ItemList;
 use std::alloc::Global;
 use vector_lines::{Answer, Subject, said};
 
@@ -18,13 +18,12 @@ impl Subject for Replays {
         row.end()?;
         let change = change_of(alloc, items, ops)?;
         let map = formed_list(alloc, map)?;
-        let root = former_root(alloc, &change.list, &map, &change.ops)?;
-        told(alloc, root)
+        told(alloc, &change, &map)
     }
 }
 
-fn told(alloc: Global, root: Option<Cid>) -> Result<String> {
-    match root {
+fn told(alloc: Global, change: &Change, map: &ItemList) -> Result<String> {
+    match former_root(alloc, &change.list, map, &change.ops)? {
         Some(root) => Answer::new(alloc).words("root ").link(&root).end(),
         None => said(alloc, "against a law"),
     }

@@ -36,6 +36,12 @@ impl<'a> Row<'a> {
         part
     }
 
+    /// The next part, which has to be a word.
+    pub fn word(&mut self, word: &str, mark: &str) {
+        let part = self.part(mark);
+        self.is_read &= part == word;
+    }
+
     /// The next part, a number.
     pub fn number(&mut self, mark: &str) -> u64 {
         match number(self.part(mark)) {

@@ -60,8 +60,9 @@ fn entry(alloc: Global, key: &[u8], value: &Cid) -> Result<Entry> {
     })
 }
 
-// Adds an item of the node's height, behind which the next subtree begins.
-fn add_entry(alloc: Global, node: &mut OpenNode, item: &Item) -> Result<()> {
+// Closes the last subtree and adds an item of the node's height, behind which the next subtree begins.
+fn add_entry(alloc: Global, node: &mut OpenNode, below: Tree, item: &Item) -> Result<()> {
+    close(node, below)?;
     node.part = Vec::new(alloc);
     if let Item::Key(key, value) = item {
         let entry = entry(alloc, key.as_slice(), value)?;
@@ -77,22 +78,29 @@ fn is_at(item: &Item, layer: u8) -> bool {
     }
 }
 
-// The link of a list that is exactly a hole of the layer.
-fn lone_hole(items: &[Item], layer: u8) -> Option<Cid> {
+// The link of a list that is exactly a hole of the topmost of so many layers.
+fn lone_hole(layers: u8, items: &[Item]) -> Option<Cid> {
     match items {
-        [Item::Hole(at, link)] if *at == layer => Some(*link),
+        [Item::Hole(at, link)] if u16::from(*at) + 1 == u16::from(layers) => Some(*link),
         _ => None,
     }
+}
+
+// Whether a list is that of no node.
+fn is_bare(layers: u8, items: &[Item]) -> bool {
+    items.is_empty() || lone_hole(layers, items).is_some()
 }
 
 fn is_among(links: &[Cid], link: &Cid) -> bool {
     links.iter().any(|other| other == link)
 }
 
-// A subtree of which all items are seen.
-fn bare(alloc: Global, link: Option<Cid>, items: &[Item]) -> Result<Tree> {
-    let seen = copied(alloc, items)?;
-    Ok(Tree { link, seen })
+// A subtree of no node, of which all items are seen.
+fn bare(alloc: Global, layers: u8, items: &[Item]) -> Result<Tree> {
+    Ok(Tree {
+        link: lone_hole(layers, items),
+        seen: copied(alloc, items)?,
+    })
 }
 
 /// The subtree of items below so many layers, whose blocks are put among the others. A node whose link isn't among those
@@ -104,19 +112,15 @@ pub fn subtree(
     items: &[Item],
     shown: &[Cid],
 ) -> Result<Tree> {
-    if layers == 0 || items.is_empty() {
-        return bare(alloc, None, items);
+    if layers == 0 || is_bare(layers, items) {
+        return bare(alloc, layers, items);
     }
     let layer = layers - 1;
-    if let Some(link) = lone_hole(items, layer) {
-        return bare(alloc, Some(link), items);
-    }
     let mut node = open_node(alloc);
     for item in items {
         if is_at(item, layer) {
             let below = subtree(alloc, blocks, layer, node.part.as_slice(), shown)?;
-            close(&mut node, below)?;
-            add_entry(alloc, &mut node, item)?;
+            add_entry(alloc, &mut node, below, item)?;
         } else {
             add_copy(&mut node.part, item)?;
         }

@@ -77,10 +77,7 @@ pub fn undone_tree(alloc: Global, tree: StubTree, ops: &OpList) -> Result<String
 
 // Whether a map that was undone fulfils the laws.
 fn is_lawful(alloc: Global, list: &ItemList, ops: &OpList) -> Result<bool> {
-    if !is_map(list.as_slice()) {
-        return Ok(true);
-    }
-    Ok(former_root(alloc, list, list, ops)?.is_some())
+    Ok(!is_map(list.as_slice()) || former_root(alloc, list, list, ops)?.is_some())
 }
 
 // How undoing on the tree of a list ends.

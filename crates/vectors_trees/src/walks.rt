@@ -42,12 +42,17 @@ fn end(alloc: Global, ended: Result<u64, WalkFault>) -> Result<String> {
     }
 }
 
-// What is kept of a CAR, of which the pieces come one by one.
-fn kept_of(alloc: Global, car: &[u8]) -> Result<Kept> {
-    let mut scan = Scan::new(alloc, NodeSieve::new(alloc));
+fn push_pieces(scan: &mut Scan<NodeSieve>, car: &[u8]) -> Result<()> {
     for piece in car.chunks(PIECE) {
         had(scan.push(piece))?;
     }
+    Ok(())
+}
+
+// What is kept of a CAR, of which the pieces come one by one.
+fn kept_of(alloc: Global, car: &[u8]) -> Result<Kept> {
+    let mut scan = Scan::new(alloc, NodeSieve::new(alloc));
+    push_pieces(&mut scan, car)?;
     Ok(scan.finish()?)
 }
 

@@ -54,15 +54,24 @@ fn is_item_added(alloc: Global, list: &mut ItemList, word: &str) -> Result<bool>
     Ok(true)
 }
 
+// Adds the items of words, where all are formed.
+fn are_items_added(alloc: Global, list: &mut ItemList, text: &str) -> Result<bool> {
+    if text == "-" {
+        return Ok(true);
+    }
+    for word in text.split(' ') {
+        if !is_item_added(alloc, list, word)? {
+            return Ok(false);
+        }
+    }
+    Ok(true)
+}
+
 /// The list of words `K:KEY:LINK` and `H:LAYER:LINK`: none where an item isn't formed.
 pub fn list(alloc: Global, text: &str) -> Result<Option<ItemList>> {
     let mut list = ItemList::new(alloc);
-    if text != "-" {
-        for word in text.split(' ') {
-            if !is_item_added(alloc, &mut list, word)? {
-                return Ok(None);
-            }
-        }
+    if !are_items_added(alloc, &mut list, text)? {
+        return Ok(None);
     }
     Ok(Some(list))
 }
@@ -102,15 +111,24 @@ fn is_operation_added(alloc: Global, ops: &mut OpList, word: &str) -> Result<boo
     Ok(true)
 }
 
+// Adds the operations of words, where all are formed.
+fn are_operations_added(alloc: Global, ops: &mut OpList, text: &str) -> Result<bool> {
+    if text == "-" {
+        return Ok(true);
+    }
+    for word in text.split(' ') {
+        if !is_operation_added(alloc, ops, word)? {
+            return Ok(false);
+        }
+    }
+    Ok(true)
+}
+
 /// The operations of words `KEY:WAS>NOW`: none where one isn't formed.
 pub fn operations(alloc: Global, text: &str) -> Result<Option<OpList>> {
     let mut ops = OpList::new(alloc);
-    if text != "-" {
-        for word in text.split(' ') {
-            if !is_operation_added(alloc, &mut ops, word)? {
-                return Ok(None);
-            }
-        }
+    if !are_operations_added(alloc, &mut ops, text)? {
+        return Ok(None);
     }
     Ok(Some(ops))
 }
@@ -144,13 +162,18 @@ fn add_block(alloc: Global, blocks: &mut Blocks, word: &str) -> Result<()> {
     Ok(())
 }
 
+fn add_blocks(alloc: Global, blocks: &mut Blocks, text: &str) -> Result<()> {
+    for word in text.split(',') {
+        add_block(alloc, blocks, word)?;
+    }
+    Ok(())
+}
+
 /// The blocks in hexadecimal with a comma between two, each under its link of kind Node.
 pub fn blocks(alloc: Global, text: &str) -> Result<Blocks> {
     let mut blocks = Blocks::new(alloc);
     if text != "-" {
-        for word in text.split(',') {
-            add_block(alloc, &mut blocks, word)?;
-        }
+        add_blocks(alloc, &mut blocks, text)?;
     }
     Ok(blocks)
 }

@@ -1,6 +1,6 @@
 //! `CALL, .. = what each call answers` of judges that say yes to everything.
 
-use crate::calls::answers;
+use super::calls::answers;
 use anyhow::Result;
 use at_authority::TrustAll;
 use std::alloc::Global;

@@ -2,7 +2,7 @@
 //! the host NOW as the home of the DID `ada` of its method, and later the host LATER, `-` being none; the word `trust` in
 //! place of a host trusts that DID beside naming `a.example` as its home.
 
-use crate::calls::answers;
+use super::calls::answers;
 use anyhow::{Context, Result, bail};
 use at_authority::{Panel, Table, TableAuthority, TableFault};
 use std::alloc::Global;

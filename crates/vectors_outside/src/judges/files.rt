@@ -1,7 +1,7 @@
 //! `STEP, .. = what each step answers` of an authority over a file: a call, or `write BYTES` and `remove`, which change the file
 //! and answer nothing.
 
-use crate::calls::{Call, DIGEST, SIG, What, answers, read_call, worded};
+use super::calls::{Call, DIGEST, SIG, What, answers, read_call, worded};
 use anyhow::{Result, bail};
 use at_authority::{Asked, Authority, FileAuthority, Panel};
 use std::alloc::Global;

@@ -1,25 +1,21 @@
-//! Hashes the blocks of its input, each once, and nothing else: what any checker of their commit has to pay.
-//!
-//! A block is four bytes of length, the most significant first, and the bytes.
-#![tactic(auto)]
+//! Blocks, hashed. A block is four bytes of length, the most significant first, and the bytes.
 
+use anyhow::{Result, bail};
 use at_cid::cid_of;
 use relay_io::{ReaderSource, read_to_end};
-use std::process::ExitCode;
 
 /// The most bytes of input.
 const MOST: usize = 1 << 28;
 
-fn main(rt: HostRuntime) -> ExitCode {
+/// Hashes the blocks of the input, and says how many there are.
+pub fn hash(rt: &HostRuntime) -> Result<()> {
     let mut input = ReaderSource::new(rt.stdin());
     let Ok(bytes) = read_to_end(rt.alloc(), &mut input, MOST) else {
-        return ExitCode::FAILURE;
+        bail!("the input");
     };
     let (count, folded) = hash_all(bytes.as_slice());
-    match println!(rt; "blocks {count} folded {folded}") {
-        Ok(()) => ExitCode::SUCCESS,
-        Err(_) => ExitCode::FAILURE,
-    }
+    println!(rt; "blocks {count} folded {folded}")?;
+    Ok(())
 }
 
 /// How many blocks there are, and the last bytes of their digests, folded.

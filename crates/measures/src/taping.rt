@@ -1,11 +1,8 @@
-//! `make_tape START N`: writes the made history of N messages that is drawn from START as a tape. It is there to measure with.
-#![tactic(auto)]
+//! Made histories as tapes.
 
-use anyhow::{Context, Result, bail};
+use anyhow::{Result, bail};
 use relay_gen::{MOST_MESSAGES, make};
-use std::env;
 use std::io::{BufWriter, Write};
-use std::process::ExitCode;
 
 /// Adds a record of a tape: the host's name behind its length, and the message behind its own.
 fn write_record<W: Write>(out: &mut W, host: &str, message: &[u8]) -> Result<()> {
@@ -16,14 +13,8 @@ fn write_record<W: Write>(out: &mut W, host: &str, message: &[u8]) -> Result<()>
     Ok(())
 }
 
-fn made(rt: &HostRuntime) -> Result<()> {
-    let mut given = env::args(rt)?;
-    let _program = given.next();
-    let start = given
-        .next()
-        .context("a number to start from")?
-        .parse::<u64>()?;
-    let count = given.next().context("how many messages")?.parse::<u32>()?;
+/// Writes the made history of so many messages.
+pub fn write_tape(rt: &HostRuntime, start: u64, count: u32) -> Result<()> {
     if count == 0 || count > MOST_MESSAGES {
         bail!("1 to {MOST_MESSAGES} messages");
     }
@@ -36,14 +27,4 @@ fn made(rt: &HostRuntime) -> Result<()> {
     }
     out.flush()?;
     Ok(())
-}
-
-fn main(rt: HostRuntime) -> ExitCode {
-    match made(&rt) {
-        Ok(()) => ExitCode::SUCCESS,
-        Err(error) => {
-            let _ = eprintln!(rt; "{error}");
-            ExitCode::from(2)
-        }
-    }
 }

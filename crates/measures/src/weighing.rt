@@ -1,16 +1,12 @@
-//! Fills a table of accounts, for a measurement of the memory that they take: the words are an order, `ascending` or `random`,
-//! and how many accounts there are. Each has a DID of 32 bytes and a repository whose head is known.
-#![tactic(auto)]
+//! A table of accounts, for the memory that they take: each has a DID of 32 bytes and a repository whose head is known.
 
 use account_state::Accounts;
-use anyhow::{Context, Result, bail, ensure};
+use anyhow::{Result, bail, ensure};
 use at_cid::{Octets, Words, cid_of};
 use at_event::Head;
 use at_syntax::Tid;
 use relay_row::{Row, Whole};
 use std::alloc::Global;
-use std::env;
-use std::process::ExitCode;
 use vector_lines::had;
 
 // An odd number whose multiples are spread over all of 64 bits.
@@ -51,27 +47,11 @@ fn filled(alloc: Global, is_random: bool, count: u64) -> Result<Accounts> {
     Ok(accounts)
 }
 
-fn weighed(rt: &HostRuntime) -> Result<()> {
-    let mut words = env::args(rt)?;
-    let _program = words.next();
-    let order = words.next().context("an order")?;
-    let count = words.next().context("how many accounts")?.parse::<u64>()?;
-    ensure!(
-        order.as_str() == "random" || order.as_str() == "ascending",
-        "an order"
-    );
-    let accounts = filled(rt.alloc(), order.as_str() == "random", count)?;
+/// Fills a table with so many accounts, in the order `ascending` or `random`.
+pub fn weigh(rt: &HostRuntime, order: &str, count: u64) -> Result<()> {
+    ensure!(order == "random" || order == "ascending", "an order");
+    let accounts = filled(rt.alloc(), order == "random", count)?;
     let is_there = accounts.get("did:plc:000000000000000000000000").is_some();
     println!(rt; "{order} {count} {is_there}")?;
     Ok(())
-}
-
-fn main(rt: HostRuntime) -> ExitCode {
-    match weighed(&rt) {
-        Ok(()) => ExitCode::from(0),
-        Err(error) => {
-            let _ = eprintln!(&rt; "{error}");
-            ExitCode::from(2)
-        }
-    }
 }
