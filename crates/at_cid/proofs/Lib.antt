@@ -3,7 +3,9 @@ pub mod Bits
 pub mod Bytes
 pub mod Order
 pub mod Numbers
+pub mod Fronts
 pub mod Distinct
 pub mod Texts
 pub mod Utf8
+pub mod ShortTexts
 pub mod OneText

@@ -1,5 +1,7 @@
 pub mod Link
 pub mod Text
+pub mod ShortText
+pub mod Words
 pub mod Memory
 pub mod Order
 pub mod OrderLaws

@@ -1,8 +1,9 @@
 //! A link in binary: what kind of block it names, and the block's digest.
 
-ghost use Rattle.std.specs.Prelude.{◌≡◌, ◌↔◌, IsTrue, Some, nat_eq, refl};
+ghost use Rattle.std.specs.Prelude.{◌≡◌, ◌↔◌, IsTrue, Some, nat_eq, refl, take, drop};
 ghost use Rattle.std.specs.Cmp.{partial_equiv_from_equiv};
 ghost use Rattle.std.specs.Cmp.Lexicographic.{nat_list_eq_equiv, pointwise};
+ghost use Rattle.std.specs.Int.{w64, from_be_bytes};
 ghost use Rattle.at_cid.specs.Link.{is_link, IsBytes, IsLink, cid, link_at, kind_of, digest_of};
 ghost use Rattle.at_cid.specs.Order.{key_cmp};
 ghost use Rattle.at_cid.specs.OrderLaws.{key_po, key_total, key_ties};
@@ -53,6 +54,7 @@ impl PartialEq for Cid {
 
     ghost laws = { partial_equiv_from_equiv nat_list_eq_equiv };
 
+    #[inline]
     fn eq(&self, other: &Cid) -> bool {
         self.bytes == other.bytes
     }
@@ -67,6 +69,7 @@ impl PartialOrd for Cid {
 
     ghost laws = { key_po };
 
+    #[inline]
     fn partial_cmp(&self, other: &Cid) -> Option<Ordering> {
         Some(self.cmp(other))
     }
@@ -81,14 +84,30 @@ impl Ord for Cid {
 
     ghost matches_eq = { key_ties };
 
-    // Links of one kind differ in their digests alone.
+    // Links of one kind differ in their digests alone, and mostly in the first eight bytes of these.
+    #[inline]
     fn cmp(&self, other: &Cid) -> Ordering {
-        if self.bytes[1] == other.bytes[1] {
-            compare(self.digest(), other.digest())
-        } else {
-            compare(&self.bytes, &other.bytes)
+        if self.bytes[1] != other.bytes[1] {
+            return compare(&self.bytes, &other.bytes);
         }
+        let (a, b) = (front_of(&self.bytes), front_of(&other.bytes));
+        if a != b {
+            return a.cmp(&b);
+        }
+        compare(self.digest(), other.digest())
     }
+}
+
+// The number that the first eight bytes of a link's digest spell, the greatest first.
+#[inline]
+fn front_of(link: &[u8; LINK_LEN]) -> u64
+    ensures value { result ≡ from_be_bytes w64 (take 8 (drop 4 link.now)) }
+    ensures bytes { IsBytes link.now }
+{
+    tell_bytes(link);
+    u64::from_be_bytes([
+        link[4], link[5], link[6], link[7], link[8], link[9], link[10], link[11],
+    ])
 }
 
 /// The link of kind Node over a block, whose SHA-256 (FIPS 180-4) is taken once. Takes no memory.
@@ -105,6 +124,7 @@ pub fn cid_of(block: &[u8]) -> Cid
 
 /// The link in the first 36 bytes, where they are one.
 #[tactic(auto, using(crate::proofs::Links::link_at_short))]
+#[inline]
 pub fn parse_binary(bytes: &[u8]) -> Option<Cid>
     ensures { result ≡ link_at bytes.now }
 {
@@ -119,6 +139,7 @@ pub fn parse_binary(bytes: &[u8]) -> Option<Cid>
 
 impl Cid {
     /// The 36 bytes.
+    #[inline]
     pub fn as_bytes(&self) -> &[u8; LINK_LEN]
         ensures value { result.now ≡ self.now }
         ensures link { IsTrue (is_link self.now) }
@@ -136,6 +157,7 @@ impl Cid {
     }
 
     /// What it names.
+    #[inline]
     pub fn kind(&self) -> Kind
         ensures { result ≡ kind_of self.now }
     {
@@ -147,6 +169,7 @@ impl Cid {
     }
 
     /// The 32 bytes of digest.
+    #[inline]
     pub fn digest(&self) -> &[u8]
         ensures { result.now ≡ digest_of self.now }
     {

@@ -9,6 +9,7 @@ mod failures;
 mod laws;
 mod memory;
 mod octets;
+mod short_text;
 mod text;
 mod words;
 

@@ -30,6 +30,7 @@ impl PartialEq for Octets {
 
     ghost laws = { partial_equiv_from_equiv nat_list_eq_equiv };
 
+    #[inline]
     fn eq(&self, other: &Octets) -> bool {
         self.as_slice() == other.as_slice()
     }
@@ -72,6 +73,7 @@ impl Octets {
     }
 
     /// The bytes.
+    #[inline]
     pub fn as_slice(&self) -> &[u8]
         ensures value { result.now ≡ self.now }
         ensures bytes { IsBytes self.now }
@@ -82,6 +84,7 @@ impl Octets {
     }
 
     /// How many bytes there are.
+    #[inline]
     pub fn len(&self) -> usize
         ensures { result ≡ length self.now }
     {
@@ -89,6 +92,7 @@ impl Octets {
     }
 
     /// Whether there are none.
+    #[inline]
     pub fn is_empty(&self) -> bool
         ensures { result ≡ (length self.now == 0) }
     {
@@ -96,6 +100,7 @@ impl Octets {
     }
 
     /// Adds a byte at the end.
+    #[inline]
     pub fn push(&mut self, byte: u8) -> Result<(), Memory>
         ensures ok { OnOk result (self.new ≡ self.old ++ byte ∷ []) }
         ensures err { OnErr result (self.new ≡ self.old) }
@@ -105,6 +110,7 @@ impl Octets {
     }
 
     /// Adds bytes at the end.
+    #[inline]
     pub fn extend(&mut self, bytes: &[u8]) -> Result<(), Memory>
         ensures ok { OnOk result (self.new ≡ self.old ++ bytes.now) }
         ensures err { OnErr result (self.new ≡ self.old) }
@@ -118,6 +124,13 @@ impl Octets {
         ensures { self.new ≡ [] }
     {
         self.bytes.clear();
+    }
+
+    /// Drops the bytes behind the first `len`, and keeps their room. Takes no memory.
+    pub fn truncate(&mut self, len: usize)
+        ensures { self.new ≡ take len self.old }
+    {
+        self.bytes.truncate(len);
     }
 
     /// Tells that each of them is a byte.

@@ -13,6 +13,7 @@ impl Subject for Lists {
         match word {
             "octets" => octets(alloc, rest),
             "over" => over(alloc, rest),
+            "cut" => cut(alloc, rest),
             "words" => words(alloc, rest),
             "links" => links(alloc, rest),
             "calls" => calls(alloc, rest),
@@ -94,6 +95,14 @@ fn overwrite(whole: &mut Octets, place: u64, piece: &[u8]) -> Result<()> {
     Ok(())
 }
 
+// Bytes without those behind the first so many.
+fn cut(alloc: Global, input: &str) -> Result<String> {
+    let (front, len) = parted(input, " ")?;
+    let mut whole = octets_of(alloc, front)?;
+    whole.truncate(usize::try_from(number(len)?)?);
+    Answer::new(alloc).bytes(whole.as_slice()).end()
+}
+
 // A text, its further letters one by one, and a text behind it: all of it and its bytes, as a copy has them.
 fn words(alloc: Global, input: &str) -> Result<String> {
     let (front, rest) = parted(input, " ")?;
@@ -111,7 +120,7 @@ fn add_letters(whole: &mut Words, letters: &str, more: &str) -> Result<()> {
     had(whole.extend(more))
 }
 
-// A copy of a text, taken apart and put together again.
+// A copy of a text, made once more from what it tells.
 fn words_again(alloc: Global, whole: &Words) -> Result<Words> {
     let copy = had(whole.try_clone())?;
     ensure!(copy == *whole, "the copy is another");
@@ -119,7 +128,7 @@ fn words_again(alloc: Global, whole: &Words) -> Result<Words> {
         whole.is_empty() == (*whole == Words::new(alloc)),
         "which are empty"
     );
-    Ok(Words::from_string(copy.into_string()))
+    had(Words::from_str(alloc, copy.as_str()))
 }
 
 fn spelled(alloc: Global, words: &Words) -> Result<String> {
