@@ -19,3 +19,4 @@ pub mod Equal
 pub mod Lengths
 pub mod Depths
 pub mod Taken
+pub mod Puts

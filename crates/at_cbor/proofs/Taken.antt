@@ -1,5 +1,6 @@
 -- The pieces that are taken from the front of bytes are those that are spelled there, and what is spelled is taken.
 use Rattle.std.proofs.Common.{◌≡◌, ℕ, suc, ◌+◌, ◌*◌, ◌/◌, ◌%◌, ◌^◌, ◌<◌, ◌≤◌, Bool, true, false, cond, ltb, eqb, ◌&&◌, List, [], ◌∷◌, ◌++◌, length, get_or, take, drop, Option, Some, None, Ok, Err, refl, sym, ap, ◌∙◌, subst, arith, inl, inr, append_assoc, take-append-drop}
+use Rattle.std.specs.Cmp.Lexicographic.{pointwise}
 use Rattle.std.proofs.lemmas.Bool.{cases_lt, and_parts, ltb-true, ltb-false, lt-ltb, le-ltb, eqb-true}
 use Rattle.std.proofs.lemmas.Bool.Decides.{nat_tests}
 use Rattle.std.proofs.lemmas.List.{take_at, drop_at, length-append, length-take, append-nil}
@@ -50,6 +51,40 @@ pub behind_again : (front rest : List ℕ) → behind front (front ++ rest) ≡ 
 unfolding behind
 behind_again [] rest = refl
 behind_again (x ∷ front) rest = let same : eqb x x ≡ true = grind (arith, nat_tests) in rw same (behind_again front rest)
+
+-- a front that is compared as a whole
+pub behind_short : (front bytes : List ℕ) → length bytes < length front → None ≡ behind front bytes
+unfolding behind
+behind_short [] bytes low = absurd (omega arith)
+behind_short (x ∷ front) [] low = refl
+behind_short (x ∷ front) (b ∷ bytes) low = elim (eqb x b) as (λ t. None ≡ cond t (behind front bytes) None) [ true ↦ behind_short front bytes (omega arith) | false ↦ refl ]
+
+behind_tested : (front bytes : List ℕ) → length front ≤ length bytes → cond (pointwise eqb front (take (length front) bytes)) (Some (drop (length front) bytes)) None ≡ behind front bytes
+unfolding behind
+behind_tested [] bytes long = refl
+behind_tested (x ∷ front) [] long = absurd (omega arith)
+behind_tested (x ∷ front) (b ∷ bytes) long =
+    elim (eqb x b) as (λ t. cond (t && pointwise eqb front (take (length front) bytes)) (Some (drop (length front) bytes)) None ≡ cond t (behind front bytes) None) [
+      | true ↦ behind_tested front bytes (omega arith)
+      | false ↦ refl
+    ]
+
+pub behind_found : (n : ℕ) (front bytes : List ℕ) → length front ≡ n → n ≤ length bytes → true ≡ pointwise eqb front (take n bytes) → Some (drop n bytes) ≡ behind front bytes
+behind_found n front bytes len long e =
+    subst (λ (m : ℕ). m ≤ length bytes → true ≡ pointwise eqb front (take m bytes) → Some (drop m bytes) ≡ behind front bytes) len
+    (λ l t. ap (λ (b : Bool). cond b (Some (drop (length front) bytes)) None) t ∙ behind_tested front bytes l) long e
+
+pub behind_other : (n : ℕ) (front bytes : List ℕ) → length front ≡ n → n ≤ length bytes → false ≡ pointwise eqb front (take n bytes) → None ≡ behind front bytes
+behind_other n front bytes len long e =
+    subst (λ (m : ℕ). m ≤ length bytes → false ≡ pointwise eqb front (take m bytes) → None ≡ behind front bytes) len
+    (λ l t. ap (λ (b : Bool). cond b (Some (drop (length front) bytes)) None) t ∙ behind_tested front bytes l) long e
+
+-- two fronts behind one another
+pub behind_both : (a b bytes : List ℕ) → behind (a ++ b) bytes ≡ (behind a bytes >>= behind b)
+unfolding behind
+behind_both [] b bytes = refl
+behind_both (x ∷ a) b [] = refl
+behind_both (x ∷ a) b (y ∷ bytes) = elim (eqb x y) as (λ t. cond t (behind (a ++ b) bytes) None ≡ (cond t (behind a bytes) None >>= behind b)) [ true ↦ behind_both a b bytes | false ↦ refl ]
 
 shortest_found : (least : ℕ) (found : Taking ℕ) (x : ℕ × List ℕ) → shortest least found ≡ Some x → (found ≡ Some x) × (ltb x.0 least ≡ false)
 shortest_found least None x e = absurd cc

@@ -1,5 +1,5 @@
 -- What an item says if it is of a kind, and nothing if it is of another.
-use Rattle.std.specs.Prelude.{ℕ, ℤ, Bool, true, false, List, Option, Some, None, if◌then◌else◌}
+use Rattle.std.specs.Prelude.{ℕ, suc, ℤ, Bool, true, false, List, Option, Some, None, if◌then◌else◌}
 use Rattle.std.specs.Str.{bytes_eq}
 use Rattle.at_cbor.specs.Item.{Item, Fields, no_fields, field, items_list, fields_list}
 
@@ -39,6 +39,16 @@ null_in i = false
 abbrev pub value_of : Fields → List ℕ → Option Item
 value_of no_fields name = None
 value_of (field k i fs) name = if bytes_eq k name then Some i else value_of fs name
+
+-- the place of a key's field, where so many fields are before these
+abbrev pub place_from : ℕ → Fields → List ℕ → Option ℕ
+place_from n no_fields name = None
+place_from n (field k i fs) name = if bytes_eq k name then Some n else place_from (suc n) fs name
+
+-- the fields, with the value of a key replaced, where it is there
+abbrev pub value_put : List ℕ → Item → Fields → Fields
+value_put name value no_fields = no_fields
+value_put name value (field k i fs) = if bytes_eq k name then field k value fs else field k i (value_put name value fs)
 
 -- the value of a key, where the item is a map that has it
 abbrev pub field_of : Item → List ℕ → Option Item

@@ -1,5 +1,6 @@
 //! Values, and the lists and maps in them.
 
+use crate::lookup::replace_in;
 use at_cid::{Cid, Memory, Octets, Words, compare};
 use std::alloc::Global;
 use std::marker::Model;
@@ -162,7 +163,8 @@ impl Values {
 
 impl Fields {
     ghost use Rattle.std.specs.Prelude.{◌≡◌, ◌==◌, ◌∷◌, ◌++◌, [], true, None, length, map, slice_get, option_map, OnOk, OnErr};
-    ghost use Rattle.at_cbor.specs.Item.{last_key, is_above, are_ascending};
+    ghost use Rattle.at_cbor.specs.Item.{fields_of, last_key, is_above, are_ascending};
+    ghost use Rattle.at_cbor.specs.Kinds.{value_of, value_put};
     ghost use Rattle.at_cbor.specs.View.{item_of, pair_of};
 
     /// No fields.
@@ -240,6 +242,14 @@ impl Fields {
     {
         self.fields.push((key, value))?;
         Ok(())
+    }
+
+    /// Puts a value in the place of a key's, where it is there, and gives the one that it had. Takes no memory.
+    pub fn replace(&mut self, name: &str, value: Value) -> Option<Value>
+        ensures taken { option_map item_of result ≡ value_of (fields_of self.old) name.now }
+        ensures put { fields_of self.new ≡ value_put name.now (item_of value) (fields_of self.old) }
+    {
+        replace_in(&mut self.fields, name, value)
     }
 }
 

@@ -9,3 +9,4 @@ pub mod OutLengths
 pub mod Fields
 pub mod FormedOps
 pub mod Formed
+pub mod Blocks

@@ -55,7 +55,7 @@ kept_if : (b : Bool) (i j : Item) → b ≡ false → cond b i j ≡ j
 kept_if b i j h = rw h refl
 
 -- fields behind a key of that name have no other
-none_behind : (name : List ℕ) (i : Item) (before : List ℕ) (fs : Fields) (depth : ℕ) → FieldsFit fs (Some before) depth → (before ≡ name) ⊎ Above name before → with_value name i fs ≡ fs
+pub none_behind : (name : List ℕ) (i : Item) (before : List ℕ) (fs : Fields) (depth : ℕ) → FieldsFit fs (Some before) depth → (before ≡ name) ⊎ Above name before → with_value name i fs ≡ fs
 none_behind name i before no_fields depth fits behind = refl
 none_behind name i before (field k j fs) depth fits behind =
     let next = above_parts before k fits.1 in

@@ -22,7 +22,7 @@ chosen_twice : (b : Bool) (i j k : Item) → cond b i (cond b j k) ≡ cond b i 
 chosen_twice true i j k = refl
 chosen_twice false i j k = refl
 
-with_value_again : (name : List ℕ) (i j : Item) (fs : Fields) → with_value name i (with_value name j fs) ≡ with_value name i fs
+pub with_value_again : (name : List ℕ) (i j : Item) (fs : Fields) → with_value name i (with_value name j fs) ≡ with_value name i fs
 with_value_again name i j no_fields = refl
 with_value_again name i j (field k l fs) =
     ap (λ (x : Item). field k x (with_value name i (with_value name j fs))) (chosen_twice (bytes_eq k name) i j l)

@@ -29,14 +29,27 @@ message_of kind payload = spelling (header_of kind) ++ spelling payload
 abbrev pub field_spelling : List ℕ → Item → List ℕ
 field_spelling key value = fields_spelling (field key value no_fields)
 
--- one field, with its value replaced where it has this key
-abbrev pub field_with : List ℕ → Item → List ℕ → Item → Fields
-field_with name value k i = field k (if bytes_eq k name then value else i) no_fields
-
 -- the fields, with the value of this key replaced
 abbrev pub with_value : List ℕ → Item → Fields → Fields
 with_value name value no_fields = no_fields
 with_value name value (field k i fs) = field k (if bytes_eq k name then value else i) (with_value name value fs)
+
+-- the blocks that an event states
+abbrev pub blocks_of : Body → Option (List ℕ)
+blocks_of (Body.Commit commit) = Some commit.blocks
+blocks_of (Body.Sync sync) = Some sync.blocks
+blocks_of Body.Identity = None
+blocks_of (Body.Account account) = None
+
+-- the fields, with `blocks` replaced by these, where there are some
+abbrev pub fields_with_blocks : Option (List ℕ) → Fields → Fields
+fields_with_blocks (Some blocks) fs = with_value (codes "blocks") (Item.bytes blocks) fs
+fields_with_blocks None fs = fs
+
+-- the same of a payload
+abbrev pub with_blocks : Option (List ℕ) → Item → Item
+with_blocks blocks (Item.map fs) = Item.map (fields_with_blocks blocks fs)
+with_blocks blocks i = i
 
 abbrev pub number_item : ℕ → Item
 number_item n = Item.int (pos n)

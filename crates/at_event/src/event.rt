@@ -72,8 +72,25 @@ pub struct Event {
     pub time: Words,
     /// What it says.
     pub body: Body,
-    /// The whole payload, a map from which all other fields are read.
-    pub payload: Value,
+    /// The payload, a map from which all other fields are read, but for its `blocks` where the body has them: an empty
+    /// string of bytes stands in their place, so that they are held once.
+    pub rest: Value,
+}
+
+impl Body {
+    ghost use Rattle.std.specs.Prelude.{◌≡◌, option_map};
+    ghost use Rattle.at_event.specs.Writing.{blocks_of};
+
+    /// The blocks, where it states some.
+    pub(crate) fn blocks(&self) -> Option<&Octets>
+        ensures { option_map (λ blocks. blocks.now) result ≡ blocks_of self.now }
+    {
+        match self {
+            Body::Commit(commit) => Some(&commit.blocks),
+            Body::Sync(sync) => Some(&sync.blocks),
+            Body::Identity | Body::Account(_) => None,
+        }
+    }
 }
 
 impl Model for Event {

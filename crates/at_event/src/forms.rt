@@ -1,14 +1,14 @@
 //! Fields of a map, each in its form.
 
 ghost use Rattle.std.specs.Prelude.{◌≡◌};
-ghost use Rattle.at_cbor.specs.Kinds.{bytes_in, text_in, list_in, link_in, bool_in, field_of};
+ghost use Rattle.at_cbor.specs.Kinds.{text_in, list_in, link_in, bool_in, field_of};
 ghost use Rattle.at_cbor.specs.View.{item_of};
 ghost use Rattle.at_form.specs.Forms.{did_in, tid_in, short_text_in, node_in, optional, required};
 ghost use Rattle.at_event.specs.Flaws.{Reads};
 
 use crate::flaw::Flaw;
 use at_cbor::{Value, Values, field};
-use at_cid::{Cid, Octets, Words};
+use at_cid::{Cid, Words};
 use at_form::given;
 use at_syntax::Tid;
 
@@ -52,13 +52,6 @@ pub fn node(value: &Value) -> Result<Cid, Flaw>
     ensures { Reads (λ link. link) result (node_in (item_of value.now)) }
 {
     at_form::node(value).ok_or(Flaw::BadField)
-}
-
-/// Bytes.
-pub fn bytes(value: &Value) -> Result<&Octets, Flaw>
-    ensures { Reads (λ bytes. bytes.now) result (bytes_in (item_of value.now)) }
-{
-    value.as_bytes().ok_or(Flaw::BadField)
 }
 
 /// A list.

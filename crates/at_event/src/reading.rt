@@ -69,20 +69,20 @@ fn seq(payload: &Value) -> Option<u64>
 }
 
 #[tactic(auto, unfolding(crate::specs::Table::event_of))]
-fn read_event(alloc: Global, kind: EventKind, seq: u64, payload: Value) -> Result<Event, Flaw>
+fn read_event(alloc: Global, kind: EventKind, seq: u64, mut payload: Value) -> Result<Event, Flaw>
     requires fits { Fits (item_of payload) DEPTH }
     requires number { seq_of (item_of payload) ≡ Some seq }
     ensures { Reads (λ event. event) result (event_of kind seq (item_of payload)) }
 {
     let did = required_did(&payload, did_key(kind))?;
     let time = required_short_text(&payload, "time")?;
-    let body = read_body(alloc, kind, &payload)?;
+    let body = read_body(alloc, kind, &mut payload)?;
     Ok(Event {
         seq,
         did,
         time,
         body,
-        payload,
+        rest: payload,
     })
 }
 

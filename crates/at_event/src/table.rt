@@ -1,19 +1,25 @@
 //! Events, read from the fields of their payloads.
 
-ghost use Rattle.std.specs.Prelude.{◌≡◌, map, IfOk};
+ghost use Rattle.std.specs.Prelude.{◌≡◌, map, Some, IfOk, codes};
+ghost use Rattle.at_cbor.specs.declared.decoding.TheConstants.{DEPTH};
+ghost use Rattle.at_cbor.specs.Kinds.{bytes_in};
+ghost use Rattle.at_cbor.specs.Spelling.{Fits};
 ghost use Rattle.at_cbor.specs.View.{item_of};
+ghost use Rattle.at_form.specs.Forms.{required};
 ghost use Rattle.at_event.specs.Table.{action_of, op_of, ops_of, ops_in, too_big_in, commit_of, sync_of, account_of, body_of, did_key, kind_of};
 ghost use Rattle.at_event.specs.Flaws.{Reads};
+ghost use Rattle.at_event.specs.Writing.{blocks_of, with_blocks};
 
 use crate::event::{AccountEvent, Body, CommitEvent, SyncEvent};
 use crate::flaw::Flaw;
 use crate::forms::{
-    bytes, list, node, optional_link, optional_node, optional_short_text, optional_tid, required,
+    list, node, optional_link, optional_node, optional_short_text, optional_tid, required,
     required_did, text, tid, truth,
 };
 use crate::kind::EventKind;
 use crate::ops::{Action, EventOp, EventOps};
-use at_cbor::{Value, Values, field};
+use at_cbor::{Value, field};
+use at_cid::Octets;
 use std::alloc::Global;
 
 fn action(text: &str) -> Action
@@ -70,9 +76,29 @@ fn read_list(alloc: Global, value: &Value) -> Result<EventOps, Flaw>
     read_ops(alloc, list(value)?.as_slice())
 }
 
+// Takes the blocks out of a payload, and leaves none in their place.
+fn take_blocks(alloc: Global, fields: &mut Value) -> Result<Octets, Flaw>
+    requires { Fits (item_of fields.old) DEPTH }
+    ensures taken { Reads (λ blocks. blocks) result (required bytes_in (item_of fields.old) (codes "blocks")) }
+    ensures left { IfOk result (λ blocks. item_of fields.old ≡ with_blocks (Some blocks) (item_of fields.new)) }
+{
+    let Value::Map(fields) = fields else {
+        return Err(Flaw::BadField);
+    };
+    let Some(value) = fields.replace("blocks", Value::Bytes(Octets::new(alloc))) else {
+        return Err(Flaw::BadField);
+    };
+    match value {
+        Value::Bytes(blocks) => Ok(blocks),
+        _ => Err(Flaw::BadField),
+    }
+}
+
 #[tactic(auto, unfolding(crate::specs::Table::commit_of))]
-fn read_commit(alloc: Global, fields: &Value) -> Result<CommitEvent, Flaw>
-    ensures { Reads (λ commit. commit) result (commit_of (item_of fields.now)) }
+fn read_commit(alloc: Global, fields: &mut Value) -> Result<CommitEvent, Flaw>
+    requires { Fits (item_of fields.old) DEPTH }
+    ensures commit { Reads (λ commit. commit) result (commit_of (item_of fields.old)) }
+    ensures left { IfOk result (λ commit. item_of fields.old ≡ with_blocks (Some commit.blocks) (item_of fields.new)) }
 {
     let repo = required_did(fields, "repo")?;
     let rev = tid(required(fields, "rev")?)?;
@@ -80,8 +106,8 @@ fn read_commit(alloc: Global, fields: &Value) -> Result<CommitEvent, Flaw>
     let prev_data = optional_node(fields, "prevData")?;
     let commit = node(required(fields, "commit")?)?;
     let too_big = too_big(fields)?;
-    let blocks = bytes(required(fields, "blocks")?)?;
     let ops = read_list(alloc, required(fields, "ops")?)?;
+    let blocks = take_blocks(alloc, fields)?;
     Ok(CommitEvent {
         repo,
         rev,
@@ -89,23 +115,21 @@ fn read_commit(alloc: Global, fields: &Value) -> Result<CommitEvent, Flaw>
         prev_data,
         commit,
         too_big,
-        blocks: blocks.try_clone()?,
+        blocks,
         ops,
     })
 }
 
 #[tactic(auto, unfolding(crate::specs::Table::sync_of))]
-fn read_sync(fields: &Value) -> Result<SyncEvent, Flaw>
-    ensures { Reads (λ sync. sync) result (sync_of (item_of fields.now)) }
+fn read_sync(alloc: Global, fields: &mut Value) -> Result<SyncEvent, Flaw>
+    requires { Fits (item_of fields.old) DEPTH }
+    ensures sync { Reads (λ sync. sync) result (sync_of (item_of fields.old)) }
+    ensures left { IfOk result (λ sync. item_of fields.old ≡ with_blocks (Some sync.blocks) (item_of fields.new)) }
 {
     let did = required_did(fields, "did")?;
     let rev = tid(required(fields, "rev")?)?;
-    let blocks = bytes(required(fields, "blocks")?)?;
-    Ok(SyncEvent {
-        did,
-        rev,
-        blocks: blocks.try_clone()?,
-    })
+    let blocks = take_blocks(alloc, fields)?;
+    Ok(SyncEvent { did, rev, blocks })
 }
 
 #[tactic(auto, unfolding(crate::specs::Table::account_of))]
@@ -117,15 +141,17 @@ fn read_account(fields: &Value) -> Result<AccountEvent, Flaw>
     Ok(AccountEvent { active, status })
 }
 
-/// What an event of this kind says.
-#[tactic(auto, unfolding(crate::specs::Table::body_of))]
-pub fn read_body(alloc: Global, kind: EventKind, fields: &Value) -> Result<Body, Flaw>
-    ensures body { Reads (λ body. body) result (body_of kind (item_of fields.now)) }
+/// What an event of this kind says. Its blocks, where it has some, are taken out of the payload.
+#[tactic(auto, unfolding(crate::specs::Table::body_of), using(crate::proofs::Blocks::no_blocks))]
+pub fn read_body(alloc: Global, kind: EventKind, fields: &mut Value) -> Result<Body, Flaw>
+    requires { Fits (item_of fields.old) DEPTH }
+    ensures body { Reads (λ body. body) result (body_of kind (item_of fields.old)) }
     ensures kind { IfOk result (λ body. kind_of body ≡ kind) }
+    ensures left { IfOk result (λ body. item_of fields.old ≡ with_blocks (blocks_of body) (item_of fields.new)) }
 {
     match kind {
         EventKind::Commit => Ok(Body::Commit(read_commit(alloc, fields)?)),
-        EventKind::Sync => Ok(Body::Sync(read_sync(fields)?)),
+        EventKind::Sync => Ok(Body::Sync(read_sync(alloc, fields)?)),
         EventKind::Identity => Ok(Body::Identity),
         EventKind::Account => Ok(Body::Account(read_account(fields)?)),
     }

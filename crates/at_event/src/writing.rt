@@ -1,17 +1,20 @@
 //! The frames in which events go out.
 
 ghost use Rattle.std.specs.Prelude.{◌≡◌, ◌++◌, ◌-◌, ◌^◌, ◌<◌, ◌≤◌, ℕ, map, length, take, codes, min, OnOk, OnErr, IfOk, Ok};
-ghost use Rattle.at_cbor.specs.Item.{fields_of};
+ghost use Rattle.at_cbor.specs.Item.{field, no_fields, fields_of};
 ghost use Rattle.at_cbor.specs.Spelling.{spelling, fields_spelling};
 ghost use Rattle.at_cbor.specs.View.{item_of, pair_of};
 ghost use Rattle.at_form.specs.declared.forms.TheConstants.{NUMBERS};
 ghost use Rattle.at_event.specs.declared.frame.Frame.{Frame};
 ghost use Rattle.at_event.specs.Frames.{frame_of};
-ghost use Rattle.at_event.specs.Writing.{name_of, header_of, number_item, with_value, with_seq, field_with, numbered, out_of, out_length};
+ghost use Rattle.at_event.specs.Writing.{name_of, header_of, number_item, with_value, with_seq, blocks_of, fields_with_blocks, with_blocks, numbered, out_of, out_length};
 
-use crate::event::Event;
+use crate::event::{Body, Event};
 use crate::kind::EventKind;
-use at_cbor::{Value, spelled_len, write_int, write_map_front, write_text, write_value};
+use at_cbor::{
+    Value, front_len, spelled_len, string_len, write_bytes, write_int, write_map_front, write_text,
+    write_value,
+};
 use at_cid::{Memory, Octets, Words};
 use at_form::NUMBERS;
 use std::alloc::Global;
@@ -48,39 +51,52 @@ pub fn write_number(out: &mut Octets, seq: u64) -> Result<(), Memory>
     write_int(out, seq as i64)
 }
 
-fn write_field(out: &mut Octets, key: &Words, value: &Value, seq: u64) -> Result<(), Memory>
+fn write_field(
+    out: &mut Octets,
+    key: &Words,
+    value: &Value,
+    body: &Body,
+    seq: u64,
+) -> Result<(), Memory>
     requires { seq < NUMBERS }
-    ensures written { OnOk result (out.new ≡ out.old ++ fields_spelling (field_with (codes "seq") (number_item seq) key.now (item_of value.now))) }
+    ensures written { OnOk result (out.new ≡ out.old ++ fields_spelling (with_value (codes "seq") (number_item seq) (fields_with_blocks (blocks_of body.now) (field key.now (item_of value.now) no_fields)))) }
     ensures err { OnErr result (take (length out.old) out.new ≡ out.old) }
 {
     write_text(out, key.as_str())?;
     if key.as_str() == "seq" {
-        write_number(out, seq)
-    } else {
-        write_value(out, value)
+        return write_number(out, seq);
+    }
+    match body.blocks() {
+        Some(blocks) if key.as_str() == "blocks" => write_bytes(out, blocks.as_slice()),
+        _ => write_value(out, value),
     }
 }
 
-fn write_fields(out: &mut Octets, fields: &[(Words, Value)], seq: u64) -> Result<(), Memory>
+fn write_fields(
+    out: &mut Octets,
+    fields: &[(Words, Value)],
+    body: &Body,
+    seq: u64,
+) -> Result<(), Memory>
     requires { seq < NUMBERS }
-    ensures written { OnOk result (out.new ≡ out.old ++ fields_spelling (with_value (codes "seq") (number_item seq) (fields_of (map pair_of fields.now)))) }
+    ensures written { OnOk result (out.new ≡ out.old ++ fields_spelling (with_value (codes "seq") (number_item seq) (fields_with_blocks (blocks_of body.now) (fields_of (map pair_of fields.now))))) }
     ensures err { OnErr result (take (length out.old) out.new ≡ out.old) }
 {
     for (key, value) in fields {
-        write_field(out, key, value, seq)?;
+        write_field(out, key, value, body, seq)?;
     }
     Ok(())
 }
 
-fn write_payload(out: &mut Octets, payload: &Value, seq: u64) -> Result<(), Memory>
+fn write_payload(out: &mut Octets, rest: &Value, body: &Body, seq: u64) -> Result<(), Memory>
     requires { seq < NUMBERS }
-    ensures written { OnOk result (out.new ≡ out.old ++ spelling (with_seq seq (item_of payload.now))) }
+    ensures written { OnOk result (out.new ≡ out.old ++ spelling (with_seq seq (with_blocks (blocks_of body.now) (item_of rest.now)))) }
     ensures err { OnErr result (take (length out.old) out.new ≡ out.old) }
 {
-    match payload {
+    match rest {
         Value::Map(fields) => {
             write_map_front(out, fields.len())?;
-            write_fields(out, fields.as_slice(), seq)
+            write_fields(out, fields.as_slice(), body, seq)
         }
         // No event has such a payload.
         other => write_value(out, other),
@@ -96,7 +112,7 @@ pub fn write_frame(out: &mut Octets, event: &Event, seq: u64) -> Result<(), Memo
     ensures err { OnErr result (take (length out.old) out.new ≡ out.old) }
 {
     write_header(out, event.kind())?;
-    write_payload(out, &event.payload, seq)
+    write_payload(out, &event.rest, &event.body, seq)
 }
 
 /// The frame in which an event goes out under a number, with its own memory.
@@ -119,6 +135,39 @@ fn number_len(seq: u64) -> u64
     spelled_len(&Value::Int(seq as i64))
 }
 
+fn field_len(key: &Words, value: &Value, body: &Body) -> u64
+    ensures { result ≡ min (length (fields_spelling (fields_with_blocks (blocks_of body.now) (field key.now (item_of value.now) no_fields)))) (2 ^ 64 - 1) }
+{
+    let value = match body.blocks() {
+        Some(blocks) if key.as_str() == "blocks" => string_len(blocks.len()),
+        _ => spelled_len(value),
+    };
+    string_len(key.len()).saturating_add(value)
+}
+
+fn fields_len(fields: &[(Words, Value)], body: &Body) -> u64
+    ensures { result ≡ min (length (fields_spelling (fields_with_blocks (blocks_of body.now) (fields_of (map pair_of fields.now))))) (2 ^ 64 - 1) }
+{
+    let mut sum: u64 = 0;
+    for (key, value) in fields {
+        sum = sum.saturating_add(field_len(key, value, body));
+    }
+    sum
+}
+
+fn payload_len(rest: &Value, body: &Body) -> u64
+    ensures { result ≡ min (length (spelling (with_blocks (blocks_of body.now) (item_of rest.now)))) (2 ^ 64 - 1) }
+{
+    match rest {
+        Value::Map(fields) => {
+            let front = front_len(fields.len() as u64);
+            front.saturating_add(fields_len(fields.as_slice(), body))
+        }
+        // No event has such a payload.
+        other => spelled_len(other),
+    }
+}
+
 /// How long the frame of an event is under a number; at most `u64::MAX`. Takes no memory.
 pub fn frame_len(event: &Event, seq: u64) -> u64
     requires { seq < NUMBERS }
@@ -126,7 +175,7 @@ pub fn frame_len(event: &Event, seq: u64) -> u64
 {
     let header = name(event.kind()).len() as u64 + 8;
     let number = number_len(event.seq);
-    let payload = spelled_len(&event.payload);
+    let payload = payload_len(&event.rest, &event.body);
     (payload - number).saturating_add(number_len(seq) + header)
 }
 

@@ -27,13 +27,13 @@ pub fn judge(alloc: Global, message: Octets) -> Result<Verdict, Memory>
     }
 }
 
-// The payload, which holds the blocks once more, is let go before the commit is checked.
+// What is left of the payload is let go before the commit is checked.
 fn judge_event(alloc: Global, event: Event) -> Result<Verdict, Memory>
     ensures { IfOk result (JudgesBody event event.body) }
 {
     let too_long = out_len(&event) > LONGEST_FRAME;
-    let Event { body, payload, .. } = event;
-    drop(payload);
+    let Event { body, rest, .. } = event;
+    drop(rest);
     match body {
         Body::Commit(_) if too_long => Ok(Verdict::Refused(Refusal::TooLong)),
         Body::Commit(commit) => judge_commit(alloc, &commit),
