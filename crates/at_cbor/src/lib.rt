@@ -28,7 +28,8 @@ pub use length::{front_len, spelled_len, string_len};
 pub use lookup::field;
 pub use major::Major;
 pub use taking::{
-    decode_whole, take_bytes, take_child, take_item, take_link, take_list_front, take_number,
+    decode_whole, take_behind, take_bytes, take_child, take_item, take_link, take_list_front,
+    take_number,
 };
 pub use value::{Fields, Value, Values};
 pub use writing::{

@@ -27,6 +27,7 @@ pub enum Major {
 impl Major {
     /// The major type that a first byte names.
     #[tactic(auto, unfolding(crate::specs::Majors::major_in))]
+    #[inline]
     pub(crate) fn of_byte(first: u8) -> Major
         ensures { result ≡ major_in first }
     {
@@ -43,6 +44,7 @@ impl Major {
     }
 
     /// Its number, from 0 to 7.
+    #[inline]
     pub(crate) fn number(self) -> u8
         ensures { result ≡ number_of self }
     {

@@ -14,6 +14,7 @@ pub(crate) struct Reader<'a> {
 
 impl<'a> Reader<'a> {
     /// Nothing was read yet.
+    #[inline]
     pub(crate) fn new(bytes: &'a [u8]) -> Reader<'a>
         ensures rest { result.rest.now ≡ bytes.now }
         ensures left { result.left ≡ length bytes.now }
@@ -25,6 +26,7 @@ impl<'a> Reader<'a> {
     }
 
     /// A head begins here.
+    #[inline]
     pub(crate) fn mark(&mut self)
         ensures rest { self.new.rest.now ≡ self.old.rest.now }
         ensures left { self.new.left ≡ length self.old.rest.now }
@@ -33,6 +35,7 @@ impl<'a> Reader<'a> {
     }
 
     /// The next byte.
+    #[inline]
     pub(crate) fn byte(&mut self) -> Option<u8>
         ensures byte { MatchOption result (self.old.rest.now ≡ []) (λ byte. self.old.rest.now ≡ byte ∷ self.new.rest.now) }
         ensures left { self.new.left ≡ self.old.left }
@@ -45,6 +48,7 @@ impl<'a> Reader<'a> {
     }
 
     /// The next bytes, as an array.
+    #[inline]
     pub(crate) fn take<const N: usize>(&mut self) -> Option<[u8; N]>
         ensures bytes { MatchOption result
             (length self.old.rest.now < N)
@@ -57,6 +61,7 @@ impl<'a> Reader<'a> {
     }
 
     /// So many of the next bytes.
+    #[inline]
     pub(crate) fn sub(&mut self, count: usize) -> Option<&'a [u8]>
         ensures bytes { MatchOption result
             (length self.old.rest.now < count)
@@ -72,6 +77,7 @@ impl<'a> Reader<'a> {
     }
 
     /// The bytes that are still to be read.
+    #[inline]
     pub(crate) fn rest(&self) -> &'a [u8]
         ensures { result.now ≡ self.now.rest.now }
     {

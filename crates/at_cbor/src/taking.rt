@@ -16,19 +16,21 @@ use crate::value::Value;
 use at_cid::{Cid, Kind, LINK_LEN, Memory, parse_binary};
 use std::alloc::Global;
 
-/// The bytes behind the front of a link: tag 42, the head of a byte string of 37 bytes, and its first byte.
-#[tactic(auto, unfolding(crate::specs::Taking::behind))]
-fn take_link_front(bytes: &[u8]) -> Option<&[u8]>
-    ensures { option_map (λ rest. rest.now) result ≡ behind (0xd8 ∷ 0x2a ∷ 0x58 ∷ 0x25 ∷ 0x00 ∷ []) bytes.now }
+/// The bytes behind a front, which is compared as a whole.
+#[tactic(auto, using(crate::proofs::Taken::behind_short, crate::proofs::Taken::behind_found, crate::proofs::Taken::behind_other))]
+#[inline(always)]
+pub fn take_behind<'a, const N: usize>(front: &[u8; N], bytes: &'a [u8]) -> Option<&'a [u8]>
+    ensures { option_map (λ rest. rest.now) result ≡ behind front.now bytes.now }
 {
-    match bytes {
-        [0xd8, 0x2a, 0x58, 0x25, 0x00, rest @ ..] => Some(rest),
-        _ => None,
-    }
+    let Some((found, rest)) = bytes.split_first_chunk::<N>() else {
+        return None;
+    };
+    if *front == *found { Some(rest) } else { None }
 }
 
 /// The argument of a head of this major type in its shortest form.
 #[tactic(auto, unfolding(crate::specs::Taking::number_at))]
+#[inline]
 fn read_number(reader: &mut Reader, major: Major) -> Option<u64>
     ensures { option_map (λ n. (n, reader.new.rest.now)) result ≡ number_at major reader.old.rest.now }
 {
@@ -45,6 +47,7 @@ fn read_number(reader: &mut Reader, major: Major) -> Option<u64>
 }
 
 /// The argument, below 2^64, of a head of this major type in its shortest form (RFC 8949, section 3).
+#[inline]
 pub fn take_number(major: Major, bytes: &[u8]) -> Option<(u64, &[u8])>
     ensures { option_map (λ x. (x.0, x.1.now)) result ≡ number_at major bytes.now }
 {
@@ -54,6 +57,7 @@ pub fn take_number(major: Major, bytes: &[u8]) -> Option<(u64, &[u8])>
 }
 
 /// How many items the list at the front has, and the bytes behind its head, where they begin.
+#[inline]
 pub fn take_list_front(bytes: &[u8]) -> Option<(u64, &[u8])>
     ensures { option_map (λ x. (x.0, x.1.now)) result ≡ number_at Major.List bytes.now }
 {
@@ -62,6 +66,7 @@ pub fn take_list_front(bytes: &[u8]) -> Option<(u64, &[u8])>
 
 /// The byte string at the front.
 #[tactic(auto, unfolding(crate::specs::Taking::string_at))]
+#[inline]
 pub fn take_bytes(bytes: &[u8]) -> Option<(&[u8], &[u8])>
     ensures { option_map (λ x. (x.0.now, x.1.now)) result ≡ string_at bytes.now }
 {
@@ -71,12 +76,13 @@ pub fn take_bytes(bytes: &[u8]) -> Option<(&[u8], &[u8])>
     Some((string, reader.rest()))
 }
 
-/// The link at the front.
+/// The link at the front: tag 42, the head of a byte string of 37 bytes, a 0, and the bytes of the link.
 #[tactic(auto, unfolding(crate::specs::Taking::link_from_front))]
+#[inline(always)]
 pub fn take_link(bytes: &[u8]) -> Option<(Cid, &[u8])>
     ensures { option_map (λ x. (x.0, x.1.now)) result ≡ link_from_front bytes.now }
 {
-    let Some(rest) = take_link_front(bytes) else {
+    let Some(rest) = take_behind(&[0xd8, 0x2a, 0x58, 0x25, 0x00], bytes) else {
         return None;
     };
     let Some(link) = parse_binary(rest) else {
@@ -87,6 +93,7 @@ pub fn take_link(bytes: &[u8]) -> Option<(Cid, &[u8])>
 
 /// The link of kind Node at the front, or none where null stands there.
 #[tactic(auto, unfolding(crate::specs::Taking::child_at))]
+#[inline(always)]
 pub fn take_child(bytes: &[u8]) -> Option<(Option<Cid>, &[u8])>
     ensures { option_map (λ x. (x.0, x.1.now)) result ≡ child_at bytes.now }
 {

@@ -12,6 +12,7 @@ use at_cid::{Cid, Memory, Octets, Words};
 
 /// Writes a major type and its argument, in the shortest form.
 #[tactic(auto, unfolding(crate::specs::Spelling::info_of, crate::specs::Spelling::tail_of))]
+#[inline]
 fn write_front(out: &mut Octets, major: Major, n: u64) -> Result<(), Memory>
     ensures written { OnOk result (out.new ≡ out.old ++ front_of major n) }
     ensures err { OnErr result (take (length out.old) out.new ≡ out.old) }
@@ -35,6 +36,7 @@ fn write_front(out: &mut Octets, major: Major, n: u64) -> Result<(), Memory>
 }
 
 /// Adds an integer. Where memory is wanted, what was there stays in front.
+#[inline]
 pub fn write_int(out: &mut Octets, number: i64) -> Result<(), Memory>
     ensures written { OnOk result (out.new ≡ out.old ++ spelling (Item.int number)) }
     ensures spellable { OnOk result (IsSpellable (Item.int number)) }
@@ -48,6 +50,7 @@ pub fn write_int(out: &mut Octets, number: i64) -> Result<(), Memory>
 }
 
 /// Adds a string of bytes. Where memory is wanted, what was there stays in front.
+#[inline]
 pub fn write_bytes(out: &mut Octets, bytes: &[u8]) -> Result<(), Memory>
     ensures written { OnOk result (out.new ≡ out.old ++ spelling (Item.bytes bytes.now)) }
     ensures spellable { OnOk result (IsSpellable (Item.bytes bytes.now)) }
@@ -69,6 +72,7 @@ pub fn write_text(out: &mut Octets, text: &str) -> Result<(), Memory>
 }
 
 /// Adds an unsigned number, up to 2^64 - 1. Where memory is wanted, what was there stays in front.
+#[inline]
 pub fn write_number(out: &mut Octets, number: u64) -> Result<(), Memory>
     ensures written { OnOk result (out.new ≡ out.old ++ front_of Major.Unsigned number) }
     ensures err { OnErr result (take (length out.old) out.new ≡ out.old) }
@@ -77,6 +81,7 @@ pub fn write_number(out: &mut Octets, number: u64) -> Result<(), Memory>
 }
 
 /// Adds the front of a list of so many values, which are to follow. Where memory is wanted, what was there stays in front.
+#[inline]
 pub fn write_list_front(out: &mut Octets, count: usize) -> Result<(), Memory>
     ensures written { OnOk result (out.new ≡ out.old ++ front_of Major.List count) }
     ensures err { OnErr result (take (length out.old) out.new ≡ out.old) }
@@ -86,6 +91,7 @@ pub fn write_list_front(out: &mut Octets, count: usize) -> Result<(), Memory>
 
 /// Adds the front of a map of so many fields, of which each key and its value are to follow. Where memory is wanted, what was
 /// there stays in front.
+#[inline]
 pub fn write_map_front(out: &mut Octets, count: usize) -> Result<(), Memory>
     ensures written { OnOk result (out.new ≡ out.old ++ front_of Major.Map count) }
     ensures err { OnErr result (take (length out.old) out.new ≡ out.old) }
@@ -94,6 +100,7 @@ pub fn write_map_front(out: &mut Octets, count: usize) -> Result<(), Memory>
 }
 
 /// Adds a link. Where memory is wanted, what was there stays in front.
+#[inline]
 pub fn write_link(out: &mut Octets, link: &Cid) -> Result<(), Memory>
     ensures written { OnOk result (out.new ≡ out.old ++ spelling (Item.link link.now)) }
     ensures spellable { OnOk result (IsSpellable (Item.link link.now)) }
@@ -138,7 +145,8 @@ fn put_words(out: &mut Octets, text: &Words) -> Result<(), Memory>
     ensures text { OnOk result (IsText text.now) }
     ensures err { OnErr result (take (length out.old) out.new ≡ out.old) }
 {
-    write_text(out, text.as_str())
+    write_front(out, Major::Text, text.len() as u64)?;
+    out.extend(text.as_bytes())
 }
 
 #[cycle(write)]

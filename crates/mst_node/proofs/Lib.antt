@@ -14,6 +14,7 @@ pub mod Readers
 pub mod Writes
 pub mod EmptyTree
 pub mod Follows
+pub mod Pointers
 pub mod Spelled
 pub mod Rounds
 pub mod Lengths

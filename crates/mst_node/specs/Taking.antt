@@ -19,6 +19,10 @@ pub record Parts : Type 0 where
 abbrev pub parts_of : List ℕ → ℕ → Option (List ℕ) → List ℕ → Parts
 parts_of tail count right value = record { tail = tail; count = count; right = right; value = value }
 
+-- the value of an entry, its last field
+abbrev pub value_at : List ℕ → Taking (List ℕ)
+value_at bytes = behind (0x61 ∷ 0x76 ∷ []) bytes >>= link_from_front
+
 unfoldable pub parts_at : List ℕ → Taking Parts
 parts_at bytes = do
   a ← behind (0xa4 ∷ 0x61 ∷ 0x6b ∷ []) bytes

@@ -76,6 +76,7 @@ impl Entries {
     }
 
     /// Adds an entry at the end. After [`Memory`] the list is as it was.
+    #[inline]
     pub fn push(&mut self, entry: Entry) -> Result<(), Memory>
         ensures ok { OnOk result (self.new ≡ self.old ++ entry ∷ []) }
         ensures err { OnErr result (self.new ≡ self.old) }

@@ -39,6 +39,7 @@ impl Model for KeyBytes {
 }
 
 /// The bytes of two slices, one behind the other, where they are few.
+#[inline(always)]
 fn short(front: &[u8], tail: &[u8], count: usize) -> KeyBytes
     requires count { count ≡ length (front.now ++ tail.now) }
     requires few { count ≤ MOST_SHORT_BYTES }
@@ -54,6 +55,7 @@ fn short(front: &[u8], tail: &[u8], count: usize) -> KeyBytes
 
 impl KeyBytes {
     /// The bytes of two slices, one behind the other.
+    #[inline]
     pub fn joined(alloc: Global, front: &[u8], tail: &[u8]) -> Result<KeyBytes, Memory>
         ensures { IfOk result (λ key. key ≡ front.now ++ tail.now) }
     {
@@ -77,6 +79,7 @@ impl KeyBytes {
     }
 
     /// The bytes.
+    #[inline]
     pub fn as_slice(&self) -> &[u8]
         ensures value { result.now ≡ self.now }
         ensures bytes { IsBytes self.now }
@@ -92,6 +95,7 @@ impl KeyBytes {
     }
 
     /// How many bytes there are.
+    #[inline]
     pub fn len(&self) -> usize
         ensures { result ≡ length self.now }
     {

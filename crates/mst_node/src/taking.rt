@@ -1,39 +1,31 @@
 //! The parts of a node, taken from its block from left to right.
 
 ghost use Rattle.std.specs.Prelude.{◌≡◌, ◌≤◌, ◌∷◌, ◌++◌, [], Some, length, take, option_map, IfOk};
-ghost use Rattle.at_cbor.specs.Taking.{behind, number_at};
 ghost use Rattle.mst_node.specs.Reading.{key_before};
-ghost use Rattle.mst_node.specs.Taking.{IsTaken, parts_of, parts_at, goes_above, may_follow, next_at, entries_at, front_at, end_at, node_at};
+ghost use Rattle.mst_node.specs.Taking.{IsTaken, parts_of, value_at, parts_at, goes_above, may_follow, next_at, entries_at, front_at, end_at, node_at};
 
 use crate::entries::Entries;
 use crate::entry::Entry;
 use crate::fault::NodeFault;
 use crate::key_bytes::KeyBytes;
-use at_cbor::{Major, take_bytes, take_child, take_link, take_list_front, take_number};
-use at_cid::{Cid, Memory};
+use at_cbor::{Major, take_behind, take_bytes, take_child, take_list_front, take_number};
+use at_cid::{Cid, LINK_LEN, Memory, parse_binary};
 use mst_list::MOST_KEY_BYTES;
 use std::alloc::Global;
 
-/// The bytes behind a text of one letter.
-#[tactic(auto, unfolding(at_cbor::specs::Taking::behind))]
-fn take_letter(letter: u8, bytes: &[u8]) -> Option<&[u8]>
-    ensures { option_map (λ rest. rest.now) result ≡ behind (0x61 ∷ letter ∷ []) bytes.now }
+/// The value of an entry, its last field. What stands in front of the link is compared as a whole.
+#[tactic(auto, using(crate::proofs::Pointers::value_none, crate::proofs::Pointers::value_other))]
+#[inline(always)]
+fn take_value(bytes: &[u8]) -> Option<(Cid, &[u8])>
+    ensures { option_map (λ x. (x.0, x.1.now)) result ≡ value_at bytes.now }
 {
-    match bytes {
-        [0x61, found, rest @ ..] if *found == letter => Some(rest),
-        _ => None,
-    }
-}
-
-/// The bytes behind the head of a map and a text of one letter, its first key.
-#[tactic(auto, unfolding(at_cbor::specs::Taking::behind))]
-fn take_map_front(head: u8, letter: u8, bytes: &[u8]) -> Option<&[u8]>
-    ensures { option_map (λ rest. rest.now) result ≡ behind (head ∷ 0x61 ∷ letter ∷ []) bytes.now }
-{
-    match bytes {
-        [first, rest @ ..] if *first == head => take_letter(letter, rest),
-        _ => None,
-    }
+    let Some(rest) = take_behind(&[0x61, b'v', 0xd8, 0x2a, 0x58, 0x25, 0x00], bytes) else {
+        return None;
+    };
+    let Some(link) = parse_binary(rest) else {
+        return None;
+    };
+    Some((link, rest.split_at(LINK_LEN).1))
 }
 
 /// What an entry's block says: what of its key isn't shared with the key before, how much is, and its links.
@@ -46,32 +38,29 @@ struct Parts<'a> {
 }
 
 /// The parts of the entry at the front.
-#[tactic(auto, unfolding(crate::specs::Taking::parts_at))]
+#[tactic(auto, using(crate::proofs::Pointers::then_none, crate::proofs::Pointers::then_some), unfolding(crate::specs::Taking::parts_at))]
 fn take_parts(bytes: &[u8]) -> Option<(Parts, &[u8])>
     ensures { option_map (λ x. (parts_of x.0.tail.now x.0.count x.0.right x.0.value, x.1.now)) result ≡ parts_at bytes.now }
 {
-    let Some(rest) = take_map_front(0xa4, b'k', bytes) else {
+    let Some(rest) = take_behind(&[0xa4, 0x61, b'k'], bytes) else {
         return None;
     };
     let Some((tail, rest)) = take_bytes(rest) else {
         return None;
     };
-    let Some(rest) = take_letter(b'p', rest) else {
+    let Some(rest) = take_behind(&[0x61, b'p'], rest) else {
         return None;
     };
     let Some((count, rest)) = take_number(Major::Unsigned, rest) else {
         return None;
     };
-    let Some(rest) = take_letter(b't', rest) else {
+    let Some(rest) = take_behind(&[0x61, b't'], rest) else {
         return None;
     };
     let Some((right, rest)) = take_child(rest) else {
         return None;
     };
-    let Some(rest) = take_letter(b'v', rest) else {
-        return None;
-    };
-    let Some((value, rest)) = take_link(rest) else {
+    let Some((value, rest)) = take_value(rest) else {
         return None;
     };
     let parts = Parts {
@@ -170,7 +159,7 @@ fn take_entries(alloc: Global, count: usize, bytes: &[u8]) -> Result<(Entries, &
 fn take_front(bytes: &[u8]) -> Option<(u64, &[u8])>
     ensures { option_map (λ x. (x.0, x.1.now)) result ≡ front_at bytes.now }
 {
-    let rest = take_map_front(0xa2, b'e', bytes)?;
+    let rest = take_behind(&[0xa2, 0x61, b'e'], bytes)?;
     take_list_front(rest)
 }
 
@@ -179,7 +168,7 @@ fn take_front(bytes: &[u8]) -> Option<(u64, &[u8])>
 fn take_end(bytes: &[u8]) -> Option<Option<Cid>>
     ensures { result ≡ end_at bytes.now }
 {
-    let rest = take_letter(b'l', bytes)?;
+    let rest = take_behind(&[0x61, b'l'], bytes)?;
     match take_child(rest) {
         Some((left, [])) => Some(left),
         _ => None,
