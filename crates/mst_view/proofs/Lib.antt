@@ -9,3 +9,4 @@ pub mod Forms
 pub mod NoView
 pub mod Sizes
 mod FirstWords
+pub mod Behind

@@ -108,9 +108,3 @@ some_items h first parts (Some c) es l f k s = let low = some_first h first c l 
 
 pub taken : (old new : List Entry) (e : Entry) → old ≡ new ++ e ∷ [] → reverse old ≡ e ∷ reverse new
 taken old new e is = ap reverse is ∙ reverse-append new (e ∷ [])
-
--- what stands last is what is taken off the end
-pub last_taken : (old others new : List Entry) (last e : Entry) → old ≡ others ++ last ∷ [] → old ≡ new ++ e ∷ [] → (e ≡ last) × (reverse others ≡ reverse new)
-last_taken old others new last e seen gone =
-    let here = taken old others last seen in let there = taken old new e gone in
-    let same : (e ∷ reverse new) ≡ (last ∷ reverse others) = sym there ∙ here in (cc, cc)

@@ -1,31 +1,52 @@
-//! Whether links begin differently.
+//! Whether the links of a tree's holes begin differently.
 
-ghost use Rattle.std.specs.Prelude.{◌≡◌, IfOk, map, true};
+ghost use Rattle.std.specs.Prelude.{◌≡◌, IfOk, OnOk, ◌++◌, map, true};
 ghost use Rattle.std.specs.Str.{bytes_eq};
 ghost use Rattle.at_cid.specs.Distinct.{all_differ};
 ghost use Rattle.at_car.specs.Links.{first_word};
+ghost use Rattle.mst_view.specs.Layered.{LiesBelow, below_items};
+ghost use Rattle.mst_view.specs.HoleLinks.{hole_links};
 
+use crate::branch::{Below, Branch};
 use at_car::first_word;
-use at_cid::{Cid, Memory};
+use at_cid::Memory;
 use std::alloc::Global;
 
-/// The numbers that some links begin with.
-fn first_words(alloc: Global, links: &[Cid]) -> Result<Vec<u64>, Memory>
-    ensures { IfOk result (λ words. words.items ≡ map first_word links.now) }
+#[cycle(words)]
+#[inline]
+fn words_below(layer: u8, below: &Below, words: &mut Vec<u64>) -> Result<(), Memory>
+    requires { LiesBelow layer below.now }
+    ensures { OnOk result (words.new.items ≡ words.old.items ++ map first_word (hole_links (below_items layer below.now))) }
 {
-    let mut words = Vec::with_capacity(alloc, links.len())?;
-    for link in links {
-        words.push(first_word(link))?;
+    match below {
+        Below::Empty => Ok(()),
+        Below::Hole(link) => {
+            words.push(first_word(link))?;
+            Ok(())
+        }
+        Below::Tree(branch) => words_of(branch, words),
     }
-    Ok(words)
 }
 
-/// Whether no link begins as another, so that none stands twice: the numbers that they begin with are put in order, which
-/// is faster than comparing links.
-pub(crate) fn begin_apart(alloc: Global, links: &[Cid]) -> Result<bool, Memory>
-    ensures { IfOk result (λ apart. apart ≡ true → all_differ bytes_eq links.now ≡ true) }
+/// Puts the numbers that the links of a node's holes begin with at the end of a list.
+#[cycle(words)]
+fn words_of(branch: &Branch, words: &mut Vec<u64>) -> Result<(), Memory>
+    ensures { OnOk result (words.new.items ≡ words.old.items ++ map first_word (hole_links branch.now.items)) }
 {
-    let mut words = first_words(alloc, links)?;
+    words_below(branch.layer, &branch.first, words)?;
+    for part in &branch.rest {
+        words_below(branch.layer, &part.below, words)?;
+    }
+    Ok(())
+}
+
+/// Whether no link of a node's holes begins as another, so that none stands twice: the numbers that they begin with are put
+/// in order, which is faster than comparing links.
+pub(crate) fn begin_apart(alloc: Global, branch: &Branch) -> Result<bool, Memory>
+    ensures { IfOk result (λ apart. apart ≡ true → all_differ bytes_eq (hole_links branch.now.items) ≡ true) }
+{
+    let mut words = Vec::new(alloc);
+    words_of(branch, &mut words)?;
     words.sort_unstable();
     Ok(words.as_slice().is_sorted_by(|a, b| a < b))
 }

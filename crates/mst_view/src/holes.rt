@@ -58,10 +58,10 @@ fn all_differ(alloc: Global, links: &[Cid]) -> Result<bool, Memory>
 pub(crate) fn holes_differ(alloc: Global, branch: &Branch) -> Result<bool, Memory>
     ensures { IfOk result (λ differ. differ ≡ all_differ bytes_eq (hole_links branch.now.items)) }
 {
-    let mut links = Vec::new(alloc);
-    links_of(branch, &mut links)?;
-    if begin_apart(alloc, links.as_slice())? {
+    if begin_apart(alloc, branch)? {
         return Ok(true);
     }
+    let mut links = Vec::new(alloc);
+    links_of(branch, &mut links)?;
     all_differ(alloc, links.as_slice())
 }

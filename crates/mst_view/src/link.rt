@@ -1,6 +1,6 @@
 //! The links of nodes.
 
-ghost use Rattle.std.specs.Prelude.{◌≡◌, IfOk};
+ghost use Rattle.std.specs.Prelude.{◌≡◌, IfOk, OnOk};
 ghost use Rattle.at_cid.specs.Link.{cid};
 ghost use Rattle.mst_node.specs.Trees.{spell};
 
@@ -46,37 +46,49 @@ fn room_for(parts: &[Part]) -> usize {
 }
 
 impl Branch {
-    /// The link of the node's block. Only nodes whose link isn't known are spelled, their keys lent.
+    /// The link of the node's block. Only nodes whose link isn't known are spelled, their keys lent, all in one room.
     pub fn link_of(&self, alloc: Global) -> Result<Cid, Memory>
         ensures { IfOk result (λ link. link ≡ cid (spell self.now.layer self.now.items)) }
+    {
+        let mut room = Octets::from_vec(Vec::with_capacity(alloc, room_for(self.rest.as_slice()))?);
+        self.link_behind(&mut room)
+    }
+
+    // The same. What is spelled lies behind what the room holds, and is cut off again: so the blocks of the nodes below are
+    // spelled behind the part of this node's block that is there.
+    fn link_behind(&self, room: &mut Octets) -> Result<Cid, Memory>
+        ensures link { IfOk result (λ link. link ≡ cid (spell self.now.layer self.now.items)) }
+        ensures room { OnOk result (room.new ≡ room.old) }
     {
         if let Some(link) = self.link {
             return Ok(link);
         }
+        let start = room.len();
         let left = match &self.first {
             Below::Empty => None,
             Below::Hole(link) => Some(*link),
-            Below::Tree(child) => Some(child.link_of(alloc)?),
+            Below::Tree(child) => Some(child.link_behind(room)?),
         };
         let parts = self.rest.as_slice();
-        let mut block = Octets::from_vec(Vec::with_capacity(alloc, room_for(parts))?);
-        write_front(&mut block, parts.len())?;
+        write_front(room, parts.len())?;
         let mut last: &[u8] = &[];
         for part in parts {
             let right = match &part.below {
                 Below::Empty => None,
                 Below::Hole(link) => Some(*link),
-                Below::Tree(child) => Some(child.link_of(alloc)?),
+                Below::Tree(child) => Some(child.link_behind(room)?),
             };
             let entry = EntryRef {
                 key: part.key.as_slice(),
                 value: part.value,
                 right,
             };
-            write_entry(&mut block, last, &entry)?;
+            write_entry(room, last, &entry)?;
             last = part.key.as_slice();
         }
-        write_end(&mut block, &left)?;
-        Ok(cid_of(block.as_slice()))
+        write_end(room, &left)?;
+        let link = cid_of(room.as_slice().split_at(start).1);
+        room.truncate(start);
+        Ok(link)
     }
 }

@@ -1,8 +1,10 @@
 //! Reading trees from blocks.
 
-ghost use Rattle.std.specs.Prelude.{◌≡◌, IfOk, Some, None, true, option_map, reverse};
-ghost use Rattle.at_cid.specs.Link.{cid};
+ghost use Rattle.std.specs.Prelude.{◌≡◌, ◌<◌, IfOk, Some, None, true, option_map, reverse};
+ghost use Rattle.std.specs.FinMap as map;
+ghost use Rattle.at_cid.specs.Link.{IsNodeLink, cid};
 ghost use Rattle.at_cid.specs.Memory.{Gives};
+ghost use Rattle.at_car.specs.Blocks.{AreLinked};
 ghost use Rattle.mst_node.specs.NodeBytes.{node_bytes};
 ghost use Rattle.mst_node.specs.Nodes.{IsChildLink};
 ghost use Rattle.mst_node.specs.NodeFaults.{next_bound};
@@ -55,6 +57,7 @@ impl<T: Drop> From<AllocFailed<T>> for ReadFault {
 
 /// What hangs under a link below a layer, between two keys.
 #[cycle(read)]
+#[inline]
 fn read_below(
     alloc: Global,
     blocks: &Blocks,
@@ -75,6 +78,28 @@ fn read_below(
     let Some(block) = blocks.get(&link) else {
         return Ok(Below::Hole(link));
     };
+    read_tree(alloc, blocks, layer, low, high, link, block)
+}
+
+/// The subtree that hangs below a layer, between two keys, from the block under its link on.
+#[cycle(read)]
+fn read_tree(
+    alloc: Global,
+    blocks: &Blocks,
+    layer: u8,
+    low: Option<&[u8]>,
+    high: Option<&[u8]>,
+    link: Cid,
+    block: &[u8],
+) -> Result<Below, ReadFault>
+    requires kind { IsNodeLink link }
+    requires above { 0 < layer }
+    requires linked { AreLinked blocks.now }
+    requires there { map.get blocks.now link ≡ Some block.now }
+    ensures gives { Gives (below_items layer) link_at_fault result (part_at in_part node_of blocks.now layer (option_map (λ k. k.now) low.entry) (option_map (λ k. k.now) high.entry) (Some link)) }
+    ensures lies { IfOk result (LiesBelow layer) }
+    ensures keeps { IfOk result (λ below. below_link below ≡ Some link) }
+{
     let node = match read_node(alloc, block) {
         Ok(node) => node,
         Err(NodeFault::BadNode) => return Err(ReadFault::BadNode(link)),
@@ -91,6 +116,7 @@ fn read_below(
 
 /// The key at which what hangs before some entries ends, of which the first stands last: that of the first one, or else the
 /// bound behind them.
+#[inline]
 fn bound_before<'a>(high: Option<&'a [u8]>, entries: &'a [Entry]) -> Option<&'a [u8]>
     ensures { option_map (λ k. k.now) result ≡ next_bound (option_map (λ k. k.now) high.entry) (reverse entries.now) }
 {
@@ -104,6 +130,7 @@ fn bound_before<'a>(high: Option<&'a [u8]>, entries: &'a [Entry]) -> Option<&'a 
 const MANY_ENTRIES: usize = 1_024;
 
 /// Gives back the room behind some entries, where it is much.
+#[inline]
 fn give_back(entries: &mut Vec<Entry>)
     ensures { entries.new.items ≡ entries.old.items }
 {
@@ -130,11 +157,10 @@ fn read_rest(
     let mut left = entries.into_vec();
     // The first is taken from the end, so that the room of those that were taken can be given back.
     left.reverse();
-    'entries: while let Some((entry, others)) = left.as_slice().split_last() {
-        let low = Some(entry.key.as_slice());
-        let high = bound_before(high, others);
-        let below = read_below(alloc, blocks, layer, low, high, entry.right)?;
-        let Entry { key, value, .. } = left.pop().unwrap();
+    'entries: while let Some(Entry { key, value, right }) = left.pop() {
+        let low = Some(key.as_slice());
+        let high = bound_before(high, left.as_slice());
+        let below = read_below(alloc, blocks, layer, low, high, right)?;
         rest.push(Part { key, value, below })?;
         give_back(&mut left);
     }

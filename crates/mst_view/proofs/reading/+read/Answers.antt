@@ -2,7 +2,7 @@ use Rattle.std.proofs.Common.{◌≡◌, ℕ, ◌-◌, List, [], ◌∷◌, ◌+
 use Rattle.std.specs.Prelude.{option_map, reverse}
 use Rattle.std.specs.Option.{option_to_list}
 use Rattle.std.proofs.lemmas.Result.{err_from_is_err_and}
-use Rattle.at_cid.specs.Link.{cid, IsNodeLink}
+use Rattle.at_cid.specs.Link.{cid}
 use Rattle.mst_node.specs.declared.entry.Entry.{Entry}
 use Rattle.mst_node.specs.Nodes.{IsChildLink}
 use Rattle.mst_node.specs.NodeFaults.{next_bound}
@@ -17,7 +17,7 @@ use Rattle.mst_node.proofs.Told.{both_true}
 use Rattle.mst_node.proofs.Passes.{hang_true, fit_true}
 use Rattle.mst_view.proofs.Spelled.{at_layer}
 use Rattle.mst_node.proofs.Steps.{at_none, at_hole, at_block, block_bad, block_unfit, block_fit}
-use Rattle.mst_view.proofs.Steps.{sound, nodes_under, above_zero, hang_of, at_pushed, entries_pushed, reads_on, fails_on, taken, link_of_parts, some_items, last_taken}
+use Rattle.mst_view.proofs.Steps.{sound, nodes_under, above_zero, hang_of, at_pushed, entries_pushed, reads_on, fails_on, taken, link_of_parts, some_items}
 use Rattle.mst_view.proofs.reading.+read.Goals as goal
 use Rattle.mst_node.specs.Reading.{node_of}
 use Rattle.mst_view.specs.Steps.{AllHang, link_at_fault, with_front}
@@ -33,33 +33,39 @@ read_below-returns-in_default-get-clause-gives t c =
     ap (part_at in_part node_of c.args.blocks.now c.args.layer low high) c.in-Some.is
     ∙ at_hole node_of c.args.blocks.now c.args.layer low high c.in-Some.link (above_zero c.args.layer c.args.link c.in-Some.link c.requires.lowest c.in-Some.is) (sym c.in_default-get.ensures.is)
 
-pub read_below-returns-in-Err-BadNode-clause-gives : goal.read_below-returns-in-Err-BadNode-clause-gives
-read_below-returns-in-Err-BadNode-clause-gives t c =
-    let low = option_map (λ k. k.now) c.args.low in let high = option_map (λ k. k.now) c.args.high in let h = c.args.layer in let B = c.args.blocks.now in let b = c.in-Some-get.block.now in
-    ap (part_at in_part node_of B h low high) c.in-Some.is
-    ∙ at_block in_part node_of B h low high c.in-Some.link b (above_zero h c.args.link c.in-Some.link c.requires.lowest c.in-Some.is) (sym c.in-Some-get.ensures.is)
-    ∙ block_bad (node_fits (h - 1) low high) (parts_of (part_at in_part node_of B (h - 1)) low high) c.in-Some.link (node_of b) (c.in-Err-BadNode.ensures.none c.in-Err-BadNode.field-0-is)
+pub read_below-read_tree-requires : goal.read_below-read_tree-requires
+read_below-read_tree-requires t c =
+    let K : Option (List ℕ) → Type 0 = λ x. IsChildLink x in (
+      omega arith,
+      (
+        subst K c.in-Some.is c.requires.kind,
+        (above_zero c.args.layer c.args.link c.in-Some.link c.requires.lowest c.in-Some.is, (c.in-Some-get.ensures.linked, sym c.in-Some-get.ensures.is)),
+      ),
+    )
 
-pub read_below-returns-then-not-node_fits-clause-gives : goal.read_below-returns-then-not-node_fits-clause-gives
-read_below-returns-then-not-node_fits-clause-gives t c =
-    let low = option_map (λ k. k.now) c.args.low in let high = option_map (λ k. k.now) c.args.high in let h = c.args.layer in let B = c.args.blocks.now in let b = c.in-Some-get.block.now in
-    ap (part_at in_part node_of B h low high) c.in-Some.is
-    ∙ at_block in_part node_of B h low high c.in-Some.link b (above_zero h c.args.link c.in-Some.link c.requires.lowest c.in-Some.is) (sym c.in-Some-get.ensures.is)
-    ∙ block_unfit (node_fits (h - 1) low high) (parts_of (part_at in_part node_of B (h - 1)) low high) c.in-Some.link (node_of b) c.in-Ok.node c.in-Ok.ensures.told (sym c.node_fits.ensures ∙ c.if-not-node_fits.true)
+pub read_tree-returns-in-Err-BadNode-clause-gives : goal.read_tree-returns-in-Err-BadNode-clause-gives
+read_tree-returns-in-Err-BadNode-clause-gives t c =
+    let low = option_map (λ k. k.now) c.args.low in let high = option_map (λ k. k.now) c.args.high in let h = c.args.layer in let B = c.args.blocks.now in let b = c.args.block.now in
+    at_block in_part node_of B h low high c.args.link b c.requires.above c.requires.there
+    ∙ block_bad (node_fits (h - 1) low high) (parts_of (part_at in_part node_of B (h - 1)) low high) c.args.link (node_of b) (c.in-Err-BadNode.ensures.none c.in-Err-BadNode.field-0-is)
 
-pub read_below-read_parts-requires : goal.read_below-read_parts-requires
-read_below-read_parts-requires t c =
-    let low = option_map (λ k. k.now) c.args.low in let high = option_map (λ k. k.now) c.args.high in let h = c.args.layer in let b = c.in-Some-get.block.now in
+pub read_tree-returns-then-not-node_fits-clause-gives : goal.read_tree-returns-then-not-node_fits-clause-gives
+read_tree-returns-then-not-node_fits-clause-gives t c =
+    let low = option_map (λ k. k.now) c.args.low in let high = option_map (λ k. k.now) c.args.high in let h = c.args.layer in let B = c.args.blocks.now in let b = c.args.block.now in
+    at_block in_part node_of B h low high c.args.link b c.requires.above c.requires.there
+    ∙ block_unfit (node_fits (h - 1) low high) (parts_of (part_at in_part node_of B (h - 1)) low high) c.args.link (node_of b) c.in-Ok.node c.in-Ok.ensures.told (sym c.node_fits.ensures ∙ c.if-not-node_fits.true)
+
+pub read_tree-read_parts-requires : goal.read_tree-read_parts-requires
+read_tree-read_parts-requires t c =
+    let low = option_map (λ k. k.now) c.args.low in let high = option_map (λ k. k.now) c.args.high in let h = c.args.layer in let b = c.args.block.now in
     let left = c.node.inside.left in let es = c.node.inside.entries in
     let node_is : (left, es) ≡ c.in-Ok.node = c.node.view_is in
     let reads : node_of b ≡ Some (left, es) = c.in-Ok.ensures.told ∙ ap Some (sym node_is) in
     let fits : node_fits (h - 1) low high (left, es) ≡ true = ap (node_fits (h - 1) low high) node_is ∙ sym c.node_fits.ensures ∙ c.if-not-node_fits.false in
-    let some = above_zero h c.args.link c.in-Some.link c.requires.lowest c.in-Some.is in
+    let some = c.requires.above in
     let g = sound.gives b (left, es) reads in
     let p = both_true (may_hang (h - 1) left && is_some_node (left, es)) (entries_fit (h - 1) low high es) fits in
-    let q = both_true (may_hang (h - 1) left) (is_some_node (left, es)) p.0 in
-    let K : Option (List ℕ) → Type 0 = λ x. IsChildLink x in
-    let kind : IsNodeLink c.in-Some.link = subst K c.in-Some.is c.requires.kind in (
+    let q = both_true (may_hang (h - 1) left) (is_some_node (left, es)) p.0 in (
       omega arith,
       (
         g.1,
@@ -67,37 +73,35 @@ read_below-read_parts-requires t c =
           hang_true (h - 1) left q.0,
           (
             hang_of (h - 1) low high es (fit_true (h - 1) low high es g.2 p.1),
-            nodes_under c.args.blocks.now c.in-Some-get.ensures.linked c.in-Some.link b kind (sym c.in-Some-get.ensures.is) ∙ ap cid g.0,
+            nodes_under c.args.blocks.now c.requires.linked c.args.link b c.requires.kind c.requires.there ∙ ap cid g.0,
           ),
         ),
       ),
     )
 
-pub read_below-returns-in_err-branch-clause-gives : goal.read_below-returns-in_err-branch-clause-gives
-read_below-returns-in_err-branch-clause-gives t c =
-    let low = option_map (λ k. k.now) c.args.low in let high = option_map (λ k. k.now) c.args.high in let h = c.args.layer in let B = c.args.blocks.now in let b = c.in-Some-get.block.now in
+pub read_tree-returns-in_err-branch-clause-gives : goal.read_tree-returns-in_err-branch-clause-gives
+read_tree-returns-in_err-branch-clause-gives t c =
+    let low = option_map (λ k. k.now) c.args.low in let high = option_map (λ k. k.now) c.args.high in let h = c.args.layer in let B = c.args.blocks.now in let b = c.args.block.now in
     let left = c.node.inside.left in let es = c.node.inside.entries in
     let node_is : (left, es) ≡ c.in-Ok.node = c.node.view_is in
     let reads : node_of b ≡ Some (left, es) = c.in-Ok.ensures.told ∙ ap Some (sym node_is) in
     let fits : node_fits (h - 1) low high (left, es) ≡ true = ap (node_fits (h - 1) low high) node_is ∙ sym c.node_fits.ensures ∙ c.if-not-node_fits.false in
-    let whole : part_at in_part node_of B h low high c.args.link ≡ parts_of (part_at in_part node_of B (h - 1)) low high (left, es) =
-    ap (part_at in_part node_of B h low high) c.in-Some.is
-    ∙ at_block in_part node_of B h low high c.in-Some.link b (above_zero h c.args.link c.in-Some.link c.requires.lowest c.in-Some.is) (sym c.in-Some-get.ensures.is)
-    ∙ block_fit (node_fits (h - 1) low high) (parts_of (part_at in_part node_of B (h - 1)) low high) c.in-Some.link (node_of b) (left, es) reads fits in
+    let whole : part_at in_part node_of B h low high (Some c.args.link) ≡ parts_of (part_at in_part node_of B (h - 1)) low high (left, es) =
+    at_block in_part node_of B h low high c.args.link b c.requires.above c.requires.there
+    ∙ block_fit (node_fits (h - 1) low high) (parts_of (part_at in_part node_of B (h - 1)) low high) c.args.link (node_of b) (left, es) reads fits in
     let p = err_from_is_err_and c.from_residual.result c.from_residual.ensures.1 in
-    rw (p.1, p.2) (fails_on (link_at_fault c.in_err-branch.field-0.0) (part_at in_part node_of B h low high c.args.link) (parts_of (part_at in_part node_of B (h - 1)) low high (left, es)) whole c.in_err-branch.ensures.gives)
+    rw (p.1, p.2) (fails_on (link_at_fault c.in_err-branch.field-0.0) (part_at in_part node_of B h low high (Some c.args.link)) (parts_of (part_at in_part node_of B (h - 1)) low high (left, es)) whole c.in_err-branch.ensures.gives)
 
-pub read_below-returns-clause-gives : goal.read_below-returns-clause-gives
-read_below-returns-clause-gives t c =
-    let low = option_map (λ k. k.now) c.args.low in let high = option_map (λ k. k.now) c.args.high in let h = c.args.layer in let B = c.args.blocks.now in let b = c.in-Some-get.block.now in
+pub read_tree-returns-clause-gives : goal.read_tree-returns-clause-gives
+read_tree-returns-clause-gives t c =
+    let low = option_map (λ k. k.now) c.args.low in let high = option_map (λ k. k.now) c.args.high in let h = c.args.layer in let B = c.args.blocks.now in let b = c.args.block.now in
     let left = c.node.inside.left in let es = c.node.inside.entries in
     let node_is : (left, es) ≡ c.in-Ok.node = c.node.view_is in
     let reads : node_of b ≡ Some (left, es) = c.in-Ok.ensures.told ∙ ap Some (sym node_is) in
     let fits : node_fits (h - 1) low high (left, es) ≡ true = ap (node_fits (h - 1) low high) node_is ∙ sym c.node_fits.ensures ∙ c.if-not-node_fits.false in
-    let whole : part_at in_part node_of B h low high c.args.link ≡ parts_of (part_at in_part node_of B (h - 1)) low high (left, es) =
-    ap (part_at in_part node_of B h low high) c.in-Some.is
-    ∙ at_block in_part node_of B h low high c.in-Some.link b (above_zero h c.args.link c.in-Some.link c.requires.lowest c.in-Some.is) (sym c.in-Some-get.ensures.is)
-    ∙ block_fit (node_fits (h - 1) low high) (parts_of (part_at in_part node_of B (h - 1)) low high) c.in-Some.link (node_of b) (left, es) reads fits in
+    let whole : part_at in_part node_of B h low high (Some c.args.link) ≡ parts_of (part_at in_part node_of B (h - 1)) low high (left, es) =
+    at_block in_part node_of B h low high c.args.link b c.requires.above c.requires.there
+    ∙ block_fit (node_fits (h - 1) low high) (parts_of (part_at in_part node_of B (h - 1)) low high) c.args.link (node_of b) (left, es) reads fits in
     whole ∙ c.in_ok-branch.ensures.gives ∙ ap (λ (v : Layered). Ok v.items) (sym c.in_ok-new.ensures.ok)
 
 pub read_parts-invariant_of-result : goal.read_parts-invariant_of-result
@@ -119,23 +123,20 @@ read_parts-returns-clause-at t c =
 pub read_rest-entries-preserved : goal.read_rest-entries-preserved
 read_rest-entries-preserved t c =
     let high = option_map (λ k. k.now) c.args.high in let h = c.args.layer in let B = c.args.blocks.now in
-    let last = c.in-Some.entry.now in let others = c.in-Some.others.now in
-    let e = c.unwrap-key.result in let left = c.pop.new.self.items in let more = reverse c.give_back.new.entries.items in let rest = c.entries.rest.items in
-    let gone : c.entries.left.items ≡ left ++ e ∷ [] = c.pop.ensures.items ∙ ap (λ o. left ++ option_to_list o) c.unwrap-key.ensures in
-    let one = last_taken c.entries.left.items others left last e (sym c.as_slice.ensures.value ∙ c.in-Some.ensures.cases.0) gone in
+    let e : Entry = c.in-Some.field-0 in let left = c.pop.new.self.items in let more = reverse c.give_back.new.entries.items in let rest = c.entries.rest.items in
+    let gone : c.entries.left.items ≡ left ++ e ∷ [] = c.pop.ensures.items ∙ ap (λ o. left ++ option_to_list o) c.in-Some.is in
     let here : reverse c.entries.left.items ≡ e ∷ more = taken c.entries.left.items left e gone ∙ ap (λ x. e ∷ reverse x) (sym c.give_back.ensures) in
     let below = c.in_ok-below.below in let p : Part = record { key = e.key; value = e.value; below = below } in
     let pushed : c.push.new.self.items ≡ rest ++ p ∷ [] = c.in_ok-push.ensures.items in
     let H : List Entry → Type 0 = λ x. AllHang h x in let hang = subst H here c.entries.invariant.hang in
     let A : List Part → Type 0 = λ x. AllAt h x in
-    let behind : reverse others ≡ more = one.1 ∙ ap reverse (sym c.give_back.ensures) in
+    let behind : reverse c.as_slice-in-Some.result.now ≡ more = ap reverse (c.as_slice-in-Some.ensures.value ∙ sym c.give_back.ensures) in
     let next : option_map (λ k. k.now) c.bound_before-high.result ≡ next_bound high more = c.bound_before-high.ensures ∙ ap (next_bound high) behind in
     let given : part_at in_part node_of B h (Some e.key) (next_bound high more) e.right ≡ Ok (below_items h below) =
-    ap (λ (x : Entry). part_at in_part node_of B h (Some x.key) (next_bound high more) x.right) one.0
-    ∙ ap (λ k. part_at in_part node_of B h (Some k) (next_bound high more) last.right) (sym c.as_slice-in-Some.ensures.value)
-    ∙ ap (λ x. part_at in_part node_of B h (Some c.as_slice-in-Some.result.now) x last.right) (sym next)
+    ap (λ k. part_at in_part node_of B h (Some k) (next_bound high more) e.right) (sym c.as_slice.ensures.value)
+    ∙ ap (λ x. part_at in_part node_of B h (Some c.as_slice.result.now) x e.right) (sym next)
     ∙ c.in_ok-below.ensures.gives in
-    let same : entry_of e.key e.value (below_link below) ≡ e = ap (λ r. entry_of e.key e.value r) (c.in_ok-below.ensures.keeps ∙ ap (λ (x : Entry). x.right) (sym one.0)) in
+    let same : entry_of e.key e.value (below_link below) ≡ e = ap (λ r. entry_of e.key e.value r) c.in_ok-below.ensures.keeps in
     record {
       at = subst A (sym pushed) (at_pushed h rest p c.entries.invariant.at hang.0.0 c.in_ok-below.ensures.lies);
       hang = hang.1;

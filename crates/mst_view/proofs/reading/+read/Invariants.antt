@@ -8,13 +8,16 @@ use Rattle.mst_node.specs.Reading.{node_of}
 use Rattle.mst_view.specs.Steps.{with_front, AllHang}
 
 abbrev pub decreases-read_below : goal.decreases-read_below
-decreases-read_below l = 3 * l.layer
+decreases-read_below l = 4 * l.layer + 1
+
+abbrev pub decreases-read_tree : goal.decreases-read_tree
+decreases-read_tree l = 4 * l.layer
 
 abbrev pub decreases-read_rest : goal.decreases-read_rest
-decreases-read_rest l = 3 * l.layer + 1
+decreases-read_rest l = 4 * l.layer + 2
 
 abbrev pub decreases-read_parts : goal.decreases-read_parts
-decreases-read_parts l = 3 * l.layer + 2
+decreases-read_parts l = 4 * l.layer + 3
 
 abbrev pub invariant-read_rest-entries : goal.invariant-read_rest-entries
 invariant-read_rest-entries l = record {
