@@ -1,16 +1,19 @@
 -- Entries that are put in order: each link keeps its first place.
-use Rattle.std.proofs.Common.{◌≡◌, ℕ, List, [], ◌∷◌, Bool, true, false, cond, Some, refl, sym, ap, ◌∙◌}
+use Rattle.std.proofs.Common.{arith, ◌≡◌, ℕ, List, [], ◌∷◌, ◌++◌, length, take, drop, take_all, append-nil, Bool, true, false, cond, Option, None, Some, refl, sym, ap, ◌∙◌, subst}
 use Rattle.std.specs.Prelude.{nat_eq, not, ◌&&◌}
 use Rattle.std.specs.Ordering.{is_lt, eq_by_cmp}
-use Rattle.std.specs.List.{filter, dedup, dedup_from}
+use Rattle.std.specs.List.{All, filter, dedup, dedup_from}
 use Rattle.std.specs.List.Sorted.{ties, IsStableBy, IsSorted}
 use Rattle.std.specs.Cmp.{IsTotalOrder, on_total}
 use Rattle.std.specs.Cmp.Lexicographic.{pointwise}
+use Rattle.std.proofs.lemmas.List.{drop_all}
+use Rattle.std.proofs.lemmas.List.Elements.{All-append, All-take, All-drop}
 use Rattle.std.proofs.lemmas.List.Kept.{IsStrictlySortedBy-dedup}
 use Rattle.at_cid.specs.Order.{key_cmp}
 use Rattle.at_cid.specs.OrderLaws.{key_total, key_ties}
 use Rattle.at_cid.proofs.Order.{cmp_same}
 use Rattle.at_car.specs.declared.entry.Entry.{Entry}
+use Rattle.at_car.specs.declared.place.Place.{Place}
 use Rattle.at_car.specs.Entries.{by_link, AreInOrder, place_of}
 use Rattle.at_car.proofs.Same.{same_link}
 
@@ -67,6 +70,49 @@ stable_places less never q xs ys h =
 
 pub sorted_places : (q : List ℕ) (xs ys : List Entry) → IsStableBy before xs ys → place_of q ys ≡ place_of q xs
 sorted_places = stable_places (λ a b. is_lt (key_cmp a b)) (λ l. ap is_lt (cmp_same l))
+
+-- ---- entries of which each half is put in order for itself
+
+first_of : Option Place → Option Place → Option Place
+first_of None other = other
+first_of (Some place) other = Some place
+
+joined_places : (q : List ℕ) (xs ys : List Entry) → place_of q (xs ++ ys) ≡ first_of (place_of q xs) (place_of q ys)
+unfolding first_of
+joined_places q [] ys = refl
+joined_places q (x ∷ xs) ys =
+    elim (eq_by_cmp key_cmp q x.link) as (λ t. cond t (Some x.place) (place_of q (xs ++ ys)) ≡ first_of (cond t (Some x.place) (place_of q xs)) (place_of q ys)) [
+      | true ↦ refl
+      | false ↦ joined_places q xs ys
+    ]
+
+pub halves_places : (q : List ℕ) (entries xs ys xs2 ys2 : List Entry) → entries ≡ xs ++ ys → place_of q xs2 ≡ place_of q xs → place_of q ys2 ≡ place_of q ys → place_of q (xs2 ++ ys2) ≡ place_of q entries
+halves_places q entries xs ys xs2 ys2 split front back =
+    joined_places q xs2 ys2
+    ∙ ap (λ o. first_of o (place_of q ys2)) front
+    ∙ ap (first_of (place_of q xs)) back
+    ∙ sym (joined_places q xs ys)
+    ∙ ap (place_of q) (sym split)
+
+pub halves_all : (P : Entry → Type 0) (half : ℕ) (entries xs ys xs2 ys2 : List Entry) → xs ≡ take half entries → ys ≡ drop half entries → (All P xs → All P xs2) → (All P ys → All P ys2) → All P entries → All P (xs2 ++ ys2)
+halves_all P half entries xs ys xs2 ys2 is_front is_back front back h =
+    All-append P xs2 ys2
+    (front (subst (λ (l : List Entry). All P l) (sym is_front) (All-take P half entries h)))
+    (back (subst (λ (l : List Entry). All P l) (sym is_back) (All-drop P half entries h)))
+
+-- ---- a vector of which the slice was put in order
+
+module _ (items slice new : List Entry) (len : ℕ) (is : slice ≡ items) (has : length slice ≡ len) (as_long : length new ≡ length slice) where
+  left_is : take len (new ++ drop (length new) items) ≡ new
+  left_is =
+      let long : length items ≡ len = ap length (sym is) ∙ has in
+      ap (λ l. take len (new ++ l)) (drop_all (length new) items (omega arith)) ∙ ap (take len) (append-nil new) ∙ take_all len new (omega arith)
+
+  pub slice_places : (q : List ℕ) → place_of q new ≡ place_of q slice → place_of q (take len (new ++ drop (length new) items)) ≡ place_of q items
+  slice_places q same_place = ap (place_of q) left_is ∙ same_place ∙ ap (place_of q) is
+
+  pub slice_all : (P : Entry → Type 0) → (All P slice → All P new) → All P items → All P (take len (new ++ drop (length new) items))
+  slice_all P keeps h = subst (λ (l : List Entry). All P l) (sym left_is) (keeps (subst (λ (l : List Entry). All P l) (sym is) h))
 
 -- ---- in order
 

@@ -73,6 +73,7 @@ impl Blocks {
     }
 
     /// The block under a link.
+    #[inline]
     pub fn get(&self, cid: &Cid) -> Option<&[u8]>
         ensures is { option_map (λ block. block.now) result ≡ map.get self.now cid.now }
         ensures bytes { IfSome result (λ block. IsBytes block.now) }

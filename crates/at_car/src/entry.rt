@@ -15,6 +15,7 @@ ghost use Rattle.at_car.specs.Logs.{IsTold};
 use crate::links::first_word;
 use crate::place::Place;
 use at_cid::{Cid, Memory};
+use std::alloc::Global;
 use std::cmp::Ordering;
 
 /// A link, and where the block under it lies in a buffer. Entries compare by their links alone.
@@ -65,6 +66,7 @@ impl Ord for Entry {
 
     ghost matches_eq = { λ a b. key_ties a.link b.link };
 
+    #[inline]
     fn cmp(&self, other: &Entry) -> Ordering {
         self.link.cmp(&other.link)
     }
@@ -76,15 +78,14 @@ const MANY: usize = 1_024;
 /// The words of so many entries take too much memory.
 const TOO_MANY: usize = 65_536;
 
-/// Puts many entries in order of the first words of their links. Those of one word keep their order.
-fn bring_near(entries: &mut Vec<Entry>) -> Result<(), Memory>
-    ensures places { (link : List ℕ) → place_of link entries.new.items ≡ place_of link entries.old.items }
-    ensures told { (buffer : List ℕ) → All (IsTold buffer) entries.old.items → All (IsTold buffer) entries.new.items }
+/// Puts entries in order of the first words of their links. Those of one word keep their order.
+fn bring_near(alloc: Global, entries: &mut [Entry]) -> Result<(), Memory>
+    ensures places { (link : List ℕ) → place_of link entries.new ≡ place_of link entries.old }
+    ensures len { length entries.new ≡ length entries.old }
+    ensures told { (buffer : List ℕ) → All (IsTold buffer) entries.old → All (IsTold buffer) entries.new }
 {
-    if !(MANY..TOO_MANY).contains(&entries.len()) {
-        return Ok(());
-    }
     entries.sort_by_cached_key(
+        alloc,
         |entry: &Entry| -> u64
             ensures { result ≡ first_word entry.now.link }
         { first_word(&entry.link) },
@@ -92,13 +93,28 @@ fn bring_near(entries: &mut Vec<Entry>) -> Result<(), Memory>
     Ok(())
 }
 
+/// Puts each half of many entries in order of the first words of their links: for half of them that takes half the memory.
+fn bring_halves_near(alloc: Global, entries: &mut [Entry]) -> Result<(), Memory>
+    ensures places { (link : List ℕ) → place_of link entries.new ≡ place_of link entries.old }
+    ensures len { length entries.new ≡ length entries.old }
+    ensures told { (buffer : List ℕ) → All (IsTold buffer) entries.old → All (IsTold buffer) entries.new }
+{
+    if !(MANY..TOO_MANY).contains(&entries.len()) {
+        return Ok(());
+    }
+    let half = entries.len() / 2;
+    let (front, back) = entries.split_at_mut(half);
+    bring_near(alloc, front)?;
+    bring_near(alloc, back)
+}
+
 /// Puts entries in ascending order of their links. A link that stands twice keeps its first place.
-pub(crate) fn settle(entries: &mut Vec<Entry>) -> Result<(), Memory>
+pub(crate) fn settle(alloc: Global, entries: &mut Vec<Entry>) -> Result<(), Memory>
     ensures places { (link : List ℕ) → place_of link entries.new.items ≡ place_of link entries.old.items }
     ensures order { OnOk result (AreInOrder entries.new.items) }
     ensures told { (buffer : List ℕ) → All (IsTold buffer) entries.old.items → All (IsTold buffer) entries.new.items }
 {
-    bring_near(entries)?;
+    bring_halves_near(alloc, entries.as_mut_slice())?;
     // Few links begin alike, and few are of the other kind.
     entries.sort()?;
     entries.dedup();
@@ -106,6 +122,7 @@ pub(crate) fn settle(entries: &mut Vec<Entry>) -> Result<(), Memory>
 }
 
 /// Where the entry of a link stands, or else where it belongs.
+#[inline]
 pub(crate) fn seek(entries: &[Entry], link: &Cid) -> Result<usize, usize>
     requires { AreInOrder entries.now }
     ensures range { IsSearchInRange result (length entries.now) }
@@ -118,6 +135,7 @@ pub(crate) fn seek(entries: &[Entry], link: &Cid) -> Result<usize, usize>
 }
 
 /// The place of a link.
+#[inline]
 pub(crate) fn find(entries: &[Entry], link: &Cid) -> Option<Place>
     requires { AreInOrder entries.now }
     ensures { result ≡ place_of link.now entries.now }

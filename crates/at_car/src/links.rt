@@ -54,6 +54,7 @@ impl Links {
 
 /// The first eight bytes of a link's digest as a number, the highest first.
 #[tactic(auto, unfolding(crate::specs::Links::first_word))]
+#[inline]
 pub fn first_word(link: &Cid) -> u64
     ensures { result ≡ first_word link.now }
 {

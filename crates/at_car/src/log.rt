@@ -172,10 +172,10 @@ impl Log {
     }
 
     /// Puts the entries in order, each link once.
-    fn order(&mut self) -> Result<(), Memory>
+    fn order(&mut self, alloc: Global) -> Result<(), Memory>
         ensures { (link : List ℕ) → finite.find key_cmp link self.new ≡ finite.find key_cmp link self.old }
     {
-        settle(&mut self.entries)?;
+        settle(alloc, &mut self.entries)?;
         self.most_entries = doubled(self.entries.len(), FEW_ENTRIES);
         Ok(())
     }
@@ -206,7 +206,7 @@ impl Log {
         if all < self.most_entries && !is_full {
             return Ok(());
         }
-        self.order()?;
+        self.order(alloc)?;
         if !is_full {
             return Ok(());
         }
@@ -228,7 +228,7 @@ impl Log {
             most_entries: _,
             most_bytes: _,
         } = self;
-        settle(&mut entries)?;
+        settle(alloc, &mut entries)?;
         let links = let_go_links(alloc, entries.as_slice())?;
         keep_held(&mut entries);
         Ok((Blocks::of(buffer, entries), Links::of(links)))

@@ -14,6 +14,7 @@ pub(crate) struct Place {
 }
 
 /// The bytes at a place.
+#[inline]
 pub(crate) fn bytes_at<'a>(buffer: &'a [u8], place: &Place) -> &'a [u8]
     requires { place.now.start + place.now.len ≤ length buffer.now }
     ensures is { result.now ≡ bytes_at buffer.now place.now }
