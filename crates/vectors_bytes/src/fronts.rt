@@ -3,8 +3,8 @@
 use crate::spelled::spelled;
 use anyhow::{Result, bail};
 use at_cbor::{
-    Major, Value, decode_whole, front_len, string_len, take_bytes, take_child, take_item,
-    take_link, take_list_front, take_number,
+    Major, Value, decode_whole, front_len, string_len, take_behind, take_bytes, take_child,
+    take_item, take_link, take_list_front, take_number,
 };
 use std::alloc::Global;
 use vector_lines::{Answer, Subject, bytes, had, number, parted, said};
@@ -34,6 +34,7 @@ fn found(alloc: Global, word: &str, given: &[u8]) -> Result<Option<String>> {
         "text" => numbered(alloc, take_number(Major::Text, given)),
         "list" => numbered(alloc, take_list_front(given)),
         "bytes" => byte_string(alloc, take_bytes(given)),
+        "entry" => entry(alloc, take_behind(&[0xa4, 0x61, b'k'], given)),
         "link" => link(alloc, given),
         "child" => child(alloc, given),
         "item" => item(alloc, had(take_item(alloc, given))?),
@@ -66,6 +67,14 @@ fn numbered(alloc: Global, taken: Option<(u64, &[u8])>) -> Result<Option<String>
 fn byte_string(alloc: Global, taken: Option<(&[u8], &[u8])>) -> Result<Option<String>> {
     match taken {
         Some((piece, rest)) => behind(Answer::new(alloc).bytes(piece), rest),
+        None => Ok(None),
+    }
+}
+
+// The front of an entry of a node: a map of four fields, whose first key is `k`.
+fn entry(alloc: Global, taken: Option<&[u8]>) -> Result<Option<String>> {
+    match taken {
+        Some(rest) => behind(Answer::new(alloc).words("entry"), rest),
         None => Ok(None),
     }
 }

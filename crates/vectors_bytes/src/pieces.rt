@@ -19,6 +19,7 @@ impl Subject for Pieces {
             "field" => field_of(alloc, rest),
             "map" => map_again(alloc, rest),
             "list" => list_again(alloc, rest),
+            "replace" => replaced(alloc, rest),
             _ => in_digits(alloc, &piece(alloc, word, rest)?),
         }
     }
@@ -86,6 +87,23 @@ fn map_again(alloc: Global, input: &str) -> Result<String> {
 fn fields_again(alloc: Global, input: &str) -> Result<Fields> {
     let map = item(alloc, input)?;
     copied_fields(alloc, map.as_map().context("a map")?)
+}
+
+// The item that a map has under a key, or that there is none, and its spelling when null stands there.
+fn replaced(alloc: Global, input: &str) -> Result<String> {
+    let (name, map) = parted(input, " ")?;
+    let mut made = fields_again(alloc, map)?;
+    let taken = made.replace(name, Value::Null);
+    let answer = answered(alloc, &taken)?;
+    with_spelled(alloc, answer, &Value::Map(made))
+}
+
+fn answered(alloc: Global, value: &Option<Value>) -> Result<Answer> {
+    let answer = Answer::new(alloc);
+    match value {
+        Some(value) => Ok(answer.words(spelled(alloc, value)?.as_str())),
+        None => Ok(answer.words("none")),
+    }
 }
 
 fn told(alloc: Global, fields: &Fields) -> Result<Answer> {
