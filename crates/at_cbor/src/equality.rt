@@ -38,7 +38,7 @@ fn equal_value(left: &Value, right: &Value) -> bool
             _ => false,
         },
         Value::Text(text) => match right {
-            Value::Text(other) => text.as_str() == other.as_str(),
+            Value::Text(other) => text.as_bytes() == other.as_bytes(),
             _ => false,
         },
         Value::List(values) => match right {
@@ -86,7 +86,7 @@ fn equal_fields(left: &[(Words, Value)], right: &[(Words, Value)]) -> bool
     'fields: for place in 0..left.len() {
         let (key, value) = &left[place];
         let (other_key, other) = &right[place];
-        if key.as_str() != other_key.as_str() || !equal_value(value, other) {
+        if key.as_bytes() != other_key.as_bytes() || !equal_value(value, other) {
             return false;
         }
     }

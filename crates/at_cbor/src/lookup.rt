@@ -25,7 +25,7 @@ fn place_of(fields: &[(Words, Value)], name: &str) -> Option<usize>
     ensures inside { IfSome result (λ place. place < length fields.now) }
 {
     for (place, (key, _)) in fields.iter().enumerate() {
-        if key.as_str() == name {
+        if key.as_bytes() == name.as_bytes() {
             return Some(place);
         }
     }

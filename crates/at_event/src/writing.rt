@@ -63,11 +63,12 @@ fn write_field(
     ensures err { OnErr result (take (length out.old) out.new ≡ out.old) }
 {
     write_text(out, key.as_str())?;
-    if key.as_str() == "seq" {
+    let name = key.as_bytes();
+    if name == "seq".as_bytes() {
         return write_number(out, seq);
     }
     match body.blocks() {
-        Some(blocks) if key.as_str() == "blocks" => write_bytes(out, blocks.as_slice()),
+        Some(blocks) if name == "blocks".as_bytes() => write_bytes(out, blocks.as_slice()),
         _ => write_value(out, value),
     }
 }
@@ -139,7 +140,7 @@ fn field_len(key: &Words, value: &Value, body: &Body) -> u64
     ensures { result ≡ min (length (fields_spelling (fields_with_blocks (blocks_of body.now) (field key.now (item_of value.now) no_fields)))) (2 ^ 64 - 1) }
 {
     let value = match body.blocks() {
-        Some(blocks) if key.as_str() == "blocks" => string_len(blocks.len()),
+        Some(blocks) if key.as_bytes() == "blocks".as_bytes() => string_len(blocks.len()),
         _ => spelled_len(value),
     };
     string_len(key.len()).saturating_add(value)
