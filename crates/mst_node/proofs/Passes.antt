@@ -1,19 +1,18 @@
 -- What the tests of a node say.
-use Rattle.std.proofs.Common.{◌≡◌, ℕ, zero, suc, eqb, cond, Bool, true, false, ◌&&◌, List, [], ◌∷◌, refl, sym, ap, Less, Equal, Greater, Option, Some, None, Result, Ok, Err, ◌⊎◌, inl, inr, arith}
+use Rattle.std.proofs.Common.{◌≡◌, ℕ, zero, suc, eqb, cond, Bool, true, false, ◌&&◌, List, [], ◌∷◌, refl, sym, ap, Option, Some, None, Result, Ok, Err, ◌⊎◌, inl, inr, arith}
 use Rattle.mst_list.specs.declared.item.Item.{Item}
 use Rattle.mst_list.specs.declared.item.Item.TheVariants.{Hole}
 use Rattle.at_cid.specs.Order.{key_cmp}
 use Rattle.mst_list.specs.Height.{height}
-use Rattle.mst_list.specs.Edits.{by_order}
 use Rattle.mst_node.specs.declared.entry.Entry.{Entry}
 use Rattle.mst_node.specs.Nodes.{Node, AreFormedEntries, EntriesAscend}
 use Rattle.mst_node.specs.NodeFaults.{AreEntriesAt}
-use Rattle.mst_node.specs.Covers.{IsOver, IsUnder}
+use Rattle.mst_node.specs.Covers.{IsUnder}
 use Rattle.mst_node.specs.Reading.{is_over}
 use Rattle.mst_node.proofs.Layers.{eqb_yes, eqb_same, eqb_not}
 use Rattle.mst_node.proofs.Told.{both_true, less_of, over_true, true_over}
 use Rattle.mst_node.specs.FirstFault.{Extent, in_part, in_whole, IsMissing}
-use Rattle.mst_node.specs.Fits.{is_less, is_under, may_hang, entries_fit}
+use Rattle.mst_node.specs.Fits.{is_under, may_hang, entries_fit}
 use Rattle.mst_node.specs.TreeReading.{go_on, block_of, or_missing}
 use Rattle.std.specs.FinMap as map
 use Rattle.std.specs.FinMap.{FinMap}

@@ -15,7 +15,7 @@ use Rattle.at_cbor.proofs.Taken.{bind_some, held, behind_takes, number_takes, nu
 use Rattle.mst_node.specs.NodeBytes.{shared, entry_item, entry_items, node_bytes}
 use Rattle.mst_node.specs.Nodes.{Node, IsChildLink, AreFormedEntries, EntriesAscend, IsNode, Spells}
 use Rattle.mst_node.specs.declared.fault.NodeFault.{NodeFault}
-use Rattle.mst_node.specs.Taking.{IsTaken, Parts, parts_of, parts_at, may_follow, entry_made, entry_at, entries_at, front_at, end_at, node_at}
+use Rattle.mst_node.specs.Taking.{IsTaken, Parts, parts_of, key_at, right_at, value_at, parts_at, may_follow, entry_made, entry_at, entries_at, front_at, end_at, node_at}
 use Rattle.mst_node.proofs.Spelling.{entry_of, key_back, shared_at_most, end_bytes, node_parts}
 use Rattle.mst_node.proofs.Writes.{entries_counted}
 use Rattle.mst_node.proofs.Readers.{entries_count}
@@ -35,29 +35,49 @@ record TakesParts (bytes : List ℕ) (x : Parts × List ℕ) : Type 0 where
   pub right : IsChildLink x.0.right
   pub value : IsLink x.0.value
 
-parts_take : (bytes : List ℕ) (x : Parts × List ℕ) → IsBytes bytes → parts_at bytes ≡ Some x → TakesParts bytes x
-unfolding parts_at
-parts_take bytes x fits e =
+-- the bytes of what is said of a key, with what stands behind it
+abbrev key_before_rest : List ℕ → ℕ → List ℕ → List ℕ
+key_before_rest tail count rest = 0xa4 ∷ 0x61 ∷ 0x6b ∷ (spelling (Item.bytes tail) ++ (0x61 ∷ 0x70 ∷ (front_of Major.Unsigned count ++ rest)))
+
+record TakesKey (bytes : List ℕ) (x : (List ℕ × ℕ) × List ℕ) : Type 0 where
+  pub parts : bytes ≡ key_before_rest x.0.0 x.0.1 x.1
+  pub rest_fits : IsBytes x.1
+  pub tail : IsBytes x.0.0
+
+key_take : (bytes : List ℕ) (x : (List ℕ × ℕ) × List ℕ) → IsBytes bytes → key_at bytes ≡ Some x → TakesKey bytes x
+unfolding key_at
+key_take bytes x fits e =
     let a = bind_some (behind (0xa4 ∷ 0x61 ∷ 0x6b ∷ []) bytes) _ x e in let ta = behind_takes _ bytes a.0 fits a.1 in
     let k = bind_some (string_at a.0) _ x a.2 in let tk = string_takes a.0 k.0 ta.rest_fits k.1 in
     let b = bind_some (behind (0x61 ∷ 0x70 ∷ []) k.0.1) _ x k.2 in let tb = behind_takes _ k.0.1 b.0 tk.0.rest_fits b.1 in
     let p = bind_some (number_at Major.Unsigned b.0) _ x b.2 in let tp = number_takes Major.Unsigned b.0 p.0 tb.rest_fits p.1 in
-    let c = bind_some (behind (0x61 ∷ 0x74 ∷ []) p.0.1) _ x p.2 in let tc = behind_takes _ p.0.1 c.0 tp.0.rest_fits c.1 in
-    let t = bind_some (child_at c.0) _ x c.2 in let tt = child_takes c.0 t.0 tc.rest_fits t.1 in
-    let d = bind_some (behind (0x61 ∷ 0x76 ∷ []) t.0.1) _ x t.2 in let td = behind_takes _ t.0.1 d.0 tt.0.rest_fits d.1 in
-    let v = bind_some (link_from_front d.0) _ x d.2 in let tv = link_takes d.0 v.0 td.rest_fits v.1 in
-    subst (TakesParts bytes) (same_Some (parts_of k.0.0 p.0.0 t.0.0 v.0.0, v.0.1) x v.2) (record {
-      parts = ta.parts ∙ ap (λ (l : List ℕ). 0xa4 ∷ 0x61 ∷ 0x6b ∷ l) (tk.0.parts ∙ ap (λ (l : List ℕ). spelling (Item.bytes k.0.0) ++ l) (tb.parts ∙ ap (λ (l : List ℕ). 0x61 ∷ 0x70 ∷ l)
-          (tp.0.parts ∙ ap (λ (l : List ℕ). front_of Major.Unsigned p.0.0 ++ l) (tc.parts ∙ ap (λ (l : List ℕ). 0x61 ∷ 0x74 ∷ l)
-          (tt.0.parts ∙ ap (λ (l : List ℕ). spelling (link_item t.0.0) ++ l) (td.parts ∙ ap (λ (l : List ℕ). 0x61 ∷ 0x76 ∷ l) tv.0.parts))))));
-      rest_fits = tv.0.rest_fits;
+    subst (TakesKey bytes) (same_Some ((k.0.0, p.0.0), p.0.1) x p.2) (record {
+      parts = ta.parts ∙ ap (λ (l : List ℕ). 0xa4 ∷ 0x61 ∷ 0x6b ∷ l) (tk.0.parts ∙ ap (λ (l : List ℕ). spelling (Item.bytes k.0.0) ++ l) (tb.parts ∙ ap (λ (l : List ℕ). 0x61 ∷ 0x70 ∷ l) tp.0.parts));
+      rest_fits = tp.0.rest_fits;
       tail = tk.1;
+    })
+
+parts_take : (bytes : List ℕ) (x : Parts × List ℕ) → IsBytes bytes → parts_at bytes ≡ Some x → TakesParts bytes x
+unfolding parts_at
+parts_take bytes x fits e =
+    let k = bind_some (key_at bytes) _ x e in let tk = key_take bytes k.0 fits k.1 in
+    let t = bind_some (right_at k.0.1) _ x k.2 in
+    let c = bind_some (behind (0x61 ∷ 0x74 ∷ []) k.0.1) child_at t.0 t.1 in let tc = behind_takes _ k.0.1 c.0 tk.rest_fits c.1 in
+    let tt = child_takes c.0 t.0 tc.rest_fits c.2 in
+    let v = bind_some (value_at t.0.1) _ x t.2 in
+    let d = bind_some (behind (0x61 ∷ 0x76 ∷ []) t.0.1) link_from_front v.0 v.1 in let td = behind_takes _ t.0.1 d.0 tt.0.rest_fits d.1 in
+    let tv = link_takes d.0 v.0 td.rest_fits d.2 in
+    subst (TakesParts bytes) (same_Some (parts_of k.0.0.0 k.0.0.1 t.0.0 v.0.0, v.0.1) x v.2) (record {
+      parts = tk.parts ∙ ap (key_before_rest k.0.0.0 k.0.0.1) (tc.parts ∙ ap (λ (l : List ℕ). 0x61 ∷ 0x74 ∷ l)
+          (tt.0.parts ∙ ap (λ (l : List ℕ). spelling (link_item t.0.0) ++ l) (td.parts ∙ ap (λ (l : List ℕ). 0x61 ∷ 0x76 ∷ l) tv.0.parts)));
+      rest_fits = tv.0.rest_fits;
+      tail = tk.tail;
       right = tt.1;
       value = tv.1;
     })
 
 parts_again : (p : Parts) (rest : List ℕ) → length p.tail < 2 ^ 64 → p.count < 2 ^ 64 → IsChildLink p.right → is_link p.value ≡ true → parts_at (parts_before p rest) ≡ Some (p, rest)
-unfolding parts_at behind
+unfolding parts_at key_at behind
 parts_again p rest short low right value =
     let d : List ℕ = link_spelling p.value ++ rest in
     let c : List ℕ = spelling (link_item p.right) ++ (0x61 ∷ 0x76 ∷ (link_spelling p.value ++ rest)) in

@@ -19,21 +19,29 @@ pub record Parts : Type 0 where
 abbrev pub parts_of : List ℕ → ℕ → Option (List ℕ) → List ℕ → Parts
 parts_of tail count right value = record { tail = tail; count = count; right = right; value = value }
 
+-- what of an entry's key isn't shared, and how much is
+unfoldable pub key_at : List ℕ → Taking (List ℕ × ℕ)
+key_at bytes = do
+  a ← behind (0xa4 ∷ 0x61 ∷ 0x6b ∷ []) bytes
+  k ← string_at a
+  b ← behind (0x61 ∷ 0x70 ∷ []) k.1
+  p ← number_at Major.Unsigned b
+  Some ((k.0, p.0), p.1)
+
+-- the link to the right of an entry
+abbrev pub right_at : List ℕ → Taking (Option (List ℕ))
+right_at bytes = behind (0x61 ∷ 0x74 ∷ []) bytes >>= child_at
+
 -- the value of an entry, its last field
 abbrev pub value_at : List ℕ → Taking (List ℕ)
 value_at bytes = behind (0x61 ∷ 0x76 ∷ []) bytes >>= link_from_front
 
 unfoldable pub parts_at : List ℕ → Taking Parts
 parts_at bytes = do
-  a ← behind (0xa4 ∷ 0x61 ∷ 0x6b ∷ []) bytes
-  k ← string_at a
-  b ← behind (0x61 ∷ 0x70 ∷ []) k.1
-  p ← number_at Major.Unsigned b
-  c ← behind (0x61 ∷ 0x74 ∷ []) p.1
-  t ← child_at c
-  d ← behind (0x61 ∷ 0x76 ∷ []) t.1
-  v ← link_from_front d
-  Some (parts_of k.0 p.0 t.0 v.0, v.1)
+  k ← key_at bytes
+  t ← right_at k.1
+  v ← value_at t.1
+  Some (parts_of k.0.0 k.0.1 t.0 v.0, v.1)
 
 -- a key goes on where the other ends, or its first byte that isn't shared is greater
 abbrev pub goes_above : List ℕ → List ℕ → Bool

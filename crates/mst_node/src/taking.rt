@@ -2,7 +2,7 @@
 
 ghost use Rattle.std.specs.Prelude.{◌≡◌, ◌≤◌, ◌∷◌, ◌++◌, [], Some, length, take, option_map, IfOk};
 ghost use Rattle.mst_node.specs.Reading.{key_before};
-ghost use Rattle.mst_node.specs.Taking.{IsTaken, parts_of, value_at, parts_at, goes_above, may_follow, next_at, entries_at, front_at, end_at, node_at};
+ghost use Rattle.mst_node.specs.Taking.{IsTaken, key_at, right_at, value_at, goes_above, may_follow, next_at, entries_at, front_at, end_at, node_at};
 
 use crate::entries::Entries;
 use crate::entry::Entry;
@@ -28,19 +28,11 @@ fn take_value(bytes: &[u8]) -> Option<(Cid, &[u8])>
     Some((link, rest.split_at(LINK_LEN).1))
 }
 
-/// What an entry's block says: what of its key isn't shared with the key before, how much is, and its links.
-#[derive(Drop)]
-struct Parts<'a> {
-    tail: &'a [u8],
-    count: usize,
-    right: Option<Cid>,
-    value: Cid,
-}
-
-/// The parts of the entry at the front.
-#[tactic(auto, using(crate::proofs::Pointers::then_none, crate::proofs::Pointers::then_some), unfolding(crate::specs::Taking::parts_at))]
-fn take_parts(bytes: &[u8]) -> Option<(Parts, &[u8])>
-    ensures { option_map (λ x. (parts_of x.0.tail.now x.0.count x.0.right x.0.value, x.1.now)) result ≡ parts_at bytes.now }
+/// What of an entry's key isn't shared with the key before, how much is, and the bytes behind.
+#[tactic(auto, unfolding(crate::specs::Taking::key_at))]
+#[inline(always)]
+fn take_key(bytes: &[u8]) -> Option<(&[u8], usize, &[u8])>
+    ensures { option_map (λ x. ((x.0.now, x.1), x.2.now)) result ≡ key_at bytes.now }
 {
     let Some(rest) = take_behind(&[0xa4, 0x61, b'k'], bytes) else {
         return None;
@@ -54,22 +46,18 @@ fn take_parts(bytes: &[u8]) -> Option<(Parts, &[u8])>
     let Some((count, rest)) = take_number(Major::Unsigned, rest) else {
         return None;
     };
-    let Some(rest) = take_behind(&[0x61, b't'], rest) else {
+    Some((tail, count as usize, rest))
+}
+
+/// The link to the right of an entry.
+#[inline(always)]
+fn take_right(bytes: &[u8]) -> Option<(Option<Cid>, &[u8])>
+    ensures { option_map (λ x. (x.0, x.1.now)) result ≡ right_at bytes.now }
+{
+    let Some(rest) = take_behind(&[0x61, b't'], bytes) else {
         return None;
     };
-    let Some((right, rest)) = take_child(rest) else {
-        return None;
-    };
-    let Some((value, rest)) = take_value(rest) else {
-        return None;
-    };
-    let parts = Parts {
-        tail,
-        count: count as usize,
-        right,
-        value,
-    };
-    Some((parts, rest))
+    take_child(rest)
 }
 
 /// Whether a key goes on where another ends, or its first byte that isn't shared is greater.
@@ -114,7 +102,7 @@ pub(crate) fn last_key(entries: &[Entry]) -> &[u8]
 }
 
 /// Adds the entry at the front, behind the key of the last one.
-#[tactic(auto, unfolding(crate::specs::Taking::entry_at))]
+#[tactic(auto, unfolding(crate::specs::Taking::entry_at, crate::specs::Taking::parts_at))]
 fn push_entry<'a>(
     alloc: Global,
     entries: &mut Entries,
@@ -122,19 +110,21 @@ fn push_entry<'a>(
 ) -> Result<&'a [u8], NodeFault>
     ensures { IsTaken (λ rest. (entries.new, rest.now)) result (next_at entries.old bytes.now) }
 {
-    let Some((parts, rest)) = take_parts(bytes) else {
+    let Some((tail, count, rest)) = take_key(bytes) else {
+        return Err(NodeFault::BadNode);
+    };
+    let Some((right, rest)) = take_right(rest) else {
+        return Err(NodeFault::BadNode);
+    };
+    let Some((value, rest)) = take_value(rest) else {
         return Err(NodeFault::BadNode);
     };
     let last = last_key(entries.as_slice());
-    if !may_follow(last, parts.count, parts.tail) {
+    if !may_follow(last, count, tail) {
         return Err(NodeFault::BadNode);
     }
-    let key = key_of(alloc, last, parts.count, parts.tail)?;
-    entries.push(Entry {
-        key,
-        value: parts.value,
-        right: parts.right,
-    })?;
+    let key = key_of(alloc, last, count, tail)?;
+    entries.push(Entry { key, value, right })?;
     Ok(rest)
 }
 
