@@ -1,17 +1,55 @@
--- A node's block that is spelled behind other bytes.
-use Rattle.std.proofs.Common.{◌≡◌, ℕ, List, [], ◌∷◌, ◌++◌, length, drop, refl, ap, ◌∙◌, Option, append_assoc}
+-- A node's block that is spelled behind other bytes, and hashed in pieces.
+use Rattle.std.proofs.Common.{◌≡◌, ℕ, suc, ◌<◌, List, [], ◌∷◌, ◌++◌, length, drop, get_or, refl, sym, ap, subst, ◌∙◌, Option, append_assoc, append-nil, drop-cons}
+use Rattle.sha2.specs.declared.Sha256.{Sha256}
+use Rattle.sha2.specs.Hashers.{Holds256}
+use Rattle.at_cbor.specs.Spelling.{spelling}
 use Rattle.mst_node.specs.declared.entry.Entry.{Entry}
-use Rattle.mst_node.specs.NodeBytes.{node_bytes, node_front, node_end, entries_spelling}
-use Rattle.mst_node.proofs.Writes.{node_written}
+use Rattle.mst_node.specs.NodeBytes.{node_bytes, node_front, node_end, entry_item, entries_spelling}
+use Rattle.mst_node.proofs.Writes.{node_in_pieces}
+use Rattle.mst_view.specs.Layered.{below_link, entries_of}
+use Rattle.mst_view.specs.Pieces.{IsInPieces}
+use Rattle.mst_view.specs.declared.branch.Part.{Part}
+use Rattle.mst_view.proofs.Pieces.{spelled_behind}
 
-front_gone : {X : Type 0} (xs ys : List X) → drop (length xs) (xs ++ ys) ≡ ys
-front_gone [] ys = refl
-front_gone (x ∷ xs) ys = front_gone xs ys
+-- what is spelled so far, in pieces, and the rest make it all
+pub record IsSpelledOn (before : List ℕ) (hash : Sha256) (room rest all : List ℕ) : Type 0 where
+  pub bytes : List ℕ
+  pub pieces : IsInPieces before hash room bytes
+  pub whole : bytes ++ rest ≡ all
 
-pub behind_room : (left : Option (List ℕ)) (es : List Entry) (room o1 o2 new : List ℕ) (start : ℕ) → start ≡ length room → o1 ≡ room ++ node_front (length es) → o2 ≡ o1 ++ entries_spelling [] es → new ≡ o2 ++ node_end left → drop start new ≡ node_bytes left es
-behind_room left es room o1 o2 new start at e1 e2 e3 =
-    let f = node_front (length es) in let e = entries_spelling [] es in let end = node_end left in
-    let whole : new ≡ room ++ ((f ++ e) ++ end) =
-    e3 ∙ ap (λ (z : List ℕ). z ++ end) (e2 ∙ ap (λ (z : List ℕ). z ++ e) e1 ∙ append_assoc room f e) ∙ append_assoc room (f ++ e) end in
-    ap (λ n. drop n new) at ∙ ap (drop (length room)) whole ∙ front_gone room ((f ++ e) ++ end)
-    ∙ node_written left es [] f (f ++ e) ((f ++ e) ++ end) refl refl refl refl
+-- the hasher has nothing, and the front of the block lies in the room
+pub spelling_begun : {before : List ℕ} {hash : Sha256} (room front rest : List ℕ) → Holds256 hash [] → room ≡ before ++ front → IsSpelledOn before hash room rest (front ++ rest)
+spelling_begun room front rest holds lies = record {
+  bytes = front;
+  pieces = record { given = []; lying = front; holds = holds; lies = lies; whole = refl };
+  whole = refl;
+}
+
+-- one step: some more is spelled, and a piece may be given to the hasher
+pub spelled_on : {before : List ℕ} {hash : Sha256} {room all : List ℕ} (more rest : List ℕ) (next : Sha256) (new cut : List ℕ) → new ≡ room ++ more
+    → ((bytes : List ℕ) → IsInPieces before hash new bytes → IsInPieces before next cut bytes)
+    → IsSpelledOn before hash room (more ++ rest) all → IsSpelledOn before next cut rest all
+spelled_on more rest next new cut is gives s = record {
+  bytes = s.bytes ++ more;
+  pieces = gives (s.bytes ++ more) (spelled_behind new more is s.pieces);
+  whole = append_assoc s.bytes more rest ∙ s.whole;
+}
+
+-- behind all entries and the end of the block, it is all of the block
+pub spelling_ended : {before : List ℕ} {hash : Sha256} {room : List ℕ} (left : Option (List ℕ)) (es : List Entry) (new : List ℕ) → new ≡ room ++ node_end left
+    → IsSpelledOn before hash room [] (node_front (length es) ++ entries_spelling [] es) → IsInPieces before hash new (node_bytes left es)
+spelling_ended {before = before} {hash = hash} left es new is s =
+    let all : s.bytes ++ node_end left ≡ node_bytes left es =
+    ap (λ (b : List ℕ). b ++ node_end left) (sym (append-nil s.bytes) ∙ s.whole)
+    ∙ append_assoc (node_front (length es)) (entries_spelling [] es) (node_end left) ∙ node_in_pieces left es in
+    subst (IsInPieces before hash new) all (spelled_behind new (node_end left) is s.pieces)
+
+-- the entry of a part that stands next, and those behind it
+pub next_entry : (last : List ℕ) (parts : List Part) (i : ℕ) (p : Part) → i < length parts → p ≡ get_or parts i p
+    → entries_spelling last (entries_of (drop i parts)) ≡ spelling (entry_item last (record { key = p.key; value = p.value; right = below_link p.below })) ++ entries_spelling p.key (entries_of (drop (suc i) parts))
+next_entry last parts i p low at =
+    ap (λ (x : List Part). entries_spelling last (entries_of x)) (drop-cons parts i p low ∙ ap (λ (x : Part). x ∷ drop (suc i) parts) (sym at))
+
+pub entries_counted : (parts : List Part) → length (entries_of parts) ≡ length parts
+entries_counted [] = refl
+entries_counted (p ∷ parts) = ap suc (entries_counted parts)

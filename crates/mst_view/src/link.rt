@@ -4,58 +4,47 @@ ghost use Rattle.std.specs.Prelude.{◌≡◌, IfOk, OnOk};
 ghost use Rattle.at_cid.specs.Link.{cid};
 ghost use Rattle.mst_node.specs.Trees.{spell};
 
-use crate::branch::{Below, Branch, Part};
-use at_cid::{Cid, Memory, Octets, cid_of};
-use mst_node::{EntryRef, shared, write_end, write_entry, write_front};
+use crate::branch::{Below, Branch};
+use crate::hashing::{PIECE, hand_over, hand_over_piece, hashed_link};
+use at_cid::{Cid, Memory, Octets};
+use mst_list::MOST_KEY_BYTES;
+use mst_node::{EntryRef, write_end, write_entry, write_front};
+use sha2::{Digest, Sha256};
 use std::alloc::Global;
 
-/// The most bytes of a node's block beside its entries: a map with two names, the head of a list, and a link.
-const MOST_BARE_BYTES: usize = 55;
-/// The most bytes of an entry beside its key and the link to its right: a map with four names, the head of a key, a number
-/// and a link.
-const MOST_ENTRY_BYTES: usize = 56;
-/// The bytes of a link to the right.
-const LINK_BYTES: usize = 41;
+/// The most bytes of an entry beside its key: a map with four names, the head of a key, a number and two links.
+const MOST_ENTRY_BYTES: usize = 97;
+/// Room for what may lie there before it is hashed, and an entry more.
+const MOST_ROOM: usize = PIECE + MOST_KEY_BYTES + MOST_ENTRY_BYTES;
+/// The least number of keys that aren't few.
+const MANY_KEYS: usize = 16;
+/// Room for ordinary nodes of few keys that are spelled one behind the other.
+const ORDINARY_ROOM: usize = 1 << 12;
 
-/// How many bytes the keys of a node share, which are in order: those that the first and the last do. Takes no memory.
-fn shared_by_all(parts: &[Part]) -> usize {
-    match parts {
-        [first, .., last] => shared(first.key.as_slice(), last.key.as_slice()),
-        _ => 0,
+/// Room for the blocks of a node with so many keys and of the nodes below it. Takes no memory.
+fn room_for(count: usize) -> usize {
+    if count < MANY_KEYS {
+        ORDINARY_ROOM
+    } else {
+        MOST_ROOM
     }
-}
-
-fn room_below(below: &Below) -> usize {
-    match below {
-        Below::Empty => 1,
-        Below::Hole(_) | Below::Tree(_) => LINK_BYTES,
-    }
-}
-
-/// Room for the block of a node with these keys. Takes no memory.
-fn room_for(parts: &[Part]) -> usize {
-    let same = shared_by_all(parts);
-    let mut room = MOST_BARE_BYTES.saturating_add(same);
-    for part in parts {
-        room = room
-            .saturating_add(part.key.len().saturating_sub(same))
-            .saturating_add(MOST_ENTRY_BYTES)
-            .saturating_add(room_below(&part.below));
-    }
-    room
 }
 
 impl Branch {
-    /// The link of the node's block. Only nodes whose link isn't known are spelled, their keys lent, all in one room.
+    /// The link of the node's block. Only nodes whose link isn't known are spelled, their keys lent, all in one room, and
+    /// long blocks are hashed in pieces.
     pub fn link_of(&self, alloc: Global) -> Result<Cid, Memory>
         ensures { IfOk result (λ link. link ≡ cid (spell self.now.layer self.now.items)) }
     {
-        let mut room = Octets::from_vec(Vec::with_capacity(alloc, room_for(self.rest.as_slice()))?);
+        if let Some(link) = self.link {
+            return Ok(link);
+        }
+        let mut room = Octets::from_vec(Vec::with_capacity(alloc, room_for(self.rest.len()))?);
         self.link_behind(&mut room)
     }
 
     // The same. What is spelled lies behind what the room holds, and is cut off again: so the blocks of the nodes below are
-    // spelled behind the part of this node's block that is there.
+    // spelled behind the part of this node's block that is there. Mostly that is the whole block, which is hashed at once.
     fn link_behind(&self, room: &mut Octets) -> Result<Cid, Memory>
         ensures link { IfOk result (λ link. link ≡ cid (spell self.now.layer self.now.items)) }
         ensures room { OnOk result (room.new ≡ room.old) }
@@ -69,6 +58,7 @@ impl Branch {
             Below::Hole(link) => Some(*link),
             Below::Tree(child) => Some(child.link_behind(room)?),
         };
+        let mut hash = Sha256::new();
         let parts = self.rest.as_slice();
         write_front(room, parts.len())?;
         let mut last: &[u8] = &[];
@@ -84,11 +74,11 @@ impl Branch {
                 right,
             };
             write_entry(room, last, &entry)?;
+            hand_over_piece(room, start, &mut hash);
             last = part.key.as_slice();
         }
         write_end(room, &left)?;
-        let link = cid_of(room.as_slice().split_at(start).1);
-        room.truncate(start);
-        Ok(link)
+        hand_over(room, start, &mut hash);
+        Ok(hashed_link(hash))
     }
 }
