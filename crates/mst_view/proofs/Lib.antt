@@ -1,3 +1,4 @@
+pub mod AtHand
 pub mod Doubled
 pub mod TreeAt
 pub mod Spelled
@@ -9,4 +10,6 @@ pub mod Forms
 pub mod NoView
 pub mod Sizes
 mod FirstWords
+pub mod Pieces
 pub mod Behind
+pub mod TakenOver

@@ -1,4 +1,5 @@
 pub mod Value
+pub mod AtHand
 pub mod Layered
 pub mod Falls
 pub mod HoleLinks
@@ -6,3 +7,4 @@ pub mod Steps
 pub mod StubTree
 pub mod ViewFault
 pub mod Laws
+pub mod Pieces

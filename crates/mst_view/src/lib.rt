@@ -2,9 +2,11 @@
 //! taken apart and put together, and their links.
 #![tactic(auto)]
 
+mod at_hand;
 mod beginning;
 mod branch;
 mod copying;
+mod hashing;
 mod holes;
 mod laws;
 mod link;

@@ -1,6 +1,6 @@
 //! Reading trees from blocks.
 
-ghost use Rattle.std.specs.Prelude.{◌≡◌, ◌<◌, IfOk, Some, None, true, option_map, reverse};
+ghost use Rattle.std.specs.Prelude.{◌≡◌, ◌<◌, IfOk, OnOk, Some, None, true, option_map, reverse, vec_len};
 ghost use Rattle.std.specs.FinMap as map;
 ghost use Rattle.at_cid.specs.Link.{IsNodeLink, cid};
 ghost use Rattle.at_cid.specs.Memory.{Gives};
@@ -14,11 +14,11 @@ ghost use Rattle.mst_view.specs.Layered.{LiesBelow, IsAtLayer, AllAt, below_item
 ghost use Rattle.mst_node.specs.FirstFault.{in_part};
 ghost use Rattle.mst_node.specs.Fits.{is_some_node};
 ghost use Rattle.mst_node.specs.TreeReading.{parts_of, part_at, rights_of};
-ghost use Rattle.mst_view.specs.Steps.{AllHang, link_at_fault};
+ghost use Rattle.mst_view.specs.Steps.{AllHang, TakesOver, link_at_fault};
 ghost use Rattle.mst_view.specs.declared.reading.ReadFault.{ReadFault};
 
+use crate::at_hand::AtHand;
 use crate::branch::{Below, Branch, Part, Rest};
-use at_car::Blocks;
 use at_cid::{Cid, Memory};
 use mst_node::{Entries, Entry, Node, NodeFault, next_key, node_fits, read_node};
 use std::alloc::{AllocError, AllocFailed, Global};
@@ -60,32 +60,32 @@ impl<T: Drop> From<AllocFailed<T>> for ReadFault {
 #[inline]
 fn read_below(
     alloc: Global,
-    blocks: &Blocks,
+    blocks: &AtHand,
     layer: u8,
     low: Option<&[u8]>,
     high: Option<&[u8]>,
-    link: Option<Cid>,
+    link: &Option<Cid>,
 ) -> Result<Below, ReadFault>
-    requires kind { IsChildLink link }
-    requires lowest { layer ≡ 0 → link ≡ None }
-    ensures gives { Gives (below_items layer) link_at_fault result (part_at in_part node_of blocks.now layer (option_map (λ k. k.now) low.entry) (option_map (λ k. k.now) high.entry) link) }
+    requires kind { IsChildLink link.now }
+    requires lowest { layer ≡ 0 → link.now ≡ None }
+    ensures gives { Gives (below_items layer) link_at_fault result (part_at in_part node_of blocks.now layer (option_map (λ k. k.now) low.entry) (option_map (λ k. k.now) high.entry) link.now) }
     ensures lies { IfOk result (LiesBelow layer) }
-    ensures keeps { IfOk result (λ below. below_link below ≡ link) }
+    ensures keeps { IfOk result (λ below. below_link below ≡ link.now) }
 {
     let Some(link) = link else {
         return Ok(Below::Empty);
     };
-    let Some(block) = blocks.get(&link) else {
-        return Ok(Below::Hole(link));
-    };
-    read_tree(alloc, blocks, layer, low, high, link, block)
+    match blocks.get(link) {
+        Some(block) => read_tree(alloc, blocks, layer, low, high, *link, block),
+        None => Ok(Below::Hole(*link)),
+    }
 }
 
 /// The subtree that hangs below a layer, between two keys, from the block under its link on.
 #[cycle(read)]
 fn read_tree(
     alloc: Global,
-    blocks: &Blocks,
+    blocks: &AtHand,
     layer: u8,
     low: Option<&[u8]>,
     high: Option<&[u8]>,
@@ -134,16 +134,28 @@ const MANY_ENTRIES: usize = 1_024;
 fn give_back(entries: &mut Vec<Entry>)
     ensures { entries.new.items ≡ entries.old.items }
 {
-    if entries.capacity().saturating_sub(entries.len()) >= MANY_ENTRIES {
+    if entries.len() % MANY_ENTRIES == 0 {
         entries.shrink_to_fit();
     }
+}
+
+/// Makes the last of some entries the last of some parts, with what lies to its right.
+fn take_over(below: Below, left: &mut Vec<Entry>, rest: &mut Rest) -> Result<(), Memory>
+    requires { 0 < vec_len left.old }
+    ensures { OnOk result (TakesOver below left.old.items left.new.items rest.old.items rest.new.items) }
+{
+    if let Some(Entry { key, value, .. }) = left.pop() {
+        rest.push(Part { key, value, below })?;
+    }
+    give_back(left);
+    Ok(())
 }
 
 /// The entries of a node at a layer with what hangs to their right, up to a key. Their keys are taken over.
 #[cycle(read)]
 fn read_rest(
     alloc: Global,
-    blocks: &Blocks,
+    blocks: &AtHand,
     layer: u8,
     high: Option<&[u8]>,
     entries: Entries,
@@ -157,21 +169,29 @@ fn read_rest(
     let mut left = entries.into_vec();
     // The first is taken from the end, so that the room of those that were taken can be given back.
     left.reverse();
-    'entries: while let Some(Entry { key, value, right }) = left.pop() {
-        let low = Some(key.as_slice());
-        let high = bound_before(high, left.as_slice());
-        let below = read_below(alloc, blocks, layer, low, high, right)?;
-        rest.push(Part { key, value, below })?;
-        give_back(&mut left);
+    'entries: while let [others @ .., entry] = left.as_slice() {
+        let Some(link) = &entry.right else {
+            take_over(Below::Empty, &mut left, &mut rest)?;
+            continue;
+        };
+        let Some(block) = blocks.get(link) else {
+            take_over(Below::Hole(*link), &mut left, &mut rest)?;
+            continue;
+        };
+        let low = Some(entry.key.as_slice());
+        let high = bound_before(high, others);
+        let below = read_tree(alloc, blocks, layer, low, high, *link, block)?;
+        take_over(below, &mut left, &mut rest)?;
     }
     Ok(rest)
 }
 
 /// The node at a layer, between two keys, that the block under a link spells.
 #[cycle(read)]
+#[inline(always)]
 pub(crate) fn read_parts(
     alloc: Global,
-    blocks: &Blocks,
+    blocks: &AtHand,
     layer: u8,
     low: Option<&[u8]>,
     high: Option<&[u8]>,
@@ -189,7 +209,7 @@ pub(crate) fn read_parts(
     ensures at { is_some_node (left, entries) ≡ true → IfOk result IsAtLayer }
 {
     let inner_high = next_key(high, entries.as_slice());
-    let first = read_below(alloc, blocks, layer, low, inner_high, left)?;
+    let first = read_below(alloc, blocks, layer, low, inner_high, &left)?;
     let rest = read_rest(alloc, blocks, layer, high, entries)?;
     Ok(Branch {
         layer,

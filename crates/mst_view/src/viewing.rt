@@ -3,11 +3,13 @@
 ghost use Rattle.std.specs.Prelude.{◌≡◌, ℕ, List, IfOk, IfErr, Some, true};
 ghost use Rattle.std.specs.FinMap as map;
 ghost use Rattle.at_cid.specs.Link.{IsNodeLink};
+ghost use Rattle.at_car.specs.Blocks.{AreLinked};
 ghost use Rattle.mst_node.specs.Trees.{IsView};
 ghost use Rattle.mst_node.specs.Reading.{node_of};
 ghost use Rattle.mst_node.specs.Fits.{layer_of_node, top_fits};
 ghost use Rattle.mst_view.specs.ViewFault.{IsViewFault, HasNoView, fault_of};
 
+use crate::at_hand::AtHand;
 use crate::holes::holes_differ;
 use crate::reading::{ReadFault, read_parts};
 use crate::stub_tree::StubTree;
@@ -44,11 +46,12 @@ fn fault_of(fault: ReadFault) -> ViewFault
 /// The tree under a top node that may stand there.
 fn view_node(
     alloc: Global,
-    blocks: &Blocks,
+    blocks: &AtHand,
     root: Cid,
     layer: u8,
     node: Node,
 ) -> Result<StubTree, ViewFault>
+    requires linked { AreLinked blocks.now }
     requires kind { IsNodeLink root }
     requires layer { layer ≡ layer_of_node node }
     requires fits { top_fits node ≡ true }
@@ -56,7 +59,6 @@ fn view_node(
     ensures view { IfOk result (λ tree. IsView blocks.now root tree) }
     ensures fault { IfErr result (λ fault. IsViewFault blocks.now root fault) }
 {
-    blocks.tell_linked();
     let Node { left, entries } = node;
     if entries.is_empty() {
         return Ok(StubTree::from_top(None));
@@ -72,7 +74,7 @@ fn view_node(
     }
 }
 
-fn view_at(alloc: Global, blocks: &Blocks, root: Cid) -> Result<StubTree, ViewFault>
+fn view_at(alloc: Global, blocks: &AtHand, root: Cid) -> Result<StubTree, ViewFault>
     requires { IsNodeLink root }
     ensures view { IfOk result (λ tree. IsView blocks.now root tree) }
     ensures fault { IfErr result (λ fault. IsViewFault blocks.now root fault) }
@@ -103,5 +105,5 @@ pub fn view(alloc: Global, blocks: &Blocks, root: &Cid) -> Result<StubTree, View
     ensures fault { IfErr result (λ fault. IsViewFault blocks.now root.now fault) }
     ensures none { IfErr result (λ fault. HasNoView blocks.now root.now fault) }
 {
-    view_at(alloc, blocks, *root)
+    view_at(alloc, &AtHand::of(blocks), *root)
 }

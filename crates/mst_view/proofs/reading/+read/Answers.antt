@@ -1,4 +1,4 @@
-use Rattle.std.proofs.Common.{◌≡◌, ℕ, ◌-◌, List, [], ◌∷◌, ◌++◌, true, ◌&&◌, refl, sym, ap, ◌∙◌, subst, Option, Some, Ok, arith}
+use Rattle.std.proofs.Common.{◌≡◌, ℕ, ◌-◌, ◌<◌, List, [], ◌∷◌, ◌++◌, length, take, vec_len, true, ◌&&◌, refl, sym, ap, ◌∙◌, subst, Option, Some, Ok, arith}
 use Rattle.std.specs.Prelude.{option_map, reverse}
 use Rattle.std.specs.Option.{option_to_list}
 use Rattle.std.proofs.lemmas.Result.{err_from_is_err_and}
@@ -18,6 +18,8 @@ use Rattle.mst_node.proofs.Passes.{hang_true, fit_true}
 use Rattle.mst_view.proofs.Spelled.{at_layer}
 use Rattle.mst_node.proofs.Steps.{at_none, at_hole, at_block, block_bad, block_unfit, block_fit}
 use Rattle.mst_view.proofs.Steps.{sound, nodes_under, above_zero, hang_of, at_pushed, entries_pushed, reads_on, fails_on, taken, link_of_parts, some_items}
+use Rattle.mst_view.proofs.TakenOver.{IsLast, others, last_hangs, taken_on}
+use Rattle.mst_view.specs.declared.branch.Below.{Below}
 use Rattle.mst_view.proofs.reading.+read.Goals as goal
 use Rattle.mst_node.specs.Reading.{node_of}
 use Rattle.mst_view.specs.Steps.{AllHang, link_at_fault, with_front}
@@ -27,11 +29,11 @@ read_below-returns-in_default-clause-gives t c =
     let low = option_map (λ k. k.now) c.args.low in let high = option_map (λ k. k.now) c.args.high in
     ap (part_at in_part node_of c.args.blocks.now c.args.layer low high) c.in_default.is ∙ at_none in_part node_of c.args.blocks.now c.args.layer low high
 
-pub read_below-returns-in_default-get-clause-gives : goal.read_below-returns-in_default-get-clause-gives
-read_below-returns-in_default-get-clause-gives t c =
-    let low = option_map (λ k. k.now) c.args.low in let high = option_map (λ k. k.now) c.args.high in
+pub read_below-returns-in-None-clause-gives : goal.read_below-returns-in-None-clause-gives
+read_below-returns-in-None-clause-gives t c =
+    let low = option_map (λ k. k.now) c.args.low in let high = option_map (λ k. k.now) c.args.high in let link = c.in-Some.link in
     ap (part_at in_part node_of c.args.blocks.now c.args.layer low high) c.in-Some.is
-    ∙ at_hole node_of c.args.blocks.now c.args.layer low high c.in-Some.link (above_zero c.args.layer c.args.link c.in-Some.link c.requires.lowest c.in-Some.is) (sym c.in_default-get.ensures.is)
+    ∙ at_hole node_of c.args.blocks.now c.args.layer low high link (above_zero c.args.layer c.args.link.now link c.requires.lowest c.in-Some.is) (sym c.in-None.ensures.is)
 
 pub read_below-read_tree-requires : goal.read_below-read_tree-requires
 read_below-read_tree-requires t c =
@@ -39,7 +41,7 @@ read_below-read_tree-requires t c =
       omega arith,
       (
         subst K c.in-Some.is c.requires.kind,
-        (above_zero c.args.layer c.args.link c.in-Some.link c.requires.lowest c.in-Some.is, (c.in-Some-get.ensures.linked, sym c.in-Some-get.ensures.is)),
+        (above_zero c.args.layer c.args.link.now c.in-Some.link c.requires.lowest c.in-Some.is, (c.in-Some-get.ensures.linked, sym c.in-Some-get.ensures.is)),
       ),
     )
 
@@ -120,29 +122,33 @@ pub read_parts-returns-clause-at : goal.read_parts-returns-clause-at
 read_parts-returns-clause-at t c =
     λ some. at_layer c.args.layer c.in_ok-first.first c.in_ok-rest.rest.items c.in_ok-first.ensures.lies c.in_ok-rest.ensures.at (some_items c.args.layer c.in_ok-first.first c.in_ok-rest.rest.items c.args.left c.args.entries c.in_ok-first.ensures.lies c.in_ok-first.ensures.keeps c.in_ok-rest.ensures.keeps some)
 
+pub read_rest-entries-preserved-in_default-right : goal.read_rest-entries-preserved-in_default-right
+read_rest-entries-preserved-in_default-right t c =
+    let h = c.args.layer in let high = option_map (λ k. k.now) c.args.high in let below = part_at in_part node_of c.args.blocks.now h in
+    let left = c.entries.left.items in let less = c.take_over.new.left.items in let e = c.entry-item.result in
+    let last : IsLast e left = subst (IsLast e) c.as_slice.ensures.value (record { some = omega arith; last = c.entry-item.is }) in
+    let next = next_bound high (reverse (others left)) in
+    let gives = ap (below (Some e.key) next) c.in_default-right.is ∙ at_none in_part node_of c.args.blocks.now h (Some e.key) next in
+    taken_on below h high c.entries.rest.items c.take_over.new.rest.items left less c.args.entries e Below.Empty last c.in_ok-take_over.ensures tt (sym c.in_default-right.is) gives c.entries.invariant
+
+pub read_rest-entries-preserved-in_default-get : goal.read_rest-entries-preserved-in_default-get
+read_rest-entries-preserved-in_default-get t c =
+    let h = c.args.layer in let high = option_map (λ k. k.now) c.args.high in let B = c.args.blocks.now in let below = part_at in_part node_of B h in
+    let left = c.entries.left.items in let less = c.take_over-in_default-get.new.left.items in let e = c.entry-item.result in let link = c.in-Some.link in
+    let last : IsLast e left = subst (IsLast e) c.as_slice.ensures.value (record { some = omega arith; last = c.entry-item.is }) in
+    let next = next_bound high (reverse (others left)) in
+    let above = above_zero h e.right link (last_hangs h left e last c.entries.invariant.hang).2 c.in-Some.is in
+    let gives = ap (below (Some e.key) next) c.in-Some.is ∙ at_hole node_of B h (Some e.key) next link above (sym c.in_default-get.ensures.is) in
+    taken_on below h high c.entries.rest.items c.take_over-in_default-get.new.rest.items left less c.args.entries e (Below.Hole link) last c.in_ok-take_over-2.ensures above (sym c.in-Some.is) gives c.entries.invariant
+
 pub read_rest-entries-preserved : goal.read_rest-entries-preserved
 read_rest-entries-preserved t c =
-    let high = option_map (λ k. k.now) c.args.high in let h = c.args.layer in let B = c.args.blocks.now in
-    let e : Entry = c.in-Some.field-0 in let left = c.pop.new.self.items in let more = reverse c.give_back.new.entries.items in let rest = c.entries.rest.items in
-    let gone : c.entries.left.items ≡ left ++ e ∷ [] = c.pop.ensures.items ∙ ap (λ o. left ++ option_to_list o) c.in-Some.is in
-    let here : reverse c.entries.left.items ≡ e ∷ more = taken c.entries.left.items left e gone ∙ ap (λ x. e ∷ reverse x) (sym c.give_back.ensures) in
-    let below = c.in_ok-below.below in let p : Part = record { key = e.key; value = e.value; below = below } in
-    let pushed : c.push.new.self.items ≡ rest ++ p ∷ [] = c.in_ok-push.ensures.items in
-    let H : List Entry → Type 0 = λ x. AllHang h x in let hang = subst H here c.entries.invariant.hang in
-    let A : List Part → Type 0 = λ x. AllAt h x in
-    let behind : reverse c.as_slice-in-Some.result.now ≡ more = ap reverse (c.as_slice-in-Some.ensures.value ∙ sym c.give_back.ensures) in
-    let next : option_map (λ k. k.now) c.bound_before-high.result ≡ next_bound high more = c.bound_before-high.ensures ∙ ap (next_bound high) behind in
-    let given : part_at in_part node_of B h (Some e.key) (next_bound high more) e.right ≡ Ok (below_items h below) =
-    ap (λ k. part_at in_part node_of B h (Some k) (next_bound high more) e.right) (sym c.as_slice.ensures.value)
-    ∙ ap (λ x. part_at in_part node_of B h (Some c.as_slice.result.now) x e.right) (sym next)
+    let h = c.args.layer in let high = option_map (λ k. k.now) c.args.high in let below = part_at in_part node_of c.args.blocks.now h in
+    let left = c.entries.left.items in let less = c.take_over-in-len1-up.new.left.items in let e = c.entry-item.result in let link = c.in-Some.link in
+    let last : IsLast e left = subst (IsLast e) c.as_slice.ensures.value (record { some = omega arith; last = c.entry-item.is }) in
+    let next : option_map (λ k. k.now) c.bound_before-high.result ≡ next_bound high (reverse (others left)) = c.bound_before-high.ensures ∙ ap (λ x. next_bound high (reverse (others x))) c.as_slice.ensures.value in
+    let gives = ap (below (Some e.key) (next_bound high (reverse (others left)))) c.in-Some.is
+    ∙ ap (λ k. below (Some k) (next_bound high (reverse (others left))) (Some link)) (sym c.as_slice-in-len1-up.ensures.value)
+    ∙ ap (λ x. below (Some c.as_slice-in-len1-up.result.now) x (Some link)) (sym next)
     ∙ c.in_ok-below.ensures.gives in
-    let same : entry_of e.key e.value (below_link below) ≡ e = ap (λ r. entry_of e.key e.value r) c.in_ok-below.ensures.keeps in
-    record {
-      at = subst A (sym pushed) (at_pushed h rest p c.entries.invariant.at hang.0.0 c.in_ok-below.ensures.lies);
-      hang = hang.1;
-      keeps = ap (λ x. entries_of x ++ more) pushed ∙ entries_pushed rest p more ∙ ap (λ x. entries_of rest ++ (x ∷ more)) same ∙ ap (λ x. entries_of rest ++ x) (sym here) ∙ c.entries.invariant.keeps;
-      reads = ap (λ x. with_front (rest_items h x) (rights_of (part_at in_part node_of B h) high more)) pushed
-          ∙ reads_on (part_at in_part node_of B h) h high rest p e more refl refl given
-          ∙ ap (λ x. with_front (rest_items h rest) (rights_of (part_at in_part node_of B h) high x)) (sym here)
-          ∙ c.entries.invariant.reads;
-    }
+    taken_on below h high c.entries.rest.items c.take_over-in-len1-up.new.rest.items left less c.args.entries e c.in_ok-below.below last c.in_ok-take_over-3.ensures c.in_ok-below.ensures.lies (c.in_ok-below.ensures.keeps ∙ sym c.in-Some.is) gives c.entries.invariant

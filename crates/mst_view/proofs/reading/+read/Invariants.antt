@@ -5,7 +5,7 @@ use Rattle.mst_node.specs.TreeReading.{part_at, rights_of}
 use Rattle.mst_view.specs.Layered.{AllAt, rest_items, entries_of}
 use Rattle.mst_view.proofs.reading.+read.Given as goal
 use Rattle.mst_node.specs.Reading.{node_of}
-use Rattle.mst_view.specs.Steps.{with_front, AllHang}
+use Rattle.mst_view.proofs.TakenOver.{AreTaken}
 
 abbrev pub decreases-read_below : goal.decreases-read_below
 decreases-read_below l = 4 * l.layer + 1
@@ -20,12 +20,7 @@ abbrev pub decreases-read_parts : goal.decreases-read_parts
 decreases-read_parts l = 4 * l.layer + 3
 
 abbrev pub invariant-read_rest-entries : goal.invariant-read_rest-entries
-invariant-read_rest-entries l = record {
-  at : AllAt l.layer l.rest.items;
-  hang : AllHang l.layer (reverse l.left.items);
-  keeps : entries_of l.rest.items ++ reverse l.left.items ≡ l.fn.entries;
-  reads : with_front (rest_items l.layer l.rest.items) (rights_of (part_at in_part node_of l.blocks l.layer) (option_map (λ k. k.now) l.high) (reverse l.left.items)) ≡ rights_of (part_at in_part node_of l.blocks l.layer) (option_map (λ k. k.now) l.high) l.fn.entries;
-}
+invariant-read_rest-entries l = AreTaken (part_at in_part node_of l.blocks l.layer) l.layer (option_map (λ k. k.now) l.high) l.rest.items l.left.items l.fn.entries
 
 abbrev pub decreases-read_rest-entries : goal.decreases-read_rest-entries
 decreases-read_rest-entries l = length l.left.items

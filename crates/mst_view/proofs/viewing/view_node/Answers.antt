@@ -24,7 +24,7 @@ nil_of (x ∷ xs) e = absurd (omega arith)
 pub returns-then-is_empty-clause-view : goal.returns-then-is_empty-clause-view
 returns-then-is_empty-clause-view c =
     let B = c.args.blocks.now in let r = c.args.root in let left = c.node.inside.left in let es = c.node.inside.entries in let there = c.requires.there in
-    let under = nodes_under B c.tell_linked.ensures in let node_is : (left, es) ≡ c.args.node = c.node.view_is in
+    let under = nodes_under B c.requires.linked in let node_is : (left, es) ≡ c.args.node = c.node.view_is in
     let V : List Item → Type 0 = λ x. IsView B r x in
     subst V (sym c.from_top.ensures) (tree_given node_of sound B under r there.0 [] c.requires.kind there.1
     (empty_tree node_of sound B under r there.0 left es (there.2 ∙ ap Some (sym node_is)) (ap top_fits node_is ∙ c.requires.fits) (nil_of es (grind (arith, nat_tests, c.is_empty.ensures, c.if-is_empty.true)))))
@@ -33,34 +33,34 @@ pub read_parts-requires-clause-kind : goal.read_parts-requires-clause-kind
 read_parts-requires-clause-kind c =
     let B = c.args.blocks.now in let left = c.node.inside.left in let es = c.node.inside.entries in let there = c.requires.there in
     let node_is : (left, es) ≡ c.args.node = c.node.view_is in
-    (top_known node_of sound B (nodes_under B c.tell_linked.ensures) there.0 left es (there.2 ∙ ap Some (sym node_is)) (ap top_fits node_is ∙ c.requires.fits)).kind
+    (top_known node_of sound B (nodes_under B c.requires.linked) there.0 left es (there.2 ∙ ap Some (sym node_is)) (ap top_fits node_is ∙ c.requires.fits)).kind
 
 pub read_parts-requires-clause-lowest : goal.read_parts-requires-clause-lowest
 read_parts-requires-clause-lowest c =
     let B = c.args.blocks.now in let left = c.node.inside.left in let es = c.node.inside.entries in let there = c.requires.there in
     let node_is : (left, es) ≡ c.args.node = c.node.view_is in
-    let k = top_known node_of sound B (nodes_under B c.tell_linked.ensures) there.0 left es (there.2 ∙ ap Some (sym node_is)) (ap top_fits node_is ∙ c.requires.fits) in
+    let k = top_known node_of sound B (nodes_under B c.requires.linked) there.0 left es (there.2 ∙ ap Some (sym node_is)) (ap top_fits node_is ∙ c.requires.fits) in
     λ e. k.lowest (ap layer_of_node node_is ∙ sym c.requires.layer ∙ e)
 
 pub read_parts-requires-clause-hang : goal.read_parts-requires-clause-hang
 read_parts-requires-clause-hang c =
     let B = c.args.blocks.now in let left = c.node.inside.left in let es = c.node.inside.entries in let there = c.requires.there in
     let node_is : (left, es) ≡ c.args.node = c.node.view_is in
-    let k = top_known node_of sound B (nodes_under B c.tell_linked.ensures) there.0 left es (there.2 ∙ ap Some (sym node_is)) (ap top_fits node_is ∙ c.requires.fits) in
+    let k = top_known node_of sound B (nodes_under B c.requires.linked) there.0 left es (there.2 ∙ ap Some (sym node_is)) (ap top_fits node_is ∙ c.requires.fits) in
     let layer : c.args.layer ≡ layer_of es = c.requires.layer ∙ ap layer_of_node (sym node_is) in
     rw layer (hang_of (layer_of es) None None es k.entries)
 
 pub read_parts-requires-clause-link_is : goal.read_parts-requires-clause-link_is
 read_parts-requires-clause-link_is c =
     let B = c.args.blocks.now in let left = c.node.inside.left in let es = c.node.inside.entries in let there = c.requires.there in
-    let node_is : (left, es) ≡ c.args.node = c.node.view_is in let under = nodes_under B c.tell_linked.ensures in
+    let node_is : (left, es) ≡ c.args.node = c.node.view_is in let under = nodes_under B c.requires.linked in
     let k = top_known node_of sound B under there.0 left es (there.2 ∙ ap Some (sym node_is)) (ap top_fits node_is ∙ c.requires.fits) in
     under c.args.root there.0 c.requires.kind there.1 ∙ ap cid k.spelled
 
 pub from_top-requires-in-Ok-true : goal.from_top-requires-in-Ok-true
 from_top-requires-in-Ok-true c =
     let B = c.args.blocks.now in let r = c.args.root in let left = c.node.inside.left in let es = c.node.inside.entries in let there = c.requires.there in let F = c.in-Ok.branch.items in
-    let node_is : (left, es) ≡ c.args.node = c.node.view_is in let under = nodes_under B c.tell_linked.ensures in
+    let node_is : (left, es) ≡ c.args.node = c.node.view_is in let under = nodes_under B c.requires.linked in
     let layer : c.args.layer ≡ layer_of es = c.requires.layer ∙ ap layer_of_node (sym node_is) in
     let parts : parts_of (part_at in_part node_of B (layer_of es)) None None (left, es) ≡ Ok F =
     ap (λ m. parts_of (part_at in_part node_of B m) None None (left, es)) (sym layer) ∙ c.in-Ok.ensures.gives in
@@ -72,7 +72,7 @@ from_top-requires-in-Ok-true c =
 pub returns-in-Ok-true-clause-view : goal.returns-in-Ok-true-clause-view
 returns-in-Ok-true-clause-view c =
     let B = c.args.blocks.now in let r = c.args.root in let left = c.node.inside.left in let es = c.node.inside.entries in let there = c.requires.there in let F = c.in-Ok.branch.items in
-    let node_is : (left, es) ≡ c.args.node = c.node.view_is in let under = nodes_under B c.tell_linked.ensures in
+    let node_is : (left, es) ≡ c.args.node = c.node.view_is in let under = nodes_under B c.requires.linked in
     let layer : c.args.layer ≡ layer_of es = c.requires.layer ∙ ap layer_of_node (sym node_is) in
     let parts : parts_of (part_at in_part node_of B (layer_of es)) None None (left, es) ≡ Ok F =
     ap (λ m. parts_of (part_at in_part node_of B m) None None (left, es)) (sym layer) ∙ c.in-Ok.ensures.gives in
@@ -87,7 +87,7 @@ returns-in-Err-clause-fault c =
     let layer : c.args.layer ≡ layer_of es = c.requires.layer ∙ ap layer_of_node (sym node_is) in
     let whole : parts_of (part_at in_part node_of B (layer_of es)) None None (left, es) ≡ parts_of (part_at in_part node_of B c.args.layer) None None (left, es) =
     ap (λ m. parts_of (part_at in_part node_of B m) None None (left, es)) (sym layer) in
-    let told = parts_told B (nodes_under B c.tell_linked.ensures) r there.0 c.requires.kind there.1 (left, es) c.in-Err.fault (there.2 ∙ ap Some (sym node_is)) (ap top_fits node_is ∙ c.requires.fits)
+    let told = parts_told B (nodes_under B c.requires.linked) r there.0 c.requires.kind there.1 (left, es) c.in-Err.fault (there.2 ∙ ap Some (sym node_is)) (ap top_fits node_is ∙ c.requires.fits)
     (fails_on (link_at_fault c.in-Err.fault) (parts_of (part_at in_part node_of B (layer_of es)) None None (left, es)) (parts_of (part_at in_part node_of B c.args.layer) None None (left, es)) whole c.in-Err.ensures.gives) in
     let V : ViewFault → Type 0 = λ x. IsViewFault B r x in
     subst V (sym c.fault_of.ensures) told
@@ -99,4 +99,4 @@ returns-in-Ok-false-clause-fault c =
     let layer : c.args.layer ≡ layer_of es = c.requires.layer ∙ ap layer_of_node (sym node_is) in
     let parts : parts_of (part_at in_part node_of B (layer_of es)) None None (left, es) ≡ Ok F =
     ap (λ m. parts_of (part_at in_part node_of B m) None None (left, es)) (sym layer) ∙ c.in-Ok.ensures.gives in
-    doubled_told B (nodes_under B c.tell_linked.ensures) r there.0 c.requires.kind there.1 (left, es) F (there.2 ∙ ap Some (sym node_is)) (ap top_fits node_is ∙ c.requires.fits) parts (sym c.in-Ok-false.ensures ∙ c.in-Ok-false.field-0-test)
+    doubled_told B (nodes_under B c.requires.linked) r there.0 c.requires.kind there.1 (left, es) F (there.2 ∙ ap Some (sym node_is)) (ap top_fits node_is ∙ c.requires.fits) parts (sym c.in-Ok-false.ensures ∙ c.in-Ok-false.field-0-test)
