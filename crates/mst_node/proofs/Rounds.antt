@@ -1,6 +1,6 @@
 -- Taking entries one after the other, as a loop does.
 use Rattle.std.proofs.Common.{◌≡◌, ℕ, suc, ◌+◌, ◌-◌, ◌<◌, ◌≤◌, List, [], ◌∷◌, ◌++◌, length, refl, sym, ap, ◌∙◌, subst, Some, None, Err, arith, append_assoc, append-nil}
-use Rattle.std.specs.Prelude.{slice_get}
+use Rattle.std.specs.Prelude.{slice_get, map}
 use Rattle.at_cbor.specs.Taking.{◌>>=◌, Taking}
 use Rattle.mst_node.specs.declared.entry.Entry.{Entry}
 use Rattle.mst_node.specs.declared.fault.NodeFault.{NodeFault}
@@ -8,12 +8,12 @@ use Rattle.mst_node.specs.Reading.{key_before}
 use Rattle.mst_node.specs.Taking.{IsTaken, entry_at, next_at, entries_at}
 
 -- the last entry's key
-pub last_before : (last : List ℕ) (es : List Entry) (e : Entry) → slice_get es (length es - 1) ≡ Some e → e.key ≡ key_before last es
-last_before last [] e at = absurd cc
-last_before last (x ∷ []) e at = let same : x ≡ e = cc in ap (λ (y : Entry). y.key) (sym same)
-last_before last (x ∷ (y ∷ es)) e at =
-    let shift : length (x ∷ (y ∷ es)) - 1 ≡ suc (length (y ∷ es) - 1) = omega arith in
-    last_before x.key (y ∷ es) e (subst (λ (n : ℕ). slice_get (x ∷ (y ∷ es)) n ≡ Some e) shift at)
+pub last_before : {A : Type 0} (entry : A → Entry) (last : List ℕ) (xs : List A) (x : A) → slice_get xs (length xs - 1) ≡ Some x → (entry x).key ≡ key_before last (map entry xs)
+last_before entry last [] x at = absurd cc
+last_before entry last (y ∷ []) x at = let same : y ≡ x = cc in ap (λ z. (entry z).key) (sym same)
+last_before entry last (y ∷ (z ∷ xs)) x at =
+    let shift : length (y ∷ (z ∷ xs)) - 1 ≡ suc (length (z ∷ xs) - 1) = omega arith in
+    last_before entry (entry y).key (z ∷ xs) x (subst (λ (n : ℕ). slice_get (y ∷ (z ∷ xs)) n ≡ Some x) shift at)
 
 key_joined : (last : List ℕ) (done : List Entry) (e : Entry) → key_before last (done ++ e ∷ []) ≡ e.key
 key_joined last [] e = refl
@@ -41,7 +41,7 @@ going_on front n (Some (e, after)) = rw (key_joined [] front e) (regroup front e
 going_on front n None = refl
 
 module _ (front : List Entry) (count i : ℕ) (rest : List ℕ) (total : Taking (List Entry)) where
-  abbrev SoFar : Type 0
+  abbrev pub SoFar : Type 0
   SoFar = with_front front (entries_at (count - i) (key_before [] front) rest) ≡ total
 
   next_round : i < count → SoFar → total ≡ onward (count - (i + 1)) (next_at front rest)
@@ -65,3 +65,8 @@ module _ (front : List Entry) (count i : ℕ) (rest : List ℕ) (total : Taking 
       let n : count - i ≡ 0 = omega arith in
       let one : with_front front (entries_at (count - i) (key_before [] front) rest) ≡ Some (front, rest) = rw n (ap (λ (es : List Entry). Some (es, rest)) (append-nil front)) in
       sym so_far ∙ one
+
+-- entries that are kept as they are
+pub entries_same : (es : List Entry) → map (λ (e : Entry). e) es ≡ es
+entries_same [] = refl
+entries_same (e ∷ es) = ap (λ (xs : List Entry). e ∷ xs) (entries_same es)

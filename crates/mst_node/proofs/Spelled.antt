@@ -16,9 +16,10 @@ use Rattle.mst_node.specs.NodeBytes.{shared, entry_item, entry_items, node_bytes
 use Rattle.mst_node.specs.Nodes.{Node, IsChildLink, AreFormedEntries, EntriesAscend, IsNode, Spells}
 use Rattle.mst_node.specs.declared.fault.NodeFault.{NodeFault}
 use Rattle.mst_node.specs.Taking.{IsTaken, Parts, parts_of, key_at, right_at, value_at, parts_at, may_follow, entry_made, entry_at, entries_at, front_at, end_at, node_at}
+use Rattle.mst_node.specs.Reading.{node_of}
 use Rattle.mst_node.proofs.Spelling.{entry_of, key_back, shared_at_most, end_bytes, node_parts}
 use Rattle.mst_node.proofs.Writes.{entries_counted}
-use Rattle.mst_node.proofs.Readers.{entries_count}
+use Rattle.mst_node.proofs.Readers.{entries_count, spells_told, none_told}
 use Rattle.mst_node.proofs.Follows.{Follows, test_follows, follows_test}
 
 -- ---- the parts of an entry
@@ -223,3 +224,10 @@ untaken NodeFault.BadNode block n low none e s =
     let found : node_at block ≡ Some n = ap node_at s.spelled ∙ node_again n.0 n.1 s.is_node (omega arith) in
     let both : None ≡ Some n = sym none ∙ found in absurd cc
 untaken NodeFault.Memory block n low none e s = absurd cc
+
+-- what is taken from a block is the node that is told from it
+pub told_taken : (block : List ℕ) (n : Node) → IsBytes block → node_at block ≡ Some n → node_of block ≡ Some n
+told_taken block n bytes e = spells_told block n (node_take block n bytes e)
+
+pub none_taken : (f : NodeFault) (block : List ℕ) → length block < 2 ^ 64 → IsTaken (λ (x : Node). x) (Err f) (node_at block) → f ≡ NodeFault.BadNode → node_of block ≡ None
+none_taken f block low none e = none_told block (λ n s. untaken f block n low none e s)

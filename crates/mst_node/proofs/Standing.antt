@@ -1,6 +1,7 @@
 -- Entries whose keys ascend lie between two bounds where the first and the last do.
 use Rattle.std.proofs.Common.{◌≡◌, ℕ, eqb, Bool, true, false, ◌&&◌, List, [], ◌∷◌, refl, sym, ◌∙◌, Less, Option, Some, None}
-use Rattle.std.proofs.Math.Bool.{and-false, and-true}
+use Rattle.std.proofs.Math.Bool.{and-false, and-true, or-false, or-true}
+use Rattle.std.specs.Prelude.{is_some, not, ◌||◌}
 use Rattle.std.specs.List.{list_all}
 use Rattle.at_cid.specs.Order.{key_cmp}
 use Rattle.at_cid.proofs.Order.{cmp_trans}
@@ -49,3 +50,8 @@ standing_fit h low high (e ∷ es) a =
 pub top_standing_fit : (h : ℕ) (es : List Entry) → EntriesAscend None es → list_all (stands h) es ≡ entries_fit h None None es
 top_standing_fit h [] a = refl
 top_standing_fit h (e ∷ es) a = standing_fit h None None (e ∷ es) a
+
+-- what is tested of the link to the right
+pub hangs_so : (h : ℕ) (o : Option (List ℕ)) → may_hang h o ≡ (not (eqb h 0) || not (is_some o))
+hangs_so h None = sym (or-true (not (eqb h 0)))
+hangs_so h (Some c) = sym (or-false (not (eqb h 0)))

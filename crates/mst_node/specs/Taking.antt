@@ -2,7 +2,9 @@
 -- in front. (That what is taken is exactly what is spelled is proved in proofs/Spelled.antt.)
 use Rattle.std.specs.Prelude.{◌≡◌, ⊤, ℕ, zero, suc, ◌-◌, Bool, true, false, ◌&&◌, nat_lt, nat_le, if◌then◌else◌, List, [], ◌∷◌, ◌++◌, length, take, drop, Option, Some, None, Result, Ok, Err}
 use Rattle.at_cbor.specs.declared.major.Major.{Major}
-use Rattle.at_cbor.specs.Taking.{◌>>=◌, Taking, behind, all_of, number_at, string_at, link_from_front, child_at}
+use Rattle.at_cid.specs.Link.{link_at}
+use Rattle.at_cid.specs.declared.cid.TheConstants.{LINK_LEN}
+use Rattle.at_cbor.specs.Taking.{◌>>=◌, Taking, behind, all_of, linked, number_at, string_at, link_from_front, child_at}
 use Rattle.mst_list.specs.declared.item.TheConstants.{MOST_KEY_BYTES}
 use Rattle.mst_node.specs.declared.entry.Entry.{Entry}
 use Rattle.mst_node.specs.declared.fault.NodeFault.{NodeFault}
@@ -31,6 +33,18 @@ key_at bytes = do
 -- the link to the right of an entry
 abbrev pub right_at : List ℕ → Taking (Option (List ℕ))
 right_at bytes = behind (0x61 ∷ 0x74 ∷ []) bytes >>= child_at
+
+-- the link at the front of some bytes, where there are some
+abbrev pub link_of : Option (List ℕ) → Option (List ℕ)
+link_of front = front >>= link_at
+
+-- a link at the front, and what stands behind it
+abbrev pub link_behind : List ℕ → Taking (List ℕ)
+link_behind bytes = linked (link_at bytes) (drop LINK_LEN bytes)
+
+-- the same, with what stands behind it
+abbrev pub value_in : Option (List ℕ) → Taking (List ℕ)
+value_in front = front >>= link_behind
 
 -- the value of an entry, its last field
 abbrev pub value_at : List ℕ → Taking (List ℕ)

@@ -32,12 +32,11 @@ impl Entries {
         }
     }
 
-    /// No entries, with room for so many.
-    pub(crate) fn with_room(alloc: Global, room: usize) -> Result<Entries, Memory>
-        ensures { IfOk result (λ entries. entries ≡ []) }
+    /// The entries of a vector.
+    pub(crate) fn from_vec(entries: Vec<Entry>) -> Entries
+        ensures { result ≡ entries.items }
     {
-        let entries = Vec::with_capacity(alloc, room)?;
-        Ok(Entries { entries })
+        Entries { entries }
     }
 
     /// The vector of the entries, each with its own key: what a walk that takes them over goes along. Takes no memory.

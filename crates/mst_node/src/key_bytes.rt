@@ -1,6 +1,6 @@
 //! The keys of entries.
 
-ghost use Rattle.std.specs.Prelude.{◌≡◌, ◌≤◌, ◌++◌, length, take, IfOk};
+ghost use Rattle.std.specs.Prelude.{◌≡◌, ◌≤◌, ◌+◌, ◌++◌, length, take, IfOk, IfSome};
 ghost use Rattle.at_cid.specs.Link.{IsBytes};
 ghost use Rattle.mst_node.specs.KeyBytes.{kept_bytes};
 ghost use Rattle.mst_node.specs.declared.key_bytes.TheConstants.{MOST_SHORT_BYTES};
@@ -53,6 +53,20 @@ fn short(front: &[u8], tail: &[u8], count: usize) -> KeyBytes
     }
 }
 
+/// So many bytes of an array, and others behind them, where they are few.
+#[inline(always)]
+fn changed(front: &[u8; MOST_SHORT_BYTES], count: usize, tail: &[u8]) -> KeyBytes
+    requires { count + length tail.now ≤ MOST_SHORT_BYTES }
+    ensures { result ≡ take count front.now ++ tail.now }
+{
+    let end = count + tail.len();
+    let mut bytes = *front;
+    bytes[count..end].copy_from_slice(tail);
+    KeyBytes {
+        kept: Kept::Short(end as u8, bytes),
+    }
+}
+
 impl KeyBytes {
     /// The bytes of two slices, one behind the other.
     #[inline]
@@ -69,6 +83,20 @@ impl KeyBytes {
         Ok(KeyBytes {
             kept: Kept::Long(Octets::from_vec(bytes)),
         })
+    }
+
+    /// So many of these bytes, and others behind them, where these and those are few.
+    #[inline(always)]
+    pub fn going_on(&self, count: usize, tail: &[u8]) -> Option<KeyBytes>
+        requires { count ≤ length self.now }
+        ensures { IfSome result (λ key. key ≡ take count self.now ++ tail.now) }
+    {
+        match &self.kept {
+            Kept::Short(_, bytes) if tail.len() <= MOST_SHORT_BYTES - count => {
+                Some(changed(bytes, count, tail))
+            }
+            _ => None,
+        }
     }
 
     /// A copy of the bytes.

@@ -1,15 +1,19 @@
 //! Reading a node from its block.
 
-ghost use Rattle.std.specs.Prelude.{◌≡◌, ◌<◌, ◌^◌, Some, None, length, IfOk, IfErr};
+ghost use Rattle.std.specs.Prelude.{◌≡◌, ◌<◌, ◌^◌, Some, None, true, length, map, IfOk, IfErr};
+ghost use Rattle.std.specs.List.{list_all};
 ghost use Rattle.at_cid.specs.Link.{IsBytes};
 ghost use Rattle.mst_node.specs.declared.fault.NodeFault as fault;
 ghost use Rattle.mst_node.specs.Nodes as nodes;
 ghost use Rattle.mst_node.specs.Nodes.{Spells};
 ghost use Rattle.mst_node.specs.Reading.{node_of};
 
+use crate::entries::Entries;
 use crate::fault::NodeFault;
+use crate::keyed::Keyed;
 use crate::node::Node;
 use crate::taking::take_node;
+use at_cid::Cid;
 use std::alloc::Global;
 
 // The elements of a slice of bytes are bytes, and it has fewer of them than there are numbers for its length.
@@ -20,14 +24,18 @@ pub(crate) fn tell_bytes(bytes: &[u8])
     let _length: usize = bytes.len();
 }
 
-/// The node that spells the block.
-fn read(alloc: Global, block: &[u8]) -> Result<Node, NodeFault>
-    ensures node { IfOk result (λ node. Spells block.now node) }
-    ensures bad { IfErr result (λ cause. cause ≡ fault.NodeFault.BadNode → (n : nodes.Node) → Spells block.now n → ⊥) }
+/// The link to the left and the entries of the node that [`read_node`] answers, kept as a caller wants them.
+#[tactic(auto, using(crate::proofs::Spelled::told_taken, crate::proofs::Spelled::none_taken))]
+pub fn read_parts<E: Keyed + Drop>(
+    alloc: Global,
+    block: &[u8],
+) -> Result<(Option<Cid>, Vec<E>), NodeFault>
+    ensures told { IfOk result (λ n. node_of block.now ≡ Some (n.0, map E.entry n.1.items)) }
+    ensures bare { IfOk result (λ n. list_all E.is_bare n.1.items ≡ true) }
+    ensures none { IfErr result (λ cause. cause ≡ fault.NodeFault.BadNode → node_of block.now ≡ None) }
 {
     tell_bytes(block);
-    let (left, entries) = take_node(alloc, block)?;
-    Ok(Node { left, entries })
+    take_node(alloc, block)
 }
 
 /// The node whose one spelling the block is. `BadNode` comes exactly where the block is the spelling of no node: where it
@@ -35,7 +43,7 @@ fn read(alloc: Global, block: &[u8]) -> Result<Node, NodeFault>
 /// the key before than are the same, has keys that don't ascend or aren't of 1 to
 /// [`MOST_KEY_BYTES`](mst_list::MOST_KEY_BYTES) bytes, or links onward to what is no node.
 /// (Repository specification, MST structure.)
-#[tactic(auto, using(crate::proofs::Readers::spells_told, crate::proofs::Readers::none_told))]
+#[tactic(auto, using(crate::proofs::Readers::told_spells, crate::proofs::Readers::none_spells, crate::proofs::Rounds::entries_same))]
 pub fn read_node(alloc: Global, block: &[u8]) -> Result<Node, NodeFault>
     ensures node { IfOk result (λ node. Spells block.now node) }
     ensures bad { IfErr result (λ cause. cause ≡ fault.NodeFault.BadNode → (n : nodes.Node) → Spells block.now n → ⊥) }
@@ -43,5 +51,9 @@ pub fn read_node(alloc: Global, block: &[u8]) -> Result<Node, NodeFault>
     ensures told { IfOk result (λ node. node_of block.now ≡ Some node) }
     ensures none { IfErr result (λ cause. cause ≡ fault.NodeFault.BadNode → node_of block.now ≡ None) }
 {
-    read(alloc, block)
+    let (left, entries) = read_parts(alloc, block)?;
+    Ok(Node {
+        left,
+        entries: Entries::from_vec(entries),
+    })
 }

@@ -1,31 +1,28 @@
 //! The parts of a node, taken from its block from left to right.
 
-ghost use Rattle.std.specs.Prelude.{◌≡◌, ◌≤◌, ◌∷◌, ◌++◌, [], Some, length, take, option_map, IfOk};
+ghost use Rattle.std.specs.Prelude.{◌≡◌, ◌≤◌, ◌∷◌, ◌++◌, [], Some, true, length, map, take, option_map, IfOk, OnOk, IfSome, IsSome};
+ghost use Rattle.mst_node.specs.Nodes.{entry_with};
+ghost use Rattle.std.specs.List.{list_all};
+ghost use Rattle.at_cid.specs.Link.{link_at};
+ghost use Rattle.at_cbor.specs.Taking.{child_at};
 ghost use Rattle.mst_node.specs.Reading.{key_before};
-ghost use Rattle.mst_node.specs.Taking.{IsTaken, key_at, right_at, value_at, goes_above, may_follow, next_at, entries_at, front_at, end_at, node_at};
+ghost use Rattle.mst_node.specs.Taking.{IsTaken, key_at, right_at, value_at, goes_above, link_of, value_in, may_follow, next_at, entries_at, front_at, end_at, node_at};
 
-use crate::entries::Entries;
-use crate::entry::Entry;
 use crate::fault::NodeFault;
 use crate::key_bytes::KeyBytes;
+use crate::keyed::Keyed;
 use at_cbor::{Major, take_behind, take_bytes, take_child, take_list_front, take_number};
-use at_cid::{Cid, LINK_LEN, Memory, parse_binary};
+use at_cid::{Cid, Kind, LINK_LEN, Memory, parse_binary};
 use mst_list::MOST_KEY_BYTES;
 use std::alloc::Global;
 
-/// The value of an entry, its last field. What stands in front of the link is compared as a whole.
-#[tactic(auto, using(crate::proofs::Pointers::value_none, crate::proofs::Pointers::value_other))]
+/// What begins with the link of an entry's value, its last field. What stands in front of the link is compared as a whole.
+#[tactic(auto, using(crate::proofs::Pointers::value_is))]
 #[inline(always)]
-fn take_value(bytes: &[u8]) -> Option<(Cid, &[u8])>
-    ensures { option_map (λ x. (x.0, x.1.now)) result ≡ value_at bytes.now }
+fn find_value(bytes: &[u8]) -> Option<&[u8]>
+    ensures { value_in (option_map (λ front. front.now) result) ≡ value_at bytes.now }
 {
-    let Some(rest) = take_behind(&[0x61, b'v', 0xd8, 0x2a, 0x58, 0x25, 0x00], bytes) else {
-        return None;
-    };
-    let Some(link) = parse_binary(rest) else {
-        return None;
-    };
-    Some((link, rest.split_at(LINK_LEN).1))
+    take_behind(&[0x61, b'v', 0xd8, 0x2a, 0x58, 0x25, 0x00], bytes)
 }
 
 /// What of an entry's key isn't shared with the key before, how much is, and the bytes behind.
@@ -49,15 +46,41 @@ fn take_key(bytes: &[u8]) -> Option<(&[u8], usize, &[u8])>
     Some((tail, count as usize, rest))
 }
 
-/// The link to the right of an entry.
+/// What begins with a link of kind Node, or none where null stands there, and the bytes behind.
+#[tactic(auto, unfolding(at_cbor::specs::Taking::child_at, at_cbor::specs::Taking::link_from_front))]
 #[inline(always)]
-fn take_right(bytes: &[u8]) -> Option<(Option<Cid>, &[u8])>
-    ensures { option_map (λ x. (x.0, x.1.now)) result ≡ right_at bytes.now }
+fn find_child(bytes: &[u8]) -> Option<(Option<&[u8]>, &[u8])>
+    ensures taken { option_map (λ x. (link_of (option_map (λ front. front.now) x.0), x.1.now)) result ≡ child_at bytes.now }
+    ensures there { IfSome result (λ x. IfSome x.0 (λ front. IsSome (link_at front.now))) }
+{
+    let [first, behind_null @ ..] = bytes else {
+        return None;
+    };
+    if *first == 0xf6 {
+        return Some((None, behind_null));
+    }
+    let Some(front) = take_behind(&[0xd8, 0x2a, 0x58, 0x25, 0x00], bytes) else {
+        return None;
+    };
+    let Some(link) = parse_binary(front) else {
+        return None;
+    };
+    if link.kind() != Kind::Node {
+        return None;
+    }
+    Some((Some(front), front.split_at(LINK_LEN).1))
+}
+
+/// What begins with the link to the right of an entry, where there is one, and the bytes behind.
+#[inline(always)]
+fn find_right(bytes: &[u8]) -> Option<(Option<&[u8]>, &[u8])>
+    ensures taken { option_map (λ x. (link_of (option_map (λ front. front.now) x.0), x.1.now)) result ≡ right_at bytes.now }
+    ensures there { IfSome result (λ x. IfSome x.0 (λ front. IsSome (link_at front.now))) }
 {
     let Some(rest) = take_behind(&[0x61, b't'], bytes) else {
         return None;
     };
-    take_child(rest)
+    find_child(rest)
 }
 
 /// Whether a key goes on where another ends, or its first byte that isn't shared is greater.
@@ -83,48 +106,84 @@ fn may_follow(last: &[u8], count: usize, tail: &[u8]) -> bool
         && goes_above(last.split_at(count).1, tail)
 }
 
-/// So many bytes of the key before, and these others.
-fn key_of(alloc: Global, last: &[u8], count: usize, tail: &[u8]) -> Result<KeyBytes, Memory>
-    requires { count ≤ length last.now }
-    ensures { IfOk result (λ key. key ≡ take count last.now ++ tail.now) }
-{
-    KeyBytes::joined(alloc, last.split_at(count).0, tail)
-}
-
 /// The key of the last entry, or an empty one.
-pub(crate) fn last_key(entries: &[Entry]) -> &[u8]
-    ensures { result.now ≡ key_before [] entries.now }
+pub(crate) fn last_key<E: Keyed>(entries: &[E]) -> &[u8]
+    ensures { result.now ≡ key_before [] (map E.entry entries.now) }
 {
     match entries.last() {
-        Some(entry) => entry.key.as_slice(),
+        Some(entry) => entry.key().as_slice(),
         None => &[],
     }
 }
 
+/// So many bytes of the last entry's key, and these others, where that key and this one are short.
+#[inline(always)]
+fn short_key<E: Keyed>(entries: &[E], count: usize, tail: &[u8]) -> Option<KeyBytes>
+    requires { count ≤ length (key_before [] (map E.entry entries.now)) }
+    ensures { IfSome result (λ key. key ≡ take count (key_before [] (map E.entry entries.now)) ++ tail.now) }
+{
+    match entries.last() {
+        Some(entry) => entry.key().going_on(count, tail),
+        None => None,
+    }
+}
+
+/// Adds an entry with a key, a value, and what begins with the link to its right, where there is one.
+#[inline(always)]
+fn push_keyed<E: Keyed + Drop>(
+    entries: &mut Vec<E>,
+    key: KeyBytes,
+    value: Cid,
+    right: Option<&[u8]>,
+) -> Result<(), Memory>
+    requires { IfSome right (λ front. IsSome (link_at front.now)) }
+    ensures pushed { OnOk result (map E.entry entries.new.items ≡ map E.entry entries.old.items ++ entry_with key value (link_of (option_map (λ front. front.now) right.entry)) ∷ []) }
+    ensures bare { list_all E.is_bare entries.old.items ≡ true → list_all E.is_bare entries.new.items ≡ true }
+{
+    let Some(front) = right else {
+        entries.push(E::of(key, value, None))?;
+        return Ok(());
+    };
+    let Some(link) = parse_binary(front) else {
+        unreachable!()
+    };
+    entries.push(E::of(key, value, Some(link)))?;
+    Ok(())
+}
+
 /// Adds the entry at the front, behind the key of the last one.
 #[tactic(auto, unfolding(crate::specs::Taking::entry_at, crate::specs::Taking::parts_at))]
-fn push_entry<'a>(
+fn push_entry<'a, E: Keyed + Drop>(
     alloc: Global,
-    entries: &mut Entries,
+    entries: &mut Vec<E>,
     bytes: &'a [u8],
 ) -> Result<&'a [u8], NodeFault>
-    ensures { IsTaken (λ rest. (entries.new, rest.now)) result (next_at entries.old bytes.now) }
+    ensures taken { IsTaken (λ rest. (map E.entry entries.new.items, rest.now)) result (next_at (map E.entry entries.old.items) bytes.now) }
+    ensures bare { list_all E.is_bare entries.old.items ≡ true → list_all E.is_bare entries.new.items ≡ true }
 {
     let Some((tail, count, rest)) = take_key(bytes) else {
         return Err(NodeFault::BadNode);
     };
-    let Some((right, rest)) = take_right(rest) else {
+    let Some((right, rest)) = find_right(rest) else {
         return Err(NodeFault::BadNode);
     };
-    let Some((value, rest)) = take_value(rest) else {
+    let Some(front) = find_value(rest) else {
         return Err(NodeFault::BadNode);
     };
     let last = last_key(entries.as_slice());
     if !may_follow(last, count, tail) {
         return Err(NodeFault::BadNode);
     }
-    let key = key_of(alloc, last, count, tail)?;
-    entries.push(Entry { key, value, right })?;
+    let Some(value) = parse_binary(front) else {
+        return Err(NodeFault::BadNode);
+    };
+    let rest = front.split_at(LINK_LEN).1;
+    if let Some(key) = short_key(entries.as_slice(), count, tail) {
+        push_keyed(entries, key, value, right)?;
+        return Ok(rest);
+    }
+    let key = KeyBytes::joined(alloc, last.split_at(count).0, tail)?;
+    push_keyed(entries, key, value, right)?;
     Ok(rest)
 }
 
@@ -132,11 +191,16 @@ fn push_entry<'a>(
 const FEWEST_ENTRY_BYTES: usize = 54;
 
 /// So many entries at the front. A claimed count takes no more room than the bytes can hold entries.
-fn take_entries(alloc: Global, count: usize, bytes: &[u8]) -> Result<(Entries, &[u8]), NodeFault>
-    ensures { IsTaken (λ x. (x.0, x.1.now)) result (entries_at count [] bytes.now) }
+fn take_entries<E: Keyed + Drop>(
+    alloc: Global,
+    count: usize,
+    bytes: &[u8],
+) -> Result<(Vec<E>, &[u8]), NodeFault>
+    ensures taken { IsTaken (λ x. (map E.entry x.0.items, x.1.now)) result (entries_at count [] bytes.now) }
+    ensures bare { IfOk result (λ x. list_all E.is_bare x.0.items ≡ true) }
 {
     let room = count.min(bytes.len() / FEWEST_ENTRY_BYTES);
-    let mut entries = Entries::with_room(alloc, room)?;
+    let mut entries = Vec::with_capacity(alloc, room)?;
     let mut rest = bytes;
     'entries: for _ in 0..count {
         rest = push_entry(alloc, &mut entries, rest)?;
@@ -167,8 +231,12 @@ fn take_end(bytes: &[u8]) -> Option<Option<Cid>>
 
 /// The link to the left and the entries of the node that fills a block.
 #[tactic(auto, unfolding(crate::specs::Taking::node_at))]
-pub fn take_node(alloc: Global, block: &[u8]) -> Result<(Option<Cid>, Entries), NodeFault>
-    ensures { IsTaken (λ x. (x.0, x.1)) result (node_at block.now) }
+pub(crate) fn take_node<E: Keyed + Drop>(
+    alloc: Global,
+    block: &[u8],
+) -> Result<(Option<Cid>, Vec<E>), NodeFault>
+    ensures taken { IsTaken (λ x. (x.0, map E.entry x.1.items)) result (node_at block.now) }
+    ensures bare { IfOk result (λ x. list_all E.is_bare x.1.items ≡ true) }
 {
     let Some((count, rest)) = take_front(block) else {
         return Err(NodeFault::BadNode);
