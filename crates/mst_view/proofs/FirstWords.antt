@@ -6,7 +6,8 @@ use Rattle.std.specs.Ordering.{eq_by_cmp}
 use Rattle.std.specs.Cmp.{IsEquivalence}
 use Rattle.std.specs.Str.{bytes_eq}
 use Rattle.std.proofs.Math.Dec.{ltb}
-use Rattle.std.proofs.lemmas.Bool.{ltb-true}
+use Rattle.std.specs.Prelude.{nat_eq}
+use Rattle.std.proofs.lemmas.Bool.{eq-eqb, ltb-true}
 use Rattle.std.proofs.lemmas.Cmp.{eq_by_cmp_equiv, nat_cmp_total}
 use Rattle.std.proofs.lemmas.List.Sorted.{IsPermutation-sym}
 use Rattle.std.proofs.lemmas.Map.Keys.{IsDistinct-from_sorted, IsDistinct-head, IsDistinct-tail, IsDistinct-IsPermutation, sorted_from_strictly_increasing}
@@ -56,3 +57,30 @@ pub rising_differ : (xs : List (List ℕ)) (words : List ℕ) → IsPermutation 
 rising_differ xs words moved up =
     let distinct : IsDistinct same words = IsDistinct-from_sorted nat_cmp words (sorted_from_strictly_increasing words up) in
     words_differ xs (IsDistinct-IsPermutation same same_laws.symm words (map first_word xs) (IsPermutation-sym (map first_word xs) words moved) distinct)
+
+both : (a b : Bool) → (a && b) ≡ true → (a ≡ true) × (b ≡ true)
+both true b e = (refl, e)
+both false b e = absurd cc
+
+other_link : (x y : List ℕ) → not (nat_eq (first_word y) (first_word x)) ≡ true → not (bytes_eq y x) ≡ true
+other_link x y e =
+    elim (bytes_eq y x) as (λ t. bytes_eq y x ≡ t → not t ≡ true) [
+      | true ↦ λ s.
+          let one : y ≡ x = (bytes_eq-Decides y x).0 s in
+          let twice : nat_eq (first_word y) (first_word x) ≡ true = eq-eqb (first_word y) (first_word x) (ap first_word one) in
+          absurd cc
+      | false ↦ λ s. refl
+    ] refl
+
+other_links : (x : List ℕ) (xs : List (List ℕ)) → is_absent nat_eq (first_word x) (map first_word xs) ≡ true → is_absent bytes_eq x xs ≡ true
+other_links x [] e = refl
+other_links x (y ∷ ys) e =
+    let b = both (not (nat_eq (first_word y) (first_word x))) (is_absent nat_eq (first_word x) (map first_word ys)) e in
+    join (not (bytes_eq y x)) (is_absent bytes_eq x ys) (other_link x y b.0) (other_links x ys b.1)
+
+-- links differ where the numbers that they begin with do
+pub numbers_differ : (xs : List (List ℕ)) → all_differ nat_eq (map first_word xs) ≡ true → all_differ bytes_eq xs ≡ true
+numbers_differ [] e = refl
+numbers_differ (x ∷ xs) e =
+    let b = both (is_absent nat_eq (first_word x) (map first_word xs)) (all_differ nat_eq (map first_word xs)) e in
+    join (is_absent bytes_eq x xs) (all_differ bytes_eq xs) (other_links x xs b.0) (numbers_differ xs b.1)

@@ -1,6 +1,8 @@
 pub mod AtHand
 pub mod Doubled
 pub mod TreeAt
+pub mod Filling
+pub mod Words
 pub mod Spelled
 pub mod Steps
 pub mod Tops
@@ -12,4 +14,3 @@ pub mod Sizes
 mod FirstWords
 pub mod Pieces
 pub mod Behind
-pub mod TakenOver

@@ -1,7 +1,5 @@
 -- Steps of a reading.
 use Rattle.std.proofs.Common.{◌≡◌, ℕ, zero, suc, ◌<◌, true, List, [], ◌∷◌, ◌++◌, length, get_or, refl, sym, ap, ◌∙◌, Option, Some, None, Result, Ok, Err, arith, append_assoc, append-nil, length-append}
-use Rattle.std.specs.Prelude.{reverse}
-use Rattle.std.proofs.lemmas.List.{reverse-append}
 use Rattle.std.specs.FinMap.{FinMap}
 use Rattle.at_cid.specs.Link.{cid}
 use Rattle.at_car.specs.Blocks.{AreLinked}
@@ -13,12 +11,12 @@ use Rattle.at_cid.specs.Order.{key_cmp}
 use Rattle.mst_list.specs.Height.{height}
 use Rattle.mst_node.specs.declared.entry.Entry.{Entry}
 use Rattle.mst_node.specs.NodeBytes.{node_bytes}
-use Rattle.mst_node.specs.Nodes.{IsSoundReader}
+use Rattle.mst_node.specs.Nodes.{Node, EntriesAscend, IsSoundReader}
 use Rattle.mst_node.specs.NodeFaults.{AreEntriesAt, next_bound}
 use Rattle.mst_node.specs.Fits.{is_some_node}
 use Rattle.mst_node.specs.TreeReading.{go_on, rights_of}
 use Rattle.mst_node.specs.Trees.{spell}
-use Rattle.mst_node.proofs.Readers.{node_of_is_reader}
+use Rattle.mst_node.proofs.Readers.{node_of_is_reader, told_spells}
 use Rattle.mst_view.proofs.Spelled.{spelled_node}
 use Rattle.mst_view.specs.Layered.{LiesBelow, AllAt, below_items, rest_items, below_link, entries_of}
 use Rattle.mst_view.specs.declared.branch.Below.{Below}
@@ -31,6 +29,10 @@ use Rattle.at_cid.specs.Memory.{Fails}
 -- the reader of nodes is sound
 pub sound : IsSoundReader node_of
 sound = node_of_is_reader.sound
+
+-- the keys of a node that is told from a block ascend
+pub ascends : (b : List ℕ) (n : Node) → node_of b ≡ Some n → EntriesAscend None n.1
+ascends b n e = (told_spells b n e).is_node.ascend
 
 -- what blocks under links of theirs tell of the links of kind Node
 pub nodes_under : (B : FinMap key_cmp (List ℕ)) → AreLinked B → AreUnderNodeLinks B
@@ -103,8 +105,3 @@ some_items h first parts None [] l f k s = absurd (cc)
 some_items h first [] None (e ∷ es) l f k s = absurd (cc)
 some_items h first (p ∷ parts) None (e ∷ es) l f k s = let both = length-append (below_items h first) (rest_items h (p ∷ parts)) in omega arith
 some_items h first parts (Some c) es l f k s = let low = some_first h first c l f in let both = length-append (below_items h first) (rest_items h parts) in omega arith
-
--- ---- entries of which the first stands last
-
-pub taken : (old new : List Entry) (e : Entry) → old ≡ new ++ e ∷ [] → reverse old ≡ e ∷ reverse new
-taken old new e is = ap reverse is ∙ reverse-append new (e ∷ [])

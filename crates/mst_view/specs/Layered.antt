@@ -1,5 +1,5 @@
 -- A node with stubs is seen as its layer and its list with holes.
-use Rattle.std.specs.Prelude.{◌≡◌, ℕ, suc, ◌+◌, ◌-◌, ◌<◌, List, [], ◌∷◌, ◌++◌, length, Option, Some, None}
+use Rattle.std.specs.Prelude.{◌≡◌, ℕ, suc, ◌+◌, ◌-◌, ◌<◌, Bool, true, false, List, [], ◌∷◌, ◌++◌, length, map, Option, Some, None}
 use Rattle.at_cid.specs.Link.{cid}
 use Rattle.mst_list.specs.declared.item.Item.{Item}
 use Rattle.mst_list.specs.declared.item.Item.TheVariants.{Key, Hole}
@@ -55,6 +55,23 @@ below_link Empty = None
 below_link (Stub c) = Some c
 below_link (Tree b) = Some (cid (spell b.value.layer b.value.items))
 
+-- what is known of a subtree by its link alone
+abbrev pub stub_of : Option (List ℕ) → Below
+stub_of None = Empty
+stub_of (Some c) = Stub c
+
+-- the entry that a part is kept of
+abbrev pub part_entry : Part → Entry
+part_entry p = record { key = p.key; value = p.value; right = below_link p.below }
+
 abbrev pub entries_of : List Part → List Entry
-entries_of [] = []
-entries_of (p ∷ parts) = record { key = p.key; value = p.value; right = below_link p.below } ∷ entries_of parts
+entries_of parts = map part_entry parts
+
+-- no more is known than a link
+abbrev pub knows_link : Below → Bool
+knows_link Empty = true
+knows_link (Stub c) = true
+knows_link (Tree b) = false
+
+abbrev pub is_bare : Part → Bool
+is_bare p = knows_link p.below

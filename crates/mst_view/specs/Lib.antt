@@ -8,3 +8,4 @@ pub mod StubTree
 pub mod ViewFault
 pub mod Laws
 pub mod Pieces
+pub mod Words

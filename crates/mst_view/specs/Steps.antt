@@ -5,8 +5,6 @@ use Rattle.mst_list.specs.Height.{height}
 use Rattle.mst_node.specs.declared.entry.Entry.{Entry}
 use Rattle.mst_node.specs.Nodes.{IsChildLink}
 use Rattle.mst_node.specs.TreeReading.{go_on}
-use Rattle.mst_view.specs.declared.branch.Below.{Below}
-use Rattle.mst_view.specs.declared.branch.Part.{Part}
 use Rattle.mst_view.specs.declared.reading.ReadFault.{ReadFault}
 
 -- the link of the block at fault; the want of memory is no fault of a block
@@ -22,7 +20,3 @@ with_front front r = go_on r (λ G. Ok (front ++ G))
 abbrev pub AllHang : ℕ → List Entry → Type 0
 AllHang h [] = Unit {0}
 AllHang h (e ∷ es) = ((height e.key ≡ h) × IsChildLink e.right × (h ≡ 0 → e.right ≡ None)) × AllHang h es
-
--- the last entry became the last part, with what lies to its right
-abbrev pub TakesOver : Below → List Entry → List Entry → List Part → List Part → Type 0
-TakesOver below left less parts more = (e : Entry) × (left ≡ less ++ e ∷ []) × (more ≡ parts ++ record { key = e.key; value = e.value; below = below } ∷ [])

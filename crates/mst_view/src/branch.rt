@@ -1,7 +1,10 @@
 //! Nodes with what is known below them.
 
+ghost use Rattle.std.specs.Prelude.{◌≡◌};
+ghost use Rattle.mst_view.specs.Layered.{stub_of};
+
 use at_cid::Cid;
-use mst_node::KeyBytes;
+use mst_node::{KeyBytes, Keyed};
 use std::marker::Model;
 
 /// A node (Repository specification, MST structure), seen in contracts as its layer and the list of what it holds.
@@ -61,4 +64,45 @@ impl Model for Branch {
     ghost use Rattle.mst_view.specs.Falls.{below_falls, parts_fall};
 
     ghost size_decreases = { λ b h. Prim.omega (arith, below_falls b.layer b.first h.first_lies, parts_fall b.layer b.rest.items h.all_at) };
+}
+
+impl Below {
+    /// What is known of a subtree by its link alone, where there is one.
+    #[inline(always)]
+    fn of(link: Option<Cid>) -> Below
+        ensures { result ≡ stub_of link }
+    {
+        match link {
+            None => Below::Empty,
+            Some(link) => Below::Hole(link),
+        }
+    }
+}
+
+impl Keyed for Part {
+    ghost use Rattle.mst_view.specs.Layered.{part_entry, is_bare};
+
+    ghost entry = { part_entry };
+
+    ghost is_bare = { is_bare };
+
+    #[inline(always)]
+    fn of(key: KeyBytes, value: Cid, right: Option<Cid>) -> Part {
+        let below = Below::of(right);
+        Part { key, value, below }
+    }
+
+    #[inline(always)]
+    fn key(&self) -> &KeyBytes {
+        &self.key
+    }
+
+    #[inline(always)]
+    fn hangs(&self) -> bool {
+        match self.below {
+            Below::Empty => false,
+            Below::Hole(_) => true,
+            Below::Tree(_) => true,
+        }
+    }
 }

@@ -1,26 +1,26 @@
 //! Reading trees from blocks.
 
-ghost use Rattle.std.specs.Prelude.{◌≡◌, ◌<◌, IfOk, OnOk, Some, None, true, option_map, reverse, vec_len};
+ghost use Rattle.std.specs.Prelude.{◌≡◌, ◌<◌, IfOk, OnOk, Some, None, true, option_map};
+ghost use Rattle.std.specs.List.{list_all};
 ghost use Rattle.std.specs.FinMap as map;
 ghost use Rattle.at_cid.specs.Link.{IsNodeLink, cid};
 ghost use Rattle.at_cid.specs.Memory.{Gives};
 ghost use Rattle.at_car.specs.Blocks.{AreLinked};
 ghost use Rattle.mst_node.specs.NodeBytes.{node_bytes};
 ghost use Rattle.mst_node.specs.Nodes.{IsChildLink};
-ghost use Rattle.mst_node.specs.NodeFaults.{next_bound};
 ghost use Rattle.mst_node.specs.Reading.{node_of};
 ghost use Rattle.mst_node.specs.Trees.{spell};
-ghost use Rattle.mst_view.specs.Layered.{LiesBelow, IsAtLayer, AllAt, below_items, rest_items, below_link, entries_of};
+ghost use Rattle.mst_view.specs.Layered.{LiesBelow, IsAtLayer, AllAt, below_items, rest_items, below_link, entries_of, is_bare};
 ghost use Rattle.mst_node.specs.FirstFault.{in_part};
 ghost use Rattle.mst_node.specs.Fits.{is_some_node};
 ghost use Rattle.mst_node.specs.TreeReading.{parts_of, part_at, rights_of};
-ghost use Rattle.mst_view.specs.Steps.{AllHang, TakesOver, link_at_fault};
+ghost use Rattle.mst_view.specs.Steps.{AllHang, link_at_fault};
 ghost use Rattle.mst_view.specs.declared.reading.ReadFault.{ReadFault};
 
 use crate::at_hand::AtHand;
-use crate::branch::{Below, Branch, Part, Rest};
+use crate::branch::{Below, Branch, Rest};
 use at_cid::{Cid, Memory};
-use mst_node::{Entries, Entry, Node, NodeFault, next_key, node_fits, read_node};
+use mst_node::{NodeFault, next_key, parts_fit, read_parts};
 use std::alloc::{AllocError, AllocFailed, Global};
 
 /// Why a tree can't be read.
@@ -100,117 +100,81 @@ fn read_tree(
     ensures lies { IfOk result (LiesBelow layer) }
     ensures keeps { IfOk result (λ below. below_link below ≡ Some link) }
 {
-    let node = match read_node(alloc, block) {
-        Ok(node) => node,
+    let (left, rest): (Option<Cid>, Rest) = match read_parts(alloc, block) {
+        Ok(parts) => parts,
         Err(NodeFault::BadNode) => return Err(ReadFault::BadNode(link)),
         Err(NodeFault::Memory) => return Err(ReadFault::Memory),
     };
     let inner = layer - 1;
-    if !node_fits(inner, low, high, &node) {
+    if !parts_fit(inner, low, high, &left, rest.as_slice()) {
         return Err(ReadFault::BadNode(link));
     }
-    let Node { left, entries } = node;
-    let branch = read_parts(alloc, blocks, inner, low, high, left, entries, link)?;
+    let branch = read_branch(alloc, blocks, inner, low, high, left, rest, link)?;
     Ok(Below::Tree(Box::new(alloc, branch)?))
 }
 
-/// The key at which what hangs before some entries ends, of which the first stands last: that of the first one, or else the
-/// bound behind them.
-#[inline]
-fn bound_before<'a>(high: Option<&'a [u8]>, entries: &'a [Entry]) -> Option<&'a [u8]>
-    ensures { option_map (λ k. k.now) result ≡ next_bound (option_map (λ k. k.now) high.entry) (reverse entries.now) }
-{
-    match entries.last() {
-        Some(entry) => Some(entry.key.as_slice()),
-        None => high,
-    }
-}
-
-/// The room of so many entries is given back at once.
-const MANY_ENTRIES: usize = 1_024;
-
-/// Gives back the room behind some entries, where it is much.
-#[inline]
-fn give_back(entries: &mut Vec<Entry>)
-    ensures { entries.new.items ≡ entries.old.items }
-{
-    if entries.len() % MANY_ENTRIES == 0 {
-        entries.shrink_to_fit();
-    }
-}
-
-/// Makes the last of some entries the last of some parts, with what lies to its right.
-fn take_over(below: Below, left: &mut Vec<Entry>, rest: &mut Rest) -> Result<(), Memory>
-    requires { 0 < vec_len left.old }
-    ensures { OnOk result (TakesOver below left.old.items left.new.items rest.old.items rest.new.items) }
-{
-    if let Some(Entry { key, value, .. }) = left.pop() {
-        rest.push(Part { key, value, below })?;
-    }
-    give_back(left);
-    Ok(())
-}
-
-/// The entries of a node at a layer with what hangs to their right, up to a key. Their keys are taken over.
+/// Reads what hangs to the right of the parts of a node at a layer, up to a key.
 #[cycle(read)]
-fn read_rest(
+fn read_rights(
     alloc: Global,
     blocks: &AtHand,
     layer: u8,
     high: Option<&[u8]>,
-    entries: Entries,
-) -> Result<Rest, ReadFault>
-    requires hang { AllHang layer entries }
-    ensures gives { Gives (λ rest. rest_items layer rest.items) link_at_fault result (rights_of (part_at in_part node_of blocks.now layer) (option_map (λ k. k.now) high.entry) entries) }
-    ensures at { IfOk result (λ rest. AllAt layer rest.items) }
-    ensures keeps { IfOk result (λ rest. entries_of rest.items ≡ entries) }
+    rest: &mut Rest,
+) -> Result<(), ReadFault>
+    requires hang { AllHang layer (entries_of rest.old.items) }
+    requires bare { list_all is_bare rest.old.items ≡ true }
+    ensures gives { Gives (λ _. rest_items layer rest.new.items) link_at_fault result (rights_of (part_at in_part node_of blocks.now layer) (option_map (λ k. k.now) high.entry) (entries_of rest.old.items)) }
+    ensures at { OnOk result (AllAt layer rest.new.items) }
+    ensures keeps { OnOk result (entries_of rest.new.items ≡ entries_of rest.old.items) }
 {
-    let mut rest = Vec::with_capacity(alloc, entries.len())?;
-    let mut left = entries.into_vec();
-    // The first is taken from the end, so that the room of those that were taken can be given back.
-    left.reverse();
-    'entries: while let [others @ .., entry] = left.as_slice() {
-        let Some(link) = &entry.right else {
-            take_over(Below::Empty, &mut left, &mut rest)?;
-            continue;
+    let mut next = 0;
+    'parts: while let [part, others @ ..] = &rest[next..] {
+        let at = next;
+        next += 1;
+        let link = match &part.below {
+            Below::Hole(link) => link,
+            Below::Empty => continue,
+            Below::Tree(_) => continue,
         };
         let Some(block) = blocks.get(link) else {
-            take_over(Below::Hole(*link), &mut left, &mut rest)?;
             continue;
         };
-        let low = Some(entry.key.as_slice());
-        let high = bound_before(high, others);
+        let (low, high) = (Some(part.key.as_slice()), next_key(high, others));
         let below = read_tree(alloc, blocks, layer, low, high, *link, block)?;
-        take_over(below, &mut left, &mut rest)?;
+        let part = &mut rest[at];
+        part.below = below;
     }
-    Ok(rest)
+    Ok(())
 }
 
 /// The node at a layer, between two keys, that the block under a link spells.
 #[cycle(read)]
 #[inline(always)]
-pub(crate) fn read_parts(
+pub(crate) fn read_branch(
     alloc: Global,
     blocks: &AtHand,
     layer: u8,
     low: Option<&[u8]>,
     high: Option<&[u8]>,
     left: Option<Cid>,
-    entries: Entries,
+    parts: Rest,
     link: Cid,
 ) -> Result<Branch, ReadFault>
     requires kind { IsChildLink left }
     requires lowest { layer ≡ 0 → left ≡ None }
-    requires hang { AllHang layer entries }
-    requires link_is { link ≡ cid (node_bytes left entries) }
-    ensures gives { Gives (λ branch. branch.items) link_at_fault result (parts_of (part_at in_part node_of blocks.now layer) (option_map (λ k. k.now) low.entry) (option_map (λ k. k.now) high.entry) (left, entries)) }
+    requires hang { AllHang layer (entries_of parts.items) }
+    requires bare { list_all is_bare parts.items ≡ true }
+    requires link_is { link ≡ cid (node_bytes left (entries_of parts.items)) }
+    ensures gives { Gives (λ branch. branch.items) link_at_fault result (parts_of (part_at in_part node_of blocks.now layer) (option_map (λ k. k.now) low.entry) (option_map (λ k. k.now) high.entry) (left, entries_of parts.items)) }
     ensures layer { IfOk result (λ branch. branch.layer ≡ layer) }
     ensures link { IfOk result (λ branch. cid (spell branch.layer branch.items) ≡ link) }
-    ensures at { is_some_node (left, entries) ≡ true → IfOk result IsAtLayer }
+    ensures at { is_some_node (left, entries_of parts.items) ≡ true → IfOk result IsAtLayer }
 {
-    let inner_high = next_key(high, entries.as_slice());
-    let first = read_below(alloc, blocks, layer, low, inner_high, &left)?;
-    let rest = read_rest(alloc, blocks, layer, high, entries)?;
+    let mut rest = parts;
+    let first_high = next_key(high, rest.as_slice());
+    let first = read_below(alloc, blocks, layer, low, first_high, &left)?;
+    read_rights(alloc, blocks, layer, high, &mut rest)?;
     Ok(Branch {
         layer,
         link: Some(link),

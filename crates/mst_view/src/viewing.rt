@@ -1,21 +1,25 @@
 //! Views: the trees that blocks hold.
 
 ghost use Rattle.std.specs.Prelude.{◌≡◌, ℕ, List, IfOk, IfErr, Some, true};
+ghost use Rattle.std.specs.List.{list_all};
 ghost use Rattle.std.specs.FinMap as map;
 ghost use Rattle.at_cid.specs.Link.{IsNodeLink};
 ghost use Rattle.at_car.specs.Blocks.{AreLinked};
 ghost use Rattle.mst_node.specs.Trees.{IsView};
 ghost use Rattle.mst_node.specs.Reading.{node_of};
-ghost use Rattle.mst_node.specs.Fits.{layer_of_node, top_fits};
+ghost use Rattle.mst_node.specs.Fits.{top_fits};
+ghost use Rattle.mst_node.specs.NodeFaults.{layer_of};
+ghost use Rattle.mst_view.specs.Layered.{entries_of, is_bare};
 ghost use Rattle.mst_view.specs.ViewFault.{IsViewFault, HasNoView, fault_of};
 
 use crate::at_hand::AtHand;
+use crate::branch::Rest;
 use crate::holes::holes_differ;
-use crate::reading::{ReadFault, read_parts};
+use crate::reading::{ReadFault, read_branch};
 use crate::stub_tree::StubTree;
 use at_car::Blocks;
 use at_cid::Cid;
-use mst_node::{Node, NodeFault, layer_of, read_node, top_fits};
+use mst_node::{NodeFault, layer_of_parts, parts_top, read_parts};
 use std::alloc::Global;
 use thiserror::Error;
 
@@ -43,27 +47,28 @@ fn fault_of(fault: ReadFault) -> ViewFault
     }
 }
 
-/// The tree under a top node that may stand there.
-fn view_node(
+/// The tree under a top node of these parts that may stand there.
+fn view_parts(
     alloc: Global,
     blocks: &AtHand,
     root: Cid,
     layer: u8,
-    node: Node,
+    left: Option<Cid>,
+    parts: Rest,
 ) -> Result<StubTree, ViewFault>
     requires linked { AreLinked blocks.now }
     requires kind { IsNodeLink root }
-    requires layer { layer ≡ layer_of_node node }
-    requires fits { top_fits node ≡ true }
-    requires there { (block : List ℕ) × (map.get blocks.now root ≡ Some block) × (node_of block ≡ Some node) }
+    requires layer { layer ≡ layer_of (entries_of parts.items) }
+    requires bare { list_all is_bare parts.items ≡ true }
+    requires fits { top_fits (left, entries_of parts.items) ≡ true }
+    requires there { (block : List ℕ) × (map.get blocks.now root ≡ Some block) × (node_of block ≡ Some (left, entries_of parts.items)) }
     ensures view { IfOk result (λ tree. IsView blocks.now root tree) }
     ensures fault { IfErr result (λ fault. IsViewFault blocks.now root fault) }
 {
-    let Node { left, entries } = node;
-    if entries.is_empty() {
+    if parts.is_empty() {
         return Ok(StubTree::from_top(None));
     }
-    let branch = match read_parts(alloc, blocks, layer, None, None, left, entries, root) {
+    let branch = match read_branch(alloc, blocks, layer, None, None, left, parts, root) {
         Ok(branch) => branch,
         Err(fault) => return Err(fault_of(fault)),
     };
@@ -82,14 +87,14 @@ fn view_at(alloc: Global, blocks: &AtHand, root: Cid) -> Result<StubTree, ViewFa
     let Some(block) = blocks.get(&root) else {
         return Err(ViewFault::NoBlock(root));
     };
-    let node = match read_node(alloc, block) {
-        Ok(node) => node,
+    let (left, parts): (Option<Cid>, Rest) = match read_parts(alloc, block) {
+        Ok(parts) => parts,
         Err(NodeFault::BadNode) => return Err(ViewFault::BadNode(root)),
         Err(NodeFault::Memory) => return Err(ViewFault::Memory),
     };
-    let layer = layer_of(&node);
-    if top_fits(layer, &node) {
-        view_node(alloc, blocks, root, layer, node)
+    let layer = layer_of_parts(parts.as_slice());
+    if parts_top(layer, &left, parts.as_slice()) {
+        view_parts(alloc, blocks, root, layer, left, parts)
     } else {
         Err(ViewFault::BadNode(root))
     }
