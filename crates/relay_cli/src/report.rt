@@ -7,11 +7,14 @@ use at_cid::{Memory, Octets};
 use report_lines::{add_link, add_number, add_refusal};
 use std::alloc::Global;
 
+/// The most bytes of a line: two links of 59 bytes, a number of at most ten digits and what stands between them.
+const MOST_LINE_BYTES: usize = 144;
+
 /// The line of a message that was checked, with its line feed.
 pub fn report(alloc: Global, verdict: &Verdict) -> Result<Octets, Memory>
     ensures { IfOk result (λ line. line ≡ line_of verdict.now) }
 {
-    let mut line = Octets::new(alloc);
+    let mut line = Octets::from_vec(Vec::with_capacity(alloc, MOST_LINE_BYTES)?);
     match verdict {
         Verdict::Accepted(from, to, ops) => {
             line.extend(b"from ")?;
