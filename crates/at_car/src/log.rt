@@ -150,6 +150,7 @@ impl Log {
     }
 
     /// A block comes, and is held.
+    #[inline(always)]
     pub(crate) fn keep(&mut self, link: Cid, block: &[u8]) -> Result<(), Memory>
         requires { digest_of link ≡ sha256 block.now }
         ensures ok { OnOk result (self.new ≡ self.old ++ (link, Some block.now) ∷ []) }
