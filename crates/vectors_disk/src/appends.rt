@@ -33,13 +33,12 @@ struct Start {
     bodies: Vec<Vec<u8>>,
 }
 
-// What appending shows, and the disk behind it.
+// What appending shows.
 #[derive(Drop)]
 struct Run {
     answer: String,
     most: u64,
     spare: u64,
-    disk: MemoryDisk,
 }
 
 // Where a record would end for which a log is full.
@@ -99,30 +98,38 @@ fn appended<D: Disk>(
 }
 
 // Opens the log of a disk that has the row's content, and appends the bodies.
-fn run_of(alloc: Global, start: &Start, way: Way) -> Result<Run>
+fn run_on(alloc: Global, disk: &mut MemoryDisk, start: &Start, way: Way) -> Result<Run>
     requires { start.now.most ≤ LAST_END }
 {
-    let mut disk = disk_of(alloc, &start.content)?;
-    let mut log = Log::open(alloc, &mut disk, start.most)?;
-    let answer = appended(alloc, &mut log, &mut disk, &start.bodies, way)?;
+    let mut log = Log::open(alloc, disk, start.most)?;
+    let answer = appended(alloc, &mut log, disk, &start.bodies, way)?;
     Ok(Run {
         answer,
         most: log.most(),
         spare: log.spare(),
-        disk,
     })
 }
 
 // Whether the same comes of it where the bodies are put together in a room.
-fn are_alike(run: &Run, put: &Run) -> bool {
-    run.answer == put.answer
-        && run.most == put.most
-        && run.disk.content() == put.disk.content()
-        && run.disk.calls() == put.disk.calls()
+fn are_alike(alloc: Global, start: &Start, run: &Run, disk: &MemoryDisk) -> Result<bool>
+    requires { start.now.most ≤ LAST_END }
+{
+    let mut other = disk_of(alloc, &start.content)?;
+    let put = run_on(alloc, &mut other, start, Way::Room)?;
+    Ok(
+        run.answer == put.answer
+            && run.most == put.most
+            && disk.content() == other.content()
+            && disk.calls() == other.calls(),
+    )
 }
 
-fn told(alloc: Global, run: &Run, put: &Run) -> Result<String> {
-    if !are_alike(run, put) {
+// What appending shows to a disk that has the row's content.
+fn told(alloc: Global, start: &Start, disk: &mut MemoryDisk) -> Result<String>
+    requires { start.now.most ≤ LAST_END }
+{
+    let run = run_on(alloc, disk, start, Way::Slice)?;
+    if !are_alike(alloc, start, &run, disk)? {
         return said(alloc, "another end where bodies are put together in a room");
     }
     Answer::new(alloc)
@@ -130,7 +137,7 @@ fn told(alloc: Global, run: &Run, put: &Run) -> Result<String> {
         .words(" spare ")
         .number(run.spare)
         .words(" content ")
-        .bytes(run.disk.content())
+        .bytes(disk.content())
         .end()
 }
 
@@ -146,9 +153,8 @@ impl Subject for Appends {
             most,
             bodies,
         };
-        let whole = run_of(alloc, &start, Way::Slice)?;
-        let put = run_of(alloc, &start, Way::Room)?;
-        told(alloc, &whole, &put)
+        let mut disk = disk_of(alloc, &start.content)?;
+        told(alloc, &start, &mut disk)
     }
 }
 
@@ -161,8 +167,9 @@ impl Subject for LogCalls {
             bodies: row.pieces(" ; "),
         };
         row.end()?;
-        let whole = run_of(alloc, &start, Way::Slice)?;
-        calls_of(alloc, whole.disk.calls())
+        let mut disk = disk_of(alloc, &start.content)?;
+        run_on(alloc, &mut disk, &start, Way::Slice)?;
+        calls_of(alloc, disk.calls())
     }
 }
 

@@ -5,14 +5,15 @@ ghost use Rattle.std.specs.Prelude.{◌<◌};
 ghost use Rattle.gate_log.specs.declared.limits.TheConstants.{GENERATIONS};
 
 use crate::pairs::pair_held;
-use crate::texts::{MOST, told};
-use crate::words::{disk_of, fuse_of, pieces};
+use crate::row::Row;
+use crate::texts::MOST;
+use crate::words::{disk_of, fuse_of};
 use crate::worst::image;
 use anyhow::{Result, bail};
 use gate_log::{BODY_LENGTHS, Build, GENERATIONS, Log, LogFault};
 use relay_disk::{Disk, MemoryDisk, WORST_CASES};
 use std::alloc::Global;
-use vector_lines::{Answer, Subject, bytes, parted};
+use vector_lines::{Answer, Subject};
 
 pub struct Builds;
 
@@ -39,7 +40,7 @@ fn built<D: Disk>(
     disk: &mut D,
     generation: u64,
     bodies: &[Vec<u8>],
-) -> Result<u64, LogFault>
+) -> Result<(), LogFault>
     requires { generation < GENERATIONS }
 {
     let mut build = Build::begin(alloc, disk, generation, MOST)?;
@@ -49,29 +50,26 @@ fn built<D: Disk>(
         }
         build.add(disk, body.as_slice())?;
     }
-    let log = build.finish(disk)?;
-    Ok(log.end())
+    build.finish(disk)?;
+    Ok(())
 }
 
-// A build of a row, of which the generation is one that a log may have.
-fn answered<D: Disk>(alloc: Global, start: &Start, other: &mut D) -> Result<Result<u64, LogFault>> {
+// Whether the build of a row comes to its end. Its generation is one that a log may have.
+fn is_built<D: Disk>(alloc: Global, start: &Start, other: &mut D) -> Result<bool> {
     if start.generation >= GENERATIONS {
         bail!("a generation that no log has");
     }
-    told(built(alloc, other, start.generation, &start.bodies))
+    match built(alloc, other, start.generation, &start.bodies) {
+        Ok(()) => Ok(true),
+        Err(LogFault::Memory) => bail!("out of memory"),
+        Err(_) => Ok(false),
+    }
 }
 
 // What the live disk holds beside the other.
 fn held(alloc: Global, start: &Start, other: &mut MemoryDisk) -> Result<String> {
     let mut live = disk_of(alloc, &start.live)?;
     pair_held(alloc, &mut live, other)
-}
-
-// What a build answers that is stopped behind so many calls, and the other disk behind it.
-fn left(alloc: Global, start: &Start, calls: usize) -> Result<(Result<u64, LogFault>, MemoryDisk)> {
-    let mut other = fuse_of(alloc, &start.other, calls)?;
-    let answer = answered(alloc, start, &mut other)?;
-    Ok((answer, other.into_inner()))
 }
 
 // What the live disk holds beside a worst case of the other.
@@ -82,11 +80,21 @@ fn worst_held(alloc: Global, start: &Start, other: &MemoryDisk, i: u8) -> Result
 
 // Whether a stop behind so many calls leaves what it must.
 fn is_stopped(alloc: Global, start: &Start, whole: &Run, calls: usize) -> Result<bool> {
-    let (answer, other) = left(alloc, start, calls)?;
+    let mut other = fuse_of(alloc, &start.other, calls)?;
+    let is_built = is_built(alloc, start, &mut other)?;
     let left = whole.calls.saturating_sub(calls);
-    if answer.is_ok() != (left == 0) {
-        return Ok(false);
-    }
+    let other = other.into_inner();
+    Ok(is_built == (left == 0) && are_right(alloc, start, whole, &other, left)?)
+}
+
+// Whether each worst case of the other disk holds what it must where so many calls of the build are left.
+fn are_right(
+    alloc: Global,
+    start: &Start,
+    whole: &Run,
+    other: &MemoryDisk,
+    left: usize,
+) -> Result<bool> {
     for i in 0..WORST_CASES {
         // At the last sync the gate is open in the content alone.
         let is_built = left == 0 || (left == 1 && i == 0);
@@ -95,7 +103,7 @@ fn is_stopped(alloc: Global, start: &Start, whole: &Run, calls: usize) -> Result
         } else {
             &whole.before
         };
-        if worst_held(alloc, start, &other, i)?.as_str() != wanted.as_str() {
+        if worst_held(alloc, start, other, i)?.as_str() != wanted.as_str() {
             return Ok(false);
         }
     }
@@ -112,7 +120,7 @@ fn held_before(alloc: Global, start: &Start) -> Result<String> {
 fn whole(alloc: Global, start: &Start) -> Result<Run> {
     let before = held_before(alloc, start)?;
     let mut other = disk_of(alloc, &start.other)?;
-    if answered(alloc, start, &mut other)?.is_err() {
+    if !is_built(alloc, start, &mut other)? {
         bail!("a build that fails by itself");
     }
     let calls = other.calls().len();
@@ -151,23 +159,24 @@ fn generation_of(alloc: Global, live: &[u8]) -> Result<u64> {
     Ok(Log::open(alloc, &mut disk, MOST)?.generation())
 }
 
-fn start_of(alloc: Global, input: &str) -> Result<Start> {
-    let (live, rest) = parted(input, " ; ")?;
-    let (other, bodies) = parted(rest, " ; ")?;
-    let live = bytes(alloc, live)?;
-    let generation = generation_of(alloc, live.as_slice())?;
-    Ok(Start {
-        live,
-        other: bytes(alloc, other)?,
-        generation: generation.saturating_add(1),
-        bodies: pieces(alloc, bodies)?,
-    })
-}
-
 impl Subject for Builds {
     fn answer(&self, alloc: Global, input: &str) -> Result<String> {
-        let start = start_of(alloc, input)?;
-        let whole = whole(alloc, &start)?;
-        stopped(alloc, &start, &whole)
+        let mut row = Row::new(alloc, input);
+        let mut start = Start {
+            live: row.bytes(" ; "),
+            other: row.bytes(" ; "),
+            generation: 0,
+            bodies: row.pieces(" ; "),
+        };
+        told(alloc, &row, &mut start)
     }
+}
+
+// What a row shows that is read so far but for the generation.
+fn told(alloc: Global, row: &Row<'_>, start: &mut Start) -> Result<String> {
+    row.end()?;
+    let live = generation_of(alloc, &start.live)?;
+    start.generation = live.saturating_add(1);
+    let whole = whole(alloc, start)?;
+    stopped(alloc, start, &whole)
 }

@@ -21,7 +21,9 @@ fn are_moments(moments: &[u64]) -> bool
     moments.iter().all(|moment| *moment <= LAST_MOMENT)
 }
 
-fn clock(alloc: Global, moments: &[u64], failing: &[u64]) -> Result<ListClock> {
+// A clock of moments, which a row that is read to its end has.
+fn clock(alloc: Global, row: &Row<'_>, moments: &[u64], failing: &[u64]) -> Result<ListClock> {
+    row.end()?;
     if moments.is_empty() || !are_moments(moments) {
         bail!("moments");
     }
@@ -36,8 +38,7 @@ impl Subject for Clocks {
         let moments = row.numbers(" ; ");
         let failing = row.numbers(" ; ");
         let calls = row.number(" ; ");
-        row.end()?;
-        let mut clock = clock(alloc, moments.as_slice(), failing.as_slice())?;
+        let mut clock = clock(alloc, &row, moments.as_slice(), failing.as_slice())?;
         told(alloc, &mut clock, calls)
     }
 }

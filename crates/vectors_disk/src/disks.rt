@@ -7,111 +7,109 @@ use crate::words::{ROOM, disk_of, fuse_of};
 use anyhow::Result;
 use relay_disk::{Call, Failed, MemoryDisk};
 use std::alloc::Global;
-use vector_lines::{Answer, Subject, had, said};
+use vector_lines::{Answer, Subject, had};
 
 pub struct Disks;
 
-// What a script answered, and the disk behind it.
-#[derive(Drop)]
-struct Left {
-    answer: Result<[u8; 2], Failed>,
-    disk: MemoryDisk,
+// A whole run of a script: the calls that it made, and the bytes that it found.
+#[derive(Clone, Copy)]
+struct Whole<'a> {
+    steps: &'a [Step],
+    calls: &'a [Call],
+    found: [u8; 2],
 }
 
-// A disk on which these calls fail, with room for so many.
-fn failing(alloc: Global, failing: &[u64], calls: usize) -> Result<MemoryDisk> {
-    let mut disk = had(MemoryDisk::new(alloc, &[], failing))?;
-    had(disk.reserve(calls, ROOM))?;
-    Ok(disk)
-}
-
-fn left_by(mut disk: MemoryDisk, steps: &[Step]) -> Left {
-    let answer = run(&mut disk, steps);
-    Left { answer, disk }
-}
-
-// What is left where the call behind so many fails since it is listed.
-fn listed(alloc: Global, steps: &[Step], done: usize) -> Result<Left> {
-    let number = (done as u64).saturating_add(1);
-    Ok(left_by(failing(alloc, &[number], ROOM)?, steps))
-}
-
-// What is left where there is no room for the call behind so many.
-fn short(alloc: Global, steps: &[Step], done: usize) -> Result<Left> {
-    Ok(left_by(failing(alloc, &[], done)?, steps))
-}
-
-// What is left by a disk that passes on so many calls.
-fn fused(alloc: Global, steps: &[Step], done: usize) -> Result<Left> {
-    let mut fuse = fuse_of(alloc, &[], done)?;
-    let answer = run(&mut fuse, steps);
-    let disk = fuse.into_inner();
-    Ok(Left { answer, disk })
-}
-
-fn are_alike(left: &Left, other: &Left) -> bool {
-    left.answer == other.answer
-        && left.disk.content() == other.disk.content()
-        && left.disk.calls() == other.disk.calls()
-}
-
-// Whether a script that is stopped behind so many calls of a whole run, which found these bytes, made just them.
-fn is_front(left: &Left, calls: &[Call], found: &[u8; 2], done: usize) -> bool {
-    let wanted = if done < calls.len() {
+// Whether a script that is stopped behind so many calls of a whole run made just them, and left this content.
+fn is_left(
+    whole: &Whole<'_>,
+    answer: &Result<[u8; 2], Failed>,
+    disk: &MemoryDisk,
+    content: &[u8],
+    done: usize,
+) -> bool {
+    let wanted = if done < whole.calls.len() {
         Err(Failed)
     } else {
-        Ok(*found)
+        Ok(whole.found)
     };
-    left.answer == wanted && calls.get(..done) == Some(left.disk.calls())
+    *answer == wanted && whole.calls.get(..done) == Some(disk.calls()) && disk.content() == content
 }
 
-// What a script leaves that is stopped behind so many calls, where all ways of stopping it leave the same.
-fn stopped(
+// Whether a script is stopped so by a disk on which these calls fail, with room for so many.
+fn is_stopped(
     alloc: Global,
-    steps: &[Step],
-    calls: &[Call],
-    found: &[u8; 2],
+    whole: &Whole<'_>,
+    failing: &[u64],
+    room: usize,
+    content: &[u8],
     done: usize,
-) -> Result<Option<Left>> {
-    let left = fused(alloc, steps, done)?;
-    let is_same = is_front(&left, calls, found, done)
-        && are_alike(&listed(alloc, steps, done)?, &left)
-        && are_alike(&short(alloc, steps, done)?, &left);
-    Ok(if is_same { Some(left) } else { None })
+) -> Result<bool> {
+    let mut disk = had(MemoryDisk::new(alloc, &[], failing))?;
+    had(disk.reserve(room, ROOM))?;
+    let answer = run(&mut disk, whole.steps);
+    Ok(is_left(whole, &answer, &disk, content, done))
+}
+
+// Whether all ways of stopping a script behind so many calls leave what this disk has, which passed on so many.
+fn are_alike(
+    alloc: Global,
+    whole: &Whole<'_>,
+    answer: &Result<[u8; 2], Failed>,
+    disk: &MemoryDisk,
+    done: usize,
+) -> Result<bool> {
+    let number = (done as u64).saturating_add(1);
+    let content = disk.content();
+    Ok(
+        is_left(whole, answer, disk, content, done)
+            && is_stopped(alloc, whole, &[number], ROOM, content, done)?
+            && is_stopped(alloc, whole, &[], done, content, done)?,
+    )
+}
+
+// With the content behind that a script leaves which is stopped behind so many calls, once it made one.
+fn with_left(alloc: Global, answer: Answer, whole: &Whole<'_>, done: usize) -> Result<Answer> {
+    let mut fuse = fuse_of(alloc, &[], done)?;
+    let found = run(&mut fuse, whole.steps);
+    let disk = fuse.into_inner();
+    let are_alike = are_alike(alloc, whole, &found, &disk, done)?;
+    let answer = answer.words(if are_alike { "" } else { "not stopped alike " });
+    if done == 0 && !whole.calls.is_empty() {
+        return Ok(answer);
+    }
+    Ok(answer.bytes(disk.content()))
 }
 
 impl Subject for Disks {
     fn answer(&self, alloc: Global, input: &str) -> Result<String> {
         let steps = script(alloc, input)?;
-        let mut whole = disk_of(alloc, &[])?;
-        let found = run(&mut whole, steps.as_slice())?;
-        told(alloc, steps.as_slice(), whole.calls(), &found)
+        let mut disk = disk_of(alloc, &[])?;
+        let found = run(&mut disk, steps.as_slice());
+        told(alloc, steps.as_slice(), &disk, found)
     }
 }
 
 // Each call with the content behind it, and what was read last.
-fn told(alloc: Global, steps: &[Step], calls: &[Call], found: &[u8; 2]) -> Result<String> {
+fn told(
+    alloc: Global,
+    steps: &[Step],
+    disk: &MemoryDisk,
+    found: Result<[u8; 2], Failed>,
+) -> Result<String> {
+    let found = found?;
+    let calls = disk.calls();
+    let whole = Whole {
+        steps,
+        calls,
+        found,
+    };
     let mut answer = Answer::new(alloc);
     for (i, call) in calls.iter().enumerate() {
-        let Some(left) = stopped(alloc, steps, calls, found, i)? else {
-            return said(alloc, "not stopped alike");
-        };
-        answer = with_call(with_content(answer, &left, i), *call).words(":");
+        answer = with_left(alloc, answer, &whole, i)?.words(if i > 0 { " " } else { "" });
+        answer = with_call(answer, *call).words(":");
     }
-    let Some(left) = stopped(alloc, steps, calls, found, calls.len())? else {
-        return said(alloc, "not ended alike");
-    };
-    answer
-        .bytes(left.disk.content())
+    with_left(alloc, answer, &whole, calls.len())?
         .words(" read ")
-        .bytes(found)
+        .bytes(&found)
         .end()
-}
-
-// With the content behind, where a call was made before.
-fn with_content(answer: Answer, left: &Left, calls: usize) -> Answer {
-    if calls == 0 {
-        return answer;
-    }
-    answer.bytes(left.disk.content()).words(" ")
 }

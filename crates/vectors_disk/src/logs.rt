@@ -18,23 +18,24 @@ impl Subject for Logs {
     fn answer(&self, alloc: Global, input: &str) -> Result<String> {
         let content = bytes(alloc, input)?;
         let mut disk = disk_of(alloc, content.as_slice())?;
-        let answer = opened(alloc, &mut disk)?;
-        if disk.content() == content.as_slice() {
-            return Ok(answer);
-        }
-        written_over(alloc, answer.as_str(), disk.content())
+        told(alloc, &mut disk, content.as_slice())
     }
 }
 
-// The answer of a disk that isn't as it was before, which is that of an unmade log where it was made.
-fn written_over(alloc: Global, answer: &str, content: &[u8]) -> Result<String> {
-    if content == MADE.as_slice() && answer == "ok first 9 generation 0 end 9 bodies -" {
+// What the disk of a content tells. Where it isn't as it was before, that is the answer of an unmade log that was made.
+fn told(alloc: Global, disk: &mut MemoryDisk, content: &[u8]) -> Result<String> {
+    let answer = opened(alloc, disk)?;
+    if disk.content() == content {
+        return Ok(answer);
+    }
+    let is_made = disk.content() == MADE.as_slice();
+    if is_made && answer.as_str() == "ok first 9 generation 0 end 9 bodies -" {
         return said(alloc, "unmade");
     }
     Answer::new(alloc)
-        .words(answer)
+        .words(answer.as_str())
         .words(", but written over by ")
-        .bytes(content)
+        .bytes(disk.content())
         .end()
 }
 

@@ -4,7 +4,7 @@ use crate::pairs::two_disks;
 use crate::row::Row;
 use crate::texts::log_fault;
 use anyhow::Result;
-use gate_log::{LogFault, Side, pick};
+use gate_log::{Side, pick};
 use std::alloc::Global;
 use vector_lines::{Subject, said};
 
@@ -22,14 +22,15 @@ impl Subject for Picks {
         let mut row = Row::new(alloc, input);
         let one = row.bytes(" ");
         let two = row.bytes(" ");
-        row.end()?;
-        let [mut one, mut two] = two_disks(alloc, one.as_slice(), two.as_slice())?;
-        told(alloc, pick(&mut one, &mut two))
+        told(alloc, &row, one.as_slice(), two.as_slice())
     }
 }
 
-fn told(alloc: Global, picked: Result<Side, LogFault>) -> Result<String> {
-    match picked {
+// Which of the disks of these contents, of a row that is read to its end, has the log.
+fn told(alloc: Global, row: &Row<'_>, one: &[u8], two: &[u8]) -> Result<String> {
+    row.end()?;
+    let [mut one, mut two] = two_disks(alloc, one, two)?;
+    match pick(&mut one, &mut two) {
         Ok(side) => said(alloc, side_name(side)),
         Err(fault) => log_fault(alloc, fault),
     }

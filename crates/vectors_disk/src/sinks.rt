@@ -8,8 +8,15 @@ use vector_lines::{Answer, Subject, had};
 
 pub struct Sinks;
 
-// A sink whose room comes in two halves.
-fn sink(alloc: Global, room: usize, step: usize, failing: &[u64]) -> Result<MemorySink> {
+// A sink whose room comes in two halves, which a row that is read to its end has.
+fn sink(
+    alloc: Global,
+    row: &Row<'_>,
+    room: usize,
+    step: usize,
+    failing: &[u64],
+) -> Result<MemorySink> {
+    row.end()?;
     if step == 0 {
         bail!("a step of some bytes");
     }
@@ -25,8 +32,7 @@ impl Subject for Sinks {
         let step = row.size(" ; ");
         let room = row.size(" ; ");
         let failing = row.numbers(" ; ");
-        row.end()?;
-        let mut sink = sink(alloc, room, step, failing.as_slice())?;
+        let mut sink = sink(alloc, &row, room, step, failing.as_slice())?;
         written(alloc, &mut sink, content.as_slice())
     }
 }

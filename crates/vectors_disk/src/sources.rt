@@ -9,7 +9,15 @@ use vector_lines::{Answer, Subject, had, said};
 
 pub struct Sources;
 
-fn source(alloc: Global, bytes: &[u8], step: usize, failing: &[u64]) -> Result<MemorySource> {
+// A source of bytes, which a row that is read to its end has.
+fn source(
+    alloc: Global,
+    row: &Row<'_>,
+    bytes: &[u8],
+    step: usize,
+    failing: &[u64],
+) -> Result<MemorySource> {
+    row.end()?;
     if step == 0 {
         bail!("a step of some bytes");
     }
@@ -25,13 +33,12 @@ impl Subject for Sources {
         let step = row.size(" ; ");
         let limit = row.size(" ; ");
         let failing = row.numbers(" ; ");
-        row.end()?;
-        let mut source = source(alloc, content.as_slice(), step, failing.as_slice())?;
-        told(alloc, read_to_end(alloc, &mut source, limit))
+        let mut source = source(alloc, &row, content.as_slice(), step, failing.as_slice())?;
+        told(alloc, &read_to_end(alloc, &mut source, limit))
     }
 }
 
-fn told(alloc: Global, answer: Result<Octets, ReadFault>) -> Result<String> {
+fn told(alloc: Global, answer: &Result<Octets, ReadFault>) -> Result<String> {
     match answer {
         Ok(read) => Answer::new(alloc).bytes(read.as_slice()).end(),
         Err(ReadFault::Failed) => said(alloc, "Failed"),

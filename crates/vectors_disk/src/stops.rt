@@ -41,13 +41,7 @@ pub fn added<D: Disk>(alloc: Global, disk: &mut D, body: &[u8]) -> Result<u64, L
     answer
 }
 
-// Whether a disk holds what was before, and the body is appended at the run's place.
-fn is_before(alloc: Global, disk: &mut MemoryDisk, body: &[u8], run: &Run) -> Result<bool> {
-    let is_same = held(alloc, disk)? == run.before;
-    Ok(is_same && added(alloc, disk, body)? == run.place)
-}
-
-// Whether a disk holds what is after, at once or once the body is appended to what was before.
+// Whether a disk holds what is after, at once or once the body is appended, at the run's place, to what was before.
 fn is_right(
     alloc: Global,
     disk: &mut MemoryDisk,
@@ -55,10 +49,9 @@ fn is_right(
     run: &Run,
     is_added: bool,
 ) -> Result<bool> {
-    if !is_added && !is_before(alloc, disk, body, run)? {
-        return Ok(false);
-    }
-    Ok(held(alloc, disk)? == run.after)
+    let is_ready = is_added
+        || (held(alloc, disk)? == run.before && added(alloc, disk, body) == Ok(run.place));
+    Ok(is_ready && held(alloc, disk)? == run.after)
 }
 
 // Whether a worst case is right where so many calls of the run are left.

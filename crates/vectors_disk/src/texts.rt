@@ -28,14 +28,6 @@ fn with_span(answer: Answer, place: u64, len: usize) -> Answer {
         .words(")")
 }
 
-/// The answer of a log's call, where there was memory for it.
-pub fn told<T>(answer: Result<T, LogFault>) -> Result<Result<T, LogFault>> {
-    match answer {
-        Err(LogFault::Memory) => bail!("out of memory"),
-        told => Ok(told),
-    }
-}
-
 /// The fault of a log, where it isn't the want of memory.
 pub fn log_fault(alloc: Global, fault: LogFault) -> Result<String> {
     let answer = Answer::new(alloc);

@@ -1,7 +1,7 @@
 //! `CONTENT ; SCRIPT = IMAGE IMAGE IMAGE`: the worst cases of a crash behind a script.
 
 use crate::row::Row;
-use crate::scripts::{Step, run, script};
+use crate::scripts::{run, script};
 use crate::words::{ROOM, disk_of};
 use anyhow::{Context, Result};
 use relay_disk::{MemoryDisk, WORST_CASES};
@@ -21,31 +21,28 @@ impl Subject for Worst {
     fn answer(&self, alloc: Global, input: &str) -> Result<String> {
         let mut row = Row::new(alloc, input);
         let content = row.bytes(" ; ");
-        let steps = script(alloc, row.part(" ; "))?;
-        row.end()?;
-        told(
-            alloc,
-            &left_by(alloc, content.as_slice(), steps.as_slice())?,
-        )
+        let text = row.part(" ; ");
+        let mut disk = disk_of(alloc, content.as_slice())?;
+        told(alloc, &row, &mut disk, text)
     }
 }
 
-// The disk of this content behind a script.
-fn left_by(alloc: Global, content: &[u8], steps: &[Step]) -> Result<MemoryDisk> {
-    let mut disk = disk_of(alloc, content)?;
-    run(&mut disk, steps)?;
-    Ok(disk)
+// The worst cases of a disk behind the script of a row that is read to its end.
+fn told(alloc: Global, row: &Row<'_>, disk: &mut MemoryDisk, text: &str) -> Result<String> {
+    row.end()?;
+    let steps = script(alloc, text)?;
+    run(disk, &steps)?;
+    images(alloc, disk)
 }
 
-fn told(alloc: Global, disk: &MemoryDisk) -> Result<String> {
+fn images(alloc: Global, disk: &MemoryDisk) -> Result<String> {
     let mut answer = Answer::new(alloc);
     for i in 0..WORST_CASES {
         let image = image(alloc, disk, i)?;
         answer = answer.words(if i > 0 { " " } else { "" });
         answer = answer.bytes(image.content());
     }
-    if had(disk.worst(alloc, WORST_CASES))?.is_some() {
-        answer = answer.words(" and more");
-    }
-    answer.end()
+    let more = disk.worst(alloc, WORST_CASES);
+    let is_last = matches!(&more, Ok(None));
+    answer.words(if is_last { "" } else { " and more" }).end()
 }
