@@ -97,12 +97,15 @@ fn whole_of(alloc: Global, text: &str) -> Result<Whole> {
     let (seq, rest) = parted(text, ":")?;
     let (records, rest) = parted(rest, ":")?;
     let (message, head) = parted(rest, ":")?;
-    let (seq, records, head) = (number(seq)?, number(records)?, head_of(head)?);
+    let seq = number(seq)?;
+    let records = number(records)?;
+    let head = head_of(head)?;
+    let message = bytes(alloc, message)?;
     Ok(Whole {
         seq,
         head,
         records,
-        message: Octets::from_vec(bytes(alloc, message)?),
+        message: Octets::from_vec(message),
     })
 }
 

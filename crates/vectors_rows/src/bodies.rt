@@ -7,6 +7,7 @@ use anyhow::{Result, bail, ensure};
 use at_cid::Octets;
 use relay_row::{Row, RowFault, Rows, is_row, read_rows, write_row, write_rows, write_spelled};
 use std::alloc::Global;
+use std::mem;
 use vector_lines::{Answer, Subject, bytes, had, said};
 
 pub struct Bodies;
@@ -27,8 +28,9 @@ fn told(alloc: Global, answer: Result<Rows, RowFault>, body: &[u8]) -> Result<St
 }
 
 fn bad(alloc: Global, body: &[u8]) -> Result<String> {
+    let mut out = Octets::new(alloc);
     ensure!(
-        walked(alloc, body)?.is_none(),
+        !walked(alloc, body, &mut out)?,
         "one after the other, its rows are read"
     );
     said(alloc, "BadRow")
@@ -36,8 +38,10 @@ fn bad(alloc: Global, body: &[u8]) -> Result<String> {
 
 fn counted(alloc: Global, rows: &Rows, body: &[u8]) -> Result<String> {
     let len = rows.len();
-    ensure!(rows.is_empty() == (len == 0), "which are empty");
-    ensure!(rows.get(len).is_none(), "none behind the last");
+    ensure!(
+        rows.is_empty() == (len == 0) && rows.get(len).is_none(),
+        "other rows than are counted"
+    );
     ensure!(is_written(alloc, rows, body)?, "other bytes are written");
     ensure_spelled(alloc, rows.as_slice(), body)?;
     ensure_seen(rows.as_slice(), body)?;
@@ -54,9 +58,7 @@ fn ensure_spelled(alloc: Global, rows: &[Row], body: &[u8]) -> Result<()> {
     let out = spelled(alloc, rows)?;
     ensure!(body.ends_with(out.as_slice()), "other rows are spelled");
     ensure_walked(alloc, body, out.as_slice())?;
-    let copies = spelled_copies(alloc, rows)?;
-    ensure!(copies.as_slice() == out.as_slice(), "a copy differs");
-    Ok(())
+    ensure_copied(alloc, rows, out.as_slice())
 }
 
 fn spelled(alloc: Global, rows: &[Row]) -> Result<Octets> {
@@ -65,17 +67,24 @@ fn spelled(alloc: Global, rows: &[Row]) -> Result<Octets> {
     Ok(out)
 }
 
-// The rows spelled one behind another, as copies of them are, each written by itself.
-fn spelled_copies(alloc: Global, rows: &[Row]) -> Result<Octets> {
+// Ensures that copies of the rows, each written by itself, are spelled so one behind another.
+fn ensure_copied(alloc: Global, rows: &[Row], spelled: &[u8]) -> Result<()> {
     let mut out = Octets::new(alloc);
+    let mut are_added = true;
     for row in rows {
-        add_copy(&mut out, row)?;
+        are_added &= add_copy(&mut out, row);
     }
-    Ok(out)
+    ensure!(are_added && out.as_slice() == spelled, "a copy differs");
+    Ok(())
 }
 
-fn add_copy(out: &mut Octets, row: &Row) -> Result<()> {
-    let copy = had(row.try_clone())?;
-    ensure!(is_row(&copy), "a row that isn't well formed was read");
-    had(write_row(out, &copy))
+// Adds a copy of a row, and tells whether it is well formed and there was memory for it.
+fn add_copy(out: &mut Octets, row: &Row) -> bool {
+    let copy = row.try_clone();
+    let is_added = match &copy {
+        Ok(copy) => is_row(copy) && write_row(out, copy).is_ok(),
+        Err(_) => false,
+    };
+    mem::drop(copy);
+    is_added
 }

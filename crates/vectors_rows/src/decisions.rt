@@ -1,82 +1,87 @@
 //! `BODIES ; HOST ; MESSAGE ; ANSWERS = QUESTIONS ; WHAT ; BODY`: behind the rows of the bodies the host sends the message; the
-//! questions are those that are asked, in their order, and the body is that of the row that is made.
+//! questions are those that are asked, in their order, and the body is that of the row that is made. A message and a row are let
+//! go by `mem::drop`, to whose proof their parts are nothing.
 
 use crate::answers::answers_of;
-use crate::cores::core_of;
-use crate::journals::{last_row, with_row};
-use anyhow::{Context, Result, bail, ensure};
+use crate::cores::Told;
+use crate::journals::{last_of, rows_in, with_rows};
+use anyhow::{Result, bail, ensure};
 use at_cbor::write_list_front;
-use at_cid::Octets;
-use at_event::{Frame, Refusal, read_frame};
+use at_cid::{Memory, Octets};
+use at_event::{Frame, FrameFault, Refusal, read_frame};
 use relay_core::{Answers, Core, Decision, Next, Pass, Question};
-use relay_row::{Fresh, NUMBERS, Row, write_fresh};
+use relay_row::{Fresh, NUMBERS, Rows, write_fresh};
 use std::alloc::Global;
-use vector_lines::{Answer, Subject, bytes, had, parted};
+use std::mem;
+use vector_lines::{Answer, bytes, had, parted};
 
 pub struct Decisions;
 
 // More questions than there are.
 const MOST_QUESTIONS: usize = 8;
 
-// A message of a line.
+// A message of a line, which moves into its row.
 #[derive(Drop)]
 struct Sent<'a> {
     host: &'a str,
-    frame: Frame,
+    frame: &'a mut Frame,
 }
 
-impl Subject for Decisions {
-    fn answer(&self, alloc: Global, input: &str) -> Result<String> {
-        let (bodies, rest) = parted(input, " ; ")?;
+impl Told for Decisions {
+    fn told(&self, alloc: Global, core: &mut Core, rest: &str) -> Result<String> {
         let (host, rest) = parted(rest, " ; ")?;
         let (message, answers) = parted(rest, " ; ")?;
-        let sent = read_sent(alloc, host, message)?;
-        behind(alloc, bodies, sent, &mut answers_of(alloc, answers)?)
+        let message = bytes(alloc, message)?;
+        let mut frame = read_frame(alloc, message.as_slice());
+        let answer = read(alloc, core, host, &mut frame, answers);
+        mem::drop(frame);
+        answer
     }
 }
 
-fn behind(alloc: Global, bodies: &str, sent: Sent, given: &mut Answers) -> Result<String> {
-    let core = core_of(alloc, bodies)?;
-    decided(alloc, &core, sent, given)
-}
-
-fn read_sent<'a>(alloc: Global, host: &'a str, message: &str) -> Result<Sent<'a>> {
-    let frame = frame(alloc, bytes(alloc, message)?.as_slice())?;
-    Ok(Sent { host, frame })
-}
-
-fn frame(alloc: Global, message: &[u8]) -> Result<Frame> {
-    Ok(read_frame(alloc, message)?)
-}
-
-fn decided(alloc: Global, core: &Core, sent: Sent, given: &mut Answers) -> Result<String> {
-    let mut answers = Answers::new();
-    let answer = asked(Answer::new(alloc), core, &sent, &mut answers, given);
-    let next = next(core, &sent, &answers);
-    let Next::Done(decision) = next else {
-        return undecided(answer, next);
+fn read(
+    alloc: Global,
+    core: &Core,
+    host: &str,
+    frame: &mut Result<Frame, FrameFault>,
+    answers: &str,
+) -> Result<String> {
+    let Ok(frame) = frame else {
+        bail!("a message that can't be read");
     };
-    let row = made(alloc, core, sent, &decision, answers)?;
-    told(alloc, core, with_decision(answer, &decision), row)
+    let mut given = answers_of(alloc, answers)?;
+    decided(alloc, core, &mut Sent { host, frame }, &mut given)
 }
 
-fn told(alloc: Global, core: &Core, answer: Answer, row: Row) -> Result<String> {
-    ensure!(core.is_next(&row), "the row breaks the order");
-    with_row(alloc, answer, row)
+fn decided(alloc: Global, core: &Core, sent: &mut Sent<'_>, given: &mut Answers) -> Result<String> {
+    let mut answers = Answers::new();
+    let answer = asked(Answer::new(alloc), core, sent, &mut answers, given);
+    told(alloc, core, answer, sent, &mut answers)
 }
 
-fn undecided(answer: Answer, next: Next) -> Result<String> {
-    match next {
-        Next::Pass(pass) => answer.words("; passed ").words(pass_name(pass)).end(),
-        _ => bail!("a question without an answer"),
-    }
+// With what is decided behind, and the body of the row, as it is read back.
+fn told(
+    alloc: Global,
+    core: &Core,
+    answer: Answer,
+    sent: &mut Sent<'_>,
+    answers: &mut Answers,
+) -> Result<String> {
+    let decision = match next(core, sent, answers) {
+        Next::Done(decision) => decision,
+        Next::Pass(pass) => return answer.words("; passed ").words(pass_name(pass)).end(),
+        Next::Ask(_) => bail!("a question without an answer"),
+    };
+    let rows = made(alloc, core, sent, &decision, answers)?;
+    ensure!(core.is_next(last_of(&rows)?), "the row breaks the order");
+    with_rows(alloc, with_decision(answer, &decision), &rows)
 }
 
 // Asks until there is no question, with the names of those that were asked behind the answer.
 fn asked(
     answer: Answer,
     core: &Core,
-    sent: &Sent,
+    sent: &Sent<'_>,
     answers: &mut Answers,
     given: &mut Answers,
 ) -> Answer {
@@ -91,8 +96,8 @@ fn asked(
     answer
 }
 
-fn next(core: &Core, sent: &Sent, answers: &Answers) -> Next {
-    core.next(sent.host, &sent.frame, answers)
+fn next(core: &Core, sent: &Sent<'_>, answers: &Answers) -> Next {
+    core.next(sent.host, sent.frame, answers)
 }
 
 fn question_name(question: Question) -> &'static str {
@@ -150,28 +155,35 @@ fn with_refusal(answer: Answer, refusal: &Refusal) -> Answer {
 fn made(
     alloc: Global,
     core: &Core,
-    sent: Sent,
+    sent: &mut Sent<'_>,
     decision: &Decision,
-    answers: Answers,
-) -> Result<Row> {
-    let body = spelled(alloc, &fresh(alloc, core, sent, decision, answers)?)?;
-    last_row(alloc, body.as_slice())
+    answers: &mut Answers,
+) -> Result<Rows> {
+    let body = body_of(alloc, core, sent, decision, answers)?;
+    rows_in(alloc, body.as_slice())
 }
 
-fn fresh(
+fn body_of(
     alloc: Global,
     core: &Core,
-    sent: Sent,
+    sent: &mut Sent<'_>,
     decision: &Decision,
-    answers: Answers,
-) -> Result<Fresh> {
+    answers: &mut Answers,
+) -> Result<Octets> {
     ensure!(core.last_seq() < NUMBERS - 1, "no number is left");
-    let row = had(core.row(alloc, sent.host, sent.frame, decision, answers))?;
-    row.context("a row of an event")
+    let frame = mem::replace(sent.frame, Frame::Unknown);
+    let answers = mem::replace(answers, Answers::new());
+    let fresh = core.row(alloc, sent.host, frame, decision, answers);
+    let body = spelled(alloc, &fresh);
+    mem::drop(fresh);
+    body
 }
 
 // The body of the row with its message.
-fn spelled(alloc: Global, fresh: &Fresh) -> Result<Octets> {
+fn spelled(alloc: Global, fresh: &Result<Option<Fresh>, Memory>) -> Result<Octets> {
+    let Ok(Some(fresh)) = fresh else {
+        bail!("no row of an event");
+    };
     let mut body = Octets::new(alloc);
     had(write_list_front(&mut body, 1))?;
     had(write_fresh(&mut body, fresh))?;

@@ -2,7 +2,7 @@
 //! refusals leave their account lost.
 
 use crate::answers::refusal_of;
-use crate::journals::only_row;
+use crate::journals::{last_of, rows_of};
 use anyhow::Result;
 use relay_row::{Row, loses};
 use std::alloc::Global;
@@ -14,7 +14,8 @@ pub struct Losses;
 
 impl Subject for Facts {
     fn answer(&self, alloc: Global, input: &str) -> Result<String> {
-        told(alloc, &only_row(alloc, input)?)
+        let rows = rows_of(alloc, input)?;
+        told(alloc, last_of(&rows)?)
     }
 }
 

@@ -1,15 +1,16 @@
 //! `BODIES = last NUMBER hosts .. accounts ..`: the state behind the rows, told by the whole state, and by the accounts and the
 //! hosts each folded alone. `nexts`: `BODIES ; DID = DID, or none`. `account_states`: `BODIES ; TOUCHED ; DID = ACCOUNT, or none`.
 
-use crate::cores::core_of;
+use crate::cores::Told;
 use crate::journals::{Follows, follow_all};
 use crate::telling::{Named, with_account, with_accounts, with_hosts};
-use account_state::{Account, Accounts};
+use account_state::Accounts;
 use anyhow::{Result, bail, ensure};
 use host_state::Hosts;
 use relay_core::Core;
 use relay_row::Row;
 use std::alloc::Global;
+use std::mem;
 use vector_lines::{Answer, Subject, had, parted, said};
 
 pub struct Folds;
@@ -18,37 +19,23 @@ pub struct Nexts;
 
 pub struct States;
 
-impl Follows for Accounts {
+// The accounts and the hosts, each folded alone.
+#[derive(Drop)]
+struct Parts {
+    accounts: Accounts,
+    hosts: Hosts,
+}
+
+impl Follows for Parts {
     fn follow(&mut self, row: Row) -> Result<()> {
-        if self.touch(row.did()).is_err() {
+        if self.accounts.touch(row.did()).is_err() || self.hosts.touch(row.host()).is_err() {
+            mem::drop(row);
             bail!("out of memory");
         }
-        self.apply(row);
+        self.hosts.apply(&row);
+        self.accounts.apply(row);
         Ok(())
     }
-}
-
-impl Follows for Hosts {
-    fn follow(&mut self, row: Row) -> Result<()> {
-        if self.touch(row.host()).is_err() {
-            bail!("out of memory");
-        }
-        self.apply(&row);
-        Ok(())
-    }
-}
-
-fn accounts_of(alloc: Global, text: &str) -> Result<Accounts> {
-    let mut accounts = Accounts::new(alloc);
-    follow_all(&mut accounts, alloc, text)?;
-    Ok(accounts)
-}
-
-fn hosts_of(alloc: Global, text: &str) -> Result<Hosts> {
-    let mut hosts = Hosts::new(alloc);
-    ensure!(hosts.is_empty(), "no hosts at the start");
-    follow_all(&mut hosts, alloc, text)?;
-    Ok(hosts)
 }
 
 // The state, told of one who has accounts and of hosts.
@@ -60,13 +47,17 @@ fn told<N: Named>(alloc: Global, last: u64, hosts: &Hosts, named: &N) -> Result<
 
 // The state, told of its parts, each folded alone.
 fn told_in_parts(alloc: Global, last: u64, text: &str) -> Result<String> {
-    let hosts = hosts_of(alloc, text)?;
-    told_beside(alloc, last, &hosts, text)
+    let mut parts = Parts {
+        accounts: Accounts::new(alloc),
+        hosts: Hosts::new(alloc),
+    };
+    told_of(alloc, last, text, &mut parts)
 }
 
-fn told_beside(alloc: Global, last: u64, hosts: &Hosts, text: &str) -> Result<String> {
-    let accounts = accounts_of(alloc, text)?;
-    told(alloc, last, hosts, &accounts)
+fn told_of(alloc: Global, last: u64, text: &str, parts: &mut Parts) -> Result<String> {
+    ensure!(parts.hosts.is_empty(), "no hosts at the start");
+    follow_all(parts, alloc, text)?;
+    told(alloc, last, &parts.hosts, &parts.accounts)
 }
 
 // Whether each host is found under its name.
@@ -87,22 +78,18 @@ fn is_found(core: &Core, host: Option<(&str, u64)>) -> bool {
 
 impl Subject for Folds {
     fn answer(&self, alloc: Global, input: &str) -> Result<String> {
-        let core = core_of(alloc, input)?;
-        compared(alloc, &core, input)
+        let mut core = Core::new(alloc);
+        compared(alloc, &mut core, input)
     }
 }
 
-fn compared(alloc: Global, core: &Core, text: &str) -> Result<String> {
+fn compared(alloc: Global, core: &mut Core, text: &str) -> Result<String> {
+    follow_all(core, alloc, text)?;
     ensure!(are_found(core), "another cursor");
+    let parts = told_in_parts(alloc, core.last_seq(), text)?;
     let whole = told(alloc, core.last_seq(), core.hosts(), core)?;
-    ensure_told(alloc, core.last_seq(), text, whole.as_str())?;
+    ensure!(whole.as_str() == parts.as_str(), "the parts differ");
     Ok(whole)
-}
-
-fn ensure_told(alloc: Global, last: u64, text: &str, whole: &str) -> Result<()> {
-    let parts = told_in_parts(alloc, last, text)?;
-    ensure!(whole == parts.as_str(), "the parts differ");
-    Ok(())
 }
 
 // The DID behind another.
@@ -113,40 +100,23 @@ fn next_of<'a>(core: &'a Core, did: &String) -> &'a str {
     }
 }
 
-impl Subject for Nexts {
-    fn answer(&self, alloc: Global, input: &str) -> Result<String> {
-        let (bodies, did) = parted(input, " ; ")?;
-        let core = core_of(alloc, bodies)?;
-        next_told(alloc, &core, if did == "-" { "" } else { did })
+impl Told for Nexts {
+    fn told(&self, alloc: Global, core: &mut Core, did: &str) -> Result<String> {
+        let did = said(alloc, if did == "-" { "" } else { did })?;
+        said(alloc, next_of(core, &did))
     }
 }
 
-fn next_told(alloc: Global, core: &Core, did: &str) -> Result<String> {
-    let did = said(alloc, did)?;
-    said(alloc, next_of(core, &did))
-}
-
-// The state behind the rows of bodies, with room for an account, or for none by `-`.
-fn touched(alloc: Global, bodies: &str, did: &str) -> Result<Core> {
-    let mut core = core_of(alloc, bodies)?;
-    if did != "-" {
-        had(core.touch("", did))?;
-    }
-    Ok(core)
-}
-
-fn account_told(alloc: Global, account: Option<&Account>) -> Result<String> {
-    match account {
-        Some(account) => with_account(Answer::new(alloc), account).end(),
-        None => said(alloc, "none"),
-    }
-}
-
-impl Subject for States {
-    fn answer(&self, alloc: Global, input: &str) -> Result<String> {
-        let (bodies, rest) = parted(input, " ; ")?;
+impl Told for States {
+    // The account of a DID once there is room for an account, or for none by `-`.
+    fn told(&self, alloc: Global, core: &mut Core, rest: &str) -> Result<String> {
         let (room, did) = parted(rest, " ; ")?;
-        let core = touched(alloc, bodies, room)?;
-        account_told(alloc, core.account(did))
+        if room != "-" {
+            had(core.touch("", room))?;
+        }
+        match core.account(did) {
+            Some(account) => with_account(Answer::new(alloc), account).end(),
+            None => said(alloc, "none"),
+        }
     }
 }

@@ -1,7 +1,6 @@
 //! Rows as a line has them: in the bodies that hold them.
 
 use anyhow::{Context, Result};
-use at_cid::Octets;
 use relay_row::{Row, Rows, read_rows, write_rows};
 use std::alloc::Global;
 use vector_lines::{Answer, bytes, had};
@@ -18,7 +17,7 @@ pub fn follow_all<F: Follows>(state: &mut F, alloc: Global, text: &str) -> Resul
         return Ok(());
     }
     for word in text.split(' ') {
-        follow_each(state, rows_of(alloc, word)?)?;
+        follow_each(state, rows_of(alloc, word)?.into_vec())?;
     }
     Ok(())
 }
@@ -30,33 +29,23 @@ fn follow_each<F: Follows>(state: &mut F, rows: Vec<Row>) -> Result<()> {
     Ok(())
 }
 
-fn rows_of(alloc: Global, digits: &str) -> Result<Vec<Row>> {
+/// The rows of a body in hexadecimal.
+pub fn rows_of(alloc: Global, digits: &str) -> Result<Rows> {
     rows_in(alloc, bytes(alloc, digits)?.as_slice())
 }
 
-fn rows_in(alloc: Global, body: &[u8]) -> Result<Vec<Row>> {
-    Ok(read_rows(alloc, body)?.into_vec())
+/// The rows of a body.
+pub fn rows_in(alloc: Global, body: &[u8]) -> Result<Rows> {
+    Ok(read_rows(alloc, body)?)
 }
 
-/// The last row of a body.
-pub fn last_row(alloc: Global, body: &[u8]) -> Result<Row> {
-    rows_in(alloc, body)?.pop().context("a row")
+/// The last row, where it stands: a row that isn't moved is proved quickly.
+pub fn last_of(rows: &Rows) -> Result<&Row> {
+    rows.as_slice().last().context("a row")
 }
 
-/// The row of a body that holds one.
-pub fn only_row(alloc: Global, digits: &str) -> Result<Row> {
-    rows_of(alloc, digits)?.pop().context("a row")
-}
-
-// The body of a row.
-fn body_of(alloc: Global, row: Row) -> Result<Octets> {
-    let mut rows = Rows::new(alloc);
-    had(rows.push(row))?;
-    had(write_rows(alloc, &rows))
-}
-
-/// With the body of a row behind.
-pub fn with_row(alloc: Global, answer: Answer, row: Row) -> Result<String> {
-    let body = body_of(alloc, row)?;
+/// With the body of rows behind.
+pub fn with_rows(alloc: Global, answer: Answer, rows: &Rows) -> Result<String> {
+    let body = had(write_rows(alloc, rows))?;
     answer.bytes(body.as_slice()).end()
 }

@@ -16,6 +16,7 @@ mod walked;
 
 use anyhow::Result;
 use bodies::Bodies;
+use cores::Behind;
 use decisions::Decisions;
 use facts::{Facts, Losses};
 use folds::{Folds, Nexts, States};
@@ -34,16 +35,16 @@ fn compare_rows(rt: &HostRuntime, suite: &mut Suite) -> Result<()> {
 fn compare_folds(rt: &HostRuntime, suite: &mut Suite) -> Result<()> {
     suite.file(rt, "accounts", &Folds)?;
     suite.file(rt, "folds", &Folds)?;
-    suite.file(rt, "nexts", &Nexts)?;
-    suite.file(rt, "account_states", &States)?;
-    suite.file(rt, "orders", &Orders)
+    suite.file(rt, "nexts", &Behind(Nexts))?;
+    suite.file(rt, "account_states", &Behind(States))?;
+    suite.file(rt, "orders", &Behind(Orders))
 }
 
 fn compare_decisions(rt: &HostRuntime, suite: &mut Suite) -> Result<()> {
-    suite.file(rt, "decisions", &Decisions)?;
-    suite.file(rt, "own_decisions", &Decisions)?;
-    suite.file(rt, "operations", &Operations)?;
-    suite.file(rt, "premises", &Decisions)
+    suite.file(rt, "decisions", &Behind(Decisions))?;
+    suite.file(rt, "own_decisions", &Behind(Decisions))?;
+    suite.file(rt, "operations", &Behind(Operations))?;
+    suite.file(rt, "premises", &Behind(Decisions))
 }
 
 fn compared(rt: &HostRuntime) -> Result<Suite> {

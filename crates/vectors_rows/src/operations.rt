@@ -2,38 +2,28 @@
 //! taken, or a refusal`.
 
 use crate::answers::fetched_of;
-use crate::cores::core_of;
-use crate::journals::with_row;
+use crate::cores::Told;
+use crate::journals::with_rows;
 use anyhow::{Result, bail, ensure};
 use at_event::Refusal;
 use relay_core::{Core, fetch_refusal};
-use relay_row::{NUMBERS, Row};
+use relay_row::{NUMBERS, Row, Rows};
 use std::alloc::Global;
-use vector_lines::{Answer, Subject, had, number, parted, said};
+use vector_lines::{Answer, had, number, parted, said};
 
 pub struct Operations;
 
-impl Subject for Operations {
-    fn answer(&self, alloc: Global, input: &str) -> Result<String> {
-        let (bodies, words) = parted(input, " ; ")?;
+impl Told for Operations {
+    fn told(&self, alloc: Global, core: &mut Core, words: &str) -> Result<String> {
         let (word, rest) = parted(words, " ")?;
-        answered(alloc, &core_of(alloc, bodies)?, word, rest)
+        match word {
+            "down" => operated(alloc, core, true, rest),
+            "up" => operated(alloc, core, false, rest),
+            "sync" => refused(alloc, core.sync_refusal(rest), "fetch"),
+            "fetched" => refused(alloc, fetch_refusal(&fetched_of(alloc, rest)?), "taken"),
+            _ => bail!("a word"),
+        }
     }
-}
-
-fn answered(alloc: Global, core: &Core, word: &str, rest: &str) -> Result<String> {
-    match word {
-        "down" => operated(alloc, core, true, &read_order(rest)?),
-        "up" => operated(alloc, core, false, &read_order(rest)?),
-        "sync" => refused(alloc, core.sync_refusal(rest), "fetch"),
-        "fetched" => fetched(alloc, rest),
-        _ => bail!("a word"),
-    }
-}
-
-fn fetched(alloc: Global, what: &str) -> Result<String> {
-    let refusal = fetch_refusal(&fetched_of(alloc, what)?);
-    refused(alloc, refusal, "taken")
 }
 
 fn refused(alloc: Global, refusal: Option<Refusal>, other: &str) -> Result<String> {
@@ -63,18 +53,26 @@ fn read_order(words: &str) -> Result<Order<'_>> {
     Ok(Order { did, time, moment })
 }
 
-fn operated(alloc: Global, core: &Core, down: bool, order: &Order<'_>) -> Result<String> {
+fn operated(alloc: Global, core: &Core, down: bool, words: &str) -> Result<String> {
+    let order = read_order(words)?;
     let refusal = core.operate_refusal(order.did, down);
     if refusal.is_some() {
         return refused(alloc, refusal, "");
     }
-    let row = row_of(alloc, core, down, order)?;
-    with_row(alloc, Answer::new(alloc), row)
+    let mut rows = Rows::new(alloc);
+    push_row(alloc, core, down, &order, &mut rows)?;
+    with_rows(alloc, Answer::new(alloc), &rows)
 }
 
-fn row_of(alloc: Global, core: &Core, down: bool, order: &Order<'_>) -> Result<Row> {
+fn push_row(
+    alloc: Global,
+    core: &Core,
+    down: bool,
+    order: &Order<'_>,
+    rows: &mut Rows,
+) -> Result<()> {
     ensure!(core.last_seq() < NUMBERS - 1, "no number is left");
     let moment = Some(order.moment);
     let row = had(core.operated(alloc, order.did, down, order.time, moment))?;
-    Ok(Row::Operated(row))
+    had(rows.push(Row::Operated(row)))
 }

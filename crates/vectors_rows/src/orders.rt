@@ -1,27 +1,18 @@
 //! `BODIES ; BODY = yes or no`: whether the row may stand behind the others.
 
-use crate::cores::core_of;
-use crate::journals::only_row;
+use crate::cores::Told;
+use crate::journals::{last_of, rows_of};
 use anyhow::Result;
 use relay_core::Core;
 use std::alloc::Global;
-use vector_lines::{Subject, parted, said};
+use vector_lines::said;
 
 pub struct Orders;
 
-impl Subject for Orders {
-    fn answer(&self, alloc: Global, input: &str) -> Result<String> {
-        let (bodies, body) = parted(input, " ; ")?;
-        let is_next = is_next(alloc, bodies, body)?;
+impl Told for Orders {
+    fn told(&self, alloc: Global, core: &mut Core, body: &str) -> Result<String> {
+        let rows = rows_of(alloc, body)?;
+        let is_next = core.is_next(last_of(&rows)?);
         said(alloc, if is_next { "yes" } else { "no" })
     }
-}
-
-fn is_next(alloc: Global, bodies: &str, body: &str) -> Result<bool> {
-    let core = core_of(alloc, bodies)?;
-    takes(alloc, &core, body)
-}
-
-fn takes(alloc: Global, core: &Core, body: &str) -> Result<bool> {
-    Ok(core.is_next(&only_row(alloc, body)?))
 }
