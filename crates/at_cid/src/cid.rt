@@ -177,6 +177,7 @@ impl Cid {
     }
 
     /// Whether its digest is the block's SHA-256, which is taken once. Takes no memory.
+    #[inline]
     pub fn is_of(&self, block: &[u8]) -> bool
         ensures { IsTrue result ↔ (digest_of self.now ≡ sha256 block.now) }
     {

@@ -38,6 +38,17 @@ impl ShortText {
         }
     }
 
+    /// A copy of a text that is short enough.
+    #[inline]
+    pub(crate) fn of(text: &str) -> ShortText
+        requires { length text.now ≤ MOST_SHORT_BYTES }
+        ensures { result ≡ text.now }
+    {
+        let mut made = ShortText::new();
+        made.add(text);
+        made
+    }
+
     /// The text.
     #[tactic(auto, using(crate::proofs::Utf8::texts_by_test))]
     pub(crate) fn as_str(&self) -> &str

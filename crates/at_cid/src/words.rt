@@ -65,9 +65,14 @@ impl Words {
     }
 
     /// A copy of the text.
+    #[inline]
     pub fn from_str(alloc: Global, text: &str) -> Result<Words, Memory>
         ensures { IfOk result (λ made. made ≡ text.now) }
     {
+        if text.len() <= MOST_SHORT_BYTES {
+            let kept = Kept::Short(ShortText::of(text));
+            return Ok(Words { alloc, kept });
+        }
         let mut made = Words::new(alloc);
         made.extend(text)?;
         Ok(made)
