@@ -20,3 +20,4 @@ pub mod Lengths
 pub mod Depths
 pub mod Taken
 pub mod Puts
+pub mod ShortTexts

@@ -1,9 +1,19 @@
 //! Bytes that are read from left to right.
 
-ghost use Rattle.std.specs.Prelude.{◌≡◌, ◌∷◌, ◌<◌, ◌≤◌, [], length, take, drop, MatchOption};
+ghost use Rattle.std.specs.Prelude.{◌≡◌, ◌∷◌, ◌<◌, ◌≤◌, [], length, take, drop, MatchOption, Ok};
+ghost use Rattle.at_cid.specs.Link.{IsBytes};
+ghost use Rattle.at_cbor.specs.Heads.{head_at};
+ghost use Rattle.at_cbor.specs.declared.head.Head.{Head};
 ghost use Rattle.at_cbor.specs.declared.fault.Stop.{Stop};
 
 use crate::fault::{Cause, Stop};
+use crate::taking::take_link;
+use at_cid::Cid;
+
+// The elements of a slice of bytes are bytes.
+fn tell_bytes(bytes: &[u8])
+    ensures { IsBytes bytes.now }
+{}
 
 /// The bytes that are still to be read, and how many there were where the last head begins.
 #[derive(Debug, Drop)]
@@ -45,6 +55,41 @@ impl<'a> Reader<'a> {
         };
         self.rest = rest;
         Some(*byte)
+    }
+
+    /// How many bytes the text at the front has, where its head is one byte: that byte is read.
+    #[inline]
+    pub(crate) fn short_text(&mut self) -> Option<u64>
+        ensures { MatchOption result
+            ((self.new.rest.now ≡ self.old.rest.now) × (self.new.left ≡ self.old.left))
+            (λ count. (head_at self.old.rest.now ≡ Ok (Head.Text count, self.new.rest.now)) × (self.new.left ≡ length self.old.rest.now)) }
+    {
+        let [first, rest @ ..] = self.rest else {
+            return None;
+        };
+        if *first < 0x60 || 0x77 < *first {
+            return None;
+        }
+        self.left = self.rest.len();
+        self.rest = rest;
+        Some(u64::from(*first - 0x60))
+    }
+
+    /// The link at the front, behind its tag, where one is: that is read.
+    #[tactic(auto, using(crate::proofs::ShortTexts::link_head))]
+    #[inline]
+    pub(crate) fn link(&mut self) -> Option<Cid>
+        ensures { MatchOption result
+            ((self.new.rest.now ≡ self.old.rest.now) × (self.new.left ≡ self.old.left))
+            (λ link. (head_at self.old.rest.now ≡ Ok (Head.Link link, self.new.rest.now)) × (self.new.left ≡ length self.old.rest.now)) }
+    {
+        let Some((link, rest)) = take_link(self.rest) else {
+            return None;
+        };
+        tell_bytes(self.rest);
+        self.left = self.rest.len();
+        self.rest = rest;
+        Some(link)
     }
 
     /// The next bytes, as an array.

@@ -4,6 +4,7 @@ ghost use Rattle.std.specs.Prelude.{◌≡◌, length, MatchOption, true, false,
 ghost use Rattle.std.specs.Str.{is_utf8};
 ghost use Rattle.at_cid.specs.Memory.{Gives};
 ghost use Rattle.at_cbor.specs.Heads.{flaw_of, head_at};
+ghost use Rattle.at_cbor.specs.declared.head.Head.{Head};
 ghost use Rattle.at_cbor.specs.Reading.{string_at, text_at, key_of, key_at, items_at, fields_at, body_of, item_at, inside};
 ghost use Rattle.at_cbor.specs.Item.{last_key};
 ghost use Rattle.at_cbor.specs.View.{item_of, pair_of};
@@ -51,7 +52,25 @@ fn read_text(alloc: Global, reader: &mut Reader, count: u64) -> Result<Words, St
     Ok(Words::from_str(alloc, text)?)
 }
 
-/// The key behind its head, which comes behind those of the fields.
+/// The key of so many bytes behind its head, which comes behind those of the fields.
+#[tactic(auto, unfolding(crate::specs::Reading::key_of))]
+#[inline(always)]
+fn read_key_text(
+    alloc: Global,
+    fields: &Fields,
+    reader: &mut Reader,
+    count: u64,
+) -> Result<Words, Stop>
+    ensures { Gives (λ key. (key, reader.new.rest.now)) flaw_of result (key_of (last_key fields.now) reader.old.left (Head.Text count) reader.old.rest.now) }
+{
+    let key = read_text(alloc, reader, count)?;
+    if !fields.admits(&key) {
+        return Err(reader.flaw(Cause::KeyOrder));
+    }
+    Ok(key)
+}
+
+/// The key behind a head.
 #[tactic(auto, unfolding(crate::specs::Reading::key_of))]
 fn read_key_of(
     alloc: Global,
@@ -61,30 +80,36 @@ fn read_key_of(
 ) -> Result<Words, Stop>
     ensures { Gives (λ key. (key, reader.new.rest.now)) flaw_of result (key_of (last_key fields.now) reader.old.left head reader.old.rest.now) }
 {
-    let Head::Text(count) = head else {
-        return Err(reader.flaw(Cause::KeyOrder));
-    };
-    let key = read_text(alloc, reader, count)?;
-    if !fields.admits(&key) {
-        return Err(reader.flaw(Cause::KeyOrder));
+    match head {
+        Head::Text(count) => read_key_text(alloc, fields, reader, count),
+        _ => Err(reader.flaw(Cause::KeyOrder)),
     }
-    Ok(key)
 }
 
+/// The key at the front. Almost every key is a short text.
 #[tactic(auto, unfolding(crate::specs::Reading::key_at))]
 fn read_key(alloc: Global, fields: &Fields, reader: &mut Reader) -> Result<Words, Stop>
     ensures { Gives (λ key. (key, reader.new.rest.now)) flaw_of result (key_at (last_key fields.now) reader.old.rest.now) }
 {
+    if let Some(count) = reader.short_text() {
+        return read_key_text(alloc, fields, reader, count);
+    }
     let head = read_head(reader)?;
     read_key_of(alloc, fields, reader, head)
 }
 
 /// The item at the front, which has at most so many lists and maps in one another.
 #[cycle(read)]
-#[tactic(auto, using(crate::proofs::Loops::item_at_is))]
+#[tactic(auto, using(crate::proofs::Loops::item_at_is), unfolding(crate::specs::Reading::body_of))]
 pub(crate) fn read_item(alloc: Global, depth: u8, reader: &mut Reader) -> Result<Value, Stop>
     ensures { Gives (λ value. (item_of value, reader.new.rest.now)) flaw_of result (item_at depth reader.old.rest.now) }
 {
+    if let Some(count) = reader.short_text() {
+        return Ok(Value::Text(read_text(alloc, reader, count)?));
+    }
+    if let Some(link) = reader.link() {
+        return Ok(Value::Link(link));
+    }
     let head = read_head(reader)?;
     read_body(alloc, depth, reader, head)
 }
