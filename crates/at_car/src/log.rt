@@ -20,6 +20,9 @@ use at_cid::{Cid, Memory, Octets};
 use std::alloc::Global;
 use std::marker::Model;
 
+/// Room for so many entries is made at once: a commit's blocks are mostly no more.
+const ROOM_ENTRIES: usize = 32;
+
 /// So many entries and bytes of blocks are never too many.
 const FEW_ENTRIES: usize = 1024;
 
@@ -141,9 +144,10 @@ impl Log {
         ensures { IfOk result (λ log. log ≡ []) }
     {
         let buffer = Vec::with_capacity(alloc, room)?;
+        let entries = Vec::with_capacity(alloc, ROOM_ENTRIES)?;
         Ok(Log {
             buffer: Octets::from_vec(buffer),
-            entries: Vec::new(alloc),
+            entries,
             most_entries: FEW_ENTRIES,
             most_bytes: FEW_BYTES,
         })
