@@ -9,4 +9,4 @@ mod signing;
 
 pub use commit::Commit;
 pub use fault::CommitFault;
-pub use reading::{LONGEST_BLOCK, read};
+pub use reading::{LONGEST_BLOCK, read, read_data};
