@@ -39,13 +39,6 @@ impl Entries {
         Entries { entries }
     }
 
-    /// The vector of the entries, each with its own key: what a walk that takes them over goes along. Takes no memory.
-    pub fn into_vec(self) -> Vec<Entry>
-        ensures { result.items ≡ self }
-    {
-        self.entries
-    }
-
     /// The entries.
     pub fn as_slice(&self) -> &[Entry]
         ensures { result.now ≡ self.now }

@@ -87,7 +87,7 @@ impl KeyBytes {
 
     /// So many of these bytes, and others behind them, where these and those are few.
     #[inline(always)]
-    pub fn going_on(&self, count: usize, tail: &[u8]) -> Option<KeyBytes>
+    pub(crate) fn going_on(&self, count: usize, tail: &[u8]) -> Option<KeyBytes>
         requires { count ≤ length self.now }
         ensures { IfSome result (λ key. key ≡ take count self.now ++ tail.now) }
     {

@@ -140,14 +140,15 @@ fn push_keyed<E: Keyed + Drop>(
     ensures pushed { OnOk result (map E.entry entries.new.items ≡ map E.entry entries.old.items ++ entry_with key value (link_of (option_map (λ front. front.now) right.entry)) ∷ []) }
     ensures bare { list_all E.is_bare entries.old.items ≡ true → list_all E.is_bare entries.new.items ≡ true }
 {
+    entries.reserve(1)?;
     let Some(front) = right else {
-        entries.push(E::of(key, value, None))?;
+        entries.push_reserved(E::of(key, value, None));
         return Ok(());
     };
     let Some(link) = parse_binary(front) else {
         unreachable!()
     };
-    entries.push(E::of(key, value, Some(link)))?;
+    entries.push_reserved(E::of(key, value, Some(link)));
     Ok(())
 }
 
