@@ -8,8 +8,11 @@ use Rattle.std.proofs.lemmas.Bool.Decides.{eqb_tells}
 use Rattle.std.proofs.lemmas.Grind.{get_or-set_at}
 use Rattle.std.proofs.lemmas.List.{get_or-set_other}
 use Rattle.at_cid.specs.Distinct.{is_absent}
-use Rattle.mst_view.specs.Words.{is_word_marked}
 use Rattle.mst_view.specs.declared.beginning.TheConstants.{WORD_MARKS}
+
+-- whether there is a mark at the place of a number
+abbrev pub is_word_marked : List Bool → ℕ → Bool
+is_word_marked marks word = slice_index_or marks (word % WORD_MARKS) false
 
 -- the numbers from a place on
 pub from_word : (ws : List ℕ) (i n : ℕ) → i + 1 ≡ n → i < length ws → drop i ws ≡ get_or ws i 0 ∷ drop n ws

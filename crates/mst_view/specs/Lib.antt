@@ -8,4 +8,3 @@ pub mod StubTree
 pub mod ViewFault
 pub mod Laws
 pub mod Pieces
-pub mod Words

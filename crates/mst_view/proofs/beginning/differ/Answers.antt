@@ -3,8 +3,7 @@ use Rattle.std.specs.Prelude.{nat_eq, slice_set}
 use Rattle.std.specs.List.{list_all, list_any}
 use Rattle.std.proofs.lemmas.List.{length-set}
 use Rattle.at_cid.specs.Distinct.{is_absent, all_differ}
-use Rattle.mst_view.specs.Words.{is_word_marked}
-use Rattle.mst_view.proofs.Words.{from_word, slice_from, unmarked_new, uncontained_new, marked_on}
+use Rattle.mst_view.proofs.Words.{is_word_marked, from_word, slice_from, unmarked_new, uncontained_new, marked_on}
 use Rattle.mst_view.proofs.beginning.differ.Goals as goal
 use Rattle.mst_view.proofs.beginning.differ.Goals.{else-marks-place-via-then-marks-place+else-contains, else-marks-place-via-else-marks-place}
 

@@ -2,8 +2,8 @@ use Rattle.std.proofs.Common.{◌≡◌, ◌≤◌, length, drop, true}
 use Rattle.std.specs.List.{list_all}
 use Rattle.std.specs.Prelude.{nat_eq}
 use Rattle.at_cid.specs.Distinct.{all_differ}
-use Rattle.mst_view.specs.Words.{is_word_marked}
 use Rattle.mst_view.specs.declared.beginning.TheConstants.{WORD_MARKS}
+use Rattle.mst_view.proofs.Words.{is_word_marked}
 use Rattle.mst_view.proofs.beginning.differ.Given as goal
 
 abbrev pub invariant-loop-left : goal.invariant-loop-left
