@@ -9,9 +9,11 @@ use Rattle.at_commit.specs.declared.commit.Commit.{Commit}
 use Rattle.at_commit.specs.declared.fault.CommitFault.{CommitFault}
 use Rattle.at_commit.proofs.Nodes.{data_is_node}
 use Rattle.at_event.specs.declared.event.CommitEvent.{CommitEvent}
-use Rattle.event_checks.specs.Opening.{CarResult, object_in, object_in_block, object_of}
+use Rattle.event_checks.specs.Table.{car_in}
+use Rattle.event_checks.specs.Opening.{CarResult, data_in, object_in, object_in_block, object_of}
+use Rattle.commit_check.specs.declared.content.Content.{Content}
 use Rattle.commit_check.specs.declared.opened.Opened.{Opened}
-use Rattle.commit_check.specs.Opening.{IsOpened}
+use Rattle.commit_check.specs.Opening.{IsContent, IsOpened}
 use Rattle.commit_check.specs.Order.{Holds}
 
 object_node : (block : List ℕ) (c : Commit) (r : Result Commit CommitFault) → IsBytes block → commit_of block ≡ r → object_of r ≡ Some c → IsNodeLink c.data_root
@@ -28,9 +30,9 @@ under_root : (root : Option (List ℕ)) (blocks : BlockMap) → AreLinked blocks
 under_root None blocks linked block is = absurd (cc)
 under_root (Some link) blocks linked block is = (linked link block is).bytes
 
--- what is read of an event holds its CAR and its commit object
-abbrev pub held : (e : CommitEvent) (o : Opened) → IsOpened e o → Holds e
-held e o opened = record { roots = o.car.roots; blocks = o.car.blocks; commit = opened.commit; car = opened.car; object = opened.object }
+-- what is opened of an event holds its CAR and its commit object
+abbrev pub opened_holds : (e : CommitEvent) (o : Opened) → IsOpened e o → Holds e
+opened_holds e o opened = record { roots = o.car.roots; blocks = o.car.blocks; commit = opened.commit; car = opened.car; object = opened.object }
 
 pub data_held : (e : CommitEvent) (h : Holds e) → AreLinked h.blocks → IsNodeLink h.commit.data_root
 data_held e h linked =
@@ -40,4 +42,28 @@ data_held e h linked =
 pub root_is_node : (e : CommitEvent) (o : Opened) → AreLinked o.car.blocks → IsOpened e o → IsNodeLink o.head.data_root
 root_is_node e o linked opened =
     let Q : List ℕ → Type 0 = IsNodeLink in
-    subst Q (sym opened.head.data_root) (data_held e (held e o opened) linked)
+    subst Q (sym opened.head.data_root) (data_held e (opened_holds e o opened) linked)
+
+-- and so does what is read for a check by itself
+
+pub record IsFrom (object : Option Commit) (root : List ℕ) : Type 0 where
+  pub commit : Commit
+  pub is : object ≡ Some commit
+  pub root_is : root ≡ commit.data_root
+
+pub found : (object : Option Commit) (root : List ℕ) → data_in object ≡ Some root → IsFrom object root
+found None root e = absurd cc
+found (Some commit) root e = let same : root ≡ commit.data_root = cc in record { commit = commit; is = refl; root_is = same }
+
+abbrev pub content_holds : (e : CommitEvent) (content : Content) → IsContent e content → Holds e
+content_holds e content is =
+    let from = found (object_in (car_in e)) content.data_root is.data_root in
+    record { roots = content.car.roots; blocks = content.car.blocks; commit = from.commit; car = is.car; object = from.is }
+
+pub content_root : (e : CommitEvent) (content : Content) (is : IsContent e content) → content.data_root ≡ (content_holds e content is).commit.data_root
+content_root e content is = (found (object_in (car_in e)) content.data_root is.data_root).root_is
+
+pub content_root_is_node : (e : CommitEvent) (content : Content) → AreLinked content.car.blocks → IsContent e content → IsNodeLink content.data_root
+content_root_is_node e content linked is =
+    let Q : List ℕ → Type 0 = IsNodeLink in
+    subst Q (sym (content_root e content is)) (data_held e (content_holds e content is) linked)

@@ -7,12 +7,12 @@ ghost use Rattle.commit_check.specs.Refusing.{RefusesWith};
 ghost use Rattle.at_event.specs.declared.refusal.Refusal.{Refusal};
 
 use crate::checked::Checked;
+use crate::content::Content;
 use crate::edits::edits;
 use crate::fault::CheckFault;
 use crate::leading::{lead_from, tree_at_hand};
 use crate::linking::some_lacks_prev;
-use crate::opened::Opened;
-use crate::opening::open_commit;
+use crate::opening::commit_content;
 use at_cid::Cid;
 use at_event::{CommitEvent, Refusal};
 use mst_node::empty_root;
@@ -38,7 +38,7 @@ fn has_gap(event: &CommitEvent) -> bool
 /// It is refused with the first refusal of [`open_commit`], none being stale, or else of [`crate::link`], where a gap is
 /// an event that follows on another but has no `prevData`, or a change that doesn't say of what. (Sync specification,
 /// "Commit validation", with inductive validation by operation inversion.)
-#[tactic(auto, using(crate::proofs::Objects::root_is_node, crate::proofs::Accepting::by_opened))]
+#[tactic(auto, using(crate::proofs::Objects::content_root_is_node, crate::proofs::Accepting::by_content))]
 pub fn check(alloc: Global, event: &CommitEvent) -> Result<Checked, CheckFault>
     ensures accepted { IfOk result (λ checked. IsAccepted event.now checked.from checked.to) }
     ensures counted { IfOk result (λ checked. checked.ops ≡ length event.now.ops) }
@@ -48,14 +48,13 @@ pub fn check(alloc: Global, event: &CommitEvent) -> Result<Checked, CheckFault>
     ensures replays { IfOk result (λ checked. Replays event.now checked.from checked.to) }
     ensures covered { IsCovered event.now → IfErr result IsMemory }
 {
-    let opened = open_commit(alloc, event, None)?;
+    let content = commit_content(alloc, event)?;
     if has_gap(event) {
         return Err(CheckFault::Refused(Refusal::Gap));
     }
     let from = start_of(event);
     let ops = edits(alloc, event)?;
-    let Opened { head, car, .. } = opened;
-    let to = head.data_root;
+    let Content { car, data_root: to } = content;
     car.blocks.tell_linked();
     let tree = tree_at_hand(alloc, &car.blocks, &to, &ops)?;
     // The tree has all that is wanted of the blocks.

@@ -4,6 +4,7 @@
 
 mod checked;
 mod checking;
+mod content;
 mod edits;
 mod expect;
 mod fault;

@@ -1,23 +1,40 @@
 //! A commit event opened: what its message shows by itself.
 
-ghost use Rattle.std.specs.Prelude.{◌≡◌, IfOk, IfErr, OnOk, None, Err};
-ghost use Rattle.commit_check.specs.Opening.{IsOpened};
+ghost use Rattle.std.specs.Prelude.{◌≡◌, IfOk, IfErr, OnOk, None, Err, false};
+ghost use Rattle.commit_check.specs.Opening.{IsContent, IsOpened};
 ghost use Rattle.commit_check.specs.Refusing.{IsShown, IsUnjudged};
 ghost use Rattle.event_checks.specs.Lines.{first_of};
-ghost use Rattle.event_checks.specs.Table.{block_lines, open_lines};
+ghost use Rattle.event_checks.specs.Table.{block_lines, field_lines, is_stale, open_lines};
 
+use crate::content::Content;
 use crate::fault::CheckFault;
 use crate::fields::field_refusal;
 use crate::opened::Opened;
 use at_event::{CommitEvent, Head, Refusal};
 use at_syntax::Tid;
-use event_checks::{find_commit, is_stale, read_car};
+use event_checks::{find_commit, find_data, is_stale, read_car};
 use std::alloc::Global;
 
 fn refused<T>(refusal: Refusal) -> Result<T, CheckFault>
     ensures { result ≡ Err (CheckFault.Refused refusal) }
 {
     Err(CheckFault::Refused(refusal))
+}
+
+/// Refuses what the fields of an event show, and then what is stale.
+#[tactic(auto, using(crate::proofs::Unjudged::by_lines))]
+fn test_fields(alloc: Global, event: &CommitEvent, last: Option<Tid>) -> Result<(), CheckFault>
+    ensures passed { OnOk result ((first_of (field_lines event.now) ≡ None) × (is_stale last event.now.rev ≡ false)) }
+    ensures refused { IfErr result (IsShown (first_of (open_lines event.now last))) }
+    ensures unjudged { IfErr result IsUnjudged }
+{
+    if let Some(refusal) = field_refusal(alloc, event)? {
+        return refused(refusal);
+    }
+    if is_stale(last, event.rev) {
+        return refused(Refusal::Stale);
+    }
+    Ok(())
 }
 
 /// What the blocks hold.
@@ -62,11 +79,28 @@ pub fn open_commit(
     ensures refused { IfErr result (IsShown (first_of (open_lines event.now last))) }
     ensures unjudged { IfErr result IsUnjudged }
 {
-    if let Some(refusal) = field_refusal(alloc, event)? {
-        return refused(refusal);
-    }
-    if is_stale(last, event.rev) {
-        return refused(Refusal::Stale);
-    }
+    test_fields(alloc, event, last)?;
     open_blocks(alloc, event)
+}
+
+/// What the blocks hold, where nothing is verified of a signature: what one would cover is neither spelled nor hashed.
+fn block_content(alloc: Global, event: &CommitEvent) -> Result<Content, CheckFault>
+    ensures shown { OnOk result (first_of (block_lines event.now) ≡ None) }
+    ensures content { IfOk result (IsContent event.now) }
+    ensures refused { IfErr result (IsShown (first_of (block_lines event.now))) }
+{
+    let blocks = event.blocks.as_slice();
+    let car = read_car(alloc, blocks)?;
+    let data_root = find_data(alloc, &car, Some(event.commit), &event.repo, event.rev)?;
+    Ok(Content { car, data_root })
+}
+
+/// Reads what a check by itself wants of a commit event. It is refused as [`open_commit`] refuses it, none being stale.
+pub(crate) fn commit_content(alloc: Global, event: &CommitEvent) -> Result<Content, CheckFault>
+    ensures shown { OnOk result (first_of (open_lines event.now None) ≡ None) }
+    ensures content { IfOk result (IsContent event.now) }
+    ensures refused { IfErr result (IsShown (first_of (open_lines event.now None))) }
+{
+    test_fields(alloc, event, None)?;
+    block_content(alloc, event)
 }

@@ -5,7 +5,7 @@ use Rattle.at_car.specs.Blocks.{BlockMap}
 use Rattle.at_car.specs.Sifting.{block_at}
 use Rattle.at_car.specs.Standing.{root_of}
 use Rattle.at_car.specs.declared.fault.CarFault.{CarFault}
-use Rattle.at_commit.specs.Commit.{commit_of}
+use Rattle.at_commit.specs.Commit.{commit_of, is_of}
 use Rattle.at_commit.specs.declared.commit.Commit.{Commit}
 use Rattle.at_commit.specs.declared.fault.CommitFault.{CommitFault}
 use Rattle.at_event.specs.declared.refusal.Refusal.{Refusal}
@@ -63,7 +63,7 @@ object_in car = object_in_block (block_in car)
 -- there is a commit object, of this account and this revision
 abbrev pub is_commit_of : List ℕ → ℕ → Option Commit → Bool
 is_commit_of did rev None = false
-is_commit_of did rev (Some commit) = bytes_eq commit.did did && commit.rev == rev
+is_commit_of did rev (Some commit) = is_of did rev commit
 
 -- what a CAR shows of its form
 abbrev pub form_lines : CarResult → List Line
@@ -86,3 +86,8 @@ pub record IsFound (car : CarResult) (link block : List ℕ) (commit : Commit) :
   pub root_is : root_in car ≡ Some link
   pub block_is : block_in car ≡ Some block
   pub object_is : object_in car ≡ Some commit
+
+-- the `data` of a commit object, where there is one
+abbrev pub data_in : Option Commit → Option (List ℕ)
+data_in None = None
+data_in (Some commit) = Some commit.data_root

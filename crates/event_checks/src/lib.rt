@@ -9,5 +9,5 @@ mod stale;
 
 pub use fault::OpenFault;
 pub use limits::{MOST_COMMIT_BYTES, MOST_OPS, MOST_SYNC_BYTES};
-pub use opening::{CommitBlock, find_commit, read_car};
+pub use opening::{CommitBlock, find_commit, find_data, read_car};
 pub use stale::is_stale;

@@ -1,11 +1,11 @@
 //! The CAR in an event's blocks, and the commit object under its first root.
 
-ghost use Rattle.std.specs.Prelude.{◌≡◌, IfOk, IfErr, OnOk, Some, None, Ok, Err};
+ghost use Rattle.std.specs.Prelude.{◌≡◌, ℕ, List, IfOk, IfErr, OnOk, Some, None, Ok, Err, true};
 ghost use Rattle.at_car.specs.Car.{car_of};
 ghost use Rattle.at_car.specs.Standing.{root_of};
 ghost use Rattle.event_checks.specs.Faults.{IsShown};
 ghost use Rattle.event_checks.specs.Lines.{first_of};
-ghost use Rattle.event_checks.specs.Opening.{IsFound, form_lines, is_stated, object_lines};
+ghost use Rattle.event_checks.specs.Opening.{IsFound, block_in, data_in, form_lines, is_stated, object_in, object_lines};
 
 use crate::fault::OpenFault;
 use at_car::Car;
@@ -63,6 +63,24 @@ fn is_stated(stated: Option<Cid>, root: Cid) -> bool
     }
 }
 
+/// The first root of a CAR, and the block under it.
+fn find_block(car: &Car, stated: Option<Cid>) -> Result<(Cid, &[u8]), OpenFault>
+    ensures rooted { IfOk result (λ x. (root_of car.now.roots ≡ Some x.0) × (is_stated stated x.0 ≡ true)) }
+    ensures found { IfOk result (λ x. block_in (Ok (car.now.roots, car.now.blocks)) ≡ Some x.1.now) }
+    ensures refused { (did : List ℕ) (rev : ℕ) → IfErr result (IsShown (first_of (object_lines (Ok (car.now.roots, car.now.blocks)) stated did rev))) }
+{
+    let Some(link) = first_root(&car.roots) else {
+        return refused(Refusal::WrongRoot);
+    };
+    if !is_stated(stated, link) {
+        return refused(Refusal::WrongRoot);
+    }
+    match car.blocks.get(&link) {
+        Some(block) => Ok((link, block)),
+        None => refused(Refusal::NoCommit),
+    }
+}
+
 /// The commit object under the first root of a CAR, which an event states to be of a DID and of a revision, and, where it
 /// is a `#commit`, to have a link.
 ///
@@ -80,14 +98,9 @@ pub fn find_commit<'a>(
     ensures found { IfOk result (λ found. IsFound (Ok (car.entry.now.roots, car.entry.now.blocks)) found.link found.block.now found.commit) }
     ensures refused { IfErr result (IsShown (first_of (object_lines (Ok (car.entry.now.roots, car.entry.now.blocks)) stated did.now rev))) }
 {
-    let Some(link) = first_root(&car.roots) else {
-        return refused(Refusal::WrongRoot);
-    };
-    if !is_stated(stated, link) {
-        return refused(Refusal::WrongRoot);
-    }
-    let Some(block) = car.blocks.get(&link) else {
-        return refused(Refusal::NoCommit);
+    let (link, block) = match find_block(car, stated) {
+        Ok(found) => found,
+        Err(fault) => return Err(fault),
     };
     let commit = at_commit::read(alloc, block)?;
     if commit.did != *did || commit.rev != rev {
@@ -98,4 +111,26 @@ pub fn find_commit<'a>(
         block,
         commit,
     })
+}
+
+/// The `data` of that commit object. It is refused as [`find_commit`] refuses it; what a signature covers isn't spelled.
+pub fn find_data(
+    alloc: Global,
+    car: &Car,
+    stated: Option<Cid>,
+    did: &Words,
+    rev: Tid,
+) -> Result<Cid, OpenFault>
+    ensures shown { OnOk result (first_of (object_lines (Ok (car.now.roots, car.now.blocks)) stated did.now rev) ≡ None) }
+    ensures found { IfOk result (λ root. data_in (object_in (Ok (car.now.roots, car.now.blocks))) ≡ Some root) }
+    ensures refused { IfErr result (IsShown (first_of (object_lines (Ok (car.now.roots, car.now.blocks)) stated did.now rev))) }
+{
+    let (_, block) = match find_block(car, stated) {
+        Ok(found) => found,
+        Err(fault) => return Err(fault),
+    };
+    match at_commit::read_data(alloc, block, did, rev)? {
+        Some(root) => Ok(root),
+        None => refused(Refusal::OtherCommit),
+    }
 }
