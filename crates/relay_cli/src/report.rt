@@ -7,14 +7,15 @@ use at_cid::{Memory, Octets};
 use report_lines::{add_link, add_number, add_refusal};
 use std::alloc::Global;
 
-/// The most bytes of a line: two links of 59 bytes, a number of at most ten digits and what stands between them.
-const MOST_LINE_BYTES: usize = 144;
+/// Room for the line of an accepted message, of at most 143 bytes: two links of 59, a number of at most ten digits, and what
+/// stands beside them.
+const LINE_ROOM: usize = 144;
 
 /// The line of a message that was checked, with its line feed.
 pub fn report(alloc: Global, verdict: &Verdict) -> Result<Octets, Memory>
     ensures { IfOk result (λ line. line ≡ line_of verdict.now) }
 {
-    let mut line = Octets::from_vec(Vec::with_capacity(alloc, MOST_LINE_BYTES)?);
+    let mut line = Octets::from_vec(Vec::with_capacity(alloc, LINE_ROOM)?);
     match verdict {
         Verdict::Accepted(from, to, ops) => {
             line.extend(b"from ")?;
