@@ -25,7 +25,7 @@ use Rattle.commit_check.specs.declared.opened.Opened.{Opened}
 use Rattle.commit_check.proofs.Decided.{link_decided}
 use Rattle.commit_check.proofs.Formed.{commit_read}
 use Rattle.commit_check.proofs.Held.{car_linked}
-use Rattle.commit_check.proofs.Objects.{data_held, held}
+use Rattle.commit_check.proofs.Objects.{data_held, opened_holds}
 use Rattle.commit_check.proofs.Steps.{under_links}
 use Rattle.repo_sync.specs.Sync.{IsSyncAnswer}
 use Rattle.repo_sync.specs.declared.found.Found.{Found}
@@ -129,10 +129,10 @@ link_said : (checks : Checks) → LinksRight checks → (e : Seen) (c : CommitEv
     → checks.links e repo ≡ answer
 link_said checks links e c o repo None read body opened (no_gap, leads) =
     let P : List ℕ → Type 0 = λ d. Leads c o.car.blocks (root_before (expect_of repo)) d in
-    said checks links e c repo (held c o opened) read body (checks.links e repo) None refl (no_gap, subst P opened.head.data_root leads)
+    said checks links e c repo (opened_holds c o opened) read body (checks.links e repo) None refl (no_gap, subst P opened.head.data_root leads)
 link_said checks links e c o repo (Some r) read body opened stops =
     let P : List ℕ → Type 0 = λ d. StopsPast (is_gap c (expect_of repo)) c o.car.blocks (root_before (expect_of repo)) d r in
-    said checks links e c repo (held c o opened) read body (checks.links e repo) (Some r) refl (subst P opened.head.data_root stops)
+    said checks links e c repo (opened_holds c o opened) read body (checks.links e repo) (Some r) refl (subst P opened.head.data_root stops)
 
 pub calls_right : CallsAnswerRight
 calls_right checks opens links = record { opens = open_said checks opens; syncs = sync_said checks opens; links = link_said checks links }
