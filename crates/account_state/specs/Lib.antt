@@ -1,7 +1,6 @@
 pub mod State
 pub mod Folds
 pub mod Entries
-pub mod Names
 pub mod Tree
 pub mod Falls
 pub mod Laws

@@ -6,7 +6,6 @@ mod accounts;
 mod balancing;
 mod laws;
 mod links;
-mod name;
 mod repo;
 mod taking;
 mod tree;

@@ -7,8 +7,7 @@ ghost use Rattle.account_state.specs.State.{known};
 
 use crate::account::Account;
 use crate::balancing::balanced;
-use crate::name::Name;
-use at_cid::Memory;
+use at_cid::{Memory, Words};
 use relay_row::Row;
 use std::alloc::Global;
 use std::cmp::Ordering;
@@ -37,7 +36,7 @@ pub(crate) enum Link {
 pub(crate) struct Node {
     pub(crate) left: Tree,
     pub(crate) right: Tree,
-    pub(crate) name: Name,
+    pub(crate) name: Words,
     pub(crate) account: Account,
 }
 
@@ -69,7 +68,7 @@ impl Node {
         Ok(Node {
             left: Tree::new(),
             right: Tree::new(),
-            name: Name::from_str(alloc, did)?,
+            name: Words::from_str(alloc, did)?,
             account: Account::unnamed(alloc),
         })
     }

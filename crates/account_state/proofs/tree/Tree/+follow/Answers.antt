@@ -15,7 +15,7 @@ follow-requires t c =
     let n = c.deref_mut.result.now in
     let is = opened c.self.view_is c.in-Fork.is n c.deref_mut.ensures.value in
     let shorter = left_shorter n c.args.self.now is c.requires.sorted in
-    let name : c.as_bytes.result.now ≡ n.name = cc in
+    let name : c.as_bytes.result.now ≡ n.name = let value = c.as_bytes.ensures.value in cc in
     let below = ordered c.args.did.now c.args.did.now n.name c.as_bytes.result.now c.cmp-order.result Less c.cmp-order.ensures refl name c.in-Less.is in
     (search (rules, shorter), (left_sorted n c.args.self.now is c.requires.sorted, ap is_some (sym (in_left n c.args.self.now is c.requires.sorted c.args.did.now below)) ∙ c.requires.there))
 
@@ -24,7 +24,7 @@ follow-requires-in-Greater t c =
     let n = c.deref_mut-in-Greater.result.now in
     let is = opened c.self.view_is c.in-Fork.is n c.deref_mut-in-Greater.ensures.value in
     let shorter = right_shorter n c.args.self.now is c.requires.sorted in
-    let name : c.as_bytes.result.now ≡ n.name = cc in
+    let name : c.as_bytes.result.now ≡ n.name = let value = c.as_bytes.ensures.value in cc in
     let above = ordered c.args.did.now c.args.did.now n.name c.as_bytes.result.now c.cmp-order.result Greater c.cmp-order.ensures refl name c.in-Greater.is in
     (search (rules, shorter), (right_sorted n c.args.self.now is c.requires.sorted, ap is_some (sym (in_right n c.args.self.now is c.requires.sorted c.args.did.now above)) ∙ c.requires.there))
 
@@ -38,7 +38,7 @@ returns t c =
       | in-Equal w ↦
           let n = w.deref_mut-in-Equal.result.now in
           let is = opened c.self.view_is c.in-Fork.is n w.deref_mut-in-Equal.ensures.value in
-          let name : c.as_bytes.result.now ≡ n.name = cc in
+          let name : c.as_bytes.result.now ≡ n.name = let value = c.as_bytes.ensures.value in cc in
           let same = equal_is c.args.did.now n.name (ordered c.args.did.now c.args.did.now n.name c.as_bytes.result.now c.cmp-order.result Equal c.cmp-order.ensures refl name w.in-Equal.is) in
           rw w.self-inside-is (subst (λ (es : List Entry). Follows c.args.did.now c.args.row.now es (n.left ++ (n.name, w.follow-in-Equal.new.self) ∷ n.right)) (sym is) (follows_here c.args.did.now c.args.row.now n.left n.name n.account w.follow-in-Equal.new.self n.right same w.follow-in-Equal.ensures))
       | in-Greater w ↦

@@ -19,17 +19,17 @@ get-requires-in-Greater t c =
 pub returns-in-Less : goal.returns-in-Less
 returns-in-Less t c =
     let n = c.deref-in-Less.result.now in
-    let same : c.as_bytes.result.now ≡ n.name = cc in
+    let same : c.as_bytes.result.now ≡ n.name = let value = c.as_bytes.ensures.value in cc in
     c.get.ensures ∙ sym (in_left n c.args.self.now (opened c.self.view_is c.in-Fork.is n c.deref-in-Less.ensures) c.requires c.args.did.now (ordered c.args.did.now c.args.did.now n.name c.as_bytes.result.now c.cmp.result Less c.cmp.ensures refl same c.in-Less.is))
 
 pub returns-in-Equal : goal.returns-in-Equal
 returns-in-Equal t c =
     let n = c.deref-in-Equal.result.now in
-    let same : c.as_bytes.result.now ≡ n.name = cc in
+    let same : c.as_bytes.result.now ≡ n.name = let value = c.as_bytes.ensures.value in cc in
     sym (in_node n c.args.self.now (opened c.self.view_is c.in-Fork.is n c.deref-in-Equal.ensures) c.requires c.args.did.now (ordered c.args.did.now c.args.did.now n.name c.as_bytes.result.now c.cmp.result Equal c.cmp.ensures refl same c.in-Equal.is))
 
 pub returns-in-Greater : goal.returns-in-Greater
 returns-in-Greater t c =
     let n = c.deref-in-Greater.result.now in
-    let same : c.as_bytes.result.now ≡ n.name = cc in
+    let same : c.as_bytes.result.now ≡ n.name = let value = c.as_bytes.ensures.value in cc in
     c.get-in-Greater.ensures ∙ sym (in_right n c.args.self.now (opened c.self.view_is c.in-Fork.is n c.deref-in-Greater.ensures) c.requires c.args.did.now (ordered c.args.did.now c.args.did.now n.name c.as_bytes.result.now c.cmp.result Greater c.cmp.ensures refl same c.in-Greater.is))

@@ -29,8 +29,8 @@ returns-after-is_lt t c =
       | then-is_lt w ↦
           let n = w.deref_mut.result.now in
           let is = opened c.self.view_is (sym c.replace.ensures.value ∙ c.in-Fork.is) n w.deref_mut.ensures.value in
-          let new : c.as_bytes.result.now ≡ e.0 = cc in
-          let name : c.as_bytes-in-Fork.result.now ≡ n.name = cc in
+          let new : c.as_bytes.result.now ≡ e.0 = let value = c.as_bytes.ensures.value in cc in
+          let name : c.as_bytes-in-Fork.result.now ≡ n.name = let value = c.as_bytes-in-Fork.ensures.value in cc in
           let below : is_before e.0 n.name ≡ true = before_is e.0 c.as_bytes.result.now n.name c.as_bytes-in-Fork.result.now c.cmp.result c.is_lt.result true c.cmp.ensures new name c.is_lt.ensures w.if-is_lt.true in
           ap (λ (b : Box Node). node_entries b.value) w.node-is
           ∙ ap (λ (es : List Entry). es ++ (n.name, n.account) ∷ n.right) w.insert.ensures
@@ -38,8 +38,8 @@ returns-after-is_lt t c =
       | else-is_lt w ↦
           let n = w.deref_mut-else-is_lt.result.now in
           let is = opened c.self.view_is (sym c.replace.ensures.value ∙ c.in-Fork.is) n w.deref_mut-else-is_lt.ensures.value in
-          let new : c.as_bytes.result.now ≡ e.0 = cc in
-          let name : c.as_bytes-in-Fork.result.now ≡ n.name = cc in
+          let new : c.as_bytes.result.now ≡ e.0 = let value = c.as_bytes.ensures.value in cc in
+          let name : c.as_bytes-in-Fork.result.now ≡ n.name = let value = c.as_bytes-in-Fork.ensures.value in cc in
           let above : is_before e.0 n.name ≡ false = before_is e.0 c.as_bytes.result.now n.name c.as_bytes-in-Fork.result.now c.cmp.result c.is_lt.result false c.cmp.ensures new name c.is_lt.ensures w.if-is_lt.false in
           ap (λ (b : Box Node). node_entries b.value) w.node-is
           ∙ ap (λ (es : List Entry). n.left ++ (n.name, n.account) ∷ es) w.insert-else-is_lt.ensures

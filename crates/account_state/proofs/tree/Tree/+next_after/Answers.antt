@@ -16,7 +16,7 @@ pub returns-then-not-is_lt : goal.returns-then-not-is_lt
 returns-then-not-is_lt t c =
     let n = c.deref-then-not-is_lt.result.now in
     let is = opened c.self.view_is c.in-Fork.is n c.deref-then-not-is_lt.ensures in
-    let name : c.as_bytes.result.now ≡ n.name = cc in
+    let name : c.as_bytes.result.now ≡ n.name = let value = c.as_bytes.ensures.value in cc in
     c.next_after.ensures ∙ sym (behind_right n c.args.self.now is c.requires c.args.did.now (before_is c.args.did.now c.args.did.now n.name c.as_bytes.result.now c.cmp.result c.is_lt.result false c.cmp.ensures refl name c.is_lt.ensures c.if-not-is_lt.true))
 
 pub next_after-requires-in-Fork : goal.next_after-requires-in-Fork
@@ -44,8 +44,8 @@ pub returns-in-None : goal.returns-in-None
 returns-in-None t c =
     let n = c.deref-in-None-2.result.now in
     let is = opened c.self.view_is c.in-Fork.is n c.deref-in-None-2.ensures in
-    let name : c.as_bytes.result.now ≡ n.name = cc in
-    let text : c.as_str.result.now ≡ n.name = cc in
+    let name : c.as_bytes.result.now ≡ n.name = let value = c.as_bytes.ensures.value in cc in
+    let text : c.as_str.result.now ≡ n.name = let value = c.as_str.ensures.value in cc in
     let left = subst (λ (m : Node). next_in c.args.did.now m.left ≡ None) (c.deref-in-Fork.ensures ∙ sym c.deref-in-None-2.ensures) (none_next _ c.next_after-in-Fork.result c.args.did.now c.deref-in-Fork.result.now.left c.next_after-in-Fork.ensures c.in-None.is) in
     let named : n.account.named ≡ true = cc in
     let above = before_is c.args.did.now c.args.did.now n.name c.as_bytes.result.now c.cmp.result c.is_lt.result true c.cmp.ensures refl name c.is_lt.ensures c.if-not-is_lt.false in
@@ -55,7 +55,7 @@ pub returns-in-None-2 : goal.returns-in-None-2
 returns-in-None-2 t c =
     let n = c.deref-in-None-2-2.result.now in
     let is = opened c.self.view_is c.in-Fork.is n c.deref-in-None-2-2.ensures in
-    let name : c.as_bytes.result.now ≡ n.name = cc in
+    let name : c.as_bytes.result.now ≡ n.name = let value = c.as_bytes.ensures.value in cc in
     let left = subst (λ (m : Node). next_in c.args.did.now m.left ≡ None) (c.deref-in-Fork.ensures ∙ sym c.deref-in-None-2-2.ensures) (none_next _ c.next_after-in-Fork.result c.args.did.now c.deref-in-Fork.result.now.left c.next_after-in-Fork.ensures c.in-None.is) in
     let unnamed : n.account.named ≡ false = cc in
     let above = before_is c.args.did.now c.args.did.now n.name c.as_bytes.result.now c.cmp.result c.is_lt.result true c.cmp.ensures refl name c.is_lt.ensures c.if-not-is_lt.false in
