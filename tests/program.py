@@ -44,11 +44,11 @@ def run(folder, *words, given=b"", command=PROGRAM, **options):
     return done.returncode, done.stdout + done.stderr
 
 
-def measured(folder, *words, given=b""):
+def measured(folder, *words, given=b"", command=PROGRAM):
     """The status and the output of a run, the seconds of processor time that it took, and its peak of memory in bytes."""
     with tempfile.NamedTemporaryFile("r") as told:
         launcher = [sys.executable, "-I", "-S", __file__, told.name]
-        done = subprocess.run([*launcher, PROGRAM, folder, *words], input=given, stdout=subprocess.PIPE, check=False)
+        done = subprocess.run([*launcher, command, folder, *words], input=given, stdout=subprocess.PIPE, check=False)
         seconds, peak = told.read().split()
     return done.returncode, done.stdout, float(seconds), int(peak)
 
