@@ -5,3 +5,6 @@ pub mod Trees
 pub mod Naming
 pub mod Joined
 pub mod Written
+pub mod Dids
+pub mod Nexts
+pub mod Left

@@ -2,7 +2,7 @@
 use Rattle.std.proofs.Common.{◌≡◌, ℕ, Bool, true, false, cond, ◌&&◌, List, [], ◌∷◌, ◌++◌, Option, Some, None, refl, sym, ap, ◌∙◌, subst}
 use Rattle.std.specs.Prelude.{IfSome, option_map}
 use Rattle.std.specs.Str.{bytes_eq}
-use Rattle.account_state.specs.Entries.{Entry, found, known_in, entry, is_before, AllBehind, IsSorted, next_in}
+use Rattle.account_state.specs.Entries.{Entry, found_entry, known_in, entry, is_before, AllBehind, IsSorted, next_in}
 use Rattle.account_state.specs.State.{state_of, known}
 use Rattle.account_state.proofs.Order.{behind_apart, not_before, same_text, is_text}
 use Rattle.account_state.proofs.Sorted.{behind_more, behind_middle, found_none, found_later}
@@ -69,7 +69,7 @@ entry_later : (name : List ℕ) (e : Entry) (es : List Entry) → bytes_eq name 
 entry_later name e es h = ap known_in (found_later name e es h)
 
 entry_first : (name : List ℕ) (e : Entry) (es : List Entry) → bytes_eq name e.0 ≡ true → entry (e ∷ es) name ≡ known e.1
-entry_first name e es h = ap (λ (b : Bool). known_in (cond b (Some e.1) (found name es))) h
+entry_first name e es h = ap (λ (b : Bool). known_in (cond b (Some e.1) (found_entry name es))) h
 
 pub next_found : (did : List ℕ) (es : List Entry) (x : Entry) → IsSorted es → next_in did es ≡ Some x → entry es x.0 ≡ Some (state_of x.1)
 next_found did [] x s h = absurd cc

@@ -5,8 +5,8 @@ use Rattle.std.specs.Prelude.{length, ◌==◌}
 use Rattle.std.specs.Str.{bytes_eq}
 use Rattle.std.proofs.lemmas.Bool.{and_from}
 use Rattle.relay_row.specs.declared.row.Row.{Row}
-use Rattle.relay_row.specs.Folds.{names, did_in}
-use Rattle.account_state.specs.Entries.{Entry, found, known_in, entry, has_room, entry_after, AllBehind, IsSorted, put, Follows}
+use Rattle.relay_row.specs.Folds.{names, did_of_row}
+use Rattle.account_state.specs.Entries.{Entry, found_entry, known_in, entry, has_room, entry_after, AllBehind, IsSorted, put, Follows}
 use Rattle.account_state.specs.Folds.{fresh, moved}
 use Rattle.account_state.specs.State.{State, state_of, known}
 use Rattle.account_state.specs.declared.account.Account.{Account}
@@ -35,7 +35,7 @@ pub known_moved : (b : Account) (s : State) → b.named ≡ true → state_of b 
 known_moved b s named is = ap (λ (n : Bool). cond n (Some (state_of b)) None) named ∙ ap Some is
 
 -- only the account of one DID differs
-found_beside : (name did : List ℕ) (x y : Account) (l r : List Entry) → bytes_eq name did ≡ false → found name (l ++ (did, x) ∷ r) ≡ found name (l ++ (did, y) ∷ r)
+found_beside : (name did : List ℕ) (x y : Account) (l r : List Entry) → bytes_eq name did ≡ false → found_entry name (l ++ (did, x) ∷ r) ≡ found_entry name (l ++ (did, y) ∷ r)
 found_beside name did x y [] r h = found_later name (did, x) r h ∙ sym (found_later name (did, y) r h)
 found_beside name did x y (z ∷ l) r h = ap (λ (o : Option Account). cond (bytes_eq name z.0) (Some z.1) o) (found_beside name did x y l r h)
 
@@ -47,48 +47,48 @@ sorted_beside : (did : List ℕ) (x y : Account) (l r : List Entry) → IsSorted
 sorted_beside did x y [] r s = s
 sorted_beside did x y (z ∷ l) r s = (behind_beside z.0 did x y l r s.0, sorted_beside did x y l r s.1)
 
-module _ (row : Row) (old new : List Entry) (sorted : IsSorted old) (f : Follows (did_in row) row old new) where
-  sorted_was : IsSorted (f.front ++ (did_in row, f.before) ∷ f.back)
+module _ (row : Row) (old new : List Entry) (sorted : IsSorted old) (f : Follows (did_of_row row) row old new) where
+  sorted_was : IsSorted (f.front ++ (did_of_row row, f.before) ∷ f.back)
   sorted_was = subst IsSorted f.was sorted
 
   pub sorted_follows : IsSorted new
-  sorted_follows = subst IsSorted (sym f.is) (sorted_beside (did_in row) f.before f.after f.front f.back sorted_was)
+  sorted_follows = subst IsSorted (sym f.is) (sorted_beside (did_of_row row) f.before f.after f.front f.back sorted_was)
 
-  found_was : found (did_in row) old ≡ Some f.before
-  found_was = ap (λ (es : List Entry). found (did_in row) es) f.was ∙ found_here (did_in row) f.front (did_in row, f.before) f.back refl sorted_was
+  found_was : found_entry (did_of_row row) old ≡ Some f.before
+  found_was = ap (λ (es : List Entry). found_entry (did_of_row row) es) f.was ∙ found_here (did_of_row row) f.front (did_of_row row, f.before) f.back refl sorted_was
 
-  found_is : found (did_in row) new ≡ Some f.after
-  found_is = ap (λ (es : List Entry). found (did_in row) es) f.is ∙ found_here (did_in row) f.front (did_in row, f.after) f.back refl (subst IsSorted f.is sorted_follows)
+  found_is : found_entry (did_of_row row) new ≡ Some f.after
+  found_is = ap (λ (es : List Entry). found_entry (did_of_row row) es) f.is ∙ found_here (did_of_row row) f.front (did_of_row row, f.after) f.back refl (subst IsSorted f.is sorted_follows)
 
-  others : (name : List ℕ) → bytes_eq name (did_in row) ≡ false → found name new ≡ found name old
+  others : (name : List ℕ) → bytes_eq name (did_of_row row) ≡ false → found_entry name new ≡ found_entry name old
   others name h =
-      ap (λ (es : List Entry). found name es) f.is
-      ∙ found_beside name (did_in row) f.after f.before f.front f.back h
-      ∙ sym (ap (λ (es : List Entry). found name es) f.was)
+      ap (λ (es : List Entry). found_entry name es) f.is
+      ∙ found_beside name (did_of_row row) f.after f.before f.front f.back h
+      ∙ sym (ap (λ (es : List Entry). found_entry name es) f.was)
 
-  own : (length (did_in row) == 0) ≡ false → entry new (did_in row) ≡ entry_after (did_in row) (entry old (did_in row)) row
+  own : (length (did_of_row row) == 0) ≡ false → entry new (did_of_row row) ≡ entry_after (did_of_row row) (entry old (did_of_row row)) row
   own full =
-      let named : names (did_in row) (did_in row) ≡ true = and_from (not (bytes_eq (did_in row) [])) (bytes_eq (did_in row) (did_in row)) (not_empty (did_in row) full) (is_text (did_in row) (did_in row) refl) in
+      let named : names (did_of_row row) (did_of_row row) ≡ true = and_from (not (bytes_eq (did_of_row row) [])) (bytes_eq (did_of_row row) (did_of_row row)) (not_empty (did_of_row row) full) (is_text (did_of_row row) (did_of_row row) refl) in
       ap known_in found_is ∙ f.moves
       ∙ ap (λ (o : Option Account). Some (moved (unwrap_or (known_in o) fresh) row)) (sym found_was)
-      ∙ sym (ap (λ (c : Bool). cond c (Some (moved (unwrap_or (entry old (did_in row)) fresh) row)) (entry old (did_in row))) named)
+      ∙ sym (ap (λ (c : Bool). cond c (Some (moved (unwrap_or (entry old (did_of_row row)) fresh) row)) (entry old (did_of_row row))) named)
 
-  pub entries_follow : (length (did_in row) == 0) ≡ false → (name : List ℕ) → entry new name ≡ entry_after name (entry old name) row
+  pub entries_follow : (length (did_of_row row) == 0) ≡ false → (name : List ℕ) → entry new name ≡ entry_after name (entry old name) row
   entries_follow full name =
-      (elim (bytes_eq name (did_in row)) as (λ c. bytes_eq name (did_in row) ≡ c → entry new name ≡ entry_after name (entry old name) row) [
-        | true ↦ λ t. subst (λ (text : List ℕ). entry new text ≡ entry_after text (entry old text) row) (sym (same_text name (did_in row) t)) (own full)
-        | false ↦ λ t. ap known_in (others name t) ∙ sym (ap (λ (c : Bool). cond c (Some (moved (unwrap_or (entry old name) fresh) row)) (entry old name)) (and_false (not (bytes_eq name [])) (bytes_eq name (did_in row)) t))
+      (elim (bytes_eq name (did_of_row row)) as (λ c. bytes_eq name (did_of_row row) ≡ c → entry new name ≡ entry_after name (entry old name) row) [
+        | true ↦ λ t. subst (λ (text : List ℕ). entry new text ≡ entry_after text (entry old text) row) (sym (same_text name (did_of_row row) t)) (own full)
+        | false ↦ λ t. ap known_in (others name t) ∙ sym (ap (λ (c : Bool). cond c (Some (moved (unwrap_or (entry old name) fresh) row)) (entry old name)) (and_false (not (bytes_eq name [])) (bytes_eq name (did_of_row row)) t))
       ]) refl
 
   pub room_follows : (name : List ℕ) → has_room new name ≡ has_room old name
   room_follows name =
-      (elim (bytes_eq name (did_in row)) as (λ c. bytes_eq name (did_in row) ≡ c → has_room new name ≡ has_room old name) [
-        | true ↦ λ t. subst (λ (text : List ℕ). has_room new text ≡ has_room old text) (sym (same_text name (did_in row) t)) (ap is_some found_is ∙ sym (ap is_some found_was))
+      (elim (bytes_eq name (did_of_row row)) as (λ c. bytes_eq name (did_of_row row) ≡ c → has_room new name ≡ has_room old name) [
+        | true ↦ λ t. subst (λ (text : List ℕ). has_room new text ≡ has_room old text) (sym (same_text name (did_of_row row) t)) (ap is_some found_is ∙ sym (ap is_some found_was))
         | false ↦ λ t. ap is_some (others name t)
       ]) refl
 
 -- an account that isn't known takes its room
-module _ (e : Entry) (es : List Entry) (absent : found e.0 es ≡ None) where
+module _ (e : Entry) (es : List Entry) (absent : found_entry e.0 es ≡ None) where
   pub entries_touched : known e.1 ≡ None → (name : List ℕ) → entry (put e es) name ≡ entry es name
   entries_touched unknown name =
       (elim (bytes_eq name e.0) as (λ c. bytes_eq name e.0 ≡ c → entry (put e es) name ≡ entry es name) [
@@ -107,8 +107,8 @@ module _ (e : Entry) (es : List Entry) (absent : found e.0 es ≡ None) where
       ]) refl
 
 -- a row's DID that isn't empty has room
-pub filled : (row : Row) → (length (did_in row) == 0) ≡ false → did_in row ≢ []
-filled row full empty = both (length (did_in row) == 0) full (ap (λ (text : List ℕ). length text == 0) empty)
+pub filled : (row : Row) → (length (did_of_row row) == 0) ≡ false → did_of_row row ≢ []
+filled row full empty = both (length (did_of_row row) == 0) full (ap (λ (text : List ℕ). length text == 0) empty)
 
 -- the account that follows stands on the left, here, or on the right
 pub follows_left : (did : List ℕ) (row : Row) (old new : List Entry) (y : Entry) (r : List Entry) → Follows did row old new → Follows did row (old ++ y ∷ r) (new ++ y ∷ r)
@@ -145,7 +145,7 @@ follows_here did row l name x y r is moves = record {
 }
 
 -- a row from which its DID was taken moves its account as before
-pub follows_whole : (did : List ℕ) (rest row : Row) (old new : List Entry) → did ≡ did_in row → ((a : State) → moved a rest ≡ moved a row) → Follows did rest old new → Follows (did_in row) row old new
+pub follows_whole : (did : List ℕ) (rest row : Row) (old new : List Entry) → did ≡ did_of_row row → ((a : State) → moved a rest ≡ moved a row) → Follows did rest old new → Follows (did_of_row row) row old new
 follows_whole did rest row old new is same f = record {
   front = f.front;
   back = f.back;
@@ -161,9 +161,9 @@ absent_from f None p e h = sym e
 absent_from f (Some x) p e h = absurd cc
 
 -- a table in which a DID took room
-module _ (old tree new : List Entry) (view : tree ≡ old) (e : Entry) (did : List ℕ) (name_is : e.0 ≡ did) (gone : found did tree ≡ None) (is : new ≡ put e tree) where
-  absent : found e.0 tree ≡ None
-  absent = ap (λ (text : List ℕ). found text tree) name_is ∙ gone
+module _ (old tree new : List Entry) (view : tree ≡ old) (e : Entry) (did : List ℕ) (name_is : e.0 ≡ did) (gone : found_entry did tree ≡ None) (is : new ≡ put e tree) where
+  absent : found_entry e.0 tree ≡ None
+  absent = ap (λ (text : List ℕ). found_entry text tree) name_is ∙ gone
 
   pub touched_sorted : IsSorted tree → IsSorted new
   touched_sorted s = subst IsSorted (sym is) (sorted_put e tree absent s)

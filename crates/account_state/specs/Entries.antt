@@ -6,7 +6,7 @@ use Rattle.std.specs.Prelude.{◌≡◌, ℕ, Bool, true, ◌&&◌, List, [], �
 use Rattle.std.specs.Option.{is_some, unwrap_or}
 use Rattle.std.specs.Str.{bytes_eq}
 use Rattle.relay_row.specs.declared.row.Row.{Row}
-use Rattle.relay_row.specs.Folds.{names, did_in}
+use Rattle.relay_row.specs.Folds.{names, did_of_row}
 use Rattle.account_state.specs.declared.account.Account.{Account}
 use Rattle.account_state.specs.Folds.{moved, fresh}
 use Rattle.account_state.specs.State.{State, known}
@@ -15,8 +15,8 @@ use Rattle.account_state.specs.State.{State, known}
 abbrev pub Entry : Type 0
 Entry = List ℕ × Account
 
-abbrev pub found : List ℕ → List Entry → Option Account
-found did es = lookup (bytes_eq did) es
+abbrev pub found_entry : List ℕ → List Entry → Option Account
+found_entry did es = lookup (bytes_eq did) es
 
 abbrev pub known_in : Option Account → Option State
 known_in None = None
@@ -24,15 +24,15 @@ known_in (Some a) = known a
 
 -- the account of a DID that a row named, or nothing
 abbrev pub entry : List Entry → List ℕ → Option State
-entry es did = known_in (found did es)
+entry es did = known_in (found_entry did es)
 
 -- whether there is room for a DID
 abbrev pub has_room : List Entry → List ℕ → Bool
-has_room es did = is_some (found did es)
+has_room es did = is_some (found_entry did es)
 
 -- what a row makes of the entry of a DID
 abbrev pub entry_after : List ℕ → Option State → Row → Option State
-entry_after did o row = if names did (did_in row) then Some (moved (unwrap_or o fresh) row) else o
+entry_after did o row = if names did (did_of_row row) then Some (moved (unwrap_or o fresh) row) else o
 
 -- a name stands before another, in the order of bytes
 abbrev pub is_before : List ℕ → List ℕ → Bool

@@ -9,7 +9,7 @@ use Rattle.relay_row.specs.declared.fetched.Fetched.{Fetched}
 use Rattle.relay_row.specs.declared.row.Row.{Row}
 use Rattle.relay_row.specs.declared.taken.Effect.{Effect}
 use Rattle.relay_row.specs.declared.taken.Taken.{Taken}
-use Rattle.relay_row.specs.Folds.{folded, names, did_in}
+use Rattle.relay_row.specs.Folds.{folded, names, did_of_row}
 use Rattle.relay_row.specs.Rules.{loses}
 use Rattle.account_state.specs.declared.repo.Repo.{Repo}
 use Rattle.account_state.specs.State.{State}
@@ -65,7 +65,7 @@ moved a (Row.Carried (Carried.Account b)) = carried_as b
 
 -- an account after one more row
 abbrev pub account_after : List ℕ → State → Row → State
-account_after did a row = if names did (did_in row) then moved a row else a
+account_after did a row = if names did (did_of_row row) then moved a row else a
 
 -- the account of a DID, as the rows of a journal leave it
 unfoldable pub account : List ℕ → List Row → State

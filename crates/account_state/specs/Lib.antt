@@ -3,4 +3,5 @@ pub mod Folds
 pub mod Entries
 pub mod Tree
 pub mod Falls
+pub mod Dids
 pub mod Laws

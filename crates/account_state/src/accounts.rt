@@ -1,14 +1,13 @@
 //! The accounts that the rows of a journal name.
 
 ghost use Rattle.std.specs.Prelude.{◌≡◌, ◌≢◌, List, ℕ, [], Some, None, true, false, option_map, OnOk, IfSome};
-ghost use Rattle.std.specs.String.{string_bytes};
-ghost use Rattle.relay_row.specs.Folds.{did_in};
+ghost use Rattle.relay_row.specs.Folds.{did_of_row};
 ghost use Rattle.account_state.specs.Entries.{entry, has_room, entry_after, is_before};
 ghost use Rattle.account_state.specs.State.{state_of};
 
 use crate::account::Account;
 use crate::taking::take_did;
-use crate::tree::{Node, Tree};
+use crate::tree::{Tree, TreeNode};
 use at_cid::Memory;
 use relay_row::Row;
 use std::alloc::Global;
@@ -64,14 +63,14 @@ impl Accounts {
         if self.tree.get(did.as_bytes()).is_some() {
             return Ok(());
         }
-        let node = Node::unnamed(self.alloc, did)?;
+        let node = TreeNode::unnamed(self.alloc, did)?;
         self.tree.insert(Box::new(self.alloc, node)?);
         Ok(())
     }
 
     /// The accounts after one more row, whose DID was touched, where it names one. Takes no memory.
     pub fn apply(&mut self, mut row: Row)
-        requires { did_in row ≢ [] → has_room self.old (did_in row) ≡ true }
+        requires { did_of_row row ≢ [] → has_room self.old (did_of_row row) ≡ true }
         ensures entries { (name : List ℕ) → entry self.new name ≡ entry_after name (entry self.old name) row }
         ensures room { (name : List ℕ) → has_room self.new name ≡ has_room self.old name }
     {
@@ -83,11 +82,11 @@ impl Accounts {
     }
 
     /// The next DID that a row names, in the order of bytes, with its account.
-    pub fn next_after(&self, did: &String) -> Option<(&str, &Account)>
+    pub fn next_after(&self, did: &str) -> Option<(&str, &Account)>
         ensures found { IfSome result (λ x. entry self.now x.0.now ≡ Some (state_of x.1.now)) }
-        ensures above { IfSome result (λ x. is_before (string_bytes did.now) x.0.now ≡ true) }
-        ensures least { IfSome result (λ x. (name : List ℕ) → is_before (string_bytes did.now) name ≡ true → is_before name x.0.now ≡ true → entry self.now name ≡ None) }
-        ensures none { result ≡ None → (name : List ℕ) → is_before (string_bytes did.now) name ≡ true → entry self.now name ≡ None }
+        ensures above { IfSome result (λ x. is_before did.now x.0.now ≡ true) }
+        ensures least { IfSome result (λ x. (name : List ℕ) → is_before did.now name ≡ true → is_before name x.0.now ≡ true → entry self.now name ≡ None) }
+        ensures none { result ≡ None → (name : List ℕ) → is_before did.now name ≡ true → entry self.now name ≡ None }
     {
         self.tree.next_after(did.as_bytes())
     }

@@ -3,7 +3,7 @@
 ghost use Rattle.std.specs.Prelude.{◌≡◌};
 ghost use Rattle.account_state.specs.Tree.{entries, node_entries};
 
-use crate::tree::{Link, Node, Tree};
+use crate::tree::{Link, Tree, TreeNode};
 use std::mem;
 
 // Its level, and 0 where it is empty.
@@ -23,7 +23,7 @@ fn level_behind(tree: &Tree) -> u8 {
 }
 
 // A node whose left side is on its level goes behind it.
-fn skew(at: u8, mut node: Box<Node>) -> Link
+fn skew(at: u8, mut node: Box<TreeNode>) -> Link
     ensures { entries result ≡ node_entries node.value }
 {
     if level(&node.left) != at {
@@ -42,7 +42,7 @@ fn skew(at: u8, mut node: Box<Node>) -> Link
 }
 
 // Of three nodes on a level the middle one goes up.
-fn split(at: u8, mut node: Box<Node>) -> Link
+fn split(at: u8, mut node: Box<TreeNode>) -> Link
     ensures { entries result ≡ node_entries node.value }
 {
     if level_behind(&node.right) != at {
@@ -61,7 +61,7 @@ fn split(at: u8, mut node: Box<Node>) -> Link
 }
 
 /// A node below which one more was put, brought to its level again. Takes no memory.
-pub(crate) fn balanced(at: u8, node: Box<Node>) -> Link
+pub(crate) fn balanced(at: u8, node: Box<TreeNode>) -> Link
     ensures { entries result ≡ node_entries node.value }
 {
     match skew(at, node) {

@@ -12,5 +12,5 @@ mod tree;
 
 pub use account::Account;
 pub use accounts::Accounts;
-pub use laws::accounts_join;
+pub use laws::{accounts_join, dids_are_named};
 pub use repo::Repo;

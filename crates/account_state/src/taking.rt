@@ -1,7 +1,7 @@
 //! The DIDs that rows name.
 
 ghost use Rattle.std.specs.Prelude.{◌≡◌};
-ghost use Rattle.relay_row.specs.Folds.{did_in};
+ghost use Rattle.relay_row.specs.Folds.{did_of_row};
 ghost use Rattle.account_state.specs.Folds.{moved};
 ghost use Rattle.account_state.specs.State.{State};
 
@@ -12,7 +12,7 @@ use std::mem;
 
 /// The DID that a row names, or the empty text, taken out of the row. Takes no memory.
 pub(crate) fn take_did(alloc: Global, row: &mut Row) -> Words
-    ensures did { result ≡ did_in row.old }
+    ensures did { result ≡ did_of_row row.old }
     ensures moves { (a : State) → moved a row.new ≡ moved a row.old }
 {
     let empty = Words::new(alloc);

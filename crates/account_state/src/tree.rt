@@ -2,7 +2,7 @@
 
 ghost use Rattle.std.specs.Prelude.{◌≡◌, [], None, true, IfOk, option_map};
 ghost use Rattle.std.specs.Option.{is_some};
-ghost use Rattle.account_state.specs.Entries.{IsSorted, Follows, found, put, next_in};
+ghost use Rattle.account_state.specs.Entries.{IsSorted, Follows, found_entry, put, next_in};
 ghost use Rattle.account_state.specs.State.{known};
 
 use crate::account::Account;
@@ -28,12 +28,12 @@ pub(crate) struct Tree {
 pub(crate) enum Link {
     Empty,
     // The number is the node's level.
-    Fork(u8, Box<Node>),
+    Fork(u8, Box<TreeNode>),
 }
 
 #[cycle(tree)]
 #[derive(Drop)]
-pub(crate) struct Node {
+pub(crate) struct TreeNode {
     pub(crate) left: Tree,
     pub(crate) right: Tree,
     pub(crate) name: Words,
@@ -57,15 +57,15 @@ impl Model for Tree {
     ghost size_decreases = { λ a h. depth_within a.link };
 }
 
-impl Node {
+impl TreeNode {
     /// Room for an account that no row names.
-    pub(crate) fn unnamed(alloc: Global, did: &str) -> Result<Node, Memory>
+    pub(crate) fn unnamed(alloc: Global, did: &str) -> Result<TreeNode, Memory>
         ensures left { IfOk result (λ node. node.left ≡ []) }
         ensures right { IfOk result (λ node. node.right ≡ []) }
         ensures name { IfOk result (λ node. node.name ≡ did.now) }
         ensures account { IfOk result (λ node. known node.account ≡ None) }
     {
-        Ok(Node {
+        Ok(TreeNode {
             left: Tree::new(),
             right: Tree::new(),
             name: Words::from_str(alloc, did)?,
@@ -85,7 +85,7 @@ impl Tree {
     /// The account of a DID.
     pub(crate) fn get(&self, did: &[u8]) -> Option<&Account>
         requires { IsSorted self.now }
-        ensures { option_map (λ account. account.now) result ≡ found did.now self.now }
+        ensures { option_map (λ account. account.now) result ≡ found_entry did.now self.now }
     {
         match &self.link {
             Link::Empty => None,
@@ -120,7 +120,7 @@ impl Tree {
     /// The account of a DID follows a row, which is left without what it said of it. Takes no memory.
     pub(crate) fn follow(&mut self, did: &[u8], row: &mut Row)
         requires sorted { IsSorted self.old }
-        requires there { is_some (found did.now self.old) ≡ true }
+        requires there { is_some (found_entry did.now self.old) ≡ true }
         ensures { Follows did.now row.old self.old self.new }
     {
         match &mut self.link {
@@ -137,7 +137,7 @@ impl Tree {
     }
 
     /// Puts a node that has nothing before it or behind it in its place. Takes no memory.
-    pub(crate) fn insert(&mut self, new: Box<Node>)
+    pub(crate) fn insert(&mut self, new: Box<TreeNode>)
         requires sorted { IsSorted self.old }
         requires before { new.value.left ≡ [] }
         requires behind { new.value.right ≡ [] }

@@ -1,7 +1,7 @@
 pub mod Lines
 pub mod Standings
 pub mod Parsing
-pub mod Benches
+pub mod MethodLists
 pub mod Methods
 pub mod Runs
 pub mod Unique

@@ -122,7 +122,7 @@ did_apart : (sep : ℕ) → IsNoneOfDids sep → (did : List ℕ) → is_did did
 did_apart sep none did h =
     let named : IsDid did = (did_grammar did (is_did did) refl).0 h in
     let tail : List ℕ = named.front ++ named.final ∷ [] in
-    ap (list_all (not_at sep)) named.spelled
+    ap (list_all (not_at sep)) named.encoded
     ∙ apart_join sep (codes "did:") (named.method ++ (codes ":" ++ tail)) none.scheme
     (apart_join sep named.method (codes ":" ++ tail) (apart sep is_lower none.lower named.method named.method_letters)
     (apart_join sep (codes ":") tail none.colon
@@ -150,10 +150,10 @@ host_letters host h = (and_parts (nat_lt 0 (length host) && nat_le (length host)
 -- a line has no line feed
 pub line_unfed : (line : List ℕ) → IsLine line → list_all (not_at 10) line ≡ true
 line_unfed line is =
-    ⊎_elim (λ h. ap (list_all (not_at 10)) h.spelled ∙ apart_join 10 (codes "home ") (h.did ++ (codes " " ++ h.host)) refl
+    ⊎_elim (λ h. ap (list_all (not_at 10)) h.encoded ∙ apart_join 10 (codes "home ") (h.did ++ (codes " " ++ h.host)) refl
     (apart_join 10 h.did (codes " " ++ h.host) (did_unfed h.did h.of_did) (apart_join 10 (codes " ") h.host refl (apart 10 is_host_character refl h.host (host_letters h.host h.of_host)))))
-    (λ rest. ⊎_elim (λ t. ap (list_all (not_at 10)) t.spelled ∙ apart_join 10 (codes "trust ") t.did refl (did_unfed t.did t.of_did))
-    (λ g. ap (list_all (not_at 10)) g.spelled ∙ apart_join 10 (codes "good ") (signed_part g.did g.digest g.sig) refl
+    (λ rest. ⊎_elim (λ t. ap (list_all (not_at 10)) t.encoded ∙ apart_join 10 (codes "trust ") t.did refl (did_unfed t.did t.of_did))
+    (λ g. ap (list_all (not_at 10)) g.encoded ∙ apart_join 10 (codes "good ") (signed_part g.did g.digest g.sig) refl
     (apart_join 10 g.did (codes " " ++ (g.digest ++ (codes " " ++ g.sig))) (did_unfed g.did g.of_did)
     (apart_join 10 (codes " ") (g.digest ++ (codes " " ++ g.sig)) refl
     (apart_join 10 g.digest (codes " " ++ g.sig) (apart 10 is_digit refl g.digest (digest_letters g.digest g.of_digest)) (apart_join 10 (codes " ") g.sig refl (apart 10 is_digit refl g.sig (sig_letters g.sig g.of_sig))))))) rest) is
@@ -184,9 +184,9 @@ kind_of kind test rest text h e t = record { first = ap first_field e ∙ before
 -- a line passes the test
 pub line_tested : (text : List ℕ) → IsLine text → is_line text ≡ true
 line_tested text line =
-    ⊎_elim (λ h. home_tested text (kind_of (codes "home") is_home_rest (h.did ++ 32 ∷ h.host) text refl h.spelled (home_kind h.did h.host h.of_did h.of_host)))
-    (λ rest. ⊎_elim (λ t. trust_tested text (kind_of (codes "trust") is_did t.did text refl t.spelled t.of_did))
-    (λ g. good_tested text (kind_of (codes "good") is_good_rest (signed_part g.did g.digest g.sig) text refl g.spelled (good_kind g.did (g.digest ++ 32 ∷ g.sig) g.of_did (signed_kind g.digest g.sig g.of_digest g.of_sig)))) rest) line
+    ⊎_elim (λ h. home_tested text (kind_of (codes "home") is_home_rest (h.did ++ 32 ∷ h.host) text refl h.encoded (home_kind h.did h.host h.of_did h.of_host)))
+    (λ rest. ⊎_elim (λ t. trust_tested text (kind_of (codes "trust") is_did t.did text refl t.encoded t.of_did))
+    (λ g. good_tested text (kind_of (codes "good") is_good_rest (signed_part g.did g.digest g.sig) text refl g.encoded (good_kind g.did (g.digest ++ 32 ∷ g.sig) g.of_did (signed_kind g.digest g.sig g.of_digest g.of_sig)))) rest) line
 
 again : (rest : List ℕ) → 0 < length (other_fields rest) → rest ≡ first_field rest ++ 32 ∷ other_fields rest
 again rest h = parts_again 32 rest h
@@ -200,13 +200,13 @@ home_read text e k =
     record {
       did = first_field (other_fields text);
       host = other_fields (other_fields text);
-      spelled = e ∙ ap (λ (s : List ℕ). s ++ 32 ∷ other_fields text) k.first ∙ ap (λ (s : List ℕ). codes "home" ++ 32 ∷ s) (again (other_fields text) (there is_host no_host (other_fields (other_fields text)) parts.1));
+      encoded = e ∙ ap (λ (s : List ℕ). s ++ 32 ∷ other_fields text) k.first ∙ ap (λ (s : List ℕ). codes "home" ++ 32 ∷ s) (again (other_fields text) (there is_host no_host (other_fields (other_fields text)) parts.1));
       of_did = parts.0;
       of_host = parts.1;
     }
 
 trust_read : (text : List ℕ) → text ≡ first_field text ++ 32 ∷ other_fields text → Kind (codes "trust") is_did text → IsTrustLine text
-trust_read text e k = record { did = other_fields text; spelled = e ∙ ap (λ (s : List ℕ). s ++ 32 ∷ other_fields text) k.first; of_did = k.passes }
+trust_read text e k = record { did = other_fields text; encoded = e ∙ ap (λ (s : List ℕ). s ++ 32 ∷ other_fields text) k.first; of_did = k.passes }
 
 good_read : (text : List ℕ) → text ≡ first_field text ++ 32 ∷ other_fields text → Kind (codes "good") is_good_rest text → IsGoodLine text
 good_read text e k =
@@ -218,7 +218,7 @@ good_read text e k =
       did = first_field rest;
       digest = first_field (other_fields rest);
       sig = other_fields (other_fields rest);
-      spelled = e ∙ ap (λ (s : List ℕ). s ++ 32 ∷ rest) k.first ∙ ap (λ (s : List ℕ). codes "good" ++ 32 ∷ s)
+      encoded = e ∙ ap (λ (s : List ℕ). s ++ 32 ∷ rest) k.first ∙ ap (λ (s : List ℕ). codes "good" ++ 32 ∷ s)
           (again rest (there is_signed_rest (nothing_signed [] refl) (other_fields rest) parts.1) ∙ ap (λ (s : List ℕ). first_field rest ++ 32 ∷ s) inner);
       of_did = parts.0;
       of_digest = signed.0;
@@ -283,4 +283,4 @@ homes_told did host other h =
 
 pub homes_untold : OtherLinesNameNone
 homes_untold other line is =
-    ⊎_elim (λ t. ap (home_by other) t.spelled ∙ given_by other (codes "trust") t.did refl) (λ g. ap (home_by other) g.spelled ∙ given_by other (codes "good") (signed_part g.did g.digest g.sig) refl) is
+    ⊎_elim (λ t. ap (home_by other) t.encoded ∙ given_by other (codes "trust") t.did refl) (λ g. ap (home_by other) g.encoded ∙ given_by other (codes "good") (signed_part g.did g.digest g.sig) refl) is

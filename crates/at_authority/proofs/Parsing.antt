@@ -9,13 +9,13 @@ use Rattle.at_authority.specs.declared.line.Line.{Line}
 use Rattle.at_authority.proofs.Lines.{not_at, line_tested, line_read, line_unfed}
 use Rattle.std.proofs.lemmas.List.Elements.{All-push}
 use Rattle.at_authority.specs.declared.table.Table.{Table}
-use Rattle.at_authority.specs.Tables.{IsLine, IsBadAt, is_line, is_line_feed, spelled}
+use Rattle.at_authority.specs.Tables.{IsLine, IsBadAt, is_line, is_line_feed, encoded}
 use Rattle.at_authority.specs.Standing.{StandsFor, IsRead}
 
 -- So far so many lines were taken, for which the table stands
 pub record IsParsing (text rest : List ℕ) (number : ℕ) (table : Table) : Type 0 where
   pub lines : List (List ℕ)
-  pub text_is : text ≡ spelled lines ++ rest
+  pub text_is : text ≡ encoded lines ++ rest
   pub each : All IsLine lines
   pub number_is : number ≡ length lines + 1
   pub stands : StandsFor lines table
@@ -26,16 +26,16 @@ read_line text (Line.Home did host) h = h.0.line
 read_line text (Line.Trust did) h = h.line
 read_line text (Line.Good part) h = h.line
 
-spelled_more : (lines : List (List ℕ)) (line rest : List ℕ) → spelled (lines ++ line ∷ []) ++ rest ≡ spelled lines ++ (line ++ 10 ∷ rest)
-spelled_more [] line rest = append_assoc line (10 ∷ []) rest
-spelled_more (l ∷ lines) line rest =
-    append_assoc l (10 ∷ spelled (lines ++ line ∷ [])) rest ∙ ap (λ (s : List ℕ). l ++ 10 ∷ s) (spelled_more lines line rest) ∙ sym (append_assoc l (10 ∷ spelled lines) (line ++ 10 ∷ rest))
+encoded_more : (lines : List (List ℕ)) (line rest : List ℕ) → encoded (lines ++ line ∷ []) ++ rest ≡ encoded lines ++ (line ++ 10 ∷ rest)
+encoded_more [] line rest = append_assoc line (10 ∷ []) rest
+encoded_more (l ∷ lines) line rest =
+    append_assoc l (10 ∷ encoded (lines ++ line ∷ [])) rest ∙ ap (λ (s : List ℕ). l ++ 10 ∷ s) (encoded_more lines line rest) ∙ sym (append_assoc l (10 ∷ encoded lines) (line ++ 10 ∷ rest))
 
 -- one more line was taken
 pub parsing_more : (text rest line others : List ℕ) (number : ℕ) (old new : Table) (p : IsParsing text rest number old) → rest ≡ line ++ 10 ∷ others → is_line line ≡ true → StandsFor (p.lines ++ line ∷ []) new → IsParsing text others (number + 1) new
 parsing_more text rest line others number old new p split is stands = record {
   lines = p.lines ++ line ∷ [];
-  text_is = p.text_is ∙ ap (λ (s : List ℕ). spelled p.lines ++ s) split ∙ sym (spelled_more p.lines line others);
+  text_is = p.text_is ∙ ap (λ (s : List ℕ). encoded p.lines ++ s) split ∙ sym (encoded_more p.lines line others);
   each = All-push IsLine p.lines line p.each (line_read line is);
   number_is = omega (arith, p.number_is, length_push p.lines line);
   stands = stands;

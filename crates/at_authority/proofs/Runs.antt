@@ -8,7 +8,7 @@ use Rattle.std.proofs.lemmas.Slice.Eq.{bytes_eq-Decides}
 use Rattle.at_syntax.specs.Did.{method_of}
 use Rattle.at_authority.specs.Queries.{Query, Telling}
 use Rattle.at_authority.specs.Answers.{Rises}
-use Rattle.at_authority.specs.Panels.{Seat, Bench, Panel, values, living, faults_at}
+use Rattle.at_authority.specs.Panels.{Entry, Authorities, Panel, values, living, faults_at}
 use Rattle.at_authority.specs.Calls.{Call, answers, did_called, Does, Asks, IsCall, AreCalls}
 use Rattle.at_authority.specs.Ranks.{HasFallen, FirstSays, SaysAtRank, LastSays, ByRanks, answered, AreOf}
 
@@ -22,7 +22,7 @@ part old new (call ∷ calls) more h = let rest = part h.0 new calls more h.2 in
 
 -- who has fallen
 
-none_fell : (b : Bench) → HasFallen b b
+none_fell : (b : Authorities) → HasFallen b b
 none_fell b = record { as_many = refl; later = omega arith; rose = λ i h k. absurd (omega (arith, h, k)); steady = λ i h. refl }
 
 before_or : (i n : ℕ) → (i < n) ⊎ (n ≤ i)
@@ -36,7 +36,7 @@ rises_from a b c e h = let P : ℕ → Type 0 = λ n. Rises n c in subst P (sym 
 rises_to : (a b c : ℕ) → c ≡ b → Rises a b → Rises a c
 rises_to a b c e h = let P : ℕ → Type 0 = λ n. Rises a n in subst P (sym e) h
 
-fell_join : (a b c : Bench) → HasFallen a b → HasFallen b c → HasFallen a c
+fell_join : (a b c : Authorities) → HasFallen a b → HasFallen b c → HasFallen a c
 fell_join a b c one two = record {
   as_many = two.as_many ∙ one.as_many;
   later = omega (arith, one.later, two.later);
@@ -53,7 +53,7 @@ one_fell c P Q h name true e =
     subst F (sym same) (record { as_many = falls.as_many; later = falls.later; rose = falls.rose; steady = falls.steady })
 one_fell c P Q h name false e =
     let other : name ≢ method_of (did_called c) = λ k. false≢true (sym e ∙ (bytes_eq-Decides name (method_of (did_called c))).1 k) in
-    let F : Bench → Type 0 = λ b. HasFallen (P name) b in
+    let F : Authorities → Type 0 = λ b. HasFallen (P name) b in
     subst F (sym (h.others name other)) (none_fell (P name))
 
 pub fell : (P Q : Panel) (calls : List Call) → AreCalls P calls Q → (name : List ℕ) → HasFallen (P name) (Q name)
@@ -73,21 +73,21 @@ abbrev Answered : List (Option Telling) → List (Query × Bool) → List (Optio
 Answered old [] new = new ≡ old
 Answered old (a ∷ asked) new = (mid : List (Option Telling)) × Passes old a mid × Answered mid asked new
 
-said : (q : Query) (good : Bool) (all : List Seat) (before after : List (Option Telling)) → 0 < length all → Does (answers q good) all before after → (after ≡ before) × FirstSays after q good
+said : (q : Query) (good : Bool) (all : List Entry) (before after : List (Option Telling)) → 0 < length all → Does (answers q good) all before after → (after ≡ before) × FirstSays after q good
 said q good all [] after some h = absurd (omega (arith, some, ap length h.1.0))
 said q good all (value ∷ others) after some h =
     let same : after ≡ value ∷ others = h.1 ∙ ap (λ v. v ∷ others) h.2.0 in
     let P : List (Option Telling) → Type 0 = λ l. FirstSays l q good in
     (same, subst P (sym same) h.2.1)
 
-passes : (q : Query) (good : Bool) (old mid : Bench) → 0 < length old.seats → Asks (answers q good) old mid → Passes (living old) (q, good) (living mid)
+passes : (q : Query) (good : Bool) (old mid : Authorities) → 0 < length old.entries → Asks (answers q good) old mid → Passes (living old) (q, good) (living mid)
 passes q good old mid some asks =
     let falls = asks.falls in
-    let here = said q good mid.seats (drop mid.fallen (values old)) (living mid) (omega (arith, some, falls.as_many)) asks.does in
+    let here = said q good mid.entries (drop mid.fallen (values old)) (living mid) (omega (arith, some, falls.as_many)) asks.does in
     let back : mid.fallen ≡ old.fallen + (mid.fallen - old.fallen) = omega (arith, falls.later) in
     record {
       over = mid.fallen - old.fallen;
-      within = omega (arith, falls.within, falls.as_many, length-drop old.fallen (values old), length-map old.seats (λ (s : Seat). s.value));
+      within = omega (arith, falls.within, falls.as_many, length-drop old.fallen (values old), length-map old.entries (λ (s : Entry). s.value));
       left = here.0 ∙ ap (λ (n : ℕ). drop n (values old)) back ∙ sym (drop-drop (mid.fallen - old.fallen) old.fallen (values old));
       says = here.1;
     }
@@ -95,7 +95,7 @@ passes q good old mid some asks =
 asks_named : (call : Call) (old mid : Panel) (name : List ℕ) → method_of (did_called call) ≡ name → IsCall call old mid → Asks call (old name) (mid name)
 asks_named call old mid name e h = let P : List ℕ → Type 0 = λ n. Asks call (old n) (mid n) in subst P e h.asks
 
-chain : (old new : Panel) (name : List ℕ) (asked : List (Query × Bool)) → AreOf name asked → 0 < length (old name).seats → AreCalls old (map answered asked) new → Answered (living (old name)) asked (living (new name))
+chain : (old new : Panel) (name : List ℕ) (asked : List (Query × Bool)) → AreOf name asked → 0 < length (old name).entries → AreCalls old (map answered asked) new → Answered (living (old name)) asked (living (new name))
 chain old new name [] of some h = ap (λ (p : Panel). living (p name)) h
 chain old new name (a ∷ asked) of some h =
     let asks = asks_named (answered a) old h.0 name of.0 h.1 in
@@ -142,7 +142,7 @@ some_says : (vs : List (Option Telling)) (q : Query) (good : Bool) → FirstSays
 some_says [] q good h = absurd h
 some_says (v ∷ vs) q good h = omega arith
 
-ranked : (old : Bench) (least : ℕ) (asked : List (Query × Bool)) → AllByRecursion (Over (living old) least) asked → AllByRecursion (λ a. (rank : ℕ) × (least ≤ rank + 1) × SaysAtRank rank old a.0 a.1) asked
+ranked : (old : Authorities) (least : ℕ) (asked : List (Query × Bool)) → AllByRecursion (Over (living old) least) asked → AllByRecursion (λ a. (rank : ℕ) × (least ≤ rank + 1) × SaysAtRank rank old a.0 a.1) asked
 ranked old least [] all = tt
 ranked old least (a ∷ asked) all =
     let o = all.0 in
@@ -158,7 +158,7 @@ last_says old [] new h = tt
 last_says old (a ∷ []) new h = let P : List (Option Telling) → Type 0 = λ l. FirstSays l a.0 a.1 in subst P (sym h.2) h.1.says
 last_says old (a ∷ b ∷ asked) new h = last_says h.0 (b ∷ asked) new h.2
 
-pub ranks : (old new : Panel) (name : List ℕ) (asked : List (Query × Bool)) → AreOf name asked → 0 < length (old name).seats → AreCalls old (map answered asked) new → ByRanks (old name) asked (new name)
+pub ranks : (old new : Panel) (name : List ℕ) (asked : List (Query × Bool)) → AreOf name asked → 0 < length (old name).entries → AreCalls old (map answered asked) new → ByRanks (old name) asked (new name)
 ranks old new name asked of some h =
     let c = chain old new name asked of some h in
     record {

@@ -3,7 +3,7 @@ use Rattle.std.proofs.Common.{◌≡◌, ℕ, List, [], ◌∷◌, ◌++◌, len
 use Rattle.std.specs.Prelude.{All}
 use Rattle.std.specs.List.{before_first, after_first}
 use Rattle.at_syntax.proofs.Splits.{part_before, part_after}
-use Rattle.at_authority.specs.Tables.{IsLine, IsTable, IsBadAt, is_line_feed, spelled}
+use Rattle.at_authority.specs.Tables.{IsLine, IsTable, IsBadAt, is_line_feed, encoded}
 use Rattle.at_authority.proofs.Lines.{not_at, line_unfed}
 
 first_line : (line rest : List ℕ) → IsLine line → before_first is_line_feed (line ++ 10 ∷ rest) ≡ line
@@ -37,15 +37,15 @@ record SameLines (lines others : List (List ℕ)) (rest more : List ℕ) : Type 
   all : lines ≡ others
   behind : rest ≡ more
 
-unfold_line : (line : List ℕ) (lines : List (List ℕ)) (rest : List ℕ) → spelled (line ∷ lines) ++ rest ≡ line ++ 10 ∷ (spelled lines ++ rest)
-unfold_line line lines rest = append_assoc line (10 ∷ spelled lines) rest
+unfold_line : (line : List ℕ) (lines : List (List ℕ)) (rest : List ℕ) → encoded (line ∷ lines) ++ rest ≡ line ++ 10 ∷ (encoded lines ++ rest)
+unfold_line line lines rest = append_assoc line (10 ∷ encoded lines) rest
 
-same_lines : (lines others : List (List ℕ)) (rest more : List ℕ) → All IsLine lines → All IsLine others → Stops rest → Stops more → spelled lines ++ rest ≡ spelled others ++ more → SameLines lines others rest more
+same_lines : (lines others : List (List ℕ)) (rest more : List ℕ) → All IsLine lines → All IsLine others → Stops rest → Stops more → encoded lines ++ rest ≡ encoded others ++ more → SameLines lines others rest more
 same_lines [] [] rest more one two stops ends e = record { all = refl; behind = e }
-same_lines [] (other ∷ others) rest more one two stops ends e = absurd (stops other (spelled others ++ more) (head_of other others two) (e ∙ unfold_line other others more))
-same_lines (line ∷ lines) [] rest more one two stops ends e = absurd (ends line (spelled lines ++ rest) (head_of line lines one) (sym e ∙ unfold_line line lines rest))
+same_lines [] (other ∷ others) rest more one two stops ends e = absurd (stops other (encoded others ++ more) (head_of other others two) (e ∙ unfold_line other others more))
+same_lines (line ∷ lines) [] rest more one two stops ends e = absurd (ends line (encoded lines ++ rest) (head_of line lines one) (sym e ∙ unfold_line line lines rest))
 same_lines (line ∷ lines) (other ∷ others) rest more one two stops ends e =
-    let s = same_line line other (spelled lines ++ rest) (spelled others ++ more) (head_of line lines one) (head_of other others two) (sym (unfold_line line lines rest) ∙ e ∙ unfold_line other others more) in
+    let s = same_line line other (encoded lines ++ rest) (encoded others ++ more) (head_of line lines one) (head_of other others two) (sym (unfold_line line lines rest) ∙ e ∙ unfold_line other others more) in
     let t = same_lines lines others rest more (tail_of line lines one) (tail_of other others two) stops ends s.rests in
     record { all = ap (λ (l : List ℕ). l ∷ lines) s.lines ∙ ap (λ (ls : List (List ℕ)). other ∷ ls) t.all; behind = t.behind }
 
@@ -54,10 +54,10 @@ nothing_stops line more is e = omega (arith, ap length e, length-append line (10
 
 pub one_table : (text : List ℕ) (lines others : List (List ℕ)) → IsTable text lines → IsTable text others → lines ≡ others
 one_table text lines others a b =
-    (same_lines lines others [] [] a.each b.each nothing_stops nothing_stops (append-nil (spelled lines) ∙ sym a.text_is ∙ b.text_is ∙ sym (append-nil (spelled others)))).all
+    (same_lines lines others [] [] a.each b.each nothing_stops nothing_stops (append-nil (encoded lines) ∙ sym a.text_is ∙ b.text_is ∙ sym (append-nil (encoded others)))).all
 
 pub no_bad_line : (text : List ℕ) (lines : List (List ℕ)) (number : ℕ) → IsTable text lines → IsBadAt number text → ⊥
-no_bad_line text lines number a b = b.there (sym (same_lines lines b.front [] b.rest a.each b.each nothing_stops b.bad (append-nil (spelled lines) ∙ sym a.text_is ∙ b.text_is)).behind)
+no_bad_line text lines number a b = b.there (sym (same_lines lines b.front [] b.rest a.each b.each nothing_stops b.bad (append-nil (encoded lines) ∙ sym a.text_is ∙ b.text_is)).behind)
 
 pub one_bad_line : (text : List ℕ) (number other : ℕ) → IsBadAt number text → IsBadAt other text → number ≡ other
 one_bad_line text number other a b =

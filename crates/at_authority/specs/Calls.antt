@@ -4,7 +4,7 @@ use Rattle.at_syntax.specs.Did.{method_of}
 use Rattle.at_authority.specs.declared.judges.JudgeFault.{JudgeFault}
 use Rattle.at_authority.specs.Queries.{Query, Telling, did_asked, refreshed}
 use Rattle.at_authority.specs.Answers.{Says}
-use Rattle.at_authority.specs.Panels.{Seat, Bench, Panel, Falls, values, living}
+use Rattle.at_authority.specs.Panels.{Entry, Authorities, Panel, Falls, values, living}
 
 -- a question with its answer, a refresh, or a call about a DID that came to nothing
 pub data Call : Type 0 where
@@ -29,22 +29,22 @@ Turns (refreshes did) old new = new ≡ option_map (refreshed did) old
 Turns (fails did) old new = new ≡ old
 
 -- Where nobody lives, a method that never had an authority says no, and one whose authorities have all fallen says nothing
-abbrev pub NobodySays : Call → List Seat → Type 0
+abbrev pub NobodySays : Call → List Entry → Type 0
 NobodySays (answers q good) all = (all ≡ []) × (good ≡ false)
 NobodySays (refreshes did) all = all ≡ []
 NobodySays (fails did) all = Unit {0}
 
 -- the first that lives is asked, and the others stay as they are
-abbrev pub Does : Call → List Seat → List (Option Telling) → List (Option Telling) → Type 0
+abbrev pub Does : Call → List Entry → List (Option Telling) → List (Option Telling) → Type 0
 Does call all [] new = (new ≡ []) × NobodySays call all
 Does call all (value ∷ others) new = (after : Option Telling) × (new ≡ after ∷ others) × Turns call value after
 
--- a call on its bench: some fall, and the first of those that live on does what is asked
-pub record Asks (call : Call) (old new : Bench) : Type 0 where
+-- a call on its list of authorities: some fall, and the first of those that live on does what is asked
+pub record Asks (call : Call) (old new : Authorities) : Type 0 where
   pub falls : Falls old new
-  pub does : Does call new.seats (drop new.fallen (values old)) (living new)
+  pub does : Does call new.entries (drop new.fallen (values old)) (living new)
 
--- a call: it asks the bench of the DID's method, and no other method is touched
+-- a call: it asks the list of authorities of the DID's method, and no other method is touched
 pub record IsCall (call : Call) (old new : Panel) : Type 0 where
   pub asks : Asks call (old (method_of (did_called call))) (new (method_of (did_called call)))
   pub others : (name : List ℕ) → name ≢ method_of (did_called call) → new name ≡ old name

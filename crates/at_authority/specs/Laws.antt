@@ -36,10 +36,10 @@ CallsJoin = (old mid new : Panel) (calls more : List Call) → AreCalls old call
 abbrev pub CallsPart : Type 0
 CallsPart = (old new : Panel) (calls more : List Call) → AreCalls old (calls ++ more) new → (mid : Panel) × AreCalls old calls mid × AreCalls mid more new
 
--- on every bench none comes back over calls, and an authority falls exactly where its count of faults rises
+-- on every list of authorities none comes back over calls, and an authority falls exactly where its count of faults rises
 abbrev pub CallsFell : Type 0
 CallsFell = (old new : Panel) (calls : List Call) → AreCalls old calls new → (name : List ℕ) → HasFallen (old name) (new name)
 
 -- questions about a method that ever had an authority are answered by ranks
 abbrev pub AnswersHaveRanks : Type 0
-AnswersHaveRanks = (old new : Panel) (name : List ℕ) (asked : List (Query × Bool)) → AreOf name asked → 0 < length (old name).seats → AreCalls old (map answered asked) new → ByRanks (old name) asked (new name)
+AnswersHaveRanks = (old new : Panel) (name : List ℕ) (asked : List (Query × Bool)) → AreOf name asked → 0 < length (old name).entries → AreCalls old (map answered asked) new → ByRanks (old name) asked (new name)

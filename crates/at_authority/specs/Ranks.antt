@@ -4,12 +4,12 @@ use Rattle.std.specs.List.{AllByRecursion}
 use Rattle.at_syntax.specs.Did.{method_of}
 use Rattle.at_authority.specs.Queries.{Query, Telling, did_asked}
 use Rattle.at_authority.specs.Answers.{Says, Rises}
-use Rattle.at_authority.specs.Panels.{Bench, living, faults_at}
+use Rattle.at_authority.specs.Panels.{Authorities, living, faults_at}
 use Rattle.at_authority.specs.Calls.{Call, answers}
 
 -- Over any calls: none comes back, and an authority falls exactly where its count of faults rises
-pub record HasFallen (old new : Bench) : Type 0 where
-  pub as_many : length new.seats ≡ length old.seats
+pub record HasFallen (old new : Authorities) : Type 0 where
+  pub as_many : length new.entries ≡ length old.entries
   pub later : old.fallen ≤ new.fallen
   pub rose : (i : ℕ) → old.fallen ≤ i → i < new.fallen → Rises (faults_at old i) (faults_at new i)
   pub steady : (i : ℕ) → (i < old.fallen) ⊎ (new.fallen ≤ i) → faults_at new i ≡ faults_at old i
@@ -20,9 +20,9 @@ FirstSays [] q good = ⊥
 FirstSays (value ∷ others) q good = Says value q good
 
 -- The rank of an authority is the number of those behind it, so it stays when one in front falls. The one of this rank answers so
-pub record SaysAtRank (rank : ℕ) (bench : Bench) (q : Query) (good : Bool) : Type 0 where
-  pub lives : rank < length (living bench)
-  pub says : FirstSays (drop (length (living bench) - (rank + 1)) (living bench)) q good
+pub record SaysAtRank (rank : ℕ) (authorities : Authorities) (q : Query) (good : Bool) : Type 0 where
+  pub lives : rank < length (living authorities)
+  pub says : FirstSays (drop (length (living authorities) - (rank + 1)) (living authorities)) q good
 
 -- the last of the questions was answered by the first of these
 abbrev pub LastSays : List (Query × Bool) → List (Option Telling) → Type 0
@@ -30,9 +30,9 @@ LastSays [] values = Unit {0}
 LastSays (a ∷ []) values = FirstSays values a.0 a.1
 LastSays (a ∷ b ∷ asked) values = LastSays (b ∷ asked) values
 
--- Questions were asked of a bench: those that live in the end have their values, each answer is that of an authority that lived
+-- Questions were asked of a list of authorities: those that live in the end have their values, each answer is that of an authority that lived
 -- in the beginning, of the rank of the one that is first in the end or a greater one, and the last is that of the first
-pub record ByRanks (old : Bench) (asked : List (Query × Bool)) (new : Bench) : Type 0 where
+pub record ByRanks (old : Authorities) (asked : List (Query × Bool)) (new : Authorities) : Type 0 where
   pub fewer : length (living new) ≤ length (living old)
   pub values : living new ≡ drop (length (living old) - length (living new)) (living old)
   pub each : AllByRecursion (λ a. (rank : ℕ) × (length (living new) ≤ rank + 1) × SaysAtRank rank old a.0 a.1) asked

@@ -41,20 +41,20 @@ is_signature text = nat_lt 0 (length text) && length text % 2 == 0 && list_all i
 pub record IsHomeLine (line : List ℕ) : Type 0 where
   pub did : List ℕ
   pub host : List ℕ
-  pub spelled : line ≡ home_line did host
+  pub encoded : line ≡ home_line did host
   pub of_did : IsTrue (is_did did)
   pub of_host : IsTrue (is_host host)
 
 pub record IsTrustLine (line : List ℕ) : Type 0 where
   pub did : List ℕ
-  pub spelled : line ≡ trust_line did
+  pub encoded : line ≡ trust_line did
   pub of_did : IsTrue (is_did did)
 
 pub record IsGoodLine (line : List ℕ) : Type 0 where
   pub did : List ℕ
   pub digest : List ℕ
   pub sig : List ℕ
-  pub spelled : line ≡ good_line did digest sig
+  pub encoded : line ≡ good_line did digest sig
   pub of_did : IsTrue (is_did did)
   pub of_digest : IsTrue (is_digest digest)
   pub of_sig : IsTrue (is_signature sig)
@@ -63,20 +63,20 @@ abbrev pub IsLine : List ℕ → Type 0
 IsLine line = IsHomeLine line ⊎ (IsTrustLine line ⊎ IsGoodLine line)
 
 -- the lines as one text
-abbrev pub spelled : List (List ℕ) → List ℕ
-spelled [] = []
-spelled (line ∷ lines) = line ++ (10 ∷ spelled lines)
+abbrev pub encoded : List (List ℕ) → List ℕ
+encoded [] = []
+encoded (line ∷ lines) = line ++ (10 ∷ encoded lines)
 
 -- the text is a table of these lines
 pub record IsTable (text : List ℕ) (lines : List (List ℕ)) : Type 0 where
-  pub text_is : text ≡ spelled lines
+  pub text_is : text ≡ encoded lines
   pub each : All IsLine lines
 
 -- The text has so many lines of a table in front, and no further one behind them, but something
 pub record IsBadAt (number : ℕ) (text : List ℕ) : Type 0 where
   pub front : List (List ℕ)
   pub rest : List ℕ
-  pub text_is : text ≡ spelled front ++ rest
+  pub text_is : text ≡ encoded front ++ rest
   pub each : All IsLine front
   pub number_is : number ≡ length front + 1
   pub there : rest ≢ []

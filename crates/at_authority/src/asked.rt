@@ -12,7 +12,7 @@ pub enum Asked {
     /// The call failed, and the authority has counted it.
     #[error("a call of an authority failed")]
     Failed,
-    /// Memory was wanted.
+    /// Memory ran out.
     #[error("out of memory")]
     Memory,
 }

@@ -3,7 +3,7 @@
 ghost use Rattle.std.specs.Prelude.{◌≡◌, ◌↔◌, ℕ, List, IsTrue, IsErrOf};
 ghost use Rattle.at_syntax.specs.Did.{is_did, method_of};
 ghost use Rattle.at_authority.specs.Queries.{asks_home, asks_verdict};
-ghost use Rattle.at_authority.specs.Panels.{Bench, IsSpent};
+ghost use Rattle.at_authority.specs.Panels.{Authorities, IsSpent};
 ghost use Rattle.at_authority.specs.Calls.{IsCall, answers, refreshes, returned};
 
 use thiserror::Error;
@@ -14,17 +14,17 @@ pub enum JudgeFault {
     /// All authorities of the DID's method have fallen.
     #[error("no authority of the method is left")]
     NoneLeft,
-    /// Memory was wanted.
+    /// Memory ran out.
     #[error("out of memory")]
     Memory,
 }
 
-/// Who is asked for homes and verdicts. For each DID method it has a bench of authorities, of which the first that lives is
+/// Who is asked for homes and verdicts. For each DID method it has a list of authorities of authorities, of which the first that lives is
 /// asked; an authority whose call fails falls, and the next is asked the same. A DID that is asked about must be one, as
 /// [`did_ok`](at_syntax::did_ok) tells.
 pub trait Judges {
-    /// The bench of each method.
-    ghost panel: { Self → List ℕ → Bench };
+    /// The list of authorities of each method.
+    ghost panel: { Self → List ℕ → Authorities };
 
     /// Whether the host is the home of the DID. A method that never had an authority has none.
     fn home(&mut self, did: &str, host: &str) -> Result<bool, JudgeFault>

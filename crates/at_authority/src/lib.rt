@@ -3,8 +3,8 @@
 #![tactic(auto)]
 
 mod asked;
+mod authorities;
 mod authority;
-mod bench;
 mod file_authority;
 mod judges;
 mod laws;

@@ -9,7 +9,7 @@ use crate::{Asked, Authority};
 
 /// A question about a DID. The answer to a refresh is `true`.
 #[derive(Clone, Copy)]
-pub(crate) enum Question<'a> {
+pub(crate) enum AuthorityQuestion<'a> {
     /// Whether this host is its home.
     Home(&'a str),
     /// Whether the signature under the digest is good for it.
@@ -22,16 +22,16 @@ pub(crate) enum Question<'a> {
 pub(crate) fn ask(
     authority: &mut Box<dyn Authority>,
     did: &str,
-    question: Question<'_>,
+    question: AuthorityQuestion<'_>,
 ) -> Result<bool, Asked>
     ensures does { IfOk result (λ good. Turns (call_of did.now question.entry good) (tells authority.old) (tells authority.new)) }
     ensures kept { OnErr result (tells authority.new ≡ tells authority.old) }
     ensures counted { CountsFailure result (faults authority.old) (faults authority.new) }
 {
     match question {
-        Question::Home(host) => authority.home(did, host),
-        Question::Verdict { digest, sig } => authority.verdict(did, digest, sig),
-        Question::Refresh => {
+        AuthorityQuestion::Home(host) => authority.home(did, host),
+        AuthorityQuestion::Verdict { digest, sig } => authority.verdict(did, digest, sig),
+        AuthorityQuestion::Refresh => {
             authority.refresh(did)?;
             Ok(true)
         }

@@ -12,7 +12,7 @@ pub enum TableFault {
     /// The line with this number, from 1, is none of a table, or lacks its line feed.
     #[error("line {0} is none of a table")]
     BadLine(u64),
-    /// Memory was wanted.
+    /// Memory ran out.
     #[error("out of memory")]
     Memory,
 }

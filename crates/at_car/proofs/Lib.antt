@@ -17,3 +17,4 @@ pub mod Extends
 pub mod Resumes
 pub mod Sifts
 pub mod Standings
+pub mod Lengths

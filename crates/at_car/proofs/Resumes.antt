@@ -9,7 +9,7 @@ use Rattle.at_car.specs.Car.{behind, car_of}
 use Rattle.at_car.specs.Form.{header_bytes, section_bytes}
 use Rattle.at_car.specs.Header.{header_at}
 use Rattle.at_car.specs.Varint.{groups, varint}
-use Rattle.at_cbor.specs.Spelling.{spelling}
+use Rattle.at_cbor.specs.Encoding.{encoding}
 use Rattle.at_car.specs.Sections.{◌>>=◌, Section, section_at, sections_in}
 use Rattle.at_car.specs.Merging.{merged}
 use Rattle.at_car.proofs.Sections.{merged_first, merged_next, merged_fails, merged_last, section_shorter}
@@ -87,10 +87,10 @@ suffix front rest bytes e =
     behind_front (x ∷ front) rest = behind_front front rest
 
 pub section_left : (place : ℕ) (left : List ℕ) (x : Section × List ℕ) → IsBytes left → section_at place left ≡ Ok x → drop (length left - length x.1) left ≡ x.1
-section_left place left x fits e = let t = section_takes place left x fits e in suffix (section_bytes x.0) x.1 left t.spelled
+section_left place left x fits e = let t = section_takes place left x fits e in suffix (section_bytes x.0) x.1 left t.encoded
 
 pub header_left : (bytes : List ℕ) (x : List (List ℕ) × List ℕ) → IsBytes bytes → header_at bytes ≡ Some x → drop (length bytes - length x.1) bytes ≡ x.1
-header_left bytes x fits e = let t = header_takes bytes x fits e in suffix (header_bytes t.header) x.1 bytes t.spelled
+header_left bytes x fits e = let t = header_takes bytes x fits e in suffix (header_bytes t.header) x.1 bytes t.encoded
 
 varint_some : (n : ℕ) → 1 ≤ length (varint n)
 unfolding groups
@@ -99,5 +99,5 @@ varint_some n = elim (ltb n 128) as (λ t. 1 ≤ length (cond t (n ∷ []) ((128
 pub header_shorter : (bytes : List ℕ) (x : List (List ℕ) × List ℕ) → IsBytes bytes → header_at bytes ≡ Some x → length x.1 < length bytes
 header_shorter bytes x fits e =
     let t = header_takes bytes x fits e in
-    let n = length (spelling t.header) in
-    omega (arith, ap (λ (b : List ℕ). length b) t.spelled, length-append (header_bytes t.header) x.1, length-append (varint n) (spelling t.header), varint_some n)
+    let n = length (encoding t.header) in
+    omega (arith, ap (λ (b : List ℕ). length b) t.encoded, length-append (header_bytes t.header) x.1, length-append (varint n) (encoding t.header), varint_some n)

@@ -6,8 +6,8 @@ use Rattle.std.specs.List.{HoldsAt, AllByRecursion, insert}
 use Rattle.std.specs.List.Sorted.{IsNonDecreasingBy, IsPartitionPoint, IsStrictlySortedBy, IsBinarySearchResult, IsSearchInRange}
 use Rattle.at_cid.specs.Order.{key_cmp}
 use Rattle.at_cid.proofs.Order.{cmp_trans, cmp_exact, cmp_below}
-use Rattle.at_car.specs.declared.entry.Entry.{Entry}
-use Rattle.at_car.specs.declared.place.Place.{Place}
+use Rattle.at_car.specs.declared.entry.ScanEntry.{ScanEntry}
+use Rattle.at_car.specs.declared.place.BlockPlace.{BlockPlace}
 use Rattle.at_car.specs.Entries.{by_link, AreInOrder, place_of}
 use Rattle.at_car.specs.Links.{has}
 use Rattle.at_car.proofs.Same.{same_link, link_same, below_differs, above_differs}
@@ -44,32 +44,32 @@ module _ {X : Type 0} (key : X → List ℕ) where
 
 -- ---- among entries
 
-pub found : (c : List ℕ) (es : List Entry) (i : ℕ) → AreInOrder es → i < length es → HoldsAt (λ (e : Entry). key_cmp e.link c ≡ Equal) es i → HoldsAt (λ (e : Entry). place_of c es ≡ Some e.place) es i
+pub found : (c : List ℕ) (es : List ScanEntry) (i : ℕ) → AreInOrder es → i < length es → HoldsAt (λ (e : ScanEntry). key_cmp e.link c ≡ Equal) es i → HoldsAt (λ (e : ScanEntry). place_of c es ≡ Some e.place) es i
 unfolding IsStrictlySortedBy
 found c [] i up low h d = absurd (omega (arith, low))
 found c (e ∷ es) zero up low h d = ap (λ t. cond t (Some e.place) (place_of c es)) (link_same c e.link (sym (cmp_exact e.link c (h d))))
 found c (e ∷ es) (suc i) up low h d =
-    let less : key_cmp e.link c ≡ Less = ap (key_cmp e.link) (sym (cmp_exact (get_or es i d).link c (h d))) ∙ later (λ (x : Entry). x.link) e es up.0 i d (omega (arith, low)) in
+    let less : key_cmp e.link c ≡ Less = ap (key_cmp e.link) (sym (cmp_exact (get_or es i d).link c (h d))) ∙ later (λ (x : ScanEntry). x.link) e es up.0 i d (omega (arith, low)) in
     ap (λ t. cond t (Some e.place) (place_of c es)) (above_differs c e.link less) ∙ found c es i up.1 (omega (arith, low)) (λ d. h d) d
 
-pub seek_found : (c : List ℕ) (es : List Entry) (r : Result ℕ ℕ) → AreInOrder es → IsSearchInRange r (length es) → IsBinarySearchResult (λ (e : Entry). key_cmp e.link c) es r → IfOk r (HoldsAt (λ (e : Entry). place_of c es ≡ Some e.place) es)
+pub seek_found : (c : List ℕ) (es : List ScanEntry) (r : Result ℕ ℕ) → AreInOrder es → IsSearchInRange r (length es) → IsBinarySearchResult (λ (e : ScanEntry). key_cmp e.link c) es r → IfOk r (HoldsAt (λ (e : ScanEntry). place_of c es ≡ Some e.place) es)
 seek_found c es (Ok i) up low at = found c es i up low at
 seek_found c es (Err i) up low at = tt
 
-pub seek_absent : (c : List ℕ) (es : List Entry) (r : Result ℕ ℕ) → AreInOrder es → IsBinarySearchResult (λ (e : Entry). key_cmp e.link c) es r → IfErr r (IsPartitionPoint (λ (e : Entry). key_cmp e.link c ≡ Less) (λ (e : Entry). key_cmp e.link c ≡ Greater) es)
+pub seek_absent : (c : List ℕ) (es : List ScanEntry) (r : Result ℕ ℕ) → AreInOrder es → IsBinarySearchResult (λ (e : ScanEntry). key_cmp e.link c) es r → IfErr r (IsPartitionPoint (λ (e : ScanEntry). key_cmp e.link c ≡ Less) (λ (e : ScanEntry). key_cmp e.link c ≡ Greater) es)
 seek_absent c es (Ok i) up at = tt
-seek_absent c es (Err i) up at = at (rises (λ (e : Entry). e.link) c es up)
+seek_absent c es (Err i) up at = at (rises (λ (e : ScanEntry). e.link) c es up)
 
-abbrev pub IsGap : List ℕ → List Entry → ℕ → Type 0
-IsGap c es i = IsPartitionPoint (λ (e : Entry). key_cmp e.link c ≡ Less) (λ (e : Entry). key_cmp e.link c ≡ Greater) es i
+abbrev pub IsGap : List ℕ → List ScanEntry → ℕ → Type 0
+IsGap c es i = IsPartitionPoint (λ (e : ScanEntry). key_cmp e.link c ≡ Less) (λ (e : ScanEntry). key_cmp e.link c ≡ Greater) es i
 
-gap_on : (c : List ℕ) (e : Entry) (es : List Entry) (i : ℕ) → IsGap c (e ∷ es) (suc i) → IsGap c es i
+gap_on : (c : List ℕ) (e : ScanEntry) (es : List ScanEntry) (i : ℕ) → IsGap c (e ∷ es) (suc i) → IsGap c es i
 gap_on c e es i at = (λ k d a b. at.0 (suc k) d (omega arith) (omega (arith, b)), λ k d a b. at.1 (suc k) d (omega (arith, a)) (omega (arith, b)))
 
-gap_first : (c : List ℕ) (e : Entry) (es : List Entry) → IsGap c (e ∷ es) zero → IsGap c es zero
+gap_first : (c : List ℕ) (e : ScanEntry) (es : List ScanEntry) → IsGap c (e ∷ es) zero → IsGap c es zero
 gap_first c e es at = (λ k d a b. absurd (omega (arith, b)), λ k d a b. at.1 (suc k) d (omega arith) (omega (arith, b)))
 
-pub absent : (c : List ℕ) (es : List Entry) (i : ℕ) → IsGap c es i → place_of c es ≡ None
+pub absent : (c : List ℕ) (es : List ScanEntry) (i : ℕ) → IsGap c es i → place_of c es ≡ None
 absent c [] i at = refl
 absent c (e ∷ es) zero at =
     ap (λ t. cond t (Some e.place) (place_of c es)) (below_differs c e.link (cmp_below e.link c (at.1 0 e (omega arith) (omega arith)))) ∙ absent c es zero (gap_first c e es at)
@@ -78,7 +78,7 @@ absent c (e ∷ es) (suc i) at =
 
 -- ---- an entry that is put into a gap
 
-part_none : (b : Bool) (o : Option Place) (p : Place) → cond b (Some p) o ≡ None → (b ≡ false) × (o ≡ None)
+part_none : (b : Bool) (o : Option BlockPlace) (p : BlockPlace) → cond b (Some p) o ≡ None → (b ≡ false) × (o ≡ None)
 part_none true o p e = absurd cc
 part_none false o p e = (refl, e)
 
@@ -87,7 +87,7 @@ swapped true true x y z never = absurd (never refl refl)
 swapped true false x y z never = refl
 swapped false b x y z never = refl
 
-pub put_between : (q : List ℕ) (es : List Entry) (i : ℕ) (x : Entry) → place_of x.link es ≡ None → place_of q (insert es i x) ≡ cond (eq_by_cmp key_cmp q x.link) (Some x.place) (place_of q es)
+pub put_between : (q : List ℕ) (es : List ScanEntry) (i : ℕ) (x : ScanEntry) → place_of x.link es ≡ None → place_of q (insert es i x) ≡ cond (eq_by_cmp key_cmp q x.link) (Some x.place) (place_of q es)
 put_between q [] zero x none = refl
 put_between q [] (suc i) x none = refl
 put_between q (e ∷ es) zero x none = refl
@@ -103,11 +103,11 @@ all_with P [] (suc i) x all one = (one, tt)
 all_with P (y ∷ xs) zero x all one = (one, all)
 all_with P (y ∷ xs) (suc i) x all one = (all.0, all_with P xs i x all.1 one)
 
-all_above : (x : Entry) (es : List Entry) → IsGap x.link es zero → AllByRecursion (λ y. by_link x y ≡ Less) es
+all_above : (x : ScanEntry) (es : List ScanEntry) → IsGap x.link es zero → AllByRecursion (λ y. by_link x y ≡ Less) es
 all_above x [] at = tt
 all_above x (e ∷ es) at = (cmp_below e.link x.link (at.1 0 e (omega arith) (omega arith)), all_above x es (gap_first x.link e es at))
 
-pub order_between : (es : List Entry) (i : ℕ) (x : Entry) → IsGap x.link es i → AreInOrder es → AreInOrder (insert es i x)
+pub order_between : (es : List ScanEntry) (i : ℕ) (x : ScanEntry) → IsGap x.link es i → AreInOrder es → AreInOrder (insert es i x)
 unfolding IsStrictlySortedBy
 order_between [] zero x at up = (tt, tt)
 order_between [] (suc i) x at up = (tt, tt)

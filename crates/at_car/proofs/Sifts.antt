@@ -14,7 +14,7 @@ use Rattle.at_car.specs.Blocks.{BlockMap, kept}
 use Rattle.at_car.specs.Sections.{Section}
 use Rattle.at_car.specs.Links.{has}
 use Rattle.at_car.specs.Logs.{Told, held as the_held, was_let_go}
-use Rattle.at_car.specs.Sifting.{picked, is_passed, block_at, is_root, IsSifted, sift, Holds}
+use Rattle.at_car.specs.Sifting.{picked, is_passed, block_at, is_root, IsSifted, sift, HoldsSifted}
 use Rattle.at_car.proofs.Same.{same_link, link_same}
 use Rattle.at_car.proofs.Keeping.{or_else, get_kept, placed, tied}
 
@@ -57,7 +57,7 @@ more_sections ss k v = same_map key_total cmp_exact _ _ (λ q.
 
 pub sift_next : (picks : List ℕ → Bool) (root : Option (List ℕ)) (blocks : BlockMap) (old new : Sifted) (link block : List ℕ) (keeps : Bool) (made : Option (List ℕ)) → keeps ≡ picks block
     → made ≡ cond (is_some old.first) None (cond (is_root root link) (Some block) None) → new.first ≡ cond (is_some made) made old.first → new.log ≡ old.log ++ (link, cond keeps (Some block) None) ∷ []
-    → Holds picks root blocks old → Holds picks root (kept blocks link block) new
+    → HoldsSifted picks root blocks old → HoldsSifted picks root (kept blocks link block) new
 sift_next picks root blocks old new link block keeps made k m f l h = record { first_is = f ∙ firsts made old.first m h.first_is; log_is = logs }
   where
     at_root : (root : Option (List ℕ)) → first_of (block_at root blocks) (cond (is_root root link) (Some block) None) ≡ block_at root (kept blocks link block)
@@ -84,13 +84,13 @@ sift_next picks root blocks old new link block keeps made k m f l h = record { f
         over (Some b) p = refl
 
 -- the same is told of each link
-pub same_holds : (picks : List ℕ → Bool) (root : Option (List ℕ)) (blocks : BlockMap) (old new : Sifted) → new.first ≡ old.first → ((c : List ℕ) → find key_cmp c new.log ≡ find key_cmp c old.log) → Holds picks root blocks old → Holds picks root blocks new
+pub same_holds : (picks : List ℕ → Bool) (root : Option (List ℕ)) (blocks : BlockMap) (old new : Sifted) → new.first ≡ old.first → ((c : List ℕ) → find key_cmp c new.log ≡ find key_cmp c old.log) → HoldsSifted picks root blocks old → HoldsSifted picks root blocks new
 same_holds picks root blocks old new f l h = record { first_is = f ∙ h.first_is; log_is = λ c. l c ∙ h.log_is c }
 
 -- ---- in the end
 
 pub sifted_out : (picks : List ℕ → Bool) (root : Option (List ℕ)) (blocks : BlockMap) (sifted : Sifted) (nodes : BlockMap) (others : List (List ℕ)) → ((c : List ℕ) → get nodes c ≡ the_held (find key_cmp c sifted.log))
-    → ((c : List ℕ) → has others c ≡ was_let_go (find key_cmp c sifted.log)) → Holds picks root blocks sifted → IsSifted picks root blocks sifted.first nodes others
+    → ((c : List ℕ) → has others c ≡ was_let_go (find key_cmp c sifted.log)) → HoldsSifted picks root blocks sifted → IsSifted picks root blocks sifted.first nodes others
 sifted_out picks root blocks sifted nodes others n o h = record {
   first_is = h.first_is;
   nodes_are = λ c. n c ∙ ap the_held (h.log_is c) ∙ elim (get blocks c) as (λ b. the_held (option_map (sift picks) b) ≡ picked picks b) [ None ↦ refl | Some b ↦ refl ];

@@ -13,7 +13,7 @@ use Rattle.at_car.proofs.Sections.{section_shorter}
 use Rattle.at_car.specs.Car.{fault_of, car_of}
 use Rattle.at_car.specs.Header.{header_at}
 use Rattle.at_car.specs.Cuts.{is_cut}
-use Rattle.at_car.specs.Sifting.{Holds, block_at, sift}
+use Rattle.at_car.specs.Sifting.{HoldsSifted, block_at, sift}
 use Rattle.at_car.proofs.Sifts.{same_holds}
 use Rattle.at_car.specs.Standing.{left_of, root_of, root_in, resumed, HasBegun, IsFresh, StandsAt, StandsFor, Took}
 use Rattle.at_car.specs.declared.sifting.Sifted.{Sifted}
@@ -21,7 +21,7 @@ use Rattle.at_car.specs.declared.progress.Progress.{Progress}
 use Rattle.at_car.specs.declared.progress.Taken.{Taken}
 use Rattle.at_car.proofs.Resumes.{begins, no_header, header_missing, goes_on, stops, stops_cut, ends, header_left, section_left}
 
-fresh_holds : (picks : List ℕ → Bool) (roots : List (List ℕ)) (sifted : Sifted) → sifted.first ≡ None → ((c : List ℕ) → map.find key_cmp c sifted.log ≡ None) → Holds picks (root_of roots) map.empty sifted
+fresh_holds : (picks : List ℕ → Bool) (roots : List (List ℕ)) (sifted : Sifted) → sifted.first ≡ None → ((c : List ℕ) → map.find key_cmp c sifted.log ≡ None) → HoldsSifted picks (root_of roots) map.empty sifted
 fresh_holds picks roots sifted first log = record {
   first_is = first ∙ go roots;
   log_is = λ c. log c ∙ sym (ap (option_map (sift picks)) (get-empty key_cmp c));
@@ -57,7 +57,7 @@ front_read picks bytes old new roots rest used f r cut fits e u short nf nr ns n
     let was = fresh picks bytes old f r h in
     let place : length (left_of old) - length rest ≡ new.place = omega (arith, np, u, was.place) in
     let left : rest ≡ left_of new = sym (nl ∙ ap (λ n. drop n (left_of old)) u ∙ header_left (left_of old) (roots, rest) fits e) in
-    let H : Sifted → Type 0 = λ s. Holds picks (root_of roots) map.empty s in
+    let H : Sifted → Type 0 = λ s. HoldsSifted picks (root_of roots) map.empty s in
     let holds : H old.sifted = fresh_holds picks roots old.sifted was.first was.log in
     stands picks bytes new roots map.empty nf nr (record {
       holds = subst H (sym ns) holds;
@@ -81,11 +81,11 @@ pub section_read : (picks : List ℕ → Bool) (bytes : List ℕ) (old new : Pro
 section_read picks bytes old new root used f s is took nf nr np nl h =
     let there = roots_there old.roots s in let roots = there.0 in
     let was = begun picks bytes old roots f there.1 h in
-    let H : Option (List ℕ) → Type 0 = λ r. Holds picks r was.0 old.sifted in
+    let H : Option (List ℕ) → Type 0 = λ r. HoldsSifted picks r was.0 old.sifted in
     let at : root ≡ root_of roots = is ∙ ap root_in there.1 in
     let more_of = took.2 was.0 (subst H (sym at) was.1.holds) in
     let all = more_of.0 in
-    let N : Option (List ℕ) → Type 0 = λ r. Holds picks r all new.sifted in
+    let N : Option (List ℕ) → Type 0 = λ r. HoldsSifted picks r all new.sifted in
     stands picks bytes new roots all nf (nr ∙ there.1) (record {
       holds = subst N at more_of.1;
       resumes = λ more. was.1.resumes more ∙ more_of.2 roots more ∙ ap (λ n. resumed roots all n (drop used (left_of old) ++ more)) (sym np) ∙ ap (λ l. resumed roots all new.place (l ++ more)) (sym nl);
@@ -116,7 +116,7 @@ piece_held picks bytes piece old new nf nr ns np nl h =
     go (Some fault) r h = λ more. ap car_of (append_assoc bytes piece more) ∙ h (piece ++ more)
     go None None h = record { left = nl ∙ ap (λ l. l ++ piece) h.left; place = np ∙ h.place; first = ap (λ (s : Sifted). s.first) ns ∙ h.first; log = λ c. ap (λ (s : Sifted). map.find key_cmp c s.log) ns ∙ h.log c }
     go None (Some roots) h =
-        let H : Sifted → Type 0 = λ s. Holds picks (root_of roots) h.0 s in (
+        let H : Sifted → Type 0 = λ s. HoldsSifted picks (root_of roots) h.0 s in (
           h.0,
           record {
             holds = subst H (sym ns) h.1.holds;
@@ -179,7 +179,7 @@ pub end_cut : (picks : List ℕ → Bool) (bytes : List ℕ) (p : Progress) (roo
 end_cut picks bytes p roots f r cut some h = let was = begun picks bytes p roots f r h in read_out picks bytes p roots was.0 was.1 ∙ stops_cut p.place (left_of p) roots was.0 cut some
 
 pub end_whole : (picks : List ℕ → Bool) (bytes : List ℕ) (p : Progress) (roots : List (List ℕ)) → p.fault ≡ None → p.roots ≡ Some roots → length (left_of p) ≡ 0 → StandsFor picks p bytes
-    → (blocks : BlockMap) × (car_of bytes ≡ Ok (roots, blocks)) × Holds picks (root_of roots) blocks p.sifted
+    → (blocks : BlockMap) × (car_of bytes ≡ Ok (roots, blocks)) × HoldsSifted picks (root_of roots) blocks p.sifted
 end_whole picks bytes p roots f r none h = let was = begun picks bytes p roots f r h in (was.0, read_out picks bytes p roots was.0 was.1 ∙ ends p.place (left_of p) roots was.0 none, was.1.holds)
 
 -- a section is faulty
@@ -191,7 +191,7 @@ section_stopped place left fault f cut same known e roots blocks more =
 
 -- a section was taken
 pub section_took : (picks : List ℕ → Bool) (root : Option (List ℕ)) (place : ℕ) (left link block rest : List ℕ) (old new : Sifted) → is_cut left ≡ false → IsBytes left → section_at place left ≡ Ok ((link, block), rest)
-    → ((blocks : BlockMap) → Holds picks root blocks old → Holds picks root (kept blocks link block) new) → Took picks root place left old new (Taken.Section (length left - length rest))
+    → ((blocks : BlockMap) → HoldsSifted picks root blocks old → HoldsSifted picks root (kept blocks link block) new) → Took picks root place left old new (Taken.Section (length left - length rest))
 section_took picks root place left link block rest old new cut fits e sifts =
     let shorter : length rest < length left = section_shorter place left ((link, block), rest) e in (
       omega (arith, shorter),

@@ -37,6 +37,6 @@ abbrev pub sift : (List ℕ → Bool) → List ℕ → Option (List ℕ)
 sift picks b = if picks b then Some b else None
 
 -- the same while blocks come, of which the first under a link counts
-pub record Holds (picks : List ℕ → Bool) (root : Option (List ℕ)) (blocks : BlockMap) (sifted : Sifted) : Type 0 where
+pub record HoldsSifted (picks : List ℕ → Bool) (root : Option (List ℕ)) (blocks : BlockMap) (sifted : Sifted) : Type 0 where
   pub first_is : sifted.first ≡ block_at root blocks
   pub log_is : (c : List ℕ) → map.find key_cmp c sifted.log ≡ option_map (sift picks) (map.get blocks c)

@@ -8,7 +8,7 @@ use Rattle.at_car.specs.Car.{car_of}
 use Rattle.at_car.specs.Sections.{◌>>=◌, sections_in}
 use Rattle.at_car.specs.Merging.{merged}
 use Rattle.at_car.specs.Cuts.{is_cut}
-use Rattle.at_car.specs.Sifting.{Holds}
+use Rattle.at_car.specs.Sifting.{HoldsSifted}
 use Rattle.at_car.specs.declared.sifting.Sifted.{Sifted}
 use Rattle.at_car.specs.declared.progress.Progress.{Progress}
 use Rattle.at_car.specs.declared.progress.Taken.{Taken}
@@ -32,7 +32,7 @@ resumed roots blocks place rest = merged blocks (sections_in (place + length res
 
 -- these roots and blocks were read, and what is held is of them; however the bytes go on, reading on gives what reading the whole gives
 pub record HasBegun (picks : List ℕ → Bool) (bytes : List ℕ) (roots : List (List ℕ)) (blocks : BlockMap) (p : Progress) : Type 0 where
-  pub holds : Holds picks (root_of roots) blocks p.sifted
+  pub holds : HoldsSifted picks (root_of roots) blocks p.sifted
   pub resumes : (more : List ℕ) → car_of (bytes ++ more) ≡ resumed roots blocks p.place (left_of p ++ more)
 
 -- nothing was read
@@ -59,6 +59,6 @@ IsIdle p = p.fault ≡ None → is_cut (left_of p) ≡ true
 abbrev pub Took : (List ℕ → Bool) → Option (List ℕ) → ℕ → List ℕ → Sifted → Sifted → Taken → Type 0
 Took picks root place left old new (Taken.Section used) =
     (0 < used) × (used ≤ length left)
-    × ((blocks : BlockMap) → Holds picks root blocks old → (all : BlockMap) × Holds picks root all new
+    × ((blocks : BlockMap) → HoldsSifted picks root blocks old → (all : BlockMap) × HoldsSifted picks root all new
     × ((roots : List (List ℕ)) (more : List ℕ) → resumed roots blocks place (left ++ more) ≡ resumed roots all (place + used) (drop used left ++ more)))
 Took picks root place left old new (Taken.Fault fault) = (roots : List (List ℕ)) (blocks : BlockMap) (more : List ℕ) → resumed roots blocks place (left ++ more) ≡ Err fault

@@ -8,15 +8,14 @@ ghost use Rattle.at_car.specs.Standing.{left_of, root_of, root_in, StandsFor, Is
 use crate::cuts::is_cut;
 use crate::fault::CarFault;
 use crate::header::read_header;
-use crate::place::tell_bytes;
 use crate::progress::{Progress, Taken};
 use crate::section::read_section;
 use crate::sieve::Sieve;
 use crate::sifting::{Sifted, sift};
-use at_cid::{Cid, Cids, Memory, Octets};
+use at_cid::{Cid, Cids, Memory, Octets, ghost_bytes};
 use std::alloc::Global;
 
-/// The fault, where it isn't want of memory.
+/// The fault, where it isn't running out of memory.
 fn known(fault: CarFault) -> Result<CarFault, Memory>
     ensures { IfOk result (λ f. (f ≡ fault) × (fault_of fault ≡ Some fault)) }
 {
@@ -53,7 +52,8 @@ fn take_section<S: Sieve>(
     Ok(Taken::Section(left.len() - section.rest.len()))
 }
 
-fn first_of(roots: &Cids) -> Option<Cid>
+/// The first root, where there is one.
+pub fn first_root(roots: &Cids) -> Option<Cid>
     ensures { result ≡ root_of roots.now }
 {
     match roots.as_slice() {
@@ -81,7 +81,7 @@ impl Progress {
         ensures { result ≡ root_in self.now.roots }
     {
         match &self.roots {
-            Some(roots) => first_of(roots),
+            Some(roots) => first_root(roots),
             None => None,
         }
     }
@@ -122,7 +122,7 @@ fn read_front(alloc: Global, progress: &mut Progress) -> Result<(), Memory>
     ensures shorter { OnOk result (length (left_of progress.new) < length (left_of progress.old)) }
 {
     let left = progress.left();
-    tell_bytes(left);
+    ghost_bytes(left);
     let len = left.len();
     let Some((roots, rest)) = read_header(alloc, left)? else {
         progress.fail(alloc, CarFault::Header);

@@ -9,10 +9,10 @@ ghost use Rattle.at_car.specs.Blocks.{kept, AreLinked};
 ghost use Rattle.at_car.specs.Entries.{AreInOrder};
 ghost use Rattle.at_car.specs.Places.{IsLaid, blocks_at};
 
-use crate::entry::{Entry, find, seek};
+use crate::entry::{ScanEntry, find, seek};
 use crate::iterating::BlockIter;
 use crate::place::{bytes_at, lay};
-use at_cid::{Cid, Memory, Octets};
+use at_cid::{Cid, Memory, Octets, ghost_link};
 use std::alloc::Global;
 use std::marker::Model;
 
@@ -24,7 +24,7 @@ use std::marker::Model;
 #[derive(Drop)]
 pub struct Blocks {
     buffer: Octets,
-    entries: Vec<Entry>,
+    entries: Vec<ScanEntry>,
 }
 
 impl Model for Blocks {
@@ -57,7 +57,7 @@ impl Blocks {
     }
 
     /// The blocks at the places of links, which ascend.
-    pub(crate) fn of(buffer: Octets, entries: Vec<Entry>) -> Blocks
+    pub(crate) fn of(buffer: Octets, entries: Vec<ScanEntry>) -> Blocks
         requires laid { All (IsLaid buffer) entries.items }
         requires order { AreInOrder entries.items }
         ensures { result ≡ blocks_at buffer entries.items }
@@ -102,19 +102,20 @@ impl Blocks {
         ensures ok { OnOk result (self.new ≡ kept self.old cid block.now) }
         ensures err { OnErr result (self.new ≡ self.old) }
     {
-        cid.tell_link();
+        ghost_link(&cid);
         match seek(self.entries.as_slice(), &cid) {
             Ok(_) => Ok(()),
             Err(index) => {
                 let place = lay(&mut self.buffer, block)?;
-                self.entries.insert(index, Entry { link: cid, place })?;
+                self.entries.insert(index, ScanEntry { link: cid, place })?;
                 Ok(())
             }
         }
     }
 
-    /// Each block stands under a link of it.
-    pub fn tell_linked(&self)
+    /// Does nothing when it runs: each block stands under a link of it, for the prover.
+    #[inline]
+    pub fn ghost_linked(&self)
         ensures { AreLinked self.now }
     {
         let _ = &self.entries;

@@ -6,7 +6,7 @@ ghost use Rattle.std.specs.List.{All};
 ghost use Rattle.std.specs.Map.Iter.{TakesFirst, deref_pair};
 ghost use Rattle.at_car.specs.Places.{laid, IsLaid};
 
-use crate::entry::Entry;
+use crate::entry::ScanEntry;
 use crate::place::bytes_at;
 use at_cid::Cid;
 use std::marker::Model;
@@ -15,7 +15,7 @@ use std::marker::Model;
 #[derive(Drop)]
 pub struct BlockIter<'a> {
     pub(crate) buffer: &'a [u8],
-    pub(crate) entries: &'a [Entry],
+    pub(crate) entries: &'a [ScanEntry],
 }
 
 impl<'a> Model for BlockIter<'a> {

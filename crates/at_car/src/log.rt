@@ -10,13 +10,13 @@ ghost use Rattle.at_car.specs.Entries.{AreInOrder};
 ghost use Rattle.at_car.specs.Links.{has};
 ghost use Rattle.at_car.specs.Logs.{is_held, told, IsTold, held, was_let_go, links_let_go};
 ghost use Rattle.at_car.specs.Places.{bytes_at};
-ghost use Rattle.at_car.specs.declared.entry.Entry.{Entry};
+ghost use Rattle.at_car.specs.declared.entry.ScanEntry.{ScanEntry};
 
 use crate::blocks::Blocks;
-use crate::entry::{Entry, settle};
+use crate::entry::{ScanEntry, settle};
 use crate::links::Links;
-use crate::place::{Place, bytes_at, lay};
-use at_cid::{Cid, Memory, Octets};
+use crate::place::{BlockPlace, bytes_at, lay};
+use at_cid::{Cid, Memory, Octets, ghost_link};
 use std::alloc::Global;
 use std::marker::Model;
 
@@ -33,14 +33,14 @@ const FEW_BYTES: usize = 65_536;
 /// What is held lies in one buffer behind a byte of no block, so that no block begins at 0, which is the place of one
 /// that was let go. A link that comes again is found only when the entries, or the bytes, have doubled.
 #[derive(Drop)]
-pub(crate) struct Log {
+pub(crate) struct ScanLog {
     buffer: Octets,
-    entries: Vec<Entry>,
+    entries: Vec<ScanEntry>,
     most_entries: usize,
     most_bytes: usize,
 }
 
-impl Model for Log {
+impl Model for ScanLog {
     ghost use Rattle.std.specs.Prelude.{List, ℕ, Option, map};
     ghost use Rattle.std.specs.List.{All};
     ghost use Rattle.at_car.specs.Logs.{told, IsTold};
@@ -53,7 +53,7 @@ impl Model for Log {
 }
 
 /// Adds a block at the end of a buffer, but not at its front.
-fn lay_behind(buffer: &mut Octets, block: &[u8]) -> Result<Place, Memory>
+fn lay_behind(buffer: &mut Octets, block: &[u8]) -> Result<BlockPlace, Memory>
     ensures is { IfOk result (λ place. bytes_at buffer.new place ≡ block.now) }
     ensures within { IfOk result (λ place. place.start + place.len ≤ length buffer.new) }
     ensures behind { IfOk result (λ place. 1 ≤ place.start) }
@@ -66,7 +66,7 @@ fn lay_behind(buffer: &mut Octets, block: &[u8]) -> Result<Place, Memory>
 }
 
 /// The links of the entries whose blocks aren't held.
-fn let_go_links(alloc: Global, entries: &[Entry]) -> Result<Vec<Cid>, Memory>
+fn let_go_links(alloc: Global, entries: &[ScanEntry]) -> Result<Vec<Cid>, Memory>
     ensures { IfOk result (λ links. links.items ≡ links_let_go entries.now) }
 {
     let mut links = Vec::new(alloc);
@@ -83,18 +83,18 @@ fn let_go_links(alloc: Global, entries: &[Entry]) -> Result<Vec<Cid>, Memory>
 }
 
 /// Leaves the entries whose blocks are held.
-fn keep_held(entries: &mut Vec<Entry>)
+fn keep_held(entries: &mut Vec<ScanEntry>)
     ensures { entries.new.items ≡ filter is_held entries.old.items }
 {
     entries.retain(
-        |entry: &Entry| -> bool
+        |entry: &ScanEntry| -> bool
             ensures { result ≡ is_held entry.now }
         { entry.place.start != 0 },
     );
 }
 
 /// Puts what an entry tells into a log.
-fn put_again(log: &mut Log, buffer: &[u8], entry: &Entry) -> Result<(), Memory>
+fn put_again(log: &mut ScanLog, buffer: &[u8], entry: &ScanEntry) -> Result<(), Memory>
     requires { IsTold buffer.now entry.now }
     ensures { OnOk result (log.new ≡ log.old ++ told buffer.now entry.now ∷ []) }
 {
@@ -106,11 +106,11 @@ fn put_again(log: &mut Log, buffer: &[u8], entry: &Entry) -> Result<(), Memory>
 }
 
 /// A log of the same entries, whose buffer has their blocks alone.
-fn packed(alloc: Global, buffer: &[u8], entries: &[Entry]) -> Result<Log, Memory>
+fn packed(alloc: Global, buffer: &[u8], entries: &[ScanEntry]) -> Result<ScanLog, Memory>
     requires { All (IsTold buffer.now) entries.now }
     ensures { IfOk result (λ log. log ≡ map (told buffer.now) entries.now) }
 {
-    let mut log = Log::new(alloc);
+    let mut log = ScanLog::new(alloc);
     let mut rest = entries;
     'entries: loop {
         let [entry, others @ ..] = rest else {
@@ -126,12 +126,12 @@ fn doubled(now: usize, few: usize) -> usize {
     now.saturating_mul(2).saturating_add(few)
 }
 
-impl Log {
+impl ScanLog {
     /// Of no blocks.
-    pub(crate) fn new(alloc: Global) -> Log
+    pub(crate) fn new(alloc: Global) -> ScanLog
         ensures { result ≡ [] }
     {
-        Log {
+        ScanLog {
             buffer: Octets::new(alloc),
             entries: Vec::new(alloc),
             most_entries: FEW_ENTRIES,
@@ -140,12 +140,12 @@ impl Log {
     }
 
     /// Of no blocks, and room for so many bytes of them.
-    pub(crate) fn with_room(alloc: Global, room: usize) -> Result<Log, Memory>
+    pub(crate) fn with_room(alloc: Global, room: usize) -> Result<ScanLog, Memory>
         ensures { IfOk result (λ log. log ≡ []) }
     {
         let buffer = Vec::with_capacity(alloc, room)?;
         let entries = Vec::with_capacity(alloc, ROOM_ENTRIES)?;
-        Ok(Log {
+        Ok(ScanLog {
             buffer: Octets::from_vec(buffer),
             entries,
             most_entries: FEW_ENTRIES,
@@ -160,9 +160,9 @@ impl Log {
         ensures ok { OnOk result (self.new ≡ self.old ++ (link, Some block.now) ∷ []) }
         ensures err { OnErr result (self.new ≡ self.old) }
     {
-        link.tell_link();
+        ghost_link(&link);
         let place = lay_behind(&mut self.buffer, block)?;
-        self.entries.push(Entry { link, place })?;
+        self.entries.push(ScanEntry { link, place })?;
         Ok(())
     }
 
@@ -171,8 +171,8 @@ impl Log {
         ensures ok { OnOk result (self.new ≡ self.old ++ (link, None) ∷ []) }
         ensures err { OnErr result (self.new ≡ self.old) }
     {
-        let place = Place { start: 0, len: 0 };
-        self.entries.push(Entry { link, place })?;
+        let place = BlockPlace { start: 0, len: 0 };
+        self.entries.push(ScanEntry { link, place })?;
         Ok(())
     }
 
@@ -227,7 +227,7 @@ impl Log {
         ensures held { IfOk result (λ x. (link : List ℕ) → finite.get x.0 link ≡ held (finite.find key_cmp link self)) }
         ensures let_go { IfOk result (λ x. (link : List ℕ) → has x.1 link ≡ was_let_go (finite.find key_cmp link self)) }
     {
-        let Log {
+        let ScanLog {
             buffer,
             mut entries,
             most_entries: _,

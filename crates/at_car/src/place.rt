@@ -4,30 +4,30 @@ ghost use Rattle.std.specs.Prelude.{◌≡◌, ◌≤◌, ◌+◌, ◌++◌, len
 ghost use Rattle.at_cid.specs.Link.{IsBytes};
 ghost use Rattle.at_car.specs.Places.{bytes_at};
 
-use at_cid::{Memory, Octets};
+use at_cid::{Memory, Octets, ghost_bytes};
 
 /// Where the bytes of a block lie in a buffer.
 #[derive(Clone, Copy, Debug)]
-pub(crate) struct Place {
+pub(crate) struct BlockPlace {
     pub start: u32,
     pub len: u32,
 }
 
 /// The bytes at a place.
 #[inline]
-pub(crate) fn bytes_at<'a>(buffer: &'a [u8], place: &Place) -> &'a [u8]
+pub(crate) fn bytes_at<'a>(buffer: &'a [u8], place: &BlockPlace) -> &'a [u8]
     requires { place.now.start + place.now.len ≤ length buffer.now }
     ensures is { result.now ≡ bytes_at buffer.now place.now }
     ensures bytes { IsBytes result.now }
 {
     let (_, rest) = buffer.split_at(place.start as usize);
     let (bytes, _) = rest.split_at(place.len as usize);
-    tell_bytes(bytes);
+    ghost_bytes(bytes);
     bytes
 }
 
 /// Adds a block at the end of a buffer. A buffer has less than 2^32 bytes.
-pub(crate) fn lay(buffer: &mut Octets, block: &[u8]) -> Result<Place, Memory>
+pub(crate) fn lay(buffer: &mut Octets, block: &[u8]) -> Result<BlockPlace, Memory>
     ensures is { IfOk result (λ place. bytes_at buffer.new place ≡ block.now) }
     ensures within { IfOk result (λ place. place.start + place.len ≤ length buffer.new) }
     ensures start { IfOk result (λ place. place.start ≡ length buffer.old) }
@@ -38,10 +38,5 @@ pub(crate) fn lay(buffer: &mut Octets, block: &[u8]) -> Result<Place, Memory>
         return Err(Memory);
     };
     buffer.extend(block)?;
-    Ok(Place { start, len })
+    Ok(BlockPlace { start, len })
 }
-
-// The elements of a slice of bytes are bytes.
-pub(crate) fn tell_bytes(bytes: &[u8])
-    ensures { IsBytes bytes.now }
-{}

@@ -9,7 +9,7 @@ use crate::advancing::{advance, hold};
 use crate::blocks::Blocks;
 use crate::fault::CarFault;
 use crate::links::Links;
-use crate::log::Log;
+use crate::log::ScanLog;
 use crate::progress::Progress;
 use crate::sieve::Sieve;
 use crate::sifting::Sifted;
@@ -46,7 +46,7 @@ impl<S: Sieve> Scan<S> {
     {
         let sifted = Sifted {
             first: None,
-            log: Log::new(alloc),
+            log: ScanLog::new(alloc),
         };
         let progress = Progress {
             roots: None,

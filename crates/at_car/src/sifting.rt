@@ -4,9 +4,9 @@ ghost use Rattle.std.specs.Prelude.{◌≡◌, ◌++◌, ◌∷◌, [], ℕ, Lis
 ghost use Rattle.sha2.specs.Sha256.{sha256};
 ghost use Rattle.at_cid.specs.Link.{digest_of};
 ghost use Rattle.at_car.specs.Blocks.{BlockMap, kept};
-ghost use Rattle.at_car.specs.Sifting.{Holds, is_root};
+ghost use Rattle.at_car.specs.Sifting.{HoldsSifted, is_root};
 
-use crate::log::Log;
+use crate::log::ScanLog;
 use crate::sieve::Sieve;
 use at_cid::{Cid, Memory, Octets};
 use std::alloc::Global;
@@ -15,7 +15,7 @@ use std::alloc::Global;
 #[derive(Drop)]
 pub(crate) struct Sifted {
     pub first: Option<Octets>,
-    pub log: Log,
+    pub log: ScanLog,
 }
 
 /// A copy of the block where its link is the root and no block was under it.
@@ -38,7 +38,7 @@ fn root_block(
 }
 
 /// Adds a block, or its link alone.
-fn put(log: &mut Log, picked: bool, link: Cid, block: &[u8]) -> Result<(), Memory>
+fn put(log: &mut ScanLog, picked: bool, link: Cid, block: &[u8]) -> Result<(), Memory>
     requires { digest_of link ≡ sha256 block.now }
     ensures ok { OnOk result (log.new ≡ log.old ++ (link, (if picked then Some block.now else None)) ∷ []) }
     ensures err { OnErr result (log.new ≡ log.old) }
@@ -60,7 +60,7 @@ pub(crate) fn sift<S: Sieve>(
     block: &[u8],
 ) -> Result<(), Memory>
     requires { digest_of link ≡ sha256 block.now }
-    ensures ok { OnOk result ((blocks : BlockMap) → Holds S.picks root.now blocks sifted.old → Holds S.picks root.now (kept blocks link block.now) sifted.new) }
+    ensures ok { OnOk result ((blocks : BlockMap) → HoldsSifted S.picks root.now blocks sifted.old → HoldsSifted S.picks root.now (kept blocks link block.now) sifted.new) }
     ensures err { OnErr result (sifted.new ≡ sifted.old) }
 {
     let picked = sieve.keeps(block)?;

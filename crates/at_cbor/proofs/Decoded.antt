@@ -1,4 +1,4 @@
--- What is read of an input is spelled so, and what is spelled so is read.
+-- What is read of an input is encoded so, and what is encoded so is read.
 use Rattle.std.proofs.Common.{◌≡◌, ℕ, ◌-◌, ◌≤◌, List, ◌++◌, ◌+◌, length, take, drop, Result, Ok, Err, refl, sym, ap, subst, ◌∙◌, arith}
 use Rattle.std.specs.Prelude.{IfOk, IfErr, Option, Some, None}
 use Rattle.std.proofs.lemmas.List.{length-append, length-take, take_at, take-append-drop}
@@ -8,7 +8,7 @@ use Rattle.at_cbor.specs.declared.fault.Cause.{Cause}
 use Rattle.at_cbor.specs.declared.fault.CborFault.{CborFault}
 use Rattle.at_cbor.specs.declared.value.Value.{Value}
 use Rattle.at_cbor.specs.Item.{Item}
-use Rattle.at_cbor.specs.Spelling.{spelling, Fits}
+use Rattle.at_cbor.specs.Encoding.{encoding, Fits}
 use Rattle.at_cbor.specs.Reading.{Reading, item_at}
 use Rattle.at_cbor.specs.Decoding.{fault_of, placed, decoded, Decodes}
 use Rattle.at_cbor.specs.Heads.{Flaw}
@@ -32,7 +32,7 @@ placed_ok n (Ok x) y e = (x, refl, cc)
 placed_ok n (Err e) y f = absurd cc
 
 abbrev pub IsFound : List ℕ → Item × ℕ → Type 0
-IsFound bytes y = Fits y.0 64 × (take y.1 bytes ≡ spelling y.0) × (y.1 ≤ length bytes)
+IsFound bytes y = Fits y.0 64 × (take y.1 bytes ≡ encoding y.0) × (y.1 ≤ length bytes)
 
 pub found : (bytes : List ℕ) (y : Item × ℕ) → IsBytes bytes → decoded bytes ≡ Ok y → IsFound bytes y
 unfolding decoded
@@ -40,12 +40,12 @@ found bytes y fits e =
     let read = placed_ok (length bytes) (item_at 64 bytes) y e in
     let x = read.0 in
     let item = item_takes 64 bytes read.0 fits read.1 in
-    let len : length bytes - length read.0.1 ≡ length (spelling read.0.0) = omega (arith, ap length item.0.parts, length-append (spelling read.0.0) read.0.1) in
-    let front : take (length bytes - length read.0.1) bytes ≡ spelling read.0.0 =
-    ap (λ (n : ℕ). take n bytes) len ∙ ap (take (length (spelling read.0.0))) item.0.parts ∙ take_at (spelling read.0.0) read.0.1 (length (spelling read.0.0)) refl in
+    let len : length bytes - length read.0.1 ≡ length (encoding read.0.0) = omega (arith, ap length item.0.parts, length-append (encoding read.0.0) read.0.1) in
+    let front : take (length bytes - length read.0.1) bytes ≡ encoding read.0.0 =
+    ap (λ (n : ℕ). take n bytes) len ∙ ap (take (length (encoding read.0.0))) item.0.parts ∙ take_at (encoding read.0.0) read.0.1 (length (encoding read.0.0)) refl in
     subst (IsFound bytes) (sym read.2) (item.1, front, omega arith)
 
-pub is_found : (bytes : List ℕ) (r : Result (Value × ℕ) CborFault) → IsBytes bytes → Decodes r (decoded bytes) → IfOk r (λ x. Fits (item_of x.0) 64 × (take x.1 bytes ≡ spelling (item_of x.0)))
+pub is_found : (bytes : List ℕ) (r : Result (Value × ℕ) CborFault) → IsBytes bytes → Decodes r (decoded bytes) → IfOk r (λ x. Fits (item_of x.0) 64 × (take x.1 bytes ≡ encoding (item_of x.0)))
 is_found bytes (Ok x) fits given = let f = found bytes (item_of x.0, x.1) fits given in (f.0, f.1)
 is_found bytes (Err e) fits given = tt
 
@@ -53,32 +53,32 @@ pub is_within : (bytes : List ℕ) (r : Result (Value × ℕ) CborFault) → IsB
 is_within bytes (Ok x) fits given = (found bytes (item_of x.0, x.1) fits given).2
 is_within bytes (Err e) fits given = tt
 
--- a spelling is read, whatever follows it
-pub decoded_again : (i : Item) (rest : List ℕ) → Fits i 64 → decoded (spelling i ++ rest) ≡ Ok (i, length (spelling i))
+-- an encoding is read, whatever follows it
+pub decoded_again : (i : Item) (rest : List ℕ) → Fits i 64 → decoded (encoding i ++ rest) ≡ Ok (i, length (encoding i))
 unfolding decoded
 decoded_again i rest fits =
-    let len : length (spelling i ++ rest) - length rest ≡ length (spelling i) = omega (arith, length-append (spelling i) rest) in
-    ap (placed (length (spelling i ++ rest))) (item_again 64 i rest fits) ∙ ap (λ (n : ℕ). Ok (i, n)) len
+    let len : length (encoding i ++ rest) - length rest ≡ length (encoding i) = omega (arith, length-append (encoding i) rest) in
+    ap (placed (length (encoding i ++ rest))) (item_again 64 i rest fits) ∙ ap (λ (n : ℕ). Ok (i, n)) len
 
-pub is_only : (bytes : List ℕ) (r : Result (Value × ℕ) CborFault) (i : Item) (rest : List ℕ) → Decodes r (decoded bytes) → Fits i 64 → bytes ≡ spelling i ++ rest → Decodes r (Ok (i, length (spelling i)))
+pub is_only : (bytes : List ℕ) (r : Result (Value × ℕ) CborFault) (i : Item) (rest : List ℕ) → Decodes r (decoded bytes) → Fits i 64 → bytes ≡ encoding i ++ rest → Decodes r (Ok (i, length (encoding i)))
 is_only bytes r i rest given fits e = subst (Decodes r) (ap decoded e ∙ decoded_again i rest fits) given
 
--- a spelling is read back, whatever follows it
-pub spelled_again : (i : Item) (bytes rest : List ℕ) → Fits i 64 → bytes ≡ spelling i → decoded (bytes ++ rest) ≡ Ok (i, length bytes)
-spelled_again i bytes rest fits e = subst (λ (l : List ℕ). decoded (l ++ rest) ≡ Ok (i, length l)) (sym e) (decoded_again i rest fits)
+-- an encoding is read back, whatever follows it
+pub encoded_again : (i : Item) (bytes rest : List ℕ) → Fits i 64 → bytes ≡ encoding i → decoded (bytes ++ rest) ≡ Ok (i, length bytes)
+encoded_again i bytes rest fits e = subst (λ (l : List ℕ). decoded (l ++ rest) ≡ Ok (i, length l)) (sym e) (decoded_again i rest fits)
 
 -- Spellings in front of the same bytes are of one item.
-pub one_spelling : (i j : Item) (depth : ℕ) (behind other : List ℕ) → Fits i depth → Fits j depth → spelling i ++ behind ≡ spelling j ++ other → (i ≡ j) × (behind ≡ other)
-one_spelling i j depth behind other fits fits_too e =
-    let read : Reading Item = item_at depth (spelling i ++ behind) in
+pub one_encoding : (i j : Item) (depth : ℕ) (behind other : List ℕ) → Fits i depth → Fits j depth → encoding i ++ behind ≡ encoding j ++ other → (i ≡ j) × (behind ≡ other)
+one_encoding i j depth behind other fits fits_too e =
+    let read : Reading Item = item_at depth (encoding i ++ behind) in
     let same = ok_is (i, behind) (j, other) (sym (item_again depth i behind fits) ∙ ap (item_at depth) e ∙ item_again depth j other fits_too) in
     (ap (λ (x : Item × List ℕ). x.0) same, ap (λ (x : Item × List ℕ). x.1) same)
 
--- An item is read exactly where its spelling stands in front.
+-- An item is read exactly where its encoding stands in front.
 pub read_front : (bytes : List ℕ) (i : Item) (n : ℕ) → IsBytes bytes → decoded bytes ≡ Ok (i, n) → IsFront bytes i n
 read_front bytes i n fits e =
     let f = found bytes (i, n) fits e in
-    let len : n ≡ length (spelling i) = omega (arith, ap length f.1, length-take n bytes, f.2) in
+    let len : n ≡ length (encoding i) = omega (arith, ap length f.1, length-take n bytes, f.2) in
     (f.0, len, sym (take-append-drop n bytes) ∙ ap (λ (l : List ℕ). l ++ drop n bytes) f.1)
 
 pub front_read : (bytes : List ℕ) (i : Item) (n : ℕ) → IsFront bytes i n → decoded bytes ≡ Ok (i, n)

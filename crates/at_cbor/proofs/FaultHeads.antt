@@ -13,8 +13,8 @@ use Rattle.at_cbor.specs.declared.major.Major.{Major}
 use Rattle.at_cbor.specs.declared.fault.Cause.{Cause}
 use Rattle.at_cbor.specs.declared.head.Head.{Head}
 use Rattle.at_cbor.specs.Heads.{Flaw, wide_at, argument_at, least_of, agrees, begins_link, link_behind, whole_link, tagged, simple_of, is_long, major_of, argued, head_at}
-use Rattle.at_cbor.specs.Majors.{number_of, major_in}
-use Rattle.at_cbor.specs.Spelling.{tail_of, front_of}
+use Rattle.at_cbor.specs.Majors.{major_number, major_in}
+use Rattle.at_cbor.specs.Encoding.{tail_of, front_of}
 use Rattle.at_cbor.specs.Faults.{argument_len, wide_for, MayBeTagged, BreaksHead, IsLongForm}
 use Rattle.at_cbor.proofs.Steps.{chosen}
 use Rattle.at_cbor.proofs.Fronts.{IsWide, wide8, wide16, wide32, wide64, wide_takes, form_0, form_1, form_2, form_3, argument_takes}
@@ -103,8 +103,8 @@ long_in w k low limit wide form shorter first bytes a small other fits t found l
     let is = eqb-true (first % 32) k t in
     let taken = wide_takes w limit wide bytes a fits found in
     let below : a.0 < least_of k = subst (λ (i : ℕ). a.0 < least_of i) is (ltb-true a.0 (least_of (first % 32)) least) in
-    let head : first ≡ 32 * number_of (major_in first) + k = omega (arith, is, number_in first small) in
-    (major_in first, k, w, a.0, a.1, other, form, ap (λ (n : ℕ). n ∷ bytes) head ∙ ap (λ (l : List ℕ). (32 * number_of (major_in first) + k) ∷ l) taken.0.parts, shorter a.0 below)
+    let head : first ≡ 32 * major_number (major_in first) + k = omega (arith, is, number_in first small) in
+    (major_in first, k, w, a.0, a.1, other, form, ap (λ (n : ℕ). n ∷ bytes) head ∙ ap (λ (l : List ℕ). (32 * major_number (major_in first) + k) ∷ l) taken.0.parts, shorter a.0 below)
 
 long_form : (first : ℕ) (bytes : List ℕ) (a : ℕ × List ℕ) → first < 256 → major_in first ≢ Major.Simple → IsBytes bytes → argument_at (first % 32) bytes ≡ Some a → ltb a.0 (least_of (first % 32)) ≡ true → IsLongForm (first ∷ bytes)
 unfolding argument_at

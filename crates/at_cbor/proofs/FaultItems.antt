@@ -8,9 +8,9 @@ use Rattle.at_cbor.specs.declared.fault.Cause.{Cause}
 use Rattle.at_cbor.specs.declared.head.Head.{Head}
 use Rattle.at_cbor.specs.Item.{Item, items_of, fields_of, is_above, last_key}
 use Rattle.at_cbor.specs.Heads.{Flaw, head_at}
-use Rattle.at_cbor.specs.Spelling.{front_of, text_spelling, spelling, items_spelling, fields_spelling, head_spelling, HeadFits, IsText, ItemsFit, FieldsFit}
+use Rattle.at_cbor.specs.Encoding.{front_of, text_encoding, encoding, items_encoding, fields_encoding, head_encoding, HeadFits, IsText, ItemsFit, FieldsFit}
 use Rattle.at_cbor.specs.Reading.{◌>>=◌, Reading, string_at, text_at, key_of, key_at, items_at, fields_at, list_of, map_of, body_of, item_at, inside}
-use Rattle.at_cbor.specs.Faults.{BreaksHead, BreaksValue, BreaksKey, IsNoUtf8, IsNoText, Open, in_list, in_map, open_spelling, opened, OpenFits, IsFaultyAt}
+use Rattle.at_cbor.specs.Faults.{BreaksHead, BreaksValue, BreaksKey, IsNoUtf8, IsNoText, Open, in_list, in_map, open_encoding, opened, OpenFits, IsFaultyAt}
 use Rattle.at_cbor.proofs.Steps.{chosen, Takes, Takes-then}
 use Rattle.at_cbor.proofs.Keys.{last_or, last_of_all}
 use Rattle.at_cbor.proofs.HeadLaws.{head_takes}
@@ -66,7 +66,7 @@ head_of_key before bytes Cause.IntRange h = h
 no_text : (before : Option (List ℕ)) (left : ℕ) (bytes : List ℕ) (d : Flaw) → left ≡ length bytes → IsNoText bytes → (let r : Reading (List ℕ) = Err (Cause.KeyOrder, left) in r) ≡ Err d → IsKeyFault before bytes d
 no_text before left bytes d here none e = subst (IsKeyFault before bytes) (err_is (Cause.KeyOrder, left) d e) (here, inl none)
 
-key_of_faults : (before : Option (List ℕ)) (left : ℕ) (head : Head) (rest : List ℕ) (d : Flaw) → left ≡ length (head_spelling head ++ rest) → IsBytes rest → HeadFits head → key_of before left head rest ≡ Err d → IsKeyFault before (head_spelling head ++ rest) d
+key_of_faults : (before : Option (List ℕ)) (left : ℕ) (head : Head) (rest : List ℕ) (d : Flaw) → left ≡ length (head_encoding head ++ rest) → IsBytes rest → HeadFits head → key_of before left head rest ≡ Err d → IsKeyFault before (head_encoding head ++ rest) d
 unfolding key_of
 key_of_faults before left (Head.Text n) rest d here fits holds e =
     elim (bind_err (text_at left n rest) (λ k. cond (is_above before k.0) (Ok k) (Err (Cause.KeyOrder, left))) d e) [
@@ -131,7 +131,7 @@ own_as : (depth : ℕ) (bytes : List ℕ) (c d : Flaw) → c ≡ d → c.1 ≡ l
 own_as depth bytes c d same here breaks = subst (IsFault depth bytes) same (own depth bytes c here breaks)
 
 -- a fault inside a list or a map
-deeper : (o : Open) (depth : ℕ) (rest : List ℕ) (d : Flaw) → 0 < depth → OpenFits o (depth - 1) → IsFault (depth - 1) rest d → IsFault depth (open_spelling o ++ rest) d
+deeper : (o : Open) (depth : ℕ) (rest : List ℕ) (d : Flaw) → 0 < depth → OpenFits o (depth - 1) → IsFault (depth - 1) rest d → IsFault depth (open_encoding o ++ rest) d
 deeper o depth rest d some fits fault = (
   fault.0,
   fault.1,
@@ -141,12 +141,12 @@ deeper o depth rest d some fits fault = (
         inl (o ∷ v.0, (some, fits, v.1), put v.0 fault.0 v.2, subst (λ (k : ℕ). BreaksValue k d.0 fault.0) left v.3)
     | inr v ↦
         let left : depth - 1 - length v.0 - 1 ≡ depth - length (o ∷ v.0) - 1 = omega arith in
-        inr (o ∷ v.0, v.1, v.2, (some, fits, v.3), omega (arith, v.4), v.5, v.6, subst (λ (k : ℕ). FieldsFit (fields_of v.2) None k) left v.7, put v.0 (front_of Major.Map v.1 ++ (fields_spelling (fields_of v.2) ++ fault.0)) v.8, v.9)
+        inr (o ∷ v.0, v.1, v.2, (some, fits, v.3), omega (arith, v.4), v.5, v.6, subst (λ (k : ℕ). FieldsFit (fields_of v.2) None k) left v.7, put v.0 (front_of Major.Map v.1 ++ (fields_encoding (fields_of v.2) ++ fault.0)) v.8, v.9)
   ],
 )
   where
-    put : (os : List Open) (here : List ℕ) → rest ≡ opened os ++ here → open_spelling o ++ rest ≡ opened (o ∷ os) ++ here
-    put os here e = ap (λ (l : List ℕ). open_spelling o ++ l) e ∙ sym (append_assoc (open_spelling o) (opened os) here)
+    put : (os : List Open) (here : List ℕ) → rest ≡ opened os ++ here → open_encoding o ++ rest ≡ opened (o ∷ os) ++ here
+    put os here e = ap (λ (l : List ℕ). open_encoding o ++ l) e ∙ sym (append_assoc (open_encoding o) (opened os) here)
 
 module _ (r : List ℕ → Reading Item) (depth : ℕ) (sound : Sound r depth) where
   -- the items in front of the one that failed
@@ -154,7 +154,7 @@ module _ (r : List ℕ → Reading Item) (depth : ℕ) (sound : Sound r depth) w
     pub read : List Item
     pub after : List ℕ
     pub fewer : length read < n
-    pub taken : Takes bytes (items_spelling (items_of read)) after
+    pub taken : Takes bytes (items_encoding (items_of read)) after
     pub fit : ItemsFit (items_of read) depth
     pub fails : r after ≡ Err d
 
@@ -172,7 +172,7 @@ module _ (r : List ℕ → Reading Item) (depth : ℕ) (sound : Sound r depth) w
                 read = a.0.0 ∷ others.read;
                 after = others.after;
                 fewer = omega (arith, others.fewer);
-                taken = Takes-then bytes (spelling a.0.0) a.0.1 (items_spelling (items_of others.read)) others.after first.0 others.taken;
+                taken = Takes-then bytes (encoding a.0.0) a.0.1 (items_encoding (items_of others.read)) others.after first.0 others.taken;
                 fit = (first.1, others.fit);
                 fails = others.fails;
               }
@@ -188,7 +188,7 @@ module _ (r : List ℕ → Reading Item) (depth : ℕ) (sound : Sound r depth) w
     pub read : List (List ℕ × Item)
     pub after : List ℕ
     pub fewer : length read < n
-    pub taken : Takes bytes (fields_spelling (fields_of read)) after
+    pub taken : Takes bytes (fields_encoding (fields_of read)) after
     pub fit : FieldsFit (fields_of read) before depth
     pub fails : (key_at (last_or before read) after ≡ Err d) ⊎ ((k : List ℕ × List ℕ) × (key_at (last_or before read) after ≡ Ok k) × (r k.1 ≡ Err d))
 
@@ -205,12 +205,12 @@ module _ (r : List ℕ → Reading Item) (depth : ℕ) (sound : Sound r depth) w
                 let key = key_takes before bytes k.0 fits k.1 in
                 let value = sound k.0.1 v.0 key.0.rest_fits v.1 in
                 let others = fields_fault (Some k.0.0) n v.0.1 d value.0.rest_fits f in
-                let behind = Takes-then k.0.1 (spelling v.0.0) v.0.1 (fields_spelling (fields_of others.read)) others.after value.0 others.taken in
+                let behind = Takes-then k.0.1 (encoding v.0.0) v.0.1 (fields_encoding (fields_of others.read)) others.after value.0 others.taken in
                 record {
                   read = (k.0.0, v.0.0) ∷ others.read;
                   after = others.after;
                   fewer = omega (arith, others.fewer);
-                  taken = Takes-then bytes (text_spelling k.0.0) k.0.1 (spelling v.0.0 ++ fields_spelling (fields_of others.read)) others.after key.0 behind;
+                  taken = Takes-then bytes (text_encoding k.0.0) k.0.1 (encoding v.0.0 ++ fields_encoding (fields_of others.read)) others.after key.0 behind;
                   fit = (key.1, key.2, value.1, others.fit);
                   fails = others.fails;
                 }
@@ -238,7 +238,7 @@ list_faults (Some r) depth left n rest d given here below fits e =
       | inl f ↦
           let part = items_fault r (depth - 1) given.1 n rest d fits f in
           let fault = given.2 part.after d part.taken.rest_fits part.fails in
-          let parts : front_of Major.List n ++ rest ≡ open_spelling (in_list n part.read) ++ part.after = ap (λ (l : List ℕ). front_of Major.List n ++ l) part.taken.parts ∙ sym (append_assoc (front_of Major.List n) (items_spelling (items_of part.read)) part.after) in
+          let parts : front_of Major.List n ++ rest ≡ open_encoding (in_list n part.read) ++ part.after = ap (λ (l : List ℕ). front_of Major.List n ++ l) part.taken.parts ∙ sym (append_assoc (front_of Major.List n) (items_encoding (items_of part.read)) part.after) in
           subst (λ (l : List ℕ). IsFault depth l d) (sym parts) (deeper (in_list n part.read) depth part.after d given.0 (part.fewer, below, part.fit) fault)
       | inr f ↦ absurd (no_fault f.2)
     ]
@@ -250,7 +250,7 @@ map_faults (Some r) depth left n rest d given here below fits e =
       | inl f ↦
           let part = fields_fault r (depth - 1) given.1 None n rest d fits f in
           let last : last_or None part.read ≡ last_key part.read = last_of_all part.read in
-          let read : front_of Major.Map n ++ rest ≡ front_of Major.Map n ++ (fields_spelling (fields_of part.read) ++ part.after) = ap (λ (l : List ℕ). front_of Major.Map n ++ l) part.taken.parts in
+          let read : front_of Major.Map n ++ rest ≡ front_of Major.Map n ++ (fields_encoding (fields_of part.read) ++ part.after) = ap (λ (l : List ℕ). front_of Major.Map n ++ l) part.taken.parts in
           elim part.fails [
             | inl g ↦
                 let key = key_faults (last_key part.read) part.after d part.taken.rest_fits (ap (λ (k : Option (List ℕ)). key_at k part.after) (sym last) ∙ g) in
@@ -260,17 +260,17 @@ map_faults (Some r) depth left n rest d given here below fits e =
                 let key = key_takes (last_key part.read) part.after g.0 part.taken.rest_fits (ap (λ (k : Option (List ℕ)). key_at k part.after) (sym last) ∙ g.1) in
                 let fault = given.2 g.0.1 d key.0.rest_fits g.2 in
                 let o : Open = in_map n part.read g.0.0 in
-                let parts : front_of Major.Map n ++ rest ≡ open_spelling (in_map n part.read g.0.0) ++ g.0.1 =
+                let parts : front_of Major.Map n ++ rest ≡ open_encoding (in_map n part.read g.0.0) ++ g.0.1 =
                 read
-                ∙ ap (λ (l : List ℕ). front_of Major.Map n ++ (fields_spelling (fields_of part.read) ++ l)) key.0.parts
-                ∙ ap (λ (l : List ℕ). front_of Major.Map n ++ l) (sym (append_assoc (fields_spelling (fields_of part.read)) (text_spelling g.0.0) g.0.1))
-                ∙ sym (append_assoc (front_of Major.Map n) (fields_spelling (fields_of part.read) ++ text_spelling g.0.0) g.0.1) in
+                ∙ ap (λ (l : List ℕ). front_of Major.Map n ++ (fields_encoding (fields_of part.read) ++ l)) key.0.parts
+                ∙ ap (λ (l : List ℕ). front_of Major.Map n ++ l) (sym (append_assoc (fields_encoding (fields_of part.read)) (text_encoding g.0.0) g.0.1))
+                ∙ sym (append_assoc (front_of Major.Map n) (fields_encoding (fields_of part.read) ++ text_encoding g.0.0) g.0.1) in
                 subst (λ (l : List ℕ). IsFault depth l d) (sym parts) (deeper (in_map n part.read g.0.0) depth g.0.1 d given.0 (part.fewer, below, part.fit, key.1, key.2) fault)
           ]
       | inr f ↦ absurd (no_fault f.2)
     ]
 
-body_faults : (inside : Option (List ℕ → Reading Item)) (depth left : ℕ) (head : Head) (rest : List ℕ) (d : Flaw) → InsideFaults inside depth → left ≡ length (head_spelling head ++ rest) → HeadFits head → IsBytes rest → body_of inside left head rest ≡ Err d → IsFault depth (head_spelling head ++ rest) d
+body_faults : (inside : Option (List ℕ → Reading Item)) (depth left : ℕ) (head : Head) (rest : List ℕ) (d : Flaw) → InsideFaults inside depth → left ≡ length (head_encoding head ++ rest) → HeadFits head → IsBytes rest → body_of inside left head rest ≡ Err d → IsFault depth (head_encoding head ++ rest) d
 unfolding body_of
 body_faults inside depth left (Head.Int z) rest d given here holds fits e = absurd cc
 body_faults inside depth left (Head.Bytes n) rest d given here holds fits e =

@@ -7,7 +7,7 @@ use Rattle.std.proofs.lemmas.List.{take_at, drop_at, take-append-drop, length-ap
 use Rattle.std.proofs.lemmas.Nat.{be_bytes_2, be_bytes_4, be_bytes_8, from_be_bytes-to_be_bytes_2, from_be_bytes-to_be_bytes_4, from_be_bytes-to_be_bytes_8}
 use Rattle.at_cid.specs.Link.{IsBytes}
 use Rattle.at_cbor.specs.Heads.{wide_at, argument_at, least_of}
-use Rattle.at_cbor.specs.Spelling.{info_of, tail_of}
+use Rattle.at_cbor.specs.Encoding.{info_of, tail_of}
 use Rattle.at_cbor.proofs.Steps.{chosen, IsBytes-drop, IsBytes-take, Takes}
 
 -- what a width of bytes says, both ways

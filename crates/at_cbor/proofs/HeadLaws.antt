@@ -10,15 +10,15 @@ use Rattle.at_cbor.specs.declared.major.Major.{Major}
 use Rattle.at_cbor.specs.declared.fault.Cause.{Cause}
 use Rattle.at_cbor.specs.declared.head.Head.{Head}
 use Rattle.at_cbor.specs.Heads.{Flaw, argument_at, begins_link, link_behind, whole_link, tagged, simple_of, is_long, major_of, argued, head_at}
-use Rattle.at_cbor.specs.Majors.{number_of, major_in}
-use Rattle.at_cbor.specs.Spelling.{info_of, tail_of, front_of, bool_spelling, link_spelling, head_spelling, HeadFits}
+use Rattle.at_cbor.specs.Majors.{major_number, major_in}
+use Rattle.at_cbor.specs.Encoding.{info_of, tail_of, front_of, bool_encoding, link_encoding, head_encoding, HeadFits}
 use Rattle.at_cbor.proofs.Steps.{guard_ok, passed_ok, chosen, ok_is, IsBytes-drop, IsBytes-take, Takes}
 use Rattle.at_cbor.proofs.Fronts.{argument_takes, argument_is_low, argument_again}
 use Rattle.at_cbor.proofs.Majors.{number_in, major_again, short_of, short_for}
 
 -- the bytes begin with this head, and go on with the rest
 abbrev pub IsHead : List ℕ → Head × List ℕ → Type 0
-IsHead bytes x = Takes bytes (head_spelling x.0) x.1 × HeadFits x.0
+IsHead bytes x = Takes bytes (head_encoding x.0) x.1 × HeadFits x.0
 
 made_head : (bytes : List ℕ) (made x : Head × List ℕ) → (let r : Result (Head × List ℕ) Flaw = Ok made in r) ≡ Ok x → IsHead bytes made → IsHead bytes x
 made_head bytes made x e is = subst (IsHead bytes) (ok_is made x e) is
@@ -55,7 +55,7 @@ whole_takes left bytes x fits long e =
     let behind : drop 3 bytes ≡ take 36 (drop 3 bytes) ++ drop 36 (drop 3 bytes) = sym (take-append-drop 36 (drop 3 bytes)) in
     let rest : drop 36 (drop 3 bytes) ≡ drop 39 bytes = drop-drop 36 3 bytes in
     let parts : drop 3 bytes ≡ g.0 ++ drop 39 bytes = behind ∙ ap (λ (l : List ℕ). l ++ drop 36 (drop 3 bytes)) (sym is.1) ∙ ap (λ (r : List ℕ). g.0 ++ r) rest in
-    let all : 0xd8 ∷ 0x2a ∷ bytes ≡ link_spelling g.0 ++ drop 39 bytes = ap (λ (l : List ℕ). 0xd8 ∷ 0x2a ∷ l) cells ∙ ap (λ (l : List ℕ). 0xd8 ∷ 0x2a ∷ 0x58 ∷ 0x25 ∷ 0x00 ∷ l) parts in
+    let all : 0xd8 ∷ 0x2a ∷ bytes ≡ link_encoding g.0 ++ drop 39 bytes = ap (λ (l : List ℕ). 0xd8 ∷ 0x2a ∷ l) cells ∙ ap (λ (l : List ℕ). 0xd8 ∷ 0x2a ∷ 0x58 ∷ 0x25 ∷ 0x00 ∷ l) parts in
     let link_fits : IsBytes g.0 = subst IsBytes (sym is.1) (IsBytes-take 36 (drop 3 bytes) (IsBytes-drop 3 bytes fits)) in
     subst (IsHead (0xd8 ∷ 0x2a ∷ bytes)) (sym g.2) (record { parts = all; rest_fits = IsBytes-drop 39 bytes fits }, (is.0, link_fits))
 
@@ -91,11 +91,11 @@ pub front_42 : front_of Major.Tag 42 ≡ 0xd8 ∷ 0x2a ∷ []
 unfolding info_of tail_of
 front_42 = refl
 
-int_takes : (n : ℕ) (made : Head) (text : List ℕ) (flaw : Flaw) (rest : List ℕ) (x : Head × List ℕ) → IsBytes rest → head_spelling made ≡ text → (n < 2 ^ 63 → HeadFits made) → cond (ltb n (2 ^ 63)) (Ok (made, rest)) (Err flaw) ≡ Ok x → IsHead (text ++ rest) x
-int_takes n made text flaw rest x fits spelled ranged e =
+int_takes : (n : ℕ) (made : Head) (text : List ℕ) (flaw : Flaw) (rest : List ℕ) (x : Head × List ℕ) → IsBytes rest → head_encoding made ≡ text → (n < 2 ^ 63 → HeadFits made) → cond (ltb n (2 ^ 63)) (Ok (made, rest)) (Err flaw) ≡ Ok x → IsHead (text ++ rest) x
+int_takes n made text flaw rest x fits encoded ranged e =
     let t = passed_ok (ltb n (2 ^ 63)) flaw (Ok (made, rest)) x e in
     let below = ltb-true n (2 ^ 63) t.0 in
-    made_head (text ++ rest) (made, rest) x t.1 (record { parts = ap (λ (l : List ℕ). l ++ rest) (sym spelled); rest_fits = fits }, ranged below)
+    made_head (text ++ rest) (made, rest) x t.1 (record { parts = ap (λ (l : List ℕ). l ++ rest) (sym encoded); rest_fits = fits }, ranged below)
 
 major_takes : (major : Major) (first left n : ℕ) (rest : List ℕ) (x : Head × List ℕ) → major ≢ Major.Simple → n < 2 ^ 64 → IsBytes rest → major_of major first left n rest ≡ Ok x → IsHead (front_of major n ++ rest) x
 unfolding major_of
@@ -114,10 +114,10 @@ major_takes Major.Simple first left n rest x other below fits e = absurd (other 
 
 -- ---- simple values, and all heads
 
-simple_is : (first : ℕ) (made : Head) (bytes : List ℕ) (a : ℕ × List ℕ) (x : Head × List ℕ) → first % 32 < 24 → head_spelling made ≡ first ∷ [] → HeadFits made → IsBytes bytes → argument_at (first % 32) bytes ≡ Some a → (let r : Result (Head × List ℕ) Flaw = Ok (made, a.1) in r) ≡ Ok x → IsHead (first ∷ bytes) x
-simple_is first made bytes a x low spelled holds fits found e =
+simple_is : (first : ℕ) (made : Head) (bytes : List ℕ) (a : ℕ × List ℕ) (x : Head × List ℕ) → first % 32 < 24 → head_encoding made ≡ first ∷ [] → HeadFits made → IsBytes bytes → argument_at (first % 32) bytes ≡ Some a → (let r : Result (Head × List ℕ) Flaw = Ok (made, a.1) in r) ≡ Ok x → IsHead (first ∷ bytes) x
+simple_is first made bytes a x low encoded holds fits found e =
     let same : a.1 ≡ bytes = rest_is (first % 32) bytes a (sym found ∙ argument_is_low (first % 32) bytes low) in
-    made_head (first ∷ bytes) (made, a.1) x e (record { parts = ap (λ (l : List ℕ). l ++ bytes) (sym spelled) ∙ ap (λ (r : List ℕ). head_spelling made ++ r) (sym same); rest_fits = subst IsBytes (sym same) fits }, holds)
+    made_head (first ∷ bytes) (made, a.1) x e (record { parts = ap (λ (l : List ℕ). l ++ bytes) (sym encoded) ∙ ap (λ (r : List ℕ). head_encoding made ++ r) (sym same); rest_fits = subst IsBytes (sym same) fits }, holds)
   where
     rest_is : (n : ℕ) (bytes : List ℕ) (a : ℕ × List ℕ) → Some a ≡ Some (n, bytes) → a.1 ≡ bytes
     rest_is n bytes a e = let same : a ≡ (n, bytes) = cc in ap (λ p. p.1) same
@@ -165,17 +165,17 @@ argued_again major first left info n rest low high definite shortest =
     rw (low, high, test, shortest) refl
 
 -- a major type and its argument are read as what they say
-pub front_again : (major : Major) (n : ℕ) (rest : List ℕ) → n < 2 ^ 64 → head_at (front_of major n ++ rest) ≡ major_of major (32 * number_of major + info_of n) (length (front_of major n ++ rest)) n rest
+pub front_again : (major : Major) (n : ℕ) (rest : List ℕ) → n < 2 ^ 64 → head_at (front_of major n ++ rest) ≡ major_of major (32 * major_number major + info_of n) (length (front_of major n ++ rest)) n rest
 unfolding head_at
 front_again major n rest below =
     let reads = argument_again n rest below in
-    let low : (32 * number_of major + info_of n) % 32 ≡ info_of n = omega (arith, reads.info_below) in
+    let low : (32 * major_number major + info_of n) % 32 ≡ info_of n = omega (arith, reads.info_below) in
     let high = major_again major (info_of n) (omega (arith, reads.info_below)) in
-    let found : argument_at ((32 * number_of major + info_of n) % 32) (tail_of n ++ rest) ≡ Some (n, rest) = ap (λ (i : ℕ). argument_at i (tail_of n ++ rest)) low ∙ reads.found in
-    ap (argued (32 * number_of major + info_of n) (length (front_of major n ++ rest))) found
-    ∙ argued_again major (32 * number_of major + info_of n) (length (front_of major n ++ rest)) (info_of n) n rest low high reads.info_below (short_for major (info_of n) n reads.shortest)
+    let found : argument_at ((32 * major_number major + info_of n) % 32) (tail_of n ++ rest) ≡ Some (n, rest) = ap (λ (i : ℕ). argument_at i (tail_of n ++ rest)) low ∙ reads.found in
+    ap (argued (32 * major_number major + info_of n) (length (front_of major n ++ rest))) found
+    ∙ argued_again major (32 * major_number major + info_of n) (length (front_of major n ++ rest)) (info_of n) n rest low high reads.info_below (short_for major (info_of n) n reads.shortest)
 
-bool_again : (b : Bool) (rest : List ℕ) → head_at (bool_spelling b ++ rest) ≡ Ok (Head.Bool b, rest)
+bool_again : (b : Bool) (rest : List ℕ) → head_at (bool_encoding b ++ rest) ≡ Ok (Head.Bool b, rest)
 unfolding head_at argued argument_at major_in major_of
 bool_again false rest = refl
 bool_again true rest = refl
@@ -199,7 +199,7 @@ tagged_again left link rest is len =
     let long : leb 39 (length (0x58 ∷ 0x25 ∷ 0x00 ∷ (link ++ rest))) ≡ true = grind (arith, nat_tests, length-append link rest) in
     rw (long, link_front link rest is len, drop_at link rest 36 len) refl
 
-link_again : (link rest : List ℕ) → is_link link ≡ true → length link ≡ 36 → head_at (link_spelling link ++ rest) ≡ Ok (Head.Link link, rest)
+link_again : (link rest : List ℕ) → is_link link ≡ true → length link ≡ 36 → head_at (link_encoding link ++ rest) ≡ Ok (Head.Link link, rest)
 unfolding major_of
 link_again link rest is len =
     let behind : List ℕ = 0x58 ∷ 0x25 ∷ 0x00 ∷ (link ++ rest) in
@@ -207,7 +207,7 @@ link_again link rest is len =
     ∙ front_again Major.Tag 42 (0x58 ∷ 0x25 ∷ 0x00 ∷ (link ++ rest)) (omega arith)
     ∙ tagged_again _ link rest is len
 
-pub head_again : (h : Head) (rest : List ℕ) → HeadFits h → head_at (head_spelling h ++ rest) ≡ Ok (h, rest)
+pub head_again : (h : Head) (rest : List ℕ) → HeadFits h → head_at (head_encoding h ++ rest) ≡ Ok (h, rest)
 unfolding major_of
 head_again (Head.Int (pos n)) rest fits = front_again Major.Unsigned n rest (omega (arith, fits)) ∙ in_range n _ (Head.Int (pos n)) rest fits
 head_again (Head.Int (negsuc n)) rest fits = front_again Major.Negative n rest (omega (arith, fits)) ∙ in_range n _ (Head.Int (negsuc n)) rest fits

@@ -4,7 +4,7 @@ use Rattle.std.specs.Prelude.{slice_get}
 use Rattle.std.specs.Str.{bytes_eq}
 use Rattle.at_cbor.specs.Item.{Item, Items, no_items, item, Fields, no_fields, field, items_list, fields_list}
 use Rattle.at_cbor.specs.Kinds.{value_of, field_of}
-use Rattle.at_cbor.specs.Spelling.{nesting, items_nesting, fields_nesting, Fits, ItemsFit, FieldsFit}
+use Rattle.at_cbor.specs.Encoding.{nesting, items_nesting, fields_nesting, Fits, ItemsFit, FieldsFit}
 
 some_same : {A : Type 0} (x y : A) → Some x ≡ Some y → x ≡ y
 some_same x y e = cc

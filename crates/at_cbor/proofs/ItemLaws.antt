@@ -1,4 +1,4 @@
--- What is read is spelled so, and fits.
+-- What is read is encoded so, and fits.
 use Rattle.std.proofs.Common.{◌≡◌, ℕ, zero, suc, ◌-◌, ◌^◌, ◌<◌, ◌≤◌, true, ltb, List, [], ◌∷◌, ◌++◌, length, take, drop, Option, Some, None, Ok, refl, sym, ap, subst, ◌∙◌, append_assoc, arith}
 use Rattle.std.specs.Prelude.{⊤}
 use Rattle.std.specs.Str.{is_utf8}
@@ -10,7 +10,7 @@ use Rattle.at_cbor.specs.declared.fault.Cause.{Cause}
 use Rattle.at_cbor.specs.declared.head.Head.{Head}
 use Rattle.at_cbor.specs.Item.{Item, items_of, fields_of}
 use Rattle.at_cbor.specs.Heads.{head_at}
-use Rattle.at_cbor.specs.Spelling.{front_of, text_spelling, items_count, fields_count, spelling, items_spelling, fields_spelling, head_spelling, HeadFits, IsText, Fits, ItemsFit, FieldsFit}
+use Rattle.at_cbor.specs.Encoding.{front_of, text_encoding, items_count, fields_count, encoding, items_encoding, fields_encoding, head_encoding, HeadFits, IsText, Fits, ItemsFit, FieldsFit}
 use Rattle.at_cbor.specs.Reading.{Reading, string_at, text_at, key_of, key_at, items_at, fields_at, list_of, map_of, body_of, item_at, inside}
 use Rattle.at_cbor.specs.Item.{is_above}
 use Rattle.at_cbor.proofs.Steps.{bind_ok, guard_ok, passed_ok, ok_is, IsBytes-drop, IsBytes-take, Takes, Takes-then}
@@ -39,7 +39,7 @@ text_takes left n bytes x fits e =
     subst (λ (y : List ℕ × List ℕ). IsTaken bytes n y × (is_utf8 y.0 ≡ true)) (ok_is s.0 x t.1) (string_takes left n bytes s.0 fits s.1, t.0)
 
 abbrev pub IsKey : Option (List ℕ) → List ℕ → List ℕ × List ℕ → Type 0
-IsKey before bytes x = Takes bytes (text_spelling x.0) x.1 × IsText x.0 × (is_above before x.0 ≡ true)
+IsKey before bytes x = Takes bytes (text_encoding x.0) x.1 × IsText x.0 × (is_above before x.0 ≡ true)
 
 -- a front that says how long the text behind it is
 pub behind_front : (major : Major) (n : ℕ) (bytes : List ℕ) (x : List ℕ × List ℕ) → IsTaken bytes n x → Takes (front_of major n ++ bytes) (front_of major (length x.0) ++ x.0) x.1
@@ -50,7 +50,7 @@ behind_front major n bytes x taken =
       rest_fits = taken.0.rest_fits;
     }
 
-key_of_takes : (before : Option (List ℕ)) (left : ℕ) (head : Head) (rest : List ℕ) (x : List ℕ × List ℕ) → IsBytes rest → HeadFits head → key_of before left head rest ≡ Ok x → IsKey before (head_spelling head ++ rest) x
+key_of_takes : (before : Option (List ℕ)) (left : ℕ) (head : Head) (rest : List ℕ) (x : List ℕ × List ℕ) → IsBytes rest → HeadFits head → key_of before left head rest ≡ Ok x → IsKey before (head_encoding head ++ rest) x
 unfolding key_of
 key_of_takes before left (Head.Text n) rest x fits holds e =
     let s = bind_ok (text_at left n rest) _ x e in
@@ -77,15 +77,15 @@ key_takes before bytes x fits e =
 -- ---- items
 
 abbrev pub IsItem : ℕ → List ℕ → Item × List ℕ → Type 0
-IsItem depth bytes x = Takes bytes (spelling x.0) x.1 × Fits x.0 depth
+IsItem depth bytes x = Takes bytes (encoding x.0) x.1 × Fits x.0 depth
 
--- what the reader answers is spelled so, and fits
+-- what the reader answers is encoded so, and fits
 abbrev pub Sound : (List ℕ → Reading Item) → ℕ → Type 0
 Sound r depth = (bytes : List ℕ) (x : Item × List ℕ) → IsBytes bytes → r bytes ≡ Ok x → IsItem depth bytes x
 
 module _ (r : List ℕ → Reading Item) (depth : ℕ) (sound : Sound r depth) where
   abbrev AreItems : ℕ → List ℕ → List Item × List ℕ → Type 0
-  AreItems n bytes x = Takes bytes (items_spelling (items_of x.0)) x.1 × (items_count (items_of x.0) ≡ n) × ItemsFit (items_of x.0) depth
+  AreItems n bytes x = Takes bytes (items_encoding (items_of x.0)) x.1 × (items_count (items_of x.0) ≡ n) × ItemsFit (items_of x.0) depth
 
   items_take : (n : ℕ) (bytes : List ℕ) (x : List Item × List ℕ) → IsBytes bytes → items_at r n bytes ≡ Ok x → AreItems n bytes x
   unfolding items_at
@@ -95,11 +95,11 @@ module _ (r : List ℕ → Reading Item) (depth : ℕ) (sound : Sound r depth) w
       let b = bind_ok (items_at r n a.0.1) _ x a.2 in
       let first = sound bytes a.0 fits a.1 in
       let others = items_take n a.0.1 b.0 first.0.rest_fits b.1 in
-      let both = Takes-then bytes (spelling a.0.0) a.0.1 (items_spelling (items_of b.0.0)) b.0.1 first.0 others.0 in
+      let both = Takes-then bytes (encoding a.0.0) a.0.1 (items_encoding (items_of b.0.0)) b.0.1 first.0 others.0 in
       subst (AreItems (suc n) bytes) (ok_is (a.0.0 ∷ b.0.0, b.0.1) x b.2) (both, ap suc others.1, (first.1, others.2))
 
   abbrev AreFields : Option (List ℕ) → ℕ → List ℕ → List (List ℕ × Item) × List ℕ → Type 0
-  AreFields before n bytes x = Takes bytes (fields_spelling (fields_of x.0)) x.1 × (fields_count (fields_of x.0) ≡ n) × FieldsFit (fields_of x.0) before depth
+  AreFields before n bytes x = Takes bytes (fields_encoding (fields_of x.0)) x.1 × (fields_count (fields_of x.0) ≡ n) × FieldsFit (fields_of x.0) before depth
 
   fields_take : (before : Option (List ℕ)) (n : ℕ) (bytes : List ℕ) (x : List (List ℕ × Item) × List ℕ) → IsBytes bytes → fields_at r before n bytes ≡ Ok x → AreFields before n bytes x
   unfolding fields_at
@@ -111,8 +111,8 @@ module _ (r : List ℕ → Reading Item) (depth : ℕ) (sound : Sound r depth) w
       let key = key_takes before bytes k.0 fits k.1 in
       let value = sound k.0.1 v.0 key.0.rest_fits v.1 in
       let others = fields_take (Some k.0.0) n v.0.1 b.0 value.0.rest_fits b.1 in
-      let behind = Takes-then k.0.1 (spelling v.0.0) v.0.1 (fields_spelling (fields_of b.0.0)) b.0.1 value.0 others.0 in
-      let all = Takes-then bytes (text_spelling k.0.0) k.0.1 (spelling v.0.0 ++ fields_spelling (fields_of b.0.0)) b.0.1 key.0 behind in
+      let behind = Takes-then k.0.1 (encoding v.0.0) v.0.1 (fields_encoding (fields_of b.0.0)) b.0.1 value.0 others.0 in
+      let all = Takes-then bytes (text_encoding k.0.0) k.0.1 (encoding v.0.0 ++ fields_encoding (fields_of b.0.0)) b.0.1 key.0 behind in
       subst (AreFields before (suc n) bytes) (ok_is ((k.0.0, v.0.0) ∷ b.0.0, b.0.1) x b.2) (all, ap suc others.1, (key.1, key.2, value.1, others.2))
 
 abbrev InsideSound : Option (List ℕ → Reading Item) → ℕ → Type 0
@@ -134,7 +134,7 @@ list_takes (Some r) depth left n rest x sound fits below e =
     let s = bind_ok (items_at r n rest) _ x e in
     let items = items_take r (depth - 1) sound.1 n rest s.0 fits s.1 in
     let made : IsItem depth (front_of Major.List n ++ rest) (Item.list (items_of s.0.0), s.0.1) =
-    (behind_count Major.List n (items_count (items_of s.0.0)) rest (items_spelling (items_of s.0.0)) s.0.1 items.1 items.0, (sound.0, omega (arith, items.1, below), items.2)) in
+    (behind_count Major.List n (items_count (items_of s.0.0)) rest (items_encoding (items_of s.0.0)) s.0.1 items.1 items.0, (sound.0, omega (arith, items.1, below), items.2)) in
     subst (IsItem depth (front_of Major.List n ++ rest)) (ok_is (Item.list (items_of s.0.0), s.0.1) x s.2) made
 
 map_takes : (inside : Option (List ℕ → Reading Item)) (depth left n : ℕ) (rest : List ℕ) (x : Item × List ℕ) → InsideSound inside depth → IsBytes rest → n < 2 ^ 64 → map_of inside left n rest ≡ Ok x → IsItem depth (front_of Major.Map n ++ rest) x
@@ -143,15 +143,15 @@ map_takes (Some r) depth left n rest x sound fits below e =
     let s = bind_ok (fields_at r None n rest) _ x e in
     let fields = fields_take r (depth - 1) sound.1 None n rest s.0 fits s.1 in
     let made : IsItem depth (front_of Major.Map n ++ rest) (Item.map (fields_of s.0.0), s.0.1) =
-    (behind_count Major.Map n (fields_count (fields_of s.0.0)) rest (fields_spelling (fields_of s.0.0)) s.0.1 fields.1 fields.0, (sound.0, omega (arith, fields.1, below), fields.2)) in
+    (behind_count Major.Map n (fields_count (fields_of s.0.0)) rest (fields_encoding (fields_of s.0.0)) s.0.1 fields.1 fields.0, (sound.0, omega (arith, fields.1, below), fields.2)) in
     subst (IsItem depth (front_of Major.Map n ++ rest)) (ok_is (Item.map (fields_of s.0.0), s.0.1) x s.2) made
 
 -- an item that is all head
-plain_takes : (depth : ℕ) (head : Head) (made : Item) (rest : List ℕ) (x : Item × List ℕ) → IsBytes rest → spelling made ≡ head_spelling head → Fits made depth → (let r : Reading Item = Ok (made, rest) in r) ≡ Ok x → IsItem depth (head_spelling head ++ rest) x
-plain_takes depth head made rest x fits spelled holds e =
-    subst (IsItem depth (head_spelling head ++ rest)) (ok_is (made, rest) x e) (record { parts = ap (λ (l : List ℕ). l ++ rest) (sym spelled); rest_fits = fits }, holds)
+plain_takes : (depth : ℕ) (head : Head) (made : Item) (rest : List ℕ) (x : Item × List ℕ) → IsBytes rest → encoding made ≡ head_encoding head → Fits made depth → (let r : Reading Item = Ok (made, rest) in r) ≡ Ok x → IsItem depth (head_encoding head ++ rest) x
+plain_takes depth head made rest x fits encoded holds e =
+    subst (IsItem depth (head_encoding head ++ rest)) (ok_is (made, rest) x e) (record { parts = ap (λ (l : List ℕ). l ++ rest) (sym encoded); rest_fits = fits }, holds)
 
-body_takes : (inside : Option (List ℕ → Reading Item)) (depth left : ℕ) (head : Head) (rest : List ℕ) (x : Item × List ℕ) → InsideSound inside depth → IsBytes rest → HeadFits head → body_of inside left head rest ≡ Ok x → IsItem depth (head_spelling head ++ rest) x
+body_takes : (inside : Option (List ℕ → Reading Item)) (depth left : ℕ) (head : Head) (rest : List ℕ) (x : Item × List ℕ) → InsideSound inside depth → IsBytes rest → HeadFits head → body_of inside left head rest ≡ Ok x → IsItem depth (head_encoding head ++ rest) x
 unfolding body_of
 body_takes inside depth left (Head.Int z) rest x sound fits holds e = plain_takes depth (Head.Int z) (Item.int z) rest x fits refl holds e
 body_takes inside depth left (Head.Bytes n) rest x sound fits holds e =

@@ -3,9 +3,9 @@ use Rattle.std.proofs.Common.{◌≡◌, ℕ, zero, suc, ◌+◌, ◌*◌, ◌/�
 use Rattle.std.specs.Prelude.{◌≢◌}
 use Rattle.at_cbor.specs.declared.major.Major.{Major}
 use Rattle.at_cbor.specs.Heads.{least_of, is_long}
-use Rattle.at_cbor.specs.Majors.{number_of, major_from, major_in}
+use Rattle.at_cbor.specs.Majors.{major_number, major_from, major_in}
 
-from_number : (major : Major) → major_from (number_of major) ≡ major
+from_number : (major : Major) → major_from (major_number major) ≡ major
 from_number Major.Unsigned = refl
 from_number Major.Negative = refl
 from_number Major.Bytes = refl
@@ -15,7 +15,7 @@ from_number Major.Map = refl
 from_number Major.Tag = refl
 from_number Major.Simple = refl
 
-number_from : (n : ℕ) → n < 8 → number_of (major_from n) ≡ n
+number_from : (n : ℕ) → n < 8 → major_number (major_from n) ≡ n
 number_from zero h = refl
 number_from (suc zero) h = refl
 number_from (suc (suc zero)) h = refl
@@ -27,15 +27,15 @@ number_from (suc (suc (suc (suc (suc (suc (suc zero))))))) h = refl
 number_from (suc (suc (suc (suc (suc (suc (suc (suc n)))))))) h = absurd (omega (arith, h))
 
 -- the number of the major type that a byte names
-pub number_in : (first : ℕ) → first < 256 → number_of (major_in first) ≡ first / 32
+pub number_in : (first : ℕ) → first < 256 → major_number (major_in first) ≡ first / 32
 unfolding major_in
 number_in first small = number_from (first / 32) (omega (arith, small))
 
 -- the major type that was written is named
-pub major_again : (major : Major) (info : ℕ) → info < 32 → major_in (32 * number_of major + info) ≡ major
+pub major_again : (major : Major) (info : ℕ) → info < 32 → major_in (32 * major_number major + info) ≡ major
 unfolding major_in
 major_again major info small =
-    let high : (32 * number_of major + info) / 32 ≡ number_of major = omega (arith, small) in
+    let high : (32 * major_number major + info) / 32 ≡ major_number major = omega (arith, small) in
     ap major_from high ∙ from_number major
 
 -- ---- arguments, which simple values don't have

@@ -1,9 +1,9 @@
--- What is written has a spelling at each depth at which it is nested.
+-- What is written has an encoding at each depth at which it is nested.
 use Rattle.std.proofs.Common.{◌≡◌, ℕ, zero, suc, ◌-◌, ◌<◌, ◌≤◌, ◌^◌, true, List, [], ◌∷◌, length, map, get_or, Option, Some, None, refl, subst, ◌∙◌, arith}
 use Rattle.std.proofs.lemmas.Bool.{and_parts}
 use Rattle.at_cbor.specs.declared.value.Value.{Value}
 use Rattle.at_cbor.specs.Item.{Item, items_of, fields_of, is_above, are_ascending}
-use Rattle.at_cbor.specs.Spelling.{fields_nesting, IsText, FieldsFit, IsSpellable, AreSpellable, AreFieldsSpellable}
+use Rattle.at_cbor.specs.Encoding.{fields_nesting, IsText, FieldsFit, IsSpellable, AreSpellable, AreFieldsSpellable}
 use Rattle.at_cbor.specs.View.{item_of, pair_of}
 use Rattle.at_cbor.proofs.Writes.{items_counted, fields_counted}
 
@@ -12,7 +12,7 @@ any_default [] k d e h = absurd (omega arith)
 any_default (x ∷ xs) zero d e h = refl
 any_default (x ∷ xs) (suc k) d e h = any_default xs k d e (omega arith)
 
--- each value before a place has a spelling
+-- each value before a place has an encoding
 abbrev pub ValuesBefore : List Value → ℕ → Type 0
 ValuesBefore vs n = (k : ℕ) → k < n → (d : Value) → IsSpellable (item_of (get_or vs k d))
 
@@ -24,7 +24,7 @@ values_spellable [] each depth h = tt
 values_spellable (v ∷ vs) each depth h =
     (each 0 (omega arith) v depth (omega (arith, h)), values_spellable vs (λ k lt. each (suc k) (omega (arith, lt))) depth (omega (arith, h)))
 
--- a field's key is a text, and its value has a spelling
+-- a field's key is a text, and its value has an encoding
 abbrev pub IsFieldSpellable : List ℕ × Value → Type 0
 IsFieldSpellable f = IsText f.0 × IsSpellable (item_of f.1)
 

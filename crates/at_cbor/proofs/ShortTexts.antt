@@ -7,7 +7,7 @@ use Rattle.at_cid.specs.Link.{IsBytes}
 use Rattle.at_cbor.specs.declared.head.Head.{Head}
 use Rattle.at_cbor.specs.declared.major.Major.{Major}
 use Rattle.at_cbor.specs.Heads.{head_at}
-use Rattle.at_cbor.specs.Spelling.{front_of, info_of, tail_of}
+use Rattle.at_cbor.specs.Encoding.{front_of, info_of, tail_of}
 use Rattle.at_cbor.specs.Taking.{link_from_front}
 use Rattle.at_cbor.proofs.HeadLaws.{head_again}
 use Rattle.at_cbor.proofs.Taken.{link_takes}
@@ -16,8 +16,8 @@ head_of_few : (n : ℕ) (rest : List ℕ) → n < 24 → head_at ((96 + n) ∷ r
 unfolding info_of tail_of
 head_of_few n rest few =
     let low : nat_lt n 24 ≡ true = grind (arith, nat_tests) in
-    let spelled : front_of Major.Text n ++ rest ≡ (96 + n) ∷ rest = rw low refl in
-    ap head_at (sym spelled) ∙ head_again (Head.Text n) rest (omega arith)
+    let encoded : front_of Major.Text n ++ rest ≡ (96 + n) ∷ rest = rw low refl in
+    ap head_at (sym encoded) ∙ head_again (Head.Text n) rest (omega arith)
 
 -- what stands behind a first byte that is such a head
 pub short_text_read : (bytes : List ℕ) (n : ℕ) → 1 ≤ length bytes → 96 ≤ get_or bytes 0 0 → get_or bytes 0 0 ≤ 119 → n ≡ get_or bytes 0 0 - 96

@@ -9,9 +9,9 @@ use Rattle.at_cbor.specs.declared.major.Major.{Major}
 use Rattle.at_cbor.specs.declared.fault.Cause.{Cause}
 use Rattle.at_cbor.specs.declared.head.Head.{Head}
 use Rattle.at_cbor.specs.Item.{Item, items_of, fields_of, is_above, last_key}
-use Rattle.at_cbor.specs.Majors.{number_of, major_in}
+use Rattle.at_cbor.specs.Majors.{major_number, major_in}
 use Rattle.at_cbor.specs.declared.decoding.TheConstants.{DEPTH}
-use Rattle.at_cbor.specs.Spelling.{front_of, tail_of, text_spelling, items_spelling, fields_spelling, head_spelling, HeadFits, IsText, ItemsFit, FieldsFit}
+use Rattle.at_cbor.specs.Encoding.{front_of, tail_of, text_encoding, items_encoding, fields_encoding, head_encoding, HeadFits, IsText, ItemsFit, FieldsFit}
 
 -- ---- heads: a first byte of 32 * major type + low five bits, and the argument that these announce
 
@@ -43,7 +43,7 @@ IsOtherSimple (first ∷ rest) = (major_in first ≡ Major.Simple) × (argument_
 
 -- an argument for which fewer bytes would do
 abbrev pub IsLongForm : List ℕ → Type 0
-IsLongForm here = (major : Major) × (info : ℕ) × (w : Width) × (n : ℕ) × (rest : List ℕ) × (major ≢ Major.Simple) × (wide_for info ≡ Some w) × (here ≡ (32 * number_of major + info) ∷ (to_be_bytes w n ++ rest)) × (length (tail_of n) < byte_len w)
+IsLongForm here = (major : Major) × (info : ℕ) × (w : Width) × (n : ℕ) × (rest : List ℕ) × (major ≢ Major.Simple) × (wide_for info ≡ Some w) × (here ≡ (32 * major_number major + info) ∷ (to_be_bytes w n ++ rest)) × (length (tail_of n) < byte_len w)
 
 -- an integer of 2^63 or more, or below -2^63
 abbrev pub IsOutOfRange : List ℕ → Type 0
@@ -86,7 +86,7 @@ IsStringCut major here = (n : ℕ) × (rest : List ℕ) × (n < ARGUMENTS) × (h
 
 -- a whole text that isn't UTF-8
 abbrev pub IsNoUtf8 : List ℕ → Type 0
-IsNoUtf8 here = (text : List ℕ) × (rest : List ℕ) × (length text < ARGUMENTS) × (here ≡ text_spelling text ++ rest) × (is_utf8 text ≡ false)
+IsNoUtf8 here = (text : List ℕ) × (rest : List ℕ) × (length text < ARGUMENTS) × (here ≡ text_encoding text ++ rest) × (is_utf8 text ≡ false)
 
 -- a list or a map
 abbrev pub IsContainer : List ℕ → Type 0
@@ -98,11 +98,11 @@ IsTextHead head = false
 
 -- a head that keeps the rules, of what is no text
 abbrev pub IsNoText : List ℕ → Type 0
-IsNoText here = (head : Head) × (rest : List ℕ) × HeadFits head × (here ≡ head_spelling head ++ rest) × (IsTextHead head ≡ false)
+IsNoText here = (head : Head) × (rest : List ℕ) × HeadFits head × (here ≡ head_encoding head ++ rest) × (IsTextHead head ≡ false)
 
 -- a text that isn't above the key before it
 abbrev pub IsLowKey : Option (List ℕ) → List ℕ → Type 0
-IsLowKey before here = (key : List ℕ) × (rest : List ℕ) × IsText key × (here ≡ text_spelling key ++ rest) × (is_above before key ≡ false)
+IsLowKey before here = (key : List ℕ) × (rest : List ℕ) × IsText key × (here ≡ text_encoding key ++ rest) × (is_above before key ≡ false)
 
 -- what is wrong where a value is due, inside which so many lists and maps may be in one another
 abbrev pub BreaksValue : ℕ → Cause → List ℕ → Type 0
@@ -126,9 +126,9 @@ pub data Open : Type 0 where
   -- a map of so many fields, of which these were read, and the key of the next
   in_map : ℕ → List (List ℕ × Item) → List ℕ → Open
 
-abbrev pub open_spelling : Open → List ℕ
-open_spelling (in_list n is) = front_of Major.List n ++ items_spelling (items_of is)
-open_spelling (in_map n fs key) = front_of Major.Map n ++ (fields_spelling (fields_of fs) ++ text_spelling key)
+abbrev pub open_encoding : Open → List ℕ
+open_encoding (in_list n is) = front_of Major.List n ++ items_encoding (items_of is)
+open_encoding (in_map n fs key) = front_of Major.Map n ++ (fields_encoding (fields_of fs) ++ text_encoding key)
 
 -- they fit, with so much depth inside, and one more is due
 abbrev pub OpenFits : Open → ℕ → Type 0
@@ -138,7 +138,7 @@ OpenFits (in_map n fs key) depth = (length fs < n) × (n < ARGUMENTS) × FieldsF
 -- each in the one before it
 abbrev pub opened : List Open → List ℕ
 opened [] = []
-opened (o ∷ os) = open_spelling o ++ opened os
+opened (o ∷ os) = open_encoding o ++ opened os
 
 abbrev pub AreOpen : List Open → ℕ → Type 0
 AreOpen [] depth = ⊤
@@ -153,7 +153,7 @@ IsNoValue depth bytes cause here = (os : List Open) × AreOpen os depth × (byte
 -- a key of a map of n fields is due, behind the fields fs, and what is here is none
 abbrev pub IsNoKey : ℕ → List ℕ → Cause → List ℕ → Type 0
 IsNoKey depth bytes cause here = (os : List Open) × (n : ℕ) × (fs : List (List ℕ × Item)) × AreOpen os depth × (length os < depth) × (length fs < n) × (n < ARGUMENTS) × FieldsFit (fields_of fs) None (depth - length os - 1)
-    × (bytes ≡ opened os ++ (front_of Major.Map n ++ (fields_spelling (fields_of fs) ++ here))) × BreaksKey (last_key fs) cause here
+    × (bytes ≡ opened os ++ (front_of Major.Map n ++ (fields_encoding (fields_of fs) ++ here))) × BreaksKey (last_key fs) cause here
 
 abbrev pub IsFaultyAt : ℕ → List ℕ → Cause → List ℕ → Type 0
 IsFaultyAt depth bytes cause here = IsNoValue depth bytes cause here ⊎ IsNoKey depth bytes cause here
@@ -162,6 +162,6 @@ IsFaultyAt depth bytes cause here = IsNoValue depth bytes cause here ⊎ IsNoKey
 abbrev pub IsFaulty : List ℕ → Cause → ℕ → Type 0
 IsFaulty bytes cause place = (here : List ℕ) × (place + length here ≡ length bytes) × IsFaultyAt DEPTH bytes cause here
 
--- what a fault says of the bytes; the want of memory says nothing
+-- what a fault says of the bytes; running out of memory says nothing
 abbrev pub Blames : List ℕ → Option (Cause × ℕ) → Type 0
 Blames bytes fault = IfSome fault (λ f. IsFaulty bytes f.0 f.1)

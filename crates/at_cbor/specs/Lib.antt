@@ -8,7 +8,7 @@ pub mod Falls
 pub mod Majors
 pub mod Heads
 pub mod Reading
-pub mod Spelling
+pub mod Encoding
 pub mod Decoding
 pub mod Taking
 pub mod TakingLaws

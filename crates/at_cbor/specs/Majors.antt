@@ -3,15 +3,15 @@ use Rattle.std.specs.Prelude.{ℕ, ◌/◌, ◌==◌, if◌then◌else◌}
 use Rattle.at_cbor.specs.declared.major.Major.{Major}
 
 -- the number of a major type
-abbrev pub number_of : Major → ℕ
-number_of Major.Unsigned = 0
-number_of Major.Negative = 1
-number_of Major.Bytes = 2
-number_of Major.Text = 3
-number_of Major.List = 4
-number_of Major.Map = 5
-number_of Major.Tag = 6
-number_of Major.Simple = 7
+abbrev pub major_number : Major → ℕ
+major_number Major.Unsigned = 0
+major_number Major.Negative = 1
+major_number Major.Bytes = 2
+major_number Major.Text = 3
+major_number Major.List = 4
+major_number Major.Map = 5
+major_number Major.Tag = 6
+major_number Major.Simple = 7
 
 -- the major type of a number, of which there are eight
 abbrev pub major_from : ℕ → Major

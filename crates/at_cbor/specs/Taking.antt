@@ -1,12 +1,13 @@
 -- Pieces at the front of some bytes: each with what stands behind it, or nothing where it doesn't stand in front.
--- (The laws of taking say that what is taken is what is spelled there.)
+-- (The laws of taking say that what is taken is what is encoded there.)
 use Rattle.std.specs.Prelude.{ℕ, ◌/◌, ◌%◌, ◌&&◌, ◌==◌, nat_lt, if◌then◌else◌, List, [], ◌∷◌, length, take, drop, slice_index, Option, Some, None, Ok, Err}
+use Rattle.std.specs.Str.{is_utf8}
 use Rattle.at_cid.specs.Link.{link_at}
 use Rattle.at_cid.specs.declared.cid.TheConstants.{LINK_LEN}
 use Rattle.at_cbor.specs.declared.major.Major.{Major}
 use Rattle.at_cbor.specs.Heads.{argument_at, least_of}
 use Rattle.at_cbor.specs.Item.{Item}
-use Rattle.at_cbor.specs.Majors.{number_of}
+use Rattle.at_cbor.specs.Majors.{major_number}
 use Rattle.at_cbor.specs.Reading.{Reading, item_at}
 use Rattle.at_cbor.specs.declared.decoding.TheConstants.{DEPTH}
 
@@ -37,15 +38,23 @@ shortest least (Some a) = if nat_lt a.0 least then None else Some a
 -- the number that a head of a major type tells in its shortest form
 unfoldable pub number_at : Major → List ℕ → Taking ℕ
 number_at major [] = None
-number_at major (first ∷ bytes) = if first / 32 == number_of major && nat_lt (first % 32) 28 then shortest (least_of (first % 32)) (argument_at (first % 32) bytes) else None
+number_at major (first ∷ bytes) = if first / 32 == major_number major && nat_lt (first % 32) 28 then shortest (least_of (first % 32)) (argument_at (first % 32) bytes) else None
 
 -- so many bytes
 abbrev pub string_of : ℕ → List ℕ → Taking (List ℕ)
 string_of n bytes = if nat_lt (length bytes) n then None else Some (take n bytes, drop n bytes)
 
+-- as many bytes as a head of a major type tells
+abbrev pub string_behind : Major → List ℕ → Taking (List ℕ)
+string_behind major bytes = number_at major bytes >>= λ n. string_of n.0 n.1
+
 -- a byte string
 unfoldable pub string_at : List ℕ → Taking (List ℕ)
-string_at bytes = number_at Major.Bytes bytes >>= λ n. string_of n.0 n.1
+string_at bytes = string_behind Major.Bytes bytes
+
+-- a text
+unfoldable pub text_from_front : List ℕ → Taking (List ℕ)
+text_from_front bytes = string_behind Major.Text bytes >>= λ text. if is_utf8 text.0 then Some text else None
 
 abbrev pub linked : Option (List ℕ) → List ℕ → Taking (List ℕ)
 linked None rest = None

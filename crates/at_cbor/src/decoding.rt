@@ -4,11 +4,11 @@ ghost use Rattle.std.specs.Prelude.{◌≡◌, ◌++◌, ◌≤◌, ℕ, List, l
 ghost use Rattle.at_cbor.specs.Decoding.{fault_of, decoded, Decodes};
 ghost use Rattle.at_cbor.specs.Faults.{Blames};
 ghost use Rattle.at_cbor.specs.Item.{Item};
-ghost use Rattle.at_cbor.specs.Spelling.{spelling, nesting, Fits};
+ghost use Rattle.at_cbor.specs.Encoding.{encoding, nesting, Fits};
 ghost use Rattle.at_cbor.specs.View.{item_of};
 
 use crate::fault::{Cause, CborFault, Stop};
-use crate::reader::Reader;
+use crate::reader::ByteReader;
 use crate::reading::read_item;
 use crate::value::Value;
 use std::alloc::Global;
@@ -36,7 +36,7 @@ fn fault_at(cause: Cause, place: usize) -> CborFault
 fn whole(alloc: Global, bytes: &[u8]) -> Result<(Value, usize), CborFault>
     ensures { Decodes result (decoded bytes.now) }
 {
-    let mut reader = Reader::new(bytes);
+    let mut reader = ByteReader::new(bytes);
     match read_item(alloc, DEPTH, &mut reader) {
         Ok(value) => Ok((value, bytes.len() - reader.rest().len())),
         Err(Stop::Memory) => Err(CborFault::Memory),
@@ -51,12 +51,12 @@ fn whole(alloc: Global, bytes: &[u8]) -> Result<(Value, usize), CborFault>
 /// range, bad tag, no text as a key, too deep, a string that is cut, no UTF-8, a key out of order. What a head counts
 /// reserves no memory.
 pub fn decode(alloc: Global, bytes: &[u8]) -> Result<(Value, usize), CborFault>
-    // What is read is spelled so.
-    ensures found { IfOk result (λ x. Fits (item_of x.0) DEPTH × (take x.1 bytes.now ≡ spelling (item_of x.0))) }
+    // What is read is encoded so.
+    ensures found { IfOk result (λ x. Fits (item_of x.0) DEPTH × (take x.1 bytes.now ≡ encoding (item_of x.0))) }
     ensures within { IfOk result (λ x. x.1 ≤ length bytes.now) }
     ensures nested { IfOk result (λ x. nesting (item_of x.0) ≤ DEPTH) }
-    // What is spelled so is read, unless memory is wanted.
-    ensures only { (i : Item) (rest : List ℕ) → Fits i DEPTH → bytes.now ≡ spelling i ++ rest → Decodes result (Ok (i, length (spelling i))) }
+    // What is encoded so is read, unless memory runs out.
+    ensures only { (i : Item) (rest : List ℕ) → Fits i DEPTH → bytes.now ≡ encoding i ++ rest → Decodes result (Ok (i, length (encoding i))) }
     // Which fault it is, and where.
     ensures exact { Decodes result (decoded bytes.now) }
     // All in front of the place keeps the rules, and what stands there breaks the rule that is named.

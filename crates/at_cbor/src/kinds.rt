@@ -7,7 +7,7 @@ ghost use Rattle.at_cbor.specs.Kinds.{int_in, bytes_in, text_in, list_in, map_in
 ghost use Rattle.at_cbor.specs.View.{item_of};
 
 use crate::value::{Fields, Value, Values};
-use at_cid::{Cid, Octets, Words};
+use at_cid::{Cid, Octets, Words, ghost_bytes, ghost_link, ghost_text};
 
 impl Value {
     /// The integer.
@@ -27,7 +27,7 @@ impl Value {
     {
         match self {
             Value::Bytes(bytes) => {
-                bytes.tell_bytes();
+                ghost_bytes(bytes.as_slice());
                 Some(bytes)
             }
             _ => None,
@@ -42,7 +42,7 @@ impl Value {
     {
         match self {
             Value::Text(text) => {
-                text.tell_text();
+                ghost_text(text.as_str());
                 Some(text)
             }
             _ => None,
@@ -79,7 +79,7 @@ impl Value {
     {
         match self {
             Value::Link(link) => {
-                link.tell_link();
+                ghost_link(link);
                 Some(*link)
             }
             _ => None,

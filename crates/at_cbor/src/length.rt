@@ -1,9 +1,9 @@
-//! The length of a spelling, without writing it.
+//! The length of an encoding, without writing it.
 
 ghost use Rattle.std.specs.Prelude.{◌≡◌, ◌-◌, ◌^◌, ◌+◌, length, map, min};
 ghost use Rattle.at_cbor.specs.declared.major.Major.{Major};
 ghost use Rattle.at_cbor.specs.Item.{Item, items_of, fields_of};
-ghost use Rattle.at_cbor.specs.Spelling.{front_of, text_spelling, spelling, items_spelling, fields_spelling};
+ghost use Rattle.at_cbor.specs.Encoding.{front_of, text_encoding, encoding, items_encoding, fields_encoding};
 ghost use Rattle.at_cbor.specs.View.{item_of, pair_of};
 
 use crate::value::Value;
@@ -11,7 +11,7 @@ use at_cid::Words;
 
 /// How many bytes a head has: a major type and its argument in the shortest form (RFC 8949, section 3). It is the same for
 /// each major type.
-#[tactic(auto, unfolding(crate::specs::Spelling::tail_of))]
+#[tactic(auto, unfolding(crate::specs::Encoding::tail_of))]
 pub fn front_len(n: u64) -> u64
     ensures { result ≡ length (front_of Major.Unsigned n) }
 {
@@ -36,7 +36,7 @@ pub fn string_len(count: usize) -> u64
 }
 
 fn int_len(number: i64) -> u64
-    ensures { result ≡ length (spelling (Item.int number)) }
+    ensures { result ≡ length (encoding (Item.int number)) }
 {
     if number >= 0 {
         front_len(number as u64)
@@ -45,16 +45,16 @@ fn int_len(number: i64) -> u64
     }
 }
 
-/// How many bytes the spelling of a value has, or the greatest `u64` where that is less. Takes no memory.
-pub fn spelled_len(value: &Value) -> u64
-    ensures { result ≡ min (length (spelling (item_of value.now))) (2 ^ 64 - 1) }
+/// How many bytes the encoding of a value has, or the greatest `u64` where that is less. Takes no memory.
+pub fn encoded_len(value: &Value) -> u64
+    ensures { result ≡ min (length (encoding (item_of value.now))) (2 ^ 64 - 1) }
 {
     value_len(value)
 }
 
 #[cycle(len)]
 fn value_len(value: &Value) -> u64
-    ensures { result ≡ min (length (spelling (item_of value.now))) (2 ^ 64 - 1) }
+    ensures { result ≡ min (length (encoding (item_of value.now))) (2 ^ 64 - 1) }
 {
     match value {
         Value::Int(number) => int_len(*number),
@@ -76,7 +76,7 @@ fn value_len(value: &Value) -> u64
 
 #[cycle(len)]
 fn values_len(values: &[Value]) -> u64
-    ensures { result ≡ min (length (items_spelling (items_of (map item_of values.now)))) (2 ^ 64 - 1) }
+    ensures { result ≡ min (length (items_encoding (items_of (map item_of values.now)))) (2 ^ 64 - 1) }
 {
     let mut sum: u64 = 0;
     for value in values {
@@ -87,7 +87,7 @@ fn values_len(values: &[Value]) -> u64
 
 #[cycle(len)]
 fn fields_len(fields: &[(Words, Value)]) -> u64
-    ensures { result ≡ min (length (fields_spelling (fields_of (map pair_of fields.now)))) (2 ^ 64 - 1) }
+    ensures { result ≡ min (length (fields_encoding (fields_of (map pair_of fields.now)))) (2 ^ 64 - 1) }
 {
     let mut sum: u64 = 0;
     for (key, value) in fields {

@@ -1,10 +1,10 @@
-//! DAG-CBOR: values, and their one spelling in bytes. What is read is exactly what is spelled so, and each input that no
+//! DAG-CBOR: values, and their one encoding in bytes. What is read is exactly what is encoded so, and each input that no
 //! value begins has one fault at one place.
 #![tactic(auto)]
 
 mod copying;
 mod decoding;
-mod encoding;
+mod encoder;
 mod equality;
 mod fault;
 mod head;
@@ -21,15 +21,16 @@ mod value;
 mod writing;
 
 pub use decoding::{DEPTH, decode};
-pub use encoding::encode;
+pub use encoder::encode;
 pub use fault::CborFault;
-pub use laws::{equal_is_same, reads_what_is_spelled, spelling_tells_item, takes_what_is_spelled};
-pub use length::{front_len, spelled_len, string_len};
+pub use laws::{encoding_tells_item, equal_is_same, reads_what_is_encoded, takes_what_is_encoded};
+pub use length::{encoded_len, front_len, string_len};
+pub use limits::INTEGERS;
 pub use lookup::field;
 pub use major::Major;
 pub use taking::{
-    decode_whole, take_behind, take_bytes, take_child, take_item, take_link, take_list_front,
-    take_number,
+    decode_whole, take_argument, take_behind, take_bytes, take_child, take_item, take_link,
+    take_list_front, take_number, take_text,
 };
 pub use value::{Fields, Value, Values};
 pub use writing::{

@@ -1,7 +1,7 @@
 //! The major types of heads.
 
 ghost use Rattle.std.specs.Prelude.{◌≡◌};
-ghost use Rattle.at_cbor.specs.Majors.{number_of, major_in};
+ghost use Rattle.at_cbor.specs.Majors.{major_number, major_in};
 
 /// The major type of a head: the high three bits of its first byte (RFC 8949, section 3.1).
 #[derive(Clone, Copy, Debug, PartialEq, Eq)]
@@ -46,7 +46,7 @@ impl Major {
     /// Its number, from 0 to 7.
     #[inline]
     pub(crate) fn number(self) -> u8
-        ensures { result ≡ number_of self }
+        ensures { result ≡ major_number self }
     {
         match self {
             Major::Unsigned => 0,

@@ -1,35 +1,29 @@
 //! Bytes that are read from left to right.
 
 ghost use Rattle.std.specs.Prelude.{◌≡◌, ◌∷◌, ◌<◌, ◌≤◌, [], length, take, drop, MatchOption, Ok};
-ghost use Rattle.at_cid.specs.Link.{IsBytes};
 ghost use Rattle.at_cbor.specs.Heads.{head_at};
 ghost use Rattle.at_cbor.specs.declared.head.Head.{Head};
 ghost use Rattle.at_cbor.specs.declared.fault.Stop.{Stop};
 
 use crate::fault::{Cause, Stop};
 use crate::taking::take_link;
-use at_cid::Cid;
-
-// The elements of a slice of bytes are bytes.
-fn tell_bytes(bytes: &[u8])
-    ensures { IsBytes bytes.now }
-{}
+use at_cid::{Cid, ghost_bytes};
 
 /// The bytes that are still to be read, and how many there were where the last head begins.
 #[derive(Debug, Drop)]
-pub(crate) struct Reader<'a> {
+pub(crate) struct ByteReader<'a> {
     rest: &'a [u8],
     left: usize,
 }
 
-impl<'a> Reader<'a> {
+impl<'a> ByteReader<'a> {
     /// Nothing was read yet.
     #[inline]
-    pub(crate) fn new(bytes: &'a [u8]) -> Reader<'a>
+    pub(crate) fn new(bytes: &'a [u8]) -> ByteReader<'a>
         ensures rest { result.rest.now ≡ bytes.now }
         ensures left { result.left ≡ length bytes.now }
     {
-        Reader {
+        ByteReader {
             rest: bytes,
             left: bytes.len(),
         }
@@ -86,7 +80,7 @@ impl<'a> Reader<'a> {
         let Some((link, rest)) = take_link(self.rest) else {
             return None;
         };
-        tell_bytes(self.rest);
+        ghost_bytes(self.rest);
         self.left = self.rest.len();
         self.rest = rest;
         Some(link)

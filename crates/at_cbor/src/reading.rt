@@ -11,14 +11,14 @@ ghost use Rattle.at_cbor.specs.View.{item_of, pair_of};
 
 use crate::fault::{Cause, Stop};
 use crate::head::{Head, read_head};
-use crate::reader::Reader;
+use crate::reader::ByteReader;
 use crate::value::{Fields, Value, Values};
 use at_cid::{Octets, Words};
 use std::alloc::Global;
 
 /// The string of so many bytes behind its head.
 #[tactic(auto, unfolding(crate::specs::Reading::string_at))]
-fn read_string<'a>(reader: &mut Reader<'a>, count: u64) -> Result<&'a [u8], Stop>
+fn read_string<'a>(reader: &mut ByteReader<'a>, count: u64) -> Result<&'a [u8], Stop>
     ensures string { Gives (λ string. (string.now, reader.new.rest.now)) flaw_of result (string_at reader.old.left count reader.old.rest.now) }
     ensures left { reader.new.left ≡ reader.old.left }
 {
@@ -28,7 +28,7 @@ fn read_string<'a>(reader: &mut Reader<'a>, count: u64) -> Result<&'a [u8], Stop
     }
 }
 
-/// The text that the bytes spell.
+/// The text that the bytes encode.
 #[tactic(auto, using(crate::proofs::Texts::tests_of_text))]
 fn text_of(bytes: &[u8]) -> Option<&str>
     ensures { MatchOption result (is_utf8 bytes.now ≡ false) (λ text. (text.now ≡ bytes.now) × (is_utf8 bytes.now ≡ true)) }
@@ -41,7 +41,7 @@ fn text_of(bytes: &[u8]) -> Option<&str>
 
 /// The text of so many bytes behind its head.
 #[tactic(auto, unfolding(crate::specs::Reading::text_at))]
-fn read_text(alloc: Global, reader: &mut Reader, count: u64) -> Result<Words, Stop>
+fn read_text(alloc: Global, reader: &mut ByteReader, count: u64) -> Result<Words, Stop>
     ensures text { Gives (λ text. (text, reader.new.rest.now)) flaw_of result (text_at reader.old.left count reader.old.rest.now) }
     ensures left { reader.new.left ≡ reader.old.left }
 {
@@ -58,7 +58,7 @@ fn read_text(alloc: Global, reader: &mut Reader, count: u64) -> Result<Words, St
 fn read_key_text(
     alloc: Global,
     fields: &Fields,
-    reader: &mut Reader,
+    reader: &mut ByteReader,
     count: u64,
 ) -> Result<Words, Stop>
     ensures { Gives (λ key. (key, reader.new.rest.now)) flaw_of result (key_of (last_key fields.now) reader.old.left (Head.Text count) reader.old.rest.now) }
@@ -75,7 +75,7 @@ fn read_key_text(
 fn read_key_of(
     alloc: Global,
     fields: &Fields,
-    reader: &mut Reader,
+    reader: &mut ByteReader,
     head: Head,
 ) -> Result<Words, Stop>
     ensures { Gives (λ key. (key, reader.new.rest.now)) flaw_of result (key_of (last_key fields.now) reader.old.left head reader.old.rest.now) }
@@ -88,7 +88,7 @@ fn read_key_of(
 
 /// The key at the front. Almost every key is a short text.
 #[tactic(auto, unfolding(crate::specs::Reading::key_at))]
-fn read_key(alloc: Global, fields: &Fields, reader: &mut Reader) -> Result<Words, Stop>
+fn read_key(alloc: Global, fields: &Fields, reader: &mut ByteReader) -> Result<Words, Stop>
     ensures { Gives (λ key. (key, reader.new.rest.now)) flaw_of result (key_at (last_key fields.now) reader.old.rest.now) }
 {
     if let Some(count) = reader.short_text() {
@@ -101,7 +101,7 @@ fn read_key(alloc: Global, fields: &Fields, reader: &mut Reader) -> Result<Words
 /// The item at the front, which has at most so many lists and maps in one another.
 #[cycle(read)]
 #[tactic(auto, using(crate::proofs::Loops::item_at_is), unfolding(crate::specs::Reading::body_of))]
-pub(crate) fn read_item(alloc: Global, depth: u8, reader: &mut Reader) -> Result<Value, Stop>
+pub(crate) fn read_item(alloc: Global, depth: u8, reader: &mut ByteReader) -> Result<Value, Stop>
     ensures { Gives (λ value. (item_of value, reader.new.rest.now)) flaw_of result (item_at depth reader.old.rest.now) }
 {
     if let Some(count) = reader.short_text() {
@@ -116,7 +116,7 @@ pub(crate) fn read_item(alloc: Global, depth: u8, reader: &mut Reader) -> Result
 
 #[cycle(read)]
 #[tactic(auto, unfolding(crate::specs::Reading::body_of))]
-fn read_body(alloc: Global, depth: u8, reader: &mut Reader, head: Head) -> Result<Value, Stop>
+fn read_body(alloc: Global, depth: u8, reader: &mut ByteReader, head: Head) -> Result<Value, Stop>
     ensures { Gives (λ value. (item_of value, reader.new.rest.now)) flaw_of result (body_of (inside depth) reader.old.left head reader.old.rest.now) }
 {
     match head {
@@ -136,7 +136,12 @@ fn read_body(alloc: Global, depth: u8, reader: &mut Reader, head: Head) -> Resul
 }
 
 #[cycle(read)]
-fn read_values(alloc: Global, depth: u8, reader: &mut Reader, count: u64) -> Result<Values, Stop>
+fn read_values(
+    alloc: Global,
+    depth: u8,
+    reader: &mut ByteReader,
+    count: u64,
+) -> Result<Values, Stop>
     ensures { Gives (λ values. (values, reader.new.rest.now)) flaw_of result (items_at (item_at depth) count reader.old.rest.now) }
 {
     let mut values = Values::new(alloc);
@@ -149,7 +154,12 @@ fn read_values(alloc: Global, depth: u8, reader: &mut Reader, count: u64) -> Res
 }
 
 #[cycle(read)]
-fn read_fields(alloc: Global, depth: u8, reader: &mut Reader, count: u64) -> Result<Fields, Stop>
+fn read_fields(
+    alloc: Global,
+    depth: u8,
+    reader: &mut ByteReader,
+    count: u64,
+) -> Result<Fields, Stop>
     ensures { Gives (λ fields. (fields, reader.new.rest.now)) flaw_of result (fields_at (item_at depth) None count reader.old.rest.now) }
 {
     let mut fields = Fields::new(alloc);

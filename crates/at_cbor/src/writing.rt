@@ -1,9 +1,9 @@
-//! The spelling of values, added to bytes piece by piece.
+//! The encoding of values, added to bytes piece by piece.
 
 ghost use Rattle.std.specs.Prelude.{◌≡◌, ◌++◌, ◌<◌, ◌∷◌, [], length, map, take, true, false, None, OnOk, OnErr};
 ghost use Rattle.at_cbor.specs.declared.major.Major.{Major};
 ghost use Rattle.at_cbor.specs.Item.{Item, items_of, fields_of, are_ascending};
-ghost use Rattle.at_cbor.specs.Spelling.{front_of, text_spelling, spelling, items_spelling, fields_spelling, IsText, IsSpellable, AreSpellable, AreFieldsSpellable};
+ghost use Rattle.at_cbor.specs.Encoding.{front_of, text_encoding, encoding, items_encoding, fields_encoding, IsText, IsSpellable, AreSpellable, AreFieldsSpellable};
 ghost use Rattle.at_cbor.specs.View.{item_of, pair_of};
 
 use crate::major::Major;
@@ -11,7 +11,7 @@ use crate::value::Value;
 use at_cid::{Cid, Memory, Octets, Words};
 
 /// Writes a major type and its argument, in the shortest form.
-#[tactic(auto, unfolding(crate::specs::Spelling::info_of, crate::specs::Spelling::tail_of))]
+#[tactic(auto, unfolding(crate::specs::Encoding::info_of, crate::specs::Encoding::tail_of))]
 #[inline]
 fn write_front(out: &mut Octets, major: Major, n: u64) -> Result<(), Memory>
     ensures written { OnOk result (out.new ≡ out.old ++ front_of major n) }
@@ -35,10 +35,10 @@ fn write_front(out: &mut Octets, major: Major, n: u64) -> Result<(), Memory>
     }
 }
 
-/// Adds an integer. Where memory is wanted, what was there stays in front.
+/// Adds an integer. Where memory runs out, what was there stays in front.
 #[inline]
 pub fn write_int(out: &mut Octets, number: i64) -> Result<(), Memory>
-    ensures written { OnOk result (out.new ≡ out.old ++ spelling (Item.int number)) }
+    ensures written { OnOk result (out.new ≡ out.old ++ encoding (Item.int number)) }
     ensures spellable { OnOk result (IsSpellable (Item.int number)) }
     ensures err { OnErr result (take (length out.old) out.new ≡ out.old) }
 {
@@ -49,10 +49,10 @@ pub fn write_int(out: &mut Octets, number: i64) -> Result<(), Memory>
     }
 }
 
-/// Adds a string of bytes. Where memory is wanted, what was there stays in front.
+/// Adds a string of bytes. Where memory runs out, what was there stays in front.
 #[inline]
 pub fn write_bytes(out: &mut Octets, bytes: &[u8]) -> Result<(), Memory>
-    ensures written { OnOk result (out.new ≡ out.old ++ spelling (Item.bytes bytes.now)) }
+    ensures written { OnOk result (out.new ≡ out.old ++ encoding (Item.bytes bytes.now)) }
     ensures spellable { OnOk result (IsSpellable (Item.bytes bytes.now)) }
     ensures err { OnErr result (take (length out.old) out.new ≡ out.old) }
 {
@@ -60,10 +60,10 @@ pub fn write_bytes(out: &mut Octets, bytes: &[u8]) -> Result<(), Memory>
     out.extend(bytes)
 }
 
-/// Adds a text. A key of a map is spelled as a text too. Where memory is wanted, what was there stays in front.
+/// Adds a text. A key of a map is encoded as a text too. Where memory runs out, what was there stays in front.
 #[tactic(auto, using(crate::proofs::Texts::tests_of_text))]
 pub fn write_text(out: &mut Octets, text: &str) -> Result<(), Memory>
-    ensures written { OnOk result (out.new ≡ out.old ++ text_spelling text.now) }
+    ensures written { OnOk result (out.new ≡ out.old ++ text_encoding text.now) }
     ensures spellable { OnOk result (IsSpellable (Item.text text.now)) }
     ensures err { OnErr result (take (length out.old) out.new ≡ out.old) }
 {
@@ -71,7 +71,7 @@ pub fn write_text(out: &mut Octets, text: &str) -> Result<(), Memory>
     out.extend(text.as_bytes())
 }
 
-/// Adds an unsigned number, up to 2^64 - 1. Where memory is wanted, what was there stays in front.
+/// Adds an unsigned number, up to 2^64 - 1. Where memory runs out, what was there stays in front.
 #[inline]
 pub fn write_number(out: &mut Octets, number: u64) -> Result<(), Memory>
     ensures written { OnOk result (out.new ≡ out.old ++ front_of Major.Unsigned number) }
@@ -80,7 +80,7 @@ pub fn write_number(out: &mut Octets, number: u64) -> Result<(), Memory>
     write_front(out, Major::Unsigned, number)
 }
 
-/// Adds the front of a list of so many values, which are to follow. Where memory is wanted, what was there stays in front.
+/// Adds the front of a list of so many values, which are to follow. Where memory runs out, what was there stays in front.
 #[inline]
 pub fn write_list_front(out: &mut Octets, count: usize) -> Result<(), Memory>
     ensures written { OnOk result (out.new ≡ out.old ++ front_of Major.List count) }
@@ -89,7 +89,7 @@ pub fn write_list_front(out: &mut Octets, count: usize) -> Result<(), Memory>
     write_front(out, Major::List, count as u64)
 }
 
-/// Adds the front of a map of so many fields, of which each key and its value are to follow. Where memory is wanted, what was
+/// Adds the front of a map of so many fields, of which each key and its value are to follow. Where memory runs out, what was
 /// there stays in front.
 #[inline]
 pub fn write_map_front(out: &mut Octets, count: usize) -> Result<(), Memory>
@@ -99,10 +99,10 @@ pub fn write_map_front(out: &mut Octets, count: usize) -> Result<(), Memory>
     write_front(out, Major::Map, count as u64)
 }
 
-/// Adds a link. Where memory is wanted, what was there stays in front.
+/// Adds a link. Where memory runs out, what was there stays in front.
 #[inline]
 pub fn write_link(out: &mut Octets, link: &Cid) -> Result<(), Memory>
-    ensures written { OnOk result (out.new ≡ out.old ++ spelling (Item.link link.now)) }
+    ensures written { OnOk result (out.new ≡ out.old ++ encoding (Item.link link.now)) }
     ensures spellable { OnOk result (IsSpellable (Item.link link.now)) }
     ensures err { OnErr result (take (length out.old) out.new ≡ out.old) }
 {
@@ -112,7 +112,7 @@ pub fn write_link(out: &mut Octets, link: &Cid) -> Result<(), Memory>
 
 /// Adds true or false.
 pub fn write_bool(out: &mut Octets, truth: bool) -> Result<(), Memory>
-    ensures written { OnOk result (out.new ≡ out.old ++ spelling (Item.bool truth)) }
+    ensures written { OnOk result (out.new ≡ out.old ++ encoding (Item.bool truth)) }
     ensures err { OnErr result (take (length out.old) out.new ≡ out.old) }
 {
     if truth {
@@ -124,15 +124,15 @@ pub fn write_bool(out: &mut Octets, truth: bool) -> Result<(), Memory>
 
 /// Adds null.
 pub fn write_null(out: &mut Octets) -> Result<(), Memory>
-    ensures written { OnOk result (out.new ≡ out.old ++ spelling Item.null) }
+    ensures written { OnOk result (out.new ≡ out.old ++ encoding Item.null) }
     ensures err { OnErr result (take (length out.old) out.new ≡ out.old) }
 {
     out.push(0xf6)
 }
 
-/// Adds a value. Where memory is wanted, what was there stays in front.
+/// Adds a value. Where memory runs out, what was there stays in front.
 pub fn write_value(out: &mut Octets, value: &Value) -> Result<(), Memory>
-    ensures written { OnOk result (out.new ≡ out.old ++ spelling (item_of value.now)) }
+    ensures written { OnOk result (out.new ≡ out.old ++ encoding (item_of value.now)) }
     ensures spellable { OnOk result (IsSpellable (item_of value.now)) }
     ensures err { OnErr result (take (length out.old) out.new ≡ out.old) }
 {
@@ -141,7 +141,7 @@ pub fn write_value(out: &mut Octets, value: &Value) -> Result<(), Memory>
 
 // A text that is a value or a key, and what its type says of it.
 fn put_words(out: &mut Octets, text: &Words) -> Result<(), Memory>
-    ensures written { OnOk result (out.new ≡ out.old ++ text_spelling text.now) }
+    ensures written { OnOk result (out.new ≡ out.old ++ text_encoding text.now) }
     ensures text { OnOk result (IsText text.now) }
     ensures err { OnErr result (take (length out.old) out.new ≡ out.old) }
 {
@@ -151,7 +151,7 @@ fn put_words(out: &mut Octets, text: &Words) -> Result<(), Memory>
 
 #[cycle(write)]
 fn put_value(out: &mut Octets, value: &Value) -> Result<(), Memory>
-    ensures written { OnOk result (out.new ≡ out.old ++ spelling (item_of value.now)) }
+    ensures written { OnOk result (out.new ≡ out.old ++ encoding (item_of value.now)) }
     ensures spellable { OnOk result (IsSpellable (item_of value.now)) }
     ensures err { OnErr result (take (length out.old) out.new ≡ out.old) }
 {
@@ -175,7 +175,7 @@ fn put_value(out: &mut Octets, value: &Value) -> Result<(), Memory>
 
 #[cycle(write)]
 fn put_values(out: &mut Octets, values: &[Value]) -> Result<(), Memory>
-    ensures written { OnOk result (out.new ≡ out.old ++ items_spelling (items_of (map item_of values.now))) }
+    ensures written { OnOk result (out.new ≡ out.old ++ items_encoding (items_of (map item_of values.now))) }
     ensures spellable { OnOk result (AreSpellable (map item_of values.now)) }
     ensures err { OnErr result (take (length out.old) out.new ≡ out.old) }
 {
@@ -188,7 +188,7 @@ fn put_values(out: &mut Octets, values: &[Value]) -> Result<(), Memory>
 #[cycle(write)]
 fn put_fields(out: &mut Octets, fields: &[(Words, Value)]) -> Result<(), Memory>
     requires { are_ascending None (map pair_of fields.now) ≡ true }
-    ensures written { OnOk result (out.new ≡ out.old ++ fields_spelling (fields_of (map pair_of fields.now))) }
+    ensures written { OnOk result (out.new ≡ out.old ++ fields_encoding (fields_of (map pair_of fields.now))) }
     ensures spellable { OnOk result (AreFieldsSpellable (map pair_of fields.now)) }
     ensures err { OnErr result (take (length out.old) out.new ≡ out.old) }
 {

@@ -9,7 +9,7 @@ use Rattle.at_cid.proofs.Links.{link_length}
 use Rattle.at_cid.proofs.Numbers.{apart}
 use Rattle.at_cid.proofs.Order.{cmp_digests}
 
--- links of one kind compare as the numbers that the first eight bytes of their digests spell, where these differ
+-- links of one kind compare as the numbers that the first eight bytes of their digests encode, where these differ
 pub cmp_fronts : (x y : List ℕ) (a b : ℕ) → is_link x ≡ true → is_link y ≡ true → slice_index x 1 ≡ slice_index y 1 → IsBytes x → IsBytes y
     → a ≡ from_be_bytes w64 (take 8 (drop 4 x)) → b ≡ from_be_bytes w64 (take 8 (drop 4 y)) → (a ≢ b) → nat_cmp a b ≡ key_cmp x y
 cmp_fronts x y a b h k kind g l left right f =

@@ -9,3 +9,4 @@ pub mod Texts
 pub mod Utf8
 pub mod ShortTexts
 pub mod OneText
+pub mod Letters

@@ -1,4 +1,4 @@
--- Bytes compare as the numbers that eight of them spell.
+-- Bytes compare as the numbers that eight of them encode.
 use Rattle.std.proofs.Common.{◌≡◌, ℕ, zero, suc, ◌+◌, ◌*◌, ◌<◌, ◌≤◌, List, [], ◌∷◌, length, take, drop, refl, sym, ◌∙◌, subst, arith, w64, Less, Equal, Greater}
 use Rattle.std.specs.Prelude.{◌≢◌}
 use Rattle.std.specs.declared.cmp.Ordering.{Ordering}
@@ -11,7 +11,7 @@ use Rattle.std.proofs.lemmas.Cmp.{nat_cmp_total, tied_itself}
 use Rattle.at_cid.specs.Link.{IsBytes}
 use Rattle.at_cid.specs.Order.{key_cmp}
 
--- the lesser front spells the lesser number
+-- the lesser front encodes the lesser number
 rises : (n a b : ℕ) (x y : List ℕ) → n ≤ length x → n ≤ length y → IsBytes x → a < b → big_endian a (take n x) < big_endian b (take n y)
 rises zero a b x y p q h l = l
 rises (suc n) a b [] y p q h l = absurd (omega arith)
@@ -20,7 +20,7 @@ rises (suc n) a b (u ∷ x) (v ∷ y) p q h l =
     let small : u < 256 = h 0 in
     rises n (a * 256 + u) (b * 256 + v) x y (omega arith) (omega arith) (λ k. h (suc k)) (omega arith)
 
--- n bytes decide as the numbers that they spell after a, and else what follows them does
+-- n bytes decide as the numbers that they encode after a, and else what follows them does
 as_numbers : (n a : ℕ) (x y : List ℕ) → n ≤ length x → n ≤ length y → IsBytes x → IsBytes y
     → ordering_then (nat_cmp (big_endian a (take n x)) (big_endian a (take n y))) (key_cmp (drop n x) (drop n y)) ≡ key_cmp x y
 unfolding key_cmp
@@ -61,7 +61,7 @@ spelt (a ∷ b ∷ c ∷ d ∷ e ∷ f ∷ []) p = absurd (omega arith)
 spelt (a ∷ b ∷ c ∷ d ∷ e ∷ f ∷ g ∷ []) p = absurd (omega arith)
 spelt (a ∷ b ∷ c ∷ d ∷ e ∷ f ∷ g ∷ h ∷ x) p = omega arith
 
--- eight bytes from n on, and the numbers that they spell
+-- eight bytes from n on, and the numbers that they encode
 module _ (n : ℕ) (x y : List ℕ) (p : n + 8 ≤ length x) (q : n + 8 ≤ length y) (g : IsBytes x) (h : IsBytes y) (a b : ℕ)
     (left : a ≡ from_be_bytes w64 (take 8 (drop n x))) (right : b ≡ from_be_bytes w64 (take 8 (drop n y))) where
   by_eight : ordering_then (nat_cmp a b) (key_cmp (drop (n + 8) x) (drop (n + 8) y)) ≡ key_cmp (drop n x) (drop n y)

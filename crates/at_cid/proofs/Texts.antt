@@ -15,7 +15,7 @@ use Rattle.at_cid.proofs.Bits.{in_two_bytes}
 digit_of-letter_of : (bits : ℕ) → bits < 32 → digit_of (letter_of bits) ≡ bits
 digit_of-letter_of bits h = grind (arith, nat_tests)
 
-five_bits_below : (bytes : List ℕ) (k : ℕ) → five_bits bytes k < 32
+pub five_bits_below : (bytes : List ℕ) (k : ℕ) → five_bits bytes k < 32
 unfolding five_bits
 five_bits_below bytes k = omega arith
 
@@ -136,15 +136,15 @@ text_again text link is fits e =
     subst (λ (x : List ℕ). link_at x ≡ Some link) (sym (ap octets_of e ∙ octets_again link len fits)) found
 
 -- no link has the text where none is read from it
-pub none_spelled : (text octets link : List ℕ) (read : Option (List ℕ)) → read ≡ None → read ≡ link_at octets → octets ≡ octets_of text → is_link link ≡ true → IsBytes link → text ≡ text_of link → ⊥
-none_spelled text octets link read none e f is fits g =
+pub none_encoded : (text octets link : List ℕ) (read : Option (List ℕ)) → read ≡ None → read ≡ link_at octets → octets ≡ octets_of text → is_link link ≡ true → IsBytes link → text ≡ text_of link → ⊥
+none_encoded text octets link read none e f is fits g =
     let found : read ≡ Some link = e ∙ ap link_at f ∙ text_again text link is fits g in
     absurd cc
 
 -- no link has the text where another text is that of the link that is read from it
-pub other_spelled : (text octets link found : List ℕ) (read : Option (List ℕ)) → read ≡ Some found → read ≡ link_at octets → octets ≡ octets_of text → pointwise eqb (text_of found) text ≡ false
+pub other_encoded : (text octets link found : List ℕ) (read : Option (List ℕ)) → read ≡ Some found → read ≡ link_at octets → octets ≡ octets_of text → pointwise eqb (text_of found) text ≡ false
     → is_link link ≡ true → IsBytes link → text ≡ text_of link → ⊥
-other_spelled text octets link found read some e f differs is fits g =
+other_encoded text octets link found read some e f differs is fits g =
     let again : read ≡ Some link = e ∙ ap link_at f ∙ text_again text link is fits g in
     let one : found ≡ link = cc in
     let same : text_of found ≡ text = ap text_of one ∙ sym g in

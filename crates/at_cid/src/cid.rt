@@ -4,13 +4,13 @@ ghost use Rattle.std.specs.Prelude.{◌≡◌, ◌↔◌, IsTrue, Some, nat_eq, 
 ghost use Rattle.std.specs.Cmp.{partial_equiv_from_equiv};
 ghost use Rattle.std.specs.Cmp.Lexicographic.{nat_list_eq_equiv, pointwise};
 ghost use Rattle.std.specs.Int.{w64, from_be_bytes};
-ghost use Rattle.at_cid.specs.Link.{is_link, IsBytes, IsLink, cid, link_at, kind_of, digest_of};
+ghost use Rattle.at_cid.specs.Link.{is_link, IsBytes, cid, link_at, kind_of, digest_of};
 ghost use Rattle.at_cid.specs.Order.{key_cmp};
 ghost use Rattle.at_cid.specs.OrderLaws.{key_po, key_total, key_ties};
 ghost use Rattle.sha2.specs.Sha256.{sha256};
 
 use crate::comparing::compare;
-use crate::octets::tell_bytes;
+use crate::ghost_facts::ghost_bytes;
 use sha2::{Digest, Sha256};
 use std::cmp::Ordering;
 use std::marker::Model;
@@ -98,13 +98,13 @@ impl Ord for Cid {
     }
 }
 
-// The number that the first eight bytes of a link's digest spell, the greatest first.
+// The number that the first eight bytes of a link's digest encode, the greatest first.
 #[inline]
 fn front_of(link: &[u8; LINK_LEN]) -> u64
     ensures value { result ≡ from_be_bytes w64 (take 8 (drop 4 link.now)) }
     ensures bytes { IsBytes link.now }
 {
-    tell_bytes(link);
+    ghost_bytes(link);
     u64::from_be_bytes([
         link[4], link[5], link[6], link[7], link[8], link[9], link[10], link[11],
     ])
@@ -145,15 +145,8 @@ impl Cid {
         ensures link { IsTrue (is_link self.now) }
         ensures bytes { IsBytes self.now }
     {
-        tell_bytes(&self.bytes);
+        ghost_bytes(&self.bytes);
         &self.bytes
-    }
-
-    /// Tells that its bytes have the form of a link.
-    pub fn tell_link(&self)
-        ensures { IsLink self.now }
-    {
-        let _bytes = self.as_bytes();
     }
 
     /// What it names.

@@ -21,7 +21,7 @@ pub fn compare(left: &[u8], right: &[u8]) -> Ordering
     left.split_at(both * 8).1.cmp(right.split_at(both * 8).1)
 }
 
-// The number that the eight bytes from `at` on spell, the greatest first.
+// The number that the eight bytes from `at` on encode, the greatest first.
 fn number(bytes: &[u8], at: usize) -> u64
     requires { at + 8 ≤ length bytes.now }
     ensures { result ≡ from_be_bytes w64 (take 8 (drop at bytes.now)) }

@@ -5,6 +5,7 @@ ghost use Rattle.std.specs.Cmp.{partial_equiv_from_equiv};
 ghost use Rattle.std.specs.Cmp.Lexicographic.{nat_list_eq_equiv, pointwise};
 ghost use Rattle.at_cid.specs.Link.{IsBytes};
 
+use crate::ghost_facts::ghost_bytes;
 use crate::memory::Memory;
 use std::alloc::Global;
 use std::marker::Model;
@@ -79,7 +80,7 @@ impl Octets {
         ensures bytes { IsBytes self.now }
     {
         let bytes = self.bytes.as_slice();
-        tell_bytes(bytes);
+        ghost_bytes(bytes);
         bytes
     }
 
@@ -133,13 +134,6 @@ impl Octets {
         self.bytes.truncate(len);
     }
 
-    /// Tells that each of them is a byte.
-    pub fn tell_bytes(&self)
-        ensures { IsBytes self.now }
-    {
-        tell_bytes(self.bytes.as_slice());
-    }
-
     /// Writes bytes over those from a place on. Takes no memory.
     pub fn overwrite(&mut self, place: usize, bytes: &[u8])
         requires { place + length bytes.now ≤ length self.old }
@@ -156,8 +150,3 @@ impl Octets {
         Ok(Octets { bytes })
     }
 }
-
-// The elements of a slice of bytes are bytes.
-pub(crate) fn tell_bytes(bytes: &[u8])
-    ensures { IsBytes bytes.now }
-{}

@@ -6,8 +6,8 @@ ghost use Rattle.at_cid.specs.declared.short_text.TheConstants.{MOST_SHORT_BYTES
 
 use std::marker::Model;
 
-/// The most bytes of such a text.
-pub(crate) const MOST_SHORT_BYTES: usize = 38;
+/// The most bytes of a text, or of a key of a tree, that takes no room of its own.
+pub const MOST_SHORT_BYTES: usize = 38;
 
 /// A text of at most [`MOST_SHORT_BYTES`], seen in contracts as the list of its bytes: the first ones of an array.
 #[derive(Debug, Drop)]

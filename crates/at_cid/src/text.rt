@@ -6,7 +6,8 @@ ghost use Rattle.at_cid.specs.Link.{is_link, IsBytes};
 ghost use Rattle.at_cid.specs.Text.{letter_of, digit_of, five_bits, bits_of_pair, letter_at, text_of, octet_at, octets_of};
 
 use crate::cid::{Cid, LINK_LEN, parse_binary};
-use crate::octets::tell_bytes;
+use crate::ghost_facts::ghost_bytes;
+use std::str;
 
 /// How many bytes a link's text has.
 pub const TEXT_LEN: usize = 59;
@@ -51,7 +52,7 @@ fn bits_at(bytes: &[u8; LINK_LEN], k: usize) -> u8
     ensures value { result ≡ five_bits bytes.now k }
     ensures below { result < 32 }
 {
-    tell_bytes(bytes);
+    ghost_bytes(bytes);
     bits_of_pair(bytes, k)
 }
 
@@ -113,8 +114,19 @@ impl Cid {
     }
 }
 
+/// The text of a link, as a text, which is written into the room. Takes no memory.
+pub fn link_text<'a>(link: &Cid, room: &'a mut [u8; TEXT_LEN]) -> &'a str
+    ensures { result.now ≡ text_of link.now }
+{
+    link.write_text(room);
+    let Ok(text) = str::from_utf8(room) else {
+        unreachable!()
+    };
+    text
+}
+
 /// The link that the bytes are the text of. Each link has one text: upper case, padding or a last letter whose two
-/// unused bits aren't 0 spell none.
+/// unused bits aren't 0 encode none.
 pub fn parse_text(text: &[u8]) -> Option<Cid>
     ensures { MatchOption result
         ((link : List ℕ) → IsTrue (is_link link) → IsBytes link → text.now ≢ text_of link)
@@ -126,9 +138,9 @@ pub fn parse_text(text: &[u8]) -> Option<Cid>
     let Some(link) = parse_binary(&octets(text)) else {
         return None;
     };
-    let mut spelled = [0; TEXT_LEN];
-    link.write_text(&mut spelled);
-    if spelled.as_slice() == text {
+    let mut encoded = [0; TEXT_LEN];
+    link.write_text(&mut encoded);
+    if encoded.as_slice() == text {
         Some(link)
     } else {
         None

@@ -6,8 +6,8 @@ ghost use Rattle.std.specs.Cmp.Lexicographic.{nat_list_eq_equiv, pointwise};
 ghost use Rattle.std.specs.Str.{is_utf8};
 ghost use Rattle.at_cid.specs.Link.{IsBytes};
 
+use crate::ghost_facts::ghost_bytes;
 use crate::memory::Memory;
-use crate::octets::tell_bytes;
 use crate::short_text::{MOST_SHORT_BYTES, ShortText};
 use std::alloc::Global;
 use std::marker::Model;
@@ -89,7 +89,7 @@ impl Words {
             Kept::Short(text) => text.as_str(),
             Kept::Long(text) => text.as_str(),
         };
-        tell_bytes(text.as_bytes());
+        ghost_bytes(text.as_bytes());
         text
     }
 
@@ -105,7 +105,7 @@ impl Words {
             Kept::Short(text) => text.as_bytes(),
             Kept::Long(text) => text.as_str().as_bytes(),
         };
-        tell_bytes(bytes);
+        ghost_bytes(bytes);
         bytes
     }
 
@@ -156,14 +156,6 @@ impl Words {
             Kept::Long(long) => long.push_str(text)?,
         }
         Ok(())
-    }
-
-    /// Tells that it is UTF-8, and that each of its bytes is one.
-    pub fn tell_text(&self)
-        ensures utf8 { is_utf8 self.now ≡ true }
-        ensures bytes { IsBytes self.now }
-    {
-        let _text = self.as_bytes();
     }
 
     /// The same text once more.

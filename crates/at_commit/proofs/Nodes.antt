@@ -6,7 +6,7 @@ use Rattle.std.proofs.lemmas.Bool.Decides.{nat_tests}
 use Rattle.at_cid.specs.Link.{IsBytes, IsNodeLink}
 use Rattle.at_cbor.specs.Item.{Item, Fields}
 use Rattle.at_cbor.specs.Kinds.{int_in, bytes_in, value_of}
-use Rattle.at_cbor.specs.Spelling.{Fits, spelling}
+use Rattle.at_cbor.specs.Encoding.{Fits, encoding}
 use Rattle.at_cbor.specs.Taking.{◌>>=◌, whole_item}
 use Rattle.at_cbor.proofs.Inside.{value_fits}
 use Rattle.at_cbor.proofs.Taken.{whole_takes, whole_again}
@@ -50,7 +50,7 @@ record Read (fields : Fields) (c : Commit) : Type 0 where
   data_root : c.data_root ≡ object.data_root
 
 read_if : (test : Bool) (fields : Fields) (o : Object) (c : Commit) → object_of fields ≡ Some o
-    → cond test (Ok (record { did = o.did; rev = o.rev; data_root = o.data_root; sig = o.sig; unsigned = spelling (Item.map (unsigned_of fields)) })) (Err CommitFault.Version) ≡ Ok c → Read fields c
+    → cond test (Ok (record { did = o.did; rev = o.rev; data_root = o.data_root; sig = o.sig; unsigned = encoding (Item.map (unsigned_of fields)) })) (Err CommitFault.Version) ≡ Ok c → Read fields c
 read_if false _ o c formed e = absurd cc
 read_if true _ o c formed e =
     record { object = o; formed = formed; did = sym (ap did_at e); data_root = sym (ap root_at e) }
@@ -95,7 +95,7 @@ commit_read : (block : List ℕ) (c : Commit) → IsBytes block → commit_of bl
 commit_read block c bytes e =
     let of = read_of block c e in
     let whole = whole_takes (Item.map of.0) block bytes of.1 in
-    record { fields = of.0; form = whole.0; spelled = whole.1; says = of.2 }
+    record { fields = of.0; form = whole.0; encoded = whole.1; says = of.2 }
 
 pub data_is_node : (block : List ℕ) (c : Commit) → IsBytes block → commit_of block ≡ Ok c → IsNodeLink c.data_root
 data_is_node block c bytes e =
@@ -127,7 +127,7 @@ module _ (block : List ℕ) (bytes : IsBytes block) where
   answer_did (Ok c) e = did_is_did block c e
   answer_did (Err f) e = tt
 
-pub answer_only : (block : List ℕ) (r : Result Commit CommitFault) (i : Item) → ReadsAs r (commit_of block) → Fits i 64 → block ≡ spelling i → length block ≤ LONGEST_BLOCK → ReadsAs r (commit_at (Some i))
+pub answer_only : (block : List ℕ) (r : Result Commit CommitFault) (i : Item) → ReadsAs r (commit_of block) → Fits i 64 → block ≡ encoding i → length block ≤ LONGEST_BLOCK → ReadsAs r (commit_at (Some i))
 unfolding commit_of
 answer_only block r i given fits e short =
     let long : nat_lt LONGEST_BLOCK (length block) ≡ false = grind (arith, nat_tests, short) in

@@ -5,7 +5,7 @@ use Rattle.std.specs.Ordering.{int_eq}
 use Rattle.at_cid.specs.Memory.{Gives}
 use Rattle.at_cbor.specs.declared.decoding.TheConstants.{DEPTH}
 use Rattle.at_cbor.specs.Item.{Item, Fields}
-use Rattle.at_cbor.specs.Spelling.{spelling, Fits}
+use Rattle.at_cbor.specs.Encoding.{encoding, Fits}
 use Rattle.at_cbor.specs.Taking.{whole_item}
 use Rattle.at_commit.specs.Fields.{Object, object_of}
 use Rattle.at_commit.specs.Signed.{unsigned_of}
@@ -15,7 +15,7 @@ use Rattle.at_commit.specs.declared.reading.TheConstants.{LONGEST_BLOCK}
 
 -- the commit that fields are, which is signed without `sig`
 abbrev pub commit_with : Fields → Object → Commit
-commit_with fields object = record { did = object.did; rev = object.rev; data_root = object.data_root; sig = object.sig; unsigned = spelling (Item.map (unsigned_of fields)) }
+commit_with fields object = record { did = object.did; rev = object.rev; data_root = object.data_root; sig = object.sig; unsigned = encoding (Item.map (unsigned_of fields)) }
 
 -- of version 3
 abbrev pub commit_from : Fields → Option Object → Result Commit CommitFault
@@ -42,20 +42,20 @@ abbrev pub data_of : List ℕ → ℕ → Result Commit CommitFault → Result (
 data_of did rev (Ok commit) = Ok (if is_of did rev commit then Some commit.data_root else None)
 data_of did rev (Err fault) = Err fault
 
--- what a fault says of the block: nothing where memory was wanted
+-- what a fault says of the block: nothing where memory ran out
 abbrev pub fault_of : CommitFault → Option CommitFault
 fault_of CommitFault.Form = Some CommitFault.Form
 fault_of CommitFault.Version = Some CommitFault.Version
 fault_of CommitFault.TooLong = Some CommitFault.TooLong
 fault_of CommitFault.Memory = None
 
--- the result is this answer, unless memory was wanted
+-- the result is this answer, unless memory ran out
 abbrev pub ReadsAs : Result Commit CommitFault → Result Commit CommitFault → Type 0
 ReadsAs result answer = Gives (λ commit. commit) fault_of result answer
 
--- The block is the one spelling of a map, and the commit is what its fields say.
+-- The block is the one encoding of a map, and the commit is what its fields say.
 pub record IsCommitIn (block : List ℕ) (commit : Commit) : Type 0 where
   pub fields : Fields
   pub form : Fits (Item.map fields) DEPTH
-  pub spelled : block ≡ spelling (Item.map fields)
+  pub encoded : block ≡ encoding (Item.map fields)
   pub says : commit_in fields ≡ Ok commit

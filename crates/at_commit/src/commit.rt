@@ -18,7 +18,7 @@ pub struct Commit {
     pub data_root: Cid,
     /// The signature.
     pub sig: Octets,
-    /// What the signature covers: the object's spelling without `sig`.
+    /// What the signature covers: the object's encoding without `sig`.
     pub unsigned: Octets,
 }
 
@@ -30,7 +30,7 @@ impl Commit {
         Sha256::digest(self.unsigned.as_slice())
     }
 
-    /// A copy. The only error is want of memory.
+    /// A copy. The only error is running out of memory.
     pub fn try_clone(&self) -> Result<Commit, Memory>
         ensures { IfOk result (λ made. made ≡ self.now) }
     {

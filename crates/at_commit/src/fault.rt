@@ -20,7 +20,7 @@ pub enum CommitFault {
     /// The block has more than 8,192 bytes.
     #[error("the commit object is too long")]
     TooLong,
-    /// Memory was wanted.
+    /// Memory ran out.
     #[error("out of memory")]
     Memory,
 }

@@ -5,7 +5,7 @@ ghost use Rattle.at_cid.specs.Link.{IsNodeLink};
 ghost use Rattle.at_cid.specs.Memory.{Gives};
 ghost use Rattle.at_cbor.specs.Item.{Item, fields_of};
 ghost use Rattle.at_cbor.specs.declared.decoding.TheConstants.{DEPTH};
-ghost use Rattle.at_cbor.specs.Spelling.{Fits, spelling};
+ghost use Rattle.at_cbor.specs.Encoding.{Fits, encoding};
 ghost use Rattle.at_syntax.specs.Did.{is_did};
 ghost use Rattle.at_commit.specs.Commit.{commit_at, commit_in, commit_of, commit_with, data_of, fault_of, IsCommitIn, ReadsAs};
 ghost use Rattle.at_commit.specs.Parts.{seen_object};
@@ -69,9 +69,9 @@ fn read_commit(alloc: Global, fields: &Fields) -> Result<Commit, CommitFault>
 pub fn read(alloc: Global, block: &[u8]) -> Result<Commit, CommitFault>
     ensures commit { ReadsAs result (commit_of block.now) }
     ensures too_long { (result ≡ Err CommitFault.TooLong) ↔ (LONGEST_BLOCK < length block.now) }
-    // What is read is spelled so, and what is spelled so is read.
+    // What is read is encoded so, and what is encoded so is read.
     ensures whole { IfOk result (IsCommitIn block.now) }
-    ensures only { (i : Item) → Fits i DEPTH → block.now ≡ spelling i → length block.now ≤ LONGEST_BLOCK → ReadsAs result (commit_at (Some i)) }
+    ensures only { (i : Item) → Fits i DEPTH → block.now ≡ encoding i → length block.now ≤ LONGEST_BLOCK → ReadsAs result (commit_at (Some i)) }
     ensures data { IfOk result (λ commit. IsNodeLink commit.data_root) }
     ensures did { IfOk result (λ commit. IsTrue (is_did commit.did)) }
 {
@@ -104,7 +104,7 @@ fn read_block(alloc: Global, block: &[u8]) -> Result<Commit, CommitFault>
 
 /// The `data` of the commit object that the block is, where that is of this account and revision, and else nothing. It is
 /// what [`read`] gives, and the faults are those of [`read`], but nothing else of the object is kept, and what its signature
-/// covers isn't spelled.
+/// covers isn't encoded.
 pub fn read_data(
     alloc: Global,
     block: &[u8],

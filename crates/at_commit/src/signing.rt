@@ -3,9 +3,9 @@
 ghost use Rattle.std.specs.Prelude.{◌≡◌, ◌++◌, length, map, OnOk, IfOk};
 ghost use Rattle.std.specs.List.{filter};
 ghost use Rattle.at_cbor.specs.Item.{Item, fields_of};
-ghost use Rattle.at_cbor.specs.Spelling.{fields_spelling, spelling};
+ghost use Rattle.at_cbor.specs.Encoding.{fields_encoding, encoding};
 ghost use Rattle.at_cbor.specs.View.{item_of, pair_of};
-ghost use Rattle.at_commit.specs.Signed.{is_signed, is_signed_name, signed_spelling, unsigned_of};
+ghost use Rattle.at_commit.specs.Signed.{is_signed, is_signed_name, signed_encoding, unsigned_of};
 
 use at_cbor::{Fields, Value, write_map_front, write_text, write_value};
 use at_cid::{Memory, Octets, Words};
@@ -29,9 +29,9 @@ fn count_signed(fields: &[(Words, Value)]) -> usize
     count
 }
 
-/// Adds the spelling of a field, where it is signed.
+/// Adds the encoding of a field, where it is signed.
 fn write_field(out: &mut Octets, key: &Words, value: &Value) -> Result<(), Memory>
-    ensures { OnOk result (out.new ≡ out.old ++ signed_spelling (key.now, item_of value.now)) }
+    ensures { OnOk result (out.new ≡ out.old ++ signed_encoding (key.now, item_of value.now)) }
 {
     if is_signed(key) {
         write_text(out, key.as_str())?;
@@ -41,9 +41,9 @@ fn write_field(out: &mut Octets, key: &Words, value: &Value) -> Result<(), Memor
     }
 }
 
-/// Adds the spelling of all fields that are signed.
+/// Adds the encoding of all fields that are signed.
 fn write_fields(out: &mut Octets, fields: &[(Words, Value)]) -> Result<(), Memory>
-    ensures { OnOk result (out.new ≡ out.old ++ fields_spelling (fields_of (filter is_signed (map pair_of fields.now)))) }
+    ensures { OnOk result (out.new ≡ out.old ++ fields_encoding (fields_of (filter is_signed (map pair_of fields.now)))) }
 {
     for (key, value) in fields {
         write_field(out, key, value)?;
@@ -51,9 +51,9 @@ fn write_fields(out: &mut Octets, fields: &[(Words, Value)]) -> Result<(), Memor
     Ok(())
 }
 
-/// The spelling of the map without `sig`.
+/// The encoding of the map without `sig`.
 pub fn unsigned(alloc: Global, fields: &Fields) -> Result<Octets, Memory>
-    ensures { IfOk result (λ bytes. bytes ≡ spelling (Item.map (unsigned_of (fields_of fields.now)))) }
+    ensures { IfOk result (λ bytes. bytes ≡ encoding (Item.map (unsigned_of (fields_of fields.now)))) }
 {
     let fields = fields.as_slice();
     let mut out = Octets::new(alloc);

@@ -4,11 +4,12 @@ use Rattle.std.specs.Prelude.{option_map, IsTrue}
 use Rattle.at_cid.specs.Link.{IsLink, IsLinkOrNone, IsNodeLink, IsNodeLinkOrNone}
 use Rattle.at_cbor.specs.Item.{Item}
 use Rattle.at_cbor.specs.Kinds.{bytes_in, text_in, link_in, null_in, field_of}
-use Rattle.at_cbor.specs.Spelling.{Fits, IsString, IsText}
+use Rattle.at_cbor.specs.Encoding.{Fits, IsString, IsText}
 use Rattle.at_cbor.proofs.Inside.{field_fits}
 use Rattle.at_syntax.specs.Did.{is_did}
-use Rattle.at_form.specs.declared.forms.TheConstants.{LONGEST_SHORT_TEXT, NUMBERS}
-use Rattle.at_form.specs.Forms.{did_in, short_text_in, node_in, number_in, formed, not_null, given, optional, required}
+use Rattle.at_cid.specs.declared.limits.TheConstants.{NUMBERS}
+use Rattle.at_form.specs.declared.forms.TheConstants.{LONGEST_SHORT_TEXT}
+use Rattle.at_form.specs.Forms.{did_in, short_text_in, node_in, number_in, formed, not_null, present_value, optional, required}
 use Rattle.at_form.proofs.Held.{some_same, step_from, did_held, short_held, number_held, node_held}
 use Rattle.at_event.specs.Formed.{IsShortText, IsShortOrNone}
 
@@ -87,16 +88,16 @@ not_null_there : (found : Option Item) (i : Item) → not_null found ≡ Some i 
 not_null_there (Some j) i e = ap (λ (x : Item). Some x) (kept_if (null_in j) j i e)
 not_null_there None i e = absurd cc
 
-given_there : (m : Item) (name : List ℕ) (i : Item) → given m name ≡ Some i → field_of m name ≡ Some i
-unfolding given
+given_there : (m : Item) (name : List ℕ) (i : Item) → present_value m name ≡ Some i → field_of m name ≡ Some i
+unfolding present_value
 given_there m name i e = not_null_there (field_of m name) i e
 
 module _ (m : Item) (depth : ℕ) (fits : Fits m depth) where
   pub link_or_none : (name : List ℕ) (o : Option (List ℕ)) → optional link_in m name ≡ Some o → IsLinkOrNone o
-  link_or_none name o e = formed_or link_in IsLinkOrNone (given m name) o e tt (λ i c found form. link_held i (depth - 1) c form (field_fits m depth name i fits (given_there m name i found)))
+  link_or_none name o e = formed_or link_in IsLinkOrNone (present_value m name) o e tt (λ i c found form. link_held i (depth - 1) c form (field_fits m depth name i fits (given_there m name i found)))
 
   pub node_or_none : (name : List ℕ) (o : Option (List ℕ)) → optional node_in m name ≡ Some o → IsNodeLinkOrNone o
-  node_or_none name o e = formed_or node_in IsNodeLinkOrNone (given m name) o e tt (λ i c found form. node_held i (depth - 1) c form (field_fits m depth name i fits (given_there m name i found)))
+  node_or_none name o e = formed_or node_in IsNodeLinkOrNone (present_value m name) o e tt (λ i c found form. node_held i (depth - 1) c form (field_fits m depth name i fits (given_there m name i found)))
 
   pub short_or_none : (name : List ℕ) (o : Option (List ℕ)) → optional short_text_in m name ≡ Some o → IsShortOrNone o
-  short_or_none name o e = formed_or short_text_in IsShortOrNone (given m name) o e tt (λ i text found form. is_short i (depth - 1) text form (field_fits m depth name i fits (given_there m name i found)))
+  short_or_none name o e = formed_or short_text_in IsShortOrNone (present_value m name) o e tt (λ i text found form. is_short i (depth - 1) text form (field_fits m depth name i fits (given_there m name i found)))

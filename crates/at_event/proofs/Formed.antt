@@ -4,9 +4,9 @@ use Rattle.std.specs.Prelude.{⊤, IfOk}
 use Rattle.at_cid.specs.Link.{IsBytes}
 use Rattle.at_cbor.specs.Item.{Item}
 use Rattle.at_cbor.specs.Kinds.{bytes_in, bool_in, map_in}
-use Rattle.at_cbor.specs.Spelling.{Fits}
+use Rattle.at_cbor.specs.Encoding.{Fits}
 use Rattle.at_cbor.specs.Taking.{◌>>=◌}
-use Rattle.at_form.specs.declared.forms.TheConstants.{NUMBERS}
+use Rattle.at_cid.specs.declared.limits.TheConstants.{NUMBERS}
 use Rattle.at_form.specs.Forms.{did_in, tid_in, short_text_in, node_in, optional, required}
 use Rattle.at_form.proofs.Held.{some_same, step_from}
 use Rattle.at_event.specs.declared.event.AccountEvent.{AccountEvent}
@@ -23,7 +23,7 @@ use Rattle.at_event.specs.Formed.{IsShortOrNone, IsCommitOf, IsSyncOf, IsBodyOf,
 use Rattle.at_event.specs.Frames.{items_in, formed_frame, numbered_frame, event_frame, announced, heading_of, headed, framed, frame_of, IsMessage, IsFrameOf, ReadsAs}
 use Rattle.at_event.specs.Laws.{EventsAreFormed, FramesAreEvents}
 use Rattle.at_event.specs.Seen.{Seen}
-use Rattle.at_event.specs.Table.{ops_in, too_big_in, commit_of, sync_of, account_of, body_of, did_key, event_of, seq_of, kind_of}
+use Rattle.at_event.specs.Table.{ops_in, too_big_in, commit_event_of, sync_of, account_of, event_body_of, did_key, event_of, seq_of, event_kind_of}
 use Rattle.at_event.proofs.Fields.{did_there, did_text_there, number_there, short_there, bytes_there, node_there, node_or_none, short_or_none}
 use Rattle.at_event.proofs.FormedOps.{ops_there}
 use Rattle.at_event.proofs.Messages.{message_read, items_taken}
@@ -59,8 +59,8 @@ commit_parts (Some a) (Some b) (Some c) (Some d) (Some f) (Some g) (Some h) (Som
       ops_is = ap (λ (y : CommitEvent). Some y.ops) same;
     }
 
-commit_formed : (m : Item) (did : List ℕ) (x : CommitEvent) → Fits m 64 → required did_in m (codes "repo") ≡ Some did → commit_of m ≡ Some x → IsCommitOf did x
-unfolding commit_of
+commit_formed : (m : Item) (did : List ℕ) (x : CommitEvent) → Fits m 64 → required did_in m (codes "repo") ≡ Some did → commit_event_of m ≡ Some x → IsCommitOf did x
+unfolding commit_event_of
 commit_formed m did x fits own e =
     let parts = commit_parts (required did_in m (codes "repo")) (required tid_in m (codes "rev")) (optional tid_in m (codes "since")) (optional node_in m (codes "prevData")) (required node_in m (codes "commit")) (too_big_in m) (required bytes_in m (codes "blocks")) (required ops_in m (codes "ops")) x e in
     record {
@@ -99,10 +99,10 @@ account_formed : (m : Item) (x : AccountEvent) → Fits m 64 → account_of m �
 unfolding account_of
 account_formed m x fits e = short_or_none m 64 fits (codes "status") x.status (account_parts (required bool_in m (codes "active")) (optional short_text_in m (codes "status")) x e)
 
-body_formed : (kind : EventKind) (m : Item) (did : List ℕ) (body : Body) → Fits m 64 → required did_in m (did_key kind) ≡ Some did → body_of kind m ≡ Some body → IsBodyOf did body
-unfolding body_of
+body_formed : (kind : EventKind) (m : Item) (did : List ℕ) (body : Body) → Fits m 64 → required did_in m (did_key kind) ≡ Some did → event_body_of kind m ≡ Some body → IsBodyOf did body
+unfolding event_body_of
 body_formed EventKind.Commit m did body fits own e =
-    let x = step_from (commit_of m) (λ commit. Some (Body.Commit commit)) body e in
+    let x = step_from (commit_event_of m) (λ commit. Some (Body.Commit commit)) body e in
     subst (IsBodyOf did) (some_same (Body.Commit x.0) body x.2) (commit_formed m did x.0 fits own x.1)
 body_formed EventKind.Sync m did body fits own e =
     let x = step_from (sync_of m) (λ sync. Some (Body.Sync sync)) body e in
@@ -136,9 +136,9 @@ event_parts (Some d) (Some t) (Some b) seq payload x e =
     }
 
 event_says : (kind : EventKind) (seq : ℕ) (payload : Item) (x : Seen) → event_of kind seq payload ≡ Some x
-    → Says (x.seq ≡ seq) (required did_in payload (did_key kind) ≡ Some x.did) (required short_text_in payload (codes "time") ≡ Some x.time) (body_of kind payload ≡ Some x.body) (x.payload ≡ payload)
+    → Says (x.seq ≡ seq) (required did_in payload (did_key kind) ≡ Some x.did) (required short_text_in payload (codes "time") ≡ Some x.time) (event_body_of kind payload ≡ Some x.body) (x.payload ≡ payload)
 unfolding event_of
-event_says kind seq payload x e = event_parts (required did_in payload (did_key kind)) (required short_text_in payload (codes "time")) (body_of kind payload) seq payload x e
+event_says kind seq payload x e = event_parts (required did_in payload (did_key kind)) (required short_text_in payload (codes "time")) (event_body_of kind payload) seq payload x e
 
 seq_below : (payload : Item) (n : ℕ) → seq_of payload ≡ Some n → n < NUMBERS
 unfolding seq_of
@@ -146,7 +146,7 @@ seq_below payload n e = number_there payload (codes "seq") n e
 
 pub events_formed : EventsAreFormed
 events_formed event is =
-    let kind = kind_of event.body in
+    let kind = event_kind_of event.body in
     let says = event_says kind event.seq event.payload event is.read in
     record {
       seq = seq_below event.payload event.seq is.number;
@@ -158,12 +158,12 @@ events_formed event is =
 
 -- ---- what an answer says
 
-body_kind : (kind : EventKind) (m : Item) (body : Body) → body_of kind m ≡ Some body → kind_of body ≡ kind
-unfolding body_of
-body_kind EventKind.Commit m body e = let x = step_from (commit_of m) (λ commit. Some (Body.Commit commit)) body e in sym (ap kind_of (some_same (Body.Commit x.0) body x.2))
-body_kind EventKind.Sync m body e = let x = step_from (sync_of m) (λ sync. Some (Body.Sync sync)) body e in sym (ap kind_of (some_same (Body.Sync x.0) body x.2))
-body_kind EventKind.Identity m body e = sym (ap kind_of (some_same Body.Identity body e))
-body_kind EventKind.Account m body e = let x = step_from (account_of m) (λ account. Some (Body.Account account)) body e in sym (ap kind_of (some_same (Body.Account x.0) body x.2))
+body_kind : (kind : EventKind) (m : Item) (body : Body) → event_body_of kind m ≡ Some body → event_kind_of body ≡ kind
+unfolding event_body_of
+body_kind EventKind.Commit m body e = let x = step_from (commit_event_of m) (λ commit. Some (Body.Commit commit)) body e in sym (ap event_kind_of (some_same (Body.Commit x.0) body x.2))
+body_kind EventKind.Sync m body e = let x = step_from (sync_of m) (λ sync. Some (Body.Sync sync)) body e in sym (ap event_kind_of (some_same (Body.Sync x.0) body x.2))
+body_kind EventKind.Identity m body e = sym (ap event_kind_of (some_same Body.Identity body e))
+body_kind EventKind.Account m body e = let x = step_from (account_of m) (λ account. Some (Body.Account account)) body e in sym (ap event_kind_of (some_same (Body.Account x.0) body x.2))
 
 event_made : (kind : EventKind) (n : ℕ) (m : Item) (event : Seen) → Fits m 64 → seq_of m ≡ Some n → event_of kind n m ≡ Some event → IsEvent event
 event_made kind n m event fits known read =

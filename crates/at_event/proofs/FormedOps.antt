@@ -2,7 +2,7 @@
 use Rattle.std.proofs.Common.{◌≡◌, ◌-◌, ℕ, List, [], ◌∷◌, Option, Some, None, codes, ap, ◌∙◌, subst}
 use Rattle.at_cbor.specs.Item.{Item, Items, no_items, item, items_list}
 use Rattle.at_cbor.specs.Kinds.{text_in, list_in, link_in, field_of}
-use Rattle.at_cbor.specs.Spelling.{Fits, ItemsFit}
+use Rattle.at_cbor.specs.Encoding.{Fits, ItemsFit}
 use Rattle.at_cbor.specs.Taking.{◌>>=◌}
 use Rattle.at_cbor.proofs.Inside.{field_fits}
 use Rattle.at_form.specs.Forms.{optional, required}

@@ -3,7 +3,7 @@ use Rattle.std.proofs.Common.{◌≡◌, ℕ, ◌<◌, ◌^◌, List, ◌++◌, 
 use Rattle.at_cid.specs.Link.{IsBytes}
 use Rattle.at_cbor.specs.Item.{Item}
 use Rattle.at_cbor.specs.Kinds.{map_in}
-use Rattle.at_cbor.specs.Spelling.{spelling, IsText, Fits}
+use Rattle.at_cbor.specs.Encoding.{encoding, IsText, Fits}
 use Rattle.at_cbor.specs.Taking.{◌>>=◌, item_from_front, whole_item}
 use Rattle.at_cbor.proofs.Taken.{item_taken, item_taken_again, whole_takes, whole_again}
 use Rattle.at_cbor.proofs.Depths.{fits_nested}
@@ -12,17 +12,17 @@ use Rattle.at_event.specs.declared.frame.Frame.{Frame}
 use Rattle.at_event.specs.declared.kind.EventKind.{EventKind}
 use Rattle.at_event.specs.declared.kind.Heading.{Heading}
 use Rattle.at_event.specs.Events.{IsEvent}
-use Rattle.at_event.specs.Frames.{items_in, IsMessage, named, heading_of, frame_of, announced, event_frame}
+use Rattle.at_event.specs.Frames.{items_in, IsMessage, heading_named, heading_of, frame_of, announced, event_frame}
 use Rattle.at_event.specs.Seen.{Seen}
-use Rattle.at_event.specs.Table.{seq_of, kind_of}
-use Rattle.at_event.specs.Writing.{name_of, header_of, message_of, numbered, out_of}
+use Rattle.at_event.specs.Table.{seq_of, event_kind_of}
+use Rattle.at_event.specs.Writing.{kind_name, header_of, event_message, numbered, out_of}
 use Rattle.at_event.specs.Laws.{FramesAreRenumbered, PayloadsAreMaps}
 use Rattle.at_event.proofs.Renumbered.{numbered_is_event, numbered_again}
 use Rattle.at_event.proofs.Texts.{ascii_text}
 
 -- ---- the header
 
-name_fits : (kind : EventKind) → IsText (name_of kind)
+name_fits : (kind : EventKind) → IsText (kind_name kind)
 name_fits EventKind.Commit = ascii_text (codes "#commit") refl (lit< tt)
 name_fits EventKind.Sync = ascii_text (codes "#sync") refl (lit< tt)
 name_fits EventKind.Identity = ascii_text (codes "#identity") refl (lit< tt)
@@ -32,7 +32,7 @@ header_fits : (kind : EventKind) → Fits (header_of kind) 64
 header_fits kind = (lit< tt, lit< tt, (ascii_text (codes "t") refl (lit< tt), refl, name_fits kind, (ascii_text (codes "op") refl (lit< tt), refl, lit< tt, tt)))
 
 heading_read : (kind : EventKind) → heading_of (header_of kind) ≡ Some (Heading.Event kind)
-unfolding heading_of named
+unfolding heading_of heading_named
 heading_read EventKind.Commit = refl
 heading_read EventKind.Sync = refl
 heading_read EventKind.Identity = refl
@@ -40,14 +40,14 @@ heading_read EventKind.Account = refl
 
 -- ---- the two items
 
-items_read : (h p : Item) → Fits h 64 → Fits p 64 → items_in (spelling h ++ spelling p) ≡ Some (h, p)
+items_read : (h p : Item) → Fits h 64 → Fits p 64 → items_in (encoding h ++ encoding p) ≡ Some (h, p)
 unfolding items_in
-items_read h p fits_h fits_p = rw (item_taken_again h (spelling p) fits_h, whole_again p fits_p) refl
+items_read h p fits_h fits_p = rw (item_taken_again h (encoding p) fits_h, whole_again p fits_p) refl
 
 pub message_read : (message : List ℕ) (header payload : Item) → IsMessage message header payload → items_in message ≡ Some (header, payload)
-message_read message header payload h = ap items_in h.spelled ∙ items_read header payload h.header_form h.payload_form
+message_read message header payload h = ap items_in h.encoded ∙ items_read header payload h.header_form h.payload_form
 
--- what is read of a message is spelled there
+-- what is read of a message is encoded there
 pub items_taken : (message : List ℕ) (x : Item × Item) → IsBytes message → items_in message ≡ Some x → IsMessage message x.0 x.1
 unfolding items_in
 items_taken message x bytes e =
@@ -58,7 +58,7 @@ items_taken message x bytes e =
     subst (λ (y : Item × Item). IsMessage message y.0 y.1) (some_same (header.0.0, payload.0) x payload.2) (record {
       header_form = front.1;
       payload_form = rest.0;
-      spelled = front.0.parts ∙ ap (λ (l : List ℕ). spelling header.0.0 ++ l) rest.1;
+      encoded = front.0.parts ∙ ap (λ (l : List ℕ). encoding header.0.0 ++ l) rest.1;
     })
 
 -- a payload whose number is read is a map
@@ -74,11 +74,11 @@ numbered_is_map (Item.bool b) n e = absurd cc
 numbered_is_map Item.null n e = absurd cc
 
 -- the message of an event is read as the event
-pub event_again : (event : Seen) → IsEvent event → frame_of (message_of (kind_of event.body) event.payload) ≡ Ok (Frame.Event event)
-unfolding frame_of message_of announced event_frame
+pub event_again : (event : Seen) → IsEvent event → frame_of (event_message (event_kind_of event.body) event.payload) ≡ Ok (Frame.Event event)
+unfolding frame_of event_message announced event_frame
 event_again event h =
     let there = numbered_is_map event.payload event.seq h.number in
-    rw (items_read (header_of (kind_of event.body)) event.payload (header_fits (kind_of event.body)) h.fits, heading_read (kind_of event.body), there.1, h.number, h.read) refl
+    rw (items_read (header_of (event_kind_of event.body)) event.payload (header_fits (event_kind_of event.body)) h.fits, heading_read (event_kind_of event.body), there.1, h.number, h.read) refl
 
 -- an event that goes out under a number is read as the event under that number
 pub out_again : (event : Seen) (n : ℕ) → n < 2 ^ 53 → IsEvent event → frame_of (out_of event n) ≡ Ok (Frame.Event (numbered event n))

@@ -12,15 +12,15 @@ use Rattle.at_cid.proofs.Order.{cmp_trans, cmp_same}
 use Rattle.at_cbor.specs.declared.major.Major.{Major}
 use Rattle.at_cbor.specs.Item.{Item, Fields, no_fields, field, is_above}
 use Rattle.at_cbor.specs.Kinds.{value_of, field_of}
-use Rattle.at_cbor.specs.Spelling.{front_of, tail_of, text_spelling, fields_count, spelling, fields_spelling, Fits, FieldsFit}
+use Rattle.at_cbor.specs.Encoding.{front_of, tail_of, text_encoding, fields_count, encoding, fields_encoding, Fits, FieldsFit}
 use Rattle.at_event.specs.declared.kind.EventKind.{EventKind}
 use Rattle.at_event.specs.Events.{IsEvent}
 use Rattle.at_cbor.specs.Taking.{◌>>=◌}
-use Rattle.at_form.specs.declared.forms.TheConstants.{NUMBERS}
-use Rattle.at_form.specs.Forms.{number_in, number_of}
+use Rattle.at_cid.specs.declared.limits.TheConstants.{NUMBERS}
+use Rattle.at_form.specs.Forms.{number_in, number_from}
 use Rattle.at_event.specs.Seen.{Seen}
-use Rattle.at_event.specs.Table.{seq_of, kind_of}
-use Rattle.at_event.specs.Writing.{name_of, header_of, number_item, with_value, with_seq, message_of, out_of}
+use Rattle.at_event.specs.Table.{seq_of, event_kind_of}
+use Rattle.at_event.specs.Writing.{kind_name, header_of, number_item, with_field_value, with_seq, event_message, out_of}
 use Rattle.at_event.proofs.Renumbered.{with_value_count}
 
 -- ---- a key comes once
@@ -55,40 +55,40 @@ kept_if : (b : Bool) (i j : Item) → b ≡ false → cond b i j ≡ j
 kept_if b i j h = rw h refl
 
 -- fields behind a key of that name have no other
-pub none_behind : (name : List ℕ) (i : Item) (before : List ℕ) (fs : Fields) (depth : ℕ) → FieldsFit fs (Some before) depth → (before ≡ name) ⊎ Above name before → with_value name i fs ≡ fs
+pub none_behind : (name : List ℕ) (i : Item) (before : List ℕ) (fs : Fields) (depth : ℕ) → FieldsFit fs (Some before) depth → (before ≡ name) ⊎ Above name before → with_field_value name i fs ≡ fs
 none_behind name i before no_fields depth fits behind = refl
 none_behind name i before (field k j fs) depth fits behind =
     let next = above_parts before k fits.1 in
     let above : Above name k = elim behind [ inl e ↦ subst (λ (b : List ℕ). Above b k) e next | inr h ↦ above_trans name before k h next ] in
-    ap (λ (x : Item). field k x (with_value name i fs)) (kept_if (bytes_eq k name) i j (above_other name k above)) ∙ ap (field k j) (none_behind name i k fs depth fits.3 (inr above))
+    ap (λ (x : Item). field k x (with_field_value name i fs)) (kept_if (bytes_eq k name) i j (above_other name k above)) ∙ ap (field k j) (none_behind name i k fs depth fits.3 (inr above))
 
 -- ---- the payload
 
 some_same : {A : Type 0} (x y : A) → Some x ≡ Some y → x ≡ y
 some_same x y e = cc
 
-field_length : (k : List ℕ) (i : Item) (fs : Fields) → length (fields_spelling (field k i fs)) ≡ length (text_spelling k) + length (spelling i) + length (fields_spelling fs)
-field_length k i fs = omega (arith, length-append (text_spelling k) (spelling i ++ fields_spelling fs), length-append (spelling i) (fields_spelling fs))
+field_length : (k : List ℕ) (i : Item) (fs : Fields) → length (fields_encoding (field k i fs)) ≡ length (text_encoding k) + length (encoding i) + length (fields_encoding fs)
+field_length k i fs = omega (arith, length-append (text_encoding k) (encoding i ++ fields_encoding fs), length-append (encoding i) (fields_encoding fs))
 
 -- one field, whose key is the name or is not
 swapped_field : (b : Bool) (k : List ℕ) (i j l : Item) (fs put : Fields) (others : Option Item) → cond b (Some l) others ≡ Some j → (b ≡ true → put ≡ fs)
-    → (others ≡ Some j → length (fields_spelling put) + length (spelling j) ≡ length (fields_spelling fs) + length (spelling i))
-    → length (fields_spelling (field k (cond b i l) put)) + length (spelling j) ≡ length (fields_spelling (field k l fs)) + length (spelling i)
+    → (others ≡ Some j → length (fields_encoding put) + length (encoding j) ≡ length (fields_encoding fs) + length (encoding i))
+    → length (fields_encoding (field k (cond b i l) put)) + length (encoding j) ≡ length (fields_encoding (field k l fs)) + length (encoding i)
 swapped_field true k i j l fs put others e none more =
-    omega (arith, field_length k i put, field_length k l fs, ap (λ (x : Item). length (spelling x)) (some_same l j e), ap (λ (x : Fields). length (fields_spelling x)) (none refl))
+    omega (arith, field_length k i put, field_length k l fs, ap (λ (x : Item). length (encoding x)) (some_same l j e), ap (λ (x : Fields). length (fields_encoding x)) (none refl))
 swapped_field false k i j l fs put others e none more = omega (arith, field_length k l put, field_length k l fs, more e)
 
 swapped : (name : List ℕ) (i j : Item) (before : Option (List ℕ)) (fs : Fields) (depth : ℕ) → FieldsFit fs before depth → value_of fs name ≡ Some j
-    → length (fields_spelling (with_value name i fs)) + length (spelling j) ≡ length (fields_spelling fs) + length (spelling i)
+    → length (fields_encoding (with_field_value name i fs)) + length (encoding j) ≡ length (fields_encoding fs) + length (encoding i)
 swapped name i j before no_fields depth fits e = absurd cc
 swapped name i j before (field k l fs) depth fits e =
-    swapped_field (bytes_eq k name) k i j l fs (with_value name i fs) (value_of fs name) e
+    swapped_field (bytes_eq k name) k i j l fs (with_field_value name i fs) (value_of fs name) e
     (λ same. none_behind name i k fs depth fits.3 (inl ((bytes_eq-Decides k name).0 same)))
     (λ later. swapped name i j (Some k) fs depth fits.3 later)
 
 -- ---- the number
 
-number_is : (n m : ℕ) → number_of (pos n) ≡ Some m → (n ≡ m) × (n < 2 ^ 53)
+number_is : (n m : ℕ) → number_from (pos n) ≡ Some m → (n ≡ m) × (n < 2 ^ 53)
 number_is n m e =
     let tested = elim (ltb n NUMBERS) as (λ b. cond b (Some n) None ≡ Some m → (b ≡ true) × (n ≡ m)) [ true ↦ λ p. (refl, some_same n m p) | false ↦ λ p. absurd cc ] e in
     (tested.1, ltb-true n NUMBERS tested.0)
@@ -113,18 +113,18 @@ pub number_there : (payload : Item) (m : ℕ) → seq_of payload ≡ Some m → 
 unfolding seq_of
 number_there payload m e = read_some (field_of payload (codes "seq")) m e
 
-contained_or : (b : Bool) (k : List ℕ) (j l : Item) (fs : Fields) (others : Option Item) → cond b (Some l) others ≡ Some j → (others ≡ Some j → length (spelling j) ≤ length (fields_spelling fs)) → length (spelling j) ≤ length (fields_spelling (field k l fs))
-contained_or true k j l fs others e more = omega (arith, field_length k l fs, ap (λ (x : Item). length (spelling x)) (some_same l j e))
+contained_or : (b : Bool) (k : List ℕ) (j l : Item) (fs : Fields) (others : Option Item) → cond b (Some l) others ≡ Some j → (others ≡ Some j → length (encoding j) ≤ length (fields_encoding fs)) → length (encoding j) ≤ length (fields_encoding (field k l fs))
+contained_or true k j l fs others e more = omega (arith, field_length k l fs, ap (λ (x : Item). length (encoding x)) (some_same l j e))
 contained_or false k j l fs others e more = omega (arith, field_length k l fs, more e)
 
-contained : (name : List ℕ) (j : Item) (fs : Fields) → value_of fs name ≡ Some j → length (spelling j) ≤ length (fields_spelling fs)
+contained : (name : List ℕ) (j : Item) (fs : Fields) → value_of fs name ≡ Some j → length (encoding j) ≤ length (fields_encoding fs)
 contained name j no_fields e = absurd cc
 contained name j (field k l fs) e = contained_or (bytes_eq k name) k j l fs (value_of fs name) e (contained name j fs)
 
-map_length : (fs : Fields) → length (spelling (Item.map fs)) ≡ length (front_of Major.Map (fields_count fs)) + length (fields_spelling fs)
-map_length fs = length-append (front_of Major.Map (fields_count fs)) (fields_spelling fs)
+map_length : (fs : Fields) → length (encoding (Item.map fs)) ≡ length (front_of Major.Map (fields_count fs)) + length (fields_encoding fs)
+map_length fs = length-append (front_of Major.Map (fields_count fs)) (fields_encoding fs)
 
-number_contained : (payload : Item) (m : ℕ) → field_of payload (codes "seq") ≡ Some (number_item m) → length (spelling (number_item m)) ≤ length (spelling payload)
+number_contained : (payload : Item) (m : ℕ) → field_of payload (codes "seq") ≡ Some (number_item m) → length (encoding (number_item m)) ≤ length (encoding payload)
 number_contained (Item.map fs) m e = omega (arith, map_length fs, contained (codes "seq") (number_item m) fs e)
 number_contained (Item.int z) m e = absurd cc
 number_contained (Item.bytes bs) m e = absurd cc
@@ -135,9 +135,9 @@ number_contained (Item.bool b) m e = absurd cc
 number_contained Item.null m e = absurd cc
 
 seq_swapped : (payload : Item) (n m depth : ℕ) → Fits payload depth → field_of payload (codes "seq") ≡ Some (number_item m)
-    → length (spelling (with_seq n payload)) + length (spelling (number_item m)) ≡ length (spelling payload) + length (spelling (number_item n))
+    → length (encoding (with_seq n payload)) + length (encoding (number_item m)) ≡ length (encoding payload) + length (encoding (number_item n))
 seq_swapped (Item.map fs) n m depth fits e =
-    omega (arith, map_length fs, map_length (with_value (codes "seq") (number_item n) fs), ap (λ (k : ℕ). length (front_of Major.Map k)) (with_value_count (codes "seq") (number_item n) fs), swapped (codes "seq") (number_item n) (number_item m) None fs (depth - 1) fits.2 e)
+    omega (arith, map_length fs, map_length (with_field_value (codes "seq") (number_item n) fs), ap (λ (k : ℕ). length (front_of Major.Map k)) (with_value_count (codes "seq") (number_item n) fs), swapped (codes "seq") (number_item n) (number_item m) None fs (depth - 1) fits.2 e)
 seq_swapped (Item.int z) n m depth fits e = absurd cc
 seq_swapped (Item.bytes bs) n m depth fits e = absurd cc
 seq_swapped (Item.text bs) n m depth fits e = absurd cc
@@ -146,14 +146,14 @@ seq_swapped (Item.link bs) n m depth fits e = absurd cc
 seq_swapped (Item.bool b) n m depth fits e = absurd cc
 seq_swapped Item.null n m depth fits e = absurd cc
 
-header_length : (kind : EventKind) → length (spelling (header_of kind)) ≡ length (name_of kind) + 8
+header_length : (kind : EventKind) → length (encoding (header_of kind)) ≡ length (kind_name kind) + 8
 unfolding tail_of
 header_length EventKind.Commit = refl
 header_length EventKind.Sync = refl
 header_length EventKind.Identity = refl
 header_length EventKind.Account = refl
 
-pub name_short : (kind : EventKind) → length (name_of kind) ≤ 9
+pub name_short : (kind : EventKind) → length (kind_name kind) ≤ 9
 name_short EventKind.Commit = omega arith
 name_short EventKind.Sync = omega arith
 name_short EventKind.Identity = omega arith
@@ -161,11 +161,11 @@ name_short EventKind.Account = omega arith
 
 -- the length of the frame of an event under a number
 frame_length : (event : Seen) (n : ℕ) → IsEvent event
-    → length (out_of event n) + length (spelling (number_item event.seq)) ≡ length (spelling event.payload) + length (spelling (number_item n)) + (length (name_of (kind_of event.body)) + 8)
-unfolding out_of message_of
+    → length (out_of event n) + length (encoding (number_item event.seq)) ≡ length (encoding event.payload) + length (encoding (number_item n)) + (length (kind_name (event_kind_of event.body)) + 8)
+unfolding out_of event_message
 frame_length event n h =
     let there = number_there event.payload event.seq h.number in
-    omega (arith, length-append (spelling (header_of (kind_of event.body))) (spelling (with_seq n event.payload)), header_length (kind_of event.body), seq_swapped event.payload n event.seq 64 h.fits there.0)
+    omega (arith, length-append (encoding (header_of (event_kind_of event.body))) (encoding (with_seq n event.payload)), header_length (event_kind_of event.body), seq_swapped event.payload n event.seq 64 h.fits there.0)
 
 -- ---- nine bytes
 
@@ -181,10 +181,10 @@ tail_most n =
     (short_or (ltb n (2 ^ 16)) (to_be_bytes w16 n) _ (omega arith)
     (short_or (ltb n (2 ^ 32)) (to_be_bytes w32 n) (to_be_bytes w64 n) (omega arith) (omega arith))))
 
-number_most : (n : ℕ) → length (spelling (number_item n)) ≤ 9
+number_most : (n : ℕ) → length (encoding (number_item n)) ≤ 9
 number_most n = omega (arith, tail_most n)
 
-number_nine : (n : ℕ) → 2 ^ 32 ≤ n → length (spelling (number_item n)) ≡ 9
+number_nine : (n : ℕ) → 2 ^ 32 ≤ n → length (encoding (number_item n)) ≡ 9
 unfolding tail_of
 number_nine n h = rw (le-ltb n 24 (omega (arith, h)), le-ltb n (2 ^ 8) (omega (arith, h)), le-ltb n (2 ^ 16) (omega (arith, h)), le-ltb n (2 ^ 32) h) refl
 
@@ -221,25 +221,25 @@ module _ (payload old new names frame : ℕ) (p q s r : ℕ) (p_is : p ≡ min p
             full ∙ sym (min-eq_right (omega (arith, c.0, parts, small, some)))
       ]
 
-number_some : (n : ℕ) → 1 ≤ length (spelling (number_item n))
+number_some : (n : ℕ) → 1 ≤ length (encoding (number_item n))
 number_some n = omega arith
 
-module _ (event : Seen) (h : IsEvent event) (p q : ℕ) (p_is : p ≡ min (length (spelling event.payload)) most_number) (q_is : q ≡ min (length (spelling (number_item event.seq))) most_number) where
-  inside_of : length (spelling (number_item event.seq)) ≤ length (spelling event.payload)
+module _ (event : Seen) (h : IsEvent event) (p q : ℕ) (p_is : p ≡ min (length (encoding event.payload)) most_number) (q_is : q ≡ min (length (encoding (number_item event.seq))) most_number) where
+  inside_of : length (encoding (number_item event.seq)) ≤ length (encoding event.payload)
   inside_of = number_contained event.payload event.seq (number_there event.payload event.seq h.number).0
 
   pub number_within : q ≤ p
-  number_within = is_within (length (spelling event.payload)) (length (spelling (number_item event.seq))) p q p_is q_is (number_most event.seq) inside_of
+  number_within = is_within (length (encoding event.payload)) (length (encoding (number_item event.seq))) p q p_is q_is (number_most event.seq) inside_of
 
-  pub length_of : (n names s r : ℕ) → s ≡ min (length (spelling (number_item n))) most_number → names ≡ length (name_of (kind_of event.body)) → r ≡ min (p - q + (s + (names + 8))) most_number
+  pub length_of : (n names s r : ℕ) → s ≡ min (length (encoding (number_item n))) most_number → names ≡ length (kind_name (event_kind_of event.body)) → r ≡ min (p - q + (s + (names + 8))) most_number
       → r ≡ min (length (out_of event n)) most_number
   length_of n names s r s_is names_is r_is =
-      sum_is (length (spelling event.payload)) (length (spelling (number_item event.seq))) (length (spelling (number_item n))) names (length (out_of event n)) p q s r p_is q_is s_is r_is
+      sum_is (length (encoding event.payload)) (length (encoding (number_item event.seq))) (length (encoding (number_item n))) names (length (out_of event n)) p q s r p_is q_is s_is r_is
       (number_most event.seq) inside_of (number_some n) (number_most n) (omega (arith, frame_length event n h, names_is))
 
 -- a number's length is 9 bytes at most
-pub number_short : (n s : ℕ) → s ≡ min (length (spelling (number_item n))) most_number → s ≤ 9
-number_short n s s_is = omega (arith, old_is (length (spelling (number_item n))) s s_is (number_most n), number_most n)
+pub number_short : (n s : ℕ) → s ≡ min (length (encoding (number_item n))) most_number → s ≤ 9
+number_short n s s_is = omega (arith, old_is (length (encoding (number_item n))) s s_is (number_most n), number_most n)
 
 -- all numbers of nine bytes make frames of one length
 pub nine_bytes : (event : Seen) → IsEvent event → (n m : ℕ) → 2 ^ 32 ≤ n → 2 ^ 32 ≤ m → length (out_of event n) ≡ length (out_of event m)

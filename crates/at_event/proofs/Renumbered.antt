@@ -5,16 +5,16 @@ use Rattle.std.proofs.lemmas.Bool.{false≢true, false_from_ne_true, lt-ltb}
 use Rattle.std.proofs.lemmas.Slice.Eq.{bytes_eq-Decides}
 use Rattle.at_cbor.specs.Item.{Item, Fields, no_fields, field}
 use Rattle.at_cbor.specs.Kinds.{bytes_in, bool_in, value_of, field_of}
-use Rattle.at_cbor.specs.Spelling.{fields_count, Fits, FieldsFit}
+use Rattle.at_cbor.specs.Encoding.{fields_count, Fits, FieldsFit}
 use Rattle.at_event.specs.declared.event.Body.{Body}
 use Rattle.at_event.specs.declared.kind.EventKind.{EventKind}
 use Rattle.at_event.specs.Events.{IsEvent}
 use Rattle.at_cbor.specs.Taking.{◌>>=◌}
-use Rattle.at_form.specs.declared.forms.TheConstants.{NUMBERS}
-use Rattle.at_form.specs.Forms.{required, optional, given, not_null, formed, number_in, did_in, tid_in, short_text_in, node_in}
+use Rattle.at_cid.specs.declared.limits.TheConstants.{NUMBERS}
+use Rattle.at_form.specs.Forms.{required, optional, present_value, not_null, formed, number_in, did_in, tid_in, short_text_in, node_in}
 use Rattle.at_event.specs.Seen.{Seen}
-use Rattle.at_event.specs.Table.{seq_of, ops_in, flag_of, too_big_in, commit_of, sync_of, account_of, body_of, did_key, event_of, kind_of}
-use Rattle.at_event.specs.Writing.{number_item, with_value, with_seq, numbered, out_of}
+use Rattle.at_event.specs.Table.{seq_of, ops_in, flag_of, too_big_in, commit_event_of, sync_of, account_of, event_body_of, did_key, event_of, event_kind_of}
+use Rattle.at_event.specs.Writing.{number_item, with_field_value, with_seq, numbered, out_of}
 
 -- ---- a number put twice
 
@@ -22,10 +22,10 @@ chosen_twice : (b : Bool) (i j k : Item) → cond b i (cond b j k) ≡ cond b i 
 chosen_twice true i j k = refl
 chosen_twice false i j k = refl
 
-pub with_value_again : (name : List ℕ) (i j : Item) (fs : Fields) → with_value name i (with_value name j fs) ≡ with_value name i fs
+pub with_value_again : (name : List ℕ) (i j : Item) (fs : Fields) → with_field_value name i (with_field_value name j fs) ≡ with_field_value name i fs
 with_value_again name i j no_fields = refl
 with_value_again name i j (field k l fs) =
-    ap (λ (x : Item). field k x (with_value name i (with_value name j fs))) (chosen_twice (bytes_eq k name) i j l)
+    ap (λ (x : Item). field k x (with_field_value name i (with_field_value name j fs))) (chosen_twice (bytes_eq k name) i j l)
     ∙ ap (field k (cond (bytes_eq k name) i l)) (with_value_again name i j fs)
 
 pub with_seq_again : (n m : ℕ) (payload : Item) → with_seq n (with_seq m payload) ≡ with_seq n payload
@@ -49,10 +49,10 @@ kept_or : (b c : Bool) (i j : Item) (x y : Option Item) → (b ≡ true → c �
 kept_or true c i j x y h e = ap (λ (d : Bool). Some (cond d i j)) (h refl)
 kept_or false c i j x y h e = e
 
-value_kept : (name m : List ℕ) (i : Item) (fs : Fields) → bytes_eq name m ≡ false → value_of (with_value name i fs) m ≡ value_of fs m
+pub value_kept : (name m : List ℕ) (i : Item) (fs : Fields) → bytes_eq name m ≡ false → value_of (with_field_value name i fs) m ≡ value_of fs m
 value_kept name m i no_fields differ = refl
 value_kept name m i (field k j fs) differ =
-    kept_or (bytes_eq k m) (bytes_eq k name) i j (value_of (with_value name i fs) m) (value_of fs m) (other_key k name m differ) (value_kept name m i fs differ)
+    kept_or (bytes_eq k m) (bytes_eq k name) i j (value_of (with_field_value name i fs) m) (value_of fs m) (other_key k name m differ) (value_kept name m i fs differ)
 
 field_kept : (n : ℕ) (payload : Item) (m : List ℕ) → bytes_eq (codes "seq") m ≡ false → field_of (with_seq n payload) m ≡ field_of payload m
 field_kept n (Item.map fs) m differ = value_kept (codes "seq") m (number_item n) fs differ
@@ -68,7 +68,7 @@ required_kept : {A : Type 0} (form : Item → Option A) (n : ℕ) (payload : Ite
 required_kept form n payload m differ = ap (λ (o : Option Item). o >>= form) (field_kept n payload m differ)
 
 optional_kept : {A : Type 0} (form : Item → Option A) (n : ℕ) (payload : Item) (m : List ℕ) → bytes_eq (codes "seq") m ≡ false → optional form (with_seq n payload) m ≡ optional form payload m
-unfolding given
+unfolding present_value
 optional_kept form n payload m differ = ap (λ (o : Option Item). formed form (not_null o)) (field_kept n payload m differ)
 
 too_big_kept : (n : ℕ) (payload : Item) → too_big_in (with_seq n payload) ≡ too_big_in payload
@@ -77,8 +77,8 @@ too_big_kept n payload = ap flag_of (field_kept n payload (codes "tooBig") refl)
 
 -- ---- what the payload says
 
-commit_kept : (n : ℕ) (payload : Item) → commit_of (with_seq n payload) ≡ commit_of payload
-unfolding commit_of
+commit_kept : (n : ℕ) (payload : Item) → commit_event_of (with_seq n payload) ≡ commit_event_of payload
+unfolding commit_event_of
 commit_kept n p =
     rw (
       required_kept did_in n p (codes "repo") refl,
@@ -99,8 +99,8 @@ account_kept : (n : ℕ) (payload : Item) → account_of (with_seq n payload) �
 unfolding account_of
 account_kept n p = rw (required_kept bool_in n p (codes "active") refl, optional_kept short_text_in n p (codes "status") refl) refl
 
-body_kept : (kind : EventKind) (n : ℕ) (payload : Item) → body_of kind (with_seq n payload) ≡ body_of kind payload
-unfolding body_of
+body_kept : (kind : EventKind) (n : ℕ) (payload : Item) → event_body_of kind (with_seq n payload) ≡ event_body_of kind payload
+unfolding event_body_of
 body_kept EventKind.Commit n p = rw (commit_kept n p) refl
 body_kept EventKind.Sync n p = rw (sync_kept n p) refl
 body_kept EventKind.Identity n p = refl
@@ -118,9 +118,9 @@ put_or : (b : Bool) (i j l : Item) (x y : Option Item) → cond b (Some l) x ≡
 put_or true i j l x y e h = refl
 put_or false i j l x y e h = h e
 
-value_put : (name : List ℕ) (i j : Item) (fs : Fields) → value_of fs name ≡ Some j → value_of (with_value name i fs) name ≡ Some i
+value_put : (name : List ℕ) (i j : Item) (fs : Fields) → value_of fs name ≡ Some j → value_of (with_field_value name i fs) name ≡ Some i
 value_put name i j no_fields e = absurd cc
-value_put name i j (field k l fs) e = put_or (bytes_eq k name) i j l (value_of fs name) (value_of (with_value name i fs) name) e (value_put name i j fs)
+value_put name i j (field k l fs) e = put_or (bytes_eq k name) i j l (value_of fs name) (value_of (with_field_value name i fs) name) e (value_put name i j fs)
 
 bind_some : {A B : Type 0} (o : Option A) (f : A → Option B) (y : B) → (o >>= f) ≡ Some y → (x : A) × (o ≡ Some x)
 bind_some (Some x) f y e = (x, refl)
@@ -152,11 +152,11 @@ fits_or : (b : Bool) (i j : Item) (depth : ℕ) → Fits i depth → Fits j dept
 fits_or true i j depth p q = p
 fits_or false i j depth p q = q
 
-with_value_fits : (name : List ℕ) (i : Item) (fs : Fields) (before : Option (List ℕ)) (depth : ℕ) → Fits i depth → FieldsFit fs before depth → FieldsFit (with_value name i fs) before depth
+with_value_fits : (name : List ℕ) (i : Item) (fs : Fields) (before : Option (List ℕ)) (depth : ℕ) → Fits i depth → FieldsFit fs before depth → FieldsFit (with_field_value name i fs) before depth
 with_value_fits name i no_fields before depth p fits = tt
 with_value_fits name i (field k j fs) before depth p fits = (fits.0, fits.1, fits_or (bytes_eq k name) i j depth p fits.2, with_value_fits name i fs (Some k) depth p fits.3)
 
-pub with_value_count : (name : List ℕ) (i : Item) (fs : Fields) → fields_count (with_value name i fs) ≡ fields_count fs
+pub with_value_count : (name : List ℕ) (i : Item) (fs : Fields) → fields_count (with_field_value name i fs) ≡ fields_count fs
 with_value_count name i no_fields = refl
 with_value_count name i (field k j fs) = ap suc (with_value_count name i fs)
 
@@ -186,7 +186,7 @@ three_fields n m p q None t b = refl
 
 event_kept : (kind : EventKind) (n m : ℕ) (payload : Item) → event_of kind n (with_seq n payload) ≡ with_payload n (with_seq n payload) (event_of kind m payload)
 unfolding event_of
-event_kept kind n m p = rw (did_kept kind n p, required_kept short_text_in n p (codes "time") refl, body_kept kind n p) (three_fields n m p (with_seq n p) (required did_in p (did_key kind)) (required short_text_in p (codes "time")) (body_of kind p))
+event_kept kind n m p = rw (did_kept kind n p, required_kept short_text_in n p (codes "time") refl, body_kept kind n p) (three_fields n m p (with_seq n p) (required did_in p (did_key kind)) (required short_text_in p (codes "time")) (event_body_of kind p))
 
 -- an event under another number is an event
 pub numbered_is_event : (event : Seen) (n : ℕ) → n < 2 ^ 53 → IsEvent event → IsEvent (numbered event n)
@@ -194,7 +194,7 @@ numbered_is_event event n lt h =
     record {
       fits = with_seq_fits n event.payload 64 lt h.fits;
       number = seq_put n event.seq event.payload lt h.number;
-      read = event_kept (kind_of event.body) n event.seq event.payload ∙ ap (with_payload n (with_seq n event.payload)) h.read;
+      read = event_kept (event_kind_of event.body) n event.seq event.payload ∙ ap (with_payload n (with_seq n event.payload)) h.read;
     }
 
 -- renumbered twice, it has the last number

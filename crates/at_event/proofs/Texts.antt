@@ -7,7 +7,7 @@ use Rattle.std.proofs.lemmas.Bool.{ltb-true, lt-ltb, and_parts, and_from}
 use Rattle.std.proofs.lemmas.Bool.Decides.{nat_tests}
 use Rattle.std.proofs.lemmas.Str.{is_utf8-from_IsUtf8, IsUtf8-from_ascii}
 use Rattle.at_cid.specs.Link.{IsBytes}
-use Rattle.at_cbor.specs.Spelling.{IsText}
+use Rattle.at_cbor.specs.Encoding.{IsText}
 use Rattle.at_syntax.specs.Tid.{IsTid, is_tid_character, digits_of}
 use Rattle.at_syntax.proofs.Tids.{texts_known}
 

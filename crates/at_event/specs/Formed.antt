@@ -1,9 +1,10 @@
 -- The forms of an event's fields.
 use Rattle.std.specs.Prelude.{◌≡◌, ⊤, ◌<◌, ◌≤◌, ℕ, List, [], ◌∷◌, length, IsTrue, Option, Some, None}
 use Rattle.at_cid.specs.Link.{IsLinkOrNone, IsNodeLink, IsNodeLinkOrNone}
-use Rattle.at_cbor.specs.Spelling.{IsString, IsText}
+use Rattle.at_cbor.specs.Encoding.{IsString, IsText}
 use Rattle.at_syntax.specs.Did.{is_did}
-use Rattle.at_form.specs.declared.forms.TheConstants.{LONGEST_SHORT_TEXT, NUMBERS}
+use Rattle.at_cid.specs.declared.limits.TheConstants.{NUMBERS}
+use Rattle.at_form.specs.declared.forms.TheConstants.{LONGEST_SHORT_TEXT}
 use Rattle.at_event.specs.declared.event.Body.{Body}
 use Rattle.at_event.specs.declared.event.CommitEvent.{CommitEvent}
 use Rattle.at_event.specs.declared.event.SyncEvent.{SyncEvent}

@@ -5,7 +5,7 @@ use Rattle.at_cid.specs.Memory.{Gives}
 use Rattle.at_cbor.specs.declared.decoding.TheConstants.{DEPTH}
 use Rattle.at_cbor.specs.Item.{Item}
 use Rattle.at_cbor.specs.Kinds.{int_in, text_in, map_in}
-use Rattle.at_cbor.specs.Spelling.{spelling, Fits}
+use Rattle.at_cbor.specs.Encoding.{encoding, Fits}
 use Rattle.at_cbor.specs.Taking.{◌>>=◌, item_from_front, whole_item}
 use Rattle.at_form.specs.Forms.{required}
 use Rattle.at_event.specs.declared.frame.Frame.{Frame}
@@ -22,15 +22,15 @@ items_in message = do
   payload ← whole_item header.1
   Some (header.0, payload)
 
--- the message is the spelling of the header, and behind it that of the payload
+-- the message is the encoding of the header, and behind it that of the payload
 pub record IsMessage (message : List ℕ) (header payload : Item) : Type 0 where
   pub header_form : Fits header DEPTH
   pub payload_form : Fits payload DEPTH
-  pub spelled : message ≡ spelling header ++ spelling payload
+  pub encoded : message ≡ encoding header ++ encoding payload
 
 -- the kind of message that `t` names
-unfoldable pub named : List ℕ → Heading
-named t =
+unfoldable pub heading_named : List ℕ → Heading
+heading_named t =
     if bytes_eq t (codes "#commit") then Heading.Event EventKind.Commit
     else (if bytes_eq t (codes "#sync") then Heading.Event EventKind.Sync
     else (if bytes_eq t (codes "#identity") then Heading.Event EventKind.Identity
@@ -40,7 +40,7 @@ named t =
 
 -- `op` 1 is a message with its kind in `t`, and -1 is an error
 abbrev pub operated : ℤ → Item → Option Heading
-operated (pos n) header = if n == 1 then (required text_in header (codes "t") >>= λ t. Some (named t)) else Some Heading.Unknown
+operated (pos n) header = if n == 1 then (required text_in header (codes "t") >>= λ t. Some (heading_named t)) else Some Heading.Unknown
 operated (negsuc n) header = if n == 0 then Some Heading.Error else Some Heading.Unknown
 
 -- what the header announces, where it is one
@@ -79,17 +79,17 @@ framed (Some items) = headed (heading_of items.0) (map_in items.1) items.1
 unfoldable pub frame_of : List ℕ → Result Frame FrameFault
 frame_of message = framed (items_in message)
 
--- the cause that a fault names, but want of memory, which is none
+-- the cause that a fault names, but running out of memory, which is none
 abbrev pub cause_of : FrameFault → Option FrameFault
 cause_of FrameFault.BadFrame = Some FrameFault.BadFrame
 cause_of FrameFault.NoSeq = Some FrameFault.NoSeq
 cause_of FrameFault.Memory = None
 
--- the result is this answer, unless memory was wanted
+-- the result is this answer, unless memory ran out
 abbrev pub ReadsAs : Result Frame FrameFault → Result Frame FrameFault → Type 0
 ReadsAs result answer = Gives (λ frame. frame) cause_of result answer
 
--- The message is the spellings of two items, and the frame is what they say.
+-- The message is the encodings of two items, and the frame is what they say.
 pub record IsFrameOf (message : List ℕ) (frame : Frame) : Type 0 where
   pub header : Item
   pub payload : Item

@@ -4,8 +4,8 @@ use Rattle.at_cid.specs.Link.{IsBytes}
 use Rattle.at_cbor.specs.declared.decoding.TheConstants.{DEPTH}
 use Rattle.at_cbor.specs.Item.{Item}
 use Rattle.at_cbor.specs.Kinds.{map_in}
-use Rattle.at_cbor.specs.Spelling.{nesting}
-use Rattle.at_form.specs.declared.forms.TheConstants.{NUMBERS}
+use Rattle.at_cbor.specs.Encoding.{nesting}
+use Rattle.at_cid.specs.declared.limits.TheConstants.{NUMBERS}
 use Rattle.at_event.specs.declared.frame.Frame.{Frame}
 use Rattle.at_event.specs.Events.{IsEvent}
 use Rattle.at_event.specs.Formed.{IsFormed}

@@ -1,5 +1,5 @@
 -- The number and the word of each refusal, own.
-use Rattle.std.specs.Prelude.{ℕ, List, codes}
+use Rattle.std.specs.Prelude.{ℕ, List, [], ◌∷◌, ◌==◌, Option, Some, None, if◌then◌else◌, codes}
 use Rattle.at_event.specs.declared.refusal.Refusal.{Refusal}
 
 -- the number in rows and reports
@@ -38,38 +38,58 @@ code_of Refusal.NothingToCut = 35
 code_of Refusal.PastEnd = 36
 code_of Refusal.LastCut = 37
 
+-- those that say no more than their number
+abbrev pub plain_refusals : List Refusal
+plain_refusals =
+    Refusal.BadEvent ∷ Refusal.NotHome ∷ Refusal.Inactive ∷ Refusal.TakenDown ∷ Refusal.TooBig
+    ∷ Refusal.BlocksTooLong ∷ Refusal.TooManyOps ∷ Refusal.BadPath ∷ Refusal.RepeatedPath
+    ∷ Refusal.BadOp ∷ Refusal.Stale ∷ Refusal.BadCar ∷ Refusal.WrongRoot ∷ Refusal.WrongDigest
+    ∷ Refusal.NoCommit ∷ Refusal.BadCommit ∷ Refusal.OtherCommit ∷ Refusal.BadSignature
+    ∷ Refusal.Gap ∷ Refusal.TooLong ∷ Refusal.FutureRev ∷ Refusal.NotCommit ∷ Refusal.AlreadyDown
+    ∷ Refusal.NotDown ∷ Refusal.NoRepository ∷ Refusal.NothingToCut ∷ Refusal.PastEnd
+    ∷ Refusal.LastCut ∷ []
+
+-- the first of these with this number
+abbrev pub found_in : ℕ → List Refusal → Option Refusal
+found_in n [] = None
+found_in n (r ∷ rs) = if n == code_of r then Some r else found_in n rs
+
+-- the refusal with this number, of those that say no more than it
+unfoldable pub plain_refusal : ℕ → Option Refusal
+plain_refusal n = found_in n plain_refusals
+
 -- the word in reports
-abbrev pub name_of : Refusal → List ℕ
-name_of Refusal.BadEvent = codes "BadEvent"
-name_of Refusal.NotHome = codes "NotHome"
-name_of Refusal.Inactive = codes "Inactive"
-name_of Refusal.TakenDown = codes "TakenDown"
-name_of Refusal.TooBig = codes "TooBig"
-name_of Refusal.BlocksTooLong = codes "BlocksTooLong"
-name_of Refusal.TooManyOps = codes "TooManyOps"
-name_of Refusal.BadPath = codes "BadPath"
-name_of Refusal.RepeatedPath = codes "RepeatedPath"
-name_of Refusal.BadOp = codes "BadOp"
-name_of Refusal.Stale = codes "Stale"
-name_of Refusal.BadCar = codes "BadCar"
-name_of Refusal.WrongRoot = codes "WrongRoot"
-name_of Refusal.WrongDigest = codes "WrongDigest"
-name_of Refusal.NoCommit = codes "NoCommit"
-name_of Refusal.BadCommit = codes "BadCommit"
-name_of Refusal.OtherCommit = codes "OtherCommit"
-name_of Refusal.BadSignature = codes "BadSignature"
-name_of Refusal.Gap = codes "Gap"
-name_of (Refusal.BadNode a) = codes "BadNode"
-name_of (Refusal.OtherOp a) = codes "OtherOp"
-name_of (Refusal.NotCovered a) = codes "NotCovered"
-name_of (Refusal.OtherData a b) = codes "OtherData"
-name_of Refusal.TooLong = codes "TooLong"
-name_of Refusal.FutureRev = codes "FutureRev"
-name_of Refusal.NotCommit = codes "NotCommit"
-name_of Refusal.AlreadyDown = codes "AlreadyDown"
-name_of Refusal.NotDown = codes "NotDown"
-name_of Refusal.NoRepository = codes "NoRepository"
-name_of (Refusal.RepositoryRefused a) = codes "RepositoryRefused"
-name_of Refusal.NothingToCut = codes "NothingToCut"
-name_of Refusal.PastEnd = codes "PastEnd"
-name_of Refusal.LastCut = codes "LastCut"
+abbrev pub refusal_name : Refusal → List ℕ
+refusal_name Refusal.BadEvent = codes "BadEvent"
+refusal_name Refusal.NotHome = codes "NotHome"
+refusal_name Refusal.Inactive = codes "Inactive"
+refusal_name Refusal.TakenDown = codes "TakenDown"
+refusal_name Refusal.TooBig = codes "TooBig"
+refusal_name Refusal.BlocksTooLong = codes "BlocksTooLong"
+refusal_name Refusal.TooManyOps = codes "TooManyOps"
+refusal_name Refusal.BadPath = codes "BadPath"
+refusal_name Refusal.RepeatedPath = codes "RepeatedPath"
+refusal_name Refusal.BadOp = codes "BadOp"
+refusal_name Refusal.Stale = codes "Stale"
+refusal_name Refusal.BadCar = codes "BadCar"
+refusal_name Refusal.WrongRoot = codes "WrongRoot"
+refusal_name Refusal.WrongDigest = codes "WrongDigest"
+refusal_name Refusal.NoCommit = codes "NoCommit"
+refusal_name Refusal.BadCommit = codes "BadCommit"
+refusal_name Refusal.OtherCommit = codes "OtherCommit"
+refusal_name Refusal.BadSignature = codes "BadSignature"
+refusal_name Refusal.Gap = codes "Gap"
+refusal_name (Refusal.BadNode a) = codes "BadNode"
+refusal_name (Refusal.OtherOp a) = codes "OtherOp"
+refusal_name (Refusal.NotCovered a) = codes "NotCovered"
+refusal_name (Refusal.OtherData a b) = codes "OtherData"
+refusal_name Refusal.TooLong = codes "TooLong"
+refusal_name Refusal.FutureRev = codes "FutureRev"
+refusal_name Refusal.NotCommit = codes "NotCommit"
+refusal_name Refusal.AlreadyDown = codes "AlreadyDown"
+refusal_name Refusal.NotDown = codes "NotDown"
+refusal_name Refusal.NoRepository = codes "NoRepository"
+refusal_name (Refusal.RepositoryRefused a) = codes "RepositoryRefused"
+refusal_name Refusal.NothingToCut = codes "NothingToCut"
+refusal_name Refusal.PastEnd = codes "PastEnd"
+refusal_name Refusal.LastCut = codes "LastCut"

@@ -51,8 +51,8 @@ unfoldable pub too_big_in : Item → Option Bool
 too_big_in fields = flag_of (field_of fields (codes "tooBig"))
 
 -- the fields of a `#commit`
-unfoldable pub commit_of : Item → Option CommitEvent
-commit_of fields = do
+unfoldable pub commit_event_of : Item → Option CommitEvent
+commit_event_of fields = do
   repo ← required did_in fields (codes "repo")
   rev ← required tid_in fields (codes "rev")
   since ← optional tid_in fields (codes "since")
@@ -79,15 +79,15 @@ account_of fields = do
   Some (record { active = active; status = status })
 
 -- what an event of this kind says
-unfoldable pub body_of : EventKind → Item → Option Body
-body_of EventKind.Commit fields = do
-  commit ← commit_of fields
+unfoldable pub event_body_of : EventKind → Item → Option Body
+event_body_of EventKind.Commit fields = do
+  commit ← commit_event_of fields
   Some (Body.Commit commit)
-body_of EventKind.Sync fields = do
+event_body_of EventKind.Sync fields = do
   sync ← sync_of fields
   Some (Body.Sync sync)
-body_of EventKind.Identity fields = Some Body.Identity
-body_of EventKind.Account fields = do
+event_body_of EventKind.Identity fields = Some Body.Identity
+event_body_of EventKind.Account fields = do
   account ← account_of fields
   Some (Body.Account account)
 
@@ -103,15 +103,15 @@ unfoldable pub event_of : EventKind → ℕ → Item → Option Seen
 event_of kind seq payload = do
   did ← required did_in payload (did_key kind)
   time ← required short_text_in payload (codes "time")
-  body ← body_of kind payload
+  body ← event_body_of kind payload
   Some (record { seq = seq; did = did; time = time; body = body; payload = payload })
 
 -- an event's number
 unfoldable pub seq_of : Item → Option ℕ
 seq_of payload = required number_in payload (codes "seq")
 
-abbrev pub kind_of : Body → EventKind
-kind_of (Body.Commit c) = EventKind.Commit
-kind_of (Body.Sync s) = EventKind.Sync
-kind_of Body.Identity = EventKind.Identity
-kind_of (Body.Account a) = EventKind.Account
+abbrev pub event_kind_of : Body → EventKind
+event_kind_of (Body.Commit c) = EventKind.Commit
+event_kind_of (Body.Sync s) = EventKind.Sync
+event_kind_of Body.Identity = EventKind.Identity
+event_kind_of (Body.Account a) = EventKind.Account

@@ -2,37 +2,37 @@
 use Rattle.std.specs.Prelude.{ℕ, ◌^◌, ◌-◌, pos, List, ◌++◌, length, min, Bool, if◌then◌else◌, Option, Some, None, codes}
 use Rattle.std.specs.Str.{bytes_eq}
 use Rattle.at_cbor.specs.Item.{Item, Fields, no_fields, field}
-use Rattle.at_cbor.specs.Spelling.{spelling, fields_spelling}
+use Rattle.at_cbor.specs.Encoding.{encoding, fields_encoding}
 use Rattle.at_syntax.specs.Tid.{digits_of}
-use Rattle.at_form.specs.declared.forms.TheConstants.{NUMBERS}
+use Rattle.at_cid.specs.declared.limits.TheConstants.{NUMBERS}
 use Rattle.at_event.specs.declared.event.Body.{Body}
 use Rattle.at_event.specs.declared.kind.EventKind.{EventKind}
 use Rattle.at_event.specs.Seen.{Seen}
-use Rattle.at_event.specs.Table.{kind_of}
+use Rattle.at_event.specs.Table.{event_kind_of}
 
 -- how a header names an event
-abbrev pub name_of : EventKind → List ℕ
-name_of EventKind.Commit = codes "#commit"
-name_of EventKind.Sync = codes "#sync"
-name_of EventKind.Identity = codes "#identity"
-name_of EventKind.Account = codes "#account"
+abbrev pub kind_name : EventKind → List ℕ
+kind_name EventKind.Commit = codes "#commit"
+kind_name EventKind.Sync = codes "#sync"
+kind_name EventKind.Identity = codes "#identity"
+kind_name EventKind.Account = codes "#account"
 
 -- the header `{t, op}`
 abbrev pub header_of : EventKind → Item
-header_of kind = Item.map (field (codes "t") (Item.text (name_of kind)) (field (codes "op") (Item.int (pos 1)) no_fields))
+header_of kind = Item.map (field (codes "t") (Item.text (kind_name kind)) (field (codes "op") (Item.int (pos 1)) no_fields))
 
 -- the message of a kind of event with a payload
-unfoldable pub message_of : EventKind → Item → List ℕ
-message_of kind payload = spelling (header_of kind) ++ spelling payload
+unfoldable pub event_message : EventKind → Item → List ℕ
+event_message kind payload = encoding (header_of kind) ++ encoding payload
 
 -- a key and its value
-abbrev pub field_spelling : List ℕ → Item → List ℕ
-field_spelling key value = fields_spelling (field key value no_fields)
+abbrev pub field_encoding : List ℕ → Item → List ℕ
+field_encoding key value = fields_encoding (field key value no_fields)
 
 -- the fields, with the value of this key replaced
-abbrev pub with_value : List ℕ → Item → Fields → Fields
-with_value name value no_fields = no_fields
-with_value name value (field k i fs) = field k (if bytes_eq k name then value else i) (with_value name value fs)
+abbrev pub with_field_value : List ℕ → Item → Fields → Fields
+with_field_value name value no_fields = no_fields
+with_field_value name value (field k i fs) = field k (if bytes_eq k name then value else i) (with_field_value name value fs)
 
 -- the blocks that an event states
 abbrev pub blocks_of : Body → Option (List ℕ)
@@ -43,7 +43,7 @@ blocks_of (Body.Account account) = None
 
 -- the fields, with `blocks` replaced by these, where there are some
 abbrev pub fields_with_blocks : Option (List ℕ) → Fields → Fields
-fields_with_blocks (Some blocks) fs = with_value (codes "blocks") (Item.bytes blocks) fs
+fields_with_blocks (Some blocks) fs = with_field_value (codes "blocks") (Item.bytes blocks) fs
 fields_with_blocks None fs = fs
 
 -- the same of a payload
@@ -56,7 +56,7 @@ number_item n = Item.int (pos n)
 
 -- the payload, with its `seq` replaced
 abbrev pub with_seq : ℕ → Item → Item
-with_seq n (Item.map fs) = Item.map (with_value (codes "seq") (number_item n) fs)
+with_seq n (Item.map fs) = Item.map (with_field_value (codes "seq") (number_item n) fs)
 with_seq n i = i
 
 -- the event under another number
@@ -65,7 +65,7 @@ numbered event n = record { seq = n; did = event.did; time = event.time; body = 
 
 -- the frame in which an event goes out under a number
 unfoldable pub out_of : Seen → ℕ → List ℕ
-out_of event n = message_of (kind_of event.body) (with_seq n event.payload)
+out_of event n = event_message (event_kind_of event.body) (with_seq n event.payload)
 
 -- how long that frame is where the number takes nine bytes, as the greatest does; at most the greatest number of 64 bits
 unfoldable pub out_length : Seen → ℕ

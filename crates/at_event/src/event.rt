@@ -113,10 +113,11 @@ impl Model for Event {
 impl Event {
     ghost use Rattle.std.specs.Prelude.{◌≡◌};
     ghost use Rattle.at_event.specs.Events.{IsEvent};
-    ghost use Rattle.at_event.specs.Table.{kind_of};
+    ghost use Rattle.at_event.specs.Table.{event_kind_of};
 
-    /// Tells what each event owes its payload.
-    pub fn tell_event(&self)
+    /// Does nothing when it runs: what each event owes its payload, for the prover.
+    #[inline]
+    pub fn ghost_event(&self)
         ensures { IsEvent self.now }
     {
         let _kind = self.kind();
@@ -124,7 +125,7 @@ impl Event {
 
     /// Its kind.
     pub fn kind(&self) -> EventKind
-        ensures value { result ≡ kind_of self.now.body }
+        ensures value { result ≡ event_kind_of self.now.body }
         // What each event owes its payload.
         ensures event { IsEvent self.now }
     {

@@ -9,7 +9,7 @@ use at_cid::Memory;
 pub enum Flaw {
     /// A field is missing or of another form.
     BadField,
-    /// Memory was wanted.
+    /// Memory ran out.
     Memory,
 }
 

@@ -31,7 +31,7 @@ pub enum FrameFault {
     /// An event has no number from 0 to 2^53 - 1.
     #[error("the event has no number")]
     NoSeq,
-    /// Memory was wanted.
+    /// Memory ran out.
     #[error("out of memory")]
     Memory,
 }

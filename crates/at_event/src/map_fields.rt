@@ -3,8 +3,8 @@
 ghost use Rattle.std.specs.Prelude.{◌≡◌, ◌++◌, ◌<◌, OnOk};
 ghost use Rattle.at_cbor.specs.Item.{Item};
 ghost use Rattle.at_syntax.specs.Tid.{digits_of};
-ghost use Rattle.at_form.specs.declared.forms.TheConstants.{NUMBERS};
-ghost use Rattle.at_event.specs.Writing.{field_spelling, number_item};
+ghost use Rattle.at_cid.specs.declared.limits.TheConstants.{NUMBERS};
+ghost use Rattle.at_event.specs.Writing.{field_encoding, number_item};
 
 use crate::writing::write_number;
 use at_cbor::{write_bool, write_bytes, write_text};
@@ -13,7 +13,7 @@ use at_syntax::{TID_LEN, Tid};
 
 /// Adds a field of a map whose value is a text.
 pub fn write_text_field(out: &mut Octets, key: &str, text: &str) -> Result<(), Memory>
-    ensures { OnOk result (out.new ≡ out.old ++ field_spelling key.now (Item.text text.now)) }
+    ensures { OnOk result (out.new ≡ out.old ++ field_encoding key.now (Item.text text.now)) }
 {
     write_text(out, key)?;
     write_text(out, text)
@@ -21,7 +21,7 @@ pub fn write_text_field(out: &mut Octets, key: &str, text: &str) -> Result<(), M
 
 /// Adds a field whose value is a revision, as a text.
 pub fn write_tid_field(out: &mut Octets, key: &str, tid: Tid) -> Result<(), Memory>
-    ensures { OnOk result (out.new ≡ out.old ++ field_spelling key.now (Item.text (digits_of tid))) }
+    ensures { OnOk result (out.new ≡ out.old ++ field_encoding key.now (Item.text (digits_of tid))) }
 {
     let mut digits = [0; TID_LEN];
     write_text_field(out, key, tid.write_text(&mut digits))
@@ -30,7 +30,7 @@ pub fn write_tid_field(out: &mut Octets, key: &str, tid: Tid) -> Result<(), Memo
 /// Adds a field whose value is a number.
 pub fn write_number_field(out: &mut Octets, key: &str, number: u64) -> Result<(), Memory>
     requires { number < NUMBERS }
-    ensures { OnOk result (out.new ≡ out.old ++ field_spelling key.now (number_item number)) }
+    ensures { OnOk result (out.new ≡ out.old ++ field_encoding key.now (number_item number)) }
 {
     write_text(out, key)?;
     write_number(out, number)
@@ -38,7 +38,7 @@ pub fn write_number_field(out: &mut Octets, key: &str, number: u64) -> Result<()
 
 /// Adds a field whose value is a string of bytes.
 pub fn write_bytes_field(out: &mut Octets, key: &str, bytes: &[u8]) -> Result<(), Memory>
-    ensures { OnOk result (out.new ≡ out.old ++ field_spelling key.now (Item.bytes bytes.now)) }
+    ensures { OnOk result (out.new ≡ out.old ++ field_encoding key.now (Item.bytes bytes.now)) }
 {
     write_text(out, key)?;
     write_bytes(out, bytes)
@@ -46,7 +46,7 @@ pub fn write_bytes_field(out: &mut Octets, key: &str, bytes: &[u8]) -> Result<()
 
 /// Adds a field whose value is true or false.
 pub fn write_bool_field(out: &mut Octets, key: &str, truth: bool) -> Result<(), Memory>
-    ensures { OnOk result (out.new ≡ out.old ++ field_spelling key.now (Item.bool truth)) }
+    ensures { OnOk result (out.new ≡ out.old ++ field_encoding key.now (Item.bool truth)) }
 {
     write_text(out, key)?;
     write_bool(out, truth)

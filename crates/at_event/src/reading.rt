@@ -3,11 +3,11 @@
 ghost use Rattle.std.specs.Prelude.{◌≡◌, option_map, IfOk, IfSome, Some};
 ghost use Rattle.at_cbor.specs.Item.{Item};
 ghost use Rattle.at_cbor.specs.declared.decoding.TheConstants.{DEPTH};
-ghost use Rattle.at_cbor.specs.Spelling.{Fits};
+ghost use Rattle.at_cbor.specs.Encoding.{Fits};
 ghost use Rattle.at_cbor.specs.View.{item_of};
 ghost use Rattle.at_event.specs.Flaws.{Reads};
 ghost use Rattle.at_event.specs.Formed.{IsFormedFrame};
-ghost use Rattle.at_event.specs.Frames.{items_in, named, heading_of, event_frame, announced, framed, frame_of, IsMessage, IsFrameOf, ReadsAs};
+ghost use Rattle.at_event.specs.Frames.{items_in, heading_named, heading_of, event_frame, announced, framed, frame_of, IsMessage, IsFrameOf, ReadsAs};
 ghost use Rattle.at_event.specs.Table.{event_of, seq_of};
 
 use crate::event::Event;
@@ -36,9 +36,9 @@ fn read_items(alloc: Global, message: &[u8]) -> Result<Option<(Value, Value)>, M
     }
 }
 
-#[tactic(auto, unfolding(crate::specs::Frames::named))]
+#[tactic(auto, unfolding(crate::specs::Frames::heading_named))]
 fn named(text: &str) -> Heading
-    ensures { result ≡ named text.now }
+    ensures { result ≡ heading_named text.now }
 {
     match text {
         "#commit" => Heading::Event(EventKind::Commit),
@@ -136,7 +136,7 @@ fn read_message(alloc: Global, message: &[u8]) -> Result<Frame, FrameFault>
 /// header's `op` is no integer, or is 1 where `t` is no text. `NoSeq`: an event's `seq` isn't an integer
 /// from 0 to 2^53 - 1. An event with another field that is missing or of another form is `Faulty`.
 pub fn read_frame(alloc: Global, message: &[u8]) -> Result<Frame, FrameFault>
-    // The message is spelled so, and a message that is spelled so is read.
+    // The message is encoded so, and a message that is encoded so is read.
     ensures whole { IfOk result (IsFrameOf message.now) }
     ensures only { (header payload : Item) → IsMessage message.now header payload → ReadsAs result (framed (Some (header, payload))) }
     // The fields of an event have their forms.

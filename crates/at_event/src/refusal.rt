@@ -1,11 +1,11 @@
-//! Why a relay refuses a message, or an operator's word.
+//! Why a relay refuses a message, or an operator's command.
 
 ghost use Rattle.std.specs.Prelude.{◌≡◌};
-ghost use Rattle.at_event.specs.Refusals.{code_of, name_of};
+ghost use Rattle.at_event.specs.Refusals.{code_of, refusal_name, plain_refusal};
 
 use at_cid::Cid;
 
-/// Why a message, or an operator's word, is refused.
+/// Why a message, or an operator's command, is refused.
 #[derive(Clone, Copy, Debug, PartialEq, Eq)]
 pub enum Refusal {
     /// The frame is an event with a bad field.
@@ -118,9 +118,47 @@ impl Refusal {
         }
     }
 
+    /// The refusal of this number, of those that say no more than it.
+    #[tactic(auto, unfolding(crate::specs::Refusals::plain_refusal))]
+    pub fn plain(code: u8) -> Option<Refusal>
+        ensures { result ≡ plain_refusal code }
+    {
+        match code {
+            1 => Some(Refusal::BadEvent),
+            2 => Some(Refusal::NotHome),
+            3 => Some(Refusal::Inactive),
+            4 => Some(Refusal::TakenDown),
+            5 => Some(Refusal::TooBig),
+            6 => Some(Refusal::BlocksTooLong),
+            7 => Some(Refusal::TooManyOps),
+            8 => Some(Refusal::BadPath),
+            9 => Some(Refusal::RepeatedPath),
+            10 => Some(Refusal::BadOp),
+            11 => Some(Refusal::Stale),
+            12 => Some(Refusal::BadCar),
+            13 => Some(Refusal::WrongRoot),
+            14 => Some(Refusal::WrongDigest),
+            15 => Some(Refusal::NoCommit),
+            16 => Some(Refusal::BadCommit),
+            17 => Some(Refusal::OtherCommit),
+            18 => Some(Refusal::BadSignature),
+            19 => Some(Refusal::Gap),
+            24 => Some(Refusal::TooLong),
+            25 => Some(Refusal::FutureRev),
+            30 => Some(Refusal::NotCommit),
+            31 => Some(Refusal::AlreadyDown),
+            32 => Some(Refusal::NotDown),
+            33 => Some(Refusal::NoRepository),
+            35 => Some(Refusal::NothingToCut),
+            36 => Some(Refusal::PastEnd),
+            37 => Some(Refusal::LastCut),
+            _ => None,
+        }
+    }
+
     /// The word that reports give.
     pub fn name(&self) -> &'static str
-        ensures { result.now ≡ name_of self.now }
+        ensures { result.now ≡ refusal_name self.now }
     {
         match self {
             Refusal::BadEvent => "BadEvent",

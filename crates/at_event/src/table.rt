@@ -3,10 +3,10 @@
 ghost use Rattle.std.specs.Prelude.{◌≡◌, map, Some, IfOk, codes};
 ghost use Rattle.at_cbor.specs.declared.decoding.TheConstants.{DEPTH};
 ghost use Rattle.at_cbor.specs.Kinds.{bytes_in};
-ghost use Rattle.at_cbor.specs.Spelling.{Fits};
+ghost use Rattle.at_cbor.specs.Encoding.{Fits};
 ghost use Rattle.at_cbor.specs.View.{item_of};
 ghost use Rattle.at_form.specs.Forms.{required};
-ghost use Rattle.at_event.specs.Table.{action_of, op_of, ops_of, ops_in, too_big_in, commit_of, sync_of, account_of, body_of, did_key, kind_of};
+ghost use Rattle.at_event.specs.Table.{action_of, op_of, ops_of, ops_in, too_big_in, commit_event_of, sync_of, account_of, event_body_of, did_key, event_kind_of};
 ghost use Rattle.at_event.specs.Flaws.{Reads};
 ghost use Rattle.at_event.specs.Writing.{blocks_of, with_blocks};
 
@@ -94,10 +94,10 @@ fn take_blocks(alloc: Global, fields: &mut Value) -> Result<Octets, Flaw>
     }
 }
 
-#[tactic(auto, unfolding(crate::specs::Table::commit_of))]
+#[tactic(auto, unfolding(crate::specs::Table::commit_event_of))]
 fn read_commit(alloc: Global, fields: &mut Value) -> Result<CommitEvent, Flaw>
     requires { Fits (item_of fields.old) DEPTH }
-    ensures commit { Reads (λ commit. commit) result (commit_of (item_of fields.old)) }
+    ensures commit { Reads (λ commit. commit) result (commit_event_of (item_of fields.old)) }
     ensures left { IfOk result (λ commit. item_of fields.old ≡ with_blocks (Some commit.blocks) (item_of fields.new)) }
 {
     let repo = required_did(fields, "repo")?;
@@ -142,11 +142,11 @@ fn read_account(fields: &Value) -> Result<AccountEvent, Flaw>
 }
 
 /// What an event of this kind says. Its blocks, where it has some, are taken out of the payload.
-#[tactic(auto, unfolding(crate::specs::Table::body_of), using(crate::proofs::Blocks::no_blocks))]
+#[tactic(auto, unfolding(crate::specs::Table::event_body_of), using(crate::proofs::Blocks::no_blocks))]
 pub fn read_body(alloc: Global, kind: EventKind, fields: &mut Value) -> Result<Body, Flaw>
     requires { Fits (item_of fields.old) DEPTH }
-    ensures body { Reads (λ body. body) result (body_of kind (item_of fields.old)) }
-    ensures kind { IfOk result (λ body. kind_of body ≡ kind) }
+    ensures body { Reads (λ body. body) result (event_body_of kind (item_of fields.old)) }
+    ensures kind { IfOk result (λ body. event_kind_of body ≡ kind) }
     ensures left { IfOk result (λ body. item_of fields.old ≡ with_blocks (blocks_of body) (item_of fields.new)) }
 {
     match kind {

@@ -2,25 +2,24 @@
 
 ghost use Rattle.std.specs.Prelude.{◌≡◌, ◌++◌, ◌-◌, ◌^◌, ◌<◌, ◌≤◌, ℕ, map, length, take, codes, min, OnOk, OnErr, IfOk, Ok};
 ghost use Rattle.at_cbor.specs.Item.{field, no_fields, fields_of};
-ghost use Rattle.at_cbor.specs.Spelling.{spelling, fields_spelling};
+ghost use Rattle.at_cbor.specs.Encoding.{encoding, fields_encoding};
 ghost use Rattle.at_cbor.specs.View.{item_of, pair_of};
-ghost use Rattle.at_form.specs.declared.forms.TheConstants.{NUMBERS};
+ghost use Rattle.at_cid.specs.declared.limits.TheConstants.{NUMBERS};
 ghost use Rattle.at_event.specs.declared.frame.Frame.{Frame};
 ghost use Rattle.at_event.specs.Frames.{frame_of};
-ghost use Rattle.at_event.specs.Writing.{name_of, header_of, number_item, with_value, with_seq, blocks_of, fields_with_blocks, with_blocks, numbered, out_of, out_length};
+ghost use Rattle.at_event.specs.Writing.{kind_name, header_of, number_item, with_field_value, with_seq, blocks_of, fields_with_blocks, with_blocks, numbered, out_of, out_length};
 
 use crate::event::{Body, Event};
 use crate::kind::EventKind;
 use at_cbor::{
-    Value, front_len, spelled_len, string_len, write_bytes, write_int, write_map_front, write_text,
+    Value, encoded_len, front_len, string_len, write_bytes, write_int, write_map_front, write_text,
     write_value,
 };
-use at_cid::{Memory, Octets, Words};
-use at_form::NUMBERS;
+use at_cid::{Memory, NUMBERS, Octets, Words};
 use std::alloc::Global;
 
 fn name(kind: EventKind) -> &'static str
-    ensures { result.now ≡ name_of kind }
+    ensures { result.now ≡ kind_name kind }
 {
     match kind {
         EventKind::Commit => "#commit",
@@ -32,7 +31,7 @@ fn name(kind: EventKind) -> &'static str
 
 /// Adds the header of an event.
 pub fn write_header(out: &mut Octets, kind: EventKind) -> Result<(), Memory>
-    ensures written { OnOk result (out.new ≡ out.old ++ spelling (header_of kind)) }
+    ensures written { OnOk result (out.new ≡ out.old ++ encoding (header_of kind)) }
     ensures err { OnErr result (take (length out.old) out.new ≡ out.old) }
 {
     write_map_front(out, 2)?;
@@ -45,7 +44,7 @@ pub fn write_header(out: &mut Octets, kind: EventKind) -> Result<(), Memory>
 /// Adds an event's number.
 pub fn write_number(out: &mut Octets, seq: u64) -> Result<(), Memory>
     requires { seq < NUMBERS }
-    ensures written { OnOk result (out.new ≡ out.old ++ spelling (number_item seq)) }
+    ensures written { OnOk result (out.new ≡ out.old ++ encoding (number_item seq)) }
     ensures err { OnErr result (take (length out.old) out.new ≡ out.old) }
 {
     write_int(out, seq as i64)
@@ -59,7 +58,7 @@ fn write_field(
     seq: u64,
 ) -> Result<(), Memory>
     requires { seq < NUMBERS }
-    ensures written { OnOk result (out.new ≡ out.old ++ fields_spelling (with_value (codes "seq") (number_item seq) (fields_with_blocks (blocks_of body.now) (field key.now (item_of value.now) no_fields)))) }
+    ensures written { OnOk result (out.new ≡ out.old ++ fields_encoding (with_field_value (codes "seq") (number_item seq) (fields_with_blocks (blocks_of body.now) (field key.now (item_of value.now) no_fields)))) }
     ensures err { OnErr result (take (length out.old) out.new ≡ out.old) }
 {
     write_text(out, key.as_str())?;
@@ -80,7 +79,7 @@ fn write_fields(
     seq: u64,
 ) -> Result<(), Memory>
     requires { seq < NUMBERS }
-    ensures written { OnOk result (out.new ≡ out.old ++ fields_spelling (with_value (codes "seq") (number_item seq) (fields_with_blocks (blocks_of body.now) (fields_of (map pair_of fields.now))))) }
+    ensures written { OnOk result (out.new ≡ out.old ++ fields_encoding (with_field_value (codes "seq") (number_item seq) (fields_with_blocks (blocks_of body.now) (fields_of (map pair_of fields.now))))) }
     ensures err { OnErr result (take (length out.old) out.new ≡ out.old) }
 {
     for (key, value) in fields {
@@ -91,7 +90,7 @@ fn write_fields(
 
 fn write_payload(out: &mut Octets, rest: &Value, body: &Body, seq: u64) -> Result<(), Memory>
     requires { seq < NUMBERS }
-    ensures written { OnOk result (out.new ≡ out.old ++ spelling (with_seq seq (with_blocks (blocks_of body.now) (item_of rest.now)))) }
+    ensures written { OnOk result (out.new ≡ out.old ++ encoding (with_seq seq (with_blocks (blocks_of body.now) (item_of rest.now)))) }
     ensures err { OnErr result (take (length out.old) out.new ≡ out.old) }
 {
     match rest {
@@ -105,8 +104,8 @@ fn write_payload(out: &mut Octets, rest: &Value, body: &Body, seq: u64) -> Resul
 }
 
 /// Adds the frame in which an event goes out under a number: its payload with `seq` replaced, behind the header `{t, op}`. Where
-/// memory is wanted, what was there stays in front.
-#[tactic(auto, unfolding(crate::specs::Writing::out_of, crate::specs::Writing::message_of))]
+/// memory runs out, what was there stays in front.
+#[tactic(auto, unfolding(crate::specs::Writing::out_of, crate::specs::Writing::event_message))]
 pub fn write_frame(out: &mut Octets, event: &Event, seq: u64) -> Result<(), Memory>
     requires { seq < NUMBERS }
     ensures written { OnOk result (out.new ≡ out.old ++ out_of event.now seq) }
@@ -119,11 +118,11 @@ pub fn write_frame(out: &mut Octets, event: &Event, seq: u64) -> Result<(), Memo
 /// The frame in which an event goes out under a number, with its own memory.
 pub fn out_frame(alloc: Global, event: &Event, seq: u64) -> Result<Octets, Memory>
     requires { seq < NUMBERS }
-    ensures spelled { IfOk result (λ bytes. bytes ≡ out_of event.now seq) }
+    ensures encoded { IfOk result (λ bytes. bytes ≡ out_of event.now seq) }
     // It is read back as the same event, under the number.
     ensures again { IfOk result (λ bytes. frame_of bytes ≡ Ok (Frame.Event (numbered event.now seq))) }
 {
-    event.tell_event();
+    event.ghost_event();
     let mut out = Octets::new(alloc);
     write_frame(&mut out, event, seq)?;
     Ok(out)
@@ -131,23 +130,23 @@ pub fn out_frame(alloc: Global, event: &Event, seq: u64) -> Result<Octets, Memor
 
 fn number_len(seq: u64) -> u64
     requires { seq < NUMBERS }
-    ensures { result ≡ min (length (spelling (number_item seq))) (2 ^ 64 - 1) }
+    ensures { result ≡ min (length (encoding (number_item seq))) (2 ^ 64 - 1) }
 {
-    spelled_len(&Value::Int(seq as i64))
+    encoded_len(&Value::Int(seq as i64))
 }
 
 fn field_len(key: &Words, value: &Value, body: &Body) -> u64
-    ensures { result ≡ min (length (fields_spelling (fields_with_blocks (blocks_of body.now) (field key.now (item_of value.now) no_fields)))) (2 ^ 64 - 1) }
+    ensures { result ≡ min (length (fields_encoding (fields_with_blocks (blocks_of body.now) (field key.now (item_of value.now) no_fields)))) (2 ^ 64 - 1) }
 {
     let value = match body.blocks() {
         Some(blocks) if key.as_bytes() == "blocks".as_bytes() => string_len(blocks.len()),
-        _ => spelled_len(value),
+        _ => encoded_len(value),
     };
     string_len(key.len()).saturating_add(value)
 }
 
 fn fields_len(fields: &[(Words, Value)], body: &Body) -> u64
-    ensures { result ≡ min (length (fields_spelling (fields_with_blocks (blocks_of body.now) (fields_of (map pair_of fields.now))))) (2 ^ 64 - 1) }
+    ensures { result ≡ min (length (fields_encoding (fields_with_blocks (blocks_of body.now) (fields_of (map pair_of fields.now))))) (2 ^ 64 - 1) }
 {
     let mut sum: u64 = 0;
     for (key, value) in fields {
@@ -157,7 +156,7 @@ fn fields_len(fields: &[(Words, Value)], body: &Body) -> u64
 }
 
 fn payload_len(rest: &Value, body: &Body) -> u64
-    ensures { result ≡ min (length (spelling (with_blocks (blocks_of body.now) (item_of rest.now)))) (2 ^ 64 - 1) }
+    ensures { result ≡ min (length (encoding (with_blocks (blocks_of body.now) (item_of rest.now)))) (2 ^ 64 - 1) }
 {
     match rest {
         Value::Map(fields) => {
@@ -165,7 +164,7 @@ fn payload_len(rest: &Value, body: &Body) -> u64
             front.saturating_add(fields_len(fields.as_slice(), body))
         }
         // No event has such a payload.
-        other => spelled_len(other),
+        other => encoded_len(other),
     }
 }
 
@@ -188,6 +187,6 @@ pub fn out_len(event: &Event) -> u64
     // No frame of the event is longer.
     ensures most { (n : ℕ) → n < NUMBERS → min (length (out_of event.now n)) (2 ^ 64 - 1) ≤ result }
 {
-    event.tell_event();
+    event.ghost_event();
     frame_len(event, NUMBERS - 1)
 }

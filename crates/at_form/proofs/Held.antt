@@ -7,11 +7,12 @@ use Rattle.at_cid.specs.declared.cid.Kind.{Kind}
 use Rattle.at_cid.specs.declared.cid.Kind.TheVariants.{Node, Raw}
 use Rattle.at_cbor.specs.Item.{Item}
 use Rattle.at_cbor.specs.Kinds.{int_in, text_in}
-use Rattle.at_cbor.specs.Spelling.{Fits}
+use Rattle.at_cbor.specs.Encoding.{Fits}
 use Rattle.at_cbor.specs.Taking.{◌>>=◌}
 use Rattle.at_syntax.specs.Did.{is_did}
-use Rattle.at_form.specs.declared.forms.TheConstants.{LONGEST_SHORT_TEXT, NUMBERS}
-use Rattle.at_form.specs.Forms.{did_in, short_text_in, of_node, node_in, number_of, number_in}
+use Rattle.at_cid.specs.declared.limits.TheConstants.{NUMBERS}
+use Rattle.at_form.specs.declared.forms.TheConstants.{LONGEST_SHORT_TEXT}
+use Rattle.at_form.specs.Forms.{did_in, short_text_in, of_node, node_in, number_from, number_in}
 
 pub some_same : {A : Type 0} (x y : A) → Some x ≡ Some y → x ≡ y
 some_same x y e = cc
@@ -43,7 +44,7 @@ pub short_held : (i : Item) (text : List ℕ) → short_text_in i ≡ Some text 
 unfolding short_text_in
 short_held i text e = let given = step_from (text_in i) (λ (text : List ℕ). cond (leb (length text) LONGEST_SHORT_TEXT) (Some text) None) text e in short_if given.0 text given.2
 
-number_if : (z : ℤ) (n : ℕ) → number_of z ≡ Some n → n < NUMBERS
+number_if : (z : ℤ) (n : ℕ) → number_from z ≡ Some n → n < NUMBERS
 number_if (pos m) n e =
     elim (ltb m NUMBERS) as (λ t. ltb m NUMBERS ≡ t → cond t (Some m) None ≡ Some n → n < NUMBERS) [
       | true ↦ λ known same. subst (λ (k : ℕ). k < NUMBERS) (some_same m n same) (ltb-true m NUMBERS known)
@@ -53,7 +54,7 @@ number_if (negsuc m) n e = absurd cc
 
 pub number_held : (i : Item) (n : ℕ) → number_in i ≡ Some n → n < NUMBERS
 unfolding number_in
-number_held i n e = let given = step_from (int_in i) number_of n e in number_if given.0 n given.2
+number_held i n e = let given = step_from (int_in i) number_from n e in number_if given.0 n given.2
 
 of_node_held : (kind : Kind) (link c : List ℕ) → of_node kind link ≡ Some c → (kind ≡ Node) × (link ≡ c)
 of_node_held Node link c e = (refl, some_same link c e)

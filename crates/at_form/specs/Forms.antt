@@ -9,7 +9,8 @@ use Rattle.at_cbor.specs.Kinds.{int_in, text_in, link_in, null_in, field_of}
 use Rattle.at_cbor.specs.Taking.{◌>>=◌}
 use Rattle.at_syntax.specs.Did.{is_did}
 use Rattle.at_syntax.specs.Tid.{tid_of}
-use Rattle.at_form.specs.declared.forms.TheConstants.{LONGEST_SHORT_TEXT, NUMBERS}
+use Rattle.at_cid.specs.declared.limits.TheConstants.{NUMBERS}
+use Rattle.at_form.specs.declared.forms.TheConstants.{LONGEST_SHORT_TEXT}
 
 -- a text that is a DID
 unfoldable pub did_in : Item → Option (List ℕ)
@@ -31,13 +32,13 @@ of_node Raw link = None
 unfoldable pub node_in : Item → Option (List ℕ)
 node_in i = link_in i >>= λ link. of_node (kind_of link) link
 
-abbrev pub number_of : ℤ → Option ℕ
-number_of (pos n) = if nat_lt n NUMBERS then Some n else None
-number_of (negsuc n) = None
+abbrev pub number_from : ℤ → Option ℕ
+number_from (pos n) = if nat_lt n NUMBERS then Some n else None
+number_from (negsuc n) = None
 
 -- an integer from 0 on, below the limit of numbers
 unfoldable pub number_in : Item → Option ℕ
-number_in i = int_in i >>= number_of
+number_in i = int_in i >>= number_from
 
 -- what is there, unless it is null
 abbrev pub not_null : Option Item → Option Item
@@ -45,8 +46,8 @@ not_null (Some i) = if null_in i then None else Some i
 not_null None = None
 
 -- the value of a key, unless it is null
-unfoldable pub given : Item → List ℕ → Option Item
-given fields name = not_null (field_of fields name)
+unfoldable pub present_value : Item → List ℕ → Option Item
+present_value fields name = not_null (field_of fields name)
 
 -- what is there has the form
 abbrev pub formed : {A : Type 0} → (Item → Option A) → Option Item → Option (Option A)
@@ -55,7 +56,7 @@ formed form None = Some None
 
 -- the value of a key in a form, or nothing where it is null or absent
 abbrev pub optional : {A : Type 0} → (Item → Option A) → Item → List ℕ → Option (Option A)
-optional form fields name = formed form (given fields name)
+optional form fields name = formed form (present_value fields name)
 
 -- the value of a key in a form
 abbrev pub required : {A : Type 0} → (Item → Option A) → Item → List ℕ → Option A

@@ -3,7 +3,7 @@
 ghost use Rattle.std.specs.Prelude.{◌≡◌, option_map};
 ghost use Rattle.at_cbor.specs.Kinds.{link_in};
 ghost use Rattle.at_cbor.specs.View.{item_of};
-ghost use Rattle.at_form.specs.Forms.{tid_in, node_in, given, optional};
+ghost use Rattle.at_form.specs.Forms.{tid_in, node_in, present_value, optional};
 
 use crate::forms::{node, tid};
 use at_cbor::{Value, field};
@@ -11,9 +11,9 @@ use at_cid::Cid;
 use at_syntax::Tid;
 
 /// The value of a key, unless it is null.
-#[tactic(auto, unfolding(crate::specs::Forms::given))]
+#[tactic(auto, unfolding(crate::specs::Forms::present_value))]
 pub fn given<'a>(fields: &'a Value, name: &str) -> Option<&'a Value>
-    ensures { option_map (λ value. item_of value.now) result ≡ given (item_of fields.now) name.now }
+    ensures { option_map (λ value. item_of value.now) result ≡ present_value (item_of fields.now) name.now }
 {
     match field(fields, name) {
         Some(value) if value.is_null() => None,

@@ -8,14 +8,11 @@ ghost use Rattle.at_syntax.specs.Did.{is_did};
 ghost use Rattle.at_form.specs.Forms.{did_in, tid_in, short_text_in, node_in, number_in};
 
 use at_cbor::Value;
-use at_cid::{Cid, Kind, Words};
+use at_cid::{Cid, Kind, NUMBERS, Words};
 use at_syntax::{Tid, did_ok};
 
 /// How many bytes a short text has at most, as the time and the status of an event (own limit).
 pub const LONGEST_SHORT_TEXT: usize = 64;
-
-/// Numbers are below this: those that a double-precision float has exactly (Data Model specification, integers).
-pub const NUMBERS: u64 = 1 << 53;
 
 /// A text that is a DID.
 #[tactic(auto, unfolding(crate::specs::Forms::did_in))]

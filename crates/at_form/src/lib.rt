@@ -5,4 +5,4 @@ mod fields;
 mod forms;
 
 pub use fields::{given, optional_link, optional_node, optional_tid};
-pub use forms::{LONGEST_SHORT_TEXT, NUMBERS, did, node, number, short_text, tid};
+pub use forms::{LONGEST_SHORT_TEXT, did, node, number, short_text, tid};

@@ -8,18 +8,18 @@ use Rattle.std.proofs.lemmas.Slice.Eq.{bytes_eq-Decides}
 use Rattle.std.proofs.lemmas.List.{length-append, length_push, take_more, take_all}
 use Rattle.std.proofs.Math.Seq.{take-append_seam, get_or-append_seam}
 use Rattle.at_syntax.specs.Characters.{is_lower}
-use Rattle.at_syntax.specs.Did.{IsDid, is_did, is_colon, is_named, is_method, is_identifier, is_identifier_character, is_final_character, scheme_of, method_of, identifier_of}
+use Rattle.at_syntax.specs.Did.{IsDid, is_did, is_colon, is_did_scheme, is_method, is_identifier, is_identifier_character, is_final_character, scheme_of, method_of, identifier_of}
 use Rattle.at_syntax.proofs.Splits.{after_none, part_before, part_after, parts_again}
 
 no_identifier : (b : Bool) (rest : List ℕ) → rest ≡ [] → (b && is_identifier rest) ≡ false
 no_identifier b rest e = and_right b (is_identifier rest) (ap is_identifier e)
 
-pub one_colon : (scheme rest : List ℕ) → position_or_len (λ c. eqb c 58) rest ≡ length rest → is_named scheme rest ≡ false
+pub one_colon : (scheme rest : List ℕ) → position_or_len (λ c. eqb c 58) rest ≡ length rest → is_did_scheme scheme rest ≡ false
 one_colon scheme rest h = no_identifier (bytes_eq scheme (codes "did") && is_method (before_first is_colon rest)) (after_first is_colon rest) (after_none 58 rest h)
 
 pub no_colon : (text : List ℕ) → position_or_len (λ c. eqb c 58) text ≡ length text → is_did text ≡ false
 unfolding is_did
-no_colon text h = and_right (nat_le (length text) 2048) (is_named (scheme_of text) (after_first is_colon text)) (rw (after_none 58 text h) (and_right (bytes_eq (scheme_of text) (codes "did") && false) false refl))
+no_colon text h = and_right (nat_le (length text) 2048) (is_did_scheme (scheme_of text) (after_first is_colon text)) (rw (after_none 58 text h) (and_right (bytes_eq (scheme_of text) (codes "did") && false) false refl))
 
 -- a DID has two colons
 pub colon_there : (text : List ℕ) → is_did text ≡ true → position_or_len (λ c. eqb c 58) text ≡ length text → ⊥
@@ -28,8 +28,8 @@ colon_there text is h = false≢true (sym (no_colon text h) ∙ is)
 pub second_there : (text rest : List ℕ) → rest ≡ after_first is_colon text → is_did text ≡ true → position_or_len (λ c. eqb c 58) rest ≡ length rest → ⊥
 unfolding is_did
 second_there text rest e is h =
-    let none : is_named (scheme_of text) (after_first is_colon text) ≡ false = ap (is_named (scheme_of text)) (sym e) ∙ one_colon (scheme_of text) rest h in
-    false≢true (sym (and_right (nat_le (length text) 2048) (is_named (scheme_of text) (after_first is_colon text)) none) ∙ is)
+    let none : is_did_scheme (scheme_of text) (after_first is_colon text) ≡ false = ap (is_did_scheme (scheme_of text)) (sym e) ∙ one_colon (scheme_of text) rest h in
+    false≢true (sym (and_right (nat_le (length text) 2048) (is_did_scheme (scheme_of text) (after_first is_colon text)) none) ∙ is)
 
 last_again : (xs : List ℕ) → 0 < length xs → take (length xs - 1) xs ++ get_or xs (length xs - 1) 0 ∷ [] ≡ xs
 last_again xs h =
@@ -45,7 +45,7 @@ record Parts (text : List ℕ) : Type 0 where
 parts : (text : List ℕ) → is_did text ≡ true → Parts text
 unfolding is_did
 parts text h =
-    let whole = and_parts (nat_le (length text) 2048) (is_named (scheme_of text) (after_first is_colon text)) h in
+    let whole = and_parts (nat_le (length text) 2048) (is_did_scheme (scheme_of text) (after_first is_colon text)) h in
     let named = and_parts (bytes_eq (scheme_of text) (codes "did") && is_method (method_of text)) (is_identifier (identifier_of text)) whole.1 in
     let front = and_parts (bytes_eq (scheme_of text) (codes "did")) (is_method (method_of text)) named.0 in
     record {
@@ -58,7 +58,7 @@ parts text h =
 from_parts : (text : List ℕ) → Parts text → is_did text ≡ true
 unfolding is_did
 from_parts text p =
-    and_from (nat_le (length text) 2048) (is_named (scheme_of text) (after_first is_colon text)) (le-leb (length text) 2048 p.short)
+    and_from (nat_le (length text) 2048) (is_did_scheme (scheme_of text) (after_first is_colon text)) (le-leb (length text) 2048 p.short)
     (and_from (bytes_eq (scheme_of text) (codes "did") && is_method (method_of text)) (is_identifier (identifier_of text))
     (and_from (bytes_eq (scheme_of text) (codes "did")) (is_method (method_of text)) ((bytes_eq-Decides (scheme_of text) (codes "did")).1 p.scheme) p.method) p.identifier)
 
@@ -102,7 +102,7 @@ did_parts text h =
       method = method_of text;
       front = take (length (identifier_of text) - 1) (identifier_of text);
       final = get_or (identifier_of text) (length (identifier_of text) - 1) 0;
-      spelled = parts_again 58 text behind ∙ ap (λ (s : List ℕ). s ++ 58 ∷ after_first is_colon text) p.scheme
+      encoded = parts_again 58 text behind ∙ ap (λ (s : List ℕ). s ++ 58 ∷ after_first is_colon text) p.scheme
           ∙ ap (λ (s : List ℕ). codes "did:" ++ s) (inner ∙ ap (λ (s : List ℕ). method_of text ++ 58 ∷ s) (sym (last_again (identifier_of text) i.there)));
       method_there = m.there;
       method_letters = m.letters;
@@ -112,10 +112,10 @@ did_parts text h =
     }
 
 pub method_named : (text : List ℕ) → (named : IsDid text) → method_of text ≡ named.method
-method_named text named = ap method_of named.spelled ∙ part_before 58 is_lower refl named.method (named.front ++ named.final ∷ []) named.method_letters
+method_named text named = ap method_of named.encoded ∙ part_before 58 is_lower refl named.method (named.front ++ named.final ∷ []) named.method_letters
 
 identifier_named : (text : List ℕ) → (named : IsDid text) → identifier_of text ≡ named.front ++ named.final ∷ []
-identifier_named text named = ap identifier_of named.spelled ∙ part_after 58 is_lower refl named.method (named.front ++ named.final ∷ []) named.method_letters
+identifier_named text named = ap identifier_of named.encoded ∙ part_after 58 is_lower refl named.method (named.front ++ named.final ∷ []) named.method_letters
 
 method_from : (text : List ℕ) → 0 < length text → list_all is_lower text ≡ true → is_method text ≡ true
 method_from text there each = and_from (nat_lt 0 (length text)) (list_all is_lower text) (lt-ltb 0 (length text) there) each
@@ -123,7 +123,7 @@ method_from text there each = and_from (nat_lt 0 (length text)) (list_all is_low
 did_tested : (text : List ℕ) → IsDid text → is_did text ≡ true
 did_tested text named = from_parts text (record {
   short = named.short;
-  scheme = ap scheme_of named.spelled;
+  scheme = ap scheme_of named.encoded;
   method = ap is_method (method_named text named) ∙ method_from named.method named.method_there named.method_letters;
   identifier = ap is_identifier (identifier_named text named) ∙ identifier_from named.front named.final named.front_characters named.final_character;
 })

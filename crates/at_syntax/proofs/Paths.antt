@@ -24,7 +24,7 @@ path_parts text h =
     record {
       collection = collection_of text;
       record_key = record_key_of text;
-      spelled = parts_again 47 text (key_there (record_key_of text) parts.1);
+      encoded = parts_again 47 text (key_there (record_key_of text) parts.1);
       of_collection = parts.0;
       of_record_key = parts.1;
     }
@@ -33,8 +33,8 @@ path_tested : (text : List ℕ) → IsPath text → is_path text ≡ true
 unfolding is_path
 path_tested text p =
     let letters = collection_letters p.collection p.of_collection in
-    let before : collection_of text ≡ p.collection = ap collection_of p.spelled ∙ part_before 47 is_collection_character refl p.collection p.record_key letters in
-    let after : record_key_of text ≡ p.record_key = ap record_key_of p.spelled ∙ part_after 47 is_collection_character refl p.collection p.record_key letters in
+    let before : collection_of text ≡ p.collection = ap collection_of p.encoded ∙ part_before 47 is_collection_character refl p.collection p.record_key letters in
+    let after : record_key_of text ≡ p.record_key = ap record_key_of p.encoded ∙ part_after 47 is_collection_character refl p.collection p.record_key letters in
     and_from (is_collection (collection_of text)) (is_record_key (record_key_of text)) (ap is_collection before ∙ p.of_collection) (ap is_record_key after ∙ p.of_record_key)
 
 pub path_grammar : (text : List ℕ) (test : Bool) → test ≡ is_path text → IsTrue test ↔ IsPath text

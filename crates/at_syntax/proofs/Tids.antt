@@ -11,7 +11,7 @@ use Rattle.std.proofs.lemmas.Bool.Decides.{nat_tests}
 use Rattle.std.proofs.lemmas.Int.Digits.{number_after_lt, number_after_ge}
 use Rattle.std.proofs.Math.Nat.{pow-suc, div-div-eq-div-mul, div-one, mul-le-mul_right}
 use Rattle.std.proofs.lemmas.Nat.{pow-add}
-use Rattle.at_syntax.specs.Tid.{IsTid, is_tid, is_tid_character, is_first_character, character_of, digit_of, value_of, character_at, digits_of, tid_of}
+use Rattle.at_syntax.specs.Tid.{IsTid, is_tid, is_tid_character, is_first_character, character_of, digit_of, tid_value, character_at, digits_of, tid_of}
 use Rattle.at_syntax.specs.Laws.{WrittenTidsAreRead, TextsAreTids, TidsOrderAsTexts}
 
 digit_of-character_of : (digit : ℕ) → digit < 32 → digit_of (character_of digit) ≡ digit
@@ -104,54 +104,54 @@ numbers_compare m (x ∷ xs) (y ∷ ys) p q long =
 
 -- the last characters of a number's digits
 
-spelled : ℕ → ℕ → List ℕ
-spelled zero value = []
-spelled (suc n) value = character_of (value / 32 ^ n % 32) ∷ spelled n value
+encoded : ℕ → ℕ → List ℕ
+encoded zero value = []
+encoded (suc n) value = character_of (value / 32 ^ n % 32) ∷ encoded n value
 
-digits_spelled : (value : ℕ) → digits_of value ≡ spelled 13 value
-unfolding digits_of character_at spelled
-digits_spelled value = refl
+digits_encoded : (value : ℕ) → digits_of value ≡ encoded 13 value
+unfolding digits_of character_at encoded
+digits_encoded value = refl
 
-spelled_known : (n value : ℕ) → list_all is_tid_character (spelled n value) ≡ true
-unfolding spelled
-spelled_known zero value = refl
-spelled_known (suc n) value = and_from (is_tid_character (character_of (value / 32 ^ n % 32))) (list_all is_tid_character (spelled n value)) (character_known (value / 32 ^ n % 32) (omega arith)) (spelled_known n value)
+encoded_known : (n value : ℕ) → list_all is_tid_character (encoded n value) ≡ true
+unfolding encoded
+encoded_known zero value = refl
+encoded_known (suc n) value = and_from (is_tid_character (character_of (value / 32 ^ n % 32))) (list_all is_tid_character (encoded n value)) (character_known (value / 32 ^ n % 32) (omega arith)) (encoded_known n value)
 
-length-spelled : (n value : ℕ) → length (spelled n value) ≡ n
-unfolding spelled
-length-spelled zero value = refl
-length-spelled (suc n) value = ap suc (length-spelled n value)
+length-encoded : (n value : ℕ) → length (encoded n value) ≡ n
+unfolding encoded
+length-encoded zero value = refl
+length-encoded (suc n) value = ap suc (length-encoded n value)
 
 quotient_again : (value n : ℕ) → value / 32 ^ suc n * 32 + value / 32 ^ n % 32 ≡ value / 32 ^ n
 quotient_again value n =
     let next : value / 32 ^ suc n ≡ value / 32 ^ n / 32 = ap (λ (d : ℕ). value / d) (pow-suc 32 n) ∙ sym (div-div-eq-div-mul value (32 ^ n) 32) in
     omega arith
 
-number_spelled : (n value : ℕ) → number_from_digits_after 32 (value / 32 ^ n) (map digit_of (spelled n value)) ≡ value
-unfolding spelled
-number_spelled zero value = div-one value
-number_spelled (suc n) value =
+number_encoded : (n value : ℕ) → number_from_digits_after 32 (value / 32 ^ n) (map digit_of (encoded n value)) ≡ value
+unfolding encoded
+number_encoded zero value = div-one value
+number_encoded (suc n) value =
     let digit = digit_of-character_of (value / 32 ^ n % 32) (omega arith) in
-    ap (λ (d : ℕ). number_from_digits_after 32 (value / 32 ^ suc n * 32 + d) (map digit_of (spelled n value))) digit
-    ∙ ap (λ (m : ℕ). number_from_digits_after 32 m (map digit_of (spelled n value))) (quotient_again value n)
-    ∙ number_spelled n value
+    ap (λ (d : ℕ). number_from_digits_after 32 (value / 32 ^ suc n * 32 + d) (map digit_of (encoded n value))) digit
+    ∙ ap (λ (m : ℕ). number_from_digits_after 32 m (map digit_of (encoded n value))) (quotient_again value n)
+    ∙ number_encoded n value
 
 -- the 13 digits of a number
 
-value_again : (value : ℕ) → value < 2 ^ 64 → value_of (digits_of value) ≡ value
+value_again : (value : ℕ) → value < 2 ^ 64 → tid_value (digits_of value) ≡ value
 value_again value h =
     let none : 0 ≡ value / 32 ^ 13 = omega arith in
-    ap value_of (digits_spelled value) ∙ ap (λ (m : ℕ). number_from_digits_after 32 m (map digit_of (spelled 13 value))) none ∙ number_spelled 13 value
+    ap tid_value (digits_encoded value) ∙ ap (λ (m : ℕ). number_from_digits_after 32 m (map digit_of (encoded 13 value))) none ∙ number_encoded 13 value
 
 pub digits_known : (value : ℕ) → list_all is_tid_character (digits_of value) ≡ true
-digits_known value = ap (list_all is_tid_character) (digits_spelled value) ∙ spelled_known 13 value
+digits_known value = ap (list_all is_tid_character) (digits_encoded value) ∙ encoded_known 13 value
 
 pub length-digits_of : (value : ℕ) → length (digits_of value) ≡ 13
-length-digits_of value = ap length (digits_spelled value) ∙ length-spelled 13 value
+length-digits_of value = ap length (digits_encoded value) ∙ length-encoded 13 value
 
 first_digit : (value : ℕ) → value < 2 ^ 64 → is_first_character (get_or (digits_of value) 0 0) ≡ true
-unfolding spelled
-first_digit value h = ap (λ (text : List ℕ). is_first_character (get_or text 0 0)) (digits_spelled value) ∙ first_known (value / 32 ^ 12 % 32) (omega arith)
+unfolding encoded
+first_digit value h = ap (λ (text : List ℕ). is_first_character (get_or text 0 0)) (digits_encoded value) ∙ first_known (value / 32 ^ 12 % 32) (omega arith)
 
 tid_parts : (text : List ℕ) → is_tid text ≡ true → IsTid text
 unfolding is_tid
@@ -168,43 +168,43 @@ tid_tested text is =
 digits_are_tid : (value : ℕ) → value < 2 ^ 64 → IsTid (digits_of value)
 digits_are_tid value h = record { long = length-digits_of value; first = first_digit value h; characters = digits_known value }
 
-pub value_below : (text : List ℕ) → IsTid text → value_of text < 2 ^ 64
+pub value_below : (text : List ℕ) → IsTid text → tid_value text < 2 ^ 64
 value_below [] is = absurd (omega (arith, is.long))
 value_below (c ∷ text) is =
     let both = and_parts (is_tid_character c) (list_all is_tid_character text) is.characters in
     let first = first_below c is.first in
     let long : length (map digit_of text) ≡ 12 = omega (arith, length-digits text, is.long) in
     let most = number_after_lt 32 (0 * 32 + digit_of c) (map digit_of text) (digits_below text both.1) in
-    let most : value_of (c ∷ text) < (0 * 32 + digit_of c + 1) * 32 ^ 12 = subst (λ (n : ℕ). value_of (c ∷ text) < (0 * 32 + digit_of c + 1) * 32 ^ n) long most in
+    let most : tid_value (c ∷ text) < (0 * 32 + digit_of c + 1) * 32 ^ 12 = subst (λ (n : ℕ). tid_value (c ∷ text) < (0 * 32 + digit_of c + 1) * 32 ^ n) long most in
     omega arith
 
--- a TID is spelled by its value's digits
-pub digits_again : (text : List ℕ) → IsTid text → text ≡ digits_of (value_of text)
+-- a TID is encoded by its value's digits
+pub digits_again : (text : List ℕ) → IsTid text → text ≡ digits_of (tid_value text)
 digits_again text is =
-    let written = digits_of (value_of text) in
-    let same = value_again (value_of text) (value_below text is) in
-    let compared = numbers_compare 0 text written is.characters (digits_known (value_of text)) (is.long ∙ sym (length-digits_of (value_of text))) in
-    slice_cmp-IsAntisymmetric nat_cmp-IsAntisymmetric text written (compared ∙ ap (nat_cmp (value_of text)) same ∙ is_same (value_of text))
+    let written = digits_of (tid_value text) in
+    let same = value_again (tid_value text) (value_below text is) in
+    let compared = numbers_compare 0 text written is.characters (digits_known (tid_value text)) (is.long ∙ sym (length-digits_of (tid_value text))) in
+    slice_cmp-IsAntisymmetric nat_cmp-IsAntisymmetric text written (compared ∙ ap (nat_cmp (tid_value text)) same ∙ is_same (tid_value text))
 
 -- each character of a TID is one of its alphabet
 pub character_there : (text : List ℕ) (i : ℕ) → is_tid text ≡ true → i < length text → is_tid_character (get_or text i 0) ≡ true
 character_there text i is h = true_from_ne_false (is_tid_character (get_or text i 0)) (λ e. false≢true (sym (list_all_at is_tid_character text i 0 h e) ∙ (tid_parts text is).characters))
 
 -- what a number becomes by a TID's next character is at most the TID's value
-pub next_below : (text : List ℕ) (i n : ℕ) → is_tid text ≡ true → i < length text → number_from_digits_after 32 n (map digit_of (drop i text)) ≡ value_of text → n * 32 + digit_of (get_or text i 0) < 2 ^ 64
+pub next_below : (text : List ℕ) (i n : ℕ) → is_tid text ≡ true → i < length text → number_from_digits_after 32 n (map digit_of (drop i text)) ≡ tid_value text → n * 32 + digit_of (get_or text i 0) < 2 ^ 64
 next_below text i n is h e =
     let next = n * 32 + digit_of (get_or text i 0) in
-    let whole : number_from_digits_after 32 next (map digit_of (drop (suc i) text)) ≡ value_of text = ap (λ (s : List ℕ). number_from_digits_after 32 n (map digit_of s)) (sym (drop-cons text i 0 h)) ∙ e in
+    let whole : number_from_digits_after 32 next (map digit_of (drop (suc i) text)) ≡ tid_value text = ap (λ (s : List ℕ). number_from_digits_after 32 n (map digit_of s)) (sym (drop-cons text i 0 h)) ∙ e in
     let least = number_after_ge 32 next (map digit_of (drop (suc i) text)) (omega arith) in
     omega (arith, value_below text (tid_parts text is))
 
 pub tid_tested_not : (text : List ℕ) → is_tid text ≡ false → IsTid text → ⊥
 tid_tested_not text h is = false≢true (sym h ∙ tid_tested text is)
 
-pub tid_again : (text : List ℕ) → is_tid text ≡ true → text ≡ digits_of (value_of text)
+pub tid_again : (text : List ℕ) → is_tid text ≡ true → text ≡ digits_of (tid_value text)
 tid_again text h = digits_again text (tid_parts text h)
 
-tid_from : (text : List ℕ) → IsTid text → tid_of text ≡ Some (value_of text)
+tid_from : (text : List ℕ) → IsTid text → tid_of text ≡ Some (tid_value text)
 unfolding tid_of
 tid_from text is = rw (tid_tested text is) refl
 
@@ -213,9 +213,9 @@ written_read value h = tid_from (digits_of value) (digits_are_tid value h) ∙ a
 
 pub texts_known : TextsAreTids
 texts_known text =
-    (λ is. (value_of text, value_below text is, digits_again text is), λ (value, h, e). subst IsTid (sym e) (digits_are_tid value h))
+    (λ is. (tid_value text, value_below text is, digits_again text is), λ (value, h, e). subst IsTid (sym e) (digits_are_tid value h))
 
 pub digits_compare : TidsOrderAsTexts
 digits_compare a b p q =
     numbers_compare 0 (digits_of a) (digits_of b) (digits_known a) (digits_known b) (length-digits_of a ∙ sym (length-digits_of b))
-    ∙ ap (λ (n : ℕ). nat_cmp n (value_of (digits_of b))) (value_again a p) ∙ ap (nat_cmp a) (value_again b q)
+    ∙ ap (λ (n : ℕ). nat_cmp n (tid_value (digits_of b))) (value_again a p) ∙ ap (nat_cmp a) (value_again b q)

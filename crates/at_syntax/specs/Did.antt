@@ -18,7 +18,7 @@ pub record IsDid (text : List ℕ) : Type 0 where
   pub method : List ℕ
   pub front : List ℕ
   pub final : ℕ
-  pub spelled : text ≡ codes "did:" ++ (method ++ (codes ":" ++ (front ++ final ∷ [])))
+  pub encoded : text ≡ codes "did:" ++ (method ++ (codes ":" ++ (front ++ final ∷ [])))
   pub method_there : 0 < length method
   pub method_letters : IsTrue (list_all is_lower method)
   pub front_characters : IsTrue (list_all is_identifier_character front)
@@ -49,8 +49,8 @@ abbrev pub is_identifier : List ℕ → Bool
 is_identifier text = nat_lt 0 (length text) && list_all is_identifier_character (take (length text - 1) text) && is_final_character (slice_index text (length text - 1))
 
 -- the scheme is `did`, and the rest is a method, a colon and an identifier
-abbrev pub is_named : List ℕ → List ℕ → Bool
-is_named scheme rest = bytes_eq scheme (codes "did") && is_method (before_first is_colon rest) && is_identifier (after_first is_colon rest)
+abbrev pub is_did_scheme : List ℕ → List ℕ → Bool
+is_did_scheme scheme rest = bytes_eq scheme (codes "did") && is_method (before_first is_colon rest) && is_identifier (after_first is_colon rest)
 
 unfoldable pub is_did : List ℕ → Bool
-is_did text = nat_le (length text) LONGEST_DID && is_named (scheme_of text) (after_first is_colon text)
+is_did text = nat_le (length text) LONGEST_DID && is_did_scheme (scheme_of text) (after_first is_colon text)

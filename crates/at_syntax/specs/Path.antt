@@ -25,7 +25,7 @@ is_record_key text = nat_lt 0 (length text) && nat_le (length text) LONGEST_RECO
 pub record IsPath (text : List ℕ) : Type 0 where
   pub collection : List ℕ
   pub record_key : List ℕ
-  pub spelled : text ≡ collection ++ (codes "/" ++ record_key)
+  pub encoded : text ≡ collection ++ (codes "/" ++ record_key)
   pub of_collection : IsTrue (is_collection collection)
   pub of_record_key : IsTrue (is_record_key record_key)
 

@@ -32,8 +32,8 @@ abbrev pub digit_of : ℕ → ℕ
 digit_of c = if nat_lt c 97 then c - 50 else c - 91
 
 -- the number that the characters are the digits of
-abbrev pub value_of : List ℕ → ℕ
-value_of text = number_from_digits 32 (map digit_of text)
+abbrev pub tid_value : List ℕ → ℕ
+tid_value text = number_from_digits 32 (map digit_of text)
 
 -- the character at a place, counted from 0
 unfoldable pub character_at : ℕ → ℕ → ℕ
@@ -45,4 +45,4 @@ digits_of value = map (character_at value) (range_with_len 0 TID_LEN)
 
 -- the number of a text that is a TID
 unfoldable pub tid_of : List ℕ → Option ℕ
-tid_of text = if is_tid text then Some (value_of text) else None
+tid_of text = if is_tid text then Some (tid_value text) else None

@@ -3,7 +3,7 @@
 ghost use Rattle.std.specs.Prelude.{◌≡◌, ◌↔◌, IsTrue, MatchOption, length};
 ghost use Rattle.std.specs.List.{list_all, position_or_len, before_first, after_first};
 ghost use Rattle.at_syntax.specs.Characters.{is_lower};
-ghost use Rattle.at_syntax.specs.Did.{IsDid, is_did, is_method, is_identifier, is_final_character, is_identifier_character, is_colon, is_named, method_of};
+ghost use Rattle.at_syntax.specs.Did.{IsDid, is_did, is_method, is_identifier, is_final_character, is_identifier_character, is_colon, is_did_scheme, method_of};
 
 use crate::characters::{is_alphanumeric, is_lower};
 
@@ -62,7 +62,7 @@ fn around_colon(text: &str) -> Option<(&str, &str)>
 /// identifier.
 #[tactic(auto, using(crate::proofs::Dids::too_few_colons))]
 fn is_named(scheme: &str, rest: &str) -> bool
-    ensures { result ≡ is_named scheme.now rest.now }
+    ensures { result ≡ is_did_scheme scheme.now rest.now }
 {
     let Some((method, identifier)) = around_colon(rest) else {
         return false;

@@ -35,7 +35,8 @@ fn are_record_key_characters(bytes: &[u8]) -> bool
     bytes.iter().all(|byte| is_record_key_character(*byte))
 }
 
-fn is_collection(text: &str) -> bool
+/// Whether the text is a collection: 1 to 317 bytes of `A-Za-z0-9.-`.
+pub fn collection_ok(text: &str) -> bool
     ensures { result ≡ is_collection text.now }
 {
     !text.is_empty()
@@ -60,7 +61,7 @@ fn is_path(text: &str) -> bool
     let Some((collection, record_key)) = text.split_once('/') else {
         return false;
     };
-    is_collection(collection) && is_record_key(record_key)
+    collection_ok(collection) && is_record_key(record_key)
 }
 
 /// Whether the text is a path: a collection of 1 to 317 bytes of `A-Za-z0-9.-`, `/`, and a

@@ -2,7 +2,7 @@
 
 ghost use Rattle.std.specs.Prelude.{◌≡◌, ◌<◌, ◌^◌, List, ℕ, length, map, IsTrue, MatchOption};
 ghost use Rattle.std.specs.List.{list_all};
-ghost use Rattle.at_syntax.specs.Tid.{IsTid, is_tid, is_tid_character, is_first_character, character_of, digit_of, value_of, character_at, digits_of, tid_of};
+ghost use Rattle.at_syntax.specs.Tid.{IsTid, is_tid, is_tid_character, is_first_character, character_of, digit_of, tid_value, character_at, digits_of, tid_of};
 
 use std::marker::Model;
 
@@ -72,7 +72,7 @@ fn is_tid(text: &[u8]) -> bool
 
 fn value(text: &[u8]) -> u64
     requires { IsTrue (is_tid text.now) }
-    ensures { result ≡ value_of text.now }
+    ensures { result ≡ tid_value text.now }
 {
     let mut value = 0;
     for byte in text {
@@ -90,11 +90,11 @@ fn character_at(value: u64, place: usize) -> u8
 }
 
 impl Tid {
-    /// The TID that the text spells.
+    /// The TID that the text encodes.
     #[tactic(auto, unfolding(crate::specs::Tid::tid_of))]
     pub fn parse(text: &str) -> Option<Tid>
         ensures value { result ≡ tid_of text.now }
-        ensures spelled { MatchOption result (¬ IsTid text.now) (λ tid. text.now ≡ digits_of tid) }
+        ensures encoded { MatchOption result (¬ IsTid text.now) (λ tid. text.now ≡ digits_of tid) }
     {
         let bytes = text.as_bytes();
         if is_tid(bytes) {
@@ -121,8 +121,9 @@ impl Tid {
         self.value
     }
 
-    /// Tells that its value has 64 bits.
-    pub fn tell_value(&self)
+    /// Does nothing when it runs: its value has 64 bits, for the prover.
+    #[inline]
+    pub fn ghost_value(&self)
         ensures { self.now < 2 ^ 64 }
     {
         let _value = self.value();

@@ -1,6 +1,7 @@
 pub mod Target
 pub mod Notices
 pub mod Served
+pub mod StreamPlaces
 pub mod Faults
 pub mod Serving
 pub mod Writing

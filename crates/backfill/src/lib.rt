@@ -4,6 +4,7 @@
 
 mod following;
 mod gathered;
+mod giving;
 mod laws;
 mod notices;
 mod replay_fault;
@@ -11,9 +12,11 @@ mod replaying;
 mod serve_fault;
 mod serving;
 mod standing;
+mod stream_place;
 mod target;
 mod target_fault;
 
+pub use giving::give_next;
 pub use laws::greater_follow;
 pub use notices::{future_cursor, outdated_cursor};
 pub use replay_fault::ReplayFault;
@@ -21,5 +24,6 @@ pub use replaying::replay;
 pub use serve_fault::ServeFault;
 pub use serving::{Served, serve};
 pub use standing::{Standing, standing_of};
-pub use target::{LAST_CURSOR, LONGEST_CURSOR, cursor_of};
+pub use stream_place::StreamPlace;
+pub use target::{LONGEST_CURSOR, cursor_of};
 pub use target_fault::TargetFault;

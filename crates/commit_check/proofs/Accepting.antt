@@ -10,7 +10,7 @@ use Rattle.mst_list.specs.declared.op.Op.{Op}
 use Rattle.mst_list.specs.Edits.{AreApart, AreFormedOps}
 use Rattle.commit_check.specs.declared.fault.CheckFault.{CheckFault}
 use Rattle.commit_check.specs.declared.content.Content.{Content}
-use Rattle.commit_check.specs.Checking.{has_gap, start_of, IsAccepted, IsCovered, IsRefused, IsRefusedWith, Replays}
+use Rattle.commit_check.specs.Checking.{has_gap, start_of, IsAccepted, IsCoveredAlone, IsRefused, IsRefusedWith, Replays}
 use Rattle.commit_check.specs.Linking.{IsStopBy}
 use Rattle.commit_check.specs.Opening.{IsContent}
 use Rattle.commit_check.specs.Order.{IsPassed, StopsPast}
@@ -55,7 +55,7 @@ passed e from to a =
     let Q : List ℕ → Type 0 = λ d. Leads e a.holds.blocks (start_of e) d in
     record { shown = a.shown; no_gap = a.no_gap; holds = a.holds; leads = subst Q a.to_is (subst P a.from_is a.leads) }
 
-covered_passed : (e : CommitEvent) (content : Content) (ops : List Op) → IsContent e content → ops ≡ edits_of e → AreFormedOps ops → AreApart ops → AreLinked content.car.blocks → IsCovered e → IsPassedAlone e
+covered_passed : (e : CommitEvent) (content : Content) (ops : List Op) → IsContent e content → ops ≡ edits_of e → AreFormedOps ops → AreApart ops → AreLinked content.car.blocks → IsCoveredAlone e → IsPassedAlone e
 covered_passed e content ops is_content are formed apart linked c =
     let P : BlockMap → Type 0 = AreLinked in
     let under = under_links c.holds.blocks (subst P (same_blocks e (content_holds e content is_content) c.holds) linked) in
@@ -74,7 +74,7 @@ told_only e (CheckFault.Refused refusal) told passes = not_first e None (has_gap
 pub only_accepted : (e : CommitEvent) (fault : CheckFault) (from to : List ℕ) → IsRefused e fault → IsAccepted e from to → IsMemory fault
 only_accepted e fault from to told a = told_only e fault told (passed e from to a)
 
-pub only_covered : (e : CommitEvent) (content : Content) (ops : List Op) (fault : CheckFault) → IsContent e content → ops ≡ edits_of e → AreFormedOps ops → AreApart ops → AreLinked content.car.blocks → IsRefused e fault → IsCovered e → IsMemory fault
+pub only_covered : (e : CommitEvent) (content : Content) (ops : List Op) (fault : CheckFault) → IsContent e content → ops ≡ edits_of e → AreFormedOps ops → AreApart ops → AreLinked content.car.blocks → IsRefused e fault → IsCoveredAlone e → IsMemory fault
 only_covered e content ops fault is_content are formed apart linked told c = told_only e fault told (covered_passed e content ops is_content are formed apart linked c)
 
 pub accepted_alone : (e : CommitEvent) (from to : List ℕ) (refusal : Refusal) → IsAccepted e from to → IsRefusedWith e refusal → ⊥

@@ -10,7 +10,7 @@ use Rattle.event_checks.specs.Table.{open_lines}
 use Rattle.mst_list.specs.declared.op.Op.{Op}
 use Rattle.mst_node.specs.Covers.{AreUnderNodeLinks}
 use Rattle.commit_check.specs.Laws.{IsDecided}
-use Rattle.commit_check.specs.Order.{Holds, IsFirstRefusal, IsPassed, StopsPast}
+use Rattle.commit_check.specs.Order.{HoldsCommit, IsFirstRefusal, IsPassed, StopsPast}
 use Rattle.commit_check.specs.Step.{edits_of, Leads, LeadsBy, StopsAt}
 use Rattle.commit_check.proofs.Held.{car_linked, same_blocks, same_data, shown_held}
 use Rattle.commit_check.proofs.Judging.{led_or_stopped}
@@ -47,7 +47,7 @@ link_decided gap e blocks former later under kind = record { some = linked_or_st
 
 module _ (e : CommitEvent) (last : Option ℕ) (gap : Bool) (former : List ℕ) where
   -- what stops an event, of whatever is held of it
-  stops_in : (g h : Holds e) (refusal : Refusal) → StopsPast gap e h.blocks former h.commit.data_root refusal → StopsPast gap e g.blocks former g.commit.data_root refusal
+  stops_in : (g h : HoldsCommit e) (refusal : Refusal) → StopsPast gap e h.blocks former h.commit.data_root refusal → StopsPast gap e g.blocks former g.commit.data_root refusal
   stops_in g h refusal stops =
       let P : BlockMap → Type 0 = λ b. StopsPast gap e b former h.commit.data_root refusal in
       let Q : List ℕ → Type 0 = λ d. StopsPast gap e g.blocks former d refusal in
@@ -71,11 +71,11 @@ module _ (e : CommitEvent) (last : Option ℕ) (gap : Bool) (former : List ℕ) 
   passed_or_refused bytes (Some refusal) is = inr (refusal, inl is)
   passed_or_refused bytes None is = opened (shown_held e last is)
     where
-      linked : (h : Holds e) → IsLinkedOrStopped gap e h.blocks former h.commit.data_root → IsPassedOrRefused
+      linked : (h : HoldsCommit e) → IsLinkedOrStopped gap e h.blocks former h.commit.data_root → IsPassedOrRefused
       linked h (inl passed) = inl (record { shown = is; no_gap = passed.0; holds = h; leads = passed.1 })
       linked h (inr stops) = inr (stops.0, inr (record { shown = is; holds = h; stops = stops.1 }))
 
-      opened : Holds e → IsPassedOrRefused
+      opened : HoldsCommit e → IsPassedOrRefused
       opened h =
           let all = car_linked e.blocks h.roots h.blocks bytes h.car in
           linked h (linked_or_stopped gap e h.blocks former h.commit.data_root (under_links h.blocks all) (data_held e h all))

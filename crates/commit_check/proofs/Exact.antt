@@ -19,7 +19,7 @@ use Rattle.commit_check.proofs.Steps.{complete_by, not_stopped, sound_by, stops_
 pub leads_event : {X : Type 0} (e : CommitEvent) (ops : List Op) (blocks : BlockMap) (former later : List ℕ) (result : Result X CheckFault) → ops ≡ edits_of e → OnOk result (LeadsBy ops blocks former later) → OnOk result (Leads e blocks former later)
 leads_event e ops blocks former later result are leads = let P : List Op → Type 0 = λ x. OnOk result (LeadsBy x blocks former later) in subst P are leads
 
--- what leads is told, unless memory was wanted
+-- what leads is told, unless memory ran out
 pub only_leading : {X : Type 0} (ops : List Op) (blocks : BlockMap) (former later : List ℕ) (result : Result X CheckFault) → IfErr result (IsStopBy ops blocks former later) → LeadsBy ops blocks former later → IfErr result IsMemory
 only_leading ops blocks former later (Ok x) stops leads = tt
 only_leading ops blocks former later (Err CheckFault.Memory) stops leads = tt

@@ -16,7 +16,7 @@ use Rattle.event_checks.specs.Lines.{first_of}
 use Rattle.event_checks.specs.Opening.{CarResult, object_in}
 use Rattle.event_checks.specs.Table.{car_in, open_lines}
 use Rattle.event_checks.proofs.Firsts.{all_unmet}
-use Rattle.commit_check.specs.Order.{Holds}
+use Rattle.commit_check.specs.Order.{HoldsCommit}
 
 pub bytes_left : (a b : List ℕ) → IsBytes (a ++ b) → IsBytes a
 bytes_left [] b h i = lit< tt
@@ -41,19 +41,19 @@ sections_linked (s ∷ ss) are h =
 pub car_linked : (bytes : List ℕ) (roots : List (List ℕ)) (blocks : BlockMap) → IsBytes bytes → car_of bytes ≡ Ok (roots, blocks) → AreLinked blocks
 car_linked bytes roots blocks h e =
     let car = car_takes bytes (roots, blocks) h e in
-    let all : IsBytes (header_bytes car.0 ++ sections_bytes car.1) = subst IsBytes car.2.spelled h in
+    let all : IsBytes (header_bytes car.0 ++ sections_bytes car.1) = subst IsBytes car.2.encoded h in
     subst AreLinked (sym car.3) (sections_linked car.1 car.2.sections_form (bytes_right (header_bytes car.0) (sections_bytes car.1) all))
 
-held_in : (e : CommitEvent) (car : CarResult) → car_in e ≡ car → is_some (object_in car) ≡ true → Holds e
+held_in : (e : CommitEvent) (car : CarResult) → car_in e ≡ car → is_some (object_in car) ≡ true → HoldsCommit e
 held_in e (Err fault) is h = absurd (cc)
 held_in e (Ok car) is h = go (object_in (Ok car)) refl h
   where
-    go : (o : Option Commit) → object_in (Ok car) ≡ o → is_some o ≡ true → Holds e
+    go : (o : Option Commit) → object_in (Ok car) ≡ o → is_some o ≡ true → HoldsCommit e
     go None there h = absurd (cc)
     go (Some commit) there h = record { roots = car.0; blocks = car.1; commit = commit; car = is; object = ap object_in is ∙ there }
 
 -- an event that shows no refusal has a CAR and a commit object
-pub shown_held : (e : CommitEvent) (last : Option ℕ) → first_of (open_lines e last) ≡ None → Holds e
+pub shown_held : (e : CommitEvent) (last : Option ℕ) → first_of (open_lines e last) ≡ None → HoldsCommit e
 shown_held e last h =
     let all = all_unmet (open_lines e last) h in
     held_in e (car_in e) refl (not-false (is_some (object_in (car_in e))) all.1.1.1.1.1.1.1.1.1.1.1.0)
@@ -68,10 +68,10 @@ data_or : List ℕ → Option Commit → List ℕ
 data_or other (Some commit) = commit.data_root
 data_or other None = other
 
-pub same_blocks : (e : CommitEvent) (g h : Holds e) → g.blocks ≡ h.blocks
+pub same_blocks : (e : CommitEvent) (g h : HoldsCommit e) → g.blocks ≡ h.blocks
 unfolding blocks_or
 same_blocks e g h = ap (blocks_or h.blocks) (sym g.car ∙ h.car)
 
-pub same_data : (e : CommitEvent) (g h : Holds e) → g.commit.data_root ≡ h.commit.data_root
+pub same_data : (e : CommitEvent) (g h : HoldsCommit e) → g.commit.data_root ≡ h.commit.data_root
 unfolding data_or
 same_data e g h = ap (data_or h.commit.data_root) (sym g.object ∙ h.object)

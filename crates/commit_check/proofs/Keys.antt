@@ -21,7 +21,7 @@ record_key_short text h = grind (arith, nat_tests, common_steps)
 pub path_key : (text : List ℕ) → IsBytes text → is_path text ≡ true → IsKey text
 path_key text bytes e =
     let p : IsPath text = (path_grammar text true (sym e)).0 refl in
-    let long : length text ≡ length p.collection + suc (length p.record_key) = ap length p.spelled ∙ length-append p.collection (47 ∷ p.record_key) in
+    let long : length text ≡ length p.collection + suc (length p.record_key) = ap length p.encoded ∙ length-append p.collection (47 ∷ p.record_key) in
     let a = collection_short p.collection p.of_collection in
     let b = record_key_short p.record_key p.of_record_key in
     record { least = omega arith; most = omega arith; bytes = bytes }

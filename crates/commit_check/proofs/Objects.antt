@@ -10,13 +10,13 @@ use Rattle.at_commit.specs.declared.fault.CommitFault.{CommitFault}
 use Rattle.at_commit.proofs.Nodes.{data_is_node}
 use Rattle.at_event.specs.declared.event.CommitEvent.{CommitEvent}
 use Rattle.event_checks.specs.Table.{car_in}
-use Rattle.event_checks.specs.Opening.{CarResult, data_in, object_in, object_in_block, object_of}
+use Rattle.event_checks.specs.Opening.{CarResult, data_in, object_in, object_in_block, read_object}
 use Rattle.commit_check.specs.declared.content.Content.{Content}
 use Rattle.commit_check.specs.declared.opened.Opened.{Opened}
 use Rattle.commit_check.specs.Opening.{IsContent, IsOpened}
-use Rattle.commit_check.specs.Order.{Holds}
+use Rattle.commit_check.specs.Order.{HoldsCommit}
 
-object_node : (block : List ℕ) (c : Commit) (r : Result Commit CommitFault) → IsBytes block → commit_of block ≡ r → object_of r ≡ Some c → IsNodeLink c.data_root
+object_node : (block : List ℕ) (c : Commit) (r : Result Commit CommitFault) → IsBytes block → commit_of block ≡ r → read_object r ≡ Some c → IsNodeLink c.data_root
 object_node block c (Ok d) bytes is e =
     let same : d ≡ c = cc in
     data_is_node block c bytes (is ∙ ap Ok same)
@@ -31,10 +31,10 @@ under_root None blocks linked block is = absurd (cc)
 under_root (Some link) blocks linked block is = (linked link block is).bytes
 
 -- what is opened of an event holds its CAR and its commit object
-abbrev pub opened_holds : (e : CommitEvent) (o : Opened) → IsOpened e o → Holds e
+abbrev pub opened_holds : (e : CommitEvent) (o : Opened) → IsOpened e o → HoldsCommit e
 opened_holds e o opened = record { roots = o.car.roots; blocks = o.car.blocks; commit = opened.commit; car = opened.car; object = opened.object }
 
-pub data_held : (e : CommitEvent) (h : Holds e) → AreLinked h.blocks → IsNodeLink h.commit.data_root
+pub data_held : (e : CommitEvent) (h : HoldsCommit e) → AreLinked h.blocks → IsNodeLink h.commit.data_root
 data_held e h linked =
     let P : CarResult → Type 0 = λ car. object_in car ≡ Some h.commit in
     block_node (block_at (root_of h.roots) h.blocks) h.commit (under_root (root_of h.roots) h.blocks linked) (subst P h.car h.object)
@@ -55,7 +55,7 @@ pub found : (object : Option Commit) (root : List ℕ) → data_in object ≡ So
 found None root e = absurd cc
 found (Some commit) root e = let same : root ≡ commit.data_root = cc in record { commit = commit; is = refl; root_is = same }
 
-abbrev pub content_holds : (e : CommitEvent) (content : Content) → IsContent e content → Holds e
+abbrev pub content_holds : (e : CommitEvent) (content : Content) → IsContent e content → HoldsCommit e
 content_holds e content is =
     let from = found (object_in (car_in e)) content.data_root is.data_root in
     record { roots = content.car.roots; blocks = content.car.blocks; commit = from.commit; car = is.car; object = from.is }

@@ -4,7 +4,7 @@ use Rattle.std.specs.List.{list_any}
 use Rattle.at_event.specs.declared.event.CommitEvent.{CommitEvent}
 use Rattle.at_event.specs.declared.refusal.Refusal.{Refusal}
 use Rattle.commit_check.specs.declared.fault.CheckFault.{CheckFault}
-use Rattle.commit_check.specs.Order.{Holds, IsFirstRefusal}
+use Rattle.commit_check.specs.Order.{HoldsCommit, IsFirstRefusal}
 use Rattle.commit_check.specs.Refusing.{Tells}
 use Rattle.commit_check.specs.Step.{empty_root, edits_of, lacks_prev, IsCoveredBy, Leads, ReplaysBy}
 use Rattle.event_checks.specs.Lines.{first_of}
@@ -26,7 +26,7 @@ has_gap e = (is_some e.since && not (is_some e.prev_data)) || list_any lacks_pre
 pub record IsAccepted (e : CommitEvent) (from to : List ℕ) : Type 0 where
   pub shown : first_of (open_lines e None) ≡ None
   pub no_gap : has_gap e ≡ false
-  pub holds : Holds e
+  pub holds : HoldsCommit e
   pub from_is : from ≡ start_of e
   pub to_is : to ≡ holds.commit.data_root
   pub leads : Leads e holds.blocks from to
@@ -41,11 +41,11 @@ IsRefused e = Tells (IsRefusedWith e)
 
 -- Soundness: on every map whose tree has the first root, the operations play, and they give a map whose tree has the second root.
 abbrev pub Replays : CommitEvent → List ℕ → List ℕ → Type 0
-Replays e from to = (held : Holds e) → ReplaysBy (edits_of e) held.blocks from to
+Replays e from to = (held : HoldsCommit e) → ReplaysBy (edits_of e) held.blocks from to
 
 -- the event is in order, and its operations play from a map with the root that it states to one with its `data`, whose cover its blocks hold
-pub record IsCovered (e : CommitEvent) : Type 0 where
+pub record IsCoveredAlone (e : CommitEvent) : Type 0 where
   pub shown : first_of (open_lines e None) ≡ None
   pub no_gap : has_gap e ≡ false
-  pub holds : Holds e
+  pub holds : HoldsCommit e
   pub covered : IsCoveredBy (edits_of e) holds.blocks (start_of e) holds.commit.data_root

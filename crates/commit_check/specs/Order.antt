@@ -19,7 +19,7 @@ StopsPast true e blocks former later refusal = refusal ≡ Refusal.Gap
 StopsPast false e blocks former later refusal = Stops e blocks former later refusal
 
 -- the CAR of an event, and the commit object under its first root
-pub record Holds (e : CommitEvent) : Type 0 where
+pub record HoldsCommit (e : CommitEvent) : Type 0 where
   pub roots : List (List ℕ)
   pub blocks : BlockMap
   pub commit : Commit
@@ -29,14 +29,14 @@ pub record Holds (e : CommitEvent) : Type 0 where
 -- nothing that the message shows applies, and this does
 pub record IsStopped (e : CommitEvent) (last : Option ℕ) (gap : Bool) (former : List ℕ) (refusal : Refusal) : Type 0 where
   pub shown : first_of (open_lines e last) ≡ None
-  pub holds : Holds e
+  pub holds : HoldsCommit e
   pub stops : StopsPast gap e holds.blocks former holds.commit.data_root refusal
 
 -- no refusal applies
 pub record IsPassed (e : CommitEvent) (last : Option ℕ) (gap : Bool) (former : List ℕ) : Type 0 where
   pub shown : first_of (open_lines e last) ≡ None
   pub no_gap : gap ≡ false
-  pub holds : Holds e
+  pub holds : HoldsCommit e
   pub leads : Leads e holds.blocks former holds.commit.data_root
 
 -- the first refusal that applies: to an event behind the last revision, with a gap before it or not, whose operations start from the former root

@@ -1,4 +1,4 @@
--- What a failed check says. The want of memory may stand in place of each answer.
+-- What a failed check says. The running out of memory may stand in place of each answer.
 use Rattle.std.specs.Prelude.{◌≡◌, IfSome, false, Option, Some, None, Result, Err}
 use Rattle.at_cid.specs.Memory.{Gives}
 use Rattle.at_event.specs.declared.refusal.Refusal.{Refusal}
@@ -8,7 +8,7 @@ use Rattle.mst_list.specs.declared.undoing.UndoFault.{UndoFault}
 use Rattle.mst_view.specs.declared.viewing.ViewFault.{ViewFault}
 use Rattle.commit_check.specs.declared.fault.CheckFault.{CheckFault}
 
--- the refusal, unless memory was wanted
+-- the refusal, unless memory ran out
 abbrev pub refusal_of : CheckFault → Option Refusal
 refusal_of (CheckFault.Refused refusal) = Some refusal
 refusal_of CheckFault.Memory = None
@@ -25,7 +25,7 @@ IsShown shown = Tells (λ refusal. shown ≡ Some refusal)
 abbrev pub IsUnjudged : CheckFault → Type 0
 IsUnjudged = Tells (λ refusal. is_judged refusal ≡ false)
 
--- there is none: memory was wanted
+-- there is none: memory ran out
 abbrev pub IsMemory : CheckFault → Type 0
 IsMemory = Tells (λ refusal. ⊥)
 

@@ -40,9 +40,9 @@ is_change Action.Other = false
 abbrev pub lacks_prev : EventOp → Bool
 lacks_prev op = is_change op.action && not (is_some op.prev)
 
-abbrev pub is_rev : Option ℕ → ℕ → Bool
-is_rev None rev = false
-is_rev (Some since) rev = since == rev
+abbrev pub is_since : Option ℕ → ℕ → Bool
+is_since None rev = false
+is_since (Some since) rev = since == rev
 
 abbrev pub is_data : Option (List ℕ) → List ℕ → Bool
 is_data None later = false
@@ -51,7 +51,7 @@ is_data (Some prev) later = bytes_eq prev later
 -- the event doesn't follow on what is expected: an account that is lost, another revision or `data` than the last ones, or any where there was none
 abbrev pub strays : CommitEvent → Expect → Bool
 strays e Expect.Start = is_some e.since || (is_some e.prev_data && not (is_data e.prev_data empty_root))
-strays e (Expect.After head) = not (is_rev e.since head.rev && is_data e.prev_data head.data_root)
+strays e (Expect.After head) = not (is_since e.since head.rev && is_data e.prev_data head.data_root)
 strays e Expect.Lost = true
 
 -- there is a gap before the event
@@ -95,15 +95,15 @@ abbrev pub Stops : CommitEvent → BlockMap → List ℕ → List ℕ → Refusa
 Stops e blocks former later refusal = StopsAt (edits_of e) blocks former later refusal
 
 -- the blocks that a step names: those of the view with the operations undone, and none without operations
-abbrev pub named : List Op → List Item → List (List ℕ)
-named [] F = []
-named (op ∷ ops) F = nodes (undone F (op ∷ ops))
+abbrev pub blocks_named : List Op → List Item → List (List ℕ)
+blocks_named [] F = []
+blocks_named (op ∷ ops) F = nodes (undone F (op ∷ ops))
 
 -- Soundness: on every map whose tree has the former root, the operations play, and what they give is a map whose tree has the later root,
 -- unless different blocks of that map's tree and of those that the step names share a digest.
 abbrev pub ReplaysBy : List Op → BlockMap → List ℕ → List ℕ → Type 0
 ReplaysBy ops blocks former later = (s : List Item) → IsMap s → root s ≡ former
-    → ((F : List Item) → IsView blocks later F → Distinct (nodes s ++ named ops F))
+    → ((F : List Item) → IsView blocks later F → Distinct (nodes s ++ blocks_named ops F))
     → (t : List Item) × IsMap t × Plays s ops t × (root t ≡ later)
 
 -- the operations play from a map with the former root to one with the later root, whose cover the blocks hold

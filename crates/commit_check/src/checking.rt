@@ -2,7 +2,7 @@
 
 ghost use Rattle.std.specs.Prelude.{◌≡◌, IfOk, IfErr, List, ℕ, length};
 ghost use Rattle.commit_check.specs.Refusing.{IsMemory};
-ghost use Rattle.commit_check.specs.Checking.{IsAccepted, IsCovered, IsRefused, IsRefusedWith, Replays, has_gap, start_of};
+ghost use Rattle.commit_check.specs.Checking.{IsAccepted, IsCoveredAlone, IsRefused, IsRefusedWith, Replays, has_gap, start_of};
 ghost use Rattle.commit_check.specs.Refusing.{RefusesWith};
 ghost use Rattle.at_event.specs.declared.refusal.Refusal.{Refusal};
 
@@ -46,7 +46,7 @@ pub fn check(alloc: Global, event: &CommitEvent) -> Result<Checked, CheckFault>
     ensures exact { (refusal : Refusal) → IsRefusedWith event.now refusal → RefusesWith refusal result }
     ensures only { (from to : List ℕ) → IsAccepted event.now from to → IfErr result IsMemory }
     ensures replays { IfOk result (λ checked. Replays event.now checked.from checked.to) }
-    ensures covered { IsCovered event.now → IfErr result IsMemory }
+    ensures covered { IsCoveredAlone event.now → IfErr result IsMemory }
 {
     let content = commit_content(alloc, event)?;
     if has_gap(event) {
@@ -55,7 +55,7 @@ pub fn check(alloc: Global, event: &CommitEvent) -> Result<Checked, CheckFault>
     let from = start_of(event);
     let ops = edits(alloc, event)?;
     let Content { car, data_root: to } = content;
-    car.blocks.tell_linked();
+    car.blocks.ghost_linked();
     let tree = tree_at_hand(alloc, &car.blocks, &to, &ops)?;
     // The tree has all that is wanted of the blocks.
     drop(car);

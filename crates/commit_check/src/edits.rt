@@ -8,9 +8,9 @@ ghost use Rattle.event_checks.specs.Table.{field_lines, has_path, is_op};
 ghost use Rattle.event_checks.specs.declared.limits.TheConstants.{MOST_OPS};
 ghost use Rattle.mst_list.specs.Edits.{AreApart, AreFormedOps, IsFormedOp};
 
-use at_cid::{Memory, Octets};
+use at_cid::{Memory, Octets, ghost_link_or_none};
 use at_event::{CommitEvent, EventOp};
-use mst_list::{Op, OpList, tell_link};
+use mst_list::{Op, OpList};
 use std::alloc::Global;
 
 /// One operation, whose path becomes a key.
@@ -22,8 +22,8 @@ fn edit(alloc: Global, op: &EventOp) -> Result<Op, Memory>
     ensures edit { IfOk result (λ made. made ≡ edit_of op.now) }
     ensures formed { IfOk result IsFormedOp }
 {
-    tell_link(&op.prev);
-    tell_link(&op.cid);
+    ghost_link_or_none(&op.prev);
+    ghost_link_or_none(&op.cid);
     let key = Octets::from_slice(alloc, op.path.as_bytes())?;
     Ok(Op {
         key,

@@ -8,7 +8,7 @@ ghost use Rattle.event_checks.specs.Table.{field_lines};
 ghost use Rattle.commit_check.specs.Linking.{IsUnlinked};
 ghost use Rattle.commit_check.specs.Opening.{IsOpened};
 ghost use Rattle.commit_check.specs.Refusing.{IsMemory, IsUnjudged, RefusesWith};
-ghost use Rattle.commit_check.specs.Step.{edits_of, IsCoveredBy, Leads, ReplaysBy, is_data, is_gap, is_rev, lacks_prev, root_before, strays};
+ghost use Rattle.commit_check.specs.Step.{edits_of, IsCoveredBy, Leads, ReplaysBy, is_data, is_gap, is_since, lacks_prev, root_before, strays};
 ghost use Rattle.commit_check.specs.declared.expect.Expect.{Expect};
 ghost use Rattle.commit_check.specs.declared.fault.CheckFault.{CheckFault};
 
@@ -24,7 +24,7 @@ use mst_node::empty_root;
 use std::alloc::Global;
 
 fn is_rev(since: Option<Tid>, rev: Tid) -> bool
-    ensures { result ≡ is_rev since rev }
+    ensures { result ≡ is_since since rev }
 {
     match since {
         Some(since) => since == rev,
@@ -109,7 +109,7 @@ pub fn link(
         return Err(CheckFault::Refused(Refusal::Gap));
     }
     let ops = edits(alloc, event)?;
-    opened.car.blocks.tell_linked();
+    opened.car.blocks.ghost_linked();
     let former = root_before(expect);
     lead_back(
         alloc,

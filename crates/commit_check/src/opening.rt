@@ -83,7 +83,7 @@ pub fn open_commit(
     open_blocks(alloc, event)
 }
 
-/// What the blocks hold, where nothing is verified of a signature: what one would cover is neither spelled nor hashed.
+/// What the blocks hold, where nothing is verified of a signature: what one would cover is neither encoded nor hashed.
 fn block_content(alloc: Global, event: &CommitEvent) -> Result<Content, CheckFault>
     ensures shown { OnOk result (first_of (block_lines event.now) ≡ None) }
     ensures content { IfOk result (IsContent event.now) }

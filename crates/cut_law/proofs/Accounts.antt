@@ -6,7 +6,7 @@ use Rattle.std.specs.Prelude.{◌==◌, nat_le}
 use Rattle.std.proofs.lemmas.Bool.{and_parts, false≢true}
 use Rattle.at_event.specs.Refusals.{code_of}
 use Rattle.at_event.specs.declared.refusal.Refusal.{Refusal}
-use Rattle.relay_row.specs.Folds.{names, did_in}
+use Rattle.relay_row.specs.Folds.{names, did_of_row}
 use Rattle.relay_row.specs.Journal.{IsJournal}
 use Rattle.relay_row.specs.Rules.{is_about, is_carried, is_cid, is_decided, is_detail, is_empty, is_fetched, is_moment, is_node, is_nothing, is_number, is_refused, is_repo, is_rev, is_rev_or_none, is_row, is_status, is_taken, is_timed, loses, names_did, names_host}
 use Rattle.relay_row.specs.declared.carried.Carried.{Carried}
@@ -104,7 +104,7 @@ left_from did before (row ∷ rows) is left =
     let a = account did before in
     let formed = accounts_are_formed did before (fronts before (row ∷ rows) is) in
     let here : IsLeft (account_after did a row).repo =
-    elim (names did (did_in row)) as (λ b. IsLeft (cond b (moved a row) a).repo) [ true ↦ moved_left a row (formed_at before row rows is.formed) formed.repo left | false ↦ left ] in
+    elim (names did (did_of_row row)) as (λ b. IsLeft (cond b (moved a row) a).repo) [ true ↦ moved_left a row (formed_at before row rows is.formed) formed.repo left | false ↦ left ] in
     subst (λ (J : List Row). IsLeft (account did J).repo) (append_assoc before (row ∷ []) rows)
     (left_from did (before ++ row ∷ []) rows (subst P (sym (append_assoc before (row ∷ []) rows)) is) (subst Q (sym (joined did before (row ∷ []))) here))
 

@@ -7,8 +7,8 @@ use Rattle.std.proofs.lemmas.Bool.{and_parts, true≢false}
 use Rattle.std.proofs.lemmas.Bool.Decides.{nat_tests}
 use Rattle.std.proofs.lemmas.List.{append-nil}
 use Rattle.std.proofs.lemmas.List.Folds.{list_any-append}
-use Rattle.relay_row.specs.Folds.{folded, names, did_in, host_in, host_seq_in, is_named, cursor, last_seq, last_after, seq_in}
-use Rattle.relay_row.specs.Journal.{IsJournal, is_above, keeps_order}
+use Rattle.relay_row.specs.Folds.{folded, names, did_of_row, host_in, host_seq_in, is_named, cursor, last_seq, last_after, seq_in}
+use Rattle.relay_row.specs.Journal.{IsJournal, rises_above, keeps_order}
 use Rattle.relay_row.specs.Rules.{is_carried, is_number, is_positive, is_row, names_host}
 use Rattle.relay_row.specs.declared.carried.Carried.{Carried}
 use Rattle.relay_row.specs.declared.row.Row.{Row}
@@ -18,10 +18,11 @@ use Rattle.account_state.specs.State.{State}
 use Rattle.account_state.proofs.Joined.{joined}
 use Rattle.host_state.specs.Folds.{set_cursor, hosts_after, hosts}
 use Rattle.host_state.proofs.Cursors.{hosts_joined}
-use Rattle.cut_law.specs.Cut.{is_old, have_old, front, rest, host_rows, dids, account_row, account_rows, carried, cut, MayCut}
+use Rattle.cut_law.specs.Cut.{is_old, have_old, carried_front, rows_behind_front, host_rows, account_row, account_rows, carried, cut, MayCut}
 use Rattle.cut_law.proofs.Carrying.{same_account, same_last, same_named}
 use Rattle.cut_law.proofs.Cutting.{whole_journal}
-use Rattle.cut_law.proofs.Dids.{dids_behind, dids_named, same_dids}
+use Rattle.account_state.specs.Dids.{dids}
+use Rattle.account_state.proofs.Dids.{dids_behind, dids_named, same_dids}
 use Rattle.cut_law.proofs.Fronts.{behind, old_events, split}
 use Rattle.cut_law.proofs.Following.{no_events}
 use Rattle.cut_law.proofs.Hosts.{AreApart, Each, EachRow, IsAway, hosts_apart, hosts_each, turned}
@@ -37,7 +38,7 @@ counted_above low n more = grind (arith, nat_tests)
 
 row_counted : (before : List Row) (row : Row) → is_row row ≡ true → keeps_order before row ≡ true → bytes_eq (host_in row) [] ≡ false → IsCounted (host_in row) (host_seq_in row)
 unfolding is_row is_carried
-row_counted before (Row.Taken t) formed kept some = (some, counted_above (cursor t.host before) t.host_seq (and_parts (nat_lt (cursor t.host before) t.host_seq) (is_above (last_seq before) (seq_in (Row.Taken t))) kept).0)
+row_counted before (Row.Taken t) formed kept some = (some, counted_above (cursor t.host before) t.host_seq (and_parts (nat_lt (cursor t.host before) t.host_seq) (rises_above (last_seq before) (seq_in (Row.Taken t))) kept).0)
 row_counted before (Row.Synced did whole moment) formed kept some = absurd (true≢false some)
 row_counted before (Row.Operated o) formed kept some = absurd (true≢false some)
 row_counted before (Row.Carried (Carried.Last seq)) formed kept some = absurd (true≢false some)
@@ -112,7 +113,7 @@ module _ (rows more : List Row) (is : IsJournal rows) where
   named_over : (did : List ℕ) → is_named did (carried rows ++ more) ≡ is_named did (rows ++ more)
   unfolding is_named
   named_over did =
-      let test = λ (row : Row). names did (did_in row) in
+      let test = λ (row : Row). names did (did_of_row row) in
       list_any-append test (carried rows) more ∙ ap (λ (b : Bool). b || list_any test more) (same_named did rows) ∙ sym (list_any-append test rows more)
 
   dids_over : dids (carried rows ++ more) ≡ dids (rows ++ more)
@@ -145,18 +146,18 @@ old_behind rows more d old =
 pub cut_again : (J : List Row) (c d : ℕ) → IsJournal J → MayCut (cut J c) d → cut (cut J c) d ≡ cut J d
 unfolding cut
 cut_again J c d is may =
-    let A = front c J in
-    let B = rest c J in
+    let A = carried_front c J in
+    let B = rows_behind_front c J in
     let before : IsJournal A = fronts A B (whole_journal J c is) in
     let old : have_old d B ≡ true = old_behind A B d may.some in
     let one = behind d (carried A) B old in
     let other = behind d A B old in
-    ap (λ (l : List Row). carried l ++ rest d (carried A ++ B)) one.front_is
-    ∙ ap (λ (l : List Row). carried (carried A ++ front d B) ++ l) one.rest_is
-    ∙ ap (λ (l : List Row). l ++ rest d B) (carried_again A (front d B) before)
-    ∙ sym (ap (λ (l : List Row). carried l ++ rest d (A ++ B)) other.front_is ∙ ap (λ (l : List Row). carried (A ++ front d B) ++ l) other.rest_is)
-    ∙ ap (λ (K : List Row). carried (front d K) ++ rest d K) (split c J)
+    ap (λ (l : List Row). carried l ++ rows_behind_front d (carried A ++ B)) one.front_is
+    ∙ ap (λ (l : List Row). carried (carried A ++ carried_front d B) ++ l) one.rest_is
+    ∙ ap (λ (l : List Row). l ++ rows_behind_front d B) (carried_again A (carried_front d B) before)
+    ∙ sym (ap (λ (l : List Row). carried l ++ rows_behind_front d (A ++ B)) other.front_is ∙ ap (λ (l : List Row). carried (A ++ carried_front d B) ++ l) other.rest_is)
+    ∙ ap (λ (K : List Row). carried (carried_front d K) ++ rows_behind_front d K) (split c J)
 
 pub cut_hosts : (J : List Row) (c : ℕ) → IsJournal J → hosts (cut J c) ≡ hosts J
 unfolding cut
-cut_hosts J c is = hosts_over (front c J) (rest c J) (fronts (front c J) (rest c J) (whole_journal J c is)) ∙ ap hosts (split c J)
+cut_hosts J c is = hosts_over (carried_front c J) (rows_behind_front c J) (fronts (carried_front c J) (rows_behind_front c J) (whole_journal J c is)) ∙ ap hosts (split c J)

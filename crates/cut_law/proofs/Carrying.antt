@@ -5,7 +5,7 @@ use Rattle.std.proofs.lemmas.List.Folds.{list_any-append}
 use Rattle.std.specs.List.{list_any}
 use Rattle.std.specs.Prelude.{◌==◌}
 use Rattle.std.specs.Str.{bytes_eq}
-use Rattle.relay_row.specs.Folds.{folded, names, did_in, is_named, cursor_after, cursor, last_after, last_seq}
+use Rattle.relay_row.specs.Folds.{folded, names, did_of_row, is_named, cursor_after, cursor, last_after, last_seq}
 use Rattle.relay_row.specs.declared.carried.Carried.{Carried}
 use Rattle.relay_row.specs.declared.row.Row.{Row}
 use Rattle.relay_row.proofs.Journals.{folded_joined}
@@ -14,11 +14,11 @@ use Rattle.account_state.specs.State.{State}
 use Rattle.account_state.specs.declared.repo.Repo.{Repo}
 use Rattle.host_state.specs.Folds.{hosts, cursor_of}
 use Rattle.host_state.proofs.Cursors.{hosts_tell}
-use Rattle.relay_law.proofs.Tracking.{names_same}
-use Rattle.cut_law.specs.Cut.{front, rest, host_rows, dids, repo_over, account_row, account_rows, carried, cut}
+use Rattle.cut_law.specs.Cut.{carried_front, rows_behind_front, host_rows, repo_over, account_row, account_rows, carried, cut}
 use Rattle.cut_law.proofs.Fronts.{split}
 use Rattle.cut_law.proofs.Hosts.{hosts_apart, host_cursors, none_cursor, zero_is}
-use Rattle.cut_law.proofs.Dids.{dids_named, names_none}
+use Rattle.account_state.specs.Dids.{dids}
+use Rattle.account_state.proofs.Dids.{dids_named, names_none, names_same}
 
 -- ---- accounts
 
@@ -58,10 +58,10 @@ accounts_over did rows (d ∷ ds) a =
     accounts_over did rows ds (account_after did a (account_row d (account d rows))) ∙ account_step did d rows a (names did d) (list_any (names did) ds) refl
 
 -- rows that don't name an account leave it
-unnamed : (did : List ℕ) (a : State) (rows : List Row) → list_any (λ row. names did (did_in row)) rows ≡ false → folded (account_after did) a rows ≡ a
+unnamed : (did : List ℕ) (a : State) (rows : List Row) → list_any (λ row. names did (did_of_row row)) rows ≡ false → folded (account_after did) a rows ≡ a
 unnamed did a [] none = refl
 unnamed did a (row ∷ rows) none =
-    let both = or_parts (names did (did_in row)) (list_any (λ r. names did (did_in r)) rows) none in
+    let both = or_parts (names did (did_of_row row)) (list_any (λ r. names did (did_of_row r)) rows) none in
     ap (λ (b : Bool). folded (account_after did) (cond b (moved a row) a) rows) both.0 ∙ unnamed did a rows both.1
 
 known_or_fresh : (did : List ℕ) (rows : List Row) (b : Bool) → is_named did rows ≡ b → cond b (account did rows) fresh ≡ account did rows
@@ -81,15 +81,15 @@ same_account did rows =
 
 -- ---- and which are named
 
-pub hosts_unnamed : (did : List ℕ) (hs : List (List ℕ × ℕ)) → list_any (λ row. names did (did_in row)) (host_rows hs) ≡ false
+pub hosts_unnamed : (did : List ℕ) (hs : List (List ℕ × ℕ)) → list_any (λ row. names did (did_of_row row)) (host_rows hs) ≡ false
 hosts_unnamed did [] = refl
 hosts_unnamed did (h ∷ hs) =
-    elim (h.1 == 0) as (λ b. list_any (λ row. names did (did_in row)) (cond b (host_rows hs) (Row.Carried (Carried.Host h.0 h.1) ∷ host_rows hs)) ≡ false) [
+    elim (h.1 == 0) as (λ b. list_any (λ row. names did (did_of_row row)) (cond b (host_rows hs) (Row.Carried (Carried.Host h.0 h.1) ∷ host_rows hs)) ≡ false) [
       | true ↦ hosts_unnamed did hs
-      | false ↦ ap (λ (b : Bool). b || list_any (λ row. names did (did_in row)) (host_rows hs)) (names_none did) ∙ hosts_unnamed did hs
+      | false ↦ ap (λ (b : Bool). b || list_any (λ row. names did (did_of_row row)) (host_rows hs)) (names_none did) ∙ hosts_unnamed did hs
     ]
 
-accounts_named : (did : List ℕ) (rows : List Row) (ds : List (List ℕ)) → list_any (λ row. names did (did_in row)) (account_rows rows ds) ≡ list_any (names did) ds
+accounts_named : (did : List ℕ) (rows : List Row) (ds : List (List ℕ)) → list_any (λ row. names did (did_of_row row)) (account_rows rows ds) ≡ list_any (names did) ds
 accounts_named did rows [] = refl
 accounts_named did rows (d ∷ ds) = ap (λ (b : Bool). names did d || b) (accounts_named did rows ds)
 
@@ -97,10 +97,10 @@ pub same_named : (did : List ℕ) (rows : List Row) → is_named did (carried ro
 unfolding is_named carried
 same_named did rows =
     let all = account_rows rows (dids rows) in
-    let over = list_any (λ row. names did (did_in row)) (host_rows (hosts rows) ++ all) in
+    let over = list_any (λ row. names did (did_of_row row)) (host_rows (hosts rows) ++ all) in
     ap (λ (b : Bool). b || over) (names_none did)
-    ∙ list_any-append (λ row. names did (did_in row)) (host_rows (hosts rows)) all
-    ∙ ap (λ (b : Bool). b || list_any (λ row. names did (did_in row)) all) (hosts_unnamed did (hosts rows))
+    ∙ list_any-append (λ row. names did (did_of_row row)) (host_rows (hosts rows)) all
+    ∙ ap (λ (b : Bool). b || list_any (λ row. names did (did_of_row row)) all) (hosts_unnamed did (hosts rows))
     ∙ accounts_named did rows (dids rows) ∙ dids_named did rows
 
 -- ---- cursors
@@ -156,27 +156,27 @@ same_last rows =
 
 -- ---- so folds over the cut are those over the journal
 
-same_fold : {A : Type 0} (step : A → Row → A) (a : A) (J : List Row) (c : ℕ) → folded step a (carried (front c J)) ≡ folded step a (front c J) → folded step a (cut J c) ≡ folded step a J
+same_fold : {A : Type 0} (step : A → Row → A) (a : A) (J : List Row) (c : ℕ) → folded step a (carried (carried_front c J)) ≡ folded step a (carried_front c J) → folded step a (cut J c) ≡ folded step a J
 unfolding cut
 same_fold step a J c same =
-    folded_joined step a (carried (front c J)) (rest c J) ∙ ap (λ b. folded step b (rest c J)) same
-    ∙ sym (folded_joined step a (front c J) (rest c J)) ∙ ap (λ (rows : List Row). folded step a rows) (split c J)
+    folded_joined step a (carried (carried_front c J)) (rows_behind_front c J) ∙ ap (λ b. folded step b (rows_behind_front c J)) same
+    ∙ sym (folded_joined step a (carried_front c J) (rows_behind_front c J)) ∙ ap (λ (rows : List Row). folded step a rows) (split c J)
 
 pub cut_account : (did : List ℕ) (J : List Row) (c : ℕ) → account did (cut J c) ≡ account did J
 unfolding account
-cut_account did J c = same_fold (account_after did) fresh J c (same_account did (front c J))
+cut_account did J c = same_fold (account_after did) fresh J c (same_account did (carried_front c J))
 
 pub cut_cursor : (host : List ℕ) (J : List Row) (c : ℕ) → cursor host (cut J c) ≡ cursor host J
 unfolding cursor
-cut_cursor host J c = same_fold (cursor_after host) 0 J c (same_cursor host (front c J))
+cut_cursor host J c = same_fold (cursor_after host) 0 J c (same_cursor host (carried_front c J))
 
 pub cut_last : (J : List Row) (c : ℕ) → last_seq (cut J c) ≡ last_seq J
 unfolding last_seq
-cut_last J c = same_fold last_after 0 J c (same_last (front c J))
+cut_last J c = same_fold last_after 0 J c (same_last (carried_front c J))
 
 pub cut_named : (did : List ℕ) (J : List Row) (c : ℕ) → is_named did (cut J c) ≡ is_named did J
 unfolding is_named cut
 cut_named did J c =
-    let test = λ (row : Row). names did (did_in row) in
-    list_any-append test (carried (front c J)) (rest c J) ∙ ap (λ (b : Bool). b || list_any test (rest c J)) (same_named did (front c J))
-    ∙ sym (list_any-append test (front c J) (rest c J)) ∙ ap (λ (rows : List Row). list_any test rows) (split c J)
+    let test = λ (row : Row). names did (did_of_row row) in
+    list_any-append test (carried (carried_front c J)) (rows_behind_front c J) ∙ ap (λ (b : Bool). b || list_any test (rows_behind_front c J)) (same_named did (carried_front c J))
+    ∙ sym (list_any-append test (carried_front c J) (rows_behind_front c J)) ∙ ap (λ (rows : List Row). list_any test rows) (split c J)

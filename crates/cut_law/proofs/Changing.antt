@@ -7,16 +7,15 @@ use Rattle.std.proofs.lemmas.Bool.{and_parts, leb-true, ltb-true, false≢true, 
 use Rattle.std.proofs.lemmas.List.{append-nil}
 use Rattle.std.proofs.lemmas.List.Elements.{Contains-append_left, Contains-append_right, Contains-append_cases}
 use Rattle.relay_row.specs.Folds.{names, host_in, host_seq_in, cursor, cursor_after, events, last_seq, seq_in}
-use Rattle.relay_row.specs.Journal.{IsJournal, are_none, is_above, is_last_or_host, keeps_order}
+use Rattle.relay_row.specs.Journal.{IsJournal, are_none, rises_above, is_last_or_host, keeps_order}
 use Rattle.relay_row.specs.declared.carried.Carried.{Carried}
 use Rattle.relay_row.specs.declared.row.Row.{Row}
 use Rattle.relay_row.proofs.Journals.{cursors_joined, events_joined, lasts_joined}
 use Rattle.relay_law.specs.Histories.{Change, adds, cuts, IsCut, IsChanged, AreChanged}
-use Rattle.relay_law.proofs.Tracking.{names_same}
 use Rattle.cut_law.specs.Cut.{cut, MayCut}
 use Rattle.cut_law.specs.Lives.{AreJournals, AllCuts, ComesFrom, WasCut}
 use Rattle.cut_law.proofs.Cutting.{cut_is, each_in}
-use Rattle.cut_law.proofs.Dids.{names_none}
+use Rattle.account_state.proofs.Dids.{names_none, names_same}
 use Rattle.cut_law.proofs.Following.{cut_cursor, cut_journal, cut_last, cut_sends}
 use Rattle.cut_law.proofs.Hosts.{zero_is}
 use Rattle.cut_law.proofs.Numbers.{Event, IsIn, all_rise, behind, in_joined, is_in, lasts_rise, one_event, within}
@@ -31,7 +30,7 @@ first_journal J (change ∷ changes) K (middle, is, came) are = are.0
 -- a row that keeps the order doesn't take its host's cursor back
 not_back : (before : List Row) (row : Row) → keeps_order before row ≡ true → bytes_eq (host_in row) [] ≡ false → cursor (host_in row) before ≤ host_seq_in row
 not_back before (Row.Taken t) kept some =
-    let less = ltb-true (cursor t.host before) t.host_seq (and_parts (nat_lt (cursor t.host before) t.host_seq) (is_above (last_seq before) (seq_in (Row.Taken t))) kept).0 in
+    let less = ltb-true (cursor t.host before) t.host_seq (and_parts (nat_lt (cursor t.host before) t.host_seq) (rises_above (last_seq before) (seq_in (Row.Taken t))) kept).0 in
     omega (arith, less)
 not_back before (Row.Carried (Carried.Host host n)) kept some =
     let kinds = (and_parts (not (are_none before)) (list_all is_last_or_host before && cursor host before == 0) kept).1 in

@@ -8,7 +8,7 @@ use Rattle.relay_row.specs.Journal.{IsJournal}
 use Rattle.relay_row.specs.declared.row.Row.{Row}
 use Rattle.relay_row.proofs.Journals.{fronts}
 use Rattle.relay_law.specs.Histories.{IsCut}
-use Rattle.cut_law.specs.Cut.{is_old, have_old, front, rest, carried, cut, MayCut}
+use Rattle.cut_law.specs.Cut.{is_old, have_old, carried_front, rows_behind_front, carried, cut, MayCut}
 use Rattle.cut_law.proofs.Carrying.{same_account, same_cursor, same_last}
 use Rattle.cut_law.proofs.Fronts.{front_old, old_events, rest_new, split}
 use Rattle.cut_law.proofs.Numbers.{AllRise, Event, IsIn, all_rise, behind, few_in, in_joined, last_moves, one_of_few, sent_above, seq_is, within}
@@ -57,23 +57,23 @@ row_old c last row rows e rise some here = ⊎_elim
     omega (arith, is, moved, behind (last_after last row) rows other.event rise.2 other.sent, other.old))
     (or_cases (is_old c row) (have_old c rows) some)
 
-front_up_to : (c last : ℕ) (rows : List Row) (e : Event) → AllRise last rows → IsIn e (events (front c rows)) → e.0 ≤ c
+front_up_to : (c last : ℕ) (rows : List Row) (e : Event) → AllRise last rows → IsIn e (events (carried_front c rows)) → e.0 ≤ c
 front_up_to c last [] e rise one = absurd one
 front_up_to c last (row ∷ rows) e rise one =
-    elim (have_old c (row ∷ rows)) as (λ b. have_old c (row ∷ rows) ≡ b → IsIn e (events (cond b (row ∷ front c rows) [])) → e.0 ≤ c) [
+    elim (have_old c (row ∷ rows)) as (λ b. have_old c (row ∷ rows) ≡ b → IsIn e (events (cond b (row ∷ carried_front c rows) [])) → e.0 ≤ c) [
       | true ↦ λ some here. ⊎_elim
           (λ first. row_old c last row rows e rise some first)
           (λ later. front_up_to c (last_after last row) rows e rise.2 later)
-          (in_joined (events_in row) (events (front c rows)) e here)
+          (in_joined (events_in row) (events (carried_front c rows)) e here)
       | false ↦ λ none here. absurd here
     ] refl one
 
-rest_above : (c : ℕ) (rows : List Row) (e : Event) → IsIn e (events (rest c rows)) → c < e.0
-rest_above c rows e one = leb-false e.0 c (none_in (λ event. nat_le event.0 c) (events (rest c rows)) e (sym (old_events c (rest c rows)) ∙ rest_new c rows) one)
+rest_above : (c : ℕ) (rows : List Row) (e : Event) → IsIn e (events (rows_behind_front c rows)) → c < e.0
+rest_above c rows e one = leb-false e.0 c (none_in (λ event. nat_le event.0 c) (events (rows_behind_front c rows)) e (sym (old_events c (rows_behind_front c rows)) ∙ rest_new c rows) one)
 
 -- ---- together
 
-pub whole_journal : (J : List Row) (c : ℕ) → IsJournal J → IsJournal (front c J ++ rest c J)
+pub whole_journal : (J : List Row) (c : ℕ) → IsJournal J → IsJournal (carried_front c J ++ rows_behind_front c J)
 whole_journal J c is = let P : List Row → Type 0 = λ K. IsJournal K in subst P (sym (split c J)) is
 
 last_some : (rows : List Row) (e : Event) → IsJournal rows → IsIn e (events rows) → 0 < last_seq rows
@@ -85,8 +85,8 @@ last_some rows e is one =
 pub cut_is : (J : List Row) (c : ℕ) → IsJournal J → MayCut J c → IsCut J c (cut J c)
 unfolding cut
 cut_is J c is may =
-    let A = front c J in
-    let B = rest c J in
+    let A = carried_front c J in
+    let B = rows_behind_front c J in
     let before : IsJournal A = fronts A B (whole_journal J c is) in
     let old = has_old c A (front_old c J ∙ may.some) in
     record {

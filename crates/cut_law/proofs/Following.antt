@@ -6,7 +6,7 @@ use Rattle.std.proofs.lemmas.Bool.{and_left, and_parts, false_from_ne_true, fals
 use Rattle.std.proofs.lemmas.List.Elements.{filter-append}
 use Rattle.std.proofs.lemmas.List.Folds.{list_all-append}
 use Rattle.relay_row.specs.Folds.{cursor, cursor_after, events, folded, is_named, last_after, last_seq, seq_in}
-use Rattle.relay_row.specs.Journal.{IsJournal, are_none, is_above, is_carried_row, is_last_or_host, keeps_order}
+use Rattle.relay_row.specs.Journal.{IsJournal, are_none, rises_above, is_carried_row, is_last_or_host, keeps_order}
 use Rattle.relay_row.specs.declared.carried.Carried.{Carried}
 use Rattle.relay_row.specs.declared.row.Row.{Row}
 use Rattle.relay_row.proofs.Journals.{cursors_joined, events_joined, lasts_joined}
@@ -47,10 +47,10 @@ record SaySame (before over : List Row) : Type 0 where
 
 same_order : (before over : List Row) (row : Row) → SaySame before over → keeps_order before row ≡ true → keeps_order over row ≡ true
 same_order before over (Row.Taken t) same kept =
-    ap (λ (n : ℕ). nat_lt n t.host_seq && is_above (last_seq over) (seq_in (Row.Taken t))) (same.cursors t.host)
-    ∙ ap (λ (n : ℕ). nat_lt (cursor t.host before) t.host_seq && is_above n (seq_in (Row.Taken t))) same.last ∙ kept
-same_order before over (Row.Synced did whole moment) same kept = ap (λ (n : ℕ). is_above n whole.seq) same.last ∙ kept
-same_order before over (Row.Operated o) same kept = ap (λ (n : ℕ). is_above n o.seq) same.last ∙ kept
+    ap (λ (n : ℕ). nat_lt n t.host_seq && rises_above (last_seq over) (seq_in (Row.Taken t))) (same.cursors t.host)
+    ∙ ap (λ (n : ℕ). nat_lt (cursor t.host before) t.host_seq && rises_above n (seq_in (Row.Taken t))) same.last ∙ kept
+same_order before over (Row.Synced did whole moment) same kept = ap (λ (n : ℕ). rises_above n whole.seq) same.last ∙ kept
+same_order before over (Row.Operated o) same kept = ap (λ (n : ℕ). rises_above n o.seq) same.last ∙ kept
 same_order before over (Row.Carried (Carried.Last seq)) same kept = absurd (true≢false (sym (none_carried before kept) ∙ same.others))
 same_order before over (Row.Carried (Carried.Host host n)) same kept =
     let kinds = and_parts (list_all is_last_or_host before) _ (and_parts (not (are_none before)) _ kept).1 in

@@ -1,7 +1,6 @@
 pub mod Fronts
 pub mod Hosts
 pub mod Dids
-pub mod Nexts
 pub mod Carrying
 pub mod Numbers
 pub mod Tests
@@ -12,4 +11,4 @@ pub mod Following
 pub mod Again
 pub mod Changing
 pub mod Sounding
-pub mod Wanting
+pub mod Needing

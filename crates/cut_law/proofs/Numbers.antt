@@ -8,8 +8,8 @@ use Rattle.std.proofs.lemmas.Bool.Decides.{nat_tests}
 use Rattle.std.proofs.lemmas.List.Folds.{list_all-append}
 use Rattle.at_event.specs.Refusals.{code_of}
 use Rattle.at_event.specs.declared.refusal.Refusal.{Refusal}
-use Rattle.relay_row.specs.Folds.{cursor, events, events_in, events_of, folded, last_after, last_seq, seq_in, seq_of}
-use Rattle.relay_row.specs.Journal.{IsJournal, are_none, is_above, keeps_order}
+use Rattle.relay_row.specs.Folds.{cursor, events, events_in, events_of, folded, last_after, last_seq, seq_in, first_seq}
+use Rattle.relay_row.specs.Journal.{IsJournal, are_none, rises_above, keeps_order}
 use Rattle.relay_row.specs.Rules.{is_accepted, is_carried, is_decided, is_empty, is_effect, is_detail, is_fetched, is_head, is_about, is_message, is_moment, is_nothing, is_number, is_operated, is_positive, is_refused, is_row, is_taken, is_timed, is_whole, loses, names_did, names_host}
 use Rattle.relay_row.specs.declared.carried.Carried.{Carried}
 use Rattle.relay_row.specs.declared.fetched.Fetched.{Fetched}
@@ -66,7 +66,7 @@ one_of_few (x ∷ []) e f few (inl one) (inr other) = absurd other
 one_of_few (x ∷ []) e f few (inr one) other = absurd one
 one_of_few (x ∷ (y ∷ xs)) e f few one other = absurd few
 
-seq_of_few : (xs : List Event) (e : Event) → AreFew xs → IsIn e xs → seq_of xs ≡ e.0
+seq_of_few : (xs : List Event) (e : Event) → AreFew xs → IsIn e xs → first_seq xs ≡ e.0
 seq_of_few [] e few one = absurd one
 seq_of_few (x ∷ []) e few (inl one) = ap (λ (event : Event). event.0) one
 seq_of_few (x ∷ []) e few (inr one) = absurd one
@@ -161,7 +161,7 @@ sent_positive (Row.Carried c) e is one = absurd one
 pub sent_above : (row : Row) (e : Event) → is_row row ≡ true → IsIn e (events_in row) → 0 < e.0
 sent_above row e is one = above_zero e.0 (sent_positive row e is one)
 
-first_number : (es : List Event) → ((e : Event) → IsIn e es → is_positive e.0 ≡ true) → is_number (seq_of es) ≡ true
+first_number : (es : List Event) → ((e : Event) → IsIn e es → is_positive e.0 ≡ true) → is_number (first_seq es) ≡ true
 first_number [] each = refl
 first_number (x ∷ xs) each = (and_parts (nat_lt 0 x.0) (is_number x.0) (each x (inl refl))).1
 
@@ -199,7 +199,7 @@ above_by : (last n : ℕ) (b : Bool) → (n == 0) ≡ b → b || nat_lt last n �
 above_by last n true none is = inl (grind (arith, nat_tests))
 above_by last n false some is = inr (grind (arith, nat_tests))
 
-above : (last n : ℕ) → is_above last n ≡ true → (n ≡ 0) ⊎ (last < n)
+above : (last n : ℕ) → rises_above last n ≡ true → (n ≡ 0) ⊎ (last < n)
 above last n is = above_by last n (n == 0) refl is
 
 first_alone : (before : List Row) (n : ℕ) → are_none before ≡ true → (n ≡ 0) ⊎ (last_seq before < n)
@@ -212,7 +212,7 @@ first_alone [] n none = ⊎_elim (λ zero. inl zero) (λ more. inr more) (zero_o
 first_alone (row ∷ before) n none = absurd cc
 
 rises : (before : List Row) (row : Row) → keeps_order before row ≡ true → (seq_in row ≡ 0) ⊎ (last_seq before < seq_in row)
-rises before (Row.Taken t) is = above (last_seq before) (seq_in (Row.Taken t)) (and_parts (nat_lt (cursor t.host before) t.host_seq) (is_above (last_seq before) (seq_in (Row.Taken t))) is).1
+rises before (Row.Taken t) is = above (last_seq before) (seq_in (Row.Taken t)) (and_parts (nat_lt (cursor t.host before) t.host_seq) (rises_above (last_seq before) (seq_in (Row.Taken t))) is).1
 rises before (Row.Synced did whole moment) is = above (last_seq before) whole.seq is
 rises before (Row.Operated o) is = above (last_seq before) o.seq is
 rises before (Row.Carried (Carried.Last seq)) is = first_alone before seq is

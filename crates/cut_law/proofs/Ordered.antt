@@ -7,7 +7,7 @@ use Rattle.std.proofs.lemmas.Bool.{and_from, and_right, cond-false, lt-ltb, not_
 use Rattle.std.proofs.lemmas.Bool.Decides.{nat_tests}
 use Rattle.std.proofs.lemmas.List.{append-nil}
 use Rattle.std.proofs.lemmas.List.Folds.{list_all-append}
-use Rattle.relay_row.specs.Folds.{names, did_in, is_named, cursor, last_seq}
+use Rattle.relay_row.specs.Folds.{names, did_of_row, is_named, cursor, last_seq}
 use Rattle.relay_row.specs.Journal.{IsJournal, are_none, is_carried_row, is_last_or_host, keeps_order}
 use Rattle.relay_row.specs.Rules.{is_carried, is_number, is_positive, is_repo, is_row, is_status, names_did, names_host}
 use Rattle.relay_row.specs.declared.carried.Carried.{Carried}
@@ -18,10 +18,12 @@ use Rattle.account_state.specs.State.{State}
 use Rattle.account_state.proofs.Order.{behind_apart}
 use Rattle.host_state.specs.Folds.{hosts}
 use Rattle.relay_law.proofs.Tracking.{named_more}
-use Rattle.cut_law.specs.Cut.{host_rows, dids, repo_over, account_row, account_rows, carried}
+use Rattle.cut_law.specs.Cut.{host_rows, repo_over, account_row, account_rows, carried}
 use Rattle.cut_law.proofs.Accounts.{accounts_formed, IsFormed}
 use Rattle.cut_law.proofs.Carrying.{hosts_unnamed}
-use Rattle.cut_law.proofs.Dids.{AreBehind, AreDids, behind_lower, dids_behind, dids_formed, names_none}
+use Rattle.account_state.specs.Dids.{AreBehind, dids}
+use Rattle.account_state.proofs.Dids.{behind_lower, dids_behind, names_none}
+use Rattle.cut_law.proofs.Dids.{AreDids, dids_formed}
 use Rattle.cut_law.proofs.Hosts.{AreApart, Each, IsAway, IsHost, hosts_apart, hosts_formed, turned}
 use Rattle.cut_law.proofs.Numbers.{formed_at, last_number}
 
@@ -148,7 +150,7 @@ all_free n (h ∷ hs) = (cond-false (names h.0 []) 0 0 (names_none h.0), all_fre
 all_new : (n : ℕ) (hs : List (List ℕ × ℕ)) (ds : List (List ℕ)) → AreNew (Row.Carried (Carried.Last n) ∷ host_rows hs) ds
 unfolding is_named
 all_new n hs [] = tt
-all_new n hs (d ∷ ds) = (or_from (names d []) (list_any (λ row. names d (did_in row)) (host_rows hs)) (names_none d) (hosts_unnamed d hs), all_new n hs ds)
+all_new n hs (d ∷ ds) = (or_from (names d []) (list_any (λ row. names d (did_of_row row)) (host_rows hs)) (names_none d) (hosts_unnamed d hs), all_new n hs ds)
 
 -- what carries a journal over, where that has a number, is a journal
 pub carried_journal : (rows : List Row) → IsJournal rows → 0 < last_seq rows → IsJournal (carried rows)

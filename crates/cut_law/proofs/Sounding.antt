@@ -3,7 +3,7 @@ use Rattle.std.proofs.Common.{◌≡◌, ◌≢◌, ℕ, true, List, [], ◌∷�
 use Rattle.std.specs.List.{list_all}
 use Rattle.std.proofs.lemmas.Bool.{and_parts, false≢true}
 use Rattle.std.proofs.lemmas.List.{append-nil}
-use Rattle.relay_row.specs.Folds.{names, did_in}
+use Rattle.relay_row.specs.Folds.{names, did_of_row}
 use Rattle.relay_row.specs.Journal.{IsJournal, is_carried_row}
 use Rattle.relay_row.specs.declared.carried.Carried.{Carried}
 use Rattle.relay_row.specs.declared.carried.CarriedRepo.{CarriedRepo}
@@ -49,7 +49,7 @@ carried_known : (before rows : List Row) → list_all is_carried_row rows ≡ tr
 carried_known before [] all = tt
 carried_known before (row ∷ rows) all =
     let both = and_parts (is_carried_row row) (list_all is_carried_row rows) all in (
-      λ did m d rev is. absurd (carried_accepts row m d both.0 (some_name (names did (did_in row)) (part_in row) m d is).1),
+      λ did m d rev is. absurd (carried_accepts row m d both.0 (some_name (names did (did_of_row row)) (part_in row) m d is).1),
       carried_known (before ++ row ∷ []) rows both.1,
     )
 

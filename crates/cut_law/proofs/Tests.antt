@@ -3,7 +3,7 @@ use Rattle.std.proofs.Common.{◌≡◌, inl, inr, ℕ, ◌<◌, Bool, true, fal
 use Rattle.std.specs.List.{list_any}
 use Rattle.std.specs.Prelude.{nat_le, nat_lt}
 use Rattle.std.proofs.lemmas.Bool.{and_parts, leb-false, lt-leb, or_from, or_left, true≢false}
-use Rattle.relay_row.specs.Folds.{events, events_in, last_after, last_seq, seq_in, seq_of}
+use Rattle.relay_row.specs.Folds.{events, events_in, last_after, last_seq, seq_in, first_seq}
 use Rattle.relay_row.specs.Journal.{IsJournal, is_carried_row}
 use Rattle.relay_row.specs.Rules.{is_number, is_positive, is_row}
 use Rattle.relay_row.specs.declared.row.Row.{Row}
@@ -13,7 +13,7 @@ use Rattle.cut_law.proofs.Numbers.{AllRise, AreFew, Event, IsIn, all_rise, behin
 
 -- ---- one row
 
-few_old : (c : ℕ) (es : List Event) → AreFew es → ((e : Event) → IsIn e es → is_positive e.0 ≡ true) → list_any (λ event. nat_le event.0 c) es ≡ (nat_lt 0 (seq_of es) && nat_le (seq_of es) c)
+few_old : (c : ℕ) (es : List Event) → AreFew es → ((e : Event) → IsIn e es → is_positive e.0 ≡ true) → list_any (λ event. nat_le event.0 c) es ≡ (nat_lt 0 (first_seq es) && nat_le (first_seq es) c)
 few_old c [] few each = refl
 few_old c (x ∷ []) few each =
     or_nothing (nat_le x.0 c) ∙ sym (ap (λ (b : Bool). b && nat_le x.0 c) (and_parts (nat_lt 0 x.0) (is_number x.0) (each x (inl refl))).0)

@@ -1,12 +1,11 @@
 -- What cutting a journal leaves: its events up to a number are let go, and what the rows up to the last of these came to is carried over (own).
 use Rattle.std.specs.Prelude.{◌≡◌, ℕ, ◌≤◌, Bool, true, List, [], ◌∷◌, ◌++◌, map, nat_le, ◌==◌, if◌then◌else◌}
 use Rattle.std.specs.List.{list_any}
-use Rattle.std.specs.Str.{bytes_eq}
-use Rattle.relay_row.specs.Folds.{did_in, events_in, last_seq}
+use Rattle.relay_row.specs.Folds.{events_in, last_seq}
 use Rattle.relay_row.specs.declared.carried.Carried.{Carried}
 use Rattle.relay_row.specs.declared.carried.CarriedRepo.{CarriedRepo}
 use Rattle.relay_row.specs.declared.row.Row.{Row}
-use Rattle.account_state.specs.Entries.{is_before}
+use Rattle.account_state.specs.Dids.{dids}
 use Rattle.account_state.specs.Folds.{account}
 use Rattle.account_state.specs.State.{State}
 use Rattle.account_state.specs.declared.repo.Repo.{Repo}
@@ -21,29 +20,19 @@ abbrev pub have_old : ℕ → List Row → Bool
 have_old c rows = list_any (is_old c) rows
 
 -- the front of a journal: its rows up to the last one that does
-abbrev pub front : ℕ → List Row → List Row
-front c [] = []
-front c (row ∷ rows) = if have_old c (row ∷ rows) then row ∷ front c rows else []
+abbrev pub carried_front : ℕ → List Row → List Row
+carried_front c [] = []
+carried_front c (row ∷ rows) = if have_old c (row ∷ rows) then row ∷ carried_front c rows else []
 
 -- the rows behind the front
-abbrev pub rest : ℕ → List Row → List Row
-rest c [] = []
-rest c (row ∷ rows) = if have_old c (row ∷ rows) then rest c rows else row ∷ rows
+abbrev pub rows_behind_front : ℕ → List Row → List Row
+rows_behind_front c [] = []
+rows_behind_front c (row ∷ rows) = if have_old c (row ∷ rows) then rows_behind_front c rows else row ∷ rows
 
 -- a row for each of these hosts whose cursor is positive
 abbrev pub host_rows : List (List ℕ × ℕ) → List Row
 host_rows [] = []
 host_rows (host ∷ others) = if host.1 == 0 then host_rows others else Row.Carried (Carried.Host host.0 host.1) ∷ host_rows others
-
--- a DID among others in ascending order, once
-abbrev pub put_did : List ℕ → List (List ℕ) → List (List ℕ)
-put_did did [] = did ∷ []
-put_did did (first ∷ others) = if is_before did first then did ∷ first ∷ others else (if bytes_eq did first then first ∷ others else first ∷ put_did did others)
-
--- the DIDs that rows name, in ascending order. The empty text names nothing
-abbrev pub dids : List Row → List (List ℕ)
-dids [] = []
-dids (row ∷ rows) = if bytes_eq (did_in row) [] then dids rows else put_did (did_in row) (dids rows)
 
 abbrev pub repo_over : Repo → CarriedRepo
 repo_over Repo.Missing = CarriedRepo.Missing
@@ -64,7 +53,7 @@ carried rows = Row.Carried (Carried.Last (last_seq rows)) ∷ (host_rows (hosts 
 
 -- the cut of a journal at a number: what carries its front over, and the rows behind the front
 unfoldable pub cut : List Row → ℕ → List Row
-cut J c = carried (front c J) ++ rest c J
+cut J c = carried (carried_front c J) ++ rows_behind_front c J
 
 -- A journal may be cut at a number up to its last one where it has an event up to that number.
 pub record MayCut (J : List Row) (c : ℕ) : Type 0 where

@@ -9,7 +9,7 @@ use Rattle.host_state.specs.Folds.{hosts}
 use Rattle.relay_law.specs.Carried.{AreOfKnown}
 use Rattle.relay_law.specs.Histories.{Change, IsCut, AreChanged}
 use Rattle.relay_law.specs.Sound.{IsSound}
-use Rattle.cut_law.specs.Cut.{is_old, front, rest, cut, MayCut}
+use Rattle.cut_law.specs.Cut.{is_old, carried_front, rows_behind_front, cut, MayCut}
 use Rattle.cut_law.specs.Lives.{AreJournals, AllCuts, WasCut}
 
 -- What follows from a journal's rows follows from what cutting leaves of them: accounts, and which DIDs are named, cursors, and the last number. And the hosts are listed in the same order.
@@ -37,9 +37,9 @@ pub record CutsStaySound : Type 0 where
 
 -- The front is found by one pass, which keeps how many rows it has: with one row more it has all of them, where that row is old, and else as many as before. So many rows are the front, and what is left is the rest.
 pub record FrontsAreFound : Type 0 where
-  pub grows : (c : ℕ) (rows : List Row) (row : Row) → front c (rows ++ row ∷ []) ≡ (if is_old c row then rows ++ row ∷ [] else front c rows)
-  pub front_is : (c : ℕ) (rows : List Row) → take (length (front c rows)) rows ≡ front c rows
-  pub rest_is : (c : ℕ) (rows : List Row) → drop (length (front c rows)) rows ≡ rest c rows
+  pub grows : (c : ℕ) (rows : List Row) (row : Row) → carried_front c (rows ++ row ∷ []) ≡ (if is_old c row then rows ++ row ∷ [] else carried_front c rows)
+  pub front_is : (c : ℕ) (rows : List Row) → take (length (carried_front c rows)) rows ≡ carried_front c rows
+  pub rest_is : (c : ℕ) (rows : List Row) → drop (length (carried_front c rows)) rows ≡ rows_behind_front c rows
 
 -- Over rows that are added and cuts, each of which leaves a journal, the last number and the cursors never fall; no number stands before two events; an event stays at its number unless a cut there or above comes; each row stays, or is of the front that a cut took; and without a cut all rows stay.
 pub record LivesKeep : Type 0 where

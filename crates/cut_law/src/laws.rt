@@ -1,7 +1,7 @@
 //! The laws of cuts, each the contract of a function that does nothing.
 
 ghost use Rattle.cut_law.specs.Laws.{CutsAreJournals, CutsOfCuts, CutsSayTheSame, CutsStaySound, FrontsAreFound, LivesKeep};
-ghost use Rattle.cut_law.specs.Wanted.{PremisesAreWanted};
+ghost use Rattle.cut_law.specs.Needed.{PremisesAreNeeded};
 
 /// What follows from a journal follows from what cutting leaves of it.
 pub fn cuts_say_the_same()
@@ -34,6 +34,6 @@ pub fn lives_keep()
 {}
 
 /// Laws of cuts without one of their premises, none of which holds.
-pub fn premises_are_wanted()
-    ensures { PremisesAreWanted }
+pub fn premises_are_needed()
+    ensures { PremisesAreNeeded }
 {}

@@ -6,5 +6,5 @@ mod laws;
 
 pub use laws::{
     cuts_are_journals, cuts_of_cuts, cuts_say_the_same, cuts_stay_sound, fronts_are_found,
-    lives_keep, premises_are_wanted,
+    lives_keep, premises_are_needed,
 };

@@ -1,7 +1,7 @@
 -- The first line of a table that applies.
 use Rattle.std.proofs.Common.{◌≡◌, Bool, true, false, cond, List, [], ◌∷◌, ◌++◌, Option, Some, None, refl, subst}
 use Rattle.at_event.specs.declared.refusal.Refusal.{Refusal}
-use Rattle.event_checks.specs.Lines.{Line, first_of, is_judged}
+use Rattle.event_checks.specs.Lines.{RefusalLine, first_of, is_judged}
 
 -- no condition applies
 abbrev pub AllUnmet : {A : Type 0} → List (A × Bool) → Type 0
@@ -35,11 +35,11 @@ first_tells P [] x all e = absurd (cc)
 first_tells P (line ∷ lines) x all e = one_tells P line.1 line.0 x (first_of lines) all.0 (λ h. first_tells P lines x all.1 h) e
 
 -- no line is a judge's
-abbrev pub AreUnjudged : List Line → Type 0
+abbrev pub AreUnjudged : List RefusalLine → Type 0
 AreUnjudged lines = AllTell (λ refusal. is_judged refusal ≡ false) lines
 
 -- then the first that applies is none
-pub first_unjudged : (lines : List Line) (refusal : Refusal) → AreUnjudged lines → first_of lines ≡ Some refusal → is_judged refusal ≡ false
+pub first_unjudged : (lines : List RefusalLine) (refusal : Refusal) → AreUnjudged lines → first_of lines ≡ Some refusal → is_judged refusal ≡ false
 first_unjudged lines refusal are e = first_tells (λ r. is_judged r ≡ false) lines refusal are e
 
 -- what stands behind lines of which none applies

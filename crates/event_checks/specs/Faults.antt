@@ -5,7 +5,7 @@ use Rattle.at_commit.specs.declared.fault.CommitFault.{CommitFault}
 use Rattle.at_event.specs.declared.refusal.Refusal.{Refusal}
 use Rattle.event_checks.specs.declared.fault.OpenFault.{OpenFault}
 
--- the refusal, unless memory was wanted
+-- the refusal, unless memory ran out
 abbrev pub refusal_of : OpenFault → Option Refusal
 refusal_of (OpenFault.Refused refusal) = Some refusal
 refusal_of OpenFault.Memory = None

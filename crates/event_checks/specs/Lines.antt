@@ -3,8 +3,8 @@ use Rattle.std.specs.Prelude.{List, [], ◌∷◌, Bool, true, false, if◌then�
 use Rattle.at_event.specs.declared.refusal.Refusal.{Refusal}
 
 -- a refusal, and whether its condition applies
-abbrev pub Line : Type 0
-Line = Refusal × Bool
+abbrev pub RefusalLine : Type 0
+RefusalLine = Refusal × Bool
 
 -- the first refusal, or whatever else the lines tell, whose condition applies
 abbrev pub first_of : {A : Type 0} → List (A × Bool) → Option A

@@ -9,7 +9,7 @@ use Rattle.at_commit.specs.Commit.{commit_of, is_of}
 use Rattle.at_commit.specs.declared.commit.Commit.{Commit}
 use Rattle.at_commit.specs.declared.fault.CommitFault.{CommitFault}
 use Rattle.at_event.specs.declared.refusal.Refusal.{Refusal}
-use Rattle.event_checks.specs.Lines.{Line}
+use Rattle.event_checks.specs.Lines.{RefusalLine}
 
 -- the roots and the blocks of a CAR, or its first fault
 abbrev pub CarResult : Type 0
@@ -48,13 +48,13 @@ block_in (Ok car) = block_at (root_of car.0) car.1
 block_in (Err fault) = None
 
 -- the commit object that a block is
-abbrev pub object_of : Result Commit CommitFault → Option Commit
-object_of (Ok commit) = Some commit
-object_of (Err fault) = None
+abbrev pub read_object : Result Commit CommitFault → Option Commit
+read_object (Ok commit) = Some commit
+read_object (Err fault) = None
 
 abbrev pub object_in_block : Option (List ℕ) → Option Commit
 object_in_block None = None
-object_in_block (Some block) = object_of (commit_of block)
+object_in_block (Some block) = read_object (commit_of block)
 
 -- the commit object under the first root
 abbrev pub object_in : CarResult → Option Commit
@@ -66,11 +66,11 @@ is_commit_of did rev None = false
 is_commit_of did rev (Some commit) = is_of did rev commit
 
 -- what a CAR shows of its form
-abbrev pub form_lines : CarResult → List Line
+abbrev pub form_lines : CarResult → List RefusalLine
 form_lines car = (Refusal.BadCar, is_malformed car) ∷ (Refusal.WrongDigest, has_wrong_digest car) ∷ []
 
 -- what it shows of its commit, whose link may be stated, and whose account and revision are
-abbrev pub object_lines : CarResult → Option (List ℕ) → List ℕ → ℕ → List Line
+abbrev pub object_lines : CarResult → Option (List ℕ) → List ℕ → ℕ → List RefusalLine
 object_lines car stated did rev =
     (Refusal.WrongRoot, not (is_rooted stated (root_in car)))
     ∷ (Refusal.NoCommit, not (is_some (block_in car)))
@@ -78,7 +78,7 @@ object_lines car stated did rev =
     ∷ (Refusal.OtherCommit, not (is_commit_of did rev (object_in car)))
     ∷ []
 
-abbrev pub car_lines : CarResult → Option (List ℕ) → List ℕ → ℕ → List Line
+abbrev pub car_lines : CarResult → Option (List ℕ) → List ℕ → ℕ → List RefusalLine
 car_lines car stated did rev = form_lines car ++ object_lines car stated did rev
 
 -- what was found: the first root, the block under it, and the commit object that this is

@@ -10,7 +10,7 @@ use Rattle.at_event.specs.declared.event.SyncEvent.{SyncEvent}
 use Rattle.at_event.specs.declared.ops.Action.{Action}
 use Rattle.at_event.specs.declared.ops.EventOp.{EventOp}
 use Rattle.at_event.specs.declared.refusal.Refusal.{Refusal}
-use Rattle.event_checks.specs.Lines.{Line}
+use Rattle.event_checks.specs.Lines.{RefusalLine}
 use Rattle.event_checks.specs.Opening.{CarResult, car_lines}
 use Rattle.event_checks.specs.declared.limits.TheConstants.{MOST_COMMIT_BYTES, MOST_OPS, MOST_SYNC_BYTES}
 
@@ -31,7 +31,7 @@ abbrev pub paths_of : List EventOp → List (List ℕ)
 paths_of ops = map (λ op. op.path) ops
 
 -- what the fields of a `#commit` show
-abbrev pub field_lines : CommitEvent → List Line
+abbrev pub field_lines : CommitEvent → List RefusalLine
 field_lines e =
     (Refusal.TooBig, e.too_big)
     ∷ (Refusal.BlocksTooLong, nat_lt MOST_COMMIT_BYTES (length e.blocks))
@@ -51,15 +51,15 @@ abbrev pub car_in : CommitEvent → CarResult
 car_in e = car_of e.blocks
 
 -- what the blocks of a `#commit` show
-abbrev pub block_lines : CommitEvent → List Line
+abbrev pub block_lines : CommitEvent → List RefusalLine
 block_lines e = car_lines (car_in e) (Some e.commit) e.repo e.rev
 
 -- all that a `#commit` shows, beside the last revision of its account
-abbrev pub open_lines : CommitEvent → Option ℕ → List Line
+abbrev pub open_lines : CommitEvent → Option ℕ → List RefusalLine
 open_lines e last = field_lines e ++ ((Refusal.Stale, is_stale last e.rev) ∷ block_lines e)
 
 -- all that a `#sync` shows, beside the last revision of its account
-abbrev pub sync_lines : SyncEvent → Option ℕ → List Line
+abbrev pub sync_lines : SyncEvent → Option ℕ → List RefusalLine
 sync_lines e last =
     (Refusal.BlocksTooLong, nat_lt MOST_SYNC_BYTES (length e.blocks))
     ∷ (Refusal.Stale, is_stale last e.rev)

@@ -8,8 +8,8 @@ ghost use Rattle.event_checks.specs.Lines.{first_of};
 ghost use Rattle.event_checks.specs.Opening.{IsFound, block_in, data_in, form_lines, is_stated, object_in, object_lines};
 
 use crate::fault::OpenFault;
-use at_car::Car;
-use at_cid::{Cid, Cids, Words};
+use at_car::{Car, first_root};
+use at_cid::{Cid, Words};
 use at_commit::Commit;
 use at_event::Refusal;
 use at_syntax::Tid;
@@ -42,15 +42,6 @@ pub fn read_car(alloc: Global, blocks: &[u8]) -> Result<Car, OpenFault>
 {
     let car = at_car::read(alloc, blocks)?;
     Ok(car)
-}
-
-fn first_root(roots: &Cids) -> Option<Cid>
-    ensures { result ≡ root_of roots.now }
-{
-    match roots.as_slice() {
-        [root, ..] => Some(*root),
-        [] => None,
-    }
 }
 
 /// Whether a root is the link that is stated, where one is.
@@ -113,7 +104,7 @@ pub fn find_commit<'a>(
     })
 }
 
-/// The `data` of that commit object. It is refused as [`find_commit`] refuses it; what a signature covers isn't spelled.
+/// The `data` of that commit object. It is refused as [`find_commit`] refuses it; what a signature covers isn't encoded.
 pub fn find_data(
     alloc: Global,
     car: &Car,

@@ -11,7 +11,7 @@ pub enum EventsFault {
     /// The disk failed, as its count of faults shows.
     #[error("the disk failed")]
     Disk,
-    /// Memory was wanted.
+    /// Memory ran out.
     #[error("out of memory")]
     Memory,
     /// No event stands at this place, where one did.

@@ -1,6 +1,6 @@
 //! The places of events, in the order of their numbers.
 
-ghost use Rattle.std.specs.Prelude.{◌≡◌, ◌≤◌, ◌<◌, ◌+◌, ◌++◌, ◌∷◌, [], length, drop, slice_get, vec_len, vec_capacity, None, IfSome, OnOk, true};
+ghost use Rattle.std.specs.Prelude.{◌≡◌, ◌≤◌, ◌<◌, ◌+◌, ◌++◌, ◌∷◌, [], length, drop, slice_get, vec_len, vec_capacity, max, None, IfSome, OnErr, OnOk, true};
 ghost use Rattle.event_window.specs.Window.{AreAbove, IsLastUpto, all_above, is_at_most};
 
 use crate::place::Place;
@@ -38,13 +38,15 @@ impl Window {
         }
     }
 
-    /// Makes room for so many more.
+    /// Makes room for so many more, where there is less. Fails where memory is refused, and leaves the room that there was.
     pub fn reserve(&mut self, more: usize) -> Result<(), Memory>
         ensures same { self.new.places ≡ self.old.places }
         ensures room { OnOk result (more ≤ self.new.spare) }
+        ensures spare { OnOk result (self.new.spare ≡ max self.old.spare more) }
+        ensures refused { OnErr result (self.new.spare ≡ self.old.spare) }
+        ensures wanted { OnErr result (self.old.spare < more) }
     {
         if self.spare < more {
-            self.spare = 0;
             self.places.reserve(more)?;
             self.spare = more;
         }

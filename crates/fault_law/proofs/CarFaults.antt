@@ -37,7 +37,7 @@ unmeasured place bytes (Some x) fits e none =
       | false ↦ λ t.
           let least : 36 ≤ x.0 = grind (arith, nat_tests, t) in
           let within : x.0 ≤ length x.1 = grind (arith, nat_tests, t) in
-          absurd (none x.0 x.1 (record { spelled = v.0; short = v.1; least = least; within = within }))
+          absurd (none x.0 x.1 (record { encoded = v.0; short = v.1; least = least; within = within }))
     ] refl
 
 module _ (place : ℕ) (bytes : List ℕ) (n : ℕ) (body : List ℕ) (m : IsMeasured bytes n body) where
@@ -51,7 +51,7 @@ module _ (place : ℕ) (bytes : List ℕ) (n : ℕ) (body : List ℕ) (m : IsMea
   unfolding section_at
   fails_as fault e =
       let room : (ltb n 36 || ltb (length body) n) ≡ false = grind (arith, nat_tests, m.least, m.within) in
-      ap (measured_section place) (ap varint_at m.spelled ∙ varint_again n body m.short)
+      ap (measured_section place) (ap varint_at m.encoded ∙ varint_again n body m.short)
       ∙ ap (λ t. cond t (Err (CarFault.Section place)) (section_in place (take n body) >>= λ s. Ok (s, drop n body))) room
       ∙ ap (λ r. r >>= λ s. Ok (s, drop n body)) e
 
@@ -110,11 +110,11 @@ first_fails : (bytes : List ℕ) (fault : CarFault) → IsBytes bytes → IsFirs
 unfolding car_of
 first_fails bytes fault fits f =
     let front : List ℕ = header_bytes f.header ++ sections_bytes f.sections in
-    let parts : bytes ≡ (header_bytes f.header ++ sections_bytes f.sections) ++ f.rest = f.spelled ∙ sym (append_assoc (header_bytes f.header) (sections_bytes f.sections) f.rest) in
+    let parts : bytes ≡ (header_bytes f.header ++ sections_bytes f.sections) ++ f.rest = f.encoded ∙ sym (append_assoc (header_bytes f.header) (sections_bytes f.sections) f.rest) in
     let place : length bytes - length f.rest ≡ length (header_bytes f.header ++ sections_bytes f.sections) = omega (arith, ap (λ (l : List ℕ). length l) parts, length-append (header_bytes f.header ++ sections_bytes f.sections) f.rest) in
     let fails : section_at (length bytes - length f.rest) f.rest ≡ Err fault =
     section_fails (length bytes - length f.rest) f.rest fault (ends_in_bytes bytes front f.rest fits parts) (subst (λ (p : ℕ). Breaks fault p f.rest) (sym place) f.breaks) in
-    ap (behind (length bytes)) (ap header_at f.spelled ∙ header_again f.header f.named f.header_form (sections_bytes f.sections ++ f.rest))
+    ap (behind (length bytes)) (ap header_at f.encoded ∙ header_again f.header f.named f.header_form (sections_bytes f.sections ++ f.rest))
     ∙ behind_fails (length bytes) f.named f.sections f.rest fault f.sections_form f.some fails
 
 no_header_fails : (bytes : List ℕ) → IsBytes bytes → HasNoHeader bytes → car_of bytes ≡ Err CarFault.Header
@@ -122,7 +122,7 @@ unfolding car_of
 no_header_fails bytes fits none =
     elim (header_at bytes) as (λ o. header_at bytes ≡ o → behind (length bytes) o ≡ Err CarFault.Header) [
       | None ↦ λ e. refl
-      | Some x ↦ λ e. let t = header_takes bytes x fits e in absurd (none t.header x.0 x.1 t.form t.spelled)
+      | Some x ↦ λ e. let t = header_takes bytes x fits e in absurd (none t.header x.0 x.1 t.form t.encoded)
     ] refl
 
 pub car_fails : (bytes : List ℕ) (fault : CarFault) → IsBytes bytes → IsFaultOf fault bytes → car_of bytes ≡ Err fault
@@ -132,50 +132,50 @@ car_fails bytes (CarFault.CidForm p) fits (other, f) = first_fails bytes (CarFau
 car_fails bytes (CarFault.WrongDigest p) fits (other, f) = first_fails bytes (CarFault.WrongDigest p) fits f
 car_fails bytes CarFault.Memory fits (other, f) = absurd (other refl)
 
--- ---- no bytes are read as the want of memory
+-- ---- no bytes are read as running out of memory
 
-abbrev IsWant : {A : Type 0} → Result A CarFault → Type 0
-IsWant r = r ≡ Err CarFault.Memory
+abbrev IsOutOfMemory : {A : Type 0} → Result A CarFault → Type 0
+IsOutOfMemory r = r ≡ Err CarFault.Memory
 
-under_no_want : (place : ℕ) (block : List ℕ) (found : Option (List ℕ)) → IsWant (block_under place block found) → ⊥
-under_no_want place block None e = absurd cc
-under_no_want place block (Some link) e =
-    elim (bytes_eq (digest_of link) (sha256 block)) as (λ t. IsWant (cond {A = Result Section CarFault} t (Ok (link, block)) (Err (CarFault.WrongDigest place))) → ⊥) [ true ↦ λ h. absurd cc | false ↦ λ h. absurd cc ] e
+under_not_memory : (place : ℕ) (block : List ℕ) (found : Option (List ℕ)) → IsOutOfMemory (block_under place block found) → ⊥
+under_not_memory place block None e = absurd cc
+under_not_memory place block (Some link) e =
+    elim (bytes_eq (digest_of link) (sha256 block)) as (λ t. IsOutOfMemory (cond {A = Result Section CarFault} t (Ok (link, block)) (Err (CarFault.WrongDigest place))) → ⊥) [ true ↦ λ h. absurd cc | false ↦ λ h. absurd cc ] e
 
-measured_no_want : (place : ℕ) (found : Option (ℕ × List ℕ)) → IsWant (measured_section place found) → ⊥
+measured_not_memory : (place : ℕ) (found : Option (ℕ × List ℕ)) → IsOutOfMemory (measured_section place found) → ⊥
 unfolding section_in
-measured_no_want place None e = absurd cc
-measured_no_want place (Some n) e =
-    elim (ltb n.0 36 || ltb (length n.1) n.0) as (λ t. IsWant (cond {A = Result (Section × List ℕ) CarFault} t (Err (CarFault.Section place)) (section_in place (take n.0 n.1) >>= λ s. Ok (s, drop n.0 n.1))) → ⊥) [
+measured_not_memory place None e = absurd cc
+measured_not_memory place (Some n) e =
+    elim (ltb n.0 36 || ltb (length n.1) n.0) as (λ t. IsOutOfMemory (cond {A = Result (Section × List ℕ) CarFault} t (Err (CarFault.Section place)) (section_in place (take n.0 n.1) >>= λ s. Ok (s, drop n.0 n.1))) → ⊥) [
       | true ↦ λ h. absurd cc
       | false ↦ λ h. bind_err {B = Section × List ℕ} ⊥ (section_in place (take n.0 n.1)) (λ s. Ok (s, drop n.0 n.1)) CarFault.Memory h
-          (λ i. under_no_want place (drop 36 (take n.0 n.1)) (link_at (take n.0 n.1)) i)
+          (λ i. under_not_memory place (drop 36 (take n.0 n.1)) (link_at (take n.0 n.1)) i)
           (λ s _ i. not_err {A = Section × List ℕ} (s, drop n.0 n.1) CarFault.Memory i)
     ] e
 
-sections_no_want : (most size : ℕ) (bytes : List ℕ) → IsWant (sections_at most size bytes) → ⊥
+sections_not_memory : (most size : ℕ) (bytes : List ℕ) → IsOutOfMemory (sections_at most size bytes) → ⊥
 unfolding sections_at section_at
-sections_no_want most size [] e = absurd cc
-sections_no_want zero size (b ∷ bs) e = absurd cc
-sections_no_want (suc most) size (b ∷ bs) e =
+sections_not_memory most size [] e = absurd cc
+sections_not_memory zero size (b ∷ bs) e = absurd cc
+sections_not_memory (suc most) size (b ∷ bs) e =
     bind_err ⊥ (section_at (size - length (b ∷ bs)) (b ∷ bs)) (λ x. sections_at most size x.1 >>= λ others. Ok (x.0 ∷ others)) CarFault.Memory e
-    (λ i. measured_no_want (size - length (b ∷ bs)) (varint_at (b ∷ bs)) i)
+    (λ i. measured_not_memory (size - length (b ∷ bs)) (varint_at (b ∷ bs)) i)
     (λ x _ i. bind_err ⊥ (sections_at most size x.1) (λ others. Ok (x.0 ∷ others)) CarFault.Memory i
-    (λ j. sections_no_want most size x.1 j)
+    (λ j. sections_not_memory most size x.1 j)
     (λ others _ j. not_err {A = List Section} (x.0 ∷ others) CarFault.Memory j))
 
-behind_no_want : (size : ℕ) (found : Option (List (List ℕ) × List ℕ)) → IsWant (behind size found) → ⊥
-behind_no_want size None e = absurd cc
-behind_no_want size (Some x) e =
+behind_not_memory : (size : ℕ) (found : Option (List (List ℕ) × List ℕ)) → IsOutOfMemory (behind size found) → ⊥
+behind_not_memory size None e = absurd cc
+behind_not_memory size (Some x) e =
     bind_err ⊥ (sections_in size x.1 >>= λ sections. Ok (from_entries sections)) (λ blocks. Ok (x.0, blocks)) CarFault.Memory e
     (λ i. bind_err ⊥ (sections_in size x.1) (λ sections. Ok (from_entries sections)) CarFault.Memory i
-    (λ j. sections_no_want (length x.1) size x.1 j)
+    (λ j. sections_not_memory (length x.1) size x.1 j)
     (λ s _ j. not_err {A = BlockMap} (from_entries s) CarFault.Memory j))
     (λ s _ i. not_err {A = List (List ℕ) × BlockMap} (x.0, s) CarFault.Memory i)
 
-no_want : (bytes : List ℕ) → IsWant (car_of bytes) → ⊥
+not_memory : (bytes : List ℕ) → IsOutOfMemory (car_of bytes) → ⊥
 unfolding car_of
-no_want bytes e = behind_no_want (length bytes) (header_at bytes) e
+not_memory bytes e = behind_not_memory (length bytes) (header_at bytes) e
 
 pub fault_is_of : (bytes : List ℕ) (fault : CarFault) → IsBytes bytes → car_of bytes ≡ Err fault → IsFaultOf fault bytes
-fault_is_of bytes fault fits e = (λ want. no_want bytes (e ∙ ap (λ (f : CarFault). Err f) want), car_fault bytes fault fits e)
+fault_is_of bytes fault fits e = (λ want. not_memory bytes (e ∙ ap (λ (f : CarFault). Err f) want), car_fault bytes fault fits e)

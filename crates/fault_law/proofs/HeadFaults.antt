@@ -11,8 +11,8 @@ use Rattle.at_cbor.specs.declared.major.Major.{Major}
 use Rattle.at_cbor.specs.declared.fault.Cause.{Cause}
 use Rattle.at_cbor.specs.declared.head.Head.{Head}
 use Rattle.at_cbor.specs.Heads.{Flaw, wide_at, argument_at, least_of, begins_link, link_behind, whole_link, tagged, major_of, argued, head_at}
-use Rattle.at_cbor.specs.Majors.{number_of}
-use Rattle.at_cbor.specs.Spelling.{info_of, tail_of, front_of}
+use Rattle.at_cbor.specs.Majors.{major_number}
+use Rattle.at_cbor.specs.Encoding.{info_of, tail_of, front_of}
 use Rattle.at_cbor.specs.Faults.{wide_for, wide_len, IsCut, IsReserved, IsOtherSimple, IsLongForm, IsOutOfRange, MayBeTagged, BreaksHead}
 use Rattle.at_cbor.proofs.Steps.{chosen}
 use Rattle.at_cbor.proofs.Fronts.{IsWide, wide8, wide16, wide32, wide64, form_1, form_2, form_3, argument_again}
@@ -124,24 +124,24 @@ low_bits : (high info : ℕ) → info < 32 → (32 * high + info) % 32 ≡ info
 low_bits high info h = omega (arith, h)
 
 long_in : (w : Width) (k low limit : ℕ) → IsWide w limit → wide_for k ≡ Some w → k < 28 → least_of k ≡ low → low ≤ limit → IsBelow w low
-    → (major : Major) (n : ℕ) (rest : List ℕ) → major ≢ Major.Simple → length (tail_of n) < byte_len w → HeadFails Cause.NotShortest ((32 * number_of major + k) ∷ (to_be_bytes w n ++ rest))
+    → (major : Major) (n : ℕ) (rest : List ℕ) → major ≢ Major.Simple → length (tail_of n) < byte_len w → HeadFails Cause.NotShortest ((32 * major_number major + k) ∷ (to_be_bytes w n ++ rest))
 unfolding head_at argued
 long_in w k low limit wide form small least within below major n rest other shorter =
     let lt : n < low = below n shorter in
-    let info : (32 * number_of major + k) % 32 ≡ k = low_bits (number_of major) k (omega (arith, small)) in
+    let info : (32 * major_number major + k) % 32 ≡ k = low_bits (major_number major) k (omega (arith, small)) in
     let high = major_again major k (omega (arith, small)) in
-    let found : argument_at ((32 * number_of major + k) % 32) (to_be_bytes w n ++ rest) ≡ Some (n, rest) =
+    let found : argument_at ((32 * major_number major + k) % 32) (to_be_bytes w n ++ rest) ≡ Some (n, rest) =
     ap (λ (i : ℕ). argument_at i (to_be_bytes w n ++ rest)) info ∙ argument_is k (to_be_bytes w n ++ rest) ∙ ap (λ (o : Option Width). by_width o k (to_be_bytes w n ++ rest)) form ∙ wide_again w limit wide n rest (omega (arith, lt, within)) in
     let definite : leb 28 k ≡ false = grind (arith, nat_tests, small) in
     let test = long_for major k n other (lt-ltb n (least_of k) (omega (arith, lt, least))) in
-    ap (argued (32 * number_of major + k) (length ((32 * number_of major + k) ∷ (to_be_bytes w n ++ rest)))) found ∙ rw (info, high, definite, test) refl
+    ap (argued (32 * major_number major + k) (length ((32 * major_number major + k) ∷ (to_be_bytes w n ++ rest)))) found ∙ rw (info, high, definite, test) refl
 
 -- which low five bits announce a width
 some_is : {A : Type 0} (x y : A) → (let o : Option A = Some x in o) ≡ Some y → x ≡ y
 some_is x y e = cc
 
 abbrev LongFails : ℕ → Width → Type 0
-LongFails info w = (major : Major) (n : ℕ) (rest : List ℕ) → major ≢ Major.Simple → length (tail_of n) < byte_len w → HeadFails Cause.NotShortest ((32 * number_of major + info) ∷ (to_be_bytes w n ++ rest))
+LongFails info w = (major : Major) (n : ℕ) (rest : List ℕ) → major ≢ Major.Simple → length (tail_of n) < byte_len w → HeadFails Cause.NotShortest ((32 * major_number major + info) ∷ (to_be_bytes w n ++ rest))
 
 long_as : (info k : ℕ) (v w : Width) → eqb info k ≡ true → Some v ≡ Some w → LongFails k v → LongFails info w
 long_as info k v w t e h = subst (λ (x : Width). LongFails info x) (some_is v w e) (subst (λ (i : ℕ). LongFails i v) (sym (eqb-true info k t)) h)
@@ -228,11 +228,11 @@ linked behind link rest is e =
 first_is : (a b : ℕ) (xs ys : List ℕ) → a ∷ xs ≡ b ∷ ys → a ≡ b
 first_is a b xs ys e = cc
 
-other_first : (major : Major) (n : ℕ) (behind rest : List ℕ) → number_of major < 6 → n < 2 ^ 64 → front_of Major.Tag 42 ++ behind ≡ front_of major n ++ rest → ⊥
+other_first : (major : Major) (n : ℕ) (behind rest : List ℕ) → major_number major < 6 → n < 2 ^ 64 → front_of Major.Tag 42 ++ behind ≡ front_of major n ++ rest → ⊥
 other_first major n behind rest m below e =
     let here = argument_again 42 behind (omega arith) in
     let there = argument_again n rest below in
-    absurd (omega (arith, m, here.info_below, there.info_below, first_is (32 * 6 + info_of 42) (32 * number_of major + info_of n) (tail_of 42 ++ behind) (tail_of n ++ rest) e))
+    absurd (omega (arith, m, here.info_below, there.info_below, first_is (32 * 6 + info_of 42) (32 * major_number major + info_of n) (tail_of 42 ++ behind) (tail_of n ++ rest) e))
 
 link_read : (behind : List ℕ) (x : Head × List ℕ) → IsHead (front_of Major.Tag 42 ++ behind) x → IsLinked behind
 link_read behind (Head.Int (pos n), rest) h = absurd (other_first Major.Unsigned n behind rest (omega arith) (omega (arith, h.1)) h.0.parts)

@@ -16,7 +16,7 @@ use Rattle.at_car.specs.Form.{IsCarOf}
 abbrev pub CborFaultsAreExact : Type 0
 CborFaultsAreExact = (bytes : List ℕ) (cause : Cause) (place : ℕ) → IsBytes bytes → (decoded bytes ≡ Err (cause, place)) ↔ IsFaulty bytes cause place
 
--- an item's spelling stands in front
+-- an item's encoding stands in front
 abbrev pub HasItem : List ℕ → Type 0
 HasItem bytes = (i : Item) × (n : ℕ) × IsFront bytes i n
 
@@ -34,7 +34,7 @@ CborHasOneAnswer = (bytes : List ℕ) → IsBytes bytes → (HasItem bytes ⊎ H
 abbrev pub IsFaultOf : CarFault → List ℕ → Type 0
 IsFaultOf fault bytes = (fault ≢ CarFault.Memory) × IsFault fault bytes
 
--- Bytes are read as a fault of CARs exactly where it is one of them. The want of memory is none.
+-- Bytes are read as a fault of CARs exactly where it is one of them. The running out of memory is none.
 abbrev pub CarFaultsAreExact : Type 0
 CarFaultsAreExact = (bytes : List ℕ) (fault : CarFault) → IsBytes bytes → (car_of bytes ≡ Err fault) ↔ IsFaultOf fault bytes
 

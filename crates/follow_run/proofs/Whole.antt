@@ -9,7 +9,7 @@ use Rattle.relay_row.specs.Folds.{cursor}
 use Rattle.relay_row.specs.declared.row.Row.{Row}
 use Rattle.relay_step.specs.Around.{Around}
 use Rattle.relay_step.specs.Steps.{Step}
-use Rattle.relay_store.specs.Batches.{sent}
+use Rattle.relay_store.specs.Batches.{messages_sent}
 use Rattle.relay_store.specs.declared.fault.StoreFault.{StoreFault}
 use Rattle.relay_store.specs.Journals.{IsPairImageOf}
 use Rattle.relay_store.specs.Opening.{Opened}
@@ -86,15 +86,15 @@ module _ (t : Tells) (feed_tells : Bool) (host : List ℕ) (most count : ℕ) (g
   -- messages that were taken so, and are on the feed
   abbrev Both : TapeEnd → Type 0
   Both end = (taken : Ingested t false most 0 J old new end)
-      × IsOnFeed feed_tells host count (given (cursor host J)) left (taken.steps ++ (taken.under ++ taken.extra)) (sent (taken.steps ++ (taken.under ++ taken.extra)) ++ taken.behind) end
+      × IsOnFeed feed_tells host count (given (cursor host J)) left (taken.steps ++ (taken.under ++ taken.extra)) (messages_sent (taken.steps ++ (taken.under ++ taken.extra)) ++ taken.behind) end
 
   followed : (taking : TapeEnd) (end : FeedEnd) → end ≡ feed_end taking → (taken : Ingested t false most 0 J old new taking) (steps : List Step) (behind : List Message)
-      → (taken.steps ++ (taken.under ++ taken.extra) ≡ steps) × (taken.behind ≡ behind) → IsOnFeed feed_tells host count (given (cursor host J)) left steps (sent steps ++ behind) taking → Followed t feed_tells host most count given left J old new end
+      → (taken.steps ++ (taken.under ++ taken.extra) ≡ steps) × (taken.behind ≡ behind) → IsOnFeed feed_tells host count (given (cursor host J)) left steps (messages_sent steps ++ behind) taking → Followed t feed_tells host most count given left J old new end
   followed taking end is taken steps behind takes on =
       let both : Both taking = (
         taken,
-        subst (λ (l : List Step). IsOnFeed feed_tells host count (given (cursor host J)) left l (sent l ++ taken.behind) taking) (sym takes.0)
-            (subst (λ (l : List Message). IsOnFeed feed_tells host count (given (cursor host J)) left steps (sent steps ++ l) taking) (sym takes.1) on),
+        subst (λ (l : List Step). IsOnFeed feed_tells host count (given (cursor host J)) left l (messages_sent l ++ taken.behind) taking) (sym takes.0)
+            (subst (λ (l : List Message). IsOnFeed feed_tells host count (given (cursor host J)) left steps (messages_sent steps ++ l) taking) (sym takes.1) on),
       ) in
       let kept : Both (tape_end end) = subst (λ (e : FeedEnd). Both (tape_end e)) (sym is) (subst Both (end_kept feed_tells host count steps on.rest taking on.ends) both) in
       record { taken = kept.0; feed = kept.1 }

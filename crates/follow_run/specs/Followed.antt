@@ -2,7 +2,7 @@
 use Rattle.std.specs.Prelude.{ℕ, Bool, false, List, ◌++◌}
 use Rattle.relay_row.specs.Folds.{cursor}
 use Rattle.relay_row.specs.declared.row.Row.{Row}
-use Rattle.relay_store.specs.Batches.{sent}
+use Rattle.relay_store.specs.Batches.{messages_sent}
 use Rattle.tape_run.specs.Feeds.{IsOnFeed}
 use Rattle.tape_run.specs.Tells.{Tells}
 use Rattle.ingest_run.specs.Ingested.{Ingested, PairScene}
@@ -14,4 +14,4 @@ pub record Followed (t : Tells) (feed_tells : Bool) (host : List ℕ) (most coun
   -- they were taken as those of a tape are, of whose bytes nothing is told
   pub taken : Ingested t false most 0 J old new (tape_end end)
   -- they are those in front of what the feed gives of the host behind its cursor
-  pub feed : IsOnFeed feed_tells host count (given (cursor host J)) left (taken.steps ++ (taken.under ++ taken.extra)) (sent (taken.steps ++ (taken.under ++ taken.extra)) ++ taken.behind) (tape_end end)
+  pub feed : IsOnFeed feed_tells host count (given (cursor host J)) left (taken.steps ++ (taken.under ++ taken.extra)) (messages_sent (taken.steps ++ (taken.under ++ taken.extra)) ++ taken.behind) (tape_end end)

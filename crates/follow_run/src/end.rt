@@ -16,9 +16,9 @@ pub enum FeedEnd {
     Feed,
     /// The report couldn't be written.
     WriteFault,
-    /// The store answered this fault, which isn't want of memory.
+    /// The store answered this fault, which isn't running out of memory.
     Store(StoreFault),
-    /// Memory was wanted.
+    /// Memory ran out.
     Memory,
 }
 

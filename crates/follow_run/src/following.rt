@@ -14,7 +14,7 @@ ghost use Rattle.relay_run.specs.Pairs.{of_pair};
 ghost use Rattle.tape_run.specs.Tells.{tells};
 ghost use Rattle.tape_run.specs.Feeds.{TakenOfFeed};
 ghost use Rattle.tape_run.specs.Taken.{scene};
-ghost use Rattle.ingest_run.specs.Ends.{IsCausedBy, MayEnd, NoneOf, Shows};
+ghost use Rattle.ingest_run.specs.Ends.{IsCausedBy, MayEnd, NoneOf, TapeEndShows};
 ghost use Rattle.ingest_run.specs.Ingested.{Unopened, pair_scene};
 ghost use Rattle.follow_run.specs.Ends.{tape_end};
 ghost use Rattle.follow_run.specs.Followed.{Followed};
@@ -90,10 +90,10 @@ pub fn follow<D: Disk, P: Judges, R: Repos, C: Clock, F: Feed, O: Sink>(
     ensures followed { IsTrue D.tells → (J : List TheRow) → IsPairImageOf J (D.view disk.old).content (D.view other.old).content
         → (Unopened J (pair_scene (D.view disk.old) (D.view other.old) (around (P.panel judges.old) (C.moments clock.old) (R.repository repos.old)) [] (O.written out.old)) (pair_scene (D.view disk.new) (D.view other.new) (around (P.panel judges.new) (C.moments clock.new) (R.repository repos.new)) [] (O.written out.new)) (tape_end result) × (F.left feed.new ≡ F.left feed.old))
         ⊎ Followed (tells D.tells C.tells R.tells O.tells) F.tells host.now most count (λ n. F.behind feed.old host.now n) (F.left feed.new) J (pair_scene (D.view disk.old) (D.view other.old) (around (P.panel judges.old) (C.moments clock.old) (R.repository repos.old)) [] (O.written out.old)) (pair_scene (D.view disk.new) (D.view other.new) (around (P.panel judges.new) (C.moments clock.new) (R.repository repos.new)) [] (O.written out.new)) result }
-    ensures shows { IsTrue D.tells → Shows (tape_end result) (D.view disk.old).content (D.view other.old).content }
+    ensures shows { IsTrue D.tells → TapeEndShows (tape_end result) (D.view disk.old).content (D.view other.old).content }
     ensures caused { IsCausedBy (Rose (D.view disk.old).faults (D.view disk.new).faults ⊎ Rose (D.view other.old).faults (D.view other.new).faults) (Rose (F.faults feed.old) (F.faults feed.new)) (Rose (O.faults out.old) (O.faults out.new)) (Rose (R.faults repos.old) (R.faults repos.new)) (Rose (C.faults clock.old) (C.faults clock.new)) (tape_end result) }
 
-    // It is done, unless memory is wanted, the log is full, or the numbers or the authorities end.
+    // It is done, unless memory runs out, the log is full, or the numbers or the authorities end.
     ensures complete { IsTrue D.tells → (J : List TheRow) → IsPairImageOf J (D.view disk.old).content (D.view other.old).content
         → NoneOf (Rose (D.view disk.old).faults (D.view disk.new).faults ⊎ Rose (D.view other.old).faults (D.view other.new).faults) (Rose (F.faults feed.old) (F.faults feed.new)) (Rose (O.faults out.old) (O.faults out.new)) (Rose (R.faults repos.old) (R.faults repos.new)) (Rose (C.faults clock.old) (C.faults clock.new)) → MayEnd (tape_end result) }
     ensures disk_counts { (D.view disk.old).faults ≤ (D.view disk.new).faults }

@@ -2,9 +2,9 @@
 use Rattle.std.proofs.Common.{◌≡◌, ℕ, ◌+◌, ◌≤◌, List, ◌++◌, length, take, drop, sym, ◌∙◌, ap, arith, append_assoc, length-append}
 use Rattle.std.proofs.lemmas.List.{take_at, drop_at, drop-drop, length-take-le, drop-append-le}
 use Rattle.relay_disk.specs.Disk.{written}
-use Rattle.gate_log.specs.declared.drafts.TheConstants.{AHEAD}
+use Rattle.gate_log.specs.declared.pending_bodies.TheConstants.{AHEAD}
 use Rattle.gate_log.specs.declared.limits.TheConstants.{LENGTH_LEN}
-use Rattle.gate_log.specs.Drafts.{body_in}
+use Rattle.gate_log.specs.PendingBodies.{body_in}
 
 -- what is added at the end of the room is added at the end of the body
 pub body_more : (head room more : List ℕ) → AHEAD ≤ length room → body_in head (room ++ more) ≡ body_in head room ++ more

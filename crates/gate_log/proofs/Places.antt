@@ -6,7 +6,7 @@ use Rattle.gate_log.specs.declared.limits.TheConstants.{BEFORE_BODY}
 use Rattle.gate_log.specs.declared.format.Format.{Format}
 use Rattle.gate_log.specs.Image.{made, front, behind_gate, IsMade}
 use Rattle.gate_log.specs.Crash.{Stands}
-use Rattle.gate_log.specs.Log.{LogState, Holds, place_behind}
+use Rattle.gate_log.specs.Log.{LogState, HoldsBodies, place_behind}
 use Rattle.gate_log.proofs.Append.{made-push}
 
 -- the first stands behind the front
@@ -19,7 +19,7 @@ next_place log before body =
     omega (arith, ap length (made-push log.format before body), length-append (made log.format before) (1 ∷ behind_gate body), length-append body [])
 
 -- and the end behind the last
-pub end_place : (log : LogState) (bodies : List (List ℕ)) (v : View) → Holds bodies log v → log.end ≡ place_behind log bodies
+pub end_place : (log : LogState) (bodies : List (List ℕ)) (v : View) → HoldsBodies bodies log v → log.end ≡ place_behind log bodies
 end_place log bodies v holds = holds.ends
 
 -- a disk that is only read holds the bodies that it held

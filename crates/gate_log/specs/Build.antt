@@ -2,7 +2,8 @@
 use Rattle.std.specs.Prelude.{◌≡◌, ◌≢◌, ◌⊎◌, ◌<◌, ℕ, List, [], ◌∷◌, ◌++◌, length, drop, get_or}
 use Rattle.relay_disk.specs.Disk.{View}
 use Rattle.gate_log.specs.declared.format.Format.{Format}
-use Rattle.gate_log.specs.declared.limits.TheConstants.{EMPTY_LEN, GENERATIONS}
+use Rattle.at_cid.specs.declared.limits.TheConstants.{NUMBERS}
+use Rattle.gate_log.specs.declared.limits.TheConstants.{EMPTY_LEN}
 use Rattle.gate_log.specs.Image.{made, records, IsMade, AreShort, generation}
 
 -- a build as contracts see it: the format with the generation, where the next record goes, how far records may go, and
@@ -31,7 +32,7 @@ pub record Builds (format : Format) (bodies : List (List ℕ)) (end : ℕ) (v : 
   pub now : v.content ≡ shut (made format bodies ++ 0 ∷ [])
   pub left : (c : List ℕ) → v.may_leave c → IsClosed c
   pub short : AreShort bodies
-  pub below : generation format < GENERATIONS
+  pub below : generation format < NUMBERS
 
 -- The disk is the one that was begun on; the records on it and those that wait have these bodies.
 pub record HasBuilt (bodies : List (List ℕ)) (build : BuildState) (v : View) : Type 0 where

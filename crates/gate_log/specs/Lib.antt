@@ -1,7 +1,7 @@
 pub mod Beside
 pub mod Build
 pub mod Crash
-pub mod Drafts
+pub mod PendingBodies
 pub mod Image
 pub mod Log
 pub mod Opening

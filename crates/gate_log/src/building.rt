@@ -5,9 +5,10 @@ ghost use Rattle.relay_disk.specs.Disk.{IsSettled, IsSynced};
 ghost use Rattle.relay_disk.specs.Moments.{LeavesOnly};
 ghost use Rattle.gate_log.specs.Image.{front, behind_gate, generation};
 ghost use Rattle.gate_log.specs.Crash.{Stands};
-ghost use Rattle.gate_log.specs.Log.{Holds, IsOn};
+ghost use Rattle.gate_log.specs.Log.{HoldsBodies, IsOn};
 ghost use Rattle.gate_log.specs.Build.{HasBuilt, IsBuiltOn, Builds, IsClosed, IsIdle, IsFormerOrIdle, IsClosedOrMade};
-ghost use Rattle.gate_log.specs.declared.limits.TheConstants.{BEFORE_BODY, BODY_LENGTHS, GENERATIONS, LAST_END};
+ghost use Rattle.at_cid.specs.declared.limits.TheConstants.{NUMBERS};
+ghost use Rattle.gate_log.specs.declared.limits.TheConstants.{BEFORE_BODY, BODY_LENGTHS, LAST_END};
 
 use crate::ending::settle;
 use crate::limits::{AROUND_BODY, BEFORE_BODY, GATHERED, MARK_LEN, SECOND_FRONT_LEN};
@@ -52,6 +53,7 @@ impl Model for Build {
 fn clear<D: Disk>(disk: &mut D) -> Result<(), Failed>
     ensures empty { OnOk result (IsTrue D.tells → IsSettled (D.view disk.new) []) }
     ensures moments { IsTrue D.tells → LeavesOnly (IsFormerOrIdle (D.view disk.old)) (D.view disk.old) (D.view disk.new) }
+    ensures steady { OnOk result ((D.view disk.new).faults ≡ (D.view disk.old).faults) }
     ensures failed { OnErr result (Rose (D.view disk.old).faults (D.view disk.new).faults) }
     ensures counts { (D.view disk.old).faults ≤ (D.view disk.new).faults }
 {
@@ -65,6 +67,7 @@ fn take_off<D: Disk>(disk: &mut D, size: u64) -> Result<(), Failed>
     requires size { IsTrue D.tells → size ≡ length (D.view disk.old).content }
     ensures empty { OnOk result (IsTrue D.tells → IsSettled (D.view disk.new) []) }
     ensures moments { IsTrue D.tells → LeavesOnly (IsFormerOrIdle (D.view disk.old)) (D.view disk.old) (D.view disk.new) }
+    ensures steady { OnOk result ((D.view disk.new).faults ≡ (D.view disk.old).faults) }
     ensures failed { OnErr result (Rose (D.view disk.old).faults (D.view disk.new).faults) }
     ensures counts { (D.view disk.old).faults ≤ (D.view disk.new).faults }
 {
@@ -82,6 +85,7 @@ fn close<D: Disk>(disk: &mut D) -> Result<(), Failed>
     requires some { IsTrue D.tells → 1 ≤ length (D.view disk.old).content }
     ensures closed { OnOk result (IsTrue D.tells → (c : List ℕ) → (D.view disk.new).may_leave c → IsClosed c) }
     ensures moments { IsTrue D.tells → LeavesOnly (IsFormerOrIdle (D.view disk.old)) (D.view disk.old) (D.view disk.new) }
+    ensures steady { OnOk result ((D.view disk.new).faults ≡ (D.view disk.old).faults) }
     ensures failed { OnErr result (Rose (D.view disk.old).faults (D.view disk.new).faults) }
     ensures counts { (D.view disk.old).faults ≤ (D.view disk.new).faults }
 {
@@ -97,9 +101,10 @@ fn close<D: Disk>(disk: &mut D) -> Result<(), Failed>
 fn lay_front<D: Disk>(disk: &mut D, format: Format, behind: &[u8]) -> Result<(), Failed>
     requires empty { IsTrue D.tells → IsSettled (D.view disk.old) [] }
     requires front { behind.now ≡ drop 1 (front format) ++ 0 ∷ [] }
-    requires below { generation format < GENERATIONS }
+    requires below { generation format < NUMBERS }
     ensures begun { OnOk result (IsTrue D.tells → Builds format [] (length (front format)) (D.view disk.new)) }
     ensures moments { IsTrue D.tells → LeavesOnly IsIdle (D.view disk.old) (D.view disk.new) }
+    ensures steady { OnOk result ((D.view disk.new).faults ≡ (D.view disk.old).faults) }
     ensures failed { OnErr result (Rose (D.view disk.old).faults (D.view disk.new).faults) }
     ensures counts { (D.view disk.old).faults ≤ (D.view disk.new).faults }
 {
@@ -115,6 +120,7 @@ fn open_gate<D: Disk>(disk: &mut D, format: Format) -> Result<(), Failed>
     ensures synced { OnOk result (IsTrue D.tells → IsSynced (D.view disk.new)) }
     ensures moments { IsTrue D.tells → (bodies : List (List ℕ)) (end : ℕ) → Builds format bodies end (D.view disk.old)
         → LeavesOnly (IsClosedOrMade format bodies) (D.view disk.old) (D.view disk.new) }
+    ensures steady { OnOk result ((D.view disk.new).faults ≡ (D.view disk.old).faults) }
     ensures failed { OnErr result (Rose (D.view disk.old).faults (D.view disk.new).faults) }
     ensures counts { (D.view disk.old).faults ≤ (D.view disk.new).faults }
 {
@@ -159,7 +165,7 @@ impl Build {
         generation: u64,
         most: u64,
     ) -> Result<Build, LogFault>
-        requires generation { generation < GENERATIONS }
+        requires generation { generation < NUMBERS }
         requires most { most ≤ LAST_END }
         ensures build { IfOk result (λ build. build ≡ record {
           format = Format.Two generation;
@@ -172,6 +178,7 @@ impl Build {
         // A crash at any moment of the call leaves what one could leave before, or bytes that are picked of no pair.
         ensures moments { IsTrue D.tells → LeavesOnly (IsFormerOrIdle (D.view disk.old)) (D.view disk.old) (D.view disk.new) }
 
+        ensures steady { OnOk result ((D.view disk.new).faults ≡ (D.view disk.old).faults) }
         ensures disk { result ≡ Err LogFault.Disk → Rose (D.view disk.old).faults (D.view disk.new).faults }
         ensures counts { (D.view disk.old).faults ≤ (D.view disk.new).faults }
         ensures memory { result ≡ Err LogFault.Memory → disk.new ≡ disk.old }
@@ -208,6 +215,7 @@ impl Build {
         // A crash at any moment of the call leaves the first gate closed.
         ensures moments { IsTrue D.tells → LeavesOnly IsClosed (D.view disk.old) (D.view disk.new) }
 
+        ensures steady { OnOk result ((D.view disk.new).faults ≡ (D.view disk.old).faults) }
         ensures disk { result ≡ Err LogFault.Disk → Rose (D.view disk.old).faults (D.view disk.new).faults }
         ensures counts { (D.view disk.old).faults ≤ (D.view disk.new).faults }
         ensures full { (e : ℕ) → (result ≡ Err (LogFault.Full e)) ↔ ((e ≡ self.old.end + AROUND_BODY + length body.now) × (self.old.most < e)) }
@@ -234,7 +242,7 @@ impl Build {
         requires { IsTrue D.tells → IsBuiltOn (D.view disk.old) self }
         ensures log { IfOk result (λ log. log ≡ record { format = self.format; end = self.end; most = self.most; spare = 0; is_open = true }) }
         ensures holds { IfOk result (λ log. IsTrue D.tells → (bodies : List (List ℕ)) → HasBuilt bodies self (D.view disk.old)
-            → Holds bodies log (D.view disk.new)) }
+            → HoldsBodies bodies log (D.view disk.new)) }
         ensures on { IfOk result (λ log. IsTrue D.tells → IsOn (D.view disk.new) log) }
         ensures synced { OnOk result (IsTrue D.tells → IsSynced (D.view disk.new)) }
 
@@ -242,6 +250,7 @@ impl Build {
         ensures moments { IsTrue D.tells → (bodies : List (List ℕ)) → HasBuilt bodies self (D.view disk.old)
             → LeavesOnly (IsClosedOrMade self.format bodies) (D.view disk.old) (D.view disk.new) }
 
+        ensures steady { OnOk result ((D.view disk.new).faults ≡ (D.view disk.old).faults) }
         ensures disk { OnErr result ((result ≡ Err LogFault.Disk) × Rose (D.view disk.old).faults (D.view disk.new).faults) }
         ensures counts { (D.view disk.old).faults ≤ (D.view disk.new).faults }
     {
@@ -273,6 +282,7 @@ impl Build {
         ensures written { OnOk result (IsTrue D.tells → (bodies : List (List ℕ)) → HasBuilt bodies self.old (D.view disk.old)
             → HasBuilt bodies self.new (D.view disk.new)) }
         ensures moments { IsTrue D.tells → LeavesOnly IsClosed (D.view disk.old) (D.view disk.new) }
+        ensures steady { OnOk result ((D.view disk.new).faults ≡ (D.view disk.old).faults) }
         ensures failed { OnErr result (Rose (D.view disk.old).faults (D.view disk.new).faults) }
         ensures counts { (D.view disk.old).faults ≤ (D.view disk.new).faults }
     {

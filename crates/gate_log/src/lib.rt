@@ -3,7 +3,6 @@
 
 mod bodies;
 mod building;
-mod drafts;
 mod ending;
 mod fault;
 mod format;
@@ -13,12 +12,12 @@ mod limits;
 mod log;
 mod making;
 mod pairs;
+mod pending_bodies;
 mod picking;
 mod records;
 mod steps;
 
 pub use building::Build;
-pub use drafts::{AHEAD, HEAD, begin};
 pub use fault::LogFault;
 pub use format::Format;
 pub use laws::{
@@ -26,7 +25,8 @@ pub use laws::{
     faults_have_one_place, images_have_one_list, pairs_have_one_list, pairs_have_one_place,
     picked_logs_stay_picked,
 };
-pub use limits::{AROUND_BODY, BEFORE_BODY, BODY_LENGTHS, EMPTY_LEN, GENERATIONS, LAST_END};
+pub use limits::{AROUND_BODY, BEFORE_BODY, BODY_LENGTHS, EMPTY_LEN, LAST_END};
 pub use log::Log;
 pub use pairs::open_pair;
+pub use pending_bodies::{AHEAD, HEAD, begin};
 pub use picking::{Side, pick};

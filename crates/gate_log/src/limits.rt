@@ -6,9 +6,6 @@ pub const LAST_END: u64 = 1 << 62;
 /// The length of a body is below this, in bytes: four bytes have room for it.
 pub const BODY_LENGTHS: u64 = 1 << 32;
 
-/// The generation of a log of the second format is below this.
-pub const GENERATIONS: u64 = 1 << 53;
-
 /// How many bytes a mark has, which is the whole front of the first format: an open gate, "atrelay" and the number
 /// of a format.
 pub const MARK_LEN: usize = 9;

@@ -6,14 +6,14 @@ ghost use Rattle.relay_disk.specs.Moments.{LeavesOnly};
 ghost use Rattle.relay_disk.specs.declared.disk.TheConstants.{SIZES};
 ghost use Rattle.gate_log.specs.Image.{generation, IsImage, IsUnmade, IsBadAt, behind_gate};
 ghost use Rattle.gate_log.specs.Crash.{IsImageOfOne, IsBeforeOrAfter, IsNew, LeavesImages, LeavesNew};
-ghost use Rattle.gate_log.specs.Log.{Holds, IsOn, place_behind};
-ghost use Rattle.gate_log.specs.Drafts.{body_in};
+ghost use Rattle.gate_log.specs.Log.{HoldsBodies, IsOn, place_behind};
+ghost use Rattle.gate_log.specs.PendingBodies.{body_in};
 ghost use Rattle.gate_log.specs.declared.limits.TheConstants.{BODY_LENGTHS, LAST_END};
 
 use crate::bodies::{read_body, read_length};
-use crate::drafts::{AHEAD, HEAD, add_from_room, lay_ahead};
 use crate::ending::find_or_make;
 use crate::limits::{AROUND_BODY, BEFORE_BODY};
+use crate::pending_bodies::{AHEAD, HEAD, add_from_room, lay_ahead};
 use crate::steps::add_record;
 use crate::{Format, LogFault};
 use at_cid::{Memory, Octets};
@@ -70,7 +70,7 @@ impl Log {
 
         // Its bodies are those of the disk.
         ensures holds { IfOk result (λ log. IsTrue D.tells → (bodies : List (List ℕ))
-            × IsImage bodies (D.view disk.old).content × Holds bodies log (D.view disk.new)) }
+            × IsImage bodies (D.view disk.old).content × HoldsBodies bodies log (D.view disk.new)) }
 
         ensures on { IfOk result (λ log. IsTrue D.tells → IsOn (D.view disk.new) log) }
 
@@ -88,6 +88,9 @@ impl Log {
         ensures synced { OnOk result (IsTrue D.tells → IsSynced (D.view disk.new)) }
         ensures later { (D.view disk.old).moment ≤ (D.view disk.new).moment }
         ensures bad_log { (p : ℕ) → result ≡ Err (LogFault.BadLog p) → IsTrue D.tells → IsBadAt p (D.view disk.old).content }
+        ensures steady { OnOk result ((D.view disk.new).faults ≡ (D.view disk.old).faults) }
+        ensures no_fault { OnErr result ((result ≡ Err LogFault.Disk → ⊥)
+            → (D.view disk.new).faults ≡ (D.view disk.old).faults) }
         ensures disk { result ≡ Err LogFault.Disk → Rose (D.view disk.old).faults (D.view disk.new).faults }
         ensures counts { (D.view disk.old).faults ≤ (D.view disk.new).faults }
         ensures memory { result ≡ Err LogFault.Memory → disk.new ≡ disk.old }
@@ -218,15 +221,16 @@ impl Log {
 
         ensures place { IfOk result (λ place. place ≡ self.old.end) }
         ensures log { OnOk result (self.new ≡ record self.old { end = self.old.end + BEFORE_BODY + length body.now }) }
-        ensures added { OnOk result (IsTrue D.tells → (bodies : List (List ℕ)) → Holds bodies self.old (D.view disk.old)
-            → Holds (bodies ++ body.now ∷ []) self.new (D.view disk.new)) }
+        ensures added { OnOk result (IsTrue D.tells → (bodies : List (List ℕ)) → HoldsBodies bodies self.old (D.view disk.old)
+            → HoldsBodies (bodies ++ body.now ∷ []) self.new (D.view disk.new)) }
 
         ensures on { OnOk result (IsTrue D.tells → IsOn (D.view disk.new) self.new) }
 
         // A crash at any moment of the call leaves the bodies, with the new one or without.
-        ensures moments { IsTrue D.tells → (bodies : List (List ℕ)) → Holds bodies self.old (D.view disk.old)
+        ensures moments { IsTrue D.tells → (bodies : List (List ℕ)) → HoldsBodies bodies self.old (D.view disk.old)
             → LeavesOnly (IsBeforeOrAfter self.old.format bodies body.now) (D.view disk.old) (D.view disk.new) }
 
+        ensures steady { OnOk result ((D.view disk.new).faults ≡ (D.view disk.old).faults) }
         ensures disk { result ≡ Err LogFault.Disk → Rose (D.view disk.old).faults (D.view disk.new).faults
             × (self.new ≡ record self.old { is_open = false }) }
         ensures counts { (D.view disk.old).faults ≤ (D.view disk.new).faults }
@@ -268,15 +272,16 @@ impl Log {
 
         ensures place { IfOk result (λ place. place ≡ self.old.end) }
         ensures log { OnOk result (self.new ≡ record self.old { end = self.old.end + BEFORE_BODY + length (body_in head.now room.old) }) }
-        ensures added { OnOk result (IsTrue D.tells → (bodies : List (List ℕ)) → Holds bodies self.old (D.view disk.old)
-            → Holds (bodies ++ body_in head.now room.old ∷ []) self.new (D.view disk.new)) }
+        ensures added { OnOk result (IsTrue D.tells → (bodies : List (List ℕ)) → HoldsBodies bodies self.old (D.view disk.old)
+            → HoldsBodies (bodies ++ body_in head.now room.old ∷ []) self.new (D.view disk.new)) }
 
         ensures on { OnOk result (IsTrue D.tells → IsOn (D.view disk.new) self.new) }
 
         // A crash at any moment of the call leaves the bodies, with the new one or without.
-        ensures moments { IsTrue D.tells → (bodies : List (List ℕ)) → Holds bodies self.old (D.view disk.old)
+        ensures moments { IsTrue D.tells → (bodies : List (List ℕ)) → HoldsBodies bodies self.old (D.view disk.old)
             → LeavesOnly (IsBeforeOrAfter self.old.format bodies (body_in head.now room.old)) (D.view disk.old) (D.view disk.new) }
 
+        ensures steady { OnOk result ((D.view disk.new).faults ≡ (D.view disk.old).faults) }
         ensures disk { result ≡ Err LogFault.Disk → Rose (D.view disk.old).faults (D.view disk.new).faults
             × (self.new ≡ record self.old { is_open = false }) }
         ensures counts { (D.view disk.old).faults ≤ (D.view disk.new).faults }
@@ -322,20 +327,23 @@ impl Log {
 
         // At the place of a body it puts this body there.
         ensures body { IfOk result (λ next. IsTrue D.tells → (before : List (List ℕ)) (body : List ℕ) (after : List (List ℕ))
-            → Holds (before ++ body ∷ after) self.now (D.view disk.old) → place ≡ place_behind self.now before
+            → HoldsBodies (before ++ body ∷ after) self.now (D.view disk.old) → place ≡ place_behind self.now before
             → (room.new.items ≡ body) × (next ≡ place + BEFORE_BODY + length body)) }
         ensures next { IfOk result (λ next. (place < next) × (next ≤ self.now.end)) }
         ensures bad_log { (p : ℕ) → result ≡ Err (LogFault.BadLog p) → IsTrue D.tells
             → (before : List (List ℕ)) (body : List ℕ) (after : List (List ℕ))
-            → Holds (before ++ body ∷ after) self.now (D.view disk.old) → place ≡ place_behind self.now before → ⊥ }
+            → HoldsBodies (before ++ body ∷ after) self.now (D.view disk.old) → place ≡ place_behind self.now before → ⊥ }
         ensures bad_place { (p : ℕ) → result ≡ Err (LogFault.BadLog p) → p ≡ place }
 
         // Whatever it answers, the disk holds the bodies that it held.
         ensures goes { Goes Same (D.view disk.old) (D.view disk.new) }
-        ensures holds { IsTrue D.tells → (bodies : List (List ℕ)) → Holds bodies self.now (D.view disk.old)
-            → Holds bodies self.now (D.view disk.new) }
+        ensures holds { IsTrue D.tells → (bodies : List (List ℕ)) → HoldsBodies bodies self.now (D.view disk.old)
+            → HoldsBodies bodies self.now (D.view disk.new) }
         ensures on { IsTrue D.tells → IsOn (D.view disk.new) self.now }
 
+        ensures steady { OnOk result ((D.view disk.new).faults ≡ (D.view disk.old).faults) }
+        ensures no_fault { OnErr result ((result ≡ Err LogFault.Disk → ⊥)
+            → (D.view disk.new).faults ≡ (D.view disk.old).faults) }
         ensures disk { result ≡ Err LogFault.Disk → Rose (D.view disk.old).faults (D.view disk.new).faults }
         ensures no_full { (e : ℕ) → result ≡ Err (LogFault.Full e) → ⊥ }
     {

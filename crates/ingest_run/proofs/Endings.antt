@@ -9,14 +9,14 @@ use Rattle.relay_store.specs.declared.fault.StoreFault.{StoreFault}
 use Rattle.relay_store.specs.declared.message.Message.{Message}
 use Rattle.relay_store.proofs.Images.{no_journal}
 use Rattle.tape_run.specs.Ends.{AreExtraAt, end_of_store}
-use Rattle.tape_run.specs.Tapes.{AreRecords, IsOnTape, spelled}
+use Rattle.tape_run.specs.Tapes.{AreRecords, IsOnTape, encoded_records}
 use Rattle.tape_run.specs.declared.end.TapeEnd.{TapeEnd}
-use Rattle.ingest_run.specs.Ends.{IsCausedBy, MayEnd, NoneOf, Shows}
+use Rattle.ingest_run.specs.Ends.{IsCausedBy, MayEnd, NoneOf, TapeEndShows}
 use Rattle.ingest_run.proofs.Grammar.{no_fault}
 
 -- ---- opening
 
-pub opening_shows : (fault : StoreFault) (one two : List ℕ) → IsOfReading fault → ((p : ℕ) → fault ≡ StoreFault.BadLog p → IsBadPairJournalAt p one two) → Shows (end_of_store fault) one two
+pub opening_shows : (fault : StoreFault) (one two : List ℕ) → IsOfReading fault → ((p : ℕ) → fault ≡ StoreFault.BadLog p → IsBadPairJournalAt p one two) → TapeEndShows (end_of_store fault) one two
 opening_shows StoreFault.Disk one two of bad = tt
 opening_shows (StoreFault.BadLog p) one two of bad = bad p refl
 opening_shows (StoreFault.Full e) one two of bad = absurd of
@@ -49,7 +49,7 @@ opening_completes disk read write repos clock StoreFault.Clock one two J image o
 
 -- ---- behind it
 
-pub image_shows : (end : TapeEnd) (over : List Step) (one two : List ℕ) (J : List Row) → AreExtraAt end over → IsPairImageOf J one two → Shows end one two
+pub image_shows : (end : TapeEnd) (over : List Step) (one two : List ℕ) (J : List Row) → AreExtraAt end over → IsPairImageOf J one two → TapeEndShows end one two
 image_shows TapeEnd.Done over one two J which image = (J, image)
 image_shows (TapeEnd.Bad place) over one two J which image = (J, image)
 image_shows TapeEnd.ReadFault over one two J which image = (J, image)
@@ -70,13 +70,13 @@ not_long : (limit : ℕ) (before after part front : List ℕ) → before ≡ fro
 not_long limit before after part front is reached short = omega (arith, ap length is, length-append front (part ++ after), length-append part after, reached, short)
 
 pub completes : (disk read write repos clock : Type 0) (end : TapeEnd) (over : List Step) (limit : ℕ) (before after : List ℕ) (xs T : List Message) → AreExtraAt end over → AreRecords xs → IsOnTape limit before after xs end
-    → AreRecords T → before ≡ spelled T → length (spelled T) < limit → IsCausedBy disk read write repos clock end → NoneOf disk read write repos clock → MayEnd end
+    → AreRecords T → before ≡ encoded_records T → length (encoded_records T) < limit → IsCausedBy disk read write repos clock end → NoneOf disk read write repos clock → MayEnd end
 completes disk read write repos clock TapeEnd.Done over limit before after xs T which are on all is short caused none = tt
 completes disk read write repos clock (TapeEnd.Bad place) over limit before after xs T which are on all is short caused none = absurd (no_fault xs T on.0 are all (sym is ∙ on.1) on.2)
 completes disk read write repos clock TapeEnd.ReadFault over limit before after xs T which are on all is short caused none = absurd (none.no_read caused)
 completes disk read write repos clock TapeEnd.WriteFault over limit before after xs T which are on all is short caused none = absurd (none.no_write caused)
 completes disk read write repos clock TapeEnd.TooLong over limit before after xs T which are on all is short caused none =
-    absurd (not_long limit before after on.0 (spelled xs) on.1 on.3 (subst (λ (l : List ℕ). length l < limit) (sym is) short))
+    absurd (not_long limit before after on.0 (encoded_records xs) on.1 on.3 (subst (λ (l : List ℕ). length l < limit) (sym is) short))
 completes disk read write repos clock TapeEnd.Memory over limit before after xs T which are on all is short caused none = tt
 completes disk read write repos clock (TapeEnd.Store StoreFault.Disk) over limit before after xs T which are on all is short caused none = absurd (none.no_disk caused)
 completes disk read write repos clock (TapeEnd.Store (StoreFault.BadLog p)) over limit before after xs T which are on all is short caused none = absurd which

@@ -6,13 +6,13 @@ use Rattle.relay_store.specs.declared.fault.StoreFault.{StoreFault}
 use Rattle.tape_run.specs.declared.end.TapeEnd.{TapeEnd}
 
 -- what the bytes of the two disks were, by how it ended
-abbrev pub Shows : TapeEnd → List ℕ → List ℕ → Type 0
-Shows TapeEnd.Memory one two = ⊤
-Shows (TapeEnd.Store StoreFault.Disk) one two = ⊤
-Shows (TapeEnd.Store (StoreFault.BadLog place)) one two = IsBadPairJournalAt place one two
-Shows end one two = (J : List Row) × IsPairImageOf J one two
+abbrev pub TapeEndShows : TapeEnd → List ℕ → List ℕ → Type 0
+TapeEndShows TapeEnd.Memory one two = ⊤
+TapeEndShows (TapeEnd.Store StoreFault.Disk) one two = ⊤
+TapeEndShows (TapeEnd.Store (StoreFault.BadLog place)) one two = IsBadPairJournalAt place one two
+TapeEndShows end one two = (J : List Row) × IsPairImageOf J one two
 
--- the ends that no failure brings: all was taken, memory was wanted, the log is full, or the numbers or the authorities have ended
+-- the ends that no failure brings: all was taken, memory ran out, the log is full, or the numbers or the authorities have ended
 abbrev pub MayEnd : TapeEnd → Type 0
 MayEnd TapeEnd.Done = ⊤
 MayEnd TapeEnd.Memory = ⊤

@@ -16,19 +16,19 @@ use Rattle.relay_law.specs.Right.{LinksRight}
 use Rattle.relay_law.specs.Sound.{IsSound}
 use Rattle.relay_step.specs.Around.{Around, AllAsked}
 use Rattle.relay_step.specs.Steps.{Step, AreSteps, messages, rows}
-use Rattle.relay_store.specs.Batches.{EndsNext, sent}
+use Rattle.relay_store.specs.Batches.{EndsNext, messages_sent}
 use Rattle.relay_store.specs.Journals.{IsPairImageOf}
 use Rattle.relay_store.specs.Opening.{IsOfReading}
 use Rattle.relay_store.specs.declared.fault.StoreFault.{StoreFault}
 use Rattle.relay_store.specs.declared.message.Message.{Message}
 use Rattle.tape_run.specs.Covered.{CoveredGetThrough}
-use Rattle.tape_run.specs.Crashes.{HasNoRoom}
-use Rattle.tape_run.specs.Ends.{AreExtraAt, AreTaken, AreUnder, IsWritten, StopsAsking, disk_failed, end_of_store}
+use Rattle.tape_run.specs.Crashes.{BatchHasNoRoom}
+use Rattle.tape_run.specs.Ends.{AreExtraAt, AreTaken, AreUnder, IsReportWritten, StopsAsking, disk_failed, end_of_store}
 use Rattle.tape_run.specs.Tells.{Tells}
 use Rattle.tape_run.specs.Tapes.{AreRecords, IsOnTape}
 use Rattle.tape_run.specs.declared.end.TapeEnd.{TapeEnd}
 use Rattle.relay_run.specs.Pairs.{IsOneOfPair, StandsFor}
-use Rattle.relay_run.specs.Spoke.{Knows}
+use Rattle.relay_run.specs.CommandRan.{Knows}
 
 -- The two disks, what the judges, the clock and the repositories tell, what is left of the input, and what is written, at one moment.
 pub record PairScene : Type 1 where
@@ -60,7 +60,7 @@ pub record IsLogOn (log : LogState) (one two : View) : Type 0 where
 
 -- the log is full only where a row has no room in the one that is picked
 abbrev pub IsFullOn : ℕ → List Row → List Row → List Row → View → View → TapeEnd → Type 0
-IsFullOn most J rows extra one two (TapeEnd.Store (StoreFault.Full e)) = (log : LogState) × (log.most ≡ most) × IsLogOn log one two × HasNoRoom J rows extra log e
+IsFullOn most J rows extra one two (TapeEnd.Store (StoreFault.Full e)) = (log : LogState) × (log.most ≡ most) × IsLogOn log one two × BatchHasNoRoom J rows extra log e
 IsFullOn most J rows extra one two end = ⊤
 
 -- for the next message the numbers end behind this journal, or no authority is left, where that ended it
@@ -94,8 +94,8 @@ pub record Ingested (t : Tells) (input_tells : Bool) (most limit : ℕ) (J : Lis
   -- their messages, and behind them those that were read and not taken, are the records at the front of the input
   pub behind : List Message
   pub all : AreTaken end behind
-  pub records : AreRecords (sent (steps ++ (under ++ extra)) ++ behind)
-  pub from : IsTrue input_tells → IsOnTape limit old.left new.left (sent (steps ++ (under ++ extra)) ++ behind) end
+  pub records : AreRecords (messages_sent (steps ++ (under ++ extra)) ++ behind)
+  pub from : IsTrue input_tells → IsOnTape limit old.left new.left (messages_sent (steps ++ (under ++ extra)) ++ behind) end
   -- unless a disk failed, the two stand for the journal with the rows of the steps
   pub stands : end ≢ disk_failed → StandsFor (J ++ rows steps) new.one new.two
   -- Whatever moments a crash strikes the two at, it leaves the journal with some of the rows, or all and those of the body under way, and at the end with all.
@@ -103,7 +103,7 @@ pub record Ingested (t : Tells) (input_tells : Bool) (most limit : ℕ) (J : Lis
   pub left : (c d : List ℕ) → new.one.may_leave c → new.two.may_leave d → IsOneOfPair (J ++ rows steps) (rows under) c d
   pub full : IsFullOn most J (rows steps) (rows extra) new.one new.two end
   -- what is written is the report of the steps
-  pub written : IsTrue t.output → IsWritten end (lines_from J [] (messages steps) (rows steps)) (end_line J (messages steps) (rows steps)) old.written new.written
+  pub written : IsTrue t.output → IsReportWritten end (lines_from J [] (messages steps) (rows steps)) (end_line J (messages steps) (rows steps)) old.written new.written
   -- what was asked: of each step what it shows, and for one more message at most what came to nothing
   pub mid : Around
   pub asked : AllAsked t.clock t.repos J old.around (steps ++ (under ++ extra)) mid

@@ -12,8 +12,8 @@ ghost use Rattle.relay_store.specs.declared.message.Message.{Message as TheMessa
 ghost use Rattle.relay_run.specs.Pairs.{of_pair};
 ghost use Rattle.tape_run.specs.Tells.{tells};
 ghost use Rattle.tape_run.specs.Taken.{Taken, scene};
-ghost use Rattle.tape_run.specs.Tapes.{AreRecords, spelled};
-ghost use Rattle.ingest_run.specs.Ends.{IsCausedBy, MayEnd, NoneOf, Shows};
+ghost use Rattle.tape_run.specs.Tapes.{AreRecords, encoded_records};
+ghost use Rattle.ingest_run.specs.Ends.{IsCausedBy, MayEnd, NoneOf, TapeEndShows};
 ghost use Rattle.ingest_run.specs.Ingested.{Ingested, Unopened, pair_scene};
 
 use at_authority::Judges;
@@ -78,12 +78,12 @@ pub fn ingest<D: Disk, P: Judges, R: Repos, C: Clock, I: Source, O: Sink>(
     ensures ingested { IsTrue D.tells → (J : List TheRow) → IsPairImageOf J (D.view disk.old).content (D.view other.old).content
         → Unopened J (pair_scene (D.view disk.old) (D.view other.old) (around (P.panel judges.old) (C.moments clock.old) (R.repository repos.old)) (I.left input.old) (O.written out.old)) (pair_scene (D.view disk.new) (D.view other.new) (around (P.panel judges.new) (C.moments clock.new) (R.repository repos.new)) (I.left input.new) (O.written out.new)) result
         ⊎ Ingested (tells D.tells C.tells R.tells O.tells) I.tells most limit J (pair_scene (D.view disk.old) (D.view other.old) (around (P.panel judges.old) (C.moments clock.old) (R.repository repos.old)) (I.left input.old) (O.written out.old)) (pair_scene (D.view disk.new) (D.view other.new) (around (P.panel judges.new) (C.moments clock.new) (R.repository repos.new)) (I.left input.new) (O.written out.new)) result }
-    ensures shows { IsTrue D.tells → Shows result (D.view disk.old).content (D.view other.old).content }
+    ensures shows { IsTrue D.tells → TapeEndShows result (D.view disk.old).content (D.view other.old).content }
     ensures caused { IsCausedBy (Rose (D.view disk.old).faults (D.view disk.new).faults ⊎ Rose (D.view other.old).faults (D.view other.new).faults) (Rose (I.faults input.old) (I.faults input.new)) (Rose (O.faults out.old) (O.faults out.new)) (Rose (R.faults repos.old) (R.faults repos.new)) (Rose (C.faults clock.old) (C.faults clock.new)) result }
 
-    // A whole tape is taken, unless memory is wanted, the log is full, or the numbers or the authorities end.
+    // A whole tape is taken, unless memory runs out, the log is full, or the numbers or the authorities end.
     ensures complete { IsTrue D.tells → IsTrue I.tells → (J : List TheRow) → IsPairImageOf J (D.view disk.old).content (D.view other.old).content
-        → (messages : List TheMessage) → AreRecords messages → I.left input.old ≡ spelled messages → length (spelled messages) < limit
+        → (messages : List TheMessage) → AreRecords messages → I.left input.old ≡ encoded_records messages → length (encoded_records messages) < limit
         → NoneOf (Rose (D.view disk.old).faults (D.view disk.new).faults ⊎ Rose (D.view other.old).faults (D.view other.new).faults) (Rose (I.faults input.old) (I.faults input.new)) (Rose (O.faults out.old) (O.faults out.new)) (Rose (R.faults repos.old) (R.faults repos.new)) (Rose (C.faults clock.old) (C.faults clock.new)) → MayEnd result }
     ensures disk_counts { (D.view disk.old).faults ≤ (D.view disk.new).faults }
     ensures other_counts { (D.view other.old).faults ≤ (D.view other.new).faults }

@@ -6,7 +6,7 @@ use Rattle.std.specs.Prelude.{cond}
 use Rattle.std.specs.Ordering.{eq_by_cmp}
 use Rattle.sha2.specs.Sha256.{sha256, digest_bytes, hash_after, compress, rounds, schedule, first_words}
 use Rattle.at_cbor.specs.Item.{Item, Fields, field, no_fields}
-use Rattle.at_cbor.specs.Spelling.{Fits, info_of, spelling, tail_of}
+use Rattle.at_cbor.specs.Encoding.{Fits, info_of, encoding, tail_of}
 use Rattle.at_cbor.specs.declared.decoding.TheConstants.{DEPTH}
 use Rattle.at_cbor.proofs.Taken.{whole_again}
 use Rattle.at_cid.specs.Link.{IsBytes, cid}
@@ -16,7 +16,7 @@ use Rattle.at_car.specs.Blocks.{BlockMap}
 use Rattle.at_car.specs.Car.{car_of}
 use Rattle.at_car.specs.Form.{IsCar, IsSection, header_bytes, sections_bytes}
 use Rattle.at_car.specs.Varint.{groups}
-use Rattle.at_car.specs.Writing.{header_of}
+use Rattle.at_car.specs.Writing.{car_header}
 use Rattle.at_car.specs.declared.varint.TheConstants.{VARINTS}
 use Rattle.at_car.proofs.Again.{car_again}
 use Rattle.at_form.specs.Forms.{did_in, node_in, tid_in}
@@ -33,8 +33,8 @@ use Rattle.event_checks.specs.Opening.{block_in, object_in, root_in}
 use Rattle.event_checks.specs.Table.{car_in, open_lines}
 use Rattle.mst_node.specs.Covers.{AreDistinct, IsBlockOf}
 use Rattle.mst_node.specs.NodeBytes.{node_bytes}
-use Rattle.mst_node.specs.Trees.{part_link, part_nodes, spell}
-use Rattle.commit_check.specs.Order.{Holds}
+use Rattle.mst_node.specs.Trees.{part_link, part_nodes, encode_layer}
+use Rattle.commit_check.specs.Order.{HoldsCommit}
 use Rattle.commit_check.specs.Step.{IsCoveredBy, empty_root}
 use Rattle.law_premises.proofs.Samples.{IsTop, ascii, bytes_by, commit_of, did, event_of, header_fits, is_event_of, rev}
 
@@ -45,7 +45,7 @@ abbrev pub empty_link : List ℕ
 empty_link = 0x01 ∷ 0x71 ∷ 0x12 ∷ 0x20 ∷ empty_digest
 
 abbrev empty_block : List ℕ
-empty_block = spell 0 []
+empty_block = encode_layer 0 []
 
 empty_hash : sha256 empty_block ≡ empty_digest
 unfolding sha256 digest_bytes hash_after compress rounds schedule first_words node_bytes part_link info_of tail_of
@@ -66,7 +66,7 @@ object =
     (field (codes "version") (Item.int (pos 3)) no_fields))))
 
 abbrev pub block : List ℕ
-block = spelling (Item.map object)
+block = encoding (Item.map object)
 
 abbrev pub digest : List ℕ
 digest = 178 ∷ 53 ∷ 200 ∷ 35 ∷ 126 ∷ 129 ∷ 68 ∷ 150 ∷ 217 ∷ 184 ∷ 130 ∷ 253 ∷ 202 ∷ 70 ∷ 92 ∷ 53 ∷ 143 ∷ 132 ∷ 198 ∷ 78 ∷ 148 ∷ 177 ∷ 68 ∷ 191 ∷ 198 ∷ 141 ∷ 45 ∷ 88 ∷ 233 ∷ 150 ∷ 21 ∷ 139 ∷ []
@@ -107,7 +107,7 @@ object_fits = (
 )
 
 abbrev pub held_object : Commit
-held_object = record { did = did; rev = 0; data_root = empty_link; sig = []; unsigned = spelling (Item.map (unsigned_of object)) }
+held_object = record { did = did; rev = 0; data_root = empty_link; sig = []; unsigned = encoding (Item.map (unsigned_of object)) }
 
 object_said : commit_in object ≡ Ok held_object
 unfolding commit_in object_of is_previous did_in is_did tid_in tid_of is_tid node_in
@@ -133,7 +133,7 @@ abbrev pub sections : List (List ℕ × List ℕ)
 sections = (top, block) ∷ []
 
 abbrev pub car : List ℕ
-car = header_bytes (header_of top) ++ sections_bytes sections
+car = header_bytes (car_header top) ++ sections_bytes sections
 
 abbrev pub held : BlockMap
 held = map.from_entries sections
@@ -142,22 +142,22 @@ pub car_is : (length car < 256) × (list_all (λ c. ltb c 256) car ≡ true)
 unfolding groups info_of tail_of
 car_is = (lit< tt, refl)
 
-shorts : (length (spelling (header_of top)) < VARINTS) × (36 + length block < VARINTS)
+shorts : (length (encoding (car_header top)) < VARINTS) × (36 + length block < VARINTS)
 unfolding info_of tail_of
 shorts = (lit< tt, lit< tt)
 
 is_section : IsSection (top, block)
 is_section = record { link = refl; digest = sym block_hash; short = shorts.1 }
 
-car_form : IsCar car (header_of top) (top ∷ []) sections
+car_form : IsCar car (car_header top) (top ∷ []) sections
 car_form = record {
   header_form = record { item = header_fits top refl top_bytes; short = shorts.0; roots = refl };
   sections_form = (is_section, tt);
-  spelled = refl;
+  encoded = refl;
 }
 
 pub car_read : car_of car ≡ Ok (top ∷ [], held)
-car_read = car_again car (header_of top) (top ∷ []) sections car_form
+car_read = car_again car (car_header top) (top ∷ []) sections car_form
 
 found : (q : List ℕ) → map.get held q ≡ cond (eq_by_cmp key_cmp q top) (Some block) None
 found q = map.get-from_entries key_total sections q
@@ -181,7 +181,7 @@ nothing_shown = rw (car_read, top_found, block_object) refl
 pub object_there : object_in (car_in (commit_of top car)) ≡ Some held_object
 object_there = rw (car_read, top_found, block_object) refl
 
-abbrev pub holds : Holds (commit_of top car)
+abbrev pub holds : HoldsCommit (commit_of top car)
 holds = record { roots = top ∷ []; blocks = held; commit = held_object; car = car_read; object = object_there }
 
 pub root_there : root_in (car_in (commit_of top car)) ≡ Some top

@@ -2,11 +2,11 @@
 use Rattle.std.proofs.Common.{◌≡◌, ℕ, true, false, ◌&&◌, List, [], ◌∷◌, None, Some, Ok, refl, sym, ◌∙◌, lit<}
 use Rattle.std.proofs.lemmas.Bool.{and_parts, false≢true}
 use Rattle.std.specs.Prelude.{◌==◌, ◌||◌, nat_le}
-use Rattle.at_cbor.specs.Spelling.{info_of, tail_of}
+use Rattle.at_cbor.specs.Encoding.{info_of, tail_of}
 use Rattle.at_car.specs.Varint.{groups}
-use Rattle.at_form.specs.declared.forms.TheConstants.{NUMBERS}
+use Rattle.at_cid.specs.declared.limits.TheConstants.{NUMBERS}
 use Rattle.at_event.specs.Refusals.{code_of}
-use Rattle.at_event.specs.Writing.{message_of, out_length, out_of}
+use Rattle.at_event.specs.Writing.{event_message, out_length, out_of}
 use Rattle.at_event.specs.declared.frame.Frame.{Frame}
 use Rattle.at_event.specs.declared.refusal.Refusal.{Refusal}
 use Rattle.relay_row.specs.Folds.{cursor, last_seq}
@@ -50,7 +50,7 @@ abbrev beheaded : Taken
 beheaded = record { host = host; host_seq = 1; did = did; kind = 1; refusal = None; seq = 1; message = out_of (event []) 1; effect = Effect.Repo headless; fetched = Fetched.NotAsked; moment = Some 0 }
 
 beheaded_decided : decided careless (last_seq []) (account did []) host (Frame.Event (event [])) good ≡ Some beheaded
-unfolding account last_seq out_length out_of message_of info_of tail_of
+unfolding account last_seq out_length out_of event_message info_of tail_of
 beheaded_decided = rw no_car refl
 
 effect_formed : (t : Taken) → is_decided None t ≡ true → is_effect t.kind t.effect ≡ true
@@ -69,7 +69,7 @@ abbrev unlinked : Taken
 unlinked = record { host = host; host_seq = 1; did = did; kind = 1; refusal = Some (Refusal.BadNode []); seq = 0; message = []; effect = Effect.Nothing; fetched = Fetched.Absent; moment = Some 0 }
 
 unlinked_decided : decided broken (last_seq []) (account did []) host (Frame.Event covered) good ≡ Some unlinked
-unfolding account last_seq out_length out_of message_of info_of tail_of groups
+unfolding account last_seq out_length out_of event_message info_of tail_of groups
 unlinked_decided = rw (opened covered.payload) refl
 
 detail_formed : (r : Refusal) (t : Taken) → is_decided (Some r) t ≡ true → is_detail r ≡ true

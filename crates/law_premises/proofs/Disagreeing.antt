@@ -3,9 +3,9 @@ use Rattle.std.proofs.Common.{◌≡◌, ℕ, Bool, true, false, get_or, List, [
 use Rattle.std.proofs.lemmas.Slice.Eq.{bytes_eq-Decides}
 use Rattle.std.specs.Str.{bytes_eq}
 use Rattle.at_cbor.specs.Item.{Item}
-use Rattle.at_cbor.specs.Spelling.{info_of, tail_of}
+use Rattle.at_cbor.specs.Encoding.{info_of, tail_of}
 use Rattle.at_event.specs.Seen.{Seen}
-use Rattle.at_event.specs.Writing.{message_of, out_length, out_of}
+use Rattle.at_event.specs.Writing.{event_message, out_length, out_of}
 use Rattle.at_event.specs.declared.event.Body.{Body}
 use Rattle.at_event.specs.declared.frame.Frame.{Frame}
 use Rattle.relay_row.specs.Folds.{cursor, last_seq}
@@ -65,11 +65,11 @@ none_found : (last : ℕ) (e : Seen) → IsSendable last e absent
 none_found last e head records block is = absurd cc
 
 off_on : RunsIn loose world [] [] (says host false ∷ says second true ∷ []) (switch host false 1 ∷ switch second true 2 ∷ [])
-unfolding account cursor last_seq out_length out_of message_of info_of tail_of
+unfolding account cursor last_seq out_length out_of event_message info_of tail_of
 off_on = (switch host false 1, switch second true 2 ∷ [], refl, (none_found 0 (switched false), refl), (switch second true 2, [], refl, (none_found 1 (switched true), refl), refl))
 
 on_off : RunsIn loose world [] [] (says second true ∷ says host false ∷ []) (switch second true 1 ∷ switch host false 2 ∷ [])
-unfolding account cursor last_seq out_length out_of message_of info_of tail_of
+unfolding account cursor last_seq out_length out_of event_message info_of tail_of
 on_off = (switch second true 1, switch host false 2 ∷ [], refl, (none_found 0 (switched true), refl), (switch host false 2, [], refl, (none_found 1 (switched false), refl), refl))
 
 two_hosts : (h : List ℕ) → bytes_eq h host ≡ true → bytes_eq h second ≡ true → ⊥

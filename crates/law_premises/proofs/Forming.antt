@@ -3,12 +3,12 @@ use Rattle.std.proofs.Common.{◌≡◌, ℕ, ◌+◌, ◌-◌, ◌<◌, ◌^◌
 use Rattle.std.proofs.lemmas.Bool.{and_parts, false≢true}
 use Rattle.std.specs.Prelude.{◌==◌, ◌||◌, nat_le}
 use Rattle.std.specs.Str.{is_utf8}
-use Rattle.at_cbor.specs.Spelling.{info_of, tail_of}
+use Rattle.at_cbor.specs.Encoding.{info_of, tail_of}
 use Rattle.at_car.specs.Varint.{groups}
 use Rattle.at_syntax.specs.Did.{is_did}
 use Rattle.at_syntax.specs.Host.{is_host}
 use Rattle.at_event.specs.Formed.{IsShortText}
-use Rattle.at_event.specs.Writing.{account_payload, message_of, out_length, out_of}
+use Rattle.at_event.specs.Writing.{account_payload, event_message, out_length, out_of}
 use Rattle.at_event.specs.declared.frame.Frame.{Frame}
 use Rattle.at_event.specs.declared.head.Head.{Head}
 use Rattle.at_event.specs.declared.refusal.Refusal.{Refusal}
@@ -16,7 +16,7 @@ use Rattle.relay_row.specs.Folds.{cursor, last_seq}
 use Rattle.relay_row.specs.Journal.{IsJournal, keeps_order}
 use Rattle.relay_row.specs.Rules.{are_bytes, is_about, is_accepted, is_carried, is_decided, is_effect, is_empty, is_fetched, is_message, is_moment, is_number, is_operated, is_positive, is_refused, is_row, is_string, is_taken, is_timed, names_did, names_host}
 use Rattle.relay_row.specs.declared.carried.Carried.{Carried}
-use Rattle.relay_row.specs.declared.limits.TheConstants.{NUMBERS}
+use Rattle.at_cid.specs.declared.limits.TheConstants.{NUMBERS}
 use Rattle.relay_row.specs.declared.operated.Operated.{Operated}
 use Rattle.relay_row.specs.declared.row.Row.{Row}
 use Rattle.relay_row.specs.declared.taken.Taken.{Taken}
@@ -99,7 +99,7 @@ message_bytes message is = (and_parts (nat_lt (length message) (2 ^ 64)) (are_by
 
 -- a time that is no list of bytes
 no_time : are_bytes (operated_message (account did []) true did (300 ∷ []) (last_seq [] + 1)) ≡ false
-unfolding message_of account_payload info_of tail_of last_seq
+unfolding event_message account_payload info_of tail_of last_seq
 no_time = refl
 
 pub above_all : is_moment (Some NUMBERS) ≡ true → ⊥
@@ -203,7 +203,7 @@ agreed_right = record {
 }
 
 agreed_next : next_of (cursor host (final ∷ [])) (account did (final ∷ [])) (Frame.Event covered) agreed ≡ Next.Done accepted
-unfolding account cursor out_length out_of message_of info_of tail_of groups
+unfolding account cursor out_length out_of event_message info_of tail_of groups
 agreed_next = refl
 
 alone : (b : Bool) → b || false ≡ true → b ≡ true

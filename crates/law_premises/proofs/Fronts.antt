@@ -1,10 +1,10 @@
 -- Fronts that give way to other rows, and leave a journal unsound.
 use Rattle.std.proofs.Common.{◌≡◌, ◌≢◌, inl, inr, ℕ, ◌<◌, ◌^◌, Bool, true, false, get_or, List, [], ◌∷◌, ◌++◌, length, Option, None, Some, refl, sym, ◌∙◌, ap, lit<, arith}
-use Rattle.at_cbor.specs.Spelling.{info_of, tail_of}
+use Rattle.at_cbor.specs.Encoding.{info_of, tail_of}
 use Rattle.at_car.specs.Varint.{groups}
 use Rattle.at_syntax.specs.Did.{is_did}
 use Rattle.at_syntax.specs.Host.{is_host}
-use Rattle.at_event.specs.Writing.{message_of, out_of}
+use Rattle.at_event.specs.Writing.{event_message, out_of}
 use Rattle.at_event.specs.declared.head.Head.{Head}
 use Rattle.at_event.specs.declared.refusal.Refusal.{Refusal}
 use Rattle.mst_list.specs.declared.item.Item.{Item}
@@ -20,7 +20,7 @@ use Rattle.relay_row.specs.declared.taken.Effect.{Effect}
 use Rattle.relay_row.proofs.Journals.{grows, no_rows}
 use Rattle.account_state.specs.Folds.{account}
 use Rattle.account_state.specs.declared.repo.Repo.{Repo}
-use Rattle.commit_check.specs.Step.{empty_root, named}
+use Rattle.commit_check.specs.Step.{empty_root, blocks_named}
 use Rattle.relay_law.specs.Carried.{AreOfKnown, CarriesOver}
 use Rattle.relay_law.specs.Chains.{chains}
 use Rattle.relay_law.specs.Sound.{AreLinked, Follows, IsSound}
@@ -52,7 +52,7 @@ one_distinct block a b (inl one) (inl other) same = one ∙ sym other
 one_distinct block a b (inl one) (inr other) same = absurd other
 one_distinct block a b (inr one) other same = absurd one
 
-empty_distinct : (F : List Item) → Distinct (nodes [] ++ named [] F)
+empty_distinct : (F : List Item) → Distinct (nodes [] ++ blocks_named [] F)
 unfolding part_nodes
 empty_distinct F = one_distinct _
 
@@ -90,11 +90,11 @@ unfolding is_row is_whole is_did
 base_formed_2 = rw did_text refl
 
 again_formed_1 : is_row (again 1) ≡ true
-unfolding is_row is_taken is_accepted is_host is_did out_of message_of info_of tail_of groups
+unfolding is_row is_taken is_accepted is_host is_did out_of event_message info_of tail_of groups
 again_formed_1 = rw (host_text, did_text) refl
 
 again_formed_2 : is_row (again 2) ≡ true
-unfolding is_row is_taken is_accepted is_host is_did out_of message_of info_of tail_of groups
+unfolding is_row is_taken is_accepted is_host is_did out_of event_message info_of tail_of groups
 again_formed_2 = rw (host_text, did_text) refl
 
 base_next : (x : ℕ) → keeps_order [] (base x) ≡ true

@@ -1,13 +1,13 @@
 -- A covered commit that is refused, or one that passes, without a premise.
 use Rattle.std.proofs.Common.{◌∷◌, ◌≡◌, ℕ, true, false, nat_lt, [], Option, None, Some, Err, refl, sym, ◌∙◌, subst}
 use Rattle.at_cbor.specs.Item.{Item}
-use Rattle.at_cbor.specs.Spelling.{info_of, tail_of}
+use Rattle.at_cbor.specs.Encoding.{info_of, tail_of}
 use Rattle.at_car.specs.Varint.{groups}
-use Rattle.at_form.specs.Forms.{given}
+use Rattle.at_form.specs.Forms.{present_value}
 use Rattle.at_event.specs.Events.{IsEvent}
 use Rattle.at_event.specs.Seen.{Seen}
 use Rattle.at_event.specs.Table.{seq_of}
-use Rattle.at_event.specs.Writing.{message_of, out_length, out_of}
+use Rattle.at_event.specs.Writing.{event_message, out_length, out_of}
 use Rattle.at_event.specs.declared.event.Body.{Body}
 use Rattle.at_event.specs.declared.event.CommitEvent.{CommitEvent}
 use Rattle.at_event.specs.declared.refusal.Refusal.{Refusal}
@@ -57,11 +57,11 @@ its payload short = record {
 }
 
 own_short : nat_lt LONGEST_MESSAGE (out_length covered) ≡ false
-unfolding out_length out_of message_of info_of tail_of groups
+unfolding out_length out_of event_message info_of tail_of groups
 own_short = refl
 
 null_short : nat_lt LONGEST_MESSAGE (out_length (with_payload Item.null)) ≡ false
-unfolding out_length out_of message_of info_of tail_of
+unfolding out_length out_of event_message info_of tail_of
 null_short = refl
 
 own : IsCovered [] host covered 0
@@ -83,7 +83,7 @@ shut_right : LinksRight shut
 shut_right = record { no_gap = some_right.2.no_gap; leads = some_right.2.leads; stops = some_right.2.stops }
 
 shut_refused : (row shut covered).refusal ≡ Some Refusal.BadCar
-unfolding account out_length out_of message_of info_of tail_of groups
+unfolding account out_length out_of event_message info_of tail_of groups
 shut_refused = refl
 
 -- ---- checks that link nothing
@@ -98,7 +98,7 @@ pub opened : (payload : Item) → refusal_in (some_right.0.opens (with_payload p
 opened payload = some_right.1.refusal (with_payload payload) None ∙ nothing_shown
 
 cut_refused : (row cut covered).refusal ≡ Some Refusal.Gap
-unfolding account out_length out_of message_of info_of tail_of groups
+unfolding account out_length out_of event_message info_of tail_of groups
 cut_refused = rw (opened covered.payload) refl
 
 -- ---- right checks that pass no event without a number
@@ -129,7 +129,7 @@ strict_opens : OpensRight strict
 strict_opens = record { refusal = some_right.1.refusal; head = some_right.1.head }
 
 strict_refused : (row strict (with_payload Item.null)).refusal ≡ Some Refusal.Gap
-unfolding account out_length out_of message_of info_of tail_of seq_of given
+unfolding account out_length out_of event_message info_of tail_of seq_of present_value
 strict_refused = rw (opened Item.null) refl
 
 -- ---- a commit without a CAR
@@ -138,7 +138,7 @@ bare_shown : refusal_in (some_right.0.opens (event []) None) ≡ Some Refusal.Ba
 bare_shown = some_right.1.refusal (event []) None ∙ nothing_there
 
 bare_refused : (row some_right.0 (event [])).refusal ≡ Some Refusal.BadCar
-unfolding account out_length out_of message_of info_of tail_of
+unfolding account out_length out_of event_message info_of tail_of
 bare_refused = rw bare_shown refl
 
 pub covered_refused : CoveredMayBeRefused

@@ -11,7 +11,7 @@ use Rattle.event_checks.specs.Lines.{first_of}
 use Rattle.event_checks.specs.Opening.{CarResult}
 use Rattle.event_checks.specs.Table.{car_in, open_lines}
 use Rattle.account_state.specs.declared.repo.Repo.{Repo}
-use Rattle.commit_check.specs.Order.{Holds, StopsPast}
+use Rattle.commit_check.specs.Order.{HoldsCommit, StopsPast}
 use Rattle.commit_check.specs.Step.{empty_root, is_gap, root_before, Leads}
 use Rattle.relay_core.specs.Decide.{Checks}
 use Rattle.relay_law.specs.Calls.{SayWhatCallsAnswer}
@@ -46,11 +46,11 @@ module _ (e : Seen) (c : CommitEvent) (repo : Repo) (body : e.body ≡ Body.Comm
   no_gap (Err fault) linked = none_if (is_gap c (expect_of repo)) linked
   no_gap (Ok car) linked = some_right.2.no_gap e c repo body linked
 
-  leads : (h : Holds c) → IsEvent e → (car : CarResult) → car_in c ≡ car → links_blind car c e repo ≡ None → Leads c h.blocks (root_before (expect_of repo)) h.commit.data_root
+  leads : (h : HoldsCommit c) → IsEvent e → (car : CarResult) → car_in c ≡ car → links_blind car c e repo ≡ None → Leads c h.blocks (root_before (expect_of repo)) h.commit.data_root
   leads h read (Err fault) is linked = let no : ◌≡◌ {A = CarResult} (Err fault) (Ok (h.roots, h.blocks)) = sym is ∙ h.car in absurd cc
   leads h read (Ok car) is linked = some_right.2.leads e c repo h read body linked
 
-  stops : (h : Holds c) (refusal : Refusal) → IsEvent e → (car : CarResult) → car_in c ≡ car → links_blind car c e repo ≡ Some refusal
+  stops : (h : HoldsCommit c) (refusal : Refusal) → IsEvent e → (car : CarResult) → car_in c ≡ car → links_blind car c e repo ≡ Some refusal
       → StopsPast (is_gap c (expect_of repo)) c h.blocks (root_before (expect_of repo)) h.commit.data_root refusal
   stops h refusal read (Err fault) is linked = let no : ◌≡◌ {A = CarResult} (Err fault) (Ok (h.roots, h.blocks)) = sym is ∙ h.car in absurd cc
   stops h refusal read (Ok car) is linked = some_right.2.stops e c repo h refusal read body linked

@@ -2,19 +2,19 @@
 use Rattle.std.proofs.Common.{◌≡◌, ℕ, ◌<◌, ◌^◌, List, [], ◌∷◌, length, Result, Ok, Err, codes, refl, sym, ◌∙◌, ap, subst, lit<, ◌++◌, None, Some}
 use Rattle.at_cbor.specs.Item.{Item}
 use Rattle.at_cbor.specs.Kinds.{map_in}
-use Rattle.at_cbor.specs.Spelling.{Fits, IsText, spelling}
+use Rattle.at_cbor.specs.Encoding.{Fits, IsText, encoding}
 use Rattle.at_cbor.specs.declared.decoding.TheConstants.{DEPTH}
 use Rattle.at_car.specs.Car.{car_of}
 use Rattle.at_car.specs.Header.{header_at}
 use Rattle.at_car.specs.Varint.{number_at}
 use Rattle.at_car.specs.declared.fault.CarFault.{CarFault}
 use Rattle.at_cid.specs.Link.{IsBytes}
-use Rattle.at_form.specs.Forms.{given, number_in}
-use Rattle.at_form.specs.declared.forms.TheConstants.{NUMBERS}
-use Rattle.at_event.specs.Frames.{announced, event_frame, frame_of, heading_of, items_in, named}
+use Rattle.at_form.specs.Forms.{present_value, number_in}
+use Rattle.at_cid.specs.declared.limits.TheConstants.{NUMBERS}
+use Rattle.at_event.specs.Frames.{announced, event_frame, frame_of, heading_named, heading_of, items_in}
 use Rattle.at_event.specs.Seen.{Seen}
 use Rattle.at_event.specs.Table.{event_of as event_in, seq_of}
-use Rattle.at_event.specs.Writing.{header_of, message_of, name_of, numbered, out_of}
+use Rattle.at_event.specs.Writing.{header_of, event_message, kind_name, numbered, out_of}
 use Rattle.at_event.specs.declared.event.Body.{Body}
 use Rattle.at_event.specs.declared.event.CommitEvent.{CommitEvent}
 use Rattle.at_event.specs.declared.frame.Frame.{Frame}
@@ -26,7 +26,7 @@ use Rattle.at_event.proofs.Texts.{ascii_text}
 use Rattle.relay_law.specs.Sound.{Follows, GoesFrom, IsCommit}
 use Rattle.law_premises.proofs.Samples.{IsTop, commit, did, event, event_of, fits_of, is_event, no_frame, payload_of}
 
-name_text : (kind : EventKind) → IsText (name_of kind)
+name_text : (kind : EventKind) → IsText (kind_name kind)
 name_text EventKind.Commit = ascii_text (codes "#commit") refl (lit< tt)
 name_text EventKind.Sync = ascii_text (codes "#sync") refl (lit< tt)
 name_text EventKind.Identity = ascii_text (codes "#identity") refl (lit< tt)
@@ -36,20 +36,20 @@ header_fits : (kind : EventKind) → Fits (header_of kind) DEPTH
 header_fits kind = (lit< tt, lit< tt, (ascii_text (codes "t") refl (lit< tt), refl, name_text kind, (ascii_text (codes "op") refl (lit< tt), refl, lit< tt, tt)))
 
 heading : (kind : EventKind) → heading_of (header_of kind) ≡ Some (Heading.Event kind)
-unfolding heading_of named
+unfolding heading_of heading_named
 heading EventKind.Commit = refl
 heading EventKind.Sync = refl
 heading EventKind.Identity = refl
 heading EventKind.Account = refl
 
-items_of_message : (kind : EventKind) (payload : Item) → Fits payload DEPTH → items_in (spelling (header_of kind) ++ spelling payload) ≡ Some (header_of kind, payload)
+items_of_message : (kind : EventKind) (payload : Item) → Fits payload DEPTH → items_in (encoding (header_of kind) ++ encoding payload) ≡ Some (header_of kind, payload)
 items_of_message kind payload fits =
-    message_read (spelling (header_of kind) ++ spelling payload) (header_of kind) payload (record { header_form = header_fits kind; payload_form = fits; spelled = refl })
+    message_read (encoding (header_of kind) ++ encoding payload) (header_of kind) payload (record { header_form = header_fits kind; payload_form = fits; encoded = refl })
 
 -- a payload with a number, of which no event is read
 pub faulty_read : (kind : EventKind) (payload : Item) (n : ℕ) (fields : List (List ℕ × Item)) → Fits payload DEPTH → map_in payload ≡ Some fields → seq_of payload ≡ Some n → event_in kind n payload ≡ None
-    → frame_of (message_of kind payload) ≡ Ok (Frame.Faulty n)
-unfolding frame_of message_of announced event_frame
+    → frame_of (event_message kind payload) ≡ Ok (Frame.Faulty n)
+unfolding frame_of event_message announced event_frame
 faulty_read kind payload n fields fits mapped number none = rw (items_of_message kind payload fits, heading kind, mapped, number, none) refl
 
 -- no bytes aren't a CAR
@@ -62,12 +62,12 @@ abbrev pub odd : Seen
 odd = record { seq = 1; did = did; time = []; body = Body.Commit (commit []); payload = Item.null }
 
 pub odd_unread : frame_of (out_of odd 1) ≡ Err FrameFault.BadFrame
-unfolding frame_of out_of message_of
+unfolding frame_of out_of event_message
 odd_unread = rw (items_of_message EventKind.Commit Item.null tt, heading EventKind.Commit) refl
 
 -- and one whose number is none
 pub late_unread : (top : List ℕ) → IsTop top → (blocks : List ℕ) → IsBytes blocks → length blocks < 2 ^ 64 → frame_of (out_of (event_of top blocks) NUMBERS) ≡ Err FrameFault.NoSeq
-unfolding frame_of out_of message_of announced event_frame seq_of given number_in
+unfolding frame_of out_of event_message announced event_frame seq_of present_value number_in
 late_unread top is blocks bytes short = rw (items_of_message EventKind.Commit (payload_of top NUMBERS blocks) (fits_of top is NUMBERS blocks (lit< tt) bytes short), heading EventKind.Commit) refl
 
 pub no_commit_in : (message : List ℕ) (fault : FrameFault) → frame_of message ≡ Err fault → (c : CommitEvent) → IsCommit message c → ⊥

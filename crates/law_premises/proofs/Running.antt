@@ -2,18 +2,18 @@
 use Rattle.std.proofs.Common.{◌≡◌, ◌≢◌, ℕ, ◌-◌, ◌≤◌, Bool, true, false, List, [], ◌∷◌, length, Option, None, Some, Ok, Err, refl, sym, ◌∙◌, ap, subst, lit<, arith}
 use Rattle.std.proofs.lemmas.Bool.Decides.{nat_tests}
 use Rattle.std.specs.Prelude.{if◌then◌else◌}
-use Rattle.at_cbor.specs.Spelling.{info_of, tail_of}
+use Rattle.at_cbor.specs.Encoding.{info_of, tail_of}
 use Rattle.at_car.specs.Varint.{groups}
 use Rattle.at_car.specs.declared.fault.CarFault.{CarFault}
 use Rattle.at_cid.specs.Link.{IsBytes, cid}
-use Rattle.at_form.specs.Forms.{given}
-use Rattle.at_form.specs.declared.forms.TheConstants.{NUMBERS}
+use Rattle.at_form.specs.Forms.{present_value}
+use Rattle.at_cid.specs.declared.limits.TheConstants.{NUMBERS}
 use Rattle.at_syntax.specs.Did.{is_did}
 use Rattle.at_syntax.specs.Host.{is_host}
 use Rattle.at_event.specs.Events.{IsEvent}
 use Rattle.at_event.specs.Frames.{frame_of}
 use Rattle.at_event.specs.Table.{seq_of}
-use Rattle.at_event.specs.Writing.{message_of, out_length, out_of}
+use Rattle.at_event.specs.Writing.{event_message, out_length, out_of}
 use Rattle.at_event.specs.declared.event.Body.{Body}
 use Rattle.at_event.specs.declared.event.CommitEvent.{CommitEvent}
 use Rattle.at_event.specs.declared.frame.Frame.{Frame}
@@ -61,7 +61,7 @@ abbrev bold : Row
 bold = accepted 1 1 (out_of (event []) 1) top
 
 bold_formed : is_row bold ≡ true
-unfolding is_row is_taken is_accepted is_host is_did out_of message_of info_of tail_of
+unfolding is_row is_taken is_accepted is_host is_did out_of event_message info_of tail_of
 bold_formed = rw (host_text, did_text) refl
 
 first_next : (message : List ℕ) → keeps_order [] (accepted 1 1 message top) ≡ true
@@ -72,7 +72,7 @@ bold_journal : IsJournal (bold ∷ [])
 bold_journal = grows [] bold no_rows bold_formed (first_next (out_of (event []) 1))
 
 bold_run : Run loose [] ((host, Ok (Frame.Event (event []))) ∷ []) (bold ∷ [])
-unfolding account cursor last_seq out_length out_of message_of info_of tail_of
+unfolding account cursor last_seq out_length out_of event_message info_of tail_of
 bold_run = (bold, [], refl, refl, refl)
 
 -- a step by no CAR
@@ -118,14 +118,14 @@ abbrev strange : Row
 strange = accepted 1 1 (out_of odd 1) top
 
 strange_formed : is_row strange ≡ true
-unfolding is_row is_taken is_accepted is_host is_did out_of message_of info_of tail_of
+unfolding is_row is_taken is_accepted is_host is_did out_of event_message info_of tail_of
 strange_formed = rw (host_text, did_text) refl
 
 strange_journal : IsJournal (strange ∷ [])
 strange_journal = grows [] strange no_rows strange_formed (first_next (out_of odd 1))
 
 odd_run : Run odd_checks [] ((host, Ok (Frame.Event odd)) ∷ []) (strange ∷ [])
-unfolding account cursor last_seq out_length out_of message_of info_of tail_of seq_of given
+unfolding account cursor last_seq out_length out_of event_message info_of tail_of seq_of present_value
 odd_run = (strange, [], refl, refl, refl)
 
 -- ---- right checks that pass what starts from no tree
@@ -190,7 +190,7 @@ abbrev late : Row
 late = accepted 1 NUMBERS (out_of (event bare) NUMBERS) top
 
 late_run : Run bare_checks (rootless ∷ []) ((host, Ok (Frame.Event (event bare))) ∷ []) (late ∷ [])
-unfolding account cursor last_seq out_length out_of message_of info_of tail_of groups
+unfolding account cursor last_seq out_length out_of event_message info_of tail_of groups
 late_run = (late, [], refl, rw bare_car refl, refl)
 
 bare_event : IsEvent (event bare)

@@ -9,7 +9,7 @@ use Rattle.at_cbor.specs.Heads.{argued, argument_at, head_at, major_of}
 use Rattle.at_cbor.specs.Item.{Item, no_fields, no_items, field}
 use Rattle.at_cbor.specs.Majors.{major_in}
 use Rattle.at_cbor.specs.Reading.{body_of as item_body, item_at}
-use Rattle.at_cbor.specs.Spelling.{Fits, IsText, info_of, spelling, tail_of}
+use Rattle.at_cbor.specs.Encoding.{Fits, IsText, info_of, encoding, tail_of}
 use Rattle.at_cbor.specs.Taking.{item_from_front, whole_item}
 use Rattle.at_cbor.specs.declared.decoding.TheConstants.{DEPTH}
 use Rattle.at_cid.specs.Link.{IsBytes, is_link}
@@ -18,17 +18,17 @@ use Rattle.at_car.specs.Blocks.{BlockMap}
 use Rattle.at_car.specs.Car.{car_of}
 use Rattle.at_car.specs.Varint.{groups}
 use Rattle.at_car.specs.Form.{IsCar, header_bytes, sections_bytes}
-use Rattle.at_car.specs.Writing.{header_of}
+use Rattle.at_car.specs.Writing.{car_header}
 use Rattle.at_car.specs.declared.varint.TheConstants.{VARINTS}
 use Rattle.at_car.proofs.Again.{car_again}
-use Rattle.at_form.specs.Forms.{did_in, given, node_in, number_in, short_text_in, tid_in}
+use Rattle.at_form.specs.Forms.{did_in, present_value, node_in, number_in, short_text_in, tid_in}
 use Rattle.at_syntax.specs.Did.{is_did}
 use Rattle.at_syntax.specs.Host.{is_host}
 use Rattle.at_syntax.specs.Tid.{is_tid, tid_of}
 use Rattle.at_event.specs.Events.{IsEvent}
 use Rattle.at_event.specs.Frames.{frame_of, items_in}
 use Rattle.at_event.specs.Seen.{Seen}
-use Rattle.at_event.specs.Table.{body_of, commit_of as commit_in, event_of as event_in, kind_of, ops_in, ops_of, seq_of, too_big_in}
+use Rattle.at_event.specs.Table.{event_body_of, commit_event_of as commit_in, event_of as event_in, event_kind_of, ops_in, ops_of, seq_of, too_big_in}
 use Rattle.at_event.specs.declared.event.Body.{Body}
 use Rattle.at_event.specs.declared.event.CommitEvent.{CommitEvent}
 use Rattle.at_event.specs.declared.frame.FrameFault.{FrameFault}
@@ -95,11 +95,11 @@ abbrev pub event_of : List ℕ → List ℕ → Seen
 event_of top blocks = record { seq = 1; did = did; time = codes "t"; body = Body.Commit (commit_of top blocks); payload = payload_of top 1 blocks }
 
 numbered : (top blocks : List ℕ) → seq_of (payload_of top 1 blocks) ≡ Some 1
-unfolding seq_of given number_in
+unfolding seq_of present_value number_in
 numbered top blocks = refl
 
-read : (top blocks : List ℕ) → node_in (Item.link top) ≡ Some top → event_in (kind_of (Body.Commit (commit_of top blocks))) 1 (payload_of top 1 blocks) ≡ Some (event_of top blocks)
-unfolding event_in body_of commit_in ops_in ops_of too_big_in did_in is_did short_text_in tid_in tid_of is_tid given
+read : (top blocks : List ℕ) → node_in (Item.link top) ≡ Some top → event_in (event_kind_of (Body.Commit (commit_of top blocks))) 1 (payload_of top 1 blocks) ≡ Some (event_of top blocks)
+unfolding event_in event_body_of commit_in ops_in ops_of too_big_in did_in is_did short_text_in tid_in tid_of is_tid present_value
 read top blocks node = rw node refl
 
 pub ascii : (text : List ℕ) → list_all (λ c. ltb c 128) text ≡ true → length text < 2 ^ 64 → IsText text
@@ -175,7 +175,7 @@ is_event blocks bytes short = is_event_of (link 0) link_top blocks bytes short
 abbrev pub none_held : BlockMap
 none_held = map.from_entries []
 
-pub header_fits : (root : List ℕ) → is_link root ≡ true → IsBytes root → Fits (header_of root) DEPTH
+pub header_fits : (root : List ℕ) → is_link root ≡ true → IsBytes root → Fits (car_header root) DEPTH
 header_fits root is bytes = (
   lit< tt,
   lit< tt,
@@ -188,7 +188,7 @@ header_fits root is bytes = (
 )
 
 abbrev bare_header : Item
-bare_header = header_of (link 0)
+bare_header = car_header (link 0)
 
 abbrev pub bare : List ℕ
 bare = header_bytes bare_header ++ sections_bytes []
@@ -203,7 +203,7 @@ bare_bytes = bytes_by bare bare_is.1
 pub bare_short : length bare < 256
 bare_short = omega (arith, bare_is.0)
 
-header_short : length (spelling bare_header) < VARINTS
+header_short : length (encoding bare_header) < VARINTS
 unfolding info_of tail_of
 header_short = lit< tt
 
@@ -211,7 +211,7 @@ bare_form : IsCar bare bare_header (link 0 ∷ []) []
 bare_form = record {
   header_form = record { item = header_fits (link 0) refl link_bytes; short = header_short; roots = refl };
   sections_form = tt;
-  spelled = refl;
+  encoded = refl;
 }
 
 pub bare_car : car_of bare ≡ Ok (link 0 ∷ [], none_held)

@@ -1,26 +1,26 @@
--- What operators' words make: rows that are ill formed, and messages that read as something else.
+-- What operators' commands make: rows that are ill formed, and messages that read as something else.
 use Rattle.std.proofs.Common.{◌≡◌, ℕ, ◌+◌, ◌<◌, ◌^◌, true, false, cond, ◌&&◌, ltb, List, [], ◌∷◌, ◌++◌, length, replicate, Option, None, Some, Result, Ok, codes, refl, sym, ◌∙◌, ap, subst, lit<, arith}
 use Rattle.std.proofs.lemmas.Bool.{and_parts, false≢true}
 use Rattle.std.specs.FinMap as map
 use Rattle.std.specs.List.{list_all}
 use Rattle.std.specs.Ordering.{eq_by_cmp}
 use Rattle.at_cbor.specs.Item.{Item}
-use Rattle.at_cbor.specs.Spelling.{Fits, IsText, info_of, tail_of}
+use Rattle.at_cbor.specs.Encoding.{Fits, IsText, info_of, tail_of}
 use Rattle.at_cbor.specs.declared.decoding.TheConstants.{DEPTH}
 use Rattle.at_car.specs.Blocks.{BlockMap}
 use Rattle.at_car.specs.Form.{header_bytes, sections_bytes}
 use Rattle.at_car.specs.Varint.{groups}
-use Rattle.at_car.specs.Writing.{header_of, written}
+use Rattle.at_car.specs.Writing.{car_header, written}
 use Rattle.at_cid.specs.Link.{IsBytes}
 use Rattle.at_cid.specs.Order.{key_cmp}
 use Rattle.at_cid.specs.OrderLaws.{key_total}
 use Rattle.at_cid.proofs.Order.{cmp_exact}
-use Rattle.at_form.specs.Forms.{did_in, given, number_in, short_text_in}
+use Rattle.at_form.specs.Forms.{did_in, present_value, number_in, short_text_in}
 use Rattle.at_syntax.specs.Did.{is_did}
 use Rattle.at_syntax.specs.Tid.{character_at, digits_of}
 use Rattle.at_event.specs.Frames.{frame_of}
 use Rattle.at_event.specs.Table.{event_of, seq_of}
-use Rattle.at_event.specs.Writing.{account_payload, message_of, sync_payload}
+use Rattle.at_event.specs.Writing.{account_payload, event_message, sync_payload}
 use Rattle.at_event.specs.declared.event.Body.{Body}
 use Rattle.at_event.specs.declared.frame.Frame.{Frame}
 use Rattle.at_event.specs.declared.frame.FrameFault.{FrameFault}
@@ -30,7 +30,7 @@ use Rattle.relay_row.specs.Folds.{last_seq}
 use Rattle.relay_row.specs.Journal.{IsJournal, keeps_order}
 use Rattle.relay_row.specs.Rules.{is_head, is_message, is_moment, is_number, is_operated, is_positive, is_row, is_whole, names_did}
 use Rattle.relay_row.specs.declared.fetched.Whole.{Whole}
-use Rattle.relay_row.specs.declared.limits.TheConstants.{NUMBERS}
+use Rattle.at_cid.specs.declared.limits.TheConstants.{NUMBERS}
 use Rattle.relay_row.specs.declared.row.Row.{Row}
 use Rattle.relay_row.proofs.Journals.{grew, grows, no_rows}
 use Rattle.account_state.specs.Folds.{account}
@@ -50,7 +50,7 @@ abbrev one_block : List (List ℕ × List ℕ)
 one_block = (link 0, []) ∷ []
 
 abbrev car : List ℕ
-car = header_bytes (header_of (link 0)) ++ sections_bytes one_block
+car = header_bytes (car_header (link 0)) ++ sections_bytes one_block
 
 same_blocks : commit_blocks top [] ≡ map.from_sorted {R = key_cmp} one_block
 same_blocks = map.same_map key_total cmp_exact (commit_blocks top []) (map.from_sorted {R = key_cmp} one_block) (λ q.
@@ -66,19 +66,19 @@ car_is = ap (λ (m : BlockMap). written (link 0) m) same_blocks ∙ car_of_sorte
 -- ---- rows of repositories
 
 none_found : IsFormedFound (last_seq []) did [] (found top 0 [])
-unfolding sync_message message_of sync_payload info_of tail_of groups digits_of character_at last_seq
+unfolding sync_message event_message sync_payload info_of tail_of groups digits_of character_at last_seq
 none_found = (refl, lit< tt, rw car_is refl)
 
 nameless_found : IsFormedFound (last_seq []) [] [] (found top 0 [])
-unfolding sync_message message_of sync_payload info_of tail_of groups digits_of character_at last_seq
+unfolding sync_message event_message sync_payload info_of tail_of groups digits_of character_at last_seq
 nameless_found = (refl, lit< tt, rw car_is refl)
 
 bad_found : IsFormedFound (last_seq (bad ∷ [])) did [] (found top 0 [])
-unfolding sync_message message_of sync_payload info_of tail_of groups digits_of character_at last_seq
+unfolding sync_message event_message sync_payload info_of tail_of groups digits_of character_at last_seq
 bad_found = (refl, lit< tt, rw car_is refl)
 
 final_found : IsFormedFound (last_seq (final ∷ [])) did [] (found top 0 [])
-unfolding sync_message message_of sync_payload info_of tail_of groups digits_of character_at last_seq
+unfolding sync_message event_message sync_payload info_of tail_of groups digits_of character_at last_seq
 final_found = (refl, lit< tt, rw car_is refl)
 
 synced_parts : (d : List ℕ) (w : Whole) (moment : Option ℕ) → is_row (Row.Synced d w moment) ≡ true → (names_did d ≡ true) × (is_whole w ≡ true) × (is_moment moment ≡ true)
@@ -134,16 +134,16 @@ account_fits d time named timed = (
   ),
 )
 
-account_unread : (d time : List ℕ) → IsText d → IsText time → event_of EventKind.Account 1 (own_account d time) ≡ None → frame_of (message_of EventKind.Account (own_account d time)) ≡ Ok (Frame.Faulty 1)
-unfolding account_payload seq_of given number_in
+account_unread : (d time : List ℕ) → IsText d → IsText time → event_of EventKind.Account 1 (own_account d time) ≡ None → frame_of (event_message EventKind.Account (own_account d time)) ≡ Ok (Frame.Faulty 1)
+unfolding account_payload seq_of present_value number_in
 account_unread d time named timed none = faulty_read EventKind.Account (own_account d time) 1 _ (account_fits d time named timed) refl refl none
 
 long_account : event_of EventKind.Account 1 (own_account did long) ≡ None
-unfolding event_of account_payload did_in is_did short_text_in given
+unfolding event_of account_payload did_in is_did short_text_in present_value
 long_account = refl
 
 nameless_account : event_of EventKind.Account 1 (own_account [] (codes "t")) ≡ None
-unfolding event_of account_payload did_in is_did given
+unfolding event_of account_payload did_in is_did present_value
 nameless_account = refl
 
 not_read : (message d : List ℕ) (seq : ℕ) (Says : Body → Type 0) → frame_of message ≡ Ok (Frame.Faulty 1) → ReadsAs message d seq Says → ⊥
@@ -164,7 +164,7 @@ abbrev long_word : Row
 long_word = Row.Operated (operated_as (last_seq []) (account did []) did true long (Some 0))
 
 long_formed : is_row long_word ≡ true
-unfolding is_row is_operated is_did message_of account_payload info_of tail_of last_seq
+unfolding is_row is_operated is_did event_message account_payload info_of tail_of last_seq
 long_formed = rw did_text refl
 
 long_next : keeps_order [] long_word ≡ true
@@ -218,22 +218,22 @@ sync_fits d time named timed = (
 )
 
 sync_unread : (d time : List ℕ) → IsText d → IsText time → event_of EventKind.Sync 1 (own_sync d time) ≡ None → frame_of (sync_message d time top [] 1) ≡ Ok (Frame.Faulty 1)
-unfolding sync_message sync_payload seq_of given number_in
+unfolding sync_message sync_payload seq_of present_value number_in
 sync_unread d time named timed none = faulty_read EventKind.Sync (own_sync d time) 1 _ (sync_fits d time named timed) refl refl none
 
 long_sync : event_of EventKind.Sync 1 (own_sync did long) ≡ None
-unfolding event_of sync_payload did_in is_did short_text_in given
+unfolding event_of sync_payload did_in is_did short_text_in present_value
 long_sync = refl
 
 nameless_sync : event_of EventKind.Sync 1 (own_sync [] (codes "t")) ≡ None
-unfolding event_of sync_payload did_in is_did given
+unfolding event_of sync_payload did_in is_did present_value
 nameless_sync = refl
 
 abbrev taken_over : List ℕ → List ℕ → Row
 taken_over d time = Row.Synced d (whole_under d time top 0 [] (last_seq [] + 1)) (Some 0)
 
 over_formed : is_row (taken_over did long) ≡ true
-unfolding is_row is_whole is_did sync_message message_of sync_payload info_of tail_of groups digits_of character_at last_seq
+unfolding is_row is_whole is_did sync_message event_message sync_payload info_of tail_of groups digits_of character_at last_seq
 over_formed = rw (did_text, car_is) refl
 
 over_next : keeps_order [] (taken_over did long) ≡ true

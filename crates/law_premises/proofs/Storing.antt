@@ -1,13 +1,13 @@
 -- What a store took, by all checks that open and link rightly, and left unsound.
 use Rattle.std.proofs.Common.{◌≡◌, ℕ, Bool, true, false, ltb, List, [], ◌∷◌, Option, None, Some, Result, Ok, Err, refl, sym, ◌∙◌, ap, subst, arith}
 use Rattle.std.specs.List.{list_all}
-use Rattle.at_cbor.specs.Spelling.{info_of, tail_of}
+use Rattle.at_cbor.specs.Encoding.{info_of, tail_of}
 use Rattle.at_car.specs.Blocks.{BlockMap}
 use Rattle.at_car.specs.Varint.{groups}
-use Rattle.at_form.specs.declared.forms.TheConstants.{NUMBERS}
+use Rattle.at_cid.specs.declared.limits.TheConstants.{NUMBERS}
 use Rattle.at_commit.specs.declared.commit.Commit.{Commit}
 use Rattle.at_event.specs.Frames.{frame_of}
-use Rattle.at_event.specs.Writing.{message_of, out_length, out_of}
+use Rattle.at_event.specs.Writing.{event_message, out_length, out_of}
 use Rattle.at_event.specs.declared.frame.Frame.{Frame}
 use Rattle.at_event.specs.declared.frame.FrameFault.{FrameFault}
 use Rattle.at_event.specs.declared.head.Head.{Head}
@@ -21,7 +21,7 @@ use Rattle.account_state.specs.declared.repo.Repo.{Repo}
 use Rattle.commit_check.specs.Step.{StopsAt, empty_root}
 use Rattle.relay_core.specs.Decide.{Checks}
 use Rattle.relay_core.specs.Opening.{IsHeadOf, OpensRight}
-use Rattle.relay_core.specs.Runs.{IsMade, Run}
+use Rattle.relay_core.specs.Runs.{IsMadeBy, Run}
 use Rattle.relay_core.specs.Table.{refusal_in}
 use Rattle.relay_law.specs.Chains.{chains}
 use Rattle.relay_law.specs.Right.{LinksRight}
@@ -70,17 +70,17 @@ linked checks right = linked_by checks right (checks.links covered Repo.Missing)
 -- ---- a message behind the greatest number
 
 abbrev message : List ℕ
-message = message_of EventKind.Commit covered.payload
+message = event_message EventKind.Commit covered.payload
 
 message_bytes : list_all (λ c. ltb c 256) message ≡ true
-unfolding message_of info_of tail_of groups
+unfolding event_message info_of tail_of groups
 message_bytes = refl
 
 abbrev pub row : Row
 row = accepted 1 NUMBERS (out_of covered NUMBERS) its_head
 
-pub made : (checks : Checks) → OpensRight checks → LinksRight checks → IsMade checks (final ∷ []) (host, Ok (Frame.Event covered)) row
-unfolding account last_seq out_length out_of message_of info_of tail_of groups
+pub made : (checks : Checks) → OpensRight checks → LinksRight checks → IsMadeBy checks (final ∷ []) (host, Ok (Frame.Event covered)) row
+unfolding account last_seq out_length out_of event_message info_of tail_of groups
 made checks opens links = rw (opened checks opens, linked checks links) refl
 
 covered_run : (checks : Checks) → OpensRight checks → LinksRight checks → Run checks (final ∷ []) ((host, Ok (Frame.Event covered)) ∷ []) (row ∷ [])

@@ -6,7 +6,7 @@ use Rattle.at_event.specs.declared.head.Head.{Head}
 use Rattle.relay_row.specs.Folds.{cursor, last_seq, seq_in}
 use Rattle.relay_row.specs.Journal.{IsJournal}
 use Rattle.relay_row.specs.Rules.{names_did, names_host}
-use Rattle.relay_row.specs.declared.limits.TheConstants.{NUMBERS}
+use Rattle.at_cid.specs.declared.limits.TheConstants.{NUMBERS}
 use Rattle.relay_row.specs.declared.row.Row.{Row}
 use Rattle.relay_row.specs.declared.taken.Taken.{Taken}
 use Rattle.account_state.specs.Folds.{account}
@@ -38,11 +38,11 @@ pub record OperatedMayBeIllFormed : Type 0 where
   -- where no number is left
   pub number : ((J : List Row) (did : List ℕ) (down : Bool) (time : List ℕ) (moment : ℕ) → IsJournal J → names_did did ≡ true → IsShortText time → moment < NUMBERS → IsJournal (J ++ word J did down time moment ∷ [])) → ⊥
 
--- the row of a repository that was fetched at an operator's word
+-- the row of a repository that was fetched at an operator's command
 abbrev pub repository : List Row → List ℕ → List ℕ → Head → ℕ → List ℕ → ℕ → Row
 repository J did time head records block moment = Row.Synced did (whole_under did time head records block (last_seq J + 1)) (Some moment)
 
--- The row of a repository that was fetched at an operator's word may be ill formed, or break the order ..
+-- The row of a repository that was fetched at an operator's command may be ill formed, or break the order ..
 pub record SyncedMayBeIllFormed : Type 0 where
   -- where there was no journal
   pub journal : ((J : List Row) (did time : List ℕ) (head : Head) (records : ℕ) (block : List ℕ) (moment : ℕ) → names_did did ≡ true → IsFormedFound (last_seq J) did time (found head records block) → moment < NUMBERS → last_seq J + 1 < NUMBERS → IsJournal (J ++ repository J did time head records block moment ∷ [])) → ⊥

@@ -56,7 +56,7 @@ pub record StoresMayBeUnsound : Type 0 where
   -- where the rows are of no run
   pub run : ((J : List Row) (sent : List (List ℕ × List ℕ)) (rows : List Row) → AllByRecursion (λ m. IsBytes m.1) sent → IsJournal (J ++ rows) → IsSound J → IsSound (J ++ rows)) → ⊥
 
--- What operators' words send out may read as something else ..
+-- What operators' commands send out may read as something else ..
 pub record OperatorsMayBeUnfaithful : Type 0 where
   -- of an account that is taken down or restored, where the time isn't short
   pub operated_time : ((J : List Row) (did : List ℕ) (down : Bool) (time : List ℕ) (moment : Option ℕ) → IsJournal (J ++ Row.Operated (operated_as (last_seq J) (account did J) did down time moment) ∷ [])

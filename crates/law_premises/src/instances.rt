@@ -82,7 +82,7 @@ pub fn decided_may_be_ill_formed()
     ensures { DecidedMayBeIllFormed }
 {}
 
-/// Without one of its premises, what operators' words send out may read as something else.
+/// Without one of its premises, what operators' commands send out may read as something else.
 pub fn operators_may_be_unfaithful()
     ensures { OperatorsMayBeUnfaithful }
 {}

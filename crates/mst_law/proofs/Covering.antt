@@ -19,8 +19,8 @@ use Rattle.mst_list.proofs.Places.{AllBelow, after_placed, before_placed, below_
 use Rattle.mst_list.proofs.Puts.{visible}
 use Rattle.mst_list.proofs.Replay.{all_below_up}
 use Rattle.mst_list.proofs.Undo.{AllLeft, all_agree, all_left, around, map_put, undone_by_play, value_filled_at}
-use Rattle.mst_node.specs.Covers.{AreDistinct, AreUnderNodeLinks, HoldsCover, IsInCoverOf, IsOnWay, IsOnWayTo, IsThere, bound_at, first_key, last_key, part_spelled, right_spelled, spelled}
-use Rattle.mst_node.specs.Trees.{AllThere, Distinct, Holds, HolesUnder, IsAmong, IsView, first_part, nodes, nodes_at, root, spell, top_layer}
+use Rattle.mst_node.specs.Covers.{AreDistinct, AreUnderNodeLinks, HoldsCover, IsInCoverOf, IsOnWay, IsOnWayTo, IsThere, bound_at, first_key, last_key, part_encoded, right_encoded, encoded_blocks}
+use Rattle.mst_node.specs.Trees.{AllThere, Distinct, HoldsNode, HolesUnder, IsAmong, IsView, first_part, nodes, nodes_at, root, encode_layer, top_layer}
 use Rattle.mst_node.proofs.Filling.{one_root, top_alike}
 use Rattle.mst_node.proofs.Layers.{keys_under_top, top_at_most}
 use Rattle.mst_law.specs.Laws.{IsCoveredBy, IsStep}
@@ -28,24 +28,24 @@ use Rattle.mst_law.proofs.Known.{HolesKnown, no_gap_hole, no_hole_next, node_kno
 use Rattle.mst_law.proofs.Pruned.{HasKey, above_of, has_first, has_last, node_pruned, parts_pruned, pruned_node}
 
 -- a list that is filled by an ascending map
-above_of_filled : (j : List ℕ) (F s : List Item) → Filled Holds F s → AllAbove j s → AllAbove j F
+above_of_filled : (j : List ℕ) (F s : List Item) → Filled HoldsNode F s → AllAbove j s → AllAbove j F
 above_of_filled j [] s f a = tt
 above_of_filled j (Key k v ∷ F) s f a = let R : List Item → Type 0 = λ x. AllAbove j x in let a' = subst R f.1 a in (a'.0, above_of_filled j F f.0 f.2 a'.1)
 above_of_filled j (Hole l c ∷ F) s f a = let R : List Item → Type 0 = λ x. AllAbove j x in above_of_filled j F f.1 f.4 (all_above_parts j f.0 f.1 (subst R f.2 a)).1
 
-filled_ascends : (F s : List Item) → Filled Holds F s → Ascends s → Ascends F
+filled_ascends : (F s : List Item) → Filled HoldsNode F s → Ascends s → Ascends F
 filled_ascends [] s f u = tt
 filled_ascends (Key k v ∷ F) s f u = let R : List Item → Type 0 = λ x. Ascends x in let u' = subst R f.1 u in (above_of_filled k F f.0 f.2 u'.0, filled_ascends F f.0 f.2 u'.1)
 filled_ascends (Hole l c ∷ F) s f u = let R : List Item → Type 0 = λ x. Ascends x in filled_ascends F f.1 f.4 (is_below_parts f.0 f.1 (subst R f.2 u)).2
 
-filled_formed : (F s : List Item) → Filled Holds F s → AreFormed s → AreFormed F
+filled_formed : (F s : List Item) → Filled HoldsNode F s → AreFormed s → AreFormed F
 filled_formed [] s f u = tt
 filled_formed (Key k v ∷ F) s f u = let R : List Item → Type 0 = λ x. AreFormed x in let u' = subst R f.1 u in (u'.0, filled_formed F f.0 f.2 u'.1)
 filled_formed (Hole l c ∷ F) s f u =
     let R : List Item → Type 0 = λ x. AreFormed x in let L : List ℕ → Type 0 = λ x. IsNodeLink x in
-    (subst L f.3.spelled (cid_is_link (spell l f.0)), filled_formed F f.1 f.4 (formed_parts f.0 f.1 (subst R f.2 u)).1)
+    (subst L f.3.encoded (cid_is_link (encode_layer l f.0)), filled_formed F f.1 f.4 (formed_parts f.0 f.1 (subst R f.2 u)).1)
 
-not_alone : (F t : List Item) → Filled Holds F t → HolesUnder (top_layer t) F → NoLoneHole F
+not_alone : (F t : List Item) → Filled HoldsNode F t → HolesUnder (top_layer t) F → NoLoneHole F
 not_alone [] t f h = tt
 not_alone (Key k v ∷ F) t f h = tt
 not_alone (Hole l c ∷ (x ∷ F)) t f h = tt
@@ -99,7 +99,7 @@ last_joined (Hole l c ∷ []) (y ∷ t) p e = e
 last_joined (Key j v ∷ (y ∷ g)) t p e = last_joined (y ∷ g) t p e
 last_joined (Hole l c ∷ (y ∷ g)) t p e = last_joined (y ∷ g) t p e
 
-last_hidden : (A a : List Item) → Filled Holds A a → EndsInHole A → Ascends a → LastHidden A a
+last_hidden : (A a : List Item) → Filled HoldsNode A a → EndsInHole A → Ascends a → LastHidden A a
 last_hidden [] a f ends u = absurd ends
 last_hidden (Key j v ∷ []) a f ends u = absurd ends
 last_hidden (Hole l c ∷ []) a f ends u =
@@ -126,7 +126,7 @@ record FirstHidden (A a : List Item) : Type 0 where
   inside : HasKey key a
   hidden : value_at key A ≡ None
 
-first_hidden : (A a : List Item) → Filled Holds A a → StartsWithHole A → Ascends a → FirstHidden A a
+first_hidden : (A a : List Item) → Filled HoldsNode A a → StartsWithHole A → Ascends a → FirstHidden A a
 first_hidden [] a f starts u = absurd starts
 first_hidden (Key j v ∷ A) a f starts u = absurd starts
 first_hidden (Hole l c ∷ A) a f starts u = go f.0 f.3.is_map.keys_only f.3.some f.2
@@ -152,18 +152,18 @@ abbrev HoldsWayTo : FinMap key_cmp (List ℕ) → List Item → Option (List ℕ
 HoldsWayTo B t o = (b : List ℕ) → IsOnWayTo t o b → IsThere B b
 
 -- what is known of a view
-module _ (B : FinMap key_cmp (List ℕ)) (F t : List Item) (w : IsWellLaid F) (mt : IsMap t) (f : Filled Holds F t) (known : HolesKnown B (spelled t) None None F) where
+module _ (B : FinMap key_cmp (List ℕ)) (F t : List Item) (w : IsWellLaid F) (mt : IsMap t) (f : Filled HoldsNode F t) (known : HolesKnown B (encoded_blocks t) None None F) where
   gap_clear : (k : List ℕ) → HoldsWay B t k → value_at k F ≡ None → IsClear k F
-  gap_clear k held none = record { no_hole_before = no_gap_hole B (spelled t) k None None F (λ e i over under. held e.block (e, i, over, under, refl)) known tt tt none; no_hole_after = no_hole_next k F none }
+  gap_clear k held none = record { no_hole_before = no_gap_hole B (encoded_blocks t) k None None F (λ e i over under. held e.block (e, i, over, under, refl)) known tt tt none; no_hole_after = no_hole_next k F none }
 
   -- a key of the map whose way is held is visible
   seen : (k : List ℕ) → HoldsWay B t k → value_at k t ≢ None → value_at k F ≢ None
-  seen k held some none = some (value_filled_at Holds k None F t (around Holds F t k None none (λ e. gap_clear k held none) w.ascends w.neighbours mt f))
+  seen k held some none = some (value_filled_at HoldsNode k None F t (around HoldsNode F t k None none (λ e. gap_clear k held none) w.ascends w.neighbours mt f))
 
   -- beside a created key stands no hole
   create_clear : (k v : List ℕ) → value_at k F ≡ Some v → HoldsWayTo B t (last_key (before k t)) × HoldsWayTo B t (first_key (after k t)) → IsClear k F
   create_clear k v at ways =
-      let r = around Holds F t k (Some v) at (λ e. absurd (cc)) w.ascends w.neighbours mt f in
+      let r = around HoldsNode F t k (Some v) at (λ e. absurd (cc)) w.ascends w.neighbours mt f in
       let a = r.first in let b = r.last in
       let front : before k t ≡ a = ap (before k) r.is ∙ before_placed k (Some v) a b r.low r.high in
       let back : after k t ≡ b = ap (after k) r.is ∙ after_placed k (Some v) a b r.low r.high in
@@ -212,19 +212,19 @@ module _ (B : FinMap key_cmp (List ℕ)) (F t : List Item) (w : IsWellLaid F) (m
 pub record HasView (B : FinMap key_cmp (List ℕ)) (t : List Item) : Type 0 where
   pub list : List Item
   pub is_view : IsView B (root t) list
-  pub filled : Filled Holds list t
-  pub known : HolesKnown B (spelled t) None None list
+  pub filled : Filled HoldsNode list t
+  pub known : HolesKnown B (encoded_blocks t) None None list
 
-pub has_view : (B : FinMap key_cmp (List ℕ)) (t : List Item) → IsMap t → AreUnderNodeLinks B → AreDistinct B t → IsThere B (spell (top_layer t) t) → HasView B t
+pub has_view : (B : FinMap key_cmp (List ℕ)) (t : List Item) → IsMap t → AreUnderNodeLinks B → AreDistinct B t → IsThere B (encode_layer (top_layer t) t) → HasView B t
 has_view B t m under distinct at =
-    let S = nodes t in let T = spelled t in let h = top_layer t in
+    let S = nodes t in let T = encoded_blocks t in let h = top_layer t in
     let d : Distinct S = λ a b i j e. distinct a b (inr i) (inr j) e in
     let alike : (c b a : List ℕ) → IsNodeLink c → map.get B c ≡ Some b → IsAmong a S → sha256 b ≡ sha256 a → b ≡ a = λ c b a n g i e. distinct b a (inl (c, n, g)) (inr i) e in
     let F = pruned_node S d B under alike h t in
     let N = node_pruned S d B under alike h (parts_pruned S d B under alike h) t m (keys_under_top t h (omega arith)) (λ b i. i) at in
     let K = node_known S d B under alike T h (parts_known S d B under alike T h) None None t m.keys_only
-    (λ e i. inr (one_first e (part_spelled h None (bound_at h None t) (first_part h t)) (right_spelled (part_spelled h) h None t) i))
-    (λ e i. inr (one_last e (part_spelled h None (bound_at h None t) (first_part h t)) (right_spelled (part_spelled h) h None t) i)) in
+    (λ e i. inr (one_first e (part_encoded h None (bound_at h None t) (first_part h t)) (right_encoded (part_encoded h) h None t) i))
+    (λ e i. inr (one_last e (part_encoded h None (bound_at h None t) (first_part h t)) (right_encoded (part_encoded h) h None t) i)) in
     let w : IsWellLaid F = record { formed = filled_formed F t N.filled m.formed; ascends = filled_ascends F t N.filled m.ascends; holes_differ = N.differ; neighbours = N.near; no_lone_hole = not_alone F t N.filled N.holes } in
     let top = top_alike F t w N.filled in
     let W : ℕ → Type 0 = λ n. AllThere B (nodes_at n F) in
@@ -234,13 +234,13 @@ has_view B t m under distinct at =
 pub covered : (B : FinMap key_cmp (List ℕ)) (s t : List Item) (op : Op) (ops : List Op) → IsMap s → AreFormedOps (op ∷ ops) → AreApart (op ∷ ops) → Plays s (op ∷ ops) t → HoldsCover B t (op ∷ ops) → AreUnderNodeLinks B → AreDistinct B t → (F : List Item) × IsCoveredBy B s t (op ∷ ops) F
 covered B s t op ops m forms apart plays cover under distinct =
     let mt = map_played (op ∷ ops) s t forms m plays in
-    let V = has_view B t mt under distinct (cover (spell (top_layer t) t) (inl (inl (record { low = None; high = None; block = spell (top_layer t) t }, inl refl, tt, tt, refl)))) in
+    let V = has_view B t mt under distinct (cover (encode_layer (top_layer t) t) (inl (inl (record { low = None; high = None; block = encode_layer (top_layer t) t }, inl refl, tt, tt, refl)))) in
     let left = all_left (op ∷ ops) s t forms apart m plays in
     let guard = all_guarded B V.list t V.is_view.well_laid mt V.filled V.known (op ∷ ops) cover left in
-    let back = undone_by_play Holds V.list s t (op ∷ ops) V.is_view.well_laid forms apart guard m mt plays V.filled in
+    let back = undone_by_play HoldsNode V.list s t (op ∷ ops) V.is_view.well_laid forms apart guard m mt plays V.filled in
     let step : IsStep B (root s) (root t) (op ∷ ops) V.list = record {
       is_view = V.is_view;
-      agrees = all_agree Holds V.list t (op ∷ ops) V.is_view.well_laid mt V.filled guard left;
+      agrees = all_agree HoldsNode V.list t (op ∷ ops) V.is_view.well_laid mt V.filled guard left;
       guarded = guard;
       leads_back = sym (one_root (undone V.list (op ∷ ops)) s back.0 back.1);
     } in

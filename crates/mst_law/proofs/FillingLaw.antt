@@ -6,11 +6,11 @@ use Rattle.mst_list.specs.Height.{height}
 use Rattle.mst_list.specs.Lists.{AreFormed, IsMap, IsWellLaid, KeysOnly, NoLoneHole}
 use Rattle.mst_list.specs.declared.item.Item.{Item}
 use Rattle.mst_list.specs.declared.item.Item.TheVariants.{Hole, Key}
-use Rattle.mst_node.specs.Trees.{Distinct, Holds, KeysUnder, entries_at, first_part, nodes, nodes_at, part_link, root, spell, top_layer}
+use Rattle.mst_node.specs.Trees.{Distinct, HoldsNode, KeysUnder, entries_at, first_part, nodes, nodes_at, part_link, root, encode_layer, top_layer}
 use Rattle.mst_node.specs.declared.entry.Entry.{Entry}
 use Rattle.mst_node.proofs.Layers.{holes_within, keys_under_top, map_near}
 use Rattle.mst_node.proofs.Links.{cid_same, entries_formed, first_formed, link_formed}
-use Rattle.mst_node.proofs.Spelling.{entry_of, node_same}
+use Rattle.mst_node.proofs.Encoding.{entry_of, node_same}
 use Rattle.mst_node.proofs.Telling.{IsWithin, among_first, among_last, links_tell, node_told}
 use Rattle.mst_node.proofs.Tops.{has_top}
 
@@ -19,17 +19,17 @@ map_lone (Key j v) s k = tt
 map_lone (Hole l c) s k = absurd k
 
 -- the top entries of two lists whose top blocks are one
-entries_told : (U s : List Item) → AreFormed U → AreFormed s → spell (top_layer s) s ≡ spell (top_layer U) U
+entries_told : (U s : List Item) → AreFormed U → AreFormed s → encode_layer (top_layer s) s ≡ encode_layer (top_layer U) U
     → entries_at (part_link (top_layer s)) (top_layer s) s ≡ entries_at (part_link (top_layer U)) (top_layer U) U
 entries_told U s fu fs e =
     let h = top_layer U in let n = top_layer s in
     (node_same (part_link n (first_part n s)) (part_link h (first_part h U)) (entries_at (part_link n) n s) (entries_at (part_link h) h U)
     (link_formed n (first_part n s) (first_formed n s fs)) (link_formed h (first_part h U) (first_formed h U fu)) (entries_formed n n s fs) (entries_formed h h U fu) e).1
 
-pub filling_law : (U s : List Item) → IsWellLaid U → IsMap s → root s ≡ root U → Distinct (nodes s ++ nodes U) → Filled Holds U s
-filling_law U s w m e distinct = go U s w m e distinct (distinct (spell (top_layer s) s) (spell (top_layer U) U) (among_first (spell (top_layer s) s) (nodes s) (nodes U) (inl refl)) (among_last (spell (top_layer U) U) (nodes s) (nodes U) (inl refl)) (cid_same (spell (top_layer s) s) (spell (top_layer U) U) e))
+pub filling_law : (U s : List Item) → IsWellLaid U → IsMap s → root s ≡ root U → Distinct (nodes s ++ nodes U) → Filled HoldsNode U s
+filling_law U s w m e distinct = go U s w m e distinct (distinct (encode_layer (top_layer s) s) (encode_layer (top_layer U) U) (among_first (encode_layer (top_layer s) s) (nodes s) (nodes U) (inl refl)) (among_last (encode_layer (top_layer U) U) (nodes s) (nodes U) (inl refl)) (cid_same (encode_layer (top_layer s) s) (encode_layer (top_layer U) U) e))
   where
-    go : (U s : List Item) → IsWellLaid U → IsMap s → root s ≡ root U → Distinct (nodes s ++ nodes U) → spell (top_layer s) s ≡ spell (top_layer U) U → Filled Holds U s
+    go : (U s : List Item) → IsWellLaid U → IsMap s → root s ≡ root U → Distinct (nodes s ++ nodes U) → encode_layer (top_layer s) s ≡ encode_layer (top_layer U) U → Filled HoldsNode U s
     go [] [] w m e distinct block = refl
     go [] (x ∷ s) w m e distinct block =
         let told = entries_told [] (x ∷ s) tt m.formed block in
@@ -48,7 +48,7 @@ filling_law U s w m e distinct = go U s w m e distinct (distinct (spell (top_lay
         let h = top_layer (x ∷ U) in
         let K : ℕ → Type 0 = λ n. KeysUnder (suc n) (y ∷ s) in
         let W : ℕ → Type 0 = λ n. IsWithin (nodes_at n (y ∷ s)) (nodes (y ∷ s) ++ nodes (x ∷ U)) in
-        let C : ℕ → Type 0 = λ n. cid (spell n (y ∷ s)) ≡ cid (spell h (x ∷ U)) in
+        let C : ℕ → Type 0 = λ n. cid (encode_layer n (y ∷ s)) ≡ cid (encode_layer h (x ∷ U)) in
         let keys = keys_under_top (x ∷ U) h (omega arith) in
         node_told (nodes (y ∷ s) ++ nodes (x ∷ U)) distinct h (links_tell (nodes (y ∷ s) ++ nodes (x ∷ U)) distinct h) (x ∷ U) (y ∷ s) keys (holes_within h (x ∷ U) keys w.neighbours w.no_lone_hole) w.neighbours w.formed m
         (subst K top (keys_under_top (y ∷ s) (top_layer (y ∷ s)) (omega arith)))

@@ -12,21 +12,21 @@ use Rattle.mst_list.specs.Lists.{KeysOnly}
 use Rattle.mst_list.specs.declared.item.Item.{Item}
 use Rattle.mst_list.specs.declared.item.Item.TheVariants.{Hole, Key}
 use Rattle.mst_list.proofs.Puts.{visible}
-use Rattle.mst_node.specs.Covers.{AreUnderNodeLinks, IsOneOf, IsOver, IsThere, IsUnder, Spelled, bound_at, part_spelled, right_spelled, spelled}
-use Rattle.mst_node.specs.Trees.{Distinct, IsAmong, first_part, spell}
+use Rattle.mst_node.specs.Covers.{AreUnderNodeLinks, IsOneOf, IsOver, IsThere, IsUnder, Encoded, bound_at, part_encoded, right_encoded, encoded_blocks}
+use Rattle.mst_node.specs.Trees.{Distinct, IsAmong, first_part, encode_layer}
 use Rattle.mst_law.proofs.Pruned.{pruned_node, pruned_part, pruned_rights}
 
-pub one_first : (e : Spelled) (X Y : List Spelled) → IsOneOf e X → IsOneOf e (X ++ Y)
+pub one_first : (e : Encoded) (X Y : List Encoded) → IsOneOf e X → IsOneOf e (X ++ Y)
 one_first e (x ∷ X) Y (inl h) = inl h
 one_first e (x ∷ X) Y (inr h) = inr (one_first e X Y h)
 one_first e [] Y h = absurd h
 
-pub one_last : (e : Spelled) (X Y : List Spelled) → IsOneOf e Y → IsOneOf e (X ++ Y)
+pub one_last : (e : Encoded) (X Y : List Encoded) → IsOneOf e Y → IsOneOf e (X ++ Y)
 one_last e [] Y h = h
 one_last e (x ∷ X) Y h = inr (one_last e X Y h)
 
-abbrev pub IsPartOf : List Spelled → List Spelled → Type 0
-IsPartOf X T = (e : Spelled) → IsOneOf e X → IsOneOf e T
+abbrev pub IsPartOf : List Encoded → List Encoded → Type 0
+IsPartOf X T = (e : Encoded) → IsOneOf e X → IsOneOf e T
 
 -- the first key, or else the bound
 abbrev pub next_key : Option (List ℕ) → List Item → Option (List ℕ)
@@ -34,13 +34,13 @@ next_key high [] = high
 next_key high (Key k v ∷ F) = Some k
 next_key high (Hole l c ∷ F) = next_key high F
 
-module _ (B : FinMap key_cmp (List ℕ)) (T : List Spelled) where
+module _ (B : FinMap key_cmp (List ℕ)) (T : List Encoded) where
   -- the link is that of a part between the bounds, whose block isn't there
   pub record IsMissing (low high : Option (List ℕ)) (c : List ℕ) : Type 0 where
     pub block : List ℕ
     pub link : c ≡ cid block
     pub missing : map.get B c ≡ None
-    pub spelled : IsOneOf (record { low = low; high = high; block = block }) T
+    pub encoded : IsOneOf (record { low = low; high = high; block = block }) T
 
   abbrev pub HolesKnown : Option (List ℕ) → Option (List ℕ) → List Item → Type 0
   HolesKnown low high [] = Unit {0}
@@ -61,7 +61,7 @@ module _ (B : FinMap key_cmp (List ℕ)) (T : List Spelled) where
 
   -- all that holds of k's way
   abbrev pub IsHeld : List ℕ → Type 0
-  IsHeld k = (e : Spelled) → IsOneOf e T → IsOver e.low k → IsUnder k e.high → IsThere B e.block
+  IsHeld k = (e : Encoded) → IsOneOf e T → IsOver e.low k → IsUnder k e.high → IsThere B e.block
 
   next_above : (k : List ℕ) (high : Option (List ℕ)) (F : List Item) → IsUnder k high → before k F ≡ [] → value_at k F ≡ None → IsUnder k (next_key high F)
   next_above k high [] u b v = u
@@ -85,7 +85,7 @@ module _ (B : FinMap key_cmp (List ℕ)) (T : List Spelled) where
       go : (A : List Item) → before k F ≡ A → EndsInHole (Hole l c ∷ A) → (EndsInHole (before k F) → ⊥) → ⊥
       go [] e h more =
           let m = known.0 in
-          let there = held (record { low = low; high = next_key high F; block = m.block }) m.spelled over (next_above k high F under e none) in
+          let there = held (record { low = low; high = next_key high F; block = m.block }) m.encoded over (next_above k high F under e none) in
           let same : map.get B c ≡ map.get B (cid m.block) = ap (map.get B) m.link in
           let gone = m.missing in absurd (cc)
       go (y ∷ A) e h more = let R : List Item → Type 0 = λ x. EndsInHole x in more (subst R (sym e) (ends_more (Hole l c) y A h))
@@ -112,7 +112,7 @@ no_hole_next k (Key j v ∷ F) n h =
     ] n h
 
 module _ (S : List (List ℕ)) (distinct : Distinct S) (B : FinMap key_cmp (List ℕ)) (under : AreUnderNodeLinks B)
-    (alike : (c b a : List ℕ) → IsNodeLink c → map.get B c ≡ Some b → IsAmong a S → sha256 b ≡ sha256 a → b ≡ a) (T : List Spelled) where
+    (alike : (c b a : List ℕ) → IsNodeLink c → map.get B c ≡ Some b → IsAmong a S → sha256 b ≡ sha256 a → b ≡ a) (T : List Encoded) where
   abbrev part : ℕ → List Item → List Item
   part h P = pruned_part S distinct B under alike h P
 
@@ -120,7 +120,7 @@ module _ (S : List (List ℕ)) (distinct : Distinct S) (B : FinMap key_cmp (List
   rights h P = pruned_rights S distinct B under alike (pruned_part S distinct B under alike h) h P
 
   abbrev PartsKnown : ℕ → Type 0
-  PartsKnown h = (low high : Option (List ℕ)) (P : List Item) → KeysOnly P → IsPartOf (part_spelled h low high P) T → HolesKnown B T low high (part h P)
+  PartsKnown h = (low high : Option (List ℕ)) (P : List Item) → KeysOnly P → IsPartOf (part_encoded h low high P) T → HolesKnown B T low high (part h P)
 
   next_rights : (h : ℕ) (high : Option (List ℕ)) (P : List Item) → next_key high (rights h P) ≡ bound_at h high P
   next_rights h high [] = refl
@@ -136,11 +136,11 @@ module _ (S : List (List ℕ)) (distinct : Distinct S) (B : FinMap key_cmp (List
   first_keys_only h (Hole l c ∷ P) k = absurd k
   first_keys_only h (Key j v ∷ P) k = elim (eqb (height j) h) as (λ b. KeysOnly (cond b [] (Key j v ∷ first_part h P))) [ true ↦ tt | false ↦ first_keys_only h P k ]
 
-  rights_known : (h : ℕ) → PartsKnown h → (high : Option (List ℕ)) (P : List Item) → KeysOnly P → IsPartOf (right_spelled (part_spelled h) h high P) T → (low : Option (List ℕ)) → HolesKnown B T low high (rights h P)
+  rights_known : (h : ℕ) → PartsKnown h → (high : Option (List ℕ)) (P : List Item) → KeysOnly P → IsPartOf (right_encoded (part_encoded h) h high P) T → (low : Option (List ℕ)) → HolesKnown B T low high (rights h P)
   rights_known h ih high [] k w low = tt
   rights_known h ih high (Hole l c ∷ P) k w low = absurd k
   rights_known h ih high (Key j v ∷ P) k w low =
-      let X = part_spelled h (Some j) (bound_at h high P) (first_part h P) in let Y = right_spelled (part_spelled h) h high P in
+      let X = part_encoded h (Some j) (bound_at h high P) (first_part h P) in let Y = right_encoded (part_encoded h) h high P in
       let W : Bool → Type 0 = λ b. IsPartOf (cond b (X ++ Y) Y) T in
       elim (eqb (height j) h) as (λ b. eqb (height j) h ≡ b → HolesKnown B T low high (cond b (Key j v ∷ (part h (first_part h P) ++ rights h P)) (rights h P))) [
         | true ↦ λ e.
@@ -153,7 +153,7 @@ module _ (S : List (List ℕ)) (distinct : Distinct S) (B : FinMap key_cmp (List
       ] refl
 
   pub node_known : (h : ℕ) → PartsKnown h → (low high : Option (List ℕ)) (P : List Item) → KeysOnly P
-      → IsPartOf (part_spelled h low (bound_at h high P) (first_part h P)) T → IsPartOf (right_spelled (part_spelled h) h high P) T → HolesKnown B T low high (pruned_node S distinct B under alike h P)
+      → IsPartOf (part_encoded h low (bound_at h high P) (first_part h P)) T → IsPartOf (right_encoded (part_encoded h) h high P) T → HolesKnown B T low high (pruned_node S distinct B under alike h P)
   node_known h ih low high P k w u =
       let R : Option (List ℕ) → Type 0 = λ n. HolesKnown B T low n (part h (first_part h P)) in
       known_joined B T low high (part h (first_part h P)) (rights h P)
@@ -165,13 +165,13 @@ module _ (S : List (List ℕ)) (distinct : Distinct S) (B : FinMap key_cmp (List
   none_of (Some b) e = absurd (cc)
 
   pub parts_known : (h : ℕ) → PartsKnown h
-  unfolding pruned_part part_spelled
+  unfolding pruned_part part_encoded
   parts_known zero low high P k w = tt
   parts_known (suc h) low high [] k w = tt
   parts_known (suc h) low high (x ∷ P) k w =
-      let c = cid (spell h (x ∷ P)) in
-      let X = part_spelled h low (bound_at h high (x ∷ P)) (first_part h (x ∷ P)) in let Y = right_spelled (part_spelled h) h high (x ∷ P) in
+      let c = cid (encode_layer h (x ∷ P)) in
+      let X = part_encoded h low (bound_at h high (x ∷ P)) (first_part h (x ∷ P)) in let Y = right_encoded (part_encoded h) h high (x ∷ P) in
       elim (is_some (map.get B c)) as (λ b. is_some (map.get B c) ≡ b → HolesKnown B T low high (cond b (pruned_node S distinct B under alike h (x ∷ P)) (Hole h c ∷ []))) [
         | true ↦ λ e. node_known h (parts_known h) low high (x ∷ P) k (λ y i. w y (inr (one_first y X Y i))) (λ y i. w y (inr (one_last y X Y i)))
-        | false ↦ λ e. (record { block = spell h (x ∷ P); link = refl; missing = none_of (map.get B c) e; spelled = w (record { low = low; high = high; block = spell h (x ∷ P) }) (inl refl) }, tt)
+        | false ↦ λ e. (record { block = encode_layer h (x ∷ P); link = refl; missing = none_of (map.get B c) e; encoded = w (record { low = low; high = high; block = encode_layer h (x ∷ P) }) (inl refl) }, tt)
       ] refl

@@ -7,7 +7,7 @@ use Rattle.mst_list.specs.declared.op.Op.{Op}
 use Rattle.mst_list.specs.Lists.{IsMap}
 use Rattle.mst_list.specs.Edits.{undone, Plays, AreApart, AreFormedOps}
 use Rattle.mst_list.proofs.Laid.{kept, replayed}
-use Rattle.mst_node.specs.Trees.{root, nodes, Distinct, Holds}
+use Rattle.mst_node.specs.Trees.{root, nodes, Distinct, HoldsNode}
 use Rattle.mst_node.specs.Covers.{HoldsCover, AreUnderNodeLinks, AreDistinct}
 use Rattle.mst_node.proofs.Filling.{one_root}
 use Rattle.mst_law.specs.Laws.{IsCoveredBy, IsStep}
@@ -29,5 +29,5 @@ pub sound_link : (B : FinMap key_cmp (List ℕ)) (former later : List ℕ) (ops 
 sound_link B former later ops F s link forms apart m e d =
     let v = link.is_view in
     let w = (kept F ops v.well_laid forms apart link.agrees link.guarded).well_laid in
-    let R = replayed Holds F s ops v.well_laid apart link.agrees link.guarded m (filling_law (undone F ops) s w m (e ∙ sym link.leads_back) d) in
+    let R = replayed HoldsNode F s ops v.well_laid apart link.agrees link.guarded m (filling_law (undone F ops) s w m (e ∙ sym link.leads_back) d) in
     (R.result, R.is_map, R.plays, one_root F R.result v.well_laid R.fills ∙ v.root_is)

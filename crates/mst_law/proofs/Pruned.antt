@@ -13,8 +13,8 @@ use Rattle.mst_list.specs.Lists.{AllAbove, Ascends, HolesDiffer, IsMap, Neighbou
 use Rattle.mst_list.specs.declared.item.Item.{Item}
 use Rattle.mst_list.specs.declared.item.Item.TheVariants.{Hole, Key}
 use Rattle.mst_list.proofs.Fills.{IsBelow, filled_join, is_below_parts}
-use Rattle.mst_node.specs.Covers.{AreUnderNodeLinks, IsThere, spelled}
-use Rattle.mst_node.specs.Trees.{AllThere, Distinct, Holds, HolesUnder, IsAmong, KeysUnder, NoHoleThere, first_part, nodes_at, part_nodes, right_nodes, spell}
+use Rattle.mst_node.specs.Covers.{AreUnderNodeLinks, IsThere, encoded_blocks}
+use Rattle.mst_node.specs.Trees.{AllThere, Distinct, HoldsNode, HolesUnder, IsAmong, KeysUnder, NoHoleThere, first_part, nodes_at, part_nodes, right_nodes, encode_layer}
 use Rattle.mst_node.proofs.Cuts.{first_map}
 use Rattle.mst_node.proofs.Filling.{links_alike, node_filled}
 use Rattle.mst_node.proofs.Joins.{StartsAt, first_joined, holes_joined, holes_more, lead_joined, lead_part, missing_joined, near_joined, rest_part, rights_joined, there_joined, there_part, two_parts}
@@ -24,7 +24,7 @@ use Rattle.mst_node.proofs.Once.{one_map}
 use Rattle.mst_node.proofs.Telling.{IsWithin, among_first, among_last, keys_up_to}
 
 -- the keys of a list are those of what fills it
-pub keys_of_filled : (h : ℕ) (F P : List Item) → Filled Holds F P → KeysUnder h P → KeysUnder h F
+pub keys_of_filled : (h : ℕ) (F P : List Item) → Filled HoldsNode F P → KeysUnder h P → KeysUnder h F
 keys_of_filled h [] P f k = tt
 keys_of_filled h (Key j v ∷ F) P f k =
     let R : List Item → Type 0 = λ x. KeysUnder h x in let k' = subst R f.1 k in (k'.0, keys_of_filled h F f.0 f.2 k'.1)
@@ -84,8 +84,8 @@ module _ (S : List (List ℕ)) (distinct : Distinct S) (B : FinMap key_cmp (List
   unfoldable pub pruned_part : ℕ → List Item → List Item
   pruned_part zero P = []
   pruned_part (suc h) [] = []
-  pruned_part (suc h) (x ∷ P) = cond (is_some (map.get B (cid (spell h (x ∷ P)))))
-      (pruned_part h (first_part h (x ∷ P)) ++ pruned_rights (pruned_part h) h (x ∷ P)) (Hole h (cid (spell h (x ∷ P))) ∷ [])
+  pruned_part (suc h) (x ∷ P) = cond (is_some (map.get B (cid (encode_layer h (x ∷ P)))))
+      (pruned_part h (first_part h (x ∷ P)) ++ pruned_rights (pruned_part h) h (x ∷ P)) (Hole h (cid (encode_layer h (x ∷ P))) ∷ [])
 
   abbrev pub pruned_node : ℕ → List Item → List Item
   pruned_node h P = pruned_part h (first_part h P) ++ pruned_rights (pruned_part h) h P
@@ -99,7 +99,7 @@ module _ (S : List (List ℕ)) (distinct : Distinct S) (B : FinMap key_cmp (List
     pub is_map : IsMap (Key key value ∷ rest)
     pub keys : KeysUnder (suc layer) (Key key value ∷ rest)
     pub within : IsWithin (nodes_at layer (Key key value ∷ rest)) S
-    pub link : c ≡ cid (spell layer (Key key value ∷ rest))
+    pub link : c ≡ cid (encode_layer layer (Key key value ∷ rest))
     pub inside : HasKey key P
 
   abbrev pub HolesFrom : List Item → List Item → Type 0
@@ -143,7 +143,7 @@ module _ (S : List (List ℕ)) (distinct : Distinct S) (B : FinMap key_cmp (List
 
   -- what a list with holes has of a part
   pub record IsPruned (h : ℕ) (P F : List Item) : Type 0 where
-    pub filled : Filled Holds F P
+    pub filled : Filled HoldsNode F P
     pub holes : HolesUnder h F
     pub near : Neighbours F
     pub from : HolesFrom P F
@@ -153,7 +153,7 @@ module _ (S : List (List ℕ)) (distinct : Distinct S) (B : FinMap key_cmp (List
 
   -- and of what follows a node's first part
   pub record IsPrunedRest (h : ℕ) (P G : List Item) : Type 0 where
-    pub filled : Filled Holds G P
+    pub filled : Filled HoldsNode G P
     pub holes : HolesUnder h G
     pub near : Neighbours G
     pub starts : StartsAt h G
@@ -172,13 +172,13 @@ module _ (S : List (List ℕ)) (distinct : Distinct S) (B : FinMap key_cmp (List
       let whole = two_parts h P in
       let is = eqb_yes (height k) h e in
       let ka = keys_of_filled h A F a.filled (first_keys h P keys) in
-      let FA : List Item → Type 0 = λ x. Filled Holds (A ++ G) x in
+      let FA : List Item → Type 0 = λ x. Filled HoldsNode (A ++ G) x in
       let U : List Item → Type 0 = λ x. Ascends x in
       let low = (is_below_parts F R (subst U (sym whole) m.ascends)).1 in
       let W : Bool → Type 0 = λ b. AllThere B (cond b (part_nodes h (first_part h (A ++ G)) ++ right_nodes (part_nodes h) h (A ++ G)) (right_nodes (part_nodes h) h (A ++ G))) in
       let T : List (List ℕ) → Type 0 = λ x. AllThere B x in
       record {
-        filled = (P, refl, subst FA whole (filled_join Holds A G F R a.filled g.filled));
+        filled = (P, refl, subst FA whole (filled_join HoldsNode A G F R a.filled g.filled));
         holes = holes_joined h A G a.holes g.holes;
         near = (lead_joined k v h A G (lead_part h k v A is a.holes) g.starts, near_joined h A G a.near a.holes g.starts g.near);
         starts = is;
@@ -209,7 +209,7 @@ module _ (S : List (List ℕ)) (distinct : Distinct S) (B : FinMap key_cmp (List
 
   -- a node whose block is there
   pub record IsPrunedNode (h : ℕ) (P F : List Item) : Type 0 where
-    pub filled : Filled Holds F P
+    pub filled : Filled HoldsNode F P
     pub holes : HolesUnder h F
     pub near : Neighbours F
     pub from : HolesFrom P F
@@ -217,7 +217,7 @@ module _ (S : List (List ℕ)) (distinct : Distinct S) (B : FinMap key_cmp (List
     pub there : AllThere B (nodes_at h F)
     pub missing : NoHoleThere B F
 
-  pub node_pruned : (h : ℕ) → PartsPruned h → (P : List Item) → IsMap P → KeysUnder (suc h) P → IsWithin (nodes_at h P) S → IsThere B (spell h P) → IsPrunedNode h P (pruned_node h P)
+  pub node_pruned : (h : ℕ) → PartsPruned h → (P : List Item) → IsMap P → KeysUnder (suc h) P → IsWithin (nodes_at h P) S → IsThere B (encode_layer h P) → IsPrunedNode h P (pruned_node h P)
   node_pruned h ih P m keys w at =
       let F = first_part h P in let R = rest_part h P in
       let A = pruned_part h F in let G = pruned_rights (pruned_part h) h P in
@@ -225,11 +225,11 @@ module _ (S : List (List ℕ)) (distinct : Distinct S) (B : FinMap key_cmp (List
       let g = rest_pruned h ih P m keys (λ b i. w b (inr (among_last b (part_nodes h F) (right_nodes (part_nodes h) h P) i))) in
       let whole = two_parts h P in
       let ka = keys_of_filled h A F a.filled (first_keys h P keys) in
-      let FA : List Item → Type 0 = λ x. Filled Holds (A ++ G) x in
+      let FA : List Item → Type 0 = λ x. Filled HoldsNode (A ++ G) x in
       let U : List Item → Type 0 = λ x. Ascends x in
       let low = (is_below_parts F R (subst U (sym whole) m.ascends)).1 in
       let T : List (List ℕ) → Type 0 = λ x. AllThere B x in
-      let filled = subst FA whole (filled_join Holds A G F R a.filled g.filled) in
+      let filled = subst FA whole (filled_join HoldsNode A G F R a.filled g.filled) in
       let holes = holes_joined h A G a.holes g.holes in
       let near = near_joined h A G a.near a.holes g.starts g.near in
       let I : List ℕ → Type 0 = λ b. IsThere B b in
@@ -255,14 +255,14 @@ module _ (S : List (List ℕ)) (distinct : Distinct S) (B : FinMap key_cmp (List
   none_of (Some b) e = absurd (cc)
 
   -- a hole in the place of a part
-  hole_pruned : (h : ℕ) (k v : List ℕ) (P : List Item) → IsMap (Key k v ∷ P) → KeysUnder (suc h) (Key k v ∷ P) → IsWithin (nodes_at h (Key k v ∷ P)) S → map.get B (cid (spell h (Key k v ∷ P))) ≡ None
-      → IsPruned (suc h) (Key k v ∷ P) (Hole h (cid (spell h (Key k v ∷ P))) ∷ [])
+  hole_pruned : (h : ℕ) (k v : List ℕ) (P : List Item) → IsMap (Key k v ∷ P) → KeysUnder (suc h) (Key k v ∷ P) → IsWithin (nodes_at h (Key k v ∷ P)) S → map.get B (cid (encode_layer h (Key k v ∷ P))) ≡ None
+      → IsPruned (suc h) (Key k v ∷ P) (Hole h (cid (encode_layer h (Key k v ∷ P))) ∷ [])
   unfolding part_nodes
   hole_pruned h k v P m keys w none =
-      let c = cid (spell h (Key k v ∷ P)) in
+      let c = cid (encode_layer h (Key k v ∷ P)) in
       let T : Bool → Type 0 = λ b. AllThere B (cond b [] (nodes_at h (Hole h c ∷ []))) in
       record {
-        filled = (Key k v ∷ P, [], sym (append-nil (Key k v ∷ P)), record { is_map = m; some = omega arith; up_to = keys_up_to h (Key k v ∷ P) keys; spelled = refl }, refl);
+        filled = (Key k v ∷ P, [], sym (append-nil (Key k v ∷ P)), record { is_map = m; some = omega arith; up_to = keys_up_to h (Key k v ∷ P) keys; encoded = refl }, refl);
         holes = (omega arith, tt);
         near = (tt, tt);
         from = (record { key = k; value = v; rest = P; layer = h; is_map = m; keys = keys; within = w; link = refl; inside = inl refl }, tt);
@@ -282,7 +282,7 @@ module _ (S : List (List ℕ)) (distinct : Distinct S) (B : FinMap key_cmp (List
   parts_pruned (suc h) [] m keys w = record { filled = refl; holes = tt; near = tt; from = tt; differ = tt; there = tt; missing = tt }
   parts_pruned (suc h) (Hole l c ∷ P) m keys w = absurd m.keys_only
   parts_pruned (suc h) (Key k v ∷ P) m keys w =
-      elim (is_some (map.get B (cid (spell h (Key k v ∷ P))))) as (λ b. is_some (map.get B (cid (spell h (Key k v ∷ P)))) ≡ b → IsPruned (suc h) (Key k v ∷ P) (cond b (pruned_node h (Key k v ∷ P)) (Hole h (cid (spell h (Key k v ∷ P))) ∷ []))) [
-        | true ↦ λ e. part_of_node h (Key k v ∷ P) (pruned_node h (Key k v ∷ P)) (node_pruned h (parts_pruned h) (Key k v ∷ P) m keys w (is_there (spell h (Key k v ∷ P)) (w (spell h (Key k v ∷ P)) (inl refl)) e))
-        | false ↦ λ e. hole_pruned h k v P m keys w (none_of (map.get B (cid (spell h (Key k v ∷ P)))) e)
+      elim (is_some (map.get B (cid (encode_layer h (Key k v ∷ P))))) as (λ b. is_some (map.get B (cid (encode_layer h (Key k v ∷ P)))) ≡ b → IsPruned (suc h) (Key k v ∷ P) (cond b (pruned_node h (Key k v ∷ P)) (Hole h (cid (encode_layer h (Key k v ∷ P))) ∷ []))) [
+        | true ↦ λ e. part_of_node h (Key k v ∷ P) (pruned_node h (Key k v ∷ P)) (node_pruned h (parts_pruned h) (Key k v ∷ P) m keys w (is_there (encode_layer h (Key k v ∷ P)) (w (encode_layer h (Key k v ∷ P)) (inl refl)) e))
+        | false ↦ λ e. hole_pruned h k v P m keys w (none_of (map.get B (cid (encode_layer h (Key k v ∷ P)))) e)
       ] refl

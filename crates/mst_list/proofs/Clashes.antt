@@ -5,7 +5,7 @@ use Rattle.mst_list.specs.declared.op.Op.{Op}
 use Rattle.mst_list.specs.Edits.{value_at, put, Plays}
 use Rattle.mst_list.specs.Faults.{IsClash}
 
-left_at : (ops : List Op) (i : ℕ) (op : Op) → i < length ops → op ≡ get_or ops i op → drop i ops ≡ op ∷ drop (suc i) ops
+pub left_at : (ops : List Op) (i : ℕ) (op : Op) → i < length ops → op ≡ get_or ops i op → drop i ops ≡ op ∷ drop (suc i) ops
 left_at ops i op low is = drop-cons ops i op low ∙ ap (λ o. o ∷ drop (suc i) ops) (sym is)
 
 pub clash_here : (s : List Item) (ops : List Op) (i : ℕ) (op : Op) → i < length ops → op ≡ get_or ops i op → value_at op.key s ≢ op.was → IsClash s (drop i ops) 0

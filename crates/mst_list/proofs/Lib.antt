@@ -16,3 +16,5 @@ pub mod Seen
 pub mod Answering
 pub mod Zeros
 pub mod Alike
+pub mod Found
+pub mod InPlace

@@ -20,16 +20,22 @@ place_at_most k F = let e = ap length (rebuilt k F) in let n = length-append (be
 pub place_below : (k w : List ℕ) (F : List Item) → value_at k F ≡ Some w → length (before k F) < length F
 place_below k w F v = let e = ap length (visible_round k w F v) in let n = length-append (before k F) (Key k w ∷ after k F) in omega arith
 
+set_round : (k w : List ℕ) (x : Item) (F : List Item) → value_at k F ≡ Some w → set F (length (before k F)) x ≡ before k F ++ (x ∷ after k F)
+set_round k w x F e =
+    ap (λ G. set G (length (before k F)) x) (visible_round k w F e) ∙ set-append_seam (before k F) (Key k w) (after k F) x
+
 pub set_put : (k v w : List ℕ) (F : List Item) → value_at k F ≡ Some w → set F (length (before k F)) (Key k v) ≡ put k (Some v) F
-set_put k v w F e =
-    ap (λ G. set G (length (before k F)) (Key k v)) (visible_round k w F e) ∙ set-append_seam (before k F) (Key k w) (after k F) (Key k v)
+set_put k v w F e = set_round k w (Key k v) F e
 
 insert_seam : (A Y : List Item) (x : Item) → insert (A ++ Y) (length A) x ≡ A ++ (x ∷ Y)
 insert_seam A Y x = rw (take-append_seam A Y, drop-append_seam A Y) refl
 
+pub insert_round : (k : List ℕ) (x : Item) (F : List Item) → value_at k F ≡ None → insert F (length (before k F)) x ≡ before k F ++ (x ∷ after k F)
+insert_round k x F e =
+    ap (λ G. insert G (length (before k F)) x) (absent_round k F e) ∙ insert_seam (before k F) (after k F) x
+
 pub insert_put : (k v : List ℕ) (F : List Item) → value_at k F ≡ None → insert F (length (before k F)) (Key k v) ≡ put k (Some v) F
-insert_put k v F e =
-    ap (λ G. insert G (length (before k F)) (Key k v)) (absent_round k F e) ∙ insert_seam (before k F) (after k F) (Key k v)
+insert_put k v F e = insert_round k (Key k v) F e
 
 remove_seam : (A Y : List Item) (x : Item) → remove (A ++ (x ∷ Y)) (length A) ≡ A ++ Y
 remove_seam [] Y x = refl
@@ -60,6 +66,9 @@ absent k F e = go (value_at k F) refl e
 
 pub in_range : (k : List ℕ) (F : List Item) → is_some (value_at k F) ≡ true → length (before k F) < length F
 in_range k F e = let v = visible k F e in place_below k v.value F v.is
+
+pub set_visible : (k : List ℕ) (x : Item) (F : List Item) → is_some (value_at k F) ≡ true → set F (length (before k F)) x ≡ before k F ++ (x ∷ after k F)
+set_visible k x F e = let w = visible k F e in set_round k w.value x F w.is
 
 pub put_visible : (k v : List ℕ) (F : List Item) → is_some (value_at k F) ≡ true → set F (length (before k F)) (Key k v) ≡ put k (Some v) F
 put_visible k v F e = let w = visible k F e in set_put k v w.value F w.is

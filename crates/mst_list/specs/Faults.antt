@@ -65,7 +65,7 @@ IsCaused F ops (UndoFault.OtherOp i) = IsFirst Disagrees F ops i
 IsCaused F ops (UndoFault.NotCovered i) = IsFirst IsUncovered F ops i
 IsCaused F ops UndoFault.Memory = Unit {0}
 
--- what an undoing answers, but for the want of memory: the list as it was, where each operation agrees and is guarded,
+-- what an undoing answers, but for running out of memory: the list as it was, where each operation agrees and is guarded,
 -- and else the first operation that disagrees or isn't covered
 abbrev pub IsUndone : List Item → List Op → Result (List Item) UndoFault → Type 0
 IsUndone F ops (Ok G) = AllAgree F ops × IsGuarded F ops × (G ≡ undone F ops)
@@ -79,7 +79,7 @@ undo_cause (UndoFault.OtherOp i) = Some (UndoFault.OtherOp i)
 undo_cause (UndoFault.NotCovered i) = Some (UndoFault.NotCovered i)
 undo_cause UndoFault.Memory = None
 
--- the result is the answer of the undoing, whichever that is, unless memory was wanted
+-- the result is the answer of the undoing, whichever that is, unless memory ran out
 abbrev pub UndoesExactly : List Item → List Op → Result (List Item) UndoFault → Type 0
 UndoesExactly F ops result = (answer : Result (List Item) UndoFault) → IsUndone F ops answer → Gives (λ G. G) undo_cause result answer
 
@@ -94,7 +94,7 @@ abbrev pub IsPlayFault : List Item → List Op → PlayFault → Type 0
 IsPlayFault s ops (PlayFault.Clash i) = IsClash s ops i
 IsPlayFault s ops PlayFault.Memory = Unit {0}
 
--- what a playing answers, but for the want of memory
+-- what a playing answers, but for running out of memory
 abbrev pub IsPlayed : List Item → List Op → Result (List Item) PlayFault → Type 0
 IsPlayed s ops (Ok t) = Plays s ops t
 IsPlayed s ops (Err (PlayFault.Clash i)) = IsClash s ops i
@@ -105,6 +105,6 @@ abbrev pub play_cause : PlayFault → Option PlayFault
 play_cause (PlayFault.Clash i) = Some (PlayFault.Clash i)
 play_cause PlayFault.Memory = None
 
--- the result is the answer of the playing, whichever that is, unless memory was wanted
+-- the result is the answer of the playing, whichever that is, unless memory ran out
 abbrev pub PlaysExactly : List Item → List Op → Result (List Item) PlayFault → Type 0
 PlaysExactly s ops result = (answer : Result (List Item) PlayFault) → IsPlayed s ops answer → Gives (λ t. t) play_cause result answer

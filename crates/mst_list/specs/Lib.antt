@@ -2,4 +2,5 @@ pub mod Height
 pub mod Lists
 pub mod Edits
 pub mod Faults
+pub mod Maps
 pub mod Laws

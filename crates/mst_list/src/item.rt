@@ -4,7 +4,7 @@ ghost use Rattle.std.specs.Prelude.{◌≡◌, ◌↔◌, ◌≤◌, IfOk, IsTru
 ghost use Rattle.at_cid.specs.Link.{IsBytes, IsLink, IsNodeLink};
 ghost use Rattle.mst_list.specs.Lists.{IsKey, IsFormed};
 
-use at_cid::{Cid, Kind, Memory, Octets};
+use at_cid::{Cid, Kind, Memory, Octets, ghost_link};
 use std::alloc::Global;
 
 /// A key with the link of its record; or a hole, which is a subtree that is known by its link alone, with the layer of
@@ -33,11 +33,11 @@ impl Item {
     {
         match self {
             Item::Key(key, value) => {
-                value.tell_link();
+                ghost_link(value);
                 is_key(key)
             }
             Item::Hole(_, link) => {
-                link.tell_link();
+                ghost_link(link);
                 link.kind() == Kind::Node
             }
         }

@@ -75,6 +75,13 @@ impl ItemList {
         Ok(())
     }
 
+    /// Gives back the memory that no item takes, where that can be done. The items stay.
+    pub fn shrink_to_fit(&mut self)
+        ensures { self.new ≡ self.old }
+    {
+        self.items.shrink_to_fit();
+    }
+
     /// The same items once more.
     pub fn try_clone(&self, alloc: Global) -> Result<ItemList, Memory>
         ensures { IfOk result (λ made. made ≡ self.now) }

@@ -1,11 +1,10 @@
 //! One operation of a commit.
 
 ghost use Rattle.std.specs.Prelude.{◌≡◌, ◌↔◌, IsTrue};
-ghost use Rattle.at_cid.specs.Link.{IsLinkOrNone};
 ghost use Rattle.mst_list.specs.Edits.{IsFormedOp};
 
 use crate::item::is_key;
-use at_cid::{Cid, Octets};
+use at_cid::{Cid, Octets, ghost_link_or_none};
 
 /// What a commit does to one key: a create has only `now`, a delete only `was`, and an update both.
 #[derive(Debug, Drop, PartialEq, Eq)]
@@ -15,22 +14,13 @@ pub struct Op {
     pub now: Option<Cid>,
 }
 
-/// Tells that a link has its form, where there is one.
-pub fn tell_link(link: &Option<Cid>)
-    ensures { IsLinkOrNone link.now }
-{
-    if let Some(link) = link {
-        link.tell_link();
-    }
-}
-
 impl Op {
     /// Whether the key has 1 to [`MOST_KEY_BYTES`](crate::MOST_KEY_BYTES) bytes, and `was` or `now` is there.
     pub fn is_formed(&self) -> bool
         ensures { IsTrue result ↔ IsFormedOp self.entry.now }
     {
-        tell_link(&self.was);
-        tell_link(&self.now);
+        ghost_link_or_none(&self.was);
+        ghost_link_or_none(&self.now);
         is_key(&self.key) && (self.was.is_some() || self.now.is_some())
     }
 }

@@ -82,11 +82,11 @@ module _ (read : List ℕ → Option Node) (reader : IsReader read) (extent : Ex
       let g = reader.sound.gives b n e in
       let t = both_true (may_hang h n.0 && is_some_node n) (fits.entries_fit h low high n.1) p in
       let u = both_true (may_hang h n.0) (is_some_node n) t.0 in
-      record { spelled = g.0; left_link = g.1; entries = fit_true h low high n.1 g.2 t.1; lowest = hang_true h n.0 u.0; some = node_some n u.1 }
+      record { encoded = g.0; left_link = g.1; entries = fit_true h low high n.1 g.2 t.1; lowest = hang_true h n.0 u.0; some = node_some n u.1 }
 
   node_passes : (h : ℕ) (low high : Option (List ℕ)) (b : List ℕ) (left : Option (List ℕ)) (es : List Entry) → IsNodeAt h low high b left es → (read b ≡ Some (left, es)) × (node_fits h low high (left, es) ≡ true)
   node_passes h low high b left es n = (
-    ap read n.spelled ∙ reader.reads left es n.left_link (formed_of h low high es n.entries) (over_none low es (ascend_of h low high es n.entries)),
+    ap read n.encoded ∙ reader.reads left es n.left_link (formed_of h low high es n.entries) (over_none low es (ascend_of h low high es n.entries)),
     rw (true_hang h left n.lowest, some_node read reader B left es n.some, true_fit h low high es n.entries) refl,
   )
 
@@ -100,12 +100,12 @@ module _ (read : List ℕ → Option Node) (reader : IsReader read) (extent : Ex
       let g = reader.sound.gives b n e in let h = layer_of n.1 in
       let t = both_true (may_hang h n.0 && may_top n) (fits.entries_fit h None None n.1) p in
       let u = both_true (may_hang h n.0) (may_top n) t.0 in
-      record { spelled = g.0; left_link = g.1; entries = fit_true h None None n.1 g.2 t.1; lowest = hang_true h n.0 u.0; empty = top_empty n u.1 }
+      record { encoded = g.0; left_link = g.1; entries = fit_true h None None n.1 g.2 t.1; lowest = hang_true h n.0 u.0; empty = top_empty n u.1 }
 
   top_passes : (b : List ℕ) (left : Option (List ℕ)) (es : List Entry) → IsTopNode b left es → (read b ≡ Some (left, es)) × (top_fits (left, es) ≡ true)
   top_passes b left es n =
       let h = layer_of es in (
-        ap read n.spelled ∙ reader.reads left es n.left_link (formed_of h None None es n.entries) (over_none None es (ascend_of h None None es n.entries)),
+        ap read n.encoded ∙ reader.reads left es n.left_link (formed_of h None None es n.entries) (over_none None es (ascend_of h None None es n.entries)),
         rw (true_hang h left n.lowest, may_top_of read reader B left es n.empty, true_fit h None None es n.entries) refl,
       )
 

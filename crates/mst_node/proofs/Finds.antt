@@ -9,7 +9,7 @@ use Rattle.at_cid.specs.Order.{key_cmp}
 use Rattle.mst_list.specs.Height.{height}
 use Rattle.mst_list.specs.Lists.{AreFormed}
 use Rattle.mst_node.specs.declared.entry.Entry.{Entry}
-use Rattle.mst_node.specs.Trees.{first_part, entries_at, part_link, spell, right_nodes, part_nodes, nodes_at, top_layer, AllThere, IsView, IsWalk}
+use Rattle.mst_node.specs.Trees.{first_part, entries_at, part_link, encode_layer, right_nodes, part_nodes, nodes_at, top_layer, AllThere, IsView, IsWalk}
 use Rattle.mst_node.specs.Nodes.{Node, IsReader}
 use Rattle.mst_node.specs.NodeFaults.{next_bound, layer_of}
 use Rattle.mst_node.proofs.Layers.{keys_under_top, holes_within}
@@ -31,7 +31,7 @@ walk_of B r F v =
 
 -- the block under the root of a walk is there
 pub root_there : (B : FinMap key_cmp (List ℕ)) (r : List ℕ) (F : List Item) → IsWalk B r F → (b : List ℕ) × (map.get B r ≡ Some b)
-root_there B r F w = (spell (top_layer F) F, sym (ap (map.get B) w.root_is) ∙ w.there.0)
+root_there B r F w = (encode_layer (top_layer F) F, sym (ap (map.get B) w.root_is) ∙ w.there.0)
 
 module _ (read : List ℕ → Option Node) (reader : IsReader read) (B : FinMap key_cmp (List ℕ)) where
   abbrev PartsFound : ℕ → Type 0
@@ -63,7 +63,7 @@ module _ (read : List ℕ → Option Node) (reader : IsReader read) (B : FinMap 
       rw (one, two) (ap Ok (two_parts h P))
 
   -- the block of a part reads as the part's node
-  node_read : (h : ℕ) (low high : Option (List ℕ)) (P : List Item) → AreFormed P → LiesIn low high P → read (spell h P) ≡ Some (part_link h (first_part h P), entries_at (part_link h) h P)
+  node_read : (h : ℕ) (low high : Option (List ℕ)) (P : List Item) → AreFormed P → LiesIn low high P → read (encode_layer h P) ≡ Some (part_link h (first_part h P), entries_at (part_link h) h P)
   node_read h low high P f l =
       let a = entries_fit h low high P f l in let es = entries_at (part_link h) h P in
       reader.reads (part_link h (first_part h P)) es (link_formed h (first_part h P) (first_formed h P f)) (formed_of h low high es a) (over_none low es (ascend_of h low high es a))
@@ -74,7 +74,7 @@ module _ (read : List ℕ → Option Node) (reader : IsReader read) (B : FinMap 
   some_node (Some c) es f = refl
 
   node_found : (h : ℕ) → PartsFound h → (low high : Option (List ℕ)) (x : Item) (P : List Item) (c : List ℕ) → IsPart B (suc h) h (x ∷ P) → LiesIn low high (x ∷ P) → AllThere B (nodes_at h (x ∷ P))
-      → block_of (node_fits h low high) (parts_of (part_at in_part read B h) low high) c (read (spell h (x ∷ P))) ≡ Ok (x ∷ P)
+      → block_of (node_fits h low high) (parts_of (part_at in_part read B h) low high) c (read (encode_layer h (x ∷ P))) ≡ Ok (x ∷ P)
   node_found h ih low high x P c p l t =
       let es = entries_at (part_link h) h (x ∷ P) in let left = part_link h (first_part h (x ∷ P)) in
       let X = part_nodes h (first_part h (x ∷ P)) in let Y = right_nodes (part_nodes h) h (x ∷ P) in
@@ -103,12 +103,12 @@ module _ (read : List ℕ → Option Node) (reader : IsReader read) (B : FinMap 
   all_found (suc h) low high (x ∷ P) p l t = go (kind_of B h x P p t) (λ c q u. node_found h (all_found h) low high x P c q l u)
     where
       go : IsHolePart B h (x ∷ P) ⊎ IsNodePart B h (x ∷ P)
-          → ((c : List ℕ) → IsPart B (suc h) h (x ∷ P) → AllThere B (nodes_at h (x ∷ P)) → block_of (node_fits h low high) (parts_of (part_at in_part read B h) low high) c (read (spell h (x ∷ P))) ≡ Ok (x ∷ P))
+          → ((c : List ℕ) → IsPart B (suc h) h (x ∷ P) → AllThere B (nodes_at h (x ∷ P)) → block_of (node_fits h low high) (parts_of (part_at in_part read B h) low high) c (read (encode_layer h (x ∷ P))) ≡ Ok (x ∷ P))
           → part_at in_part read B (suc h) low high (part_link (suc h) (x ∷ P)) ≡ Ok (x ∷ P)
       go (inl k) more = ap (part_at in_part read B (suc h) low high) k.part_is ∙ hole_found h low high k.link k.missing ∙ ap Ok (sym k.is)
       go (inr k) more =
-          let c = cid (spell h (x ∷ P)) in
-          ap (part_at in_part read B (suc h) low high) k.link ∙ block_found h low high c (spell h (x ∷ P)) (x ∷ P) k.there.0 (more c k.part k.there)
+          let c = cid (encode_layer h (x ∷ P)) in
+          ap (part_at in_part read B (suc h) low high) k.link ∙ block_found h low high c (encode_layer h (x ∷ P)) (x ∷ P) k.there.0 (more c k.part k.there)
 
   pub may_top_of : (left : Option (List ℕ)) (es : List Entry) → (es ≡ [] → left ≡ None) → may_top (left, es) ≡ true
   may_top_of None es f = refl
@@ -129,7 +129,7 @@ module _ (read : List ℕ → Option Node) (reader : IsReader read) (B : FinMap 
       let lies : LiesIn None None F = record { ascends = v.ascends; over = all_over_end F; under = all_under_end F } in
       let keys = keys_under_top F h (omega arith) in
       let part : IsPart B (suc h) h F = record { keys = keys; holes = holes_within h F keys v.neighbours v.no_lone_hole; near = v.neighbours; formed = v.formed; missing = v.holes } in
-      let block : b ≡ spell h F = let is = v.there.0 in let same = ap (map.get B) v.root_is in cc in
+      let block : b ≡ encode_layer h F = let is = v.there.0 in let same = ap (map.get B) v.root_is in cc in
       let layer : layer_of es ≡ h = (walk_node r F v).0 in
       let X = part_nodes h (first_part h F) in let Y = right_nodes (part_nodes h) h F in
       let hang : may_hang h left ≡ true = true_hang h left (no_lower h (first_part h F)) in

@@ -8,7 +8,7 @@ use Rattle.at_cid.specs.Order.{key_cmp}
 use Rattle.mst_list.specs.declared.item.TheConstants.{MOST_KEY_BYTES}
 use Rattle.mst_node.specs.NodeBytes.{shared}
 use Rattle.mst_node.specs.Taking.{goes_above, may_follow}
-use Rattle.mst_node.proofs.Spelling.{shared_at_most}
+use Rattle.mst_node.proofs.Encoding.{shared_at_most}
 
 -- what is true of a key that follows
 pub record Follows (last : List ℕ) (count : ℕ) (tail : List ℕ) : Type 0 where

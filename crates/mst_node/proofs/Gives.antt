@@ -13,12 +13,12 @@ use Rattle.mst_list.proofs.Places.{AllBelow}
 use Rattle.mst_list.proofs.Fills.{all_above_join, ascends_join, is_below_of, formed_join, IsBelow}
 use Rattle.mst_node.specs.declared.entry.Entry.{Entry}
 use Rattle.mst_node.specs.NodeBytes.{node_bytes}
-use Rattle.mst_node.specs.Trees.{first_part, entries_at, part_link, spell, right_nodes, part_nodes, nodes_at, top_layer, AllThere, IsWalk, KeysUnder, HolesUnder}
+use Rattle.mst_node.specs.Trees.{first_part, entries_at, part_link, encode_layer, right_nodes, part_nodes, nodes_at, top_layer, AllThere, IsWalk, KeysUnder, HolesUnder}
 use Rattle.mst_node.specs.Covers.{IsOver, IsUnder, AreUnderNodeLinks}
 use Rattle.mst_node.specs.Nodes.{IsChildLink, Node, IsSoundReader}
 use Rattle.mst_node.specs.NodeFaults.{AreEntriesAt, next_bound, layer_of}
 use Rattle.mst_node.proofs.Layers.{eqb_not, eqb_same, top_of_last}
-use Rattle.mst_node.proofs.Spelling.{entry_of}
+use Rattle.mst_node.proofs.Encoding.{entry_of}
 use Rattle.mst_node.proofs.Parts.{IsPart}
 use Rattle.mst_node.proofs.Joins.{StartsAt, near_joined, lead_part, lead_joined, holes_joined, first_joined, rights_joined, there_joined, missing_joined, there_part}
 use Rattle.mst_node.proofs.Layers.{top_under}
@@ -104,7 +104,7 @@ below_headed high (e ∷ es) F G is up under =
     subst R (sym is.1) (below_join F e.key e.value is.0 (below_of_under e.key F under) (subst U is.1 up).0)
 
 -- the link and the blocks of a part that isn't a hole at its layer
-pub tree_link : (m : ℕ) (F : List Item) → HolesUnder m F → 0 < length F → part_link (suc m) F ≡ Some (cid (spell m F))
+pub tree_link : (m : ℕ) (F : List Item) → HolesUnder m F → 0 < length F → part_link (suc m) F ≡ Some (cid (encode_layer m F))
 unfolding part_link
 tree_link m [] h n = absurd (omega arith)
 tree_link m (Key k v ∷ F) h n = refl
@@ -244,9 +244,9 @@ module _ (read : List ℕ → Option Node) (reader : IsSoundReader read) (B : Fi
       let u = both_true (may_hang h n.0) (is_some_node n) t.0 in
       let f = node_given h ih low high n F g.1 (hang_true h n.0 u.0) (fit_true h low high n.1 g.2 t.1) s.3 in
       let long : 0 < length F = let R : List Item → Type 0 = λ z. 0 < length z in subst R (sym f.is) (some_length h n f.first f.rest u.1 f.first_link f.headed) in
-      let spelled : spell h F ≡ b = ap (λ l. node_bytes l (entries_at (part_link h) h F)) f.left ∙ ap (node_bytes n.0) f.entries ∙ sym g.0 in
-      let link : c ≡ cid (spell h F) = under c b kind at ∙ ap cid (sym spelled) in
-      let there : map.get B (cid (spell h F)) ≡ Some (spell h F) = ap (map.get B) (sym link) ∙ at ∙ ap Some (sym spelled) in
+      let encoded : encode_layer h F ≡ b = ap (λ l. node_bytes l (entries_at (part_link h) h F)) f.left ∙ ap (node_bytes n.0) f.entries ∙ sym g.0 in
+      let link : c ≡ cid (encode_layer h F) = under c b kind at ∙ ap cid (sym encoded) in
+      let there : map.get B (cid (encode_layer h F)) ≡ Some (encode_layer h F) = ap (map.get B) (sym link) ∙ at ∙ ap Some (sym encoded) in
       record {
         part = record { keys = f.part.keys; holes = holes_up h F f.part.holes; near = f.part.near; formed = f.part.formed; missing = f.part.missing };
         lies = f.lies;
@@ -342,9 +342,9 @@ module _ (read : List ℕ → Option Node) (reader : IsSoundReader read) (B : Fi
       let u = both_true (may_hang h n.0) (may_top n) t.0 in
       let fit = fit_true h None None n.1 g.2 t.1 in
       let f = node_given h (all_given h) None None n G g.1 (hang_true h n.0 u.0) fit s.3 in
-      let spelled : spell h G ≡ b = ap (λ l. node_bytes l (entries_at (part_link h) h G)) f.left ∙ ap (node_bytes n.0) f.entries ∙ sym g.0 in
-      let link : r ≡ cid (spell h G) = under r b kind at ∙ ap cid (sym spelled) in
-      let there : map.get B (cid (spell h G)) ≡ Some (spell h G) = ap (map.get B) (sym link) ∙ at ∙ ap Some (sym spelled) in
+      let encoded : encode_layer h G ≡ b = ap (λ l. node_bytes l (entries_at (part_link h) h G)) f.left ∙ ap (node_bytes n.0) f.entries ∙ sym g.0 in
+      let link : r ≡ cid (encode_layer h G) = under r b kind at ∙ ap cid (sym encoded) in
+      let there : map.get B (cid (encode_layer h G)) ≡ Some (encode_layer h G) = ap (map.get B) (sym link) ∙ at ∙ ap Some (sym encoded) in
       let none : n.1 ≡ [] → f.first ≡ [] = no_first h n f.first u.1 f.first_keys f.first_holes f.first_link in
       let K : List Item → Type 0 = λ z. KeysUnder (suc h) z in
       let layer : top_layer G ≡ h = ap top_layer f.is ∙ top_is n.1 f.first f.rest fit f.headed (subst K f.is f.part.keys) none in
@@ -358,7 +358,7 @@ module _ (read : List ℕ → Option Node) (reader : IsSoundReader read) (B : Fi
           ascends = f.lies.ascends;
           neighbours = f.part.near;
           no_lone_hole = subst L (sym f.is) (lone n.1 f.first f.rest f.headed none);
-          root_is = ap (λ m. cid (spell m G)) layer ∙ sym link;
+          root_is = ap (λ m. cid (encode_layer m G)) layer ∙ sym link;
           there = subst N (sym layer) (there, f.there);
           holes = f.part.missing;
         };

@@ -1,4 +1,4 @@
-pub mod Spelling
+pub mod Encoding
 pub mod Links
 pub mod Layers
 pub mod Cuts
@@ -15,7 +15,7 @@ pub mod Writes
 pub mod EmptyTree
 pub mod Follows
 pub mod Pointers
-pub mod Spelled
+pub mod Encoded
 pub mod Rounds
 pub mod Lengths
 pub mod Passes

@@ -2,7 +2,7 @@
 use Rattle.std.specs.Prelude.{ℕ, ◌≤◌, List, take}
 use Rattle.mst_node.specs.declared.key_bytes.Kept.{Kept}
 use Rattle.mst_node.specs.declared.key_bytes.Kept.TheVariants.{Short, Long}
-use Rattle.mst_node.specs.declared.key_bytes.TheConstants.{MOST_SHORT_BYTES}
+use Rattle.at_cid.specs.declared.short_text.TheConstants.{MOST_SHORT_BYTES}
 
 -- the bytes that are kept: the first ones of the array, or all
 abbrev pub kept_bytes : Kept → List ℕ

@@ -1,5 +1,5 @@
--- The node that a block spells, told from its bytes: what would be its parts are read, and it is the node where it is spelled so.
--- (The law of reading says that this is the node that the block spells, where there is one.)
+-- The node that a block encodes, told from its bytes: what would be its parts are read, and it is the node where it is encoded so.
+-- (The law of reading says that this is the node that the block encodes, where there is one.)
 use Rattle.std.specs.Prelude.{ℕ, zero, suc, ◌+◌, ◌-◌, pos, Bool, true, false, ◌&&◌, ◌==◌, nat_lt, nat_le, if◌then◌else◌, List, [], ◌∷◌, ◌++◌, length, take, drop, slice_index, Option, Some, None, Ok, Err, unwrap_or}
 use Rattle.std.specs.Str.{bytes_eq}
 use Rattle.at_cid.specs.Link.{is_link}
@@ -90,7 +90,7 @@ parts_from block =
     let read = entries_from (length block) [] (drop (4 + head_size (slice_index block 3 - 0x80)) block) in
     (link_from (item_at 0 (drop 2 read.1)), read.0)
 
--- the node that the block spells
+-- the node that the block encodes
 unfoldable pub node_of : List ℕ → Option Node
 node_of block = let n = parts_from block in if is_node n && bytes_eq (node_bytes n.0 n.1) block then Some n else None
 

@@ -1,5 +1,5 @@
 -- What a node is taken from: its pieces at the front of bytes, each with what stands behind it, or nothing where it doesn't stand
--- in front. (That what is taken is exactly what is spelled is proved in proofs/Spelled.antt.)
+-- in front. (That what is taken is exactly what is encoded is proved in proofs/Encoded.antt.)
 use Rattle.std.specs.Prelude.{◌≡◌, ⊤, ℕ, zero, suc, ◌-◌, Bool, true, false, ◌&&◌, nat_lt, nat_le, if◌then◌else◌, List, [], ◌∷◌, ◌++◌, length, take, drop, Option, Some, None, Result, Ok, Err}
 use Rattle.at_cbor.specs.declared.major.Major.{Major}
 use Rattle.at_cid.specs.Link.{link_at}
@@ -97,7 +97,7 @@ end_at bytes = do
   l ← child_at b
   all_of l
 
--- the node that the bytes spell
+-- the node that the bytes encode
 unfoldable pub node_at : List ℕ → Option Node
 node_at bytes = do
   n ← front_at bytes
@@ -105,7 +105,7 @@ node_at bytes = do
   left ← end_at es.1
   Some (left, es.0)
 
--- what the call returned, seen by view, is the answer, unless memory was wanted
+-- what the call returned, seen by view, is the answer, unless memory ran out
 abbrev pub IsTaken : {X Y : Type 0} → (X → Y) → Result X NodeFault → Option Y → Type 0
 IsTaken view (Ok x) answer = answer ≡ Some (view x)
 IsTaken view (Err NodeFault.BadNode) answer = answer ≡ None

@@ -47,7 +47,7 @@ abbrev pub or_missing : Extent → ℕ → List ℕ → (List ℕ → Result (Li
 or_missing extent h c inside None = missing_at extent h c
 or_missing extent h c inside (Some b) = inside b
 
--- what hangs under a link below layer h, between two bounds; `read` gives the node that a block spells
+-- what hangs under a link below layer h, between two bounds; `read` gives the node that a block encodes
 unfoldable pub part_at : Extent → (List ℕ → Option Node) → FinMap key_cmp (List ℕ) → ℕ → Option (List ℕ) → Option (List ℕ) → Option (List ℕ) → Result (List Item) (List ℕ)
 part_at extent read B zero low high c = Ok []
 part_at extent read B (suc h) low high None = Ok []

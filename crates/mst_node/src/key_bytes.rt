@@ -3,15 +3,11 @@
 ghost use Rattle.std.specs.Prelude.{◌≡◌, ◌≤◌, ◌+◌, ◌++◌, length, take, IfOk, IfSome};
 ghost use Rattle.at_cid.specs.Link.{IsBytes};
 ghost use Rattle.mst_node.specs.KeyBytes.{kept_bytes};
-ghost use Rattle.mst_node.specs.declared.key_bytes.TheConstants.{MOST_SHORT_BYTES};
+ghost use Rattle.at_cid.specs.declared.short_text.TheConstants.{MOST_SHORT_BYTES};
 
-use crate::reading::tell_bytes;
-use at_cid::{Memory, Octets};
+use at_cid::{MOST_SHORT_BYTES, Memory, Octets, ghost_bytes};
 use std::alloc::Global;
 use std::marker::Model;
-
-/// The most bytes of a key that takes no room of its own: those of posts, likes, reposts and follows have no more.
-pub const MOST_SHORT_BYTES: usize = 38;
 
 /// How the bytes of a key are kept: so many of an array, or apart.
 #[derive(Debug, Drop)]
@@ -20,7 +16,8 @@ enum Kept {
     Long(Octets),
 }
 
-/// The bytes of a key. One of at most [`MOST_SHORT_BYTES`] takes no room of its own.
+/// The bytes of a key. One of at most [`MOST_SHORT_BYTES`] takes no room of its own: those of posts, likes, reposts and
+/// follows have no more.
 #[derive(Debug, Drop)]
 pub struct KeyBytes {
     kept: Kept,
@@ -115,7 +112,7 @@ impl KeyBytes {
         match &self.kept {
             Kept::Short(count, bytes) => {
                 let bytes = &bytes[..*count as usize];
-                tell_bytes(bytes);
+                ghost_bytes(bytes);
                 bytes
             }
             Kept::Long(bytes) => bytes.as_slice(),

@@ -3,7 +3,7 @@ pub mod Doubled
 pub mod TreeAt
 pub mod Filling
 pub mod Words
-pub mod Spelled
+pub mod Encoded
 pub mod Steps
 pub mod Tops
 pub mod HoleLinks

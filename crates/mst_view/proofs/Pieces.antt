@@ -13,8 +13,8 @@ pub link_made : (digest : List ℕ) → length digest ≡ 32 → link_at (prefix
 link_made digest long = rw (take_all 32 digest (omega arith)) (rw long refl)
 
 -- what is added to the room comes behind the bytes
-pub spelled_behind : {before : List ℕ} {hash : Sha256} {room bytes : List ℕ} (new more : List ℕ) → new ≡ room ++ more → IsInPieces before hash room bytes → IsInPieces before hash new (bytes ++ more)
-spelled_behind {before = before} new more is p = record {
+pub encoded_behind : {before : List ℕ} {hash : Sha256} {room bytes : List ℕ} (new more : List ℕ) → new ≡ room ++ more → IsInPieces before hash room bytes → IsInPieces before hash new (bytes ++ more)
+encoded_behind {before = before} new more is p = record {
   given = p.given;
   lying = p.lying ++ more;
   holds = p.holds;

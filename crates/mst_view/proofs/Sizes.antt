@@ -12,12 +12,12 @@ use Rattle.mst_list.specs.declared.item.Item.TheVariants.{Key, Hole}
 use Rattle.mst_list.specs.Height.{height}
 use Rattle.mst_list.specs.Lists.{AllAbove, Ascends, HolesDiffer, NoHoleOf}
 use Rattle.mst_node.specs.declared.entry.Entry.{Entry}
-use Rattle.mst_node.specs.Trees.{AllThere, IsAmong, IsView, entries_at, first_part, nodes, nodes_at, part_link, part_nodes, right_nodes, spell, top_layer}
+use Rattle.mst_node.specs.Trees.{AllThere, IsAmong, IsView, entries_at, first_part, nodes, nodes_at, part_link, part_nodes, right_nodes, encode_layer, top_layer}
 use Rattle.mst_node.proofs.Joins.{rest_part, two_parts}
 use Rattle.mst_node.proofs.Layers.{eqb_same, eqb_yes, holes_within, keys_under_top}
 use Rattle.mst_node.proofs.Links.{entries_formed, first_formed, link_formed}
 use Rattle.mst_node.proofs.Parts.{IsHolePart, IsNodePart, IsPart, first_part_of, kind_of, there_first, there_last}
-use Rattle.mst_node.proofs.Spelling.{entry_of, node_same}
+use Rattle.mst_node.proofs.Encoding.{entry_of, node_same}
 
 -- no block stands twice
 abbrev AllUnlike : List (List ℕ) → Type 0
@@ -197,7 +197,7 @@ module _ (B : FinMap key_cmp (List ℕ)) (F : List Item) (one : (l n : ℕ) (c :
     pub at : h ≡ suc lower
     pub part : IsPart B (suc lower) lower (x ∷ rest)
     pub there : AllThere B (nodes_at lower (x ∷ rest))
-    pub some : left ≡ Some (cid (spell lower (x ∷ rest)))
+    pub some : left ≡ Some (cid (encode_layer lower (x ∷ rest)))
 
   abbrev Begins : ℕ → Item → Option (List ℕ) → List Entry → Type 0
   Begins h x left es = IsFirstKey h x left es ⊎ (IsFirstHole h x left ⊎ IsFirstNode h x left)
@@ -229,7 +229,7 @@ module _ (B : FinMap key_cmp (List ℕ)) (F : List Item) (one : (l n : ℕ) (c :
   -- nodes of one block stand at one layer and begin with one item
   abbrev Same : ℕ → Type 0
   Same h = (m : ℕ) (x : Item) (P : List Item) (y : Item) (Q : List Item) → IsPart B (suc h) h (x ∷ P) → AllThere B (nodes_at h (x ∷ P)) → IsPart B (suc m) m (y ∷ Q) → AllThere B (nodes_at m (y ∷ Q)) → IsIn x F → IsIn y F
-      → spell h (x ∷ P) ≡ spell m (y ∷ Q) → (h ≡ m) × (x ≡ y)
+      → encode_layer h (x ∷ P) ≡ encode_layer m (y ∷ Q) → (h ≡ m) × (x ≡ y)
 
   matched : (h : ℕ) → ((n : ℕ) → h ≡ suc n → Same n) → (m : ℕ) (x y : Item) (l r : Option (List ℕ)) (es fs : List Entry) → IsIn x F → IsIn y F → l ≡ r → es ≡ fs → Begins h x l es → Begins m y r fs → (h ≡ m) × (x ≡ y)
   matched h ih m x y l r es fs ix iy e f (inl a) (inl b) =
@@ -238,9 +238,9 @@ module _ (B : FinMap key_cmp (List ℕ)) (F : List Item) (one : (l n : ℕ) (c :
       let key : a.key ≡ b.key = ap (λ (z : Entry). z.key) same in let value : a.value ≡ b.value = ap (λ (z : Entry). z.value) same in
       (sym a.at ∙ ap height key ∙ b.at, a.is ∙ ap (λ k. Key k a.value) key ∙ ap (λ v. Key b.key v) value ∙ sym b.is)
   matched h ih m x y l r es fs ix iy e f (inl a) (inr (inl b)) = let bad : None ≡ Some b.link = sym a.none ∙ e ∙ b.some in absurd (cc)
-  matched h ih m x y l r es fs ix iy e f (inl a) (inr (inr b)) = let bad : None ≡ Some (cid (spell b.lower (y ∷ b.rest))) = sym a.none ∙ e ∙ b.some in absurd (cc)
+  matched h ih m x y l r es fs ix iy e f (inl a) (inr (inr b)) = let bad : None ≡ Some (cid (encode_layer b.lower (y ∷ b.rest))) = sym a.none ∙ e ∙ b.some in absurd (cc)
   matched h ih m x y l r es fs ix iy e f (inr (inl a)) (inl b) = let bad : Some a.link ≡ None = sym a.some ∙ e ∙ b.none in absurd (cc)
-  matched h ih m x y l r es fs ix iy e f (inr (inr a)) (inl b) = let bad : Some (cid (spell a.lower (x ∷ a.rest))) ≡ None = sym a.some ∙ e ∙ b.none in absurd (cc)
+  matched h ih m x y l r es fs ix iy e f (inr (inr a)) (inl b) = let bad : Some (cid (encode_layer a.lower (x ∷ a.rest))) ≡ None = sym a.some ∙ e ∙ b.none in absurd (cc)
   matched h ih m x y l r es fs ix iy e f (inr (inl a)) (inr (inl b)) =
       let links : Some a.link ≡ Some b.link = sym a.some ∙ e ∙ b.some in let link : a.link ≡ b.link = cc in
       let is : x ≡ Hole a.layer b.link = a.is ∙ ap (λ c. Hole a.layer c) link in
@@ -248,15 +248,15 @@ module _ (B : FinMap key_cmp (List ℕ)) (F : List Item) (one : (l n : ℕ) (c :
       let layer : a.layer ≡ b.layer = one a.layer b.layer b.link (subst I is ix) (subst I b.is iy) in
       (sym a.at ∙ ap suc layer ∙ b.at, is ∙ ap (λ n. Hole n b.link) layer ∙ sym b.is)
   matched h ih m x y l r es fs ix iy e f (inr (inl a)) (inr (inr b)) =
-      let links : Some a.link ≡ Some (cid (spell b.lower (y ∷ b.rest))) = sym a.some ∙ e ∙ b.some in let link : a.link ≡ cid (spell b.lower (y ∷ b.rest)) = cc in
+      let links : Some a.link ≡ Some (cid (encode_layer b.lower (y ∷ b.rest))) = sym a.some ∙ e ∙ b.some in let link : a.link ≡ cid (encode_layer b.lower (y ∷ b.rest)) = cc in
       let at = ap (map.get B) link in let gone = a.missing in let there = b.there.0 in absurd (cc)
   matched h ih m x y l r es fs ix iy e f (inr (inr a)) (inr (inl b)) =
-      let links : Some (cid (spell a.lower (x ∷ a.rest))) ≡ Some b.link = sym a.some ∙ e ∙ b.some in let link : cid (spell a.lower (x ∷ a.rest)) ≡ b.link = cc in
+      let links : Some (cid (encode_layer a.lower (x ∷ a.rest))) ≡ Some b.link = sym a.some ∙ e ∙ b.some in let link : cid (encode_layer a.lower (x ∷ a.rest)) ≡ b.link = cc in
       let at = ap (map.get B) link in let gone = b.missing in let there = a.there.0 in absurd (cc)
   matched h ih m x y l r es fs ix iy e f (inr (inr a)) (inr (inr b)) =
-      let links : Some (cid (spell a.lower (x ∷ a.rest))) ≡ Some (cid (spell b.lower (y ∷ b.rest))) = sym a.some ∙ e ∙ b.some in let link : cid (spell a.lower (x ∷ a.rest)) ≡ cid (spell b.lower (y ∷ b.rest)) = cc in
+      let links : Some (cid (encode_layer a.lower (x ∷ a.rest))) ≡ Some (cid (encode_layer b.lower (y ∷ b.rest))) = sym a.some ∙ e ∙ b.some in let link : cid (encode_layer a.lower (x ∷ a.rest)) ≡ cid (encode_layer b.lower (y ∷ b.rest)) = cc in
       let at = ap (map.get B) link in let here = a.there.0 in let there = b.there.0 in
-      let block : spell a.lower (x ∷ a.rest) ≡ spell b.lower (y ∷ b.rest) = cc in
+      let block : encode_layer a.lower (x ∷ a.rest) ≡ encode_layer b.lower (y ∷ b.rest) = cc in
       let s = ih a.lower a.at b.lower x a.rest y b.rest a.part a.there b.part b.there ix iy block in
       (a.at ∙ ap suc s.0 ∙ sym b.at, s.1)
 
@@ -278,7 +278,7 @@ module _ (B : FinMap key_cmp (List ℕ)) (F : List Item) (one : (l n : ℕ) (c :
     pub rest : List Item
     pub part : IsPart B (suc layer) layer (item ∷ rest)
     pub there : AllThere B (nodes_at layer (item ∷ rest))
-    pub is : b ≡ spell layer (item ∷ rest)
+    pub is : b ≡ encode_layer layer (item ∷ rest)
     pub within : IsIn item X
 
   raised : (h m : ℕ) (X Y : List Item) (b : List ℕ) → h ≤ m → ((y : Item) → IsIn y X → IsIn y Y) → IsNodeOf h X b → IsNodeOf m Y b
@@ -355,20 +355,20 @@ module _ (B : FinMap key_cmp (List ℕ)) (F : List Item) (one : (l n : ℕ) (c :
   node_unlike : (h : ℕ) → Unlike h → (x : Item) (P : List Item) → IsPart B (suc h) h (x ∷ P) → AllThere B (nodes_at h (x ∷ P)) → AreSingle (x ∷ P) → ((y : Item) → IsIn y (x ∷ P) → IsIn y F) → AllUnlike (nodes_at h (x ∷ P))
   node_unlike h ih x P p t s inside =
       let X = x ∷ P in let S = part_nodes h (first_part h X) in let T = right_nodes (part_nodes h) h X in
-      (λ i. go (among_joined (spell h X) S T i), both_unlike h ih X p (there_first B S T t.1) (there_last B S T t.1) s inside (rests_unlike h ih X p (there_last B S T t.1) s inside))
+      (λ i. go (among_joined (encode_layer h X) S T i), both_unlike h ih X p (there_first B S T t.1) (there_last B S T t.1) s inside (rests_unlike h ih X p (there_last B S T t.1) s inside))
     where
-      lower : IsNodeOf h (x ∷ P) (spell h (x ∷ P)) → ⊥
+      lower : IsNodeOf h (x ∷ P) (encode_layer h (x ∷ P)) → ⊥
       lower n =
           let same : h ≡ n.layer = (all_same h n.layer x P n.item n.rest p t n.part n.there (inside x (inl refl)) (inside n.item n.within) n.is).0 in
           let low = n.low in absurd (omega arith)
 
-      go : IsAmong (spell h (x ∷ P)) (part_nodes h (first_part h (x ∷ P))) ⊎ IsAmong (spell h (x ∷ P)) (right_nodes (part_nodes h) h (x ∷ P)) → ⊥
+      go : IsAmong (encode_layer h (x ∷ P)) (part_nodes h (first_part h (x ∷ P))) ⊎ IsAmong (encode_layer h (x ∷ P)) (right_nodes (part_nodes h) h (x ∷ P)) → ⊥
       go (inl j) =
-          lower (raised h h (first_part h (x ∷ P)) (x ∷ P) (spell h (x ∷ P)) (omega arith) (in_first h (x ∷ P))
-          (all_found h (first_part h (x ∷ P)) (spell h (x ∷ P)) (first_part_of B h (x ∷ P) p) (there_first B (part_nodes h (first_part h (x ∷ P))) (right_nodes (part_nodes h) h (x ∷ P)) t.1) j))
+          lower (raised h h (first_part h (x ∷ P)) (x ∷ P) (encode_layer h (x ∷ P)) (omega arith) (in_first h (x ∷ P))
+          (all_found h (first_part h (x ∷ P)) (encode_layer h (x ∷ P)) (first_part_of B h (x ∷ P) p) (there_first B (part_nodes h (first_part h (x ∷ P))) (right_nodes (part_nodes h) h (x ∷ P)) t.1) j))
       go (inr j) =
-          lower (raised h h (rest_part h (x ∷ P)) (x ∷ P) (spell h (x ∷ P)) (omega arith) (in_rest h (x ∷ P))
-          (rests_found h (all_found h) (x ∷ P) (spell h (x ∷ P)) p (there_last B (part_nodes h (first_part h (x ∷ P))) (right_nodes (part_nodes h) h (x ∷ P)) t.1) j))
+          lower (raised h h (rest_part h (x ∷ P)) (x ∷ P) (encode_layer h (x ∷ P)) (omega arith) (in_rest h (x ∷ P))
+          (rests_found h (all_found h) (x ∷ P) (encode_layer h (x ∷ P)) p (there_last B (part_nodes h (first_part h (x ∷ P))) (right_nodes (part_nodes h) h (x ∷ P)) t.1) j))
 
   all_unlike : (h : ℕ) → Unlike h
   all_unlike zero X p t s inside = let R : List (List ℕ) → Type 0 = λ z. AllUnlike z in subst R (sym (none_zero X)) tt
@@ -380,7 +380,7 @@ module _ (B : FinMap key_cmp (List ℕ)) (F : List Item) (one : (l n : ℕ) (c :
       go (inr k) ih = unlike_part h (x ∷ P) (node_unlike h ih x P k.part k.there s inside)
 
 nodes_unlike : (B : FinMap key_cmp (List ℕ)) (r : List ℕ) (F : List Item) → IsView B r F → AllUnlike (nodes F)
-nodes_unlike B r [] v = let R : List (List ℕ) → Type 0 = λ z. AllUnlike (spell 0 [] ∷ (z ++ [])) in subst R (sym (none_empty 0)) ((λ i. i), tt)
+nodes_unlike B r [] v = let R : List (List ℕ) → Type 0 = λ z. AllUnlike (encode_layer 0 [] ∷ (z ++ [])) in subst R (sym (none_empty 0)) ((λ i. i), tt)
 nodes_unlike B r (x ∷ P) v =
     let F = x ∷ P in let h = top_layer F in let keys = keys_under_top F h (omega arith) in
     let part : IsPart B (suc h) h F = record { keys = keys; holes = holes_within h F keys v.well_laid.neighbours v.well_laid.no_lone_hole; near = v.well_laid.neighbours; formed = v.well_laid.formed; missing = v.holes } in

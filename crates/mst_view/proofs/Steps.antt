@@ -15,9 +15,9 @@ use Rattle.mst_node.specs.Nodes.{Node, EntriesAscend, IsSoundReader}
 use Rattle.mst_node.specs.NodeFaults.{AreEntriesAt, next_bound}
 use Rattle.mst_node.specs.Fits.{is_some_node}
 use Rattle.mst_node.specs.TreeReading.{go_on, rights_of}
-use Rattle.mst_node.specs.Trees.{spell}
-use Rattle.mst_node.proofs.Readers.{node_of_is_reader, told_spells}
-use Rattle.mst_view.proofs.Spelled.{spelled_node}
+use Rattle.mst_node.specs.Trees.{encode_layer}
+use Rattle.mst_node.proofs.Readers.{node_of_is_reader, told_encodes}
+use Rattle.mst_view.proofs.Encoded.{encoded_node}
 use Rattle.mst_view.specs.Layered.{LiesBelow, AllAt, below_items, rest_items, below_link, entries_of}
 use Rattle.mst_view.specs.declared.branch.Below.{Below}
 use Rattle.mst_view.specs.declared.branch.Below.TheVariants.{Empty, Hole as Stub, Tree}
@@ -32,7 +32,7 @@ sound = node_of_is_reader.sound
 
 -- the keys of a node that is told from a block ascend
 pub ascends : (b : List ℕ) (n : Node) → node_of b ≡ Some n → EntriesAscend None n.1
-ascends b n e = (told_spells b n e).is_node.ascend
+ascends b n e = (told_encodes b n e).is_node.ascend
 
 -- what blocks under links of theirs tell of the links of kind Node
 pub nodes_under : (B : FinMap key_cmp (List ℕ)) → AreLinked B → AreUnderNodeLinks B
@@ -92,8 +92,8 @@ fails_on None a b e f = tt
 fails_on (Some c) a b e f = e ∙ f
 
 -- the link of a node from the links of its parts
-pub link_of_parts : (h : ℕ) (first : Below) (parts : List Part) (left : Option (List ℕ)) (es : List Entry) (link : List ℕ) → LiesBelow h first → AllAt h parts → below_link first ≡ left → entries_of parts ≡ es → link ≡ cid (node_bytes left es) → link ≡ cid (spell h (below_items h first ++ rest_items h parts))
-link_of_parts h first parts left es link l a f k e = e ∙ ap cid (sym (spelled_node h first parts l a ∙ ap (λ x. node_bytes x (entries_of parts)) f ∙ ap (node_bytes left) k))
+pub link_of_parts : (h : ℕ) (first : Below) (parts : List Part) (left : Option (List ℕ)) (es : List Entry) (link : List ℕ) → LiesBelow h first → AllAt h parts → below_link first ≡ left → entries_of parts ≡ es → link ≡ cid (node_bytes left es) → link ≡ cid (encode_layer h (below_items h first ++ rest_items h parts))
+link_of_parts h first parts left es link l a f k e = e ∙ ap cid (sym (encoded_node h first parts l a ∙ ap (λ x. node_bytes x (entries_of parts)) f ∙ ap (node_bytes left) k))
 
 some_first : (h : ℕ) (first : Below) (c : List ℕ) → LiesBelow h first → below_link first ≡ Some c → 0 < length (below_items h first)
 some_first h Empty c l e = absurd (cc)

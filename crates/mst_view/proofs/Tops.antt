@@ -32,7 +32,7 @@ use Rattle.mst_view.specs.HoleLinks.{hole_links}
 module _ (read : List ℕ → Option Node) (sound : IsSoundReader read) (B : FinMap key_cmp (List ℕ)) (under : AreUnderNodeLinks B) where
   -- what is known of a top node that passes
   pub record IsTopKnown (b : List ℕ) (left : Option (List ℕ)) (es : List Entry) : Type 0 where
-    pub spelled : b ≡ node_bytes left es
+    pub encoded : b ≡ node_bytes left es
     pub kind : IsChildLink left
     pub entries : AreEntriesAt (layer_of es) None None es
     pub lowest : layer_of es ≡ 0 → left ≡ None
@@ -42,7 +42,7 @@ module _ (read : List ℕ → Option Node) (sound : IsSoundReader read) (B : Fin
       let g = sound.gives b (left, es) e in
       let p = both_true (may_hang (layer_of es) left && may_top (left, es)) (entries_fit (layer_of es) None None es) f in
       let q = both_true (may_hang (layer_of es) left) (may_top (left, es)) p.0 in
-      record { spelled = g.0; kind = g.1; entries = fit_true (layer_of es) None None es g.2 p.1; lowest = hang_true (layer_of es) left q.0 }
+      record { encoded = g.0; kind = g.1; entries = fit_true (layer_of es) None None es g.2 p.1; lowest = hang_true (layer_of es) left q.0 }
 
   pub tree_of : (r b : List ℕ) (n : Node) (F : List Item) → read b ≡ Some n → top_fits n ≡ true → parts_of (part_at in_part read B (layer_of n.1)) None None n ≡ Ok F → all_differ bytes_eq (hole_links F) ≡ true → tree_at read B r b ≡ Ok F
   tree_of r b n F e f p d = rw (e, f, p, d) refl

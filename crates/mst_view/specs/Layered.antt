@@ -5,7 +5,7 @@ use Rattle.mst_list.specs.declared.item.Item.{Item}
 use Rattle.mst_list.specs.declared.item.Item.TheVariants.{Key, Hole}
 use Rattle.mst_list.specs.Height.{height}
 use Rattle.mst_node.specs.declared.entry.Entry.{Entry}
-use Rattle.mst_node.specs.Trees.{spell, KeysUnder, HolesUnder}
+use Rattle.mst_node.specs.Trees.{encode_layer, KeysUnder, HolesUnder}
 use Rattle.mst_view.specs.Value.{Layered}
 use Rattle.mst_view.specs.declared.branch.Below.{Below}
 use Rattle.mst_view.specs.declared.branch.Below.TheVariants.{Empty, Hole as Stub, Tree}
@@ -23,7 +23,7 @@ rest_items h (p ∷ parts) = Key p.key p.value ∷ (below_items h p.below ++ res
 abbrev pub layered : ℕ → Below → List Part → Layered
 layered h first parts = record { layer = h; items = below_items h first ++ rest_items h parts }
 
--- a list that a node at a layer spells: no key above the layer, each hole below it, and not empty
+-- a list that a node at a layer encodes: no key above the layer, each hole below it, and not empty
 pub record IsAtLayer (v : Layered) : Type 0 where
   pub keys : KeysUnder (suc v.layer) v.items
   pub holes : HolesUnder v.layer v.items
@@ -39,10 +39,10 @@ abbrev pub AllAt : ℕ → List Part → Type 0
 AllAt h [] = Unit {0}
 AllAt h (p ∷ parts) = (height p.key ≡ h) × LiesBelow h p.below × AllAt h parts
 
--- a link that is kept is the link of the spelled block
+-- a link that is kept is the link of the encoded block
 abbrev pub IsKept : Layered → Option (List ℕ) → Type 0
 IsKept v None = Unit {0}
-IsKept v (Some c) = c ≡ cid (spell v.layer v.items)
+IsKept v (Some c) = c ≡ cid (encode_layer v.layer v.items)
 
 pub record IsLayered (h : ℕ) (kept : Option (List ℕ)) (first : Below) (parts : List Part) : Type 0 where
   pub first_lies : LiesBelow h first
@@ -53,7 +53,7 @@ pub record IsLayered (h : ℕ) (kept : Option (List ℕ)) (first : Below) (parts
 abbrev pub below_link : Below → Option (List ℕ)
 below_link Empty = None
 below_link (Stub c) = Some c
-below_link (Tree b) = Some (cid (spell b.value.layer b.value.items))
+below_link (Tree b) = Some (cid (encode_layer b.value.layer b.value.items))
 
 -- what is known of a subtree by its link alone
 abbrev pub stub_of : Option (List ℕ) → Below

@@ -1,4 +1,4 @@
--- Blocks that are hashed in pieces as they are spelled. No clause that another crate sees cites it.
+-- Blocks that are hashed in pieces as they are encoded. No clause that another crate sees cites it.
 use Rattle.std.specs.Prelude.{◌≡◌, ℕ, List, ◌++◌}
 use Rattle.sha2.specs.declared.Sha256.{Sha256}
 use Rattle.sha2.specs.Hashers.{Holds256}

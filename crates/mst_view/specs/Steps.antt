@@ -7,7 +7,7 @@ use Rattle.mst_node.specs.Nodes.{IsChildLink}
 use Rattle.mst_node.specs.TreeReading.{go_on}
 use Rattle.mst_view.specs.declared.reading.ReadFault.{ReadFault}
 
--- the link of the block at fault; the want of memory is no fault of a block
+-- the link of the block at fault; running out of memory is no fault of a block
 abbrev pub link_at_fault : ReadFault → Option (List ℕ)
 link_at_fault (ReadFault.BadNode c) = Some c
 link_at_fault ReadFault.Memory = None

@@ -24,7 +24,7 @@ IsViewFault B r (ViewFault.NoBlock c) = (c ≡ r) × (map.get B r ≡ None)
 IsViewFault B r (ViewFault.BadNode c) = IsAtFault B r c
 IsViewFault B r ViewFault.Memory = Unit {0}
 
--- no list is a view, unless memory was wanted
+-- no list is a view, unless memory ran out
 abbrev pub HasNoView : FinMap key_cmp (List ℕ) → List ℕ → ViewFault → Type 0
 HasNoView B r ViewFault.Memory = Unit {0}
 HasNoView B r fault = (F : List Item) → IsView B r F → ⊥

@@ -65,7 +65,7 @@ impl<'a> AtHand<'a> {
         ensures bytes { IfSome result (λ block. IsBytes block.now) }
         ensures linked { AreLinked self.now }
     {
-        self.blocks.tell_linked();
+        self.blocks.ghost_linked();
         if self.marks[place_of(link)] {
             self.blocks.get(link)
         } else {

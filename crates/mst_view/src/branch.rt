@@ -9,7 +9,7 @@ use std::marker::Model;
 
 /// A node (Repository specification, MST structure), seen in contracts as its layer and the list of what it holds.
 ///
-/// A node is kept with its link where that is known, so that a subtree that nobody touched is never spelled again.
+/// A node is kept with its link where that is known, so that a subtree that nobody touched is never encoded again.
 #[cycle(branch)]
 #[derive(Debug, Drop)]
 pub struct Branch {

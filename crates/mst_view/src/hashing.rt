@@ -1,4 +1,4 @@
-//! Blocks that are hashed in pieces as they are spelled.
+//! Blocks that are hashed in pieces as they are encoded.
 
 ghost use Rattle.std.specs.Prelude.{◌≡◌, ◌≤◌, ◌++◌, List, ℕ, length, take, drop};
 ghost use Rattle.at_cid.specs.Link.{cid, prefix_of};
@@ -23,7 +23,7 @@ pub(crate) fn hand_over(room: &mut Octets, start: usize, hash: &mut Sha256)
 }
 
 /// The same where the room holds more than [`PIECE`]: so it stays small, however long a block is, and however many of them
-/// are spelled one behind the other.
+/// are encoded one behind the other.
 #[inline]
 pub(crate) fn hand_over_piece(room: &mut Octets, start: usize, hash: &mut Sha256)
     requires { start ≤ length room.old }

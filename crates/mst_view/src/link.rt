@@ -2,7 +2,7 @@
 
 ghost use Rattle.std.specs.Prelude.{◌≡◌, IfOk, OnOk};
 ghost use Rattle.at_cid.specs.Link.{cid};
-ghost use Rattle.mst_node.specs.Trees.{spell};
+ghost use Rattle.mst_node.specs.Trees.{encode_layer};
 
 use crate::branch::{Below, Branch};
 use crate::hashing::{PIECE, hand_over, hand_over_piece, hashed_link};
@@ -18,7 +18,7 @@ const MOST_ENTRY_BYTES: usize = 97;
 const MOST_ROOM: usize = PIECE + MOST_KEY_BYTES + MOST_ENTRY_BYTES;
 /// The least number of keys that aren't few.
 const MANY_KEYS: usize = 16;
-/// Room for ordinary nodes of few keys that are spelled one behind the other.
+/// Room for ordinary nodes of few keys that are encoded one behind the other.
 const ORDINARY_ROOM: usize = 1 << 12;
 
 /// Room for the blocks of a node with so many keys and of the nodes below it. Takes no memory.
@@ -31,10 +31,10 @@ fn room_for(count: usize) -> usize {
 }
 
 impl Branch {
-    /// The link of the node's block. Only nodes whose link isn't known are spelled, their keys lent, all in one room, and
+    /// The link of the node's block. Only nodes whose link isn't known are encoded, their keys lent, all in one room, and
     /// long blocks are hashed in pieces.
     pub fn link_of(&self, alloc: Global) -> Result<Cid, Memory>
-        ensures { IfOk result (λ link. link ≡ cid (spell self.now.layer self.now.items)) }
+        ensures { IfOk result (λ link. link ≡ cid (encode_layer self.now.layer self.now.items)) }
     {
         if let Some(link) = self.link {
             return Ok(link);
@@ -43,10 +43,10 @@ impl Branch {
         self.link_behind(&mut room)
     }
 
-    // The same. What is spelled lies behind what the room holds, and is cut off again: so the blocks of the nodes below are
-    // spelled behind the part of this node's block that is there. Mostly that is the whole block, which is hashed at once.
+    // The same. What is encoded lies behind what the room holds, and is cut off again: so the blocks of the nodes below are
+    // encoded behind the part of this node's block that is there. Mostly that is the whole block, which is hashed at once.
     fn link_behind(&self, room: &mut Octets) -> Result<Cid, Memory>
-        ensures link { IfOk result (λ link. link ≡ cid (spell self.now.layer self.now.items)) }
+        ensures link { IfOk result (λ link. link ≡ cid (encode_layer self.now.layer self.now.items)) }
         ensures room { OnOk result (room.new ≡ room.old) }
     {
         if let Some(link) = self.link {

@@ -9,7 +9,7 @@ ghost use Rattle.at_car.specs.Blocks.{AreLinked};
 ghost use Rattle.mst_node.specs.NodeBytes.{node_bytes};
 ghost use Rattle.mst_node.specs.Nodes.{IsChildLink};
 ghost use Rattle.mst_node.specs.Reading.{node_of};
-ghost use Rattle.mst_node.specs.Trees.{spell};
+ghost use Rattle.mst_node.specs.Trees.{encode_layer};
 ghost use Rattle.mst_view.specs.Layered.{LiesBelow, IsAtLayer, AllAt, below_items, rest_items, below_link, entries_of, is_bare};
 ghost use Rattle.mst_node.specs.FirstFault.{in_part};
 ghost use Rattle.mst_node.specs.Fits.{is_some_node};
@@ -148,7 +148,7 @@ fn read_rights(
     Ok(())
 }
 
-/// The node at a layer, between two keys, that the block under a link spells.
+/// The node at a layer, between two keys, that the block under a link encodes.
 #[cycle(read)]
 #[inline(always)]
 pub(crate) fn read_branch(
@@ -168,7 +168,7 @@ pub(crate) fn read_branch(
     requires link_is { link ≡ cid (node_bytes left (entries_of parts.items)) }
     ensures gives { Gives (λ branch. branch.items) link_at_fault result (parts_of (part_at in_part node_of blocks.now layer) (option_map (λ k. k.now) low.entry) (option_map (λ k. k.now) high.entry) (left, entries_of parts.items)) }
     ensures layer { IfOk result (λ branch. branch.layer ≡ layer) }
-    ensures link { IfOk result (λ branch. cid (spell branch.layer branch.items) ≡ link) }
+    ensures link { IfOk result (λ branch. cid (encode_layer branch.layer branch.items) ≡ link) }
     ensures at { is_some_node (left, entries_of parts.items) ≡ true → IfOk result IsAtLayer }
 {
     let mut rest = parts;

@@ -53,7 +53,7 @@ impl StubTree {
     }
 
     /// The link of the top node's block, which is the root of the list; that of the node with neither entry nor link
-    /// where the list is empty. Only nodes whose link isn't known are spelled.
+    /// where the list is empty. Only nodes whose link isn't known are encoded.
     pub fn top_link(&self, alloc: Global) -> Result<Cid, Memory>
         ensures { IfOk result (λ link. link ≡ root self.now) }
     {

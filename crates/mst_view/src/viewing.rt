@@ -100,7 +100,7 @@ fn view_at(alloc: Global, blocks: &AtHand, root: Cid) -> Result<StubTree, ViewFa
     }
 }
 
-/// The tree of the blocks at a root, whose link is of kind Node: each node is spelled by its block, and a link whose
+/// The tree of the blocks at a root, whose link is of kind Node: each node is encoded by its block, and a link whose
 /// block isn't there is a hole.
 ///
 /// It goes down at most 129 layers, holds no node with keys twice, and takes memory in proportion to the blocks.

@@ -23,11 +23,11 @@ picked_from picks None b e = e
 picked_from picks (Some a) b e = elim (picks a) as (λ t. cond t (Some a) None ≡ Some b → Some a ≡ Some b) [ true ↦ λ h. h | false ↦ λ h. absurd (cc) ] e
 
 module _ (some blocks : FinMap key_cmp (List ℕ)) (are : (c : List ℕ) → map.get some c ≡ picked is_node_block (map.get blocks c)) where
-  all_there : (S : List (List ℕ)) → AllThere some S → AllThere blocks S
+  pub all_there : (S : List (List ℕ)) → AllThere some S → AllThere blocks S
   all_there [] t = tt
   all_there (b ∷ S) t = (picked_from is_node_block (map.get blocks (cid b)) b (sym (are (cid b)) ∙ t.0), all_there S t.1)
 
-no_holes : (B : FinMap key_cmp (List ℕ)) (F : List Item) → KeysOnly F → NoHoleThere B F
+pub no_holes : (B : FinMap key_cmp (List ℕ)) (F : List Item) → KeysOnly F → NoHoleThere B F
 no_holes B [] keys = tt
 no_holes B (Key k v ∷ F) keys = no_holes B F keys
 no_holes B (Hole l c ∷ F) keys = absurd keys

@@ -28,7 +28,7 @@ told_err : (B : FinMap key_cmp (List ℕ)) (r : Result (List Item) (List ℕ)) (
 told_err B (Ok F) fault e = absurd (cc)
 told_err B (Err c) fault e = (c, refl, let same : fault_at c (map.get B c) ≡ fault = cc in sym same)
 
-under_links : (B : BlockMap) → AreLinked B → AreUnderNodeLinks B
+pub under_links : (B : BlockMap) → AreLinked B → AreUnderNodeLinks B
 under_links B linked = λ c b node at. node_link c b (linked c b at) node.node
 
 pub keys_given : (B : BlockMap) (r : List ℕ) (result : Result ℕ WalkFault) → AreLinked B → IsNodeLink r → Gives (λ n. n) cause_of result (walked B r) → IfOk result (HasKeys B r)

@@ -16,7 +16,7 @@ use Rattle.mst_whole.specs.declared.walking.WalkFault.{WalkFault}
 abbrev pub count : Result (List Item) (List ℕ) → Result ℕ (List ℕ)
 count read = go_on read (λ F. Ok (length F))
 
--- the link of the block at fault; the want of memory is no fault of a block
+-- the link of the block at fault; running out of memory is no fault of a block
 abbrev pub link_at_fault : CountFault → Option (List ℕ)
 link_at_fault (CountFault.At c) = Some c
 link_at_fault CountFault.Memory = None

@@ -22,20 +22,20 @@ IsWalkFault B r (WalkFault.NoBlock c) = (map.get B c ≡ None) × IsFirstTopFaul
 IsWalkFault B r (WalkFault.BadNode c) = ((b : List ℕ) × (map.get B c ≡ Some b)) × IsFirstTopFault in_whole B r c
 IsWalkFault B r WalkFault.Memory = Unit {0}
 
--- what a walk answers, but for the want of memory
+-- what a walk answers, but for running out of memory
 abbrev pub IsWalked : FinMap key_cmp (List ℕ) → List ℕ → Result ℕ WalkFault → Type 0
 IsWalked B r (Ok n) = HasKeys B r n
 IsWalked B r (Err (WalkFault.NoBlock c)) = IsWalkFault B r (WalkFault.NoBlock c)
 IsWalked B r (Err (WalkFault.BadNode c)) = IsWalkFault B r (WalkFault.BadNode c)
 IsWalked B r (Err WalkFault.Memory) = ⊥
 
--- what is wrong, unless memory was wanted
+-- what is wrong, unless memory ran out
 abbrev pub cause_of : WalkFault → Option WalkFault
 cause_of (WalkFault.NoBlock c) = Some (WalkFault.NoBlock c)
 cause_of (WalkFault.BadNode c) = Some (WalkFault.BadNode c)
 cause_of WalkFault.Memory = None
 
--- the result is the answer of the walk, whichever that is, unless memory was wanted
+-- the result is the answer of the walk, whichever that is, unless memory ran out
 abbrev pub WalksExactly : FinMap key_cmp (List ℕ) → List ℕ → Result ℕ WalkFault → Type 0
 WalksExactly B r result = (answer : Result ℕ WalkFault) → IsWalked B r answer → Gives (λ n. n) cause_of result answer
 

@@ -1,6 +1,6 @@
 //! Counting the keys of a tree, node by node.
 
-ghost use Rattle.std.specs.Prelude.{◌≡◌, ◌≤◌, ◌+◌, ◌-◌, ◌^◌, IfOk, IfErr, option_map};
+ghost use Rattle.std.specs.Prelude.{◌≡◌, ◌<◌, ◌+◌, ◌-◌, ◌^◌, IfOk, IfErr, option_map};
 ghost use Rattle.at_cid.specs.Memory.{Gives};
 ghost use Rattle.mst_node.specs.FirstFault.{in_whole};
 ghost use Rattle.mst_node.specs.Reading.{node_of};
@@ -9,7 +9,7 @@ ghost use Rattle.mst_whole.specs.Counting.{count, link_at_fault};
 ghost use Rattle.mst_whole.specs.declared.counting.CountFault.{CountFault};
 
 use at_car::Blocks;
-use at_cid::Cid;
+use at_cid::{Cid, NUMBERS};
 use mst_node::{Entry, NodeFault, layer_of, next_key, node_fits, read_node, top_fits};
 use std::alloc::Global;
 
@@ -18,20 +18,17 @@ use std::alloc::Global;
 pub(crate) enum CountFault {
     /// The block under this link isn't there, is no node, or may not stand at its place.
     At(Cid),
-    /// Memory was wanted, or there are more keys than are counted.
+    /// Memory ran out, or there are more keys than are counted.
     Memory,
 }
 
-/// The most keys that are counted: 2^53 - 1, as the numbers of records go (own limit).
-pub const MOST_KEYS: u64 = 9_007_199_254_740_991;
-
 fn add(some: u64, more: u64) -> Result<u64, CountFault>
     ensures sum { IfOk result (λ n. n ≡ some + more) }
-    ensures most { IfOk result (λ n. n ≤ MOST_KEYS) }
+    ensures most { IfOk result (λ n. n < NUMBERS) }
     ensures wants { IfErr result (λ e. e ≡ CountFault.Memory) }
 {
     match some.checked_add(more) {
-        Some(sum) if sum <= MOST_KEYS => Ok(sum),
+        Some(sum) if sum < NUMBERS => Ok(sum),
         _ => Err(CountFault::Memory),
     }
 }
@@ -47,7 +44,7 @@ fn count_below(
     link: Option<Cid>,
 ) -> Result<u64, CountFault>
     ensures gives { Gives (λ n. n) link_at_fault result (count (part_at in_whole node_of blocks.now layer (option_map (λ k. k.now) low.entry) (option_map (λ k. k.now) high.entry) link)) }
-    ensures most { IfOk result (λ n. n ≤ MOST_KEYS) }
+    ensures most { IfOk result (λ n. n < NUMBERS) }
 {
     if layer == 0 {
         return Ok(0);
@@ -88,7 +85,7 @@ fn count_rest(
     entries: &[Entry],
 ) -> Result<u64, CountFault>
     ensures gives { Gives (λ n. n) link_at_fault result (count (rights_of (part_at in_whole node_of blocks.now layer) (option_map (λ k. k.now) high.entry) entries.now)) }
-    ensures most { IfOk result (λ n. n ≤ MOST_KEYS) }
+    ensures most { IfOk result (λ n. n < NUMBERS) }
 {
     let mut keys = 0;
     let mut rest = entries;
@@ -121,7 +118,7 @@ fn count_parts(
     entries: &[Entry],
 ) -> Result<u64, CountFault>
     ensures gives { Gives (λ n. n) link_at_fault result (count (parts_of (part_at in_whole node_of blocks.now layer) (option_map (λ k. k.now) low.entry) (option_map (λ k. k.now) high.entry) (left, entries.now))) }
-    ensures most { IfOk result (λ n. n ≤ MOST_KEYS) }
+    ensures most { IfOk result (λ n. n < NUMBERS) }
 {
     let first = count_below(alloc, blocks, layer, low, next_key(high, entries), left)?;
     let rest = count_rest(alloc, blocks, layer, high, entries)?;
@@ -131,7 +128,7 @@ fn count_parts(
 /// The keys of the tree at a root.
 pub(crate) fn count_all(alloc: Global, blocks: &Blocks, root: Cid) -> Result<u64, CountFault>
     ensures gives { Gives (λ n. n) link_at_fault result (count (whole_of node_of blocks.now root)) }
-    ensures most { IfOk result (λ n. n ≤ MOST_KEYS) }
+    ensures most { IfOk result (λ n. n < NUMBERS) }
 {
     let Some(block) = blocks.get(&root) else {
         return Err(CountFault::At(root));

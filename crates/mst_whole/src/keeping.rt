@@ -1,7 +1,8 @@
 //! Walks over what was kept of a CAR that came in pieces.
 
-ghost use Rattle.std.specs.Prelude.{◌≡◌, ◌≤◌, ◌||◌, is_some, IfOk, IfErr, Ok};
+ghost use Rattle.std.specs.Prelude.{◌≡◌, ◌<◌, ◌||◌, is_some, IfOk, IfErr, Ok};
 ghost use Rattle.std.specs.FinMap as map;
+ghost use Rattle.at_cid.specs.declared.limits.TheConstants.{NUMBERS};
 ghost use Rattle.at_cid.specs.Link.{IsNodeLink};
 ghost use Rattle.at_cid.specs.Memory.{Gives};
 ghost use Rattle.at_car.specs.Blocks.{BlockMap};
@@ -10,7 +11,7 @@ ghost use Rattle.at_car.specs.Links.{has};
 ghost use Rattle.mst_whole.specs.Counting.{fault_in, kept_fault_of, walked};
 ghost use Rattle.mst_whole.specs.Walks.{cause_of, is_node_block, HasKeys, IsWalkFault, WalksExactly};
 
-use crate::counting::{CountFault, MOST_KEYS, count_all};
+use crate::counting::{CountFault, count_all};
 use crate::walking::WalkFault;
 use at_car::{Kept, Sieve};
 use at_cid::{Cid, Memory};
@@ -68,7 +69,7 @@ fn fault_of(kept: &Kept, fault: CountFault) -> WalkFault
 fn walk_at(alloc: Global, kept: &Kept, root: Cid) -> Result<u64, WalkFault>
     ensures walked { (blocks : BlockMap) → IsKeptOf is_node_block blocks kept.now → Gives (λ n. n) cause_of result (walked blocks root) }
     ensures nodes { IfOk result (λ n. walked kept.now.nodes root ≡ Ok n) }
-    ensures most { IfOk result (λ n. n ≤ MOST_KEYS) }
+    ensures most { IfOk result (λ n. n < NUMBERS) }
 {
     match count_all(alloc, &kept.nodes, root) {
         Ok(keys) => Ok(keys),
@@ -81,8 +82,8 @@ pub fn walk_kept(alloc: Global, kept: &Kept, root: &Cid) -> Result<u64, WalkFaul
     ensures whole { (blocks : BlockMap) → IsKeptOf is_node_block blocks kept.now → IsNodeLink root.now → IfOk result (HasKeys blocks root.now) }
     ensures fault { (blocks : BlockMap) → IsKeptOf is_node_block blocks kept.now → IfErr result (IsWalkFault blocks root.now) }
     ensures exact { (blocks : BlockMap) → IsKeptOf is_node_block blocks kept.now → WalksExactly blocks root.now result }
-    ensures most { IfOk result (λ n. n ≤ MOST_KEYS) }
+    ensures most { IfOk result (λ n. n < NUMBERS) }
 {
-    kept.nodes.tell_linked();
+    kept.nodes.ghost_linked();
     walk_at(alloc, kept, *root)
 }

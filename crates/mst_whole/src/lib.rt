@@ -5,6 +5,5 @@ mod counting;
 mod keeping;
 mod walking;
 
-pub use counting::MOST_KEYS;
 pub use keeping::{NodeSieve, walk_kept};
 pub use walking::{WalkFault, walk};

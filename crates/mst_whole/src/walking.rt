@@ -1,13 +1,14 @@
 //! Walks of a whole tree.
 
-ghost use Rattle.std.specs.Prelude.{◌≡◌, ◌≤◌, IfOk, IfErr};
+ghost use Rattle.std.specs.Prelude.{◌≡◌, ◌<◌, IfOk, IfErr};
 ghost use Rattle.std.specs.FinMap as map;
+ghost use Rattle.at_cid.specs.declared.limits.TheConstants.{NUMBERS};
 ghost use Rattle.at_cid.specs.Link.{IsNodeLink};
 ghost use Rattle.at_cid.specs.Memory.{Gives};
 ghost use Rattle.mst_whole.specs.Counting.{fault_at, fault_of, walked};
 ghost use Rattle.mst_whole.specs.Walks.{cause_of, HasKeys, IsWalkFault, WalksExactly};
 
-use crate::counting::{CountFault, MOST_KEYS, count_all};
+use crate::counting::{CountFault, count_all};
 use at_car::Blocks;
 use at_cid::Cid;
 use std::alloc::Global;
@@ -22,7 +23,7 @@ pub enum WalkFault {
     /// The first fault is that the block under this link is no node, or may not stand at its place.
     #[error("a block is no node of the tree")]
     BadNode(Cid),
-    /// Memory was wanted, or the tree has more than [`MOST_KEYS`] keys.
+    /// Memory ran out, or the tree has `NUMBERS` keys or more.
     #[error("out of memory")]
     Memory,
 }
@@ -36,9 +37,9 @@ pub fn walk(alloc: Global, blocks: &Blocks, root: &Cid) -> Result<u64, WalkFault
     ensures whole { IfOk result (HasKeys blocks.now root.now) }
     ensures fault { IfErr result (IsWalkFault blocks.now root.now) }
     ensures exact { WalksExactly blocks.now root.now result }
-    ensures most { IfOk result (λ n. n ≤ MOST_KEYS) }
+    ensures most { IfOk result (λ n. n < NUMBERS) }
 {
-    blocks.tell_linked();
+    blocks.ghost_linked();
     walk_at(alloc, blocks, *root)
 }
 
@@ -64,7 +65,7 @@ fn fault_of(blocks: &Blocks, fault: CountFault) -> WalkFault
 
 fn walk_at(alloc: Global, blocks: &Blocks, root: Cid) -> Result<u64, WalkFault>
     ensures walked { Gives (λ n. n) cause_of result (walked blocks.now root) }
-    ensures most { IfOk result (λ n. n ≤ MOST_KEYS) }
+    ensures most { IfOk result (λ n. n < NUMBERS) }
 {
     match count_all(alloc, blocks, root) {
         Ok(keys) => Ok(keys),

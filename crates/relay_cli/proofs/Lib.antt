@@ -1,3 +1,3 @@
 pub mod Verdicts
 pub mod Words
-pub mod Spelled
+pub mod Encoded

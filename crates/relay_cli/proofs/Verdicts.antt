@@ -5,9 +5,9 @@ use Rattle.at_event.specs.declared.event.CommitEvent.{CommitEvent}
 use Rattle.at_event.specs.declared.refusal.Refusal.{Refusal}
 use Rattle.commit_check.specs.declared.checked.Checked.{Checked}
 use Rattle.commit_check.specs.declared.fault.CheckFault.{CheckFault}
-use Rattle.commit_check.specs.Checking.{IsAccepted, IsCovered, IsRefused, IsRefusedWith}
+use Rattle.commit_check.specs.Checking.{IsAccepted, IsCoveredAlone, IsRefused, IsRefusedWith}
 use Rattle.commit_check.specs.Refusing.{IsMemory, RefusesWith, refusal_of}
-use Rattle.relay_cli.specs.declared.verdict.Verdict.{Verdict}
+use Rattle.relay_cli.specs.declared.verdict.CheckVerdict.{CheckVerdict}
 use Rattle.relay_cli.specs.Verdicts.{JudgesCommit}
 
 told_once : (one other : Refusal) (a b : Result Checked Refusal) → a ≡ Err one → b ≡ Err other → a ≡ b → one ≡ other
@@ -17,8 +17,8 @@ told_once one other a b a_is b_is same = cc
 pub accepts_alone : (refusal : Refusal) (checked : Checked) → RefusesWith refusal (Ok checked) → ⊥
 accepts_alone refusal checked told = absurd (cc)
 
-pub judged : (e : CommitEvent) (fault : CheckFault) (refusal : Refusal) → fault ≡ CheckFault.Refused refusal → IsRefused e fault → ((other : Refusal) → IsRefusedWith e other → Fails {Y = Checked} (refusal_of fault) (Err other)) → ((from to : List ℕ) → IsAccepted e from to → IsMemory fault) → (IsCovered e → IsMemory fault)
-    → JudgesCommit e (Verdict.Refused refusal)
+pub judged : (e : CommitEvent) (fault : CheckFault) (refusal : Refusal) → fault ≡ CheckFault.Refused refusal → IsRefused e fault → ((other : Refusal) → IsRefusedWith e other → Fails {Y = Checked} (refusal_of fault) (Err other)) → ((from to : List ℕ) → IsAccepted e from to → IsMemory fault) → (IsCoveredAlone e → IsMemory fault)
+    → JudgesCommit e (CheckVerdict.Refused refusal)
 judged e fault refusal is refused exact only covered =
     let P : CheckFault → Type 0 = IsRefused e in
     let Q : CheckFault → Type 0 = IsMemory in

@@ -1,21 +1,21 @@
--- Operators' words as texts that are equal.
+-- Operators' commands as texts that are equal.
 use Rattle.std.proofs.Common.{◌≡◌, ℕ, Bool, List, subst}
 use Rattle.relay_run.specs.Ends.{IsCausedBy}
 use Rattle.relay_run.specs.declared.end.RunEnd.{RunEnd}
 use Rattle.relay_store.specs.declared.fault.StoreFault.{StoreFault}
 use Rattle.relay_cli.specs.declared.status.Status.{Status}
-use Rattle.relay_cli.specs.Runs.{Faults, IsFollowed, IsOperated, IsSynced, Place, Tells}
+use Rattle.relay_cli.specs.Runs.{Faults, IsFollowed, RanOperated, IsSynced, Place, OutsideTells}
 
-pub operated_of : (did given time told : List ℕ) (down : Bool) (t : Tells) (old new : Place) (status : Status) → given ≡ did → told ≡ time → IsOperated given down told t old new status → IsOperated did down time t old new status
+pub operated_of : (did given time told : List ℕ) (down : Bool) (t : OutsideTells) (old new : Place) (status : Status) → given ≡ did → told ≡ time → RanOperated given down told t old new status → RanOperated did down time t old new status
 operated_of did given time told down t old new status same at done =
-    subst (λ (x : List ℕ). IsOperated x down time t old new status) same (subst (λ (y : List ℕ). IsOperated given down y t old new status) at done)
+    subst (λ (x : List ℕ). RanOperated x down time t old new status) same (subst (λ (y : List ℕ). RanOperated given down y t old new status) at done)
 
-pub synced_of : (did given time told : List ℕ) (t : Tells) (old new : Place) (status : Status) → given ≡ did → told ≡ time → IsSynced given told t old new status → IsSynced did time t old new status
+pub synced_of : (did given time told : List ℕ) (t : OutsideTells) (old new : Place) (status : Status) → given ≡ did → told ≡ time → IsSynced given told t old new status → IsSynced did time t old new status
 synced_of did given time told t old new status same at done = subst (λ (x : List ℕ). IsSynced x time t old new status) same (subst (λ (y : List ℕ). IsSynced given y t old new status) at done)
 
 -- no authority is left where that ended it
 pub spent_by : (disk write spent repos clock : Type 0) (end : RunEnd) → IsCausedBy disk write spent repos clock end → end ≡ RunEnd.Fault StoreFault.Authority → spent
 spent_by disk write spent repos clock end caused is = subst (IsCausedBy disk write spent repos clock) is caused
 
-pub followed_of : (host given : List ℕ) (count : ℕ) (t : Tells) (old new : Place) (failed failed_now : Faults) (status : Status) → given ≡ host → IsFollowed given count t old new failed failed_now status → IsFollowed host count t old new failed failed_now status
+pub followed_of : (host given : List ℕ) (count : ℕ) (t : OutsideTells) (old new : Place) (failed failed_now : Faults) (status : Status) → given ≡ host → IsFollowed given count t old new failed failed_now status → IsFollowed host count t old new failed failed_now status
 followed_of host given count t old new failed failed_now status same done = subst (λ (x : List ℕ). IsFollowed x count t old new failed failed_now status) same done

@@ -1,26 +1,27 @@
--- The commands, by the words that each is spelled with.
-use Rattle.std.specs.Prelude.{◌≡◌, ℕ, ◌≤◌, List, [], ◌∷◌, IsTrue, length, codes, decimal, ⊤}
+-- The commands, by the words that each is encoded with.
+use Rattle.std.specs.Prelude.{◌≡◌, ℕ, ◌≤◌, ◌-◌, List, [], ◌∷◌, IsTrue, length, codes, decimal, ⊤}
 use Rattle.at_syntax.specs.Did.{is_did}
 use Rattle.at_syntax.specs.Host.{is_host}
 use Rattle.relay_cli.specs.declared.verb.Verb.{Verb}
-use Rattle.relay_cli.specs.declared.arguments.TheConstants.{LONGEST_TIME}
+use Rattle.at_form.specs.declared.forms.TheConstants.{LONGEST_SHORT_TEXT}
 use Rattle.relay_cli.specs.declared.command.Command.{Command}
-use Rattle.relay_cli.specs.declared.command.TheConstants.{LAST_NUMBER, MOST, MOST_TRIED}
+use Rattle.at_cid.specs.declared.limits.TheConstants.{NUMBERS}
+use Rattle.relay_cli.specs.declared.command.TheConstants.{MOST, MOST_TRIED}
 
 -- the first word
-abbrev pub name_of : Verb → List ℕ
-name_of Verb.Check = codes "check"
-name_of Verb.Ingest = codes "ingest"
-name_of Verb.Follow = codes "follow"
-name_of Verb.Replay = codes "replay"
-name_of Verb.Serve = codes "serve"
-name_of Verb.Account = codes "account"
-name_of Verb.Hosts = codes "hosts"
-name_of Verb.Takedown = codes "takedown"
-name_of Verb.Restore = codes "restore"
-name_of Verb.Sync = codes "sync"
-name_of Verb.Cut = codes "cut"
-name_of Verb.Trial = codes "trial"
+abbrev pub verb_name : Verb → List ℕ
+verb_name Verb.Check = codes "check"
+verb_name Verb.Ingest = codes "ingest"
+verb_name Verb.Follow = codes "follow"
+verb_name Verb.Replay = codes "replay"
+verb_name Verb.Serve = codes "serve"
+verb_name Verb.Account = codes "account"
+verb_name Verb.Hosts = codes "hosts"
+verb_name Verb.Takedown = codes "takedown"
+verb_name Verb.Restore = codes "restore"
+verb_name Verb.Sync = codes "sync"
+verb_name Verb.Cut = codes "cut"
+verb_name Verb.Trial = codes "trial"
 
 abbrev pub verb_of : Command → Verb
 verb_of Command.Check = Verb.Check
@@ -58,22 +59,22 @@ pub record IsNumber (least most n : ℕ) : Type 0 where
 -- a time is passed on as it is, neither empty nor too long
 pub record IsTime (time : List ℕ) : Type 0 where
   pub some : 1 ≤ length time
-  pub short : length time ≤ LONGEST_TIME
+  pub short : length time ≤ LONGEST_SHORT_TEXT
 
 -- each argument is in its range, or of its form
 abbrev pub IsInForm : Command → Type 0
 IsInForm Command.Check = ⊤
 IsInForm Command.Ingest = ⊤
 IsInForm (Command.Follow host count) = IsTrue (is_host host) × IsNumber 1 MOST count
-IsInForm (Command.Replay cursor) = IsNumber 0 LAST_NUMBER cursor
+IsInForm (Command.Replay cursor) = IsNumber 0 (NUMBERS - 1) cursor
 IsInForm (Command.Serve count) = IsNumber 1 MOST count
 IsInForm (Command.Account did) = IsTrue (is_did did)
 IsInForm Command.Hosts = ⊤
 IsInForm (Command.Takedown did time) = IsTrue (is_did did) × IsTime time
 IsInForm (Command.Restore did time) = IsTrue (is_did did) × IsTime time
 IsInForm (Command.Sync did time) = IsTrue (is_did did) × IsTime time
-IsInForm (Command.Cut seq) = IsNumber 0 LAST_NUMBER seq
-IsInForm (Command.Trial start count) = IsNumber 0 LAST_NUMBER start × IsNumber 1 MOST_TRIED count
+IsInForm (Command.Cut seq) = IsNumber 0 (NUMBERS - 1) seq
+IsInForm (Command.Trial start count) = IsNumber 0 (NUMBERS - 1) start × IsNumber 1 MOST_TRIED count
 
 -- the command has this first word and these words behind it
 pub record IsOf (verb : Verb) (rest : List (List ℕ)) (command : Command) : Type 0 where
@@ -82,6 +83,6 @@ pub record IsOf (verb : Verb) (rest : List (List ℕ)) (command : Command) : Typ
   pub in_form : IsInForm command
 
 -- the words are this command
-pub record IsSpelled (words : List (List ℕ)) (command : Command) : Type 0 where
-  pub words_are : words ≡ name_of (verb_of command) ∷ rest_of command
+pub record IsEncoded (words : List (List ℕ)) (command : Command) : Type 0 where
+  pub words_are : words ≡ verb_name (verb_of command) ∷ rest_of command
   pub in_form : IsInForm command

@@ -2,9 +2,9 @@
 use Rattle.std.specs.Prelude.{ℕ, List, [], ◌∷◌, ◌++◌, codes, decimal}
 use Rattle.at_cid.specs.Text.{text_of}
 use Rattle.relay_core.specs.Report.{refused_of}
-use Rattle.relay_cli.specs.declared.verdict.Verdict.{Verdict}
+use Rattle.relay_cli.specs.declared.verdict.CheckVerdict.{CheckVerdict}
 
 -- the line of a message that was checked
-abbrev pub line_of : Verdict → List ℕ
-line_of (Verdict.Accepted from to ops) = codes "from " ++ (text_of from ++ (codes " to " ++ (text_of to ++ (codes " ops " ++ (decimal ops ++ 10 ∷ [])))))
-line_of (Verdict.Refused refusal) = refused_of refusal ++ 10 ∷ []
+abbrev pub line_of : CheckVerdict → List ℕ
+line_of (CheckVerdict.Accepted from to ops) = codes "from " ++ (text_of from ++ (codes " to " ++ (text_of to ++ (codes " ops " ++ (decimal ops ++ 10 ∷ [])))))
+line_of (CheckVerdict.Refused refusal) = refused_of refusal ++ 10 ∷ []

@@ -8,41 +8,41 @@ use Rattle.host_state.specs.Folds.{hosts}
 use Rattle.follow_run.specs.Ends.{tape_end}
 use Rattle.follow_run.specs.Followed.{Followed}
 use Rattle.follow_run.specs.declared.end.FeedEnd.{FeedEnd}
-use Rattle.ingest_run.specs.Ends.{MayEnd, NoneOf, Shows as TapeHadJournal}
+use Rattle.ingest_run.specs.Ends.{MayEnd, NoneOf, TapeEndShows as TapeHadJournal}
 use Rattle.ingest_run.specs.Ingested.{Ingested, PairScene, Unopened, pair_scene}
 use Rattle.relay_disk.specs.Disk.{View}
 use Rattle.relay_io.specs.Streams.{AddsFront}
-use Rattle.relay_io.specs.declared.feed.TheConstants.{LONGEST_MESSAGE}
+use Rattle.relay_io.specs.declared.feed.TheConstants.{LONGEST_FEED_MESSAGE}
 use Rattle.relay_row.specs.declared.row.Row.{Row}
 use Rattle.relay_run.specs.Cutting.{IsOfCutting, WasCut}
-use Rattle.relay_run.specs.Ends.{IsOfShowing, IsQuiet as IsQuietEnd, Shows as HadJournal}
-use Rattle.relay_run.specs.Pairs.{Outside, outside}
-use Rattle.relay_run.specs.Shown.{Shown}
-use Rattle.relay_run.specs.Spoke.{Knows, Spoke}
+use Rattle.relay_run.specs.Ends.{IsOfShowing, IsQuiet as IsQuietEnd, RunEndShows as HadJournal}
+use Rattle.relay_run.specs.Pairs.{PairView, pair_view}
+use Rattle.relay_run.specs.Shown.{TextShown}
+use Rattle.relay_run.specs.CommandRan.{Knows, CommandRan}
 use Rattle.relay_run.specs.declared.end.RunEnd.{RunEnd}
 use Rattle.relay_step.specs.Around.{Around}
 use Rattle.relay_step.specs.Asked.{AskedInVain}
 use Rattle.relay_step.specs.Causes.{CameToNothing, OneTaken}
-use Rattle.relay_step.specs.Words.{EndsBehind, EndsFetched, OperatedAt, SyncedAt, told_where}
+use Rattle.relay_step.specs.Commands.{EndsBehind, EndsFetched, OperatedAt, SyncedAt, told_where}
 use Rattle.relay_store.specs.Faults.{IsCause}
 use Rattle.relay_store.specs.Journals.{IsPairImageOf}
 use Rattle.relay_store.specs.declared.fault.StoreFault.{StoreFault}
 use Rattle.serve_run.specs.AtDoor.{AtDoor}
-use Rattle.serve_run.specs.Ends.{Shows as ServeHadJournal}
+use Rattle.serve_run.specs.Ends.{ServeEndShows as ServeHadJournal}
 use Rattle.serve_run.specs.Guests.{ServedAt}
 use Rattle.serve_run.specs.Replayed.{Replayed}
 use Rattle.serve_run.specs.declared.end.ServeEnd.{ServeEnd}
 use Rattle.state_lines.specs.Lines.{account_text, hosts_text}
 use Rattle.relay_store.specs.declared.message.Message.{Message}
 use Rattle.tape_run.specs.Tells.{tells as tape_tells}
-use Rattle.tape_run.specs.Tapes.{AreRecords, spelled}
+use Rattle.tape_run.specs.Tapes.{AreRecords, encoded_records}
 use Rattle.tape_run.specs.declared.end.TapeEnd.{TapeEnd}
 use Rattle.trial_run.specs.Tried.{Tried}
 use Rattle.trial_run.specs.declared.end.TrialEnd.{TrialEnd}
 use Rattle.relay_cli.specs.declared.command.Command.{Command}
-use Rattle.relay_cli.specs.declared.running.TheConstants.{LONGEST}
+use Rattle.relay_store.specs.declared.limits.TheConstants.{LONGEST}
 use Rattle.relay_cli.specs.declared.status.Status.{Status}
-use Rattle.relay_cli.specs.declared.verdict.Verdict.{Verdict}
+use Rattle.relay_cli.specs.declared.verdict.CheckVerdict.{CheckVerdict}
 use Rattle.relay_cli.specs.Statuses.{status_of, status_of_feed, status_of_run, status_of_serving, status_of_tape, status_of_trial}
 use Rattle.relay_cli.specs.Report.{line_of}
 use Rattle.relay_cli.specs.Verdicts.{IsVerdict}
@@ -61,23 +61,23 @@ streams input_told left read_faults output_told written write_faults =
     record { input_told = input_told; left = left; read_faults = read_faults; output_told = output_told; written = written; write_faults = write_faults }
 
 -- nothing was written
-abbrev pub IsQuiet : Streams → Streams → Type 0
-IsQuiet old new = IsTrue old.output_told → new.written ≡ old.written
+abbrev pub WroteNothing : Streams → Streams → Type 0
+WroteNothing old new = IsTrue old.output_told → new.written ≡ old.written
 
 -- The whole input was read, it is at most so long, and the verdict on it as one message is this.
-pub record IsJudged (limit : ℕ) (old new : Streams) (verdict : Verdict) : Type 0 where
+pub record IsJudged (limit : ℕ) (old new : Streams) (verdict : CheckVerdict) : Type 0 where
   pub short : length old.left ≤ limit
   pub read : new.left ≡ []
   pub verdict_is : IsVerdict old.left verdict
 
 -- The run came to a verdict: the status is its status, and its line was written.
-pub record CameTo (limit : ℕ) (old new : Streams) (status : Status) (verdict : Verdict) : Type 0 where
+pub record CameTo (limit : ℕ) (old new : Streams) (status : Status) (verdict : CheckVerdict) : Type 0 where
   pub judged : IsTrue old.input_told → IsJudged limit old new verdict
   pub status_is : status ≡ status_of verdict
   pub line : IsTrue old.output_told → new.written ≡ old.written ++ line_of verdict
 
 -- The run came to a verdict, and a call of the output failed: a front of the line was written.
-pub record StoppedAt (limit : ℕ) (old new : Streams) (verdict : Verdict) : Type 0 where
+pub record StoppedAt (limit : ℕ) (old new : Streams) (verdict : CheckVerdict) : Type 0 where
   pub judged : IsTrue old.input_told → IsJudged limit old new verdict
   pub line : IsTrue old.output_told → AddsFront old.written new.written (line_of verdict)
   pub cause : Rose old.write_faults new.write_faults
@@ -89,14 +89,14 @@ IsTooLong limit old new = IsTrue old.input_told → length old.left ≡ limit + 
 -- What `check` does on a message of at most so many bytes.
 abbrev pub Checked : ℕ → Streams → Streams → Status → Type 0
 Checked limit old new Status.Usage = ⊥
-Checked limit old new Status.ReadFault = Rose old.read_faults new.read_faults × IsQuiet old new
-Checked limit old new Status.WriteFault = (verdict : Verdict) × StoppedAt limit old new verdict
-Checked limit old new Status.TooLong = IsTooLong limit old new × IsQuiet old new
-Checked limit old new Status.Memory = IsQuiet old new
-Checked limit old new status = (verdict : Verdict) × CameTo limit old new status verdict
+Checked limit old new Status.ReadFault = Rose old.read_faults new.read_faults × WroteNothing old new
+Checked limit old new Status.WriteFault = (verdict : CheckVerdict) × StoppedAt limit old new verdict
+Checked limit old new Status.TooLong = IsTooLong limit old new × WroteNothing old new
+Checked limit old new Status.Memory = WroteNothing old new
+Checked limit old new status = (verdict : CheckVerdict) × CameTo limit old new status verdict
 
 -- which of the objects of a run tell what they hold
-pub record Tells : Type 0 where
+pub record OutsideTells : Type 0 where
   pub disk : Bool
   pub clock : Bool
   pub repos : Bool
@@ -105,8 +105,8 @@ pub record Tells : Type 0 where
   pub feed : Bool
   pub door : Bool
 
-abbrev pub tells : Bool → Bool → Bool → Bool → Bool → Bool → Bool → Tells
-tells disk clock repos input output feed door = record { disk = disk; clock = clock; repos = repos; input = input; output = output; feed = feed; door = door }
+abbrev pub outside_tells : Bool → Bool → Bool → Bool → Bool → Bool → Bool → OutsideTells
+outside_tells disk clock repos input output feed door = record { disk = disk; clock = clock; repos = repos; input = input; output = output; feed = feed; door = door }
 
 -- How often each object of a run has failed.
 pub record Faults : Type 0 where
@@ -161,19 +161,19 @@ place one two around left written given coming door =
     record { one = one; two = two; around = around; left = left; written = written; given = given; coming = coming; door = door }
 
 -- the two disks and what is written
-abbrev pub disks : Place → Outside
-disks p = outside p.one p.two p.written
+abbrev pub disks : Place → PairView
+disks p = pair_view p.one p.two p.written
 
 -- and all that taking a tape moves
-abbrev pub all_of : Place → PairScene
-all_of p = pair_scene p.one p.two p.around p.left p.written
+abbrev pub whole_input : Place → PairScene
+whole_input p = pair_scene p.one p.two p.around p.left p.written
 
 -- what a command does with the journal of the two disks, where they tell it
-abbrev pub OnJournal : Tells → Place → (List Row → Type 0) → Type 0
+abbrev pub OnJournal : OutsideTells → Place → (List Row → Type 0) → Type 0
 OnJournal t p Does = IsTrue t.disk → (J : List Row) → IsPairImageOf J p.one.content p.two.content → Does J
 
 -- A command on the journal ended so. The status is that of its end; the end tells what the disks were, and after a fault of the store nothing was written.
-pub record Ended (t : Tells) (old new : Place) (status : Status) (Does : RunEnd → Type 0) : Type 0 where
+pub record Ended (t : OutsideTells) (old new : Place) (status : Status) (Does : RunEnd → Type 0) : Type 0 where
   pub end : RunEnd
   pub status_is : status ≡ status_of_run end
   pub had : IsTrue t.disk → HadJournal end old.one.content old.two.content
@@ -181,40 +181,40 @@ pub record Ended (t : Tells) (old new : Place) (status : Status) (Does : RunEnd 
   pub does : Does end
 
 -- a text of the journal is shown, and nothing else is asked or read
-abbrev pub IsShown : (List Row → List ℕ) → Tells → Place → Place → Status → Type 0
-IsShown text t old new status = Ended t old new status (λ end. IsOfShowing end × ((new.around ≡ old.around) × ((new.left ≡ old.left) × OnJournal t old (λ J. Shown t.output J (text J) (disks old) (disks new) end))))
+abbrev pub IsShown : (List Row → List ℕ) → OutsideTells → Place → Place → Status → Type 0
+IsShown text t old new status = Ended t old new status (λ end. IsOfShowing end × ((new.around ≡ old.around) × ((new.left ≡ old.left) × OnJournal t old (λ J. TextShown t.output J (text J) (disks old) (disks new) end))))
 
 -- an account is taken down or restored at a time, of which the clock is asked
-abbrev pub IsOperated : List ℕ → Bool → List ℕ → Tells → Place → Place → Status → Type 0
-IsOperated did down time t old new status = Ended t old new status (λ end. (new.around.panel ≡ old.around.panel) × ((new.left ≡ old.left)
-    × OnJournal t old (λ J. Spoke t.output LONGEST J (new.around.moments ≡ old.around.moments)
+abbrev pub RanOperated : List ℕ → Bool → List ℕ → OutsideTells → Place → Place → Status → Type 0
+RanOperated did down time t old new status = Ended t old new status (λ end. (new.around.panel ≡ old.around.panel) × ((new.left ≡ old.left)
+    × OnJournal t old (λ J. CommandRan t.output LONGEST J (new.around.moments ≡ old.around.moments)
     (λ fault. (IsTrue t.clock → OneTaken old.around.moments new.around.moments) × IsCause (Knows J (λ core. EndsBehind core did down)) ⊤ ⊤ ⊤ fault)
     (λ word. Knows J (λ core. OperatedAt t.clock core did down time old.around.moments word new.around.moments)) (disks old) (disks new) end)))
 
 -- an account's repository is fetched and taken over at a time, of which judges, clock and repositories are asked
-abbrev pub IsSynced : List ℕ → List ℕ → Tells → Place → Place → Status → Type 0
+abbrev pub IsSynced : List ℕ → List ℕ → OutsideTells → Place → Place → Status → Type 0
 IsSynced did time t old new status = Ended t old new status (λ end. (new.left ≡ old.left) × ((end ≡ RunEnd.Fault StoreFault.Authority → IsSpent (new.around.panel (method_of did)))
-    × OnJournal t old (λ J. Spoke t.output LONGEST J (new.around ≡ old.around)
+    × OnJournal t old (λ J. CommandRan t.output LONGEST J (new.around ≡ old.around)
     (λ fault. CameToNothing t.clock t.repos (AskedInVain old.around.panel did new.around.panel) old.around new.around
     × IsCause (Knows J (λ core. EndsFetched core did (told_where t.repos (old.around.repository did)) old.around.panel new.around.panel)) ⊤ ⊤ ⊤ fault)
     (λ word. Knows J (λ core. SyncedAt t.clock t.repos core did time old.around word new.around)) (disks old) (disks new) end)))
 
 -- the journal is cut at a number, and nothing else is asked or read
-abbrev pub IsCut : {D : Type 0} → (D → View) → ℕ → Tells → Place → Place → Status → Type 0
-IsCut view seq t old new status = Ended t old new status (λ end. IsOfCutting end × ((new.around ≡ old.around) × ((new.left ≡ old.left) × OnJournal t old (λ J. WasCut view t.output LONGEST J seq (disks old) (disks new) end))))
+abbrev pub RanCut : {D : Type 0} → (D → View) → ℕ → OutsideTells → Place → Place → Status → Type 0
+RanCut view seq t old new status = Ended t old new status (λ end. IsOfCutting end × ((new.around ≡ old.around) × ((new.left ≡ old.left) × OnJournal t old (λ J. WasCut view t.output LONGEST J seq (disks old) (disks new) end))))
 
 -- no count rose
 abbrev pub IsFlawless : Faults → Faults → Type 0
 IsFlawless old new = NoneOf (Rose old.disk new.disk ⊎ Rose old.other new.other) (Rose old.input new.input) (Rose old.output new.output) (Rose old.repos new.repos) (Rose old.clock new.clock)
 
 -- A tape was to be taken into the journal. The disks weren't opened, or it was taken and ended so; and the end tells what the disks were.
-pub record IsIngested (t : Tells) (old new : Place) (failed failed_now : Faults) (status : Status) : Type 0 where
+pub record IsIngested (t : OutsideTells) (old new : Place) (failed failed_now : Faults) (status : Status) : Type 0 where
   pub end : TapeEnd
   pub status_is : status ≡ status_of_tape end
   pub had : IsTrue t.disk → TapeHadJournal end old.one.content old.two.content
-  pub does : OnJournal t old (λ J. Unopened J (all_of old) (all_of new) end ⊎ Ingested (tape_tells t.disk t.clock t.repos t.output) t.input LONGEST LONGEST J (all_of old) (all_of new) end)
-  -- a whole tape is taken where nothing fails, unless memory is wanted, the log is full, or the numbers or the authorities end
-  pub complete : OnJournal t old (λ J. IsTrue t.input → (messages : List Message) → AreRecords messages → old.left ≡ spelled messages → length (spelled messages) < LONGEST → IsFlawless failed failed_now → MayEnd end)
+  pub does : OnJournal t old (λ J. Unopened J (whole_input old) (whole_input new) end ⊎ Ingested (tape_tells t.disk t.clock t.repos t.output) t.input LONGEST LONGEST J (whole_input old) (whole_input new) end)
+  -- a whole tape is taken where nothing fails, unless memory runs out, the log is full, or the numbers or the authorities end
+  pub complete : OnJournal t old (λ J. IsTrue t.input → (messages : List Message) → AreRecords messages → old.left ≡ encoded_records messages → length (encoded_records messages) < LONGEST → IsFlawless failed failed_now → MayEnd end)
 
 -- all that following a host moves but the feed
 abbrev pub all_but_feed : Place → PairScene
@@ -225,18 +225,18 @@ abbrev pub IsFlawlessFeed : Faults → Faults → Type 0
 IsFlawlessFeed old new = NoneOf (Rose old.disk new.disk ⊎ Rose old.other new.other) (Rose old.feed new.feed) (Rose old.output new.output) (Rose old.repos new.repos) (Rose old.clock new.clock)
 
 -- A host was to be followed. The disks weren't opened, or messages of its feed were taken into the journal, and it ended so.
-pub record IsFollowed (host : List ℕ) (count : ℕ) (t : Tells) (old new : Place) (failed failed_now : Faults) (status : Status) : Type 0 where
+pub record IsFollowed (host : List ℕ) (count : ℕ) (t : OutsideTells) (old new : Place) (failed failed_now : Faults) (status : Status) : Type 0 where
   pub end : FeedEnd
   pub status_is : status ≡ status_of_feed end
   pub had : IsTrue t.disk → TapeHadJournal (tape_end end) old.one.content old.two.content
   pub unread : new.left ≡ old.left
   pub does : OnJournal t old (λ J. (Unopened J (all_but_feed old) (all_but_feed new) (tape_end end) × (new.coming ≡ old.coming))
       ⊎ Followed (tape_tells t.disk t.clock t.repos t.output) t.feed host LONGEST count (old.given host) new.coming J (all_but_feed old) (all_but_feed new) end)
-  -- it is done where nothing fails, unless memory is wanted, the log is full, or the numbers or the authorities end
+  -- it is done where nothing fails, unless memory runs out, the log is full, or the numbers or the authorities end
   pub complete : OnJournal t old (λ J. IsFlawlessFeed failed failed_now → MayEnd (tape_end end))
 
 -- Events were to be given out, and nothing else was asked or read. The end tells what the disks were, and where they have no journal nothing was written.
-pub record IsGivenOut (t : Tells) (old new : Place) (status : Status) (Does : ServeEnd → Type 0) : Type 0 where
+pub record IsGivenOut (t : OutsideTells) (old new : Place) (status : Status) (Does : ServeEnd → Type 0) : Type 0 where
   pub end : ServeEnd
   pub status_is : status ≡ status_of_serving end
   pub had : IsTrue t.disk → ServeHadJournal end old.one.content old.two.content
@@ -246,7 +246,7 @@ pub record IsGivenOut (t : Tells) (old new : Place) (status : Status) (Does : Se
   pub does : Does end
 
 -- A trial was run on two disks of its own, which hold these bytes in the end; of what was handed in it has the output alone.
-pub record IsTried (start count : ℕ) (t : Tells) (old new : Place) (status : Status) : Type 0 where
+pub record IsTried (start count : ℕ) (t : OutsideTells) (old new : Place) (status : Status) : Type 0 where
   pub end : TrialEnd
   pub status_is : status ≡ status_of_trial end
   pub first : List ℕ
@@ -274,16 +274,16 @@ uses_door (Command.Serve count) = true
 uses_door command = false
 
 -- What a run of each command does, on disks that are seen so.
-abbrev pub Ran : {D : Type 0} → (D → View) → Tells → Place → Place → Faults → Faults → Status → Command → Type 0
+abbrev pub Ran : {D : Type 0} → (D → View) → OutsideTells → Place → Place → Faults → Faults → Status → Command → Type 0
 Ran view t old new failed failed_now status Command.Check =
-    Checked LONGEST_MESSAGE (streams t.input old.left failed.input t.output old.written failed.output) (streams t.input new.left failed_now.input t.output new.written failed_now.output) status
+    Checked LONGEST_FEED_MESSAGE (streams t.input old.left failed.input t.output old.written failed.output) (streams t.input new.left failed_now.input t.output new.written failed_now.output) status
 Ran view t old new failed failed_now status Command.Ingest = IsIngested t old new failed failed_now status
 Ran view t old new failed failed_now status (Command.Account did) = IsShown (λ J. account_text did (account did J)) t old new status
 Ran view t old new failed failed_now status Command.Hosts = IsShown (λ J. hosts_text (hosts J)) t old new status
-Ran view t old new failed failed_now status (Command.Takedown did time) = IsOperated did true time t old new status
-Ran view t old new failed failed_now status (Command.Restore did time) = IsOperated did false time t old new status
+Ran view t old new failed failed_now status (Command.Takedown did time) = RanOperated did true time t old new status
+Ran view t old new failed failed_now status (Command.Restore did time) = RanOperated did false time t old new status
 Ran view t old new failed failed_now status (Command.Sync did time) = IsSynced did time t old new status
-Ran view t old new failed failed_now status (Command.Cut seq) = IsCut view seq t old new status
+Ran view t old new failed failed_now status (Command.Cut seq) = RanCut view seq t old new status
 Ran view t old new failed failed_now status (Command.Follow host count) = IsFollowed host count t old new failed failed_now status
 Ran view t old new failed failed_now status (Command.Replay cursor) = IsGivenOut t old new status (λ end. OnJournal t old (λ J. Replayed t.output J cursor (disks old) (disks new) end))
 Ran view t old new failed failed_now status (Command.Serve count) = IsGivenOut t old new status (λ end. OnJournal t old (λ J. ServedAt t.door t.output count J old.door new.door (disks old) (disks new) end))

@@ -8,7 +8,7 @@ use Rattle.serve_run.specs.declared.end.ServeEnd.{ServeEnd}
 use Rattle.tape_run.specs.declared.end.TapeEnd.{TapeEnd}
 use Rattle.trial_run.specs.declared.end.TrialEnd.{TrialEnd}
 use Rattle.relay_cli.specs.declared.status.Status.{Status}
-use Rattle.relay_cli.specs.declared.verdict.Verdict.{Verdict}
+use Rattle.relay_cli.specs.declared.verdict.CheckVerdict.{CheckVerdict}
 
 abbrev pub code_of_status : Status → ℕ
 code_of_status Status.Done = 0
@@ -30,9 +30,9 @@ code_of_status (Status.Refused code) = 15
 code_of_status Status.Clock = 17
 
 -- how a run ends that came to this verdict
-abbrev pub status_of : Verdict → Status
-status_of (Verdict.Accepted from to ops) = Status.Done
-status_of (Verdict.Refused refusal) = Status.Refused (code_of refusal)
+abbrev pub status_of : CheckVerdict → Status
+status_of (CheckVerdict.Accepted from to ops) = Status.Done
+status_of (CheckVerdict.Refused refusal) = Status.Refused (code_of refusal)
 
 -- for a fault of the store
 abbrev pub status_of_fault : StoreFault → Status
@@ -45,7 +45,7 @@ status_of_fault StoreFault.Repos = Status.Repos
 status_of_fault StoreFault.Memory = Status.Memory
 status_of_fault StoreFault.Clock = Status.Clock
 
--- of a command that shows the journal, or takes an operator's word
+-- of a command that shows the journal, or takes an operator's command
 abbrev pub status_of_run : RunEnd → Status
 status_of_run RunEnd.Done = Status.Done
 status_of_run (RunEnd.Refused code) = Status.Refused code

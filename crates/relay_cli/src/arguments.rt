@@ -7,12 +7,10 @@ ghost use Rattle.relay_cli.specs.Commands.{IsNumber, IsTime};
 
 use crate::words_fault::WordsFault;
 use at_cid::Words;
+use at_form::LONGEST_SHORT_TEXT;
 use at_syntax::{did_ok, host_ok};
 use itoa::Buffer;
 use std::alloc::Global;
-
-/// The most bytes of a time.
-pub const LONGEST_TIME: usize = 64;
 
 /// The number that a word is: in decimal digits alone, with no zero in front.
 pub fn number_from(word: &str, least: u64, most: u64) -> Result<u64, WordsFault>
@@ -55,7 +53,7 @@ pub fn time_from(alloc: Global, word: &str) -> Result<Words, WordsFault>
     ensures time { IfOk result (λ time. IsTime time × (time ≡ word.now)) }
     ensures none { IsErrOf result WordsFault.NoCommand → IsTime word.now → ⊥ }
 {
-    if word.is_empty() || word.len() > LONGEST_TIME {
+    if word.is_empty() || word.len() > LONGEST_SHORT_TEXT {
         return Err(WordsFault::NoCommand);
     }
     Ok(Words::from_str(alloc, word)?)

@@ -1,16 +1,13 @@
 //! The words of a run, as a command.
 ghost use Rattle.std.specs.Prelude.{◌≡◌, [], ◌∷◌, IfOk, IsErrOf, map, string_bytes};
 ghost use Rattle.relay_cli.specs.declared.words_fault.WordsFault.{WordsFault};
-ghost use Rattle.relay_cli.specs.Commands.{IsOf, IsSpelled};
+ghost use Rattle.relay_cli.specs.Commands.{IsOf, IsEncoded};
 
 use crate::arguments::{did_from, host_from, number_from, time_from};
 use crate::verb::{Verb, verb_from};
 use crate::words_fault::WordsFault;
-use at_cid::Words;
+use at_cid::{NUMBERS, Words};
 use std::alloc::Global;
-
-/// The greatest number that a word may be.
-pub const LAST_NUMBER: u64 = (1 << 53) - 1;
 
 /// The greatest count of messages or guests.
 pub const MOST: u64 = 1_000_000;
@@ -49,8 +46,8 @@ pub enum Command {
 
 /// The command that the words are.
 pub fn command_from(alloc: Global, words: &[String]) -> Result<Command, WordsFault>
-    ensures spelled { IfOk result (λ command. IsSpelled (map string_bytes words.now) command) }
-    ensures none { IsErrOf result WordsFault.NoCommand → (command : Command) → IsSpelled (map string_bytes words.now) command → ⊥ }
+    ensures encoded { IfOk result (λ command. IsEncoded (map string_bytes words.now) command) }
+    ensures none { IsErrOf result WordsFault.NoCommand → (command : Command) → IsEncoded (map string_bytes words.now) command → ⊥ }
 {
     match words {
         [first] => match verb_from(first.as_str()) {
@@ -88,10 +85,10 @@ fn with_one(alloc: Global, verb: Verb, one: &str) -> Result<Command, WordsFault>
     ensures none { IsErrOf result WordsFault.NoCommand → (command : Command) → IsOf verb (one.now ∷ []) command → ⊥ }
 {
     match verb {
-        Verb::Replay => Ok(Command::Replay(number_from(one, 0, LAST_NUMBER)?)),
+        Verb::Replay => Ok(Command::Replay(number_from(one, 0, NUMBERS - 1)?)),
         Verb::Serve => Ok(Command::Serve(number_from(one, 1, MOST)?)),
         Verb::Account => Ok(Command::Account(did_from(alloc, one)?)),
-        Verb::Cut => Ok(Command::Cut(number_from(one, 0, LAST_NUMBER)?)),
+        Verb::Cut => Ok(Command::Cut(number_from(one, 0, NUMBERS - 1)?)),
         _ => Err(WordsFault::NoCommand),
     }
 }
@@ -107,7 +104,7 @@ fn with_two(alloc: Global, verb: Verb, one: &str, other: &str) -> Result<Command
             Ok(Command::Follow(host_from(alloc, one)?, count))
         }
         Verb::Trial => {
-            let start = number_from(one, 0, LAST_NUMBER)?;
+            let start = number_from(one, 0, NUMBERS - 1)?;
             Ok(Command::Trial(start, number_from(other, 1, MOST_TRIED)?))
         }
         Verb::Takedown => Ok(Command::Takedown(did_from(alloc, one)?, time_from(alloc, other)?)),

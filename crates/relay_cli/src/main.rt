@@ -4,6 +4,7 @@
 mod arguments;
 mod checking;
 mod command;
+mod help;
 mod judging;
 mod parts;
 mod progress;
@@ -17,13 +18,15 @@ mod words_fault;
 use at_authority::Panel;
 use at_cid::Memory;
 pub use checking::check;
+use help::{HELP, VERSION, advice};
 use parts::{TABLES, authority_in, disk_in, repos_in};
 use progress::{Counted, Watched};
-use relay_io::{ReaderSource, SystemClock, WriterSink};
+use relay_io::{ReaderSource, SystemClock, WriterSink, write_all};
 pub use running::relay;
 pub use status::Status;
 use std::cell::Cell;
 use std::env;
+use std::io::IsTerminal;
 use std::process::ExitCode;
 use ws_edge::{DOOR_PORT, WsDoor, WsFeed};
 
@@ -68,20 +71,52 @@ fn run_in(rt: &HostRuntime, folder: &str, words: &[String]) -> Result<Status, Me
     Ok(status)
 }
 
+// The text that one word alone asks for.
+fn text_for(word: &str) -> Option<&'static str> {
+    match word {
+        "--help" => Some(HELP),
+        "--version" => Some(VERSION),
+        _ => None,
+    }
+}
+
+// Writes a text to the output.
+fn shown(rt: &HostRuntime, text: &str) -> Status {
+    match write_all(&mut WriterSink::new(rt.stdout()), text.as_bytes()) {
+        Ok(()) => Status::Done,
+        Err(_) => Status::WriteFault,
+    }
+}
+
+// The code of a status. What it means is said on standard error where that is a terminal.
+fn ended(rt: &HostRuntime, status: Status) -> ExitCode {
+    if let Some(advice) = advice(status) {
+        if rt.stderr().is_terminal() {
+            let _ = eprintln!(rt; "relay: {advice}");
+        }
+    }
+    ExitCode::from(status.code())
+}
+
 fn main(rt: HostRuntime) -> ExitCode {
     let Ok(mut given) = env::args(&rt) else {
-        return ExitCode::from(Status::Memory.code());
+        return ended(&rt, Status::Memory);
     };
     let _program = given.next();
     let Some(folder) = given.next() else {
-        return ExitCode::from(Status::Usage.code());
+        return ended(&rt, Status::Usage);
     };
     let mut words = Vec::new(rt.alloc());
     for word in given {
         if words.push(word).is_err() {
-            return ExitCode::from(Status::Memory.code());
+            return ended(&rt, Status::Memory);
+        }
+    }
+    if words.is_empty() {
+        if let Some(text) = text_for(folder.as_str()) {
+            return ended(&rt, shown(&rt, text));
         }
     }
     let status = run_in(&rt, folder.as_str(), words.as_slice()).unwrap_or(Status::Memory);
-    ExitCode::from(status.code())
+    ended(&rt, status)
 }

@@ -2,7 +2,7 @@
 ghost use Rattle.std.specs.Prelude.{◌≡◌, IfOk};
 ghost use Rattle.relay_cli.specs.Report.{line_of};
 
-use crate::verdict::Verdict;
+use crate::verdict::CheckVerdict;
 use at_cid::{Memory, Octets};
 use report_lines::{add_link, add_number, add_refusal};
 use std::alloc::Global;
@@ -12,12 +12,12 @@ use std::alloc::Global;
 const LINE_ROOM: usize = 144;
 
 /// The line of a message that was checked, with its line feed.
-pub fn report(alloc: Global, verdict: &Verdict) -> Result<Octets, Memory>
+pub fn report(alloc: Global, verdict: &CheckVerdict) -> Result<Octets, Memory>
     ensures { IfOk result (λ line. line ≡ line_of verdict.now) }
 {
     let mut line = Octets::from_vec(Vec::with_capacity(alloc, LINE_ROOM)?);
     match verdict {
-        Verdict::Accepted(from, to, ops) => {
+        CheckVerdict::Accepted(from, to, ops) => {
             line.extend(b"from ")?;
             add_link(&mut line, from)?;
             line.extend(b" to ")?;
@@ -26,7 +26,7 @@ pub fn report(alloc: Global, verdict: &Verdict) -> Result<Octets, Memory>
             add_number(&mut line, u64::from(*ops))?;
             line.extend(b"\n")?;
         }
-        Verdict::Refused(refusal) => {
+        CheckVerdict::Refused(refusal) => {
             add_refusal(&mut line, refusal)?;
             line.extend(b"\n")?;
         }

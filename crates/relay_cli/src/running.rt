@@ -1,9 +1,9 @@
 //! The top call.
 ghost use Rattle.std.specs.Prelude.{◌≡◌, ◌⊎◌, map, string_bytes, false};
 ghost use Rattle.relay_step.specs.Around.{around};
-ghost use Rattle.relay_cli.specs.Commands.{IsInForm, IsSpelled};
+ghost use Rattle.relay_cli.specs.Commands.{IsInForm, IsEncoded};
 ghost use Rattle.serve_run.specs.AtDoor.{at_door};
-ghost use Rattle.relay_cli.specs.Runs.{Caused, Kept, Ran, faults, is_on_journal, place, tells, uses_door, uses_feed, uses_input};
+ghost use Rattle.relay_cli.specs.Runs.{Caused, Kept, Ran, faults, is_on_journal, place, outside_tells, uses_door, uses_feed, uses_input};
 
 use crate::checking::check;
 use crate::command::{Command, command_from};
@@ -13,14 +13,12 @@ use at_authority::Judges;
 use follow_run::follow;
 use ingest_run::ingest;
 use relay_disk::Disk;
-use relay_io::{Clock, Door, Feed, LONGEST_MESSAGE, Repos, Sink, Source};
+use relay_io::{Clock, Door, Feed, LONGEST_FEED_MESSAGE, Repos, Sink, Source};
 use relay_run::{account, cut, hosts, operate, sync};
+use relay_store::LONGEST;
 use serve_run::{replay, serve};
 use std::alloc::Global;
 use trial_run::trial;
-
-/// The most bytes of a log, and of a tape.
-pub const LONGEST: u64 = 1 << 40;
 
 /// Does what the words say.
 pub fn relay<P: Judges, F: Feed, R: Repos, D: Disk, I: Source, O: Sink, G: Door, C: Clock>(
@@ -36,8 +34,8 @@ pub fn relay<P: Judges, F: Feed, R: Repos, D: Disk, I: Source, O: Sink, G: Door,
     door: &mut G,
     clock: &mut C,
 ) -> Status
-    // What the words say is done, unless memory is wanted for the words.
-    ensures ran { ((command : Command) → IsSpelled (map string_bytes words.now) command → Ran D.view (tells D.tells C.tells R.tells I.tells O.tells F.tells G.tells)
+    // What the words say is done, unless memory runs out for the words.
+    ensures ran { ((command : Command) → IsEncoded (map string_bytes words.now) command → Ran D.view (outside_tells D.tells C.tells R.tells I.tells O.tells F.tells G.tells)
         (place (D.view disk.old) (D.view other.old) (around (P.panel panel.old) (C.moments clock.old) (R.repository repos.old)) (I.left input.old) (O.written out.old) (F.behind feed.old) (F.left feed.old) (at_door (G.guests door.old) (G.turns door.old) (G.session_faults door.old)))
         (place (D.view disk.new) (D.view other.new) (around (P.panel panel.new) (C.moments clock.new) (R.repository repos.new)) (I.left input.new) (O.written out.new) (F.behind feed.new) (F.left feed.new) (at_door (G.guests door.new) (G.turns door.new) (G.session_faults door.new)))
         (faults (D.view disk.old).faults (D.view other.old).faults (R.faults repos.old) (C.faults clock.old) (I.faults input.old) (O.faults out.old) (F.faults feed.old) (G.faults door.old))
@@ -45,14 +43,14 @@ pub fn relay<P: Judges, F: Feed, R: Repos, D: Disk, I: Source, O: Sink, G: Door,
         ⊎ ((result ≡ Status.Memory) × ((panel.new ≡ panel.old) × ((repos.new ≡ repos.old) × ((disk.new ≡ disk.old) × ((other.new ≡ other.old) × ((input.new ≡ input.old) × ((out.new ≡ out.old) × ((clock.new ≡ clock.old) × ((feed.new ≡ feed.old) × (door.new ≡ door.old)))))))))) }
 
     // `check` works on its streams alone, and `trial` on the output alone. Words that are no command touch nothing.
-    ensures alone { ((command : Command) → IsSpelled (map string_bytes words.now) command → is_on_journal command ≡ false)
+    ensures alone { ((command : Command) → IsEncoded (map string_bytes words.now) command → is_on_journal command ≡ false)
         → (panel.new ≡ panel.old) × ((repos.new ≡ repos.old) × ((disk.new ≡ disk.old) × ((other.new ≡ other.old) × (clock.new ≡ clock.old)))) }
-    ensures unread { ((command : Command) → IsSpelled (map string_bytes words.now) command → uses_input command ≡ false) → input.new ≡ input.old }
-    ensures unwritten { ((command : Command) → IsSpelled (map string_bytes words.now) command → ⊥) → out.new ≡ out.old }
-    ensures unasked_feed { ((command : Command) → IsSpelled (map string_bytes words.now) command → uses_feed command ≡ false) → feed.new ≡ feed.old }
-    ensures unasked_door { ((command : Command) → IsSpelled (map string_bytes words.now) command → uses_door command ≡ false) → door.new ≡ door.old }
-    ensures no_command { ((command : Command) → IsSpelled (map string_bytes words.now) command → ⊥) → (result ≡ Status.Usage) ⊎ (result ≡ Status.Memory) }
-    ensures usage { result ≡ Status.Usage → (command : Command) → IsSpelled (map string_bytes words.now) command → ⊥ }
+    ensures unread { ((command : Command) → IsEncoded (map string_bytes words.now) command → uses_input command ≡ false) → input.new ≡ input.old }
+    ensures unwritten { ((command : Command) → IsEncoded (map string_bytes words.now) command → ⊥) → out.new ≡ out.old }
+    ensures unasked_feed { ((command : Command) → IsEncoded (map string_bytes words.now) command → uses_feed command ≡ false) → feed.new ≡ feed.old }
+    ensures unasked_door { ((command : Command) → IsEncoded (map string_bytes words.now) command → uses_door command ≡ false) → door.new ≡ door.old }
+    ensures no_command { ((command : Command) → IsEncoded (map string_bytes words.now) command → ⊥) → (result ≡ Status.Usage) ⊎ (result ≡ Status.Memory) }
+    ensures usage { result ≡ Status.Usage → (command : Command) → IsEncoded (map string_bytes words.now) command → ⊥ }
 
     // A status that speaks of a failure comes only where a count of failures rose, and no count falls.
     ensures caused { Caused result (faults (D.view disk.old).faults (D.view other.old).faults (R.faults repos.old) (C.faults clock.old) (I.faults input.old) (O.faults out.old) (F.faults feed.old) (G.faults door.old))
@@ -84,7 +82,7 @@ fn run<P: Judges, F: Feed, R: Repos, D: Disk, I: Source, O: Sink, G: Door, C: Cl
     clock: &mut C,
 ) -> Status
     requires form { IsInForm command.now }
-    ensures ran { Ran D.view (tells D.tells C.tells R.tells I.tells O.tells F.tells G.tells)
+    ensures ran { Ran D.view (outside_tells D.tells C.tells R.tells I.tells O.tells F.tells G.tells)
         (place (D.view disk.old) (D.view other.old) (around (P.panel panel.old) (C.moments clock.old) (R.repository repos.old)) (I.left input.old) (O.written out.old) (F.behind feed.old) (F.left feed.old) (at_door (G.guests door.old) (G.turns door.old) (G.session_faults door.old)))
         (place (D.view disk.new) (D.view other.new) (around (P.panel panel.new) (C.moments clock.new) (R.repository repos.new)) (I.left input.new) (O.written out.new) (F.behind feed.new) (F.left feed.new) (at_door (G.guests door.new) (G.turns door.new) (G.session_faults door.new)))
         (faults (D.view disk.old).faults (D.view other.old).faults (R.faults repos.old) (C.faults clock.old) (I.faults input.old) (O.faults out.old) (F.faults feed.old) (G.faults door.old))
@@ -100,7 +98,7 @@ fn run<P: Judges, F: Feed, R: Repos, D: Disk, I: Source, O: Sink, G: Door, C: Cl
         (faults (D.view disk.new).faults (D.view other.new).faults (R.faults repos.new) (C.faults clock.new) (I.faults input.new) (O.faults out.new) (F.faults feed.new) (G.faults door.new)) }
 {
     match command {
-        Command::Check => check(alloc, LONGEST_MESSAGE, input, out),
+        Command::Check => check(alloc, LONGEST_FEED_MESSAGE, input, out),
         Command::Ingest => Status::from(ingest(
             alloc, LONGEST, LONGEST, disk, other, panel, repos, clock, input, out,
         )),

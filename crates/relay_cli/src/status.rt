@@ -40,7 +40,7 @@ pub enum Status {
     SeqEnd,
     /// The input is longer than its limit.
     TooLong,
-    /// Memory was wanted.
+    /// Memory ran out.
     Memory,
     /// The message or the word was refused, with this number.
     Refused(u8),

@@ -1,6 +1,6 @@
 //! The first word of a command.
 ghost use Rattle.std.specs.Prelude.{◌≡◌, ◌≢◌, MatchOption};
-ghost use Rattle.relay_cli.specs.Commands.{name_of};
+ghost use Rattle.relay_cli.specs.Commands.{verb_name};
 
 /// Which command the words are of.
 #[derive(Clone, Copy, Debug, PartialEq, Eq)]
@@ -21,7 +21,7 @@ pub enum Verb {
 
 /// The command that a first word is of.
 pub fn verb_from(word: &str) -> Option<Verb>
-    ensures { MatchOption result ((verb : Verb) → word.now ≢ name_of verb) (λ verb. word.now ≡ name_of verb) }
+    ensures { MatchOption result ((verb : Verb) → word.now ≢ verb_name verb) (λ verb. word.now ≡ verb_name verb) }
 {
     if word == "check" {
         Some(Verb::Check)

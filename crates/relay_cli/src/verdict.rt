@@ -8,21 +8,21 @@ use at_event::Refusal;
 
 /// What a message comes to by itself.
 #[derive(Clone, Copy, Debug, PartialEq, Eq)]
-pub enum Verdict {
+pub enum CheckVerdict {
     /// A commit, which so many operations lead from the first root to the second.
     Accepted(Cid, Cid, u32),
     /// A message that is refused.
     Refused(Refusal),
 }
 
-impl Verdict {
+impl CheckVerdict {
     /// How a run ends that came to it and wrote its line.
     pub fn status(&self) -> Status
         ensures { result ≡ status_of self.now }
     {
         match self {
-            Verdict::Accepted(_, _, _) => Status::Done,
-            Verdict::Refused(refusal) => Status::Refused(refusal.code()),
+            CheckVerdict::Accepted(_, _, _) => Status::Done,
+            CheckVerdict::Refused(refusal) => Status::Refused(refusal.code()),
         }
     }
 }

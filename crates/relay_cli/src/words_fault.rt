@@ -6,10 +6,10 @@ use thiserror::Error;
 /// Why words were not taken as a command.
 #[derive(Clone, Copy, Debug, PartialEq, Eq, Error)]
 pub enum WordsFault {
-    /// They are the spelling of no command.
+    /// They are the encoding of no command.
     #[error("no command")]
     NoCommand,
-    /// Memory was wanted.
+    /// Memory ran out.
     #[error("out of memory")]
     Memory,
 }

@@ -6,7 +6,7 @@ use Rattle.at_event.specs.declared.event.Body.{Body}
 use Rattle.at_event.specs.declared.head.Head.{Head}
 use Rattle.at_event.specs.declared.refusal.Refusal.{Refusal}
 use Rattle.account_state.specs.Folds.{account, last_rev}
-use Rattle.relay_core.specs.Decide.{answers, first, or_later, as_result}
+use Rattle.relay_core.specs.Decide.{answers, first_refusal, or_later, as_result}
 use Rattle.relay_core.specs.Laws.{ReadyDecides}
 use Rattle.relay_core.specs.Table.{when, is_ahead, refusal_in, body_lines}
 use Rattle.relay_core.specs.declared.limits.TheConstants.{LONGEST_MESSAGE}
@@ -25,6 +25,6 @@ table_free l i d u opened linked head home good hl hi hd ho hu hk = rw (hl, hi, 
 pub ready_decides : ReadyDecides
 ready_decides checks J host e o ready =
     let a = account e.did J in
-    ap (λ (body : Body). or_later (when (nat_lt LONGEST_MESSAGE (out_length e)) Refusal.TooLong) (first (body_lines a body (answers checks 0 a e o)))) ready.body
+    ap (λ (body : Body). or_later (when (nat_lt LONGEST_MESSAGE (out_length e)) Refusal.TooLong) (first_refusal (body_lines a body (answers checks 0 a e o)))) ready.body
     ∙ table_free (nat_lt LONGEST_MESSAGE (out_length e)) a.active a.down (is_ahead ready.commit.rev (Some o.moment)) (checks.opens e (last_rev a.repo)) (checks.links e a.repo) ready.head o.home o.verdict
     ready.short ready.active ready.up ready.opens ready.near ready.links

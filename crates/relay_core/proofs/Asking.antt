@@ -10,18 +10,18 @@ use Rattle.relay_row.specs.Rules.{loses}
 use Rattle.relay_row.specs.declared.fetched.Fetched.{Fetched}
 use Rattle.account_state.specs.State.{State}
 use Rattle.relay_core.specs.Laws.{is_open}
-use Rattle.relay_core.specs.Table.{Line, told, asked, Walk, waits, refuses, passes, walk, walk_past, next_at, next_of, refused, after_fetch, event_lines, faulty_lines, body_lines}
+use Rattle.relay_core.specs.Table.{TableLine, told, asked, Walk, waits, refuses, passes, walk, walk_past, next_at, next_of, refused, after_fetch, event_lines, faulty_lines, body_lines}
 use Rattle.relay_core.specs.declared.answers.Answers.{Answers}
 use Rattle.relay_core.specs.declared.answers.Question.{Question}
 use Rattle.relay_core.specs.declared.decision.Next.{Next}
 use Rattle.relay_core.specs.declared.decision.Pass.{Pass}
 
 -- a line that has no answer is an open question
-IsOpenLine : Answers → Line → Type 0
+IsOpenLine : Answers → TableLine → Type 0
 IsOpenLine x (told o) = Unit {0}
 IsOpenLine x (asked q o) = o ≡ None → is_open q x ≡ true
 
-AreOpenLines : Answers → List Line → Type 0
+AreOpenLines : Answers → List TableLine → Type 0
 AreOpenLines x [] = Unit {0}
 AreOpenLines x (line ∷ lines) = IsOpenLine x line × AreOpenLines x lines
 
@@ -29,7 +29,7 @@ past_waits : (o : Option Refusal) (w : Walk) (q : Question) → walk_past o w �
 past_waits None w q h = h
 past_waits (Some r) w q h = cc
 
-walk_open : (x : Answers) (lines : List Line) (q : Question) → AreOpenLines x lines → walk lines ≡ waits q → is_open q x ≡ true
+walk_open : (x : Answers) (lines : List TableLine) (q : Question) → AreOpenLines x lines → walk lines ≡ waits q → is_open q x ≡ true
 unfolding AreOpenLines IsOpenLine
 walk_open x [] q h w = cc
 walk_open x (told o ∷ lines) q h w = walk_open x lines q h.1 (past_waits o (walk lines) q w)

@@ -7,8 +7,8 @@ use Rattle.std.proofs.lemmas.List.Folds.{list_any-append}
 use Rattle.relay_row.proofs.Journals.{folded_joined}
 use Rattle.relay_row.specs.declared.row.Row.{Row}
 use Rattle.relay_row.specs.declared.carried.Carried.{Carried}
-use Rattle.relay_row.specs.Folds.{names, did_in, is_named, cursor, seq_in, last_after, last_seq}
-use Rattle.relay_row.specs.Journal.{are_none, is_last_or_host, is_carried_row, is_above, keeps_order}
+use Rattle.relay_row.specs.Folds.{names, did_of_row, is_named, cursor, seq_in, last_after, last_seq}
+use Rattle.relay_row.specs.Journal.{are_none, is_last_or_host, is_carried_row, rises_above, keeps_order}
 use Rattle.account_state.specs.Entries.{entry, entry_after}
 use Rattle.account_state.specs.Folds.{fresh, moved, account_after, account}
 use Rattle.account_state.specs.State.{State}
@@ -42,7 +42,7 @@ accounts_follow : (c d : Core) (row : Row) (rows : List Row) → Follows c d row
 unfolding account
 accounts_follow c d row rows f h did =
     ap (λ (o : Option State). unwrap_or o fresh) (f.entries did)
-    ∙ moved_on (names did (did_in row)) (entry c.accounts did) (moved (account_in c did) row)
+    ∙ moved_on (names did (did_of_row row)) (entry c.accounts did) (moved (account_in c did) row)
     ∙ ap (λ (a : State). account_after did a row) (h.accounts did)
     ∙ sym (folded_joined (account_after did) fresh rows (row ∷ []))
 
@@ -50,8 +50,8 @@ named_follow : (c d : Core) (row : Row) (rows : List Row) → Follows c d row �
 unfolding is_named
 named_follow c d row rows f h did =
     ap (λ (o : Option State). is_some o) (f.entries did)
-    ∙ named_on (names did (did_in row)) (entry c.accounts did) (moved (account_in c did) row) (list_any (λ r. names did (did_in r)) rows) (h.named did)
-    ∙ sym (list_any-append (λ r. names did (did_in r)) rows (row ∷ []))
+    ∙ named_on (names did (did_of_row row)) (entry c.accounts did) (moved (account_in c did) row) (list_any (λ r. names did (did_of_row r)) rows) (h.named did)
+    ∙ sym (list_any-append (λ r. names did (did_of_row r)) rows (row ∷ []))
 
 hosts_follow : (c d : Core) (row : Row) (rows : List Row) → Follows c d row → Holds c rows → listed d.hosts ≡ hosts (rows ++ row ∷ [])
 unfolding hosts
@@ -99,10 +99,10 @@ cursor_tells c rows h host = ap (λ (hs : List (List ℕ × ℕ)). cursor_of hs 
 -- by the state, a row keeps the order exactly where it does behind the rows
 pub next_tells : (c : Core) (rows : List Row) → Holds c rows → (row : Row) → is_next_in c row ≡ keeps_order rows row
 next_tells c rows h (Row.Taken t) =
-    ap (λ (n : ℕ). nat_lt n t.host_seq && is_above c.last (seq_in (Row.Taken t))) (cursor_tells c rows h t.host)
-    ∙ ap (λ (n : ℕ). nat_lt (cursor t.host rows) t.host_seq && is_above n (seq_in (Row.Taken t))) h.last
-next_tells c rows h (Row.Synced did whole moment) = ap (λ (n : ℕ). is_above n whole.seq) h.last
-next_tells c rows h (Row.Operated o) = ap (λ (n : ℕ). is_above n o.seq) h.last
+    ap (λ (n : ℕ). nat_lt n t.host_seq && rises_above c.last (seq_in (Row.Taken t))) (cursor_tells c rows h t.host)
+    ∙ ap (λ (n : ℕ). nat_lt (cursor t.host rows) t.host_seq && rises_above n (seq_in (Row.Taken t))) h.last
+next_tells c rows h (Row.Synced did whole moment) = ap (λ (n : ℕ). rises_above n whole.seq) h.last
+next_tells c rows h (Row.Operated o) = ap (λ (n : ℕ). rises_above n o.seq) h.last
 next_tells c rows h (Row.Carried (Carried.Last seq)) = ap (λ (s : Stage). is_start s) h.stage ∙ start_tells rows
 next_tells c rows h (Row.Carried (Carried.Host host n)) =
     ap (λ (s : Stage). takes_hosts s && cursor_in c host == 0) h.stage

@@ -6,3 +6,4 @@ pub mod Showing
 pub mod Returning
 pub mod Running
 pub mod Accepting
+pub mod Known

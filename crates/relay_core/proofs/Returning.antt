@@ -11,7 +11,7 @@ use Rattle.at_event.proofs.OwnEvents.{sync_again}
 use Rattle.std.proofs.lemmas.Str.{IsUtf8-from_is_utf8}
 use Rattle.relay_core.specs.Decide.{commit_blocks, commit_car, sync_message}
 use Rattle.relay_core.specs.Laws.{BlocksReturn}
-use Rattle.relay_core.specs.Shown.{or_empty, block_of, block_in, block_in_frame}
+use Rattle.relay_core.specs.Shown.{or_empty, block_of, commit_block_in, block_in_frame}
 
 one_found : (link block q : List ℕ) → map.get {R = key_cmp} (map.insert {R = key_cmp} map.empty link block) q ≡ cond (is_eq (key_cmp q link)) (Some block) None
 one_found link block q = map.get-insert key_total map.empty link block q ∙ ap (λ (o : Option (List ℕ)). cond (is_eq (key_cmp q link)) (Some block) o) (map.get-empty key_cmp q)
@@ -30,7 +30,7 @@ one_linked link block is q other e =
     ] refl (sym (one_found link block q) ∙ e)
 
 pub block_returns : BlocksReturn
-unfolding block_in sync_message
+unfolding commit_block_in sync_message
 block_returns last e head block can =
     let frame = sync_again e.did head.rev (commit_car head block) e.time (last + 1) can.did.0 (IsUtf8-from_is_utf8 e.did can.did.1) can.named can.rev can.car can.time.0 (IsUtf8-from_is_utf8 e.time can.time.1) can.short can.number in
     ap (λ f. block_in_frame f head.commit) frame

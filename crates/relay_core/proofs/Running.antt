@@ -7,7 +7,7 @@ use Rattle.relay_row.specs.declared.taken.Taken.{Taken}
 use Rattle.account_state.specs.Folds.{account}
 use Rattle.relay_core.specs.Decide.{Checks, decided, decided_event}
 use Rattle.relay_core.specs.Laws.{WorldsRun}
-use Rattle.relay_core.specs.Runs.{Message, Turn, IsMade, RunFrom, passed_by, has_ended}
+use Rattle.relay_core.specs.Runs.{Message, Turn, IsMadeBy, RunFrom, skipped_by, has_ended}
 use Rattle.relay_core.specs.Rows.{faulty_taken}
 use Rattle.relay_core.specs.Shown.{shown}
 use Rattle.relay_core.specs.Table.{did_of}
@@ -32,7 +32,7 @@ made_so checks w J host Frame.Info t can made = absurd cc
 made_so checks w J host Frame.Error t can made = absurd cc
 made_so checks w J host Frame.Unknown t can made = absurd cc
 
-row_shown : (checks : Checks) (w : World) (J : List Row) (m : Message) (row : Row) → IsMadeIn checks w J m row → IsMade checks J m row
+row_shown : (checks : Checks) (w : World) (J : List Row) (m : Message) (row : Row) → IsMadeIn checks w J m row → IsMadeBy checks J m row
 row_shown checks w J (host, Ok f) (Row.Taken t) h = made_so checks w J host f t h.0 h.1
 row_shown checks w J (host, Ok f) (Row.Synced did whole moment) h = absurd h
 row_shown checks w J (host, Ok f) (Row.Operated o) h = absurd h
@@ -44,7 +44,7 @@ turned : (checks : Checks) (w : World) (J : List Row) (ended : List (List ℕ)) 
     → Turn b p (RunsIn checks w J (m.0 ∷ ended) messages rows) (RunsIn checks w J ended messages rows)
     ((row : Row) × (others : List Row) × (rows ≡ row ∷ others) × IsMadeIn checks w J m row × RunsIn checks w (J ++ row ∷ []) ended messages others)
     → Turn b p (RunFrom checks J (m.0 ∷ ended) messages rows) (RunFrom checks J ended messages rows)
-    ((row : Row) × (others : List Row) × (rows ≡ row ∷ others) × IsMade checks J m row × RunFrom checks (J ++ row ∷ []) ended messages others)
+    ((row : Row) × (others : List Row) × (rows ≡ row ∷ others) × IsMadeBy checks J m row × RunFrom checks (J ++ row ∷ []) ended messages others)
 turned checks w J ended m messages true p rows more h = more J ended rows h
 turned checks w J ended m messages false (Some Pass.Ended) rows more h = more J (m.0 ∷ ended) rows h
 turned checks w J ended m messages false (Some Pass.Old) rows more h = more J ended rows h
@@ -56,7 +56,7 @@ turned checks w J ended m messages false None rows more (row, others, is, made, 
 runs_from : (checks : Checks) (w : World) (J : List Row) (ended : List (List ℕ)) (messages : List Message) (rows : List Row) → RunsIn checks w J ended messages rows → RunFrom checks J ended messages rows
 runs_from checks w J ended [] rows h = h
 runs_from checks w J ended (m ∷ messages) rows h =
-    turned checks w J ended m messages (has_ended ended m.0) (passed_by J m) rows (λ K F S k. runs_from checks w K F messages S k) h
+    turned checks w J ended m messages (has_ended ended m.0) (skipped_by J m) rows (λ K F S k. runs_from checks w K F messages S k) h
 
 pub worlds_run : WorldsRun
 worlds_run checks w J messages rows h = runs_from checks w J [] messages rows h

@@ -10,13 +10,13 @@ use Rattle.relay_row.specs.Rules.{loses}
 use Rattle.relay_row.specs.declared.fetched.Fetched.{Fetched}
 use Rattle.account_state.specs.State.{State}
 use Rattle.account_state.specs.Folds.{last_rev}
-use Rattle.relay_core.specs.Decide.{Checks, Outside, Found, absent, unfit, found, made, sync_message, answers, as_result, first, or_later, decision_for, refusal_of, decided_event}
+use Rattle.relay_core.specs.Decide.{Checks, Outside, Found, absent, unfit, found, fetched_as, sync_message, answers, as_result, first_refusal, or_later, decision_for, refusal_of, decided_event}
 use Rattle.relay_core.specs.Laws.{RowsShow}
 use Rattle.relay_core.specs.Sending.{IsSendable}
 use Rattle.relay_core.proofs.Returning.{block_returns}
 use Rattle.relay_core.specs.Rows.{effect_of, fetched_of, event_taken}
 use Rattle.relay_core.specs.Shown.{shows_home, shows_verdict, found_in, shown}
-use Rattle.relay_core.specs.Table.{Line, when, is_ahead, refusal_in, body_lines}
+use Rattle.relay_core.specs.Table.{TableLine, when, is_ahead, refusal_in, body_lines}
 use Rattle.relay_core.specs.declared.limits.TheConstants.{LONGEST_MESSAGE}
 
 -- the table of a commit: the first of these
@@ -60,7 +60,7 @@ told_so : Outside → Option Refusal → Outside
 told_so o q = record { moment = o.moment; home = shows_home q; verdict = shows_verdict q; fetched = o.fetched }
 
 body_refusal : Checks → State → Seen → Body → Outside → Option Refusal
-body_refusal checks a e body o = or_later (when (nat_lt LONGEST_MESSAGE (out_length e)) Refusal.TooLong) (first (body_lines a body (answers checks 0 a e o)))
+body_refusal checks a e body o = or_later (when (nat_lt LONGEST_MESSAGE (out_length e)) Refusal.TooLong) (first_refusal (body_lines a body (answers checks 0 a e o)))
 
 body_again : (checks : Checks) (a : State) (e : Seen) (body : Body) (o : Outside) → body_refusal checks a e body (told_so o (body_refusal checks a e body o)) ≡ body_refusal checks a e body o
 unfolding short told_so body_refusal
@@ -83,7 +83,7 @@ again : (checks : Checks) (a : State) (e : Seen) (o : Outside) (q : Option Refus
 unfolding told_so body_refusal
 again checks a e o q f h =
     let P : Option Refusal → Type 0 = λ p. body_refusal checks a e e.body (told_so o p) ≡ p in
-    ap (λ (lines : List Line). or_later (when (nat_lt LONGEST_MESSAGE (out_length e)) Refusal.TooLong) (first lines)) (lines_free checks a e e.body o.moment (shows_home q) (shows_verdict q) f o.fetched)
+    ap (λ (lines : List TableLine). or_later (when (nat_lt LONGEST_MESSAGE (out_length e)) Refusal.TooLong) (first_refusal lines)) (lines_free checks a e e.body o.moment (shows_home q) (shows_verdict q) f o.fetched)
     ∙ subst P h (body_again checks a e e.body o)
 
 effect_free : (checks : Checks) (n : ℕ) (a : State) (e : Seen) (body : Body) (o p : Outside) → effect_of body (answers checks n a e o) ≡ effect_of body (answers checks n a e p)
@@ -92,15 +92,15 @@ effect_free checks n a e (Body.Sync s) o p = refl
 effect_free checks n a e Body.Identity o p = refl
 effect_free checks n a e (Body.Account b) o p = refl
 
-made_again : (n : ℕ) (e : Seen) (f : Found) → IsSendable n e f → made n e (found_in (made n e f)) ≡ made n e f
+made_again : (n : ℕ) (e : Seen) (f : Found) → IsSendable n e f → fetched_as n e (found_in (fetched_as n e f)) ≡ fetched_as n e f
 made_again n e absent back = refl
 made_again n e (unfit i) back = refl
 made_again n e (found head records block) back =
     ap (λ (b : List ℕ). Fetched.Whole (record { seq = n + 1; head = head; records = records; message = sync_message e.did e.time head b (n + 1) })) (block_returns n e head block (back head records block refl))
 
-fetched_again : (n : ℕ) (e : Seen) (r : Refusal) (f : Found) → IsSendable n e f → fetched_of (Some r) (Some (made n e (found_in (fetched_of (Some r) (Some (made n e f)))))) ≡ fetched_of (Some r) (Some (made n e f))
+fetched_again : (n : ℕ) (e : Seen) (r : Refusal) (f : Found) → IsSendable n e f → fetched_of (Some r) (Some (fetched_as n e (found_in (fetched_of (Some r) (Some (fetched_as n e f)))))) ≡ fetched_of (Some r) (Some (fetched_as n e f))
 fetched_again n e r f back =
-    elim (loses (code_of r)) as (λ b. cond b (made n e (found_in (cond b (made n e f) Fetched.NotAsked))) Fetched.NotAsked ≡ cond b (made n e f) Fetched.NotAsked) [ true ↦ made_again n e f back | false ↦ refl ]
+    elim (loses (code_of r)) as (λ b. cond b (fetched_as n e (found_in (cond b (fetched_as n e f) Fetched.NotAsked))) Fetched.NotAsked ≡ cond b (fetched_as n e f) Fetched.NotAsked) [ true ↦ made_again n e f back | false ↦ refl ]
 
 by_refusal : (checks : Checks) (n : ℕ) (a : State) (host : List ℕ) (e : Seen) (o : Outside) → IsSendable n e o.fetched → (q : Option Refusal) → refusal_of checks a e o ≡ q
     → decided_event checks n a host e (shown (event_taken n host e (decision_for a e.body o.fetched q) (answers checks n a e o))) ≡ event_taken n host e (decision_for a e.body o.fetched q) (answers checks n a e o)
@@ -108,7 +108,7 @@ by_refusal checks n a host e o back None h =
     rw (again checks a e o None absent h)
     (let effect = effect_free checks n a e e.body (record { moment = o.moment; home = true; verdict = true; fetched = absent }) o in cc)
 by_refusal checks n a host e o back (Some r) h =
-    rw (again checks a e o (Some r) (found_in (fetched_of (Some r) (Some (made n e o.fetched)))) h)
+    rw (again checks a e o (Some r) (found_in (fetched_of (Some r) (Some (fetched_as n e o.fetched)))) h)
     (let fetched = fetched_again n e r o.fetched back in cc)
 
 pub rows_show : RowsShow

@@ -5,7 +5,7 @@ use Rattle.at_car.specs.Blocks.{BlockMap}
 use Rattle.at_car.specs.Writing.{written}
 use Rattle.at_event.specs.Refusals.{code_of}
 use Rattle.at_event.specs.Seen.{Seen}
-use Rattle.at_event.specs.Writing.{message_of, sync_payload}
+use Rattle.at_event.specs.Writing.{event_message, sync_payload}
 use Rattle.at_event.specs.declared.event.Body.{Body}
 use Rattle.at_event.specs.declared.frame.Frame.{Frame}
 use Rattle.at_event.specs.declared.head.Head.{Head}
@@ -19,7 +19,7 @@ use Rattle.account_state.specs.Folds.{last_rev}
 use Rattle.account_state.specs.State.{State}
 use Rattle.account_state.specs.declared.repo.Repo.{Repo}
 use Rattle.relay_core.specs.Rows.{event_taken, faulty_taken}
-use Rattle.relay_core.specs.Table.{Line, told, asked, event_lines, is_ahead, is_held}
+use Rattle.relay_core.specs.Table.{TableLine, told, asked, event_lines, is_ahead, is_held}
 use Rattle.relay_core.specs.declared.answers.Answers.{Answers}
 use Rattle.relay_core.specs.declared.decision.Decision.{Decision}
 use Rattle.relay_core.specs.declared.decision.Pass.{Pass}
@@ -57,17 +57,17 @@ judged moment good head records block = if is_ahead head.rev (Some moment) then 
 
 -- the relay's own `#sync` of a commit, under a number
 unfoldable pub sync_message : List ℕ → List ℕ → Head → List ℕ → ℕ → List ℕ
-sync_message did time head block n = message_of EventKind.Sync (sync_payload did head.rev (commit_car head block) time n)
+sync_message did time head block n = event_message EventKind.Sync (sync_payload did head.rev (commit_car head block) time n)
 
 -- a repository that is taken over, under a number
 abbrev pub whole_under : List ℕ → List ℕ → Head → ℕ → List ℕ → ℕ → Whole
 whole_under did time head records block n = record { seq = n; head = head; records = records; message = sync_message did time head block n }
 
 -- what was found, under the number behind the last one
-abbrev pub made : ℕ → Seen → Found → Fetched
-made last e absent = Fetched.Absent
-made last e (unfit n) = Fetched.Refused n
-made last e (found head records block) = Fetched.Whole (whole_under e.did e.time head records block (last + 1))
+abbrev pub fetched_as : ℕ → Seen → Found → Fetched
+fetched_as last e absent = Fetched.Absent
+fetched_as last e (unfit n) = Fetched.Refused n
+fetched_as last e (found head records block) = Fetched.Whole (whole_under e.did e.time head records block (last + 1))
 
 abbrev pub as_result : Option Refusal → Result (Unit {0}) Refusal
 as_result None = Ok tt
@@ -82,11 +82,11 @@ answers checks last a e o = record {
   opened = Some (checks.opens e (last_rev a.repo));
   verdict = Some o.verdict;
   linked = Some (as_result (checks.links e a.repo));
-  fetched = Some (made last e o.fetched);
+  fetched = Some (fetched_as last e o.fetched);
 }
 
 -- the refusal of a line, where it is known to apply
-abbrev pub condition : Line → Option Refusal
+abbrev pub condition : TableLine → Option Refusal
 condition (told o) = o
 condition (asked q None) = None
 condition (asked q (Some o)) = o
@@ -96,9 +96,9 @@ or_later None o = o
 or_later (Some r) o = Some r
 
 -- the first refusal that applies
-abbrev pub first : List Line → Option Refusal
-first [] = None
-first (line ∷ lines) = or_later (condition line) (first lines)
+abbrev pub first_refusal : List TableLine → Option Refusal
+first_refusal [] = None
+first_refusal (line ∷ lines) = or_later (condition line) (first_refusal lines)
 
 abbrev pub is_found : Found → Bool
 is_found absent = false
@@ -107,7 +107,7 @@ is_found (found head records block) = true
 
 -- the first refusal of an event that applies
 abbrev pub refusal_of : Checks → State → Seen → Outside → Option Refusal
-refusal_of checks a e o = first (event_lines a e (answers checks 0 a e o))
+refusal_of checks a e o = first_refusal (event_lines a e (answers checks 0 a e o))
 
 -- what is decided of an event whose first refusal is this
 abbrev pub decision_for : State → Body → Found → Option Refusal → Decision

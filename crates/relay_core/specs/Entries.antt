@@ -5,7 +5,7 @@ use Rattle.std.specs.Option.{is_some, unwrap_or}
 use Rattle.relay_row.specs.declared.carried.Carried.{Carried}
 use Rattle.relay_row.specs.declared.row.Row.{Row}
 use Rattle.relay_row.specs.Folds.{last_seq, seq_in, is_named}
-use Rattle.relay_row.specs.Journal.{is_above}
+use Rattle.relay_row.specs.Journal.{rises_above}
 use Rattle.account_state.specs.Entries.{entry}
 use Rattle.account_state.specs.Folds.{fresh, account}
 use Rattle.account_state.specs.State.{State, state_of}
@@ -35,9 +35,9 @@ pub record Holds (c : Core) (rows : List Row) : Type 0 where
 
 -- by the state, a row keeps the order
 abbrev pub is_next_in : Core → Row → Bool
-is_next_in c (Row.Taken t) = nat_lt (cursor_in c t.host) t.host_seq && is_above c.last (seq_in (Row.Taken t))
-is_next_in c (Row.Synced did whole moment) = is_above c.last whole.seq
-is_next_in c (Row.Operated o) = is_above c.last o.seq
+is_next_in c (Row.Taken t) = nat_lt (cursor_in c t.host) t.host_seq && rises_above c.last (seq_in (Row.Taken t))
+is_next_in c (Row.Synced did whole moment) = rises_above c.last whole.seq
+is_next_in c (Row.Operated o) = rises_above c.last o.seq
 is_next_in c (Row.Carried (Carried.Last seq)) = is_start c.stage
 is_next_in c (Row.Carried (Carried.Host host n)) = takes_hosts c.stage && cursor_in c host == 0
 is_next_in c (Row.Carried (Carried.Account a)) = takes_accounts c.stage && not (is_some (entry c.accounts a.did))

@@ -6,18 +6,22 @@ use Rattle.at_event.specs.declared.frame.Frame.{Frame}
 use Rattle.at_event.specs.declared.head.Head.{Head}
 use Rattle.at_event.specs.declared.refusal.Refusal.{Refusal}
 use Rattle.relay_row.specs.declared.row.Row.{Row}
+use Rattle.account_state.specs.Dids.{account_of}
+use Rattle.account_state.specs.Entries.{entry}
 use Rattle.account_state.specs.Folds.{account}
 use Rattle.account_state.specs.State.{State}
 use Rattle.relay_core.specs.Decide.{Checks, Outside, sync_message, answers, refusal_of, decision_for, decided_event}
+use Rattle.relay_core.specs.Entries.{Holds}
 use Rattle.relay_core.specs.Ready.{IsReady}
 use Rattle.relay_core.specs.Runs.{Message, Run}
 use Rattle.relay_core.specs.Sending.{CanBeSent, IsSendable}
-use Rattle.relay_core.specs.Shown.{block_in, shown}
+use Rattle.relay_core.specs.Shown.{commit_block_in, shown}
 use Rattle.relay_core.specs.Table.{next_of}
 use Rattle.relay_core.specs.Worlds.{World, RunIn}
 use Rattle.relay_core.specs.declared.answers.Answers.{Answers}
 use Rattle.relay_core.specs.declared.answers.Question.{Question}
 use Rattle.relay_core.specs.declared.decision.Next.{Next}
+use Rattle.relay_core.specs.declared.journal_state.Core.{Core}
 
 -- whether a question has no answer yet
 abbrev pub is_open : Question → Answers → Bool
@@ -28,6 +32,10 @@ is_open Question.Open x = not (is_some x.opened)
 is_open Question.Verdict x = not (is_some x.verdict)
 is_open Question.Link x = not (is_some x.linked)
 is_open Question.Fetch x = not (is_some x.fetched)
+
+-- Where the state stands for a journal, the entry of a DID is its account, where a row names it.
+abbrev pub EntriesAreAccounts : Type 0
+EntriesAreAccounts = (core : Core) (rows : List Row) → Holds core rows → (did : List ℕ) → entry core.accounts did ≡ account_of rows did
 
 -- No question is asked that has an answer, so there are seven at most.
 abbrev pub AsksOnce : Type 0
@@ -40,7 +48,7 @@ NextDecides = (checks : Checks) (last cursor : ℕ) (a : State) (e : Seen) (o : 
 
 -- The block of a commit is read back from the relay's own message of it.
 abbrev pub BlocksReturn : Type 0
-BlocksReturn = (last : ℕ) (e : Seen) (head : Head) (block : List ℕ) → CanBeSent last e head block → block_in (sync_message e.did e.time head block (last + 1)) head.commit ≡ block
+BlocksReturn = (last : ℕ) (e : Seen) (head : Head) (block : List ℕ) → CanBeSent last e head block → commit_block_in (sync_message e.did e.time head block (last + 1)) head.commit ≡ block
 
 -- The answers that a row shows make that row.
 abbrev pub RowsShow : Type 0

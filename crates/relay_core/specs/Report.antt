@@ -3,7 +3,7 @@ use Rattle.std.specs.Prelude.{ℕ, Bool, true, false, List, [], ◌∷◌, ◌++
 use Rattle.std.specs.List.{filter}
 use Rattle.std.specs.Option.{is_some}
 use Rattle.at_cid.specs.Text.{text_of}
-use Rattle.at_event.specs.Refusals.{code_of, name_of}
+use Rattle.at_event.specs.Refusals.{code_of, refusal_name}
 use Rattle.at_event.specs.declared.frame.Frame.{Frame}
 use Rattle.at_event.specs.declared.frame.FrameFault.{FrameFault}
 use Rattle.at_event.specs.declared.refusal.Refusal.{Refusal}
@@ -11,7 +11,7 @@ use Rattle.relay_row.specs.Folds.{events, last_seq}
 use Rattle.relay_row.specs.declared.fetched.Fetched.{Fetched}
 use Rattle.relay_row.specs.declared.row.Row.{Row}
 use Rattle.relay_row.specs.declared.taken.Taken.{Taken}
-use Rattle.relay_core.specs.Runs.{Message, passed_by, has_ended}
+use Rattle.relay_core.specs.Runs.{Message, skipped_by, has_ended}
 use Rattle.relay_core.specs.declared.decision.Pass.{Pass}
 
 -- what a refusal says behind its name
@@ -25,7 +25,7 @@ detail_of other = []
 
 -- a refusal, as it stands in every report
 abbrev pub refused_of : Refusal → List ℕ
-refused_of r = codes "refused " ++ (decimal (code_of r) ++ (codes " " ++ (name_of r ++ detail_of r)))
+refused_of r = codes "refused " ++ (decimal (code_of r) ++ (codes " " ++ (refusal_name r ++ detail_of r)))
 
 -- and what became of the fetch that followed
 abbrev pub fetch_of : Fetched → List ℕ
@@ -60,13 +60,13 @@ frame_word Frame.Info = codes " info"
 frame_word Frame.Error = codes " ended error"
 frame_word Frame.Unknown = codes " unknown"
 
-abbrev pub passed_word : Result Frame FrameFault → List ℕ
-passed_word (Ok frame) = frame_word frame
-passed_word (Err fault) = fault_word fault
+abbrev pub skipped_text : Result Frame FrameFault → List ℕ
+skipped_text (Ok frame) = frame_word frame
+skipped_text (Err fault) = fault_word fault
 
 -- the line of a message that makes none
-abbrev pub passed_line : Message → List ℕ
-passed_line m = m.0 ++ (passed_word m.1 ++ 10 ∷ [])
+abbrev pub skipped_line : Message → List ℕ
+skipped_line m = m.0 ++ (skipped_text m.1 ++ 10 ∷ [])
 
 -- the line of a message of a host that ended before
 abbrev pub over_line : List ℕ → List ℕ
@@ -91,21 +91,21 @@ on_row (row ∷ rows) nothing f = f row rows
 -- the lines of messages that make these rows behind a journal
 abbrev pub lines_from : List Row → List (List ℕ) → List Message → List Row → List ℕ
 lines_from J ended [] rows = []
-lines_from J ended (m ∷ messages) rows = turn (has_ended ended m.0) (passed_by J m)
+lines_from J ended (m ∷ messages) rows = turn (has_ended ended m.0) (skipped_by J m)
     (over_line m.0 ++ lines_from J ended messages rows)
-    (λ pass. passed_line m ++ lines_from J (ended_by pass m.0 ended) messages rows)
+    (λ pass. skipped_line m ++ lines_from J (ended_by pass m.0 ended) messages rows)
     (on_row rows [] (λ row others. row_line row ++ lines_from (J ++ row ∷ []) ended messages others))
 
-abbrev pub is_refused : Row → Bool
-is_refused (Row.Taken t) = is_some t.refusal
-is_refused (Row.Synced did whole moment) = false
-is_refused (Row.Operated o) = false
-is_refused (Row.Carried c) = false
+abbrev pub is_row_refused : Row → Bool
+is_row_refused (Row.Taken t) = is_some t.refusal
+is_row_refused (Row.Synced did whole moment) = false
+is_row_refused (Row.Operated o) = false
+is_row_refused (Row.Carried c) = false
 
 -- the last line: how many messages there were, how many numbers were given, how many messages were refused, and the last number
 abbrev pub end_line : List Row → List Message → List Row → List ℕ
 end_line J messages rows =
-    codes "end " ++ (decimal (length messages) ++ (codes " events " ++ (decimal (length (events rows)) ++ (codes " refused " ++ (decimal (length (filter is_refused rows))
+    codes "end " ++ (decimal (length messages) ++ (codes " events " ++ (decimal (length (events rows)) ++ (codes " refused " ++ (decimal (length (filter is_row_refused rows))
     ++ (codes " last " ++ (decimal (last_seq (J ++ rows)) ++ 10 ∷ [])))))))
 
 -- what is said of messages that make these rows behind a journal

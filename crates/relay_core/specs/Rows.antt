@@ -16,11 +16,11 @@ use Rattle.relay_core.specs.declared.answers.Answers.{Answers}
 use Rattle.relay_core.specs.declared.decision.Decision.{Decision}
 
 -- the number of an event's kind in a row
-abbrev pub kind_of : Body → ℕ
-kind_of (Body.Commit c) = 1
-kind_of (Body.Sync s) = 2
-kind_of Body.Identity = 3
-kind_of (Body.Account b) = 4
+abbrev pub kind_number : Body → ℕ
+kind_number (Body.Commit c) = 1
+kind_number (Body.Sync s) = 2
+kind_number Body.Identity = 3
+kind_number (Body.Account b) = 4
 
 abbrev pub head_effect : Option (Result Head Refusal) → Effect
 head_effect (Some (Ok head)) = Effect.Repo head
@@ -55,7 +55,7 @@ event_taken last host e d x = record {
   host = host;
   host_seq = e.seq;
   did = e.did;
-  kind = kind_of e.body;
+  kind = kind_number e.body;
   refusal = d.refusal;
   seq = if goes_out d.refusal d.held then last + 1 else 0;
   message = if goes_out d.refusal d.held then out_of e (last + 1) else [];

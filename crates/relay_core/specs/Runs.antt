@@ -17,14 +17,14 @@ abbrev pub Message : Type 0
 Message = List ℕ × Result Frame FrameFault
 
 -- why a message makes no row behind a journal. One that doesn't read ends its host
-abbrev pub passed_by : List Row → Message → Option Pass
-passed_by J (host, Err fault) = Some Pass.Ended
-passed_by J (host, Ok frame) = passed (cursor host J) frame
+abbrev pub skipped_by : List Row → Message → Option Pass
+skipped_by J (host, Err fault) = Some Pass.Ended
+skipped_by J (host, Ok frame) = passed (cursor host J) frame
 
 -- a row that a message makes behind a journal, for the answers that it shows
-abbrev pub IsMade : Checks → List Row → Message → Row → Type 0
-IsMade checks J (host, Ok frame) (Row.Taken t) = decided checks (last_seq J) (account (did_of frame) J) host frame (shown t) ≡ Some t
-IsMade checks J message row = ⊥
+abbrev pub IsMadeBy : Checks → List Row → Message → Row → Type 0
+IsMadeBy checks J (host, Ok frame) (Row.Taken t) = decided checks (last_seq J) (account (did_of frame) J) host frame (shown t) ≡ Some t
+IsMadeBy checks J message row = ⊥
 
 -- one turn, at a host that ended before or not: what holds where it ends now, where nothing is made, and where a row is
 abbrev pub Turn : Bool → Option Pass → Type 0 → Type 0 → Type 0 → Type 0
@@ -41,11 +41,11 @@ has_ended ended host = list_any (bytes_eq host) ended
 -- Behind the journal J, with these hosts ended, the messages make the rows.
 abbrev pub RunFrom : Checks → List Row → List (List ℕ) → List Message → List Row → Type 0
 RunFrom checks J ended [] rows = rows ≡ []
-RunFrom checks J ended (m ∷ messages) rows = Turn (has_ended ended m.0) (passed_by J m)
+RunFrom checks J ended (m ∷ messages) rows = Turn (has_ended ended m.0) (skipped_by J m)
     (RunFrom checks J (m.0 ∷ ended) messages rows)
     (RunFrom checks J ended messages rows)
-    ((row : Row) × (others : List Row) × (rows ≡ row ∷ others) × IsMade checks J m row × RunFrom checks (J ++ row ∷ []) ended messages others)
+    ((row : Row) × (others : List Row) × (rows ≡ row ∷ others) × IsMadeBy checks J m row × RunFrom checks (J ++ row ∷ []) ended messages others)
 
--- Behind the journal J the messages make the rows: each that isn't passed over makes the row that is decided for the answers that the row shows, and no message of a host that ended before makes any.
+-- Behind the journal J the messages make the rows: each that isn't skipped makes the row that is decided for the answers that the row shows, and no message of a host that ended before makes any.
 abbrev pub Run : Checks → List Row → List Message → List Row → Type 0
 Run checks J messages rows = RunFrom checks J [] messages rows

@@ -1,11 +1,11 @@
 -- When the relay's own `#sync` of a commit that was fetched can be sent.
 use Rattle.std.specs.Prelude.{◌≡◌, ℕ, ◌+◌, ◌^◌, ◌<◌, ◌≤◌, true, List, length}
-use Rattle.at_cbor.specs.Spelling.{IsString, IsText}
+use Rattle.at_cbor.specs.Encoding.{IsString, IsText}
 use Rattle.at_syntax.specs.Did.{is_did}
 use Rattle.at_car.specs.Blocks.{IsLinkOf}
 use Rattle.at_event.specs.Seen.{Seen}
 use Rattle.at_event.specs.declared.head.Head.{Head}
-use Rattle.relay_row.specs.declared.limits.TheConstants.{NUMBERS}
+use Rattle.at_cid.specs.declared.limits.TheConstants.{NUMBERS}
 use Rattle.relay_core.specs.Decide.{Found, found, commit_car}
 
 -- The account and the time are those of an event, the block is its link's, and a number is left.

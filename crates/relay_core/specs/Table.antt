@@ -16,9 +16,9 @@ use Rattle.relay_core.specs.declared.decision.Pass.{Pass}
 use Rattle.relay_core.specs.declared.limits.TheConstants.{LONGEST_MESSAGE, MOST_AHEAD}
 
 -- a line of the table: a refusal that applies or not, as is known at once or by the answer to a question
-pub data Line : Type 0 where
-  told : Option Refusal → Line
-  asked : Question → Option (Option Refusal) → Line
+pub data TableLine : Type 0 where
+  told : Option Refusal → TableLine
+  asked : Question → Option (Option Refusal) → TableLine
 
 abbrev pub no_answers : Answers
 no_answers = record { moment = None; refreshed = false; home = None; opened = None; verdict = None; linked = None; fetched = None }
@@ -36,43 +36,43 @@ abbrev pub is_ahead : ℕ → Option ℕ → Bool
 is_ahead rev None = false
 is_ahead rev (Some moment) = nat_lt (moment + MOST_AHEAD) (rev / 1024)
 
-abbrev pub moment_line : Answers → Line
+abbrev pub moment_line : Answers → TableLine
 moment_line x = asked Question.Moment (option_map (λ moment. None) x.moment)
 
-abbrev pub refresh_line : Answers → Line
+abbrev pub refresh_line : Answers → TableLine
 refresh_line x = asked Question.Refresh (if x.refreshed then Some None else None)
 
-abbrev pub home_line : Answers → Line
+abbrev pub home_line : Answers → TableLine
 home_line x = asked Question.Home (option_map (λ yes. when (not yes) Refusal.NotHome) x.home)
 
-abbrev pub open_line : Answers → Line
+abbrev pub open_line : Answers → TableLine
 open_line x = asked Question.Open (option_map refusal_in x.opened)
 
-abbrev pub verdict_line : Answers → Line
+abbrev pub verdict_line : Answers → TableLine
 verdict_line x = asked Question.Verdict (option_map (λ good. when (not good) Refusal.BadSignature) x.verdict)
 
-abbrev pub link_line : Answers → Line
+abbrev pub link_line : Answers → TableLine
 link_line x = asked Question.Link (option_map refusal_in x.linked)
 
 -- the lines of a commit and of a sync, and those that follow
-abbrev pub repo_lines : State → ℕ → Answers → List Line → List Line
+abbrev pub repo_lines : State → ℕ → Answers → List TableLine → List TableLine
 repo_lines a rev x others =
     home_line x ∷ told (when (not a.active) Refusal.Inactive) ∷ told (when a.down Refusal.TakenDown) ∷ open_line x
     ∷ told (when (is_ahead rev x.moment) Refusal.FutureRev) ∷ verdict_line x ∷ others
 
 -- the lines of an event's kind
-abbrev pub body_lines : State → Body → Answers → List Line
+abbrev pub body_lines : State → Body → Answers → List TableLine
 body_lines a (Body.Commit c) x = repo_lines a c.rev x (link_line x ∷ [])
 body_lines a (Body.Sync s) x = repo_lines a s.rev x []
 body_lines a Body.Identity x = refresh_line x ∷ home_line x ∷ told (when a.down Refusal.TakenDown) ∷ []
 body_lines a (Body.Account b) x = home_line x ∷ []
 
 -- the table of an event
-abbrev pub event_lines : State → Seen → Answers → List Line
+abbrev pub event_lines : State → Seen → Answers → List TableLine
 event_lines a e x = moment_line x ∷ told (when (nat_lt LONGEST_MESSAGE (out_length e)) Refusal.TooLong) ∷ body_lines a e.body x
 
 -- the table of an event with a bad field
-abbrev pub faulty_lines : Answers → List Line
+abbrev pub faulty_lines : Answers → List TableLine
 faulty_lines x = moment_line x ∷ told (Some Refusal.BadEvent) ∷ []
 
 -- where going down the table ends
@@ -86,7 +86,7 @@ walk_past None w = w
 walk_past (Some r) w = refuses r
 
 -- down to the first line that applies or that waits for an answer
-abbrev pub walk : List Line → Walk
+abbrev pub walk : List TableLine → Walk
 walk [] = passes
 walk (told o ∷ lines) = walk_past o (walk lines)
 walk (asked q None ∷ lines) = waits q

@@ -7,7 +7,7 @@ use Rattle.relay_row.specs.declared.row.Row.{Row}
 use Rattle.account_state.specs.Folds.{account, last_rev}
 use Rattle.account_state.specs.State.{State}
 use Rattle.relay_core.specs.Decide.{Checks, Outside, Found, absent, decided}
-use Rattle.relay_core.specs.Runs.{Message, Turn, passed_by, has_ended}
+use Rattle.relay_core.specs.Runs.{Message, Turn, skipped_by, has_ended}
 use Rattle.relay_core.specs.Sending.{IsSendable}
 use Rattle.relay_core.specs.Table.{did_of}
 
@@ -49,7 +49,7 @@ IsMadeIn checks w J message row = ⊥
 -- In a world, behind the journal J, with these hosts ended, the messages make the rows.
 abbrev pub RunsIn : Checks → World → List Row → List (List ℕ) → List Message → List Row → Type 0
 RunsIn checks w J ended [] rows = rows ≡ []
-RunsIn checks w J ended (m ∷ messages) rows = Turn (has_ended ended m.0) (passed_by J m)
+RunsIn checks w J ended (m ∷ messages) rows = Turn (has_ended ended m.0) (skipped_by J m)
     (RunsIn checks w J (m.0 ∷ ended) messages rows)
     (RunsIn checks w J ended messages rows)
     ((row : Row) × (others : List Row) × (rows ≡ row ∷ others) × IsMadeIn checks w J m row × RunsIn checks w (J ++ row ∷ []) ended messages others)

@@ -1,6 +1,6 @@
 //! Laws of decisions, each the contract of a function that does nothing.
 
-ghost use Rattle.relay_core.specs.Laws.{AsksOnce, BlocksReturn, NextDecides, ReadyDecides, RowsShow, WorldsRun};
+ghost use Rattle.relay_core.specs.Laws.{AsksOnce, BlocksReturn, EntriesAreAccounts, NextDecides, ReadyDecides, RowsShow, WorldsRun};
 
 /// No question is asked twice about a message, so at most seven are.
 pub fn asks_once()
@@ -30,4 +30,9 @@ pub fn worlds_run()
 /// A ready commit is accepted where its home and its signature are good.
 pub fn ready_decides()
     ensures { ReadyDecides }
+{}
+
+/// Where the state stands for a journal, the entry of a DID is its account, where a row names it.
+pub fn entries_are_accounts()
+    ensures { EntriesAreAccounts }
 {}

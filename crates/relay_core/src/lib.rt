@@ -19,6 +19,10 @@ pub use answers::{Answers, Question};
 pub use deciding::is_ahead;
 pub use decision::{Decision, Next, Pass};
 pub use journal_state::Core;
-pub use laws::{asks_once, blocks_return, next_decides, ready_decides, rows_show, worlds_run};
+pub use laws::{
+    asks_once, blocks_return, entries_are_accounts, next_decides, ready_decides, rows_show,
+    worlds_run,
+};
 pub use limits::{FETCHED_AHEAD, FETCHED_UNSIGNED, LONGEST_MESSAGE, MOST_AHEAD};
+pub use made_row::goes_out;
 pub use operating::fetch_refusal;

@@ -1,20 +1,20 @@
 //! The row of a decided message.
 
 ghost use Rattle.std.specs.Prelude.{◌≡◌, ◌+◌, ◌<◌, true, IfOk, option_map, if◌then◌else◌};
-ghost use Rattle.relay_row.specs.declared.limits.TheConstants.{NUMBERS};
+ghost use Rattle.at_cid.specs.declared.limits.TheConstants.{NUMBERS};
 ghost use Rattle.relay_row.specs.declared.row.Row.{Row};
-ghost use Rattle.relay_core.specs.Rows.{kind_of, head_effect, effect_of, own_effect, fetched_of, goes_out, event_taken, faulty_taken, row_of};
+ghost use Rattle.relay_core.specs.Rows.{kind_number, head_effect, effect_of, own_effect, fetched_of, goes_out, event_taken, faulty_taken, row_of};
 
 use crate::answers::Answers;
 use crate::decision::Decision;
 use crate::journal_state::Core;
 use at_cid::{Memory, Octets, Words};
 use at_event::{Body, Event, Frame, Head, Refusal};
-use relay_row::{Effect, Fetched, Fresh, Taken, loses};
+use relay_row::{Effect, Fetched, NewRow, Taken, loses};
 use std::alloc::Global;
 
 fn kind(body: &Body) -> u8
-    ensures { result ≡ kind_of body.now }
+    ensures { result ≡ kind_number body.now }
 {
     match body {
         Body::Commit(_) => 1,
@@ -65,7 +65,8 @@ fn fetched(refusal: Option<Refusal>, found: Option<Fetched>) -> Fetched
     }
 }
 
-fn goes_out(decision: &Decision) -> bool
+/// Whether a message that is decided so goes out.
+pub fn goes_out(decision: &Decision) -> bool
     ensures { result ≡ goes_out decision.now.refusal decision.now.held }
 {
     match decision.refusal {
@@ -98,7 +99,7 @@ fn take_event(
     event: Event,
     decision: &Decision,
     answers: Answers,
-) -> Result<Fresh, Memory>
+) -> Result<NewRow, Memory>
     requires { goes_out decision.now.refusal decision.now.held ≡ true → last + 1 < NUMBERS }
     ensures { IfOk result (λ taken. taken ≡ event_taken last host.now event decision.now answers) }
 {
@@ -117,16 +118,16 @@ fn take_event(
         moment,
     };
     if goes_out(decision) {
-        Ok(Fresh::of_event(taken, event))
+        Ok(NewRow::of_event(taken, event))
     } else {
-        Ok(Fresh::new(taken))
+        Ok(NewRow::new(taken))
     }
 }
 
-fn take_faulty(alloc: Global, host: &str, seq: u64, moment: Option<u64>) -> Result<Fresh, Memory>
+fn take_faulty(alloc: Global, host: &str, seq: u64, moment: Option<u64>) -> Result<NewRow, Memory>
     ensures { IfOk result (λ taken. taken ≡ faulty_taken host.now seq moment) }
 {
-    Ok(Fresh::new(Taken {
+    Ok(NewRow::new(Taken {
         host: Words::from_str(alloc, host)?,
         host_seq: seq,
         did: Words::new(alloc),
@@ -150,7 +151,7 @@ impl Core {
         frame: Frame,
         decision: &Decision,
         answers: Answers,
-    ) -> Result<Option<Fresh>, Memory>
+    ) -> Result<Option<NewRow>, Memory>
         requires { goes_out decision.now.refusal decision.now.held ≡ true → self.now.last + 1 < NUMBERS }
         ensures { IfOk result (λ row. option_map Row.Taken row ≡ row_of self.now.last host.now frame decision.now answers) }
     {

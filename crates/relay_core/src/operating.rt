@@ -1,7 +1,7 @@
-//! An operator's words on accounts.
+//! An operator's commands on accounts.
 
 ghost use Rattle.std.specs.Prelude.{◌≡◌, ◌+◌, ◌<◌, IfOk};
-ghost use Rattle.relay_row.specs.declared.limits.TheConstants.{NUMBERS};
+ghost use Rattle.at_cid.specs.declared.limits.TheConstants.{NUMBERS};
 ghost use Rattle.relay_core.specs.Entries.{account_in, state_in};
 ghost use Rattle.relay_core.specs.Operating.{operate_refusal, operated_message, operated_as, sync_refusal, fetch_refusal};
 
@@ -83,7 +83,7 @@ impl Core {
         })
     }
 
-    /// Why an account's repository isn't fetched at an operator's word, if it isn't.
+    /// Why an account's repository isn't fetched at an operator's command, if it isn't.
     pub fn sync_refusal(&self, did: &str) -> Option<Refusal>
         ensures { result ≡ sync_refusal (account_in self.now did.now) }
     {

@@ -1,10 +1,9 @@
 //! What the relay's state is asked, and how rows move it.
 
 ghost use Rattle.std.specs.Prelude.{◌≡◌, ◌≢◌, List, ℕ, [], ◌++◌, ◌∷◌, Some, None, true, option_map, OnOk, IfSome};
-ghost use Rattle.std.specs.String.{string_bytes};
 ghost use Rattle.at_event.specs.declared.frame.Frame.{Frame as TheFrame};
-ghost use Rattle.relay_row.specs.Folds.{host_in, did_in};
-ghost use Rattle.relay_row.specs.Journal.{is_above, keeps_order};
+ghost use Rattle.relay_row.specs.Folds.{host_in, did_of_row};
+ghost use Rattle.relay_row.specs.Journal.{rises_above, keeps_order};
 ghost use Rattle.relay_row.specs.declared.row.Row.{Row};
 ghost use Rattle.account_state.specs.Entries.{entry, is_before};
 ghost use Rattle.account_state.specs.Entries.{has_room as has_account};
@@ -48,11 +47,11 @@ impl Core {
     }
 
     /// The next DID that a row names, in the order of bytes, with its account.
-    pub fn next_after(&self, did: &String) -> Option<(&str, &Account)>
+    pub fn next_after(&self, did: &str) -> Option<(&str, &Account)>
         ensures found { IfSome result (λ x. entry self.now.accounts x.0.now ≡ Some (state_of x.1.now)) }
-        ensures above { IfSome result (λ x. is_before (string_bytes did.now) x.0.now ≡ true) }
-        ensures least { IfSome result (λ x. (name : List ℕ) → is_before (string_bytes did.now) name ≡ true → is_before name x.0.now ≡ true → entry self.now.accounts name ≡ None) }
-        ensures none { result ≡ None → (name : List ℕ) → is_before (string_bytes did.now) name ≡ true → entry self.now.accounts name ≡ None }
+        ensures above { IfSome result (λ x. is_before did.now x.0.now ≡ true) }
+        ensures least { IfSome result (λ x. (name : List ℕ) → is_before did.now name ≡ true → is_before name x.0.now ≡ true → entry self.now.accounts name ≡ None) }
+        ensures none { result ≡ None → (name : List ℕ) → is_before did.now name ≡ true → entry self.now.accounts name ≡ None }
     {
         self.accounts.next_after(did)
     }
@@ -117,7 +116,7 @@ impl Core {
     }
 
     fn is_above(&self, seq: u64) -> bool
-        ensures { result ≡ is_above self.now.last seq }
+        ensures { result ≡ rises_above self.now.last seq }
     {
         seq == 0 || seq > self.last
     }
@@ -151,7 +150,7 @@ impl Core {
     /// The state after one more row, whose names were touched. Takes no memory.
     pub fn apply(&mut self, row: Row)
         requires host { host_in row ≢ [] → has_host self.old.hosts (host_in row) ≡ true }
-        requires account { did_in row ≢ [] → has_account self.old.accounts (did_in row) ≡ true }
+        requires account { did_of_row row ≢ [] → has_account self.old.accounts (did_of_row row) ≡ true }
         ensures holds { (rows : List Row) → Holds self.old rows → Holds self.new (rows ++ row ∷ []) }
         ensures hosts { (name : List ℕ) → has_host self.new.hosts name ≡ has_host self.old.hosts name }
         ensures accounts { (name : List ℕ) → has_account self.new.accounts name ≡ has_account self.old.accounts name }

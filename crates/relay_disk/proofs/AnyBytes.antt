@@ -4,7 +4,7 @@ use Rattle.std.proofs.lemmas.List.{get_or-take, get_or-drop, get_or_append_left,
 use Rattle.std.proofs.lemmas.Bool.{cases_lt}
 use Rattle.relay_disk.specs.Disk.{Torn, Cut, written}
 use Rattle.relay_disk.specs.Works.{Work, wrote, cut_to, synced, Moment, opened, next, after}
-use Rattle.relay_disk.specs.Ranges.{IsCovered, IsUnsynced, AreInside, IsWithin, least, greatest}
+use Rattle.relay_disk.specs.Ranges.{IsInRange, IsUnsynced, AreInside, IsWithin, least, greatest}
 use Rattle.relay_disk.proofs.Works.{torn_whole, cut_whole}
 use Rattle.relay_disk.proofs.Moments.{untorn, uncut}
 use Rattle.relay_disk.proofs.RangeLaws.{length-written, torn_same}
@@ -22,7 +22,7 @@ patched place n c old = written place (piece place n c) old
 
 -- they are the same wherever nothing later is written
 abbrev IsLike : List ℕ → List ℕ → List Work → Type 0
-IsLike c d works = (i : ℕ) → i < length c → i < length d → (IsCovered i works → ⊥) → get_or c i 0 ≡ get_or d i 0
+IsLike c d works = (i : ℕ) → i < length c → i < length d → (IsInRange i works → ⊥) → get_or c i 0 ≡ get_or d i 0
 
 module _ (place n : ℕ) (c old : List ℕ) (inside : place ≤ length old) (short : length old ≤ length c) where
   length-patched : length (patched place n c old) ≡ min (length c) (max (length old) (place + n))

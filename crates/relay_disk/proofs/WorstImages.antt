@@ -4,7 +4,7 @@ use Rattle.std.proofs.lemmas.List.{length-take-le}
 use Rattle.std.proofs.lemmas.Bool.{or_cases, or_parts}
 use Rattle.std.proofs.lemmas.Bool.Decides.{nat_tests}
 use Rattle.relay_disk.specs.Works.{Work, wrote, cut_to, synced, Moment, opened, next, after, possible}
-use Rattle.relay_disk.specs.Ranges.{IsCovered, IsUnsynced, AreInside}
+use Rattle.relay_disk.specs.Ranges.{IsInRange, IsUnsynced, AreInside}
 use Rattle.relay_disk.specs.Memory.{works_of, total, covered_after, inverted_from}
 use Rattle.relay_disk.specs.Worst.{IsInverted, IsWorst}
 use Rattle.relay_disk.specs.declared.call.Call.{Call}
@@ -13,19 +13,19 @@ use Rattle.relay_disk.proofs.RangeLaws.{parts_are_within}
 use Rattle.relay_disk.proofs.AnyBytes.{ranges_left, synced_left}
 use Rattle.relay_disk.proofs.SinceSync.{from_sync, unsynced_since}
 
-covered_left : (i : ℕ) (works more : List Work) → IsCovered i works → IsCovered i (works ++ more)
+covered_left : (i : ℕ) (works more : List Work) → IsInRange i works → IsInRange i (works ++ more)
 covered_left i [] more is = absurd is
 covered_left i (wrote place bytes ∷ works) more is = ⊎_elim (λ here. inl here) (λ later. inr (covered_left i works more later)) is
 covered_left i (cut_to size ∷ works) more is = covered_left i works more is
 covered_left i (synced ∷ works) more is = covered_left i works more is
 
-covered_right : (i : ℕ) (works more : List Work) → IsCovered i more → IsCovered i (works ++ more)
+covered_right : (i : ℕ) (works more : List Work) → IsInRange i more → IsInRange i (works ++ more)
 covered_right i [] more is = is
 covered_right i (wrote place bytes ∷ works) more is = inr (covered_right i works more is)
 covered_right i (cut_to size ∷ works) more is = covered_right i works more is
 covered_right i (synced ∷ works) more is = covered_right i works more is
 
-covered_split : (i : ℕ) (works more : List Work) → IsCovered i (works ++ more) → IsCovered i works ⊎ IsCovered i more
+covered_split : (i : ℕ) (works more : List Work) → IsInRange i (works ++ more) → IsInRange i works ⊎ IsInRange i more
 covered_split i [] more is = inr is
 covered_split i (wrote place bytes ∷ works) more is = ⊎_elim (λ here. inl (inl here)) (λ later. ⊎_elim (λ one. inl (inr one)) (λ two. inr two) (covered_split i works more later)) is
 covered_split i (cut_to size ∷ works) more is = covered_split i works more is
@@ -33,8 +33,8 @@ covered_split i (synced ∷ works) more is = covered_split i works more is
 
 -- the test says whether a write covers the place
 record Agrees (i : ℕ) (test : Bool) (works : List Work) : Type 0 where
-  yes : test ≡ true → IsCovered i works
-  no : test ≡ false → IsCovered i works → ⊥
+  yes : test ≡ true → IsInRange i works
+  no : test ≡ false → IsInRange i works → ⊥
 
 within_yes : (i place len : ℕ) → (nat_le place i && nat_lt i (place + len)) ≡ true → (place ≤ i) × (i < place + len)
 within_yes i place len is = grind (arith, nat_tests)
@@ -85,11 +85,11 @@ get_or-inverted_from k calls (byte ∷ bytes) (suc i) short =
     let at : k + 1 + i ≡ k + suc i = omega arith in
     get_or-inverted_from (k + 1) calls bytes i (omega arith) ∙ ap (λ (j : ℕ). cond (covered_after false j calls) (255 - get_or bytes i 0) (get_or bytes i 0)) at
 
-cond_yes : (test : Bool) (works : List Work) (i x y : ℕ) → Agrees i test works → IsCovered i works → cond test x y ≡ x
+cond_yes : (test : Bool) (works : List Work) (i x y : ℕ) → Agrees i test works → IsInRange i works → cond test x y ≡ x
 cond_yes true works i x y agrees covered = refl
 cond_yes false works i x y agrees covered = absurd (agrees.no refl covered)
 
-cond_no : (test : Bool) (works : List Work) (i x y : ℕ) → Agrees i test works → (IsCovered i works → ⊥) → cond test x y ≡ y
+cond_no : (test : Bool) (works : List Work) (i x y : ℕ) → Agrees i test works → (IsInRange i works → ⊥) → cond test x y ≡ y
 cond_no true works i x y agrees out = absurd (out (agrees.yes refl))
 cond_no false works i x y agrees out = refl
 

@@ -17,11 +17,11 @@ greatest so_far size (cut_to to ∷ works) = greatest so_far (min to size) works
 greatest so_far size (synced ∷ works) = greatest so_far size works
 
 -- a write covers this place
-abbrev pub IsCovered : ℕ → List Work → Type 0
-IsCovered i [] = ⊥
-IsCovered i (wrote place bytes ∷ works) = ((place ≤ i) × (i < place + length bytes)) ⊎ IsCovered i works
-IsCovered i (cut_to to ∷ works) = IsCovered i works
-IsCovered i (synced ∷ works) = IsCovered i works
+abbrev pub IsInRange : ℕ → List Work → Type 0
+IsInRange i [] = ⊥
+IsInRange i (wrote place bytes ∷ works) = ((place ≤ i) × (i < place + length bytes)) ⊎ IsInRange i works
+IsInRange i (cut_to to ∷ works) = IsInRange i works
+IsInRange i (synced ∷ works) = IsInRange i works
 
 -- no sync among them
 abbrev pub IsUnsynced : List Work → Type 0
@@ -35,7 +35,7 @@ IsUnsynced (synced ∷ works) = ⊥
 pub record IsWithin (content : List ℕ) (works : List Work) (image : List ℕ) : Type 0 where
   pub no_shorter : least (length content) (length content) works ≤ length image
   pub no_longer : length image ≤ greatest (length content) (length content) works
-  pub same : (i : ℕ) → i < length image → i < length content → (IsCovered i works → ⊥) → get_or image i 0 ≡ get_or content i 0
+  pub same : (i : ℕ) → i < length image → i < length content → (IsInRange i works → ⊥) → get_or image i 0 ≡ get_or content i 0
 
 -- each write begins inside, or at the end
 abbrev pub AreInside : ℕ → List Work → Type 0

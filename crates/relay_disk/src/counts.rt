@@ -1,5 +1,5 @@
 //! Counts of faults.
-ghost use Rattle.std.specs.Prelude.{◌≡◌, ◌≤◌, IsErr, OnErr};
+ghost use Rattle.std.specs.Prelude.{◌≡◌, ◌≤◌, IsErr, OnOk, OnErr};
 ghost use Rattle.at_cid.specs.Counts.{Rose};
 
 use crate::Failed;
@@ -17,6 +17,7 @@ pub fn fail<T>(faults: &mut u64) -> Result<T, Failed>
 /// Counts an answer that is a failure.
 pub fn counted<T>(faults: &mut u64, answer: Result<T, Failed>) -> Result<T, Failed>
     ensures same { result ≡ answer }
+    ensures steady { OnOk result (faults.new ≡ faults.old) }
     ensures rose { OnErr result (Rose faults.old faults.new) }
     ensures counts { faults.old ≤ faults.new }
 {

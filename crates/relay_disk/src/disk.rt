@@ -31,6 +31,7 @@ pub trait Disk {
         ensures size { IfOk result (λ size. IsTrue tells → size ≡ length (view self.old).content) }
         ensures below { IfOk result (λ size. size < SIZES) }
         ensures goes { Goes Same (view self.old) (view self.new) }
+        ensures steady { OnOk result ((view self.new).faults ≡ (view self.old).faults) }
         ensures failed { OnErr result (Rose (view self.old).faults (view self.new).faults) };
 
     /// Fills the room with the bytes from a place on.
@@ -39,6 +40,7 @@ pub trait Disk {
         ensures bytes { OnOk result (IsTrue tells →
             room.new ≡ take (length room.old) (drop place (view self.old).content)) }
         ensures goes { Goes Same (view self.old) (view self.new) }
+        ensures steady { OnOk result ((view self.new).faults ≡ (view self.old).faults) }
         ensures failed { OnErr result (Rose (view self.old).faults (view self.new).faults) };
 
     /// Writes over what is there, and past the end.
@@ -48,6 +50,7 @@ pub trait Disk {
         ensures ok { OnOk result (IsTrue tells →
             (view self.new).content ≡ written place piece.now (view self.old).content) }
         ensures goes { Goes (Torn place (length piece.now)) (view self.old) (view self.new) }
+        ensures steady { OnOk result ((view self.new).faults ≡ (view self.old).faults) }
         ensures failed { OnErr result (Rose (view self.old).faults (view self.new).faults) };
 
     /// Takes off what is behind a size.
@@ -55,12 +58,14 @@ pub trait Disk {
         requires { IsTrue tells → size ≤ length (view self.old).content }
         ensures ok { OnOk result (IsTrue tells → (view self.new).content ≡ take size (view self.old).content) }
         ensures goes { Goes (Cut size) (view self.old) (view self.new) }
+        ensures steady { OnOk result ((view self.new).faults ≡ (view self.old).faults) }
         ensures failed { OnErr result (Rose (view self.old).faults (view self.new).faults) };
 
     /// After it, a crash leaves the content.
     fn sync(&mut self) -> Result<(), Failed>
         ensures ok { OnOk result (IsTrue tells → IsSynced (view self.new)) }
         ensures goes { Goes Same (view self.old) (view self.new) }
+        ensures steady { OnOk result ((view self.new).faults ≡ (view self.old).faults) }
         ensures failed { OnErr result (Rose (view self.old).faults (view self.new).faults) };
 
     /// What holds at each moment.

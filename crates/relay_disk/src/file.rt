@@ -82,6 +82,7 @@ impl<F: FileCalls> Disk for FileDisk<F> {
         ensures size { IfOk result (λ size. IsTrue false → size ≡ length (untold self.old.faults).content) }
         ensures below { IfOk result (λ size. size < SIZES) }
         ensures goes { Goes Same (untold self.old.faults) (untold self.new.faults) }
+        ensures steady { OnOk result (self.new.faults ≡ self.old.faults) }
         ensures failed { OnErr result (Rose self.old.faults self.new.faults) }
         ensures calls { IsTrue F.tells → F.made self.new.file ≡ F.made self.old.file ++ Call.Size ∷ [] }
     {
@@ -94,6 +95,7 @@ impl<F: FileCalls> Disk for FileDisk<F> {
     fn read(&mut self, place: u64, room: &mut [u8]) -> Result<(), Failed>
         ensures bytes { OnOk result (IsTrue false → room.new ≡ take (length room.old) (drop place (untold self.old.faults).content)) }
         ensures goes { Goes Same (untold self.old.faults) (untold self.new.faults) }
+        ensures steady { OnOk result (self.new.faults ≡ self.old.faults) }
         ensures failed { OnErr result (Rose self.old.faults self.new.faults) }
         ensures calls { IsTrue F.tells → F.made self.new.file ≡ F.made self.old.file ++ Call.Read place (length room.old) ∷ [] }
     {
@@ -105,6 +107,7 @@ impl<F: FileCalls> Disk for FileDisk<F> {
         requires { place + length piece.now < SIZES }
         ensures ok { OnOk result (IsTrue false → (untold self.new.faults).content ≡ written place piece.now (untold self.old.faults).content) }
         ensures goes { Goes (Torn place (length piece.now)) (untold self.old.faults) (untold self.new.faults) }
+        ensures steady { OnOk result (self.new.faults ≡ self.old.faults) }
         ensures failed { OnErr result (Rose self.old.faults self.new.faults) }
         ensures calls { OnOk result (IsTrue F.tells → F.made self.new.file ≡ F.made self.old.file ++ Call.Size ∷ (Call.Write place (length piece.now) ∷ [])) }
     {
@@ -115,6 +118,7 @@ impl<F: FileCalls> Disk for FileDisk<F> {
     fn cut(&mut self, size: u64) -> Result<(), Failed>
         ensures ok { OnOk result (IsTrue false → (untold self.new.faults).content ≡ take size (untold self.old.faults).content) }
         ensures goes { Goes (Cut size) (untold self.old.faults) (untold self.new.faults) }
+        ensures steady { OnOk result (self.new.faults ≡ self.old.faults) }
         ensures failed { OnErr result (Rose self.old.faults self.new.faults) }
         ensures calls { OnOk result (IsTrue F.tells → F.made self.new.file ≡ F.made self.old.file ++ Call.Size ∷ (Call.Cut size ∷ [])) }
     {
@@ -125,6 +129,7 @@ impl<F: FileCalls> Disk for FileDisk<F> {
     fn sync(&mut self) -> Result<(), Failed>
         ensures ok { OnOk result (IsTrue false → IsSynced (untold self.new.faults)) }
         ensures goes { Goes Same (untold self.old.faults) (untold self.new.faults) }
+        ensures steady { OnOk result (self.new.faults ≡ self.old.faults) }
         ensures failed { OnErr result (Rose self.old.faults self.new.faults) }
         ensures calls { IsTrue F.tells → F.made self.new.file ≡ F.made self.old.file ++ Call.Sync ∷ [] }
     {

@@ -55,6 +55,7 @@ impl<D: Disk> Disk for FuseDisk<D> {
         ensures size { IfOk result (λ size. IsTrue D.tells → size ≡ length (D.view self.old.disk).content) }
         ensures below { IfOk result (λ size. size < SIZES) }
         ensures goes { Goes Same (recounted (D.view self.old.disk) self.old.passes.faults) (recounted (D.view self.new.disk) self.new.passes.faults) }
+        ensures steady { OnOk result (self.new.passes.faults ≡ self.old.passes.faults) }
         ensures failed { OnErr result (Rose self.old.passes.faults self.new.passes.faults) }
         ensures burns { Burns (λ d. (D.view d).faults) result self.old self.new }
     {
@@ -67,6 +68,7 @@ impl<D: Disk> Disk for FuseDisk<D> {
         requires { IsTrue D.tells → place + length room.old ≤ length (D.view self.old.disk).content }
         ensures bytes { OnOk result (IsTrue D.tells → room.new ≡ take (length room.old) (drop place (D.view self.old.disk).content)) }
         ensures goes { Goes Same (recounted (D.view self.old.disk) self.old.passes.faults) (recounted (D.view self.new.disk) self.new.passes.faults) }
+        ensures steady { OnOk result (self.new.passes.faults ≡ self.old.passes.faults) }
         ensures failed { OnErr result (Rose self.old.passes.faults self.new.passes.faults) }
         ensures burns { Burns (λ d. (D.view d).faults) result self.old self.new }
     {
@@ -80,6 +82,7 @@ impl<D: Disk> Disk for FuseDisk<D> {
         requires below { place + length piece.now < SIZES }
         ensures ok { OnOk result (IsTrue D.tells → (D.view self.new.disk).content ≡ written place piece.now (D.view self.old.disk).content) }
         ensures goes { Goes (Torn place (length piece.now)) (recounted (D.view self.old.disk) self.old.passes.faults) (recounted (D.view self.new.disk) self.new.passes.faults) }
+        ensures steady { OnOk result (self.new.passes.faults ≡ self.old.passes.faults) }
         ensures failed { OnErr result (Rose self.old.passes.faults self.new.passes.faults) }
         ensures burns { Burns (λ d. (D.view d).faults) result self.old self.new }
     {
@@ -92,6 +95,7 @@ impl<D: Disk> Disk for FuseDisk<D> {
         requires { IsTrue D.tells → size ≤ length (D.view self.old.disk).content }
         ensures ok { OnOk result (IsTrue D.tells → (D.view self.new.disk).content ≡ take size (D.view self.old.disk).content) }
         ensures goes { Goes (Cut size) (recounted (D.view self.old.disk) self.old.passes.faults) (recounted (D.view self.new.disk) self.new.passes.faults) }
+        ensures steady { OnOk result (self.new.passes.faults ≡ self.old.passes.faults) }
         ensures failed { OnErr result (Rose self.old.passes.faults self.new.passes.faults) }
         ensures burns { Burns (λ d. (D.view d).faults) result self.old self.new }
     {
@@ -103,6 +107,7 @@ impl<D: Disk> Disk for FuseDisk<D> {
     fn sync(&mut self) -> Result<(), Failed>
         ensures ok { OnOk result (IsTrue D.tells → IsSynced (D.view self.new.disk)) }
         ensures goes { Goes Same (recounted (D.view self.old.disk) self.old.passes.faults) (recounted (D.view self.new.disk) self.new.passes.faults) }
+        ensures steady { OnOk result (self.new.passes.faults ≡ self.old.passes.faults) }
         ensures failed { OnErr result (Rose self.old.passes.faults self.new.passes.faults) }
         ensures burns { Burns (λ d. (D.view d).faults) result self.old self.new }
     {

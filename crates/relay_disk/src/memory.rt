@@ -1,4 +1,4 @@
-//! A disk in memory. It records the calls that were done, and fails where it is told to.
+//! A disk in memory. It records the calls that were done, and none that failed; it fails where it is told to.
 ghost use Rattle.std.specs.Prelude.{◌≡◌, ◌≤◌, ◌<◌, ◌+◌, ◌-◌, ◌↔◌, ◌++◌, ◌∷◌, [], true, length, take, drop, vec_len, vec_capacity, IsErr, IsTrue, IfOk, OnOk, OnErr};
 ghost use Rattle.at_cid.specs.Counts.{Rose};
 ghost use Rattle.relay_disk.specs.Disk.{written};
@@ -13,8 +13,8 @@ use at_cid::{Failures, Memory};
 use std::alloc::Global;
 
 /// A disk in memory. It tells its content, takes its memory when it is made and by `reserve`, and keeps the
-/// calls that were done, so that all that a crash may leave can be told. At a sync it copies what stands behind the bytes in
-/// front that no call since the last one has changed.
+/// calls that were done, so that all that a crash may leave can be told. A call that fails does nothing, and is only
+/// counted. At a sync it copies what stands behind the bytes in front that no call since the last one has changed.
 #[derive(Drop)]
 pub struct MemoryDisk {
     pub(crate) first: Vec<u8>,
@@ -139,7 +139,7 @@ impl MemoryDisk {
         &self.content
     }
 
-    /// The calls that were done, in their order.
+    /// The calls that were done, in their order. Those that failed are not among them.
     pub fn calls(&self) -> &[Call]
         ensures { result.now ≡ calls_of self.now }
     {
@@ -161,6 +161,7 @@ impl Disk for MemoryDisk {
         ensures size { IfOk result (λ size. IsTrue true → size ≡ length (memory_view self.old).content) }
         ensures below { IfOk result (λ size. size < SIZES) }
         ensures goes { Goes Same (memory_view self.old) (memory_view self.new) }
+        ensures steady { OnOk result ((memory_view self.new).faults ≡ (memory_view self.old).faults) }
         ensures failed { OnErr result (Rose (memory_view self.old).faults (memory_view self.new).faults) }
         ensures fails { IsErr result ↔ IsToFail 0 self.old }
         ensures taken { Takes self.old self.new }
@@ -177,6 +178,7 @@ impl Disk for MemoryDisk {
         ensures bytes { OnOk result (IsTrue true →
             room.new ≡ take (length room.old) (drop place (memory_view self.old).content)) }
         ensures goes { Goes Same (memory_view self.old) (memory_view self.new) }
+        ensures steady { OnOk result ((memory_view self.new).faults ≡ (memory_view self.old).faults) }
         ensures failed { OnErr result (Rose (memory_view self.old).faults (memory_view self.new).faults) }
         ensures fails { IsErr result ↔ IsToFail 0 self.old }
         ensures taken { Takes self.old self.new }
@@ -197,6 +199,7 @@ impl Disk for MemoryDisk {
         ensures ok { OnOk result (IsTrue true →
             (memory_view self.new).content ≡ written place piece.now (memory_view self.old).content) }
         ensures goes { Goes (Torn place (length piece.now)) (memory_view self.old) (memory_view self.new) }
+        ensures steady { OnOk result ((memory_view self.new).faults ≡ (memory_view self.old).faults) }
         ensures failed { OnErr result (Rose (memory_view self.old).faults (memory_view self.new).faults) }
         ensures fails { IsErr result ↔ IsToFail (length piece.now) self.old }
         ensures taken { Takes self.old self.new }
@@ -215,6 +218,7 @@ impl Disk for MemoryDisk {
         requires { IsTrue true → size ≤ length (memory_view self.old).content }
         ensures ok { OnOk result (IsTrue true → (memory_view self.new).content ≡ take size (memory_view self.old).content) }
         ensures goes { Goes (Cut size) (memory_view self.old) (memory_view self.new) }
+        ensures steady { OnOk result ((memory_view self.new).faults ≡ (memory_view self.old).faults) }
         ensures failed { OnErr result (Rose (memory_view self.old).faults (memory_view self.new).faults) }
         ensures fails { IsErr result ↔ IsToFail 0 self.old }
         ensures taken { Takes self.old self.new }
@@ -231,6 +235,7 @@ impl Disk for MemoryDisk {
     fn sync(&mut self) -> Result<(), Failed>
         ensures ok { OnOk result (IsTrue true → IsSynced (memory_view self.new)) }
         ensures goes { Goes Same (memory_view self.old) (memory_view self.new) }
+        ensures steady { OnOk result ((memory_view self.new).faults ≡ (memory_view self.old).faults) }
         ensures failed { OnErr result (Rose (memory_view self.old).faults (memory_view self.new).faults) }
         ensures fails { IsErr result ↔ IsToFail 0 self.old }
         ensures taken { Takes self.old self.new }

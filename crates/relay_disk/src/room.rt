@@ -23,6 +23,7 @@ impl Room {
         ensures kept { OnErr result ((self.new.calls ≡ self.old.calls) × (self.new.bytes ≡ self.old.bytes)) }
         ensures taken { self.new.failures.taken ≡ min (self.old.failures.taken + 1) (2 ^ 64 - 1) }
         ensures listed { self.new.failures.listed.items ≡ self.old.failures.listed.items }
+        ensures steady { OnOk result (self.new.failures.faults ≡ self.old.failures.faults) }
         ensures failed { OnErr result (Rose self.old.failures.faults self.new.failures.faults) }
         ensures counts { self.old.failures.faults ≤ self.new.failures.faults }
     {

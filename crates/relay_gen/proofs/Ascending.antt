@@ -5,7 +5,7 @@ use Rattle.std.specs.Cmp.Lexicographic.{slice_cmp}
 use Rattle.std.proofs.lemmas.Bool.{ltb-true, ltb-false, lt-ltb}
 use native.Mathlib.Nat.{pow-suc, div-div-eq-div-mul, le-div_iff_mul-le, div-mul-le_self, div-eq_of_lt, one-le-pow}
 use Rattle.at_cid.specs.Order.{key_cmp}
-use Rattle.relay_gen.specs.Names.{digits, path_of}
+use Rattle.relay_gen.specs.Names.{digits, generated_path}
 
 next_front : (m k : ℕ) → m / 10 ^ k / 10 ≡ m / 10 ^ suc k
 next_front m k = div-div-eq-div-mul m (10 ^ k) 10 ∙ ap (λ p. m / p) (sym (pow-suc 10 k))
@@ -38,8 +38,8 @@ front_cmp [] xs ys = refl
 front_cmp (a ∷ A) xs ys = front_same a (A ++ xs) (A ++ ys) ∙ front_cmp A xs ys
 
 -- the path of a smaller number comes first
-pub path_less : (m n : ℕ) → m < n → n < 10 ^ 8 → key_cmp (path_of m) (path_of n) ≡ Less
-unfolding key_cmp path_of
+pub path_less : (m n : ℕ) → m < n → n < 10 ^ 8 → key_cmp (generated_path m) (generated_path n) ≡ Less
+unfolding key_cmp generated_path
 path_less m n low most =
     front_cmp (codes "app.gen.item/") (digits 8 m) (digits 8 n)
     ∙ digits_less 8 m n low (div-eq_of_lt (omega arith) ∙ sym (div-eq_of_lt most))

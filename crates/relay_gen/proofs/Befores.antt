@@ -8,7 +8,7 @@ use Rattle.mst_list.proofs.Places.{rebuilt}
 use Rattle.at_form.proofs.Held.{some_same}
 use Rattle.relay_gen.specs.Draws.{next, drawn}
 use Rattle.relay_gen.specs.Drafts.{played}
-use Rattle.relay_gen.specs.Commits.{Commit, commit_of, commits_from, keys_from, last_of, last_seq, map_of, ops_of}
+use Rattle.relay_gen.specs.Commits.{Commit, generated_commit, commits_from, keys_from, last_of, last_generated, generated_map, generated_ops}
 use Rattle.relay_gen.specs.States.{AreBefore, AreOlder, CanPlay, Repository, repository_of}
 use Rattle.relay_gen.proofs.Older.{AreOpsOlder, IsGood, drafted_good, older_more, older_played}
 use Rattle.relay_gen.proofs.Plays.{played_map}
@@ -25,13 +25,13 @@ record IsPast (i : ℕ) (s : List Item) : Type 0 where
   pub older : AreOlder (i * 4) s
   pub size : length s ≤ i * 4
 
-last_before : (i a : ℕ) (commits : List Commit) → AreBefore i commits → IsPast i (map_of (last_of a commits))
+last_before : (i a : ℕ) (commits : List Commit) → AreBefore i commits → IsPast i (generated_map (last_of a commits))
 last_before i a [] b = record { is_map = empty_map; older = tt; size = omega arith }
-last_before i a (c ∷ commits) b = elim (c.account == a) as (λ x. IsPast i (map_of (cond x (Some c) (last_of a commits)))) [ true ↦ record { is_map = b.0; older = b.1; size = b.2 } | false ↦ last_before i a commits b.4 ]
+last_before i a (c ∷ commits) b = elim (c.account == a) as (λ x. IsPast i (generated_map (cond x (Some c) (last_of a commits)))) [ true ↦ record { is_map = b.0; older = b.1; size = b.2 } | false ↦ last_before i a commits b.4 ]
 
-pub seq_before : (i host : ℕ) (commits : List Commit) → 0 < i → AreBefore i commits → last_seq host commits < i
+pub seq_before : (i host : ℕ) (commits : List Commit) → 0 < i → AreBefore i commits → last_generated host commits < i
 seq_before i host [] some b = some
-seq_before i host (c ∷ commits) some b = elim (c.account % 4 == host) as (λ x. cond x c.seq (last_seq host commits) < i) [ true ↦ b.3 | false ↦ seq_before i host commits some b.4 ]
+seq_before i host (c ∷ commits) some b = elim (c.account % 4 == host) as (λ x. cond x c.seq (last_generated host commits) < i) [ true ↦ b.3 | false ↦ seq_before i host commits some b.4 ]
 
 length_put : (k : List ℕ) (o : Option (List ℕ)) (s : List Item) → length (put k o s) ≤ length s + 1
 length_put k o s =
@@ -66,23 +66,23 @@ keys_told a commits (r ∷ rs) e =
     let first : r ≡ repository_of (last_of (a + 0) commits) = some_same r _ (e 0 (omega arith)) in
     let one = ap (λ (x : Repository). length x.map) first in
     let same : a + 0 ≡ a = omega arith in
-    let here : length r.map ≡ length (map_of (last_of a commits)) = one ∙ ap (λ n. length (map_of (last_of n commits))) same in
+    let here : length r.map ≡ length (generated_map (last_of a commits)) = one ∙ ap (λ n. length (generated_map (last_of n commits))) same in
     let rest = keys_told (suc a) commits rs (λ i low. let next : a + suc i ≡ suc a + i = omega arith in e (suc i) (omega arith) ∙ ap (λ n. Some (repository_of (last_of n commits))) next) in
     omega (arith, here, rest)
 
-pub ops_good : (i a x : ℕ) (commits : List Commit) → i ≤ 100000 → AreBefore i commits → IsGood (map_of (last_of a commits)) (i * 4 + 4) 4 (ops_of (last_of a commits) i x).ops
+pub ops_good : (i a x : ℕ) (commits : List Commit) → i ≤ 100000 → AreBefore i commits → IsGood (generated_map (last_of a commits)) (i * 4 + 4) 4 (generated_ops (last_of a commits) i x).ops
 ops_good i a x commits most b = go (last_of a commits) (last_before i a commits b)
   where
-    go : (o : Option Commit) → IsPast i (map_of o) → IsGood (map_of o) (i * 4 + 4) 4 (ops_of o i x).ops
+    go : (o : Option Commit) → IsPast i (generated_map o) → IsGood (generated_map o) (i * 4 + 4) 4 (generated_ops o i x).ops
     go None p = record { apply = tt; apart = tt; formed = tt; few = omega arith; older = tt }
     go (Some c) p = drafted_good c.map i x p.is_map p.older (omega arith)
 
-pub can_play : (i a x : ℕ) (commits : List Commit) → i ≤ 100000 → AreBefore i commits → CanPlay (map_of (last_of a commits)) (ops_of (last_of a commits) i x).ops
+pub can_play : (i a x : ℕ) (commits : List Commit) → i ≤ 100000 → AreBefore i commits → CanPlay (generated_map (last_of a commits)) (generated_ops (last_of a commits) i x).ops
 can_play i a x commits most b = let g = ops_good i a x commits most b in record { apply = g.apply; apart = g.apart; formed = g.formed; few = g.few }
 
-commit_before : (i a x : ℕ) (commits : List Commit) → 0 < i → i ≤ 100000 → AreBefore i commits → AreBefore (suc i) (commit_of i a commits (ops_of (last_of a commits) i x).ops ∷ commits)
+commit_before : (i a x : ℕ) (commits : List Commit) → 0 < i → i ≤ 100000 → AreBefore i commits → AreBefore (suc i) (generated_commit i a commits (generated_ops (last_of a commits) i x).ops ∷ commits)
 commit_before i a x commits some most b =
-    let s = map_of (last_of a commits) in let ops = (ops_of (last_of a commits) i x).ops in
+    let s = generated_map (last_of a commits) in let ops = (generated_ops (last_of a commits) i x).ops in
     let p = last_before i a commits b in let g = ops_good i a x commits most b in
     let low = seq_before i (a % 4) commits some b in
     let four : i * 4 + 4 ≡ suc i * 4 = omega arith in (

@@ -2,14 +2,14 @@
 use Rattle.std.proofs.Common.{◌≡◌, ℕ, ◌==◌, true, List, [], ◌∷◌, length, map, refl, sym, ap, ◌∙◌, arith}
 use Rattle.at_cid.specs.Link.{cid}
 use Rattle.at_car.specs.Blocks.{BlockMap, kept}
-use Rattle.at_cbor.specs.Spelling.{info_of, tail_of}
+use Rattle.at_cbor.specs.Encoding.{info_of, tail_of}
 use Rattle.mst_list.specs.declared.item.Item.{Item}
 use Rattle.mst_list.specs.declared.op.Op.{Op}
 use Rattle.mst_node.proofs.Layers.{eqb_yes}
 use Rattle.mst_node.specs.NodeBytes.{node_bytes}
 use Rattle.mst_node.specs.Trees.{nodes, part_link, part_nodes}
 use Rattle.relay_gen.specs.declared.records.Record.{Record}
-use Rattle.relay_gen.specs.Covers.{covered_keys, given}
+use Rattle.relay_gen.specs.Covers.{covered_keys, blocks_given}
 use Rattle.relay_gen.specs.Messages.{with_blocks}
 use Rattle.relay_gen.specs.Records.{item_of}
 use Rattle.relay_gen.specs.Walks.{given_for}
@@ -21,7 +21,7 @@ empty_nodes : nodes [] ≡ empty_block ∷ []
 unfolding node_bytes part_link part_nodes info_of tail_of
 empty_nodes = refl
 
-pub given_is : (t : List Item) (ops : List Op) → given_for t (covered_keys t ops) ≡ given t ops
+pub given_is : (t : List Item) (ops : List Op) → given_for t (covered_keys t ops) ≡ blocks_given t ops
 given_is [] ops = refl
 given_is (x ∷ t) ops = refl
 

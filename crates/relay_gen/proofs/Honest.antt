@@ -7,7 +7,7 @@ use Rattle.at_cid.specs.Order.{key_cmp}
 use Rattle.at_cid.proofs.Bytes.{cid_is_link}
 use Rattle.at_cbor.specs.declared.major.Major.{Major}
 use Rattle.at_cbor.specs.Item.{Item, items_of, fields_of, no_items}
-use Rattle.at_cbor.specs.Spelling.{Fits, FieldsFit, ItemsFit, IsString, IsText, fields_count, fields_spelling, front_of, items_count, spelling, text_spelling}
+use Rattle.at_cbor.specs.Encoding.{Fits, FieldsFit, ItemsFit, IsString, IsText, fields_count, fields_encoding, front_of, items_count, encoding, text_encoding}
 use Rattle.at_cbor.specs.Taking.{◌>>=◌, link_item}
 use Rattle.at_syntax.specs.Did.{is_did}
 use Rattle.at_form.specs.Forms.{did_in, required, short_text_in}
@@ -16,24 +16,24 @@ use Rattle.at_event.specs.declared.frame.Frame.{Frame}
 use Rattle.at_event.specs.declared.frame.FrameFault.{FrameFault}
 use Rattle.at_event.specs.declared.event.Body.{Body}
 use Rattle.at_event.specs.declared.kind.EventKind.{EventKind}
-use Rattle.at_event.specs.Frames.{announced, event_frame, formed_frame, frame_of, heading_of, named, numbered_frame}
+use Rattle.at_event.specs.Frames.{announced, event_frame, formed_frame, frame_of, heading_of, heading_named, numbered_frame}
 use Rattle.at_event.specs.Seen.{Seen}
-use Rattle.at_event.specs.Table.{body_of, event_of, seq_of}
-use Rattle.at_event.specs.Writing.{header_of, message_of}
+use Rattle.at_event.specs.Table.{event_body_of, event_of, seq_of}
+use Rattle.at_event.specs.Writing.{header_of, event_message}
 use Rattle.at_event.proofs.Messages.{message_read}
 use Rattle.at_event.proofs.Texts.{ascii_text, digits_text}
 use Rattle.mst_list.specs.declared.op.Op.{Op}
 use Rattle.mst_list.specs.Edits.{AreFormedOps, IsFormedOp}
-use Rattle.mst_node.specs.Trees.{root, spell, top_layer}
+use Rattle.mst_node.specs.Trees.{root, encode_layer, top_layer}
 use Rattle.relay_gen.specs.declared.past.Past.{Past}
 use Rattle.relay_gen.specs.Draws.{next, drawn}
-use Rattle.relay_gen.specs.Names.{did_of, host_of}
+use Rattle.relay_gen.specs.Names.{generated_did, host_of}
 use Rattle.relay_gen.specs.Commits.{Commit, commits_from, last_of, past_of}
 use Rattle.relay_gen.specs.Messages.{back_fields, car_with, ends_of, front_fields, message, middle_fields, object, op_item, payload_of, prev_data, since_item}
-use Rattle.relay_gen.specs.Covers.{given}
-use Rattle.relay_gen.specs.Histories.{sent}
+use Rattle.relay_gen.specs.Covers.{blocks_given}
+use Rattle.relay_gen.specs.Histories.{generated_messages}
 use Rattle.relay_gen.specs.Laws.{HostsTellOfTheirOwn, IsOfItsHost}
-use Rattle.relay_gen.proofs.Counts.{payload_spelled}
+use Rattle.relay_gen.proofs.Counts.{payload_encoded}
 use Rattle.relay_gen.proofs.Texts.{did_text, path_text}
 use Rattle.relay_gen.proofs.Older.{AreOpsOlder}
 use Rattle.relay_gen.proofs.Befores.{commits_before, ops_good, seq_before}
@@ -98,7 +98,7 @@ length_items : (ops : List Op) → length (map op_item ops) ≡ length ops
 length_items [] = refl
 length_items (op ∷ ops) = ap suc (length_items ops)
 
-payload_fits : (c : Commit) (commit blocks : List ℕ) → CanBeSent c → IsLink commit → IsString blocks → Fits (payload_of (did_of c.account) c.seq c.rev c.past c.ops commit blocks) 64
+payload_fits : (c : Commit) (commit blocks : List ℕ) → CanBeSent c → IsLink commit → IsString blocks → Fits (payload_of (generated_did c.account) c.seq c.rev c.past c.ops commit blocks) 64
 unfolding payload_of key_cmp
 payload_fits c commit blocks s l b =
     let few = count_prev c.past in let four = s.few in let count = count_items (map op_item c.ops) ∙ length_items c.ops in (
@@ -174,26 +174,26 @@ bytes_front (a ∷ A) B (suc i) b = bytes_front A B i (λ j. b (suc j))
 string_front : (A B : List ℕ) → IsString (A ++ B) → IsString A
 string_front A B s = let n = length-append A B in let low = s.0 in (omega arith, λ i. bytes_front A B i s.1)
 
-string_rest : (f : List ℕ × Item) (fs : List (List ℕ × Item)) → IsString (fields_spelling (fields_of (f ∷ fs))) → IsString (fields_spelling (fields_of fs))
-string_rest f fs s = string_back (spelling f.1) (fields_spelling (fields_of fs)) (string_back (text_spelling f.0) (spelling f.1 ++ fields_spelling (fields_of fs)) s)
+string_rest : (f : List ℕ × Item) (fs : List (List ℕ × Item)) → IsString (fields_encoding (fields_of (f ∷ fs))) → IsString (fields_encoding (fields_of fs))
+string_rest f fs s = string_back (encoding f.1) (fields_encoding (fields_of fs)) (string_back (text_encoding f.0) (encoding f.1 ++ fields_encoding (fields_of fs)) s)
 
-string_value : (f : List ℕ × Item) (fs : List (List ℕ × Item)) → IsString (fields_spelling (fields_of (f ∷ fs))) → IsString (spelling f.1)
-string_value f fs s = string_front (spelling f.1) (fields_spelling (fields_of fs)) (string_back (text_spelling f.0) (spelling f.1 ++ fields_spelling (fields_of fs)) s)
+string_value : (f : List ℕ × Item) (fs : List (List ℕ × Item)) → IsString (fields_encoding (fields_of (f ∷ fs))) → IsString (encoding f.1)
+string_value f fs s = string_front (encoding f.1) (fields_encoding (fields_of fs)) (string_back (text_encoding f.0) (encoding f.1 ++ fields_encoding (fields_of fs)) s)
 
-middle_string : (past : Option Past) (blocks : List ℕ) → IsString (fields_spelling (fields_of (middle_fields past blocks))) → IsString blocks
+middle_string : (past : Option Past) (blocks : List ℕ) → IsString (fields_encoding (fields_of (middle_fields past blocks))) → IsString blocks
 middle_string past blocks s =
     let T : List ℕ × Item = (codes "time", Item.text (codes "2025-01-01T00:00:00Z")) in let L : List ℕ × Item = (codes "blobs", Item.list no_items) in let S : List ℕ × Item = (codes "since", since_item past) in let B : List ℕ × Item = (codes "blocks", Item.bytes blocks) in
     string_back (front_of Major.Bytes (length blocks)) blocks (string_value B [] (string_rest S (B ∷ []) (string_rest L (S ∷ B ∷ []) (string_rest T (L ∷ S ∷ B ∷ []) s))))
 
-message_is : (payload : Item) → message_of EventKind.Commit payload ≡ spelling (header_of EventKind.Commit) ++ spelling payload
-unfolding message_of
+message_is : (payload : Item) → event_message EventKind.Commit payload ≡ encoding (header_of EventKind.Commit) ++ encoding payload
+unfolding event_message
 message_is payload = refl
 
-blocks_string : (did : List ℕ) (seq rev : ℕ) (past : Option Past) (ops : List Op) (commit blocks : List ℕ) → IsString (message_of EventKind.Commit (payload_of did seq rev past ops commit blocks)) → IsString blocks
+blocks_string : (did : List ℕ) (seq rev : ℕ) (past : Option Past) (ops : List Op) (commit blocks : List ℕ) → IsString (event_message EventKind.Commit (payload_of did seq rev past ops commit blocks)) → IsString blocks
 blocks_string did seq rev past ops commit blocks s =
-    let H = spelling (header_of EventKind.Commit) in let N = front_of Major.Map (11 + fields_count (fields_of (prev_data past))) in
-    let F = fields_spelling (fields_of (front_fields ops rev seq did)) in let M = fields_spelling (fields_of (middle_fields past blocks)) in let B = fields_spelling (fields_of (back_fields past commit)) in
-    let whole = subst IsString (message_is (payload_of did seq rev past ops commit blocks) ∙ ap (λ x. H ++ x) (payload_spelled did seq rev past ops commit blocks)) s in
+    let H = encoding (header_of EventKind.Commit) in let N = front_of Major.Map (11 + fields_count (fields_of (prev_data past))) in
+    let F = fields_encoding (fields_of (front_fields ops rev seq did)) in let M = fields_encoding (fields_of (middle_fields past blocks)) in let B = fields_encoding (fields_of (back_fields past commit)) in
+    let whole = subst IsString (message_is (payload_of did seq rev past ops commit blocks) ∙ ap (λ x. H ++ x) (payload_encoded did seq rev past ops commit blocks)) s in
     middle_string past blocks (string_front M B (string_back F (M ++ B) (string_back N (F ++ (M ++ B)) (string_back H (N ++ (F ++ (M ++ B))) whole))))
 
 header_form : Fits (header_of EventKind.Commit) 64
@@ -216,9 +216,9 @@ did_read did seq rev past ops commit blocks found h = same_did did (is_did did) 
 event_did : (n : ℕ) (p : Item) (e : Seen) → event_of EventKind.Commit n p ≡ Some e → (found : List ℕ) × (required did_in p (codes "repo") ≡ Some found) × (e.did ≡ found)
 unfolding event_of
 event_did n p e h =
-    let one = step_from (required did_in p (codes "repo")) (λ did. required short_text_in p (codes "time") >>= λ time. body_of EventKind.Commit p >>= λ body. Some (seen n did time body p)) e h in
-    let two = step_from (required short_text_in p (codes "time")) (λ time. body_of EventKind.Commit p >>= λ body. Some (seen n one.0 time body p)) e one.2 in
-    let three = step_from (body_of EventKind.Commit p) (λ body. Some (seen n one.0 two.0 body p)) e two.2 in
+    let one = step_from (required did_in p (codes "repo")) (λ did. required short_text_in p (codes "time") >>= λ time. event_body_of EventKind.Commit p >>= λ body. Some (seen n did time body p)) e h in
+    let two = step_from (required short_text_in p (codes "time")) (λ time. event_body_of EventKind.Commit p >>= λ body. Some (seen n one.0 time body p)) e one.2 in
+    let three = step_from (event_body_of EventKind.Commit p) (λ body. Some (seen n one.0 two.0 body p)) e two.2 in
     (one.0, one.1, sym (ap (λ (x : Seen). x.did) (some_same (seen n one.0 two.0 three.0 p) e three.2)))
 
 read_did : (did : List ℕ) (seq rev : ℕ) (past : Option Past) (ops : List Op) (commit blocks : List ℕ) (n : ℕ) (e : Seen) → event_of EventKind.Commit n (payload_of did seq rev past ops commit blocks) ≡ Some e → e.did ≡ did
@@ -241,26 +241,26 @@ framed_event : (payload : Item) (e : Seen) → event_frame EventKind.Commit payl
 unfolding event_frame
 framed_event payload e h = numbered_event payload e (seq_of payload) h
 
-frame_is : (did : List ℕ) (seq rev : ℕ) (past : Option Past) (ops : List Op) (commit blocks : List ℕ) → Fits (payload_of did seq rev past ops commit blocks) 64 → frame_of (message_of EventKind.Commit (payload_of did seq rev past ops commit blocks)) ≡ event_frame EventKind.Commit (payload_of did seq rev past ops commit blocks)
-unfolding frame_of heading_of named announced payload_of
+frame_is : (did : List ℕ) (seq rev : ℕ) (past : Option Past) (ops : List Op) (commit blocks : List ℕ) → Fits (payload_of did seq rev past ops commit blocks) 64 → frame_of (event_message EventKind.Commit (payload_of did seq rev past ops commit blocks)) ≡ event_frame EventKind.Commit (payload_of did seq rev past ops commit blocks)
+unfolding frame_of heading_of heading_named announced payload_of
 frame_is did seq rev past ops commit blocks f =
     let p = payload_of did seq rev past ops commit blocks in
-    rw (message_read (message_of EventKind.Commit p) (header_of EventKind.Commit) p (record { header_form = header_form; payload_form = f; spelled = message_is p })) refl
+    rw (message_read (event_message EventKind.Commit p) (header_of EventKind.Commit) p (record { header_form = header_form; payload_form = f; encoded = message_is p })) refl
 
-of_account : (c : Commit) (e : Seen) → CanBeSent c → IsString (message c) → frame_of (message c) ≡ Ok (Frame.Event e) → e.did ≡ did_of c.account
+of_account : (c : Commit) (e : Seen) → CanBeSent c → IsString (message c) → frame_of (message c) ≡ Ok (Frame.Event e) → e.did ≡ generated_did c.account
 unfolding message
 of_account c e s string h =
-    let blocks = car_with (object c) (given c.map c.ops) in let commit = cid (object c) in let l = cid_is_link (object c) in
-    let fits = payload_fits c commit blocks s (record { link = l.link; bytes = l.bytes }) (blocks_string (did_of c.account) c.seq c.rev c.past c.ops commit blocks string) in
-    let found = framed_event (payload_of (did_of c.account) c.seq c.rev c.past c.ops commit blocks) e (sym (frame_is (did_of c.account) c.seq c.rev c.past c.ops commit blocks fits) ∙ h) in
-    read_did (did_of c.account) c.seq c.rev c.past c.ops commit blocks found.0 e found.1
+    let blocks = car_with (object c) (blocks_given c.map c.ops) in let commit = cid (object c) in let l = cid_is_link (object c) in
+    let fits = payload_fits c commit blocks s (record { link = l.link; bytes = l.bytes }) (blocks_string (generated_did c.account) c.seq c.rev c.past c.ops commit blocks string) in
+    let found = framed_event (payload_of (generated_did c.account) c.seq c.rev c.past c.ops commit blocks) e (sym (frame_is (generated_did c.account) c.seq c.rev c.past c.ops commit blocks fits) ∙ h) in
+    read_did (generated_did c.account) c.seq c.rev c.past c.ops commit blocks found.0 e found.1
 
 abbrev AllSent : List Commit → Type 0
 AllSent [] = Unit {0}
 AllSent (c ∷ commits) = CanBeSent c × AllSent commits
 
 root_link : (c : Commit) → IsLink (root c.map)
-root_link c = let l = cid_is_link (spell (top_layer c.map) c.map) in record { link = l.link; bytes = l.bytes }
+root_link c = let l = cid_is_link (encode_layer (top_layer c.map) c.map) in record { link = l.link; bytes = l.bytes }
 
 past_sent : (a : ℕ) (commits : List Commit) → AllSent commits → IsPastLink (past_of (last_of a commits))
 past_sent a [] s = tt
@@ -277,9 +277,9 @@ all_sent start (suc i) most =
     let rest = all_sent start i (omega arith) in
     (record { account = omega arith; seq = omega arith; rev = omega arith; past = past_sent a d.commits rest; formed = g.formed; most = suc i * 4 + 4; older = g.older; few = g.few }, rest)
 
-own_hosts : (commits : List Commit) (host bytes : List ℕ) (e : Seen) → AllSent commits → IsString bytes → Contains (sent commits) (host, bytes) → frame_of bytes ≡ Ok (Frame.Event e) → IsOfItsHost host e.did
+own_hosts : (commits : List Commit) (host bytes : List ℕ) (e : Seen) → AllSent commits → IsString bytes → Contains (generated_messages commits) (host, bytes) → frame_of bytes ≡ Ok (Frame.Event e) → IsOfItsHost host e.did
 own_hosts [] host bytes e s string there h = absurd (let low = there.1 in omega arith)
-own_hosts (c ∷ commits) host bytes e s string there h = elim (Contains-push_cases (sent commits) (host_of c.account, message c) (host, bytes) there) [
+own_hosts (c ∷ commits) host bytes e s string there h = elim (Contains-push_cases (generated_messages commits) (host_of c.account, message c) (host, bytes) there) [
   | inl before ↦ own_hosts commits host bytes e s.1 string before h
   | inr same ↦
       let m : message c ≡ bytes = ap (λ (p : List ℕ × List ℕ). p.1) same in

@@ -5,9 +5,9 @@ use Rattle.mst_node.proofs.Layers.{eqb_no, eqb_yes}
 use Rattle.at_form.proofs.Held.{some_same}
 use Rattle.relay_gen.specs.Draws.{next, drawn}
 use Rattle.relay_gen.specs.Drafts.{Draft, drafted, played}
-use Rattle.relay_gen.specs.Commits.{Commit, Drawn, commit_of, last_of, last_seq, map_of, ops_of, past_of, with_commit}
+use Rattle.relay_gen.specs.Commits.{Commit, Drawn, generated_commit, last_of, last_generated, generated_map, generated_ops, past_of, with_commit}
 use Rattle.relay_gen.specs.Messages.{message}
-use Rattle.relay_gen.specs.Names.{did_of}
+use Rattle.relay_gen.specs.Names.{generated_did}
 use Rattle.relay_gen.specs.States.{IsBehind, Repository, after_commit, commit_message, repository_of}
 
 get_here : (xs : List Repository) (i : ℕ) (x : Repository) → i < length xs → slice_get (set xs i x) i ≡ Some x
@@ -46,42 +46,42 @@ length_set_numbers (y ∷ xs) (suc i) x = ap suc (length_set_numbers xs i x)
 
 -- the account's repository after its commit, and the number of its host
 pub behind_next : (i : ℕ) (d : Drawn) (state : ℕ) (accounts : List Repository) (seqs : List ℕ) → IsBehind d state accounts seqs → drawn 16 (next d.state) < 16 →
-    let a = drawn 16 (next d.state) in let o = last_of a d.commits in let draft = ops_of o i (next d.state) in
-    IsBehind (with_commit i d) draft.state (set accounts a (after_commit (i * 1024) (map_of o) draft.ops)) (set seqs (a % 4) (suc (last_seq (a % 4) d.commits)))
+    let a = drawn 16 (next d.state) in let o = last_of a d.commits in let draft = generated_ops o i (next d.state) in
+    IsBehind (with_commit i d) draft.state (set accounts a (after_commit (i * 1024) (generated_map o) draft.ops)) (set seqs (a % 4) (suc (last_generated (a % 4) d.commits)))
 behind_next i d state accounts seqs b low =
-    let a = drawn 16 (next d.state) in let o = last_of a d.commits in let draft = ops_of o i (next d.state) in
-    let c = commit_of i a d.commits draft.ops in let r = after_commit (i * 1024) (map_of o) draft.ops in
+    let a = drawn 16 (next d.state) in let o = last_of a d.commits in let draft = generated_ops o i (next d.state) in
+    let c = generated_commit i a d.commits draft.ops in let r = after_commit (i * 1024) (generated_map o) draft.ops in
     let count = b.count in let four = b.hosts in
     record {
       draws = refl;
       count = length_set accounts a r ∙ b.count;
-      hosts = length_set_numbers seqs (a % 4) (suc (last_seq (a % 4) d.commits)) ∙ b.hosts;
+      hosts = length_set_numbers seqs (a % 4) (suc (last_generated (a % 4) d.commits)) ∙ b.hosts;
       repositories = λ other in_range. elim (a == other) as (λ x. a == other ≡ x → slice_get (set accounts a r) other ≡ Some (repository_of (cond x (Some c) (last_of other d.commits)))) [
         | true ↦ λ e. let same = eqb_yes a other e in ap (slice_get (set accounts a r)) (sym same) ∙ get_here accounts a r (omega arith)
         | false ↦ λ e. get_other accounts a other r (eqb_no a other e) ∙ b.repositories other in_range
       ] refl;
-      numbers = λ host in_range. elim (a % 4 == host) as (λ x. a % 4 == host ≡ x → slice_index (set seqs (a % 4) (suc (last_seq (a % 4) d.commits))) host ≡ cond x (suc (last_seq (a % 4) d.commits)) (last_seq host d.commits)) [
-        | true ↦ λ e. let same = eqb_yes (a % 4) host e in ap (slice_index (set seqs (a % 4) (suc (last_seq (a % 4) d.commits)))) (sym same) ∙ index_here seqs (a % 4) (suc (last_seq (a % 4) d.commits)) (omega arith)
-        | false ↦ λ e. index_other seqs (a % 4) host (suc (last_seq (a % 4) d.commits)) (eqb_no (a % 4) host e) ∙ b.numbers host in_range
+      numbers = λ host in_range. elim (a % 4 == host) as (λ x. a % 4 == host ≡ x → slice_index (set seqs (a % 4) (suc (last_generated (a % 4) d.commits))) host ≡ cond x (suc (last_generated (a % 4) d.commits)) (last_generated host d.commits)) [
+        | true ↦ λ e. let same = eqb_yes (a % 4) host e in ap (slice_index (set seqs (a % 4) (suc (last_generated (a % 4) d.commits)))) (sym same) ∙ index_here seqs (a % 4) (suc (last_generated (a % 4) d.commits)) (omega arith)
+        | false ↦ λ e. index_other seqs (a % 4) host (suc (last_generated (a % 4) d.commits)) (eqb_no (a % 4) host e) ∙ b.numbers host in_range
       ] refl;
     }
 
 -- an account without a commit has no last one
-pub ops_drawn : (o : Option Commit) (i x : ℕ) (draft : Draft) → (is_some (past_of o) ≡ true → draft ≡ drafted (map_of o) i x) → (is_some (past_of o) ≡ false → draft ≡ record { ops = []; state = x }) → draft ≡ ops_of o i x
+pub ops_drawn : (o : Option Commit) (i x : ℕ) (draft : Draft) → (is_some (past_of o) ≡ true → draft ≡ drafted (generated_map o) i x) → (is_some (past_of o) ≡ false → draft ≡ record { ops = []; state = x }) → draft ≡ generated_ops o i x
 ops_drawn None i x draft some none = none refl
 ops_drawn (Some c) i x draft some none = some refl
 
 -- the message that is made is that of the commit
-pub message_same : (i : ℕ) (d : Drawn) (a : ℕ) (did : List ℕ) (seq rev : ℕ) (r : Repository) (ops : List Op) → a ≡ drawn 16 (next d.state) → did ≡ did_of a → seq ≡ suc (last_seq (drawn 16 (next d.state) % 4) d.commits) → rev ≡ i * 1024 → r ≡ repository_of (last_of (drawn 16 (next d.state)) d.commits) → ops ≡ (ops_of (last_of (drawn 16 (next d.state)) d.commits) i (next d.state)).ops
-    → commit_message did seq rev r.past ops (played r.map ops) ≡ message (commit_of i (drawn 16 (next d.state)) d.commits (ops_of (last_of (drawn 16 (next d.state)) d.commits) i (next d.state)).ops)
+pub message_same : (i : ℕ) (d : Drawn) (a : ℕ) (did : List ℕ) (seq rev : ℕ) (r : Repository) (ops : List Op) → a ≡ drawn 16 (next d.state) → did ≡ generated_did a → seq ≡ suc (last_generated (drawn 16 (next d.state) % 4) d.commits) → rev ≡ i * 1024 → r ≡ repository_of (last_of (drawn 16 (next d.state)) d.commits) → ops ≡ (generated_ops (last_of (drawn 16 (next d.state)) d.commits) i (next d.state)).ops
+    → commit_message did seq rev r.past ops (played r.map ops) ≡ message (generated_commit i (drawn 16 (next d.state)) d.commits (generated_ops (last_of (drawn 16 (next d.state)) d.commits) i (next d.state)).ops)
 unfolding message
 message_same i d a did seq rev r ops ea ed es er eR eo =
-    let b = drawn 16 (next d.state) in let o = last_of b d.commits in let D = did_of b in let S = suc (last_seq (b % 4) d.commits) in
-    ap (λ x. commit_message x seq rev r.past ops (played r.map ops)) (ed ∙ ap did_of ea)
+    let b = drawn 16 (next d.state) in let o = last_of b d.commits in let D = generated_did b in let S = suc (last_generated (b % 4) d.commits) in
+    ap (λ x. commit_message x seq rev r.past ops (played r.map ops)) (ed ∙ ap generated_did ea)
     ∙ ap (λ x. commit_message D x rev r.past ops (played r.map ops)) es
     ∙ ap (λ x. commit_message D S x r.past ops (played r.map ops)) er
     ∙ ap (λ (x : Repository). commit_message D S (i * 1024) x.past ops (played x.map ops)) eR
-    ∙ ap (λ x. commit_message D S (i * 1024) (past_of o) x (played (map_of o) x)) eo
+    ∙ ap (λ x. commit_message D S (i * 1024) (past_of o) x (played (generated_map o) x)) eo
 
 -- the value at a place
 pub got : (xs : List Repository) (i : ℕ) (r other : Repository) → slice_get xs i ≡ Some other → r ≡ slice_index_or xs i r → r ≡ other

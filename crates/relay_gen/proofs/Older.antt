@@ -15,24 +15,24 @@ use Rattle.mst_list.proofs.Formed.{ops_more}
 use Rattle.mst_list.proofs.Places.{rebuilt}
 use Rattle.std.proofs.lemmas.Slice.Eq.{bytes_eq-Decides}
 use Rattle.relay_gen.specs.Draws.{next, drawn}
-use Rattle.relay_gen.specs.Names.{path_of, value_of}
+use Rattle.relay_gen.specs.Names.{generated_path, generated_value}
 use Rattle.relay_gen.specs.Drafts.{Draft, creation, drafted, played, with_drawn, with_edit, with_more, with_op}
 use Rattle.relay_gen.specs.States.{AllApply, AreOlder}
 use Rattle.relay_gen.proofs.Ascending.{path_less}
 use Rattle.relay_gen.proofs.Texts.{path_key}
 use Rattle.relay_gen.proofs.Plays.{apart_more}
 
-pub value_link : (n : ℕ) → IsLink (value_of n)
-unfolding value_of
+pub value_link : (n : ℕ) → IsLink (generated_value n)
+unfolding generated_value
 value_link n = let l = cid_is_link _ in record { link = l.link; bytes = l.bytes }
 
 -- a path of no smaller number isn't in the map
-pub none_older : (n m : ℕ) (s : List Item) → AreOlder n s → n ≤ m → m < 10 ^ 8 → value_at (path_of m) s ≡ None
+pub none_older : (n m : ℕ) (s : List Item) → AreOlder n s → n ≤ m → m < 10 ^ 8 → value_at (generated_path m) s ≡ None
 none_older n m [] o le most = refl
 none_older n m (Hole l c ∷ s) o le most = absurd o
 none_older n m (Key k v ∷ s) o le most =
     let low = o.0.1 in
-    let less : key_cmp k (path_of m) ≡ Less = ap (λ x. key_cmp x (path_of m)) o.0.2 ∙ path_less o.0.0 m (omega arith) most in
+    let less : key_cmp k (generated_path m) ≡ Less = ap (λ x. key_cmp x (generated_path m)) o.0.2 ∙ path_less o.0.0 m (omega arith) most in
     rw less (none_older n m s o.1 le most)
 
 pub older_more : (n m : ℕ) (s : List Item) → n ≤ m → AreOlder n s → AreOlder m s
@@ -55,13 +55,13 @@ is_new k (op ∷ ops) e =
 -- each key is the path of a number below another
 abbrev pub AreOpsOlder : ℕ → List Op → Type 0
 AreOpsOlder n [] = Unit {0}
-AreOpsOlder n (op ∷ ops) = ((m : ℕ) × (m < n) × (op.key ≡ path_of m)) × AreOpsOlder n ops
+AreOpsOlder n (op ∷ ops) = ((m : ℕ) × (m < n) × (op.key ≡ generated_path m)) × AreOpsOlder n ops
 
 ops_older_more : (n m : ℕ) (ops : List Op) → n ≤ m → AreOpsOlder n ops → AreOpsOlder m ops
 ops_older_more n m [] le o = tt
 ops_older_more n m (op ∷ ops) le o = let low = o.0.1 in ((o.0.0, omega arith, o.0.2), ops_older_more n m ops le o.1)
 
-ops_older_last : (n : ℕ) (ops : List Op) (op : Op) → AreOpsOlder n ops → (m : ℕ) × (m < n) × (op.key ≡ path_of m) → AreOpsOlder n (ops ++ op ∷ [])
+ops_older_last : (n : ℕ) (ops : List Op) (op : Op) → AreOpsOlder n ops → (m : ℕ) × (m < n) × (op.key ≡ generated_path m) → AreOpsOlder n (ops ++ op ∷ [])
 ops_older_last n [] op o l = (l, tt)
 ops_older_last n (x ∷ ops) op o l = (o.0, ops_older_last n ops op o.1 l)
 
@@ -77,7 +77,7 @@ pub record IsGood (s : List Item) (n count : ℕ) (ops : List Op) : Type 0 where
   pub few : length ops ≤ count
   pub older : AreOpsOlder n ops
 
-good_with : (s : List Item) (n m count : ℕ) (ops : List Op) (op : Op) → n ≤ m → IsGood s n count ops → value_at op.key s ≡ op.was → IsFormedOp op → (l : ℕ) × (l < m) × (op.key ≡ path_of l) → IsGood s m (suc count) (with_op ops op)
+good_with : (s : List Item) (n m count : ℕ) (ops : List Op) (op : Op) → n ≤ m → IsGood s n count ops → value_at op.key s ≡ op.was → IsFormedOp op → (l : ℕ) × (l < m) × (op.key ≡ generated_path l) → IsGood s m (suc count) (with_op ops op)
 good_with s n m count ops op le g v f l =
     let more = ops_older_more n m ops le g.older in let few = g.few in
     elim (list_any (λ (o : Op). bytes_eq o.key op.key) ops) as (λ b. list_any (λ (o : Op). bytes_eq o.key op.key) ops ≡ b → IsGood s m (suc count) (cond b ops (ops ++ op ∷ []))) [
@@ -96,7 +96,7 @@ record IsHere (n : ℕ) (s : List Item) (k w : List ℕ) : Type 0 where
   value : value_at k s ≡ Some w
   key : IsKey k
   link : IsLink w
-  older : (m : ℕ) × (m < n) × (k ≡ path_of m)
+  older : (m : ℕ) × (m < n) × (k ≡ generated_path m)
 
 above_at : (j : List ℕ) (s : List Item) (i : ℕ) (k w : List ℕ) → AllAbove j s → slice_get s i ≡ Some (Key k w) → key_cmp j k ≡ Less
 above_at j [] i k w a e = absurd cc
@@ -130,16 +130,16 @@ edited_formed kind k was now f l m = go (kind == 7)
 good_same : (s : List Item) (l m count : ℕ) (ops : List Op) → l ≤ m → IsGood s l count ops → IsGood s m (suc count) ops
 good_same s l m count ops low g = let few = g.few in record { apply = g.apply; apart = g.apart; formed = g.formed; few = omega arith; older = ops_older_more l m ops low g.older }
 
-good_edit : (s : List Item) (n l m count kind number i : ℕ) (ops : List Op) → IsMap s → AreOlder n s → n ≤ m → l ≤ m → IsGood s l count ops → IsGood s m (suc count) (with_edit ops kind (value_of number) (slice_get s i))
+good_edit : (s : List Item) (n l m count kind number i : ℕ) (ops : List Op) → IsMap s → AreOlder n s → n ≤ m → l ≤ m → IsGood s l count ops → IsGood s m (suc count) (with_edit ops kind (generated_value number) (slice_get s i))
 good_edit s n l m count kind number i ops map o le low g = go (slice_get s i) refl
   where
-    go : (item : Option Item) → slice_get s i ≡ item → IsGood s m (suc count) (with_edit ops kind (value_of number) item)
+    go : (item : Option Item) → slice_get s i ≡ item → IsGood s m (suc count) (with_edit ops kind (generated_value number) item)
     go None e = good_same s l m count ops low g
     go (Some (Hole h c)) e = good_same s l m count ops low g
     go (Some (Key k w)) e =
         let h = here_at n s i k w map.formed map.ascends o e in
         let small = h.older.1 in
-        good_with s l m count ops (record { key = k; was = Some w; now = cond (kind == 7) None (Some (value_of number)) }) low g h.value (edited_formed kind k w (value_of number) h.key h.link (value_link number)) (h.older.0, omega arith, h.older.2)
+        good_with s l m count ops (record { key = k; was = Some w; now = cond (kind == 7) None (Some (generated_value number)) }) low g h.value (edited_formed kind k w (generated_value number) h.key h.link (value_link number)) (h.older.0, omega arith, h.older.2)
 
 abbrev drafts_ops : Draft → List Op
 drafts_ops d = d.ops
@@ -148,7 +148,7 @@ good_drawn : (s : List Item) (i j : ℕ) (d : Draft) → IsMap s → AreOlder (i
 good_drawn s i j d map o most g =
     let n = i * 4 + j in let kind = drawn 8 (next d.state) in let place = drawn (length s) (next (next d.state)) in
     let x : Draft = record { ops = with_op d.ops (creation i j); state = next d.state } in
-    let y : Draft = record { ops = with_edit d.ops kind (value_of (i * 8 + j)) (slice_get s place); state = next (next d.state) } in
+    let y : Draft = record { ops = with_edit d.ops kind (generated_value (i * 8 + j)) (slice_get s place); state = next (next d.state) } in
     elim (nat_lt kind 5 || length s == 0) as (λ b. IsGood s (i * 4 + suc j) (suc j) (drafts_ops (cond {A = Draft} b x y))) [
       | true ↦ good_with s n (i * 4 + suc j) j d.ops (creation i j) (omega arith) g (none_older (i * 4) n s o (omega arith) most) (path_key n, tt, value_link (i * 8 + j), λ none some. absurd cc) (n, omega arith, refl)
       | false ↦ good_edit s (i * 4) n (i * 4 + suc j) j kind (i * 8 + j) place d.ops map o (omega arith) (omega arith) g
@@ -182,11 +182,11 @@ older_parts n [] B o = (tt, o)
 older_parts n (Hole l c ∷ A) B o = absurd o
 older_parts n (Key k v ∷ A) B o = let r = older_parts n A B o.1 in ((o.0, r.0), r.1)
 
-older_value : (n : ℕ) (k : List ℕ) (o : Option (List ℕ)) → (m : ℕ) × (m < n) × (k ≡ path_of m) → AreOlder n (with_value k o)
+older_value : (n : ℕ) (k : List ℕ) (o : Option (List ℕ)) → (m : ℕ) × (m < n) × (k ≡ generated_path m) → AreOlder n (with_value k o)
 older_value n k None l = tt
 older_value n k (Some v) l = (l, tt)
 
-older_put : (n : ℕ) (k : List ℕ) (o : Option (List ℕ)) (s : List Item) → (m : ℕ) × (m < n) × (k ≡ path_of m) → AreOlder n s → AreOlder n (put k o s)
+older_put : (n : ℕ) (k : List ℕ) (o : Option (List ℕ)) (s : List Item) → (m : ℕ) × (m < n) × (k ≡ generated_path m) → AreOlder n s → AreOlder n (put k o s)
 older_put n k o s l old =
     let parts = older_parts n (before k s) (with_value k (value_at k s) ++ after k s) (subst (AreOlder n) (sym (rebuilt k s)) old) in
     older_joined n (before k s) (with_value k o ++ after k s) parts.0 (older_joined n (with_value k o) (after k s) (older_value n k o l) (older_parts n (with_value k (value_at k s)) (after k s) parts.1).1)
@@ -197,6 +197,6 @@ older_played n s [] o l = o
 older_played n s (op ∷ ops) o l = older_played n (put op.key op.now s) ops (older_put n op.key op.now s l.0 o) l.1
 
 -- an edit that is drawn
-pub drawn_edit : (s : List Item) (i j : ℕ) (d : Draft) (k was : List ℕ) (now : Option (List ℕ)) → nat_lt (drawn 8 (next d.state)) 5 ≡ false → (length s == 0) ≡ false → slice_get s (drawn (length s) (next (next d.state))) ≡ Some (Key k was) → cond (drawn 8 (next d.state) == 7) None (Some (value_of (i * 8 + j))) ≡ now
+pub drawn_edit : (s : List Item) (i j : ℕ) (d : Draft) (k was : List ℕ) (now : Option (List ℕ)) → nat_lt (drawn 8 (next d.state)) 5 ≡ false → (length s == 0) ≡ false → slice_get s (drawn (length s) (next (next d.state))) ≡ Some (Key k was) → cond (drawn 8 (next d.state) == 7) None (Some (generated_value (i * 8 + j))) ≡ now
     → record { ops = with_op d.ops (record { key = k; was = Some was; now = now }); state = next (next d.state) } ≡ with_drawn s i j d
 drawn_edit s i j d k was now low some item is = rw (low, some, item, is) refl

@@ -15,10 +15,10 @@ use Rattle.mst_list.specs.Height.{height}
 use Rattle.mst_list.specs.Lists.{AllAbove}
 use Rattle.mst_list.proofs.Places.{AllBelow}
 use Rattle.mst_list.proofs.Fills.{below_key, is_below_parts, keys_only_parts}
-use Rattle.mst_node.specs.Covers.{Spelled, IsOver, IsUnder, bound_at, part_spelled, right_spelled}
+use Rattle.mst_node.specs.Covers.{Encoded, IsOver, IsUnder, bound_at, part_encoded, right_encoded}
 use Rattle.mst_node.specs.Fits.{is_less, is_under}
 use Rattle.mst_node.specs.Reading.{is_over}
-use Rattle.mst_node.specs.Trees.{first_part, spell, KeysUnder}
+use Rattle.mst_node.specs.Trees.{first_part, encode_layer, KeysUnder}
 use Rattle.mst_node.proofs.Joins.{first_joined}
 use Rattle.mst_node.proofs.Layers.{eqb_not, eqb_same}
 use Rattle.mst_node.specs.NodeBytes.{node_bytes}
@@ -26,15 +26,15 @@ use Rattle.mst_view.specs.Value.{Layered}
 use Rattle.mst_view.specs.Layered.{AllAt, LiesBelow, below_items, below_link, entries_of, layered, rest_items}
 use Rattle.mst_view.specs.declared.branch.Below.{Below}
 use Rattle.mst_view.specs.declared.branch.Part.{Part}
-use Rattle.mst_view.proofs.Spelled.{below_keys, spelled_node, starts}
+use Rattle.mst_view.proofs.Encoded.{below_keys, encoded_node, starts}
 use Rattle.relay_gen.specs.Covers.{one_between, is_on_ways, on_ways}
 use Rattle.relay_gen.specs.Messages.{with_blocks}
-use Rattle.relay_gen.specs.Walks.{AreBetween, IsRange, node_spelled, part_bound}
+use Rattle.relay_gen.specs.Walks.{AreBetween, IsRange, node_encoded, part_bound}
 
-abbrev block_of : Spelled → List ℕ
+abbrev block_of : Encoded → List ℕ
 block_of e = e.block
 
-pub ways_joined : (keys : List (List ℕ)) (X Y : List Spelled) → on_ways keys (X ++ Y) ≡ on_ways keys X ++ on_ways keys Y
+pub ways_joined : (keys : List (List ℕ)) (X Y : List Encoded) → on_ways keys (X ++ Y) ≡ on_ways keys X ++ on_ways keys Y
 ways_joined keys X Y = ap (map block_of) (filter-append (is_on_ways keys) X Y) ∙ map-append block_of (filter (is_on_ways keys) X) (filter (is_on_ways keys) Y)
 
 pub blocks_joined : (m : BlockMap) (X Y : List (List ℕ)) → with_blocks m (X ++ Y) ≡ with_blocks (with_blocks m X) Y
@@ -42,7 +42,7 @@ blocks_joined m [] Y = refl
 blocks_joined m (x ∷ X) Y = blocks_joined (kept m (cid x) x) X Y
 
 -- the same in one step
-pub with_both : (keys : List (List ℕ)) (m : BlockMap) (X Y : List Spelled) → with_blocks m (on_ways keys (X ++ Y)) ≡ with_blocks (with_blocks m (on_ways keys X)) (on_ways keys Y)
+pub with_both : (keys : List (List ℕ)) (m : BlockMap) (X Y : List Encoded) → with_blocks m (on_ways keys (X ++ Y)) ≡ with_blocks (with_blocks m (on_ways keys X)) (on_ways keys Y)
 with_both keys m X Y = ap (with_blocks m) (ways_joined keys X Y) ∙ blocks_joined m (on_ways keys X) (on_ways keys Y)
 
 -- a bound isn't below another, or not above it
@@ -100,41 +100,41 @@ bound_inside low high h n (Key k v ∷ F) i w = elim (eqb (height k) n) as (λ b
 
 -- where no key lies between the outer bounds, no block inside is on a way
 abbrev NoneInside : Option (List ℕ) → Option (List ℕ) → List (List ℕ) → ℕ → Type 0
-NoneInside low high keys n = (l h : Option (List ℕ)) (F : List Item) → IsInsideLow low l → IsInsideHigh high h → AreBetween low high F → on_ways keys (part_spelled n l h F) ≡ []
+NoneInside low high keys n = (l h : Option (List ℕ)) (F : List Item) → IsInsideLow low l → IsInsideHigh high h → AreBetween low high F → on_ways keys (part_encoded n l h F) ≡ []
 
-none_right : (low high : Option (List ℕ)) (keys : List (List ℕ)) (n : ℕ) → NoneInside low high keys n → (h : Option (List ℕ)) (F : List Item) → IsInsideHigh high h → AreBetween low high F → on_ways keys (right_spelled (part_spelled n) n h F) ≡ []
+none_right : (low high : Option (List ℕ)) (keys : List (List ℕ)) (n : ℕ) → NoneInside low high keys n → (h : Option (List ℕ)) (F : List Item) → IsInsideHigh high h → AreBetween low high F → on_ways keys (right_encoded (part_encoded n) n h F) ≡ []
 none_right low high keys n ih h [] i w = refl
 none_right low high keys n ih h (Hole m c ∷ F) i w = none_right low high keys n ih h F i w
 none_right low high keys n ih h (Key k v ∷ F) i w =
-    let X = part_spelled n (Some k) (bound_at n h F) (first_part n F) in let Y = right_spelled (part_spelled n) n h F in
+    let X = part_encoded n (Some k) (bound_at n h F) (first_part n F) in let Y = right_encoded (part_encoded n) n h F in
     let rest = none_right low high keys n ih h F i w.2 in
     elim (eqb (height k) n) as (λ b. on_ways keys (cond b (X ++ Y) Y) ≡ []) [
       | true ↦ ways_joined keys X Y ∙ ap (λ x. x ++ on_ways keys Y) (ih (Some k) (bound_at n h F) (first_part n F) (inside_low low k w.0) (bound_inside low high h n F i w.2) (first_between low high n F w.2)) ∙ rest
       | false ↦ rest
     ]
 
-dropped : (keys : List (List ℕ)) (e : Spelled) (X : List Spelled) → is_on_ways keys e ≡ false → on_ways keys (e ∷ X) ≡ on_ways keys X
+dropped : (keys : List (List ℕ)) (e : Encoded) (X : List Encoded) → is_on_ways keys e ≡ false → on_ways keys (e ∷ X) ≡ on_ways keys X
 dropped keys e X f = rw f refl
 
-pub taken : (keys : List (List ℕ)) (e : Spelled) (X : List Spelled) → is_on_ways keys e ≡ true → on_ways keys (e ∷ X) ≡ e.block ∷ on_ways keys X
+pub taken : (keys : List (List ℕ)) (e : Encoded) (X : List Encoded) → is_on_ways keys e ≡ true → on_ways keys (e ∷ X) ≡ e.block ∷ on_ways keys X
 taken keys e X f = rw f refl
 
-none_node : (low high : Option (List ℕ)) (keys : List (List ℕ)) → one_between low high keys ≡ false → (n : ℕ) → NoneInside low high keys n → (l h : Option (List ℕ)) (F : List Item) → IsInsideLow low l → IsInsideHigh high h → AreBetween low high F → on_ways keys (node_spelled n l h F) ≡ []
+none_node : (low high : Option (List ℕ)) (keys : List (List ℕ)) → one_between low high keys ≡ false → (n : ℕ) → NoneInside low high keys n → (l h : Option (List ℕ)) (F : List Item) → IsInsideLow low l → IsInsideHigh high h → AreBetween low high F → on_ways keys (node_encoded n l h F) ≡ []
 none_node low high keys none n ih l h F a b w =
-    let X = part_spelled n l (bound_at n h F) (first_part n F) in let Y = right_spelled (part_spelled n) n h F in
-    dropped keys (record { low = l; high = h; block = spell n F }) (X ++ Y) (narrower low high l h keys a b none)
+    let X = part_encoded n l (bound_at n h F) (first_part n F) in let Y = right_encoded (part_encoded n) n h F in
+    dropped keys (record { low = l; high = h; block = encode_layer n F }) (X ++ Y) (narrower low high l h keys a b none)
     ∙ ways_joined keys X Y
     ∙ ap (λ x. x ++ on_ways keys Y) (ih l (bound_at n h F) (first_part n F) a (bound_inside low high h n F b w) (first_between low high n F w))
     ∙ none_right low high keys n ih h F b w
 
 none_inside : (low high : Option (List ℕ)) (keys : List (List ℕ)) → one_between low high keys ≡ false → (n : ℕ) → NoneInside low high keys n
-unfolding part_spelled
+unfolding part_encoded
 none_inside low high keys none zero l h F a b w = refl
 none_inside low high keys none (suc n) l h [] a b w = refl
 none_inside low high keys none (suc n) l h (x ∷ F) a b w = none_node low high keys none n (none_inside low high keys none n) l h (x ∷ F) a b w
 
 -- no block of a node is on a way where no key lies between its bounds
-pub none_here : (keys : List (List ℕ)) (n : ℕ) (low high : Option (List ℕ)) (F : List Item) → IsRange low high F → one_between low high keys ≡ false → on_ways keys (node_spelled n low high F) ≡ []
+pub none_here : (keys : List (List ℕ)) (n : ℕ) (low high : Option (List ℕ)) (F : List Item) → IsRange low high F → one_between low high keys ≡ false → on_ways keys (node_encoded n low high F) ≡ []
 none_here keys n low high F r none = none_node low high keys none n (none_inside low high keys none n) low high F (λ k e. e) (λ k e. e) r.between
 
 bound_joined : (n : ℕ) (high : Option (List ℕ)) (A G : List Item) → KeysUnder n A → bound_at n high (A ++ G) ≡ bound_at n high G
@@ -142,7 +142,7 @@ bound_joined n high [] G u = refl
 bound_joined n high (Hole m c ∷ A) G u = bound_joined n high A G u
 bound_joined n high (Key k v ∷ A) G u = let low = u.0 in rw (eqb_not (height k) n (λ e. absurd (omega arith))) (bound_joined n high A G u.1)
 
-right_joined : (n : ℕ) (high : Option (List ℕ)) (A G : List Item) → KeysUnder n A → right_spelled (part_spelled n) n high (A ++ G) ≡ right_spelled (part_spelled n) n high G
+right_joined : (n : ℕ) (high : Option (List ℕ)) (A G : List Item) → KeysUnder n A → right_encoded (part_encoded n) n high (A ++ G) ≡ right_encoded (part_encoded n) n high G
 right_joined n high [] G u = refl
 right_joined n high (Hole m c ∷ A) G u = right_joined n high A G u
 right_joined n high (Key k v ∷ A) G u = let low = u.0 in rw (eqb_not (height k) n (λ e. absurd (omega arith))) (right_joined n high A G u.1)
@@ -153,26 +153,26 @@ bound_parts n high (p ∷ parts) a = rw (a.0, eqb_same n) refl
 
 -- the blocks of a node, by its parts
 pub node_parts : (n : ℕ) (low high : Option (List ℕ)) (first : Below) (parts : List Part) → LiesBelow n first → AllAt n parts →
-    node_spelled n low high (below_items n first ++ rest_items n parts)
-    ≡ record { low = low; high = high; block = spell n (below_items n first ++ rest_items n parts) } ∷ (part_spelled n low (part_bound high parts) (below_items n first) ++ right_spelled (part_spelled n) n high (rest_items n parts))
+    node_encoded n low high (below_items n first ++ rest_items n parts)
+    ≡ record { low = low; high = high; block = encode_layer n (below_items n first ++ rest_items n parts) } ∷ (part_encoded n low (part_bound high parts) (below_items n first) ++ right_encoded (part_encoded n) n high (rest_items n parts))
 node_parts n low high first parts l a =
     let A = below_items n first in let G = rest_items n parts in let keys = below_keys n first l in
-    let here : Spelled = record { low = low; high = high; block = spell n (A ++ G) } in
-    ap (λ b. here ∷ (part_spelled n low b (first_part n (A ++ G)) ++ right_spelled (part_spelled n) n high (A ++ G))) (bound_joined n high A G keys ∙ bound_parts n high parts a)
-    ∙ ap (λ F. here ∷ (part_spelled n low (part_bound high parts) F ++ right_spelled (part_spelled n) n high (A ++ G))) (first_joined n A G keys (starts n parts a))
-    ∙ ap (λ X. here ∷ (part_spelled n low (part_bound high parts) A ++ X)) (right_joined n high A G keys)
+    let here : Encoded = record { low = low; high = high; block = encode_layer n (A ++ G) } in
+    ap (λ b. here ∷ (part_encoded n low b (first_part n (A ++ G)) ++ right_encoded (part_encoded n) n high (A ++ G))) (bound_joined n high A G keys ∙ bound_parts n high parts a)
+    ∙ ap (λ F. here ∷ (part_encoded n low (part_bound high parts) F ++ right_encoded (part_encoded n) n high (A ++ G))) (first_joined n A G keys (starts n parts a))
+    ∙ ap (λ X. here ∷ (part_encoded n low (part_bound high parts) A ++ X)) (right_joined n high A G keys)
 
 -- the blocks behind the keys of a node, by its first part and the others
 pub right_parts : (n : ℕ) (high : Option (List ℕ)) (p : Part) (parts : List Part) → AllAt n (p ∷ parts) →
-    right_spelled (part_spelled n) n high (rest_items n (p ∷ parts))
-    ≡ part_spelled n (Some p.key) (part_bound high parts) (below_items n p.below) ++ right_spelled (part_spelled n) n high (rest_items n parts)
+    right_encoded (part_encoded n) n high (rest_items n (p ∷ parts))
+    ≡ part_encoded n (Some p.key) (part_bound high parts) (below_items n p.below) ++ right_encoded (part_encoded n) n high (rest_items n parts)
 right_parts n high p parts a =
     let A = below_items n p.below in let G = rest_items n parts in let keys = below_keys n p.below a.1 in
     let here : eqb (height p.key) n ≡ true = rw a.0 (eqb_same n) in
     rw here (
-    ap (λ b. part_spelled n (Some p.key) b (first_part n (A ++ G)) ++ right_spelled (part_spelled n) n high (A ++ G)) (bound_joined n high A G keys ∙ bound_parts n high parts a.2)
-    ∙ ap (λ F. part_spelled n (Some p.key) (part_bound high parts) F ++ right_spelled (part_spelled n) n high (A ++ G)) (first_joined n A G keys (starts n parts a.2))
-    ∙ ap (λ X. part_spelled n (Some p.key) (part_bound high parts) A ++ X) (right_joined n high A G keys))
+    ap (λ b. part_encoded n (Some p.key) b (first_part n (A ++ G)) ++ right_encoded (part_encoded n) n high (A ++ G)) (bound_joined n high A G keys ∙ bound_parts n high parts a.2)
+    ∙ ap (λ F. part_encoded n (Some p.key) (part_bound high parts) F ++ right_encoded (part_encoded n) n high (A ++ G)) (first_joined n A G keys (starts n parts a.2))
+    ∙ ap (λ X. part_encoded n (Some p.key) (part_bound high parts) A ++ X) (right_joined n high A G keys))
 
 above_all : (k : List ℕ) (h : Option (List ℕ)) (A : List Item) → AllAbove k A → AreBetween None h A → AreBetween (Some k) h A
 above_all k h [] a b = tt
@@ -212,14 +212,14 @@ between_ends (Key k v ∷ F) = (tt, tt, between_ends F)
 between_ends (Hole l c ∷ F) = between_ends F
 
 -- what lies below layer h is a node of the layer below
-pub tree_spelled : (h n : ℕ) (low high : Option (List ℕ)) (F : List Item) → n + 1 ≡ h → 0 < length F → part_spelled h low high F ≡ node_spelled n low high F
-unfolding part_spelled
-tree_spelled h n low high [] e some = absurd (omega arith)
-tree_spelled zero n low high (x ∷ F) e some = absurd (omega arith)
-tree_spelled (suc m) n low high (x ∷ F) e some = let same : m ≡ n = omega arith in ap (λ i. node_spelled i low high (x ∷ F)) same
+pub tree_encoded : (h n : ℕ) (low high : Option (List ℕ)) (F : List Item) → n + 1 ≡ h → 0 < length F → part_encoded h low high F ≡ node_encoded n low high F
+unfolding part_encoded
+tree_encoded h n low high [] e some = absurd (omega arith)
+tree_encoded zero n low high (x ∷ F) e some = absurd (omega arith)
+tree_encoded (suc m) n low high (x ∷ F) e some = let same : m ≡ n = omega arith in ap (λ i. node_encoded i low high (x ∷ F)) same
 
-pub empty_part : (h : ℕ) (low high : Option (List ℕ)) → part_spelled h low high [] ≡ []
-unfolding part_spelled
+pub empty_part : (h : ℕ) (low high : Option (List ℕ)) → part_encoded h low high [] ≡ []
+unfolding part_encoded
 empty_part zero low high = refl
 empty_part (suc h) low high = refl
 
@@ -228,37 +228,37 @@ unfolding cid
 digest_cid block = refl
 
 -- the block of a node, of which its link is
-pub block_spelled : (h : ℕ) (first : Below) (parts : List Part) (v : Layered) (block : List ℕ) → LiesBelow h first → AllAt h parts → layered h first parts ≡ v → block ≡ node_bytes (below_link first) (entries_of parts) → block ≡ spell v.layer v.items
-block_spelled h first parts v block l a e b = b ∙ sym (spelled_node h first parts l a) ∙ ap (λ (x : Layered). spell x.layer x.items) e
+pub block_encoded : (h : ℕ) (first : Below) (parts : List Part) (v : Layered) (block : List ℕ) → LiesBelow h first → AllAt h parts → layered h first parts ≡ v → block ≡ node_bytes (below_link first) (entries_of parts) → block ≡ encode_layer v.layer v.items
+block_encoded h first parts v block l a e b = b ∙ sym (encoded_node h first parts l a) ∙ ap (λ (x : Layered). encode_layer x.layer x.items) e
 
-pub link_spelled : (link block : List ℕ) (v : Layered) → link ≡ cid (spell v.layer v.items) → block ≡ spell v.layer v.items → digest_of link ≡ sha256 block
-link_spelled link block v l b = ap digest_of l ∙ digest_cid (spell v.layer v.items) ∙ ap sha256 (sym b)
+pub link_encoded : (link block : List ℕ) (v : Layered) → link ≡ cid (encode_layer v.layer v.items) → block ≡ encode_layer v.layer v.items → digest_of link ≡ sha256 block
+link_encoded link block v l b = ap digest_of l ∙ digest_cid (encode_layer v.layer v.items) ∙ ap sha256 (sym b)
 
-node_steps : (keys : List (List ℕ)) (m : BlockMap) (n : ℕ) (low high : Option (List ℕ)) (first : Below) (parts : List Part) → LiesBelow n first → AllAt n parts → one_between low high keys ≡ true → (block : List ℕ) → block ≡ spell n (below_items n first ++ rest_items n parts)
-    → with_blocks m (on_ways keys (node_spelled n low high (below_items n first ++ rest_items n parts)))
-    ≡ with_blocks (with_blocks (kept m (cid block) block) (on_ways keys (part_spelled n low (part_bound high parts) (below_items n first)))) (on_ways keys (right_spelled (part_spelled n) n high (rest_items n parts)))
+node_steps : (keys : List (List ℕ)) (m : BlockMap) (n : ℕ) (low high : Option (List ℕ)) (first : Below) (parts : List Part) → LiesBelow n first → AllAt n parts → one_between low high keys ≡ true → (block : List ℕ) → block ≡ encode_layer n (below_items n first ++ rest_items n parts)
+    → with_blocks m (on_ways keys (node_encoded n low high (below_items n first ++ rest_items n parts)))
+    ≡ with_blocks (with_blocks (kept m (cid block) block) (on_ways keys (part_encoded n low (part_bound high parts) (below_items n first)))) (on_ways keys (right_encoded (part_encoded n) n high (rest_items n parts)))
 node_steps keys m n low high first parts l a one block b =
-    let F = below_items n first ++ rest_items n parts in let here : Spelled = record { low = low; high = high; block = spell n F } in
-    let X = part_spelled n low (part_bound high parts) (below_items n first) in let Y = right_spelled (part_spelled n) n high (rest_items n parts) in
+    let F = below_items n first ++ rest_items n parts in let here : Encoded = record { low = low; high = high; block = encode_layer n F } in
+    let X = part_encoded n low (part_bound high parts) (below_items n first) in let Y = right_encoded (part_encoded n) n high (rest_items n parts) in
     ap (λ Z. with_blocks m (on_ways keys Z)) (node_parts n low high first parts l a)
     ∙ ap (with_blocks m) (taken keys here (X ++ Y) one)
     ∙ ap (λ c. with_blocks (kept m (cid c) c) (on_ways keys (X ++ Y))) (sym b)
     ∙ with_both keys (kept m (cid block) block) X Y
 
 -- what is added of a node: its block, what is on the ways below it before the first key, and behind the keys
-pub node_done : (keys : List (List ℕ)) (m : BlockMap) (n : ℕ) (low high : Option (List ℕ)) (first : Below) (parts : List Part) (v : Layered) → LiesBelow n first → AllAt n parts → layered n first parts ≡ v → one_between low high keys ≡ true → (link block : List ℕ) → link ≡ cid (spell v.layer v.items) → block ≡ spell v.layer v.items
-    → with_blocks m (on_ways keys (node_spelled v.layer low high v.items))
-    ≡ with_blocks (with_blocks (kept m link block) (on_ways keys (part_spelled n low (part_bound high parts) (below_items n first)))) (on_ways keys (right_spelled (part_spelled n) n high (rest_items n parts)))
+pub node_done : (keys : List (List ℕ)) (m : BlockMap) (n : ℕ) (low high : Option (List ℕ)) (first : Below) (parts : List Part) (v : Layered) → LiesBelow n first → AllAt n parts → layered n first parts ≡ v → one_between low high keys ≡ true → (link block : List ℕ) → link ≡ cid (encode_layer v.layer v.items) → block ≡ encode_layer v.layer v.items
+    → with_blocks m (on_ways keys (node_encoded v.layer low high v.items))
+    ≡ with_blocks (with_blocks (kept m link block) (on_ways keys (part_encoded n low (part_bound high parts) (below_items n first)))) (on_ways keys (right_encoded (part_encoded n) n high (rest_items n parts)))
 node_done keys m n low high first parts v l a e one link block k b =
-    let E : Layered → Type 0 = λ x. block ≡ spell x.layer x.items in
-    ap (λ (x : Layered). with_blocks m (on_ways keys (node_spelled x.layer low high x.items))) (sym e)
+    let E : Layered → Type 0 = λ x. block ≡ encode_layer x.layer x.items in
+    ap (λ (x : Layered). with_blocks m (on_ways keys (node_encoded x.layer low high x.items))) (sym e)
     ∙ node_steps keys m n low high first parts l a one block (subst E (sym e) b)
-    ∙ ap (λ c. with_blocks (with_blocks (kept m c block) (on_ways keys (part_spelled n low (part_bound high parts) (below_items n first)))) (on_ways keys (right_spelled (part_spelled n) n high (rest_items n parts)))) (ap cid b ∙ sym k)
+    ∙ ap (λ c. with_blocks (with_blocks (kept m c block) (on_ways keys (part_encoded n low (part_bound high parts) (below_items n first)))) (on_ways keys (right_encoded (part_encoded n) n high (rest_items n parts)))) (ap cid b ∙ sym k)
 
 -- the same of a part of a node and the parts behind it
 pub parts_done : (keys : List (List ℕ)) (m : BlockMap) (n : ℕ) (high : Option (List ℕ)) (p : Part) (parts : List Part) → AllAt n (p ∷ parts)
-    → with_blocks m (on_ways keys (right_spelled (part_spelled n) n high (rest_items n (p ∷ parts))))
-    ≡ with_blocks (with_blocks m (on_ways keys (part_spelled n (Some p.key) (part_bound high parts) (below_items n p.below)))) (on_ways keys (right_spelled (part_spelled n) n high (rest_items n parts)))
+    → with_blocks m (on_ways keys (right_encoded (part_encoded n) n high (rest_items n (p ∷ parts))))
+    ≡ with_blocks (with_blocks m (on_ways keys (part_encoded n (Some p.key) (part_bound high parts) (below_items n p.below)))) (on_ways keys (right_encoded (part_encoded n) n high (rest_items n parts)))
 parts_done keys m n high p parts a =
     ap (λ Z. with_blocks m (on_ways keys Z)) (right_parts n high p parts a)
-    ∙ with_both keys m (part_spelled n (Some p.key) (part_bound high parts) (below_items n p.below)) (right_spelled (part_spelled n) n high (rest_items n parts))
+    ∙ with_both keys m (part_encoded n (Some p.key) (part_bound high parts) (below_items n p.below)) (right_encoded (part_encoded n) n high (rest_items n parts))

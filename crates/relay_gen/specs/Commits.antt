@@ -27,33 +27,33 @@ last_of a [] = None
 last_of a (c ∷ commits) = if c.account == a then Some c else last_of a commits
 
 -- the last number of a host's stream
-abbrev pub last_seq : ℕ → List Commit → ℕ
-last_seq host [] = 0
-last_seq host (c ∷ commits) = if c.account % 4 == host then c.seq else last_seq host commits
+abbrev pub last_generated : ℕ → List Commit → ℕ
+last_generated host [] = 0
+last_generated host (c ∷ commits) = if c.account % 4 == host then c.seq else last_generated host commits
 
-abbrev pub map_of : Option Commit → List Item
-map_of None = []
-map_of (Some c) = c.map
+abbrev pub generated_map : Option Commit → List Item
+generated_map None = []
+generated_map (Some c) = c.map
 
 abbrev pub past_of : Option Commit → Option Past
 past_of None = None
 past_of (Some c) = Some (record { rev = c.rev; data_root = root c.map })
 
 -- A first commit is of the empty map, and has no operations.
-abbrev pub ops_of : Option Commit → ℕ → ℕ → Draft
-ops_of None i x = record { ops = []; state = x }
-ops_of (Some c) i x = drafted c.map i x
+abbrev pub generated_ops : Option Commit → ℕ → ℕ → Draft
+generated_ops None i x = record { ops = []; state = x }
+generated_ops (Some c) i x = drafted c.map i x
 
 -- commit i, of an account with these operations, behind those before it
-abbrev pub commit_of : ℕ → ℕ → List Commit → List Op → Commit
-commit_of i a commits ops = record { account = a; seq = suc (last_seq (a % 4) commits); rev = i * 1024; past = past_of (last_of a commits); ops = ops; map = played (map_of (last_of a commits)) ops }
+abbrev pub generated_commit : ℕ → ℕ → List Commit → List Op → Commit
+generated_commit i a commits ops = record { account = a; seq = suc (last_generated (a % 4) commits); rev = i * 1024; past = past_of (last_of a commits); ops = ops; map = played (generated_map (last_of a commits)) ops }
 
 -- Behind others commit i: its account is drawn, and then its operations are.
 abbrev pub with_commit : ℕ → Drawn → Drawn
 with_commit i d =
     let a = drawn 16 (next d.state) in
-    let draft = ops_of (last_of a d.commits) i (next d.state) in
-    record { commits = commit_of i a d.commits draft.ops ∷ d.commits; state = draft.state }
+    let draft = generated_ops (last_of a d.commits) i (next d.state) in
+    record { commits = generated_commit i a d.commits draft.ops ∷ d.commits; state = draft.state }
 
 -- the first n commits that are drawn from a number
 abbrev pub commits_from : ℕ → ℕ → Drawn
@@ -63,4 +63,4 @@ commits_from start (suc i) = with_commit (suc i) (commits_from start i)
 -- how many keys the last maps of accounts have: of so many, from one on
 abbrev pub keys_from : ℕ → ℕ → List Commit → ℕ
 keys_from a zero commits = 0
-keys_from a (suc left) commits = length (map_of (last_of a commits)) + keys_from (suc a) left commits
+keys_from a (suc left) commits = length (generated_map (last_of a commits)) + keys_from (suc a) left commits

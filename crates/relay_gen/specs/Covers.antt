@@ -4,7 +4,7 @@ use Rattle.std.specs.List.{filter, list_any}
 use Rattle.mst_list.specs.declared.item.Item.{Item}
 use Rattle.mst_list.specs.declared.op.Op.{Op}
 use Rattle.mst_list.specs.Edits.{before, after}
-use Rattle.mst_node.specs.Covers.{Spelled, spelled, last_key, first_key}
+use Rattle.mst_node.specs.Covers.{Encoded, encoded_blocks, last_key, first_key}
 use Rattle.mst_node.specs.Fits.{is_under}
 use Rattle.mst_node.specs.Reading.{is_over}
 use Rattle.mst_node.specs.Trees.{nodes}
@@ -13,13 +13,13 @@ use Rattle.mst_node.specs.Trees.{nodes}
 abbrev pub one_between : Option (List ℕ) → Option (List ℕ) → List (List ℕ) → Bool
 one_between low high keys = list_any (λ k. is_over low k && is_under k high) keys
 
--- the block is on the way to one of the keys: it is spelled over a part of the map whose bounds lie round the key
-abbrev pub is_on_ways : List (List ℕ) → Spelled → Bool
+-- the block is on the way to one of the keys: it is encoded over a part of the map whose bounds lie round the key
+abbrev pub is_on_ways : List (List ℕ) → Encoded → Bool
 is_on_ways keys e = one_between e.low e.high keys
 
 -- the blocks that are on the way to one of the keys
-abbrev pub on_ways : List (List ℕ) → List Spelled → List (List ℕ)
-on_ways keys blocks = map (λ (e : Spelled). e.block) (filter (is_on_ways keys) blocks)
+abbrev pub on_ways : List (List ℕ) → List Encoded → List (List ℕ)
+on_ways keys blocks = map (λ (e : Encoded). e.block) (filter (is_on_ways keys) blocks)
 
 abbrev pub key_or_none : Option (List ℕ) → List (List ℕ)
 key_or_none None = []
@@ -37,9 +37,9 @@ covered_keys t (op ∷ ops) = op.key ∷ (neighbours t op.key op.was ++ covered_
 
 -- the blocks of the tree of t that cover the operations, parents first
 abbrev pub cover : List Item → List Op → List (List ℕ)
-cover t ops = on_ways (covered_keys t ops) (spelled t)
+cover t ops = on_ways (covered_keys t ops) (encoded_blocks t)
 
 -- the blocks that are given: the empty node where the map is empty, and else the cover
-abbrev pub given : List Item → List Op → List (List ℕ)
-given [] ops = nodes []
-given (x ∷ t) ops = cover (x ∷ t) ops
+abbrev pub blocks_given : List Item → List Op → List (List ℕ)
+blocks_given [] ops = nodes []
+blocks_given (x ∷ t) ops = cover (x ∷ t) ops

@@ -7,7 +7,7 @@ use Rattle.mst_list.specs.declared.item.Item.TheVariants.{Key}
 use Rattle.mst_list.specs.declared.op.Op.{Op}
 use Rattle.mst_list.specs.Edits.{put}
 use Rattle.relay_gen.specs.Draws.{next, drawn}
-use Rattle.relay_gen.specs.Names.{path_of, value_of}
+use Rattle.relay_gen.specs.Names.{generated_path, generated_value}
 
 -- operations, and the state of the draws behind them
 pub record Draft : Type 0 where
@@ -20,7 +20,7 @@ with_op ops op = if list_any (λ (o : Op). bytes_eq o.key op.key) ops then ops e
 
 -- Commit i creates this at the place j of its operations.
 abbrev pub creation : ℕ → ℕ → Op
-creation i j = record { key = path_of (i * 4 + j); was = None; now = Some (value_of (i * 8 + j)) }
+creation i j = record { key = generated_path (i * 4 + j); was = None; now = Some (generated_value (i * 8 + j)) }
 
 -- what is done to an item of the map: 7 deletes its key, and the others give it a value
 abbrev pub with_edit : List Op → ℕ → List ℕ → Option Item → List Op
@@ -33,7 +33,7 @@ with_drawn s i j d =
     let kind = drawn 8 (next d.state) in
     if nat_lt kind 5 || length s == 0
     then record { ops = with_op d.ops (creation i j); state = next d.state }
-    else record { ops = with_edit d.ops kind (value_of (i * 8 + j)) (slice_get s (drawn (length s) (next (next d.state)))); state = next (next d.state) }
+    else record { ops = with_edit d.ops kind (generated_value (i * 8 + j)) (slice_get s (drawn (length s) (next (next d.state)))); state = next (next d.state) }
 
 -- so many operations more, from the place j on
 abbrev pub with_more : List Item → ℕ → ℕ → ℕ → Draft → Draft

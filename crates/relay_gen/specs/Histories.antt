@@ -10,10 +10,10 @@ pub record History : Type 0 where
   pub keys : ℕ
 
 -- what hosts send of commits, of which the last comes first
-abbrev pub sent : List Commit → List (List ℕ × List ℕ)
-sent [] = []
-sent (c ∷ commits) = sent commits ++ (host_of c.account, message c) ∷ []
+abbrev pub generated_messages : List Commit → List (List ℕ × List ℕ)
+generated_messages [] = []
+generated_messages (c ∷ commits) = generated_messages commits ++ (host_of c.account, message c) ∷ []
 
 -- the history of n messages that is drawn from a number
 abbrev pub history : ℕ → ℕ → History
-history start n = record { messages = sent (commits_from start n).commits; keys = keys_from 0 16 (commits_from start n).commits }
+history start n = record { messages = generated_messages (commits_from start n).commits; keys = keys_from 0 16 (commits_from start n).commits }

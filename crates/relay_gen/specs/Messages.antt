@@ -4,23 +4,23 @@ use Rattle.std.specs.FinMap as finite
 use Rattle.std.specs.List.{repeat}
 use Rattle.at_cid.specs.Link.{cid}
 use Rattle.at_cbor.specs.Item.{Item, items_of, fields_of, no_items}
-use Rattle.at_cbor.specs.Spelling.{spelling}
+use Rattle.at_cbor.specs.Encoding.{encoding}
 use Rattle.at_cbor.specs.Taking.{link_item}
 use Rattle.at_car.specs.Blocks.{BlockMap, kept}
 use Rattle.at_car.specs.Writing.{written}
 use Rattle.at_syntax.specs.Tid.{digits_of}
 use Rattle.at_event.specs.declared.kind.EventKind.{EventKind}
-use Rattle.at_event.specs.Writing.{message_of, number_item}
+use Rattle.at_event.specs.Writing.{event_message, number_item}
 use Rattle.mst_list.specs.declared.op.Op.{Op}
 use Rattle.mst_node.specs.Trees.{root}
-use Rattle.relay_gen.specs.Names.{did_of}
+use Rattle.relay_gen.specs.Names.{generated_did}
 use Rattle.relay_gen.specs.declared.past.Past.{Past}
 use Rattle.relay_gen.specs.Commits.{Commit}
-use Rattle.relay_gen.specs.Covers.{given}
+use Rattle.relay_gen.specs.Covers.{blocks_given}
 
 -- the commit object: its signature is 64 zeros
-unfoldable pub object_of : List ℕ → ℕ → List ℕ → List ℕ
-object_of did rev data_root = spelling (Item.map (fields_of (
+unfoldable pub generated_object : List ℕ → ℕ → List ℕ → List ℕ
+generated_object did rev data_root = encoding (Item.map (fields_of (
     (codes "did", Item.text did)
     ∷ (codes "rev", Item.text (digits_of rev))
     ∷ (codes "sig", Item.bytes (repeat 64 (0 ∷ [])))
@@ -38,15 +38,15 @@ with_blocks m (block ∷ blocks) = with_blocks (kept m (cid block) block) blocks
 unfoldable pub car_with : List ℕ → List (List ℕ) → List ℕ
 car_with object blocks = written (cid object) (with_blocks finite.empty (object ∷ blocks))
 
-abbrev pub action_of : Option (List ℕ) → Option (List ℕ) → List ℕ
-action_of None now = codes "create"
-action_of (Some was) (Some now) = codes "update"
-action_of (Some was) None = codes "delete"
+abbrev pub generated_action : Option (List ℕ) → Option (List ℕ) → List ℕ
+generated_action None now = codes "create"
+generated_action (Some was) (Some now) = codes "update"
+generated_action (Some was) None = codes "delete"
 
 -- the link before, where there is one, and the action
 abbrev pub ends_of : Option (List ℕ) → Option (List ℕ) → List (List ℕ × Item)
-ends_of None now = (codes "action", Item.text (action_of None now)) ∷ []
-ends_of (Some was) now = (codes "prev", Item.link was) ∷ (codes "action", Item.text (action_of (Some was) now)) ∷ []
+ends_of None now = (codes "action", Item.text (generated_action None now)) ∷ []
+ends_of (Some was) now = (codes "prev", Item.link was) ∷ (codes "action", Item.text (generated_action (Some was) now)) ∷ []
 
 -- an operation, as a message states it
 unfoldable pub op_item : Op → Item
@@ -90,8 +90,8 @@ payload_of did seq rev past ops commit blocks = Item.map (fields_of (front_field
 
 -- the commit object of a commit
 abbrev pub object : Commit → List ℕ
-object c = object_of (did_of c.account) c.rev (root c.map)
+object c = generated_object (generated_did c.account) c.rev (root c.map)
 
 -- the message of a commit, with the commit object and the blocks that are given
 unfoldable pub message : Commit → List ℕ
-message c = message_of EventKind.Commit (payload_of (did_of c.account) c.seq c.rev c.past c.ops (cid (object c)) (car_with (object c) (given c.map c.ops)))
+message c = event_message EventKind.Commit (payload_of (generated_did c.account) c.seq c.rev c.past c.ops (cid (object c)) (car_with (object c) (blocks_given c.map c.ops)))

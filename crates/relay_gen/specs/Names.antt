@@ -2,7 +2,7 @@
 use Rattle.std.specs.Prelude.{ℕ, zero, suc, ◌+◌, ◌/◌, ◌%◌, ◌^◌, pos, List, [], ◌∷◌, ◌++◌, codes}
 use Rattle.at_cid.specs.Link.{cid}
 use Rattle.at_cbor.specs.Item.{Item, no_fields, field}
-use Rattle.at_cbor.specs.Spelling.{spelling}
+use Rattle.at_cbor.specs.Encoding.{encoding}
 
 -- the last decimal digits of a number, so many of them
 abbrev pub digits : ℕ → ℕ → List ℕ
@@ -10,16 +10,16 @@ digits zero n = []
 digits (suc k) n = (48 + n / 10 ^ k % 10) ∷ digits k n
 
 -- the path of the record of a number
-unfoldable pub path_of : ℕ → List ℕ
-path_of n = codes "app.gen.item/" ++ digits 8 n
+unfoldable pub generated_path : ℕ → List ℕ
+generated_path n = codes "app.gen.item/" ++ digits 8 n
 
 -- the link of the value `{n}`
-unfoldable pub value_of : ℕ → List ℕ
-value_of n = cid (spelling (Item.map (field (codes "n") (Item.int (pos n)) no_fields)))
+unfoldable pub generated_value : ℕ → List ℕ
+generated_value n = cid (encoding (Item.map (field (codes "n") (Item.int (pos n)) no_fields)))
 
 -- Account 0 has the letter `a`, and so on.
-unfoldable pub did_of : ℕ → List ℕ
-did_of account = codes "did:plc:gen" ++ (97 + account) ∷ []
+unfoldable pub generated_did : ℕ → List ℕ
+generated_did account = codes "did:plc:gen" ++ (97 + account) ∷ []
 
 -- the host of an account
 unfoldable pub host_of : ℕ → List ℕ

@@ -6,15 +6,15 @@ use Rattle.mst_list.specs.declared.op.Op.{Op}
 use Rattle.mst_list.specs.Lists.{IsMap}
 use Rattle.mst_list.specs.Edits.{value_at, AreApart, AreFormedOps}
 use Rattle.relay_gen.specs.declared.past.Past.{Past}
-use Rattle.relay_gen.specs.Commits.{Commit, Drawn, last_of, last_seq, map_of, past_of}
-use Rattle.relay_gen.specs.Names.{path_of}
+use Rattle.relay_gen.specs.Commits.{Commit, Drawn, last_of, last_generated, generated_map, past_of}
+use Rattle.relay_gen.specs.Names.{generated_path}
 use Rattle.at_cid.specs.Link.{cid}
 use Rattle.at_event.specs.declared.kind.EventKind.{EventKind}
-use Rattle.at_event.specs.Writing.{message_of}
+use Rattle.at_event.specs.Writing.{event_message}
 use Rattle.mst_node.specs.Trees.{root}
-use Rattle.relay_gen.specs.Covers.{given}
+use Rattle.relay_gen.specs.Covers.{blocks_given}
 use Rattle.relay_gen.specs.Drafts.{played}
-use Rattle.relay_gen.specs.Messages.{car_with, message, object_of, payload_of}
+use Rattle.relay_gen.specs.Messages.{car_with, message, generated_object, payload_of}
 
 -- the map of an account, and its last commit
 pub record Repository : Type 0 where
@@ -22,7 +22,7 @@ pub record Repository : Type 0 where
   pub past : Option Past
 
 abbrev pub repository_of : Option Commit → Repository
-repository_of o = record { map = map_of o; past = past_of o }
+repository_of o = record { map = generated_map o; past = past_of o }
 
 -- each operation's key has in the map the value that the operation names, or none
 abbrev pub AllApply : List Item → List Op → Type 0
@@ -39,7 +39,7 @@ pub record CanPlay (s : List Item) (ops : List Op) : Type 0 where
 -- each key is the path of a number below another
 abbrev pub AreOlder : ℕ → List Item → Type 0
 AreOlder n [] = Unit {0}
-AreOlder n (Key k v ∷ s) = ((m : ℕ) × (m < n) × (k ≡ path_of m)) × AreOlder n s
+AreOlder n (Key k v ∷ s) = ((m : ℕ) × (m < n) × (k ≡ generated_path m)) × AreOlder n s
 AreOlder n (Hole l c ∷ s) = ⊥
 
 -- the commits are from before commit i
@@ -53,7 +53,7 @@ pub record IsBehind (d : Drawn) (state : ℕ) (accounts : List Repository) (seqs
   pub count : length accounts ≡ 16
   pub hosts : length seqs ≡ 4
   pub repositories : (a : ℕ) → a < 16 → slice_get accounts a ≡ Some (repository_of (last_of a d.commits))
-  pub numbers : (host : ℕ) → host < 4 → slice_index seqs host ≡ last_seq host d.commits
+  pub numbers : (host : ℕ) → host < 4 → slice_index seqs host ≡ last_generated host d.commits
 
 -- the operations that undo these: the last one first, each turned round
 abbrev pub turned_of : List Op → List Op
@@ -67,8 +67,8 @@ after_commit rev s ops = record { map = played s ops; past = Some (record { rev 
 -- the message of a commit that left the map t
 abbrev pub commit_message : List ℕ → ℕ → ℕ → Option Past → List Op → List Item → List ℕ
 commit_message did seq rev past ops t =
-    let object = object_of did rev (root t) in
-    message_of EventKind.Commit (payload_of did seq rev past ops (cid object) (car_with object (given t ops)))
+    let object = generated_object did rev (root t) in
+    event_message EventKind.Commit (payload_of did seq rev past ops (cid object) (car_with object (blocks_given t ops)))
 
 -- the first of some commits is of this account, and has this message
 abbrev pub IsLast : List Commit → ℕ → List ℕ → Type 0

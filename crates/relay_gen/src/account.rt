@@ -3,7 +3,7 @@
 ghost use Rattle.std.specs.Prelude.{◌≡◌, ◌<◌, ◌≤◌, ◌^◌, [], None, is_some, length, map, OnOk, IfOk};
 ghost use Rattle.mst_list.specs.Edits.{AreFormedOps};
 ghost use Rattle.mst_list.specs.Lists.{KeysOnly};
-ghost use Rattle.relay_gen.specs.Covers.{given};
+ghost use Rattle.relay_gen.specs.Covers.{blocks_given};
 ghost use Rattle.relay_gen.specs.Drafts.{played};
 ghost use Rattle.relay_gen.specs.Messages.{car_with};
 ghost use Rattle.relay_gen.specs.Records.{item_of, op_of};
@@ -73,7 +73,7 @@ fn changed(alloc: Global, tree: StubTree, changes: &[Change]) -> Result<StubTree
     let ops = turned(alloc, changes)?;
     match undo(alloc, tree, &ops) {
         Ok(left) => settled(alloc, left),
-        // The operations can be undone, so nothing but memory was wanted.
+        // The operations can be undone, so nothing but memory ran out.
         Err(_) => Err(Memory),
     }
 }
@@ -88,7 +88,7 @@ fn car(
 ) -> Result<(StubTree, Octets), Memory>
     requires { tree ≡ map item_of records.now }
     ensures tree { IfOk result (λ p. p.0 ≡ tree) }
-    ensures car { IfOk result (λ p. p.1 ≡ car_with object.now (given tree (map op_of changes.now))) }
+    ensures car { IfOk result (λ p. p.1 ≡ car_with object.now (blocks_given tree (map op_of changes.now))) }
 {
     let commit = cid_of(object);
     let mut blocks = Blocks::new(alloc);

@@ -2,7 +2,7 @@
 
 ghost use Rattle.std.specs.Prelude.{◌≡◌, ◌++◌, ◌&&◌, map, option_map, slice_get, length, ◌≤◌, None, OnOk, IfOk};
 ghost use Rattle.mst_list.specs.Lists.{Ascends};
-ghost use Rattle.mst_node.specs.Covers.{part_spelled, right_spelled};
+ghost use Rattle.mst_node.specs.Covers.{part_encoded, right_encoded};
 ghost use Rattle.mst_node.specs.Fits.{is_under};
 ghost use Rattle.mst_node.specs.Reading.{is_over};
 ghost use Rattle.mst_view.specs.Layered.{AllAt, LiesBelow, below_items, rest_items};
@@ -10,7 +10,7 @@ ghost use Rattle.mst_view.specs.StubTree.{IsTop, top_items};
 ghost use Rattle.relay_gen.specs.Covers.{covered_keys, neighbours, on_ways, one_between};
 ghost use Rattle.relay_gen.specs.Messages.{with_blocks};
 ghost use Rattle.relay_gen.specs.Records.{behind, has_path, item_of, last_path, op_of, path_or_none};
-ghost use Rattle.relay_gen.specs.Walks.{IsRange, given_for, node_spelled, part_bound};
+ghost use Rattle.relay_gen.specs.Walks.{IsRange, given_for, node_encoded, part_bound};
 
 use crate::records::{Change, Record, is_at, place_of};
 use crate::settling::block_of;
@@ -59,7 +59,7 @@ fn cover_below(
 ) -> Result<(), Memory>
     requires lies { LiesBelow layer below.now }
     requires range { IsRange (option_map (λ k. k.now) low) (option_map (λ k. k.now) high) (below_items layer below.now) }
-    ensures { OnOk result (blocks.new ≡ with_blocks blocks.old (on_ways paths.now (part_spelled layer (option_map (λ k. k.now) low.entry) (option_map (λ k. k.now) high.entry) (below_items layer below.now)))) }
+    ensures { OnOk result (blocks.new ≡ with_blocks blocks.old (on_ways paths.now (part_encoded layer (option_map (λ k. k.now) low.entry) (option_map (λ k. k.now) high.entry) (below_items layer below.now)))) }
 {
     match below {
         Below::Empty | Below::Hole(_) => Ok(()),
@@ -78,7 +78,7 @@ fn cover_branch(
     blocks: &mut Blocks,
 ) -> Result<(), Memory>
     requires { IsRange (option_map (λ k. k.now) low) (option_map (λ k. k.now) high) branch.now.items }
-    ensures { OnOk result (blocks.new ≡ with_blocks blocks.old (on_ways paths.now (node_spelled branch.now.layer (option_map (λ k. k.now) low.entry) (option_map (λ k. k.now) high.entry) branch.now.items))) }
+    ensures { OnOk result (blocks.new ≡ with_blocks blocks.old (on_ways paths.now (node_encoded branch.now.layer (option_map (λ k. k.now) low.entry) (option_map (λ k. k.now) high.entry) branch.now.items))) }
 {
     if !one_lies_between(low, paths, high) {
         return Ok(());
@@ -122,7 +122,7 @@ fn cover_parts(
 ) -> Result<(), Memory>
     requires at { AllAt layer parts.now }
     requires range { IsRange None (option_map (λ k. k.now) high) (rest_items layer parts.now) }
-    ensures { OnOk result (blocks.new ≡ with_blocks blocks.old (on_ways paths.now (right_spelled (part_spelled layer) layer (option_map (λ k. k.now) high.entry) (rest_items layer parts.now)))) }
+    ensures { OnOk result (blocks.new ≡ with_blocks blocks.old (on_ways paths.now (right_encoded (part_encoded layer) layer (option_map (λ k. k.now) high.entry) (rest_items layer parts.now)))) }
 {
     let mut rest = parts;
     'parts: loop {

@@ -5,7 +5,7 @@ ghost use Rattle.std.specs.List.{list_any};
 ghost use Rattle.std.specs.Str.{bytes_eq};
 ghost use Rattle.mst_list.specs.declared.op.Op.{Op};
 ghost use Rattle.relay_gen.specs.declared.history.TheConstants.{MOST_MESSAGES};
-ghost use Rattle.relay_gen.specs.Names.{value_of};
+ghost use Rattle.relay_gen.specs.Names.{generated_value};
 ghost use Rattle.relay_gen.specs.Drafts.{drafted, with_drawn, with_op};
 ghost use Rattle.relay_gen.specs.Records.{item_of, op_of};
 
@@ -17,9 +17,9 @@ use at_cid::{Cid, Memory, Octets, Words, cid_of};
 use std::alloc::Global;
 
 /// The link of the value of a number: the object `{n}`.
-#[tactic(auto, unfolding(crate::specs::Names::value_of))]
+#[tactic(auto, unfolding(crate::specs::Names::generated_value))]
 fn value_of(alloc: Global, number: u32) -> Result<Cid, Memory>
-    ensures { IfOk result (λ value. value ≡ value_of number) }
+    ensures { IfOk result (λ value. value ≡ generated_value number) }
 {
     let mut object = Octets::new(alloc);
     write_map_front(&mut object, 1)?;

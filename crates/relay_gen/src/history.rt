@@ -1,9 +1,9 @@
 //! A made history.
 
 ghost use Rattle.std.specs.Prelude.{◌≡◌, ◌≤◌, ◌+◌, ◌<◌, ◌-◌, [], length, map, slice_get, option_map, Option, Some, OnOk, IfOk};
-ghost use Rattle.relay_gen.specs.Commits.{Commit, Drawn, ops_of, with_commit, keys_from};
+ghost use Rattle.relay_gen.specs.Commits.{Commit, Drawn, generated_ops, with_commit, keys_from};
 ghost use Rattle.relay_gen.specs.Histories.{history};
-ghost use Rattle.relay_gen.specs.Names.{did_of, host_of};
+ghost use Rattle.relay_gen.specs.Names.{generated_did, host_of};
 ghost use Rattle.relay_gen.specs.States.{AreBefore, IsBehind, IsLast, repository_of};
 ghost use Rattle.relay_gen.specs.Records.{op_of};
 
@@ -27,10 +27,10 @@ const ACCOUNTS: usize = 16;
 const HOSTS: usize = 4;
 
 /// The DID of an account, counted from 0.
-#[tactic(auto, unfolding(crate::specs::Names::did_of))]
+#[tactic(auto, unfolding(crate::specs::Names::generated_did))]
 pub fn did_of(account: u8) -> &'static str
     requires { account < 16 }
-    ensures { result.now ≡ did_of account }
+    ensures { result.now ≡ generated_did account }
 {
     match account {
         0 => "did:plc:gena",
@@ -106,7 +106,7 @@ fn changes_of(
     number: u32,
 ) -> Result<Vec<Change>, Memory>
     requires { number ≤ MOST_MESSAGES }
-    ensures { (o : Option Commit) → account.now ≡ repository_of o → IfOk result (λ changes. record { ops = map op_of changes.items; state = draws.new } ≡ ops_of o number draws.old) }
+    ensures { (o : Option Commit) → account.now ≡ repository_of o → IfOk result (λ changes. record { ops = map op_of changes.items; state = draws.new } ≡ generated_ops o number draws.old) }
 {
     if account.has_commit() {
         draft(alloc, draws, account.records(), number)

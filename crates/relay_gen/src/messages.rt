@@ -2,12 +2,12 @@
 
 ghost use Rattle.std.specs.Prelude.{◌≡◌, ◌++◌, ◌+◌, ◌<◌, ◌^◌, codes, map, OnOk, IfOk};
 ghost use Rattle.at_cbor.specs.Item.{Item, fields_of, items_of, no_items};
-ghost use Rattle.at_cbor.specs.Spelling.{spelling, fields_count, fields_spelling, front_of, items_spelling};
+ghost use Rattle.at_cbor.specs.Encoding.{encoding, fields_count, fields_encoding, front_of, items_encoding};
 ghost use Rattle.at_cbor.specs.declared.major.Major.{Major};
 ghost use Rattle.at_cbor.specs.Taking.{link_item};
 ghost use Rattle.at_event.specs.declared.kind.EventKind.{EventKind};
-ghost use Rattle.at_event.specs.Writing.{field_spelling, header_of, message_of, number_item};
-ghost use Rattle.relay_gen.specs.Messages.{action_of, back_fields, ends_of, front_fields, middle_fields, object_of, op_item, payload_of, prev_data, since_item};
+ghost use Rattle.at_event.specs.Writing.{field_encoding, header_of, event_message, number_item};
+ghost use Rattle.relay_gen.specs.Messages.{generated_action, back_fields, ends_of, front_fields, middle_fields, generated_object, op_item, payload_of, prev_data, since_item};
 ghost use Rattle.relay_gen.specs.Records.{op_of};
 
 use crate::past::Past;
@@ -25,14 +25,14 @@ const TIME: &str = "2025-01-01T00:00:00Z";
 const SIGNATURE: [u8; 64] = [0; 64];
 
 fn write_link_field(out: &mut Octets, key: &str, link: &Cid) -> Result<(), Memory>
-    ensures { OnOk result (out.new ≡ out.old ++ field_spelling key.now (Item.link link.now)) }
+    ensures { OnOk result (out.new ≡ out.old ++ field_encoding key.now (Item.link link.now)) }
 {
     write_text(out, key)?;
     write_link(out, link)
 }
 
 fn write_child_field(out: &mut Octets, key: &str, link: &Option<Cid>) -> Result<(), Memory>
-    ensures { OnOk result (out.new ≡ out.old ++ field_spelling key.now (link_item link.now)) }
+    ensures { OnOk result (out.new ≡ out.old ++ field_encoding key.now (link_item link.now)) }
 {
     write_text(out, key)?;
     match link {
@@ -43,28 +43,28 @@ fn write_child_field(out: &mut Octets, key: &str, link: &Option<Cid>) -> Result<
 
 fn write_int_field(out: &mut Octets, key: &str, number: u64) -> Result<(), Memory>
     requires { number < 2 ^ 63 }
-    ensures { OnOk result (out.new ≡ out.old ++ field_spelling key.now (number_item number)) }
+    ensures { OnOk result (out.new ≡ out.old ++ field_encoding key.now (number_item number)) }
 {
     write_text(out, key)?;
     write_int(out, number as i64)
 }
 
 fn write_null_field(out: &mut Octets, key: &str) -> Result<(), Memory>
-    ensures { OnOk result (out.new ≡ out.old ++ field_spelling key.now Item.null) }
+    ensures { OnOk result (out.new ≡ out.old ++ field_encoding key.now Item.null) }
 {
     write_text(out, key)?;
     write_null(out)
 }
 
 /// The commit object of a repository at a revision.
-#[tactic(auto, unfolding(crate::specs::Messages::object_of))]
+#[tactic(auto, unfolding(crate::specs::Messages::generated_object))]
 pub(crate) fn commit_object(
     alloc: Global,
     did: &str,
     rev: Tid,
     data_root: &Cid,
 ) -> Result<Octets, Memory>
-    ensures { IfOk result (λ object. object ≡ object_of did.now rev data_root.now) }
+    ensures { IfOk result (λ object. object ≡ generated_object did.now rev data_root.now) }
 {
     let mut out = Octets::new(alloc);
     write_map_front(&mut out, 6)?;
@@ -78,7 +78,7 @@ pub(crate) fn commit_object(
 }
 
 fn action(change: &Change) -> &'static str
-    ensures { result.now ≡ action_of change.entry.now.was change.entry.now.now }
+    ensures { result.now ≡ generated_action change.entry.now.was change.entry.now.now }
 {
     if change.was.is_none() {
         "create"
@@ -91,7 +91,7 @@ fn action(change: &Change) -> &'static str
 
 /// Adds the link before, where there is one, and the action.
 fn write_ends(out: &mut Octets, change: &Change) -> Result<(), Memory>
-    ensures { OnOk result (out.new ≡ out.old ++ fields_spelling (fields_of (ends_of change.entry.now.was change.entry.now.now))) }
+    ensures { OnOk result (out.new ≡ out.old ++ fields_encoding (fields_of (ends_of change.entry.now.was change.entry.now.now))) }
 {
     if let Some(was) = &change.was {
         write_link_field(out, "prev", was)?;
@@ -102,7 +102,7 @@ fn write_ends(out: &mut Octets, change: &Change) -> Result<(), Memory>
 /// Adds an operation.
 #[tactic(auto, unfolding(crate::specs::Messages::op_item))]
 fn write_op(out: &mut Octets, change: &Change) -> Result<(), Memory>
-    ensures { OnOk result (out.new ≡ out.old ++ spelling (op_item (op_of change.entry.now))) }
+    ensures { OnOk result (out.new ≡ out.old ++ encoding (op_item (op_of change.entry.now))) }
 {
     write_map_front(out, if change.was.is_some() { 4 } else { 3 })?;
     write_child_field(out, "cid", &change.now)?;
@@ -112,7 +112,7 @@ fn write_op(out: &mut Octets, change: &Change) -> Result<(), Memory>
 
 /// Adds operations, one behind the other.
 fn write_each(out: &mut Octets, changes: &[Change]) -> Result<(), Memory>
-    ensures { OnOk result (out.new ≡ out.old ++ items_spelling (items_of (map op_item (map op_of changes.now)))) }
+    ensures { OnOk result (out.new ≡ out.old ++ items_encoding (items_of (map op_item (map op_of changes.now)))) }
 {
     for change in changes {
         write_op(out, change)?;
@@ -122,7 +122,7 @@ fn write_each(out: &mut Octets, changes: &[Change]) -> Result<(), Memory>
 
 /// Adds the field of the operations.
 fn write_ops(out: &mut Octets, changes: &[Change]) -> Result<(), Memory>
-    ensures { OnOk result (out.new ≡ out.old ++ field_spelling (codes "ops") (Item.list (items_of (map op_item (map op_of changes.now))))) }
+    ensures { OnOk result (out.new ≡ out.old ++ field_encoding (codes "ops") (Item.list (items_of (map op_item (map op_of changes.now))))) }
 {
     write_text(out, "ops")?;
     write_list_front(out, changes.len())?;
@@ -130,9 +130,9 @@ fn write_ops(out: &mut Octets, changes: &[Change]) -> Result<(), Memory>
 }
 
 /// Adds the field of blobs, of which there are none.
-#[tactic(auto, unfolding(at_cbor::specs::Spelling::info_of, at_cbor::specs::Spelling::tail_of))]
+#[tactic(auto, unfolding(at_cbor::specs::Encoding::info_of, at_cbor::specs::Encoding::tail_of))]
 fn write_blobs(out: &mut Octets) -> Result<(), Memory>
-    ensures { OnOk result (out.new ≡ out.old ++ field_spelling (codes "blobs") (Item.list no_items)) }
+    ensures { OnOk result (out.new ≡ out.old ++ field_encoding (codes "blobs") (Item.list no_items)) }
 {
     write_text(out, "blobs")?;
     write_list_front(out, 0)
@@ -140,7 +140,7 @@ fn write_blobs(out: &mut Octets) -> Result<(), Memory>
 
 /// Adds the revision of the commit before, or null.
 fn write_since(out: &mut Octets, past: &Option<Past>) -> Result<(), Memory>
-    ensures { OnOk result (out.new ≡ out.old ++ field_spelling (codes "since") (since_item past.now)) }
+    ensures { OnOk result (out.new ≡ out.old ++ field_encoding (codes "since") (since_item past.now)) }
 {
     match past {
         Some(past) => write_tid_field(out, "since", past.rev),
@@ -150,7 +150,7 @@ fn write_since(out: &mut Octets, past: &Option<Past>) -> Result<(), Memory>
 
 /// Adds the root of the commit before, where there is one.
 fn write_prev_data(out: &mut Octets, past: &Option<Past>) -> Result<(), Memory>
-    ensures { OnOk result (out.new ≡ out.old ++ fields_spelling (fields_of (prev_data past.now))) }
+    ensures { OnOk result (out.new ≡ out.old ++ fields_encoding (fields_of (prev_data past.now))) }
 {
     match past {
         Some(past) => write_link_field(out, "prevData", &past.data_root),
@@ -174,7 +174,7 @@ pub(crate) struct Stated<'a> {
 /// Adds the fields up to the DID.
 fn write_front(out: &mut Octets, stated: &Stated) -> Result<(), Memory>
     requires { stated.now.seq < 2 ^ 63 }
-    ensures { OnOk result (out.new ≡ out.old ++ fields_spelling (fields_of (front_fields (map op_of stated.now.changes.now) stated.now.rev stated.now.seq stated.now.did.now))) }
+    ensures { OnOk result (out.new ≡ out.old ++ fields_encoding (fields_of (front_fields (map op_of stated.now.changes.now) stated.now.rev stated.now.seq stated.now.did.now))) }
 {
     write_ops(out, stated.changes)?;
     write_tid_field(out, "rev", stated.rev)?;
@@ -184,7 +184,7 @@ fn write_front(out: &mut Octets, stated: &Stated) -> Result<(), Memory>
 
 /// Adds the fields from the time to the blocks.
 fn write_middle(out: &mut Octets, stated: &Stated) -> Result<(), Memory>
-    ensures { OnOk result (out.new ≡ out.old ++ fields_spelling (fields_of (middle_fields stated.now.past stated.now.blocks.now))) }
+    ensures { OnOk result (out.new ≡ out.old ++ fields_encoding (fields_of (middle_fields stated.now.past stated.now.blocks.now))) }
 {
     write_text_field(out, "time", TIME)?;
     write_blobs(out)?;
@@ -194,7 +194,7 @@ fn write_middle(out: &mut Octets, stated: &Stated) -> Result<(), Memory>
 
 /// Adds the fields behind the blocks.
 fn write_back(out: &mut Octets, stated: &Stated) -> Result<(), Memory>
-    ensures { OnOk result (out.new ≡ out.old ++ fields_spelling (fields_of (back_fields stated.now.past stated.now.commit))) }
+    ensures { OnOk result (out.new ≡ out.old ++ fields_encoding (fields_of (back_fields stated.now.past stated.now.commit))) }
 {
     write_link_field(out, "commit", &stated.commit)?;
     write_bool_field(out, "rebase", false)?;
@@ -214,7 +214,7 @@ fn write_count(out: &mut Octets, past: &Option<Past>) -> Result<(), Memory>
 
 /// Adds the header of a commit.
 fn write_header(out: &mut Octets) -> Result<(), Memory>
-    ensures { OnOk result (out.new ≡ out.old ++ spelling (header_of EventKind.Commit)) }
+    ensures { OnOk result (out.new ≡ out.old ++ encoding (header_of EventKind.Commit)) }
 {
     write_map_front(out, 2)?;
     write_text_field(out, "t", "#commit")?;
@@ -224,7 +224,7 @@ fn write_header(out: &mut Octets) -> Result<(), Memory>
 /// The message of a commit.
 pub(crate) fn message(alloc: Global, stated: &Stated) -> Result<Octets, Memory>
     requires { stated.now.seq < 2 ^ 63 }
-    ensures { IfOk result (λ message. message ≡ message_of EventKind.Commit (payload_of stated.now.did.now stated.now.seq stated.now.rev stated.now.past (map op_of stated.now.changes.now) stated.now.commit stated.now.blocks.now)) }
+    ensures { IfOk result (λ message. message ≡ event_message EventKind.Commit (payload_of stated.now.did.now stated.now.seq stated.now.rev stated.now.past (map op_of stated.now.changes.now) stated.now.commit stated.now.blocks.now)) }
 {
     let mut out = Octets::new(alloc);
     write_header(&mut out)?;

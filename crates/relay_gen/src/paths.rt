@@ -1,7 +1,7 @@
 //! The paths of records.
 
 ghost use Rattle.std.specs.Prelude.{◌≡◌, ◌<◌, ◌+◌, ◌/◌, ◌%◌, ◌++◌, ◌∷◌, [], OnOk, IfOk};
-ghost use Rattle.relay_gen.specs.Names.{path_of};
+ghost use Rattle.relay_gen.specs.Names.{generated_path};
 
 use at_cid::{Memory, Words};
 use std::alloc::Global;
@@ -15,9 +15,9 @@ fn push_digit(path: &mut Words, number: u32, unit: u32) -> Result<(), Memory>
 }
 
 /// The path of the record of a number: its last eight decimal digits.
-#[tactic(auto, unfolding(crate::specs::Names::path_of))]
+#[tactic(auto, unfolding(crate::specs::Names::generated_path))]
 pub(crate) fn path_of(alloc: Global, number: u32) -> Result<Words, Memory>
-    ensures { IfOk result (λ path. path ≡ path_of number) }
+    ensures { IfOk result (λ path. path ≡ generated_path number) }
 {
     let mut path = Words::from_str(alloc, "app.gen.item/")?;
     push_digit(&mut path, number, 10_000_000)?;

@@ -5,7 +5,7 @@ ghost use Rattle.mst_node.specs.NodeBytes.{node_bytes};
 ghost use Rattle.mst_view.specs.Layered.{LiesBelow, AllAt, below_items, rest_items, below_link, entries_of};
 
 use at_cid::{Cid, Memory, Octets, cid_of};
-use mst_node::{Entry, spell_node};
+use mst_node::{Entry, encode_node};
 use mst_view::{Below, Branch, Part, Rest, StubTree};
 use std::alloc::Global;
 use std::collections::VecDeque;
@@ -42,7 +42,7 @@ pub(crate) fn block_of(alloc: Global, first: &Below, rest: &[Part]) -> Result<Oc
 {
     let left = link_below(alloc, first)?;
     let entries = entries_of(alloc, rest)?;
-    spell_node(alloc, &left, entries.as_slice())
+    encode_node(alloc, &left, entries.as_slice())
 }
 
 /// The same below a node, each node of which knows its link.
@@ -111,7 +111,7 @@ fn settle_branch(alloc: Global, branch: Branch) -> Result<Branch, Memory>
     })
 }
 
-/// The same tree, each node of which knows its link: those that knew none are spelled, once.
+/// The same tree, each node of which knows its link: those that knew none are encoded, once.
 pub(crate) fn settled(alloc: Global, tree: StubTree) -> Result<StubTree, Memory>
     ensures { IfOk result (λ settled. settled ≡ tree) }
 {

@@ -9,3 +9,5 @@ pub mod MemoryMessages
 pub mod MemoryGuests
 pub mod Repositories
 pub mod MemoryRepos
+pub mod Exchanges
+pub mod MemoryExchanges

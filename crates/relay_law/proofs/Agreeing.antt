@@ -11,7 +11,7 @@ use Rattle.relay_row.specs.declared.taken.Taken.{Taken}
 use Rattle.account_state.specs.Folds.{account}
 use Rattle.relay_core.specs.Decide.{Checks, decided_event}
 use Rattle.relay_core.specs.Rows.{faulty_taken}
-use Rattle.relay_core.specs.Runs.{Message, Turn, passed_by, has_ended}
+use Rattle.relay_core.specs.Runs.{Message, Turn, skipped_by, has_ended}
 use Rattle.relay_core.specs.Worlds.{World, IsMadeIn, RunsIn, outside, outside_of}
 use Rattle.relay_core.specs.declared.decision.Pass.{Pass}
 use Rattle.relay_law.specs.Laws.{MergesAgree}
@@ -88,7 +88,7 @@ run_behind checks w [] J ended keys rows h = record {
   keys_are = sym (append-nil keys);
   have = subst (λ (R : List Row). HaveKeys checks w R []) (sym h) tt;
 }
-run_behind checks w (m ∷ messages) J ended keys rows h = turned checks w m messages (run_behind checks w messages) J ended keys rows (has_ended ended m.0) (passed_by J m) h
+run_behind checks w (m ∷ messages) J ended keys rows h = turned checks w m messages (run_behind checks w messages) J ended keys rows (has_ended ended m.0) (skipped_by J m) h
 
 -- ---- the rows of a host
 

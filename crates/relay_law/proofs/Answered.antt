@@ -19,7 +19,7 @@ use Rattle.event_checks.proofs.Firsts.{all_unmet}
 use Rattle.account_state.specs.declared.repo.Repo.{Repo}
 use Rattle.commit_check.specs.Laws.{IsDecided}
 use Rattle.commit_check.specs.Opening.{IsOpened}
-use Rattle.commit_check.specs.Order.{Holds, StopsPast}
+use Rattle.commit_check.specs.Order.{HoldsCommit, StopsPast}
 use Rattle.commit_check.specs.Step.{is_gap, root_before, Leads}
 use Rattle.commit_check.specs.declared.opened.Opened.{Opened}
 use Rattle.commit_check.proofs.Decided.{link_decided}
@@ -39,7 +39,7 @@ use Rattle.relay_law.specs.Right.{LinksRight, expect_of}
 same_some : {A : Type 0} (x y : A) → Some x ≡ Some y → x ≡ y
 same_some x y e = cc
 
-same_head : (x y : Head) → x.rev ≡ y.rev → x.data_root ≡ y.data_root → x.commit ≡ y.commit → x ≡ y
+pub same_head : (x y : Head) → x.rev ≡ y.rev → x.data_root ≡ y.data_root → x.commit ≡ y.commit → x ≡ y
 same_head x y rev data_root commit =
     let R : ℕ → Head = λ n. record { rev = n; data_root = x.data_root; commit = x.commit } in
     let D : List ℕ → Head = λ d. record { rev = y.rev; data_root = d; commit = x.commit } in
@@ -65,7 +65,7 @@ rev_is : (did : List ℕ) (rev : ℕ) (commit : Commit) → is_commit_of did rev
 rev_is did rev commit h = eqb-true commit.rev rev (and_parts (bytes_eq commit.did did) (commit.rev == rev) h).1
 
 -- the head in a CAR is one
-same_top : (car : CarResult) (rev : ℕ) (head : Head) (link : List ℕ) (commit : Commit) → IsHeadIn car rev head → root_in car ≡ Some link → object_in car ≡ Some commit
+pub same_top : (car : CarResult) (rev : ℕ) (head : Head) (link : List ℕ) (commit : Commit) → IsHeadIn car rev head → root_in car ≡ Some link → object_in car ≡ Some commit
     → (head.rev ≡ rev) × (head.data_root ≡ commit.data_root) × (head.commit ≡ link)
 same_top car rev head link commit top root object =
     let same = same_some top.commit commit (sym top.found.object_is ∙ object) in
@@ -101,13 +101,13 @@ module _ (checks : Checks) (opens : OpensRight checks) where
       told.1 ∙ ap (λ (h : Head). Ok h) (same_head told.0 (H found) (same.0 ∙ sym (rev_is s.did s.rev is.commit own) ∙ sym (ap (λ (f : Found). f.head.rev) is.found_is)) (same.1 ∙ sym (ap (λ (f : Found). f.head.data_root) is.found_is)) (same.2 ∙ sym (ap (λ (f : Found). f.head.commit) is.found_is)))
 
 -- linking a commit of which a CAR was read passes, or one refusal stops it
-pub linking_decided : (gap : Bool) (e : Seen) (c : CommitEvent) (former : List ℕ) (h : Holds c) → IsEvent e → e.body ≡ Body.Commit c
+pub linking_decided : (gap : Bool) (e : Seen) (c : CommitEvent) (former : List ℕ) (h : HoldsCommit c) → IsEvent e → e.body ≡ Body.Commit c
     → IsDecided ((gap ≡ false) × Leads c h.blocks former h.commit.data_root) (StopsPast gap c h.blocks former h.commit.data_root)
 linking_decided gap e c former h read body =
     let all = car_linked c.blocks h.roots h.blocks (commit_read e c read body).blocks.1 h.car in
     link_decided gap c h.blocks former h.commit.data_root (under_links h.blocks all) (data_held c h all)
 
-module _ (checks : Checks) (links : LinksRight checks) (e : Seen) (c : CommitEvent) (repo : Repo) (h : Holds c) (read : IsEvent e) (body : e.body ≡ Body.Commit c) where
+module _ (checks : Checks) (links : LinksRight checks) (e : Seen) (c : CommitEvent) (repo : Repo) (h : HoldsCommit c) (read : IsEvent e) (body : e.body ≡ Body.Commit c) where
   abbrev gap : Bool
   gap = is_gap c (expect_of repo)
 

@@ -6,7 +6,7 @@ use Rattle.std.specs.List.{list_all, list_any}
 use Rattle.std.specs.Prelude.{◌==◌}
 use Rattle.at_event.specs.Refusals.{code_of}
 use Rattle.at_event.specs.declared.refusal.Refusal.{Refusal}
-use Rattle.relay_row.specs.Folds.{folded, names, did_in, is_named}
+use Rattle.relay_row.specs.Folds.{folded, names, did_of_row, is_named}
 use Rattle.relay_row.specs.Journal.{IsJournal, is_carried_row}
 use Rattle.relay_row.specs.Rules.{loses}
 use Rattle.relay_row.specs.declared.carried.Carried.{Carried}
@@ -100,7 +100,7 @@ unfolding root_now
 carried_linked did [] ys all r h = h
 carried_linked did (x ∷ xs) ys all r h =
     let both = and_parts (is_carried_row x) (list_all is_carried_row xs) all in
-    carry_by did xs ys r (λ q k. carried_linked did xs ys both.1 q k) (part_of did x) (λ m d e. carried_no x m d both.0 (some_name (names did (did_in x)) (part_in x) m d e).1) h
+    carry_by did xs ys r (λ q k. carried_linked did xs ys both.1 q k) (part_of did x) (λ m d e. carried_no x m d both.0 (some_name (names did (did_of_row x)) (part_in x) m d e).1) h
 
 -- ---- of an account that is lost nothing is accepted before a base
 
@@ -147,10 +147,10 @@ rebase_by did row rows more before r s journal named gone known (rests d) e h = 
 rebase_by did row rows more before r s journal named gone known nothing e h =
     let P : List Row → Type 0 = λ R. IsJournal R in
     let Q : State → Type 0 = λ a. IsGone a.repo in
-    let still : is_named did (before ++ row ∷ []) ≡ true = named_more did before row ∙ ap (λ (b : Bool). b || names did (did_in row)) named in
-    let new : names did (did_in row) ≡ true → is_account row ≡ true → ⊥ = λ its is. false≢true (sym (kept_order did before row (journal.ordered before row rows refl) is its) ∙ named) in
+    let still : is_named did (before ++ row ∷ []) ≡ true = named_more did before row ∙ ap (λ (b : Bool). b || names did (did_of_row row)) named in
+    let new : names did (did_of_row row) ≡ true → is_account row ≡ true → ⊥ = λ its is. false≢true (sym (kept_order did before row (journal.ordered before row rows refl) is its) ∙ named) in
     more (before ++ row ∷ []) r s (subst P (sym (append_assoc before (row ∷ []) rows)) journal) still
-    (subst Q (sym (joined did before (row ∷ []))) (named_stays (names did (did_in row)) (account did before) row e new gone)) known.1 h
+    (subst Q (sym (joined did before (row ∷ []))) (named_stays (names did (did_of_row row)) (account did before) row e new gone)) known.1 h
 
 rebased : (did : List ℕ) (rows : List Row) → Rebases did rows
 rebased did [] before r s journal named gone known h = (tt, tt)
@@ -159,16 +159,16 @@ rebased did (row ∷ rows) before r s journal named gone known h =
 
 -- ---- together
 
-unnamed_from : (did : List ℕ) (a : State) (rows : List Row) → list_any (λ row. names did (did_in row)) rows ≡ false → folded (account_after did) a rows ≡ a
+unnamed_from : (did : List ℕ) (a : State) (rows : List Row) → list_any (λ row. names did (did_of_row row)) rows ≡ false → folded (account_after did) a rows ≡ a
 unnamed_from did a [] h = refl
 unnamed_from did a (row ∷ rows) h =
-    let both = or_parts (names did (did_in row)) (list_any (λ r. names did (did_in r)) rows) h in
+    let both = or_parts (names did (did_of_row row)) (list_any (λ r. names did (did_of_row r)) rows) h in
     ap (λ (b : Bool). folded (account_after did) (cond b (moved a row) a) rows) both.0 ∙ unnamed_from did a rows both.1
 
 gone_named : (did : List ℕ) (rows : List Row) → IsGone (account did rows).repo → is_named did rows ≡ true
 unfolding account is_named
 gone_named did rows gone =
-    elim (list_any (λ row. names did (did_in row)) rows) as (λ b. list_any (λ row. names did (did_in row)) rows ≡ b → b ≡ true) [
+    elim (list_any (λ row. names did (did_of_row row)) rows) as (λ b. list_any (λ row. names did (did_of_row row)) rows ≡ b → b ≡ true) [
       | true ↦ λ e. refl
       | false ↦ λ e. let none : Repo.Missing ≡ Repo.Lost gone.0 = ap (λ (a : State). a.repo) (sym (unnamed_from did fresh rows e)) ∙ gone.1 in absurd cc
     ] refl

@@ -15,7 +15,7 @@ use Rattle.event_checks.specs.Opening.{CarResult, block_in, object_in, root_in, 
 use Rattle.event_checks.specs.Table.{car_in, open_lines, sync_lines}
 use Rattle.event_checks.proofs.Firsts.{all_unmet}
 use Rattle.account_state.specs.declared.repo.Repo.{Repo}
-use Rattle.commit_check.specs.Order.{Holds, StopsPast}
+use Rattle.commit_check.specs.Order.{HoldsCommit, StopsPast}
 use Rattle.commit_check.specs.Step.{is_gap, root_before, Leads}
 use Rattle.commit_check.proofs.Decided.{link_decided}
 use Rattle.commit_check.proofs.Formed.{commit_read}
@@ -104,7 +104,7 @@ bytes_or (b ∷ bytes) = go (ltb b 256) refl (bytes_or bytes)
     go true low (inr n) = inr (λ h. n (λ i. h (suc i)))
     go false high rest = inr (λ h. false≢true (sym high ∙ lt-ltb b 256 (h 0)))
 
-holds_or : (c : CommitEvent) (car : CarResult) → car_in c ≡ car → (o : Option Commit) → object_in (car_in c) ≡ o → Holds c ⊎ (Holds c → ⊥)
+holds_or : (c : CommitEvent) (car : CarResult) → car_in c ≡ car → (o : Option Commit) → object_in (car_in c) ≡ o → HoldsCommit c ⊎ (HoldsCommit c → ⊥)
 holds_or c (Ok (roots, blocks)) is (Some commit) object = inl (record { roots = roots; blocks = blocks; commit = commit; car = is; object = object })
 holds_or c (Ok (roots, blocks)) is None object = inr (λ h. let same : None ≡ Some h.commit = sym object ∙ h.object in absurd cc)
 holds_or c (Err fault) is o object = inr (λ h. let same = sym is ∙ h.car in absurd cc)
@@ -112,34 +112,34 @@ holds_or c (Err fault) is o object = inr (λ h. let same = sym is ∙ h.car in a
 -- a right answer to linking a commit
 record IsLinking (c : CommitEvent) (repo : Repo) (answer : Option Refusal) : Type 0 where
   no_gap : answer ≡ None → is_gap c (expect_of repo) ≡ false
-  leads : (h : Holds c) → IsBytes c.blocks → answer ≡ None → Leads c h.blocks (root_before (expect_of repo)) h.commit.data_root
-  stops : (h : Holds c) (refusal : Refusal) → IsBytes c.blocks → answer ≡ Some refusal → StopsPast (is_gap c (expect_of repo)) c h.blocks (root_before (expect_of repo)) h.commit.data_root refusal
+  leads : (h : HoldsCommit c) → IsBytes c.blocks → answer ≡ None → Leads c h.blocks (root_before (expect_of repo)) h.commit.data_root
+  stops : (h : HoldsCommit c) (refusal : Refusal) → IsBytes c.blocks → answer ≡ Some refusal → StopsPast (is_gap c (expect_of repo)) c h.blocks (root_before (expect_of repo)) h.commit.data_root refusal
 
 same_some : (x y : Refusal) → Some x ≡ Some y → x ≡ y
 same_some x y e = cc
 
 -- one that is never asked for
-unasked : (c : CommitEvent) (repo : Repo) → (Holds c → IsBytes c.blocks → ⊥) → IsLinking c repo (Some Refusal.Gap)
+unasked : (c : CommitEvent) (repo : Repo) → (HoldsCommit c → IsBytes c.blocks → ⊥) → IsLinking c repo (Some Refusal.Gap)
 unasked c repo never = record {
   no_gap = λ e. absurd cc;
   leads = λ h bytes e. absurd (never h bytes);
   stops = λ h refusal bytes e. absurd (never h bytes);
 }
 
-module _ (c : CommitEvent) (repo : Repo) (h : Holds c) where
+module _ (c : CommitEvent) (repo : Repo) (h : HoldsCommit c) where
   abbrev gap : Bool
   gap = is_gap c (expect_of repo)
 
   abbrev former : List ℕ
   former = root_before (expect_of repo)
 
-  leads_in : (g : Holds c) → Leads c h.blocks former h.commit.data_root → Leads c g.blocks former g.commit.data_root
+  leads_in : (g : HoldsCommit c) → Leads c h.blocks former h.commit.data_root → Leads c g.blocks former g.commit.data_root
   leads_in g leads =
       let P : BlockMap → Type 0 = λ b. Leads c b former h.commit.data_root in
       let Q : List ℕ → Type 0 = λ d. Leads c g.blocks former d in
       subst Q (same_data c h g) (subst P (same_blocks c h g) leads)
 
-  stops_in : (g : Holds c) (refusal : Refusal) → StopsPast gap c h.blocks former h.commit.data_root refusal → StopsPast gap c g.blocks former g.commit.data_root refusal
+  stops_in : (g : HoldsCommit c) (refusal : Refusal) → StopsPast gap c h.blocks former h.commit.data_root refusal → StopsPast gap c g.blocks former g.commit.data_root refusal
   stops_in g refusal stops =
       let P : BlockMap → Type 0 = λ b. StopsPast gap c b former h.commit.data_root refusal in
       let Q : List ℕ → Type 0 = λ d. StopsPast gap c g.blocks former d refusal in
@@ -168,7 +168,7 @@ module _ (c : CommitEvent) (repo : Repo) (h : Holds c) where
       let all = car_linked c.blocks h.roots h.blocks bytes h.car in
       linking_by ((link_decided gap c h.blocks former h.commit.data_root (under_links h.blocks all) (data_held c h all)).some)
 
-linking : (c : CommitEvent) (repo : Repo) → Holds c ⊎ (Holds c → ⊥) → IsBytes c.blocks ⊎ (IsBytes c.blocks → ⊥) → (answer : Option Refusal) × IsLinking c repo answer
+linking : (c : CommitEvent) (repo : Repo) → HoldsCommit c ⊎ (HoldsCommit c → ⊥) → IsBytes c.blocks ⊎ (IsBytes c.blocks → ⊥) → (answer : Option Refusal) × IsLinking c repo answer
 linking c repo (inl h) (inl bytes) = linking_of_bytes c repo h bytes
 linking c repo (inl h) (inr n) = (Some Refusal.Gap, unasked c repo (λ g bytes. n bytes))
 linking c repo (inr n) bytes = (Some Refusal.Gap, unasked c repo (λ g bytes. n g))

@@ -10,12 +10,12 @@ use Rattle.at_event.specs.declared.refusal.Refusal.{Refusal}
 use Rattle.relay_row.specs.Folds.{cursor, last_seq, seq_in}
 use Rattle.relay_row.specs.Journal.{IsJournal}
 use Rattle.relay_row.specs.declared.fetched.Fetched.{Fetched}
-use Rattle.relay_row.specs.declared.limits.TheConstants.{NUMBERS}
+use Rattle.at_cid.specs.declared.limits.TheConstants.{NUMBERS}
 use Rattle.relay_row.specs.declared.row.Row.{Row}
 use Rattle.relay_row.specs.declared.taken.Taken.{Taken}
 use Rattle.account_state.specs.Folds.{account, last_rev}
 use Rattle.account_state.specs.State.{State}
-use Rattle.relay_core.specs.Decide.{Checks, Found, absent, unfit, found, Outside, answers, as_result, decided_event, decision_for, made, old_if, refusal_of}
+use Rattle.relay_core.specs.Decide.{Checks, Found, absent, unfit, found, Outside, answers, as_result, decided_event, decision_for, fetched_as, old_if, refusal_of}
 use Rattle.relay_core.specs.Opening.{IsHeadOf, OpensRight, shown_alone}
 use Rattle.relay_core.specs.Rows.{faulty_taken}
 use Rattle.relay_core.specs.Table.{next_of, refusal_in}
@@ -37,7 +37,7 @@ linked_is : (o : Option Refusal) (r : Refusal) → Some (as_result o) ≡ Some (
 linked_is None r h = absurd cc
 linked_is (Some q) r h = let same : q ≡ r = cc in ap (λ (x : Refusal). Some x) same
 
-found_behind : (last : ℕ) (e : Seen) (f : Found) → IsFormedFound last e.did e.time f → IsFetchedBehind last (made last e f)
+found_behind : (last : ℕ) (e : Seen) (f : Found) → IsFormedFound last e.did e.time f → IsFetchedBehind last (fetched_as last e f)
 found_behind last e absent h = tt
 found_behind last e (unfit n) h = h
 found_behind last e (found head records block) h = record { seq = refl; head = h.0; records = h.1; message = h.2 }
@@ -51,7 +51,7 @@ answers_right checks opens links last a e o read formed = record {
       subst P same (opened_as e.body (last_rev a.repo) (checks.opens e (last_rev a.repo)) (opens.refusal e (last_rev a.repo)) (λ head. opens.head e (last_rev a.repo) head));
   linked = λ c h r body is. links.stops e c a.repo h r read body (linked_is (checks.links e a.repo) r is);
   fetched = λ f is.
-      let same : made last e o.fetched ≡ f = cc in
+      let same : fetched_as last e o.fetched ≡ f = cc in
       let P : Fetched → Type 0 = λ g. IsFetchedBehind last g in
       subst P same (found_behind last e o.fetched formed.1);
 }

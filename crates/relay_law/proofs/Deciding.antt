@@ -7,7 +7,7 @@ use Rattle.std.proofs.Math.Nat.{min-eq_right}
 use Rattle.at_event.specs.Events.{IsEvent}
 use Rattle.at_event.specs.Refusals.{code_of}
 use Rattle.at_event.specs.Seen.{Seen}
-use Rattle.at_event.specs.Table.{kind_of as event_kind}
+use Rattle.at_event.specs.Table.{event_kind_of as event_kind}
 use Rattle.at_event.specs.Writing.{with_seq, out_of, out_length}
 use Rattle.at_event.specs.declared.event.Body.{Body}
 use Rattle.at_event.specs.declared.frame.Frame.{Frame}
@@ -16,19 +16,19 @@ use Rattle.at_event.specs.declared.refusal.Refusal.{Refusal}
 use Rattle.at_event.proofs.Formed.{events_formed}
 use Rattle.at_event.proofs.OutLengths.{less_of, most_bytes}
 use Rattle.at_event.proofs.Renumbered.{with_seq_fits}
-use Rattle.relay_row.specs.Folds.{cursor, events_of, last_seq, seq_of, seq_in}
-use Rattle.relay_row.specs.Journal.{IsJournal, is_above, keeps_order}
+use Rattle.relay_row.specs.Folds.{cursor, events_of, last_seq, first_seq, seq_in}
+use Rattle.relay_row.specs.Journal.{IsJournal, rises_above, keeps_order}
 use Rattle.relay_row.specs.Rules.{is_about, is_accepted, is_decided, is_detail, is_effect, is_fetched, is_head, is_message, is_moment, is_number, is_positive, is_refused, is_row, is_status, is_taken, is_whole, loses, names_did, names_host}
 use Rattle.relay_row.specs.declared.fetched.Fetched.{Fetched}
 use Rattle.relay_row.specs.declared.fetched.Whole.{Whole}
-use Rattle.relay_row.specs.declared.limits.TheConstants.{NUMBERS}
+use Rattle.at_cid.specs.declared.limits.TheConstants.{NUMBERS}
 use Rattle.relay_row.specs.declared.row.Row.{Row}
 use Rattle.relay_row.specs.declared.taken.Effect.{Effect}
 use Rattle.relay_row.specs.declared.taken.Taken.{Taken}
 use Rattle.relay_row.proofs.Journals.{grows}
 use Rattle.account_state.specs.Folds.{account, last_rev}
 use Rattle.relay_core.specs.Opening.{IsHeadOf}
-use Rattle.relay_core.specs.Rows.{kind_of, head_effect, effect_of, fetched_of, event_taken, faulty_taken, row_of}
+use Rattle.relay_core.specs.Rows.{kind_number, head_effect, effect_of, fetched_of, event_taken, faulty_taken, row_of}
 use Rattle.relay_core.specs.Table.{told, Walk, waits, refuses, passes, walk, when, body_lines, event_lines, is_held, after_fetch, refused, next_at, next_of, did_of}
 use Rattle.relay_core.specs.declared.answers.Answers.{Answers}
 use Rattle.relay_core.specs.declared.decision.Decision.{Decision}
@@ -40,12 +40,12 @@ use Rattle.relay_law.specs.Laws.{MadeRowsAreFormed}
 use Rattle.relay_law.proofs.EventForms.{IsBodyKept, event_kept}
 use Rattle.relay_law.proofs.Heads.{found_head, accounts_are_formed}
 use Rattle.relay_law.proofs.Refusals.{is_kept}
-use Rattle.relay_law.proofs.Spelled.{message_formed}
+use Rattle.relay_law.proofs.Encoded.{message_formed}
 use Rattle.relay_law.proofs.Walking.{AllPass, all_pass, event_refused, moment_there, not_met, opened_head}
 
 -- ---- numbers
 
-pub next_above : (last n : ℕ) → n ≡ last + 1 → is_above last n ≡ true
+pub next_above : (last n : ℕ) → n ≡ last + 1 → rises_above last n ≡ true
 next_above last n is = rw (lt-ltb last n (omega (arith, is)), ne_eqb n 0 (λ zero. omega (arith, is, zero))) refl
 
 pub positive_next : (last n : ℕ) → n ≡ last + 1 → n < NUMBERS → is_positive n ≡ true
@@ -55,7 +55,7 @@ above_cursor : (seq cursor : ℕ) → nat_le seq cursor ≡ false → nat_lt cur
 above_cursor seq cursor h = lt-ltb cursor seq (leb-false seq cursor h)
 
 -- the number of a row that sends its own message
-sent_seq : (last n : ℕ) (message : List ℕ) (others : List (ℕ × List ℕ)) → n ≡ last + 1 → seq_of (cond (eqb n 0) others ((n, message) ∷ [])) ≡ n
+sent_seq : (last n : ℕ) (message : List ℕ) (others : List (ℕ × List ℕ)) → n ≡ last + 1 → first_seq (cond (eqb n 0) others ((n, message) ∷ [])) ≡ n
 sent_seq last n message others is = rw (ne_eqb n 0 (λ zero. omega (arith, is, zero))) refl
 
 -- ---- the message that goes out
@@ -89,13 +89,13 @@ whole_kept last w h below =
     (and_from (is_head w.head) (is_number w.records && is_message w.message) h.head (and_from (is_number w.records) (is_message w.message) (lt-ltb w.records NUMBERS h.records) h.message))
 
 -- a fetch that was made after a refusal may stand in its row
-fetch_kept : (last : ℕ) (f : Fetched) → IsFetchedBehind last f → seq_of (events_of f) < NUMBERS → is_fetched true true f ≡ true
+fetch_kept : (last : ℕ) (f : Fetched) → IsFetchedBehind last f → first_seq (events_of f) < NUMBERS → is_fetched true true f ≡ true
 fetch_kept last Fetched.NotAsked h below = absurd h
 fetch_kept last Fetched.Absent h below = refl
 fetch_kept last (Fetched.Refused n) h below = h
 fetch_kept last (Fetched.Whole w) h below = whole_kept last w h below
 
-fetch_above : (last : ℕ) (f : Fetched) → IsFetchedBehind last f → is_above last (seq_of (events_of f)) ≡ true
+fetch_above : (last : ℕ) (f : Fetched) → IsFetchedBehind last f → rises_above last (first_seq (events_of f)) ≡ true
 fetch_above last Fetched.NotAsked h = absurd h
 fetch_above last Fetched.Absent h = refl
 fetch_above last (Fetched.Refused n) h = refl
@@ -105,25 +105,25 @@ fetch_above last (Fetched.Whole w) h = next_above last w.seq h.seq
 
 -- the row of a refused event
 abbrev refused_taken : List ℕ → ℕ → List ℕ → Body → Refusal → Fetched → Option ℕ → Taken
-refused_taken host seq did body r f m = record { host = host; host_seq = seq; did = did; kind = kind_of body; refusal = Some r; seq = 0; message = []; effect = Effect.Nothing; fetched = f; moment = m }
+refused_taken host seq did body r f m = record { host = host; host_seq = seq; did = did; kind = kind_number body; refusal = Some r; seq = 0; message = []; effect = Effect.Nothing; fetched = f; moment = m }
 
 -- the row of an accepted event
 abbrev accepted_taken : List ℕ → ℕ → List ℕ → Body → ℕ → List ℕ → Effect → Option ℕ → Taken
-accepted_taken host seq did body n message effect m = record { host = host; host_seq = seq; did = did; kind = kind_of body; refusal = None; seq = n; message = message; effect = effect; fetched = Fetched.NotAsked; moment = m }
+accepted_taken host seq did body n message effect m = record { host = host; host_seq = seq; did = did; kind = kind_number body; refusal = None; seq = n; message = message; effect = effect; fetched = Fetched.NotAsked; moment = m }
 
-named : (body : Body) (did : List ℕ) → names_did did ≡ true → is_about (kind_of body) did ≡ true
+named : (body : Body) (did : List ℕ) → names_did did ≡ true → is_about (kind_number body) did ≡ true
 named (Body.Commit c) did h = h
 named (Body.Sync s) did h = h
 named Body.Identity did h = h
 named (Body.Account b) did h = h
 
-kind_few : (body : Body) → nat_le (kind_of body) 4 ≡ true
+kind_few : (body : Body) → nat_le (kind_number body) 4 ≡ true
 kind_few (Body.Commit c) = refl
 kind_few (Body.Sync s) = refl
 kind_few Body.Identity = refl
 kind_few (Body.Account b) = refl
 
-kind_read : (body : Body) (b : Bool) → b ≡ false → beq (kind_of body == 0) b ≡ true
+kind_read : (body : Body) (b : Bool) → b ≡ false → beq (kind_number body == 0) b ≡ true
 kind_read (Body.Commit c) b h = rw h refl
 kind_read (Body.Sync s) b h = rw h refl
 kind_read Body.Identity b h = rw h refl
@@ -155,19 +155,19 @@ refused_formed host seq did body r f m of_host below of_did moment kept fetched 
     taken_from (refused_taken host seq did body r f (Some m)) of_host below (named body did of_did) (lt-ltb m NUMBERS moment)
     (and_from (is_detail r && (nat_le (code_of r) 24 || (code_of r == 25 && true))) _
     (and_from (is_detail r) (nat_le (code_of r) 24 || (code_of r == 25 && true)) parts.0 (or_timed (nat_le (code_of r) 24) (code_of r == 25) codes.0))
-    (and_from (nat_le (kind_of body) 4) _ (kind_few body)
-    (and_from (beq (kind_of body == 0) (code_of r == 1)) _ (kind_read body (code_of r == 1) (not_true (code_of r == 1) codes.1))
+    (and_from (nat_le (kind_number body) 4) _ (kind_few body)
+    (and_from (beq (kind_number body == 0) (code_of r == 1)) _ (kind_read body (code_of r == 1) (not_true (code_of r == 1) codes.1))
     (and_from (is_fetched (loses (code_of r)) true f) true fetched refl))))
 
 either_true : (a b : Bool) → a ≡ true → a || b ≡ true
 either_true a b h = rw h refl
 
 sent_formed : (host : List ℕ) (seq : ℕ) (did : List ℕ) (body : Body) (n : ℕ) (message : List ℕ) (effect : Effect) (m : ℕ) → names_host host ≡ true → seq < NUMBERS → names_did did ≡ true → m < NUMBERS
-    → is_effect (kind_of body) effect ≡ true → is_positive n ≡ true → is_message message ≡ true → is_taken (accepted_taken host seq did body n message effect (Some m)) ≡ true
+    → is_effect (kind_number body) effect ≡ true → is_positive n ≡ true → is_message message ≡ true → is_taken (accepted_taken host seq did body n message effect (Some m)) ≡ true
 unfolding is_accepted
 sent_formed host seq did body n message effect m of_host below of_did moment is number sent =
     taken_from (accepted_taken host seq did body n message effect (Some m)) of_host below (named body did of_did) (lt-ltb m NUMBERS moment)
-    (and_from (is_effect (kind_of body) effect) _ is (either_true (is_positive n && is_message message) _ (and_from (is_positive n) (is_message message) number sent)))
+    (and_from (is_effect (kind_number body) effect) _ is (either_true (is_positive n && is_message message) _ (and_from (is_positive n) (is_message message) number sent)))
 
 held_formed : (host : List ℕ) (seq : ℕ) (did : List ℕ) (active : Bool) (status : Option (List ℕ)) (m : ℕ) → names_host host ≡ true → seq < NUMBERS → names_did did ≡ true → m < NUMBERS → is_status status ≡ true
     → is_taken (accepted_taken host seq did (Body.Account (record { active = active; status = status })) 0 [] (Effect.Account active status) (Some m)) ≡ true
@@ -205,15 +205,15 @@ refused_done r o d h =
       | false ↦ λ known e. record { gives = false; is = done_is _ d e; fetch = λ t. absurd cc }
     ] refl h
 
-fetched_kept : (last : ℕ) (r : Refusal) (o : Option Fetched) → (loses (code_of r) ≡ true → (f : Fetched) × (o ≡ Some f)) → ((f : Fetched) → o ≡ Some f → IsFetchedBehind last f) → seq_of (events_of (fetched_of (Some r) o)) < NUMBERS
-    → (is_fetched (loses (code_of r)) true (fetched_of (Some r) o) ≡ true) × (is_above last (seq_of (events_of (fetched_of (Some r) o))) ≡ true)
+fetched_kept : (last : ℕ) (r : Refusal) (o : Option Fetched) → (loses (code_of r) ≡ true → (f : Fetched) × (o ≡ Some f)) → ((f : Fetched) → o ≡ Some f → IsFetchedBehind last f) → first_seq (events_of (fetched_of (Some r) o)) < NUMBERS
+    → (is_fetched (loses (code_of r)) true (fetched_of (Some r) o) ≡ true) × (rises_above last (first_seq (events_of (fetched_of (Some r) o))) ≡ true)
 fetched_kept last r None there behind below =
-    elim (loses (code_of r)) as (λ b. loses (code_of r) ≡ b → (is_fetched b true Fetched.NotAsked ≡ true) × (is_above last 0 ≡ true)) [
+    elim (loses (code_of r)) as (λ b. loses (code_of r) ≡ b → (is_fetched b true Fetched.NotAsked ≡ true) × (rises_above last 0 ≡ true)) [
       | true ↦ λ known. let found : None ≡ Some (there known).0 = (there known).1 in absurd cc
       | false ↦ λ known. (refl, refl)
     ] refl
 fetched_kept last r (Some f) there behind below =
-    elim (loses (code_of r)) as (λ b. seq_of (events_of (cond b f Fetched.NotAsked)) < NUMBERS → (is_fetched b true (cond b f Fetched.NotAsked) ≡ true) × (is_above last (seq_of (events_of (cond b f Fetched.NotAsked))) ≡ true)) [
+    elim (loses (code_of r)) as (λ b. first_seq (events_of (cond b f Fetched.NotAsked)) < NUMBERS → (is_fetched b true (cond b f Fetched.NotAsked) ≡ true) × (rises_above last (first_seq (events_of (cond b f Fetched.NotAsked))) ≡ true)) [
       | true ↦ λ lt. (fetch_kept last f (behind f refl) lt, fetch_above last f (behind f refl))
       | false ↦ λ lt. (refl, refl)
     ] below
@@ -225,7 +225,7 @@ module _ (J : List Row) (host : List ℕ) (e : Seen) (x : Answers) (of_host : na
   above_it : nat_lt (cursor host J) e.seq ≡ true
   above_it = above_cursor e.seq (cursor host J) above
 
-  refused_row : (r : Refusal) → is_kept r ≡ true → (loses (code_of r) ≡ true → (f : Fetched) × (x.fetched ≡ Some f)) → seq_of (events_of (fetched_of (Some r) x.fetched)) < NUMBERS
+  refused_row : (r : Refusal) → is_kept r ≡ true → (loses (code_of r) ≡ true → (f : Fetched) × (x.fetched ≡ Some f)) → first_seq (events_of (fetched_of (Some r) x.fetched)) < NUMBERS
       → StandsBehind J (Row.Taken (refused_taken host e.seq e.did e.body r (fetched_of (Some r) x.fetched) x.moment))
   unfolding is_row
   refused_row r kept there below =
@@ -236,8 +236,8 @@ module _ (J : List Row) (host : List ℕ) (e : Seen) (x : Answers) (of_host : na
       )
 
   -- what an accepted event that goes out is to its row
-  sent_row : (body : Body) (effect : Effect) → is_effect (kind_of body) effect ≡ true → nat_lt LONGEST_MESSAGE (out_length e) ≡ false
-      → seq_of (cond (eqb (last_seq J + 1) 0) [] ((last_seq J + 1, out_of e (last_seq J + 1)) ∷ [])) < NUMBERS
+  sent_row : (body : Body) (effect : Effect) → is_effect (kind_number body) effect ≡ true → nat_lt LONGEST_MESSAGE (out_length e) ≡ false
+      → first_seq (cond (eqb (last_seq J + 1) 0) [] ((last_seq J + 1, out_of e (last_seq J + 1)) ∷ [])) < NUMBERS
       → StandsBehind J (Row.Taken (accepted_taken host e.seq e.did body (last_seq J + 1) (out_of e (last_seq J + 1)) effect x.moment))
   unfolding is_row
   sent_row body effect fits short below =
@@ -246,7 +246,7 @@ module _ (J : List Row) (host : List ℕ) (e : Seen) (x : Answers) (of_host : na
       let lt : n < NUMBERS = subst (λ (k : ℕ). k < NUMBERS) same below in
       let P : Option ℕ → Type 0 = λ o. is_taken (accepted_taken host e.seq e.did body n (out_of e n) effect o) ≡ true in (
         subst P (sym moment) (sent_formed host e.seq e.did body n (out_of e n) effect m of_host seq_fits (event_kept e is).0 (right.moment m moment) fits (positive_next (last_seq J) n refl lt) (out_formed e n is lt short)),
-        and_from (nat_lt (cursor host J) e.seq) _ above_it (subst (λ (k : ℕ). is_above (last_seq J) k ≡ true) (sym same) (next_above (last_seq J) n refl)),
+        and_from (nat_lt (cursor host J) e.seq) _ above_it (subst (λ (k : ℕ). rises_above (last_seq J) k ≡ true) (sym same) (next_above (last_seq J) n refl)),
       )
 
   held_row : (active : Bool) (status : Option (List ℕ)) → is_status status ≡ true
@@ -268,7 +268,7 @@ module _ (J : List Row) (host : List ℕ) (e : Seen) (x : Answers) (of_host : na
       subst Q (sym opened) (fine, fine)
 
   accepted_row : (body : Body) → e.body ≡ body → IsBodyKept body → AllPass (body_lines (account e.did J) body x) → nat_lt LONGEST_MESSAGE (out_length e) ≡ false → (held : Bool) → is_held (account e.did J) body ≡ held
-      → seq_of (cond (eqb (cond (not held) (last_seq J + 1) 0) 0) [] ((cond (not held) (last_seq J + 1) 0, cond (not held) (out_of e (last_seq J + 1)) []) ∷ [])) < NUMBERS
+      → first_seq (cond (eqb (cond (not held) (last_seq J + 1) 0) 0) [] ((cond (not held) (last_seq J + 1) 0, cond (not held) (out_of e (last_seq J + 1)) []) ∷ [])) < NUMBERS
       → StandsBehind J (Row.Taken (accepted_taken host e.seq e.did body (cond (not held) (last_seq J + 1) 0) (cond (not held) (out_of e (last_seq J + 1)) []) (effect_of body x) x.moment))
   accepted_row (Body.Commit c) same forms pass short false held below =
       let head = opened_head x.opened pass.1.1.1.0 in

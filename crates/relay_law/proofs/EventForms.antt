@@ -7,17 +7,17 @@ use Rattle.std.proofs.lemmas.Bool.{and_parts, and_from, eqb-true, le-leb}
 use Rattle.at_cid.specs.Link.{IsBytes}
 use Rattle.at_cbor.specs.Item.{Item}
 use Rattle.at_cbor.specs.Kinds.{text_in, bytes_in, field_of}
-use Rattle.at_cbor.specs.Spelling.{IsText}
+use Rattle.at_cbor.specs.Encoding.{IsText}
 use Rattle.at_cbor.specs.Taking.{◌>>=◌}
 use Rattle.at_syntax.specs.Did.{is_did}
-use Rattle.at_syntax.specs.Tid.{IsTid, is_tid, is_tid_character, is_first_character, value_of, tid_of}
+use Rattle.at_syntax.specs.Tid.{IsTid, is_tid, is_tid_character, is_first_character, tid_value, tid_of}
 use Rattle.at_syntax.proofs.Tids.{value_below}
 use Rattle.at_form.specs.Forms.{did_in, tid_in, short_text_in, node_in, optional, required}
 use Rattle.at_form.proofs.Held.{some_same, step_from}
 use Rattle.at_event.specs.Events.{IsEvent}
 use Rattle.at_event.specs.Formed.{IsShortOrNone, IsBodyOf}
 use Rattle.at_event.specs.Seen.{Seen}
-use Rattle.at_event.specs.Table.{ops_in, too_big_in, commit_of, sync_of, account_of, body_of, did_key, event_of, kind_of}
+use Rattle.at_event.specs.Table.{ops_in, too_big_in, commit_event_of, sync_of, account_of, event_body_of, did_key, event_of, event_kind_of}
 use Rattle.at_event.specs.declared.event.Body.{Body}
 use Rattle.at_event.specs.declared.event.CommitEvent.{CommitEvent}
 use Rattle.at_event.specs.declared.event.SyncEvent.{SyncEvent}
@@ -43,8 +43,8 @@ tid_parts text h =
     let front = and_parts (eqb (length text) 13) (is_first_character (slice_index text 0)) both.0 in
     record { long = eqb-true (length text) 13 front.0; first = front.1; characters = both.1 }
 
-tid_if : (text : List ℕ) (rev : ℕ) (b : Bool) → is_tid text ≡ b → cond b (Some (value_of text)) None ≡ Some rev → rev < 2 ^ 64
-tid_if text rev true known e = subst (λ (n : ℕ). n < 2 ^ 64) (some_same (value_of text) rev e) (value_below text (tid_parts text known))
+tid_if : (text : List ℕ) (rev : ℕ) (b : Bool) → is_tid text ≡ b → cond b (Some (tid_value text)) None ≡ Some rev → rev < 2 ^ 64
+tid_if text rev true known e = subst (λ (n : ℕ). n < 2 ^ 64) (some_same (tid_value text) rev e) (value_below text (tid_parts text known))
 tid_if text rev false known e = absurd cc
 
 rev_held : (i : Item) (rev : ℕ) → tid_in i ≡ Some rev → rev < 2 ^ 64
@@ -81,10 +81,10 @@ HasRev (Body.Sync s) = s.rev < 2 ^ 64
 HasRev Body.Identity = Unit {0}
 HasRev (Body.Account b) = Unit {0}
 
-body_rev : (kind : EventKind) (m : Item) (body : Body) → body_of kind m ≡ Some body → HasRev body
-unfolding body_of commit_of sync_of
+body_rev : (kind : EventKind) (m : Item) (body : Body) → event_body_of kind m ≡ Some body → HasRev body
+unfolding event_body_of commit_event_of sync_of
 body_rev EventKind.Commit m body e =
-    let x = step_from (commit_of m) (λ commit. Some (Body.Commit commit)) body e in
+    let x = step_from (commit_event_of m) (λ commit. Some (Body.Commit commit)) body e in
     let is = commit_rev (required did_in m (codes "repo")) (required tid_in m (codes "rev")) (optional tid_in m (codes "since")) (optional node_in m (codes "prevData")) (required node_in m (codes "commit")) (too_big_in m) (required bytes_in m (codes "blocks")) (required ops_in m (codes "ops")) x.0 x.1 in
     subst HasRev (some_same (Body.Commit x.0) body x.2) (rev_there m (codes "rev") x.0.rev is)
 body_rev EventKind.Sync m body e =
@@ -106,8 +106,8 @@ event_body (Some d) (Some t) (Some b) seq payload x e = ap (λ (y : Seen). Some 
 event_rev : (e : Seen) → IsEvent e → HasRev e.body
 unfolding event_of
 event_rev e is =
-    let kind = kind_of e.body in
-    body_rev kind e.payload e.body (event_body (required did_in e.payload (did_key kind)) (required short_text_in e.payload (codes "time")) (body_of kind e.payload) e.seq e.payload e is.read)
+    let kind = event_kind_of e.body in
+    body_rev kind e.payload e.body (event_body (required did_in e.payload (did_key kind)) (required short_text_in e.payload (codes "time")) (event_body_of kind e.payload) e.seq e.payload e is.read)
 
 -- the blocks of an event are bytes, its revision is one, and its status is one that a row may keep
 abbrev pub IsBodyKept : Body → Type 0

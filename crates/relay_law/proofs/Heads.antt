@@ -15,9 +15,9 @@ use Rattle.at_commit.proofs.Nodes.{data_is_node}
 use Rattle.at_event.specs.Refusals.{code_of}
 use Rattle.at_event.specs.declared.head.Head.{Head}
 use Rattle.at_event.specs.declared.refusal.Refusal.{Refusal}
-use Rattle.event_checks.specs.Opening.{CarResult, root_in, block_in, object_of, object_in_block, object_in}
+use Rattle.event_checks.specs.Opening.{CarResult, root_in, block_in, read_object, object_in_block, object_in}
 use Rattle.commit_check.proofs.Held.{car_linked}
-use Rattle.relay_row.specs.Folds.{folded, names, did_in}
+use Rattle.relay_row.specs.Folds.{folded, names, did_of_row}
 use Rattle.relay_row.specs.Journal.{IsJournal}
 use Rattle.relay_row.specs.Rules.{are_bytes, is_cid, is_node, is_node_kind, is_head, is_rev, is_status, is_row, is_taken, is_accepted, is_detail, is_refused, is_decided, is_about, is_moment, is_number, names_host, names_did, is_effect, is_fetched, is_timed, is_whole, is_positive, is_message, is_empty, is_nothing, is_carried, is_repo, loses}
 use Rattle.relay_row.specs.declared.carried.Carried.{Carried}
@@ -45,7 +45,7 @@ node_tested link is =
 
 -- ---- the head of a CAR
 
-object_node : (block : List ℕ) (c : Commit) (r : Result Commit CommitFault) → IsBytes block → commit_of block ≡ r → object_of r ≡ Some c → IsNodeLink c.data_root
+object_node : (block : List ℕ) (c : Commit) (r : Result Commit CommitFault) → IsBytes block → commit_of block ≡ r → read_object r ≡ Some c → IsNodeLink c.data_root
 object_node block c (Ok d) bytes is e =
     let same : d ≡ c = cc in
     data_is_node block c bytes (is ∙ ap Ok same)
@@ -199,7 +199,7 @@ moved_formed a (Row.Carried (Carried.Host host cursor)) is h = is
 moved_formed a (Row.Carried (Carried.Account b)) is h = carried_formed b h
 
 after_formed : (did : List ℕ) (a : State) (row : Row) → IsFormedAccount a → is_row row ≡ true → IsFormedAccount (account_after did a row)
-after_formed did a row is h = elim (names did (did_in row)) as (λ b. IsFormedAccount (cond b (moved a row) a)) [ true ↦ moved_formed a row is h | false ↦ is ]
+after_formed did a row is h = elim (names did (did_of_row row)) as (λ b. IsFormedAccount (cond b (moved a row) a)) [ true ↦ moved_formed a row is h | false ↦ is ]
 
 folded_formed : (did : List ℕ) (rows : List Row) (a : State) → IsFormedAccount a → list_all is_row rows ≡ true → IsFormedAccount (folded (account_after did) a rows)
 folded_formed did [] a is h = is

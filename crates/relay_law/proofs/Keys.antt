@@ -16,13 +16,13 @@ use Rattle.relay_row.specs.declared.taken.Effect.{Effect}
 use Rattle.relay_row.specs.declared.taken.Taken.{Taken}
 use Rattle.account_state.specs.Folds.{account, account_after, fresh, moved, taken_by, effected, lost, refetched}
 use Rattle.account_state.specs.State.{State}
-use Rattle.relay_core.specs.Decide.{Checks, Outside, Found, absent, unfit, found, made, answers, first, or_later, refusal_of, decision_for, decided_event, decided}
-use Rattle.relay_core.specs.Rows.{event_taken, faulty_taken, own_effect, effect_of, fetched_of, kind_of}
+use Rattle.relay_core.specs.Decide.{Checks, Outside, Found, absent, unfit, found, fetched_as, answers, first_refusal, or_later, refusal_of, decision_for, decided_event, decided}
+use Rattle.relay_core.specs.Rows.{event_taken, faulty_taken, own_effect, effect_of, fetched_of, kind_number}
 use Rattle.relay_core.specs.Table.{body_lines, did_of}
 use Rattle.relay_core.specs.Worlds.{World, outside, outside_of}
 use Rattle.relay_core.specs.declared.limits.TheConstants.{LONGEST_MESSAGE}
 use Rattle.relay_law.specs.Merges.{IsOf}
-use Rattle.relay_law.proofs.Tracking.{names_same}
+use Rattle.account_state.proofs.Dids.{names_same}
 
 -- what a host that isn't the home is told
 
@@ -32,7 +32,7 @@ far e = if nat_lt LONGEST_MESSAGE (out_length e) then Refusal.TooLong else Refus
 far_keeps : (e : Seen) → loses (code_of (far e)) ≡ false
 far_keeps e = elim (nat_lt LONGEST_MESSAGE (out_length e)) as (λ b. loses (code_of (cond b Refusal.TooLong Refusal.NotHome)) ≡ false) [ true ↦ refl | false ↦ refl ]
 
-far_body : (checks : Checks) (a : State) (e : Seen) (o : Outside) (body : Body) → o.home ≡ false → first (body_lines a body (answers checks 0 a e o)) ≡ Some Refusal.NotHome
+far_body : (checks : Checks) (a : State) (e : Seen) (o : Outside) (body : Body) → o.home ≡ false → first_refusal (body_lines a body (answers checks 0 a e o)) ≡ Some Refusal.NotHome
 far_body checks a e o (Body.Commit c) h = rw h refl
 far_body checks a e o (Body.Sync s) h = rw h refl
 far_body checks a e o Body.Identity h = rw h refl
@@ -48,7 +48,7 @@ far_taken host e moment = record {
   host = host;
   host_seq = e.seq;
   did = e.did;
-  kind = kind_of e.body;
+  kind = kind_number e.body;
   refusal = Some (far e);
   seq = 0;
   message = [];
@@ -76,15 +76,15 @@ own_free : (checks : Checks) (a : State) (e : Seen) (body : Body) (o : Outside) 
 own_free checks a e body o None n k = effect_free checks a e body o n k
 own_free checks a e body o (Some r) n k = refl
 
-made_free : (b : State) (e : Seen) (f : Found) (n k : ℕ) → refetched b (made n e f) ≡ refetched b (made k e f)
+made_free : (b : State) (e : Seen) (f : Found) (n k : ℕ) → refetched b (fetched_as n e f) ≡ refetched b (fetched_as k e f)
 made_free b e absent n k = refl
 made_free b e (unfit i) n k = refl
 made_free b e (found head records block) n k = refl
 
-fetched_free : (b : State) (e : Seen) (f : Found) (q : Option Refusal) (n k : ℕ) → refetched b (fetched_of q (Some (made n e f))) ≡ refetched b (fetched_of q (Some (made k e f)))
+fetched_free : (b : State) (e : Seen) (f : Found) (q : Option Refusal) (n k : ℕ) → refetched b (fetched_of q (Some (fetched_as n e f))) ≡ refetched b (fetched_of q (Some (fetched_as k e f)))
 fetched_free b e f None n k = refl
 fetched_free b e f (Some r) n k =
-    elim (loses (code_of r)) as (λ t. refetched b (cond t (made n e f) Fetched.NotAsked) ≡ refetched b (cond t (made k e f) Fetched.NotAsked)) [ true ↦ made_free b e f n k | false ↦ refl ]
+    elim (loses (code_of r)) as (λ t. refetched b (cond t (fetched_as n e f) Fetched.NotAsked) ≡ refetched b (cond t (fetched_as k e f) Fetched.NotAsked)) [ true ↦ made_free b e f n k | false ↦ refl ]
 
 event_free : (checks : Checks) (a : State) (host : List ℕ) (e : Seen) (o : Outside) (b : State) (q : Option Refusal) (n k : ℕ)
     → taken_by b (event_taken n host e (decision_for a e.body o.fetched q) (answers checks n a e o)) ≡ taken_by b (event_taken k host e (decision_for a e.body o.fetched q) (answers checks k a e o))

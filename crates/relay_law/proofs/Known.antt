@@ -14,9 +14,9 @@ use Rattle.relay_row.specs.declared.taken.Taken.{Taken}
 use Rattle.account_state.specs.Folds.{account, last_rev}
 use Rattle.account_state.specs.State.{State}
 use Rattle.account_state.specs.declared.repo.Repo.{Repo}
-use Rattle.relay_core.specs.Decide.{Checks, Outside, answers, first, refusal_of, decision_for, decided_event}
+use Rattle.relay_core.specs.Decide.{Checks, Outside, answers, first_refusal, refusal_of, decision_for, decided_event}
 use Rattle.relay_core.specs.Rows.{event_taken, faulty_taken, head_effect}
-use Rattle.relay_core.specs.Runs.{Message, Turn, IsMade, RunFrom, passed_by, has_ended}
+use Rattle.relay_core.specs.Runs.{Message, Turn, IsMadeBy, RunFrom, skipped_by, has_ended}
 use Rattle.relay_core.specs.Shown.{shown}
 use Rattle.relay_core.specs.Table.{body_lines, when}
 use Rattle.relay_core.specs.declared.decision.Pass.{Pass}
@@ -26,7 +26,7 @@ use Rattle.relay_law.specs.Chains.{Part, commits, nothing, effect_part, taken_pa
 use Rattle.relay_law.specs.Laws.{RunsFollowKnown}
 use Rattle.relay_law.specs.Right.{AreRight}
 use Rattle.relay_law.proofs.Sounding.{accepted_taken, later_none, links_none, taken_is}
-use Rattle.relay_law.proofs.Tracking.{names_same}
+use Rattle.account_state.proofs.Dids.{names_same}
 
 pub some_name : (b : Bool) (q : Part) (m d : List ℕ) → cond b q nothing ≡ commits m d → (b ≡ true) × (q ≡ commits m d)
 some_name true q m d h = (refl, h)
@@ -42,7 +42,7 @@ quiet_no t Fetched.Absent m d none h = quiet_effect t.kind t.message t.effect m 
 quiet_no t (Fetched.Refused n) m d none h = quiet_effect t.kind t.message t.effect m d none h
 
 accepted_known : (checks : Checks) → AreRight checks → (n : ℕ) (a : State) (host : List ℕ) (e : Seen) (o : Outside) (m d : List ℕ) (rev : Option ℕ)
-    → (body : Body) → e.body ≡ body → first (body_lines a body (answers checks 0 a e o)) ≡ None → part_in (Row.Taken (accepted_taken checks n a host e o body)) ≡ commits m d → a.repo ≢ Repo.Lost rev
+    → (body : Body) → e.body ≡ body → first_refusal (body_lines a body (answers checks 0 a e o)) ≡ None → part_in (Row.Taken (accepted_taken checks n a host e o body)) ≡ commits m d → a.repo ≢ Repo.Lost rev
 unfolding accepted_taken
 accepted_known checks right n a host e o m d rev (Body.Commit c) body q h =
     λ lost. right.not_lost e c rev body (subst (λ (r : Repo). checks.links e r ≡ None) lost (links_none checks a e c o q))
@@ -56,10 +56,10 @@ unfolding accepted_taken
 event_known checks right n a host e o m d rev =
     elim (refusal_of checks a e o) as (λ q. refusal_of checks a e o ≡ q → part_in (Row.Taken (event_taken n host e (decision_for a e.body o.fetched q) (answers checks n a e o))) ≡ commits m d → a.repo ≢ Repo.Lost rev) [
       | Some r ↦ λ q h. let t = event_taken n host e (decision_for a e.body o.fetched (Some r)) (answers checks n a e o) in absurd (quiet_no t t.fetched m d refl h)
-      | None ↦ λ q h. accepted_known checks right n a host e o m d rev e.body refl (later_none (when (nat_lt LONGEST_MESSAGE (out_length e)) Refusal.TooLong) (first (body_lines a e.body (answers checks 0 a e o))) q) h
+      | None ↦ λ q h. accepted_known checks right n a host e o m d rev e.body refl (later_none (when (nat_lt LONGEST_MESSAGE (out_length e)) Refusal.TooLong) (first_refusal (body_lines a e.body (answers checks 0 a e o))) q) h
     ] refl
 
-taken_known : (checks : Checks) → AreRight checks → (J : List Row) (host : List ℕ) (f : Frame) (t : Taken) → IsMade checks J (host, Ok f) (Row.Taken t) → IsOfKnown J (Row.Taken t)
+taken_known : (checks : Checks) → AreRight checks → (J : List Row) (host : List ℕ) (f : Frame) (t : Taken) → IsMadeBy checks J (host, Ok f) (Row.Taken t) → IsOfKnown J (Row.Taken t)
 taken_known checks right J host (Frame.Event e) t made =
     let P : Taken → Type 0 = λ s. IsOfKnown J (Row.Taken s) in
     let s = decided_event checks (last_seq J) (account e.did J) host e (shown t) in
@@ -74,7 +74,7 @@ taken_known checks right J host Frame.Info t made = absurd cc
 taken_known checks right J host Frame.Error t made = absurd cc
 taken_known checks right J host Frame.Unknown t made = absurd cc
 
-row_known : (checks : Checks) → AreRight checks → (J : List Row) (m : Message) (row : Row) → IsMade checks J m row → IsOfKnown J row
+row_known : (checks : Checks) → AreRight checks → (J : List Row) (m : Message) (row : Row) → IsMadeBy checks J m row → IsOfKnown J row
 row_known checks right J (host, Ok f) (Row.Taken t) made = taken_known checks right J host f t made
 row_known checks right J (host, Ok f) (Row.Synced name whole moment) made = absurd made
 row_known checks right J (host, Ok f) (Row.Operated o) made = absurd made
@@ -84,7 +84,7 @@ row_known checks right J (host, Err fault) row made = absurd made
 turned : (checks : Checks) → AreRight checks → (m : Message) (messages : List Message) → ((K : List Row) (ended : List (List ℕ)) (rows : List Row) → RunFrom checks K ended messages rows → AreOfKnown K rows)
     → (J : List Row) (ended : List (List ℕ)) (rows : List Row) (b : Bool) (p : Option Pass)
     → Turn b p (RunFrom checks J (m.0 ∷ ended) messages rows) (RunFrom checks J ended messages rows)
-    ((row : Row) × (others : List Row) × (rows ≡ row ∷ others) × IsMade checks J m row × RunFrom checks (J ++ row ∷ []) ended messages others)
+    ((row : Row) × (others : List Row) × (rows ≡ row ∷ others) × IsMadeBy checks J m row × RunFrom checks (J ++ row ∷ []) ended messages others)
     → AreOfKnown J rows
 turned checks right m messages more J ended rows true p h = more J ended rows h
 turned checks right m messages more J ended rows false (Some Pass.Ended) h = more J (m.0 ∷ ended) rows h
@@ -98,7 +98,7 @@ turned checks right m messages more J ended rows false None (row, others, is, ma
 run_known : (checks : Checks) → AreRight checks → (messages : List Message) (J : List Row) (ended : List (List ℕ)) (rows : List Row) → RunFrom checks J ended messages rows → AreOfKnown J rows
 run_known checks right [] J ended rows h = subst (λ (R : List Row). AreOfKnown J R) (sym h) tt
 run_known checks right (m ∷ messages) J ended rows h =
-    turned checks right m messages (λ K F S k. run_known checks right messages K F S k) J ended rows (has_ended ended m.0) (passed_by J m) h
+    turned checks right m messages (λ K F S k. run_known checks right messages K F S k) J ended rows (has_ended ended m.0) (skipped_by J m) h
 
 pub runs_known : RunsFollowKnown
 runs_known checks right J messages rows run = run_known checks right messages J [] rows run

@@ -15,8 +15,8 @@ pub mod Reading
 pub mod Known
 pub mod Carrying
 pub mod Coming
-pub mod Wanting
-pub mod Spelled
+pub mod Needing
+pub mod Encoded
 pub mod EventForms
 pub mod Heads
 pub mod Refusals

@@ -11,7 +11,7 @@ use Rattle.relay_row.proofs.Journals.{cursors_joined}
 use Rattle.account_state.specs.Folds.{account, account_after}
 use Rattle.account_state.proofs.Joined.{joined}
 use Rattle.relay_core.specs.Decide.{Checks, passed}
-use Rattle.relay_core.specs.Runs.{Message, passed_by, has_ended}
+use Rattle.relay_core.specs.Runs.{Message, skipped_by, has_ended}
 use Rattle.relay_core.specs.Worlds.{World}
 use Rattle.relay_core.specs.declared.decision.Pass.{Pass}
 use Rattle.relay_law.specs.Merges.{only, IsOf, TellsOf, Names, OneHome}
@@ -56,7 +56,7 @@ goes_on false (Some Pass.Info) host row k s = s
 goes_on false None host row k s = record { rows = s.rows ++ row ∷ []; ended = s.ended; keys = s.keys ++ k ∷ [] }
 
 abbrev pub stepped : Checks → World → Carry → Message → Carry
-stepped checks w s m = goes_on (has_ended s.ended m.0) (passed_by s.rows m) m.0 (row_in checks w s.rows m.0 (frame_in m)) (key_in w s.rows m.0 (frame_in m)) s
+stepped checks w s m = goes_on (has_ended s.ended m.0) (skipped_by s.rows m) m.0 (row_in checks w s.rows m.0 (frame_in m)) (key_in w s.rows m.0 (frame_in m)) s
 
 abbrev pub after : Checks → World → Carry → List Message → Carry
 after checks w s [] = s
@@ -67,7 +67,7 @@ abbrev pass_at : ℕ → Message → Option Pass
 pass_at n (host, Ok frame) = passed n frame
 pass_at n (host, Err fault) = Some Pass.Ended
 
-pass_by_cursor : (J : List Row) (m : Message) → passed_by J m ≡ pass_at (cursor m.0 J) m
+pass_by_cursor : (J : List Row) (m : Message) → skipped_by J m ≡ pass_at (cursor m.0 J) m
 pass_by_cursor J (host, Ok frame) = refl
 pass_by_cursor J (host, Err fault) = refl
 
@@ -159,18 +159,18 @@ own_stepped checks w all m s u named like =
     let same : key_in w s.rows m.0 f ≡ key_in w u.rows m.0 f = same_key w s.rows u.rows m.0 f (λ did of home. like.accounts did (named did of) home) in
     let two : other ≡ keyed checks w k (last_seq u.rows) = row_keyed checks w u.rows m.0 f ∙ ap (λ (x : Key). keyed checks w x (last_seq u.rows)) (sym same) in
     let b = has_ended s.ended m.0 in
-    let p = passed_by s.rows m in
+    let p = skipped_by s.rows m in
     let base = own_goes checks w all m.0 b p row other k (last_seq s.rows) (last_seq u.rows) s u (row_keyed checks w s.rows m.0 f) two like in
-    let passes : passed_by s.rows m ≡ passed_by u.rows m = pass_by_cursor s.rows m ∙ ap (λ (n : ℕ). pass_at n m) like.cursors ∙ sym (pass_by_cursor u.rows m) in
+    let passes : skipped_by s.rows m ≡ skipped_by u.rows m = pass_by_cursor s.rows m ∙ ap (λ (n : ℕ). pass_at n m) like.cursors ∙ sym (pass_by_cursor u.rows m) in
     let P : Bool → Type 0 = λ t. IsAlike w all m.0 (stepped checks w s m) (goes_on t p m.0 other k u) in
     let Q : Option Pass → Type 0 = λ q. IsAlike w all m.0 (stepped checks w s m) (goes_on (has_ended u.ended m.0) q m.0 other k u) in
-    let R : Key → Type 0 = λ x. IsAlike w all m.0 (stepped checks w s m) (goes_on (has_ended u.ended m.0) (passed_by u.rows m) m.0 other x u) in
+    let R : Key → Type 0 = λ x. IsAlike w all m.0 (stepped checks w s m) (goes_on (has_ended u.ended m.0) (skipped_by u.rows m) m.0 other x u) in
     subst R same (subst Q passes (subst P like.over base))
 
 foreign_stepped : (checks : Checks) (w : World) (all : List Message) (host : List ℕ) (m : Message) (s u : Carry) → OneHome w all → bytes_eq host m.0 ≡ false → ((did : List ℕ) → IsOf (frame_in m) did → Names all m.0 did)
     → IsAlike w all host s u → IsAlike w all host (stepped checks w s m) u
 foreign_stepped checks w all host m s u one other named like =
-    foreign_goes w all host (has_ended s.ended m.0) (passed_by s.rows m) m.0 (row_in checks w s.rows m.0 (frame_in m)) (key_in w s.rows m.0 (frame_in m)) s u other
+    foreign_goes w all host (has_ended s.ended m.0) (skipped_by s.rows m) m.0 (row_in checks w s.rows m.0 (frame_in m)) (key_in w s.rows m.0 (frame_in m)) s u other
     (foreign_row checks w all s.rows host m one other named) like
 
 -- what a host does in a run is what it does alone
@@ -204,5 +204,5 @@ pub none_stays : (checks : Checks) (w : World) (did : List ℕ) (T : List Messag
 none_stays checks w did [] s none = refl
 none_stays checks w did (m ∷ T) s none =
     none_stays checks w did T (stepped checks w s m) (λ host h. none host (inr h))
-    ∙ goes_account (has_ended s.ended m.0) (passed_by s.rows m) m.0 (row_in checks w s.rows m.0 (frame_in m)) (key_in w s.rows m.0 (frame_in m)) s did
+    ∙ goes_account (has_ended s.ended m.0) (skipped_by s.rows m) m.0 (row_in checks w s.rows m.0 (frame_in m)) (key_in w s.rows m.0 (frame_in m)) s did
     (far_stays checks w s.rows m.0 (frame_in m) did (account did s.rows) (λ of. none m.0 (inl (refl, frame_tells m did of))))

@@ -1,4 +1,4 @@
--- The rows that operators' words make are well formed and keep the order of their journal.
+-- The rows that operators' commands make are well formed and keep the order of their journal.
 use Rattle.std.proofs.Common.{◌≡◌, ℕ, ◌+◌, ◌*◌, ◌<◌, ◌≤◌, Bool, true, false, not, ◌&&◌, List, [], ◌∷◌, ◌++◌, length, Option, Some, None, codes, refl, sym, subst, arith, lit<}
 use Rattle.std.specs.Prelude.{nat_le}
 use Rattle.std.specs.Str.{is_utf8}
@@ -7,16 +7,16 @@ use Rattle.std.proofs.lemmas.List.{append-nil, length-append}
 use Rattle.at_cid.specs.Link.{IsBytes}
 use Rattle.at_cbor.specs.declared.major.Major.{Major}
 use Rattle.at_cbor.specs.Item.{Item, Fields, field}
-use Rattle.at_cbor.specs.Majors.{number_of}
-use Rattle.at_cbor.specs.Spelling.{info_of, tail_of, front_of, text_spelling, spelling, fields_count, fields_spelling}
+use Rattle.at_cbor.specs.Majors.{major_number}
+use Rattle.at_cbor.specs.Encoding.{info_of, tail_of, front_of, text_encoding, encoding, fields_count, fields_encoding}
 use Rattle.at_syntax.specs.Did.{is_did}
 use Rattle.at_event.specs.declared.kind.EventKind.{EventKind}
 use Rattle.at_event.specs.Formed.{IsShortText}
-use Rattle.at_event.specs.Writing.{header_of, message_of, number_item, status_field, account_payload}
+use Rattle.at_event.specs.Writing.{header_of, event_message, number_item, status_field, account_payload}
 use Rattle.at_event.proofs.Texts.{ascii_text}
 use Rattle.relay_row.specs.Folds.{last_seq}
 use Rattle.relay_row.specs.Rules.{are_bytes, is_empty, is_head, is_message, is_number, is_operated, is_positive, is_row, is_status, is_string, is_text, is_whole, names_did}
-use Rattle.relay_row.specs.declared.limits.TheConstants.{NUMBERS}
+use Rattle.at_cid.specs.declared.limits.TheConstants.{NUMBERS}
 use Rattle.relay_row.specs.declared.row.Row.{Row}
 use Rattle.relay_row.proofs.Bytes.{string_tested, tested_bytes}
 use Rattle.relay_row.proofs.Journals.{grows}
@@ -28,7 +28,7 @@ use Rattle.relay_law.specs.Laws.{OperatedRowsAreFormed, SyncedRowsAreFormed}
 use Rattle.relay_law.proofs.Deciding.{next_above, positive_next}
 use Rattle.relay_law.proofs.EventForms.{text_tested}
 use Rattle.relay_law.proofs.Heads.{IsFormedAccount, accounts_are_formed}
-use Rattle.relay_law.proofs.Spelled.{bytes_join, front_bytes, front_short, header_bytes, not_empty}
+use Rattle.relay_law.proofs.Encoded.{bytes_join, front_bytes, front_short, header_bytes, not_empty}
 
 -- ---- the relay's own `#account`
 
@@ -40,37 +40,37 @@ record IsWithin (n : ℕ) (bytes : List ℕ) : Type 0 where
 join : (n m : ℕ) (a b : List ℕ) → IsWithin n a → IsWithin m b → IsWithin (n + m) (a ++ b)
 join n m a b one other = record { are = bytes_join a b one.are other.are; few = omega (arith, length-append a b, one.few, other.few) }
 
-text_within : (n : ℕ) (text : List ℕ) → IsBytes text → length text ≤ n → IsWithin (9 + n) (text_spelling text)
+text_within : (n : ℕ) (text : List ℕ) → IsBytes text → length text ≤ n → IsWithin (9 + n) (text_encoding text)
 text_within n text bytes few =
     join 9 n (front_of Major.Text (length text)) text (record { are = front_bytes Major.Text (length text); few = front_short Major.Text (length text) }) (record { are = bytes; few = few })
 
-key_within : (text : List ℕ) → are_bytes text ≡ true → length text < 10 → IsWithin 18 (text_spelling text)
+key_within : (text : List ℕ) → are_bytes text ≡ true → length text < 10 → IsWithin 18 (text_encoding text)
 key_within text bytes few = text_within 9 text (tested_bytes text bytes) (omega arith)
 
-number_within : (n : ℕ) → IsWithin 9 (spelling (number_item n))
+number_within : (n : ℕ) → IsWithin 9 (encoding (number_item n))
 number_within n = record { are = front_bytes Major.Unsigned n; few = front_short Major.Unsigned n }
 
-bool_within : (b : Bool) → IsWithin 9 (spelling (Item.bool b))
+bool_within : (b : Bool) → IsWithin 9 (encoding (Item.bool b))
 bool_within true = record { are = tested_bytes (0xf5 ∷ []) refl; few = omega arith }
 bool_within false = record { are = tested_bytes (0xf4 ∷ []) refl; few = omega arith }
 
-status_within : (status : Option (List ℕ)) → is_status status ≡ true → IsWithin 91 (fields_spelling (status_field status))
+status_within : (status : Option (List ℕ)) → is_status status ≡ true → IsWithin 91 (fields_encoding (status_field status))
 status_within None h = record { are = tested_bytes [] refl; few = omega arith }
 status_within (Some status) h =
     let both = and_parts (is_text status) (nat_le (length status) 64) h in
     let bytes = tested_bytes status (and_parts (is_utf8 status) (are_bytes status) both.0).1 in
-    join 18 73 (text_spelling (codes "status")) (text_spelling status ++ []) (key_within (codes "status") refl (lit< tt))
-    (subst (λ (t : List ℕ). IsWithin 73 t) (sym (append-nil (text_spelling status))) (text_within 64 status bytes (leb-true (length status) 64 both.1)))
+    join 18 73 (text_encoding (codes "status")) (text_encoding status ++ []) (key_within (codes "status") refl (lit< tt))
+    (subst (λ (t : List ℕ). IsWithin 73 t) (sym (append-nil (text_encoding status))) (text_within 64 status bytes (leb-true (length status) 64 both.1)))
 
-header_short : length (spelling (header_of EventKind.Account)) < 65
+header_short : length (encoding (header_of EventKind.Account)) < 65
 unfolding info_of tail_of
 header_short = lit< tt
 
-field_within : (k : List ℕ) (i : Item) (fs : Fields) (n m : ℕ) → IsWithin 18 (text_spelling k) → IsWithin n (spelling i) → IsWithin m (fields_spelling fs) → IsWithin (18 + (n + m)) (fields_spelling (field k i fs))
-field_within k i fs n m key value others = join 18 (n + m) (text_spelling k) (spelling i ++ fields_spelling fs) key (join n m (spelling i) (fields_spelling fs) value others)
+field_within : (k : List ℕ) (i : Item) (fs : Fields) (n m : ℕ) → IsWithin 18 (text_encoding k) → IsWithin n (encoding i) → IsWithin m (fields_encoding fs) → IsWithin (18 + (n + m)) (fields_encoding (field k i fs))
+field_within k i fs n m key value others = join 18 (n + m) (text_encoding k) (encoding i ++ fields_encoding fs) key (join n m (encoding i) (fields_encoding fs) value others)
 
-map_within : (fs : Fields) (n : ℕ) → IsWithin n (fields_spelling fs) → IsWithin (9 + n) (spelling (Item.map fs))
-map_within fs n all = join 9 n (front_of Major.Map (fields_count fs)) (fields_spelling fs) (record { are = front_bytes Major.Map (fields_count fs); few = front_short Major.Map (fields_count fs) }) all
+map_within : (fs : Fields) (n : ℕ) → IsWithin n (fields_encoding fs) → IsWithin (9 + n) (encoding (Item.map fs))
+map_within fs n all = join 9 n (front_of Major.Map (fields_count fs)) (fields_encoding fs) (record { are = front_bytes Major.Map (fields_count fs); few = front_short Major.Map (fields_count fs) }) all
 
 did_short : (did : List ℕ) → is_did did ≡ true → length did ≤ 2048
 unfolding is_did
@@ -86,18 +86,18 @@ module _ (did : List ℕ) (active : Bool) (status : Option (List ℕ)) (time : L
   abbrev numbered_at : Fields
   numbered_at = field (codes "seq") (number_item n) timed_at
 
-  flagged_within : IsWithin 118 (fields_spelling flagged)
+  flagged_within : IsWithin 118 (fields_encoding flagged)
   flagged_within = field_within (codes "active") (Item.bool active) (status_field status) 9 91 (key_within (codes "active") refl (lit< tt)) (bool_within active) (status_within status is)
 
-  timed_within : IsWithin 209 (fields_spelling timed_at)
+  timed_within : IsWithin 209 (fields_encoding timed_at)
   timed_within =
       field_within (codes "time") (Item.text time) flagged 73 118 (key_within (codes "time") refl (lit< tt))
       (text_within 64 time timed.text.0.1 timed.short) flagged_within
 
-  numbered_within : IsWithin 236 (fields_spelling numbered_at)
+  numbered_within : IsWithin 236 (fields_encoding numbered_at)
   numbered_within = field_within (codes "seq") (number_item n) timed_at 9 209 (key_within (codes "seq") refl (lit< tt)) (number_within n) timed_within
 
-  payload_within : IsWithin 2320 (spelling (account_payload did active status time n))
+  payload_within : IsWithin 2320 (encoding (account_payload did active status time n))
   unfolding account_payload
   payload_within =
       let named = and_parts (is_text did) (is_did did) of_did in
@@ -105,13 +105,13 @@ module _ (did : List ℕ) (active : Bool) (status : Option (List ℕ)) (time : L
       map_within (field (codes "did") (Item.text did) numbered_at) 2311
       (field_within (codes "did") (Item.text did) numbered_at 2057 236 (key_within (codes "did") refl (lit< tt)) (text_within 2048 did bytes (did_short did named.1)) numbered_within)
 
-  account_sent : is_message (message_of EventKind.Account (account_payload did active status time n)) ≡ true
-  unfolding message_of
+  account_sent : is_message (event_message EventKind.Account (account_payload did active status time n)) ≡ true
+  unfolding event_message
   account_sent =
-      let header : IsWithin 64 (spelling (header_of EventKind.Account)) = record { are = header_bytes EventKind.Account; few = omega (arith, header_short) } in
-      let all = join 64 2320 (spelling (header_of EventKind.Account)) (spelling (account_payload did active status time n)) header payload_within in
-      let bytes = spelling (header_of EventKind.Account) ++ spelling (account_payload did active status time n) in
-      and_from (is_string bytes) (not (is_empty bytes)) (string_tested bytes all.are (omega (arith, all.few))) (not_empty (32 * number_of Major.Map + info_of 2) _)
+      let header : IsWithin 64 (encoding (header_of EventKind.Account)) = record { are = header_bytes EventKind.Account; few = omega (arith, header_short) } in
+      let all = join 64 2320 (encoding (header_of EventKind.Account)) (encoding (account_payload did active status time n)) header payload_within in
+      let bytes = encoding (header_of EventKind.Account) ++ encoding (account_payload did active status time n) in
+      and_from (is_string bytes) (not (is_empty bytes)) (string_tested bytes all.are (omega (arith, all.few))) (not_empty (32 * major_number Major.Map + info_of 2) _)
 
 operated_sent : (a : State) (did : List ℕ) (down : Bool) (time : List ℕ) (n : ℕ) → IsFormedAccount a → names_did did ≡ true → IsShortText time → is_message (operated_message a down did time n) ≡ true
 operated_sent a did true time n is of_did timed =

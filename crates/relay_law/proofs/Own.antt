@@ -7,23 +7,24 @@ use Rattle.std.specs.Prelude.{nat_lt, nat_le}
 use Rattle.std.specs.Str.{bytes_eq}
 use Rattle.at_cbor.specs.Item.{Item, Fields, no_fields, field}
 use Rattle.at_cbor.specs.Kinds.{value_of, field_of}
-use Rattle.at_cbor.specs.Spelling.{front_of, spelling, text_spelling, fields_count, fields_spelling, IsString, IsText}
+use Rattle.at_cbor.specs.Encoding.{front_of, encoding, text_encoding, fields_count, fields_encoding, IsString, IsText}
 use Rattle.at_cbor.specs.declared.major.Major.{Major}
 use Rattle.at_syntax.specs.Did.{is_did}
 use Rattle.at_event.specs.Formed.{IsShortText}
 use Rattle.at_event.specs.Refusals.{code_of}
-use Rattle.at_event.specs.Writing.{header_of, message_of, sync_payload, sync_seen, account_seen}
+use Rattle.at_event.specs.Writing.{header_of, event_message, sync_payload, sync_seen, account_seen}
 use Rattle.at_event.specs.declared.head.Head.{Head}
 use Rattle.at_event.specs.declared.kind.EventKind.{EventKind}
 use Rattle.at_event.specs.declared.refusal.Refusal.{Refusal}
 use Rattle.at_event.proofs.OwnEvents.{IsStatus, sync_again, account_read}
 use Rattle.at_event.proofs.Texts.{ascii_text}
-use Rattle.relay_row.specs.Folds.{folded, names, did_in, last_seq}
+use Rattle.relay_row.specs.Folds.{folded, names, did_of_row, last_seq}
 use Rattle.relay_row.specs.Journal.{IsJournal}
 use Rattle.relay_row.specs.Rules.{is_text, is_number, is_positive, is_rev, is_head, is_node, is_cid, is_message, is_moment, is_status, is_whole, is_operated, is_carried, is_row, is_repo, loses, names_did}
 use Rattle.relay_row.specs.declared.carried.Carried.{Carried}
 use Rattle.relay_row.specs.declared.fetched.Fetched.{Fetched}
-use Rattle.relay_row.specs.declared.limits.TheConstants.{NUMBERS, LONGEST_STATUS}
+use Rattle.at_cid.specs.declared.limits.TheConstants.{NUMBERS}
+use Rattle.at_form.specs.declared.forms.TheConstants.{LONGEST_SHORT_TEXT}
 use Rattle.relay_row.specs.declared.operated.Operated.{Operated}
 use Rattle.relay_row.specs.declared.row.Row.{Row}
 use Rattle.relay_row.specs.declared.taken.Effect.{Effect}
@@ -36,7 +37,7 @@ use Rattle.account_state.specs.declared.repo.Repo.{Repo}
 use Rattle.commit_check.proofs.Held.{bytes_left, bytes_right}
 use Rattle.relay_core.specs.Decide.{commit_car, sync_message, whole_under}
 use Rattle.relay_core.specs.Operating.{operated_as, operated_message}
-use Rattle.relay_law.specs.Faithful.{ReadsAs, IsFaithful, IsFaithfulWhole, IsWordOf}
+use Rattle.relay_law.specs.Faithful.{ReadsAs, IsFaithful, IsFaithfulWhole, IsCommandOf}
 use Rattle.relay_law.specs.Laws.{OperatorsAreFaithful}
 
 -- ---- the blocks in a message that is a byte string are one
@@ -50,34 +51,34 @@ string_right a b h = (omega (arith, h.0, length-append a b), bytes_right a b h.1
 same_item : (i j : Item) → Some i ≡ Some j → i ≡ j
 same_item i j e = cc
 
-value_string : (fs : Fields) (name : List ℕ) (i : Item) → IsString (fields_spelling fs) → value_of fs name ≡ Some i → IsString (spelling i)
+value_string : (fs : Fields) (name : List ℕ) (i : Item) → IsString (fields_encoding fs) → value_of fs name ≡ Some i → IsString (encoding i)
 value_string no_fields name i h e = absurd cc
 value_string (field k j fs) name i h e =
-    let behind = string_right (text_spelling k) (spelling j ++ fields_spelling fs) h in
-    elim (bytes_eq k name) as (λ b. cond b (Some j) (value_of fs name) ≡ Some i → IsString (spelling i)) [
-      | true ↦ λ same. subst (λ (x : Item). IsString (spelling x)) (same_item j i same) (string_left (spelling j) (fields_spelling fs) behind)
-      | false ↦ λ other. value_string fs name i (string_right (spelling j) (fields_spelling fs) behind) other
+    let behind = string_right (text_encoding k) (encoding j ++ fields_encoding fs) h in
+    elim (bytes_eq k name) as (λ b. cond b (Some j) (value_of fs name) ≡ Some i → IsString (encoding i)) [
+      | true ↦ λ same. subst (λ (x : Item). IsString (encoding x)) (same_item j i same) (string_left (encoding j) (fields_encoding fs) behind)
+      | false ↦ λ other. value_string fs name i (string_right (encoding j) (fields_encoding fs) behind) other
     ] e
 
-payload_value : (header : List ℕ) (payload : Item) (name : List ℕ) (i : Item) → IsString (header ++ spelling payload) → field_of payload name ≡ Some i → IsString (spelling i)
-payload_value header (Item.map fs) name i h e = value_string fs name i (string_right (front_of Major.Map (fields_count fs)) (fields_spelling fs) (string_right header (spelling (Item.map fs)) h)) e
+payload_value : (header : List ℕ) (payload : Item) (name : List ℕ) (i : Item) → IsString (header ++ encoding payload) → field_of payload name ≡ Some i → IsString (encoding i)
+payload_value header (Item.map fs) name i h e = value_string fs name i (string_right (front_of Major.Map (fields_count fs)) (fields_encoding fs) (string_right header (encoding (Item.map fs)) h)) e
 payload_value header payload name i h e = absurd cc
 
-sync_blocks : (did : List ℕ) (rev : ℕ) (blocks time : List ℕ) (seq : ℕ) → IsString (message_of EventKind.Sync (sync_payload did rev blocks time seq)) → IsString blocks
-unfolding message_of sync_payload
+pub sync_blocks : (did : List ℕ) (rev : ℕ) (blocks time : List ℕ) (seq : ℕ) → IsString (event_message EventKind.Sync (sync_payload did rev blocks time seq)) → IsString blocks
+unfolding event_message sync_payload
 sync_blocks did rev blocks time seq h =
-    string_right (front_of Major.Bytes (length blocks)) blocks (payload_value (spelling (header_of EventKind.Sync)) (sync_payload did rev blocks time seq) (codes "blocks") (Item.bytes blocks) h refl)
+    string_right (front_of Major.Bytes (length blocks)) blocks (payload_value (encoding (header_of EventKind.Sync)) (sync_payload did rev blocks time seq) (codes "blocks") (Item.bytes blocks) h refl)
 
 -- ---- the relay's own `#sync`
 
-number_below : (n : ℕ) → is_positive n ≡ true → n < NUMBERS
+pub number_below : (n : ℕ) → is_positive n ≡ true → n < NUMBERS
 number_below n h = ltb-true n NUMBERS (and_parts (nat_lt 0 n) (is_number n) h).1
 
 pub whole_reads : (did time : List ℕ) (head : Head) (records : ℕ) (block : List ℕ) (n : ℕ) → IsText did → is_did did ≡ true → IsShortText time → is_whole (whole_under did time head records block n) ≡ true
     → IsFaithfulWhole did (whole_under did time head records block n)
 unfolding is_whole sync_message
 whole_reads did time head records block n text is short formed =
-    let message = message_of EventKind.Sync (sync_payload did head.rev (commit_car head block) time n) in
+    let message = event_message EventKind.Sync (sync_payload did head.rev (commit_car head block) time n) in
     let one = and_parts (is_positive n) (is_head head && (is_number records && is_message message)) formed in
     let two = and_parts (is_head head) (is_number records && is_message message) one.1 in
     let three = and_parts (is_number records) (is_message message) two.1 in
@@ -129,7 +130,7 @@ folded_status did [] a formed is = is
 folded_status did (row ∷ rows) a formed is =
     let both = and_parts (is_row row) (list_all is_row rows) formed in
     folded_status did rows (account_after did a row) both.1
-    (elim (names did (did_in row)) as (λ b. is_status (cond b (moved a row) a).status ≡ true) [ true ↦ moved_status a row both.0 is | false ↦ is ])
+    (elim (names did (did_of_row row)) as (λ b. is_status (cond b (moved a row) a).status ≡ true) [ true ↦ moved_status a row both.0 is | false ↦ is ])
 
 account_status : (did : List ℕ) (J : List Row) → IsJournal J → is_status (account did J).status ≡ true
 unfolding account
@@ -137,20 +138,20 @@ account_status did J journal = folded_status did J fresh journal.formed refl
 
 -- ---- the relay's own `#account`
 
-status_is : (status : Option (List ℕ)) → is_status status ≡ true → IsStatus status
+pub status_is : (status : Option (List ℕ)) → is_status status ≡ true → IsStatus status
 status_is None h = tt
 status_is (Some text) h =
-    let both = and_parts (is_text text) (nat_le (length text) LONGEST_STATUS) h in
-    let short = leb-true (length text) LONGEST_STATUS both.1 in
+    let both = and_parts (is_text text) (nat_le (length text) LONGEST_SHORT_TEXT) h in
+    let short = leb-true (length text) LONGEST_SHORT_TEXT both.1 in
     (text_fits text both.0 (omega (arith, short)), short)
 
-takendown : IsStatus (Some (codes "takendown"))
+pub takendown : IsStatus (Some (codes "takendown"))
 takendown = (ascii_text (codes "takendown") refl (lit< tt), lit≤ tt)
 
 word_reads : (a : State) (did : List ℕ) (down : Bool) (time : List ℕ) (n : ℕ) (moment : Option ℕ) → is_status a.status ≡ true → IsText did → is_did did ≡ true → IsShortText time → n < NUMBERS → (o : Operated)
-    → o ≡ record { did = did; down = down; seq = n; message = operated_message a down did time n; moment = moment } → ReadsAs o.message o.did o.seq (IsWordOf o)
+    → o ≡ record { did = did; down = down; seq = n; message = operated_message a down did time n; moment = moment } → ReadsAs o.message o.did o.seq (IsCommandOf o)
 word_reads a did true time n moment status text is short below o same =
-    let P : Operated → Type 0 = λ p. ReadsAs p.message p.did p.seq (IsWordOf p) in
+    let P : Operated → Type 0 = λ p. ReadsAs p.message p.did p.seq (IsCommandOf p) in
     let gone = Some (codes "takendown") in
     subst P (sym same) (record {
       event = account_seen did false gone time n;
@@ -160,7 +161,7 @@ word_reads a did true time n moment status text is short below o same =
       says = (record { active = false; status = gone }, refl, λ down. refl);
     })
 word_reads a did false time n moment status text is short below o same =
-    let P : Operated → Type 0 = λ p. ReadsAs p.message p.did p.seq (IsWordOf p) in
+    let P : Operated → Type 0 = λ p. ReadsAs p.message p.did p.seq (IsCommandOf p) in
     subst P (sym same) (record {
       event = account_seen did a.active a.status time n;
       reads = account_read did a.active time n text.0 (IsUtf8-from_is_utf8 did text.1) is short.text.0 (IsUtf8-from_is_utf8 time short.text.1) short.short below a.status (status_is a.status status);

@@ -13,7 +13,7 @@ use Rattle.at_event.proofs.Messages.{out_again}
 use Rattle.relay_row.specs.Folds.{last_seq}
 use Rattle.relay_row.specs.Journal.{IsJournal}
 use Rattle.relay_row.specs.Rules.{is_row, is_taken, is_accepted, is_effect, is_fetched, is_timed, is_positive, is_number, is_message, is_empty, loses}
-use Rattle.relay_row.specs.declared.limits.TheConstants.{NUMBERS}
+use Rattle.at_cid.specs.declared.limits.TheConstants.{NUMBERS}
 use Rattle.relay_row.specs.declared.fetched.Fetched.{Fetched}
 use Rattle.relay_row.specs.declared.row.Row.{Row}
 use Rattle.relay_row.specs.declared.taken.Taken.{Taken}
@@ -22,9 +22,9 @@ use Rattle.relay_row.proofs.AgainRows.{taken_fits}
 use Rattle.relay_row.proofs.Journals.{grew, fronts}
 use Rattle.account_state.specs.Folds.{account}
 use Rattle.account_state.specs.State.{State}
-use Rattle.relay_core.specs.Decide.{Checks, Outside, Found, absent, unfit, found, answers, decided_event, decision_for, made, refusal_of}
-use Rattle.relay_core.specs.Rows.{event_taken, faulty_taken, kind_of}
-use Rattle.relay_core.specs.Runs.{Message, Turn, IsMade, RunFrom, passed_by, has_ended}
+use Rattle.relay_core.specs.Decide.{Checks, Outside, Found, absent, unfit, found, answers, decided_event, decision_for, fetched_as, refusal_of}
+use Rattle.relay_core.specs.Rows.{event_taken, faulty_taken, kind_number}
+use Rattle.relay_core.specs.Runs.{Message, Turn, IsMadeBy, RunFrom, skipped_by, has_ended}
 use Rattle.relay_core.specs.Shown.{shown}
 use Rattle.relay_core.specs.Table.{is_held}
 use Rattle.relay_core.specs.declared.decision.Pass.{Pass}
@@ -47,7 +47,7 @@ accepted_number t is some =
     let goes = numbered_or (is_positive t.seq && is_message t.message) (t.seq == 0) (is_empty t.message) (t.kind == 4) sent (λ zero. some (eqb-true t.seq 0 zero)) in
     (and_parts (nat_lt 0 t.seq) (is_number t.seq) (and_parts (is_positive t.seq) (is_message t.message) goes).0).1
 
-accepted_reads : (e : Seen) → IsEvent e → (t : Taken) (n : ℕ) (goes : Bool) → t.seq ≡ cond goes (n + 1) 0 → t.message ≡ cond goes (out_of e (n + 1)) [] → t.did ≡ e.did → t.kind ≡ kind_of e.body → is_accepted t ≡ true → IsFaithfulEvent t
+accepted_reads : (e : Seen) → IsEvent e → (t : Taken) (n : ℕ) (goes : Bool) → t.seq ≡ cond goes (n + 1) 0 → t.message ≡ cond goes (out_of e (n + 1)) [] → t.did ≡ e.did → t.kind ≡ kind_number e.body → is_accepted t ≡ true → IsFaithfulEvent t
 accepted_reads e read t n false seq message did kind is = λ some. absurd (some seq)
 accepted_reads e read t n true seq message did kind is = λ some.
     let below : n + 1 < NUMBERS = ltb-true (n + 1) NUMBERS (subst (λ (k : ℕ). nat_lt k NUMBERS ≡ true) seq (accepted_number t is some)) in
@@ -69,14 +69,14 @@ event_reads checks n a host e o read =
           accepted_reads e read t n (not (is_held a e.body)) refl refl refl refl (decided_formed t is)
     ]
 
-made_reads : (n : ℕ) (e : Seen) (f : Found) (timed : Bool) → IsEvent e → FitsFetched timed (made n e f) → IsFaithfulFetch e.did (made n e f)
+made_reads : (n : ℕ) (e : Seen) (f : Found) (timed : Bool) → IsEvent e → FitsFetched timed (fetched_as n e f) → IsFaithfulFetch e.did (fetched_as n e f)
 made_reads n e absent timed read fits = tt
 made_reads n e (unfit k) timed read fits = tt
 made_reads n e (found head records block) timed read fits =
     let formed = events_formed e read in
     whole_reads e.did e.time head records block (n + 1) formed.did_text formed.did formed.time fits
 
-asked_reads : (b : Bool) (n : ℕ) (e : Seen) (f : Found) (timed : Bool) → IsEvent e → FitsFetched timed (cond b (made n e f) Fetched.NotAsked) → IsFaithfulFetch e.did (cond b (made n e f) Fetched.NotAsked)
+asked_reads : (b : Bool) (n : ℕ) (e : Seen) (f : Found) (timed : Bool) → IsEvent e → FitsFetched timed (cond b (fetched_as n e f) Fetched.NotAsked) → IsFaithfulFetch e.did (cond b (fetched_as n e f) Fetched.NotAsked)
 asked_reads true n e f timed read fits = made_reads n e f timed read fits
 asked_reads false n e f timed read fits = tt
 
@@ -88,7 +88,7 @@ fetch_reads checks n a host e o read =
       | None ↦ λ is. tt
     ]
 
-taken_reads : (checks : Checks) (J : List Row) (host : List ℕ) (f : Frame) (t : Taken) (others : List Message) → AreEvents ((host, Ok f) ∷ others) → is_taken t ≡ true → IsMade checks J (host, Ok f) (Row.Taken t) → IsFaithful (Row.Taken t)
+taken_reads : (checks : Checks) (J : List Row) (host : List ℕ) (f : Frame) (t : Taken) (others : List Message) → AreEvents ((host, Ok f) ∷ others) → is_taken t ≡ true → IsMadeBy checks J (host, Ok f) (Row.Taken t) → IsFaithful (Row.Taken t)
 taken_reads checks J host (Frame.Event e) t others read is made =
     let P : Taken → Type 0 = λ s. is_taken s ≡ true → IsFaithful (Row.Taken s) in
     let n = last_seq J in
@@ -101,7 +101,7 @@ taken_reads checks J host Frame.Info t others read is made = absurd cc
 taken_reads checks J host Frame.Error t others read is made = absurd cc
 taken_reads checks J host Frame.Unknown t others read is made = absurd cc
 
-row_faithful : (checks : Checks) (J : List Row) (m : Message) (others : List Message) (row : Row) → is_row row ≡ true → AreEvents (m ∷ others) → IsMade checks J m row → IsFaithful row
+row_faithful : (checks : Checks) (J : List Row) (m : Message) (others : List Message) (row : Row) → is_row row ≡ true → AreEvents (m ∷ others) → IsMadeBy checks J m row → IsFaithful row
 unfolding is_row
 row_faithful checks J (host, Ok f) others (Row.Taken t) is read made = taken_reads checks J host f t others read is made
 row_faithful checks J (host, Ok f) others (Row.Synced name whole moment) is read made = absurd made
@@ -114,7 +114,7 @@ Reads checks messages = (J : List Row) (ended : List (List ℕ)) (rows : List Ro
 
 turned : (checks : Checks) (m : Message) (messages : List Message) → AreEvents (m ∷ messages) → Reads checks messages → (J : List Row) (ended : List (List ℕ)) (rows : List Row) (b : Bool) (p : Option Pass) → IsJournal (J ++ rows)
     → Turn b p (RunFrom checks J (m.0 ∷ ended) messages rows) (RunFrom checks J ended messages rows)
-    ((row : Row) × (others : List Row) × (rows ≡ row ∷ others) × IsMade checks J m row × RunFrom checks (J ++ row ∷ []) ended messages others)
+    ((row : Row) × (others : List Row) × (rows ≡ row ∷ others) × IsMadeBy checks J m row × RunFrom checks (J ++ row ∷ []) ended messages others)
     → AreFaithful rows
 turned checks m messages read reads J ended rows true p journal h = reads J ended rows journal h
 turned checks m messages read reads J ended rows false (Some Pass.Ended) journal h = reads J (m.0 ∷ ended) rows journal h
@@ -131,7 +131,7 @@ turned checks m messages read reads J ended rows false None journal (row, others
 run_reads : (checks : Checks) (messages : List Message) → AreEvents messages → Reads checks messages
 run_reads checks [] read J ended rows journal h = subst (λ (R : List Row). AreFaithful R) (sym h) tt
 run_reads checks (m ∷ messages) read J ended rows journal h =
-    turned checks m messages read (run_reads checks messages (later_events m messages read)) J ended rows (has_ended ended m.0) (passed_by J m) journal h
+    turned checks m messages read (run_reads checks messages (later_events m messages read)) J ended rows (has_ended ended m.0) (skipped_by J m) journal h
 
 pub runs_faithful : RunsAreFaithful
 runs_faithful checks J messages rows read journal run = run_reads checks messages read J [] rows journal run

@@ -12,7 +12,7 @@ use Rattle.at_event.specs.Refusals.{code_of}
 use Rattle.at_event.specs.declared.event.Body.{Body}
 use Rattle.at_event.specs.declared.event.CommitEvent.{CommitEvent}
 use Rattle.at_event.specs.declared.refusal.Refusal.{Refusal}
-use Rattle.event_checks.specs.Lines.{Line, first_of}
+use Rattle.event_checks.specs.Lines.{RefusalLine, first_of}
 use Rattle.event_checks.specs.Table.{open_lines, sync_lines}
 use Rattle.event_checks.proofs.Firsts.{all_unmet}
 use Rattle.mst_list.specs.Faults.{Disagrees, IsUncovered, IsFirst}
@@ -34,7 +34,7 @@ is_kept r = is_detail r && ((nat_le (code_of r) 24 || code_of r == 25) && not (c
 
 -- ---- opening
 
-first_kept : (lines : List Line) → list_all (λ line. is_kept line.0) lines ≡ true → (r : Refusal) → first_of lines ≡ Some r → is_kept r ≡ true
+first_kept : (lines : List RefusalLine) → list_all (λ line. is_kept line.0) lines ≡ true → (r : Refusal) → first_of lines ≡ Some r → is_kept r ≡ true
 first_kept [] all r h = absurd cc
 first_kept (line ∷ lines) all r h =
     let both = and_parts (is_kept line.0) (list_all (λ line. is_kept line.0) lines) all in

@@ -14,7 +14,7 @@ use Rattle.event_checks.specs.Lines.{first_of}
 use Rattle.event_checks.specs.Opening.{CarResult, object_in, root_in}
 use Rattle.event_checks.specs.Table.{car_in, field_lines, block_lines, is_stale}
 use Rattle.account_state.specs.declared.repo.Repo.{Repo}
-use Rattle.commit_check.specs.Order.{Holds}
+use Rattle.commit_check.specs.Order.{HoldsCommit}
 use Rattle.commit_check.specs.Step.{edits_of, lacks_prev, root_before, strays, ReplaysBy}
 use Rattle.commit_check.proofs.Formed.{edits_formed}
 use Rattle.commit_check.proofs.Steps.{sound_by}
@@ -26,7 +26,7 @@ use Rattle.relay_law.specs.Right.{LinksRight, expect_of, root_expected}
 use Rattle.relay_law.specs.Sound.{GoesFrom}
 
 -- a CAR that was read, and not one at fault, holds a commit object
-pub held_in : (c : CommitEvent) (car : CarResult) → car_in c ≡ car → (link block : List ℕ) (commit : Commit) → root_in car ≡ Some link → object_in car ≡ Some commit → (h : Holds c) × (h.commit ≡ commit)
+pub held_in : (c : CommitEvent) (car : CarResult) → car_in c ≡ car → (link block : List ℕ) (commit : Commit) → root_in car ≡ Some link → object_in car ≡ Some commit → (h : HoldsCommit c) × (h.commit ≡ commit)
 held_in c (Ok (roots, blocks)) is link block commit rooted object =
     (record { roots = roots; blocks = blocks; commit = commit; car = is; object = ap object_in is ∙ object }, refl)
 held_in c (Err fault) is link block commit rooted object = absurd cc

@@ -16,7 +16,7 @@ use Rattle.relay_row.specs.Folds.{names, last_seq}
 use Rattle.relay_row.specs.Journal.{IsJournal}
 use Rattle.relay_row.specs.Rules.{is_row, is_taken, is_accepted, is_decided, is_effect, is_fetched, is_timed, is_positive, is_number, is_message, is_empty, is_about, is_moment, names_host}
 use Rattle.relay_row.specs.declared.fetched.Fetched.{Fetched}
-use Rattle.relay_row.specs.declared.limits.TheConstants.{NUMBERS}
+use Rattle.at_cid.specs.declared.limits.TheConstants.{NUMBERS}
 use Rattle.relay_row.specs.declared.row.Row.{Row}
 use Rattle.relay_row.specs.declared.taken.Effect.{Effect}
 use Rattle.relay_row.specs.declared.taken.Taken.{Taken}
@@ -25,11 +25,11 @@ use Rattle.account_state.specs.Folds.{account, last_rev}
 use Rattle.account_state.specs.State.{State}
 use Rattle.account_state.specs.declared.repo.Repo.{Repo}
 use Rattle.commit_check.specs.Step.{empty_root}
-use Rattle.relay_core.specs.Decide.{Checks, Outside, answers, as_result, condition, first, or_later, refusal_of, decision_for, decided_event}
-use Rattle.relay_core.specs.Rows.{event_taken, faulty_taken, effect_of, head_effect, kind_of, goes_out}
-use Rattle.relay_core.specs.Runs.{Message, Turn, IsMade, RunFrom, passed_by, has_ended}
+use Rattle.relay_core.specs.Decide.{Checks, Outside, answers, as_result, condition, first_refusal, or_later, refusal_of, decision_for, decided_event}
+use Rattle.relay_core.specs.Rows.{event_taken, faulty_taken, effect_of, head_effect, kind_number, goes_out}
+use Rattle.relay_core.specs.Runs.{Message, Turn, IsMadeBy, RunFrom, skipped_by, has_ended}
 use Rattle.relay_core.specs.Shown.{shown}
-use Rattle.relay_core.specs.Table.{Line, body_lines, refusal_in, when, is_held}
+use Rattle.relay_core.specs.Table.{TableLine, body_lines, refusal_in, when, is_held}
 use Rattle.relay_core.specs.declared.decision.Pass.{Pass}
 use Rattle.relay_core.specs.declared.limits.TheConstants.{LONGEST_MESSAGE}
 use Rattle.relay_law.specs.Chains.{Part, rests, nothing, effect_part, taken_part, part_in, part_of}
@@ -37,7 +37,8 @@ use Rattle.relay_law.specs.Laws.{AreEvents, RunsStaySound, OperatorsStaySound}
 use Rattle.relay_law.specs.Right.{AreRight, root_expected}
 use Rattle.relay_law.specs.Sound.{GoesFrom, Follows, IsSound}
 use Rattle.relay_law.proofs.Growing.{end_root, root_now, FollowsAt, sound_more}
-use Rattle.relay_law.proofs.Tracking.{IsTracked, tracked, names_same}
+use Rattle.account_state.proofs.Dids.{names_same}
+use Rattle.relay_law.proofs.Tracking.{IsTracked, tracked}
 
 -- a part that is no commit follows anywhere
 
@@ -93,15 +94,15 @@ linked_back : (o : Option Refusal) → refusal_in (as_result o) ≡ o
 linked_back None = refl
 linked_back (Some r) = refl
 
-abbrev NoneApplies : List Line → Type 0
+abbrev NoneApplies : List TableLine → Type 0
 NoneApplies [] = Unit {0}
 NoneApplies (line ∷ lines) = (condition line ≡ None) × NoneApplies lines
 
-none_applies : (lines : List Line) → first lines ≡ None → NoneApplies lines
+none_applies : (lines : List TableLine) → first_refusal lines ≡ None → NoneApplies lines
 none_applies [] h = tt
-none_applies (line ∷ lines) h = (earlier_none (condition line) (first lines) h, none_applies lines (later_none (condition line) (first lines) h))
+none_applies (line ∷ lines) h = (earlier_none (condition line) (first_refusal lines) h, none_applies lines (later_none (condition line) (first_refusal lines) h))
 
-pub links_none : (checks : Checks) (a : State) (e : Seen) (c : CommitEvent) (o : Outside) → first (body_lines a (Body.Commit c) (answers checks 0 a e o)) ≡ None → checks.links e a.repo ≡ None
+pub links_none : (checks : Checks) (a : State) (e : Seen) (c : CommitEvent) (o : Outside) → first_refusal (body_lines a (Body.Commit c) (answers checks 0 a e o)) ≡ None → checks.links e a.repo ≡ None
 links_none checks a e c o h =
     sym (linked_back (checks.links e a.repo)) ∙ (none_applies (body_lines a (Body.Commit c) (answers checks 0 a e o)) h).1.1.1.1.1.1.0
 
@@ -116,7 +117,7 @@ accepted_taken checks n a host e o body = record {
   host = host;
   host_seq = e.seq;
   did = e.did;
-  kind = kind_of body;
+  kind = kind_number body;
   refusal = None;
   seq = if goes_out None (is_held a body) then n + 1 else 0;
   message = if goes_out None (is_held a body) then out_of e (n + 1) else [];
@@ -136,7 +137,7 @@ commit_follows checks right n a e c p head read body h fits opened linked =
     }
 
 accepted_follows : (checks : Checks) → AreRight checks → (n : ℕ) (a : State) (host : List ℕ) (e : Seen) (o : Outside) (p : List ℕ) → IsEvent e → IsTracked a.repo p
-    → (body : Body) → e.body ≡ body → first (body_lines a body (answers checks 0 a e o)) ≡ None → is_taken (accepted_taken checks n a host e o body) ≡ true → FollowsAt p (part_in (Row.Taken (accepted_taken checks n a host e o body)))
+    → (body : Body) → e.body ≡ body → first_refusal (body_lines a body (answers checks 0 a e o)) ≡ None → is_taken (accepted_taken checks n a host e o body) ≡ true → FollowsAt p (part_in (Row.Taken (accepted_taken checks n a host e o body)))
 unfolding accepted_taken FollowsAt
 accepted_follows checks right n a host e o p read h (Body.Commit c) body q is =
     elim (checks.opens e (last_rev a.repo)) as (λ x. checks.opens e (last_rev a.repo) ≡ x → FollowsAt p (effect_part 1 (out_of e (n + 1)) (head_effect (Some x)))) [
@@ -158,7 +159,7 @@ event_part_follows checks right n a host e o p read h =
     elim (refusal_of checks a e o) as (λ q. refusal_of checks a e o ≡ q → is_taken (event_taken n host e (decision_for a e.body o.fetched q) (answers checks n a e o)) ≡ true
     → FollowsAt p (part_in (Row.Taken (event_taken n host e (decision_for a e.body o.fetched q) (answers checks n a e o))))) [
       | Some r ↦ λ q is. let t = event_taken n host e (decision_for a e.body o.fetched (Some r)) (answers checks n a e o) in quiet_part p t t.fetched refl
-      | None ↦ λ q is. accepted_follows checks right n a host e o p read h e.body refl (later_none (when (nat_lt LONGEST_MESSAGE (out_length e)) Refusal.TooLong) (first (body_lines a e.body (answers checks 0 a e o))) q) is
+      | None ↦ λ q is. accepted_follows checks right n a host e o p read h e.body refl (later_none (when (nat_lt LONGEST_MESSAGE (out_length e)) Refusal.TooLong) (first_refusal (body_lines a e.body (answers checks 0 a e o))) q) is
     ] refl
 
 -- the row of a message follows at the newest root of every account
@@ -178,7 +179,7 @@ faulty_follows : (p did host : List ℕ) (seq : ℕ) (moment : Option ℕ) → F
 faulty_follows p did host seq moment = let t = faulty_taken host seq moment in at_name (names did []) p (part_in (Row.Taken t)) (λ named. quiet_part p t t.fetched refl)
 
 taken_follows : (checks : Checks) → AreRight checks → (J : List Row) → IsJournal J → (host : List ℕ) (f : Frame) (t : Taken) (others : List Message) → AreEvents ((host, Ok f) ∷ others) → is_taken t ≡ true
-    → IsMade checks J (host, Ok f) (Row.Taken t) → (did : List ℕ) → FollowsAt (root_now did empty_root J) (part_of did (Row.Taken t))
+    → IsMadeBy checks J (host, Ok f) (Row.Taken t) → (did : List ℕ) → FollowsAt (root_now did empty_root J) (part_of did (Row.Taken t))
 taken_follows checks right J journal host (Frame.Event e) t others read is made did =
     let P : Taken → Type 0 = λ s. is_taken s ≡ true → FollowsAt (root_now did empty_root J) (part_of did (Row.Taken s)) in
     subst P (taken_is (decided_event checks (last_seq J) (account e.did J) host e (shown t)) t made) (λ formed. event_follows checks right J journal host e (shown t) read.0 formed did) is
@@ -189,7 +190,7 @@ taken_follows checks right J journal host Frame.Info t others read is made did =
 taken_follows checks right J journal host Frame.Error t others read is made did = absurd cc
 taken_follows checks right J journal host Frame.Unknown t others read is made did = absurd cc
 
-row_follows : (checks : Checks) → AreRight checks → (J : List Row) (m : Message) (others : List Message) (row : Row) → IsJournal (J ++ row ∷ []) → AreEvents (m ∷ others) → IsMade checks J m row
+row_follows : (checks : Checks) → AreRight checks → (J : List Row) (m : Message) (others : List Message) (row : Row) → IsJournal (J ++ row ∷ []) → AreEvents (m ∷ others) → IsMadeBy checks J m row
     → (did : List ℕ) → FollowsAt (root_now did empty_root J) (part_of did row)
 unfolding is_row
 row_follows checks right J (host, Ok f) others (Row.Taken t) journal read made did =
@@ -214,7 +215,7 @@ Stays checks messages = (J : List Row) (ended : List (List ℕ)) (rows : List Ro
 turned : (checks : Checks) → AreRight checks → (m : Message) (messages : List Message) → AreEvents (m ∷ messages) → Stays checks messages
     → (J : List Row) (ended : List (List ℕ)) (rows : List Row) (b : Bool) (p : Option Pass) → IsJournal (J ++ rows) → IsSound J
     → Turn b p (RunFrom checks J (m.0 ∷ ended) messages rows) (RunFrom checks J ended messages rows)
-    ((row : Row) × (others : List Row) × (rows ≡ row ∷ others) × IsMade checks J m row × RunFrom checks (J ++ row ∷ []) ended messages others)
+    ((row : Row) × (others : List Row) × (rows ≡ row ∷ others) × IsMadeBy checks J m row × RunFrom checks (J ++ row ∷ []) ended messages others)
     → IsSound (J ++ rows)
 unfolding end_root
 turned checks right m messages read stays J ended rows true p journal sound h = stays J ended rows journal sound h
@@ -235,7 +236,7 @@ run_sound checks right [] read J ended rows journal sound h =
     let IsSoundOf : List Row → Type 0 = λ R. IsSound R in
     subst IsSoundOf (sym (ap (λ (R : List Row). J ++ R) h ∙ append-nil J)) sound
 run_sound checks right (m ∷ messages) read J ended rows journal sound h =
-    turned checks right m messages read (run_sound checks right messages (later_events m messages read)) J ended rows (has_ended ended m.0) (passed_by J m) journal sound h
+    turned checks right m messages read (run_sound checks right messages (later_events m messages read)) J ended rows (has_ended ended m.0) (skipped_by J m) journal sound h
 
 pub runs_sound : RunsStaySound
 runs_sound checks right J messages rows read journal sound run = run_sound checks right messages read J [] rows journal sound run

@@ -1,13 +1,11 @@
 -- An account expects the root of its newest map.
 use Rattle.std.proofs.Common.{◌≡◌, ℕ, Bool, true, false, not, ◌&&◌, ◌||◌, List, [], ◌∷◌, ◌++◌, Option, Some, None, refl, ap, ◌∙◌, sym, cond, subst, append_assoc}
 use Rattle.std.proofs.lemmas.Bool.{and_parts, true≢false, false≢true}
-use Rattle.std.proofs.lemmas.Slice.Eq.{bytes_eq-Decides}
 use Rattle.std.specs.List.{list_any, list_all}
 use Rattle.std.specs.Prelude.{◌==◌}
-use Rattle.std.specs.Str.{bytes_eq}
 use Rattle.at_event.specs.Refusals.{code_of}
 use Rattle.at_event.specs.declared.refusal.Refusal.{Refusal}
-use Rattle.relay_row.specs.Folds.{folded, names, did_in, is_named}
+use Rattle.relay_row.specs.Folds.{folded, names, did_of_row, is_named}
 use Rattle.relay_row.specs.Journal.{IsJournal, keeps_order, are_none, is_carried_row}
 use Rattle.relay_row.specs.Rules.{loses}
 use Rattle.relay_row.specs.declared.carried.Carried.{Carried}
@@ -16,15 +14,13 @@ use Rattle.relay_row.specs.declared.fetched.Fetched.{Fetched}
 use Rattle.relay_row.specs.declared.row.Row.{Row}
 use Rattle.relay_row.specs.declared.taken.Effect.{Effect}
 use Rattle.relay_row.specs.declared.taken.Taken.{Taken}
+use Rattle.account_state.proofs.Dids.{names_same}
 use Rattle.account_state.specs.Folds.{account, account_after, fresh, moved, effected, lost, refetched, last_rev, repo_carried}
 use Rattle.account_state.specs.State.{State}
 use Rattle.account_state.specs.declared.repo.Repo.{Repo}
 use Rattle.commit_check.specs.Step.{empty_root}
 use Rattle.relay_law.specs.Chains.{Part, commits, rests, nothing, effect_part, taken_part, carried_part, part_in, part_of}
 use Rattle.relay_law.proofs.Growing.{root_by, root_now}
-
-pub names_same : (did text : List ℕ) → names did text ≡ true → did ≡ text
-names_same did text h = (bytes_eq-Decides did text).0 (and_parts (not (bytes_eq did [])) (bytes_eq did text) h).1
 
 or_nothing : (b : Bool) → b || false ≡ b
 or_nothing true = refl
@@ -34,10 +30,10 @@ or_joined : (a b c : Bool) → a || (b || c) ≡ (a || b) || c
 or_joined true b c = refl
 or_joined false b c = refl
 
-pub named_more : (did : List ℕ) (rows : List Row) (row : Row) → is_named did (rows ++ row ∷ []) ≡ is_named did rows || names did (did_in row)
+pub named_more : (did : List ℕ) (rows : List Row) (row : Row) → is_named did (rows ++ row ∷ []) ≡ is_named did rows || names did (did_of_row row)
 unfolding is_named
-named_more did [] row = or_nothing (names did (did_in row))
-named_more did (x ∷ rows) row = ap (λ (b : Bool). names did (did_in x) || b) (named_more did rows row) ∙ or_joined (names did (did_in x)) (list_any (λ r. names did (did_in r)) rows) (names did (did_in row))
+named_more did [] row = or_nothing (names did (did_of_row row))
+named_more did (x ∷ rows) row = ap (λ (b : Bool). names did (did_of_row x) || b) (named_more did rows row) ∙ or_joined (names did (did_of_row x)) (list_any (λ r. names did (did_of_row r)) rows) (names did (did_of_row row))
 
 abbrev pub is_account : Row → Bool
 is_account (Row.Carried (Carried.Account a)) = true
@@ -50,13 +46,13 @@ is_account (Row.Operated o) = false
 -- a carried account stands in front of all rows that name its DID; seen is whether one came already
 abbrev InOrder : List ℕ → Bool → List Row → Type 0
 InOrder did seen [] = Unit {0}
-InOrder did seen (row ∷ rows) = (is_account row ≡ true → names did (did_in row) ≡ true → seen ≡ false) × InOrder did (seen || names did (did_in row)) rows
+InOrder did seen (row ∷ rows) = (is_account row ≡ true → names did (did_of_row row) ≡ true → seen ≡ false) × InOrder did (seen || names did (did_of_row row)) rows
 
 not_true : (b : Bool) → not b ≡ true → b ≡ false
 not_true true h = sym h
 not_true false h = refl
 
-pub kept_order : (did : List ℕ) (before : List Row) (row : Row) → keeps_order before row ≡ true → is_account row ≡ true → names did (did_in row) ≡ true → is_named did before ≡ false
+pub kept_order : (did : List ℕ) (before : List Row) (row : Row) → keeps_order before row ≡ true → is_account row ≡ true → names did (did_of_row row) ≡ true → is_named did before ≡ false
 kept_order did before (Row.Carried (Carried.Account a)) kept is named =
     let rest = (and_parts (not (are_none before)) (list_all is_carried_row before && not (is_named a.did before)) kept).1 in
     let unnamed = not_true (is_named a.did before) (and_parts (list_all is_carried_row before) (not (is_named a.did before)) rest).1 in
@@ -125,9 +121,9 @@ tracked_from : (did : List ℕ) (a : State) (r : List ℕ) (seen : Bool) (rows :
 unfolding root_now
 tracked_from did a r seen [] order start h = h
 tracked_from did a r seen (row ∷ rows) order start h =
-    tracked_from did (account_after did a row) (root_by (part_of did row) r) (seen || names did (did_in row)) rows order.1
-    (still_empty seen (names did (did_in row)) (part_in row) r start)
-    (by_name (names did (did_in row)) a row r (λ named is. start (order.0 is named)) h)
+    tracked_from did (account_after did a row) (root_by (part_of did row) r) (seen || names did (did_of_row row)) rows order.1
+    (still_empty seen (names did (did_of_row row)) (part_in row) r start)
+    (by_name (names did (did_of_row row)) a row r (λ named is. start (order.0 is named)) h)
 
 pub tracked : (did : List ℕ) (rows : List Row) → IsJournal rows → IsTracked (account did rows).repo (root_now did empty_root rows)
 unfolding account is_named

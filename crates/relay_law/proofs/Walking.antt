@@ -21,7 +21,7 @@ use Rattle.commit_check.proofs.Held.{car_linked}
 use Rattle.commit_check.proofs.Objects.{data_held}
 use Rattle.relay_row.specs.Rules.{is_cid, is_node, is_node_kind, is_rev}
 use Rattle.relay_row.proofs.Again.{node_fits}
-use Rattle.relay_core.specs.Table.{Line, told, asked, Walk, waits, refuses, passes, walk, walk_past, when, refusal_in, is_ahead, link_line, repo_lines, body_lines, event_lines}
+use Rattle.relay_core.specs.Table.{TableLine, told, asked, Walk, waits, refuses, passes, walk, walk_past, when, refusal_in, is_ahead, link_line, repo_lines, body_lines, event_lines}
 use Rattle.relay_core.specs.declared.answers.Answers.{Answers}
 use Rattle.relay_core.specs.declared.answers.Question.{Question}
 use Rattle.relay_core.specs.declared.limits.TheConstants.{LONGEST_MESSAGE}
@@ -34,20 +34,20 @@ use Rattle.relay_law.proofs.Right.{held_in}
 
 -- ---- lines
 
-abbrev Tells : Line → Refusal → Type 0
+abbrev Tells : TableLine → Refusal → Type 0
 Tells (told o) r = o ≡ Some r
 Tells (asked q o) r = o ≡ Some (Some r)
 
-abbrev pub Passes : Line → Type 0
+abbrev pub Passes : TableLine → Type 0
 Passes (told o) = o ≡ None
 Passes (asked q o) = o ≡ Some None
 
-abbrev pub AllPass : List Line → Type 0
+abbrev pub AllPass : List TableLine → Type 0
 AllPass [] = Unit {0}
 AllPass (line ∷ lines) = Passes line × AllPass lines
 
 -- each refusal that a line tells, where those before it are passed, is one that a row may keep
-abbrev AreKept : List Line → Type 0
+abbrev AreKept : List TableLine → Type 0
 AreKept [] = Unit {0}
 AreKept (line ∷ lines) = ((r : Refusal) → Tells line r → is_kept r ≡ true) × (Passes line → AreKept lines)
 
@@ -59,7 +59,7 @@ past_passes : (o : Option Refusal) (w : Walk) → walk_past o w ≡ passes → (
 past_passes None w h = (refl, h)
 past_passes (Some q) w h = absurd cc
 
-refuses_kept : (lines : List Line) (r : Refusal) → AreKept lines → walk lines ≡ refuses r → is_kept r ≡ true
+refuses_kept : (lines : List TableLine) (r : Refusal) → AreKept lines → walk lines ≡ refuses r → is_kept r ≡ true
 refuses_kept [] r are h = absurd cc
 refuses_kept (told o ∷ lines) r are h =
     elim (past_refuses o (walk lines) r h) [
@@ -73,7 +73,7 @@ refuses_kept (asked q (Some o) ∷ lines) r are h =
       | inr e ↦ refuses_kept lines r (are.1 (ap (λ (x : Option Refusal). Some x) e.0)) e.1
     ]
 
-pub all_pass : (lines : List Line) → walk lines ≡ passes → AllPass lines
+pub all_pass : (lines : List TableLine) → walk lines ≡ passes → AllPass lines
 all_pass [] h = tt
 all_pass (told o ∷ lines) h = let e = past_passes o (walk lines) h in (e.0, all_pass lines e.1)
 all_pass (asked q None ∷ lines) h = absurd cc
@@ -158,7 +158,7 @@ module _ (last : ℕ) (a : State) (e : Seen) (x : Answers) (right : AreAnswersTo
   verdict_kept : (r : Refusal) → option_map (λ good. when (not good) Refusal.BadSignature) x.verdict ≡ Some (Some r) → is_kept r ≡ true
   verdict_kept = mapped_kept (λ (good : Bool). when (not good) Refusal.BadSignature) x.verdict (λ good r given told_so. when_kept (not good) Refusal.BadSignature r refl told_so)
 
-  repo_kept : (body : Body) → e.body ≡ body → (rev : ℕ) (others : List Line) → ((head : Head) → x.opened ≡ Some (Ok head) → AreKept others) → AreKept (repo_lines a rev x others)
+  repo_kept : (body : Body) → e.body ≡ body → (rev : ℕ) (others : List TableLine) → ((head : Head) → x.opened ≡ Some (Ok head) → AreKept others) → AreKept (repo_lines a rev x others)
   repo_kept body is rev others more = (
     home_kept,
     λ home. (
@@ -197,6 +197,6 @@ module _ (last : ℕ) (a : State) (e : Seen) (x : Answers) (right : AreAnswersTo
       )
 
 -- a walk that doesn't wait has the moment
-pub moment_there : (o : Option ℕ) (lines : List Line) → ((q : Question) → walk (asked Question.Moment (option_map (λ m. None) o) ∷ lines) ≡ waits q → ⊥) → (m : ℕ) × (o ≡ Some m)
+pub moment_there : (o : Option ℕ) (lines : List TableLine) → ((q : Question) → walk (asked Question.Moment (option_map (λ m. None) o) ∷ lines) ≡ waits q → ⊥) → (m : ℕ) × (o ≡ Some m)
 moment_there (Some m) lines h = (m, refl)
 moment_there None lines h = absurd (h Question.Moment refl)

@@ -1,6 +1,6 @@
 -- The chains of an account: the commits that a journal accepted of it, each run of them behind a base (own).
 use Rattle.std.specs.Prelude.{ℕ, List, [], ◌∷◌, ◌++◌, if◌then◌else◌, ◌==◌}
-use Rattle.relay_row.specs.Folds.{names, did_in}
+use Rattle.relay_row.specs.Folds.{names, did_of_row}
 use Rattle.relay_row.specs.declared.carried.Carried.{Carried}
 use Rattle.relay_row.specs.declared.carried.CarriedRepo.{CarriedRepo}
 use Rattle.relay_row.specs.declared.fetched.Fetched.{Fetched}
@@ -44,7 +44,7 @@ part_in (Row.Carried (Carried.Account a)) = carried_part a.repo
 
 -- what a row is to the chains of a DID
 abbrev pub part_of : List ℕ → Row → Part
-part_of did row = if names did (did_in row) then part_in row else nothing
+part_of did row = if names did (did_of_row row) then part_in row else nothing
 
 -- a chain: the root of its base, and the commits behind it, each with its message and its `data`
 abbrev pub Chain : Type 0

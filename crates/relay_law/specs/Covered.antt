@@ -9,7 +9,7 @@ use Rattle.event_checks.specs.Table.{open_lines}
 use Rattle.relay_row.specs.Folds.{cursor}
 use Rattle.relay_row.specs.declared.row.Row.{Row}
 use Rattle.account_state.specs.Folds.{account, last_rev}
-use Rattle.commit_check.specs.Order.{Holds}
+use Rattle.commit_check.specs.Order.{HoldsCommit}
 use Rattle.commit_check.specs.Step.{edits_of, is_gap, root_before, IsCoveredBy}
 use Rattle.relay_core.specs.Table.{is_ahead}
 use Rattle.relay_core.specs.declared.limits.TheConstants.{LONGEST_MESSAGE}
@@ -26,5 +26,5 @@ pub record IsCovered (J : List Row) (host : List ℕ) (e : Seen) (moment : ℕ) 
   pub shown : first_of (open_lines commit (last_rev (account e.did J).repo)) ≡ None
   pub near : is_ahead commit.rev (Some moment) ≡ false
   pub no_gap : is_gap commit (expect_of (account e.did J).repo) ≡ false
-  pub holds : Holds commit
+  pub holds : HoldsCommit commit
   pub covered : IsCoveredBy (edits_of commit) holds.blocks (root_before (expect_of (account e.did J).repo)) holds.commit.data_root

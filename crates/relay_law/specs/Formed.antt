@@ -10,10 +10,10 @@ use Rattle.at_event.specs.declared.refusal.Refusal.{Refusal}
 use Rattle.relay_row.specs.Rules.{is_head, is_message, is_repo_number}
 use Rattle.relay_row.specs.declared.fetched.Fetched.{Fetched}
 use Rattle.relay_row.specs.declared.fetched.Whole.{Whole}
-use Rattle.relay_row.specs.declared.limits.TheConstants.{NUMBERS}
+use Rattle.at_cid.specs.declared.limits.TheConstants.{NUMBERS}
 use Rattle.account_state.specs.Folds.{last_rev}
 use Rattle.account_state.specs.State.{State}
-use Rattle.commit_check.specs.Order.{Holds, StopsPast}
+use Rattle.commit_check.specs.Order.{HoldsCommit, StopsPast}
 use Rattle.commit_check.specs.Step.{is_gap, root_before}
 use Rattle.relay_core.specs.Decide.{Found, absent, unfit, found, Outside, sync_message}
 use Rattle.relay_core.specs.Opening.{IsHeadOf, shown_alone}
@@ -51,7 +51,7 @@ IsOpenedAs body last (Err r) = shown_alone body last ≡ Some r
 pub record AreAnswersTo (last : ℕ) (a : State) (e : Seen) (x : Answers) : Type 0 where
   pub moment : (m : ℕ) → x.moment ≡ Some m → m < NUMBERS
   pub opened : (answer : Result Head Refusal) → x.opened ≡ Some answer → IsOpenedAs e.body (last_rev a.repo) answer
-  pub linked : (c : CommitEvent) (h : Holds c) (r : Refusal) → e.body ≡ Body.Commit c → x.linked ≡ Some (Err r) → StopsPast (is_gap c (expect_of a.repo)) c h.blocks (root_before (expect_of a.repo)) h.commit.data_root r
+  pub linked : (c : CommitEvent) (h : HoldsCommit c) (r : Refusal) → e.body ≡ Body.Commit c → x.linked ≡ Some (Err r) → StopsPast (is_gap c (expect_of a.repo)) c h.blocks (root_before (expect_of a.repo)) h.commit.data_root r
   pub fetched : (f : Fetched) → x.fetched ≡ Some f → IsFetchedBehind last f
 
 -- The same of the answers to a message. Of a bad event, the moment alone is asked.

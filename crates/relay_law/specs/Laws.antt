@@ -14,7 +14,7 @@ use Rattle.at_event.specs.declared.head.Head.{Head}
 use Rattle.at_event.specs.declared.refusal.Refusal.{Refusal}
 use Rattle.relay_row.specs.Folds.{cursor, last_seq, seq_in}
 use Rattle.relay_row.specs.Rules.{names_did, names_host}
-use Rattle.relay_row.specs.declared.limits.TheConstants.{NUMBERS}
+use Rattle.at_cid.specs.declared.limits.TheConstants.{NUMBERS}
 use Rattle.relay_row.specs.declared.taken.Taken.{Taken}
 use Rattle.account_state.specs.Folds.{account}
 use Rattle.relay_core.specs.Decide.{Checks, Outside, found, decided, passed, whole_under}
@@ -61,7 +61,7 @@ SoundReplays = (rows : List Row) → IsSound rows → (did : List ℕ) → AllRe
 abbrev pub FrontsAreSound : Type 0
 FrontsAreSound = (xs ys : List Row) → IsSound (xs ++ ys) → IsSound xs
 
--- The rows that operators' words make leave a sound journal sound.
+-- The rows that operators' commands make leave a sound journal sound.
 pub record OperatorsStaySound : Type 0 where
   pub operated : (rows : List Row) (o : Operated) → IsSound rows → IsSound (rows ++ Row.Operated o ∷ [])
   pub synced : (rows : List Row) (did : List ℕ) (whole : Whole) (moment : Option ℕ) → IsSound rows → IsSound (rows ++ Row.Synced did whole moment ∷ [])
@@ -98,7 +98,7 @@ CoveredAreAccepted = (checks : Checks) → OpensRight checks → LinksRight chec
     → decided checks (last_seq J) (account e.did J) host (Frame.Event e) o ≡ Some t
     → t.refusal ≡ (if o.home then (if o.verdict then None else Some Refusal.BadSignature) else Some Refusal.NotHome)
 
--- The rows that operators' words make are faithful, whatever the time is that they bear, if it is a short text.
+-- The rows that operators' commands make are faithful, whatever the time is that they bear, if it is a short text.
 pub record OperatorsAreFaithful : Type 0 where
   pub operated : (J : List Row) (did : List ℕ) (down : Bool) (time : List ℕ) (moment : Option ℕ) → IsShortText time → IsJournal (J ++ Row.Operated (operated_as (last_seq J) (account did J) did down time moment) ∷ [])
       → IsFaithful (Row.Operated (operated_as (last_seq J) (account did J) did down time moment))
@@ -141,7 +141,7 @@ OperatedRowsAreFormed = (J : List Row) (did : List ℕ) (down : Bool) (time : Li
     → IsJournal J → names_did did ≡ true → IsShortText time → moment < NUMBERS → last_seq J + 1 < NUMBERS
     → IsJournal (J ++ Row.Operated (operated_as (last_seq J) (account did J) did down time (Some moment)) ∷ [])
 
--- The same of the row that takes over a repository that was fetched at an operator's word.
+-- The same of the row that takes over a repository that was fetched at an operator's command.
 abbrev pub SyncedRowsAreFormed : Type 0
 SyncedRowsAreFormed = (J : List Row) (did time : List ℕ) (head : Head) (records : ℕ) (block : List ℕ) (moment : ℕ)
     → IsJournal J → names_did did ≡ true → IsFormedFound (last_seq J) did time (found head records block) → moment < NUMBERS → last_seq J + 1 < NUMBERS

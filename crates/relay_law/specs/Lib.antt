@@ -7,6 +7,6 @@ pub mod Covered
 pub mod Faithful
 pub mod Carried
 pub mod Histories
-pub mod Wanted
+pub mod Needed
 pub mod Formed
 pub mod Laws

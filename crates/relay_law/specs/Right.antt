@@ -8,7 +8,7 @@ use Rattle.at_event.specs.declared.head.Head.{Head}
 use Rattle.at_event.specs.declared.refusal.Refusal.{Refusal}
 use Rattle.account_state.specs.declared.repo.Repo.{Repo}
 use Rattle.commit_check.specs.Step.{empty_root, is_gap, root_before, Leads}
-use Rattle.commit_check.specs.Order.{Holds, StopsPast}
+use Rattle.commit_check.specs.Order.{HoldsCommit, StopsPast}
 use Rattle.commit_check.specs.declared.expect.Expect.{Expect}
 use Rattle.relay_core.specs.Decide.{Checks}
 use Rattle.relay_law.specs.Sound.{GoesFrom}
@@ -34,6 +34,6 @@ expect_of (Repo.Lost rev) = Expect.Lost
 -- Linking says what is right of a commit: it passes only where there is no gap and, by the blocks that were read, the commit leads from the root before to its `data`; a refusal is the one that stops it.
 pub record LinksRight (checks : Checks) : Type 0 where
   pub no_gap : (e : Seen) (c : CommitEvent) (repo : Repo) → e.body ≡ Body.Commit c → checks.links e repo ≡ None → is_gap c (expect_of repo) ≡ false
-  pub leads : (e : Seen) (c : CommitEvent) (repo : Repo) (h : Holds c) → IsEvent e → e.body ≡ Body.Commit c → checks.links e repo ≡ None → Leads c h.blocks (root_before (expect_of repo)) h.commit.data_root
-  pub stops : (e : Seen) (c : CommitEvent) (repo : Repo) (h : Holds c) (refusal : Refusal) → IsEvent e → e.body ≡ Body.Commit c → checks.links e repo ≡ Some refusal
+  pub leads : (e : Seen) (c : CommitEvent) (repo : Repo) (h : HoldsCommit c) → IsEvent e → e.body ≡ Body.Commit c → checks.links e repo ≡ None → Leads c h.blocks (root_before (expect_of repo)) h.commit.data_root
+  pub stops : (e : Seen) (c : CommitEvent) (repo : Repo) (h : HoldsCommit c) (refusal : Refusal) → IsEvent e → e.body ≡ Body.Commit c → checks.links e repo ≡ Some refusal
       → StopsPast (is_gap c (expect_of repo)) c h.blocks (root_before (expect_of repo)) h.commit.data_root refusal

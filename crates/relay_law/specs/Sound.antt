@@ -12,7 +12,7 @@ use Rattle.mst_list.specs.Edits.{Plays}
 use Rattle.mst_list.specs.Lists.{IsMap}
 use Rattle.mst_node.specs.Trees.{root, nodes, Distinct, IsView}
 use Rattle.relay_row.specs.declared.row.Row.{Row}
-use Rattle.commit_check.specs.Step.{edits_of, named, ReplaysBy}
+use Rattle.commit_check.specs.Step.{edits_of, blocks_named, ReplaysBy}
 use Rattle.relay_law.specs.Chains.{Chain, chains}
 
 -- the blocks in a commit event's CAR
@@ -53,7 +53,7 @@ IsSound rows = (did : List ℕ) → AreLinked (chains did rows)
 
 -- different blocks of a map's tree and of those that a commit's step names don't share a digest
 abbrev pub AreApart : List Item → CommitEvent → BlockMap → List ℕ → Type 0
-AreApart s c blocks data_root = (F : List Item) → IsView blocks data_root F → Distinct (nodes s ++ named (edits_of c) F)
+AreApart s c blocks data_root = (F : List Item) → IsView blocks data_root F → Distinct (nodes s ++ blocks_named (edits_of c) F)
 
 -- a map goes by a commit to this map, whose tree has the commit's `data` as root
 pub record GoesTo (s : List Item) (c : CommitEvent) (data_root : List ℕ) (t : List Item) : Type 0 where

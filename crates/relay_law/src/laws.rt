@@ -1,7 +1,7 @@
 //! The laws of journals, each the contract of a function that does nothing.
 
 ghost use Rattle.relay_law.specs.Laws.{CallsAnswerRight, CarriedStaySound, ChecksAreRight, CoveredAreAccepted, DecidedRowsAreFormed, FrontsAreSound, JournalsComeOn, MadeRowsAreFormed, MergesAgree, OperatedRowsAreFormed, OperatorsAreFaithful, OperatorsStaySound, RunsAreFaithful, RunsFollowKnown, RunsStaySound, SentAreEvents, SomeChecksAreRight, SoundReplays, StoresStaySound, SyncedRowsAreFormed};
-ghost use Rattle.relay_law.specs.Wanted.{PremisesAreWanted};
+ghost use Rattle.relay_law.specs.Needed.{PremisesAreNeeded};
 
 /// A run behind a sound journal leaves a sound journal.
 pub fn runs_stay_sound()
@@ -18,7 +18,7 @@ pub fn fronts_are_sound()
     ensures { FrontsAreSound }
 {}
 
-/// The rows that operators' words make leave a sound journal sound.
+/// The rows that operators' commands make leave a sound journal sound.
 pub fn operators_stay_sound()
     ensures { OperatorsStaySound }
 {}
@@ -63,7 +63,7 @@ pub fn runs_are_faithful()
     ensures { RunsAreFaithful }
 {}
 
-/// What the rows that operators' words make send out is read as what they say, under the numbers that they got.
+/// What the rows that operators' commands make send out is read as what they say, under the numbers that they got.
 pub fn operators_are_faithful()
     ensures { OperatorsAreFaithful }
 {}
@@ -98,12 +98,12 @@ pub fn operated_rows_are_formed()
     ensures { OperatedRowsAreFormed }
 {}
 
-/// The row of a repository that was fetched at an operator's word is well formed and keeps the order of its journal.
+/// The row of a repository that was fetched at an operator's command is well formed and keeps the order of its journal.
 pub fn synced_rows_are_formed()
     ensures { SyncedRowsAreFormed }
 {}
 
 /// Laws of journals without one of their premises, none of which holds.
-pub fn premises_are_wanted()
-    ensures { PremisesAreWanted }
+pub fn premises_are_needed()
+    ensures { PremisesAreNeeded }
 {}

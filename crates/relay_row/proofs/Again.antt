@@ -1,4 +1,4 @@
--- What is spelled of a row's parts is read again.
+-- What is encoded of a row's parts is read again.
 use Rattle.std.proofs.Common.{◌≡◌, ℕ, suc, ◌+◌, ◌*◌, ◌≤◌, ◌<◌, ◌^◌, inl, inr, Bool, true, false, ◌&&◌, List, [], ◌∷◌, ◌++◌, length, Option, Some, None, refl, sym, ap, ◌∙◌, subst, arith, leb, ltb, eqb, append_assoc, lit<}
 use Rattle.std.proofs.lemmas.Bool.{ltb-true, leb-true, eqb-true, eq-eqb, lt-ltb, and_parts}
 use Rattle.std.proofs.lemmas.Bool.Decides.{nat_tests, eqb_tells}
@@ -6,9 +6,9 @@ use Rattle.std.specs.Str.{is_utf8}
 use Rattle.at_cid.specs.Link.{IsBytes, is_link, kind_of}
 use Rattle.at_cbor.specs.declared.major.Major.{Major}
 use Rattle.at_cbor.specs.Item.{Item}
-use Rattle.at_cbor.specs.Spelling.{front_of, spelling, info_of, IsText, IsString}
+use Rattle.at_cbor.specs.Encoding.{front_of, encoding, info_of, IsText, IsString}
 use Rattle.at_cbor.proofs.Fronts.{form_0}
-use Rattle.at_event.specs.Refusals.{code_of}
+use Rattle.at_event.specs.Refusals.{code_of, plain_refusal}
 use Rattle.at_event.specs.declared.head.Head.{Head}
 use Rattle.at_event.specs.declared.refusal.Refusal.{Refusal}
 use Rattle.relay_row.specs.declared.fetched.Whole.{Whole}
@@ -22,21 +22,22 @@ use Rattle.relay_row.specs.Reading.{head_at, whole_items_at, whole_at, plain, on
 use Rattle.relay_row.proofs.Bytes.{tested_bytes}
 use Rattle.relay_row.proofs.Atoms.{IsTextOrNone, IsRevOrNone, number_again, place_again, bytes_again, bool_again, link_again, rev_again, null_or_rev_again, null_or_text_again}
 use Rattle.relay_row.proofs.Counts.{count_again, items_count_is}
-use Rattle.relay_row.proofs.Found.{spell}
+use Rattle.relay_row.proofs.Found.{encode}
+use Rattle.relay_row.specs.declared.limits.TheConstants.{PLACES}
 
 -- items, and then these bytes
-abbrev pub then_spell : List Item → List ℕ → List ℕ
-then_spell [] rest = rest
-then_spell (i ∷ is) rest = spelling i ++ then_spell is rest
+abbrev pub then_encode : List Item → List ℕ → List ℕ
+then_encode [] rest = rest
+then_encode (i ∷ is) rest = encoding i ++ then_encode is rest
 
-pub then_is : (is : List Item) (rest : List ℕ) → spell is ++ rest ≡ then_spell is rest
+pub then_is : (is : List Item) (rest : List ℕ) → encode is ++ rest ≡ then_encode is rest
 then_is [] rest = refl
-then_is (i ∷ is) rest = append_assoc (spelling i) (spell is) rest ∙ ap (λ (t : List ℕ). spelling i ++ t) (then_is is rest)
+then_is (i ∷ is) rest = append_assoc (encoding i) (encode is) rest ∙ ap (λ (t : List ℕ). encoding i ++ t) (then_is is rest)
 
-pub list_then : (is : List Item) (rest : List ℕ) → spelling (list is) ++ rest ≡ front_of Major.List (length is) ++ then_spell is rest
+pub list_then : (is : List Item) (rest : List ℕ) → encoding (list is) ++ rest ≡ front_of Major.List (length is) ++ then_encode is rest
 list_then is rest =
-    ap (λ (n : ℕ). (front_of Major.List n ++ spell is) ++ rest) (items_count_is is)
-    ∙ append_assoc (front_of Major.List (length is)) (spell is) rest
+    ap (λ (n : ℕ). (front_of Major.List n ++ encode is) ++ rest) (items_count_is is)
+    ∙ append_assoc (front_of Major.List (length is)) (encode is) rest
     ∙ ap (λ (t : List ℕ). front_of Major.List (length is) ++ t) (then_is is rest)
 
 pub go : {A B : Type 0} {o : Option (A × List ℕ)} (f : A → Reading B) {x : A} {rest : List ℕ} {answer : Option (B × List ℕ)} → o ≡ Some (x, rest) → f x rest ≡ answer → behind o f ≡ answer
@@ -47,10 +48,10 @@ go f e h = rw e h
 below_63 : (n : ℕ) → is_number n ≡ true → n < 2 ^ 63
 below_63 n h = omega (arith, ltb-true n (2 ^ 53) h)
 
-pub number_fits : (n : ℕ) (rest : List ℕ) → is_number n ≡ true → number_at (spelling (number n) ++ rest) ≡ Some (n, rest)
+pub number_fits : (n : ℕ) (rest : List ℕ) → is_number n ≡ true → number_at (encoding (number n) ++ rest) ≡ Some (n, rest)
 number_fits n rest h = number_again n rest (below_63 n h)
 
-pub positive_fits : (n : ℕ) (rest : List ℕ) → is_positive n ≡ true → number_at (spelling (number n) ++ rest) ≡ Some (n, rest)
+pub positive_fits : (n : ℕ) (rest : List ℕ) → is_positive n ≡ true → number_at (encoding (number n) ++ rest) ≡ Some (n, rest)
 positive_fits n rest h = number_fits n rest (and_parts (ltb 0 n) (is_number n) h).1
 
 pub string_fits : (t : List ℕ) → is_string t ≡ true → IsString t
@@ -96,14 +97,14 @@ status_fits (Some text) h =
 
 -- ---- heads and repositories
 
-pub head_again : (h : Head) (rest : List ℕ) → is_head h ≡ true → head_at (then_spell (head_items h) rest) ≡ Some (h, rest)
+pub head_again : (h : Head) (rest : List ℕ) → is_head h ≡ true → head_at (then_encode (head_items h) rest) ≡ Some (h, rest)
 unfolding head_at
 head_again h rest is =
     let rev = and_parts (is_rev h.rev) (is_node h.data_root && is_cid h.commit) is in
     let links = and_parts (is_node h.data_root) (is_cid h.commit) rev.1 in
     go _ (rev_again h.rev _ (rev_fits h.rev rev.0)) (go _ (link_again h.data_root _ (node_fits h.data_root links.0)) (go _ (link_again h.commit rest (cid_fits h.commit links.1)) refl))
 
-whole_items_again : (w : Whole) (rest : List ℕ) → is_whole w ≡ true → whole_items_at (then_spell (whole_items w) rest) ≡ Some (w, rest)
+whole_items_again : (w : Whole) (rest : List ℕ) → is_whole w ≡ true → whole_items_at (then_encode (whole_items w) rest) ≡ Some (w, rest)
 unfolding whole_items_at is_whole
 whole_items_again w rest is =
     let seq = and_parts (is_positive w.seq) (is_head w.head && (is_number w.records && is_message w.message)) is in
@@ -111,29 +112,29 @@ whole_items_again w rest is =
     let others = and_parts (is_number w.records) (is_message w.message) head.1 in
     go _ (positive_fits w.seq _ seq.0) (go _ (head_again w.head _ head.0) (go _ (number_fits w.records _ others.0) (go _ (bytes_again w.message rest (message_fits w.message others.1)) refl)))
 
-pub whole_again : (w : Whole) (rest : List ℕ) → is_whole w ≡ true → whole_at (spelling (list (whole_items w)) ++ rest) ≡ Some (w, rest)
+pub whole_again : (w : Whole) (rest : List ℕ) → is_whole w ≡ true → whole_at (encoding (list (whole_items w)) ++ rest) ≡ Some (w, rest)
 unfolding whole_at
 whole_again w rest is = rw (list_then (whole_items w) rest) (go _ (count_again 6 _ (lit< tt)) (whole_items_again w rest is))
 
 -- ---- details
 
-bare_again : (r : Option Refusal) (rest : List ℕ) → detail_items r ≡ [] → plain (code r) ≡ Some r → detail_at (code r) (spelling (list (detail_items r)) ++ rest) ≡ Some (r, rest)
+bare_again : (r : Option Refusal) (rest : List ℕ) → detail_items r ≡ [] → plain (code r) ≡ Some r → detail_at (code r) (encoding (list (detail_items r)) ++ rest) ≡ Some (r, rest)
 unfolding detail_at
 bare_again r rest none is = rw (none, list_then [] rest) (go _ (count_again 0 rest (lit< tt)) (rw is refl))
 
-one_again : (i : Item) (n : ℕ) (r : Option Refusal) (rest : List ℕ) → one_detail n (spelling i ++ rest) ≡ Some (r, rest) → detail_at n (spelling (list (i ∷ [])) ++ rest) ≡ Some (r, rest)
+one_again : (i : Item) (n : ℕ) (r : Option Refusal) (rest : List ℕ) → one_detail n (encoding i ++ rest) ≡ Some (r, rest) → detail_at n (encoding (list (i ∷ [])) ++ rest) ≡ Some (r, rest)
 unfolding detail_at
 one_again i n r rest is = rw (list_then (i ∷ []) rest) (go _ (count_again 1 _ (lit< tt)) is)
 
-two_again : (i j : Item) (n : ℕ) (r : Option Refusal) (rest : List ℕ) → two_details n (spelling i ++ (spelling j ++ rest)) ≡ Some (r, rest) → detail_at n (spelling (list (i ∷ j ∷ [])) ++ rest) ≡ Some (r, rest)
+two_again : (i j : Item) (n : ℕ) (r : Option Refusal) (rest : List ℕ) → two_details n (encoding i ++ (encoding j ++ rest)) ≡ Some (r, rest) → detail_at n (encoding (list (i ∷ j ∷ [])) ++ rest) ≡ Some (r, rest)
 unfolding detail_at
 two_again i j n r rest is = rw (list_then (i ∷ j ∷ []) rest) (go _ (count_again 2 _ (lit< tt)) is)
 
-pub detail_again : (r : Refusal) (rest : List ℕ) → leb (code_of r) 25 ≡ true → is_detail r ≡ true → detail_at (code_of r) (spelling (list (detail_items (Some r))) ++ rest) ≡ Some (Some r, rest)
-unfolding plain one_detail two_details
+pub detail_again : (r : Refusal) (rest : List ℕ) → leb (code_of r) 25 ≡ true → is_detail r ≡ true → detail_at (code_of r) (encoding (list (detail_items (Some r))) ++ rest) ≡ Some (Some r, rest)
+unfolding plain plain_refusal one_detail two_details
 detail_again (Refusal.BadNode link) rest h is = one_again (Item.link link) 20 _ rest (go _ (link_again link rest (node_fits link is)) refl)
-detail_again (Refusal.OtherOp i) rest h is = one_again (number i) 21 _ rest (go _ (place_again i rest (ltb-true i 4294967296 is)) refl)
-detail_again (Refusal.NotCovered i) rest h is = one_again (number i) 22 _ rest (go _ (place_again i rest (ltb-true i 4294967296 is)) refl)
+detail_again (Refusal.OtherOp i) rest h is = one_again (number i) 21 _ rest (go _ (place_again i rest (ltb-true i PLACES is)) refl)
+detail_again (Refusal.NotCovered i) rest h is = one_again (number i) 22 _ rest (go _ (place_again i rest (ltb-true i PLACES is)) refl)
 detail_again (Refusal.OtherData want got) rest h is =
     let both = and_parts (is_node want) (is_node got) is in
     two_again (Item.link want) (Item.link got) 23 _ rest (go _ (link_again want _ (node_fits want both.0)) (go _ (link_again got rest (node_fits got both.1)) refl))
@@ -167,7 +168,7 @@ detail_again Refusal.PastEnd rest h is = absurd cc
 detail_again Refusal.LastCut rest h is = absurd cc
 detail_again (Refusal.RepositoryRefused n) rest h is = absurd cc
 
-pub no_detail_again : (rest : List ℕ) → detail_at 0 (spelling (list []) ++ rest) ≡ Some (None, rest)
+pub no_detail_again : (rest : List ℕ) → detail_at 0 (encoding (list []) ++ rest) ≡ Some (None, rest)
 unfolding plain
 no_detail_again rest = bare_again None rest refl refl
 
@@ -180,7 +181,7 @@ differs a b other = elim (eqb_tells a b) [ inl h ↦ absurd (other h.1) | inr h 
 list_not_null : (n : ℕ) → n < 24 → eqb (32 * 4 + info_of n) 246 ≡ false
 list_not_null n h = rw (form_0 n h).0 (differs (32 * 4 + n) 246 (λ e. omega (arith, e)))
 
-null_or_list : {A : Type 0} (x : A) (r : Reading A) (is : List Item) (rest : List ℕ) (answer : Option (A × List ℕ)) → length is < 24 → r (front_of Major.List (length is) ++ then_spell is rest) ≡ answer → or_null_at x r (spelling (list is) ++ rest) ≡ answer
+null_or_list : {A : Type 0} (x : A) (r : Reading A) (is : List Item) (rest : List ℕ) (answer : Option (A × List ℕ)) → length is < 24 → r (front_of Major.List (length is) ++ then_encode is rest) ≡ answer → or_null_at x r (encoding (list is) ++ rest) ≡ answer
 null_or_list {A} x r is rest answer short e =
     subst (λ (bytes : List ℕ). or_null_at x r bytes ≡ answer) (sym (list_then is rest)) (rw (list_not_null (length is) short) e)
 
@@ -190,7 +191,7 @@ FitsEffect Effect.Nothing = Unit {0}
 FitsEffect (Effect.Repo head) = is_head head ≡ true
 FitsEffect (Effect.Account active status) = is_status status ≡ true
 
-pub effect_again : (x : Effect) (rest : List ℕ) → FitsEffect x → effect_at (spelling (effect_item x) ++ rest) ≡ Some (x, rest)
+pub effect_again : (x : Effect) (rest : List ℕ) → FitsEffect x → effect_at (encoding (effect_item x) ++ rest) ≡ Some (x, rest)
 unfolding effect_at account_effect
 effect_again Effect.Nothing rest is = refl
 effect_again (Effect.Repo head) rest is = null_or_list Effect.Nothing (count_at >>= effect_of) (head_items head) rest _ (lit< tt) (go effect_of (count_again 3 _ (lit< tt)) (go (λ h. give (Effect.Repo h)) (head_again head rest is) refl))
@@ -213,7 +214,7 @@ refused_again b n rest is some small =
 not_number : (b : ℕ) (bytes : List ℕ) (w : Whole) (rest : List ℕ) → eqb b 0 ≡ false → ltb b 24 ≡ false → whole_at (b ∷ bytes) ≡ Some (w, rest) → number_or_whole (b ∷ bytes) ≡ Some (Fetched.Whole w, rest)
 not_number b bytes w rest some big e = rw (some, big) (go _ e refl)
 
-pub fetched_again : (timed : Bool) (x : Fetched) (rest : List ℕ) → FitsFetched timed x → fetched_at (spelling (fetched_item x) ++ rest) ≡ Some (x, rest)
+pub fetched_again : (timed : Bool) (x : Fetched) (rest : List ℕ) → FitsFetched timed x → fetched_at (encoding (fetched_item x) ++ rest) ≡ Some (x, rest)
 unfolding fetched_at
 fetched_again timed Fetched.NotAsked rest is = refl
 fetched_again timed Fetched.Absent rest is =
@@ -224,20 +225,20 @@ fetched_again timed (Fetched.Refused n) rest is =
     let form = form_0 n small.1 in
     rw (form.0, form.1) (refused_again (32 * 0 + n) n rest (omega arith) small.0 small.1)
 fetched_again timed (Fetched.Whole w) rest is =
-    let whole : whole_at (front_of Major.List 6 ++ then_spell (whole_items w) rest) ≡ Some (w, rest) = sym (ap whole_at (list_then (whole_items w) rest)) ∙ whole_again w rest is in
+    let whole : whole_at (front_of Major.List 6 ++ then_encode (whole_items w) rest) ≡ Some (w, rest) = sym (ap whole_at (list_then (whole_items w) rest)) ∙ whole_again w rest is in
     null_or_list Fetched.NotAsked number_or_whole (whole_items w) rest _ (lit< tt) (not_number (32 * 4 + info_of 6) _ w rest (rw (form_0 6 (lit< tt)).0 refl) (rw (form_0 6 (lit< tt)).0 refl) whole)
 
 abbrev pub FitsRepo : CarriedRepo → Type 0
 FitsRepo repo = is_repo repo ≡ true
 
-pub repo_again : (x : CarriedRepo) (rest : List ℕ) → FitsRepo x → repo_at (spelling (repo_item x) ++ rest) ≡ Some (x, rest)
+pub repo_again : (x : CarriedRepo) (rest : List ℕ) → FitsRepo x → repo_at (encoding (repo_item x) ++ rest) ≡ Some (x, rest)
 unfolding repo_at
 repo_again CarriedRepo.Missing rest is = refl
 repo_again (CarriedRepo.Good head) rest is = null_or_list CarriedRepo.Missing (count_at >>= repo_of) (head_items head) rest _ (lit< tt) (go repo_of (count_again 3 _ (lit< tt)) (go (λ h. give (CarriedRepo.Good h)) (head_again head rest is) refl))
 repo_again (CarriedRepo.Lost rev) rest is =
     null_or_list CarriedRepo.Missing (count_at >>= repo_of) (or_null rev_text rev ∷ []) rest _ (lit< tt) (go repo_of (count_again 1 _ (lit< tt)) (go (λ r. give (CarriedRepo.Lost r)) (null_or_rev_again rev rest (rev_or_none_fits rev is)) refl))
 
-pub moment_again : (others count : ℕ) (m : Option ℕ) (rest : List ℕ) → count ≡ others + length (if_there number m) → is_moment m ≡ true → moment_at others count (then_spell (if_there number m) rest) ≡ Some (m, rest)
+pub moment_again : (others count : ℕ) (m : Option ℕ) (rest : List ℕ) → count ≡ others + length (if_there number m) → is_moment m ≡ true → moment_at others count (then_encode (if_there number m) rest) ≡ Some (m, rest)
 unfolding moment_at
 moment_again others count None rest is h = rw (eq-eqb count others (omega arith)) refl
 moment_again others count (Some n) rest is h =

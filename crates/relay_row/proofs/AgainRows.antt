@@ -1,4 +1,4 @@
--- What is spelled of rows is read again.
+-- What is encoded of rows is read again.
 use Rattle.std.proofs.Common.{◌≡◌, ℕ, suc, ◌+◌, ◌<◌, ◌^◌, ◌⊎◌, inl, inr, Bool, true, false, cond, ◌&&◌, ◌||◌, List, [], ◌∷◌, ◌++◌, length, Option, Some, None, refl, sym, ap, ◌∙◌, subst, arith, leb, ltb, eqb, append_assoc, lit<}
 use Rattle.std.specs.List.{list_all}
 use Rattle.std.specs.Bool.{beq}
@@ -6,7 +6,7 @@ use Rattle.std.proofs.lemmas.Bool.{leb-true, eqb-true, lt-ltb, le-leb, and_parts
 use Rattle.std.proofs.lemmas.List.{append-nil}
 use Rattle.at_cbor.specs.declared.major.Major.{Major}
 use Rattle.at_cbor.specs.Item.{Item}
-use Rattle.at_cbor.specs.Spelling.{front_of, spelling, IsText}
+use Rattle.at_cbor.specs.Encoding.{front_of, encoding, IsText}
 use Rattle.at_syntax.specs.Did.{is_did}
 use Rattle.at_syntax.specs.Host.{is_host}
 use Rattle.at_event.proofs.Texts.{ascii_text}
@@ -20,14 +20,14 @@ use Rattle.relay_row.specs.declared.fetched.Fetched.{Fetched}
 use Rattle.relay_row.specs.declared.carried.Carried.{Carried}
 use Rattle.relay_row.specs.declared.row.Row.{Row}
 use Rattle.relay_row.specs.Items.{number, list, if_there, code, detail_items, carried_items, row_items}
-use Rattle.relay_row.specs.Bodies.{row_spelling, spelled, body_of, IsBody}
+use Rattle.relay_row.specs.Bodies.{row_encoding, encoded_rows, rows_body, IsBody}
 use Rattle.relay_row.specs.Rules.{is_number, is_positive, is_moment, is_text, is_empty, is_message, is_status, is_whole, is_detail, loses, is_repo_number, is_fetched, is_nothing, is_effect, is_timed, is_head, is_accepted, is_refused, is_decided, is_about, names_host, names_did, is_taken, is_operated, is_repo, is_carried, is_row}
 use Rattle.relay_row.specs.Readers.{Reading, behind, give, count_at}
 use Rattle.relay_row.specs.Reading.{detail_at, taken_at, synced_at, operated_at, account_at, host_at, carried_of, carried_at, row_of, row_items_at, well_formed, row_at, rows_at, all_of, few, rows_in}
 use Rattle.relay_row.proofs.Atoms.{byte_again, text_again, bytes_again, bool_again, null_or_text_again}
 use Rattle.relay_row.proofs.Counts.{count_again}
-use Rattle.relay_row.proofs.Again.{then_spell, list_then, go, number_fits, positive_fits, text_fits, message_fits, empty_fits, status_fits, whole_again, detail_again, no_detail_again, FitsEffect, effect_again, FitsFetched, fetched_again, repo_again, moment_again}
-use Rattle.at_cbor.specs.Spelling.{IsString}
+use Rattle.relay_row.proofs.Again.{then_encode, list_then, go, number_fits, positive_fits, text_fits, message_fits, empty_fits, status_fits, whole_again, detail_again, no_detail_again, FitsEffect, effect_again, FitsFetched, fetched_again, repo_again, moment_again}
+use Rattle.at_cbor.specs.Encoding.{IsString}
 
 -- ---- tests
 
@@ -92,7 +92,7 @@ pub record Readable (t : Taken) : Type 0 where
   pub did : IsText t.did
   pub kind : t.kind < 256
   pub which : code t.refusal < 256
-  pub detail : (rest : List ℕ) → detail_at (code t.refusal) (spelling (list (detail_items t.refusal)) ++ rest) ≡ Some (t.refusal, rest)
+  pub detail : (rest : List ℕ) → detail_at (code t.refusal) (encoding (list (detail_items t.refusal)) ++ rest) ≡ Some (t.refusal, rest)
   pub seq : is_number t.seq ≡ true
   pub message : IsString t.message
   pub effect : FitsEffect t.effect
@@ -144,7 +144,7 @@ accepted_fits t none host host_seq did moment h =
       did = about_text t.kind t.did did;
       kind = effect.1;
       which = subst (λ r. code r < 256) (sym none) (lit< tt);
-      detail = subst (λ (r : Option Refusal). (rest : List ℕ) → detail_at (code r) (spelling (list (detail_items r)) ++ rest) ≡ Some (r, rest)) (sym none) no_detail_again;
+      detail = subst (λ (r : Option Refusal). (rest : List ℕ) → detail_at (code r) (encoding (list (detail_items r)) ++ rest) ≡ Some (r, rest)) (sym none) no_detail_again;
       seq = out.0;
       message = out.1;
       effect = effect.0;
@@ -169,7 +169,7 @@ refused_fits r t some host host_seq did moment h =
       did = about_text t.kind t.did did;
       kind = omega (arith, leb-true t.kind 4 b.0);
       which = subst (λ x. code x < 256) (sym some) (omega (arith, leb-true (code_of r) 25 small));
-      detail = subst (λ (x : Option Refusal). (rest : List ℕ) → detail_at (code x) (spelling (list (detail_items x)) ++ rest) ≡ Some (x, rest)) (sym some) (λ rest. detail_again r rest small detail.0);
+      detail = subst (λ (x : Option Refusal). (rest : List ℕ) → detail_at (code x) (encoding (list (detail_items x)) ++ rest) ≡ Some (x, rest)) (sym some) (λ rest. detail_again r rest small detail.0);
       seq = none.0;
       message = none.1;
       effect = nothing_fits t.effect d.0;
@@ -195,7 +195,7 @@ taken_fits t h =
 -- the items behind the first, and then these bytes
 abbrev tail_then : List Item → List ℕ → List ℕ
 tail_then [] rest = rest
-tail_then (i ∷ is) rest = then_spell is rest
+tail_then (i ∷ is) rest = then_encode is rest
 
 taken_again : (count : ℕ) (t : Taken) (rest : List ℕ) → Readable t → count ≡ length (row_items (Row.Taken t)) → taken_at count (tail_then (row_items (Row.Taken t)) rest) ≡ Some (t, rest)
 unfolding taken_at
@@ -256,7 +256,7 @@ few_items (Row.Carried (Carried.Last seq)) = lit< tt
 few_items (Row.Carried (Carried.Host host cursor)) = lit< tt
 few_items (Row.Carried (Carried.Account a)) = lit< tt
 
-items_again : (row : Row) (rest : List ℕ) → is_row row ≡ true → row_items_at (length (row_items row)) (then_spell (row_items row) rest) ≡ Some (row, rest)
+items_again : (row : Row) (rest : List ℕ) → is_row row ≡ true → row_items_at (length (row_items row)) (then_encode (row_items row) rest) ≡ Some (row, rest)
 unfolding row_items_at is_row
 items_again (Row.Taken t) rest h =
     go (row_of (length (row_items (Row.Taken t)))) (byte_again 1 _ (lit< tt)) (go (λ x. give (Row.Taken x)) (taken_again (length (row_items (Row.Taken t))) t rest (taken_fits t h) refl) refl)
@@ -273,30 +273,30 @@ items_again (Row.Carried (Carried.Account a)) rest h = go (row_of 7) (byte_again
 well : (row : Row) (rest : List ℕ) → is_row row ≡ true → well_formed row rest ≡ Some (row, rest)
 well row rest h = rw h refl
 
-pub row_again : (row : Row) (rest : List ℕ) → is_row row ≡ true → row_at (row_spelling row ++ rest) ≡ Some (row, rest)
-unfolding row_at row_spelling
+pub row_again : (row : Row) (rest : List ℕ) → is_row row ≡ true → row_at (row_encoding row ++ rest) ≡ Some (row, rest)
+unfolding row_at row_encoding
 row_again row rest h =
     rw (list_then (row_items row) rest) (go _ (count_again (length (row_items row)) _ (omega (arith, few_items row))) (go _ (items_again row rest h) (well row rest h)))
 
-pub rows_again : (rows : List Row) (rest : List ℕ) → list_all is_row rows ≡ true → rows_at (length rows) (spelled rows ++ rest) ≡ Some (rows, rest)
+pub rows_again : (rows : List Row) (rest : List ℕ) → list_all is_row rows ≡ true → rows_at (length rows) (encoded_rows rows ++ rest) ≡ Some (rows, rest)
 unfolding rows_at
 rows_again [] rest h = refl
 rows_again (row ∷ rows) rest h =
     let both = and_parts (is_row row) (list_all is_row rows) h in
-    rw (append_assoc (row_spelling row) (spelled rows) rest) (go _ (row_again row (spelled rows ++ rest) both.0) (go _ (rows_again rows rest both.1) refl))
+    rw (append_assoc (row_encoding row) (encoded_rows rows) rest) (go _ (row_again row (encoded_rows rows ++ rest) both.0) (go _ (rows_again rows rest both.1) refl))
 
 abbrev count_then : Reading (List Row)
 count_then bytes = behind (count_at bytes) few
 
-found_all : (rows : List Row) (body : List ℕ) → IsBody rows body → rows_in (front_of Major.List (length rows) ++ (spelled rows ++ [])) ≡ Some rows
+found_all : (rows : List Row) (body : List ℕ) → IsBody rows body → rows_in (front_of Major.List (length rows) ++ (encoded_rows rows ++ [])) ≡ Some rows
 unfolding rows_in
 found_all rows body is =
-    let all : (count_then (front_of Major.List (length rows) ++ (spelled rows ++ []))) ≡ Some (rows, []) =
-    go few (count_again (length rows) (spelled rows ++ []) (omega (arith, is.few))) (rw (le-leb 1 (length rows) is.some, le-leb (length rows) 64 is.few) (rows_again rows [] is.formed)) in
+    let all : (count_then (front_of Major.List (length rows) ++ (encoded_rows rows ++ []))) ≡ Some (rows, []) =
+    go few (count_again (length rows) (encoded_rows rows ++ []) (omega (arith, is.few))) (rw (le-leb 1 (length rows) is.some, le-leb (length rows) 64 is.few) (rows_again rows [] is.formed)) in
     ap all_of all
 
 pub body_again : (rows : List Row) (body : List ℕ) → IsBody rows body → rows_in body ≡ Some rows
-unfolding rows_in body_of
+unfolding rows_in rows_body
 body_again rows body is =
-    let whole : (front_of Major.List (length rows) ++ (spelled rows ++ [])) ≡ body = ap (λ (t : List ℕ). front_of Major.List (length rows) ++ t) (append-nil (spelled rows)) ∙ sym is.made in
+    let whole : (front_of Major.List (length rows) ++ (encoded_rows rows ++ [])) ≡ body = ap (λ (t : List ℕ). front_of Major.List (length rows) ++ t) (append-nil (encoded_rows rows)) ∙ sym is.made in
     subst (λ (bytes : List ℕ). rows_in bytes ≡ Some rows) whole (found_all rows body is)

@@ -1,24 +1,23 @@
 -- Items that are read as the one kind that they are to be: what is read so is what an item of that form gives.
-use Rattle.std.proofs.Common.{◌≡◌, ℕ, ◌<◌, ◌^◌, inl, inr, Bool, true, false, cond, ltb, eqb, get_or, List, [], ◌∷◌, ◌++◌, length, take, drop, Option, Some, None, refl, sym, ap, ◌∙◌, subst, arith, append_assoc, take-append-drop}
+use Rattle.std.proofs.Common.{◌≡◌, ℕ, ◌<◌, ◌^◌, inl, inr, Bool, true, false, cond, ltb, eqb, get_or, List, [], ◌∷◌, ◌++◌, Option, Some, None, refl, sym, ap, ◌∙◌, subst, arith}
 use Rattle.std.specs.Prelude.{option_map}
-use Rattle.std.specs.Str.{is_utf8}
-use Rattle.std.proofs.lemmas.Bool.{ltb-true, ltb-false, lt-ltb, le-ltb, eqb-true}
-use Rattle.std.proofs.lemmas.List.{take_at, drop_at, length-append, length-take}
+use Rattle.std.proofs.lemmas.Bool.{ltb-true, lt-ltb, eqb-true}
 use Rattle.at_cid.specs.Link.{IsBytes}
 use Rattle.at_cbor.specs.declared.major.Major.{Major}
 use Rattle.at_cbor.specs.Heads.{head_at}
 use Rattle.at_cbor.specs.Item.{Item}
 use Rattle.at_cbor.specs.Kinds.{text_in, bytes_in, bool_in, link_in}
 use Rattle.at_cbor.specs.Reading.{item_at as depth_at}
-use Rattle.at_cbor.specs.Spelling.{front_of, spelling, Fits}
-use Rattle.at_cbor.specs.Taking.{number_at as front_at, string_of, string_at, behind as behind_front, link_from_front, item_from_front}
-use Rattle.at_cbor.proofs.Steps.{Takes, chosen, IsBytes-drop, IsBytes-take}
-use Rattle.at_cbor.proofs.Taken.{number_takes, number_again, string_takes, string_short, string_again, link_takes, link_again, item_taken, item_taken_again}
+use Rattle.at_cbor.specs.Encoding.{front_of, encoding, Fits}
+use Rattle.at_cbor.specs.Taking.{number_at as front_at, string_at, text_from_front, behind as behind_front, link_from_front, item_from_front}
+use Rattle.at_cbor.proofs.Steps.{Takes, chosen}
+use Rattle.at_cbor.proofs.Taken.{number_takes, number_again, string_takes, string_short, string_again, text_takes, text_again, link_takes, link_again, item_taken, item_taken_again}
 use Rattle.at_syntax.specs.Tid.{tid_of}
 use Rattle.relay_row.specs.Items.{number}
-use Rattle.relay_row.specs.Readers.{Reading, behind, give, fail, given, item_at, formed, number_in, below, tid_from, rev_in, null_or, number_at, byte_at, place_at, text_at, bytes_at, bool_at, link_at, rev_at, null_or_rev_at, null_or_text_at}
+use Rattle.relay_row.specs.Readers.{Reading, behind, give, given, item_at, formed, number_in, below, tid_from, rev_in, null_or, number_at, byte_at, place_at, text_at, bytes_at, bool_at, link_at, rev_at, null_or_rev_at, null_or_text_at}
 use Rattle.relay_row.proofs.Steps.{some_is, found, behind_some, given_some, Tells, formed_again}
 use Rattle.relay_row.proofs.Atoms.{tells_number, tells_text, tells_bytes, tells_bool, tells_link}
+use Rattle.relay_row.specs.declared.limits.TheConstants.{PLACES}
 
 -- two answers, each of which is the other's wherever there is one
 same_answer : {A : Type 0} (o p : Option A) → ((x : A) → o ≡ Some x → p ≡ Some x) → ((x : A) → p ≡ Some x → o ≡ Some x) → o ≡ p
@@ -26,15 +25,15 @@ same_answer None None f g = refl
 same_answer (Some x) p f g = sym (f x refl)
 same_answer None (Some y) f g = g y refl
 
--- what is read of a form is spelled in front, and fits
+-- what is read of a form is encoded in front, and fits
 formed_fits : {A : Type 0} (s : A → Item) (form : Item → Option A) → Tells s form → (bytes : List ℕ) (x : A) (rest : List ℕ) → IsBytes bytes → formed form bytes ≡ Some (x, rest)
-    → Takes bytes (spelling (s x)) rest × Fits (s x) 64
+    → Takes bytes (encoding (s x)) rest × Fits (s x) 64
 unfolding item_at
 formed_fits s form tells bytes x rest ok e =
     let h = behind_some (item_from_front bytes) (λ i. given (form i)) (x, rest) e in
     let g = given_some (form h.0.0) h.0.1 x rest h.2 in
     let is : h.0.0 ≡ s x = tells h.0.0 x g.0 in
-    subst (λ (left : List ℕ). Takes bytes (spelling (s x)) left × Fits (s x) 64) g.1 (subst (λ (i : Item). Takes bytes (spelling i) h.0.1 × Fits i 64) is (item_taken bytes h.0 ok h.1))
+    subst (λ (left : List ℕ). Takes bytes (encoding (s x)) left × Fits (s x) 64) g.1 (subst (λ (i : Item). Takes bytes (encoding i) h.0.1 × Fits i 64) is (item_taken bytes h.0 ok h.1))
 
 -- ---- numbers
 
@@ -56,7 +55,7 @@ number_here bytes x ok e =
     let t = number_takes Major.Unsigned bytes h.0 ok h.1 in
     let g = given_some (below (2 ^ 63) (Some h.0.0)) h.0.1 x.0 x.1 h.2 in
     let b = below_some (2 ^ 63) h.0.0 x.0 g.0 in
-    let parts : bytes ≡ spelling (number x.0) ++ x.1 = t.0.parts ∙ ap (λ (n : ℕ). front_of Major.Unsigned n ++ h.0.1) b.0 ∙ ap (λ (left : List ℕ). spelling (number x.0) ++ left) g.1 in
+    let parts : bytes ≡ encoding (number x.0) ++ x.1 = t.0.parts ∙ ap (λ (n : ℕ). front_of Major.Unsigned n ++ h.0.1) b.0 ∙ ap (λ (left : List ℕ). encoding (number x.0) ++ left) g.1 in
     ap (formed number_in) parts ∙ formed_again number number_in x.0 x.1 (subst (λ (n : ℕ). n < 2 ^ 63) b.0 b.1) refl
 
 pub number_is : (bytes : List ℕ) → IsBytes bytes → number_at bytes ≡ low_number bytes
@@ -75,56 +74,25 @@ pub byte_is : (bytes : List ℕ) → byte_at bytes ≡ behind (number_at bytes) 
 unfolding byte_at number_at
 byte_is bytes = below_after 256 (item_at bytes)
 
-pub place_is : (bytes : List ℕ) → place_at bytes ≡ behind (number_at bytes) (λ n. given (below 4294967296 (Some n)))
+pub place_is : (bytes : List ℕ) → place_at bytes ≡ behind (number_at bytes) (λ n. given (below PLACES (Some n)))
 unfolding place_at number_at
-place_is bytes = below_after 4294967296 (item_at bytes)
+place_is bytes = below_after PLACES (item_at bytes)
 
 -- ---- texts and strings of bytes
 
-abbrev tested_text : List ℕ → Reading (List ℕ)
-tested_text text = cond (is_utf8 text) (give text) fail
-
-abbrev whole_text : List ℕ → Option (List ℕ × List ℕ)
-whole_text bytes = behind (behind (front_at Major.Text bytes) string_of) tested_text
-
-held_text : (b : Bool) (text rest : List ℕ) (x : List ℕ × List ℕ) → cond b (give text) fail rest ≡ Some x → (b ≡ true) × ((text, rest) ≡ x)
-held_text true text rest x e = (refl, some_is (text, rest) x e)
-held_text false text rest x e = absurd cc
-
-string_found : (n : ℕ) (bytes : List ℕ) (x : List ℕ × List ℕ) → IsBytes bytes → string_of n bytes ≡ Some x → Takes bytes x.0 x.1 × (length x.0 ≡ n) × IsBytes x.0
-string_found n bytes x fits e =
-    let P : List ℕ × List ℕ → Type 0 = λ y. Takes bytes y.0 y.1 × (length y.0 ≡ n) × IsBytes y.0 in
-    elim (chosen (ltb (length bytes) n) None (Some (take n bytes, drop n bytes)) (Some x) e) [
-      | inl h ↦ absurd cc
-      | inr h ↦
-          let long = ltb-false (length bytes) n h.0 in
-          subst P (some_is (take n bytes, drop n bytes) x h.1) (record { parts = sym (take-append-drop n bytes); rest_fits = IsBytes-drop n bytes fits }, omega (arith, long, length-take n bytes), IsBytes-take n bytes fits)
-    ]
-
-text_there : (bytes : List ℕ) (x : List ℕ × List ℕ) → IsBytes bytes → formed text_in bytes ≡ Some (x.0, x.1) → whole_text bytes ≡ Some (x.0, x.1)
+text_there : (bytes : List ℕ) (x : List ℕ × List ℕ) → IsBytes bytes → formed text_in bytes ≡ Some (x.0, x.1) → text_from_front bytes ≡ Some (x.0, x.1)
 text_there bytes x ok e =
     let t = formed_fits Item.text text_in tells_text bytes x.0 x.1 ok e in
-    let parts : bytes ≡ front_of Major.Text (length x.0) ++ (x.0 ++ x.1) = t.0.parts ∙ append_assoc (front_of Major.Text (length x.0)) x.0 x.1 in
-    let front : front_at Major.Text bytes ≡ Some (length x.0, x.0 ++ x.1) = ap (front_at Major.Text) parts ∙ number_again Major.Text (length x.0) (x.0 ++ x.1) t.1.0.0 in
-    let long : ltb (length (x.0 ++ x.1)) (length x.0) ≡ false = le-ltb _ _ (omega (arith, length-append x.0 x.1)) in
-    rw (front, long, take_at x.0 x.1 (length x.0) refl, drop_at x.0 x.1 (length x.0) refl, t.1.1) refl
+    ap text_from_front t.0.parts ∙ text_again x.0 x.1 t.1
 
-text_here : (bytes : List ℕ) (x : List ℕ × List ℕ) → IsBytes bytes → whole_text bytes ≡ Some (x.0, x.1) → formed text_in bytes ≡ Some (x.0, x.1)
+text_here : (bytes : List ℕ) (x : List ℕ × List ℕ) → IsBytes bytes → text_from_front bytes ≡ Some (x.0, x.1) → formed text_in bytes ≡ Some (x.0, x.1)
 text_here bytes x ok e =
-    let s = behind_some (behind (front_at Major.Text bytes) string_of) tested_text x e in
-    let h = behind_some (front_at Major.Text bytes) string_of s.0 s.1 in
-    let head = number_takes Major.Text bytes h.0 ok h.1 in
-    let c = string_found h.0.0 h.0.1 s.0 head.0.rest_fits h.2 in
-    let u = held_text (is_utf8 s.0.0) s.0.0 s.0.1 x s.2 in
-    let front : front_of Major.Text h.0.0 ≡ front_of Major.Text (length s.0.0) = ap (front_of Major.Text) (sym c.1) in
-    let parts : bytes ≡ spelling (Item.text s.0.0) ++ s.0.1 =
-    head.0.parts ∙ ap (λ (l : List ℕ). l ++ h.0.1) front ∙ ap (λ (l : List ℕ). front_of Major.Text (length s.0.0) ++ l) c.0.parts ∙ sym (append_assoc (front_of Major.Text (length s.0.0)) s.0.0 s.0.1) in
-    let fits : Fits (Item.text s.0.0) 64 = ((omega (arith, c.1, head.1), c.2), u.0) in
-    subst (λ (y : List ℕ × List ℕ). formed text_in bytes ≡ Some y) u.1 (ap (formed text_in) parts ∙ formed_again Item.text text_in s.0.0 s.0.1 fits refl)
+    let t = text_takes bytes x ok e in
+    ap (formed text_in) t.0.parts ∙ formed_again Item.text text_in x.0 x.1 t.1 refl
 
-pub text_is : (bytes : List ℕ) → IsBytes bytes → text_at bytes ≡ whole_text bytes
+pub text_is : (bytes : List ℕ) → IsBytes bytes → text_at bytes ≡ text_from_front bytes
 unfolding text_at
-text_is bytes ok = same_answer (formed text_in bytes) (whole_text bytes) (λ x e. text_there bytes x ok e) (λ x e. text_here bytes x ok e)
+text_is bytes ok = same_answer (formed text_in bytes) (text_from_front bytes) (λ x e. text_there bytes x ok e) (λ x e. text_here bytes x ok e)
 
 string_there : (bytes : List ℕ) (x : List ℕ × List ℕ) → IsBytes bytes → formed bytes_in bytes ≡ Some (x.0, x.1) → string_at bytes ≡ Some (x.0, x.1)
 string_there bytes x ok e =
@@ -164,7 +132,7 @@ first_of None x other = other
 abbrev bool_from : List ℕ → Option (Bool × List ℕ)
 bool_from bytes = first_of (behind_front (0xf4 ∷ []) bytes) false (first_of (behind_front (0xf5 ∷ []) bytes) true None)
 
-bool_from_again : (t : Bool) (rest : List ℕ) → bool_from (spelling (Item.bool t) ++ rest) ≡ Some (t, rest)
+bool_from_again : (t : Bool) (rest : List ℕ) → bool_from (encoding (Item.bool t) ++ rest) ≡ Some (t, rest)
 unfolding behind_front
 bool_from_again false rest = refl
 bool_from_again true rest = refl
@@ -174,7 +142,7 @@ bool_there bytes x ok e =
     let t = formed_fits Item.bool bool_in tells_bool bytes x.0 x.1 ok e in
     ap bool_from t.0.parts ∙ bool_from_again x.0 x.1
 
-bool_read : (t : Bool) (b : ℕ) (bytes : List ℕ) (x : Bool × List ℕ) → b ∷ [] ≡ spelling (Item.bool t) → found t bytes ≡ Some x → formed bool_in (b ∷ bytes) ≡ Some x
+bool_read : (t : Bool) (b : ℕ) (bytes : List ℕ) (x : Bool × List ℕ) → b ∷ [] ≡ encoding (Item.bool t) → found t bytes ≡ Some x → formed bool_in (b ∷ bytes) ≡ Some x
 bool_read t b bytes x is e = ap (λ (l : List ℕ). formed bool_in (l ++ bytes)) is ∙ formed_again Item.bool bool_in t bytes tt refl ∙ e
 
 bool_tested : (s t : Bool) (b : ℕ) (bytes : List ℕ) (x : Bool × List ℕ) → eqb 0xf4 b ≡ s → eqb 0xf5 b ≡ t

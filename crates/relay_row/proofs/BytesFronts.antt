@@ -2,7 +2,7 @@
 use Rattle.std.proofs.Common.{◌≡◌, ℕ, ◌+◌, ◌≤◌, ◌^◌, inl, inr, Bool, true, false, cond, ltb, List, [], ◌∷◌, ◌++◌, length, slice_index_or, Fits, w8, refl, ◌∙◌, arith}
 use Rattle.std.proofs.lemmas.Bool.{cases_lt, le-ltb, lt-ltb}
 use Rattle.at_cbor.specs.declared.major.Major.{Major}
-use Rattle.at_cbor.specs.Spelling.{front_of, info_of, tail_of}
+use Rattle.at_cbor.specs.Encoding.{front_of, info_of, tail_of}
 
 info_or : (b : Bool) (x y : ℕ) → x ≤ 27 → y ≤ 27 → cond b x y ≤ 27
 info_or true x y p q = p

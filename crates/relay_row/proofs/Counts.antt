@@ -1,8 +1,8 @@
--- The fronts of lists: what is read of one is spelled so, and read again.
+-- The fronts of lists: what is read of one is encoded so, and read again.
 use Rattle.std.proofs.Common.{◌≡◌, ℕ, suc, ◌^◌, ◌<◌, ◌⊎◌, inl, inr, Bool, true, false, cond, List, [], ◌∷◌, ◌++◌, length, Some, refl, ap}
 use Rattle.at_cbor.specs.declared.major.Major.{Major}
 use Rattle.at_cbor.specs.Item.{Item, items_of}
-use Rattle.at_cbor.specs.Spelling.{front_of, items_count}
+use Rattle.at_cbor.specs.Encoding.{front_of, items_count}
 use Rattle.at_cbor.proofs.Taken.{number_takes, number_again as front_again}
 use Rattle.relay_row.specs.Readers.{Reading, fail, count_at}
 use Rattle.relay_row.proofs.Steps.{Sound}

@@ -1,4 +1,4 @@
--- What is read of rows stands in front of the bytes, spelled.
+-- What is read of rows stands in front of the bytes, encoded.
 use Rattle.std.proofs.Common.{◌≡◌, ℕ, zero, suc, inl, inr, true, ◌&&◌, List, [], ◌∷◌, ◌++◌, length, Option, Some, None, refl, sym, ap, ◌∙◌, subst, arith, leb, eqb}
 use Rattle.std.specs.List.{list_all}
 use Rattle.std.proofs.lemmas.List.{append-nil}
@@ -6,7 +6,7 @@ use Rattle.std.proofs.lemmas.Bool.{leb-true, eqb-true, and_parts, and_from}
 use Rattle.at_cid.specs.Link.{IsBytes}
 use Rattle.at_cbor.specs.declared.major.Major.{Major}
 use Rattle.at_cbor.specs.Item.{Item}
-use Rattle.at_cbor.specs.Spelling.{front_of, spelling}
+use Rattle.at_cbor.specs.Encoding.{front_of, encoding}
 use Rattle.at_cbor.proofs.Steps.{Takes}
 use Rattle.relay_row.specs.declared.taken.Taken.{Taken}
 use Rattle.relay_row.specs.declared.operated.Operated.{Operated}
@@ -14,26 +14,26 @@ use Rattle.relay_row.specs.declared.carried.CarriedAccount.{CarriedAccount}
 use Rattle.relay_row.specs.declared.carried.Carried.{Carried}
 use Rattle.relay_row.specs.declared.row.Row.{Row}
 use Rattle.relay_row.specs.Items.{number, list, carried_items, row_items}
-use Rattle.relay_row.specs.Bodies.{row_spelling, spelled, body_of, IsBody}
+use Rattle.relay_row.specs.Bodies.{row_encoding, encoded_rows, rows_body, IsBody}
 use Rattle.relay_row.specs.Rules.{is_row}
 use Rattle.relay_row.specs.Readers.{give}
 use Rattle.relay_row.specs.Reading.{taken_at, synced_at, operated_at, account_at, host_at, carried_of, carried_at, row_of, row_items_at, well_formed, row_at, rows_at, all_of, rows_in}
 use Rattle.relay_row.proofs.Steps.{step, along, along_with, none_taken, behind_some}
 use Rattle.relay_row.proofs.Atoms.{number_sound, byte_sound, text_sound, bytes_sound, bool_sound, null_or_text_sound}
 use Rattle.relay_row.proofs.Counts.{count_sound, chosen_at, passed_at}
-use Rattle.relay_row.proofs.Found.{spell, and, last, finish, list_taken, detail_sound, effect_sound, fetched_sound, repo_sound, whole_sound, moment_sound}
+use Rattle.relay_row.proofs.Found.{encode, and, last, finish, list_taken, detail_sound, effect_sound, fetched_sound, repo_sound, whole_sound, moment_sound}
 
 -- the items behind the first, and how many there are with it
 abbrev pub behind_first : List Item → List ℕ
 behind_first [] = []
-behind_first (i ∷ is) = spell is
+behind_first (i ∷ is) = encode is
 
 abbrev pub RestTaken : ℕ → List ℕ → List Item → List ℕ → Type 0
 RestTaken count bytes is rest = Takes bytes (behind_first is) rest × (count ≡ length is)
 
 -- this number is the first of a row's items
 abbrev pub FirstIs : ℕ → Row → Type 0
-FirstIs which row = spelling (number which) ++ behind_first (row_items row) ≡ spell (row_items row)
+FirstIs which row = encoding (number which) ++ behind_first (row_items row) ≡ encode (row_items row)
 
 taken_sound : (count : ℕ) (bytes : List ℕ) (t : Taken) (rest : List ℕ) → IsBytes bytes → taken_at count bytes ≡ Some (t, rest) → RestTaken count bytes (row_items (Row.Taken t)) rest
 unfolding taken_at
@@ -50,7 +50,7 @@ taken_sound count bytes t rest ok e =
     along fetched_sound _ b9 (t, rest) t9.rest_fits e9 (λ fetched b10 t10 e10.
     along_with (moment_sound 11 count) _ b10 (t, rest) t10.rest_fits e10 (λ moment b11 t11 many e11.
     finish (λ x left. RestTaken count bytes (row_items (Row.Taken x)) left) _ b11 t rest e11 (
-      and t1 (and t2 (and t3 (and t4 (and (subst (λ (n : ℕ). Takes b4 (spelling (number n)) b5) is t5) (and t6 (and t7 (and t8 (and t9 (and t10 t11))))))))),
+      and t1 (and t2 (and t3 (and t4 (and (subst (λ (n : ℕ). Takes b4 (encoding (number n)) b5) is t5) (and t6 (and t7 (and t8 (and t9 (and t10 t11))))))))),
       omega (arith, many),
     ))))))))))))
 
@@ -89,7 +89,7 @@ account_sound bytes a rest ok e =
 
 -- what was taken behind both numbers, the second of which this is
 abbrev SecondTaken : ℕ → ℕ → List ℕ → Carried → List ℕ → Type 0
-SecondTaken count which bytes c rest = Takes bytes (behind_second (carried_items c)) rest × (count ≡ length (carried_items c)) × (spelling (number which) ++ behind_second (carried_items c) ≡ behind_first (carried_items c))
+SecondTaken count which bytes c rest = Takes bytes (behind_second (carried_items c)) rest × (count ≡ length (carried_items c)) × (encoding (number which) ++ behind_second (carried_items c) ≡ behind_first (carried_items c))
 
 host_sound : (bytes : List ℕ) (c : Carried) (rest : List ℕ) → IsBytes bytes → host_at bytes ≡ Some (c, rest) → SecondTaken 4 1 bytes c rest
 unfolding host_at
@@ -126,7 +126,7 @@ carried_sound count bytes c rest ok e =
     let s = carried_of_sound count p.found p.left c rest p.takes.rest_fits p.next in
     (subst (λ (t : List ℕ). Takes bytes t rest) s.2 (and p.takes s.0), s.1)
 
-carried_first : (c : Carried) → spelling (number 4) ++ behind_first (carried_items c) ≡ spell (carried_items c)
+carried_first : (c : Carried) → encoding (number 4) ++ behind_first (carried_items c) ≡ encode (carried_items c)
 carried_first (Carried.Last seq) = refl
 carried_first (Carried.Host host cursor) = refl
 carried_first (Carried.Account a) = refl
@@ -160,20 +160,20 @@ row_of_sound count which bytes row rest ok e =
           ]
     ]
 
-pub row_sound : (bytes : List ℕ) (row : Row) (rest : List ℕ) → IsBytes bytes → row_at bytes ≡ Some (row, rest) → Takes bytes (row_spelling row) rest × (is_row row ≡ true)
-unfolding row_at row_items_at row_spelling
+pub row_sound : (bytes : List ℕ) (row : Row) (rest : List ℕ) → IsBytes bytes → row_at bytes ≡ Some (row, rest) → Takes bytes (row_encoding row) rest × (is_row row ≡ true)
+unfolding row_at row_items_at row_encoding
 row_sound bytes row rest ok e =
     let count = step count_sound bytes (row, rest) ok e in
     let items = behind_some (row_items_at count.found count.left) well_formed (row, rest) count.next in
     let which = step byte_sound count.left items.0 count.takes.rest_fits items.1 in
     let taken = row_of_sound count.found which.found which.left items.0.0 items.0.1 which.takes.rest_fits which.next in
-    let whole : Takes count.left (spell (row_items items.0.0)) items.0.1 = subst (λ (t : List ℕ). Takes count.left t items.0.1) taken.1 (and which.takes taken.0.0) in
+    let whole : Takes count.left (encode (row_items items.0.0)) items.0.1 = subst (λ (t : List ℕ). Takes count.left t items.0.1) taken.1 (and which.takes taken.0.0) in
     let right = passed_at (is_row items.0.0) (give items.0.0) items.0.1 (row, rest) items.2 in
-    finish (λ x left. Takes bytes (spelling (list (row_items x))) left × (is_row x ≡ true)) items.0.0 items.0.1 row rest right.1
+    finish (λ x left. Takes bytes (encoding (list (row_items x))) left × (is_row x ≡ true)) items.0.0 items.0.1 row rest right.1
     (list_taken bytes count.found count.left (row_items items.0.0) items.0.1 count.takes taken.0.1 whole, right.0)
 
 pub record RowsTaken (n : ℕ) (bytes : List ℕ) (rows : List Row) (rest : List ℕ) : Type 0 where
-  pub takes : Takes bytes (spelled rows) rest
+  pub takes : Takes bytes (encoded_rows rows) rest
   pub count : length rows ≡ n
   pub formed : list_all is_row rows ≡ true
 
@@ -197,7 +197,7 @@ all_is (Some (rows, b ∷ bytes)) other e = absurd cc
 all_is None other e = absurd cc
 
 pub body_sound : (body : List ℕ) (rows : List Row) → IsBytes body → rows_in body ≡ Some rows → IsBody rows body
-unfolding rows_in body_of
+unfolding rows_in rows_body
 body_sound body rows ok e =
     let whole = all_is _ rows e in
     let count = step count_sound body (rows, []) ok whole in
@@ -208,5 +208,5 @@ body_sound body rows ok e =
       some = omega (arith, leb-true 1 count.found bounds.0, taken.count);
       few = omega (arith, leb-true count.found 64 bounds.1, taken.count);
       formed = taken.formed;
-      made = (and count.takes taken.takes).parts ∙ append-nil _ ∙ ap (λ (n : ℕ). front_of Major.List n ++ spelled rows) (sym taken.count);
+      made = (and count.takes taken.takes).parts ∙ append-nil _ ∙ ap (λ (n : ℕ). front_of Major.List n ++ encoded_rows rows) (sym taken.count);
     }

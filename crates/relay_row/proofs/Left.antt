@@ -7,10 +7,10 @@ use Rattle.std.proofs.lemmas.List.{append-nil}
 use Rattle.std.proofs.lemmas.List.Folds.{list_all-append}
 use Rattle.at_cid.specs.Link.{IsBytes}
 use Rattle.at_cbor.specs.declared.major.Major.{Major}
-use Rattle.at_cbor.specs.Spelling.{front_of}
+use Rattle.at_cbor.specs.Encoding.{front_of}
 use Rattle.relay_row.specs.declared.fault.RowFault.{RowFault}
 use Rattle.relay_row.specs.declared.row.Row.{Row}
-use Rattle.relay_row.specs.Bodies.{row_spelling, spelled, body_of, IsBody}
+use Rattle.relay_row.specs.Bodies.{row_encoding, encoded_rows, rows_body, IsBody}
 use Rattle.relay_row.specs.Left.{RowsLeft, AreBehindFront, AreInFront, AreLeft, BeginsBody, TakesNext}
 use Rattle.relay_row.specs.Readers.{Reads, count_at}
 use Rattle.relay_row.specs.Reading.{row_at}
@@ -19,13 +19,13 @@ use Rattle.relay_row.proofs.Steps.{pair_parts}
 use Rattle.relay_row.proofs.Counts.{count_sound, count_again}
 use Rattle.relay_row.proofs.FoundRows.{row_sound}
 use Rattle.relay_row.proofs.AgainRows.{row_again}
-use Rattle.relay_row.proofs.Bodies.{spelled_joined}
+use Rattle.relay_row.proofs.Bodies.{encoded_joined}
 
 -- ---- the front of a body
 
-front_found : (rows : List Row) (body : List ℕ) → IsBody rows body → count_at body ≡ Some (length rows, spelled rows)
-unfolding body_of
-front_found rows body is = rw is.made (count_again (length rows) (spelled rows) (omega (arith, is.few)))
+front_found : (rows : List Row) (body : List ℕ) → IsBody rows body → count_at body ≡ Some (length rows, encoded_rows rows)
+unfolding rows_body
+front_found rows body is = rw is.made (count_again (length rows) (encoded_rows rows) (omega (arith, is.few)))
 
 pub front_taken : (body rest : List ℕ) (n : ℕ) → IsBytes body → count_at body ≡ Some (n, rest) → 1 ≤ n → n ≤ 64 → AreBehindFront body (record { count = n; bytes = rest })
 front_taken body rest n ok e some few = record { some = some; few = few; made = (count_sound body n rest ok e).parts }
@@ -36,7 +36,7 @@ no_front body view RowFault.Memory none = tt
 
 pub no_count : (body rest : List ℕ) (n : ℕ) → count_at body ≡ Some (n, rest) → (n ≡ 0) ⊎ ((n ≡ 0 → ⊥) × 64 < n) → (rows : List Row) → IsBody rows body → ⊥
 no_count body rest n e out rows is =
-    let same = (pair_parts n (length rows) rest (spelled rows) (sym e ∙ front_found rows body is)).0 in
+    let same = (pair_parts n (length rows) rest (encoded_rows rows) (sym e ∙ front_found rows body is)).0 in
     elim out [ inl none ↦ omega (arith, none, same, is.some) | inr many ↦ omega (arith, many.1, same, is.few) ]
 
 -- ---- the next row
@@ -48,14 +48,14 @@ module _ (was : RowsLeft) (bytes : List ℕ) (count : ℕ) (is : ◌≡◌ {A = 
       subst (λ (before : RowsLeft). AreInFront (row ∷ []) before (record { count = count - 1; bytes = rest })) is (record {
         formed = and_from (is_row row) true taken.1 refl;
         count = omega (arith, some);
-        bytes = taken.0.parts ∙ ap (λ (t : List ℕ). t ++ rest) (sym (append-nil (row_spelling row)));
+        bytes = taken.0.parts ∙ ap (λ (t : List ℕ). t ++ rest) (sym (append-nil (row_encoding row)));
       })
 
   no_rows : row_at bytes ≡ None → (rows : List Row) → AreLeft rows was → ⊥
   no_rows none [] are = some (ap (λ (left : RowsLeft). left.count) is ∙ are.count)
   no_rows none (row ∷ rows) are =
-      let there = row_again row (spelled rows) (and_parts (is_row row) (list_all is_row rows) are.formed).0 in
-      let same : row_at bytes ≡ row_at (row_spelling row ++ spelled rows) = ap row_at (ap (λ (left : RowsLeft). left.bytes) is ∙ are.bytes) in
+      let there = row_again row (encoded_rows rows) (and_parts (is_row row) (list_all is_row rows) are.formed).0 in
+      let same : row_at bytes ≡ row_at (row_encoding row ++ encoded_rows rows) = ap row_at (ap (λ (left : RowsLeft). left.bytes) is ∙ are.bytes) in
       absurd cc
 
   pub no_row : (now : RowsLeft) (view : Row → Row × List ℕ) (e : RowFault) → Reads view (Err e) (row_at bytes) → TakesNext (Err e) was now
@@ -72,7 +72,7 @@ pub more_read : (done more : List Row) (was mid now : RowsLeft) → AreInFront d
 more_read done more was mid now first then_more = record {
   formed = list_all-append is_row done more ∙ and_from (list_all is_row done) (list_all is_row more) first.formed then_more.formed;
   count = omega (arith, first.count, then_more.count, length-append done more);
-  bytes = first.bytes ∙ ap (λ (t : List ℕ). spelled done ++ t) then_more.bytes ∙ sym (append_assoc (spelled done) (spelled more) now.bytes) ∙ ap (λ (t : List ℕ). t ++ now.bytes) (sym (spelled_joined done more));
+  bytes = first.bytes ∙ ap (λ (t : List ℕ). encoded_rows done ++ t) then_more.bytes ∙ sym (append_assoc (encoded_rows done) (encoded_rows more) now.bytes) ∙ ap (λ (t : List ℕ). t ++ now.bytes) (sym (encoded_joined done more));
 }
 
 -- all were read
@@ -80,21 +80,21 @@ pub all_read : (done : List Row) (was now : RowsLeft) → AreInFront done was no
 all_read done was now read none = record {
   formed = read.formed;
   count = omega (arith, read.count, none.count);
-  bytes = read.bytes ∙ ap (λ (t : List ℕ). spelled done ++ t) none.bytes ∙ append-nil (spelled done);
+  bytes = read.bytes ∙ ap (λ (t : List ℕ). encoded_rows done ++ t) none.bytes ∙ append-nil (encoded_rows done);
 }
 
-one_first : (row first : Row) (bytes rest : List ℕ) → is_row row ≡ true → is_row first ≡ true → row_spelling row ++ bytes ≡ row_spelling first ++ rest → (row ≡ first) × (bytes ≡ rest)
+one_first : (row first : Row) (bytes rest : List ℕ) → is_row row ≡ true → is_row first ≡ true → row_encoding row ++ bytes ≡ row_encoding first ++ rest → (row ≡ first) × (bytes ≡ rest)
 one_first row first bytes rest formed formed_first e = pair_parts row first bytes rest (sym (row_again row bytes formed) ∙ ap row_at e ∙ row_again first rest formed_first)
 
--- Rows whose spelling begins with that of fewer rows begin with these.
-begin_alike : (done rows : List Row) (bytes : List ℕ) → list_all is_row done ≡ true → list_all is_row rows ≡ true → length done ≤ length rows → spelled done ++ bytes ≡ spelled rows
-    → (rest : List Row) × (rows ≡ done ++ rest) × (spelled rest ≡ bytes)
+-- Rows whose encoding begins with that of fewer rows begin with these.
+begin_alike : (done rows : List Row) (bytes : List ℕ) → list_all is_row done ≡ true → list_all is_row rows ≡ true → length done ≤ length rows → encoded_rows done ++ bytes ≡ encoded_rows rows
+    → (rest : List Row) × (rows ≡ done ++ rest) × (encoded_rows rest ≡ bytes)
 begin_alike [] rows bytes formed all few e = (rows, refl, sym e)
 begin_alike (row ∷ done) [] bytes formed all few e = absurd (omega (arith, few))
 begin_alike (row ∷ done) (first ∷ rows) bytes formed all few e =
     let here = and_parts (is_row row) (list_all is_row done) formed in
     let there = and_parts (is_row first) (list_all is_row rows) all in
-    let same = one_first row first (spelled done ++ bytes) (spelled rows) here.0 there.0 (sym (append_assoc (row_spelling row) (spelled done) bytes) ∙ e) in
+    let same = one_first row first (encoded_rows done ++ bytes) (encoded_rows rows) here.0 there.0 (sym (append_assoc (row_encoding row) (encoded_rows done) bytes) ∙ e) in
     let others = begin_alike done rows bytes here.1 there.1 (omega (arith, few)) same.1 in
     (others.0, ap (λ (l : List Row). first ∷ l) others.1 ∙ ap (λ (r : Row). r ∷ (done ++ others.0)) (sym same.0), others.2)
 
@@ -118,11 +118,11 @@ others_left done rows was now read are =
 pub left_of_body : (rows : List Row) (body : List ℕ) (left : RowsLeft) → AreBehindFront body left → IsBody rows body → AreLeft rows left
 left_of_body rows body left behind is =
     let front : count_at body ≡ Some (left.count, left.bytes) = ap count_at behind.made ∙ count_again left.count left.bytes (omega (arith, behind.few)) in
-    let same = pair_parts left.count (length rows) left.bytes (spelled rows) (sym front ∙ front_found rows body is) in
+    let same = pair_parts left.count (length rows) left.bytes (encoded_rows rows) (sym front ∙ front_found rows body is) in
     record { formed = is.formed; count = same.0; bytes = same.1 }
 
 pub body_of_left : (rows : List Row) (body : List ℕ) (left : RowsLeft) → AreBehindFront body left → AreLeft rows left → IsBody rows body
-unfolding body_of
+unfolding rows_body
 body_of_left rows body left behind are = record {
   some = omega (arith, behind.some, are.count);
   few = omega (arith, behind.few, are.count);

@@ -12,3 +12,4 @@ pub mod Bodies
 pub mod Journals
 pub mod BytesFronts
 pub mod Left
+pub mod WellFormed

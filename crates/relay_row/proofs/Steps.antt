@@ -2,7 +2,7 @@
 use Rattle.std.proofs.Common.{◌≡◌, ℕ, List, [], ◌++◌, Option, Some, None, refl, ap, subst}
 use Rattle.at_cid.specs.Link.{IsBytes}
 use Rattle.at_cbor.specs.Item.{Item}
-use Rattle.at_cbor.specs.Spelling.{spelling, Fits}
+use Rattle.at_cbor.specs.Encoding.{encoding, Fits}
 use Rattle.at_cbor.proofs.Steps.{Takes}
 use Rattle.at_cbor.proofs.Taken.{item_taken, item_taken_again}
 use Rattle.relay_row.specs.Readers.{Reading, behind, given, item_at, formed}
@@ -21,7 +21,7 @@ pair_parts {A} x y b c e =
 
 -- ---- what is read is what stands in front
 
--- What the reader finds is spelled at the front.
+-- What the reader finds is encoded at the front.
 abbrev pub Sound : {A : Type 0} → (A → List ℕ) → Reading A → Type 0
 Sound s r = (bytes : List ℕ) (x : _) (rest : List ℕ) → IsBytes bytes → r bytes ≡ Some (x, rest) → Takes bytes (s x) rest
 
@@ -67,7 +67,7 @@ given_some (Some x) bytes y rest e =
     (ap Some h.0, h.1)
 given_some None bytes y rest e = absurd cc
 
-pub item_sound : Sound spelling item_at
+pub item_sound : Sound encoding item_at
 unfolding item_at
 item_sound bytes i rest ok e = (item_taken bytes (i, rest) ok e).0
 
@@ -75,14 +75,14 @@ item_sound bytes i rest ok e = (item_taken bytes (i, rest) ok e).0
 abbrev pub Tells : {A : Type 0} → (A → Item) → (Item → Option A) → Type 0
 Tells s form = (i : Item) (x : _) → form i ≡ Some x → i ≡ s x
 
-pub formed_sound : {A : Type 0} (s : A → Item) (form : Item → Option A) → Tells s form → Sound (λ x. spelling (s x)) (formed form)
+pub formed_sound : {A : Type 0} (s : A → Item) (form : Item → Option A) → Tells s form → Sound (λ x. encoding (s x)) (formed form)
 formed_sound s form tells bytes x rest ok e =
     let p = step item_sound {f = λ i. given (form i)} bytes (x, rest) ok e in
     let g = given_some (form p.found) p.left x rest p.next in
     let is : p.found ≡ s x = tells p.found x g.0 in
-    subst (λ (left : List ℕ). Takes bytes (spelling (s x)) left) g.1 (subst (λ (i : Item). Takes bytes (spelling i) p.left) is p.takes)
+    subst (λ (left : List ℕ). Takes bytes (encoding (s x)) left) g.1 (subst (λ (i : Item). Takes bytes (encoding i) p.left) is p.takes)
 
--- ---- what is spelled is read
+-- ---- what is encoded is read
 
 abbrev pub Complete : {A : Type 0} → (A → List ℕ) → (A → Type 0) → Reading A → Type 0
 Complete s P r = (x : _) (rest : List ℕ) → P x → r (s x ++ rest) ≡ Some (x, rest)
@@ -90,9 +90,9 @@ Complete s P r = (x : _) (rest : List ℕ) → P x → r (s x ++ rest) ≡ Some 
 pub go : {A B : Type 0} (o : Option (A × List ℕ)) (f : A → Reading B) (x : A) (rest : List ℕ) (answer : Option (B × List ℕ)) → o ≡ Some (x, rest) → f x rest ≡ answer → behind o f ≡ answer
 go o f x rest answer e h = rw e h
 
-pub item_again : Complete spelling (λ i. Fits i 64) item_at
+pub item_again : Complete encoding (λ i. Fits i 64) item_at
 unfolding item_at
 item_again i rest fits = item_taken_again i rest fits
 
-pub formed_again : {A : Type 0} (s : A → Item) (form : Item → Option A) (x : A) (rest : List ℕ) → Fits (s x) 64 → form (s x) ≡ Some x → formed form (spelling (s x) ++ rest) ≡ Some (x, rest)
+pub formed_again : {A : Type 0} (s : A → Item) (form : Item → Option A) (x : A) (rest : List ℕ) → Fits (s x) 64 → form (s x) ≡ Some x → formed form (encoding (s x) ++ rest) ≡ Some (x, rest)
 formed_again s form x rest fits is = go _ _ (s x) rest _ (item_again (s x) rest fits) (rw is refl)

@@ -20,13 +20,13 @@ host_in (Row.Carried (Carried.Host host cursor)) = host
 host_in (Row.Carried (Carried.Account a)) = []
 
 -- the account that a row names, or the empty text
-abbrev pub did_in : Row → List ℕ
-did_in (Row.Taken t) = t.did
-did_in (Row.Synced did whole moment) = did
-did_in (Row.Operated o) = o.did
-did_in (Row.Carried (Carried.Last seq)) = []
-did_in (Row.Carried (Carried.Host host cursor)) = []
-did_in (Row.Carried (Carried.Account a)) = a.did
+abbrev pub did_of_row : Row → List ℕ
+did_of_row (Row.Taken t) = t.did
+did_of_row (Row.Synced did whole moment) = did
+did_of_row (Row.Operated o) = o.did
+did_of_row (Row.Carried (Carried.Last seq)) = []
+did_of_row (Row.Carried (Carried.Host host cursor)) = []
+did_of_row (Row.Carried (Carried.Account a)) = a.did
 
 -- the host's number in a row: how far the host's stream was taken
 abbrev pub host_seq_in : Row → ℕ
@@ -43,7 +43,7 @@ names name text = not (bytes_eq name []) && bytes_eq name text
 
 -- whether a row of these names a DID
 unfoldable pub is_named : List ℕ → List Row → Bool
-is_named did rows = list_any (λ row. names did (did_in row)) rows
+is_named did rows = list_any (λ row. names did (did_of_row row)) rows
 
 -- the cursor of a host after one more row
 abbrev pub cursor_after : List ℕ → ℕ → Row → ℕ
@@ -73,13 +73,13 @@ events [] = []
 events (row ∷ rows) = events_in row ++ events rows
 
 -- the number of an event, or 0
-abbrev pub seq_of : List (ℕ × List ℕ) → ℕ
-seq_of [] = 0
-seq_of (event ∷ others) = event.0
+abbrev pub first_seq : List (ℕ × List ℕ) → ℕ
+first_seq [] = 0
+first_seq (event ∷ others) = event.0
 
 -- the number that a row gives or carries, or 0
 abbrev pub seq_in : Row → ℕ
-seq_in (Row.Taken t) = seq_of (events_in (Row.Taken t))
+seq_in (Row.Taken t) = first_seq (events_in (Row.Taken t))
 seq_in (Row.Synced did whole moment) = whole.seq
 seq_in (Row.Operated o) = o.seq
 seq_in (Row.Carried (Carried.Last seq)) = seq

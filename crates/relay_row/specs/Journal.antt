@@ -26,14 +26,14 @@ are_none [] = true
 are_none (row ∷ rows) = false
 
 -- a number stands above the last one, or is none
-abbrev pub is_above : ℕ → ℕ → Bool
-is_above last seq = seq == 0 || nat_lt last seq
+abbrev pub rises_above : ℕ → ℕ → Bool
+rises_above last seq = seq == 0 || nat_lt last seq
 
 -- Behind these rows a row keeps the order: a message stands above its host's cursor, and a number above the last one. What is carried stands in front of all other rows: the last number first, then the hosts, each once, then the accounts, each once.
 abbrev pub keeps_order : List Row → Row → Bool
-keeps_order before (Row.Taken t) = nat_lt (cursor t.host before) t.host_seq && is_above (last_seq before) (seq_in (Row.Taken t))
-keeps_order before (Row.Synced did whole moment) = is_above (last_seq before) whole.seq
-keeps_order before (Row.Operated o) = is_above (last_seq before) o.seq
+keeps_order before (Row.Taken t) = nat_lt (cursor t.host before) t.host_seq && rises_above (last_seq before) (seq_in (Row.Taken t))
+keeps_order before (Row.Synced did whole moment) = rises_above (last_seq before) whole.seq
+keeps_order before (Row.Operated o) = rises_above (last_seq before) o.seq
 keeps_order before (Row.Carried (Carried.Last seq)) = are_none before
 keeps_order before (Row.Carried (Carried.Host host n)) = not (are_none before) && (list_all is_last_or_host before && cursor host before == 0)
 keeps_order before (Row.Carried (Carried.Account a)) = not (are_none before) && (list_all is_carried_row before && not (is_named a.did before))

@@ -2,11 +2,11 @@
 use Rattle.std.specs.Prelude.{◌≡◌, ⊤, ℕ, ◌+◌, ◌≤◌, List, [], ◌∷◌, ◌++◌, length, true, Option, Some, None, Result, Ok, Err}
 use Rattle.std.specs.List.{list_all}
 use Rattle.at_cbor.specs.declared.major.Major.{Major}
-use Rattle.at_cbor.specs.Spelling.{front_of}
+use Rattle.at_cbor.specs.Encoding.{front_of}
 use Rattle.relay_row.specs.declared.fault.RowFault.{RowFault}
 use Rattle.relay_row.specs.declared.limits.TheConstants.{MOST_ROWS}
 use Rattle.relay_row.specs.declared.row.Row.{Row}
-use Rattle.relay_row.specs.Bodies.{spelled, IsBody}
+use Rattle.relay_row.specs.Bodies.{encoded_rows, IsBody}
 use Rattle.relay_row.specs.Rules.{is_row}
 
 -- So many rows are to come, and these bytes.
@@ -24,21 +24,21 @@ pub record AreBehindFront (body : List ℕ) (left : RowsLeft) : Type 0 where
 pub record AreInFront (rows : List Row) (was left : RowsLeft) : Type 0 where
   pub formed : list_all is_row rows ≡ true
   pub count : was.count ≡ length rows + left.count
-  pub bytes : was.bytes ≡ spelled rows ++ left.bytes
+  pub bytes : was.bytes ≡ encoded_rows rows ++ left.bytes
 
 -- These well formed rows are all that is left.
 pub record AreLeft (rows : List Row) (left : RowsLeft) : Type 0 where
   pub formed : list_all is_row rows ≡ true
   pub count : left.count ≡ length rows
-  pub bytes : left.bytes ≡ spelled rows
+  pub bytes : left.bytes ≡ encoded_rows rows
 
--- What stands behind the body's front; BadRow only where it is the body of no rows; else memory was wanted.
+-- What stands behind the body's front; BadRow only where it is the body of no rows; else memory ran out.
 abbrev pub BeginsBody : Result RowsLeft RowFault → List ℕ → Type 0
 BeginsBody (Ok left) body = AreBehindFront body left
 BeginsBody (Err RowFault.BadRow) body = (rows : List Row) → IsBody rows body → ⊥
 BeginsBody (Err RowFault.Memory) body = ⊤
 
--- The row in front; none where no rows are left; BadRow only where what was left is that of no rows; else memory was wanted.
+-- The row in front; none where no rows are left; BadRow only where what was left is that of no rows; else memory ran out.
 abbrev pub TakesNext : Result (Option Row) RowFault → RowsLeft → RowsLeft → Type 0
 TakesNext (Ok (Some row)) was now = AreInFront (row ∷ []) was now
 TakesNext (Ok None) was now = AreLeft [] was × (now ≡ was)

@@ -1,5 +1,6 @@
 pub mod Items
 pub mod Rules
+pub mod WellFormed
 pub mod Bodies
 pub mod Readers
 pub mod Reading
@@ -7,5 +8,5 @@ pub mod Answers
 pub mod Laws
 pub mod Journal
 pub mod Folds
-pub mod Fresh
+pub mod NewRow
 pub mod Left

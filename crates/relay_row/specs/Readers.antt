@@ -6,12 +6,13 @@ use Rattle.at_cbor.specs.declared.major.Major.{Major}
 use Rattle.at_cbor.specs.Taking.{item_from_front, number_at as front_at}
 use Rattle.at_syntax.specs.Tid.{tid_of}
 use Rattle.relay_row.specs.declared.fault.RowFault.{RowFault}
+use Rattle.relay_row.specs.declared.limits.TheConstants.{PLACES}
 
 -- what stands at the front of bytes, and the bytes behind it
 abbrev pub Reading : Type 0 → Type 0
 Reading A = List ℕ → Option (A × List ℕ)
 
--- What a reader answers: this, seen by view, and nothing where it isn't there, unless memory was wanted.
+-- What a reader answers: this, seen by view, and nothing where it isn't there, unless memory ran out.
 abbrev pub Reads : {X Y : Type 0} → (X → Y) → Result X RowFault → Option Y → Type 0
 Reads view (Ok x) found = found ≡ Some (view x)
 Reads view (Err RowFault.BadRow) found = found ≡ None
@@ -80,7 +81,7 @@ byte_at = formed (λ i. below 256 (number_in i))
 
 -- a number of four bytes
 unfoldable pub place_at : Reading ℕ
-place_at = formed (λ i. below 4294967296 (number_in i))
+place_at = formed (λ i. below PLACES (number_in i))
 
 unfoldable pub text_at : Reading (List ℕ)
 text_at = formed text_in

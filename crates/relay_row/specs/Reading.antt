@@ -1,5 +1,6 @@
 -- Rows, read item by item.
-use Rattle.std.specs.Prelude.{ℕ, zero, suc, ◌+◌, List, [], ◌∷◌, ◌==◌, ◌&&◌, nat_lt, nat_le, if◌then◌else◌, Option, Some, None}
+use Rattle.std.specs.Prelude.{ℕ, zero, suc, ◌+◌, List, [], ◌∷◌, ◌==◌, ◌&&◌, nat_lt, nat_le, if◌then◌else◌, Option, Some, None, option_map}
+use Rattle.at_event.specs.Refusals.{plain_refusal}
 use Rattle.at_event.specs.declared.head.Head.{Head}
 use Rattle.at_event.specs.declared.refusal.Refusal.{Refusal}
 use Rattle.relay_row.specs.declared.limits.TheConstants.{MOST_ROWS}
@@ -13,7 +14,6 @@ use Rattle.relay_row.specs.declared.carried.CarriedAccount.{CarriedAccount}
 use Rattle.relay_row.specs.declared.carried.Carried.{Carried}
 use Rattle.relay_row.specs.declared.row.Row.{Row}
 use Rattle.relay_row.specs.Readers.{Reading, ◌>>=◌, give, fail, given, number_at, byte_at, place_at, text_at, bytes_at, bool_at, link_at, rev_at, null_or_rev_at, null_or_text_at, count_at, or_null_at}
-use Rattle.relay_row.specs.Items.{code}
 use Rattle.relay_row.specs.Rules.{is_row}
 
 unfoldable pub head_at : Reading Head
@@ -37,21 +37,9 @@ whole_of count = if count == 6 then whole_items_at else fail
 unfoldable pub whole_at : Reading Whole
 whole_at = count_at >>= whole_of
 
--- no refusal, and those without a detail
-abbrev pub bare : List (Option Refusal)
-bare =
-    None ∷ Some Refusal.BadEvent ∷ Some Refusal.NotHome ∷ Some Refusal.Inactive ∷ Some Refusal.TakenDown ∷ Some Refusal.TooBig ∷ Some Refusal.BlocksTooLong
-    ∷ Some Refusal.TooManyOps ∷ Some Refusal.BadPath ∷ Some Refusal.RepeatedPath ∷ Some Refusal.BadOp ∷ Some Refusal.Stale ∷ Some Refusal.BadCar
-    ∷ Some Refusal.WrongRoot ∷ Some Refusal.WrongDigest ∷ Some Refusal.NoCommit ∷ Some Refusal.BadCommit ∷ Some Refusal.OtherCommit ∷ Some Refusal.BadSignature
-    ∷ Some Refusal.Gap ∷ Some Refusal.TooLong ∷ Some Refusal.FutureRev ∷ []
-
--- the one with this number
-abbrev pub found_in : ℕ → List (Option Refusal) → Option (Option Refusal)
-found_in n [] = None
-found_in n (r ∷ rs) = if n == code r then Some r else found_in n rs
-
+-- no refusal, or one without a detail
 unfoldable pub plain : ℕ → Option (Option Refusal)
-plain n = found_in n bare
+plain n = if n == 0 then Some None else option_map Some (plain_refusal n)
 
 unfoldable pub one_detail : ℕ → Reading (Option Refusal)
 one_detail n =

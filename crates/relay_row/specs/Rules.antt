@@ -11,7 +11,8 @@ use Rattle.at_syntax.specs.Host.{is_host}
 use Rattle.at_event.specs.declared.head.Head.{Head}
 use Rattle.at_event.specs.Refusals.{code_of}
 use Rattle.at_event.specs.declared.refusal.Refusal.{Refusal}
-use Rattle.relay_row.specs.declared.limits.TheConstants.{NUMBERS, LONGEST_STATUS}
+use Rattle.at_cid.specs.declared.limits.TheConstants.{NUMBERS}
+use Rattle.at_form.specs.declared.forms.TheConstants.{LONGEST_SHORT_TEXT}
 use Rattle.relay_row.specs.declared.fetched.Whole.{Whole}
 use Rattle.relay_row.specs.declared.fetched.Fetched.{Fetched}
 use Rattle.relay_row.specs.declared.taken.Effect.{Effect}
@@ -75,7 +76,7 @@ is_message bytes = is_string bytes && not (is_empty bytes)
 
 abbrev pub is_status : Option (List ℕ) → Bool
 is_status None = true
-is_status (Some status) = is_text status && nat_le (length status) LONGEST_STATUS
+is_status (Some status) = is_text status && nat_le (length status) LONGEST_SHORT_TEXT
 
 unfoldable pub is_whole : Whole → Bool
 is_whole w = is_positive w.seq && (is_head w.head && (is_number w.records && is_message w.message))

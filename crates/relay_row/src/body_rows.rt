@@ -5,16 +5,17 @@ ghost use Rattle.relay_row.specs.Left.{BeginsBody, TakesNext};
 use crate::fault::RowFault;
 use crate::items::read_count;
 use crate::limits::MOST_ROWS;
-use crate::reader::Reader;
+use crate::reader::ItemReader;
 use crate::row::Row;
 use crate::table::read_row;
+use at_cid::ghost_bytes;
 use std::alloc::Global;
 use std::marker::Model;
 
 /// The rows of a body, read one after the other.
 #[derive(Drop)]
 pub struct BodyRows<'a> {
-    reader: Reader<'a>,
+    reader: ItemReader<'a>,
     left: u64,
 }
 
@@ -31,7 +32,7 @@ impl<'a> BodyRows<'a> {
     pub fn of(alloc: Global, body: &'a [u8]) -> Result<BodyRows<'a>, RowFault>
         ensures { BeginsBody result body.now }
     {
-        let mut reader = Reader { alloc, rest: body };
+        let mut reader = ItemReader { alloc, rest: body };
         let left = read_count(&mut reader)?;
         if left == 0 || left > MOST_ROWS as u64 {
             return Err(RowFault::BadRow);
@@ -43,7 +44,7 @@ impl<'a> BodyRows<'a> {
     pub fn next(&mut self) -> Result<Option<Row>, RowFault>
         ensures { TakesNext result self.old self.new }
     {
-        self.reader.tell_bytes();
+        ghost_bytes(self.reader.rest);
         if self.left == 0 && self.reader.rest.is_empty() {
             return Ok(None);
         }

@@ -1,25 +1,23 @@
 //! Items at the front of bytes, each read as the one kind that it is to be.
 
 ghost use Rattle.std.specs.Prelude.{◌≡◌, ◌∷◌, [], option_map};
-ghost use Rattle.at_cbor.specs.Taking.{behind as behind_front, number_at as front_at, string_of};
+ghost use Rattle.at_cbor.specs.Taking.{behind as behind_front};
 ghost use Rattle.at_cbor.specs.declared.major.Major.{Major};
 ghost use Rattle.relay_row.specs.Readers.{Reads, behind, number_at, byte_at, place_at, text_at, bytes_at, bool_at, link_at, rev_at, null_or_rev_at, null_or_text_at, count_at};
 
 use crate::fault::RowFault;
-use crate::reader::Reader;
-use at_cbor::{Major, take_bytes, take_link, take_list_front, take_number};
-use at_cid::{Cid, Octets, Words};
+use crate::limits::PLACES;
+use crate::reader::ItemReader;
+use at_cbor::{INTEGERS, Major, take_bytes, take_link, take_list_front, take_number, take_text};
+use at_cid::{Cid, Octets, Words, ghost_bytes};
 use at_syntax::Tid;
-
-/// Integers of DAG-CBOR are below this.
-const INTEGERS: u64 = 1 << 63;
 
 /// A number from 0 on.
 #[tactic(auto, using(crate::proofs::ByKind::number_is))]
-pub fn read_number(reader: &mut Reader) -> Result<u64, RowFault>
+pub fn read_number(reader: &mut ItemReader) -> Result<u64, RowFault>
     ensures { Reads (λ x. (x, reader.new.rest.now)) result (number_at reader.old.rest.now) }
 {
-    reader.tell_bytes();
+    ghost_bytes(reader.rest);
     match take_number(Major::Unsigned, reader.rest) {
         Some((number, rest)) if number < INTEGERS => {
             reader.rest = rest;
@@ -31,7 +29,7 @@ pub fn read_number(reader: &mut Reader) -> Result<u64, RowFault>
 
 /// A number of one byte.
 #[tactic(auto, using(crate::proofs::ByKind::byte_is))]
-pub fn read_byte(reader: &mut Reader) -> Result<u8, RowFault>
+pub fn read_byte(reader: &mut ItemReader) -> Result<u8, RowFault>
     ensures { Reads (λ x. (x, reader.new.rest.now)) result (byte_at reader.old.rest.now) }
 {
     let number = read_number(reader)?;
@@ -44,48 +42,32 @@ pub fn read_byte(reader: &mut Reader) -> Result<u8, RowFault>
 
 /// A number of four bytes.
 #[tactic(auto, using(crate::proofs::ByKind::place_is))]
-pub fn read_place(reader: &mut Reader) -> Result<u32, RowFault>
+pub fn read_place(reader: &mut ItemReader) -> Result<u32, RowFault>
     ensures { Reads (λ x. (x, reader.new.rest.now)) result (place_at reader.old.rest.now) }
 {
     let number = read_number(reader)?;
-    if number < 4_294_967_296 {
+    if number < PLACES {
         Ok(number as u32)
     } else {
         Err(RowFault::BadRow)
     }
 }
 
-/// The bytes of a text, of which there are as many as its head tells.
-fn take_string(bytes: &[u8]) -> Option<(&[u8], &[u8])>
-    ensures { option_map (λ x. (x.0.now, x.1.now)) result ≡ behind (front_at Major.Text bytes.now) string_of }
-{
-    let (count, rest) = take_number(Major::Text, bytes)?;
-    if rest.len() < count as usize {
-        return None;
-    }
-    Some(rest.split_at(count as usize))
-}
-
 /// A text, lent by the bytes that are read.
-#[tactic(auto, using(at_cbor::proofs::Texts::tests_of_text, crate::proofs::ByKind::text_is))]
-fn lend_text<'a>(reader: &mut Reader<'a>) -> Result<&'a str, RowFault>
+#[tactic(auto, using(crate::proofs::ByKind::text_is))]
+fn lend_text<'a>(reader: &mut ItemReader<'a>) -> Result<&'a str, RowFault>
     ensures { Reads (λ x. (x.now, reader.new.rest.now)) result (text_at reader.old.rest.now) }
 {
-    reader.tell_bytes();
-    let Some((string, rest)) = take_string(reader.rest) else {
+    ghost_bytes(reader.rest);
+    let Some((text, rest)) = take_text(reader.rest) else {
         return Err(RowFault::BadRow);
     };
-    match str::from_utf8(string) {
-        Ok(text) => {
-            reader.rest = rest;
-            Ok(text)
-        }
-        Err(_) => Err(RowFault::BadRow),
-    }
+    reader.rest = rest;
+    Ok(text)
 }
 
 /// A text.
-pub fn read_text(reader: &mut Reader) -> Result<Words, RowFault>
+pub fn read_text(reader: &mut ItemReader) -> Result<Words, RowFault>
     ensures { Reads (λ x. (x, reader.new.rest.now)) result (text_at reader.old.rest.now) }
 {
     let text = lend_text(reader)?;
@@ -94,10 +76,10 @@ pub fn read_text(reader: &mut Reader) -> Result<Words, RowFault>
 
 /// A string of bytes.
 #[tactic(auto, using(crate::proofs::ByKind::bytes_is))]
-pub fn read_bytes(reader: &mut Reader) -> Result<Octets, RowFault>
+pub fn read_bytes(reader: &mut ItemReader) -> Result<Octets, RowFault>
     ensures { Reads (λ x. (x, reader.new.rest.now)) result (bytes_at reader.old.rest.now) }
 {
-    reader.tell_bytes();
+    ghost_bytes(reader.rest);
     let Some((string, rest)) = take_bytes(reader.rest) else {
         return Err(RowFault::BadRow);
     };
@@ -118,10 +100,10 @@ fn take_byte(byte: u8, bytes: &[u8]) -> Option<&[u8]>
 
 /// True or false.
 #[tactic(auto, using(crate::proofs::ByKind::bool_is))]
-pub fn read_bool(reader: &mut Reader) -> Result<bool, RowFault>
+pub fn read_bool(reader: &mut ItemReader) -> Result<bool, RowFault>
     ensures { Reads (λ x. (x, reader.new.rest.now)) result (bool_at reader.old.rest.now) }
 {
-    reader.tell_bytes();
+    ghost_bytes(reader.rest);
     if let Some(rest) = take_byte(0xf4, reader.rest) {
         reader.rest = rest;
         return Ok(false);
@@ -135,10 +117,10 @@ pub fn read_bool(reader: &mut Reader) -> Result<bool, RowFault>
 
 /// A link.
 #[tactic(auto, using(crate::proofs::ByKind::link_is))]
-pub fn read_link(reader: &mut Reader) -> Result<Cid, RowFault>
+pub fn read_link(reader: &mut ItemReader) -> Result<Cid, RowFault>
     ensures { Reads (λ x. (x, reader.new.rest.now)) result (link_at reader.old.rest.now) }
 {
-    reader.tell_bytes();
+    ghost_bytes(reader.rest);
     match take_link(reader.rest) {
         Some((link, rest)) => {
             reader.rest = rest;
@@ -150,7 +132,7 @@ pub fn read_link(reader: &mut Reader) -> Result<Cid, RowFault>
 
 /// A revision.
 #[tactic(auto, using(crate::proofs::ByKind::rev_is))]
-pub fn read_rev(reader: &mut Reader) -> Result<Tid, RowFault>
+pub fn read_rev(reader: &mut ItemReader) -> Result<Tid, RowFault>
     ensures { Reads (λ x. (x, reader.new.rest.now)) result (rev_at reader.old.rest.now) }
 {
     let text = lend_text(reader)?;
@@ -162,10 +144,10 @@ pub fn read_rev(reader: &mut Reader) -> Result<Tid, RowFault>
 
 /// A revision, or null.
 #[tactic(auto, using(crate::proofs::ByKind::null_or_rev_is))]
-pub fn read_null_or_rev(reader: &mut Reader) -> Result<Option<Tid>, RowFault>
+pub fn read_null_or_rev(reader: &mut ItemReader) -> Result<Option<Tid>, RowFault>
     ensures { Reads (λ x. (x, reader.new.rest.now)) result (null_or_rev_at reader.old.rest.now) }
 {
-    reader.tell_bytes();
+    ghost_bytes(reader.rest);
     if let Some(rest) = take_byte(0xf6, reader.rest) {
         reader.rest = rest;
         return Ok(None);
@@ -176,10 +158,10 @@ pub fn read_null_or_rev(reader: &mut Reader) -> Result<Option<Tid>, RowFault>
 
 /// A text, or null.
 #[tactic(auto, using(crate::proofs::ByKind::null_or_text_is))]
-pub fn read_null_or_text(reader: &mut Reader) -> Result<Option<Words>, RowFault>
+pub fn read_null_or_text(reader: &mut ItemReader) -> Result<Option<Words>, RowFault>
     ensures { Reads (λ x. (x, reader.new.rest.now)) result (null_or_text_at reader.old.rest.now) }
 {
-    reader.tell_bytes();
+    ghost_bytes(reader.rest);
     if let Some(rest) = take_byte(0xf6, reader.rest) {
         reader.rest = rest;
         return Ok(None);
@@ -190,7 +172,7 @@ pub fn read_null_or_text(reader: &mut Reader) -> Result<Option<Words>, RowFault>
 
 /// The front of a list: how many items follow.
 #[tactic(auto, unfolding(crate::specs::Readers::count_at))]
-pub fn read_count(reader: &mut Reader) -> Result<u64, RowFault>
+pub fn read_count(reader: &mut ItemReader) -> Result<u64, RowFault>
     ensures { Reads (λ x. (x, reader.new.rest.now)) result (count_at reader.old.rest.now) }
 {
     match take_list_front(reader.rest) {

@@ -1,13 +1,18 @@
-//! Laws of bodies, folds and journals, each the contract of a function that does nothing.
+//! Laws of rows, bodies, folds and journals, each the contract of a function that does nothing.
 
-ghost use Rattle.relay_row.specs.Laws.{BodiesTellRows, RowsJoin, FoldsJoin, JournalsGrow};
+ghost use Rattle.relay_row.specs.Laws.{BodiesTellRows, RowsJoin, FoldsJoin, JournalsGrow, RowsAreTested};
+
+/// [`is_row`](crate::is_row) finds the rows that are well formed, record by record.
+pub fn rows_are_tested()
+    ensures { RowsAreTested }
+{}
 
 /// No body is that of two lists of rows.
 pub fn bodies_tell_rows()
     ensures { BodiesTellRows }
 {}
 
-/// Rows behind rows are spelled behind them.
+/// Rows behind rows are encoded behind them.
 pub fn rows_join()
     ensures { RowsJoin }
 {}

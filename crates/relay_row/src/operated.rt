@@ -1,8 +1,8 @@
-//! An operator's words on accounts.
+//! An operator's commands on accounts.
 
 use at_cid::{Octets, Words};
 
-/// An operator's word on an account.
+/// An operator's command on an account.
 #[derive(Debug, Drop)]
 pub struct Operated {
     /// The account.

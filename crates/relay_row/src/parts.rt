@@ -11,12 +11,12 @@ use crate::items::{
     read_bool, read_bytes, read_count, read_link, read_null_or_rev, read_null_or_text, read_number,
     read_place, read_rev,
 };
-use crate::reader::Reader;
+use crate::reader::ItemReader;
 use crate::taken::Effect;
 use at_event::{Head, Refusal};
 
 #[tactic(auto, unfolding(crate::specs::Reading::head_at))]
-pub fn read_head(reader: &mut Reader) -> Result<Head, RowFault>
+pub fn read_head(reader: &mut ItemReader) -> Result<Head, RowFault>
     ensures { Reads (λ x. (x, reader.new.rest.now)) result (head_at reader.old.rest.now) }
 {
     let rev = read_rev(reader)?;
@@ -30,7 +30,7 @@ pub fn read_head(reader: &mut Reader) -> Result<Head, RowFault>
 }
 
 #[tactic(auto, unfolding(crate::specs::Reading::whole_items_at))]
-fn read_whole_items(reader: &mut Reader) -> Result<Whole, RowFault>
+fn read_whole_items(reader: &mut ItemReader) -> Result<Whole, RowFault>
     ensures { Reads (λ x. (x, reader.new.rest.now)) result (whole_items_at reader.old.rest.now) }
 {
     let seq = read_number(reader)?;
@@ -46,7 +46,7 @@ fn read_whole_items(reader: &mut Reader) -> Result<Whole, RowFault>
 }
 
 #[tactic(auto, unfolding(crate::specs::Reading::whole_at))]
-pub fn read_whole(reader: &mut Reader) -> Result<Whole, RowFault>
+pub fn read_whole(reader: &mut ItemReader) -> Result<Whole, RowFault>
     ensures { Reads (λ x. (x, reader.new.rest.now)) result (whole_at reader.old.rest.now) }
 {
     let count = read_count(reader)?;
@@ -61,35 +61,15 @@ pub fn read_whole(reader: &mut Reader) -> Result<Whole, RowFault>
 fn plain(code: u8) -> Option<Option<Refusal>>
     ensures { result ≡ plain code }
 {
-    match code {
-        0 => Some(None),
-        1 => Some(Some(Refusal::BadEvent)),
-        2 => Some(Some(Refusal::NotHome)),
-        3 => Some(Some(Refusal::Inactive)),
-        4 => Some(Some(Refusal::TakenDown)),
-        5 => Some(Some(Refusal::TooBig)),
-        6 => Some(Some(Refusal::BlocksTooLong)),
-        7 => Some(Some(Refusal::TooManyOps)),
-        8 => Some(Some(Refusal::BadPath)),
-        9 => Some(Some(Refusal::RepeatedPath)),
-        10 => Some(Some(Refusal::BadOp)),
-        11 => Some(Some(Refusal::Stale)),
-        12 => Some(Some(Refusal::BadCar)),
-        13 => Some(Some(Refusal::WrongRoot)),
-        14 => Some(Some(Refusal::WrongDigest)),
-        15 => Some(Some(Refusal::NoCommit)),
-        16 => Some(Some(Refusal::BadCommit)),
-        17 => Some(Some(Refusal::OtherCommit)),
-        18 => Some(Some(Refusal::BadSignature)),
-        19 => Some(Some(Refusal::Gap)),
-        24 => Some(Some(Refusal::TooLong)),
-        25 => Some(Some(Refusal::FutureRev)),
-        _ => None,
+    if code == 0 {
+        return Some(None);
     }
+    let refusal = Refusal::plain(code)?;
+    Some(Some(refusal))
 }
 
 #[tactic(auto, unfolding(crate::specs::Reading::one_detail))]
-fn read_one_detail(reader: &mut Reader, code: u8) -> Result<Option<Refusal>, RowFault>
+fn read_one_detail(reader: &mut ItemReader, code: u8) -> Result<Option<Refusal>, RowFault>
     ensures { Reads (λ x. (x, reader.new.rest.now)) result (one_detail code reader.old.rest.now) }
 {
     match code {
@@ -110,7 +90,7 @@ fn read_one_detail(reader: &mut Reader, code: u8) -> Result<Option<Refusal>, Row
 }
 
 #[tactic(auto, unfolding(crate::specs::Reading::two_details))]
-fn read_two_details(reader: &mut Reader, code: u8) -> Result<Option<Refusal>, RowFault>
+fn read_two_details(reader: &mut ItemReader, code: u8) -> Result<Option<Refusal>, RowFault>
     ensures { Reads (λ x. (x, reader.new.rest.now)) result (two_details code reader.old.rest.now) }
 {
     if code != 23 {
@@ -122,7 +102,7 @@ fn read_two_details(reader: &mut Reader, code: u8) -> Result<Option<Refusal>, Ro
 }
 
 #[tactic(auto, unfolding(crate::specs::Reading::detail_at))]
-pub fn read_detail(reader: &mut Reader, code: u8) -> Result<Option<Refusal>, RowFault>
+pub fn read_detail(reader: &mut ItemReader, code: u8) -> Result<Option<Refusal>, RowFault>
     ensures { Reads (λ x. (x, reader.new.rest.now)) result (detail_at code reader.old.rest.now) }
 {
     let count = read_count(reader)?;
@@ -138,7 +118,7 @@ pub fn read_detail(reader: &mut Reader, code: u8) -> Result<Option<Refusal>, Row
 }
 
 #[tactic(auto, unfolding(crate::specs::Reading::account_effect))]
-fn read_account_effect(reader: &mut Reader) -> Result<Effect, RowFault>
+fn read_account_effect(reader: &mut ItemReader) -> Result<Effect, RowFault>
     ensures { Reads (λ x. (x, reader.new.rest.now)) result (account_effect reader.old.rest.now) }
 {
     let active = read_bool(reader)?;
@@ -146,7 +126,7 @@ fn read_account_effect(reader: &mut Reader) -> Result<Effect, RowFault>
     Ok(Effect::Account(active, status))
 }
 
-fn read_effect_items(reader: &mut Reader, count: u64) -> Result<Effect, RowFault>
+fn read_effect_items(reader: &mut ItemReader, count: u64) -> Result<Effect, RowFault>
     ensures { Reads (λ x. (x, reader.new.rest.now)) result (effect_of count reader.old.rest.now) }
 {
     match count {
@@ -160,7 +140,7 @@ fn read_effect_items(reader: &mut Reader, count: u64) -> Result<Effect, RowFault
 }
 
 #[tactic(auto, unfolding(crate::specs::Reading::effect_at))]
-pub fn read_effect(reader: &mut Reader) -> Result<Effect, RowFault>
+pub fn read_effect(reader: &mut ItemReader) -> Result<Effect, RowFault>
     ensures { Reads (λ x. (x, reader.new.rest.now)) result (effect_at reader.old.rest.now) }
 {
     let [first, rest @ ..] = reader.rest else {
@@ -175,7 +155,7 @@ pub fn read_effect(reader: &mut Reader) -> Result<Effect, RowFault>
 }
 
 #[tactic(auto, unfolding(crate::specs::Reading::fetched_at))]
-pub fn read_fetched(reader: &mut Reader) -> Result<Fetched, RowFault>
+pub fn read_fetched(reader: &mut ItemReader) -> Result<Fetched, RowFault>
     ensures { Reads (λ x. (x, reader.new.rest.now)) result (fetched_at reader.old.rest.now) }
 {
     let [first, rest @ ..] = reader.rest else {
@@ -197,7 +177,7 @@ pub fn read_fetched(reader: &mut Reader) -> Result<Fetched, RowFault>
     Ok(Fetched::Whole(whole))
 }
 
-fn read_repo_items(reader: &mut Reader, count: u64) -> Result<CarriedRepo, RowFault>
+fn read_repo_items(reader: &mut ItemReader, count: u64) -> Result<CarriedRepo, RowFault>
     ensures { Reads (λ x. (x, reader.new.rest.now)) result (repo_of count reader.old.rest.now) }
 {
     match count {
@@ -214,7 +194,7 @@ fn read_repo_items(reader: &mut Reader, count: u64) -> Result<CarriedRepo, RowFa
 }
 
 #[tactic(auto, unfolding(crate::specs::Reading::repo_at))]
-pub fn read_repo(reader: &mut Reader) -> Result<CarriedRepo, RowFault>
+pub fn read_repo(reader: &mut ItemReader) -> Result<CarriedRepo, RowFault>
     ensures { Reads (λ x. (x, reader.new.rest.now)) result (repo_at reader.old.rest.now) }
 {
     let [first, rest @ ..] = reader.rest else {
@@ -230,7 +210,11 @@ pub fn read_repo(reader: &mut Reader) -> Result<CarriedRepo, RowFault>
 
 /// A moment behind so many items, where there is one more.
 #[tactic(auto, unfolding(crate::specs::Reading::moment_at))]
-pub fn read_moment(reader: &mut Reader, others: u64, count: u64) -> Result<Option<u64>, RowFault>
+pub fn read_moment(
+    reader: &mut ItemReader,
+    others: u64,
+    count: u64,
+) -> Result<Option<u64>, RowFault>
     requires { others < 24 }
     ensures { Reads (λ x. (x, reader.new.rest.now)) result (moment_at others count reader.old.rest.now) }
 {

@@ -9,12 +9,12 @@ ghost use Rattle.relay_row.specs.Answers.{ReadsBody};
 use crate::fault::RowFault;
 use crate::items::read_count;
 use crate::limits::MOST_ROWS;
-use crate::reader::Reader;
+use crate::reader::ItemReader;
 use crate::rows::Rows;
 use crate::table::read_row;
 use std::alloc::Global;
 
-fn read_counted(reader: &mut Reader, count: u64) -> Result<Rows, RowFault>
+fn read_counted(reader: &mut ItemReader, count: u64) -> Result<Rows, RowFault>
     ensures { Reads (λ x. (x, reader.new.rest.now)) result (rows_at count reader.old.rest.now) }
 {
     let mut rows = Rows::new(reader.alloc);
@@ -24,7 +24,7 @@ fn read_counted(reader: &mut Reader, count: u64) -> Result<Rows, RowFault>
     Ok(rows)
 }
 
-fn read_few(reader: &mut Reader, count: u64) -> Result<Rows, RowFault>
+fn read_few(reader: &mut ItemReader, count: u64) -> Result<Rows, RowFault>
     ensures { Reads (λ x. (x, reader.new.rest.now)) result (few count reader.old.rest.now) }
 {
     if count >= 1 && count <= MOST_ROWS as u64 {
@@ -38,7 +38,7 @@ fn read_few(reader: &mut Reader, count: u64) -> Result<Rows, RowFault>
 fn read_all(alloc: Global, body: &[u8]) -> Result<Rows, RowFault>
     ensures { Reads (λ rows. rows) result (rows_in body.now) }
 {
-    let mut reader = Reader { alloc, rest: body };
+    let mut reader = ItemReader { alloc, rest: body };
     let count = read_count(&mut reader)?;
     let rows = read_few(&mut reader, count)?;
     if reader.rest.is_empty() {
@@ -48,7 +48,7 @@ fn read_all(alloc: Global, body: &[u8]) -> Result<Rows, RowFault>
     }
 }
 
-/// The rows of a body. `BadRow`: the body isn't the spelling of 1 to 64 well formed rows.
+/// The rows of a body. `BadRow`: the body isn't the encoding of 1 to 64 well formed rows.
 ///
 /// No message is copied but into its row.
 pub fn read_rows(alloc: Global, body: &[u8]) -> Result<Rows, RowFault>

@@ -1,7 +1,7 @@
 //! The rows of a journal.
 
 ghost use Rattle.std.specs.Prelude.{◌≡◌};
-ghost use Rattle.relay_row.specs.Folds.{host_in, host_seq_in, did_in, seq_in};
+ghost use Rattle.relay_row.specs.Folds.{host_in, host_seq_in, did_of_row, seq_in};
 
 use crate::carried::Carried;
 use crate::fetched::Whole;
@@ -14,7 +14,7 @@ use at_cid::Words;
 pub enum Row {
     /// A message was taken.
     Taken(Taken),
-    /// An account's repository was fetched at an operator's word.
+    /// An account's repository was fetched at an operator's command.
     Synced(Words, Whole, Option<u64>),
     /// An operator spoke.
     Operated(Operated),
@@ -47,7 +47,7 @@ impl Row {
 
     /// The account that it names, or the empty text.
     pub fn did(&self) -> &str
-        ensures { result.now ≡ did_in self.now }
+        ensures { result.now ≡ did_of_row self.now }
     {
         match self {
             Row::Taken(taken) => taken.did.as_str(),

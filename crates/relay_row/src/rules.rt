@@ -1,19 +1,18 @@
 //! Which rows are well formed.
 
 ghost use Rattle.std.specs.Prelude.{◌≡◌};
-ghost use Rattle.at_cid.specs.Link.{kind_of};
 ghost use Rattle.at_event.specs.Refusals.{code_of};
-ghost use Rattle.relay_row.specs.Rules.{is_number, is_positive, is_moment, is_text, is_string, is_cid, is_rev, is_node_kind, is_node, is_head, names_host, names_did, is_message, is_status, is_whole, is_detail, loses, is_repo_number, is_fetched, is_nothing, is_effect, is_timed, is_accepted, is_refused, is_decided, is_about, is_taken, is_operated, is_repo, is_carried, is_row};
+ghost use Rattle.relay_row.specs.Rules.{is_number, is_positive, is_moment, is_node, is_head, names_host, names_did, is_message, is_status, is_whole, is_detail, loses, is_repo_number, is_fetched, is_nothing, is_effect, is_timed, is_accepted, is_refused, is_decided, is_about, is_taken, is_operated, is_repo, is_carried, is_row};
 
 use crate::carried::{Carried, CarriedRepo};
 use crate::fetched::{Fetched, Whole};
-use crate::limits::{LONGEST_STATUS, NUMBERS};
 use crate::operated::Operated;
 use crate::row::Row;
 use crate::taken::{Effect, Taken};
-use at_cid::{Cid, Kind, Octets, Words};
+use at_cid::{Cid, Kind, NUMBERS, Octets, Words, ghost_link};
 use at_event::{Head, Refusal};
-use at_syntax::{Tid, did_ok, host_ok};
+use at_form::LONGEST_SHORT_TEXT;
+use at_syntax::{did_ok, host_ok};
 
 fn is_number(number: u64) -> bool
     ensures { result ≡ is_number number }
@@ -36,84 +35,53 @@ fn is_moment(moment: Option<u64>) -> bool
     }
 }
 
-// What the type of a text says of it.
-#[tactic(auto, using(crate::proofs::Bytes::bytes_tested))]
-fn is_text(text: &Words) -> bool
-    ensures { result ≡ is_text text.now }
+#[tactic(auto, using(crate::proofs::Bytes::node_formed))]
+fn is_node(link: &Cid) -> bool
+    ensures { result ≡ is_node link.now }
 {
-    text.as_str();
-    true
-}
-
-// What the type of a string of bytes says of it.
-#[tactic(auto, using(crate::proofs::Bytes::string_tested))]
-fn is_string(bytes: &Octets) -> bool
-    ensures { result ≡ is_string bytes.now }
-{
-    bytes.as_slice().len();
-    true
-}
-
-// What the type of a link says of it.
-#[tactic(auto, using(crate::proofs::Bytes::bytes_tested))]
-fn is_cid(link: &Cid) -> bool
-    ensures { result ≡ is_cid link.now }
-{
-    link.as_bytes();
-    true
-}
-
-// What the type of a revision says of it.
-fn is_rev(rev: Tid) -> bool
-    ensures { result ≡ is_rev rev }
-{
-    rev.value() <= u64::MAX
-}
-
-fn is_kind_node(link: &Cid) -> bool
-    ensures { result ≡ is_node_kind (kind_of link.now) }
-{
+    ghost_link(link);
     match link.kind() {
         Kind::Node => true,
         Kind::Raw => false,
     }
 }
 
-fn is_node(link: &Cid) -> bool
-    ensures { result ≡ is_node link.now }
-{
-    is_cid(link) && is_kind_node(link)
-}
-
+#[tactic(auto, using(crate::proofs::Bytes::head_formed))]
 fn is_head(head: &Head) -> bool
     ensures { result ≡ is_head head.now }
 {
-    is_rev(head.rev) && is_node(&head.data_root) && is_cid(&head.commit)
+    head.rev.ghost_value();
+    ghost_link(&head.commit);
+    is_node(&head.data_root)
 }
 
+#[tactic(auto, using(crate::proofs::Bytes::text_formed))]
 fn names_host(text: &Words) -> bool
     ensures { result ≡ names_host text.now }
 {
-    is_text(text) && host_ok(text.as_str())
+    host_ok(text.as_str())
 }
 
+#[tactic(auto, using(crate::proofs::Bytes::text_formed))]
 fn names_did(text: &Words) -> bool
     ensures { result ≡ names_did text.now }
 {
-    is_text(text) && did_ok(text.as_str())
+    did_ok(text.as_str())
 }
 
+#[tactic(auto, using(crate::proofs::Bytes::string_tested))]
 fn is_message(bytes: &Octets) -> bool
     ensures { result ≡ is_message bytes.now }
 {
-    is_string(bytes) && !bytes.is_empty()
+    !bytes.as_slice().is_empty()
 }
 
+#[tactic(auto, using(crate::proofs::Bytes::text_formed))]
 fn is_status(status: &Option<Words>) -> bool
     ensures { result ≡ is_status status.now }
 {
     match status {
-        Some(status) => is_text(status) && status.len() <= LONGEST_STATUS,
+        Some(status) => status.as_str().len() <= LONGEST_SHORT_TEXT,
         None => true,
     }
 }
@@ -262,7 +230,10 @@ fn is_repo(repo: &CarriedRepo) -> bool
     match repo {
         CarriedRepo::Missing | CarriedRepo::Lost(None) => true,
         CarriedRepo::Good(head) => is_head(head),
-        CarriedRepo::Lost(Some(rev)) => is_rev(*rev),
+        CarriedRepo::Lost(Some(rev)) => {
+            rev.ghost_value();
+            true
+        }
     }
 }
 
@@ -279,7 +250,7 @@ fn is_carried(carried: &Carried) -> bool
     }
 }
 
-/// Whether a row is well formed.
+/// Whether a row is well formed, as `specs/WellFormed` says record by record.
 #[tactic(auto, unfolding(crate::specs::Rules::is_row))]
 pub fn is_row(row: &Row) -> bool
     ensures { result ≡ is_row row.now }

@@ -11,13 +11,13 @@ use crate::items::{
 };
 use crate::operated::Operated;
 use crate::parts::{read_detail, read_effect, read_fetched, read_moment, read_repo, read_whole};
-use crate::reader::Reader;
+use crate::reader::ItemReader;
 use crate::row::Row;
 use crate::rules::is_row;
 use crate::taken::Taken;
 
 #[tactic(auto, unfolding(crate::specs::Reading::taken_at))]
-fn read_taken(reader: &mut Reader, count: u64) -> Result<Taken, RowFault>
+fn read_taken(reader: &mut ItemReader, count: u64) -> Result<Taken, RowFault>
     ensures { Reads (λ x. (x, reader.new.rest.now)) result (taken_at count reader.old.rest.now) }
 {
     let host = read_text(reader)?;
@@ -46,7 +46,7 @@ fn read_taken(reader: &mut Reader, count: u64) -> Result<Taken, RowFault>
 }
 
 #[tactic(auto, unfolding(crate::specs::Reading::synced_at))]
-fn read_synced(reader: &mut Reader, count: u64) -> Result<Row, RowFault>
+fn read_synced(reader: &mut ItemReader, count: u64) -> Result<Row, RowFault>
     ensures { Reads (λ x. (x, reader.new.rest.now)) result (synced_at count reader.old.rest.now) }
 {
     let did = read_text(reader)?;
@@ -56,7 +56,7 @@ fn read_synced(reader: &mut Reader, count: u64) -> Result<Row, RowFault>
 }
 
 #[tactic(auto, unfolding(crate::specs::Reading::operated_at))]
-fn read_operated(reader: &mut Reader, count: u64) -> Result<Operated, RowFault>
+fn read_operated(reader: &mut ItemReader, count: u64) -> Result<Operated, RowFault>
     ensures { Reads (λ x. (x, reader.new.rest.now)) result (operated_at count reader.old.rest.now) }
 {
     let did = read_text(reader)?;
@@ -74,7 +74,7 @@ fn read_operated(reader: &mut Reader, count: u64) -> Result<Operated, RowFault>
 }
 
 #[tactic(auto, unfolding(crate::specs::Reading::account_at))]
-fn read_account(reader: &mut Reader) -> Result<CarriedAccount, RowFault>
+fn read_account(reader: &mut ItemReader) -> Result<CarriedAccount, RowFault>
     ensures { Reads (λ x. (x, reader.new.rest.now)) result (account_at reader.old.rest.now) }
 {
     let did = read_text(reader)?;
@@ -92,7 +92,7 @@ fn read_account(reader: &mut Reader) -> Result<CarriedAccount, RowFault>
 }
 
 #[tactic(auto, unfolding(crate::specs::Reading::host_at))]
-fn read_host(reader: &mut Reader) -> Result<Carried, RowFault>
+fn read_host(reader: &mut ItemReader) -> Result<Carried, RowFault>
     ensures { Reads (λ x. (x, reader.new.rest.now)) result (host_at reader.old.rest.now) }
 {
     let host = read_text(reader)?;
@@ -100,7 +100,7 @@ fn read_host(reader: &mut Reader) -> Result<Carried, RowFault>
     Ok(Carried::Host(host, cursor))
 }
 
-fn read_carried_items(reader: &mut Reader, count: u64, which: u8) -> Result<Carried, RowFault>
+fn read_carried_items(reader: &mut ItemReader, count: u64, which: u8) -> Result<Carried, RowFault>
     ensures { Reads (λ x. (x, reader.new.rest.now)) result (carried_of count which reader.old.rest.now) }
 {
     if which == 0 && count == 3 {
@@ -118,14 +118,14 @@ fn read_carried_items(reader: &mut Reader, count: u64, which: u8) -> Result<Carr
 }
 
 #[tactic(auto, unfolding(crate::specs::Reading::carried_at))]
-fn read_carried(reader: &mut Reader, count: u64) -> Result<Carried, RowFault>
+fn read_carried(reader: &mut ItemReader, count: u64) -> Result<Carried, RowFault>
     ensures { Reads (λ x. (x, reader.new.rest.now)) result (carried_at count reader.old.rest.now) }
 {
     let which = read_byte(reader)?;
     read_carried_items(reader, count, which)
 }
 
-fn read_row_of(reader: &mut Reader, count: u64, which: u8) -> Result<Row, RowFault>
+fn read_row_of(reader: &mut ItemReader, count: u64, which: u8) -> Result<Row, RowFault>
     ensures { Reads (λ x. (x, reader.new.rest.now)) result (row_of count which reader.old.rest.now) }
 {
     match which {
@@ -147,7 +147,7 @@ fn read_row_of(reader: &mut Reader, count: u64, which: u8) -> Result<Row, RowFau
 }
 
 #[tactic(auto, unfolding(crate::specs::Reading::row_items_at))]
-fn read_row_items(reader: &mut Reader, count: u64) -> Result<Row, RowFault>
+fn read_row_items(reader: &mut ItemReader, count: u64) -> Result<Row, RowFault>
     ensures { Reads (λ x. (x, reader.new.rest.now)) result (row_items_at count reader.old.rest.now) }
 {
     let which = read_byte(reader)?;
@@ -156,7 +156,7 @@ fn read_row_items(reader: &mut Reader, count: u64) -> Result<Row, RowFault>
 
 /// A well formed row.
 #[tactic(auto, unfolding(crate::specs::Reading::row_at))]
-pub fn read_row(reader: &mut Reader) -> Result<Row, RowFault>
+pub fn read_row(reader: &mut ItemReader) -> Result<Row, RowFault>
     ensures { Reads (λ x. (x, reader.new.rest.now)) result (row_at reader.old.rest.now) }
 {
     let count = read_count(reader)?;

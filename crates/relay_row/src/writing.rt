@@ -1,19 +1,19 @@
-//! The spelling of rows, added to bytes piece by piece.
+//! The encoding of rows, added to bytes piece by piece.
 
 ghost use Rattle.std.specs.Prelude.{◌≡◌, ◌++◌, ◌+◌, ◌<◌, ◌≤◌, ◌^◌, ◌∷◌, [], length, take, Some, None, IfOk, IfSome, OnOk, OnErr};
 ghost use Rattle.at_cbor.specs.declared.major.Major.{Major};
 ghost use Rattle.at_cbor.specs.Item.{Item, items_of};
-ghost use Rattle.at_cbor.specs.Spelling.{front_of, spelling, items_spelling};
+ghost use Rattle.at_cbor.specs.Encoding.{front_of, encoding, items_encoding};
 ghost use Rattle.at_event.specs.Writing.{out_of};
-ghost use Rattle.relay_row.specs.Bodies.{row_spelling, spelled, body_of};
-ghost use Rattle.relay_row.specs.Fresh.{HasNumber, message_of, with_message};
+ghost use Rattle.relay_row.specs.Bodies.{row_encoding, encoded_rows, rows_body};
+ghost use Rattle.relay_row.specs.NewRow.{HasNumber, message_of, with_message};
 ghost use Rattle.relay_row.specs.Items.{number, rev_text, list, or_null, if_there, head_items, whole_items, code, detail_items, effect_item, fetched_item, repo_item, carried_items, row_items};
-ghost use Rattle.relay_row.specs.declared.limits.TheConstants.{NUMBERS};
+ghost use Rattle.at_cid.specs.declared.limits.TheConstants.{NUMBERS};
 ghost use Rattle.relay_row.specs.declared.row.Row.{Row};
 
 use crate::carried::{Carried, CarriedAccount, CarriedRepo};
 use crate::fetched::{Fetched, Whole};
-use crate::fresh::Fresh;
+use crate::new_row::NewRow;
 use crate::operated::Operated;
 use crate::row::Row;
 use crate::rows::Rows;
@@ -27,7 +27,7 @@ use at_syntax::{TID_LEN, Tid};
 use std::alloc::Global;
 
 fn write_rev(out: &mut Octets, rev: Tid) -> Result<(), Memory>
-    ensures written { OnOk result (out.new ≡ out.old ++ spelling (rev_text rev)) }
+    ensures written { OnOk result (out.new ≡ out.old ++ encoding (rev_text rev)) }
     ensures err { OnErr result (take (length out.old) out.new ≡ out.old) }
 {
     let mut digits = [0; TID_LEN];
@@ -35,7 +35,7 @@ fn write_rev(out: &mut Octets, rev: Tid) -> Result<(), Memory>
 }
 
 fn write_head(out: &mut Octets, head: &Head) -> Result<(), Memory>
-    ensures written { OnOk result (out.new ≡ out.old ++ items_spelling (items_of (head_items head.now))) }
+    ensures written { OnOk result (out.new ≡ out.old ++ items_encoding (items_of (head_items head.now))) }
     ensures err { OnErr result (take (length out.old) out.new ≡ out.old) }
 {
     write_rev(out, head.rev)?;
@@ -44,7 +44,7 @@ fn write_head(out: &mut Octets, head: &Head) -> Result<(), Memory>
 }
 
 fn write_whole(out: &mut Octets, whole: &Whole) -> Result<(), Memory>
-    ensures written { OnOk result (out.new ≡ out.old ++ spelling (list (whole_items whole.now))) }
+    ensures written { OnOk result (out.new ≡ out.old ++ encoding (list (whole_items whole.now))) }
     ensures err { OnErr result (take (length out.old) out.new ≡ out.old) }
 {
     write_list_front(out, 6)?;
@@ -55,7 +55,7 @@ fn write_whole(out: &mut Octets, whole: &Whole) -> Result<(), Memory>
 }
 
 fn write_code(out: &mut Octets, refusal: &Option<Refusal>) -> Result<(), Memory>
-    ensures written { OnOk result (out.new ≡ out.old ++ spelling (number (code refusal.now))) }
+    ensures written { OnOk result (out.new ≡ out.old ++ encoding (number (code refusal.now))) }
     ensures err { OnErr result (take (length out.old) out.new ≡ out.old) }
 {
     match refusal {
@@ -65,7 +65,7 @@ fn write_code(out: &mut Octets, refusal: &Option<Refusal>) -> Result<(), Memory>
 }
 
 fn write_refusal(out: &mut Octets, refusal: &Refusal) -> Result<(), Memory>
-    ensures written { OnOk result (out.new ≡ out.old ++ spelling (list (detail_items (Some refusal.now)))) }
+    ensures written { OnOk result (out.new ≡ out.old ++ encoding (list (detail_items (Some refusal.now)))) }
     ensures err { OnErr result (take (length out.old) out.new ≡ out.old) }
 {
     match refusal {
@@ -87,7 +87,7 @@ fn write_refusal(out: &mut Octets, refusal: &Refusal) -> Result<(), Memory>
 }
 
 fn write_detail(out: &mut Octets, refusal: &Option<Refusal>) -> Result<(), Memory>
-    ensures written { OnOk result (out.new ≡ out.old ++ spelling (list (detail_items refusal.now))) }
+    ensures written { OnOk result (out.new ≡ out.old ++ encoding (list (detail_items refusal.now))) }
     ensures err { OnErr result (take (length out.old) out.new ≡ out.old) }
 {
     match refusal {
@@ -97,7 +97,7 @@ fn write_detail(out: &mut Octets, refusal: &Option<Refusal>) -> Result<(), Memor
 }
 
 fn write_status(out: &mut Octets, status: &Option<Words>) -> Result<(), Memory>
-    ensures written { OnOk result (out.new ≡ out.old ++ spelling (or_null Item.text status.now)) }
+    ensures written { OnOk result (out.new ≡ out.old ++ encoding (or_null Item.text status.now)) }
     ensures err { OnErr result (take (length out.old) out.new ≡ out.old) }
 {
     match status {
@@ -107,7 +107,7 @@ fn write_status(out: &mut Octets, status: &Option<Words>) -> Result<(), Memory>
 }
 
 fn write_effect(out: &mut Octets, effect: &Effect) -> Result<(), Memory>
-    ensures written { OnOk result (out.new ≡ out.old ++ spelling (effect_item effect.now)) }
+    ensures written { OnOk result (out.new ≡ out.old ++ encoding (effect_item effect.now)) }
     ensures err { OnErr result (take (length out.old) out.new ≡ out.old) }
 {
     match effect {
@@ -125,7 +125,7 @@ fn write_effect(out: &mut Octets, effect: &Effect) -> Result<(), Memory>
 }
 
 fn write_fetched(out: &mut Octets, fetched: &Fetched) -> Result<(), Memory>
-    ensures written { OnOk result (out.new ≡ out.old ++ spelling (fetched_item fetched.now)) }
+    ensures written { OnOk result (out.new ≡ out.old ++ encoding (fetched_item fetched.now)) }
     ensures err { OnErr result (take (length out.old) out.new ≡ out.old) }
 {
     match fetched {
@@ -137,7 +137,7 @@ fn write_fetched(out: &mut Octets, fetched: &Fetched) -> Result<(), Memory>
 }
 
 fn write_null_or_rev(out: &mut Octets, rev: Option<Tid>) -> Result<(), Memory>
-    ensures written { OnOk result (out.new ≡ out.old ++ spelling (or_null rev_text rev)) }
+    ensures written { OnOk result (out.new ≡ out.old ++ encoding (or_null rev_text rev)) }
     ensures err { OnErr result (take (length out.old) out.new ≡ out.old) }
 {
     match rev {
@@ -147,7 +147,7 @@ fn write_null_or_rev(out: &mut Octets, rev: Option<Tid>) -> Result<(), Memory>
 }
 
 fn write_repo(out: &mut Octets, repo: &CarriedRepo) -> Result<(), Memory>
-    ensures written { OnOk result (out.new ≡ out.old ++ spelling (repo_item repo.now)) }
+    ensures written { OnOk result (out.new ≡ out.old ++ encoding (repo_item repo.now)) }
     ensures err { OnErr result (take (length out.old) out.new ≡ out.old) }
 {
     match repo {
@@ -164,7 +164,7 @@ fn write_repo(out: &mut Octets, repo: &CarriedRepo) -> Result<(), Memory>
 }
 
 fn write_moment(out: &mut Octets, moment: Option<u64>) -> Result<(), Memory>
-    ensures written { OnOk result (out.new ≡ out.old ++ items_spelling (items_of (if_there number moment))) }
+    ensures written { OnOk result (out.new ≡ out.old ++ items_encoding (items_of (if_there number moment))) }
     ensures err { OnErr result (take (length out.old) out.new ≡ out.old) }
 {
     match moment {
@@ -187,7 +187,7 @@ fn write_front(out: &mut Octets, others: usize, moment: Option<u64>) -> Result<(
 
 // Whose message it is.
 fn write_source(out: &mut Octets, taken: &Taken) -> Result<(), Memory>
-    ensures written { OnOk result (out.new ≡ out.old ++ items_spelling (items_of (number 1 ∷ Item.text taken.now.host ∷ number taken.now.host_seq ∷ Item.text taken.now.did ∷ number taken.now.kind ∷ []))) }
+    ensures written { OnOk result (out.new ≡ out.old ++ items_encoding (items_of (number 1 ∷ Item.text taken.now.host ∷ number taken.now.host_seq ∷ Item.text taken.now.did ∷ number taken.now.kind ∷ []))) }
     ensures err { OnErr result (take (length out.old) out.new ≡ out.old) }
 {
     write_number(out, 1)?;
@@ -212,7 +212,7 @@ fn write_bytes_front(out: &mut Octets, len: u64) -> Result<(), Memory>
 // The message of an event under a number.
 fn write_event(out: &mut Octets, event: &Event, seq: u64) -> Result<(), Memory>
     requires { seq < NUMBERS }
-    ensures written { OnOk result (out.new ≡ out.old ++ spelling (Item.bytes (out_of event.now seq))) }
+    ensures written { OnOk result (out.new ≡ out.old ++ encoding (Item.bytes (out_of event.now seq))) }
     ensures err { OnErr result (take (length out.old) out.new ≡ out.old) }
 {
     let len = frame_len(event, seq);
@@ -223,10 +223,10 @@ fn write_event(out: &mut Octets, event: &Event, seq: u64) -> Result<(), Memory>
     write_frame(out, event, seq)
 }
 
-// The message of a row, or of the event of which it isn't spelled yet.
+// The message of a row, or of the event of which it isn't encoded yet.
 fn write_message(out: &mut Octets, taken: &Taken, event: &Option<Event>) -> Result<(), Memory>
     requires { HasNumber taken.now event.now }
-    ensures written { OnOk result (out.new ≡ out.old ++ spelling (Item.bytes (message_of taken.now event.now))) }
+    ensures written { OnOk result (out.new ≡ out.old ++ encoding (Item.bytes (message_of taken.now event.now))) }
     ensures err { OnErr result (take (length out.old) out.new ≡ out.old) }
 {
     match event {
@@ -238,7 +238,7 @@ fn write_message(out: &mut Octets, taken: &Taken, event: &Option<Event>) -> Resu
 // What was decided, and what goes out.
 fn write_decision(out: &mut Octets, taken: &Taken, event: &Option<Event>) -> Result<(), Memory>
     requires { HasNumber taken.now event.now }
-    ensures written { OnOk result (out.new ≡ out.old ++ items_spelling (items_of (number (code taken.now.refusal) ∷ list (detail_items taken.now.refusal) ∷ number taken.now.seq ∷ Item.bytes (message_of taken.now event.now) ∷ []))) }
+    ensures written { OnOk result (out.new ≡ out.old ++ items_encoding (items_of (number (code taken.now.refusal) ∷ list (detail_items taken.now.refusal) ∷ number taken.now.seq ∷ Item.bytes (message_of taken.now event.now) ∷ []))) }
     ensures err { OnErr result (take (length out.old) out.new ≡ out.old) }
 {
     write_code(out, &taken.refusal)?;
@@ -249,7 +249,7 @@ fn write_decision(out: &mut Octets, taken: &Taken, event: &Option<Event>) -> Res
 
 // What follows from it, and when it was.
 fn write_outcome(out: &mut Octets, taken: &Taken) -> Result<(), Memory>
-    ensures written { OnOk result (out.new ≡ out.old ++ items_spelling (items_of (effect_item taken.now.effect ∷ fetched_item taken.now.fetched ∷ if_there number taken.now.moment))) }
+    ensures written { OnOk result (out.new ≡ out.old ++ items_encoding (items_of (effect_item taken.now.effect ∷ fetched_item taken.now.fetched ∷ if_there number taken.now.moment))) }
     ensures err { OnErr result (take (length out.old) out.new ≡ out.old) }
 {
     write_effect(out, &taken.effect)?;
@@ -259,7 +259,7 @@ fn write_outcome(out: &mut Octets, taken: &Taken) -> Result<(), Memory>
 
 fn write_taken(out: &mut Octets, taken: &Taken, event: &Option<Event>) -> Result<(), Memory>
     requires { HasNumber taken.now event.now }
-    ensures written { OnOk result (out.new ≡ out.old ++ spelling (list (row_items (Row.Taken (with_message taken.now event.now))))) }
+    ensures written { OnOk result (out.new ≡ out.old ++ encoding (list (row_items (Row.Taken (with_message taken.now event.now))))) }
     ensures err { OnErr result (take (length out.old) out.new ≡ out.old) }
 {
     write_front(out, 11, taken.moment)?;
@@ -274,7 +274,7 @@ fn write_synced(
     whole: &Whole,
     moment: Option<u64>,
 ) -> Result<(), Memory>
-    ensures written { OnOk result (out.new ≡ out.old ++ spelling (list (row_items (Row.Synced did.now whole.now moment)))) }
+    ensures written { OnOk result (out.new ≡ out.old ++ encoding (list (row_items (Row.Synced did.now whole.now moment)))) }
     ensures err { OnErr result (take (length out.old) out.new ≡ out.old) }
 {
     write_front(out, 3, moment)?;
@@ -286,7 +286,7 @@ fn write_synced(
 
 // Whom an operator spoke of, and what he said.
 fn write_said(out: &mut Octets, operated: &Operated) -> Result<(), Memory>
-    ensures written { OnOk result (out.new ≡ out.old ++ items_spelling (items_of (number 3 ∷ Item.text operated.now.did ∷ Item.bool operated.now.down ∷ []))) }
+    ensures written { OnOk result (out.new ≡ out.old ++ items_encoding (items_of (number 3 ∷ Item.text operated.now.did ∷ Item.bool operated.now.down ∷ []))) }
     ensures err { OnErr result (take (length out.old) out.new ≡ out.old) }
 {
     write_number(out, 3)?;
@@ -295,7 +295,7 @@ fn write_said(out: &mut Octets, operated: &Operated) -> Result<(), Memory>
 }
 
 fn write_operated(out: &mut Octets, operated: &Operated) -> Result<(), Memory>
-    ensures written { OnOk result (out.new ≡ out.old ++ spelling (list (row_items (Row.Operated operated.now)))) }
+    ensures written { OnOk result (out.new ≡ out.old ++ encoding (list (row_items (Row.Operated operated.now)))) }
     ensures err { OnErr result (take (length out.old) out.new ≡ out.old) }
 {
     write_front(out, 5, operated.moment)?;
@@ -306,7 +306,7 @@ fn write_operated(out: &mut Octets, operated: &Operated) -> Result<(), Memory>
 }
 
 fn write_account(out: &mut Octets, account: &CarriedAccount) -> Result<(), Memory>
-    ensures written { OnOk result (out.new ≡ out.old ++ items_spelling (items_of (Item.text account.now.did ∷ Item.bool account.now.active ∷ or_null Item.text account.now.status ∷ Item.bool account.now.down ∷ repo_item account.now.repo ∷ []))) }
+    ensures written { OnOk result (out.new ≡ out.old ++ items_encoding (items_of (Item.text account.now.did ∷ Item.bool account.now.active ∷ or_null Item.text account.now.status ∷ Item.bool account.now.down ∷ repo_item account.now.repo ∷ []))) }
     ensures err { OnErr result (take (length out.old) out.new ≡ out.old) }
 {
     write_text(out, account.did.as_str())?;
@@ -317,7 +317,7 @@ fn write_account(out: &mut Octets, account: &CarriedAccount) -> Result<(), Memor
 }
 
 fn write_carried_front(out: &mut Octets, count: usize, which: u64) -> Result<(), Memory>
-    ensures written { OnOk result (out.new ≡ out.old ++ (front_of Major.List count ++ (spelling (number 4) ++ spelling (number which)))) }
+    ensures written { OnOk result (out.new ≡ out.old ++ (front_of Major.List count ++ (encoding (number 4) ++ encoding (number which)))) }
     ensures err { OnErr result (take (length out.old) out.new ≡ out.old) }
 {
     write_list_front(out, count)?;
@@ -326,7 +326,7 @@ fn write_carried_front(out: &mut Octets, count: usize, which: u64) -> Result<(),
 }
 
 fn write_carried(out: &mut Octets, carried: &Carried) -> Result<(), Memory>
-    ensures written { OnOk result (out.new ≡ out.old ++ spelling (list (carried_items carried.now))) }
+    ensures written { OnOk result (out.new ≡ out.old ++ encoding (list (carried_items carried.now))) }
     ensures err { OnErr result (take (length out.old) out.new ≡ out.old) }
 {
     match carried {
@@ -346,10 +346,10 @@ fn write_carried(out: &mut Octets, carried: &Carried) -> Result<(), Memory>
     }
 }
 
-/// Adds the one spelling of a row. Where memory is wanted, what was there stays in front.
-#[tactic(auto, unfolding(crate::specs::Bodies::row_spelling))]
+/// Adds the one encoding of a row. Where memory runs out, what was there stays in front.
+#[tactic(auto, unfolding(crate::specs::Bodies::row_encoding))]
 pub fn write_row(out: &mut Octets, row: &Row) -> Result<(), Memory>
-    ensures written { OnOk result (out.new ≡ out.old ++ row_spelling row.now) }
+    ensures written { OnOk result (out.new ≡ out.old ++ row_encoding row.now) }
     ensures err { OnErr result (take (length out.old) out.new ≡ out.old) }
 {
     match row {
@@ -360,19 +360,19 @@ pub fn write_row(out: &mut Octets, row: &Row) -> Result<(), Memory>
     }
 }
 
-/// Adds the one spelling of a row whose message isn't spelled yet: it is spelled here alone. Where memory is wanted, what was there
+/// Adds the one encoding of a row whose message isn't encoded yet: it is encoded here alone. Where memory runs out, what was there
 /// stays in front.
-#[tactic(auto, unfolding(crate::specs::Bodies::row_spelling))]
-pub fn write_fresh(out: &mut Octets, fresh: &Fresh) -> Result<(), Memory>
-    ensures written { OnOk result (out.new ≡ out.old ++ row_spelling (Row.Taken fresh.now)) }
+#[tactic(auto, unfolding(crate::specs::Bodies::row_encoding))]
+pub fn write_new_row(out: &mut Octets, new_row: &NewRow) -> Result<(), Memory>
+    ensures written { OnOk result (out.new ≡ out.old ++ row_encoding (Row.Taken new_row.now)) }
     ensures err { OnErr result (take (length out.old) out.new ≡ out.old) }
 {
-    write_taken(out, &fresh.taken, &fresh.event)
+    write_taken(out, &new_row.taken, &new_row.event)
 }
 
 /// Adds rows, one behind the other, without the front of a list.
-pub fn write_spelled(out: &mut Octets, rows: &[Row]) -> Result<(), Memory>
-    ensures { OnOk result (out.new ≡ out.old ++ spelled rows.now) }
+pub fn write_encoded(out: &mut Octets, rows: &[Row]) -> Result<(), Memory>
+    ensures { OnOk result (out.new ≡ out.old ++ encoded_rows rows.now) }
 {
     let mut rest = rows;
     'rows: loop {
@@ -385,12 +385,12 @@ pub fn write_spelled(out: &mut Octets, rows: &[Row]) -> Result<(), Memory>
 }
 
 /// The body of rows.
-#[tactic(auto, unfolding(crate::specs::Bodies::body_of))]
+#[tactic(auto, unfolding(crate::specs::Bodies::rows_body))]
 pub fn write_rows(alloc: Global, rows: &Rows) -> Result<Octets, Memory>
-    ensures { IfOk result (λ body. body ≡ body_of rows.now) }
+    ensures { IfOk result (λ body. body ≡ rows_body rows.now) }
 {
     let mut out = Octets::new(alloc);
     write_list_front(&mut out, rows.len())?;
-    write_spelled(&mut out, rows.as_slice())?;
+    write_encoded(&mut out, rows.as_slice())?;
     Ok(out)
 }

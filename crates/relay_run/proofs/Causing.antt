@@ -3,15 +3,15 @@ use Rattle.std.proofs.Common.{◌≡◌, ◌∙◌, ◌⊎◌, inl, inr, ℕ, �
 use Rattle.at_cid.specs.Counts.{Rose}
 use Rattle.relay_disk.specs.Disk.{View}
 use Rattle.relay_row.specs.declared.row.Row.{Row}
-use Rattle.relay_step.specs.declared.word.Word.{Word}
+use Rattle.relay_step.specs.declared.command.CommandAnswer.{CommandAnswer}
 use Rattle.relay_store.specs.Journals.{IsBadPairJournalAt, IsPairImageOf}
 use Rattle.relay_store.specs.Opening.{IsOfReading}
 use Rattle.relay_store.specs.Store.{StoreState}
 use Rattle.relay_store.specs.Taking.{ComesOfAsking}
-use Rattle.relay_store.specs.Words.{IsAnswer, IsOfOperating, Spoken}
+use Rattle.relay_store.specs.Commands.{IsAnswer, IsOfOperating, CommandDone}
 use Rattle.relay_store.specs.declared.done.Done.{Done}
 use Rattle.relay_store.specs.declared.fault.StoreFault.{StoreFault}
-use Rattle.relay_run.specs.Ends.{IsCausedBy, IsOpened, Shows}
+use Rattle.relay_run.specs.Ends.{IsCausedBy, IsOpened, RunEndShows}
 use Rattle.relay_run.specs.Lines.{IsEndOf}
 use Rattle.relay_run.specs.declared.end.RunEnd.{RunEnd}
 
@@ -27,7 +27,7 @@ not_opened StoreFault.Repos of is = of
 not_opened StoreFault.Memory of is = is
 not_opened StoreFault.Clock of is = of
 
-pub opening_shows : (fault : StoreFault) (one two : List ℕ) → IsOfReading fault → ((p : ℕ) → fault ≡ StoreFault.BadLog p → IsBadPairJournalAt p one two) → Shows (RunEnd.Fault fault) one two
+pub opening_shows : (fault : StoreFault) (one two : List ℕ) → IsOfReading fault → ((p : ℕ) → fault ≡ StoreFault.BadLog p → IsBadPairJournalAt p one two) → RunEndShows (RunEnd.Fault fault) one two
 opening_shows StoreFault.Disk one two of bad = tt
 opening_shows (StoreFault.BadLog p) one two of bad = bad p refl
 opening_shows (StoreFault.Full e) one two of bad = absurd of
@@ -68,7 +68,7 @@ operating_causes disk write clock StoreFault.Clock of failed stopped = stopped r
 abbrev pub IsBad : RunEnd → Type 0
 IsBad end = (p : ℕ) × (end ≡ RunEnd.Fault (StoreFault.BadLog p))
 
-pub image_shows : (end : RunEnd) (one two : List ℕ) (J : List Row) → IsPairImageOf J one two → (IsBad end → ⊥) → Shows end one two
+pub image_shows : (end : RunEnd) (one two : List ℕ) (J : List Row) → IsPairImageOf J one two → (IsBad end → ⊥) → RunEndShows end one two
 image_shows RunEnd.Done one two J image good = (J, image)
 image_shows (RunEnd.Refused code) one two J image good = (J, image)
 image_shows RunEnd.WriteFault one two J image good = (J, image)
@@ -113,10 +113,10 @@ answered fault = Err fault
 pub same_fault : (fault other : StoreFault) → answered fault ≡ answered other → fault ≡ other
 same_fault fault other is = cc
 
-pub spoken_good : {D : Type 0} (view : D → View) (tells : Bool) (J : List Row) (is_word : Word → Type 0) (failed : Type 0) (s t : StoreState) (c e : D) (fault : StoreFault)
-    → Spoken view tells J is_word failed s t c e (Err fault) → IsBad (RunEnd.Fault fault) → ⊥
-spoken_good view tells J is_word failed s t c e fault (inl said) bad = subst (λ (f : StoreFault). IsAnswer s.log said.0 (Err f)) (same_bad fault bad.0 bad.1) said.3.answer
-spoken_good view tells J is_word failed s t c e fault (inr unsaid) bad = subst ComesOfAsking (sym (same_fault fault unsaid.fault unsaid.is) ∙ same_bad fault bad.0 bad.1) unsaid.of_asking
+pub commanded_good : {D : Type 0} (view : D → View) (tells : Bool) (J : List Row) (is_command : CommandAnswer → Type 0) (failed : Type 0) (s t : StoreState) (c e : D) (fault : StoreFault)
+    → CommandDone view tells J is_command failed s t c e (Err fault) → IsBad (RunEnd.Fault fault) → ⊥
+commanded_good view tells J is_command failed s t c e fault (inl said) bad = subst (λ (f : StoreFault). IsAnswer s.log said.0 (Err f)) (same_bad fault bad.0 bad.1) said.3.answer
+commanded_good view tells J is_command failed s t c e fault (inr unsaid) bad = subst ComesOfAsking (sym (same_fault fault unsaid.fault unsaid.is) ∙ same_bad fault bad.0 bad.1) unsaid.of_asking
 
 pub done_causes : (disk write spent repos clock : Type 0) (done : Done) (end : RunEnd) → IsEndOf done end → (end ≡ RunEnd.WriteFault → write) → IsCausedBy disk write spent repos clock end
 done_causes disk write spent repos clock done RunEnd.Done is cause = tt

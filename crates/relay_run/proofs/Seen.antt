@@ -17,15 +17,15 @@ use Rattle.relay_store.specs.Store.{Keeps, seen_in}
 use Rattle.relay_store.specs.declared.fault.StoreFault.{StoreFault}
 use Rattle.relay_store.specs.declared.store.Store.{Store}
 use Rattle.relay_run.specs.Ends.{IsWritten}
-use Rattle.relay_run.specs.Pairs.{outside}
-use Rattle.relay_run.specs.Shown.{Shown}
+use Rattle.relay_run.specs.Pairs.{pair_view}
+use Rattle.relay_run.specs.Shown.{TextShown}
 use Rattle.relay_run.specs.declared.end.RunEnd.{RunEnd}
 use Rattle.relay_run.proofs.Beside.{kept_stands, leaves_stand, opened_keeps, opened_leaves}
 use Rattle.relay_run.proofs.Causing.{not_opened}
 
 -- they weren't opened
 pub shown_unopened : (tells : Bool) (one two one_now two_now : View) (fault : StoreFault) (out_told : Bool) (J : List Row) (text written : List ℕ) → IsDisk one_now → IsDisk two_now
-    → Opened tells one two one_now two_now (Err fault) → IsTrue tells → IsOfReading fault → Shown out_told J text (outside one two written) (outside one_now two_now written) (RunEnd.Fault fault)
+    → Opened tells one two one_now two_now (Err fault) → IsTrue tells → IsOfReading fault → TextShown out_told J text (pair_view one two written) (pair_view one_now two_now written) (RunEnd.Fault fault)
 shown_unopened tells one two one_now two_now fault out_told J text written first second opened told few = record {
   written = λ _. refl;
   stands = ⊎_elim (λ is. absurd (not_opened fault few is)) (λ stands. leaves_stand J one two one_now two_now first second (opened_leaves tells one two one_now two_now (Err fault) opened told J stands));
@@ -39,7 +39,7 @@ module _ (tells : Bool) (one two one_now two_now : View) (first : IsDisk one_now
 
   -- they were, and a text was written
   pub shown_opened : (out_told : Bool) (text shown written now : List ℕ) (end : RunEnd) → shown ≡ text → (IsTrue out_told → IsWritten end shown written now)
-      → Shown out_told J text (outside one two written) (outside one_now two_now now) end
+      → TextShown out_told J text (pair_view one two written) (pair_view one_now two_now now) end
   shown_opened out_told text shown written now end is wrote = record {
     written = λ out. subst (λ (t : List ℕ). IsWritten end t written now) is (wrote out);
     stands = λ _. kept_stands s.side J (seen_in s) one_now two_now first second (opened.side told) keeps;

@@ -14,7 +14,7 @@ use Rattle.cut_law.specs.Cut.{MayCut, cut}
 use Rattle.relay_store.specs.Cutting.{IsEitherBeside, IsUncut}
 use Rattle.relay_store.specs.Journals.{IsPairImageOf}
 use Rattle.relay_store.specs.Opening.{IsOfReading, Opened}
-use Rattle.relay_store.specs.Rewriting.{HasNoRoom, IsOfRewriting}
+use Rattle.relay_store.specs.Rewriting.{RewriteHasNoRoom, IsOfRewriting}
 use Rattle.relay_store.specs.Store.{Keeps, StoreState, seen_in}
 use Rattle.relay_store.specs.declared.cutting.CutDone.{CutDone}
 use Rattle.relay_store.specs.declared.done.Done.{Done}
@@ -22,7 +22,7 @@ use Rattle.relay_store.specs.declared.fault.StoreFault.{StoreFault}
 use Rattle.relay_store.specs.declared.store.Store.{Store}
 use Rattle.relay_run.specs.Cutting.{EndsCut, IsAnswerOf, IsOfCutting, IsOfFormat, IsUnwritten, LeavesOpened, WasCut, answered, cut_text, unopened, unwritten}
 use Rattle.relay_run.specs.Ends.{IsCausedBy, IsWritten}
-use Rattle.relay_run.specs.Pairs.{StandsFor, outside}
+use Rattle.relay_run.specs.Pairs.{StandsFor, pair_view}
 use Rattle.relay_run.specs.declared.end.RunEnd.{RunEnd}
 use Rattle.relay_run.proofs.Beside.{kept_front, kept_stands, leaves_stand, opened_keeps, opened_leaves}
 use Rattle.relay_run.proofs.Causing.{IsBad, done_causes, done_good, same_bad}
@@ -115,7 +115,7 @@ on_fault result fault P is has = subst (λ (r : Result CutDone StoreFault). OnEr
 -- ---- how it ends
 
 unwritten_by : (most : ℕ) (K : List Row) (format : Format) (one two : List ℕ) (fault : StoreFault) → IsOfRewriting fault → ((p : ℕ) → fault ≡ StoreFault.BadLog p → ⊥) → (fault ≢ StoreFault.Disk → IsOfFormat format one two)
-    → ((e : ℕ) → fault ≡ StoreFault.Full e → HasNoRoom (length (front (Format.Two (generation format + 1)))) most K e) → IsUnwritten most K one two fault
+    → ((e : ℕ) → fault ≡ StoreFault.Full e → RewriteHasNoRoom (length (front (Format.Two (generation format + 1)))) most K e) → IsUnwritten most K one two fault
 unwritten_by most K format one two StoreFault.Disk of good log full = tt
 unwritten_by most K format one two (StoreFault.BadLog p) of good log full = absurd (good p refl)
 unwritten_by most K format one two (StoreFault.Full e) of good log full = (format, log (full_not e), full e refl)
@@ -187,7 +187,7 @@ fault_good fault good bad = good bad.0 (same_bad fault bad.0 bad.1)
 module _ {D : Type 0} (view : D → View) (is_disk : (x : D) → IsDisk (view x)) (a b c d : D) (tells : Bool) (told : IsTrue tells) (out_told : Bool) (most number : ℕ) (J : List Row) (written : List ℕ) where
   -- the disks weren't opened
   pub cut_unopened : (fault : StoreFault) → Opened tells (view a) (view b) (view c) (view d) (Err fault) → IsOfReading fault
-      → WasCut view out_told most J number (outside (view a) (view b) written) (outside (view c) (view d) written) (RunEnd.Fault fault)
+      → WasCut view out_told most J number (pair_view (view a) (view b) written) (pair_view (view c) (view d) written) (RunEnd.Fault fault)
   cut_unopened fault opened few =
       let leaves : StandsFor J (view a) (view b) → PairLeavesOnly (IsPairImageOf J) (view a) (view c) (view b) (view d) = opened_leaves tells (view a) (view b) (view c) (view d) (Err fault) opened told J in
       let stands : StandsFor J (view a) (view b) → StandsFor J (view c) (view d) = λ was. leaves_stand J (view a) (view b) (view c) (view d) (is_disk c) (is_disk d) (leaves was) in
@@ -207,14 +207,14 @@ module _ {D : Type 0} (view : D → View) (is_disk : (x : D) → IsDisk (view x)
     here = kept_stands s.side J (seen_in s) (view c) (view d) (is_disk c) (is_disk d) (opened.side told) kept
 
     leaves_by : (P : List ℕ → List ℕ → Type 0) (e f : D) → PairLeavesOnly P (view c) (view e) (view d) (view f) → (now : List ℕ) → StandsFor J (view a) (view b)
-        → LeavesOpened view J P (outside (view a) (view b) written) (outside (view e) (view f) now)
+        → LeavesOpened view J P (pair_view (view a) (view b) written) (pair_view (view e) (view f) now)
     leaves_by P e f run now was = record { one = c; two = d; opening = opened_leaves tells (view a) (view b) (view c) (view d) (Ok s) opened told J was; behind = run }
 
     -- the journal wasn't written anew
     pub cut_unwritten : (e f : D) (fault : StoreFault) → MayCut J number × (fault ≢ StoreFault.Disk → Keeps J (seen_in s) (view_of_side s.side (view e) (view f)) × LeavesSide s.side (view e) (view f))
-        → IsOfRewriting fault → ((p : ℕ) → fault ≡ StoreFault.BadLog p → ⊥) → ((n : ℕ) → fault ≡ StoreFault.Full n → HasNoRoom (length (front (Format.Two (generation s.log.format + 1)))) most (cut J number) n)
+        → IsOfRewriting fault → ((p : ℕ) → fault ≡ StoreFault.BadLog p → ⊥) → ((n : ℕ) → fault ≡ StoreFault.Full n → RewriteHasNoRoom (length (front (Format.Two (generation s.log.format + 1)))) most (cut J number) n)
         → PairLeavesOnly (λ x y. IsPairImageOf J x y ⊎ IsPairImageOf (cut J number) x y) (view c) (view e) (view d) (view f)
-        → WasCut view out_told most J number (outside (view a) (view b) written) (outside (view e) (view f) written) (RunEnd.Fault fault)
+        → WasCut view out_told most J number (pair_view (view a) (view b) written) (pair_view (view e) (view f) written) (RunEnd.Fault fault)
     cut_unwritten e f fault failed few good full run = record {
       came = unwritten;
       is = (
@@ -234,7 +234,7 @@ module _ {D : Type 0} (view : D → View) (is_disk : (x : D) → IsDisk (view x)
         → IsAnswerOf J number (view e).content (view f).content (CutDone.Cut oldest last) × StandsFor (cut J number) (view e) (view f)
         → PairLeavesOnly (λ x y. IsPairImageOf J x y ⊎ IsPairImageOf (cut J number) x y) (view c) (view e) (view d) (view f)
         → EndsCut (CutDone.Cut oldest last) end → (IsTrue out_told → IsWritten end (cut_text number (CutDone.Cut oldest last)) written now)
-        → WasCut view out_told most J number (outside (view a) (view b) written) (outside (view e) (view f) now) end
+        → WasCut view out_told most J number (pair_view (view a) (view b) written) (pair_view (view e) (view f) now) end
     cut_done e f oldest last end now answer run ends text = record {
       came = answered (CutDone.Cut oldest last);
       is = (answer.0, ends);
@@ -246,7 +246,7 @@ module _ {D : Type 0} (view : D → View) (is_disk : (x : D) → IsDisk (view x)
     -- it is refused
     pub cut_refused : (why : Refusal) (end : RunEnd) (now : List ℕ) → IsUncut J s.log.format number why
         → EndsCut (CutDone.Refused why) end → (IsTrue out_told → IsWritten end (cut_text number (CutDone.Refused why)) written now)
-        → WasCut view out_told most J number (outside (view a) (view b) written) (outside (view c) (view d) now) end
+        → WasCut view out_told most J number (pair_view (view a) (view b) written) (pair_view (view c) (view d) now) end
     cut_refused why end now uncut ends text = record {
       came = answered (CutDone.Refused why);
       is = ((s.log.format, format_here s.side J (seen_in s) (view c) (view d) (is_disk c) (is_disk d) (opened.side told) kept, uncut), ends);
@@ -261,9 +261,9 @@ module _ {D : Type 0} (view : D → View) (is_disk : (x : D) → IsDisk (view x)
         → ((oldest last : ℕ) → done ≡ CutDone.Cut oldest last → IsAnswerOf J number (view e).content (view f).content (CutDone.Cut oldest last) × StandsFor (cut J number) (view e) (view f))
         → PairLeavesOnly (λ x y. IsPairImageOf J x y ⊎ IsPairImageOf (cut J number) x y) (view c) (view e) (view d) (view f)
         → EndsCut done end → (IsTrue out_told → IsWritten end (cut_text number done) written now)
-        → WasCut view out_told most J number (outside (view a) (view b) written) (outside (view e) (view f) now) end
+        → WasCut view out_told most J number (pair_view (view a) (view b) written) (pair_view (view e) (view f) now) end
     cut_answered e f (CutDone.Cut oldest last) end now refused done run ends text = cut_done e f oldest last end now (done oldest last refl) run ends text
     cut_answered e f (CutDone.Refused why) end now refused done run ends text =
         let still = refused why refl in
-        subst (λ (x : D). WasCut view out_told most J number (outside (view a) (view b) written) (outside (view x) (view f) now) end) (sym still.0.0)
-        (subst (λ (y : D). WasCut view out_told most J number (outside (view a) (view b) written) (outside (view c) (view y) now) end) (sym still.0.1) (cut_refused why end now still.1 ends text))
+        subst (λ (x : D). WasCut view out_told most J number (pair_view (view a) (view b) written) (pair_view (view x) (view f) now) end) (sym still.0.0)
+        (subst (λ (y : D). WasCut view out_told most J number (pair_view (view a) (view b) written) (pair_view (view c) (view y) now) end) (sym still.0.1) (cut_refused why end now still.1 ends text))

@@ -11,22 +11,22 @@ use Rattle.relay_row.specs.declared.row.Row.{Row}
 use Rattle.relay_core.specs.Entries.{Holds}
 use Rattle.relay_core.specs.declared.journal_state.Core.{Core}
 use Rattle.relay_law.specs.Sound.{IsSound}
-use Rattle.relay_step.specs.Words.{rows_said}
-use Rattle.relay_step.specs.declared.word.Word.{Word}
-use Rattle.relay_store.specs.Drafts.{IsFull, end_of}
+use Rattle.relay_step.specs.Commands.{rows_commanded}
+use Rattle.relay_step.specs.declared.command.CommandAnswer.{CommandAnswer}
+use Rattle.relay_store.specs.PendingBodies.{IsFull, end_of}
 use Rattle.relay_store.specs.Faults.{IsCause}
 use Rattle.relay_store.specs.Journals.{IsOneOf, IsPairImageOf}
 use Rattle.relay_store.specs.Opening.{IsOfReading, Opened}
 use Rattle.relay_store.specs.Store.{IsOf, Keeps, StoreState, seen_in}
 use Rattle.relay_store.specs.Taking.{ComesOfAsking}
-use Rattle.relay_store.specs.Words.{IsAnswer, Spoken, done_of, done_row}
+use Rattle.relay_store.specs.Commands.{IsAnswer, CommandDone, done_of, done_row}
 use Rattle.relay_store.specs.declared.done.Done.{Done}
 use Rattle.relay_store.specs.declared.fault.StoreFault.{StoreFault}
 use Rattle.relay_store.specs.declared.store.Store.{Store}
 use Rattle.relay_run.specs.Ends.{IsWritten}
 use Rattle.relay_run.specs.Lines.{IsEndOf, done_text}
-use Rattle.relay_run.specs.Pairs.{IsOneOfPair, StandsFor, of_pair, outside}
-use Rattle.relay_run.specs.Spoke.{EndsWord, HasNoRoom, Knows, Spoke, in_vain, rows_kept, said, unopened}
+use Rattle.relay_run.specs.Pairs.{IsOneOfPair, StandsFor, of_pair, pair_view}
+use Rattle.relay_run.specs.CommandRan.{EndsCommand, HasNoRoom, Knows, CommandRan, in_vain, rows_kept, said, unopened}
 use Rattle.relay_run.specs.declared.end.RunEnd.{RunEnd}
 use Rattle.relay_run.proofs.Causing.{answered, same_fault}
 use Rattle.relay_run.proofs.Beside.{both_same, kept_stands, leaves_stand, one_beside, opened_keeps, opened_leaves, run_on, stands_on, view_on}
@@ -34,7 +34,7 @@ use Rattle.relay_run.proofs.Beside.{both_same, kept_stands, leaves_stand, one_be
 -- ---- how a command ends by its word
 
 -- a row is an event, or a repository that was taken over
-row_not : (no_room : Row → ℕ → Type 0) (row : Row) (end : RunEnd) → IsEndOf (done_row row) end → EndsWord no_room (Word.Made row) end
+row_not : (no_room : Row → ℕ → Type 0) (row : Row) (end : RunEnd) → IsEndOf (done_row row) end → EndsCommand no_room (CommandAnswer.Made row) end
 row_not no_room (Row.Taken t) RunEnd.Done is = tt
 row_not no_room (Row.Taken t) RunEnd.WriteFault is = tt
 row_not no_room (Row.Taken t) (RunEnd.Refused code) is = absurd is
@@ -52,54 +52,54 @@ row_not no_room (Row.Carried c) RunEnd.WriteFault is = tt
 row_not no_room (Row.Carried c) (RunEnd.Refused code) is = absurd is
 row_not no_room (Row.Carried c) (RunEnd.Fault fault) is = absurd is
 
-ends_word : (no_room : Row → ℕ → Type 0) (word : Word) (end : RunEnd) → IsEndOf (done_of word) end → EndsWord no_room word end
-ends_word no_room (Word.Made row) end is = row_not no_room row end is
-ends_word no_room (Word.Refused r) RunEnd.Done is = absurd is
-ends_word no_room (Word.Refused r) (RunEnd.Refused code) is = is
-ends_word no_room (Word.Refused r) RunEnd.WriteFault is = tt
-ends_word no_room (Word.Refused r) (RunEnd.Fault StoreFault.Disk) is = absurd is
-ends_word no_room (Word.Refused r) (RunEnd.Fault (StoreFault.BadLog p)) is = absurd is
-ends_word no_room (Word.Refused r) (RunEnd.Fault (StoreFault.Full e)) is = absurd is
-ends_word no_room (Word.Refused r) (RunEnd.Fault StoreFault.SeqEnd) is = absurd is
-ends_word no_room (Word.Refused r) (RunEnd.Fault StoreFault.Authority) is = absurd is
-ends_word no_room (Word.Refused r) (RunEnd.Fault StoreFault.Repos) is = absurd is
-ends_word no_room (Word.Refused r) (RunEnd.Fault StoreFault.Memory) is = tt
-ends_word no_room (Word.Refused r) (RunEnd.Fault StoreFault.Clock) is = absurd is
+ends_command : (no_room : Row → ℕ → Type 0) (command : CommandAnswer) (end : RunEnd) → IsEndOf (done_of command) end → EndsCommand no_room command end
+ends_command no_room (CommandAnswer.Made row) end is = row_not no_room row end is
+ends_command no_room (CommandAnswer.Refused r) RunEnd.Done is = absurd is
+ends_command no_room (CommandAnswer.Refused r) (RunEnd.Refused code) is = is
+ends_command no_room (CommandAnswer.Refused r) RunEnd.WriteFault is = tt
+ends_command no_room (CommandAnswer.Refused r) (RunEnd.Fault StoreFault.Disk) is = absurd is
+ends_command no_room (CommandAnswer.Refused r) (RunEnd.Fault (StoreFault.BadLog p)) is = absurd is
+ends_command no_room (CommandAnswer.Refused r) (RunEnd.Fault (StoreFault.Full e)) is = absurd is
+ends_command no_room (CommandAnswer.Refused r) (RunEnd.Fault StoreFault.SeqEnd) is = absurd is
+ends_command no_room (CommandAnswer.Refused r) (RunEnd.Fault StoreFault.Authority) is = absurd is
+ends_command no_room (CommandAnswer.Refused r) (RunEnd.Fault StoreFault.Repos) is = absurd is
+ends_command no_room (CommandAnswer.Refused r) (RunEnd.Fault StoreFault.Memory) is = tt
+ends_command no_room (CommandAnswer.Refused r) (RunEnd.Fault StoreFault.Clock) is = absurd is
 
 -- behind what was answered the row is durable
-row_kept : (word : Word) (end : RunEnd) → IsEndOf (done_of word) end → rows_kept end (said word) ≡ rows_said word
-row_kept word RunEnd.Done is = refl
-row_kept word (RunEnd.Refused code) is = refl
-row_kept word RunEnd.WriteFault is = refl
-row_kept (Word.Refused r) (RunEnd.Fault fault) is = refl
-row_kept (Word.Made (Row.Taken t)) (RunEnd.Fault fault) is = absurd is
-row_kept (Word.Made (Row.Synced did whole moment)) (RunEnd.Fault fault) is = absurd is
-row_kept (Word.Made (Row.Operated o)) (RunEnd.Fault fault) is = absurd is
-row_kept (Word.Made (Row.Carried c)) (RunEnd.Fault fault) is = absurd is
+row_kept : (command : CommandAnswer) (end : RunEnd) → IsEndOf (done_of command) end → rows_kept end (said command) ≡ rows_commanded command
+row_kept command RunEnd.Done is = refl
+row_kept command (RunEnd.Refused code) is = refl
+row_kept command RunEnd.WriteFault is = refl
+row_kept (CommandAnswer.Refused r) (RunEnd.Fault fault) is = refl
+row_kept (CommandAnswer.Made (Row.Taken t)) (RunEnd.Fault fault) is = absurd is
+row_kept (CommandAnswer.Made (Row.Synced did whole moment)) (RunEnd.Fault fault) is = absurd is
+row_kept (CommandAnswer.Made (Row.Operated o)) (RunEnd.Fault fault) is = absurd is
+row_kept (CommandAnswer.Made (Row.Carried c)) (RunEnd.Fault fault) is = absurd is
 
 -- a fault behind a word
-fault_word : (no_room : Row → ℕ → Type 0) (word : Word) (fault : StoreFault) (s : StoreState) → IsAnswer s.log word (Err fault) → ((row : Row) (e : ℕ) → fault ≡ StoreFault.Full e → IsFull s.log [] row e → no_room row e)
-    → EndsWord no_room word (RunEnd.Fault fault)
-fault_word no_room (Word.Made row) StoreFault.Disk s is full = tt
-fault_word no_room (Word.Made row) (StoreFault.BadLog p) s is full = absurd is
-fault_word no_room (Word.Made row) (StoreFault.Full e) s is full = full row e refl (subst (λ (l : List Row). IsFull s.log [] (head_or row l) e) (sym is.1) is.2)
+fault_word : (no_room : Row → ℕ → Type 0) (command : CommandAnswer) (fault : StoreFault) (s : StoreState) → IsAnswer s.log command (Err fault) → ((row : Row) (e : ℕ) → fault ≡ StoreFault.Full e → IsFull s.log [] row e → no_room row e)
+    → EndsCommand no_room command (RunEnd.Fault fault)
+fault_word no_room (CommandAnswer.Made row) StoreFault.Disk s is full = tt
+fault_word no_room (CommandAnswer.Made row) (StoreFault.BadLog p) s is full = absurd is
+fault_word no_room (CommandAnswer.Made row) (StoreFault.Full e) s is full = full row e refl (subst (λ (l : List Row). IsFull s.log [] (head_or row l) e) (sym is.1) is.2)
   where
     head_or : Row → List Row → Row
     head_or d [] = d
     head_or d (r ∷ rs) = r
-fault_word no_room (Word.Made row) StoreFault.SeqEnd s is full = absurd is
-fault_word no_room (Word.Made row) StoreFault.Authority s is full = absurd is
-fault_word no_room (Word.Made row) StoreFault.Repos s is full = absurd is
-fault_word no_room (Word.Made row) StoreFault.Memory s is full = tt
-fault_word no_room (Word.Made row) StoreFault.Clock s is full = absurd is
-fault_word no_room (Word.Refused r) StoreFault.Disk s is full = tt
-fault_word no_room (Word.Refused r) (StoreFault.BadLog p) s is full = absurd is
-fault_word no_room (Word.Refused r) (StoreFault.Full e) s is full = absurd (omega (arith, ap length is.1))
-fault_word no_room (Word.Refused r) StoreFault.SeqEnd s is full = absurd is
-fault_word no_room (Word.Refused r) StoreFault.Authority s is full = absurd is
-fault_word no_room (Word.Refused r) StoreFault.Repos s is full = absurd is
-fault_word no_room (Word.Refused r) StoreFault.Memory s is full = tt
-fault_word no_room (Word.Refused r) StoreFault.Clock s is full = absurd is
+fault_word no_room (CommandAnswer.Made row) StoreFault.SeqEnd s is full = absurd is
+fault_word no_room (CommandAnswer.Made row) StoreFault.Authority s is full = absurd is
+fault_word no_room (CommandAnswer.Made row) StoreFault.Repos s is full = absurd is
+fault_word no_room (CommandAnswer.Made row) StoreFault.Memory s is full = tt
+fault_word no_room (CommandAnswer.Made row) StoreFault.Clock s is full = absurd is
+fault_word no_room (CommandAnswer.Refused r) StoreFault.Disk s is full = tt
+fault_word no_room (CommandAnswer.Refused r) (StoreFault.BadLog p) s is full = absurd is
+fault_word no_room (CommandAnswer.Refused r) (StoreFault.Full e) s is full = absurd (omega (arith, ap length is.1))
+fault_word no_room (CommandAnswer.Refused r) StoreFault.SeqEnd s is full = absurd is
+fault_word no_room (CommandAnswer.Refused r) StoreFault.Authority s is full = absurd is
+fault_word no_room (CommandAnswer.Refused r) StoreFault.Repos s is full = absurd is
+fault_word no_room (CommandAnswer.Refused r) StoreFault.Memory s is full = tt
+fault_word no_room (CommandAnswer.Refused r) StoreFault.Clock s is full = absurd is
 
 -- a fault that comes of asking, by its cause
 pub vain_by : (X : Type 0) (fault : StoreFault) → (fault ≡ StoreFault.SeqEnd → X) → IsCause X ⊤ ⊤ ⊤ fault
@@ -127,10 +127,10 @@ nil_of : (P : List Row → Type 0) (J : List Row) → P J → P (J ++ [])
 nil_of P J is = subst P (sym (append-nil J)) is
 
 -- the disks weren't opened
-pub spoke_unopened : (tells : Bool) (one two one_now two_now : View) (fault : StoreFault) (J : List Row) (nothing : Type 0) (vain : StoreFault → Type 0) (is_word : Word → Type 0) (out_told : Bool) (most : ℕ) (written : List ℕ)
+pub ran_unopened : (tells : Bool) (one two one_now two_now : View) (fault : StoreFault) (J : List Row) (nothing : Type 0) (vain : StoreFault → Type 0) (is_command : CommandAnswer → Type 0) (out_told : Bool) (most : ℕ) (written : List ℕ)
     → IsDisk one_now → IsDisk two_now → Opened tells one two one_now two_now (Err fault) → IsTrue tells → IsPairImageOf J one.content two.content → IsOfReading fault → nothing
-    → Spoke out_told most J nothing vain is_word (outside one two written) (outside one_now two_now written) (RunEnd.Fault fault)
-spoke_unopened tells one two one_now two_now fault J nothing vain is_word out_told most written first second opened told image few none =
+    → CommandRan out_told most J nothing vain is_command (pair_view one two written) (pair_view one_now two_now written) (RunEnd.Fault fault)
+ran_unopened tells one two one_now two_now fault J nothing vain is_command out_told most written first second opened told image few none =
     let leaves : StandsFor J one two → PairLeavesOnly (IsPairImageOf J) one one_now two two_now = opened_leaves tells one two one_now two_now (Err fault) opened told J in
     record {
       came = unopened;
@@ -172,8 +172,8 @@ module _ {D : Type 0} (view : D → View) (is_disk : (x : D) → IsDisk (view x)
     past = omega (arith, full.past, full.there, most_is);
   }
 
-  module _ (e f : D) (t : Store) (beside : of_pair (other_side s.side) e f ≡ of_pair (other_side s.side) c d) (P : Core → Word → Type 0) (failed nothing : Type 0) (vain : StoreFault → Type 0) (out_told : Bool) (most : ℕ) (most_is : s.log.most ≡ most)
-      (sounds : (core : Core) → Holds core J → (word : Word) → P core word → IsSound J → IsSound (J ++ rows_said word)) where
+  module _ (e f : D) (t : Store) (beside : of_pair (other_side s.side) e f ≡ of_pair (other_side s.side) c d) (P : Core → CommandAnswer → Type 0) (failed nothing : Type 0) (vain : StoreFault → Type 0) (out_told : Bool) (most : ℕ) (most_is : s.log.most ≡ most)
+      (sounds : (core : Core) → Holds core J → (command : CommandAnswer) → P core command → IsSound J → IsSound (J ++ rows_commanded command)) where
     keeps_too : Keeps J (seen_in s) (view (of_pair s.side c d))
     keeps_too = subst (Keeps J (seen_in s)) (view_on view is_disk a b c d e f s.side) keeps
 
@@ -190,42 +190,42 @@ module _ {D : Type 0} (view : D → View) (is_disk : (x : D) → IsDisk (view x)
         subst (λ (y : D). Q e y) (sym both.1) (subst (λ (x : D). Q x d) (sym both.0) was)
 
     -- the store answered what came of a word
-    pub spoke_ok : (done : Done) (end : RunEnd) (written now : List ℕ) → Spoken view tells J (P (seen_in s).core) failed (seen_in s) (seen_in t) (of_pair s.side c d) (of_pair s.side e f) (Ok done)
+    pub ran_ok : (done : Done) (end : RunEnd) (written now : List ℕ) → CommandDone view tells J (P (seen_in s).core) failed (seen_in s) (seen_in t) (of_pair s.side c d) (of_pair s.side e f) (Ok done)
         → IsEndOf done end → (IsTrue out_told → IsWritten end (done_text done) written now)
-        → Spoke out_told most J nothing vain (λ word. Knows J (λ core. P core word)) (outside (view a) (view b) written) (outside (view e) (view f) now) end
-    spoke_ok done end written now (inl (word, is, journal, worded)) ends text =
-        let same : done ≡ done_of word = worded.answer in
-        let ends_too : IsEndOf (done_of word) end = subst (λ (x : Done). IsEndOf x end) same ends in
+        → CommandRan out_told most J nothing vain (λ command. Knows J (λ core. P core command)) (pair_view (view a) (view b) written) (pair_view (view e) (view f) now) end
+    ran_ok done end written now (inl (command, is, journal, commanded)) ends text =
+        let same : done ≡ done_of command = commanded.answer in
+        let ends_too : IsEndOf (done_of command) end = subst (λ (x : Done). IsEndOf x end) same ends in
         record {
-          came = said word;
-          is = (opened_knows (λ core. P core word) is, ends_word _ word end ends_too);
+          came = said command;
+          is = (opened_knows (λ core. P core command) is, ends_command _ command end ends_too);
           journal = journal;
-          sound = sounds (seen_in s).core keeps.core word is;
+          sound = sounds (seen_in s).core keeps.core command is;
           written = λ out. subst (λ (x : Done). IsWritten end (done_text x) written now) same (text out);
-          stands = λ n _. subst (λ (rows : List Row). StandsFor (J ++ rows) (view e) (view f)) (sym (row_kept word end ends_too))
-              (stands_on view is_disk a b c d e f s.side J (J ++ rows_said word) (seen_in s) (seen_in t) beside worded.format keeps (worded.keeps (ok_not done StoreFault.Disk) told keeps_too) (opened.side told));
-          crashes = crashes_of (rows_said word) (worded.moments told keeps_too);
+          stands = λ n _. subst (λ (rows : List Row). StandsFor (J ++ rows) (view e) (view f)) (sym (row_kept command end ends_too))
+              (stands_on view is_disk a b c d e f s.side J (J ++ rows_commanded command) (seen_in s) (seen_in t) beside commanded.format keeps (commanded.keeps (ok_not done StoreFault.Disk) told keeps_too) (opened.side told));
+          crashes = crashes_of (rows_commanded command) (commanded.moments told keeps_too);
         }
-    spoke_ok done end written now (inr unsaid) ends text = absurd (ok_not done unsaid.fault unsaid.is)
+    ran_ok done end written now (inr unsaid) ends text = absurd (ok_not done unsaid.fault unsaid.is)
 
     -- a fault
-    pub spoke_err : (fault : StoreFault) (written : List ℕ) → Spoken view tells J (P (seen_in s).core) failed (seen_in s) (seen_in t) (of_pair s.side c d) (of_pair s.side e f) (Err fault) → (failed → vain fault)
-        → Spoke out_told most J nothing vain (λ word. Knows J (λ core. P core word)) (outside (view a) (view b) written) (outside (view e) (view f) written) (RunEnd.Fault fault)
-    spoke_err fault written (inl (word, is, journal, worded)) vains = record {
-      came = said word;
+    pub ran_err : (fault : StoreFault) (written : List ℕ) → CommandDone view tells J (P (seen_in s).core) failed (seen_in s) (seen_in t) (of_pair s.side c d) (of_pair s.side e f) (Err fault) → (failed → vain fault)
+        → CommandRan out_told most J nothing vain (λ command. Knows J (λ core. P core command)) (pair_view (view a) (view b) written) (pair_view (view e) (view f) written) (RunEnd.Fault fault)
+    ran_err fault written (inl (command, is, journal, commanded)) vains = record {
+      came = said command;
       is = (
-        opened_knows (λ core. P core word) is,
-        fault_word _ word fault (seen_in s) worded.answer (λ row e full_is full.
-            same_here (λ x y. HasNoRoom most J row e (view x) (view y)) (worded.untouched (λ disk. full_not e (sym full_is ∙ same_fault fault StoreFault.Disk disk)) refl).1.1 (no_room most row e most_is full)),
+        opened_knows (λ core. P core command) is,
+        fault_word _ command fault (seen_in s) commanded.answer (λ row e full_is full.
+            same_here (λ x y. HasNoRoom most J row e (view x) (view y)) (commanded.untouched (λ disk. full_not e (sym full_is ∙ same_fault fault StoreFault.Disk disk)) refl).1.1 (no_room most row e most_is full)),
       );
       journal = journal;
-      sound = sounds (seen_in s).core keeps.core word is;
+      sound = sounds (seen_in s).core keeps.core command is;
       written = λ _. refl;
       stands = λ n _. nil_of (λ (K : List Row). StandsFor K (view e) (view f)) J
-          (same_here (λ x y. StandsFor J (view x) (view y)) (worded.untouched (λ disk. n (ap RunEnd.Fault (same_fault fault StoreFault.Disk disk))) refl).1.1 opened_stands);
-      crashes = crashes_of (rows_said word) (worded.moments told keeps_too);
+          (same_here (λ x y. StandsFor J (view x) (view y)) (commanded.untouched (λ disk. n (ap RunEnd.Fault (same_fault fault StoreFault.Disk disk))) refl).1.1 opened_stands);
+      crashes = crashes_of (rows_commanded command) (commanded.moments told keeps_too);
     }
-    spoke_err fault written (inr unsaid) vains = record {
+    ran_err fault written (inr unsaid) vains = record {
       came = in_vain;
       is = (fault, refl, subst ComesOfAsking (sym (same_fault fault unsaid.fault unsaid.is)) unsaid.of_asking, vains unsaid.came);
       journal = nil_of IsJournal J image.are.journal;

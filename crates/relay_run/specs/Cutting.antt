@@ -13,14 +13,14 @@ use Rattle.cut_law.specs.Cut.{MayCut, cut}
 use Rattle.relay_store.specs.Cutting.{IsUncut}
 use Rattle.relay_store.specs.Journals.{IsPairImageOf}
 use Rattle.relay_store.specs.Opening.{IsOfReading}
-use Rattle.relay_store.specs.Rewriting.{HasNoRoom, IsOfRewriting}
+use Rattle.relay_store.specs.Rewriting.{RewriteHasNoRoom, IsOfRewriting}
 use Rattle.relay_store.specs.Shown.{held_by}
 use Rattle.relay_store.specs.declared.cutting.CutDone.{CutDone}
 use Rattle.relay_store.specs.declared.done.Done.{Done}
 use Rattle.relay_store.specs.declared.fault.StoreFault.{StoreFault}
 use Rattle.relay_run.specs.Ends.{IsWritten}
 use Rattle.relay_run.specs.Lines.{IsEndOf, done_text, numbered}
-use Rattle.relay_run.specs.Pairs.{Outside, StandsFor}
+use Rattle.relay_run.specs.Pairs.{PairView, StandsFor}
 use Rattle.relay_run.specs.declared.end.RunEnd.{RunEnd}
 
 -- ---- the answer
@@ -30,7 +30,7 @@ abbrev pub cut_text : ℕ → CutDone → List ℕ
 cut_text seq (CutDone.Cut oldest last) = numbered (codes "cut ") seq ++ (numbered (codes " oldest ") oldest ++ (numbered (codes " last ") last ++ 10 ∷ []))
 cut_text seq (CutDone.Refused refusal) = done_text (Done.Refused refusal)
 
--- how the command may end by it: memory is wanted for a refusal alone
+-- how the command may end by it: memory runs out for a refusal alone
 abbrev pub EndsCut : CutDone → RunEnd → Type 0
 EndsCut (CutDone.Refused refusal) end = IsEndOf (Done.Refused refusal) end
 EndsCut (CutDone.Cut oldest last) RunEnd.Done = ⊤
@@ -48,50 +48,50 @@ abbrev pub IsAnswerOf : List Row → ℕ → List ℕ → List ℕ → CutDone �
 IsAnswerOf J c one two (CutDone.Cut oldest last) = MayCut J c × (oldest ≡ oldest_of (held_by (cut J c))) × (last ≡ last_seq (cut J c))
 IsAnswerOf J c one two (CutDone.Refused why) = (format : Format) × IsOfFormat format one two × IsUncut J format c why
 
--- why a journal wasn't written anew: a call of a disk failed, or a row has no room in a log of the generation behind that of these two disks, or memory was wanted
+-- why a journal wasn't written anew: a call of a disk failed, or a row has no room in a log of the generation behind that of these two disks, or memory ran out
 abbrev pub IsUnwritten : ℕ → List Row → List ℕ → List ℕ → StoreFault → Type 0
 IsUnwritten most K one two StoreFault.Disk = ⊤
-IsUnwritten most K one two (StoreFault.Full e) = (format : Format) × IsOfFormat format one two × HasNoRoom (length (front (Format.Two (generation format + 1)))) most K e
+IsUnwritten most K one two (StoreFault.Full e) = (format : Format) × IsOfFormat format one two × RewriteHasNoRoom (length (front (Format.Two (generation format + 1)))) most K e
 IsUnwritten most K one two StoreFault.Memory = ⊤
 IsUnwritten most K one two fault = ⊥
 
 -- ---- what came of it
 
 -- What came of the command: the disks weren't opened, the journal wasn't written anew, or this was answered.
-pub data Came : Type 0 where
-  unopened : Came
-  unwritten : Came
-  answered : (done : CutDone) → Came
+pub data CutCame : Type 0 where
+  unopened : CutCame
+  unwritten : CutCame
+  answered : (done : CutDone) → CutCame
 
 -- and how it may end by that, with these bytes on the two disks
-abbrev pub IsCome : ℕ → List Row → ℕ → List ℕ → List ℕ → RunEnd → Came → Type 0
-IsCome most J c one two end unopened = (fault : StoreFault) × (end ≡ RunEnd.Fault fault) × IsOfReading fault
-IsCome most J c one two end unwritten = (fault : StoreFault) × (end ≡ RunEnd.Fault fault) × MayCut J c × IsUnwritten most (cut J c) one two fault
-IsCome most J c one two end (answered done) = IsAnswerOf J c one two done × EndsCut done end
+abbrev pub IsCutCome : ℕ → List Row → ℕ → List ℕ → List ℕ → RunEnd → CutCame → Type 0
+IsCutCome most J c one two end unopened = (fault : StoreFault) × (end ≡ RunEnd.Fault fault) × IsOfReading fault
+IsCutCome most J c one two end unwritten = (fault : StoreFault) × (end ≡ RunEnd.Fault fault) × MayCut J c × IsUnwritten most (cut J c) one two fault
+IsCutCome most J c one two end (answered done) = IsAnswerOf J c one two done × EndsCut done end
 
 -- the line
-abbrev pub text_come : ℕ → Came → List ℕ
-text_come c unopened = []
-text_come c unwritten = []
-text_come c (answered done) = cut_text c done
+abbrev pub cut_text_come : ℕ → CutCame → List ℕ
+cut_text_come c unopened = []
+cut_text_come c unwritten = []
+cut_text_come c (answered done) = cut_text c done
 
 -- the journal that the disks have then
-abbrev pub journal_come : List Row → ℕ → Came → List Row
+abbrev pub journal_come : List Row → ℕ → CutCame → List Row
 journal_come J c unopened = J
 journal_come J c unwritten = J
 journal_come J c (answered (CutDone.Cut oldest last)) = cut J c
 journal_come J c (answered (CutDone.Refused why)) = J
 
 -- and what a crash on the way leaves: the cut journal only where it is written anew
-abbrev pub IsLeft : List Row → ℕ → Came → List ℕ → List ℕ → Type 0
+abbrev pub IsLeft : List Row → ℕ → CutCame → List ℕ → List ℕ → Type 0
 IsLeft J c unopened x y = IsPairImageOf J x y
 IsLeft J c unwritten x y = IsPairImageOf J x y ⊎ IsPairImageOf (cut J c) x y
 IsLeft J c (answered (CutDone.Cut oldest last)) x y = IsPairImageOf J x y ⊎ IsPairImageOf (cut J c) x y
 IsLeft J c (answered (CutDone.Refused why)) x y = IsPairImageOf J x y
 
-abbrev pub WasOpened : Came → Type 0
-WasOpened unopened = ⊥
-WasOpened came = ⊤
+abbrev pub WasOpenedToCut : CutCame → Type 0
+WasOpenedToCut unopened = ⊥
+WasOpenedToCut came = ⊤
 
 -- how a command may end that cuts the journal
 abbrev pub IsOfCutting : RunEnd → Type 0
@@ -99,18 +99,18 @@ IsOfCutting (RunEnd.Fault fault) = IsOfRewriting fault
 IsOfCutting end = ⊤
 
 -- Whatever moments a crash strikes two disks at, it leaves a journal: this one while they are opened, and from then on what has P.
-pub record LeavesOpened {D : Type 0} (view : D → View) (J : List Row) (P : List ℕ → List ℕ → Type 0) (old new : Outside) : Type 0 where
+pub record LeavesOpened {D : Type 0} (view : D → View) (J : List Row) (P : List ℕ → List ℕ → Type 0) (old new : PairView) : Type 0 where
   pub one : D
   pub two : D
   pub opening : PairLeavesOnly (IsPairImageOf J) old.one (view one) old.two (view two)
   pub behind : PairLeavesOnly P (view one) new.one (view two) new.two
 
 -- The journal J of two disks was to be cut at a number.
-pub record WasCut {D : Type 0} (view : D → View) (output_tells : Bool) (most : ℕ) (J : List Row) (c : ℕ) (old new : Outside) (end : RunEnd) : Type 0 where
-  pub came : Came
-  pub is : IsCome most J c new.one.content new.two.content end came
-  pub written : IsTrue output_tells → IsWritten end (text_come c came) old.written new.written
+pub record WasCut {D : Type 0} (view : D → View) (output_tells : Bool) (most : ℕ) (J : List Row) (c : ℕ) (old new : PairView) (end : RunEnd) : Type 0 where
+  pub came : CutCame
+  pub is : IsCutCome most J c new.one.content new.two.content end came
+  pub written : IsTrue output_tells → IsWritten end (cut_text_come c came) old.written new.written
   -- Unless a disk failed, the two stand for the journal, or for the cut one where that was answered: once they were opened, and where they stood for the journal before.
-  pub stands : end ≢ RunEnd.Fault StoreFault.Disk → WasOpened came ⊎ StandsFor J old.one old.two → StandsFor (journal_come J c came) new.one new.two
+  pub stands : end ≢ RunEnd.Fault StoreFault.Disk → WasOpenedToCut came ⊎ StandsFor J old.one old.two → StandsFor (journal_come J c came) new.one new.two
   -- And then, whatever moments a crash strikes the two at, it leaves the journal, or from the opening on the cut one where it is written anew.
   pub crashes : StandsFor J old.one old.two → LeavesOpened view J (IsLeft J c came) old new

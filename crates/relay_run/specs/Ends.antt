@@ -27,12 +27,12 @@ IsOpened (RunEnd.Fault (StoreFault.BadLog place)) = ⊥
 IsOpened (RunEnd.Fault StoreFault.Memory) = ⊥
 IsOpened end = ⊤
 
--- what the bytes of the two disks were: no image of a journal, which they show at this place, or an image of one; where the disk failed or memory was wanted nothing is said
-abbrev pub Shows : RunEnd → List ℕ → List ℕ → Type 0
-Shows (RunEnd.Fault StoreFault.Disk) one two = ⊤
-Shows (RunEnd.Fault StoreFault.Memory) one two = ⊤
-Shows (RunEnd.Fault (StoreFault.BadLog place)) one two = IsBadPairJournalAt place one two
-Shows end one two = (J : List Row) × IsPairImageOf J one two
+-- what the bytes of the two disks were: no image of a journal, which they show at this place, or an image of one; where the disk failed or memory ran out nothing is said
+abbrev pub RunEndShows : RunEnd → List ℕ → List ℕ → Type 0
+RunEndShows (RunEnd.Fault StoreFault.Disk) one two = ⊤
+RunEndShows (RunEnd.Fault StoreFault.Memory) one two = ⊤
+RunEndShows (RunEnd.Fault (StoreFault.BadLog place)) one two = IsBadPairJournalAt place one two
+RunEndShows end one two = (J : List Row) × IsPairImageOf J one two
 
 -- the cause of an end: a count of faults rose, or no authority is left
 abbrev pub IsCausedBy : Type 0 → Type 0 → Type 0 → Type 0 → Type 0 → RunEnd → Type 0

@@ -2,5 +2,5 @@ pub mod Pairs
 pub mod Ends
 pub mod Lines
 pub mod Shown
-pub mod Spoke
+pub mod CommandRan
 pub mod Cutting

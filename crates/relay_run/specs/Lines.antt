@@ -8,7 +8,7 @@ use Rattle.relay_run.specs.declared.end.RunEnd.{RunEnd}
 
 -- a word and a number
 abbrev pub numbered : List ℕ → ℕ → List ℕ
-numbered word n = word ++ decimal n
+numbered command n = command ++ decimal n
 
 -- under which number it goes out, with how many records of a repository that was taken over; or that it is refused
 abbrev pub done_text : Done → List ℕ
@@ -16,7 +16,7 @@ done_text (Done.Event seq) = numbered (codes "event ") seq ++ 10 ∷ []
 done_text (Done.Synced seq records) = numbered (codes "synced ") seq ++ (numbered (codes " records ") records ++ 10 ∷ [])
 done_text (Done.Refused refusal) = refused_of refusal ++ 10 ∷ []
 
--- how a command may end by what was answered: memory is wanted for a refusal alone
+-- how a command may end by what was answered: memory runs out for a refusal alone
 abbrev pub IsEndOf : Done → RunEnd → Type 0
 IsEndOf (Done.Refused refusal) (RunEnd.Refused code) = code ≡ code_of refusal
 IsEndOf (Done.Refused refusal) (RunEnd.Fault StoreFault.Memory) = ⊤

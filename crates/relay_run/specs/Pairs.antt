@@ -21,10 +21,10 @@ of_pair One first second = first
 of_pair Two first second = second
 
 -- The two disks and what was written, at one moment.
-pub record Outside : Type 1 where
+pub record PairView : Type 1 where
   pub one : View
   pub two : View
   pub written : List ℕ
 
-abbrev pub outside : View → View → List ℕ → Outside
-outside one two written = record { one = one; two = two; written = written }
+abbrev pub pair_view : View → View → List ℕ → PairView
+pair_view one two written = record { one = one; two = two; written = written }

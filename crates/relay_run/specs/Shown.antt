@@ -4,11 +4,11 @@ use Rattle.relay_disk.specs.Moments.{PairLeavesOnly}
 use Rattle.relay_row.specs.declared.row.Row.{Row}
 use Rattle.relay_store.specs.Journals.{IsPairImageOf}
 use Rattle.relay_run.specs.Ends.{IsOpened, IsWritten}
-use Rattle.relay_run.specs.Pairs.{Outside, StandsFor}
+use Rattle.relay_run.specs.Pairs.{PairView, StandsFor}
 use Rattle.relay_run.specs.declared.end.RunEnd.{RunEnd}
 
 -- A text of the journal J of two disks was shown.
-pub record Shown (output_tells : Bool) (J : List Row) (text : List ℕ) (old new : Outside) (end : RunEnd) : Type 0 where
+pub record TextShown (output_tells : Bool) (J : List Row) (text : List ℕ) (old new : PairView) (end : RunEnd) : Type 0 where
   pub written : IsTrue output_tells → IsWritten end text old.written new.written
   -- once they were opened the disks stand for the journal, and where they stood for it they do again
   pub stands : IsOpened end ⊎ StandsFor J old.one old.two → StandsFor J new.one new.two

@@ -16,24 +16,24 @@ use report_lines::add_refusal;
 use std::alloc::Global;
 
 // A word and a number.
-pub(crate) fn write_number<O: Sink>(out: &mut O, word: &[u8], number: u64) -> Result<(), Failed>
-    ensures written { OnOk result (IsTrue O.tells → O.written out.new ≡ O.written out.old ++ numbered word.now number) }
-    ensures front { IsTrue O.tells → AddsFront (O.written out.old) (O.written out.new) (numbered word.now number) }
+pub(crate) fn write_number<O: Sink>(out: &mut O, command: &[u8], number: u64) -> Result<(), Failed>
+    ensures written { OnOk result (IsTrue O.tells → O.written out.new ≡ O.written out.old ++ numbered command.now number) }
+    ensures front { IsTrue O.tells → AddsFront (O.written out.old) (O.written out.new) (numbered command.now number) }
     ensures counts { O.faults out.old ≤ O.faults out.new }
     ensures failed { OnErr result (Rose (O.faults out.old) (O.faults out.new)) }
 {
-    write_all(out, word)?;
+    write_all(out, command)?;
     write_all(out, Buffer::new().format(number).as_bytes())
 }
 
 // A word and a number at the end of a line.
-pub(crate) fn write_last<O: Sink>(out: &mut O, word: &[u8], number: u64) -> Result<(), Failed>
-    ensures written { OnOk result (IsTrue O.tells → O.written out.new ≡ O.written out.old ++ (numbered word.now number ++ 10 ∷ [])) }
-    ensures front { IsTrue O.tells → AddsFront (O.written out.old) (O.written out.new) (numbered word.now number ++ 10 ∷ []) }
+pub(crate) fn write_last<O: Sink>(out: &mut O, command: &[u8], number: u64) -> Result<(), Failed>
+    ensures written { OnOk result (IsTrue O.tells → O.written out.new ≡ O.written out.old ++ (numbered command.now number ++ 10 ∷ [])) }
+    ensures front { IsTrue O.tells → AddsFront (O.written out.old) (O.written out.new) (numbered command.now number ++ 10 ∷ []) }
     ensures counts { O.faults out.old ≤ O.faults out.new }
     ensures failed { OnErr result (Rose (O.faults out.old) (O.faults out.new)) }
 {
-    write_number(out, word, number)?;
+    write_number(out, command, number)?;
     write_all(out, b"\n")
 }
 

@@ -13,13 +13,13 @@ ghost use Rattle.relay_row.specs.declared.row.Row.{Row as TheRow};
 ghost use Rattle.cut_law.specs.Cut.{MayCut, cut as cut_of};
 ghost use Rattle.relay_store.specs.Cutting.{IsUncut};
 ghost use Rattle.relay_store.specs.Journals.{IsPairImageOf};
-ghost use Rattle.relay_store.specs.Rewriting.{HasNoRoom, IsOfRewriting};
+ghost use Rattle.relay_store.specs.Rewriting.{RewriteHasNoRoom, IsOfRewriting};
 ghost use Rattle.relay_store.specs.Store.{IsKept, Keeps, seen_in};
 ghost use Rattle.relay_store.specs.declared.fault.StoreFault.{StoreFault as TheFault};
 ghost use Rattle.relay_run.specs.Cutting.{EndsCut, IsAnswerOf, IsOfCutting, WasCut, cut_text};
-ghost use Rattle.relay_run.specs.Ends.{IsCausedBy, IsQuiet, IsWritten, Shows};
+ghost use Rattle.relay_run.specs.Ends.{IsCausedBy, IsQuiet, IsWritten, RunEndShows};
 ghost use Rattle.relay_run.specs.Lines.{numbered};
-ghost use Rattle.relay_run.specs.Pairs.{StandsFor, outside};
+ghost use Rattle.relay_run.specs.Pairs.{StandsFor, pair_view};
 
 use crate::answering::{answer_refused, write_last, write_number};
 use crate::end::RunEnd;
@@ -88,7 +88,7 @@ fn cut_on<D: Disk>(
         × LeavesSide (seen_in store.old).side (D.view disk.new) (D.view other.new)) }
     ensures full { (e : ℕ) → result ≡ Err (StoreFault.Full e) → IsTrue D.tells → (J : List TheRow)
         → Keeps J (seen_in store.old) (view_of_side (seen_in store.old).side (D.view disk.old) (D.view other.old))
-        → HasNoRoom (length (front (TheFormat.Two (generation (seen_in store.old).log.format + 1)))) (seen_in store.old).log.most (cut_of J seq) e }
+        → RewriteHasNoRoom (length (front (TheFormat.Two (generation (seen_in store.old).log.format + 1)))) (seen_in store.old).log.most (cut_of J seq) e }
     ensures no_bad_log { (p : ℕ) → result ≡ Err (StoreFault.BadLog p) → IsTrue D.tells → ⊥ }
     ensures moments { IsTrue D.tells → (J : List TheRow) → Keeps J (seen_in store.old) (view_of_side (seen_in store.old).side (D.view disk.old) (D.view other.old))
         → PairLeavesOnly (λ c d. IsPairImageOf J c d ⊎ IsPairImageOf (cut_of J seq) c d) (D.view disk.old) (D.view disk.new) (D.view other.old) (D.view other.new) }
@@ -116,8 +116,8 @@ pub fn cut<D: Disk, O: Sink>(
 ) -> RunEnd
     requires { most ≤ LAST_END }
     ensures cut { IsTrue D.tells → (J : List TheRow) → IsPairImageOf J (D.view disk.old).content (D.view other.old).content
-        → WasCut D.view O.tells most J seq (outside (D.view disk.old) (D.view other.old) (O.written out.old)) (outside (D.view disk.new) (D.view other.new) (O.written out.new)) result }
-    ensures shows { IsTrue D.tells → Shows result (D.view disk.old).content (D.view other.old).content }
+        → WasCut D.view O.tells most J seq (pair_view (D.view disk.old) (D.view other.old) (O.written out.old)) (pair_view (D.view disk.new) (D.view other.new) (O.written out.new)) result }
+    ensures shows { IsTrue D.tells → RunEndShows result (D.view disk.old).content (D.view other.old).content }
     ensures quiet { IsTrue O.tells → IsQuiet result (O.written out.old) (O.written out.new) }
     ensures few { IsOfCutting result }
     ensures caused { IsCausedBy (Rose (D.view disk.old).faults (D.view disk.new).faults ⊎ Rose (D.view other.old).faults (D.view other.new).faults) (Rose (O.faults out.old) (O.faults out.new)) ⊥ ⊥ ⊥ result }

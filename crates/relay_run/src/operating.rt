@@ -8,15 +8,15 @@ ghost use Rattle.gate_log.specs.Pick.{other_side, view_of_side};
 ghost use Rattle.gate_log.specs.declared.limits.TheConstants.{LAST_END};
 ghost use Rattle.relay_row.specs.declared.row.Row.{Row as TheRow};
 ghost use Rattle.relay_step.specs.Causes.{OneTaken};
-ghost use Rattle.relay_step.specs.Words.{EndsBehind, OperatedAt};
+ghost use Rattle.relay_step.specs.Commands.{EndsBehind, OperatedAt};
 ghost use Rattle.relay_store.specs.Faults.{IsCause};
 ghost use Rattle.relay_store.specs.Journals.{IsPairImageOf};
 ghost use Rattle.relay_store.specs.Store.{IsKept, IsOf, seen_in};
-ghost use Rattle.relay_store.specs.Words.{IsOfOperating, Spoken};
+ghost use Rattle.relay_store.specs.Commands.{IsOfOperating, CommandDone};
 ghost use Rattle.relay_store.specs.declared.fault.StoreFault.{StoreFault as TheFault};
-ghost use Rattle.relay_run.specs.Ends.{IsCausedBy, IsQuiet, Shows};
-ghost use Rattle.relay_run.specs.Pairs.{of_pair, outside};
-ghost use Rattle.relay_run.specs.Spoke.{Knows, Spoke};
+ghost use Rattle.relay_run.specs.Ends.{IsCausedBy, IsQuiet, RunEndShows};
+ghost use Rattle.relay_run.specs.Pairs.{of_pair, pair_view};
+ghost use Rattle.relay_run.specs.CommandRan.{Knows, CommandRan};
 
 use crate::answering::answer;
 use crate::end::RunEnd;
@@ -41,7 +41,7 @@ fn operate_on<D: Disk, C: Clock>(
     requires on { IsTrue D.tells → IsKept (seen_in store.old) (view_of_side (seen_in store.old).side (D.view disk.old) (D.view other.old)) }
     requires did { IsTrue (is_did did.now) }
     requires time { length time.now ≤ LONGEST_SHORT_TEXT }
-    ensures spoken { (J : List TheRow) → IsOf J (seen_in store.old).core → Spoken D.view D.tells J (λ word. OperatedAt C.tells (seen_in store.old).core did.now down time.now (C.moments clock.old) word (C.moments clock.new))
+    ensures commanded { (J : List TheRow) → IsOf J (seen_in store.old).core → CommandDone D.view D.tells J (λ command. OperatedAt C.tells (seen_in store.old).core did.now down time.now (C.moments clock.old) command (C.moments clock.new))
         (IsTrue C.tells → OneTaken (C.moments clock.old) (C.moments clock.new)) (seen_in store.old) (seen_in store.new)
         (of_pair (seen_in store.old).side disk.old other.old) (of_pair (seen_in store.old).side disk.new other.new) result }
     ensures beside { of_pair (other_side (seen_in store.old).side) disk.new other.new ≡ of_pair (other_side (seen_in store.old).side) disk.old other.old }
@@ -59,7 +59,7 @@ fn operate_on<D: Disk, C: Clock>(
     }
 }
 
-/// Takes an account down, or restores it, at an operator's word, and writes what came of it. `time` is that of the event by which
+/// Takes an account down, or restores it, at an operator's command, and writes what came of it. `time` is that of the event by which
 /// this goes out. No row of the log is to end past `most`, which is in bytes.
 pub fn operate<D: Disk, C: Clock, O: Sink>(
     alloc: Global,
@@ -75,12 +75,12 @@ pub fn operate<D: Disk, C: Clock, O: Sink>(
     requires most { most ≤ LAST_END }
     requires did { IsTrue (is_did did.now) }
     requires time { length time.now ≤ LONGEST_SHORT_TEXT }
-    ensures spoke { IsTrue D.tells → (J : List TheRow) → IsPairImageOf J (D.view disk.old).content (D.view other.old).content
-        → Spoke O.tells most J (C.moments clock.new ≡ C.moments clock.old)
+    ensures ran { IsTrue D.tells → (J : List TheRow) → IsPairImageOf J (D.view disk.old).content (D.view other.old).content
+        → CommandRan O.tells most J (C.moments clock.new ≡ C.moments clock.old)
         (λ fault. (IsTrue C.tells → OneTaken (C.moments clock.old) (C.moments clock.new)) × IsCause (Knows J (λ core. EndsBehind core did.now down)) ⊤ ⊤ ⊤ fault)
-        (λ word. Knows J (λ core. OperatedAt C.tells core did.now down time.now (C.moments clock.old) word (C.moments clock.new)))
-        (outside (D.view disk.old) (D.view other.old) (O.written out.old)) (outside (D.view disk.new) (D.view other.new) (O.written out.new)) result }
-    ensures shows { IsTrue D.tells → Shows result (D.view disk.old).content (D.view other.old).content }
+        (λ command. Knows J (λ core. OperatedAt C.tells core did.now down time.now (C.moments clock.old) command (C.moments clock.new)))
+        (pair_view (D.view disk.old) (D.view other.old) (O.written out.old)) (pair_view (D.view disk.new) (D.view other.new) (O.written out.new)) result }
+    ensures shows { IsTrue D.tells → RunEndShows result (D.view disk.old).content (D.view other.old).content }
     ensures quiet { IsTrue O.tells → IsQuiet result (O.written out.old) (O.written out.new) }
     ensures caused { IsCausedBy (Rose (D.view disk.old).faults (D.view disk.new).faults ⊎ Rose (D.view other.old).faults (D.view other.new).faults) (Rose (O.faults out.old) (O.faults out.new)) ⊥ ⊥ (Rose (C.faults clock.old) (C.faults clock.new)) result }
     ensures disk_counts { (D.view disk.old).faults ≤ (D.view disk.new).faults }

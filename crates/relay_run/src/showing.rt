@@ -8,9 +8,9 @@ ghost use Rattle.account_state.specs.Folds.{account as account_of};
 ghost use Rattle.host_state.specs.Folds.{hosts as hosts_of};
 ghost use Rattle.state_lines.specs.Lines.{account_text, hosts_text};
 ghost use Rattle.relay_store.specs.Journals.{IsPairImageOf};
-ghost use Rattle.relay_run.specs.Ends.{IsCausedBy, IsOfShowing, IsQuiet, IsWritten, Shows};
-ghost use Rattle.relay_run.specs.Pairs.{outside};
-ghost use Rattle.relay_run.specs.Shown.{Shown};
+ghost use Rattle.relay_run.specs.Ends.{IsCausedBy, IsOfShowing, IsQuiet, IsWritten, RunEndShows};
+ghost use Rattle.relay_run.specs.Pairs.{pair_view};
+ghost use Rattle.relay_run.specs.Shown.{TextShown};
 
 use crate::end::RunEnd;
 use relay_disk::Disk;
@@ -43,8 +43,8 @@ pub fn account<D: Disk, O: Sink>(
 ) -> RunEnd
     requires { most ≤ LAST_END }
     ensures shown { IsTrue D.tells → (J : List TheRow) → IsPairImageOf J (D.view disk.old).content (D.view other.old).content
-        → Shown O.tells J (account_text did.now (account_of did.now J)) (outside (D.view disk.old) (D.view other.old) (O.written out.old)) (outside (D.view disk.new) (D.view other.new) (O.written out.new)) result }
-    ensures shows { IsTrue D.tells → Shows result (D.view disk.old).content (D.view other.old).content }
+        → TextShown O.tells J (account_text did.now (account_of did.now J)) (pair_view (D.view disk.old) (D.view other.old) (O.written out.old)) (pair_view (D.view disk.new) (D.view other.new) (O.written out.new)) result }
+    ensures shows { IsTrue D.tells → RunEndShows result (D.view disk.old).content (D.view other.old).content }
     ensures quiet { IsTrue O.tells → IsQuiet result (O.written out.old) (O.written out.new) }
     ensures few { IsOfShowing result }
     ensures caused { IsCausedBy (Rose (D.view disk.old).faults (D.view disk.new).faults ⊎ Rose (D.view other.old).faults (D.view other.new).faults) (Rose (O.faults out.old) (O.faults out.new)) ⊤ ⊤ ⊤ result }
@@ -72,8 +72,8 @@ pub fn hosts<D: Disk, O: Sink>(
 ) -> RunEnd
     requires { most ≤ LAST_END }
     ensures shown { IsTrue D.tells → (J : List TheRow) → IsPairImageOf J (D.view disk.old).content (D.view other.old).content
-        → Shown O.tells J (hosts_text (hosts_of J)) (outside (D.view disk.old) (D.view other.old) (O.written out.old)) (outside (D.view disk.new) (D.view other.new) (O.written out.new)) result }
-    ensures shows { IsTrue D.tells → Shows result (D.view disk.old).content (D.view other.old).content }
+        → TextShown O.tells J (hosts_text (hosts_of J)) (pair_view (D.view disk.old) (D.view other.old) (O.written out.old)) (pair_view (D.view disk.new) (D.view other.new) (O.written out.new)) result }
+    ensures shows { IsTrue D.tells → RunEndShows result (D.view disk.old).content (D.view other.old).content }
     ensures quiet { IsTrue O.tells → IsQuiet result (O.written out.old) (O.written out.new) }
     ensures few { IsOfShowing result }
     ensures caused { IsCausedBy (Rose (D.view disk.old).faults (D.view disk.new).faults ⊎ Rose (D.view other.old).faults (D.view other.new).faults) (Rose (O.faults out.old) (O.faults out.new)) ⊤ ⊤ ⊤ result }

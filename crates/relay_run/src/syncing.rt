@@ -11,14 +11,14 @@ ghost use Rattle.relay_row.specs.declared.row.Row.{Row as TheRow};
 ghost use Rattle.relay_step.specs.Around.{around};
 ghost use Rattle.relay_step.specs.Asked.{AskedInVain};
 ghost use Rattle.relay_step.specs.Causes.{CameToNothing};
-ghost use Rattle.relay_step.specs.Words.{EndsFetched, SyncedAt, told_where};
+ghost use Rattle.relay_step.specs.Commands.{EndsFetched, SyncedAt, told_where};
 ghost use Rattle.relay_store.specs.Faults.{IsCause};
 ghost use Rattle.relay_store.specs.Journals.{IsPairImageOf};
 ghost use Rattle.relay_store.specs.Store.{IsKept, IsOf, seen_in};
-ghost use Rattle.relay_store.specs.Words.{Spoken};
-ghost use Rattle.relay_run.specs.Ends.{IsCausedBy, IsQuiet, Shows};
-ghost use Rattle.relay_run.specs.Pairs.{of_pair, outside};
-ghost use Rattle.relay_run.specs.Spoke.{Knows, Spoke};
+ghost use Rattle.relay_store.specs.Commands.{CommandDone};
+ghost use Rattle.relay_run.specs.Ends.{IsCausedBy, IsQuiet, RunEndShows};
+ghost use Rattle.relay_run.specs.Pairs.{of_pair, pair_view};
+ghost use Rattle.relay_run.specs.CommandRan.{Knows, CommandRan};
 
 use crate::answering::answer;
 use crate::end::RunEnd;
@@ -45,8 +45,8 @@ fn sync_on<D: Disk, P: Judges, R: Repos, C: Clock>(
     requires on { IsTrue D.tells → IsKept (seen_in store.old) (view_of_side (seen_in store.old).side (D.view disk.old) (D.view other.old)) }
     requires did { IsTrue (is_did did.now) }
     requires time { length time.now ≤ LONGEST_SHORT_TEXT }
-    ensures spoken { (J : List TheRow) → IsOf J (seen_in store.old).core → Spoken D.view D.tells J
-        (λ word. SyncedAt C.tells R.tells (seen_in store.old).core did.now time.now (around (P.panel judges.old) (C.moments clock.old) (R.repository repos.old)) word (around (P.panel judges.new) (C.moments clock.new) (R.repository repos.new)))
+    ensures commanded { (J : List TheRow) → IsOf J (seen_in store.old).core → CommandDone D.view D.tells J
+        (λ command. SyncedAt C.tells R.tells (seen_in store.old).core did.now time.now (around (P.panel judges.old) (C.moments clock.old) (R.repository repos.old)) command (around (P.panel judges.new) (C.moments clock.new) (R.repository repos.new)))
         (CameToNothing C.tells R.tells (AskedInVain (P.panel judges.old) did.now (P.panel judges.new)) (around (P.panel judges.old) (C.moments clock.old) (R.repository repos.old)) (around (P.panel judges.new) (C.moments clock.new) (R.repository repos.new)))
         (seen_in store.old) (seen_in store.new) (of_pair (seen_in store.old).side disk.old other.old) (of_pair (seen_in store.old).side disk.new other.new) result }
     ensures beside { of_pair (other_side (seen_in store.old).side) disk.new other.new ≡ of_pair (other_side (seen_in store.old).side) disk.old other.old }
@@ -66,7 +66,7 @@ fn sync_on<D: Disk, P: Judges, R: Repos, C: Clock>(
     }
 }
 
-/// Fetches an account's repository at an operator's word, takes it over, and writes what came of it. `time` is that of the event by
+/// Fetches an account's repository at an operator's command, takes it over, and writes what came of it. `time` is that of the event by
 /// which this goes out. No row of the log is to end past `most`, which is in bytes.
 pub fn sync<D: Disk, P: Judges, R: Repos, C: Clock, O: Sink>(
     alloc: Global,
@@ -83,13 +83,13 @@ pub fn sync<D: Disk, P: Judges, R: Repos, C: Clock, O: Sink>(
     requires most { most ≤ LAST_END }
     requires did { IsTrue (is_did did.now) }
     requires time { length time.now ≤ LONGEST_SHORT_TEXT }
-    ensures spoke { IsTrue D.tells → (J : List TheRow) → IsPairImageOf J (D.view disk.old).content (D.view other.old).content
-        → Spoke O.tells most J (around (P.panel judges.new) (C.moments clock.new) (R.repository repos.new) ≡ around (P.panel judges.old) (C.moments clock.old) (R.repository repos.old))
+    ensures ran { IsTrue D.tells → (J : List TheRow) → IsPairImageOf J (D.view disk.old).content (D.view other.old).content
+        → CommandRan O.tells most J (around (P.panel judges.new) (C.moments clock.new) (R.repository repos.new) ≡ around (P.panel judges.old) (C.moments clock.old) (R.repository repos.old))
         (λ fault. CameToNothing C.tells R.tells (AskedInVain (P.panel judges.old) did.now (P.panel judges.new)) (around (P.panel judges.old) (C.moments clock.old) (R.repository repos.old)) (around (P.panel judges.new) (C.moments clock.new) (R.repository repos.new))
         × IsCause (Knows J (λ core. EndsFetched core did.now (told_where R.tells (R.repository repos.old did.now)) (P.panel judges.old) (P.panel judges.new))) ⊤ ⊤ ⊤ fault)
-        (λ word. Knows J (λ core. SyncedAt C.tells R.tells core did.now time.now (around (P.panel judges.old) (C.moments clock.old) (R.repository repos.old)) word (around (P.panel judges.new) (C.moments clock.new) (R.repository repos.new))))
-        (outside (D.view disk.old) (D.view other.old) (O.written out.old)) (outside (D.view disk.new) (D.view other.new) (O.written out.new)) result }
-    ensures shows { IsTrue D.tells → Shows result (D.view disk.old).content (D.view other.old).content }
+        (λ command. Knows J (λ core. SyncedAt C.tells R.tells core did.now time.now (around (P.panel judges.old) (C.moments clock.old) (R.repository repos.old)) command (around (P.panel judges.new) (C.moments clock.new) (R.repository repos.new))))
+        (pair_view (D.view disk.old) (D.view other.old) (O.written out.old)) (pair_view (D.view disk.new) (D.view other.new) (O.written out.new)) result }
+    ensures shows { IsTrue D.tells → RunEndShows result (D.view disk.old).content (D.view other.old).content }
     ensures quiet { IsTrue O.tells → IsQuiet result (O.written out.old) (O.written out.new) }
     ensures caused { IsCausedBy (Rose (D.view disk.old).faults (D.view disk.new).faults ⊎ Rose (D.view other.old).faults (D.view other.new).faults) (Rose (O.faults out.old) (O.faults out.new)) (IsSpent (P.panel judges.new (method_of did.now))) (Rose (R.faults repos.old) (R.faults repos.new)) (Rose (C.faults clock.old) (C.faults clock.new)) result }
     ensures disk_counts { (D.view disk.old).faults ≤ (D.view disk.new).faults }

@@ -18,12 +18,12 @@ use Rattle.account_state.specs.Folds.{last_rev}
 use Rattle.account_state.specs.State.{State}
 use Rattle.relay_core.specs.Opening.{shown_alone}
 use Rattle.relay_core.specs.Shown.{shows_home, shows_verdict}
-use Rattle.relay_core.specs.Table.{Line, told, asked, Walk, waits, refuses, passes, walk, when, is_ahead, refusal_in, link_line, repo_lines, body_lines, event_lines}
+use Rattle.relay_core.specs.Table.{TableLine, told, asked, Walk, waits, refuses, passes, walk, when, is_ahead, refusal_in, link_line, repo_lines, body_lines, event_lines}
 use Rattle.relay_core.specs.declared.answers.Answers.{Answers}
 use Rattle.relay_core.specs.declared.answers.Question.{Question}
 use Rattle.relay_core.specs.declared.limits.TheConstants.{LONGEST_MESSAGE}
 use Rattle.relay_step.specs.Asked.{asks_for_home, asks_for_verdict, home_calls, refresh_calls, signed_by, verdict_call, verdict_calls}
-use Rattle.relay_step.specs.Questions.{IsJudgedLate, IsRenewedFirst, IsTidy, PassedBefore, calls_told, home_told, is_unlinked, length_line, refresh_told, verdict_told}
+use Rattle.relay_step.specs.Questions.{IsJudgedLate, IsRenewedFirst, IsTidy, SkippedBefore, calls_told, home_told, is_unlinked, length_line, refresh_told, verdict_told}
 
 -- where going down the table ends: at a refusal, or at its end
 abbrev pub ended : Option Refusal → Walk
@@ -59,7 +59,7 @@ record IsAlone (r : Refusal) : Type 0 where
 is_alone : Refusal → Bool
 is_alone r = asks_for_home (Some r) && (shows_home (Some r) && not (asks_for_verdict (Some r)))
 
-first_passing : (p : Refusal → Bool) (lines : List checked.Line) → list_all (λ line. p line.0) lines ≡ true → (r : Refusal) → first_of lines ≡ Some r → p r ≡ true
+first_passing : (p : Refusal → Bool) (lines : List checked.RefusalLine) → list_all (λ line. p line.0) lines ≡ true → (r : Refusal) → first_of lines ≡ Some r → p r ≡ true
 first_passing p [] all r h = absurd cc
 first_passing p (line ∷ lines) all r h =
     let both = and_parts (p line.0) (list_all (λ line. p line.0) lines) all in
@@ -124,8 +124,8 @@ module _ (e : Seen) (host : List ℕ) where
       let Q : Option Refusal → Type 0 = λ s. Shows home v s in
       subst P (sym one) (subst Q (sym two) h)
 
-  module _ (others : List Line) (behind : (r : Option Refusal) → walk others ≡ ended r → IsBehind r) where
-    abbrev Lines : Bool → Option Bool → Bool → Bool → Option (Result Head Refusal) → Bool → Option Bool → List Line
+  module _ (others : List TableLine) (behind : (r : Option Refusal) → walk others ≡ ended r → IsBehind r) where
+    abbrev Lines : Bool → Option Bool → Bool → Bool → Option (Result Head Refusal) → Bool → Option Bool → List TableLine
     Lines l home i d opened u verdict =
         told (when l Refusal.TooLong) ∷ asked Question.Home (option_map (λ yes. when (not yes) Refusal.NotHome) home) ∷ told (when i Refusal.Inactive) ∷ told (when d Refusal.TakenDown)
         ∷ asked Question.Open (option_map refusal_in opened) ∷ told (when u Refusal.FutureRev) ∷ asked Question.Verdict (option_map (λ good. when (not good) Refusal.BadSignature) verdict) ∷ others
@@ -214,7 +214,7 @@ link_behind (Some (Err q)) fine r h = let P : Option Refusal → Type 0 = λ s. 
 end_behind : (r : Option Refusal) → walk [] ≡ ended r → IsBehind r
 end_behind r h = let P : Option Refusal → Type 0 = λ s. IsBehind s in subst P (sym (passes_as r h)) accepted_behind
 
-past_moment : (m : Option ℕ) (lines : List Line) (r : Option Refusal) → walk (asked Question.Moment (option_map (λ moment. None) m) ∷ lines) ≡ ended r → ((moment : ℕ) × (m ≡ Some moment)) × (walk lines ≡ ended r)
+past_moment : (m : Option ℕ) (lines : List TableLine) (r : Option Refusal) → walk (asked Question.Moment (option_map (λ moment. None) m) ∷ lines) ≡ ended r → ((moment : ℕ) × (m ≡ Some moment)) × (walk lines ≡ ended r)
 past_moment None lines r h = absurd (waits_on Question.Moment r h)
 past_moment (Some moment) lines r h = ((moment, refl), h)
 
@@ -231,7 +231,7 @@ module _ (a : State) (host : List ℕ) (e : Seen) (x : Answers) (tidy : IsTidy a
       let P : Bool → Type 0 = λ b. refresh_told e.did b ++ (home_told e.did host x.home ++ verdict_told e x.verdict) ≡ cond (asks_for_home r) (answers (asks_home e.did host) (shows_home r) ∷ []) [] ++ verdict_calls e r in
       subst P (sym none) h
 
-  repo_shown : (rev : ℕ) (others : List Line) (r : Option Refusal) → ((r : Option Refusal) → walk others ≡ ended r → IsBehind r) → (x.verdict ≡ None) ⊎ PassedBefore a e rev x
+  repo_shown : (rev : ℕ) (others : List TableLine) (r : Option Refusal) → ((r : Option Refusal) → walk others ≡ ended r → IsBehind r) → (x.verdict ≡ None) ⊎ SkippedBefore a e rev x
       → walk (told (length_line e) ∷ repo_lines a rev x others) ≡ ended r → Shows e host x.home x.verdict r
   repo_shown rev others r behind late h =
       repo_calls e host others behind (nat_lt LONGEST_MESSAGE (out_length e)) x.home (not a.active) a.down x.opened (is_ahead rev x.moment) x.verdict r short_two

@@ -18,7 +18,7 @@ use Rattle.account_state.specs.State.{State}
 use Rattle.relay_core.specs.Decide.{Checks, Outside, answers, decided_event, decision_for, refusal_of}
 use Rattle.relay_core.specs.Opening.{IsHeadIn, IsHeadOf, OpensRight}
 use Rattle.relay_core.specs.Rows.{effect_of, event_taken, fetched_of, head_effect, own_effect}
-use Rattle.relay_core.specs.Table.{Line, told, asked, Walk, waits, refuses, passes, walk, walk_past, when, is_ahead, refusal_in, body_lines, event_lines, next_at, next_of, after_fetch, is_held}
+use Rattle.relay_core.specs.Table.{TableLine, told, asked, Walk, waits, refuses, passes, walk, walk_past, when, is_ahead, refusal_in, body_lines, event_lines, next_at, next_of, after_fetch, is_held}
 use Rattle.relay_core.specs.declared.answers.Answers.{Answers}
 use Rattle.relay_core.specs.declared.answers.Question.{Question}
 use Rattle.relay_core.specs.declared.decision.Decision.{Decision}
@@ -70,7 +70,7 @@ done_above cursor a e x d =
 pub done_end : (cursor : ℕ) (a : State) (e : Seen) (x : Answers) (d : Decision) → next_of cursor a (Frame.Event e) x ≡ Next.Done d → IsAtEnd (walk (event_lines a e x)) x.fetched d
 done_end cursor a e x d h = at_end (walk (event_lines a e x)) a e.body x.fetched d (done_above cursor a e x d h).1
 
--- an event that makes no row is passed over
+-- an event that makes no row is skipped
 pub passes_over : (cursor : ℕ) (a : State) (e : Seen) (x : Answers) (pass : Pass) → next_of cursor a (Frame.Event e) x ≡ Next.Pass pass → (nat_le e.seq cursor ≡ true) × (pass ≡ Pass.Old)
 passes_over cursor a e x pass =
     elim (nat_le e.seq cursor) as (λ b. cond b (Next.Pass Pass.Old) (next_at (walk (event_lines a e x)) a e.body x.fetched) ≡ Next.Pass pass → (b ≡ true) × (pass ≡ Pass.Old)) [
@@ -97,14 +97,14 @@ passes_over cursor a e x pass =
 abbrev pub Within : {A : Type 0} → Option A → Option A → Type 0
 Within o p = (o ≡ None) ⊎ (o ≡ p)
 
-AreLater : List Line → List Line → Type 0
+AreLater : List TableLine → List TableLine → Type 0
 AreLater [] [] = Unit {0}
 AreLater (told o ∷ xs) (told p ∷ ys) = (o ≡ p) × AreLater xs ys
 AreLater (asked q o ∷ xs) (asked p r ∷ ys) = Within o r × AreLater xs ys
 AreLater xs ys = ⊥
 
 -- a walk that ends goes on to the same end
-walk_later : (xs ys : List Line) (r : Option Refusal) → AreLater xs ys → walk xs ≡ ended r → walk ys ≡ ended r
+walk_later : (xs ys : List TableLine) (r : Option Refusal) → AreLater xs ys → walk xs ≡ ended r → walk ys ≡ ended r
 unfolding AreLater
 walk_later [] [] r are h = h
 walk_later [] (y ∷ ys) r are h = absurd are
@@ -161,12 +161,12 @@ event_later a e x z of = (inr (ap (option_map (λ moment. None)) of.moment), (re
 
 -- ---- the effect
 
-AllKnown : List Line → Type 0
+AllKnown : List TableLine → Type 0
 AllKnown [] = Unit {0}
 AllKnown (told o ∷ lines) = AllKnown lines
 AllKnown (asked q o ∷ lines) = (o ≢ None) × AllKnown lines
 
-all_known : (lines : List Line) → walk lines ≡ passes → AllKnown lines
+all_known : (lines : List TableLine) → walk lines ≡ passes → AllKnown lines
 unfolding AllKnown
 all_known [] h = tt
 all_known (told None ∷ lines) h = all_known lines h

@@ -14,7 +14,7 @@ use Rattle.at_cid.specs.Order.{key_cmp}
 use Rattle.at_commit.specs.Commit.{commit_of}
 use Rattle.at_event.specs.declared.head.Head.{Head}
 use Rattle.event_checks.specs.Lines.{first_of}
-use Rattle.event_checks.specs.Opening.{IsFound, block_in, object_in_block, object_of, root_in}
+use Rattle.event_checks.specs.Opening.{IsFound, block_in, object_in_block, read_object, root_in}
 use Rattle.relay_io.specs.Repositories.{IsOpened}
 use Rattle.relay_row.specs.Rules.{is_head, is_repo_number}
 use Rattle.relay_core.specs.Decide.{Found, absent, unfit, found, judged}
@@ -22,7 +22,7 @@ use Rattle.relay_core.specs.Table.{is_ahead}
 use Rattle.relay_core.specs.declared.limits.TheConstants.{FETCHED_AHEAD, FETCHED_UNSIGNED}
 use Rattle.relay_law.proofs.Heads.{found_head}
 use Rattle.repo_sync.specs.Checks.{IsRefused}
-use Rattle.repo_sync.specs.Faults.{number_of}
+use Rattle.repo_sync.specs.Faults.{fault_number}
 use Rattle.repo_sync.specs.Repository.{IsAnswer, IsWhole, lines}
 use Rattle.repo_sync.specs.declared.fault.RepoFault.{RepoFault}
 use Rattle.repo_sync.specs.declared.found.Found.{Found as Checked}
@@ -68,7 +68,7 @@ module _ (did : List ℕ) (least : Option ℕ) (checked : Checked) (of : IsOfByt
       record {
         root_is = ap root_in h.car ∙ h.root;
         block_is = block;
-        object_is = ap object_in_block block ∙ ap object_of h.object;
+        object_is = ap object_in_block block ∙ ap read_object h.object;
       }
 
   pub head_kept : checked.head.rev < 2 ^ 64 → is_head checked.head ≡ true
@@ -107,8 +107,8 @@ asked_ahead did old = record { calls = []; are = refl; made = refl }
 
 -- a refusal of a repository by itself
 record IsOwnFault (fault : RepoFault) : Type 0 where
-  unsigned : (number_of fault == FETCHED_UNSIGNED) ≡ false
-  kept : is_repo_number true (number_of fault) ≡ true
+  unsigned : (fault_number fault == FETCHED_UNSIGNED) ≡ false
+  kept : is_repo_number true (fault_number fault) ≡ true
 
 no_signature : (did : List ℕ) (least : Option ℕ) (bytes : List ℕ) → first_of (lines did least bytes) ≡ Some RepoFault.BadSignature → ⊥
 no_signature did least bytes h = go _ _ _ _ _ _ _ h
@@ -123,7 +123,7 @@ no_signature did least bytes h = go _ _ _ _ _ _ _ h
     go false false false false false true rev h = absurd cc
     go false false false false false false rev h = absurd cc
 
--- it is neither want of memory nor a failed read
+-- it is neither running out of memory nor a failed read
 abbrev pub is_quiet : RepoFault → Bool
 is_quiet RepoFault.Memory = true
 is_quiet RepoFault.Failed = true
@@ -135,16 +135,16 @@ own_fault did least bytes RepoFault.Failed loud is = absurd cc
 own_fault did least bytes RepoFault.BadSignature loud is = absurd (no_signature did least bytes is)
 own_fault did least bytes fault loud is = record { unsigned = refl; kept = refl }
 
-pub asked_refused : (did : List ℕ) (least : Option ℕ) (bytes : List ℕ) (fault : RepoFault) (old : Panel) → is_quiet fault ≡ false → IsRefused did least bytes fault → AnsweredFetch old did (unfit (number_of fault)) old
+pub asked_refused : (did : List ℕ) (least : Option ℕ) (bytes : List ℕ) (fault : RepoFault) (old : Panel) → is_quiet fault ≡ false → IsRefused did least bytes fault → AnsweredFetch old did (unfit (fault_number fault)) old
 asked_refused did least bytes fault old loud is =
     let own = own_fault did least bytes fault loud is in
-    record { calls = []; are = go (number_of fault == FETCHED_UNSIGNED) own.unsigned; made = refl }
+    record { calls = []; are = go (fault_number fault == FETCHED_UNSIGNED) own.unsigned; made = refl }
   where
     go : (b : Bool) → b ≡ false → Where b (IsRefusedOnce did []) (◌≡◌ {A = List Call} [] [])
     go true h = absurd cc
     go false h = refl
 
-pub may_refused : (did : List ℕ) (least : Option ℕ) (bytes : List ℕ) (fault : RepoFault) → is_quiet fault ≡ false → IsRefused did least bytes fault → MayBeKept (unfit (number_of fault))
+pub may_refused : (did : List ℕ) (least : Option ℕ) (bytes : List ℕ) (fault : RepoFault) → is_quiet fault ≡ false → IsRefused did least bytes fault → MayBeKept (unfit (fault_number fault))
 may_refused did least bytes fault loud is = (own_fault did least bytes fault loud is).kept
 
 answer_of : (did : List ℕ) (least : Option ℕ) (bytes : List ℕ) (fault : RepoFault) → is_quiet fault ≡ false → IsRefused did least bytes fault → IsAnswer did least bytes (Err fault)
@@ -171,8 +171,8 @@ opened_as (Some bytes) left did least moment good f is found_is = let P : List �
 pub fetched_whole : (o : Option (List ℕ)) (left did : List ℕ) (least : Option ℕ) (moment : ℕ) (good : Bool) (f : Found) (checked : Checked) → IsOpened o true left → IsWhole did least left checked → f ≡ found_by moment good (Ok checked) → IsFetchedFrom o did least moment good f
 fetched_whole o left did least moment good f checked opened whole is = opened_as o left did least moment good f opened (record { answer = Ok checked; is = whole; found_is = is })
 
-pub fetched_refused : (o : Option (List ℕ)) (left did : List ℕ) (least : Option ℕ) (moment : ℕ) (good : Bool) (fault : RepoFault) → IsOpened o true left → is_quiet fault ≡ false → IsRefused did least left fault → IsFetchedFrom o did least moment good (unfit (number_of fault))
-fetched_refused o left did least moment good fault opened loud is = opened_as o left did least moment good (unfit (number_of fault)) opened (record { answer = Err fault; is = answer_of did least left fault loud is; found_is = refl })
+pub fetched_refused : (o : Option (List ℕ)) (left did : List ℕ) (least : Option ℕ) (moment : ℕ) (good : Bool) (fault : RepoFault) → IsOpened o true left → is_quiet fault ≡ false → IsRefused did least left fault → IsFetchedFrom o did least moment good (unfit (fault_number fault))
+fetched_refused o left did least moment good fault opened loud is = opened_as o left did least moment good (unfit (fault_number fault)) opened (record { answer = Err fault; is = answer_of did least left fault loud is; found_is = refl })
 
 -- ---- what is judged
 
@@ -199,7 +199,7 @@ asked_bad_at did digest sig old new good is call = let Q : Bool → Type 0 = λ 
 
 -- ---- as the code has it
 
-refused_is : (fault : RepoFault) (n : ℕ) → Some n ≡ refused_as fault → (is_quiet fault ≡ false) × (n ≡ number_of fault)
+refused_is : (fault : RepoFault) (n : ℕ) → Some n ≡ refused_as fault → (is_quiet fault ≡ false) × (n ≡ fault_number fault)
 refused_is RepoFault.Memory n h = absurd cc
 refused_is RepoFault.Failed n h = absurd cc
 refused_is RepoFault.BadCar n h = (refl, cc)
@@ -230,4 +230,4 @@ fetched_by o left did least moment fault n opened found_it is_open h is =
     let both = refused_is fault n h in
     let P : ℕ → Type 0 = λ k. IsFetchedFrom o did least moment (is_good (unfit k)) (unfit k) in
     let Q : Bool → Type 0 = λ b. IsOpened o b left in
-    subst P (sym both.1) (fetched_refused o left did least moment (is_good (unfit (number_of fault))) fault (subst Q found_it is_open) both.0 is)
+    subst P (sym both.1) (fetched_refused o left did least moment (is_good (unfit (fault_number fault))) fault (subst Q found_it is_open) both.0 is)

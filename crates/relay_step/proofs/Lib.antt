@@ -10,5 +10,5 @@ pub mod Fetched
 pub mod Losses
 pub mod Steps
 pub mod Others
-pub mod Words
+pub mod Commands
 pub mod Sending

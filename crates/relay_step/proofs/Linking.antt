@@ -10,7 +10,7 @@ use Rattle.mst_list.specs.declared.op.Op.{Op}
 use Rattle.account_state.specs.declared.repo.Repo.{Repo}
 use Rattle.commit_check.specs.Linking.{IsUnlinked}
 use Rattle.commit_check.specs.Opening.{IsOpened}
-use Rattle.commit_check.specs.Order.{Holds, StopsPast}
+use Rattle.commit_check.specs.Order.{HoldsCommit, StopsPast}
 use Rattle.commit_check.specs.Refusing.{RefusesWith}
 use Rattle.commit_check.specs.Step.{Leads, StopsAt, edits_of, is_gap, root_before}
 use Rattle.commit_check.specs.declared.expect.Expect.{Expect}
@@ -39,21 +39,21 @@ body_commit : (e : Seen) (c d : CommitEvent) → e.body ≡ Body.Commit c → e.
 body_commit e c d one other = let same : Body.Commit d ≡ Body.Commit c = sym other ∙ one in cc
 
 module _ (e : Seen) (c : CommitEvent) (o : Opened) (repo : Repo) (event : IsEvent e) (body : e.body ≡ Body.Commit c) (is : IsOpened c o) where
-  held : Holds c
+  held : HoldsCommit c
   held = record { roots = o.car.roots; blocks = o.car.blocks; commit = is.commit; car = is.car; object = is.object }
 
   abbrev stops_so : Refusal → Type 0
   stops_so r = StopsPast (is_gap c (expect_of repo)) c o.car.blocks (root_before (expect_of repo)) o.head.data_root r
 
   -- what stops the commit, by whatever is held of it
-  stops_here : (h : Holds c) (r : Refusal) → StopsPast (is_gap c (expect_of repo)) c h.blocks (root_before (expect_of repo)) h.commit.data_root r → stops_so r
+  stops_here : (h : HoldsCommit c) (r : Refusal) → StopsPast (is_gap c (expect_of repo)) c h.blocks (root_before (expect_of repo)) h.commit.data_root r → stops_so r
   unfolding held
   stops_here h r stops =
       let P : BlockMap → Type 0 = λ b. StopsPast (is_gap c (expect_of repo)) c b (root_before (expect_of repo)) h.commit.data_root r in
       let Q : List ℕ → Type 0 = λ d. StopsPast (is_gap c (expect_of repo)) c o.car.blocks (root_before (expect_of repo)) d r in
       subst Q (same_data c h held ∙ sym is.head.data_root) (subst P (same_blocks c h held) stops)
 
-  stops_there : (h : Holds c) (r : Refusal) → stops_so r → StopsPast (is_gap c (expect_of repo)) c h.blocks (root_before (expect_of repo)) h.commit.data_root r
+  stops_there : (h : HoldsCommit c) (r : Refusal) → stops_so r → StopsPast (is_gap c (expect_of repo)) c h.blocks (root_before (expect_of repo)) h.commit.data_root r
   unfolding held
   stops_there h r stops =
       let P : BlockMap → Type 0 = λ b. StopsPast (is_gap c (expect_of repo)) c b (root_before (expect_of repo)) h.commit.data_root r in
@@ -96,10 +96,10 @@ module _ (e : Seen) (c : CommitEvent) (o : Opened) (repo : Repo) (event : IsEven
       same_unlinked : (q : Refusal) → ◌≡◌ {A = Result (Unit {0}) Refusal} (Err r) (Err q) → is_unlinked q ≡ true
       same_unlinked q same = ap is_unlinked (sym (same_refusal q same)) ∙ past_unlinked (is_gap c (expect_of repo)) c o.car.blocks (root_before (expect_of repo)) o.head.data_root r refused
 
-      stopped : (d : CommitEvent) (h : Holds d) (q : Refusal) → e.body ≡ Body.Commit d → ◌≡◌ {A = Result (Unit {0}) Refusal} (Err r) (Err q)
+      stopped : (d : CommitEvent) (h : HoldsCommit d) (q : Refusal) → e.body ≡ Body.Commit d → ◌≡◌ {A = Result (Unit {0}) Refusal} (Err r) (Err q)
           → StopsPast (is_gap d (expect_of repo)) d h.blocks (root_before (expect_of repo)) h.commit.data_root q
       stopped d h q other same =
-          let F : CommitEvent → Type 0 = λ k. (g : Holds k) → StopsPast (is_gap k (expect_of repo)) k g.blocks (root_before (expect_of repo)) g.commit.data_root q in
+          let F : CommitEvent → Type 0 = λ k. (g : HoldsCommit k) → StopsPast (is_gap k (expect_of repo)) k g.blocks (root_before (expect_of repo)) g.commit.data_root q in
           let S : Refusal → Type 0 = λ s. stops_so s in
           subst F (body_commit e d c other body) (λ g. stops_there g q (subst S (same_refusal q same) refused)) h
 

@@ -15,14 +15,14 @@ use Rattle.at_syntax.specs.Did.{is_did}
 use Rattle.relay_row.specs.Folds.{seq_in}
 use Rattle.relay_row.specs.Rules.{loses}
 use Rattle.relay_row.specs.declared.fetched.Fetched.{Fetched}
-use Rattle.relay_row.specs.declared.limits.TheConstants.{NUMBERS}
+use Rattle.at_cid.specs.declared.limits.TheConstants.{NUMBERS}
 use Rattle.relay_row.specs.declared.row.Row.{Row}
 use Rattle.account_state.specs.State.{State}
-use Rattle.relay_core.specs.Decide.{Found, absent, unfit, found, made}
+use Rattle.relay_core.specs.Decide.{Found, absent, unfit, found, fetched_as}
 use Rattle.relay_core.specs.Entries.{account_in, cursor_in}
 use Rattle.relay_core.specs.Rows.{event_taken}
 use Rattle.relay_core.specs.Sending.{CanBeSent, IsSendable}
-use Rattle.relay_core.specs.Table.{Line, told, moment_line, Walk, refuses, walk, body_lines, event_lines, next_at, next_of, after_fetch}
+use Rattle.relay_core.specs.Table.{TableLine, told, moment_line, Walk, refuses, walk, body_lines, event_lines, next_at, next_of, after_fetch}
 use Rattle.relay_core.specs.declared.answers.Answers.{Answers}
 use Rattle.relay_core.specs.declared.answers.Question.{Question}
 use Rattle.relay_core.specs.declared.decision.Decision.{Decision}
@@ -31,7 +31,7 @@ use Rattle.relay_core.specs.declared.decision.Pass.{Pass}
 use Rattle.relay_core.specs.declared.journal_state.Core.{Core}
 use Rattle.relay_law.specs.Formed.{AreAnswersTo, IsFetchedBehind}
 use Rattle.relay_step.specs.Fetches.{IsSent, MayBeKept, made_of}
-use Rattle.relay_step.specs.Questions.{AreAsked, IsJudgedLate, IsRenewedFirst, IsTidy, PassedBefore, calls_told, length_line}
+use Rattle.relay_step.specs.Questions.{AreAsked, IsJudgedLate, IsRenewedFirst, IsTidy, SkippedBefore, calls_told, length_line}
 use Rattle.account_state.specs.Folds.{last_rev}
 use Rattle.account_state.specs.declared.repo.Repo.{Repo}
 use Rattle.relay_core.specs.Decide.{old_if}
@@ -41,13 +41,13 @@ use Rattle.relay_core.specs.Table.{no_answers}
 use Rattle.relay_step.specs.Around.{Around, SameRepositories, around}
 use Rattle.relay_step.specs.Fetches.{is_good}
 use Rattle.relay_step.specs.Fetching.{IsFetchedFrom}
-use Rattle.relay_step.specs.Messages.{EndsNumbers, pass_of, passed_as}
+use Rattle.relay_step.specs.Messages.{EndsNumbers, pass_of, skipped_as}
 use Rattle.relay_step.specs.Operators.{AnsweredFetch}
 use Rattle.relay_step.specs.Questions.{IsLinkAnswer, IsTimedSo}
-use Rattle.relay_step.specs.Taking.{EventTold, IsFetchOf, IsFetchedSo, LostTook}
+use Rattle.relay_step.specs.Taking.{EventDecided, IsFetchOf, IsFetchedSo, LostRecorded}
 use Rattle.relay_step.specs.declared.fault.StepFault.{StepFault}
-use Rattle.relay_step.specs.declared.told.Passed.{Passed}
-use Rattle.relay_step.specs.declared.told.Told.{Told as Outcome}
+use Rattle.relay_step.specs.declared.decided.Skipped.{Skipped}
+use Rattle.relay_step.specs.declared.decided.Decided.{Decided as Outcome}
 use Rattle.relay_step.proofs.Calls.{moment_there}
 use Rattle.relay_step.proofs.Decisions.{passes_over}
 use Rattle.relay_step.proofs.Taken.{gives_of, lost_gives, sent_gives}
@@ -80,7 +80,7 @@ lines_fetched a Body.Identity x o = refl
 lines_fetched a (Body.Account b) x o = refl
 
 event_fetched : (a : State) (e : Seen) (x : Answers) (o : Option Fetched) → event_lines a e (record x { fetched = o }) ≡ event_lines a e x
-event_fetched a e x o = ap (λ (lines : List Line). moment_line x ∷ told (length_line e) ∷ lines) (lines_fetched a e.body x o)
+event_fetched a e x o = ap (λ (lines : List TableLine). moment_line x ∷ told (length_line e) ∷ lines) (lines_fetched a e.body x o)
 
 -- where a fetch is asked for: the refusal that loses the account, the moment that was taken, and what is decided behind the fetch
 pub record AsksFetch (cursor : ℕ) (a : State) (e : Seen) (x : Answers) : Type 0 where
@@ -111,12 +111,12 @@ asks_fetch cursor a e x asks =
 
 -- ---- with the fetch
 
-passed_fetched : (a : State) (e : Seen) (rev : ℕ) (x : Answers) (o : Option Fetched) → PassedBefore a e rev x → PassedBefore a e rev (record x { fetched = o })
-passed_fetched a e rev x o p = record { short = p.short; home = p.home; active = p.active; up = p.up; head = p.head; opened = p.opened; near = p.near }
+skipped_fetched : (a : State) (e : Seen) (rev : ℕ) (x : Answers) (o : Option Fetched) → SkippedBefore a e rev x → SkippedBefore a e rev (record x { fetched = o })
+skipped_fetched a e rev x o p = record { short = p.short; home = p.home; active = p.active; up = p.up; head = p.head; opened = p.opened; near = p.near }
 
 late_fetched : (a : State) (e : Seen) (body : Body) (x : Answers) (o : Option Fetched) → IsJudgedLate a e body x → IsJudgedLate a e body (record x { fetched = o })
-late_fetched a e (Body.Commit c) x o late = ⊎_elim (λ v. inl v) (λ p. inr (passed_fetched a e c.rev x o p)) late
-late_fetched a e (Body.Sync s) x o late = ⊎_elim (λ v. inl v) (λ p. inr (passed_fetched a e s.rev x o p)) late
+late_fetched a e (Body.Commit c) x o late = ⊎_elim (λ v. inl v) (λ p. inr (skipped_fetched a e c.rev x o p)) late
+late_fetched a e (Body.Sync s) x o late = ⊎_elim (λ v. inl v) (λ p. inr (skipped_fetched a e s.rev x o p)) late
 late_fetched a e Body.Identity x o late = late
 late_fetched a e (Body.Account b) x o late = late
 
@@ -147,7 +147,7 @@ right_fetched last a e x f right behind = record {
 
 -- ---- what may be sent
 
-pub made_same : (last : ℕ) (e : Seen) (f : Found) → made_of last e.did e.time f ≡ made last e f
+pub made_same : (last : ℕ) (e : Seen) (f : Found) → made_of last e.did e.time f ≡ fetched_as last e f
 made_same last e absent = refl
 made_same last e (unfit n) = refl
 made_same last e (found head records block) = refl
@@ -209,29 +209,29 @@ module _ (repos_tell : Bool) (c : Core) (host : List ℕ) (e : Seen) (x : Answer
     told = told_is;
   }
 
-  pub lost_took : (r : Result Outcome StepFault) → IfOk r (λ t. t ≡ Outcome.Took (event_taken c.last host e d (record x { fetched = Some f }))) → OnOk r (goes_out d.refusal d.held ≡ true → c.last + 1 < NUMBERS)
-      → IfOk r (λ t. LostTook repos_tell c host e x t old repository new)
-  lost_took (Ok t) took number = record {
+  pub lost_recorded : (r : Result Outcome StepFault) → IfOk r (λ t. t ≡ Outcome.Recorded (event_taken c.last host e d (record x { fetched = Some f }))) → OnOk r (goes_out d.refusal d.held ≡ true → c.last + 1 < NUMBERS)
+      → IfOk r (λ t. LostRecorded repos_tell c host e x t old repository new)
+  lost_recorded (Ok t) recorded number = record {
     f = f;
     d = d;
     fetch = asked.calls;
     done = done;
-    taken = took;
+    taken = recorded;
     number = number;
     fetched = lost_fetch;
     behind = let P : Fetched → Type 0 = λ g. IsFetchedBehind c.last g in subst P (sym made_is) (made_behind c.last e.did e.time w may sent);
     calls = asked.made;
   }
-  lost_took (Err fault) took number = tt
+  lost_recorded (Err fault) recorded number = tt
 
 -- the same as the code has it
 pub lost_by : (repos_tell : Bool) (c : Core) (host : List ℕ) (e : Seen) (x : Answers) (f : Fetched) (d : Decision) (w : Found) (old : Panel) (repository : List ℕ → Option (List ℕ)) (new : Panel)
     (did time : List ℕ) (last : Option ℕ) (repo : Repo) (moment : ℕ) → next_of (cursor_in c host) (account_in c e.did) (Frame.Event e) x ≡ Next.Ask Question.Fetch → did ≡ e.did → time ≡ e.time → x.moment ≡ Some moment → last ≡ last_rev repo → repo ≡ (account_in c did).repo
     → f ≡ made_of c.last did time w → is_did e.did ≡ true → length e.time ≤ 64 → MayBeKept w → IsSent c.last did time w → AnsweredFetch old did w new → (IsTrue repos_tell → IsFetchedFrom (repository did) did last moment (is_good w) w)
     → next_of (cursor_in c host) (account_in c e.did) (Frame.Event e) (record x { fetched = Some f }) ≡ Next.Done d
-    → (r : Result Outcome StepFault) → IfOk r (λ t. t ≡ Outcome.Took (event_taken c.last host e d (record x { fetched = Some f }))) → OnOk r (goes_out d.refusal d.held ≡ true → c.last + 1 < NUMBERS)
-    → IfOk r (λ t. LostTook repos_tell c host e x t old repository new)
-lost_by repos_tell c host e x f d w old repository new did time last repo moment asks did_is time_is moment_is last_is repo_is made_is named short may sent asked told_is done r took number =
+    → (r : Result Outcome StepFault) → IfOk r (λ t. t ≡ Outcome.Recorded (event_taken c.last host e d (record x { fetched = Some f }))) → OnOk r (goes_out d.refusal d.held ≡ true → c.last + 1 < NUMBERS)
+    → IfOk r (λ t. LostRecorded repos_tell c host e x t old repository new)
+lost_by repos_tell c host e x f d w old repository new did time last repo moment asks did_is time_is moment_is last_is repo_is made_is named short may sent asked told_is done r recorded number =
     let A : List ℕ → Type 0 = λ n. f ≡ made_of c.last n time w in
     let B : List ℕ → Type 0 = λ n. f ≡ made_of c.last e.did n w in
     let S : List ℕ → Type 0 = λ n. IsSent c.last n time w in
@@ -241,34 +241,34 @@ lost_by repos_tell c host e x f d w old repository new did time last repo moment
     let G : Option ℕ → Type 0 = λ l. IsTrue repos_tell → IsFetchedFrom (repository e.did) e.did l moment (is_good w) w in
     let H : ℕ → Type 0 = λ m. IsTrue repos_tell → IsFetchedFrom (repository e.did) e.did (last_rev (account_in c e.did).repo) m (is_good w) w in
     let zero_is : moment ≡ or_zero x.moment = sym (ap or_zero moment_is) in
-    lost_took repos_tell c host e x f d w old repository new asks (subst B time_is (subst A did_is made_is)) named short may (subst T time_is (subst S did_is sent)) (subst P did_is asked)
-    (subst H zero_is (subst G (beside_last c e.did did last repo last_is repo_is did_is) (subst F did_is told_is))) done r took number
+    lost_recorded repos_tell c host e x f d w old repository new asks (subst B time_is (subst A did_is made_is)) named short may (subst T time_is (subst S did_is sent)) (subst P did_is asked)
+    (subst H zero_is (subst G (beside_last c e.did did last repo last_is repo_is did_is) (subst F did_is told_is))) done r recorded number
 
 -- ---- from the questions to the row
 
 pub lost_told : (clock_tells repos_tell : Bool) (c : Core) (host : List ℕ) (e : Seen) (x : Answers) (old : Around) (mid : Panel) (left : List ℕ) (repository : List ℕ → Option (List ℕ)) (new : Panel) (r : Result Outcome StepFault)
     → AreAsked clock_tells c.last (cursor_in c host) (account_in c e.did) host e x old.panel old.moments mid left → next_of (cursor_in c host) (account_in c e.did) (Frame.Event e) x ≡ Next.Ask Question.Fetch
-    → (IsTrue repos_tell → SameRepositories old.repository repository) → IfOk r (λ t. LostTook repos_tell c host e x t mid old.repository new)
-    → IfOk r (λ t. EventTold clock_tells repos_tell c host e t old (around new left repository))
-lost_told clock_tells repos_tell c host e x old mid left repository new (Ok t) so_far asks same took =
+    → (IsTrue repos_tell → SameRepositories old.repository repository) → IfOk r (λ t. LostRecorded repos_tell c host e x t mid old.repository new)
+    → IfOk r (λ t. EventDecided clock_tells repos_tell c host e t old (around new left repository))
+lost_told clock_tells repos_tell c host e x old mid left repository new (Ok t) so_far asks same recorded =
     let there = asks_fetch (cursor_in c host) (account_in c e.did) e x asks in
-    let P : Outcome → Type 0 = λ o. EventTold clock_tells repos_tell c host e o old (around new left repository) in
-    subst P (sym took.taken) (record {
-      x = record x { fetched = Some took.f };
-      d = took.d;
-      fetch = took.fetch;
-      done = took.done;
+    let P : Outcome → Type 0 = λ o. EventDecided clock_tells repos_tell c host e o old (around new left repository) in
+    subst P (sym recorded.taken) (record {
+      x = record x { fetched = Some recorded.f };
+      d = recorded.d;
+      fetch = recorded.fetch;
+      done = recorded.done;
       taken = refl;
-      number = took.number;
-      fetched = took.fetched;
-      calls = join old.panel mid new (calls_told host e x) took.fetch so_far.calls took.calls;
-      tidy = tidy_fetched (account_in c e.did) e x (Some took.f) there.moment there.taken so_far.tidy;
-      right = right_fetched c.last (account_in c e.did) e x took.f so_far.right took.behind;
+      number = recorded.number;
+      fetched = recorded.fetched;
+      calls = join old.panel mid new (calls_told host e x) recorded.fetch so_far.calls recorded.calls;
+      tidy = tidy_fetched (account_in c e.did) e x (Some recorded.f) there.moment there.taken so_far.tidy;
+      right = right_fetched c.last (account_in c e.did) e x recorded.f so_far.right recorded.behind;
       linked = so_far.linked;
       timed = so_far.timed;
       same = same;
     })
-lost_told clock_tells repos_tell c host e x old mid left repository new (Err fault) so_far asks same took = tt
+lost_told clock_tells repos_tell c host e x old mid left repository new (Err fault) so_far asks same recorded = tt
 
 append_none : (xs : List Call) → xs ++ [] ≡ xs
 append_none [] = refl
@@ -277,13 +277,13 @@ append_none (x ∷ xs) = ap (λ (l : List Call). x ∷ l) (append_none xs)
 -- an event that was decided with no fetch
 pub done_told : (clock_tells repos_tell : Bool) (c : Core) (host : List ℕ) (e : Seen) (x : Answers) (d : Decision) (old : Around) (new : Panel) (left : List ℕ) (r : Result Outcome StepFault)
     → AreAsked clock_tells c.last (cursor_in c host) (account_in c e.did) host e x old.panel old.moments new left → next_of (cursor_in c host) (account_in c e.did) (Frame.Event e) x ≡ Next.Done d
-    → IfOk r (λ t. t ≡ Outcome.Took (event_taken c.last host e d x)) → OnOk r (goes_out d.refusal d.held ≡ true → c.last + 1 < NUMBERS)
-    → IfOk r (λ t. EventTold clock_tells repos_tell c host e t old (around new left old.repository))
-done_told clock_tells repos_tell c host e x d old new left (Ok t) so_far done took number =
-    let P : Outcome → Type 0 = λ o. EventTold clock_tells repos_tell c host e o old (around new left old.repository) in
+    → IfOk r (λ t. t ≡ Outcome.Recorded (event_taken c.last host e d x)) → OnOk r (goes_out d.refusal d.held ≡ true → c.last + 1 < NUMBERS)
+    → IfOk r (λ t. EventDecided clock_tells repos_tell c host e t old (around new left old.repository))
+done_told clock_tells repos_tell c host e x d old new left (Ok t) so_far done recorded number =
+    let P : Outcome → Type 0 = λ o. EventDecided clock_tells repos_tell c host e o old (around new left old.repository) in
     let Q : List Call → Type 0 = λ l. AreCalls old.panel l new in
     let F : Option Fetched → Type 0 = λ o. IsFetchedSo repos_tell c.last (account_in c e.did) e old.repository (or_zero x.moment) d.refusal o [] in
-    subst P (sym took) (record {
+    subst P (sym recorded) (record {
       x = x;
       d = d;
       fetch = [];
@@ -298,7 +298,7 @@ done_told clock_tells repos_tell c host e x d old new left (Ok t) so_far done to
       timed = so_far.timed;
       same = λ tells did. refl;
     })
-done_told clock_tells repos_tell c host e x d old new left (Err fault) so_far done took number = tt
+done_told clock_tells repos_tell c host e x d old new left (Err fault) so_far done recorded number = tt
 
 early_none : (a : State) (host : List ℕ) (e : Seen) (x : Answers) → x ≡ no_answers → calls_told host e x ≡ []
 early_none a host e x is = ap (λ (y : Answers). calls_told host e y) is
@@ -307,17 +307,17 @@ no_moment : (o : Option ℕ) → ((m : ℕ) → o ≡ Some m → ⊥) → o ≡ 
 no_moment None h = refl
 no_moment (Some m) h = absurd (h m refl)
 
--- an event that is passed over: nothing was asked
-pub pass_told : (clock_tells repos_tell : Bool) (c : Core) (host : List ℕ) (e : Seen) (x : Answers) (pass : Pass) (why : Passed) → why ≡ passed_as (Ok (Frame.Event e)) → (old : Around) (new : Panel) (left : List ℕ)
+-- an event that is skipped: nothing was asked
+pub pass_told : (clock_tells repos_tell : Bool) (c : Core) (host : List ℕ) (e : Seen) (x : Answers) (pass : Pass) (why : Skipped) → why ≡ skipped_as (Ok (Frame.Event e)) → (old : Around) (new : Panel) (left : List ℕ)
     → AreAsked clock_tells c.last (cursor_in c host) (account_in c e.did) host e x old.panel old.moments new left → next_of (cursor_in c host) (account_in c e.did) (Frame.Event e) x ≡ Next.Pass pass
-    → EventTold clock_tells repos_tell c host e (Outcome.Passed why) old (around new left old.repository)
-pass_told clock_tells repos_tell c host e x pass why why_is old new left so_far passed_is =
-    let over = passes_over (cursor_in c host) (account_in c e.did) e x pass passed_is in
+    → EventDecided clock_tells repos_tell c host e (Outcome.Skipped why) old (around new left old.repository)
+pass_told clock_tells repos_tell c host e x pass why why_is old new left so_far skipped_is =
+    let over = passes_over (cursor_in c host) (account_in c e.did) e x pass skipped_is in
     let none = so_far.tidy.early (no_moment x.moment (λ m same. false≢true (sym (so_far.above m same) ∙ over.0))) in
     let P : List Call → Type 0 = λ l. AreCalls old.panel l new in
     let M : Option ℕ → Type 0 = λ m. IsTrue clock_tells → IsTimedSo old.moments m left in (
       why_is,
-      ap old_if over.0 ∙ ap (λ (w : Passed). Some (pass_of w)) (sym why_is),
+      ap old_if over.0 ∙ ap (λ (w : Skipped). Some (pass_of w)) (sym why_is),
       record {
         panel = subst P (early_none (account_in c e.did) host e x none) so_far.calls;
         moments = subst M (ap (λ (y : Answers). y.moment) none) so_far.timed;
@@ -335,7 +335,7 @@ done_ends c host e x d done right linked unfetched ends out = (ends, λ checks J
 some_head : Head
 some_head = record { rev = 0; data_root = []; commit = [] }
 
-lost_seq : (last : ℕ) (host : List ℕ) (e : Seen) (x : Answers) (d : Decision) (lost : Refusal) → d.refusal ≡ Some lost → loses (code_of lost) ≡ true → seq_in (Row.Taken (event_taken last host e d (record x { fetched = Some (made last e (found some_head 0 [])) }))) ≡ last + 1
+lost_seq : (last : ℕ) (host : List ℕ) (e : Seen) (x : Answers) (d : Decision) (lost : Refusal) → d.refusal ≡ Some lost → loses (code_of lost) ≡ true → seq_in (Row.Taken (event_taken last host e d (record x { fetched = Some (fetched_as last e (found some_head 0 [])) }))) ≡ last + 1
 unfolding some_head
 lost_seq last host e x d lost is due = rw (is, due) refl
 
@@ -343,7 +343,7 @@ pub lost_ends : (c : Core) (host : List ℕ) (e : Seen) (x : Answers) → next_o
     → ((answer : Result (Unit {0}) Refusal) → x.linked ≡ Some answer → IsLinkAnswer (account_in c e.did).repo e answer) → NUMBERS ≤ c.last + 1 → EndsNumbers c host (Ok (Frame.Event e))
 lost_ends c host e x asks right linked ends =
     let there = asks_fetch (cursor_in c host) (account_in c e.did) e x asks in
-    let f = made c.last e (found some_head 0 []) in
+    let f = fetched_as c.last e (found some_head 0 []) in
     let other = there.decides f in (
       ends,
       λ checks J opens links holds.

@@ -14,7 +14,7 @@ use Rattle.at_event.specs.declared.event.Body.{Body}
 use Rattle.at_event.specs.declared.event.CommitEvent.{CommitEvent}
 use Rattle.at_event.specs.declared.event.SyncEvent.{SyncEvent}
 use Rattle.at_event.specs.declared.refusal.Refusal.{Refusal}
-use Rattle.event_checks.specs.Lines.{Line, first_of}
+use Rattle.event_checks.specs.Lines.{RefusalLine, first_of}
 use Rattle.event_checks.specs.Opening.{IsFound, block_in, is_commit_of, is_rooted, object_in, object_in_block, root_in}
 use Rattle.event_checks.specs.Table.{block_lines, car_in, field_lines, is_stale, open_lines, sync_lines}
 use Rattle.event_checks.proofs.Firsts.{all_unmet}
@@ -69,7 +69,7 @@ sync_head s last f is =
     }
 
 -- the fields of a commit that was opened show no refusal
-fields_first : (xs ys : List Line) → first_of (xs ++ ys) ≡ None → first_of xs ≡ None
+fields_first : (xs ys : List RefusalLine) → first_of (xs ++ ys) ≡ None → first_of xs ≡ None
 fields_first [] ys h = refl
 fields_first ((r, true) ∷ xs) ys h = absurd cc
 fields_first ((r, false) ∷ xs) ys h = fields_first xs ys h

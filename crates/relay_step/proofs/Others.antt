@@ -9,16 +9,16 @@ use Rattle.at_event.specs.Seen.{Seen}
 use Rattle.at_event.specs.declared.frame.Frame.{Frame}
 use Rattle.at_event.specs.declared.frame.FrameFault.{FrameFault}
 use Rattle.at_event.specs.declared.refusal.Refusal.{Refusal}
-use Rattle.relay_row.specs.Folds.{cursor, events_of, last_seq, seq_in, seq_of}
+use Rattle.relay_row.specs.Folds.{cursor, events_of, last_seq, seq_in, first_seq}
 use Rattle.relay_row.specs.Journal.{IsJournal}
 use Rattle.relay_row.specs.Rules.{names_host}
 use Rattle.relay_row.specs.declared.fetched.Fetched.{Fetched}
-use Rattle.relay_row.specs.declared.limits.TheConstants.{NUMBERS}
+use Rattle.at_cid.specs.declared.limits.TheConstants.{NUMBERS}
 use Rattle.relay_row.specs.declared.row.Row.{Row}
 use Rattle.relay_row.specs.declared.taken.Taken.{Taken}
 use Rattle.account_state.specs.Folds.{account}
 use Rattle.account_state.specs.State.{State}
-use Rattle.relay_core.specs.Decide.{Found, absent, unfit, found, made, old_if, passed}
+use Rattle.relay_core.specs.Decide.{Found, absent, unfit, found, fetched_as, old_if, passed}
 use Rattle.relay_core.specs.Entries.{account_in, cursor_in}
 use Rattle.relay_core.specs.Rows.{event_taken, faulty_taken, fetched_of, goes_out, row_of}
 use Rattle.relay_core.specs.Sending.{IsSendable}
@@ -33,12 +33,12 @@ use Rattle.relay_core.specs.declared.journal_state.Core.{Core}
 use Rattle.relay_law.specs.Formed.{AreAnswersTo}
 use Rattle.relay_law.specs.Laws.{MadeRowsAreFormed}
 use Rattle.relay_step.specs.Around.{Around, AskedNothing, AskedOf, SameRepositories, around}
-use Rattle.relay_step.specs.Messages.{IsAskedOf, IsDecided, IsPassedAs, KeepsJournal, pass_of, passed_as, told_as}
-use Rattle.relay_step.specs.Steps.{passed_over, took, rows_told}
-use Rattle.relay_step.specs.Taking.{EventTold, EventTook, FaultyTook, IsFetchedSo, OtherTold, is_event}
-use Rattle.relay_step.specs.Words.{IsNow}
-use Rattle.relay_step.specs.declared.told.Passed.{Passed}
-use Rattle.relay_step.specs.declared.told.Told.{Told as Outcome}
+use Rattle.relay_step.specs.Messages.{IsAskedOf, IsDecided, IsSkippedAs, KeepsJournal, pass_of, skipped_as, told_as}
+use Rattle.relay_step.specs.Steps.{skipped, recorded, rows_decided}
+use Rattle.relay_step.specs.Taking.{EventDecided, EventRecorded, FaultyRecorded, IsFetchedSo, OtherDecided, is_event}
+use Rattle.relay_step.specs.Commands.{IsNow}
+use Rattle.relay_step.specs.declared.decided.Skipped.{Skipped}
+use Rattle.relay_step.specs.declared.decided.Decided.{Decided as Outcome}
 use Rattle.relay_step.proofs.Taken.{cursor_tells, event_asked, event_decided, fetched_there, sent_gives}
 
 -- ---- no row
@@ -46,13 +46,13 @@ use Rattle.relay_step.proofs.Taken.{cursor_tells, event_asked, event_decided, fe
 passed_at : (frame : Frame) (n m : ℕ) (pass : Pass) → n ≡ m → passed n frame ≡ Some pass → passed m frame ≡ Some pass
 passed_at frame n m pass same h = let P : ℕ → Type 0 = λ k. passed k frame ≡ Some pass in subst P same h
 
-pub passed_decided : (c : Core) (host : List ℕ) (frame : Frame) (pass : Pass) → passed (cursor_in c host) frame ≡ Some pass → IsDecided c host (Ok frame) (passed_over pass)
-passed_decided c host frame pass h checks J opens links holds = (refl, passed_at frame (cursor_in c host) (cursor host J) pass (cursor_tells c J holds host) h)
+pub skipped_decided : (c : Core) (host : List ℕ) (frame : Frame) (pass : Pass) → passed (cursor_in c host) frame ≡ Some pass → IsDecided c host (Ok frame) (skipped pass)
+skipped_decided c host frame pass h checks J opens links holds = (refl, passed_at frame (cursor_in c host) (cursor host J) pass (cursor_tells c J holds host) h)
 
-pub unread_decided : (c : Core) (host : List ℕ) (fault : FrameFault) → IsDecided c host (Err fault) (passed_over Pass.Ended)
+pub unread_decided : (c : Core) (host : List ℕ) (fault : FrameFault) → IsDecided c host (Err fault) (skipped Pass.Ended)
 unread_decided c host fault checks J opens links holds = (refl, refl)
 
-pub nothing_asked : (clock_tells repos_tell : Bool) (c : Core) (old new : Around) (host : List ℕ) (frame : Result Frame FrameFault) (pass : Pass) → AskedNothing clock_tells repos_tell old new → IsAskedOf clock_tells repos_tell c old host frame (passed_over pass) new
+pub nothing_asked : (clock_tells repos_tell : Bool) (c : Core) (old new : Around) (host : List ℕ) (frame : Result Frame FrameFault) (pass : Pass) → AskedNothing clock_tells repos_tell old new → IsAskedOf clock_tells repos_tell c old host frame (skipped pass) new
 nothing_asked clock_tells repos_tell c old new host frame pass is J holds = record {
   answered = record { calls = []; are = refl; made = is.panel };
   timed = is.moments;
@@ -63,15 +63,15 @@ nothing_asked clock_tells repos_tell c old new host frame pass is J holds = reco
 pub keeps_none : (c : Core) → KeepsJournal c []
 keeps_none c J holds journal = let P : List Row → Type 0 = λ K. IsJournal K in subst P (sym (append-nil J)) journal
 
--- a frame that is passed over makes no row for what it is
+-- a frame that is skipped makes no row for what it is
 old_only : (test : Bool) (pass : Pass) → old_if test ≡ Some pass → Pass.Old ≡ pass
 old_only true pass is = cc
 old_only false pass is = let no : ⊥ = cc in absurd no
 
-pub passed_same : (cursor : ℕ) (frame : Frame) (pass : Pass) (why : Passed) → passed cursor frame ≡ Some pass → why ≡ passed_as (Ok frame) → passed cursor frame ≡ Some (pass_of why)
-passed_same cursor frame pass why is why_is = is ∙ ap Some (sym (ap pass_of why_is ∙ same_pass frame is))
+pub skipped_same : (cursor : ℕ) (frame : Frame) (pass : Pass) (why : Skipped) → passed cursor frame ≡ Some pass → why ≡ skipped_as (Ok frame) → passed cursor frame ≡ Some (pass_of why)
+skipped_same cursor frame pass why is why_is = is ∙ ap Some (sym (ap pass_of why_is ∙ same_pass frame is))
   where
-    same_pass : (f : Frame) → passed cursor f ≡ Some pass → pass_of (passed_as (Ok f)) ≡ pass
+    same_pass : (f : Frame) → passed cursor f ≡ Some pass → pass_of (skipped_as (Ok f)) ≡ pass
     same_pass (Frame.Event e) h = old_only (nat_le e.seq cursor) pass h
     same_pass (Frame.Faulty seq) h = old_only (nat_le seq cursor) pass h
     same_pass Frame.Info h = cc
@@ -88,11 +88,11 @@ same_taken : (t u : Taken) → Some (Row.Taken t) ≡ Some (Row.Taken u) → t �
 same_taken t u h = cc
 
 -- what is taken where something is asked of a message that is no event
-pub took_faulty : (clock_tells : Bool) (c : Core) (host : List ℕ) (frame : Frame) (t : Taken) (d : Decision) (q : Question) (moment : ℕ) (x y : Answers) (moments left : List ℕ) → is_event frame ≡ false
+pub recorded_faulty : (clock_tells : Bool) (c : Core) (host : List ℕ) (frame : Frame) (t : Taken) (d : Decision) (q : Question) (moment : ℕ) (x y : Answers) (moments left : List ℕ) → is_event frame ≡ false
     → next_of (cursor_in c host) (account_in c (did_of frame)) frame x ≡ Next.Ask q → y.moment ≡ Some moment → option_map Row.Taken (Some t) ≡ row_of c.last host frame d y → moment < NUMBERS → (IsTrue clock_tells → IsNow moments moment left)
-    → FaultyTook clock_tells c host frame t moments left
-took_faulty clock_tells c host (Frame.Event e) t d q moment x y moments left other asks there row number timed = absurd cc
-took_faulty clock_tells c host (Frame.Faulty seq) t d q moment x y moments left other asks there row number timed = record {
+    → FaultyRecorded clock_tells c host frame t moments left
+recorded_faulty clock_tells c host (Frame.Event e) t d q moment x y moments left other asks there row number timed = absurd cc
+recorded_faulty clock_tells c host (Frame.Faulty seq) t d q moment x y moments left other asks there row number timed = record {
   seq = seq;
   moment = moment;
   is = refl;
@@ -101,17 +101,17 @@ took_faulty clock_tells c host (Frame.Faulty seq) t d q moment x y moments left 
   taken = same_taken t (faulty_taken host seq y.moment) row ∙ ap (faulty_taken host seq) there;
   timed = timed;
 }
-took_faulty clock_tells c host Frame.Info t d q moment x y moments left other asks there row number timed = absurd cc
-took_faulty clock_tells c host Frame.Error t d q moment x y moments left other asks there row number timed = absurd cc
-took_faulty clock_tells c host Frame.Unknown t d q moment x y moments left other asks there row number timed = absurd cc
+recorded_faulty clock_tells c host Frame.Info t d q moment x y moments left other asks there row number timed = absurd cc
+recorded_faulty clock_tells c host Frame.Error t d q moment x y moments left other asks there row number timed = absurd cc
+recorded_faulty clock_tells c host Frame.Unknown t d q moment x y moments left other asks there row number timed = absurd cc
 
 made_faulty : (seq : ℕ) (host : List ℕ) (moment : ℕ) (t : Taken) → t ≡ faulty_taken host seq (Some moment) → Some (faulty_taken host seq (Some (or_zero t.moment))) ≡ Some t
 made_faulty seq host moment t is = let P : Taken → Type 0 = λ u. Some (faulty_taken host seq (Some (or_zero u.moment))) ≡ Some u in subst P (sym is) refl
 
-module _ (clock_tells : Bool) (c : Core) (host : List ℕ) (frame : Frame) (t : Taken) (moments left : List ℕ) (is : FaultyTook clock_tells c host frame t moments left) where
-  pub faulty_decided : IsDecided c host (Ok frame) (took t)
+module _ (clock_tells : Bool) (c : Core) (host : List ℕ) (frame : Frame) (t : Taken) (moments left : List ℕ) (is : FaultyRecorded clock_tells c host frame t moments left) where
+  pub faulty_decided : IsDecided c host (Ok frame) (recorded t)
   faulty_decided =
-      let P : Frame → Type 0 = λ f. IsDecided c host (Ok f) (took t) in
+      let P : Frame → Type 0 = λ f. IsDecided c host (Ok f) (recorded t) in
       subst P (sym is.is) (λ checks J opens links holds. (
         refl,
         let Q : ℕ → Type 0 = λ n. old_if (nat_le is.seq n) ≡ None in subst Q (cursor_tells c J holds host) (ap old_if is.above),
@@ -119,10 +119,10 @@ module _ (clock_tells : Bool) (c : Core) (host : List ℕ) (frame : Frame) (t : 
       ))
 
   pub faulty_asked : (repos_tell : Bool) (panel : Panel) (old new : List ℕ → Option (List ℕ)) → (IsTrue repos_tell → SameRepositories old new)
-      → IsAskedOf clock_tells repos_tell c (around panel moments old) host (Ok frame) (took t) (around panel left new)
+      → IsAskedOf clock_tells repos_tell c (around panel moments old) host (Ok frame) (recorded t) (around panel left new)
   faulty_asked repos_tell panel old new same J holds =
-      let P : Frame → Type 0 = λ f. AskedOf clock_tells repos_tell J (around panel moments old) host (Ok f) (took t) (around panel left new) in
-      let Q : Taken → Type 0 = λ u. AskedOf clock_tells repos_tell J (around panel moments old) host (Ok (Frame.Faulty is.seq)) (took u) (around panel left new) in
+      let P : Frame → Type 0 = λ f. AskedOf clock_tells repos_tell J (around panel moments old) host (Ok f) (recorded t) (around panel left new) in
+      let Q : Taken → Type 0 = λ u. AskedOf clock_tells repos_tell J (around panel moments old) host (Ok (Frame.Faulty is.seq)) (recorded u) (around panel left new) in
       subst P (sym is.is) (subst Q (sym is.taken) (record {
         answered = record { calls = []; are = refl; made = refl };
         timed = λ tells. (ap Some (is.timed tells).next, (is.timed tells).gone);
@@ -146,14 +146,14 @@ module _ (clock_tells : Bool) (c : Core) (host : List ℕ) (frame : Frame) (t : 
 
 -- ---- an event
 
-zero_or : (tells : Bool) (last : ℕ) (a : State) (e : Seen) (repository : List ℕ → Option (List ℕ)) (moment : ℕ) (r : Option Refusal) (o : Option Fetched) (fetch : List Call) → IsFetchedSo tells last a e repository moment r o fetch → seq_of (events_of (fetched_of r o)) < NUMBERS
+zero_or : (tells : Bool) (last : ℕ) (a : State) (e : Seen) (repository : List ℕ → Option (List ℕ)) (moment : ℕ) (r : Option Refusal) (o : Option Fetched) (fetch : List Call) → IsFetchedSo tells last a e repository moment r o fetch → first_seq (events_of (fetched_of r o)) < NUMBERS
 zero_or tells last a e repository moment None None fetch is = lit< tt
 zero_or tells last a e repository moment (Some r) None fetch is = lit< tt
 zero_or tells last a e repository moment r (Some f) fetch is =
-    let P : Fetched → Type 0 = λ g. seq_of (events_of g) < NUMBERS in
+    let P : Fetched → Type 0 = λ g. first_seq (events_of g) < NUMBERS in
     subst P (sym (fetched_there tells last a e repository moment r f fetch is)) (go is.what is.sendable)
   where
-    go : (w : Found) → IsSendable last e w → seq_of (events_of (made last e w)) < NUMBERS
+    go : (w : Found) → IsSendable last e w → first_seq (events_of (fetched_as last e w)) < NUMBERS
     go absent can = lit< tt
     go (unfit n) can = lit< tt
     go (found head records block) can = (can head records block refl).number
@@ -166,7 +166,7 @@ seq_below tells c a host e x d repository moment fetch number so =
       | false ↦ λ out. rw out (zero_or tells c.last a e repository moment d.refusal x.fetched fetch so)
     ] refl
 
-pub event_kept : (clock_tells repos_tell : Bool) (c : Core) (host : List ℕ) (e : Seen) (t : Taken) (old new : Around) → EventTook clock_tells repos_tell c host e t old new → MadeRowsAreFormed → IsEvent e → names_host host ≡ true → KeepsJournal c (Row.Taken t ∷ [])
+pub event_kept : (clock_tells repos_tell : Bool) (c : Core) (host : List ℕ) (e : Seen) (t : Taken) (old new : Around) → EventRecorded clock_tells repos_tell c host e t old new → MadeRowsAreFormed → IsEvent e → names_host host ≡ true → KeepsJournal c (Row.Taken t ∷ [])
 event_kept clock_tells repos_tell c host e t old new is law event named J holds journal =
     let A : ℕ → Type 0 = λ n. AreAnswersTo n (account_in c e.did) e is.x in
     let B : State → Type 0 = λ a. AreAnswersTo (last_seq J) a e is.x in
@@ -181,36 +181,36 @@ event_kept clock_tells repos_tell c host e t old new is law event named J holds 
 
 -- ---- what came of an event, or of another message
 
-pub told_event : (clock_tells repos_tell : Bool) (c : Core) (host : List ℕ) (e : Seen) (told : Outcome) (old new : Around) → EventTold clock_tells repos_tell c host e told old new → IsDecided c host (Ok (Frame.Event e)) (told_as told)
-told_event clock_tells repos_tell c host e (Outcome.Passed why) old new is = passed_decided c host (Frame.Event e) (pass_of why) is.1
-told_event clock_tells repos_tell c host e (Outcome.Took t) old new is = event_decided clock_tells repos_tell c host e t old new is
+pub decided_as_event : (clock_tells repos_tell : Bool) (c : Core) (host : List ℕ) (e : Seen) (told : Outcome) (old new : Around) → EventDecided clock_tells repos_tell c host e told old new → IsDecided c host (Ok (Frame.Event e)) (told_as told)
+decided_as_event clock_tells repos_tell c host e (Outcome.Skipped why) old new is = skipped_decided c host (Frame.Event e) (pass_of why) is.1
+decided_as_event clock_tells repos_tell c host e (Outcome.Recorded t) old new is = event_decided clock_tells repos_tell c host e t old new is
 
-pub passed_event : (clock_tells repos_tell : Bool) (c : Core) (host : List ℕ) (e : Seen) (told : Outcome) (old new : Around) → EventTold clock_tells repos_tell c host e told old new → IsPassedAs (Ok (Frame.Event e)) told
-passed_event clock_tells repos_tell c host e (Outcome.Passed why) old new is = is.0
-passed_event clock_tells repos_tell c host e (Outcome.Took t) old new is = tt
+pub skipped_event : (clock_tells repos_tell : Bool) (c : Core) (host : List ℕ) (e : Seen) (told : Outcome) (old new : Around) → EventDecided clock_tells repos_tell c host e told old new → IsSkippedAs (Ok (Frame.Event e)) told
+skipped_event clock_tells repos_tell c host e (Outcome.Skipped why) old new is = is.0
+skipped_event clock_tells repos_tell c host e (Outcome.Recorded t) old new is = tt
 
-pub asked_event : (clock_tells repos_tell : Bool) (c : Core) (host : List ℕ) (e : Seen) (told : Outcome) (old new : Around) → EventTold clock_tells repos_tell c host e told old new → IsAskedOf clock_tells repos_tell c old host (Ok (Frame.Event e)) (told_as told) new
-asked_event clock_tells repos_tell c host e (Outcome.Passed why) old new is = nothing_asked clock_tells repos_tell c old new host (Ok (Frame.Event e)) (pass_of why) is.2
-asked_event clock_tells repos_tell c host e (Outcome.Took t) old new is = event_asked clock_tells repos_tell c host e t old new is
+pub asked_event : (clock_tells repos_tell : Bool) (c : Core) (host : List ℕ) (e : Seen) (told : Outcome) (old new : Around) → EventDecided clock_tells repos_tell c host e told old new → IsAskedOf clock_tells repos_tell c old host (Ok (Frame.Event e)) (told_as told) new
+asked_event clock_tells repos_tell c host e (Outcome.Skipped why) old new is = nothing_asked clock_tells repos_tell c old new host (Ok (Frame.Event e)) (pass_of why) is.2
+asked_event clock_tells repos_tell c host e (Outcome.Recorded t) old new is = event_asked clock_tells repos_tell c host e t old new is
 
-pub kept_event : (clock_tells repos_tell : Bool) (c : Core) (host : List ℕ) (e : Seen) (told : Outcome) (old new : Around) → EventTold clock_tells repos_tell c host e told old new → MadeRowsAreFormed → IsEvent e → names_host host ≡ true → KeepsJournal c (rows_told (told_as told))
-kept_event clock_tells repos_tell c host e (Outcome.Passed why) old new is law event named = keeps_none c
-kept_event clock_tells repos_tell c host e (Outcome.Took t) old new is law event named = event_kept clock_tells repos_tell c host e t old new is law event named
+pub kept_event : (clock_tells repos_tell : Bool) (c : Core) (host : List ℕ) (e : Seen) (told : Outcome) (old new : Around) → EventDecided clock_tells repos_tell c host e told old new → MadeRowsAreFormed → IsEvent e → names_host host ≡ true → KeepsJournal c (rows_decided (told_as told))
+kept_event clock_tells repos_tell c host e (Outcome.Skipped why) old new is law event named = keeps_none c
+kept_event clock_tells repos_tell c host e (Outcome.Recorded t) old new is law event named = event_kept clock_tells repos_tell c host e t old new is law event named
 
-pub told_other : (clock_tells : Bool) (c : Core) (host : List ℕ) (frame : Frame) (told : Outcome) (moments left : List ℕ) → OtherTold clock_tells c host frame told moments left → IsDecided c host (Ok frame) (told_as told)
-told_other clock_tells c host frame (Outcome.Passed why) moments left is = passed_decided c host frame (pass_of why) is.1
-told_other clock_tells c host frame (Outcome.Took t) moments left is = faulty_decided clock_tells c host frame t moments left is
+pub decided_as_other : (clock_tells : Bool) (c : Core) (host : List ℕ) (frame : Frame) (told : Outcome) (moments left : List ℕ) → OtherDecided clock_tells c host frame told moments left → IsDecided c host (Ok frame) (told_as told)
+decided_as_other clock_tells c host frame (Outcome.Skipped why) moments left is = skipped_decided c host frame (pass_of why) is.1
+decided_as_other clock_tells c host frame (Outcome.Recorded t) moments left is = faulty_decided clock_tells c host frame t moments left is
 
-pub passed_other : (clock_tells : Bool) (c : Core) (host : List ℕ) (frame : Frame) (told : Outcome) (moments left : List ℕ) → OtherTold clock_tells c host frame told moments left → IsPassedAs (Ok frame) told
-passed_other clock_tells c host frame (Outcome.Passed why) moments left is = is.0
-passed_other clock_tells c host frame (Outcome.Took t) moments left is = tt
+pub skipped_other : (clock_tells : Bool) (c : Core) (host : List ℕ) (frame : Frame) (told : Outcome) (moments left : List ℕ) → OtherDecided clock_tells c host frame told moments left → IsSkippedAs (Ok frame) told
+skipped_other clock_tells c host frame (Outcome.Skipped why) moments left is = is.0
+skipped_other clock_tells c host frame (Outcome.Recorded t) moments left is = tt
 
-pub asked_other : (clock_tells repos_tell : Bool) (c : Core) (host : List ℕ) (frame : Frame) (told : Outcome) (panel : Panel) (moments left : List ℕ) (repository : List ℕ → Option (List ℕ)) → OtherTold clock_tells c host frame told moments left
+pub asked_other : (clock_tells repos_tell : Bool) (c : Core) (host : List ℕ) (frame : Frame) (told : Outcome) (panel : Panel) (moments left : List ℕ) (repository : List ℕ → Option (List ℕ)) → OtherDecided clock_tells c host frame told moments left
     → IsAskedOf clock_tells repos_tell c (around panel moments repository) host (Ok frame) (told_as told) (around panel left repository)
-asked_other clock_tells repos_tell c host frame (Outcome.Passed why) panel moments left repository is =
+asked_other clock_tells repos_tell c host frame (Outcome.Skipped why) panel moments left repository is =
     nothing_asked clock_tells repos_tell c (around panel moments repository) (around panel left repository) host (Ok frame) (pass_of why) (record { panel = refl; moments = is.2; same = λ tells did. refl })
-asked_other clock_tells repos_tell c host frame (Outcome.Took t) panel moments left repository is = faulty_asked clock_tells c host frame t moments left is repos_tell panel repository repository (λ tells did. refl)
+asked_other clock_tells repos_tell c host frame (Outcome.Recorded t) panel moments left repository is = faulty_asked clock_tells c host frame t moments left is repos_tell panel repository repository (λ tells did. refl)
 
-pub kept_other : (clock_tells : Bool) (c : Core) (host : List ℕ) (frame : Frame) (told : Outcome) (moments left : List ℕ) → OtherTold clock_tells c host frame told moments left → MadeRowsAreFormed → IsFormedFrame frame → names_host host ≡ true → KeepsJournal c (rows_told (told_as told))
-kept_other clock_tells c host frame (Outcome.Passed why) moments left is law formed named = keeps_none c
-kept_other clock_tells c host frame (Outcome.Took t) moments left is law formed named = faulty_kept clock_tells c host frame t moments left is law formed named
+pub kept_other : (clock_tells : Bool) (c : Core) (host : List ℕ) (frame : Frame) (told : Outcome) (moments left : List ℕ) → OtherDecided clock_tells c host frame told moments left → MadeRowsAreFormed → IsFormedFrame frame → names_host host ≡ true → KeepsJournal c (rows_decided (told_as told))
+kept_other clock_tells c host frame (Outcome.Skipped why) moments left is law formed named = keeps_none c
+kept_other clock_tells c host frame (Outcome.Recorded t) moments left is law formed named = faulty_kept clock_tells c host frame t moments left is law formed named

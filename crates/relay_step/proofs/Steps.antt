@@ -3,10 +3,10 @@ use Rattle.std.proofs.Common.{◌≡◌, ℕ, Bool, true, false, List, [], ◌�
 use Rattle.relay_row.specs.declared.row.Row.{Row}
 use Rattle.relay_core.specs.Decide.{Checks}
 use Rattle.relay_core.specs.Report.{ended_by}
-use Rattle.relay_core.specs.Runs.{Message, RunFrom, Turn, has_ended, passed_by}
+use Rattle.relay_core.specs.Runs.{Message, RunFrom, Turn, has_ended, skipped_by}
 use Rattle.relay_core.specs.declared.decision.Pass.{Pass}
 use Rattle.relay_step.specs.Laws.{StepsJoin, StepsRun}
-use Rattle.relay_step.specs.Steps.{Told, after_end, passed_over, took, Step, AreSteps, IsTold, ended_by_all, ended_told, message_of, messages, rows, rows_told}
+use Rattle.relay_step.specs.Steps.{Decided, after_end, skipped, recorded, Step, AreSteps, IsDecidedAs, ended_by_all, ended_decided, message_of, messages, rows, rows_decided}
 
 turn_ended : (b : Bool) (o : Option Pass) (ends passes takes : Type 0) → b ≡ true → passes → Turn b o ends passes takes
 turn_ended true o ends passes takes is h = h
@@ -36,27 +36,27 @@ turn_passes checks J ended m ms rs takes false (Some p) pass is told run =
 
 pub steps_run : StepsRun
 steps_run checks J ended [] are = refl
-steps_run checks J ended (s ∷ steps) are = by_told s.told are.0 (steps_run checks (J ++ rows_told s.told) (ended_told s.told s.host ended) steps are.1)
+steps_run checks J ended (s ∷ steps) are = by_told s.decided are.0 (steps_run checks (J ++ rows_decided s.decided) (ended_decided s.decided s.host ended) steps are.1)
   where
-    by_told : (t : Told) → IsTold checks J ended (message_of s) t → RunFrom checks (J ++ rows_told t) (ended_told t s.host ended) (messages steps) (rows steps) → RunFrom checks J ended (message_of s ∷ messages steps) (rows_told t ++ rows steps)
-    by_told after_end told run = turn_ended (has_ended ended s.host) (passed_by J (message_of s)) _ _ _ told (behind_none checks J ended (messages steps) (rows steps) run)
-    by_told (passed_over pass) told run =
-        turn_passes checks J ended (message_of s) (messages steps) (rows steps) _ (has_ended ended s.host) (passed_by J (message_of s)) pass told.0 told.1 (behind_none checks J (ended_by pass s.host ended) (messages steps) (rows steps) run)
-    by_told (took t) told run = turn_takes (has_ended ended s.host) (passed_by J (message_of s)) _ _ _ told.0 told.1 (Row.Taken t, rows steps, refl, told.2, run)
+    by_told : (t : Decided) → IsDecidedAs checks J ended (message_of s) t → RunFrom checks (J ++ rows_decided t) (ended_decided t s.host ended) (messages steps) (rows steps) → RunFrom checks J ended (message_of s ∷ messages steps) (rows_decided t ++ rows steps)
+    by_told after_end told run = turn_ended (has_ended ended s.host) (skipped_by J (message_of s)) _ _ _ told (behind_none checks J ended (messages steps) (rows steps) run)
+    by_told (skipped pass) told run =
+        turn_passes checks J ended (message_of s) (messages steps) (rows steps) _ (has_ended ended s.host) (skipped_by J (message_of s)) pass told.0 told.1 (behind_none checks J (ended_by pass s.host ended) (messages steps) (rows steps) run)
+    by_told (recorded t) told run = turn_takes (has_ended ended s.host) (skipped_by J (message_of s)) _ _ _ told.0 told.1 (Row.Taken t, rows steps, refl, told.2, run)
 
 module _ (checks : Checks) where
   join : (J : List Row) (ended : List (List ℕ)) (front others : List Step) → AreSteps checks J ended front → AreSteps checks (J ++ rows front) (ended_by_all front ended) others → AreSteps checks J ended (front ++ others)
   join J ended [] others are more = let P : List Row → Type 0 = λ K. AreSteps checks K ended others in subst P (append-nil J) more
   join J ended (s ∷ front) others are more =
-      let P : List Row → Type 0 = λ K. AreSteps checks K (ended_by_all front (ended_told s.told s.host ended)) others in
-      (are.0, join (J ++ rows_told s.told) (ended_told s.told s.host ended) front others are.1 (subst P (sym (append_assoc J (rows_told s.told) (rows front))) more))
+      let P : List Row → Type 0 = λ K. AreSteps checks K (ended_by_all front (ended_decided s.decided s.host ended)) others in
+      (are.0, join (J ++ rows_decided s.decided) (ended_decided s.decided s.host ended) front others are.1 (subst P (sym (append_assoc J (rows_decided s.decided) (rows front))) more))
 
   part : (J : List Row) (ended : List (List ℕ)) (front others : List Step) → AreSteps checks J ended (front ++ others) → AreSteps checks J ended front × AreSteps checks (J ++ rows front) (ended_by_all front ended) others
   part J ended [] others are = let P : List Row → Type 0 = λ K. AreSteps checks K ended others in (tt, subst P (sym (append-nil J)) are)
   part J ended (s ∷ front) others are =
-      let P : List Row → Type 0 = λ K. AreSteps checks K (ended_by_all front (ended_told s.told s.host ended)) others in
-      let both = part (J ++ rows_told s.told) (ended_told s.told s.host ended) front others are.1 in
-      ((are.0, both.0), subst P (append_assoc J (rows_told s.told) (rows front)) both.1)
+      let P : List Row → Type 0 = λ K. AreSteps checks K (ended_by_all front (ended_decided s.decided s.host ended)) others in
+      let both = part (J ++ rows_decided s.decided) (ended_decided s.decided s.host ended) front others are.1 in
+      ((are.0, both.0), subst P (append_assoc J (rows_decided s.decided) (rows front)) both.1)
 
 pub steps_join : StepsJoin
 steps_join checks J ended front others = (part checks J ended front others, λ both. join checks J ended front others both.0 both.1)

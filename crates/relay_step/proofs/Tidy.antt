@@ -11,7 +11,7 @@ use Rattle.at_event.specs.declared.event.Body.{Body}
 use Rattle.at_event.specs.declared.frame.Frame.{Frame}
 use Rattle.at_event.specs.declared.head.Head.{Head}
 use Rattle.at_event.specs.declared.refusal.Refusal.{Refusal}
-use Rattle.relay_row.specs.declared.limits.TheConstants.{NUMBERS}
+use Rattle.at_cid.specs.declared.limits.TheConstants.{NUMBERS}
 use Rattle.account_state.specs.Folds.{last_rev}
 use Rattle.account_state.specs.State.{State}
 use Rattle.relay_core.specs.Laws.{is_open}
@@ -22,11 +22,11 @@ use Rattle.relay_core.specs.declared.decision.Next.{Next}
 use Rattle.relay_core.proofs.Asking.{ask_open}
 use Rattle.relay_law.specs.Formed.{IsOpenedAs}
 use Rattle.relay_step.specs.Asked.{signed_by, verdict_call}
-use Rattle.relay_step.specs.Questions.{AreAsked, IsJudgedLate, IsLinkAnswer, IsReadFor, IsReadOf, IsRenewedFirst, IsTimedSo, NoneAsked, PassedBefore, has_blocks, home_told, is_commit, open_count, refresh_told, verdict_told}
+use Rattle.relay_step.specs.Questions.{AreAsked, IsJudgedLate, IsLinkAnswer, IsReadFor, IsReadOf, IsRenewedFirst, IsTimedSo, NoneAsked, SkippedBefore, has_blocks, home_told, is_commit, open_count, refresh_told, verdict_told}
 use Rattle.account_state.specs.declared.repo.Repo.{Repo}
 use Rattle.relay_step.specs.declared.reading.Read.{Read}
-use Rattle.relay_step.specs.Words.{IsNow}
-use Rattle.relay_step.proofs.Walks.{AtBody, IsPassedBefore, asked_above, at_body, blocks_asked, commit_asked, event_waits, home_renewed, identity_asked, passed_before}
+use Rattle.relay_step.specs.Commands.{IsNow}
+use Rattle.relay_step.proofs.Walks.{AtBody, IsSkippedBefore, asked_above, at_body, blocks_asked, commit_asked, event_waits, home_renewed, identity_asked, skipped_before}
 
 not_some : {A : Type 0} (o : Option A) → not (is_some o) ≡ true → o ≡ None
 not_some None h = refl
@@ -59,18 +59,18 @@ late_opened a e (Body.Sync s) x late none = ⊎_elim (λ v. v) (λ p. absurd (so
 late_opened a e Body.Identity x late none = late
 late_opened a e (Body.Account b) x late none = late
 
-passed_again : (a : State) (e : Seen) (rev : ℕ) (x : Answers) (o : Option Bool) (l : Option (Result (Unit {0}) Refusal)) → PassedBefore a e rev x → PassedBefore a e rev (record x { verdict = o; linked = l })
-passed_again a e rev x o l p = record { short = p.short; home = p.home; active = p.active; up = p.up; head = p.head; opened = p.opened; near = p.near }
+skipped_again : (a : State) (e : Seen) (rev : ℕ) (x : Answers) (o : Option Bool) (l : Option (Result (Unit {0}) Refusal)) → SkippedBefore a e rev x → SkippedBefore a e rev (record x { verdict = o; linked = l })
+skipped_again a e rev x o l p = record { short = p.short; home = p.home; active = p.active; up = p.up; head = p.head; opened = p.opened; near = p.near }
 
 late_linked : (a : State) (e : Seen) (body : Body) (x : Answers) (l : Option (Result (Unit {0}) Refusal)) → IsJudgedLate a e body x → IsJudgedLate a e body (record x { linked = l })
-late_linked a e (Body.Commit c) x l late = ⊎_elim (λ v. inl v) (λ p. inr (passed_again a e c.rev x x.verdict l p)) late
-late_linked a e (Body.Sync s) x l late = ⊎_elim (λ v. inl v) (λ p. inr (passed_again a e s.rev x x.verdict l p)) late
+late_linked a e (Body.Commit c) x l late = ⊎_elim (λ v. inl v) (λ p. inr (skipped_again a e c.rev x x.verdict l p)) late
+late_linked a e (Body.Sync s) x l late = ⊎_elim (λ v. inl v) (λ p. inr (skipped_again a e s.rev x x.verdict l p)) late
 late_linked a e Body.Identity x l late = late
 late_linked a e (Body.Account b) x l late = late
 
-late_judged : (a : State) (e : Seen) (body : Body) (x : Answers) (o : Option Bool) → IsPassedBefore a e body x → IsJudgedLate a e body (record x { verdict = o })
-late_judged a e (Body.Commit c) x o p = inr (passed_again a e c.rev x o x.linked p)
-late_judged a e (Body.Sync s) x o p = inr (passed_again a e s.rev x o x.linked p)
+late_judged : (a : State) (e : Seen) (body : Body) (x : Answers) (o : Option Bool) → IsSkippedBefore a e body x → IsJudgedLate a e body (record x { verdict = o })
+late_judged a e (Body.Commit c) x o p = inr (skipped_again a e c.rev x o x.linked p)
+late_judged a e (Body.Sync s) x o p = inr (skipped_again a e s.rev x o x.linked p)
 late_judged a e Body.Identity x o p = absurd p
 late_judged a e (Body.Account b) x o p = absurd p
 
@@ -225,7 +225,7 @@ module _ (clock_tells : Bool) (last : ℕ) (a : State) (host : List ℕ) (e : Se
   verdict_asked new good asks called =
       let at = body_at Question.Verdict (λ k. absurd cc) (λ k. absurd cc) asks in
       let none : x.verdict ≡ None = not_some x.verdict (still_open Question.Verdict asks) in
-      let passed = passed_before a e e.body x Question.Verdict (λ k. absurd cc) (λ k. absurd cc) (λ k. absurd cc) at.short at.waits_at in
+      let passed = skipped_before a e e.body x Question.Verdict (λ k. absurd cc) (λ k. absurd cc) (λ k. absurd cc) at.short at.waits_at in
       let front = refresh_told e.did x.refreshed in
       let home = home_told e.did host x.home in
       let P : Option Bool → Type 0 = λ v. AreCalls old (front ++ (home ++ verdict_told e v)) mid in
@@ -285,7 +285,7 @@ module _ (cursor : ℕ) (a : State) (e : Seen) (x : Answers) where
       let at = at_body a e x Question.Link (λ k. absurd cc) (event_waits cursor a e x Question.Link (λ k. absurd cc) asks) in
       commit_asked a e.body x at.waits_at
 
-  opened_of : (body : Body) → IsPassedBefore a e body x → (head : Head) × (x.opened ≡ Some (Ok head))
+  opened_of : (body : Body) → IsSkippedBefore a e body x → (head : Head) × (x.opened ≡ Some (Ok head))
   opened_of (Body.Commit c) p = (p.head, p.opened)
   opened_of (Body.Sync s) p = (p.head, p.opened)
   opened_of Body.Identity p = absurd p
@@ -294,12 +294,12 @@ module _ (cursor : ℕ) (a : State) (e : Seen) (x : Answers) where
   pub judges_opened : next_of cursor a (Frame.Event e) x ≡ Next.Ask Question.Verdict → (head : Head) × (x.opened ≡ Some (Ok head))
   judges_opened asks =
       let at = at_body a e x Question.Verdict (λ k. absurd cc) (event_waits cursor a e x Question.Verdict (λ k. absurd cc) asks) in
-      opened_of e.body (passed_before a e e.body x Question.Verdict (λ k. absurd cc) (λ k. absurd cc) (λ k. absurd cc) at.short at.waits_at)
+      opened_of e.body (skipped_before a e e.body x Question.Verdict (λ k. absurd cc) (λ k. absurd cc) (λ k. absurd cc) at.short at.waits_at)
 
   pub links_opened : next_of cursor a (Frame.Event e) x ≡ Next.Ask Question.Link → (head : Head) × (x.opened ≡ Some (Ok head))
   links_opened asks =
       let at = at_body a e x Question.Link (λ k. absurd cc) (event_waits cursor a e x Question.Link (λ k. absurd cc) asks) in
-      opened_of e.body (passed_before a e e.body x Question.Link (λ k. absurd cc) (λ k. absurd cc) (λ k. absurd cc) at.short at.waits_at)
+      opened_of e.body (skipped_before a e e.body x Question.Link (λ k. absurd cc) (λ k. absurd cc) (λ k. absurd cc) at.short at.waits_at)
 
 -- ---- one question less
 

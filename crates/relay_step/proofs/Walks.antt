@@ -10,12 +10,12 @@ use Rattle.at_event.specs.declared.refusal.Refusal.{Refusal}
 use Rattle.relay_row.specs.Rules.{loses}
 use Rattle.relay_row.specs.declared.fetched.Fetched.{Fetched}
 use Rattle.account_state.specs.State.{State}
-use Rattle.relay_core.specs.Table.{Line, told, asked, Walk, waits, refuses, passes, walk, when, is_ahead, refusal_in, open_line, verdict_line, link_line, repo_lines, body_lines, event_lines, next_at, next_of, after_fetch}
+use Rattle.relay_core.specs.Table.{TableLine, told, asked, Walk, waits, refuses, passes, walk, when, is_ahead, refusal_in, open_line, verdict_line, link_line, repo_lines, body_lines, event_lines, next_at, next_of, after_fetch}
 use Rattle.relay_core.specs.declared.answers.Answers.{Answers}
 use Rattle.relay_core.specs.declared.answers.Question.{Question}
 use Rattle.relay_core.specs.declared.decision.Next.{Next}
 use Rattle.relay_core.specs.declared.decision.Pass.{Pass}
-use Rattle.relay_step.specs.Questions.{PassedBefore, has_blocks, is_commit, length_line}
+use Rattle.relay_step.specs.Questions.{SkippedBefore, has_blocks, is_commit, length_line}
 
 -- ---- what is next, by the walk
 
@@ -48,34 +48,34 @@ event_waits cursor a e x q other h = at_waits (walk (event_lines a e x)) a e.bod
 
 -- ---- one line
 
-past_moment : (m : Option ℕ) (lines : List Line) (q : Question) → (q ≡ Question.Moment → ⊥) → walk (asked Question.Moment (option_map (λ moment. None) m) ∷ lines) ≡ waits q → ((moment : ℕ) × (m ≡ Some moment)) × (walk lines ≡ waits q)
+past_moment : (m : Option ℕ) (lines : List TableLine) (q : Question) → (q ≡ Question.Moment → ⊥) → walk (asked Question.Moment (option_map (λ moment. None) m) ∷ lines) ≡ waits q → ((moment : ℕ) × (m ≡ Some moment)) × (walk lines ≡ waits q)
 past_moment None lines q other h = absurd (other cc)
 past_moment (Some moment) lines q other h = ((moment, refl), h)
 
-past_told : (o : Option Refusal) (lines : List Line) (q : Question) → walk (told o ∷ lines) ≡ waits q → (o ≡ None) × (walk lines ≡ waits q)
+past_told : (o : Option Refusal) (lines : List TableLine) (q : Question) → walk (told o ∷ lines) ≡ waits q → (o ≡ None) × (walk lines ≡ waits q)
 past_told None lines q h = (refl, h)
 past_told (Some r) lines q h = absurd cc
 
-past_refresh : (b : Bool) (lines : List Line) (q : Question) → (q ≡ Question.Refresh → ⊥) → walk (asked Question.Refresh (cond b (Some None) None) ∷ lines) ≡ waits q → (b ≡ true) × (walk lines ≡ waits q)
+past_refresh : (b : Bool) (lines : List TableLine) (q : Question) → (q ≡ Question.Refresh → ⊥) → walk (asked Question.Refresh (cond b (Some None) None) ∷ lines) ≡ waits q → (b ≡ true) × (walk lines ≡ waits q)
 past_refresh true lines q other h = (refl, h)
 past_refresh false lines q other h = absurd (other cc)
 
-past_home : (o : Option Bool) (lines : List Line) (q : Question) → (q ≡ Question.Home → ⊥) → walk (asked Question.Home (option_map (λ yes. when (not yes) Refusal.NotHome) o) ∷ lines) ≡ waits q → (o ≡ Some true) × (walk lines ≡ waits q)
+past_home : (o : Option Bool) (lines : List TableLine) (q : Question) → (q ≡ Question.Home → ⊥) → walk (asked Question.Home (option_map (λ yes. when (not yes) Refusal.NotHome) o) ∷ lines) ≡ waits q → (o ≡ Some true) × (walk lines ≡ waits q)
 past_home None lines q other h = absurd (other cc)
 past_home (Some true) lines q other h = (refl, h)
 past_home (Some false) lines q other h = absurd cc
 
-past_open : (o : Option (Result Head Refusal)) (lines : List Line) (q : Question) → (q ≡ Question.Open → ⊥) → walk (asked Question.Open (option_map refusal_in o) ∷ lines) ≡ waits q → ((head : Head) × (o ≡ Some (Ok head))) × (walk lines ≡ waits q)
+past_open : (o : Option (Result Head Refusal)) (lines : List TableLine) (q : Question) → (q ≡ Question.Open → ⊥) → walk (asked Question.Open (option_map refusal_in o) ∷ lines) ≡ waits q → ((head : Head) × (o ≡ Some (Ok head))) × (walk lines ≡ waits q)
 past_open None lines q other h = absurd (other cc)
 past_open (Some (Ok head)) lines q other h = ((head, refl), h)
 past_open (Some (Err r)) lines q other h = absurd cc
 
-past_verdict : (o : Option Bool) (lines : List Line) (q : Question) → (q ≡ Question.Verdict → ⊥) → walk (asked Question.Verdict (option_map (λ good. when (not good) Refusal.BadSignature) o) ∷ lines) ≡ waits q → (o ≡ Some true) × (walk lines ≡ waits q)
+past_verdict : (o : Option Bool) (lines : List TableLine) (q : Question) → (q ≡ Question.Verdict → ⊥) → walk (asked Question.Verdict (option_map (λ good. when (not good) Refusal.BadSignature) o) ∷ lines) ≡ waits q → (o ≡ Some true) × (walk lines ≡ waits q)
 past_verdict None lines q other h = absurd (other cc)
 past_verdict (Some true) lines q other h = (refl, h)
 past_verdict (Some false) lines q other h = absurd cc
 
-past_link : (o : Option (Result (Unit {0}) Refusal)) (lines : List Line) (q : Question) → (q ≡ Question.Link → ⊥) → walk (asked Question.Link (option_map refusal_in o) ∷ lines) ≡ waits q → walk lines ≡ waits q
+past_link : (o : Option (Result (Unit {0}) Refusal)) (lines : List TableLine) (q : Question) → (q ≡ Question.Link → ⊥) → walk (asked Question.Link (option_map refusal_in o) ∷ lines) ≡ waits q → walk lines ≡ waits q
 past_link None lines q other h = absurd (other cc)
 past_link (Some (Ok u)) lines q other h = h
 past_link (Some (Err r)) lines q other h = absurd cc
@@ -83,7 +83,7 @@ past_link (Some (Err r)) lines q other h = absurd cc
 -- ---- the lines of a commit or a sync
 
 -- what is asked of them waits at one of these
-record AtRepo (a : State) (rev : ℕ) (x : Answers) (others : List Line) (q : Question) : Type 0 where
+record AtRepo (a : State) (rev : ℕ) (x : Answers) (others : List TableLine) (q : Question) : Type 0 where
   home : (q ≡ Question.Home → ⊥) → x.home ≡ Some true
   active : (q ≡ Question.Home → ⊥) → when (not a.active) Refusal.Inactive ≡ None
   up : (q ≡ Question.Home → ⊥) → when a.down Refusal.TakenDown ≡ None
@@ -91,11 +91,11 @@ record AtRepo (a : State) (rev : ℕ) (x : Answers) (others : List Line) (q : Qu
   near : (q ≡ Question.Home → ⊥) → (q ≡ Question.Open → ⊥) → when (is_ahead rev x.moment) Refusal.FutureRev ≡ None
   behind : (q ≡ Question.Home → ⊥) → (q ≡ Question.Open → ⊥) → (q ≡ Question.Verdict → ⊥) → walk others ≡ waits q
 
-module _ (a : State) (rev : ℕ) (x : Answers) (others : List Line) (q : Question) (h : walk (repo_lines a rev x others) ≡ waits q) where
-  abbrev behind_up : List Line
+module _ (a : State) (rev : ℕ) (x : Answers) (others : List TableLine) (q : Question) (h : walk (repo_lines a rev x others) ≡ waits q) where
+  abbrev behind_up : List TableLine
   behind_up = open_line x ∷ told (when (is_ahead rev x.moment) Refusal.FutureRev) ∷ verdict_line x ∷ others
 
-  abbrev behind_home : List Line
+  abbrev behind_home : List TableLine
   behind_home = told (when (not a.active) Refusal.Inactive) ∷ told (when a.down Refusal.TakenDown) ∷ behind_up
 
   past_first : (q ≡ Question.Home → ⊥) → (x.home ≡ Some true) × (walk behind_home ≡ waits q)
@@ -167,25 +167,25 @@ blocks_asked a Body.Identity x q refresh home h =
 blocks_asked a (Body.Account b) x q refresh home h = let end = (past_home x.home [] q home h).1 in absurd cc
 
 -- what stands before a signature, or the question of what a commit follows
-abbrev pub IsPassedBefore : State → Seen → Body → Answers → Type 0
-IsPassedBefore a e (Body.Commit c) x = PassedBefore a e c.rev x
-IsPassedBefore a e (Body.Sync s) x = PassedBefore a e s.rev x
-IsPassedBefore a e Body.Identity x = ⊥
-IsPassedBefore a e (Body.Account b) x = ⊥
+abbrev pub IsSkippedBefore : State → Seen → Body → Answers → Type 0
+IsSkippedBefore a e (Body.Commit c) x = SkippedBefore a e c.rev x
+IsSkippedBefore a e (Body.Sync s) x = SkippedBefore a e s.rev x
+IsSkippedBefore a e Body.Identity x = ⊥
+IsSkippedBefore a e (Body.Account b) x = ⊥
 
-passed_repo : (a : State) (e : Seen) (rev : ℕ) (x : Answers) (others : List Line) (q : Question) → (q ≡ Question.Home → ⊥) → (q ≡ Question.Open → ⊥) → length_line e ≡ None → AtRepo a rev x others q → PassedBefore a e rev x
-passed_repo a e rev x others q home opened short at =
+skipped_repo : (a : State) (e : Seen) (rev : ℕ) (x : Answers) (others : List TableLine) (q : Question) → (q ≡ Question.Home → ⊥) → (q ≡ Question.Open → ⊥) → length_line e ≡ None → AtRepo a rev x others q → SkippedBefore a e rev x
+skipped_repo a e rev x others q home opened short at =
     let head = at.opened home opened in
     record { short = short; home = at.home home; active = at.active home; up = at.up home; head = head.0; opened = head.1; near = at.near home opened }
 
-pub passed_before : (a : State) (e : Seen) (body : Body) (x : Answers) (q : Question) → (q ≡ Question.Refresh → ⊥) → (q ≡ Question.Home → ⊥) → (q ≡ Question.Open → ⊥) → length_line e ≡ None → walk (body_lines a body x) ≡ waits q → IsPassedBefore a e body x
-passed_before a e (Body.Commit c) x q refresh home opened short h = passed_repo a e c.rev x (link_line x ∷ []) q home opened short (at_repo a c.rev x (link_line x ∷ []) q h)
-passed_before a e (Body.Sync s) x q refresh home opened short h = passed_repo a e s.rev x [] q home opened short (at_repo a s.rev x [] q h)
-passed_before a e Body.Identity x q refresh home opened short h = absurd (false_true (blocks_asked a Body.Identity x q refresh home h))
+pub skipped_before : (a : State) (e : Seen) (body : Body) (x : Answers) (q : Question) → (q ≡ Question.Refresh → ⊥) → (q ≡ Question.Home → ⊥) → (q ≡ Question.Open → ⊥) → length_line e ≡ None → walk (body_lines a body x) ≡ waits q → IsSkippedBefore a e body x
+skipped_before a e (Body.Commit c) x q refresh home opened short h = skipped_repo a e c.rev x (link_line x ∷ []) q home opened short (at_repo a c.rev x (link_line x ∷ []) q h)
+skipped_before a e (Body.Sync s) x q refresh home opened short h = skipped_repo a e s.rev x [] q home opened short (at_repo a s.rev x [] q h)
+skipped_before a e Body.Identity x q refresh home opened short h = absurd (false_true (blocks_asked a Body.Identity x q refresh home h))
   where
     false_true : ◌≡◌ {A = Bool} false true → ⊥
     false_true e = absurd cc
-passed_before a e (Body.Account b) x q refresh home opened short h = absurd (false_true (blocks_asked a (Body.Account b) x q refresh home h))
+skipped_before a e (Body.Account b) x q refresh home opened short h = absurd (false_true (blocks_asked a (Body.Account b) x q refresh home h))
   where
     false_true : ◌≡◌ {A = Bool} false true → ⊥
     false_true e = absurd cc

@@ -4,11 +4,11 @@ use Rattle.at_authority.specs.Panels.{Panel}
 use Rattle.at_event.specs.Frames.{frame_of}
 use Rattle.at_event.specs.declared.frame.Frame.{Frame}
 use Rattle.at_event.specs.declared.frame.FrameFault.{FrameFault}
-use Rattle.relay_io.specs.Moments.{first, rest}
+use Rattle.relay_io.specs.Moments.{first_moment, later_moments}
 use Rattle.relay_row.specs.declared.row.Row.{Row}
 use Rattle.relay_step.specs.Asked.{Answered}
 use Rattle.relay_step.specs.Fetching.{IsFetchedTold}
-use Rattle.relay_step.specs.Steps.{Told, after_end, passed_over, took, Step, rows_told}
+use Rattle.relay_step.specs.Steps.{Decided, after_end, skipped, recorded, Step, rows_decided}
 
 -- what the parts tell: the judges' benches, the moments to come, and each DID's repository
 pub record Around : Type 0 where
@@ -20,16 +20,16 @@ abbrev pub around : Panel → List ℕ → (List ℕ → Option (List ℕ)) → 
 around panel moments repository = record { panel = panel; moments = moments; repository = repository }
 
 -- a step that makes a row takes one moment, and keeps it; one that makes none takes none
-abbrev pub IsTimed : List ℕ → Told → List ℕ → Type 0
+abbrev pub IsTimed : List ℕ → Decided → List ℕ → Type 0
 IsTimed moments after_end left = left ≡ moments
-IsTimed moments (passed_over pass) left = left ≡ moments
-IsTimed moments (took t) left = (t.moment ≡ Some (first moments)) × (left ≡ rest moments)
+IsTimed moments (skipped pass) left = left ≡ moments
+IsTimed moments (recorded t) left = (t.moment ≡ Some (first_moment moments)) × (left ≡ later_moments moments)
 
 abbrev pub SameRepositories : (List ℕ → Option (List ℕ)) → (List ℕ → Option (List ℕ)) → Type 0
 SameRepositories old new = (did : List ℕ) → new did ≡ old did
 
 -- What a host's message, as it reads, asked behind the journal J where this came of it: of the clock and of the repositories where they tell.
-pub record AskedOf (clock_tells repos_tell : Bool) (J : List Row) (old : Around) (host : List ℕ) (frame : Result Frame FrameFault) (told : Told) (new : Around) : Type 0 where
+pub record AskedOf (clock_tells repos_tell : Bool) (J : List Row) (old : Around) (host : List ℕ) (frame : Result Frame FrameFault) (told : Decided) (new : Around) : Type 0 where
   pub answered : Answered old.panel host frame told new.panel
   pub timed : IsTrue clock_tells → IsTimed old.moments told new.moments
   pub fetched : IsTrue repos_tell → IsFetchedTold old.repository J told
@@ -37,7 +37,7 @@ pub record AskedOf (clock_tells repos_tell : Bool) (J : List Row) (old : Around)
 
 -- What one step behind the journal J asked, and was told.
 abbrev pub Asked : Bool → Bool → List Row → Around → Step → Around → Type 0
-Asked clock_tells repos_tell J old s new = AskedOf clock_tells repos_tell J old s.host (frame_of s.bytes) s.told new
+Asked clock_tells repos_tell J old s new = AskedOf clock_tells repos_tell J old s.host (frame_of s.bytes) s.decided new
 
 -- nothing was asked
 pub record AskedNothing (clock_tells repos_tell : Bool) (old new : Around) : Type 0 where
@@ -49,4 +49,4 @@ pub record AskedNothing (clock_tells repos_tell : Bool) (old new : Around) : Typ
 abbrev pub AllAsked : Bool → Bool → List Row → Around → List Step → Around → Type 0
 AllAsked clock_tells repos_tell J old [] new = AskedNothing clock_tells repos_tell old new
 AllAsked clock_tells repos_tell J old (s ∷ steps) new =
-    (mid : Around) × Asked clock_tells repos_tell J old s mid × AllAsked clock_tells repos_tell (J ++ rows_told s.told) mid steps new
+    (mid : Around) × Asked clock_tells repos_tell J old s mid × AllAsked clock_tells repos_tell (J ++ rows_decided s.decided) mid steps new

@@ -18,9 +18,9 @@ use Rattle.at_authority.specs.Panels.{Panel}
 use Rattle.at_authority.specs.Queries.{asks_home, asks_verdict}
 use Rattle.relay_row.specs.declared.fetched.Fetched.{Fetched}
 use Rattle.relay_row.specs.declared.taken.Taken.{Taken}
-use Rattle.relay_core.specs.Shown.{shows_home, shows_verdict, block_in}
+use Rattle.relay_core.specs.Shown.{shows_home, shows_verdict, commit_block_in}
 use Rattle.relay_core.specs.declared.limits.TheConstants.{FETCHED_UNSIGNED}
-use Rattle.relay_step.specs.Steps.{Told, after_end, passed_over, took}
+use Rattle.relay_step.specs.Steps.{Decided, after_end, skipped, recorded}
 
 -- the digest that was signed, and the signature, of the commit object in a CAR
 abbrev pub signed_in : CarResult → Option (List ℕ × List ℕ)
@@ -77,7 +77,7 @@ abbrev pub AreFetchCalls : List ℕ → Fetched → List Call → Type 0
 AreFetchCalls did Fetched.NotAsked calls = calls ≡ []
 AreFetchCalls did Fetched.Absent calls = calls ≡ []
 AreFetchCalls did (Fetched.Refused n) calls = Where (n == FETCHED_UNSIGNED) (IsRefusedOnce did calls) (calls ≡ [])
-AreFetchCalls did (Fetched.Whole w) calls = IsAskedOf did (block_in w.message w.head.commit) calls
+AreFetchCalls did (Fetched.Whole w) calls = IsAskedOf did (commit_block_in w.message w.head.commit) calls
 
 -- the calls of a step that made a row of an event
 pub record AreCallsOf (host : List ℕ) (e : Seen) (t : Taken) (calls : List Call) : Type 0 where
@@ -86,14 +86,14 @@ pub record AreCallsOf (host : List ℕ) (e : Seen) (t : Taken) (calls : List Cal
   pub are : calls ≡ home_calls host e t.refusal ++ (verdict_calls e t.refusal ++ fetch)
 
 -- the calls of a step: one that makes no row makes none, nor does an event with a bad field
-abbrev pub AreStepCalls : List ℕ → Result Frame FrameFault → Told → List Call → Type 0
+abbrev pub AreStepCalls : List ℕ → Result Frame FrameFault → Decided → List Call → Type 0
 AreStepCalls host frame after_end calls = calls ≡ []
-AreStepCalls host frame (passed_over pass) calls = calls ≡ []
-AreStepCalls host (Ok (Frame.Event e)) (took t) calls = AreCallsOf host e t calls
-AreStepCalls host frame (took t) calls = calls ≡ []
+AreStepCalls host frame (skipped pass) calls = calls ≡ []
+AreStepCalls host (Ok (Frame.Event e)) (recorded t) calls = AreCallsOf host e t calls
+AreStepCalls host frame (recorded t) calls = calls ≡ []
 
 -- Between these panels the judges were asked what the step shows, and nothing else.
-pub record Answered (old : Panel) (host : List ℕ) (frame : Result Frame FrameFault) (told : Told) (new : Panel) : Type 0 where
+pub record Answered (old : Panel) (host : List ℕ) (frame : Result Frame FrameFault) (told : Decided) (new : Panel) : Type 0 where
   pub calls : List Call
   pub are : AreStepCalls host frame told calls
   pub made : AreCalls old calls new

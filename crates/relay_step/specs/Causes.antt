@@ -5,12 +5,12 @@ use Rattle.at_authority.specs.Calls.{Call, fails}
 use Rattle.at_authority.specs.Panels.{Panel, IsSpent}
 use Rattle.at_event.specs.declared.frame.Frame.{Frame}
 use Rattle.at_event.specs.declared.frame.FrameFault.{FrameFault}
-use Rattle.relay_io.specs.Moments.{rest}
+use Rattle.relay_io.specs.Moments.{later_moments}
 use Rattle.relay_step.specs.Around.{Around, SameRepositories}
 use Rattle.relay_step.specs.Asked.{AskedInVain}
 use Rattle.relay_step.specs.declared.fault.StepFault.{StepFault}
 
--- the cause of each fault: that the numbers end, that no authority is left, that a count of faults rose. Only want of memory has none
+-- the cause of each fault: that the numbers end, that no authority is left, that a count of faults rose. Only running out of memory has none
 abbrev pub IsCause : Type 0 → Type 0 → Type 0 → Type 0 → StepFault → Type 0
 IsCause ends spent repos clock StepFault.SeqEnd = ends
 IsCause ends spent repos clock StepFault.Authority = spent
@@ -35,7 +35,7 @@ AskedInVainOf old other new = new ≡ old
 
 -- one moment was taken at most
 abbrev pub OneTaken : List ℕ → List ℕ → Type 0
-OneTaken old new = (new ≡ old) ⊎ (new ≡ rest old)
+OneTaken old new = (new ≡ old) ⊎ (new ≡ later_moments old)
 
 -- What was asked around for nothing: of the judges this, of the clock a moment at most, and the repositories are the same.
 pub record CameToNothing (clock_tells repos_tell : Bool) (judged : Type 0) (old new : Around) : Type 0 where

@@ -4,16 +4,16 @@ use Rattle.std.specs.List.{filter}
 use Rattle.at_authority.specs.Calls.{Call, AreCalls}
 use Rattle.at_authority.specs.Panels.{Panel}
 use Rattle.at_car.specs.Blocks.{IsLinkOf}
-use Rattle.at_cbor.specs.Spelling.{IsString, IsText}
+use Rattle.at_cbor.specs.Encoding.{IsString, IsText}
 use Rattle.at_cid.specs.Link.{IsBytes}
 use Rattle.at_event.specs.declared.head.Head.{Head}
 use Rattle.relay_row.specs.Rules.{is_head, is_message, is_repo_number}
 use Rattle.relay_row.specs.declared.fetched.Fetched.{Fetched}
-use Rattle.relay_row.specs.declared.limits.TheConstants.{NUMBERS}
+use Rattle.at_cid.specs.declared.limits.TheConstants.{NUMBERS}
 use Rattle.relay_core.specs.Decide.{Found, absent, unfit, found, commit_car, sync_message, whole_under}
 use Rattle.relay_core.specs.declared.limits.TheConstants.{FETCHED_UNSIGNED}
 use Rattle.repo_sync.specs.Repository.{IsWhole}
-use Rattle.repo_sync.specs.Faults.{number_of}
+use Rattle.repo_sync.specs.Faults.{fault_number}
 use Rattle.repo_sync.specs.declared.fault.RepoFault.{RepoFault}
 use Rattle.repo_sync.specs.declared.found.Found.{Found as Checked}
 use Rattle.relay_step.specs.Asked.{AllAbout, is_refresh}
@@ -29,11 +29,11 @@ abbrev pub judged_as : Checked → Option ℕ → Found
 judged_as checked None = found checked.head checked.records checked.block
 judged_as checked (Some n) = unfit n
 
--- the number with which a repository is refused, unless memory was wanted or a read failed
+-- the number with which a repository is refused, unless memory ran out or a read failed
 abbrev pub refused_as : RepoFault → Option ℕ
 refused_as RepoFault.Memory = None
 refused_as RepoFault.Failed = None
-refused_as fault = Some (number_of fault)
+refused_as fault = Some (fault_number fault)
 
 -- a bad signature where what was found says so, else a good one
 abbrev pub is_good : Found → Bool

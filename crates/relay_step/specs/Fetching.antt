@@ -10,16 +10,16 @@ use Rattle.account_state.specs.Folds.{account, last_rev}
 use Rattle.relay_core.specs.Decide.{Found, absent, unfit, judged}
 use Rattle.relay_core.specs.Shown.{found_in, or_zero}
 use Rattle.relay_core.specs.declared.limits.TheConstants.{FETCHED_UNSIGNED}
-use Rattle.repo_sync.specs.Faults.{number_of}
+use Rattle.repo_sync.specs.Faults.{fault_number}
 use Rattle.repo_sync.specs.Repository.{IsAnswer}
 use Rattle.repo_sync.specs.declared.fault.RepoFault.{RepoFault}
 use Rattle.repo_sync.specs.declared.found.Found.{Found as Checked}
-use Rattle.relay_step.specs.Steps.{Told, after_end, passed_over, took}
+use Rattle.relay_step.specs.Steps.{Decided, after_end, skipped, recorded}
 
 -- what the answer of a repository's check comes to at a moment, where its signature is said to be good or not
 abbrev pub found_by : ℕ → Bool → Result Checked RepoFault → Found
 found_by moment good (Ok checked) = judged moment good checked.head checked.records checked.block
-found_by moment good (Err fault) = unfit (number_of fault)
+found_by moment good (Err fault) = unfit (fault_number fault)
 
 -- the bytes of a repository come to this
 pub record IsFoundOf (did : List ℕ) (least : Option ℕ) (moment : ℕ) (good : Bool) (bytes : List ℕ) (f : Found) : Type 0 where
@@ -43,7 +43,7 @@ IsFetched repository J None t = Unit {0}
 IsFetched repository J (Some r) t = IsTrue (loses (code_of r))
     → IsFetchedFrom (repository t.did) t.did (last_rev (account t.did J).repo) (or_zero t.moment) (fetched_good t.fetched) (found_in t.fetched)
 
-abbrev pub IsFetchedTold : (List ℕ → Option (List ℕ)) → List Row → Told → Type 0
+abbrev pub IsFetchedTold : (List ℕ → Option (List ℕ)) → List Row → Decided → Type 0
 IsFetchedTold repository J after_end = Unit {0}
-IsFetchedTold repository J (passed_over pass) = Unit {0}
-IsFetchedTold repository J (took t) = IsFetched repository J t.refusal t
+IsFetchedTold repository J (skipped pass) = Unit {0}
+IsFetchedTold repository J (recorded t) = IsFetched repository J t.refusal t

@@ -5,7 +5,7 @@ pub mod Around
 pub mod Operators
 pub mod Causes
 pub mod Messages
-pub mod Words
+pub mod Commands
 pub mod Questions
 pub mod Fetches
 pub mod Taking

@@ -4,58 +4,58 @@ use Rattle.at_event.specs.declared.frame.Frame.{Frame}
 use Rattle.at_event.specs.declared.frame.FrameFault.{FrameFault}
 use Rattle.relay_row.specs.Folds.{last_seq, seq_in}
 use Rattle.relay_row.specs.Journal.{IsJournal}
-use Rattle.relay_row.specs.declared.limits.TheConstants.{NUMBERS}
+use Rattle.at_cid.specs.declared.limits.TheConstants.{NUMBERS}
 use Rattle.relay_row.specs.declared.row.Row.{Row}
 use Rattle.relay_row.specs.declared.taken.Taken.{Taken}
 use Rattle.account_state.specs.Folds.{account}
 use Rattle.relay_core.specs.Decide.{Checks, Outside, decided}
 use Rattle.relay_core.specs.Entries.{Holds}
 use Rattle.relay_core.specs.Opening.{OpensRight}
-use Rattle.relay_core.specs.Runs.{passed_by}
+use Rattle.relay_core.specs.Runs.{skipped_by}
 use Rattle.relay_core.specs.Table.{did_of}
 use Rattle.relay_core.specs.declared.decision.Pass.{Pass}
 use Rattle.relay_core.specs.declared.journal_state.Core.{Core}
 use Rattle.relay_law.specs.Right.{LinksRight}
 use Rattle.relay_step.specs.Around.{Around, Asked, AskedOf}
-use Rattle.relay_step.specs.Steps.{Told, passed_over, took, Step, IsTold}
-use Rattle.relay_step.specs.declared.told.Passed.{Passed}
-use Rattle.relay_step.specs.declared.told.Told.{Told as Outcome}
+use Rattle.relay_step.specs.Steps.{Decided, skipped, recorded, Step, IsDecidedAs}
+use Rattle.relay_step.specs.declared.decided.Skipped.{Skipped}
+use Rattle.relay_step.specs.declared.decided.Decided.{Decided as Outcome}
 
 -- why a message that makes no row makes none, as it reads
-abbrev pub passed_as : Result Frame FrameFault → Passed
-passed_as (Ok (Frame.Event e)) = Passed.Old e.seq
-passed_as (Ok (Frame.Faulty seq)) = Passed.Old seq
-passed_as (Ok Frame.Info) = Passed.Info
-passed_as (Ok Frame.Unknown) = Passed.Unknown
-passed_as (Ok Frame.Error) = Passed.Error
-passed_as (Err FrameFault.NoSeq) = Passed.NoSeq
-passed_as (Err fault) = Passed.BadFrame
+abbrev pub skipped_as : Result Frame FrameFault → Skipped
+skipped_as (Ok (Frame.Event e)) = Skipped.Old e.seq
+skipped_as (Ok (Frame.Faulty seq)) = Skipped.Old seq
+skipped_as (Ok Frame.Info) = Skipped.Info
+skipped_as (Ok Frame.Unknown) = Skipped.Unknown
+skipped_as (Ok Frame.Error) = Skipped.Error
+skipped_as (Err FrameFault.NoSeq) = Skipped.NoSeq
+skipped_as (Err fault) = Skipped.BadFrame
 
 -- what is decided of it
-abbrev pub pass_of : Passed → Pass
-pass_of (Passed.Old seq) = Pass.Old
-pass_of Passed.Unknown = Pass.Unknown
-pass_of Passed.Info = Pass.Info
-pass_of Passed.BadFrame = Pass.Ended
-pass_of Passed.NoSeq = Pass.Ended
-pass_of Passed.Error = Pass.Ended
+abbrev pub pass_of : Skipped → Pass
+pass_of (Skipped.Old seq) = Pass.Old
+pass_of Skipped.Unknown = Pass.Unknown
+pass_of Skipped.Info = Pass.Info
+pass_of Skipped.BadFrame = Pass.Ended
+pass_of Skipped.NoSeq = Pass.Ended
+pass_of Skipped.Error = Pass.Ended
 
 -- what came of a message of a host that hasn't ended
-abbrev pub told_as : Outcome → Told
-told_as (Outcome.Passed why) = passed_over (pass_of why)
-told_as (Outcome.Took t) = took t
+abbrev pub told_as : Outcome → Decided
+told_as (Outcome.Skipped why) = skipped (pass_of why)
+told_as (Outcome.Recorded t) = recorded t
 
 -- Where it makes no row, this says why.
-abbrev pub IsPassedAs : Result Frame FrameFault → Outcome → Type 0
-IsPassedAs frame (Outcome.Passed why) = why ≡ passed_as frame
-IsPassedAs frame (Outcome.Took t) = Unit {0}
+abbrev pub IsSkippedAs : Result Frame FrameFault → Outcome → Type 0
+IsSkippedAs frame (Outcome.Skipped why) = why ≡ skipped_as frame
+IsSkippedAs frame (Outcome.Recorded t) = Unit {0}
 
 -- This is what comes of a host's message, by all checks that open and link rightly.
-abbrev pub IsDecided : Core → List ℕ → Result Frame FrameFault → Told → Type 0
-IsDecided c host frame t = (checks : Checks) (J : List Row) → OpensRight checks → LinksRight checks → Holds c J → IsTold checks J [] (host, frame) t
+abbrev pub IsDecided : Core → List ℕ → Result Frame FrameFault → Decided → Type 0
+IsDecided c host frame t = (checks : Checks) (J : List Row) → OpensRight checks → LinksRight checks → Holds c J → IsDecidedAs checks J [] (host, frame) t
 
 -- This was asked around of a message, as it reads, where this came of it.
-abbrev pub IsAskedOf : Bool → Bool → Core → Around → List ℕ → Result Frame FrameFault → Told → Around → Type 0
+abbrev pub IsAskedOf : Bool → Bool → Core → Around → List ℕ → Result Frame FrameFault → Decided → Around → Type 0
 IsAskedOf clock_tells repos_tell c old host frame t new = (J : List Row) → Holds c J → AskedOf clock_tells repos_tell J old host frame t new
 
 -- This was asked around in a step.
@@ -70,7 +70,7 @@ KeepsJournal c rows = (J : List Row) → Holds c J → IsJournal J → IsJournal
 pub record GivesNext (c : Core) (host : List ℕ) (frame : Frame) (checks : Checks) (J : List Row) : Type 0 where
   pub outside : Outside
   pub taken : Taken
-  pub above : passed_by J (host, Ok frame) ≡ None
+  pub above : skipped_by J (host, Ok frame) ≡ None
   pub decides : decided checks (last_seq J) (account (did_of frame) J) host frame outside ≡ Some taken
   pub gives : seq_in (Row.Taken taken) ≡ c.last + 1
 

@@ -14,7 +14,7 @@ use Rattle.event_checks.specs.Lines.{first_of}
 use Rattle.event_checks.specs.Table.{field_lines}
 use Rattle.account_state.specs.State.{State}
 use Rattle.account_state.specs.declared.repo.Repo.{Repo}
-use Rattle.commit_check.specs.Order.{Holds, StopsPast}
+use Rattle.commit_check.specs.Order.{HoldsCommit, StopsPast}
 use Rattle.commit_check.specs.Step.{is_gap, root_before}
 use Rattle.commit_check.specs.Opening.{IsOpened}
 use Rattle.repo_sync.specs.Sync.{IsSynced}
@@ -28,7 +28,7 @@ use Rattle.relay_core.specs.declared.limits.TheConstants.{LONGEST_MESSAGE}
 use Rattle.relay_law.specs.Formed.{AreAnswersTo}
 use Rattle.relay_law.specs.Right.{LinksRight, expect_of}
 use Rattle.relay_step.specs.Asked.{signed_by, verdict_call}
-use Rattle.relay_step.specs.Words.{IsNow}
+use Rattle.relay_step.specs.Commands.{IsNow}
 use Rattle.relay_step.specs.declared.reading.Read.{Read}
 
 abbrev pub refresh_told : List ℕ → Bool → List Call
@@ -57,7 +57,7 @@ abbrev pub length_line : Seen → Option Refusal
 length_line e = when (nat_lt LONGEST_MESSAGE (out_length e)) Refusal.TooLong
 
 -- nothing applies of all that stands before the signature
-pub record PassedBefore (a : State) (e : Seen) (rev : ℕ) (x : Answers) : Type 0 where
+pub record SkippedBefore (a : State) (e : Seen) (rev : ℕ) (x : Answers) : Type 0 where
   pub short : length_line e ≡ None
   pub home : x.home ≡ Some true
   pub active : when (not a.active) Refusal.Inactive ≡ None
@@ -68,8 +68,8 @@ pub record PassedBefore (a : State) (e : Seen) (rev : ℕ) (x : Answers) : Type 
 
 -- a signature is asked for behind all that stands before it, and of a commit or a sync alone
 abbrev pub IsJudgedLate : State → Seen → Body → Answers → Type 0
-IsJudgedLate a e (Body.Commit c) x = (x.verdict ≡ None) ⊎ PassedBefore a e c.rev x
-IsJudgedLate a e (Body.Sync s) x = (x.verdict ≡ None) ⊎ PassedBefore a e s.rev x
+IsJudgedLate a e (Body.Commit c) x = (x.verdict ≡ None) ⊎ SkippedBefore a e c.rev x
+IsJudgedLate a e (Body.Sync s) x = (x.verdict ≡ None) ⊎ SkippedBefore a e s.rev x
 IsJudgedLate a e Body.Identity x = x.verdict ≡ None
 IsJudgedLate a e (Body.Account b) x = x.verdict ≡ None
 
@@ -100,7 +100,7 @@ is_unlinked r = nat_le 19 (code_of r) && nat_le (code_of r) 23
 pub record IsLinkAnswer (repo : Repo) (e : Seen) (answer : Result (Unit {0}) Refusal) : Type 0 where
   pub right : (checks : Checks) → LinksRight checks → answer ≡ as_result (checks.links e repo)
   pub unlinked : (r : Refusal) → answer ≡ Err r → is_unlinked r ≡ true
-  pub stops : (c : CommitEvent) (h : Holds c) (r : Refusal) → e.body ≡ Body.Commit c → answer ≡ Err r
+  pub stops : (c : CommitEvent) (h : HoldsCommit c) (r : Refusal) → e.body ≡ Body.Commit c → answer ≡ Err r
       → StopsPast (is_gap c (expect_of repo)) c h.blocks (root_before (expect_of repo)) h.commit.data_root r
 
 abbrev pub is_commit : Body → Bool

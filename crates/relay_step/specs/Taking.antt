@@ -8,11 +8,11 @@ use Rattle.at_event.specs.declared.refusal.Refusal.{Refusal}
 use Rattle.at_event.specs.Refusals.{code_of}
 use Rattle.relay_row.specs.Rules.{loses}
 use Rattle.relay_row.specs.declared.fetched.Fetched.{Fetched}
-use Rattle.relay_row.specs.declared.limits.TheConstants.{NUMBERS}
+use Rattle.at_cid.specs.declared.limits.TheConstants.{NUMBERS}
 use Rattle.relay_row.specs.declared.taken.Taken.{Taken}
 use Rattle.account_state.specs.Folds.{last_rev}
 use Rattle.account_state.specs.State.{State}
-use Rattle.relay_core.specs.Decide.{Found, made, passed}
+use Rattle.relay_core.specs.Decide.{Found, fetched_as, passed}
 use Rattle.relay_core.specs.Entries.{account_in, cursor_in}
 use Rattle.relay_core.specs.Rows.{event_taken, faulty_taken, goes_out}
 use Rattle.relay_core.specs.Sending.{IsSendable}
@@ -26,11 +26,11 @@ use Rattle.relay_law.specs.Formed.{AreAnswersTo, IsFetchedBehind}
 use Rattle.relay_step.specs.Around.{Around, AskedNothing, SameRepositories}
 use Rattle.relay_step.specs.Fetches.{MayBeKept, is_good}
 use Rattle.relay_step.specs.Fetching.{IsFetchedFrom}
-use Rattle.relay_step.specs.Messages.{pass_of, passed_as}
+use Rattle.relay_step.specs.Messages.{pass_of, skipped_as}
 use Rattle.relay_step.specs.Operators.{AreFoundCalls}
 use Rattle.relay_step.specs.Questions.{IsLinkAnswer, IsTidy, IsTimedSo, calls_told}
-use Rattle.relay_step.specs.Words.{IsNow}
-use Rattle.relay_step.specs.declared.told.Told.{Told as Outcome}
+use Rattle.relay_step.specs.Commands.{IsNow}
+use Rattle.relay_step.specs.declared.decided.Decided.{Decided as Outcome}
 
 -- a fetch that was made for an event, whose refusal loses its account
 pub record IsFetchOf (repos_tell : Bool) (last : ℕ) (a : State) (e : Seen) (repository : List ℕ → Option (List ℕ)) (moment : ℕ) (refusal : Option Refusal) (fetched : Fetched) (fetch : List Call) : Type 0 where
@@ -38,7 +38,7 @@ pub record IsFetchOf (repos_tell : Bool) (last : ℕ) (a : State) (e : Seen) (re
   pub refused : refusal ≡ Some lost
   pub due : loses (code_of lost) ≡ true
   pub what : Found
-  pub is : fetched ≡ made last e what
+  pub is : fetched ≡ fetched_as last e what
   pub sendable : IsSendable last e what
   pub may : MayBeKept what
   pub calls : AreFoundCalls e.did what fetch
@@ -49,7 +49,7 @@ IsFetchedSo repos_tell last a e repository moment refusal None fetch = fetch ≡
 IsFetchedSo repos_tell last a e repository moment refusal (Some fetched) fetch = IsFetchOf repos_tell last a e repository moment refusal fetched fetch
 
 -- an event was decided for these answers
-pub record EventTook (clock_tells repos_tell : Bool) (c : Core) (host : List ℕ) (e : Seen) (t : Taken) (old new : Around) : Type 0 where
+pub record EventRecorded (clock_tells repos_tell : Bool) (c : Core) (host : List ℕ) (e : Seen) (t : Taken) (old new : Around) : Type 0 where
   pub x : Answers
   pub d : Decision
   pub fetch : List Call
@@ -64,24 +64,24 @@ pub record EventTook (clock_tells repos_tell : Bool) (c : Core) (host : List ℕ
   pub timed : IsTrue clock_tells → IsTimedSo old.moments x.moment new.moments
   pub same : IsTrue repos_tell → SameRepositories old.repository new.repository
 
-abbrev pub EventTold : Bool → Bool → Core → List ℕ → Seen → Outcome → Around → Around → Type 0
-EventTold clock_tells repos_tell c host e (Outcome.Passed why) old new = (why ≡ passed_as (Ok (Frame.Event e))) × (passed (cursor_in c host) (Frame.Event e) ≡ Some (pass_of why)) × AskedNothing clock_tells repos_tell old new
-EventTold clock_tells repos_tell c host e (Outcome.Took t) old new = EventTook clock_tells repos_tell c host e t old new
+abbrev pub EventDecided : Bool → Bool → Core → List ℕ → Seen → Outcome → Around → Around → Type 0
+EventDecided clock_tells repos_tell c host e (Outcome.Skipped why) old new = (why ≡ skipped_as (Ok (Frame.Event e))) × (passed (cursor_in c host) (Frame.Event e) ≡ Some (pass_of why)) × AskedNothing clock_tells repos_tell old new
+EventDecided clock_tells repos_tell c host e (Outcome.Recorded t) old new = EventRecorded clock_tells repos_tell c host e t old new
 
 -- what came of an account's fetch, and of the event that was to wait for it
-pub record LostTook (repos_tell : Bool) (c : Core) (host : List ℕ) (e : Seen) (x : Answers) (told : Outcome) (old : Panel) (repository : List ℕ → Option (List ℕ)) (new : Panel) : Type 0 where
+pub record LostRecorded (repos_tell : Bool) (c : Core) (host : List ℕ) (e : Seen) (x : Answers) (told : Outcome) (old : Panel) (repository : List ℕ → Option (List ℕ)) (new : Panel) : Type 0 where
   pub f : Fetched
   pub d : Decision
   pub fetch : List Call
   pub done : next_of (cursor_in c host) (account_in c e.did) (Frame.Event e) (record x { fetched = Some f }) ≡ Next.Done d
-  pub taken : told ≡ Outcome.Took (event_taken c.last host e d (record x { fetched = Some f }))
+  pub taken : told ≡ Outcome.Recorded (event_taken c.last host e d (record x { fetched = Some f }))
   pub number : goes_out d.refusal d.held ≡ true → c.last + 1 < NUMBERS
   pub fetched : IsFetchOf repos_tell c.last (account_in c e.did) e repository (or_zero x.moment) d.refusal f fetch
   pub behind : IsFetchedBehind c.last f
   pub calls : AreCalls old fetch new
 
 -- an event with a bad field
-pub record FaultyTook (clock_tells : Bool) (c : Core) (host : List ℕ) (frame : Frame) (t : Taken) (moments left : List ℕ) : Type 0 where
+pub record FaultyRecorded (clock_tells : Bool) (c : Core) (host : List ℕ) (frame : Frame) (t : Taken) (moments left : List ℕ) : Type 0 where
   pub seq : ℕ
   pub moment : ℕ
   pub is : frame ≡ Frame.Faulty seq
@@ -91,9 +91,9 @@ pub record FaultyTook (clock_tells : Bool) (c : Core) (host : List ℕ) (frame :
   pub timed : IsTrue clock_tells → IsNow moments moment left
 
 -- what came of a message that is no event
-abbrev pub OtherTold : Bool → Core → List ℕ → Frame → Outcome → List ℕ → List ℕ → Type 0
-OtherTold clock_tells c host frame (Outcome.Passed why) moments left = (why ≡ passed_as (Ok frame)) × (passed (cursor_in c host) frame ≡ Some (pass_of why)) × (IsTrue clock_tells → left ≡ moments)
-OtherTold clock_tells c host frame (Outcome.Took t) moments left = FaultyTook clock_tells c host frame t moments left
+abbrev pub OtherDecided : Bool → Core → List ℕ → Frame → Outcome → List ℕ → List ℕ → Type 0
+OtherDecided clock_tells c host frame (Outcome.Skipped why) moments left = (why ≡ skipped_as (Ok frame)) × (passed (cursor_in c host) frame ≡ Some (pass_of why)) × (IsTrue clock_tells → left ≡ moments)
+OtherDecided clock_tells c host frame (Outcome.Recorded t) moments left = FaultyRecorded clock_tells c host frame t moments left
 
 abbrev pub is_event : Frame → Bool
 is_event (Frame.Event e) = true

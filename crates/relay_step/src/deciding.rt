@@ -11,17 +11,18 @@ ghost use Rattle.at_event.specs.declared.frame.Frame.{Frame as AFrame};
 ghost use Rattle.relay_step.specs.Around.{around};
 ghost use Rattle.relay_step.specs.Asked.{AskedInVain};
 ghost use Rattle.relay_step.specs.Causes.{AskedInVainOf, CameToNothing, IsCause, IsSpentFor, OneTaken};
-ghost use Rattle.relay_step.specs.Messages.{EndsNumbers, IsAsked, IsAskedOf, IsDecided, IsPassedAs, KeepsJournal, told_as};
-ghost use Rattle.relay_step.specs.Steps.{rows_told, step_of};
-ghost use Rattle.relay_step.specs.Taking.{EventTold, OtherTold, is_event};
+ghost use Rattle.relay_step.specs.Messages.{EndsNumbers, IsAsked, IsAskedOf, IsDecided, IsSkippedAs, KeepsJournal, told_as};
+ghost use Rattle.relay_step.specs.Steps.{rows_decided, step_of};
+ghost use Rattle.relay_step.specs.Taking.{EventDecided, OtherDecided, is_event};
 
 use crate::asking::ask_all;
+use crate::decided::{Decided, Skipped, skip};
 use crate::fault::StepFault;
 use crate::losing::take_lost;
-use crate::outside::{ask_moment, tell_text};
+use crate::outside::ask_moment;
 use crate::taking::take;
-use crate::told::{Passed, Told, pass_over};
 use at_authority::Judges;
+use at_cid::ghost_text;
 use at_event::{Event, Frame, FrameFault, read_frame};
 use relay_core::{Answers, Core, Next, Question};
 use relay_io::{Clock, Repos};
@@ -37,8 +38,8 @@ fn decide_event<P: Judges, R: Repos, C: Clock>(
     judges: &mut P,
     repos: &mut R,
     clock: &mut C,
-) -> Result<Told, StepFault>
-    ensures told { IfOk result (λ told. EventTold C.tells R.tells core.now host.now event told (around (P.panel judges.old) (C.moments clock.old) (R.repository repos.old)) (around (P.panel judges.new) (C.moments clock.new) (R.repository repos.new))) }
+) -> Result<Decided, StepFault>
+    ensures told { IfOk result (λ told. EventDecided C.tells R.tells core.now host.now event told (around (P.panel judges.old) (C.moments clock.old) (R.repository repos.old)) (around (P.panel judges.new) (C.moments clock.new) (R.repository repos.new))) }
     ensures in_vain { OnErr result (CameToNothing C.tells R.tells (AskedInVain (P.panel judges.old) event.did (P.panel judges.new))
         (around (P.panel judges.old) (C.moments clock.old) (R.repository repos.old)) (around (P.panel judges.new) (C.moments clock.new) (R.repository repos.new))) }
     ensures caused { IfErr result (IsCause (EndsNumbers core.now host.now (Ok (AFrame.Event event))) (IsSpent (P.panel judges.new (method_of event.did)))
@@ -46,10 +47,10 @@ fn decide_event<P: Judges, R: Repos, C: Clock>(
     ensures clock_counts { C.faults clock.old ≤ C.faults clock.new }
     ensures repos_count { R.faults repos.old ≤ R.faults repos.new }
 {
-    event.tell_event();
+    event.ghost_event();
     let (next, answers) = ask_all(alloc, core, host, &event, judges, clock)?;
     match next {
-        Next::Pass(_) => Ok(Told::Passed(Passed::Old(event.seq))),
+        Next::Pass(_) => Ok(Decided::Skipped(Skipped::Old(event.seq))),
         Next::Done(decision) => take(alloc, core, host, event, &decision, answers),
         Next::Ask(_) => take_lost(alloc, core, host, event, answers, judges, repos),
     }
@@ -62,16 +63,16 @@ fn decide_other<C: Clock>(
     host: &str,
     frame: Frame,
     clock: &mut C,
-) -> Result<Told, StepFault>
+) -> Result<Decided, StepFault>
     requires other { is_event frame ≡ false }
-    ensures told { IfOk result (λ told. OtherTold C.tells core.now host.now frame told (C.moments clock.old) (C.moments clock.new)) }
+    ensures told { IfOk result (λ told. OtherDecided C.tells core.now host.now frame told (C.moments clock.old) (C.moments clock.new)) }
     ensures in_vain { OnErr result (IsTrue C.tells → OneTaken (C.moments clock.old) (C.moments clock.new)) }
     ensures caused { IfErr result (IsCause ⊥ ⊥ ⊥ (Rose (C.faults clock.old) (C.faults clock.new))) }
     ensures counts { C.faults clock.old ≤ C.faults clock.new }
 {
     let mut answers = Answers::new();
     match core.next(host, &frame, &answers) {
-        Next::Pass(_) => return Ok(Told::Passed(pass_over(&frame))),
+        Next::Pass(_) => return Ok(Decided::Skipped(skip(&frame))),
         Next::Ask(Question::Moment) => answers.moment = Some(ask_moment(clock)?),
         _ => unreachable!(),
     }
@@ -79,7 +80,7 @@ fn decide_other<C: Clock>(
         unreachable!()
     };
     match core.row(alloc, host, frame, &decision, answers)? {
-        Some(row) => Ok(Told::Took(row)),
+        Some(row) => Ok(Decided::Recorded(row)),
         None => unreachable!(),
     }
 }
@@ -93,14 +94,14 @@ fn decide_frame<P: Judges, R: Repos, C: Clock>(
     judges: &mut P,
     repos: &mut R,
     clock: &mut C,
-) -> Result<Told, StepFault>
+) -> Result<Decided, StepFault>
     requires host { IsTrue (is_host host.now) }
     requires frame { IsFormedFrame frame }
     ensures told { IfOk result (λ told. IsDecided core.now host.now (Ok frame) (told_as told)) }
-    ensures passed { IfOk result (IsPassedAs (Ok frame)) }
+    ensures passed { IfOk result (IsSkippedAs (Ok frame)) }
     ensures asked { IfOk result (λ told. IsAskedOf C.tells R.tells core.now (around (P.panel judges.old) (C.moments clock.old) (R.repository repos.old)) host.now (Ok frame) (told_as told)
         (around (P.panel judges.new) (C.moments clock.new) (R.repository repos.new))) }
-    ensures formed { IfOk result (λ told. KeepsJournal core.now (rows_told (told_as told))) }
+    ensures formed { IfOk result (λ told. KeepsJournal core.now (rows_decided (told_as told))) }
     ensures in_vain { OnErr result (CameToNothing C.tells R.tells (AskedInVainOf (P.panel judges.old) (Ok frame) (P.panel judges.new))
         (around (P.panel judges.old) (C.moments clock.old) (R.repository repos.old)) (around (P.panel judges.new) (C.moments clock.new) (R.repository repos.new))) }
     ensures caused { IfErr result (IsCause (EndsNumbers core.now host.now (Ok frame)) (IsSpentFor (Ok frame) (P.panel judges.new))
@@ -109,10 +110,10 @@ fn decide_frame<P: Judges, R: Repos, C: Clock>(
     ensures repos_count { R.faults repos.old ≤ R.faults repos.new }
 {
     made_rows_are_formed();
-    tell_text(host);
+    ghost_text(host);
     match frame {
         Frame::Event(event) => {
-            event.tell_event();
+            event.ghost_event();
             decide_event(alloc, core, host, event, judges, repos, clock)
         }
         other @ (Frame::Faulty(_) | Frame::Info | Frame::Error | Frame::Unknown) => {
@@ -131,17 +132,17 @@ pub fn decide_message<P: Judges, R: Repos, C: Clock>(
     judges: &mut P,
     repos: &mut R,
     clock: &mut C,
-) -> Result<Told, StepFault>
+) -> Result<Decided, StepFault>
     requires host { IsTrue (is_host host.now) }
     // Behind each journal for which the state stands, this is what comes of the message.
     ensures told { IfOk result (λ told. IsDecided core.now host.now (frame_of message.now) (told_as told)) }
     // Where it makes no row, it says why, as the message reads.
-    ensures passed { IfOk result (IsPassedAs (frame_of message.now)) }
+    ensures passed { IfOk result (IsSkippedAs (frame_of message.now)) }
     // This was asked around, and nothing else.
     ensures asked { IfOk result (λ told. IsAsked C.tells R.tells core.now (around (P.panel judges.old) (C.moments clock.old) (R.repository repos.old))
         (step_of host.now message.now (told_as told)) (around (P.panel judges.new) (C.moments clock.new) (R.repository repos.new))) }
     // With its row, a journal is one still.
-    ensures formed { IfOk result (λ told. KeepsJournal core.now (rows_told (told_as told))) }
+    ensures formed { IfOk result (λ told. KeepsJournal core.now (rows_decided (told_as told))) }
     // Where it fails.
     ensures in_vain { OnErr result (CameToNothing C.tells R.tells (AskedInVainOf (P.panel judges.old) (frame_of message.now) (P.panel judges.new))
         (around (P.panel judges.old) (C.moments clock.old) (R.repository repos.old)) (around (P.panel judges.new) (C.moments clock.new) (R.repository repos.new))) }
@@ -152,8 +153,8 @@ pub fn decide_message<P: Judges, R: Repos, C: Clock>(
 {
     match read_frame(alloc, message) {
         Ok(frame) => decide_frame(alloc, core, host, frame, judges, repos, clock),
-        Err(FrameFault::BadFrame) => Ok(Told::Passed(Passed::BadFrame)),
-        Err(FrameFault::NoSeq) => Ok(Told::Passed(Passed::NoSeq)),
+        Err(FrameFault::BadFrame) => Ok(Decided::Skipped(Skipped::BadFrame)),
+        Err(FrameFault::NoSeq) => Ok(Decided::Skipped(Skipped::NoSeq)),
         Err(FrameFault::Memory) => Err(StepFault::Memory),
     }
 }

@@ -18,7 +18,7 @@ pub enum StepFault {
     /// The clock failed.
     #[error("the clock failed")]
     Clock,
-    /// Memory was wanted.
+    /// Memory ran out.
     #[error("out of memory")]
     Memory,
 }

@@ -1,13 +1,12 @@
 //! The fetch of an account's repository.
 
-ghost use Rattle.std.specs.Prelude.{◌≡◌, ◌+◌, ◌≤◌, ◌<◌, ◌^◌, ℕ, Option, Ok, true, length, IsTrue, IfOk, IfErr, OnOk, OnErr};
+ghost use Rattle.std.specs.Prelude.{◌≡◌, ◌+◌, ◌≤◌, ◌<◌, ℕ, Option, Ok, true, IsTrue, IfOk, IfErr, OnOk, OnErr};
 ghost use Rattle.at_cid.specs.Counts.{Rose};
 ghost use Rattle.at_syntax.specs.Did.{is_did, method_of};
 ghost use Rattle.at_authority.specs.Panels.{IsSpent};
 ghost use Rattle.at_car.specs.Blocks.{IsLinkOf};
-ghost use Rattle.at_cbor.specs.Spelling.{IsString};
 ghost use Rattle.relay_row.specs.Rules.{is_message};
-ghost use Rattle.relay_row.specs.declared.limits.TheConstants.{NUMBERS};
+ghost use Rattle.at_cid.specs.declared.limits.TheConstants.{NUMBERS};
 ghost use Rattle.relay_core.specs.Decide.{is_found, whole_under};
 ghost use Rattle.relay_step.specs.Around.{SameRepositories};
 ghost use Rattle.relay_step.specs.Causes.{IsCause};
@@ -17,10 +16,11 @@ ghost use Rattle.relay_step.specs.Operators.{AnsweredFetch};
 ghost use Rattle.relay_step.specs.declared.fault.StepFault.{StepFault as Fault};
 
 use crate::fault::StepFault;
-use crate::outside::{ask_verdict, tell_text};
+use crate::outside::ask_verdict;
 use crate::taking::is_full;
 use at_authority::Judges;
 use at_car::{Blocks, write};
+use at_cid::{ghost_bytes, ghost_text};
 use at_event::sync_frame;
 use at_syntax::Tid;
 use relay_core::{Core, FETCHED_AHEAD, FETCHED_UNSIGNED, is_ahead};
@@ -57,7 +57,7 @@ fn judge_found<P: Judges>(
     ensures in_vain { OnErr result (AskedPlain (P.panel judges.old) did.now (P.panel judges.new)) }
     ensures caused { IfErr result (IsCause ⊥ (IsSpent (P.panel judges.new (method_of did.now))) ⊥ ⊥) }
 {
-    found.head.rev.tell_value();
+    found.head.rev.ghost_value();
     if is_ahead(found.head.rev, Some(moment)) {
         return Ok(Some(FETCHED_AHEAD));
     }
@@ -68,7 +68,7 @@ fn judge_found<P: Judges>(
     }
 }
 
-/// The number with which a repository is refused, unless memory was wanted or a read failed.
+/// The number with which a repository is refused, unless memory ran out or a read failed.
 fn refused_number(fault: &RepoFault) -> Option<u8>
     ensures { result ≡ refused_as fault.now }
 {
@@ -124,14 +124,6 @@ pub(crate) fn fetch<P: Judges, R: Repos>(
     }
 }
 
-// What the type of bytes says of them.
-fn tell_bytes(bytes: &[u8])
-    ensures string { IsString bytes.now }
-    ensures short { length bytes.now < 2 ^ 63 }
-{
-    let _len = bytes.len();
-}
-
 /// A repository that was fetched, taken over under the number behind the last one. Of the event by which this goes out,
 /// the time is `time`, and the commit block is the one block.
 fn take_over(
@@ -153,11 +145,11 @@ fn take_over(
     blocks.put(head.commit, found.block.as_slice())?;
     let car = write(alloc, &head.commit, &blocks)?;
     let message = sync_frame(alloc, did, head.rev, car.as_slice(), time, last + 1)?;
-    tell_text(did);
-    tell_text(time);
-    tell_bytes(car.as_slice());
-    tell_bytes(message.as_slice());
-    head.rev.tell_value();
+    ghost_text(did);
+    ghost_text(time);
+    ghost_bytes(car.as_slice());
+    ghost_bytes(message.as_slice());
+    head.rev.ghost_value();
     Ok(Whole {
         seq: last + 1,
         head,

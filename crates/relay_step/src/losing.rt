@@ -6,7 +6,7 @@ ghost use Rattle.at_syntax.specs.Did.{is_did, method_of};
 ghost use Rattle.at_form.specs.declared.forms.TheConstants.{LONGEST_SHORT_TEXT};
 ghost use Rattle.at_authority.specs.Panels.{IsSpent};
 ghost use Rattle.at_event.specs.declared.frame.Frame.{Frame as AFrame};
-ghost use Rattle.relay_row.specs.declared.limits.TheConstants.{NUMBERS};
+ghost use Rattle.at_cid.specs.declared.limits.TheConstants.{NUMBERS};
 ghost use Rattle.relay_core.specs.Entries.{account_in, cursor_in};
 ghost use Rattle.relay_core.specs.Table.{next_of};
 ghost use Rattle.relay_core.specs.declared.answers.Question.{Question as AQuestion};
@@ -14,14 +14,14 @@ ghost use Rattle.relay_core.specs.declared.decision.Next.{Next as ANext};
 ghost use Rattle.relay_step.specs.Around.{SameRepositories};
 ghost use Rattle.relay_step.specs.Causes.{IsCause};
 ghost use Rattle.relay_step.specs.Fetches.{AskedPlain};
-ghost use Rattle.relay_step.specs.Taking.{LostTook};
+ghost use Rattle.relay_step.specs.Taking.{LostRecorded};
 
 use crate::asking::repo_of;
+use crate::decided::Decided;
 use crate::fault::StepFault;
 use crate::fetching::{fetch, make};
 use crate::reading::last_rev;
 use crate::taking::take;
-use crate::told::Told;
 use at_authority::Judges;
 use at_event::Event;
 use relay_core::{Answers, Core, Next};
@@ -37,11 +37,11 @@ pub(crate) fn take_lost<P: Judges, R: Repos>(
     mut answers: Answers,
     judges: &mut P,
     repos: &mut R,
-) -> Result<Told, StepFault>
+) -> Result<Decided, StepFault>
     requires did { IsTrue (is_did event.did) }
     requires time { length event.time ≤ LONGEST_SHORT_TEXT }
     requires asks { next_of (cursor_in core.now host.now) (account_in core.now event.did) (AFrame.Event event) answers ≡ ANext.Ask AQuestion.Fetch }
-    ensures took { IfOk result (λ told. LostTook R.tells core.now host.now event answers told (P.panel judges.old) (R.repository repos.old) (P.panel judges.new)) }
+    ensures recorded { IfOk result (λ told. LostRecorded R.tells core.now host.now event answers told (P.panel judges.old) (R.repository repos.old) (P.panel judges.new)) }
     ensures same { IsTrue R.tells → SameRepositories (R.repository repos.old) (R.repository repos.new) }
     ensures in_vain { OnErr result (AskedPlain (P.panel judges.old) event.did (P.panel judges.new)) }
     ensures caused { IfErr result (IsCause (NUMBERS ≤ core.now.last + 1) (IsSpent (P.panel judges.new (method_of event.did))) (Rose (R.faults repos.old) (R.faults repos.new)) ⊥) }

@@ -1,4 +1,4 @@
-//! An account taken down or restored at an operator's word.
+//! An account taken down or restored at an operator's command.
 
 ghost use Rattle.std.specs.Prelude.{◌≡◌, ◌≤◌, length, IsTrue, IfOk, IfErr, OnErr};
 ghost use Rattle.at_cid.specs.Counts.{Rose};
@@ -6,12 +6,13 @@ ghost use Rattle.at_syntax.specs.Did.{is_did};
 ghost use Rattle.at_form.specs.declared.forms.TheConstants.{LONGEST_SHORT_TEXT};
 ghost use Rattle.relay_step.specs.Causes.{IsCause, OneTaken};
 ghost use Rattle.relay_step.specs.Messages.{KeepsJournal};
-ghost use Rattle.relay_step.specs.Words.{EndsBehind, OperatedAt, rows_said};
+ghost use Rattle.relay_step.specs.Commands.{EndsBehind, OperatedAt, rows_commanded};
 
+use crate::command::CommandAnswer;
 use crate::fault::StepFault;
-use crate::outside::{ask_moment, tell_text};
+use crate::outside::ask_moment;
 use crate::taking::is_full;
-use crate::word::Word;
+use at_cid::ghost_text;
 use relay_core::Core;
 use relay_io::Clock;
 use relay_law::operated_rows_are_formed;
@@ -26,25 +27,25 @@ pub fn operate<C: Clock>(
     down: bool,
     time: &str,
     clock: &mut C,
-) -> Result<Word, StepFault>
+) -> Result<CommandAnswer, StepFault>
     requires did { IsTrue (is_did did.now) }
     requires time { length time.now ≤ LONGEST_SHORT_TEXT }
-    ensures operated { IfOk result (λ word. OperatedAt C.tells core.now did.now down time.now (C.moments clock.old) word (C.moments clock.new)) }
-    ensures formed { IfOk result (λ word. KeepsJournal core.now (rows_said word)) }
+    ensures operated { IfOk result (λ command. OperatedAt C.tells core.now did.now down time.now (C.moments clock.old) command (C.moments clock.new)) }
+    ensures formed { IfOk result (λ command. KeepsJournal core.now (rows_commanded command)) }
     ensures in_vain { OnErr result (IsTrue C.tells → OneTaken (C.moments clock.old) (C.moments clock.new)) }
     ensures caused { IfErr result (IsCause (EndsBehind core.now did.now down) ⊥ ⊥ (Rose (C.faults clock.old) (C.faults clock.new))) }
     ensures counts { C.faults clock.old ≤ C.faults clock.new }
 {
     let moment = ask_moment(clock)?;
     if let Some(refusal) = core.operate_refusal(did, down) {
-        return Ok(Word::Refused(refusal));
+        return Ok(CommandAnswer::Refused(refusal));
     }
     if is_full(core) {
         return Err(StepFault::SeqEnd);
     }
     operated_rows_are_formed();
-    tell_text(did);
-    tell_text(time);
+    ghost_text(did);
+    ghost_text(time);
     let operated = core.operated(alloc, did, down, time, Some(moment))?;
-    Ok(Word::Made(Row::Operated(operated)))
+    Ok(CommandAnswer::Made(Row::Operated(operated)))
 }

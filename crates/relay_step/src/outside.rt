@@ -1,26 +1,18 @@
 //! The judges and the clock, asked once each.
 
 ghost use Rattle.std.specs.Prelude.{◌≡◌, ◌≤◌, ◌<◌, IsTrue, IfOk, IfErr, OnErr};
-ghost use Rattle.std.specs.Str.{IsUtf8};
 ghost use Rattle.at_cid.specs.Counts.{Rose};
 ghost use Rattle.at_syntax.specs.Did.{is_did, method_of};
 ghost use Rattle.at_authority.specs.Calls.{IsCall, answers, refreshes};
 ghost use Rattle.at_authority.specs.Panels.{IsSpent};
 ghost use Rattle.at_authority.specs.Queries.{asks_home, asks_verdict};
-ghost use Rattle.at_cbor.specs.Spelling.{IsString};
-ghost use Rattle.relay_row.specs.declared.limits.TheConstants.{NUMBERS};
+ghost use Rattle.at_cid.specs.declared.limits.TheConstants.{NUMBERS};
 ghost use Rattle.relay_step.specs.Causes.{IsCause, called};
-ghost use Rattle.relay_step.specs.Words.{IsNow};
+ghost use Rattle.relay_step.specs.Commands.{IsNow};
 
 use crate::fault::StepFault;
 use at_authority::{JudgeFault, Judges};
 use relay_io::Clock;
-
-/// What the type of a text says of it.
-pub(crate) fn tell_text(text: &str)
-    ensures string { IsString text.now }
-    ensures utf8 { IsUtf8 text.now }
-{}
 
 /// Whether a host is the home of an account.
 pub(crate) fn ask_home<P: Judges>(judges: &mut P, did: &str, host: &str) -> Result<bool, StepFault>

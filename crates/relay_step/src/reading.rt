@@ -149,7 +149,7 @@ pub(crate) fn follow(
     let (Body::Commit(commit), Read::Commit(opened)) = (&event.body, read) else {
         unreachable!()
     };
-    event.tell_event();
+    event.ghost_event();
     match link(alloc, commit, opened, &expect_of(repo)) {
         Ok(()) => Ok(Ok(())),
         Err(CheckFault::Refused(refusal)) => Ok(Err(refusal)),

@@ -1,4 +1,4 @@
-//! An account synchronized at an operator's word.
+//! An account synchronized at an operator's command.
 
 ghost use Rattle.std.specs.Prelude.{◌≡◌, ◌≤◌, length, IsTrue, IfOk, IfErr, OnErr};
 ghost use Rattle.at_cid.specs.Counts.{Rose};
@@ -9,16 +9,16 @@ ghost use Rattle.relay_step.specs.Asked.{AskedInVain};
 ghost use Rattle.relay_step.specs.Around.{around};
 ghost use Rattle.relay_step.specs.Causes.{CameToNothing, IsCause};
 ghost use Rattle.relay_step.specs.Messages.{KeepsJournal};
-ghost use Rattle.relay_step.specs.Words.{EndsFetched, SyncedAt, rows_said, told_where};
+ghost use Rattle.relay_step.specs.Commands.{EndsFetched, SyncedAt, rows_commanded, told_where};
 
 use crate::asking::repo_of;
+use crate::command::CommandAnswer;
 use crate::fault::StepFault;
 use crate::fetching::{fetch, make};
-use crate::outside::{ask_moment, tell_text};
+use crate::outside::ask_moment;
 use crate::reading::last_rev;
-use crate::word::Word;
 use at_authority::Judges;
-use at_cid::Words;
+use at_cid::{Words, ghost_text};
 use relay_core::{Core, fetch_refusal};
 use relay_io::{Clock, Repos};
 use relay_law::synced_rows_are_formed;
@@ -35,12 +35,12 @@ pub fn sync_now<P: Judges, R: Repos, C: Clock>(
     judges: &mut P,
     repos: &mut R,
     clock: &mut C,
-) -> Result<Word, StepFault>
+) -> Result<CommandAnswer, StepFault>
     requires did { IsTrue (is_did did.now) }
     requires time { length time.now ≤ LONGEST_SHORT_TEXT }
-    ensures synced { IfOk result (λ word. SyncedAt C.tells R.tells core.now did.now time.now (around (P.panel judges.old) (C.moments clock.old) (R.repository repos.old))
-        word (around (P.panel judges.new) (C.moments clock.new) (R.repository repos.new))) }
-    ensures formed { IfOk result (λ word. KeepsJournal core.now (rows_said word)) }
+    ensures synced { IfOk result (λ command. SyncedAt C.tells R.tells core.now did.now time.now (around (P.panel judges.old) (C.moments clock.old) (R.repository repos.old))
+        command (around (P.panel judges.new) (C.moments clock.new) (R.repository repos.new))) }
+    ensures formed { IfOk result (λ command. KeepsJournal core.now (rows_commanded command)) }
     ensures in_vain { OnErr result (CameToNothing C.tells R.tells (AskedInVain (P.panel judges.old) did.now (P.panel judges.new))
         (around (P.panel judges.old) (C.moments clock.old) (R.repository repos.old)) (around (P.panel judges.new) (C.moments clock.new) (R.repository repos.new))) }
     ensures caused { IfErr result (IsCause (EndsFetched core.now did.now (told_where R.tells (R.repository repos.old did.now)) (P.panel judges.old) (P.panel judges.new)) (IsSpent (P.panel judges.new (method_of did.now)))
@@ -50,19 +50,19 @@ pub fn sync_now<P: Judges, R: Repos, C: Clock>(
 {
     let moment = ask_moment(clock)?;
     if let Some(refusal) = core.sync_refusal(did) {
-        return Ok(Word::Refused(refusal));
+        return Ok(CommandAnswer::Refused(refusal));
     }
     let least = last_rev(&repo_of(core, did));
     let found = fetch(alloc, did, least, moment, judges, repos)?;
     let fetched = make(alloc, core, did, time, found)?;
     if let Some(refusal) = fetch_refusal(&fetched) {
-        return Ok(Word::Refused(refusal));
+        return Ok(CommandAnswer::Refused(refusal));
     }
     let Fetched::Whole(whole) = fetched else {
         unreachable!()
     };
     synced_rows_are_formed();
-    tell_text(did);
+    ghost_text(did);
     let did = Words::from_str(alloc, did)?;
-    Ok(Word::Made(Row::Synced(did, whole, Some(moment))))
+    Ok(CommandAnswer::Made(Row::Synced(did, whole, Some(moment))))
 }

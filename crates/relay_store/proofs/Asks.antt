@@ -14,7 +14,7 @@ use Rattle.relay_step.specs.Around.{Around, Asked, AskedNothing, AllAsked, IsTim
 use Rattle.relay_step.specs.Asked.{Answered}
 use Rattle.relay_step.specs.Causes.{AskedInVainOf, CameToNothing}
 use Rattle.relay_step.specs.Fetching.{IsFetched, IsFetchedFrom, IsFetchedTold, fetched_good}
-use Rattle.relay_step.specs.Steps.{Step, Told, after_end, passed_over, took, rows, rows_told}
+use Rattle.relay_step.specs.Steps.{Step, Decided, after_end, skipped, recorded, rows, rows_decided}
 use Rattle.relay_store.specs.Batches.{InVain}
 use Rattle.relay_store.specs.declared.message.Message.{Message}
 
@@ -33,17 +33,17 @@ fetched_for old mid J None t same fetched = tt
 fetched_for old mid J (Some r) t same fetched = λ loses.
     subst (λ (bytes : Option (List ℕ)). IsFetchedFrom bytes t.did (last_rev (account t.did J).repo) (or_zero t.moment) (fetched_good t.fetched) (found_in t.fetched)) (same t.did) (fetched loses)
 
-fetched_from : (old mid : List ℕ → Option (List ℕ)) (J : List Row) (told : Told) → SameRepositories old mid → IsFetchedTold mid J told → IsFetchedTold old J told
+fetched_from : (old mid : List ℕ → Option (List ℕ)) (J : List Row) (told : Decided) → SameRepositories old mid → IsFetchedTold mid J told → IsFetchedTold old J told
 fetched_from old mid J after_end same fetched = tt
-fetched_from old mid J (passed_over pass) same fetched = tt
-fetched_from old mid J (took t) same fetched = fetched_for old mid J t.refusal t same fetched
+fetched_from old mid J (skipped pass) same fetched = tt
+fetched_from old mid J (recorded t) same fetched = fetched_for old mid J t.refusal t same fetched
 
 -- what was asked behind nothing
 asked_from : (clock_tells repos_tell : Bool) (J : List Row) (a b c : Around) (s : Step) → AskedNothing clock_tells repos_tell a b → Asked clock_tells repos_tell J b s c → Asked clock_tells repos_tell J a s c
 asked_from clock_tells repos_tell J a b c s none asked = record {
-  answered = subst (λ (p : Panel). Answered p s.host (frame_of s.bytes) s.told c.panel) none.panel asked.answered;
-  timed = λ tells. subst (λ (m : List ℕ). IsTimed m s.told c.moments) (none.moments tells) (asked.timed tells);
-  fetched = λ tells. fetched_from a.repository b.repository J s.told (none.same tells) (asked.fetched tells);
+  answered = subst (λ (p : Panel). Answered p s.host (frame_of s.bytes) s.decided c.panel) none.panel asked.answered;
+  timed = λ tells. subst (λ (m : List ℕ). IsTimed m s.decided c.moments) (none.moments tells) (asked.timed tells);
+  fetched = λ tells. fetched_from a.repository b.repository J s.decided (none.same tells) (asked.fetched tells);
   same = λ tells did. asked.same tells did ∙ none.same tells did;
 }
 
@@ -58,8 +58,8 @@ all_joined clock_tells repos_tell J a b c [] others one two =
 all_joined clock_tells repos_tell J a b c (s ∷ steps) others one two = (
   one.0,
   one.1,
-  all_joined clock_tells repos_tell (J ++ rows_told s.told) one.0 b c steps others one.2
-      (subst (λ (j : List Row). AllAsked clock_tells repos_tell j b others c) (sym (append_assoc J (rows_told s.told) (rows steps))) two),
+  all_joined clock_tells repos_tell (J ++ rows_decided s.decided) one.0 b c steps others one.2
+      (subst (λ (j : List Row). AllAsked clock_tells repos_tell j b others c) (sym (append_assoc J (rows_decided s.decided) (rows steps))) two),
 )
 
 pub all_one : (clock_tells repos_tell : Bool) (J : List Row) (a b c : Around) (steps : List Step) (s : Step) → AllAsked clock_tells repos_tell J a steps b → Asked clock_tells repos_tell (J ++ rows steps) b s c

@@ -14,14 +14,14 @@ use Rattle.relay_row.specs.Journal.{IsJournal}
 use Rattle.relay_step.specs.Around.{Around}
 use Rattle.relay_step.specs.Causes.{CameToNothing}
 use Rattle.relay_step.specs.Steps.{Step, rows}
-use Rattle.relay_store.specs.Batches.{AreAnswers, AreExtra, Batched, EndsLast, HasEnd, InVain, StopsAsking, message_from, scene, sent}
-use Rattle.relay_store.specs.Drafts.{HasRows, IsAhead, behind_draft, end_of}
+use Rattle.relay_store.specs.Batches.{AreAnswers, AreExtra, Batched, EndsLast, HasEnd, InVain, StopsAsking, message_from, scene, messages_sent}
+use Rattle.relay_store.specs.PendingBodies.{HasRows, IsAhead, behind_pending, end_of}
 use Rattle.relay_store.specs.Journals.{IsOneOf, bytes_of}
 use Rattle.relay_store.specs.Outcomes.{outcome_of}
 use Rattle.relay_store.specs.Places.{places_in, places_of}
 use Rattle.relay_store.specs.Store.{IsKept, IsOf, Keeps, StoreState, seen}
 use Rattle.relay_store.specs.Taking.{Stopped}
-use Rattle.relay_store.specs.declared.draft.Draft.{Draft}
+use Rattle.relay_store.specs.declared.pending.Pending.{Pending}
 use Rattle.relay_store.specs.declared.fault.StoreFault.{StoreFault}
 use Rattle.relay_store.specs.declared.message.Message.{Message}
 use Rattle.relay_store.specs.declared.outcome.Outcome.{Outcome}
@@ -31,7 +31,7 @@ use Rattle.relay_store.proofs.Images.{kept_log}
 use Rattle.relay_store.proofs.Nexts.{next_none}
 use Rattle.relay_store.proofs.Rooms.{behind_is}
 use Rattle.relay_store.proofs.Runs.{sent_joined}
-use Rattle.relay_store.proofs.Spellings.{draft_is}
+use Rattle.relay_store.proofs.Encodings.{pending_is}
 
 pub kept_of : (K : List Row) (log : LogState) (side : Side) (state : Core) (places : List Place) (v : View) → IsAhead K [] log state places v → Keeps K (seen log side state places) v
 kept_of K log side state places v on = record {
@@ -75,7 +75,7 @@ came_of C R (Some StoreFault.Repos) behind b c stops = stops
 came_of C R (Some StoreFault.Memory) behind b c stops = stops
 came_of C R (Some StoreFault.Clock) behind b c stops = stops
 
-module _ (C R : Bool) (log : LogState) (group : List Message) (state state_now : Core) (places places_now : List Place) (d_now : Draft) (a b : Around) (outcomes : List Outcome) (fault : Option StoreFault)
+module _ (C R : Bool) (log : LogState) (group : List Message) (state state_now : Core) (places places_now : List Place) (d_now : Pending) (a b : Around) (outcomes : List Outcome) (fault : Option StoreFault)
     (st : Stopped C R log group state state_now places places_now d_now a b outcomes fault) (side : Side) where
   -- what is known is ahead of the disk
   pub ahead : (J : List Row) (v : View) → Keeps J (seen log side state places) v → IsAhead J (rows st.gathered.steps) log state_now places_now v
@@ -89,13 +89,13 @@ module _ (C R : Bool) (log : LogState) (group : List Message) (state state_now :
   }
 
   pub has_rows : (rows : List Row) × HasRows rows d_now
-  has_rows = (rows st.gathered.steps, st.gathered.draft)
+  has_rows = (rows st.gathered.steps, st.gathered.pending)
 
   as_many : length outcomes ≡ length st.gathered.steps
   as_many = sym (length-map outcomes Some) ∙ ap length st.gathered.answers ∙ length-map st.gathered.steps outcome_of
 
   in_front : length group ≡ length st.gathered.steps + length st.left
-  in_front = omega (arith, ap length st.gathered.front, length-append (sent st.gathered.steps) st.left, length-map st.gathered.steps (λ s. message_from s.host s.bytes))
+  in_front = omega (arith, ap length st.gathered.front, length-append (messages_sent st.gathered.steps) st.left, length-map st.gathered.steps (λ s. message_from s.host s.bytes))
 
   -- no message has two outcomes
   pub answers_few : length outcomes ≤ length group
@@ -106,21 +106,21 @@ module _ (C R : Bool) (log : LogState) (group : List Message) (state state_now :
   answers_all none =
       let no_extra : st.extra ≡ [] = subst (λ (f : Option StoreFault). AreExtra f st.extra) none st.which in
       ⊎_elim
-      (λ last. inl (omega (arith, as_many, in_front, ap length st.next, ap (λ (l : List Step). length (sent l ++ st.behind)) no_extra, ap length last)))
+      (λ last. inl (omega (arith, as_many, in_front, ap length st.next, ap (λ (l : List Step). length (messages_sent l ++ st.behind)) no_extra, ap length last)))
       (λ ends. inr ends)
       (st.all none)
 
   pub few_rows : length group ≤ 64 → d_now.count ≤ 64
-  few_rows few = omega (arith, few, st.gathered.few, st.gathered.draft.count)
+  few_rows few = omega (arith, few, st.gathered.few, st.gathered.pending.count)
 
   roomy : (rows st.gathered.steps ≡ []) ⊎ (end_of log.end (rows st.gathered.steps) ≤ log.most)
   roomy = ⊎_elim
-      (λ none. inl (no_rows (rows st.gathered.steps) (sym st.gathered.draft.count ∙ none)))
-      (λ fits. inr (omega (arith, fits.0, ap length (draft_is (rows st.gathered.steps) d_now st.gathered.draft))))
+      (λ none. inl (no_rows (rows st.gathered.steps) (sym st.gathered.pending.count ∙ none)))
+      (λ fits. inr (omega (arith, fits.0, ap length (pending_is (rows st.gathered.steps) d_now st.gathered.pending))))
       st.gathered.fits
 
-  front_of : group ≡ sent (st.gathered.steps ++ st.extra) ++ st.behind
-  front_of = st.gathered.front ∙ ap (λ (l : List Message). sent st.gathered.steps ++ l) st.next ∙ sym (append_assoc (sent st.gathered.steps) (sent st.extra) st.behind)
+  front_of : group ≡ messages_sent (st.gathered.steps ++ st.extra) ++ st.behind
+  front_of = st.gathered.front ∙ ap (λ (l : List Message). messages_sent st.gathered.steps ++ l) st.next ∙ sym (append_assoc (messages_sent st.gathered.steps) (messages_sent st.extra) st.behind)
       ∙ ap (λ (l : List Message). l ++ st.behind) (sym (sent_joined st.gathered.steps st.extra))
 
   module _ {D : Type 0} (view : D → View) (tells : Bool) (disk disk_now : D) (log_now : LogState)
@@ -129,10 +129,10 @@ module _ (C R : Bool) (log : LogState) (group : List Message) (state state_now :
       (untouched : d_now.count ≡ 0 → (log_now ≡ log) × (disk_now ≡ disk)) where
     untouched_by : rows st.gathered.steps ≡ [] → (log_now ≡ log) × ((places_now ≡ places) × (disk_now ≡ disk))
     untouched_by none =
-        let same = untouched (st.gathered.draft.count ∙ ap length none) in
+        let same = untouched (st.gathered.pending.count ∙ ap length none) in
         (same.0, (st.gathered.window ∙ ap (λ (l : List Row). places ++ places_in log.end 0 l) none ∙ append-nil places, same.1))
 
-    pub batched : fault ≢ Some StoreFault.Disk → log_now.end ≡ behind_draft log.end d_now
+    pub batched : fault ≢ Some StoreFault.Disk → log_now.end ≡ behind_pending log.end d_now
         → (IsTrue tells → (J rows : List Row) → HasRows rows d_now → IsAhead J rows log state_now places_now (view disk) → IsAhead (J ++ rows) [] log_now state_now places_now (view disk_now))
         → (J : List Row) → IsOf J state → Batched view tells C R J group (scene (seen log side state places) disk a) (scene (seen log_now side state_now places_now) disk_now b) outcomes fault
     batched not ends added J of = record {
@@ -152,11 +152,11 @@ module _ (C R : Bool) (log : LogState) (group : List Message) (state state_now :
       next = st.ends_next;
       format = format.0;
       most = format.1;
-      end = λ n. ends ∙ behind_is log.end (rows st.gathered.steps) d_now st.gathered.draft;
+      end = λ n. ends ∙ behind_is log.end (rows st.gathered.steps) d_now st.gathered.pending;
       known = λ n. st.gathered.core J of.holds;
-      keeps = λ n told keeps. kept_of (J ++ rows st.gathered.steps) log_now side state_now places_now (view disk_now) (added told J (rows st.gathered.steps) st.gathered.draft (ahead J (view disk) keeps));
+      keeps = λ n told keeps. kept_of (J ++ rows st.gathered.steps) log_now side state_now places_now (view disk_now) (added told J (rows st.gathered.steps) st.gathered.pending (ahead J (view disk) keeps));
       untouched = untouched_by;
-      moments = λ told keeps. moments told J (rows st.gathered.steps) st.gathered.draft (ahead J (view disk) keeps);
+      moments = λ told keeps. moments told J (rows st.gathered.steps) st.gathered.pending (ahead J (view disk) keeps);
     }
 
     -- the disk failed
@@ -184,7 +184,7 @@ module _ (C R : Bool) (log : LogState) (group : List Message) (state state_now :
           known = λ n. absurd (n refl);
           keeps = λ n. absurd (n refl);
           untouched = untouched_by;
-          moments = λ told keeps. moments told J (rows st.gathered.steps) st.gathered.draft (ahead J (view disk) keeps);
+          moments = λ told keeps. moments told J (rows st.gathered.steps) st.gathered.pending (ahead J (view disk) keeps);
         }
 
     pub batched_fails_as : (os : List Outcome) (f : Option StoreFault) → os ≡ [] → f ≡ Some StoreFault.Disk → (J : List Row) → IsOf J state

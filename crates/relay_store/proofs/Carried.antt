@@ -1,10 +1,7 @@
 -- The rows that carry a state over, put one after another.
-use Rattle.std.proofs.Common.{◌≡◌, ℕ, suc, ◌+◌, ◌≤◌, ◌<◌, Bool, true, false, cond, List, [], ◌∷◌, ◌++◌, take, drop, Option, Some, None, IsTrue, add-one, refl, sym, ◌∙◌, ap, subst, arith, append_assoc}
+use Rattle.std.proofs.Common.{◌≡◌, ℕ, suc, ◌+◌, Bool, true, false, List, [], ◌∷◌, ◌++◌, take, drop, Option, Some, None, IsTrue, add-one, refl, sym, ◌∙◌, ap, subst, append_assoc}
 use Rattle.std.specs.Option.{is_some, unwrap_or}
 use Rattle.std.specs.Prelude.{◌==◌, if◌then◌else◌, slice_get}
-use Rattle.std.specs.Map.{lookup}
-use Rattle.std.specs.Str.{bytes_eq}
-use Rattle.std.proofs.lemmas.Bool.{false≢true, true≢false}
 use Rattle.std.proofs.lemmas.List.{append-nil}
 use Rattle.relay_disk.specs.Disk.{View, IsDisk}
 use Rattle.gate_log.specs.Build.{IsBuiltOn}
@@ -12,24 +9,24 @@ use Rattle.relay_row.specs.declared.carried.Carried.{Carried}
 use Rattle.relay_row.specs.declared.row.Row.{Row}
 use Rattle.host_state.specs.Table.{listed}
 use Rattle.host_state.specs.declared.hosts.Hosts.{Hosts}
-use Rattle.account_state.specs.Entries.{Entry, entry, is_before, known_in}
+use Rattle.account_state.specs.Entries.{entry, is_before}
 use Rattle.account_state.specs.Folds.{account, fresh}
 use Rattle.account_state.specs.State.{State}
-use Rattle.account_state.proofs.Order.{before_apart, before_trans, is_text, same_text}
 use Rattle.relay_core.specs.Entries.{Holds}
 use Rattle.relay_core.specs.declared.journal_state.Core.{Core}
-use Rattle.cut_law.specs.Cut.{account_row, account_rows, carried, cut, dids, front, host_rows, rest}
-use Rattle.cut_law.proofs.Nexts.{all_later, last_did, later, next_did}
-use Rattle.relay_store.specs.Rewriting.{HasNoRoom, IsCopied}
+use Rattle.account_state.specs.Dids.{dids}
+use Rattle.account_state.proofs.Nexts.{all_later, last_did, later, next_did}
+use Rattle.cut_law.specs.Cut.{account_row, account_rows, carried, cut, carried_front, host_rows, rows_behind_front}
+use Rattle.relay_store.specs.Rewriting.{RewriteHasNoRoom, IsCopied}
 use Rattle.relay_store.specs.declared.rewriting.Rewrite.{Rewrite}
 use Rattle.relay_store.proofs.CutFronts.{parted_at, taken_at}
 use Rattle.relay_store.proofs.Rewritten.{copied_both, copied_none, no_room_behind, no_room_front}
 
 -- ---- hosts
 
-hosts_joined_by : (none : Bool) (row : Row) (xs ys rest : List Row) → rest ≡ xs ++ ys → (if none then rest else row ∷ rest) ≡ (if none then xs else row ∷ xs) ++ ys
-hosts_joined_by true row xs ys rest is = is
-hosts_joined_by false row xs ys rest is = ap (λ (l : List Row). row ∷ l) is
+hosts_joined_by : (none : Bool) (row : Row) (xs ys rows_behind_front : List Row) → rows_behind_front ≡ xs ++ ys → (if none then rows_behind_front else row ∷ rows_behind_front) ≡ (if none then xs else row ∷ xs) ++ ys
+hosts_joined_by true row xs ys rows_behind_front is = is
+hosts_joined_by false row xs ys rows_behind_front is = ap (λ (l : List Row). row ∷ l) is
 
 hosts_joined : (xs ys : List (List ℕ × ℕ)) → host_rows (xs ++ ys) ≡ host_rows xs ++ host_rows ys
 hosts_joined [] ys = refl
@@ -42,63 +39,16 @@ module _ (tells : Bool) (hosts : List (List ℕ × ℕ)) (n : ℕ) (x : List ℕ
       (sym (ap (λ (m : ℕ). host_rows (take m hosts)) (add-one n) ∙ ap host_rows (taken_at hosts n x got) ∙ hosts_joined (take n hosts) (x ∷ [])))
       (copied_both tells (host_rows (take n hosts)) (host_rows (x ∷ [])) r now next v w u so_far one)
 
-  pub hosts_full : (e : ℕ) → HasNoRoom now.build.end now.build.most (host_rows (x ∷ [])) e → HasNoRoom r.build.end r.build.most (host_rows hosts) e
+  pub hosts_full : (e : ℕ) → RewriteHasNoRoom now.build.end now.build.most (host_rows (x ∷ [])) e → RewriteHasNoRoom r.build.end r.build.most (host_rows hosts) e
   hosts_full e full =
-      let front = host_rows (take n hosts) in
+      let carried_front = host_rows (take n hosts) in
       let more = host_rows (drop (suc n) hosts) in
-      let whole : host_rows hosts ≡ front ++ (host_rows (x ∷ []) ++ more) =
-      ap host_rows (parted_at hosts n x got) ∙ hosts_joined (take n hosts) (x ∷ drop (suc n) hosts) ∙ ap (λ (l : List Row). front ++ l) (hosts_joined (x ∷ []) (drop (suc n) hosts)) in
-      subst (λ (l : List Row). HasNoRoom r.build.end r.build.most l e) (sym whole)
-      (no_room_behind tells front (host_rows (x ∷ []) ++ more) r now v w e so_far (no_room_front now.build.end now.build.most (host_rows (x ∷ [])) more e full))
+      let whole : host_rows hosts ≡ carried_front ++ (host_rows (x ∷ []) ++ more) =
+      ap host_rows (parted_at hosts n x got) ∙ hosts_joined (take n hosts) (x ∷ drop (suc n) hosts) ∙ ap (λ (l : List Row). carried_front ++ l) (hosts_joined (x ∷ []) (drop (suc n) hosts)) in
+      subst (λ (l : List Row). RewriteHasNoRoom r.build.end r.build.most l e) (sym whole)
+      (no_room_behind tells carried_front (host_rows (x ∷ []) ++ more) r now v w e so_far (no_room_front now.build.end now.build.most (host_rows (x ∷ [])) more e full))
 
 -- ---- accounts
-
--- how many entries stand behind a DID
-abbrev pub behind_count : List ℕ → List Entry → ℕ
-behind_count did [] = 0
-behind_count did (e ∷ es) = cond (is_before did e.0) (suc (behind_count did es)) (behind_count did es)
-
-count_le : (a b : Bool) (m n : ℕ) → (a ≡ true → b ≡ true) → m ≤ n → cond a (suc m) m ≤ cond b (suc n) n
-count_le true true m n so le = omega (arith, le)
-count_le true false m n so le = absurd (false≢true (so refl))
-count_le false true m n so le = omega (arith, le)
-count_le false false m n so le = le
-
-count_lt : (a b : Bool) (m n : ℕ) → (a ≡ true → b ≡ true) → m < n → cond a (suc m) m < cond b (suc n) n
-count_lt true true m n so lt = omega (arith, lt)
-count_lt true false m n so lt = absurd (false≢true (so refl))
-count_lt false true m n so lt = omega (arith, lt)
-count_lt false false m n so lt = lt
-
-count_here : (a b : Bool) (m n : ℕ) → a ≡ false → b ≡ true → m ≤ n → cond a (suc m) m < cond b (suc n) n
-count_here true b m n off on le = absurd (true≢false off)
-count_here false true m n off on le = omega (arith, le)
-count_here false false m n off on le = absurd (false≢true on)
-
-module _ (did x : List ℕ) (less : is_before did x ≡ true) where
-  fewer : (es : List Entry) → behind_count x es ≤ behind_count did es
-  fewer [] = omega arith
-  fewer (e ∷ es) = count_le (is_before x e.0) (is_before did e.0) (behind_count x es) (behind_count did es) (λ past. before_trans did x e.0 less past) (fewer es)
-
-  not_past : (y : List ℕ) → x ≡ y → is_before x y ≡ false
-  not_past y same =
-      elim (is_before x y) as (λ b. is_before x y ≡ b → b ≡ false) [
-        | true ↦ λ past. absurd (false≢true (sym (before_apart x y past) ∙ is_text x y same))
-        | false ↦ λ past. refl
-      ] refl
-
-  fewer_by : (same : Bool) (e : Entry) (es : List Entry) (s : State) → bytes_eq x e.0 ≡ same → known_in (if same then Some e.1 else lookup (bytes_eq x) es) ≡ Some s
-      → (entry es x ≡ Some s → behind_count x es < behind_count did es) → behind_count x (e ∷ es) < behind_count did (e ∷ es)
-  fewer_by true e es s same is more =
-      let here : x ≡ e.0 = same_text x e.0 same in
-      count_here (is_before x e.0) (is_before did e.0) (behind_count x es) (behind_count did es) (not_past e.0 here) (subst (λ (y : List ℕ). is_before did y ≡ true) here less) (fewer es)
-  fewer_by false e es s same is more =
-      count_lt (is_before x e.0) (is_before did e.0) (behind_count x es) (behind_count did es) (λ past. before_trans did x e.0 less past) (more is)
-
-  -- fewer stand behind one that stands behind it
-  pub fewer_left : (es : List Entry) (s : State) → entry es x ≡ Some s → behind_count x es < behind_count did es
-  fewer_left [] s is = absurd cc
-  fewer_left (e ∷ es) s is = fewer_by (bytes_eq x e.0) e es s refl is (fewer_left es s)
 
 -- the accounts up to this DID were carried over
 pub record IsCarrying (tells : Bool) (core : Core) (did : List ℕ) (r now : Rewrite) (v w : View) : Type 0 where
@@ -134,9 +84,9 @@ module _ (tells : Bool) (core : Core) (did : List ℕ) (r now : Rewrite) (v w : 
           ∙ sym (append_assoc so_far.rows (account_row x s ∷ []) (account_rows A (later x (dids A))));
     }
 
-    pub carrying_full : (e : ℕ) → HasNoRoom now.build.end now.build.most (account_row x s ∷ []) e → (A : List Row) → Holds core A → HasNoRoom r.build.end r.build.most (account_rows A (dids A)) e
+    pub carrying_full : (e : ℕ) → RewriteHasNoRoom now.build.end now.build.most (account_row x s ∷ []) e → (A : List Row) → Holds core A → RewriteHasNoRoom r.build.end r.build.most (account_rows A (dids A)) e
     carrying_full e full A holds =
-        subst (λ (l : List Row). HasNoRoom r.build.end r.build.most l e) (sym (so_far.rest_is A holds ∙ ap (λ (l : List Row). so_far.rows ++ l) (next_rows A holds)))
+        subst (λ (l : List Row). RewriteHasNoRoom r.build.end r.build.most l e) (sym (so_far.rest_is A holds ∙ ap (λ (l : List Row). so_far.rows ++ l) (next_rows A holds)))
         (no_room_behind tells so_far.rows (account_row x s ∷ account_rows A (later x (dids A))) r now v w e so_far.copied
         (no_room_front now.build.end now.build.most (account_row x s ∷ []) (account_rows A (later x (dids A))) e full))
 
@@ -147,6 +97,6 @@ pub carried_is : (core : Core) (A : List Row) (n : ℕ) (hosts : Hosts) (rows : 
 unfolding carried
 carried_is core A n hosts rows holds is hosts_is rows_are = λ i. Row.Carried (Carried.Last ((is ∙ holds.last) i)) ∷ (host_rows ((ap listed hosts_is ∙ holds.hosts) i) ++ rows_are i)
 
-pub cut_is : (J : List Row) (c : ℕ) → cut J c ≡ carried (front c J) ++ rest c J
+pub cut_is : (J : List Row) (c : ℕ) → cut J c ≡ carried (carried_front c J) ++ rows_behind_front c J
 unfolding cut
 cut_is J c = refl

@@ -12,11 +12,11 @@ use Rattle.event_window.specs.declared.place.Place.{Place}
 use Rattle.relay_disk.specs.Disk.{View}
 use Rattle.gate_log.specs.declared.format.Format.{Format}
 use Rattle.gate_log.specs.Image.{made}
-use Rattle.relay_row.specs.Folds.{events_in, last_seq, seq_of}
+use Rattle.relay_row.specs.Folds.{events_in, last_seq, first_seq}
 use Rattle.relay_row.specs.Journal.{IsJournal}
 use Rattle.relay_row.specs.Rules.{is_row}
 use Rattle.relay_row.specs.declared.row.Row.{Row}
-use Rattle.cut_law.specs.Cut.{front, have_old, is_old, rest}
+use Rattle.cut_law.specs.Cut.{carried_front, have_old, is_old, rows_behind_front}
 use Rattle.cut_law.proofs.Fronts.{front_at, rest_at}
 use Rattle.relay_store.specs.Events.{AllStand, StandsAt, message_of}
 use Rattle.relay_store.specs.Journals.{bytes_of, joined}
@@ -71,7 +71,7 @@ module _ (format : Format) (bodies : List (List Row)) where
   stand_numbers P [] rows all seqs = subst (AllNumbers P) (sym all) tt
   stand_numbers P (p ∷ places) [] all seqs = tt
   stand_numbers P (p ∷ places) (row ∷ rows) all seqs =
-      (subst P (sym (ap seq_of all.0.sends)) seqs.0, stand_numbers P places rows all.1 seqs.1)
+      (subst P (sym (ap first_seq all.0.sends)) seqs.0, stand_numbers P places rows all.1 seqs.1)
 
   stands_there : (fr : List Place) (p : Place) (more : List Place) (rows : List Row) → AllStand format bodies (fr ++ p ∷ more) rows → (row : Row) × StandsAt format bodies p row
   stands_there [] p more [] all = absurd all
@@ -89,7 +89,7 @@ not_old : (c : ℕ) (row : Row) → c < number_in row → is_old c row ≡ false
 not_old c row up = ⊎_elim
     (λ none. ap (list_any (λ (event : Event). nat_le event.0 c)) none)
     (λ some.
-    let number : number_in row ≡ some.0.0 = ap seq_of some.1 in
+    let number : number_in row ≡ some.0.0 = ap first_seq some.1 in
     old_by c (events_in row) some.0 some.1 false (grind (arith, nat_tests, up, number)))
     (one_event row)
 
@@ -123,8 +123,8 @@ pub record IsCutAt (format : Format) (bodies : List (List Row)) (J : List Row) (
   pub after : List (List Row)
   pub split : bodies ≡ before ++ there ∷ after
   pub here : p.place ≡ length (made format (bytes_of before))
-  pub front_is : front c J ≡ joined before ++ take (p.index + 1) there
-  pub rest_is : rest c J ≡ drop (p.index + 1) there ++ joined after
+  pub front_is : carried_front c J ≡ joined before ++ take (p.index + 1) there
+  pub rest_is : rows_behind_front c J ≡ drop (p.index + 1) there ++ joined after
   pub some : have_old c J ≡ true
 
 pub taken_at : {X : Type 0} (xs : List X) (i : ℕ) (x : X) → slice_get xs i ≡ Some x → take (suc i) xs ≡ take i xs ++ x ∷ []
@@ -170,7 +170,7 @@ module _ (format : Format) (bodies : List (List Row)) (J : List Row) (rows_are :
     at = row_there.1
 
     number : number_in row ≡ p.seq
-    number = ap seq_of at.sends
+    number = ap first_seq at.sends
 
     positive : 0 < p.seq
     positive = last_above 0 last.front p more (subst (AreAbove 0) last.split above)
@@ -218,11 +218,11 @@ module _ (format : Format) (bodies : List (List Row)) (J : List Row) (rows_are :
     some_old : have_old c J ≡ true
     some_old = ap (have_old c) whole ∙ list_any-append (is_old c) ahead (row ∷ past) ∙ or_right (have_old c ahead) (have_old c (row ∷ past)) here_old
 
-    front_here : front c J ≡ ahead ++ row ∷ []
-    front_here = ap (front c) whole ∙ front_at c ahead row past row_old past_new
+    front_here : carried_front c J ≡ ahead ++ row ∷ []
+    front_here = ap (carried_front c) whole ∙ front_at c ahead row past row_old past_new
 
-    rest_here : rest c J ≡ past
-    rest_here = ap (rest c) whole ∙ rest_at c ahead row past row_old past_new
+    rest_here : rows_behind_front c J ≡ past
+    rest_here = ap (rows_behind_front c) whole ∙ rest_at c ahead row past row_old past_new
 
     pub cut_at : IsCutAt format bodies J c p
     cut_at = record {

@@ -12,7 +12,7 @@ use Rattle.gate_log.specs.Beside.{IsImageBeside as IsBodiesBeside}
 use Rattle.gate_log.specs.Build.{HasBuilt, IsClosed, IsClosedOrMade, IsFormerOrIdle}
 use Rattle.gate_log.specs.Image.{IsMade, generation}
 use Rattle.gate_log.specs.Log.{LogState}
-use Rattle.gate_log.specs.Log.{Holds as HasBodies}
+use Rattle.gate_log.specs.Log.{HoldsBodies as HasBodies}
 use Rattle.gate_log.specs.Pick.{other_side}
 use Rattle.gate_log.specs.declared.format.Format.{Format}
 use Rattle.gate_log.specs.declared.format.Format.TheVariants as Formats

@@ -4,7 +4,7 @@ use Rattle.std.proofs.lemmas.List.{append-nil}
 use Rattle.event_window.specs.declared.place.Place.{Place}
 use Rattle.gate_log.specs.declared.format.Format.{Format}
 use Rattle.gate_log.specs.Image.{made}
-use Rattle.relay_row.specs.Bodies.{body_of, IsBody}
+use Rattle.relay_row.specs.Bodies.{rows_body, IsBody}
 use Rattle.relay_row.specs.declared.row.Row.{Row}
 use Rattle.relay_store.specs.Journals.{joined, bytes_of, AllBodies}
 use Rattle.relay_store.specs.Places.{place_of, places_in, places_behind}
@@ -13,11 +13,11 @@ pub joined_push : (bodies : List (List Row)) (rows : List Row) → joined (bodie
 joined_push [] rows = append-nil rows
 joined_push (b ∷ bodies) rows = ap (λ (l : List Row). b ++ l) (joined_push bodies rows) ∙ sym (append_assoc b (joined bodies) rows)
 
-pub bytes_push : (bodies : List (List Row)) (rows : List Row) → bytes_of (bodies ++ rows ∷ []) ≡ bytes_of bodies ++ body_of rows ∷ []
+pub bytes_push : (bodies : List (List Row)) (rows : List Row) → bytes_of (bodies ++ rows ∷ []) ≡ bytes_of bodies ++ rows_body rows ∷ []
 bytes_push [] rows = refl
-bytes_push (b ∷ bodies) rows = ap (λ (l : List (List ℕ)). body_of b ∷ l) (bytes_push bodies rows)
+bytes_push (b ∷ bodies) rows = ap (λ (l : List (List ℕ)). rows_body b ∷ l) (bytes_push bodies rows)
 
-pub each_push : (bodies : List (List Row)) (rows : List Row) → AllBodies bodies → IsBody rows (body_of rows) → AllBodies (bodies ++ rows ∷ [])
+pub each_push : (bodies : List (List Row)) (rows : List Row) → AllBodies bodies → IsBody rows (rows_body rows) → AllBodies (bodies ++ rows ∷ [])
 each_push [] rows each one = (one, tt)
 each_push (b ∷ bodies) rows each one = (each.0, each_push bodies rows each.1 one)
 

@@ -5,7 +5,7 @@ use Rattle.gate_log.specs.Image.{IsImage, IsMade}
 use Rattle.gate_log.specs.Pick.{IsPairImage, of_side}
 use Rattle.gate_log.proofs.Unique.{same_image}
 use Rattle.gate_log.proofs.OneSide.{same_pair, pair_or_bad}
-use Rattle.relay_row.specs.Bodies.{body_of, IsBody}
+use Rattle.relay_row.specs.Bodies.{rows_body, IsBody}
 use Rattle.relay_row.specs.Journal.{IsJournal}
 use Rattle.relay_row.specs.declared.row.Row.{Row}
 use Rattle.relay_row.proofs.Bodies.{same_rows}
@@ -19,8 +19,8 @@ pub record IsImageOf (J : List Row) (bytes : List ℕ) : Type 0 where
   pub are : AreBodiesOf J bodies
   pub image : IsImage (bytes_of bodies) bytes
 
-pub same_body : (xs ys : List Row) → IsBody xs (body_of xs) → IsBody ys (body_of ys) → body_of xs ≡ body_of ys → xs ≡ ys
-same_body xs ys one two is = same_rows xs ys (body_of xs) one (record { some = two.some; few = two.few; formed = two.formed; made = is })
+pub same_body : (xs ys : List Row) → IsBody xs (rows_body xs) → IsBody ys (rows_body ys) → rows_body xs ≡ rows_body ys → xs ≡ ys
+same_body xs ys one two is = same_rows xs ys (rows_body xs) one (record { some = two.some; few = two.few; formed = two.formed; made = is })
 
 pub same_lists : (xs ys : List (List Row)) → AllBodies xs → AllBodies ys → bytes_of xs ≡ bytes_of ys → xs ≡ ys
 same_lists [] [] one two is = refl

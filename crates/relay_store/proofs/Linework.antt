@@ -6,15 +6,15 @@ use Rattle.at_event.specs.declared.frame.FrameFault.{FrameFault}
 use Rattle.at_event.specs.declared.refusal.Refusal.{Refusal}
 use Rattle.relay_row.specs.declared.fetched.Fetched.{Fetched}
 use Rattle.relay_row.specs.declared.taken.Taken.{Taken}
-use Rattle.relay_core.specs.Report.{fetch_of, passed_line, refused_of}
+use Rattle.relay_core.specs.Report.{fetch_of, skipped_line, refused_of}
 use Rattle.relay_core.specs.Report.{outcome_of as outcome_text}
 use Rattle.relay_core.specs.Runs.{Message}
 use Rattle.relay_store.specs.Lines.{LinesReport, fetch_word, line_of}
-use Rattle.relay_store.specs.Outcomes.{fetch_in, outcome_as, passed_outcome}
+use Rattle.relay_store.specs.Outcomes.{fetch_in, outcome_as, skipped_outcome}
 use Rattle.relay_store.specs.declared.outcome.Outcome.{Outcome}
 
-parts : (host number word end : List ℕ) → host ++ ((codes " " ++ (number ++ word)) ++ end) ≡ host ++ (codes " " ++ (number ++ (word ++ end)))
-parts host number word end = ap (λ (l : List ℕ). host ++ l) (append_assoc (codes " ") (number ++ word) end ∙ ap (λ (l : List ℕ). codes " " ++ l) (append_assoc number word end))
+parts : (host number command end : List ℕ) → host ++ ((codes " " ++ (number ++ command)) ++ end) ≡ host ++ (codes " " ++ (number ++ (command ++ end)))
+parts host number command end = ap (λ (l : List ℕ). host ++ l) (append_assoc (codes " ") (number ++ command) end ∙ ap (λ (l : List ℕ). codes " " ++ l) (append_assoc number command end))
 
 fetch_is : (f : Fetched) → fetch_word (fetch_in f) ≡ fetch_of f
 fetch_is Fetched.NotAsked = refl
@@ -32,19 +32,19 @@ taken_by (Some r) t =
     parts t.host (decimal t.host_seq) (codes " " ++ (refused_of r ++ fetch_word (fetch_in t.fetched))) (10 ∷ [])
     ∙ ap (λ (l : List ℕ). t.host ++ (codes " " ++ (decimal t.host_seq ++ ((codes " " ++ (refused_of r ++ l)) ++ 10 ∷ [])))) (fetch_is t.fetched)
 
-passed_by : (m : Message) → m.1 ≢ Err FrameFault.Memory → line_of m.0 (passed_outcome m.1) ≡ passed_line m
-passed_by (host, Ok (Frame.Event e)) not = refl
-passed_by (host, Ok (Frame.Faulty seq)) not = refl
-passed_by (host, Ok Frame.Info) not = refl
-passed_by (host, Ok Frame.Error) not = refl
-passed_by (host, Ok Frame.Unknown) not = refl
-passed_by (host, Err FrameFault.BadFrame) not = refl
-passed_by (host, Err FrameFault.NoSeq) not = refl
-passed_by (host, Err FrameFault.Memory) not = absurd (not refl)
+skipped_by : (m : Message) → m.1 ≢ Err FrameFault.Memory → line_of m.0 (skipped_outcome m.1) ≡ skipped_line m
+skipped_by (host, Ok (Frame.Event e)) not = refl
+skipped_by (host, Ok (Frame.Faulty seq)) not = refl
+skipped_by (host, Ok Frame.Info) not = refl
+skipped_by (host, Ok Frame.Error) not = refl
+skipped_by (host, Ok Frame.Unknown) not = refl
+skipped_by (host, Err FrameFault.BadFrame) not = refl
+skipped_by (host, Err FrameFault.NoSeq) not = refl
+skipped_by (host, Err FrameFault.Memory) not = absurd (not refl)
 
 pub lines_report : LinesReport
 lines_report = record {
   taken = λ t. taken_by t.refusal t;
-  passed = passed_by;
+  passed = skipped_by;
   end = λ J messages rows. refl;
 }

@@ -6,7 +6,7 @@ use Rattle.gate_log.specs.declared.format.Format.{Format}
 use Rattle.gate_log.specs.declared.limits.TheConstants.{BEFORE_BODY}
 use Rattle.gate_log.specs.Image.{made, front, records, behind_gate}
 use Rattle.gate_log.proofs.Append.{records-append, made-push}
-use Rattle.relay_row.specs.Bodies.{body_of, IsBody}
+use Rattle.relay_row.specs.Bodies.{rows_body, IsBody}
 use Rattle.relay_row.specs.Journal.{IsJournal}
 use Rattle.relay_row.specs.declared.row.Row.{Row}
 use Rattle.relay_row.proofs.Journals.{no_rows}
@@ -14,7 +14,7 @@ use Rattle.relay_core.specs.declared.journal_state.Core.{Core}
 use Rattle.relay_core.specs.Entries.{Holds}
 use Rattle.relay_store.specs.Journals.{joined, bytes_of}
 use Rattle.relay_store.specs.Places.{places_in, places_of}
-use Rattle.relay_store.specs.Opening.{IsLearned, IsBadBody, IsLoaded, IsBadAmong, IsFrontOf}
+use Rattle.relay_store.specs.Opening.{IsApplied, IsBadBody, IsLoaded, IsBadAmong, IsFrontOf}
 use Rattle.relay_store.proofs.Folds.{joined_push, bytes_push, each_push, places_push}
 
 pub at_first : (format : Format) (bodies : List (List ℕ)) (place : ℕ) (state : Core) (places : List Place) → place ≡ length (made format []) → Holds state [] → places ≡ [] → IsFrontOf format bodies place state places
@@ -40,7 +40,7 @@ length_made format xs ys = omega (arith, ap length (records-append xs ys), lengt
 pub some_records : (body : List ℕ) (after : List (List ℕ)) → 0 < length (records (body ∷ after))
 some_records body after = omega (arith, length-append (behind_gate body) (records after))
 
-a_body_of : (rows : List Row) (body : List ℕ) → IsBody rows body → IsBody rows (body_of rows)
+a_body_of : (rows : List Row) (body : List ℕ) → IsBody rows body → IsBody rows (rows_body rows)
 a_body_of rows body is = record { some = is.some; few = is.few; formed = is.formed; made = refl }
 
 module _ (format : Format) (bodies : List (List ℕ)) (place : ℕ) (state : Core) (places : List Place) (f : IsFrontOf format bodies place state places) where
@@ -68,19 +68,19 @@ module _ (format : Format) (bodies : List (List ℕ)) (place : ℕ) (state : Cor
     pub split_here : bodies ≡ bytes_of f.before ++ body ∷ after
     split_here = f.split ∙ ap (λ (bs : List (List ℕ)). bytes_of f.before ++ bs) is
 
-    pub one_further : (next : ℕ) (state_now : Core) (places_now : List Place) → (next ≡ place + BEFORE_BODY + length body) × IsLearned place body (joined f.before) state_now places places_now → IsFrontOf format bodies next state_now places_now
-    one_further next state_now places_now learned =
-        let rows = learned.1.rows in
-        let pushed : bytes_of (f.before ++ rows ∷ []) ≡ bytes_of f.before ++ body ∷ [] = bytes_push f.before rows ∙ ap (λ (b : List ℕ). bytes_of f.before ++ b ∷ []) (sym learned.1.is.made) in
+    pub one_further : (next : ℕ) (state_now : Core) (places_now : List Place) → (next ≡ place + BEFORE_BODY + length body) × IsApplied place body (joined f.before) state_now places places_now → IsFrontOf format bodies next state_now places_now
+    one_further next state_now places_now applied =
+        let rows = applied.1.rows in
+        let pushed : bytes_of (f.before ++ rows ∷ []) ≡ bytes_of f.before ++ body ∷ [] = bytes_push f.before rows ∙ ap (λ (b : List ℕ). bytes_of f.before ++ b ∷ []) (sym applied.1.is.made) in
         record {
           before = f.before ++ rows ∷ [];
           rest = after;
           split = split_here ∙ sym (append_assoc (bytes_of f.before) (body ∷ []) after) ∙ ap (λ (bs : List (List ℕ)). bs ++ after) (sym pushed);
-          here = omega (arith, learned.0, f.here, ap (λ (bs : List (List ℕ)). length (made format bs)) pushed, ap length (made-push format (bytes_of f.before) body), length-append (made format (bytes_of f.before)) (1 ∷ behind_gate body));
-          each = each_push f.before rows f.each (a_body_of rows body learned.1.is);
-          journal = subst IsJournal (sym (joined_push f.before rows)) learned.1.journal;
-          core = subst (Holds state_now) (sym (joined_push f.before rows)) learned.1.core;
-          window = learned.1.window ∙ ap (λ (l : List Place). l ++ places_in place 0 rows) f.window ∙ ap (λ (n : ℕ). places_of format f.before ++ places_in n 0 rows) f.here ∙ sym (places_push format [] f.before rows);
+          here = omega (arith, applied.0, f.here, ap (λ (bs : List (List ℕ)). length (made format bs)) pushed, ap length (made-push format (bytes_of f.before) body), length-append (made format (bytes_of f.before)) (1 ∷ behind_gate body));
+          each = each_push f.before rows f.each (a_body_of rows body applied.1.is);
+          journal = subst IsJournal (sym (joined_push f.before rows)) applied.1.journal;
+          core = subst (Holds state_now) (sym (joined_push f.before rows)) applied.1.core;
+          window = applied.1.window ∙ ap (λ (l : List Place). l ++ places_in place 0 rows) f.window ∙ ap (λ (n : ℕ). places_of format f.before ++ places_in n 0 rows) f.here ∙ sym (places_push format [] f.before rows);
         }
 
     pub bad_here : (p : ℕ) → (p ≡ place) × IsBadBody (joined f.before) body → IsBadAmong p format bodies

@@ -5,7 +5,7 @@ use Rattle.std.proofs.lemmas.List.Folds.{list_any-append}
 use Rattle.relay_row.specs.declared.fetched.Fetched.{Fetched}
 use Rattle.relay_row.specs.declared.row.Row.{Row}
 use Rattle.relay_row.specs.declared.taken.Taken.{Taken}
-use Rattle.relay_row.specs.Folds.{names, did_in, events_of, is_named, last_after, last_seq, seq_of}
+use Rattle.relay_row.specs.Folds.{names, did_of_row, events_of, is_named, last_after, last_seq, first_seq}
 use Rattle.relay_row.proofs.Journals.{folded_joined}
 use Rattle.account_state.specs.Folds.{account, account_after, fresh}
 use Rattle.host_state.specs.Folds.{hosts, hosts_after}
@@ -19,50 +19,50 @@ use Rattle.relay_store.specs.Outcomes.{outcome_as, taken_outcome}
 use Rattle.relay_store.specs.Places.{number_in, place_of}
 
 -- the row with another message
-abbrev pub saying : Taken → List ℕ → Row
-saying t message = Row.Taken (record t { message = message })
+abbrev pub running : Taken → List ℕ → Row
+running t message = Row.Taken (record t { message = message })
 
-chosen : (none : Bool) (f : Fetched) (seq : ℕ) (m n : List ℕ) → seq_of (cond none (events_of f) ((seq, m) ∷ [])) ≡ seq_of (cond none (events_of f) ((seq, n) ∷ []))
+chosen : (none : Bool) (f : Fetched) (seq : ℕ) (m n : List ℕ) → first_seq (cond none (events_of f) ((seq, m) ∷ [])) ≡ first_seq (cond none (events_of f) ((seq, n) ∷ []))
 chosen true f seq m n = refl
 chosen false f seq m n = refl
 
 -- its number is the same
-same_number : (t : Taken) (message : List ℕ) → number_in (saying t message) ≡ number_in (Row.Taken t)
+same_number : (t : Taken) (message : List ℕ) → number_in (running t message) ≡ number_in (Row.Taken t)
 same_number t message = chosen (t.seq == 0) t.fetched t.seq message t.message
 
-pub same_place : (place index : ℕ) (t : Taken) (message : List ℕ) → place_of place index (saying t message) ≡ place_of place index (Row.Taken t)
+pub same_place : (place index : ℕ) (t : Taken) (message : List ℕ) → place_of place index (running t message) ≡ place_of place index (Row.Taken t)
 same_place place index t message = ap (λ (n : ℕ). if n == 0 then [] else record { seq = n; place = place; index = index } ∷ []) (same_number t message)
 
-same_account : (did : List ℕ) (J : List Row) (t : Taken) (message : List ℕ) → account did (J ++ Row.Taken t ∷ []) ≡ account did (J ++ saying t message ∷ [])
+same_account : (did : List ℕ) (J : List Row) (t : Taken) (message : List ℕ) → account did (J ++ Row.Taken t ∷ []) ≡ account did (J ++ running t message ∷ [])
 unfolding account
-same_account did J t message = folded_joined (account_after did) fresh J (Row.Taken t ∷ []) ∙ sym (folded_joined (account_after did) fresh J (saying t message ∷ []))
+same_account did J t message = folded_joined (account_after did) fresh J (Row.Taken t ∷ []) ∙ sym (folded_joined (account_after did) fresh J (running t message ∷ []))
 
-same_named : (did : List ℕ) (J : List Row) (t : Taken) (message : List ℕ) → is_named did (J ++ Row.Taken t ∷ []) ≡ is_named did (J ++ saying t message ∷ [])
+same_named : (did : List ℕ) (J : List Row) (t : Taken) (message : List ℕ) → is_named did (J ++ Row.Taken t ∷ []) ≡ is_named did (J ++ running t message ∷ [])
 unfolding is_named
-same_named did J t message = list_any-append (λ r. names did (did_in r)) J (Row.Taken t ∷ []) ∙ sym (list_any-append (λ r. names did (did_in r)) J (saying t message ∷ []))
+same_named did J t message = list_any-append (λ r. names did (did_of_row r)) J (Row.Taken t ∷ []) ∙ sym (list_any-append (λ r. names did (did_of_row r)) J (running t message ∷ []))
 
-same_hosts : (J : List Row) (t : Taken) (message : List ℕ) → hosts (J ++ Row.Taken t ∷ []) ≡ hosts (J ++ saying t message ∷ [])
+same_hosts : (J : List Row) (t : Taken) (message : List ℕ) → hosts (J ++ Row.Taken t ∷ []) ≡ hosts (J ++ running t message ∷ [])
 unfolding hosts
-same_hosts J t message = folded_joined hosts_after [] J (Row.Taken t ∷ []) ∙ sym (folded_joined hosts_after [] J (saying t message ∷ []))
+same_hosts J t message = folded_joined hosts_after [] J (Row.Taken t ∷ []) ∙ sym (folded_joined hosts_after [] J (running t message ∷ []))
 
-same_last : (J : List Row) (t : Taken) (message : List ℕ) → last_seq (J ++ Row.Taken t ∷ []) ≡ last_seq (J ++ saying t message ∷ [])
+same_last : (J : List Row) (t : Taken) (message : List ℕ) → last_seq (J ++ Row.Taken t ∷ []) ≡ last_seq (J ++ running t message ∷ [])
 unfolding last_seq
 same_last J t message =
     folded_joined last_after 0 J (Row.Taken t ∷ [])
     ∙ ap (λ (n : ℕ). if n == 0 then last_seq J else n) (sym (same_number t message))
-    ∙ sym (folded_joined last_after 0 J (saying t message ∷ []))
+    ∙ sym (folded_joined last_after 0 J (running t message ∷ []))
 
-same_stage : (J : List Row) (t : Taken) (message : List ℕ) → stage_of (J ++ Row.Taken t ∷ []) ≡ stage_of (J ++ saying t message ∷ [])
-same_stage J t message = stage_step J (Row.Taken t) ∙ after_taken (stage_of J) ∙ sym (stage_step J (saying t message))
+same_stage : (J : List Row) (t : Taken) (message : List ℕ) → stage_of (J ++ Row.Taken t ∷ []) ≡ stage_of (J ++ running t message ∷ [])
+same_stage J t message = stage_step J (Row.Taken t) ∙ after_taken (stage_of J) ∙ sym (stage_step J (running t message))
   where
-    after_taken : (s : Stage) → next_stage s (Row.Taken t) ≡ next_stage s (saying t message)
+    after_taken : (s : Stage) → next_stage s (Row.Taken t) ≡ next_stage s (running t message)
     after_taken Stage.Start = refl
     after_taken Stage.Hosts = refl
     after_taken Stage.Accounts = refl
     after_taken Stage.Events = refl
 
 -- so is the state behind it
-pub same_state : (core : Core) (J : List Row) (t : Taken) (message : List ℕ) → Holds core (J ++ Row.Taken t ∷ []) → Holds core (J ++ saying t message ∷ [])
+pub same_state : (core : Core) (J : List Row) (t : Taken) (message : List ℕ) → Holds core (J ++ Row.Taken t ∷ []) → Holds core (J ++ running t message ∷ [])
 same_state core J t message holds = record {
   accounts = λ did. holds.accounts did ∙ same_account did J t message;
   named = λ did. holds.named did ∙ same_named did J t message;

@@ -7,7 +7,7 @@ use Rattle.gate_log.specs.declared.format.Format.{Format}
 use Rattle.gate_log.specs.declared.picking.Side.{Side}
 use Rattle.gate_log.proofs.Fronts.{made_front, same_format}
 use Rattle.gate_log.proofs.OneSide.{one_pair_place, one_side, pair_or_bad, same_pair}
-use Rattle.relay_row.specs.Bodies.{body_of, IsBody}
+use Rattle.relay_row.specs.Bodies.{rows_body, IsBody}
 use Rattle.relay_row.specs.Journal.{IsJournal}
 use Rattle.relay_row.specs.declared.row.Row.{Row}
 use Rattle.relay_row.proofs.Journals.{fronts}
@@ -18,7 +18,7 @@ use Rattle.relay_store.proofs.Images.{same_body}
 abbrev IsBadBehind : List Row → List ℕ → Type 0
 IsBadBehind J body = (rows : List Row) → IsBody rows body → IsJournal (J ++ rows) → ⊥
 
-first_good : (J rows : List Row) (others : List Row) (body : List ℕ) → IsBody rows (body_of rows) → IsJournal (J ++ (rows ++ others)) → IsBadBehind (J ++ []) body → body ≡ body_of rows → ⊥
+first_good : (J rows : List Row) (others : List Row) (body : List ℕ) → IsBody rows (rows_body rows) → IsJournal (J ++ (rows ++ others)) → IsBadBehind (J ++ []) body → body ≡ rows_body rows → ⊥
 first_good J rows others body is journal bad same =
     let here : IsJournal (J ++ rows) = fronts (J ++ rows) others (subst IsJournal (sym (append_assoc J rows others)) journal) in
     bad rows (record { some = is.some; few = is.few; formed = is.formed; made = same }) (subst (λ (j : List Row). IsJournal (j ++ rows)) (sym (append-nil J)) here)

@@ -5,7 +5,7 @@ use Rattle.relay_disk.specs.Moments.{PairLeavesOnly}
 use Rattle.relay_disk.proofs.Moments.{unchanged, still_again, pair_still_one, pair_still_two, pair_weaker}
 use Rattle.gate_log.specs.Image.{IsMade, IsUnmade}
 use Rattle.gate_log.specs.Log.{LogState}
-use Rattle.gate_log.specs.Log.{Holds as HasBodies}
+use Rattle.gate_log.specs.Log.{HoldsBodies as HasBodies}
 use Rattle.gate_log.specs.Pick.{IsPicked, IsPairImage, IsPairImageOfOne, LeavesPairImages, LeavesSide, of_side, view_of_side}
 use Rattle.gate_log.specs.declared.picking.Side.{Side}
 use Rattle.gate_log.specs.declared.picking.Side.TheVariants.{One, Two}

@@ -5,11 +5,11 @@ use Rattle.std.proofs.lemmas.List.{append-nil, drop_all}
 use Rattle.relay_disk.specs.Disk.{View, Goes, Same}
 use Rattle.gate_log.specs.Image.{made, records, behind_gate}
 use Rattle.gate_log.specs.Log.{LogState, IsOn}
-use Rattle.gate_log.specs.Log.{Holds as HasBodies}
+use Rattle.gate_log.specs.Log.{HoldsBodies as HasBodies}
 use Rattle.gate_log.specs.declared.format.Format.{Format}
 use Rattle.gate_log.specs.declared.limits.TheConstants.{BEFORE_BODY}
 use Rattle.gate_log.proofs.Append.{made-push}
-use Rattle.relay_row.specs.Bodies.{body_of}
+use Rattle.relay_row.specs.Bodies.{rows_body}
 use Rattle.relay_row.specs.declared.row.Row.{Row}
 use Rattle.relay_core.specs.Entries.{Holds}
 use Rattle.relay_core.specs.declared.journal_state.Core.{Core}
@@ -35,12 +35,12 @@ module _ (format : Format) (done rest : List (List Row)) (place : ℕ) (here : p
 
   pub none_there : (end : ℕ) → end ≡ length (made format (bytes_of (done ++ rest))) → (place < end → ⊥) → rest ≡ []
   none_there end is reached = ⊎_elim (λ none. none)
-      (λ some. absurd (reached (omega (arith, is, upto_end, ap (λ (bs : List (List Row)). length (records (bytes_of bs))) some.2, some_records (body_of some.0) (bytes_of some.1)))))
+      (λ some. absurd (reached (omega (arith, is, upto_end, ap (λ (bs : List (List Row)). length (records (bytes_of bs))) some.2, some_records (rows_body some.0) (bytes_of some.1)))))
       (rest_cases rest)
 
-  pub next_there : (there : List Row) (next : ℕ) → next ≡ place + BEFORE_BODY + length (body_of there) → next ≡ length (made format (bytes_of (done ++ there ∷ [])))
+  pub next_there : (there : List Row) (next : ℕ) → next ≡ place + BEFORE_BODY + length (rows_body there) → next ≡ length (made format (bytes_of (done ++ there ∷ [])))
   next_there there next is =
-      omega (arith, is, here, ap (λ (bs : List (List ℕ)). length (made format bs)) (bytes_push done there), ap length (made-push format (bytes_of done) (body_of there)), length-append (made format (bytes_of done)) (1 ∷ behind_gate (body_of there)))
+      omega (arith, is, here, ap (λ (bs : List (List ℕ)). length (made format bs)) (bytes_push done there), ap length (made-push format (bytes_of done) (rows_body there)), length-append (made format (bytes_of done)) (1 ∷ behind_gate (rows_body there)))
 
 pub split_more : (all done rest : List (List Row)) (there : List Row) (more : List (List Row)) → all ≡ done ++ rest → rest ≡ there ∷ more → all ≡ (done ++ there ∷ []) ++ more
 split_more all done rest there more split is = split ∙ ap (λ (bs : List (List Row)). done ++ bs) is ∙ sym (append_assoc done (there ∷ []) more)
@@ -101,7 +101,7 @@ module _ (format : Format) (before : List (List Row)) (place upto : ℕ) (core :
     pub folded_split : (after : List (List Row)) → before ++ after ≡ f.done ++ there ∷ (more ++ after)
     folded_split after = ap (λ (bs : List (List Row)). bs ++ after) (f.split ∙ ap (λ (bs : List (List Row)). f.done ++ bs) rest_is) ∙ append_assoc f.done (there ∷ more) after
 
-    pub folded_more : (next : ℕ) (core_now : Core) → next ≡ place + BEFORE_BODY + length (body_of there) → ((J : List Row) → Holds core J → Holds core_now (J ++ there)) → IsFolded format before next core_now
+    pub folded_more : (next : ℕ) (core_now : Core) → next ≡ place + BEFORE_BODY + length (rows_body there) → ((J : List Row) → Holds core J → Holds core_now (J ++ there)) → IsFolded format before next core_now
     folded_more next core_now next_is moved = record {
       done = f.done ++ there ∷ [];
       rest = more;
@@ -159,7 +159,7 @@ module _ (format : Format) (before after : List (List Row)) (place end : ℕ) (r
         ∙ ap (λ (l : List Row). l ++ joined more) (joined_push f.done there) ∙ append_assoc (joined f.done) there (joined more)
         ∙ ap (λ (l : List Row). l ++ (there ++ joined more)) (sym f.rows_are)
 
-    pub recopied_more : (next : ℕ) → next ≡ place + BEFORE_BODY + length (body_of there) → IsRecopied format before after next (rows ++ there)
+    pub recopied_more : (next : ℕ) → next ≡ place + BEFORE_BODY + length (rows_body there) → IsRecopied format before after next (rows ++ there)
     recopied_more next next_is = record {
       done = f.done ++ there ∷ [];
       rest = more;

@@ -8,20 +8,20 @@ use Rattle.event_window.specs.Held.{Event, Held, IsNext, first_or, oldest_of}
 use Rattle.event_window.specs.Window.{AreAbove, all_above}
 use Rattle.event_window.specs.declared.place.Place.{Place}
 use Rattle.relay_disk.specs.Disk.{View}
-use Rattle.gate_log.specs.Log.{Holds as HasBodies}
+use Rattle.gate_log.specs.Log.{HoldsBodies as HasBodies}
 use Rattle.at_event.specs.Refusals.{code_of}
 use Rattle.at_event.specs.declared.refusal.Refusal.{Refusal}
-use Rattle.relay_row.specs.Folds.{events, events_in, events_of, folded, last_after, last_seq, seq_in, seq_of}
+use Rattle.relay_row.specs.Folds.{events, events_in, events_of, folded, last_after, last_seq, seq_in, first_seq}
 use Rattle.relay_row.specs.Journal.{IsJournal}
 use Rattle.relay_row.specs.Rules.{is_about, is_accepted, is_carried, is_decided, is_detail, is_effect, is_empty, is_fetched, is_head, is_message, is_moment, is_nothing, is_number, is_operated, is_positive, is_refused, is_row, is_taken, is_timed, is_whole, loses, names_did, names_host}
 use Rattle.relay_row.specs.declared.carried.Carried.{Carried}
 use Rattle.relay_row.specs.declared.fetched.Fetched.{Fetched}
 use Rattle.relay_row.specs.declared.fetched.Whole.{Whole}
-use Rattle.relay_row.specs.declared.limits.TheConstants.{NUMBERS}
+use Rattle.at_cid.specs.declared.limits.TheConstants.{NUMBERS}
 use Rattle.relay_row.specs.declared.operated.Operated.{Operated}
 use Rattle.relay_row.specs.declared.row.Row.{Row}
 use Rattle.relay_row.specs.declared.taken.Taken.{Taken}
-use Rattle.relay_store.specs.Events.{AllStand, HasEvents, IsFirst, IsPageOf, PageState}
+use Rattle.relay_store.specs.Events.{AllStand, HasEvents, IsFirst, IsBufferOf, BufferState}
 use Rattle.relay_store.specs.Journals.{bytes_of, joined}
 use Rattle.relay_store.specs.Places.{number_in}
 use Rattle.relay_store.specs.Shown.{held_by, is_shown, shown_of}
@@ -43,7 +43,7 @@ operated_numbered : (o : Operated) → is_operated o ≡ true → is_positive o.
 unfolding is_operated
 operated_numbered o is = (and_parts (is_positive o.seq) (is_message o.message && is_moment o.moment) (and_parts (names_did o.did) (is_positive o.seq && (is_message o.message && is_moment o.moment)) is).1).0
 
-fetched_numbered : (due timed : Bool) (f : Fetched) → is_fetched due timed f ≡ true → (seq_of (events_of f) == 0) ≡ true → events_of f ≡ []
+fetched_numbered : (due timed : Bool) (f : Fetched) → is_fetched due timed f ≡ true → (first_seq (events_of f) == 0) ≡ true → events_of f ≡ []
 fetched_numbered due timed Fetched.NotAsked is zero = refl
 fetched_numbered due timed Fetched.Absent is zero = refl
 fetched_numbered due timed (Fetched.Refused n) is zero = refl
@@ -99,7 +99,7 @@ taken_sent t is =
     let three = and_parts (is_about t.kind t.did) (is_moment t.moment && is_decided t.refusal t) two.1 in
     decided_sent t.refusal t (and_parts (is_moment t.moment) (is_decided t.refusal t) three.1).1
 
-none_taken : (b : Bool) (t : Taken) → b ≡ (t.seq == 0) → is_taken t ≡ true → (seq_of (if b then events_of t.fetched else (t.seq, t.message) ∷ []) == 0) ≡ true → (if b then events_of t.fetched else (t.seq, t.message) ∷ []) ≡ []
+none_taken : (b : Bool) (t : Taken) → b ≡ (t.seq == 0) → is_taken t ≡ true → (first_seq (if b then events_of t.fetched else (t.seq, t.message) ∷ []) == 0) ≡ true → (if b then events_of t.fetched else (t.seq, t.message) ∷ []) ≡ []
 none_taken true t b is zero = let sends = taken_sent t is in fetched_numbered sends.0 (is_timed t.moment) t.fetched sends.1 zero
 none_taken false t b is zero = let no : false ≡ true = b ∙ zero in absurd cc
 
@@ -137,13 +137,13 @@ module _ (J : List Row) where
 
 -- ---- the last number is one
 
-fetched_fits : (due timed : Bool) (f : Fetched) → is_fetched due timed f ≡ true → seq_of (events_of f) < NUMBERS
+fetched_fits : (due timed : Bool) (f : Fetched) → is_fetched due timed f ≡ true → first_seq (events_of f) < NUMBERS
 fetched_fits due timed Fetched.NotAsked is = omega arith
 fetched_fits due timed Fetched.Absent is = omega arith
 fetched_fits due timed (Fetched.Refused n) is = omega arith
 fetched_fits due timed (Fetched.Whole w) is = positive_fits w.seq (whole_numbered w (and_parts due (is_whole w) is).1)
 
-taken_fits : (b : Bool) (t : Taken) → is_taken t ≡ true → seq_of (if b then events_of t.fetched else (t.seq, t.message) ∷ []) < NUMBERS
+taken_fits : (b : Bool) (t : Taken) → is_taken t ≡ true → first_seq (if b then events_of t.fetched else (t.seq, t.message) ∷ []) < NUMBERS
 taken_fits true t is = let sends = taken_sent t is in fetched_fits sends.0 (is_timed t.moment) t.fetched sends.1
 taken_fits false t is = (taken_sent t is).2
 
@@ -205,8 +205,8 @@ module _ (J : List Row) (s : StoreState) (v : View) (keeps : Keeps J s v) where
 pub still_kept : (J : List Row) (s : StoreState) (v w : View) (keeps : Keeps J s v) → HasBodies (bytes_of keeps.bodies) s.log w → Keeps J s w
 still_kept J s v w keeps holds = record { bodies = keeps.bodies; are = keeps.are; holds = holds; core = keeps.core; window = keeps.window }
 
--- and so are the events, whichever page was read last
-pub still_has : (J : List Row) (s : StoreState) (v w : View) (page : PageState) (held : Held) (keeps : Keeps J s v) → HasBodies (bytes_of keeps.bodies) s.log w → held ≡ held_by J
-    → IsPageOf s.log.format keeps.bodies page → HasEvents s w page held
+-- and so are the events, whichever buffer was read last
+pub still_has : (J : List Row) (s : StoreState) (v w : View) (buffer : BufferState) (held : Held) (keeps : Keeps J s v) → HasBodies (bytes_of keeps.bodies) s.log w → held ≡ held_by J
+    → IsBufferOf s.log.format keeps.bodies buffer → HasEvents s w buffer held
 unfolding still_kept
-still_has J s v w page held keeps holds is fits = (J, still_kept J s v w keeps holds, is, fits)
+still_has J s v w buffer held keeps holds is fits = (J, still_kept J s v w keeps holds, is, fits)

@@ -12,14 +12,14 @@ use Rattle.gate_log.specs.declared.fault.LogFault.{LogFault}
 use Rattle.gate_log.specs.declared.format.Format.{Format}
 use Rattle.gate_log.specs.declared.limits.TheConstants.{AROUND_BODY, BEFORE_BODY}
 use Rattle.gate_log.proofs.Append.{records-append}
-use Rattle.relay_row.specs.Bodies.{body_of}
+use Rattle.relay_row.specs.Bodies.{rows_body}
 use Rattle.relay_row.specs.declared.row.Row.{Row}
 use Rattle.relay_core.specs.Entries.{Holds}
 use Rattle.relay_store.specs.Faults.{of_log}
 use Rattle.relay_store.specs.Journals.{bytes_of, joined}
 use Rattle.relay_store.specs.Places.{place_of, places_behind, places_in}
 use Rattle.relay_store.specs.Opening.{IsOfReading}
-use Rattle.relay_store.specs.Rewriting.{singles, end_behind, IsCopied, HasNoRoom, IsOfAdding, IsOfRewriting}
+use Rattle.relay_store.specs.Rewriting.{singles, end_behind, IsCopied, RewriteHasNoRoom, IsOfAdding, IsOfRewriting}
 use Rattle.relay_store.specs.declared.fault.StoreFault.{StoreFault}
 use Rattle.relay_store.specs.declared.rewriting.Rewrite.{Rewrite}
 use Rattle.relay_store.proofs.Loaded.{length_made}
@@ -54,8 +54,8 @@ made_end : (format : Format) (before : List (List Row)) (rows : List Row) (end :
 made_end format before rows end here =
     omega (arith, here, ap (λ (bs : List (List ℕ)). length (made format bs)) (bytes_joined before (singles rows)), length_made format (bytes_of before) (bytes_of (singles rows)))
 
-one_end : (end : ℕ) (row : Row) → end_behind end (row ∷ []) ≡ end + BEFORE_BODY + length (body_of (row ∷ []))
-one_end end row = omega (arith, ap length (append-nil (behind_gate (body_of (row ∷ [])))))
+one_end : (end : ℕ) (row : Row) → end_behind end (row ∷ []) ≡ end + BEFORE_BODY + length (rows_body (row ∷ []))
+one_end end row = omega (arith, ap length (append-nil (behind_gate (rows_body (row ∷ [])))))
 
 module _ (tells : Bool) where
   pub copied_none : (r : Rewrite) (v : View) → IsDisk v → (IsTrue tells → IsBuiltOn v r.build) → IsCopied tells [] r r v v
@@ -72,10 +72,10 @@ module _ (tells : Bool) where
     counts = omega arith;
   }
 
-  pub copied_one : (row : Row) (r now : Rewrite) (v w : View) → now.build ≡ record r.build { end = r.build.end + BEFORE_BODY + length (body_of (row ∷ [])); waiting = now.build.waiting }
-      → (r.build.most < r.build.end + AROUND_BODY + length (body_of (row ∷ [])) → ⊥)
+  pub copied_one : (row : Row) (r now : Rewrite) (v w : View) → now.build ≡ record r.build { end = r.build.end + BEFORE_BODY + length (rows_body (row ∷ [])); waiting = now.build.waiting }
+      → (r.build.most < r.build.end + AROUND_BODY + length (rows_body (row ∷ [])) → ⊥)
       → (IsTrue tells → IsBuiltOn w now.build)
-      → (IsTrue tells → (bodies : List (List ℕ)) → HasBuilt bodies r.build v → HasBuilt (bodies ++ body_of (row ∷ []) ∷ []) now.build w)
+      → (IsTrue tells → (bodies : List (List ℕ)) → HasBuilt bodies r.build v → HasBuilt (bodies ++ rows_body (row ∷ []) ∷ []) now.build w)
       → ((J : List Row) → Holds r.core J → Holds now.core (J ++ row ∷ []))
       → now.window.places ≡ r.window.places ++ place_of r.build.end 0 row
       → (IsTrue tells → LeavesOnly IsClosed v w) → v.faults ≤ w.faults → IsCopied tells (row ∷ []) r now v w
@@ -83,7 +83,7 @@ module _ (tells : Bool) where
     format = ap (λ (b : BuildState). b.format) is;
     most = ap (λ (b : BuildState). b.most) is;
     end = omega (arith, ap (λ (b : BuildState). b.end) is, one_end r.build.end row);
-    fits = elim (cases_lt r.build.most (r.build.end + AROUND_BODY + length (body_of (row ∷ [])))) [
+    fits = elim (cases_lt r.build.most (r.build.end + AROUND_BODY + length (rows_body (row ∷ [])))) [
       | inl past ↦ absurd (fits past)
       | inr below ↦ inr (omega (arith, below, ap (λ (b : BuildState). b.end) is))
     ];
@@ -171,10 +171,10 @@ on_ok_as (Err e) so is = tt
 
 -- ---- a row that has no room
 
-pub no_room_one : (end most : ℕ) (row : Row) (e : ℕ) → e ≡ end + AROUND_BODY + length (body_of (row ∷ [])) → most < e → HasNoRoom end most (row ∷ []) e
+pub no_room_one : (end most : ℕ) (row : Row) (e : ℕ) → e ≡ end + AROUND_BODY + length (rows_body (row ∷ [])) → most < e → RewriteHasNoRoom end most (row ∷ []) e
 no_room_one end most row e is past = record { before = []; row = row; after = []; split = refl; there = omega (arith, is); past = past; fits = inl refl }
 
-pub no_room_front : (end most : ℕ) (xs more : List Row) (e : ℕ) → HasNoRoom end most xs e → HasNoRoom end most (xs ++ more) e
+pub no_room_front : (end most : ℕ) (xs more : List Row) (e : ℕ) → RewriteHasNoRoom end most xs e → RewriteHasNoRoom end most (xs ++ more) e
 no_room_front end most xs more e is = record {
   before = is.before;
   row = is.row;
@@ -185,7 +185,7 @@ no_room_front end most xs more e is = record {
   fits = is.fits;
 }
 
-pub no_room_behind : (tells : Bool) (xs ys : List Row) (r0 r1 : Rewrite) (v0 v1 : View) (e : ℕ) → IsCopied tells xs r0 r1 v0 v1 → HasNoRoom r1.build.end r1.build.most ys e → HasNoRoom r0.build.end r0.build.most (xs ++ ys) e
+pub no_room_behind : (tells : Bool) (xs ys : List Row) (r0 r1 : Rewrite) (v0 v1 : View) (e : ℕ) → IsCopied tells xs r0 r1 v0 v1 → RewriteHasNoRoom r1.build.end r1.build.most ys e → RewriteHasNoRoom r0.build.end r0.build.most (xs ++ ys) e
 no_room_behind tells xs ys r0 r1 v0 v1 e copied is =
     let end : end_behind r0.build.end (xs ++ is.before) ≡ end_behind r1.build.end is.before =
     end_joined r0.build.end xs is.before ∙ ap (λ (n : ℕ). end_behind n is.before) (sym copied.end) in
@@ -221,9 +221,9 @@ module _ (tells : Bool) (rows left rest : List Row) (row : Row) (r now : Rewrite
     copied = copied_both tells so_far.done (row ∷ []) r now next v w x so_far.copied one;
   }
 
-  pub put_full : (e : ℕ) → HasNoRoom now.build.end now.build.most (row ∷ []) e → HasNoRoom r.build.end r.build.most rows e
+  pub put_full : (e : ℕ) → RewriteHasNoRoom now.build.end now.build.most (row ∷ []) e → RewriteHasNoRoom r.build.end r.build.most rows e
   put_full e full =
-      subst (λ (l : List Row). HasNoRoom r.build.end r.build.most l e) (sym (so_far.split ∙ ap (λ (l : List Row). so_far.done ++ l) is))
+      subst (λ (l : List Row). RewriteHasNoRoom r.build.end r.build.most l e) (sym (so_far.split ∙ ap (λ (l : List Row). so_far.done ++ l) is))
       (no_room_behind tells so_far.done (row ∷ rest) r now v w e so_far.copied (no_room_front now.build.end now.build.most (row ∷ []) rest e full))
 
 pub put_all : (tells : Bool) (rows : List Row) (r now : Rewrite) (v w : View) → IsPutting tells rows [] r now v w → IsCopied tells rows r now v w

@@ -8,40 +8,40 @@ use Rattle.relay_row.specs.Folds.{cursor}
 use Rattle.relay_row.specs.declared.row.Row.{Row}
 use Rattle.relay_core.specs.Decide.{Checks, old_if}
 use Rattle.relay_core.specs.Report.{ended_by}
-use Rattle.relay_core.specs.Runs.{passed_by}
+use Rattle.relay_core.specs.Runs.{skipped_by}
 use Rattle.relay_core.specs.declared.decision.Pass.{Pass}
-use Rattle.relay_step.specs.Steps.{Step, Told, after_end, passed_over, took, AreSteps, IsTold, ended_told, ended_by_all, message_of, rows, rows_told}
-use Rattle.relay_store.specs.Batches.{EndsLast, NoneEnds, is_end, sent}
-use Rattle.relay_store.specs.Outcomes.{outcome_of, passed_outcome}
+use Rattle.relay_step.specs.Steps.{Step, Decided, after_end, skipped, recorded, AreSteps, IsDecidedAs, ended_decided, ended_by_all, message_of, rows, rows_decided}
+use Rattle.relay_store.specs.Batches.{EndsLast, NoneEnds, is_end, messages_sent}
+use Rattle.relay_store.specs.Outcomes.{outcome_of, skipped_outcome}
 use Rattle.relay_store.specs.declared.message.Message.{Message}
 use Rattle.relay_store.specs.declared.outcome.Outcome.{Outcome}
 
 pub rows_joined : (steps others : List Step) → rows (steps ++ others) ≡ rows steps ++ rows others
 rows_joined [] others = refl
-rows_joined (s ∷ steps) others = ap (λ (l : List Row). rows_told s.told ++ l) (rows_joined steps others) ∙ sym (append_assoc (rows_told s.told) (rows steps) (rows others))
+rows_joined (s ∷ steps) others = ap (λ (l : List Row). rows_decided s.decided ++ l) (rows_joined steps others) ∙ sym (append_assoc (rows_decided s.decided) (rows steps) (rows others))
 
-pub rows_one : (steps : List Step) (s : Step) → rows (steps ++ s ∷ []) ≡ rows steps ++ rows_told s.told
-rows_one steps s = rows_joined steps (s ∷ []) ∙ ap (λ (l : List Row). rows steps ++ l) (append-nil (rows_told s.told))
+pub rows_one : (steps : List Step) (s : Step) → rows (steps ++ s ∷ []) ≡ rows steps ++ rows_decided s.decided
+rows_one steps s = rows_joined steps (s ∷ []) ∙ ap (λ (l : List Row). rows steps ++ l) (append-nil (rows_decided s.decided))
 
-pub told_few : (told : Told) → length (rows_told told) ≤ 1
+pub told_few : (told : Decided) → length (rows_decided told) ≤ 1
 told_few after_end = omega arith
-told_few (passed_over pass) = omega arith
-told_few (took t) = omega arith
+told_few (skipped pass) = omega arith
+told_few (recorded t) = omega arith
 
 pub ended_joined : (steps others : List Step) (ended : List (List ℕ)) → ended_by_all (steps ++ others) ended ≡ ended_by_all others (ended_by_all steps ended)
 ended_joined [] others ended = refl
-ended_joined (s ∷ steps) others ended = ended_joined steps others (ended_told s.told s.host ended)
+ended_joined (s ∷ steps) others ended = ended_joined steps others (ended_decided s.decided s.host ended)
 
 -- one step more
-pub steps_one : (checks : Checks) (J : List Row) (ended : List (List ℕ)) (steps : List Step) (s : Step) → AreSteps checks J ended steps → IsTold checks (J ++ rows steps) (ended_by_all steps ended) (message_of s) s.told → AreSteps checks J ended (steps ++ s ∷ [])
-steps_one checks J ended [] s are told = (subst (λ (j : List Row). IsTold checks j ended (message_of s) s.told) (append-nil J) told, tt)
+pub steps_one : (checks : Checks) (J : List Row) (ended : List (List ℕ)) (steps : List Step) (s : Step) → AreSteps checks J ended steps → IsDecidedAs checks (J ++ rows steps) (ended_by_all steps ended) (message_of s) s.decided → AreSteps checks J ended (steps ++ s ∷ [])
+steps_one checks J ended [] s are told = (subst (λ (j : List Row). IsDecidedAs checks j ended (message_of s) s.decided) (append-nil J) told, tt)
 steps_one checks J ended (x ∷ steps) s are told = (
   are.0,
-  steps_one checks (J ++ rows_told x.told) (ended_told x.told x.host ended) steps s are.1
-      (subst (λ (j : List Row). IsTold checks j (ended_by_all steps (ended_told x.told x.host ended)) (message_of s) s.told) (sym (append_assoc J (rows_told x.told) (rows steps))) told),
+  steps_one checks (J ++ rows_decided x.decided) (ended_decided x.decided x.host ended) steps s are.1
+      (subst (λ (j : List Row). IsDecidedAs checks j (ended_by_all steps (ended_decided x.decided x.host ended)) (message_of s) s.decided) (sym (append_assoc J (rows_decided x.decided) (rows steps))) told),
 )
 
-pub sent_joined : (steps others : List Step) → sent (steps ++ others) ≡ sent steps ++ sent others
+pub sent_joined : (steps others : List Step) → messages_sent (steps ++ others) ≡ messages_sent steps ++ messages_sent others
 sent_joined [] others = refl
 sent_joined (s ∷ steps) others = ap (λ (l : List Message). record { host = s.host; bytes = s.bytes } ∷ l) (sent_joined steps others)
 
@@ -77,7 +77,7 @@ some_pass : (p q : Pass) (host : List ℕ) → Some p ≡ Some q → ended_by p 
 some_pass p q host is stays = let same : p ≡ q = cc in subst (λ (x : Pass). ended_by x host [] ≡ []) same stays
 
 -- a message that ends nothing leaves its host going on
-pub stays_on : (J : List Row) (host : List ℕ) (frame : Result Frame FrameFault) (pass : Pass) → passed_by J (host, frame) ≡ Some pass → is_end (passed_outcome frame) ≡ false → ended_by pass host [] ≡ []
+pub stays_on : (J : List Row) (host : List ℕ) (frame : Result Frame FrameFault) (pass : Pass) → skipped_by J (host, frame) ≡ Some pass → is_end (skipped_outcome frame) ≡ false → ended_by pass host [] ≡ []
 stays_on J host (Ok (Frame.Event e)) pass is not = old_stays (nat_le e.seq (cursor host J)) host pass is
 stays_on J host (Ok (Frame.Faulty seq)) pass is not = old_stays (nat_le seq (cursor host J)) host pass is
 stays_on J host (Ok Frame.Info) pass is not = some_pass Pass.Info pass host is refl

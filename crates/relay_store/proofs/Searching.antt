@@ -7,9 +7,9 @@ use Rattle.event_window.specs.Held.{Event}
 use Rattle.event_window.specs.declared.place.Place.{Place}
 use Rattle.gate_log.specs.Image.{made}
 use Rattle.gate_log.specs.Log.{LogState}
-use Rattle.gate_log.specs.Log.{Holds as HasBodies}
+use Rattle.gate_log.specs.Log.{HoldsBodies as HasBodies}
 use Rattle.gate_log.specs.declared.format.Format.{Format}
-use Rattle.relay_row.specs.Bodies.{IsBody, body_of}
+use Rattle.relay_row.specs.Bodies.{IsBody, rows_body}
 use Rattle.relay_row.specs.Folds.{events_in}
 use Rattle.relay_row.specs.declared.row.Row.{Row}
 use Rattle.relay_core.specs.Entries.{Holds}
@@ -19,7 +19,7 @@ use Rattle.relay_store.specs.Journals.{AllBodies, bytes_of}
 use Rattle.relay_store.specs.Shown.{is_shown, shown_of}
 use Rattle.relay_store.proofs.Loaded.{length_made, some_records}
 
-pub each_at : (before : List (List Row)) (rows : List Row) (after : List (List Row)) → AllBodies (before ++ rows ∷ after) → IsBody rows (body_of rows)
+pub each_at : (before : List (List Row)) (rows : List Row) (after : List (List Row)) → AllBodies (before ++ rows ∷ after) → IsBody rows (rows_body rows)
 each_at [] rows after each = each.0
 each_at (b ∷ before) rows after each = each_at before rows after each.1
 

@@ -8,9 +8,9 @@ use Rattle.event_window.specs.Window.{AreAbove, all_above, is_at_most}
 use Rattle.event_window.specs.declared.place.Place.{Place}
 use Rattle.gate_log.specs.declared.format.Format.{Format}
 use Rattle.gate_log.specs.Image.{made}
-use Rattle.relay_row.specs.Bodies.{body_of}
-use Rattle.relay_row.specs.Folds.{events, events_in, events_of, last_after, last_seq, seq_in, seq_of}
-use Rattle.relay_row.specs.Journal.{IsJournal, are_none, is_above, keeps_order}
+use Rattle.relay_row.specs.Bodies.{rows_body}
+use Rattle.relay_row.specs.Folds.{events, events_in, events_of, last_after, last_seq, seq_in, first_seq}
+use Rattle.relay_row.specs.Journal.{IsJournal, are_none, rises_above, keeps_order}
 use Rattle.relay_row.specs.declared.carried.Carried.{Carried}
 use Rattle.relay_row.specs.declared.fetched.Fetched.{Fetched}
 use Rattle.relay_row.specs.declared.row.Row.{Row}
@@ -55,17 +55,17 @@ one_event (Row.Synced did whole moment) = inr ((whole.seq, whole.message), refl)
 one_event (Row.Operated o) = inr ((o.seq, o.message), refl)
 one_event (Row.Carried c) = inl refl
 
-numbered : (es : List Event) → IsOne es → (seq_of es == 0) ≡ false → es ≡ (seq_of es, message_of es) ∷ []
+numbered : (es : List Event) → IsOne es → (first_seq es == 0) ≡ false → es ≡ (first_seq es, message_of es) ∷ []
 numbered es one is = ⊎_elim
-    (λ none. let no : (0 == 0) ≡ false = sym (ap (λ (l : List Event). seq_of l == 0) none) ∙ is in absurd cc)
-    (λ some. some.1 ∙ ap (λ (l : List Event). (seq_of l, message_of l) ∷ []) (sym some.1))
+    (λ none. let no : (0 == 0) ≡ false = sym (ap (λ (l : List Event). first_seq l == 0) none) ∙ is in absurd cc)
+    (λ some. some.1 ∙ ap (λ (l : List Event). (first_seq l, message_of l) ∷ []) (sym some.1))
     one
 
 -- ---- where they stand
 
 pub bytes_joined : (xs ys : List (List Row)) → bytes_of (xs ++ ys) ≡ bytes_of xs ++ bytes_of ys
 bytes_joined [] ys = refl
-bytes_joined (x ∷ xs) ys = ap (λ (l : List (List ℕ)). body_of x ∷ l) (bytes_joined xs ys)
+bytes_joined (x ∷ xs) ys = ap (λ (l : List (List ℕ)). rows_body x ∷ l) (bytes_joined xs ys)
 
 got_at : (front : List Row) (row : Row) (behind : List Row) → slice_get (front ++ row ∷ behind) (length front) ≡ Some row
 got_at [] row behind = refl
@@ -138,7 +138,7 @@ none_before [] is = last_none
 none_before (row ∷ rows) is = absurd cc
 
 later : (before : List Row) (row : Row) → keeps_order before row ≡ true → IsLater (last_seq before) (last_after (last_seq before) row) (number_in row == 0) (number_in row)
-later before (Row.Taken t) kept = later_by (number_in (Row.Taken t) == 0) (last_seq before) (number_in (Row.Taken t)) (and_parts _ (is_above (last_seq before) (seq_in (Row.Taken t))) kept).1
+later before (Row.Taken t) kept = later_by (number_in (Row.Taken t) == 0) (last_seq before) (number_in (Row.Taken t)) (and_parts _ (rises_above (last_seq before) (seq_in (Row.Taken t))) kept).1
 later before (Row.Synced did whole moment) kept = later_by (whole.seq == 0) (last_seq before) whole.seq kept
 later before (Row.Operated o) kept = later_by (o.seq == 0) (last_seq before) o.seq kept
 later before (Row.Carried (Carried.Last seq)) kept = no_number (last_seq before) (last_after (last_seq before) (Row.Carried (Carried.Last seq))) (omega (arith, none_before before kept))
@@ -187,7 +187,7 @@ one_above seq n false message here es is up above = above
 
 module _ (format : Format) (bodies : List (List Row)) where
   number_at : (p : Place) (row : Row) → StandsAt format bodies p row → number_in row ≡ p.seq
-  number_at p row at = ap seq_of at.sends
+  number_at p row at = ap first_seq at.sends
 
   pub places_rise : (n : ℕ) (places : List Place) (rows : List Row) → AllStand format bodies places rows → AreRising n rows → AreAbove n places
   places_rise n [] rows all rise = tt

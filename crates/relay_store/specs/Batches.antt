@@ -17,8 +17,8 @@ use Rattle.relay_step.specs.Causes.{AskedInVainOf, CameToNothing, IsSpentFor}
 use Rattle.relay_step.specs.Messages.{EndsNumbers}
 use Rattle.relay_step.specs.Steps.{Step, rows, AreSteps}
 use Rattle.relay_store.specs.Journals.{IsOneOf}
-use Rattle.relay_store.specs.Drafts.{IsFull, end_of}
-use Rattle.relay_store.specs.Drafts.{behind as end_behind}
+use Rattle.relay_store.specs.PendingBodies.{IsFull, end_of}
+use Rattle.relay_store.specs.PendingBodies.{pending_end}
 use Rattle.relay_store.specs.Outcomes.{outcome_of}
 use Rattle.relay_store.specs.Store.{StoreState, Keeps}
 use Rattle.relay_store.specs.declared.fault.StoreFault.{StoreFault}
@@ -26,8 +26,8 @@ use Rattle.relay_store.specs.declared.message.Message.{Message}
 use Rattle.relay_store.specs.declared.outcome.Outcome.{Outcome}
 
 -- the messages of steps, as they were sent
-abbrev pub sent : List Step → List Message
-sent steps = map (λ s. record { host = s.host; bytes = s.bytes }) steps
+abbrev pub messages_sent : List Step → List Message
+messages_sent steps = map (λ s. record { host = s.host; bytes = s.bytes }) steps
 
 -- Which fault leaves a step that was taken and whose row isn't in the body under way: one whose row had no room, or found no memory. The disk's may come behind such a fault.
 abbrev pub AreExtra : Option StoreFault → List Step → Type 0
@@ -109,7 +109,7 @@ pub record Batched {D : Type 0} (view : D → View) (tells clock_tells repos_tel
   pub journal : IsJournal (J ++ rows (steps ++ extra))
   -- they are of the messages in front of the group: of all, unless a fault came or a host ended, which none but the last did
   pub behind : List Message
-  pub front : group ≡ sent (steps ++ extra) ++ behind
+  pub front : group ≡ messages_sent (steps ++ extra) ++ behind
   pub answers : AreAnswers fault steps outcomes
   pub ends : EndsLast outcomes
   pub all : fault ≡ None → (behind ≡ []) ⊎ HasEnd outcomes
@@ -123,7 +123,7 @@ pub record Batched {D : Type 0} (view : D → View) (tells clock_tells repos_tel
   pub format : new.store.log.format ≡ old.store.log.format
   pub most : new.store.log.most ≡ old.store.log.most
   -- the next body goes behind the one of the rows
-  pub end : fault ≢ Some StoreFault.Disk → new.store.log.end ≡ end_behind old.store.log.end (rows steps)
+  pub end : fault ≢ Some StoreFault.Disk → new.store.log.end ≡ pending_end old.store.log.end (rows steps)
   -- after every fault but the disk's the rows of the steps are known, and the disk holds them
   pub known : fault ≢ Some StoreFault.Disk → Holds new.store.core (J ++ rows steps)
   pub keeps : fault ≢ Some StoreFault.Disk → IsTrue tells → Keeps J old.store (view old.disk) → Keeps (J ++ rows steps) new.store (view new.disk)

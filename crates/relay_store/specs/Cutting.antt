@@ -2,7 +2,7 @@
 use Rattle.std.specs.Prelude.{◌≡◌, ◌⊎◌, ◌<◌, ◌≤◌, ◌+◌, ℕ, List, false}
 use Rattle.at_event.specs.declared.refusal.Refusal.{Refusal}
 use Rattle.gate_log.specs.declared.format.Format.{Format}
-use Rattle.gate_log.specs.declared.limits.TheConstants.{GENERATIONS}
+use Rattle.at_cid.specs.declared.limits.TheConstants.{NUMBERS}
 use Rattle.gate_log.specs.declared.picking.Side.{Side}
 use Rattle.gate_log.specs.declared.picking.Side.TheVariants.{One, Two}
 use Rattle.gate_log.specs.Image.{generation}
@@ -24,5 +24,5 @@ IsEitherBeside side J K live other = IsImageBeside side J live other ⊎ IsImage
 abbrev pub IsUncut : List Row → Format → ℕ → Refusal → Type 0
 IsUncut J format c Refusal.PastEnd = last_seq J < c
 IsUncut J format c Refusal.NothingToCut = (c ≤ last_seq J) × (have_old c J ≡ false)
-IsUncut J format c Refusal.LastCut = MayCut J c × (generation format + 1 ≡ GENERATIONS)
+IsUncut J format c Refusal.LastCut = MayCut J c × (generation format + 1 ≡ NUMBERS)
 IsUncut J format c refusal = ⊥

@@ -6,8 +6,8 @@ use Rattle.relay_disk.specs.Disk.{View, Goes, Same}
 use Rattle.gate_log.specs.declared.format.Format.{Format}
 use Rattle.gate_log.specs.Image.{made}
 use Rattle.gate_log.specs.Log.{LogState, IsOn}
-use Rattle.gate_log.specs.Log.{Holds as HasBodies}
-use Rattle.relay_row.specs.Bodies.{spelled}
+use Rattle.gate_log.specs.Log.{HoldsBodies as HasBodies}
+use Rattle.relay_row.specs.Bodies.{encoded_rows}
 use Rattle.relay_row.specs.Folds.{events_in}
 use Rattle.relay_row.specs.declared.row.Row.{Row}
 use Rattle.relay_core.specs.Entries.{Holds}
@@ -17,19 +17,19 @@ use Rattle.relay_store.specs.Shown.{held_by, is_shown, shown_of}
 use Rattle.relay_store.specs.Store.{StoreState, Keeps}
 
 -- where one is in a log: the place of a body, the index of one of its rows, and the bytes from that row on
-pub record PageState : Type 0 where
+pub record BufferState : Type 0 where
   pub place : ℕ
   pub index : ℕ
   pub left : List ℕ
 
 -- Where one of these bodies stands at the place, the bytes are those of its rows from the index on.
-abbrev pub IsPageOf : Format → List (List Row) → PageState → Type 0
-IsPageOf format bodies page = (before : List (List Row)) (there : List Row) (after : List (List Row))
-    → bodies ≡ before ++ there ∷ after → page.place ≡ length (made format (bytes_of before)) → page.left ≡ spelled (drop page.index there)
+abbrev pub IsBufferOf : Format → List (List Row) → BufferState → Type 0
+IsBufferOf format bodies buffer = (before : List (List Row)) (there : List Row) (after : List (List Row))
+    → bodies ≡ before ++ there ∷ after → buffer.place ≡ length (made format (bytes_of before)) → buffer.left ≡ encoded_rows (drop buffer.index there)
 
--- The disk is the one that the store is open on, these are the events of its journal, and the page is one of its bodies.
-abbrev pub HasEvents : StoreState → View → PageState → Held → Type 0
-HasEvents s v page held = (J : List Row) × (keeps : Keeps J s v) × (held ≡ held_by J) × IsPageOf s.log.format keeps.bodies page
+-- The disk is the one that the store is open on, these are the events of its journal, and the buffer is one of its bodies.
+abbrev pub HasEvents : StoreState → View → BufferState → Held → Type 0
+HasEvents s v buffer held = (J : List Row) × (keeps : Keeps J s v) × (held ≡ held_by J) × IsBufferOf s.log.format keeps.bodies buffer
 
 -- the message of the first of events, if there is one
 abbrev pub message_of : List Event → List ℕ
@@ -68,10 +68,10 @@ pub record IsRest (tells : Bool) (log : LogState) (core : Core) (v : View) (bodi
   pub stand : AllStand log.format bodies left rest
   pub same : IsTrue tells → (J : List Row) → AllBodies bodies → HasBodies (bytes_of bodies) log v → Holds core J → shown_of J rows ≡ shown_of J rest
 
--- while the first event that is shown is searched for, from a page on
-pub record IsSearching (tells : Bool) (log : LogState) (core : Core) (old now : View) (page page_now : PageState) (places left : List Place) : Type 0 where
+-- while the first event that is shown is searched for, from a buffer on
+pub record IsSearching (tells : Bool) (log : LogState) (core : Core) (old now : View) (buffer buffer_now : BufferState) (places left : List Place) : Type 0 where
   pub goes : Goes Same old now
   pub holds : IsTrue tells → (bodies : List (List ℕ)) → HasBodies bodies log old → HasBodies bodies log now
   pub on : IsTrue tells → IsOn now log
-  pub fits : IsTrue tells → (bodies : List (List Row)) → AllBodies bodies → HasBodies (bytes_of bodies) log old → IsPageOf log.format bodies page → IsPageOf log.format bodies page_now
-  pub rest : (bodies : List (List Row)) (rows : List Row) → IsPageOf log.format bodies page → AllStand log.format bodies places rows → IsRest tells log core old bodies left rows
+  pub fits : IsTrue tells → (bodies : List (List Row)) → AllBodies bodies → HasBodies (bytes_of bodies) log old → IsBufferOf log.format bodies buffer → IsBufferOf log.format bodies buffer_now
+  pub rest : (bodies : List (List Row)) (rows : List Row) → IsBufferOf log.format bodies buffer → AllStand log.format bodies places rows → IsRest tells log core old bodies left rows

@@ -5,7 +5,7 @@ use Rattle.gate_log.specs.declared.format.Format.{Format}
 use Rattle.gate_log.specs.declared.picking.Side.{Side}
 use Rattle.gate_log.specs.Image.{made, IsMade}
 use Rattle.gate_log.specs.Pick.{IsPairImage, IsPicked, IsBadPairAt, of_side}
-use Rattle.relay_row.specs.Bodies.{body_of, IsBody}
+use Rattle.relay_row.specs.Bodies.{rows_body, IsBody}
 use Rattle.relay_row.specs.Journal.{IsJournal}
 use Rattle.relay_row.specs.declared.row.Row.{Row}
 
@@ -17,12 +17,12 @@ joined (rows ∷ bodies) = rows ++ joined bodies
 -- the bytes of each body
 abbrev pub bytes_of : List (List Row) → List (List ℕ)
 bytes_of [] = []
-bytes_of (rows ∷ bodies) = body_of rows ∷ bytes_of bodies
+bytes_of (rows ∷ bodies) = rows_body rows ∷ bytes_of bodies
 
 -- each has the rows of a body
 abbrev pub AllBodies : List (List Row) → Type 0
 AllBodies [] = Unit {0}
-AllBodies (rows ∷ bodies) = IsBody rows (body_of rows) × AllBodies bodies
+AllBodies (rows ∷ bodies) = IsBody rows (rows_body rows) × AllBodies bodies
 
 -- bodies whose rows, joined, are the journal
 pub record AreBodiesOf (J : List Row) (bodies : List (List Row)) : Type 0 where

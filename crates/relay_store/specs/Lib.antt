@@ -2,11 +2,11 @@ pub mod Journals
 pub mod Places
 pub mod Store
 pub mod Outcomes
-pub mod Drafts
+pub mod PendingBodies
 pub mod Opening
 pub mod Batches
 pub mod Taking
-pub mod Words
+pub mod Commands
 pub mod Faults
 pub mod Shown
 pub mod Events

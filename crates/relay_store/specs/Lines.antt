@@ -5,9 +5,9 @@ use Rattle.at_event.specs.declared.frame.FrameFault.{FrameFault}
 use Rattle.relay_row.specs.Folds.{events, last_seq}
 use Rattle.relay_row.specs.declared.row.Row.{Row}
 use Rattle.relay_row.specs.declared.taken.Taken.{Taken}
-use Rattle.relay_core.specs.Report.{end_line, is_refused, passed_line, refused_of, taken_line}
+use Rattle.relay_core.specs.Report.{end_line, is_row_refused, skipped_line, refused_of, taken_line}
 use Rattle.relay_core.specs.Runs.{Message}
-use Rattle.relay_store.specs.Outcomes.{passed_outcome, taken_outcome}
+use Rattle.relay_store.specs.Outcomes.{skipped_outcome, taken_outcome}
 use Rattle.relay_store.specs.declared.outcome.End.{End}
 use Rattle.relay_store.specs.declared.outcome.Fetch.{Fetch}
 use Rattle.relay_store.specs.declared.outcome.Outcome.{Outcome}
@@ -44,5 +44,5 @@ end_line_of messages events refused last =
 -- They are the lines of the report.
 pub record LinesReport : Type 0 where
   pub taken : (t : Taken) → line_of t.host (taken_outcome t) ≡ taken_line t
-  pub passed : (m : Message) → m.1 ≢ Err FrameFault.Memory → line_of m.0 (passed_outcome m.1) ≡ passed_line m
-  pub end : (J : List Row) (messages : List Message) (rows : List Row) → end_line_of (length messages) (length (events rows)) (length (filter is_refused rows)) (last_seq (J ++ rows)) ≡ end_line J messages rows
+  pub passed : (m : Message) → m.1 ≢ Err FrameFault.Memory → line_of m.0 (skipped_outcome m.1) ≡ skipped_line m
+  pub end : (J : List Row) (messages : List Message) (rows : List Row) → end_line_of (length messages) (length (events rows)) (length (filter is_row_refused rows)) (last_seq (J ++ rows)) ≡ end_line J messages rows

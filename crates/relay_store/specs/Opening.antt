@@ -5,7 +5,7 @@ use Rattle.relay_disk.specs.Disk.{View, Goes, Same}
 use Rattle.relay_disk.specs.Moments.{PairLeavesOnly}
 use Rattle.gate_log.specs.Image.{made}
 use Rattle.gate_log.specs.Log.{LogState}
-use Rattle.gate_log.specs.Log.{Holds as HasBodies}
+use Rattle.gate_log.specs.Log.{HoldsBodies as HasBodies}
 use Rattle.gate_log.specs.Pick.{LeavesSide, other_side, view_of_side}
 use Rattle.gate_log.specs.declared.format.Format.{Format}
 use Rattle.relay_row.specs.Bodies.{IsBody}
@@ -30,26 +30,26 @@ pub record Opened (tells : Bool) (one two one_now two_now : View) (result : Resu
   -- whatever moments a crash strikes the two at, it leaves an image of one of the journals that one before could leave
   pub moments : IsTrue tells → LeavesPairJournals one two → PairLeavesOnly (IsPairJournalOfOne one two) one one_now two two_now
 
--- The rows of the body at this place are learned, behind the journal J.
-pub record IsLearned (place : ℕ) (body : List ℕ) (J : List Row) (state : Core) (places places_now : List Place) : Type 0 where
+-- The rows of the body at this place are applied, behind the journal J.
+pub record IsApplied (place : ℕ) (body : List ℕ) (J : List Row) (state : Core) (places places_now : List Place) : Type 0 where
   pub rows : List Row
   pub is : IsBody rows body
   pub journal : IsJournal (J ++ rows)
   pub core : Holds state (J ++ rows)
   pub window : places_now ≡ places ++ places_in place 0 rows
 
--- These rows of the body at this place were learned, behind every journal that was known, and they keep its order.
-pub record AreLearned (place : ℕ) (rows : List Row) (state state_now : Core) (places places_now : List Place) : Type 0 where
+-- These rows of the body at this place were applied, behind every journal that was known, and they keep its order.
+pub record AreApplied (place : ℕ) (rows : List Row) (state state_now : Core) (places places_now : List Place) : Type 0 where
   pub core : (J : List Row) → Holds state J → Holds state_now (J ++ rows)
   pub journal : (J : List Row) → Holds state J → IsJournal J → IsJournal (J ++ rows)
   pub window : places_now ≡ places ++ places_in place 0 rows
 
--- while the rows of the body at this place are learned: so many are, and that is left
-pub record IsLearning (place index : ℕ) (was left : RowsLeft) (state state_now : Core) (places places_now : List Place) : Type 0 where
+-- while the rows of the body at this place are applied: so many are, and that is left
+pub record IsApplying (place index : ℕ) (was left : RowsLeft) (state state_now : Core) (places places_now : List Place) : Type 0 where
   pub done : List Row
   pub read : AreInFront done was left
   pub count : index ≡ length done
-  pub learned : AreLearned place done state state_now places places_now
+  pub applied : AreApplied place done state state_now places places_now
 
 -- the body is none of rows that come behind the journal J
 abbrev pub IsBadBody : List Row → List ℕ → Type 0

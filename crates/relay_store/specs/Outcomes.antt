@@ -6,9 +6,9 @@ use Rattle.at_event.specs.declared.frame.FrameFault.{FrameFault}
 use Rattle.at_event.specs.declared.refusal.Refusal.{Refusal}
 use Rattle.relay_row.specs.declared.fetched.Fetched.{Fetched}
 use Rattle.relay_row.specs.declared.taken.Taken.{Taken}
-use Rattle.relay_step.specs.Messages.{passed_as}
-use Rattle.relay_step.specs.Steps.{Told, after_end, passed_over, took, Step}
-use Rattle.relay_step.specs.declared.told.Passed.{Passed}
+use Rattle.relay_step.specs.Messages.{skipped_as}
+use Rattle.relay_step.specs.Steps.{Decided, after_end, skipped, recorded, Step}
+use Rattle.relay_step.specs.declared.decided.Skipped.{Skipped}
 use Rattle.relay_store.specs.declared.outcome.End.{End}
 use Rattle.relay_store.specs.declared.outcome.Fetch.{Fetch}
 use Rattle.relay_store.specs.declared.outcome.Outcome.{Outcome}
@@ -28,23 +28,23 @@ abbrev pub taken_outcome : Taken → Outcome
 taken_outcome t = outcome_as t.refusal t
 
 -- of a message that makes none, for this reason
-abbrev pub outcome_passed : Passed → Outcome
-outcome_passed (Passed.Old seq) = Outcome.Old seq
-outcome_passed Passed.Unknown = Outcome.Unknown
-outcome_passed Passed.Info = Outcome.Info
-outcome_passed Passed.BadFrame = Outcome.Ended End.BadFrame
-outcome_passed Passed.NoSeq = Outcome.Ended End.NoSeq
-outcome_passed Passed.Error = Outcome.Ended End.Error
+abbrev pub outcome_skipped : Skipped → Outcome
+outcome_skipped (Skipped.Old seq) = Outcome.Old seq
+outcome_skipped Skipped.Unknown = Outcome.Unknown
+outcome_skipped Skipped.Info = Outcome.Info
+outcome_skipped Skipped.BadFrame = Outcome.Ended End.BadFrame
+outcome_skipped Skipped.NoSeq = Outcome.Ended End.NoSeq
+outcome_skipped Skipped.Error = Outcome.Ended End.Error
 
 -- of one that makes none, as it reads
-abbrev pub passed_outcome : Result Frame FrameFault → Outcome
-passed_outcome frame = outcome_passed (passed_as frame)
+abbrev pub skipped_outcome : Result Frame FrameFault → Outcome
+skipped_outcome frame = outcome_skipped (skipped_as frame)
 
 -- nothing is answered to a message of a host that ended before
-abbrev pub outcome_told : Result Frame FrameFault → Told → Option Outcome
-outcome_told frame after_end = None
-outcome_told frame (passed_over pass) = Some (passed_outcome frame)
-outcome_told frame (took t) = Some (taken_outcome t)
+abbrev pub outcome_decided : Result Frame FrameFault → Decided → Option Outcome
+outcome_decided frame after_end = None
+outcome_decided frame (skipped pass) = Some (skipped_outcome frame)
+outcome_decided frame (recorded t) = Some (taken_outcome t)
 
 abbrev pub outcome_of : Step → Option Outcome
-outcome_of s = outcome_told (frame_of s.bytes) s.told
+outcome_of s = outcome_decided (frame_of s.bytes) s.decided

@@ -3,13 +3,13 @@ use Rattle.std.specs.Prelude.{ℕ, ◌+◌, List, [], ◌∷◌, ◌++◌, lengt
 use Rattle.event_window.specs.declared.place.Place.{Place}
 use Rattle.gate_log.specs.declared.format.Format.{Format}
 use Rattle.gate_log.specs.Image.{made}
-use Rattle.relay_row.specs.Folds.{events_in, seq_of}
+use Rattle.relay_row.specs.Folds.{events_in, first_seq}
 use Rattle.relay_row.specs.declared.row.Row.{Row}
 use Rattle.relay_store.specs.Journals.{bytes_of}
 
 -- the number of the event that a row sends out, or 0
 abbrev pub number_in : Row → ℕ
-number_in row = seq_of (events_in row)
+number_in row = first_seq (events_in row)
 
 -- the place of the event of a row, if it sends one out, at an index of the body at a place
 abbrev pub place_of : ℕ → ℕ → Row → List Place

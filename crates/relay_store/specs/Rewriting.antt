@@ -6,7 +6,7 @@ use Rattle.gate_log.specs.Image.{made, records}
 use Rattle.gate_log.specs.Build.{HasBuilt, IsBuiltOn, IsClosed}
 use Rattle.relay_row.specs.declared.row.Row.{Row}
 use Rattle.relay_core.specs.Entries.{Holds}
-use Rattle.relay_store.specs.Drafts.{end_of}
+use Rattle.relay_store.specs.PendingBodies.{end_of}
 use Rattle.relay_store.specs.Journals.{bytes_of}
 use Rattle.relay_store.specs.Places.{places_behind}
 use Rattle.relay_store.specs.declared.fault.StoreFault.{StoreFault}
@@ -37,7 +37,7 @@ pub record IsCopied (tells : Bool) (rows : List Row) (old new : Rewrite) (v w : 
   pub counts : v.faults ≤ w.faults
 
 -- One of these rows has no room, as a body of its own behind those before it: with the closed gate behind it, it would end there. Those before it have room.
-pub record HasNoRoom (end most : ℕ) (rows : List Row) (e : ℕ) : Type 0 where
+pub record RewriteHasNoRoom (end most : ℕ) (rows : List Row) (e : ℕ) : Type 0 where
   pub before : List Row
   pub row : Row
   pub after : List Row

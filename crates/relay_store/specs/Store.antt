@@ -3,7 +3,7 @@ use Rattle.std.specs.Prelude.{◌≡◌, List}
 use Rattle.event_window.specs.declared.place.Place.{Place}
 use Rattle.relay_disk.specs.Disk.{View}
 use Rattle.gate_log.specs.Log.{LogState}
-use Rattle.gate_log.specs.Log.{Holds as HasBodies}
+use Rattle.gate_log.specs.Log.{HoldsBodies as HasBodies}
 use Rattle.gate_log.specs.declared.picking.Side.{Side}
 use Rattle.relay_row.specs.Journal.{IsJournal}
 use Rattle.relay_row.specs.declared.row.Row.{Row}

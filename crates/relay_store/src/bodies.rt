@@ -4,10 +4,10 @@ ghost use Rattle.std.specs.Prelude.{◌≡◌, ◌≤◌, ◌<◌, ◌+◌, ◌+
 ghost use Rattle.at_cid.specs.Counts.{Rose};
 ghost use Rattle.relay_disk.specs.Disk.{Goes, Same};
 ghost use Rattle.gate_log.specs.Image.{made};
-ghost use Rattle.gate_log.specs.Log.{Holds as HasBodies, IsOn};
+ghost use Rattle.gate_log.specs.Log.{HoldsBodies as HasBodies, IsOn};
 ghost use Rattle.gate_log.specs.declared.fault.LogFault.{LogFault};
 ghost use Rattle.gate_log.specs.declared.limits.TheConstants.{BEFORE_BODY};
-ghost use Rattle.relay_row.specs.Bodies.{IsBody, body_of};
+ghost use Rattle.relay_row.specs.Bodies.{IsBody, rows_body};
 ghost use Rattle.relay_row.specs.declared.row.Row.{Row as TheRow};
 ghost use Rattle.relay_store.specs.Journals.{bytes_of};
 
@@ -24,9 +24,9 @@ pub(crate) fn read_body<D: Disk>(
     requires on { IsTrue D.tells → IsOn (D.view disk.old) log.now }
     ensures next { IfOk result (λ next. (place < next) × (next ≤ log.now.end)) }
     ensures body { IfOk result (λ next. IsTrue D.tells → (before : List (List TheRow)) (there : List TheRow) (after : List (List TheRow))
-        → IsBody there (body_of there) → HasBodies (bytes_of (before ++ there ∷ after)) log.now (D.view disk.old)
+        → IsBody there (rows_body there) → HasBodies (bytes_of (before ++ there ∷ after)) log.now (D.view disk.old)
         → place ≡ length (made log.now.format (bytes_of before))
-        → IsBody there room.new.items × (next ≡ place + BEFORE_BODY + length (body_of there))) }
+        → IsBody there room.new.items × (next ≡ place + BEFORE_BODY + length (rows_body there))) }
     ensures no_bad_log { (p : ℕ) → result ≡ Err (LogFault.BadLog p) → IsTrue D.tells
         → (before : List (List TheRow)) (there : List TheRow) (after : List (List TheRow))
         → HasBodies (bytes_of (before ++ there ∷ after)) log.now (D.view disk.old)

@@ -1,16 +1,16 @@
 //! The rows that carry a state over.
 
 ghost use Rattle.std.specs.Prelude.{◌≡◌, ◌≤◌, ◌∷◌, [], ℕ, List, Some, IsTrue, IfOk, OnOk};
-ghost use Rattle.std.specs.String.{string_bytes};
 ghost use Rattle.at_cid.specs.Counts.{Rose};
 ghost use Rattle.relay_disk.specs.Moments.{LeavesOnly};
 ghost use Rattle.gate_log.specs.Build.{IsBuiltOn, IsClosed};
 ghost use Rattle.relay_row.specs.declared.row.Row.{Row as TheRow};
+ghost use Rattle.account_state.specs.Dids.{dids};
 ghost use Rattle.account_state.specs.State.{state_of};
 ghost use Rattle.host_state.specs.Table.{listed};
 ghost use Rattle.relay_core.specs.Entries.{Holds};
-ghost use Rattle.cut_law.specs.Cut.{account_row, account_rows, carried, dids, host_rows, repo_over};
-ghost use Rattle.relay_store.specs.Rewriting.{CopiedAs, HasNoRoom, IsOfAdding, IsCopied};
+ghost use Rattle.cut_law.specs.Cut.{account_row, account_rows, carried, host_rows, repo_over};
+ghost use Rattle.relay_store.specs.Rewriting.{CopiedAs, RewriteHasNoRoom, IsOfAdding, IsCopied};
 ghost use Rattle.relay_store.specs.declared.fault.StoreFault.{StoreFault as TheFault};
 
 use crate::StoreFault;
@@ -64,7 +64,7 @@ fn carry_host<D: Disk>(
     ensures disk { result ≡ Err StoreFault.Disk → Rose (D.view other.old).faults (D.view other.new).faults }
     ensures counts { (D.view other.old).faults ≤ (D.view other.new).faults }
     ensures full { (e : ℕ) → result ≡ Err (StoreFault.Full e)
-        → HasNoRoom rewrite.old.build.end rewrite.old.build.most (host_rows ((name.now, cursor) ∷ [])) e }
+        → RewriteHasNoRoom rewrite.old.build.end rewrite.old.build.most (host_rows ((name.now, cursor) ∷ [])) e }
     ensures few { (f : TheFault) → result ≡ Err f → IsOfAdding f }
 {
     if cursor == 0 {
@@ -87,7 +87,7 @@ fn carry_hosts<D: Disk>(
     ensures disk { result ≡ Err StoreFault.Disk → Rose (D.view other.old).faults (D.view other.new).faults }
     ensures counts { (D.view other.old).faults ≤ (D.view other.new).faults }
     ensures full { (e : ℕ) → result ≡ Err (StoreFault.Full e)
-        → HasNoRoom rewrite.old.build.end rewrite.old.build.most (host_rows (listed hosts.now)) e }
+        → RewriteHasNoRoom rewrite.old.build.end rewrite.old.build.most (host_rows (listed hosts.now)) e }
     ensures few { (f : TheFault) → result ≡ Err f → IsOfAdding f }
 {
     'each: for place in 0..hosts.len() {
@@ -97,13 +97,6 @@ fn carry_hosts<D: Disk>(
         carry_host(alloc, name, cursor, rewrite, other)?;
     }
     Ok(())
-}
-
-fn copied(alloc: Global, text: &str) -> Result<String, Memory>
-    ensures { IfOk result (λ made. string_bytes made ≡ text.now) }
-{
-    let made = String::from_str(alloc, text)?;
-    Ok(made)
 }
 
 // Carries the accounts over, in the order of their DIDs.
@@ -120,14 +113,14 @@ fn carry_accounts<D: Disk>(
     ensures disk { result ≡ Err StoreFault.Disk → Rose (D.view other.old).faults (D.view other.new).faults }
     ensures counts { (D.view other.old).faults ≤ (D.view other.new).faults }
     ensures full { (e : ℕ) → result ≡ Err (StoreFault.Full e) → (A : List TheRow) → Holds core.now A
-        → HasNoRoom rewrite.old.build.end rewrite.old.build.most (account_rows A (dids A)) e }
+        → RewriteHasNoRoom rewrite.old.build.end rewrite.old.build.most (account_rows A (dids A)) e }
     ensures few { (f : TheFault) → result ≡ Err f → IsOfAdding f }
 {
-    let mut did = String::new(alloc);
-    'accounts: while let Some((name, account)) = core.next_after(&did) {
+    let mut did = "";
+    'accounts: while let Some((name, account)) = core.next_after(did) {
         let row = account_row(alloc, name, account)?;
-        did = copied(alloc, name)?;
         put_row(rewrite, other, row)?;
+        did = name;
     }
     Ok(())
 }
@@ -146,7 +139,7 @@ pub(crate) fn carry<D: Disk>(
     ensures disk { result ≡ Err StoreFault.Disk → Rose (D.view other.old).faults (D.view other.new).faults }
     ensures counts { (D.view other.old).faults ≤ (D.view other.new).faults }
     ensures full { (e : ℕ) → result ≡ Err (StoreFault.Full e) → (A : List TheRow) → Holds core.now A
-        → HasNoRoom rewrite.old.build.end rewrite.old.build.most (carried A) e }
+        → RewriteHasNoRoom rewrite.old.build.end rewrite.old.build.most (carried A) e }
     ensures few { (f : TheFault) → result ≡ Err f → IsOfAdding f }
 {
     let last = Row::Carried(Carried::Last(core.last_seq()));

@@ -8,45 +8,45 @@ ghost use Rattle.event_window.specs.declared.place.Place.{Place as ThePlace};
 ghost use Rattle.relay_row.specs.declared.limits.TheConstants.{MOST_ROWS};
 ghost use Rattle.relay_row.specs.declared.row.Row.{Row as TheRow};
 ghost use Rattle.relay_core.specs.declared.journal_state.Core.{Core as TheCore};
-ghost use Rattle.relay_store.specs.Drafts.{Fits, HasRows, IsAhead, behind_draft};
+ghost use Rattle.relay_store.specs.PendingBodies.{Fits, HasRows, IsAhead, behind_pending};
 ghost use Rattle.relay_store.specs.Journals.{IsOneOf};
 ghost use Rattle.relay_store.specs.declared.fault.StoreFault.{StoreFault as TheFault};
 
 use crate::StoreFault;
-use crate::draft::{Draft, list_front, list_front_len};
+use crate::pending::{Pending, list_front, list_front_len};
 use gate_log::Log;
 use relay_disk::Disk;
 
-/// Appends the draft, if it has rows. It takes no memory.
+/// Appends the pending batch, if it has rows. It takes no memory.
 pub(crate) fn commit<D: Disk>(
     log: &mut Log,
     disk: &mut D,
-    draft: &mut Draft,
+    pending: &mut Pending,
 ) -> Result<(), StoreFault>
     requires open { IsTrue log.old.is_open }
     requires on { IsTrue D.tells → IsOn (D.view disk.old) log.old }
-    requires rows { (rows : List TheRow) × HasRows rows draft.old }
-    requires few { draft.old.count ≤ MOST_ROWS }
-    requires fits { Fits log.old draft.old }
+    requires rows { (rows : List TheRow) × HasRows rows pending.old }
+    requires few { pending.old.count ≤ MOST_ROWS }
+    requires fits { Fits log.old pending.old }
 
     // The disk holds the rows more that were known ahead of it.
-    ensures added { OnOk result (IsTrue D.tells → (J rows : List TheRow) (core : TheCore) (window : List ThePlace) → HasRows rows draft.old
+    ensures added { OnOk result (IsTrue D.tells → (J rows : List TheRow) (core : TheCore) (window : List ThePlace) → HasRows rows pending.old
         → IsAhead J rows log.old core window (D.view disk.old) → IsAhead (J ++ rows) [] log.new core window (D.view disk.new)) }
-    ensures moments { IsTrue D.tells → (J rows : List TheRow) (core : TheCore) (window : List ThePlace) → HasRows rows draft.old
+    ensures moments { IsTrue D.tells → (J rows : List TheRow) (core : TheCore) (window : List ThePlace) → HasRows rows pending.old
         → IsAhead J rows log.old core window (D.view disk.old) → LeavesOnly (IsOneOf log.old.format J rows) (D.view disk.old) (D.view disk.new) }
-    ensures end { OnOk result (log.new.end ≡ behind_draft log.old.end draft.old) }
+    ensures end { OnOk result (log.new.end ≡ behind_pending log.old.end pending.old) }
     ensures format { (log.new.format ≡ log.old.format) × (log.new.most ≡ log.old.most) }
-    ensures untouched { draft.old.count ≡ 0 → (log.new ≡ log.old) × (disk.new ≡ disk.old) }
+    ensures untouched { pending.old.count ≡ 0 → (log.new ≡ log.old) × (disk.new ≡ disk.old) }
     ensures open { OnOk result (IsTrue log.new.is_open) }
     ensures disk { OnErr result ((result ≡ Err StoreFault.Disk) × ((log.new.is_open ≡ false) × Rose (D.view disk.old).faults (D.view disk.new).faults)) }
     ensures counts { (D.view disk.old).faults ≤ (D.view disk.new).faults }
 {
-    if draft.count == 0 {
+    if pending.count == 0 {
         return Ok(());
     }
-    let front = list_front(draft.count);
-    let head = &front[..list_front_len(draft.count)];
-    match log.append_put(disk, head, &mut draft.body) {
+    let front = list_front(pending.count);
+    let head = &front[..list_front_len(pending.count)];
+    match log.append_put(disk, head, &mut pending.body) {
         Ok(_) => Ok(()),
         Err(_) => Err(StoreFault::Disk),
     }

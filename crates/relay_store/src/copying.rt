@@ -5,11 +5,11 @@ ghost use Rattle.at_cid.specs.Counts.{Rose};
 ghost use Rattle.relay_disk.specs.Disk.{Goes, Same};
 ghost use Rattle.relay_disk.specs.Moments.{LeavesOnly};
 ghost use Rattle.gate_log.specs.Image.{made};
-ghost use Rattle.gate_log.specs.Log.{Holds as HasBodies, IsOn};
+ghost use Rattle.gate_log.specs.Log.{HoldsBodies as HasBodies, IsOn};
 ghost use Rattle.gate_log.specs.Build.{IsBuiltOn, IsClosed};
 ghost use Rattle.relay_row.specs.declared.row.Row.{Row as TheRow};
 ghost use Rattle.relay_store.specs.Journals.{AllBodies, bytes_of, joined};
-ghost use Rattle.relay_store.specs.Rewriting.{CopiedAs, HasNoRoom, IsOfRewriting};
+ghost use Rattle.relay_store.specs.Rewriting.{CopiedAs, RewriteHasNoRoom, IsOfRewriting};
 ghost use Rattle.relay_store.specs.declared.fault.StoreFault.{StoreFault as TheFault};
 
 use crate::StoreFault;
@@ -37,7 +37,7 @@ fn copy_bodies<D: Disk>(
         rewrite.old rewrite.new (D.view other.old) (D.view other.new)) }
     ensures full { (e : ℕ) → result ≡ Err (StoreFault.Full e) → IsTrue D.tells → (before after : List (List TheRow)) → AllBodies (before ++ after)
         → HasBodies (bytes_of (before ++ after)) log.now (D.view disk.old) → from ≡ length (made log.now.format (bytes_of before))
-        → HasNoRoom rewrite.old.build.end rewrite.old.build.most (joined after) e }
+        → RewriteHasNoRoom rewrite.old.build.end rewrite.old.build.most (joined after) e }
     ensures no_bad_log { (p : ℕ) → result ≡ Err (StoreFault.BadLog p) → IsTrue D.tells → (before after : List (List TheRow)) → AllBodies (before ++ after)
         → HasBodies (bytes_of (before ++ after)) log.now (D.view disk.old) → from ≡ length (made log.now.format (bytes_of before)) → ⊥ }
     ensures run { IsTrue D.tells → LeavesOnly IsClosed (D.view other.old) (D.view other.new) }
@@ -75,7 +75,7 @@ pub(crate) fn copy_behind<D: Disk>(
     ensures full { (e : ℕ) → result ≡ Err (StoreFault.Full e) → IsTrue D.tells
         → (before : List (List TheRow)) (there : List TheRow) (after : List (List TheRow)) → AllBodies (before ++ there ∷ after)
         → HasBodies (bytes_of (before ++ there ∷ after)) log.now (D.view disk.old) → last.place ≡ length (made log.now.format (bytes_of before))
-        → HasNoRoom rewrite.old.build.end rewrite.old.build.most (drop (last.index + 1) there ++ joined after) e }
+        → RewriteHasNoRoom rewrite.old.build.end rewrite.old.build.most (drop (last.index + 1) there ++ joined after) e }
     ensures no_bad_log { (p : ℕ) → result ≡ Err (StoreFault.BadLog p) → IsTrue D.tells
         → (before : List (List TheRow)) (there : List TheRow) (after : List (List TheRow)) → AllBodies (before ++ there ∷ after)
         → HasBodies (bytes_of (before ++ there ∷ after)) log.now (D.view disk.old) → last.place ≡ length (made log.now.format (bytes_of before)) → ⊥ }

@@ -8,17 +8,17 @@ ghost use Rattle.event_window.specs.Window.{IsLastUpto};
 ghost use Rattle.relay_disk.specs.Disk.{Goes, Same};
 ghost use Rattle.relay_disk.specs.Moments.{LeavesOnly, PairLeavesOnly};
 ghost use Rattle.gate_log.specs.Image.{front, generation};
-ghost use Rattle.gate_log.specs.Log.{Holds as HasBodies, IsOn};
+ghost use Rattle.gate_log.specs.Log.{HoldsBodies as HasBodies, IsOn};
 ghost use Rattle.gate_log.specs.Pick.{other_side};
 ghost use Rattle.gate_log.specs.Build.{HasBuilt, IsBuiltOn, IsClosed, IsFormerOrIdle};
 ghost use Rattle.gate_log.specs.Beside.{LeavesLive};
-ghost use Rattle.gate_log.specs.declared.limits.TheConstants.{GENERATIONS};
+ghost use Rattle.at_cid.specs.declared.limits.TheConstants.{NUMBERS};
 ghost use Rattle.relay_row.specs.Folds.{last_seq};
 ghost use Rattle.relay_row.specs.declared.row.Row.{Row as TheRow};
 ghost use Rattle.relay_core.specs.Entries.{Holds};
 ghost use Rattle.cut_law.specs.Cut.{MayCut, cut};
 ghost use Rattle.relay_store.specs.Cutting.{IsEitherBeside, IsUncut};
-ghost use Rattle.relay_store.specs.Rewriting.{CopiedAs, HasNoRoom, IsOfRewriting};
+ghost use Rattle.relay_store.specs.Rewriting.{CopiedAs, RewriteHasNoRoom, IsOfRewriting};
 ghost use Rattle.relay_store.specs.Shown.{held_by};
 ghost use Rattle.relay_store.specs.Store.{IsKept, Keeps, seen, seen_in};
 ghost use Rattle.relay_store.specs.declared.cutting.CutDone.{CutDone as TheDone};
@@ -30,10 +30,10 @@ use crate::copying::copy_behind;
 use crate::rereading::fold_upto;
 use crate::rewriting::Rewrite;
 use crate::store::Store;
-use at_cid::Octets;
+use at_cid::{NUMBERS, Octets};
 use at_event::Refusal;
 use event_window::{Place, Window};
-use gate_log::{Build, Format, GENERATIONS, Log, Side};
+use gate_log::{Build, Format, Log, Side};
 use relay_core::Core;
 use relay_disk::Disk;
 use std::alloc::Global;
@@ -57,7 +57,7 @@ struct Anew {
 
 // Begins a log of the next generation on the other disk.
 fn begin<D: Disk>(alloc: Global, log: &Log, other: &mut D) -> Result<Rewrite, StoreFault>
-    requires { generation log.now.format + 1 < GENERATIONS }
+    requires { generation log.now.format + 1 < NUMBERS }
     ensures build { IfOk result (λ rewrite. rewrite.build ≡ record {
       format = Format.Two (generation log.now.format + 1);
       end = length (front (Format.Two (generation log.now.format + 1)));
@@ -109,7 +109,7 @@ impl Store {
         ensures copied { OnOk result (CopiedAs D.tells (λ rows. IsTrue D.tells → (J : List TheRow) (c : ℕ) → Keeps J (seen_in self.now) (D.view disk.old)
             → IsLastUpto c last self.now.window.places → rows ≡ cut J c) rewrite.old rewrite.new (D.view other.old) (D.view other.new)) }
         ensures full { (e : ℕ) → result ≡ Err (StoreFault.Full e) → IsTrue D.tells → (J : List TheRow) (c : ℕ) → Keeps J (seen_in self.now) (D.view disk.old)
-            → IsLastUpto c last self.now.window.places → HasNoRoom rewrite.old.build.end rewrite.old.build.most (cut J c) e }
+            → IsLastUpto c last self.now.window.places → RewriteHasNoRoom rewrite.old.build.end rewrite.old.build.most (cut J c) e }
         ensures no_bad_log { (p : ℕ) → result ≡ Err (StoreFault.BadLog p) → IsTrue D.tells → (J : List TheRow) (c : ℕ)
             → Keeps J (seen_in self.now) (D.view disk.old) → IsLastUpto c last self.now.window.places → ⊥ }
         ensures run { IsTrue D.tells → LeavesOnly IsClosed (D.view other.old) (D.view other.new) }
@@ -134,7 +134,7 @@ impl Store {
         last: Place,
     ) -> Result<Anew, StoreFault>
         requires on { IsTrue D.tells → IsOn (D.view disk.old) self.now.log }
-        requires generation { generation self.now.log.format + 1 < GENERATIONS }
+        requires generation { generation self.now.log.format + 1 < NUMBERS }
         ensures log { IfOk result (λ anew. (anew.log.format ≡ Format.Two (generation self.now.log.format + 1)) × (anew.log.most ≡ self.now.log.most)
             × IsTrue anew.log.is_open) }
         ensures room { IfOk result (λ anew. IsTrue D.tells → (J : List TheRow) (c : ℕ) → Keeps J (seen_in self.now) (D.view disk.old)
@@ -151,7 +151,7 @@ impl Store {
         ensures holds { IsTrue D.tells → (bodies : List (List ℕ)) → HasBodies bodies self.now.log (D.view disk.old) → HasBodies bodies self.now.log (D.view disk.new) }
         ensures full { (e : ℕ) → result ≡ Err (StoreFault.Full e) → IsTrue D.tells → (J : List TheRow) (c : ℕ) → Keeps J (seen_in self.now) (D.view disk.old)
             → IsLastUpto c last self.now.window.places
-            → HasNoRoom (length (front (Format.Two (generation self.now.log.format + 1)))) self.now.log.most (cut J c) e }
+            → RewriteHasNoRoom (length (front (Format.Two (generation self.now.log.format + 1)))) self.now.log.most (cut J c) e }
         ensures no_bad_log { (p : ℕ) → result ≡ Err (StoreFault.BadLog p) → IsTrue D.tells → (J : List TheRow) (c : ℕ)
             → Keeps J (seen_in self.now) (D.view disk.old) → IsLastUpto c last self.now.window.places → ⊥ }
         ensures disk { result ≡ Err StoreFault.Disk → Rose (D.view disk.old).faults (D.view disk.new).faults
@@ -200,7 +200,7 @@ impl Store {
 
         // Else there is none, and the store has the cut journal, on the other disk. Its log is of the next generation, and all rows have room.
         ensures may { ((why : TheRefusal) → result ≢ Ok (CutDone.Refused why)) → IsTrue D.tells → (J : List TheRow)
-            → Keeps J (seen_in self.old) (D.view disk.old) → MayCut J seq × (generation self.old.log.format + 1 < GENERATIONS) }
+            → Keeps J (seen_in self.old) (D.view disk.old) → MayCut J seq × (generation self.old.log.format + 1 < NUMBERS) }
         ensures keeps { (oldest last : ℕ) → result ≡ Ok (CutDone.Cut oldest last) → IsTrue D.tells → (J : List TheRow)
             → Keeps J (seen_in self.old) (D.view disk.old) → Keeps (cut J seq) (seen_in self.new) (D.view other.new) }
         ensures told { (oldest last : ℕ) → result ≡ Ok (CutDone.Cut oldest last) → IsTrue D.tells → (J : List TheRow)
@@ -227,7 +227,7 @@ impl Store {
             ⊎ Rose (D.view other.old).faults (D.view other.new).faults }
         ensures counts { (D.view other.old).faults ≤ (D.view other.new).faults }
         ensures full { (e : ℕ) → result ≡ Err (StoreFault.Full e) → IsTrue D.tells → (J : List TheRow) → Keeps J (seen_in self.old) (D.view disk.old)
-            → HasNoRoom (length (front (Format.Two (generation self.old.log.format + 1)))) self.old.log.most (cut J seq) e }
+            → RewriteHasNoRoom (length (front (Format.Two (generation self.old.log.format + 1)))) self.old.log.most (cut J seq) e }
         ensures no_bad_log { (p : ℕ) → result ≡ Err (StoreFault.BadLog p) → IsTrue D.tells → ⊥ }
         ensures few { (f : TheFault) → result ≡ Err f → IsOfRewriting f }
     {
@@ -237,7 +237,7 @@ impl Store {
         let Some(last) = self.window.last_upto(seq) else {
             return Ok(CutDone::Refused(Refusal::NothingToCut));
         };
-        if self.log.generation() >= GENERATIONS - 1 {
+        if self.log.generation() >= NUMBERS - 1 {
             return Ok(CutDone::Refused(Refusal::LastCut));
         }
         match self.write_anew(alloc, disk, other, last) {

@@ -2,7 +2,7 @@
 
 use at_event::Refusal;
 
-/// What is answered to an operator's word.
+/// What is answered to an operator's command.
 #[derive(Clone, Copy, Debug, PartialEq, Eq)]
 pub enum Done {
     /// It goes out under this number.

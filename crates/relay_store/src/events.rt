@@ -9,8 +9,8 @@ ghost use Rattle.relay_store.specs.Rereading.{IsReread, reread_again, reread_her
 ghost use Rattle.relay_store.specs.Shown.{held_by};
 ghost use Rattle.relay_store.specs.Store.{Keeps, seen_in};
 
+use crate::buffer::Buffer;
 use crate::finding::find_shown;
-use crate::page::Page;
 use crate::store::Store;
 use at_cid::Octets;
 use event_window::{Events, EventsFault};
@@ -20,52 +20,52 @@ use std::alloc::Global;
 /// The events of a store, which are read back from the disk that it is on, body by body: the one that was read last is kept.
 ///
 /// P is the type of that body.
-pub struct Reader<'a, D, P = Page> {
+pub struct EventReader<'a, D, P = Buffer> {
     store: &'a Store,
     disk: &'a mut D,
     // How many places stand behind the one that was looked at first, last time.
     left: usize,
-    page: P,
+    buffer: P,
 }
 
-impl<D, P: Drop> Drop for Reader<'_, D, P> {
+impl<D, P: Drop> Drop for EventReader<'_, D, P> {
     ghost use Rattle.std.specs.Prelude.{◌≡◌};
 
     fn drop(self)
         ensures disk { self.exit.1.0.now ≡ self.entry.disk.now }
     {
-        let Reader {
+        let EventReader {
             store: _,
             disk: _,
             left: _,
-            page,
+            buffer,
         } = self;
-        drop(page);
+        drop(buffer);
     }
 }
 
 impl Store {
     /// Its events, read back from the disk that it is on. Nothing is read yet.
-    pub fn events<'a, D: Disk>(&'a self, alloc: Global, disk: &'a mut D) -> Reader<'a, D>
+    pub fn events<'a, D: Disk>(&'a self, alloc: Global, disk: &'a mut D) -> EventReader<'a, D>
         ensures held { IsTrue D.tells → (J : List TheRow) → Keeps J (seen_in self.now) (D.view disk.old)
-            → HasEvents (seen_in result.store.now) (D.view result.disk.now) result.page (held_by J) }
+            → HasEvents (seen_in result.store.now) (D.view result.disk.now) result.buffer (held_by J) }
         ensures store { result.store.now ≡ self.now }
         ensures disk { result.disk.now ≡ disk.old }
         ensures same_reference { result.disk.ghost_name ≡ disk.entry.ghost_name }
     {
-        Reader {
+        EventReader {
             store: self,
             disk,
             left: 0,
-            page: Page::new(alloc),
+            buffer: Buffer::new(alloc),
         }
     }
 }
 
-impl<D: Disk> Events for Reader<'_, D> {
+impl<D: Disk> Events for EventReader<'_, D> {
     ghost tells = { D.tells };
 
-    ghost holds = { λ reader held. HasEvents (seen_in reader.store.now) (D.view reader.disk.now) reader.page held };
+    ghost holds = { λ reader held. HasEvents (seen_in reader.store.now) (D.view reader.disk.now) reader.buffer held };
 
     ghost faults = { λ reader. (D.view reader.disk.now).faults };
 
@@ -98,7 +98,7 @@ impl<D: Disk> Events for Reader<'_, D> {
             &store.core,
             self.disk,
             places,
-            &mut self.page,
+            &mut self.buffer,
             room,
         )
     }

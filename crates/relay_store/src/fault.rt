@@ -28,7 +28,7 @@ pub enum StoreFault {
     /// A repository couldn't be read.
     #[error("a repository couldn't be read")]
     Repos,
-    /// Memory was wanted.
+    /// Memory ran out.
     #[error("out of memory")]
     Memory,
     /// The clock failed.

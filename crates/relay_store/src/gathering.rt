@@ -6,14 +6,14 @@ ghost use Rattle.at_syntax.specs.Host.{is_host};
 ghost use Rattle.relay_row.specs.declared.limits.TheConstants.{MOST_ROWS};
 ghost use Rattle.relay_step.specs.Around.{around};
 ghost use Rattle.relay_store.specs.Batches.{is_end};
-ghost use Rattle.relay_store.specs.Drafts.{HasRows};
+ghost use Rattle.relay_store.specs.PendingBodies.{HasRows};
 ghost use Rattle.relay_store.specs.Faults.{IsRisen};
 ghost use Rattle.relay_store.specs.Taking.{Stopped, AreOfHosts};
 
 use crate::StoreFault;
-use crate::draft::Draft;
 use crate::message::Message;
 use crate::outcome::Outcome;
+use crate::pending::Pending;
 use crate::preparing::prepare;
 use at_authority::Judges;
 use event_window::Window;
@@ -38,18 +38,18 @@ pub(crate) fn gather<P: Judges, R: Repos, C: Clock>(
     log: &Log,
     core: &mut Core,
     window: &mut Window,
-    draft: &mut Draft,
+    pending: &mut Pending,
     outcomes: &mut Vec<Outcome>,
     group: &[Message],
     judges: &mut P,
     repos: &mut R,
     clock: &mut C,
 ) -> Option<StoreFault>
-    requires rows { HasRows [] draft.old }
+    requires rows { HasRows [] pending.old }
     requires no_outcome { outcomes.old.items ≡ [] }
     requires few { length group.now ≤ MOST_ROWS }
     requires hosts { AreOfHosts group.now }
-    ensures stopped { Stopped C.tells R.tells log.now group.now core.old core.new window.old.places window.new.places draft.new
+    ensures stopped { Stopped C.tells R.tells log.now group.now core.old core.new window.old.places window.new.places pending.new
         (around (P.panel judges.old) (C.moments clock.old) (R.repository repos.old)) (around (P.panel judges.new) (C.moments clock.new) (R.repository repos.new)) outcomes.new.items result }
     ensures risen { IfSome result (IsRisen (Rose (R.faults repos.old) (R.faults repos.new)) (Rose (C.faults clock.old) (C.faults clock.new))) }
     ensures no_disk { result ≡ Some StoreFault.Disk → ⊥ }
@@ -63,7 +63,7 @@ pub(crate) fn gather<P: Judges, R: Repos, C: Clock>(
         let host = message.host.as_str();
         let bytes = message.bytes.as_slice();
         let outcome = match prepare(
-            alloc, log, core, window, draft, host, bytes, judges, repos, clock,
+            alloc, log, core, window, pending, host, bytes, judges, repos, clock,
         ) {
             Ok(outcome) => outcome,
             Err(fault) => return Some(fault),

@@ -4,7 +4,7 @@ ghost use Rattle.std.specs.Prelude.{◌≡◌, ◌≤◌, ◌<◌, ◌+◌, ◌+
 ghost use Rattle.at_cid.specs.Counts.{Rose};
 ghost use Rattle.relay_disk.specs.Disk.{Goes, Same};
 ghost use Rattle.gate_log.specs.Image.{made};
-ghost use Rattle.gate_log.specs.Log.{Holds as HasBodies, IsOn};
+ghost use Rattle.gate_log.specs.Log.{HoldsBodies as HasBodies, IsOn};
 ghost use Rattle.gate_log.specs.declared.limits.TheConstants.{BEFORE_BODY};
 ghost use Rattle.relay_row.specs.Journal.{IsJournal};
 ghost use Rattle.relay_row.specs.Left.{AreLeft};
@@ -12,12 +12,12 @@ ghost use Rattle.relay_row.specs.declared.fault.RowFault.{RowFault};
 ghost use Rattle.relay_row.specs.declared.limits.TheConstants.{MOST_ROWS};
 ghost use Rattle.relay_row.specs.declared.row.Row.{Row as TheRow};
 ghost use Rattle.relay_core.specs.Entries.{Holds};
-ghost use Rattle.relay_store.specs.Opening.{AreLearned, IsLearned, IsBadBody, IsLoaded, IsBadAmong, IsOfReading};
+ghost use Rattle.relay_store.specs.Opening.{AreApplied, IsApplied, IsBadBody, IsLoaded, IsBadAmong, IsOfReading};
 ghost use Rattle.relay_store.specs.Places.{places_in};
 ghost use Rattle.relay_store.specs.declared.fault.StoreFault.{StoreFault as TheFault};
 
 use crate::StoreFault;
-use crate::learning::{learn, make_room};
+use crate::applying::{apply_row, make_room};
 use event_window::Window;
 use gate_log::Log;
 use relay_core::Core;
@@ -26,14 +26,14 @@ use relay_row::{BodyRows, RowFault};
 use std::alloc::Global;
 
 // Learns the rows that are left of the body at this place.
-fn learn_rows(
+fn apply_rows(
     core: &mut Core,
     window: &mut Window,
     place: u64,
     rows: &mut BodyRows,
 ) -> Result<(), RowFault>
     requires few { rows.old.count ≤ MOST_ROWS }
-    ensures learned { OnOk result ((there : List TheRow) × AreLeft there rows.old × AreLearned place there core.old core.new window.old.places window.new.places) }
+    ensures applied { OnOk result ((there : List TheRow) × AreLeft there rows.old × AreApplied place there core.old core.new window.old.places window.new.places) }
     ensures bad { result ≡ Err RowFault.BadRow → (J : List TheRow) → Holds core.old J → (there : List TheRow) → AreLeft there rows.old → IsJournal (J ++ there) → ⊥ }
 {
     let mut index = 0;
@@ -42,28 +42,28 @@ fn learn_rows(
             return Err(RowFault::BadRow);
         }
         make_room(core, window, &row)?;
-        learn(core, window, place, index, row);
+        apply_row(core, window, place, index, row);
         index += 1;
     }
     Ok(())
 }
 
 // Learns the body at this place.
-fn learn_body(
+fn apply_body(
     alloc: Global,
     core: &mut Core,
     window: &mut Window,
     place: u64,
     body: &[u8],
 ) -> Result<(), RowFault>
-    ensures learned { OnOk result ((J : List TheRow) → Holds core.old J → IsJournal J → IsLearned place body.now J core.new window.old.places window.new.places) }
+    ensures applied { OnOk result ((J : List TheRow) → Holds core.old J → IsJournal J → IsApplied place body.now J core.new window.old.places window.new.places) }
     ensures bad { result ≡ Err RowFault.BadRow → (J : List TheRow) → Holds core.old J → IsBadBody J body.now }
 {
     let mut rows = BodyRows::of(alloc, body)?;
-    learn_rows(core, window, place, &mut rows)
+    apply_rows(core, window, place, &mut rows)
 }
 
-// Reads the body at this place into a room and learns it, and answers the next place.
+// Reads the body at this place into a room and applies it, and answers the next place.
 fn load_body<D: Disk>(
     alloc: Global,
     log: &Log,
@@ -76,9 +76,9 @@ fn load_body<D: Disk>(
     requires on { IsTrue D.tells → IsOn (D.view disk.old) log.now }
     requires below { place < log.now.end }
     ensures next { IfOk result (λ next. (place < next) × (next ≤ log.now.end)) }
-    ensures learned { IfOk result (λ next. IsTrue D.tells → (before : List (List ℕ)) (body : List ℕ) (after : List (List ℕ)) (J : List TheRow)
+    ensures applied { IfOk result (λ next. IsTrue D.tells → (before : List (List ℕ)) (body : List ℕ) (after : List (List ℕ)) (J : List TheRow)
         → HasBodies (before ++ body ∷ after) log.now (D.view disk.old) → place ≡ length (made log.now.format before) → Holds core.old J → IsJournal J
-        → (next ≡ place + BEFORE_BODY + length body) × IsLearned place body J core.new window.old.places window.new.places) }
+        → (next ≡ place + BEFORE_BODY + length body) × IsApplied place body J core.new window.old.places window.new.places) }
     ensures bad_log { (p : ℕ) → result ≡ Err (StoreFault.BadLog p) → IsTrue D.tells → (before : List (List ℕ)) (body : List ℕ) (after : List (List ℕ)) (J : List TheRow)
         → HasBodies (before ++ body ∷ after) log.now (D.view disk.old) → place ≡ length (made log.now.format before) → Holds core.old J
         → (p ≡ place) × IsBadBody J body }
@@ -89,7 +89,7 @@ fn load_body<D: Disk>(
     ensures few { (f : TheFault) → result ≡ Err f → IsOfReading f }
 {
     let next = log.read_into(disk, place, room)?;
-    match learn_body(alloc, core, window, place, room.as_slice()) {
+    match apply_body(alloc, core, window, place, room.as_slice()) {
         Ok(()) => Ok(next),
         Err(RowFault::BadRow) => Err(StoreFault::BadLog(place)),
         Err(RowFault::Memory) => Err(StoreFault::Memory),

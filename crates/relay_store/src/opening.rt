@@ -3,7 +3,7 @@
 ghost use Rattle.std.specs.Prelude.{◌≡◌, ◌≤◌, ◌⊎◌, [], ℕ, List, IsTrue, IfOk, OnOk};
 ghost use Rattle.at_cid.specs.Counts.{Rose};
 ghost use Rattle.relay_disk.specs.Disk.{Goes, Same, IsSynced};
-ghost use Rattle.gate_log.specs.Log.{Holds as HasBodies, IsOn};
+ghost use Rattle.gate_log.specs.Log.{HoldsBodies as HasBodies, IsOn};
 ghost use Rattle.gate_log.specs.Pick.{view_of_side};
 ghost use Rattle.relay_core.specs.Entries.{Holds};
 ghost use Rattle.gate_log.specs.declared.limits.TheConstants.{LAST_END};
@@ -12,8 +12,8 @@ ghost use Rattle.relay_store.specs.Opening.{Opened, IsBadAmong, IsLoaded, IsOfRe
 ghost use Rattle.relay_store.specs.declared.fault.StoreFault.{StoreFault as TheFault};
 
 use crate::StoreFault;
-use crate::draft::Draft;
 use crate::loading::load;
+use crate::pending::Pending;
 use crate::store::Store;
 use event_window::Window;
 use gate_log::{Log, Side, open_pair};
@@ -79,13 +79,13 @@ impl Store {
         };
         let (side, log) = found;
         load_side(alloc, side, &log, disk, other, &mut core, &mut window)?;
-        let draft = Draft::new(alloc);
+        let pending = Pending::new(alloc);
         Ok(Store {
             log,
             side,
             core,
             window,
-            draft,
+            pending,
         })
     }
 }

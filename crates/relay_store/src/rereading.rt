@@ -4,9 +4,9 @@ ghost use Rattle.std.specs.Prelude.{◌≡◌, ◌≤◌, ◌<◌, ◌+◌, ◌+
 ghost use Rattle.at_cid.specs.Counts.{Rose};
 ghost use Rattle.relay_disk.specs.Disk.{Goes, Same};
 ghost use Rattle.gate_log.specs.Image.{made};
-ghost use Rattle.gate_log.specs.Log.{Holds as HasBodies, IsOn};
+ghost use Rattle.gate_log.specs.Log.{HoldsBodies as HasBodies, IsOn};
 ghost use Rattle.gate_log.specs.declared.limits.TheConstants.{BEFORE_BODY};
-ghost use Rattle.relay_row.specs.Bodies.{IsBody, body_of};
+ghost use Rattle.relay_row.specs.Bodies.{IsBody, rows_body};
 ghost use Rattle.relay_row.specs.declared.row.Row.{Row as TheRow};
 ghost use Rattle.relay_core.specs.Entries.{Holds};
 ghost use Rattle.relay_store.specs.Journals.{AllBodies, bytes_of, joined};
@@ -35,12 +35,12 @@ pub(crate) fn body_at<D: Disk>(
     requires on { IsTrue D.tells → IsOn (D.view disk.old) log.now }
     ensures next { IfOk result (λ found. (place < found.1) × (found.1 ≤ log.now.end)) }
     ensures rows { IfOk result (λ found. IsTrue D.tells → (before : List (List TheRow)) (there : List TheRow) (after : List (List TheRow))
-        → IsBody there (body_of there) → HasBodies (bytes_of (before ++ there ∷ after)) log.now (D.view disk.old)
+        → IsBody there (rows_body there) → HasBodies (bytes_of (before ++ there ∷ after)) log.now (D.view disk.old)
         → place ≡ length (made log.now.format (bytes_of before))
-        → (found.0.items ≡ there) × (found.1 ≡ place + BEFORE_BODY + length (body_of there))) }
+        → (found.0.items ≡ there) × (found.1 ≡ place + BEFORE_BODY + length (rows_body there))) }
     ensures no_bad_log { (p : ℕ) → result ≡ Err (StoreFault.BadLog p) → IsTrue D.tells
         → (before : List (List TheRow)) (there : List TheRow) (after : List (List TheRow))
-        → IsBody there (body_of there) → HasBodies (bytes_of (before ++ there ∷ after)) log.now (D.view disk.old)
+        → IsBody there (rows_body there) → HasBodies (bytes_of (before ++ there ∷ after)) log.now (D.view disk.old)
         → place ≡ length (made log.now.format (bytes_of before)) → ⊥ }
     ensures goes { Goes Same (D.view disk.old) (D.view disk.new) }
     ensures holds { IsTrue D.tells → (bodies : List (List ℕ)) → HasBodies bodies log.now (D.view disk.old) → HasBodies bodies log.now (D.view disk.new) }

@@ -5,12 +5,12 @@ ghost use Rattle.at_cid.specs.Counts.{Rose};
 ghost use Rattle.relay_disk.specs.Moments.{LeavesOnly};
 ghost use Rattle.gate_log.specs.Build.{IsBuiltOn, IsClosed};
 ghost use Rattle.gate_log.specs.declared.limits.TheConstants.{BODY_LENGTHS};
-ghost use Rattle.relay_row.specs.Bodies.{body_of};
-ghost use Rattle.relay_store.specs.Rewriting.{IsCopied, HasNoRoom, IsOfAdding};
+ghost use Rattle.relay_row.specs.Bodies.{rows_body};
+ghost use Rattle.relay_store.specs.Rewriting.{IsCopied, RewriteHasNoRoom, IsOfAdding};
 ghost use Rattle.relay_store.specs.declared.fault.StoreFault.{StoreFault as TheFault};
 
 use crate::StoreFault;
-use crate::learning::{learn, make_room};
+use crate::applying::{apply_row, make_room};
 use at_cbor::write_list_front;
 use at_cid::{Memory, Octets};
 use event_window::Window;
@@ -30,9 +30,9 @@ pub(crate) struct Rewrite {
 }
 
 // Puts the body of one row together.
-#[tactic(auto, unfolding(relay_row::specs::Bodies::body_of))]
-fn spell_body(body: &mut Octets, row: &Row) -> Result<(), Memory>
-    ensures body { OnOk result (body.new ≡ body_of (row.now ∷ [])) }
+#[tactic(auto, unfolding(relay_row::specs::Bodies::rows_body))]
+fn encode_body(body: &mut Octets, row: &Row) -> Result<(), Memory>
+    ensures body { OnOk result (body.new ≡ rows_body (row.now ∷ [])) }
     ensures short { OnOk result (length body.new < BODY_LENGTHS) }
 {
     body.clear();
@@ -55,16 +55,16 @@ pub(crate) fn put_row<D: Disk>(
     ensures run { IsTrue D.tells → LeavesOnly IsClosed (D.view other.old) (D.view other.new) }
     ensures disk { result ≡ Err StoreFault.Disk → Rose (D.view other.old).faults (D.view other.new).faults }
     ensures counts { (D.view other.old).faults ≤ (D.view other.new).faults }
-    ensures full { (e : ℕ) → result ≡ Err (StoreFault.Full e) → HasNoRoom rewrite.old.build.end rewrite.old.build.most (row ∷ []) e }
+    ensures full { (e : ℕ) → result ≡ Err (StoreFault.Full e) → RewriteHasNoRoom rewrite.old.build.end rewrite.old.build.most (row ∷ []) e }
     ensures few { (f : TheFault) → result ≡ Err f → IsOfAdding f }
 {
-    spell_body(&mut rewrite.body, &row)?;
+    encode_body(&mut rewrite.body, &row)?;
     make_room(&mut rewrite.core, &mut rewrite.window, &row)?;
     let place = match rewrite.build.add(other, rewrite.body.as_slice()) {
         Ok(place) => place,
         Err(fault) => return Err(StoreFault::from(fault)),
     };
-    learn(&mut rewrite.core, &mut rewrite.window, place, 0, row);
+    apply_row(&mut rewrite.core, &mut rewrite.window, place, 0, row);
     Ok(())
 }
 
@@ -79,7 +79,7 @@ pub(crate) fn put_rows<D: Disk>(
     ensures run { IsTrue D.tells → LeavesOnly IsClosed (D.view other.old) (D.view other.new) }
     ensures disk { result ≡ Err StoreFault.Disk → Rose (D.view other.old).faults (D.view other.new).faults }
     ensures counts { (D.view other.old).faults ≤ (D.view other.new).faults }
-    ensures full { (e : ℕ) → result ≡ Err (StoreFault.Full e) → HasNoRoom rewrite.old.build.end rewrite.old.build.most rows.items e }
+    ensures full { (e : ℕ) → result ≡ Err (StoreFault.Full e) → RewriteHasNoRoom rewrite.old.build.end rewrite.old.build.most rows.items e }
     ensures few { (f : TheFault) → result ≡ Err f → IsOfAdding f }
 {
     let mut left = VecDeque::from_vec(rows);

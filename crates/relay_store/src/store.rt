@@ -1,6 +1,6 @@
 //! The store: a journal on the log of a pair of disks, and what is known of it.
 
-use crate::draft::Draft;
+use crate::pending::Pending;
 use account_state::Account;
 use event_window::Window;
 use gate_log::{Log, Side};
@@ -15,7 +15,7 @@ pub struct Store {
     pub(crate) side: Side,
     pub(crate) core: Core,
     pub(crate) window: Window,
-    pub(crate) draft: Draft,
+    pub(crate) pending: Pending,
 }
 
 impl Store {
@@ -24,7 +24,7 @@ impl Store {
     ghost use Rattle.account_state.specs.State.{state_of};
     ghost use Rattle.event_window.specs.Held.{first_or};
     ghost use Rattle.event_window.specs.declared.place.Place.{Place as ThePlace};
-    ghost use Rattle.relay_row.specs.declared.limits.TheConstants.{NUMBERS};
+    ghost use Rattle.at_cid.specs.declared.limits.TheConstants.{NUMBERS};
 
     /// The account of a DID, where a row names it.
     pub fn account(&self, did: &str) -> Option<&Account>

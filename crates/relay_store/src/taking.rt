@@ -67,7 +67,7 @@ impl Store {
         ensures repos_count { R.faults repos.old ≤ R.faults repos.new }
     {
         let mut outcomes = Vec::new(alloc);
-        match self.draft.start() {
+        match self.pending.start() {
             Ok(()) => {}
             Err(_) => {
                 return Batch {
@@ -81,14 +81,14 @@ impl Store {
             &self.log,
             &mut self.core,
             &mut self.window,
-            &mut self.draft,
+            &mut self.pending,
             &mut outcomes,
             group,
             judges,
             repos,
             clock,
         );
-        match commit(&mut self.log, disk, &mut self.draft) {
+        match commit(&mut self.log, disk, &mut self.pending) {
             Ok(()) => Batch { outcomes, fault },
             Err(fault) => Batch {
                 outcomes: Vec::new(alloc),
@@ -124,7 +124,7 @@ impl Store {
         ensures clock_counts { C.faults clock.old ≤ C.faults clock.new }
         ensures repos_count { R.faults repos.old ≤ R.faults repos.new }
     {
-        match self.draft.start() {
+        match self.pending.start() {
             Ok(()) => {}
             Err(_) => return Err(StoreFault::Memory),
         }
@@ -133,7 +133,7 @@ impl Store {
             &self.log,
             &mut self.core,
             &mut self.window,
-            &mut self.draft,
+            &mut self.pending,
             host,
             message,
             judges,
@@ -143,7 +143,7 @@ impl Store {
             Ok(outcome) => outcome,
             Err(fault) => return Err(fault),
         };
-        match commit(&mut self.log, disk, &mut self.draft) {
+        match commit(&mut self.log, disk, &mut self.pending) {
             Ok(()) => Ok(outcome),
             Err(fault) => Err(fault),
         }

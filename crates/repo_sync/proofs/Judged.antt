@@ -16,7 +16,7 @@ use Rattle.event_checks.specs.Opening.{CarResult, block_in}
 use Rattle.repo_sync.specs.Checks.{IsRefused}
 use Rattle.repo_sync.specs.Faults.{of_walk}
 use Rattle.event_checks.specs.Lines.{first_of}
-use Rattle.repo_sync.specs.Repository.{commit_lines, found_of, is_read, lines, Holds, IsTorn, IsWhole}
+use Rattle.repo_sync.specs.Repository.{commit_lines, found_of, is_read, lines, HoldsRepository, IsTorn, IsWhole}
 use Rattle.repo_sync.specs.Scans.{HoldsKept, IsTornAt, JudgesAs, Scans}
 use Rattle.repo_sync.specs.declared.fault.RepoFault.{RepoFault}
 use Rattle.repo_sync.specs.declared.found.Found.{Found}
@@ -49,7 +49,7 @@ module _ (did : List ℕ) (least : Option ℕ) (bytes : List ℕ) where
     none_told : (held : HoldsKept did least kept) → first_of (lines did least bytes) ≡ None
     none_told held = told_kept ∙ ap (λ b. first_of (commit_lines did least b)) held.first ∙ held.shown
 
-    abbrev holds_of : HoldsKept did least kept → Holds bytes
+    abbrev holds_of : HoldsKept did least kept → HoldsRepository bytes
     holds_of held = record {
       roots = kept.roots;
       blocks = blocks;

@@ -38,7 +38,7 @@ sections_linked (s ∷ ss) are bytes =
 pub car_linked : (bytes : List ℕ) (roots : List (List ℕ)) (blocks : BlockMap) → IsBytes bytes → car_of bytes ≡ Ok (roots, blocks) → AreLinked blocks
 car_linked bytes roots blocks are car =
     let taken = car_takes bytes (roots, blocks) are car in
-    subst AreLinked (sym taken.3) (sections_linked taken.1 taken.2.sections_form (bytes_behind (header_bytes taken.0) (sections_bytes taken.1) (subst IsBytes taken.2.spelled are)))
+    subst AreLinked (sym taken.3) (sections_linked taken.1 taken.2.sections_form (bytes_behind (header_bytes taken.0) (sections_bytes taken.1) (subst IsBytes taken.2.encoded are)))
 
 never_told : (B : FinMap key_cmp (List ℕ)) (r : Result ℕ (List ℕ)) → told B r ≡ Err WalkFault.Memory → ⊥
 never_told B (Ok n) e = cc

@@ -12,7 +12,7 @@ use Rattle.event_checks.specs.Opening.{CarResult}
 use Rattle.repo_sync.specs.Checks.{ChecksExactly, IsRefused}
 use Rattle.repo_sync.specs.Faults.{of_walk}
 use Rattle.event_checks.specs.Lines.{first_of}
-use Rattle.repo_sync.specs.Repository.{found_of, lines, Holds, IsAnswer, IsWhole}
+use Rattle.repo_sync.specs.Repository.{found_of, lines, HoldsRepository, IsAnswer, IsWhole}
 use Rattle.repo_sync.specs.declared.fault.RepoFault.{RepoFault}
 use Rattle.repo_sync.specs.declared.found.Found.{Found}
 
@@ -30,7 +30,7 @@ record IsTold (told : Option RepoFault) (answer : Result Found RepoFault) : Type
 -- no line is told, and the tree was walked
 record IsTree (told : Option RepoFault) (bytes : List ℕ) (answer : Result Found RepoFault) : Type 0 where
   shown : told ≡ None
-  holds : Holds bytes
+  holds : HoldsRepository bytes
   walk : Result ℕ WalkFault
   walks : IsWalked holds.blocks holds.commit.data_root walk
   answer_is_it : answer ≡ walked_as holds.link holds.block holds.commit walk
@@ -68,7 +68,7 @@ blocks_in (Ok car) = car.1
 blocks_in (Err fault) = map.empty
 
 -- the bytes hold one commit object
-module _ (bytes : List ℕ) (h k : Holds bytes) where
+module _ (bytes : List ℕ) (h k : HoldsRepository bytes) where
   same_roots : h.roots ≡ k.roots
   same_roots = ap roots_in (sym h.car ∙ k.car)
 

@@ -34,7 +34,7 @@ too_long whole bytes left is more = omega (arith, ap (λ (l : List ℕ). length 
 pub joined : (whole bytes piece left rest : List ℕ) → whole ≡ bytes ++ left → left ≡ piece ++ rest → whole ≡ (bytes ++ piece) ++ rest
 joined whole bytes piece left rest is more = is ∙ ap (λ l. bytes ++ l) more ∙ sym (append_assoc bytes piece rest)
 
--- memory was wanted or a read failed
+-- memory ran out or a read failed
 pub quiet : (fault : RepoFault) (whole : List ℕ) → IsQuiet fault → Scans (Err fault) whole
 quiet RepoFault.Memory whole q = tt
 quiet RepoFault.Failed whole q = tt

@@ -13,10 +13,10 @@ use Rattle.at_commit.specs.declared.fault.CommitFault.{CommitFault}
 use Rattle.at_commit.proofs.Nodes.{data_is_node}
 use Rattle.event_checks.proofs.Firsts.{AllTell, all_unmet, first_tells}
 use Rattle.event_checks.specs.Lines.{first_of}
-use Rattle.event_checks.specs.Opening.{CarResult, block_in, object_in_block, object_of}
+use Rattle.event_checks.specs.Opening.{CarResult, block_in, object_in_block, read_object}
 use Rattle.mst_whole.specs.Walks.{IsWalked}
 use Rattle.mst_whole.specs.declared.walking.WalkFault.{WalkFault}
-use Rattle.repo_sync.specs.Repository.{Line, found_of, is_read, lines, Holds, IsAnswer}
+use Rattle.repo_sync.specs.Repository.{FaultLine, found_of, is_read, lines, HoldsRepository, IsAnswer}
 use Rattle.repo_sync.specs.declared.fault.RepoFault.{RepoFault}
 use Rattle.repo_sync.specs.declared.found.Found.{Found}
 use Rattle.repo_sync.proofs.Linked.{car_linked, walk_ends}
@@ -27,7 +27,7 @@ is_aside (RepoFault.NotWhole c) = false
 is_aside (RepoFault.BadNode c) = false
 is_aside fault = true
 
-first_aside : (ls : List Line) (fault : RepoFault) → AllTell (λ told. is_aside told ≡ true) ls → first_of ls ≡ Some fault → is_aside fault ≡ true
+first_aside : (ls : List FaultLine) (fault : RepoFault) → AllTell (λ told. is_aside told ≡ true) ls → first_of ls ≡ Some fault → is_aside fault ≡ true
 first_aside ls fault are e = first_tells (λ told. is_aside told ≡ true) ls fault are e
 
 -- a line that applies is told
@@ -56,12 +56,12 @@ root_there : (root : Option (List ℕ)) (blocks : BlockMap) (b : List ℕ) → b
 root_there None blocks b e = absurd (cc)
 root_there (Some link) blocks b e = (link, refl, e)
 
-object_there : (r : Result Commit CommitFault) → not (is_some (object_of r)) ≡ false → (commit : Commit) × (r ≡ Ok commit)
+object_there : (r : Result Commit CommitFault) → not (is_some (read_object r)) ≡ false → (commit : Commit) × (r ≡ Ok commit)
 object_there (Ok commit) e = (commit, refl)
 object_there (Err fault) e = absurd (cc)
 
 module _ (did : List ℕ) (least : Option ℕ) (bytes : List ℕ) (are : IsBytes bytes) where
-  holds : first_of (lines did least bytes) ≡ None → (h : Holds bytes) × AreLinked h.blocks
+  holds : first_of (lines did least bytes) ≡ None → (h : HoldsRepository bytes) × AreLinked h.blocks
   holds shown =
       let unmet = all_unmet (lines did least bytes) shown in
       let read = read_car (car_of bytes) unmet.1.0 in
@@ -73,7 +73,7 @@ module _ (did : List ℕ) (least : Option ℕ) (bytes : List ℕ) (are : IsBytes
       let object = object_there (commit_of block.0) (subst P block.1 (subst O read.2 unmet.1.1.1.0)) in
       (record { roots = read.0; blocks = read.1; link = link.0; block = block.0; commit = object.0; car = read.2; root = link.1; there = link.2; object = object.1 }, car_linked bytes read.0 read.1 are read.2)
 
-  ended : first_of (lines did least bytes) ≡ None → (h : Holds bytes) → AreLinked h.blocks → (w : Result ℕ WalkFault) → IsWalked h.blocks h.commit.data_root w → (answer : Result Found RepoFault) × IsAnswer did least bytes answer
+  ended : first_of (lines did least bytes) ≡ None → (h : HoldsRepository bytes) → AreLinked h.blocks → (w : Result ℕ WalkFault) → IsWalked h.blocks h.commit.data_root w → (answer : Result Found RepoFault) × IsAnswer did least bytes answer
   ended shown h linked (Ok n) w = (Ok (found_of h.link h.block h.commit n), record { shown = shown; holds = h; found_is = refl; tree = w })
   ended shown h linked (Err (WalkFault.NoBlock c)) w = (Err (RepoFault.NotWhole c), record { shown = shown; holds = h; tree = w })
   ended shown h linked (Err (WalkFault.BadNode c)) w = (Err (RepoFault.BadNode c), record { shown = shown; holds = h; tree = w })

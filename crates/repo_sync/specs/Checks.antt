@@ -7,13 +7,13 @@ use Rattle.repo_sync.specs.Repository.{IsAnswer, IsWhole}
 use Rattle.repo_sync.specs.declared.fault.RepoFault.{RepoFault}
 use Rattle.repo_sync.specs.declared.found.Found.{Found}
 
--- why the bytes are refused, unless memory was wanted or a read failed
+-- why the bytes are refused, unless memory ran out or a read failed
 abbrev pub IsRefused : List ℕ → Option ℕ → List ℕ → RepoFault → Type 0
 IsRefused did least bytes RepoFault.Memory = ⊤
 IsRefused did least bytes RepoFault.Failed = ⊤
 IsRefused did least bytes fault = IsAnswer did least bytes (Err fault)
 
--- the result is what the bytes come to, whatever that is, unless memory was wanted or a read failed
+-- the result is what the bytes come to, whatever that is, unless memory ran out or a read failed
 abbrev pub ChecksExactly : List ℕ → Option ℕ → List ℕ → Result Found RepoFault → Type 0
 ChecksExactly did least bytes result = (answer : Result Found RepoFault) → IsAnswer did least bytes answer → Gives (λ (found : Found). found) cause_of result answer
 

@@ -22,9 +22,9 @@ is_read (Ok car) = true
 is_read (Err fault) = false
 
 -- the commit object is the account's
-abbrev pub is_of : List ℕ → Option Commit → Bool
-is_of did None = false
-is_of did (Some commit) = bytes_eq commit.did did
+abbrev pub is_of_account : List ℕ → Option Commit → Bool
+is_of_account did None = false
+is_of_account did (Some commit) = bytes_eq commit.did did
 
 abbrev pub rev_in : Option Commit → ℕ
 rev_in None = 0
@@ -36,27 +36,27 @@ lags None rev = false
 lags (Some least) rev = nat_lt rev least
 
 -- a fault, and whether its condition applies
-abbrev pub Line : Type 0
-Line = RepoFault × Bool
+abbrev pub FaultLine : Type 0
+FaultLine = RepoFault × Bool
 
 -- what the block under the first root shows
-abbrev pub commit_lines : List ℕ → Option ℕ → Option (List ℕ) → List Line
+abbrev pub commit_lines : List ℕ → Option ℕ → Option (List ℕ) → List FaultLine
 commit_lines did least block =
     (RepoFault.NoCommit, not (is_some block))
     ∷ (RepoFault.BadCommit, not (is_some (object_in_block block)))
-    ∷ (RepoFault.OtherDid, not (is_of did (object_in_block block)))
+    ∷ (RepoFault.OtherDid, not (is_of_account did (object_in_block block)))
     ∷ (RepoFault.Lagging (rev_in (object_in_block block)), lags least (rev_in (object_in_block block)))
     ∷ []
 
 -- what the bytes show before the tree is looked at, in order
-abbrev pub lines : List ℕ → Option ℕ → List ℕ → List Line
+abbrev pub lines : List ℕ → Option ℕ → List ℕ → List FaultLine
 lines did least bytes =
     (RepoFault.TooLong, nat_lt MOST_REPOSITORY_BYTES (length bytes))
     ∷ (RepoFault.BadCar, not (is_read (car_of bytes)))
     ∷ commit_lines did least (block_in (car_of bytes))
 
 -- the bytes hold a commit object under their first root
-pub record Holds (bytes : List ℕ) : Type 0 where
+pub record HoldsRepository (bytes : List ℕ) : Type 0 where
   pub roots : List (List ℕ)
   pub blocks : BlockMap
   pub link : List ℕ
@@ -75,14 +75,14 @@ found_of link block commit records =
 -- nothing is wrong: the tree under the commit object is whole, and this was found
 pub record IsWhole (did : List ℕ) (least : Option ℕ) (bytes : List ℕ) (found : Found) : Type 0 where
   pub shown : first_of (lines did least bytes) ≡ None
-  pub holds : Holds bytes
+  pub holds : HoldsRepository bytes
   pub found_is : found ≡ found_of holds.link holds.block holds.commit found.records
   pub tree : HasKeys holds.blocks holds.commit.data_root found.records
 
 -- the tree under the commit object alone is at fault, and this is its first fault
 pub record IsTorn (did : List ℕ) (least : Option ℕ) (bytes : List ℕ) (fault : WalkFault) : Type 0 where
   pub shown : first_of (lines did least bytes) ≡ None
-  pub holds : Holds bytes
+  pub holds : HoldsRepository bytes
   pub tree : IsWalkFault holds.blocks holds.commit.data_root fault
 
 -- what the bytes of a repository come to: the first fault that applies, or what was found

@@ -17,7 +17,7 @@ use Rattle.repo_sync.specs.declared.fault.RepoFault.{RepoFault}
 use Rattle.repo_sync.specs.declared.found.Found.{Found}
 use Rattle.repo_sync.specs.declared.limits.TheConstants.{MOST_REPOSITORY_BYTES}
 
--- memory was wanted or a read failed
+-- memory ran out or a read failed
 abbrev pub IsQuiet : RepoFault → Type 0
 IsQuiet RepoFault.Memory = ⊤
 IsQuiet RepoFault.Failed = ⊤
@@ -39,18 +39,18 @@ Scans (Err RepoFault.Memory) bytes = ⊤
 Scans (Err RepoFault.Failed) bytes = ⊤
 Scans result bytes = ⊥
 
--- this fault was shown, unless memory was wanted
+-- this fault was shown, unless memory ran out
 abbrev pub IsShown : Option RepoFault → RepoFault → Type 0
 IsShown shown RepoFault.Memory = ⊤
 IsShown shown fault = shown ≡ Some fault
 
--- the block is no commit object, unless memory was wanted
+-- the block is no commit object, unless memory ran out
 abbrev pub IsNoObject : Option Commit → RepoFault → Type 0
 IsNoObject object RepoFault.BadCommit = object ≡ None
 IsNoObject object RepoFault.Memory = ⊤
 IsNoObject object fault = ⊥
 
--- the first fault of the tree at a root, unless memory was wanted
+-- the first fault of the tree at a root, unless memory ran out
 abbrev pub IsTornAt : BlockMap → List ℕ → RepoFault → Type 0
 IsTornAt blocks root (RepoFault.NotWhole c) = IsWalkFault blocks root (WalkFault.NoBlock c)
 IsTornAt blocks root (RepoFault.BadNode c) = IsWalkFault blocks root (WalkFault.BadNode c)

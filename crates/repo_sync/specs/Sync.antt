@@ -32,7 +32,7 @@ abbrev pub IsSyncAnswer : SyncEvent → Option ℕ → Result Found Refusal → 
 IsSyncAnswer e last (Ok found) = IsSynced e last found
 IsSyncAnswer e last (Err refusal) = first_of (sync_lines e last) ≡ Some refusal
 
--- the result is what the event comes to, whatever that is, unless memory was wanted
+-- the result is what the event comes to, whatever that is, unless memory ran out
 abbrev pub SyncsExactly : SyncEvent → Option ℕ → Result Found OpenFault → Type 0
 SyncsExactly e last result = (answer : Result Found Refusal) → IsSyncAnswer e last answer → Gives (λ (found : Found). found) refusal_of result answer
 

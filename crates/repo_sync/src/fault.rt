@@ -1,7 +1,7 @@
 //! Why a repository isn't accepted.
 
 ghost use Rattle.std.specs.Prelude.{◌≡◌};
-ghost use Rattle.repo_sync.specs.Faults.{number_of};
+ghost use Rattle.repo_sync.specs.Faults.{fault_number};
 
 use at_cid::{Cid, Memory};
 use at_syntax::Tid;
@@ -33,7 +33,7 @@ pub enum RepoFault {
     /// The first fault of the tree is that the block under this link is no node, or may not stand at its place.
     #[error("a block of the tree is no node of it")]
     BadNode(Cid),
-    /// Memory was wanted, or the tree has more keys than are counted.
+    /// Memory ran out, or the tree has more keys than are counted.
     #[error("out of memory")]
     Memory,
     /// There are more bytes than a repository may have.
@@ -50,7 +50,7 @@ pub enum RepoFault {
 impl RepoFault {
     /// The number that rows and reports give.
     pub fn number(&self) -> u8
-        ensures { result ≡ number_of self.now }
+        ensures { result ≡ fault_number self.now }
     {
         match self {
             RepoFault::BadCar => 1,

@@ -1,34 +1,25 @@
 //! What is kept of a repository, judged.
 
-ghost use Rattle.std.specs.Prelude.{◌≡◌, ◌≢◌, ◌≤◌, IfOk, IfErr, OnOk, Err, None, Ok, Some};
+ghost use Rattle.std.specs.Prelude.{◌≡◌, ◌≢◌, ◌<◌, IfOk, IfErr, OnOk, Err, None, Ok, Some};
+ghost use Rattle.at_cid.specs.declared.limits.TheConstants.{NUMBERS};
 ghost use Rattle.at_cid.specs.Link.{IsNodeLink};
 ghost use Rattle.at_car.specs.Blocks.{BlockMap};
 ghost use Rattle.at_car.specs.Finishing.{IsKeptOf};
-ghost use Rattle.at_car.specs.Standing.{root_of};
 ghost use Rattle.at_commit.specs.Commit.{commit_of};
 ghost use Rattle.mst_whole.specs.Walks.{is_node_block, HasKeys};
-ghost use Rattle.event_checks.specs.Opening.{object_of};
+ghost use Rattle.event_checks.specs.Opening.{read_object};
 ghost use Rattle.event_checks.specs.Lines.{first_of};
 ghost use Rattle.repo_sync.specs.Repository.{commit_lines, lags};
 ghost use Rattle.repo_sync.specs.Scans.{IsNoObject, IsShown, IsTornAt, JudgesAs};
 
 use crate::fault::RepoFault;
 use crate::found::{Found, found_in};
-use at_car::Kept;
-use at_cid::{Cid, Cids};
+use at_car::{Kept, first_root};
+use at_cid::Cid;
 use at_commit::{Commit, CommitFault};
 use at_syntax::Tid;
-use mst_whole::{MOST_KEYS, walk_kept};
+use mst_whole::walk_kept;
 use std::alloc::Global;
-
-fn first_root(roots: &Cids) -> Option<Cid>
-    ensures { result ≡ root_of roots.now }
-{
-    match roots.as_slice() {
-        [root, ..] => Some(*root),
-        [] => None,
-    }
-}
 
 /// Whether the revision is below the least.
 fn lags(least: Option<Tid>, rev: Tid) -> bool
@@ -44,7 +35,7 @@ fn lags(least: Option<Tid>, rev: Tid) -> bool
 fn read_commit(alloc: Global, block: &[u8]) -> Result<Commit, RepoFault>
     ensures object { IfOk result (λ commit. commit_of block.now ≡ Ok commit) }
     ensures data { IfOk result (λ commit. IsNodeLink commit.data_root) }
-    ensures none { IfErr result (IsNoObject (object_of (commit_of block.now))) }
+    ensures none { IfErr result (IsNoObject (read_object (commit_of block.now))) }
 {
     match at_commit::read(alloc, block) {
         Ok(commit) => Ok(commit),
@@ -79,7 +70,7 @@ fn find_commit(
 fn count_records(alloc: Global, kept: &Kept, root: &Cid) -> Result<u64, RepoFault>
     ensures whole { (blocks : BlockMap) → IsKeptOf is_node_block blocks kept.now → IsNodeLink root.now → IfOk result (HasKeys blocks root.now) }
     ensures torn { (blocks : BlockMap) → IsKeptOf is_node_block blocks kept.now → IfErr result (IsTornAt blocks root.now) }
-    ensures most { IfOk result (λ records. records ≤ MOST_KEYS) }
+    ensures most { IfOk result (λ records. records < NUMBERS) }
     ensures unfailed { result ≢ Err RepoFault.Failed }
 {
     match walk_kept(alloc, kept, root) {
@@ -96,7 +87,7 @@ pub(crate) fn judge(
     least: Option<Tid>,
 ) -> Result<Found, RepoFault>
     ensures judges { (blocks : BlockMap) → IsKeptOf is_node_block blocks kept.now → JudgesAs did.now least blocks kept.now result }
-    ensures records { IfOk result (λ found. found.records ≤ MOST_KEYS) }
+    ensures records { IfOk result (λ found. found.records < NUMBERS) }
     ensures unfailed { result ≢ Err RepoFault.Failed }
 {
     let Some(link) = first_root(&kept.roots) else {

@@ -17,4 +17,5 @@ pub use found::Found;
 pub use laws::{one_answer, some_answer};
 pub use limits::MOST_REPOSITORY_BYTES;
 pub use repository::check_repo;
+pub use scanning::scan_repo;
 pub use syncing::check_sync;

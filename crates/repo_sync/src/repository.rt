@@ -1,6 +1,7 @@
 //! Whole repositories.
 
-ghost use Rattle.std.specs.Prelude.{◌≡◌, ◌≢◌, ◌≤◌, ℕ, List, Err, IsTrue, IfOk, IfErr, IsErrOf};
+ghost use Rattle.std.specs.Prelude.{◌≡◌, ◌≢◌, ◌≤◌, ◌<◌, ℕ, List, Err, IsTrue, IfOk, IfErr, IsErrOf};
+ghost use Rattle.at_cid.specs.declared.limits.TheConstants.{NUMBERS};
 ghost use Rattle.at_cid.specs.Counts.{Rose};
 ghost use Rattle.repo_sync.specs.Checks.{ChecksExactly, IsOfSome, IsRefused};
 ghost use Rattle.repo_sync.specs.Repository.{IsWhole};
@@ -10,7 +11,6 @@ use crate::found::Found;
 use crate::judging::judge;
 use crate::scanning::scan_repo;
 use at_syntax::Tid;
-use mst_whole::MOST_KEYS;
 use relay_io::Repos;
 use std::alloc::Global;
 
@@ -33,7 +33,7 @@ pub fn check_repo<R: Repos>(
     // What is answered is true of some bytes also where nothing is told of them.
     ensures some { IsOfSome did.now least result }
     ensures same { IsTrue R.tells → (did : List ℕ) → R.repository repos.new did ≡ R.repository repos.old did }
-    ensures records { IfOk result (λ found. found.records ≤ MOST_KEYS) }
+    ensures records { IfOk result (λ found. found.records < NUMBERS) }
     ensures counts { R.faults repos.old ≤ R.faults repos.new }
     // Where a read failed, that is the answer.
     ensures steady { result ≢ Err RepoFault.Failed → R.faults repos.new ≡ R.faults repos.old }

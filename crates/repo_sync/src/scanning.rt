@@ -10,17 +10,13 @@ ghost use Rattle.repo_sync.specs.Scans.{IsQuiet, Scans, ScansAs};
 use crate::fault::RepoFault;
 use crate::limits::MOST_REPOSITORY_BYTES;
 use at_car::{CarFault, Kept, Scan};
+use at_cid::ghost_bytes;
 use mst_whole::NodeSieve;
 use relay_io::Repos;
 use std::alloc::Global;
 
 // The most bytes that are asked for at once.
 const PIECE: usize = 4096;
-
-// What the type of a slice of bytes says of it.
-fn tell_bytes(bytes: &[u8])
-    ensures { IsBytes bytes.now }
-{}
 
 // Hands on what one call gives.
 fn take_piece<R: Repos>(repos: &mut R, scan: &mut Scan<NodeSieve>) -> Result<usize, RepoFault>
@@ -36,7 +32,7 @@ fn take_piece<R: Repos>(repos: &mut R, scan: &mut Scan<NodeSieve>) -> Result<usi
     let mut room = [0; PIECE];
     let count = repos.read(&mut room)?;
     let piece = &room[..count];
-    tell_bytes(piece);
+    ghost_bytes(piece);
     scan.push(piece)?;
     Ok(count)
 }
@@ -53,7 +49,7 @@ fn finish(scan: Scan<NodeSieve>) -> Result<Kept, RepoFault>
 }
 
 /// What is kept of the opened repository, which is read to its end, or until more bytes were given than one has at most.
-pub(crate) fn scan_repo<R: Repos>(alloc: Global, repos: &mut R) -> Result<Kept, RepoFault>
+pub fn scan_repo<R: Repos>(alloc: Global, repos: &mut R) -> Result<Kept, RepoFault>
     ensures scanned { IsTrue R.tells → Scans result (R.left repos.old) }
     ensures some { (bytes : List ℕ) × IsBytes bytes × Scans result bytes }
     ensures same { IsTrue R.tells → (did : List ℕ) → R.repository repos.new did ≡ R.repository repos.old did }

@@ -14,13 +14,13 @@ use Rattle.relay_store.specs.Journals.{bytes_of}
 use Rattle.relay_store.specs.Store.{Keeps, StoreState}
 use Rattle.relay_store.specs.declared.fault.StoreFault.{StoreFault}
 use Rattle.relay_run.proofs.Writing.{front_of_first, front_of_second}
-use Rattle.serve_run.specs.AtDoor.{AtDoor, IsOver, IsStill, Met, Visited}
-use Rattle.serve_run.specs.Ends.{IsCausedBy, IsOfMeeting, IsUnwritten, end_of_opening}
-use Rattle.serve_run.specs.Guests.{GuestsServed, IsBehind, IsTold, end_in}
-use Rattle.serve_run.specs.Sessions.{Visit, end_line, lines_behind, session_line}
+use Rattle.serve_run.specs.AtDoor.{AtDoor, NobodyComes, IsStill, GuestAccepted, Visited}
+use Rattle.serve_run.specs.Ends.{IsCausedBy, IsOfAccepting, IsUnwritten, end_of_opening}
+use Rattle.serve_run.specs.Guests.{GuestsServed, IsBehind, AreLinesWritten, end_in}
+use Rattle.serve_run.specs.Sessions.{Visit, sessions_end_line, lines_behind, session_line}
 use Rattle.serve_run.specs.declared.end.ServeEnd.{ServeEnd}
 use Rattle.serve_run.specs.declared.session.Session.{Session}
-use Rattle.serve_run.proofs.Meeting.{lines_more, visited_more, visited_none}
+use Rattle.serve_run.proofs.Accepts.{lines_more, visited_more, visited_none}
 
 -- ---- the disks
 
@@ -70,7 +70,7 @@ lines_then visits v served session number is =
     let next : 0 + length visits + 1 ≡ served + 1 = omega (arith, number) in
     lines_more 0 visits v ∙ ap (λ (n : ℕ). lines_behind 0 visits ++ session_line n v.session) next ∙ ap (λ (s : Session). lines_behind 0 visits ++ session_line (served + 1) s) is
 
-told_behind : (tells : Bool) (held : Held) (all : Type 0) (end : ServeEnd) (old new : AtDoor) → IsUnwritten end → IsStill tells old new ⊎ IsOver tells old new → IsBehind tells held all end old new
+told_behind : (tells : Bool) (held : Held) (all : Type 0) (end : ServeEnd) (old new : AtDoor) → IsUnwritten end → IsStill tells old new ⊎ NobodyComes tells old new → IsBehind tells held all end old new
 told_behind tells held all ServeEnd.Done old new un was = absurd un
 told_behind tells held all ServeEnd.WriteFault old new un was = was
 told_behind tells held all ServeEnd.Door old new un was = absurd un
@@ -80,7 +80,7 @@ told_behind tells held all ServeEnd.Memory old new un (inl still) = inl still
 told_behind tells held all ServeEnd.Memory old new un (inr over) = inr (inl over)
 told_behind tells held all ServeEnd.TooLong old new un was = absurd un
 
-told_front : (end : ServeEnd) (lines last old new : List ℕ) → IsUnwritten end → AddsFront old new (lines ++ last) → IsTold end lines last old new
+told_front : (end : ServeEnd) (lines last old new : List ℕ) → IsUnwritten end → AddsFront old new (lines ++ last) → AreLinesWritten end lines last old new
 told_front ServeEnd.Done lines last old new un front = absurd un
 told_front ServeEnd.WriteFault lines last old new un front = front
 told_front ServeEnd.Door lines last old new un front = absurd un
@@ -95,107 +95,107 @@ whole_front old text more = front_of_second old (old ++ text) (old ++ text) text
 
 module _ (door_tells output_tells : Bool) (count served : ℕ) (held : Held) (door mid new : AtDoor) (old now : List ℕ) (serving : IsServing door_tells output_tells count served held door mid old now) where
   -- one more guest was served
-  pub serving_more : (session : Session) (then : List ℕ) → Met door_tells held (count - served) mid new (Ok (Some session)) → 0 < count - served → (IsTrue output_tells → then ≡ now ++ session_line (served + 1) session)
+  pub serving_more : (session : Session) (then : List ℕ) → GuestAccepted door_tells held (count - served) mid new (Ok (Some session)) → 0 < count - served → (IsTrue output_tells → then ≡ now ++ session_line (served + 1) session)
       → IsServing door_tells output_tells count (served + 1) held door new old then
-  serving_more session then met some writes = record {
-    visits = serving.visits ++ met.0 ∷ [];
-    visited = visited_more door_tells held serving.visits met.0 door mid new serving.visited met.2;
-    number = omega (arith, serving.number, length-append serving.visits (met.0 ∷ []));
+  serving_more session then accepted some writes = record {
+    visits = serving.visits ++ accepted.0 ∷ [];
+    visited = visited_more door_tells held serving.visits accepted.0 door mid new serving.visited accepted.2;
+    number = omega (arith, serving.number, length-append serving.visits (accepted.0 ∷ []));
     few = omega (arith, serving.few, some);
     written = λ t. writes t ∙ ap (λ (l : List ℕ). l ++ session_line (served + 1) session) (serving.written t) ∙ append_assoc old (lines_behind 0 serving.visits) (session_line (served + 1) session)
-        ∙ ap (λ (l : List ℕ). old ++ l) (sym (lines_then serving.visits met.0 served session serving.number met.1));
+        ∙ ap (λ (l : List ℕ). old ++ l) (sym (lines_then serving.visits accepted.0 served session serving.number accepted.1));
   }
 
   -- the line of its session wasn't written
-  pub serving_unwritten : (session : Session) (then : List ℕ) (end : ServeEnd) → Met door_tells held (count - served) mid new (Ok (Some session)) → 0 < count - served → IsUnwritten end
+  pub serving_unwritten : (session : Session) (then : List ℕ) (end : ServeEnd) → GuestAccepted door_tells held (count - served) mid new (Ok (Some session)) → 0 < count - served → IsUnwritten end
       → (IsTrue output_tells → AddsFront now then (session_line (served + 1) session)) → GuestsServed door_tells output_tells count held door new old then end
-  serving_unwritten session then end met some un front =
-      let visits = serving.visits ++ met.0 ∷ [] in
+  serving_unwritten session then end accepted some un front =
+      let visits = serving.visits ++ accepted.0 ∷ [] in
       record {
         visits = visits;
         mid = new;
-        visited = visited_more door_tells held serving.visits met.0 door mid new serving.visited met.2;
-        few = omega (arith, serving.few, some, serving.number, length-append serving.visits (met.0 ∷ []));
+        visited = visited_more door_tells held serving.visits accepted.0 door mid new serving.visited accepted.2;
+        few = omega (arith, serving.few, some, serving.number, length-append serving.visits (accepted.0 ∷ []));
         behind = told_behind door_tells held (length visits ≡ count) end new new un (inl (still_same door_tells new));
-        written = λ t. told_front end (lines_behind 0 visits) (end_line (length visits)) old then un
-            (front_of_first old then (lines_behind 0 visits) (end_line (length visits))
-            (subst (λ (l : List ℕ). AddsFront old then l) (sym (lines_then serving.visits met.0 served session serving.number met.1))
+        written = λ t. told_front end (lines_behind 0 visits) (sessions_end_line (length visits)) old then un
+            (front_of_first old then (lines_behind 0 visits) (sessions_end_line (length visits))
+            (subst (λ (l : List ℕ). AddsFront old then l) (sym (lines_then serving.visits accepted.0 served session serving.number accepted.1))
             (front_of_second old now then (lines_behind 0 serving.visits) (session_line (served + 1) session) (serving.written t) (front t))));
       }
 
   -- no more guest was met
-  pub serving_stopped : (end : ServeEnd) → IsOfMeeting end → Met door_tells held (count - served) mid new (Err end) → GuestsServed door_tells output_tells count held door new old now end
-  serving_stopped ServeEnd.Done of met = absurd of
-  serving_stopped ServeEnd.WriteFault of met = absurd of
-  serving_stopped ServeEnd.Door of met = record {
+  pub serving_stopped : (end : ServeEnd) → IsOfAccepting end → GuestAccepted door_tells held (count - served) mid new (Err end) → GuestsServed door_tells output_tells count held door new old now end
+  serving_stopped ServeEnd.Done of accepted = absurd of
+  serving_stopped ServeEnd.WriteFault of accepted = absurd of
+  serving_stopped ServeEnd.Door of accepted = record {
     visits = serving.visits;
     mid = mid;
     visited = serving.visited;
     few = omega (arith, serving.few, serving.number);
-    behind = met;
+    behind = accepted;
     written = serving.written;
   }
-  serving_stopped ServeEnd.Disk of met = record {
+  serving_stopped ServeEnd.Disk of accepted = record {
     visits = serving.visits;
     mid = mid;
     visited = serving.visited;
     few = omega (arith, serving.few, serving.number);
-    behind = met;
+    behind = accepted;
     written = serving.written;
   }
-  serving_stopped (ServeEnd.BadLog p) of met = record {
+  serving_stopped (ServeEnd.BadLog p) of accepted = record {
     visits = serving.visits;
     mid = mid;
     visited = serving.visited;
     few = omega (arith, serving.few, serving.number);
-    behind = met;
+    behind = accepted;
     written = serving.written;
   }
-  serving_stopped ServeEnd.Memory of met = record {
+  serving_stopped ServeEnd.Memory of accepted = record {
     visits = serving.visits;
     mid = mid;
     visited = serving.visited;
     few = omega (arith, serving.few, serving.number);
-    behind = ⊎_elim (λ still. inl still) (λ broken. inr (inr broken)) met;
-    written = λ t. subst (λ (l : List ℕ). AddsFront old l (lines_behind 0 serving.visits ++ end_line (length serving.visits))) (sym (serving.written t)) (whole_front old (lines_behind 0 serving.visits) (end_line (length serving.visits)));
+    behind = ⊎_elim (λ still. inl still) (λ broken. inr (inr broken)) accepted;
+    written = λ t. subst (λ (l : List ℕ). AddsFront old l (lines_behind 0 serving.visits ++ sessions_end_line (length serving.visits))) (sym (serving.written t)) (whole_front old (lines_behind 0 serving.visits) (sessions_end_line (length serving.visits)));
   }
-  serving_stopped ServeEnd.TooLong of met = absurd of
+  serving_stopped ServeEnd.TooLong of accepted = absurd of
 
-  at_last : Met door_tells held (count - served) mid new (Ok None) → ((length serving.visits ≡ count) × IsStill door_tells mid new) ⊎ IsOver door_tells mid new
+  at_last : GuestAccepted door_tells held (count - served) mid new (Ok None) → ((length serving.visits ≡ count) × IsStill door_tells mid new) ⊎ NobodyComes door_tells mid new
   at_last (inl (none, still)) = inl (omega (arith, none, serving.few, serving.number), still)
   at_last (inr over) = inr over
 
   -- none is left, and the last line was written
-  pub serving_done : (then : List ℕ) → Met door_tells held (count - served) mid new (Ok None) → (IsTrue output_tells → then ≡ now ++ end_line served) → GuestsServed door_tells output_tells count held door new old then ServeEnd.Done
-  serving_done then met writes = record {
+  pub serving_done : (then : List ℕ) → GuestAccepted door_tells held (count - served) mid new (Ok None) → (IsTrue output_tells → then ≡ now ++ sessions_end_line served) → GuestsServed door_tells output_tells count held door new old then ServeEnd.Done
+  serving_done then accepted writes = record {
     visits = serving.visits;
     mid = mid;
     visited = serving.visited;
     few = omega (arith, serving.few, serving.number);
-    behind = at_last met;
-    written = λ t. writes t ∙ ap (λ (l : List ℕ). l ++ end_line served) (serving.written t) ∙ append_assoc old (lines_behind 0 serving.visits) (end_line served)
-        ∙ ap (λ (n : ℕ). old ++ (lines_behind 0 serving.visits ++ end_line n)) serving.number;
+    behind = at_last accepted;
+    written = λ t. writes t ∙ ap (λ (l : List ℕ). l ++ sessions_end_line served) (serving.written t) ∙ append_assoc old (lines_behind 0 serving.visits) (sessions_end_line served)
+        ∙ ap (λ (n : ℕ). old ++ (lines_behind 0 serving.visits ++ sessions_end_line n)) serving.number;
   }
 
   -- none is left, and the last line wasn't
-  pub serving_untold : (then : List ℕ) (end : ServeEnd) → Met door_tells held (count - served) mid new (Ok None) → IsUnwritten end → (IsTrue output_tells → AddsFront now then (end_line served))
+  pub serving_untold : (then : List ℕ) (end : ServeEnd) → GuestAccepted door_tells held (count - served) mid new (Ok None) → IsUnwritten end → (IsTrue output_tells → AddsFront now then (sessions_end_line served))
       → GuestsServed door_tells output_tells count held door new old then end
-  serving_untold then end met un front = record {
+  serving_untold then end accepted un front = record {
     visits = serving.visits;
     mid = mid;
     visited = serving.visited;
     few = omega (arith, serving.few, serving.number);
-    behind = told_behind door_tells held (length serving.visits ≡ count) end mid new un (⊎_elim (λ whole. inl whole.1) (λ over. inr over) (at_last met));
-    written = λ t. told_front end (lines_behind 0 serving.visits) (end_line (length serving.visits)) old then un
-        (subst (λ (n : ℕ). AddsFront old then (lines_behind 0 serving.visits ++ end_line n)) serving.number
-        (front_of_second old now then (lines_behind 0 serving.visits) (end_line served) (serving.written t) (front t)));
+    behind = told_behind door_tells held (length serving.visits ≡ count) end mid new un (⊎_elim (λ whole. inl whole.1) (λ over. inr over) (at_last accepted));
+    written = λ t. told_front end (lines_behind 0 serving.visits) (sessions_end_line (length serving.visits)) old then un
+        (subst (λ (n : ℕ). AddsFront old then (lines_behind 0 serving.visits ++ sessions_end_line n)) serving.number
+        (front_of_second old now then (lines_behind 0 serving.visits) (sessions_end_line served) (serving.written t) (front t)));
   }
 
   -- however the last line ended
-  pub serving_end : (then : List ℕ) (result : Result (Unit {0}) ServeEnd) → Met door_tells held (count - served) mid new (Ok None) → OnOk result (IsTrue output_tells → then ≡ now ++ end_line served)
-      → IfErr result (λ end. IsUnwritten end × (IsTrue output_tells → AddsFront now then (end_line served))) → GuestsServed door_tells output_tells count held door new old then (end_in result)
-  serving_end then (Ok done) met writes front = serving_done then met writes
-  serving_end then (Err end) met writes front = serving_untold then end met front.0 front.1
+  pub serving_end : (then : List ℕ) (result : Result (Unit {0}) ServeEnd) → GuestAccepted door_tells held (count - served) mid new (Ok None) → OnOk result (IsTrue output_tells → then ≡ now ++ sessions_end_line served)
+      → IfErr result (λ end. IsUnwritten end × (IsTrue output_tells → AddsFront now then (sessions_end_line served))) → GuestsServed door_tells output_tells count held door new old then (end_in result)
+  serving_end then (Ok done) accepted writes front = serving_done then accepted writes
+  serving_end then (Err end) accepted writes front = serving_untold then end accepted front.0 front.1
 
 -- a fault as it is handed up
 abbrev pub ended : ServeEnd → Result (Unit {0}) ServeEnd
@@ -207,14 +207,14 @@ ended_too P result end is holds = subst (λ (r : Result (Unit {0}) ServeEnd). P 
 
 -- ---- causes
 
-pub meeting_causes : (disk write door : Type 0) (end : ServeEnd) → IsOfMeeting end → (end ≡ ServeEnd.Disk → disk) → (end ≡ ServeEnd.Door → door) → IsCausedBy disk write door end
-meeting_causes disk write door ServeEnd.Done of failed gone = absurd of
-meeting_causes disk write door ServeEnd.WriteFault of failed gone = absurd of
-meeting_causes disk write door ServeEnd.Door of failed gone = gone refl
-meeting_causes disk write door ServeEnd.Disk of failed gone = failed refl
-meeting_causes disk write door (ServeEnd.BadLog p) of failed gone = tt
-meeting_causes disk write door ServeEnd.Memory of failed gone = tt
-meeting_causes disk write door ServeEnd.TooLong of failed gone = absurd of
+pub accepting_causes : (disk write door : Type 0) (end : ServeEnd) → IsOfAccepting end → (end ≡ ServeEnd.Disk → disk) → (end ≡ ServeEnd.Door → door) → IsCausedBy disk write door end
+accepting_causes disk write door ServeEnd.Done of failed gone = absurd of
+accepting_causes disk write door ServeEnd.WriteFault of failed gone = absurd of
+accepting_causes disk write door ServeEnd.Door of failed gone = gone refl
+accepting_causes disk write door ServeEnd.Disk of failed gone = failed refl
+accepting_causes disk write door (ServeEnd.BadLog p) of failed gone = tt
+accepting_causes disk write door ServeEnd.Memory of failed gone = tt
+accepting_causes disk write door ServeEnd.TooLong of failed gone = absurd of
 
 pub unwritten_causes : (disk write door : Type 0) (end : ServeEnd) → IsUnwritten end → (end ≡ ServeEnd.WriteFault → write) → IsCausedBy disk write door end
 unwritten_causes disk write door ServeEnd.Done of failed = absurd of
@@ -237,7 +237,7 @@ none_behind tells held all StoreFault.Repos door = inl (still_same tells door)
 none_behind tells held all StoreFault.Memory door = inl (still_same tells door)
 none_behind tells held all StoreFault.Clock door = inl (still_same tells door)
 
-none_told : (fault : StoreFault) (last old : List ℕ) → IsTold (end_of_opening fault) [] last old old
+none_told : (fault : StoreFault) (last old : List ℕ) → AreLinesWritten (end_of_opening fault) [] last old old
 none_told StoreFault.Disk last old = sym (append-nil old)
 none_told (StoreFault.BadLog p) last old = sym (append-nil old)
 none_told (StoreFault.Full e) last old = (0, omega arith, sym (append-nil old))
@@ -254,7 +254,7 @@ none_served door_tells output_tells count held door old fault = record {
   visited = visited_none door_tells held door;
   few = omega arith;
   behind = none_behind door_tells held (0 ≡ count) fault door;
-  written = λ _. none_told fault (end_line 0) old;
+  written = λ _. none_told fault (sessions_end_line 0) old;
 }
 
 -- nobody was served

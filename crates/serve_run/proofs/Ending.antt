@@ -5,13 +5,13 @@ use Rattle.relay_row.specs.declared.row.Row.{Row}
 use Rattle.relay_store.specs.Journals.{IsBadPairJournalAt, IsPairImageOf}
 use Rattle.relay_store.specs.declared.fault.StoreFault.{StoreFault}
 use Rattle.backfill.specs.declared.replay_fault.ReplayFault.{ReplayFault}
-use Rattle.serve_run.specs.Ends.{IsOpened, Shows, end_of_opening, end_of_replay}
+use Rattle.serve_run.specs.Ends.{ServeOpened, ServeEndShows, end_of_opening, end_of_replay}
 use Rattle.serve_run.specs.Replayed.{IsReplayed}
 use Rattle.serve_run.specs.declared.end.ServeEnd.{ServeEnd}
 
 -- ---- opening
 
-pub not_opened : (fault : StoreFault) → IsOpened (end_of_opening fault) → ⊥
+pub not_opened : (fault : StoreFault) → ServeOpened (end_of_opening fault) → ⊥
 not_opened StoreFault.Disk is = is
 not_opened (StoreFault.BadLog p) is = is
 not_opened (StoreFault.Full e) is = is
@@ -21,7 +21,7 @@ not_opened StoreFault.Repos is = is
 not_opened StoreFault.Memory is = is
 not_opened StoreFault.Clock is = is
 
-pub opening_shows : (fault : StoreFault) (one two : List ℕ) → ((p : ℕ) → fault ≡ StoreFault.BadLog p → IsBadPairJournalAt p one two) → Shows (end_of_opening fault) one two
+pub opening_shows : (fault : StoreFault) (one two : List ℕ) → ((p : ℕ) → fault ≡ StoreFault.BadLog p → IsBadPairJournalAt p one two) → ServeEndShows (end_of_opening fault) one two
 opening_shows StoreFault.Disk one two bad = tt
 opening_shows (StoreFault.BadLog p) one two bad = bad p refl
 opening_shows (StoreFault.Full e) one two bad = tt
@@ -33,7 +33,7 @@ opening_shows StoreFault.Clock one two bad = tt
 
 -- ---- behind it
 
-pub image_shows : (end : ServeEnd) (one two : List ℕ) (J : List Row) → IsPairImageOf J one two → ((p : ℕ) → end ≡ ServeEnd.BadLog p → ⊥) → (end ≡ ServeEnd.TooLong → ⊥) → Shows end one two
+pub image_shows : (end : ServeEnd) (one two : List ℕ) (J : List Row) → IsPairImageOf J one two → ((p : ℕ) → end ≡ ServeEnd.BadLog p → ⊥) → (end ≡ ServeEnd.TooLong → ⊥) → ServeEndShows end one two
 image_shows ServeEnd.Done one two J image good short = (J, image)
 image_shows ServeEnd.WriteFault one two J image good short = (J, image)
 image_shows ServeEnd.Door one two J image good short = (J, image)

@@ -1,6 +1,6 @@
 pub mod Ending
 pub mod Reading
 pub mod Short
-pub mod Seats
-pub mod Meeting
+pub mod SessionsServed
+pub mod Accepts
 pub mod Counting

@@ -10,7 +10,7 @@ use Rattle.relay_store.specs.declared.fault.StoreFault.{StoreFault}
 use Rattle.relay_store.specs.declared.store.Store.{Store}
 use Rattle.relay_run.specs.Pairs.{StandsFor}
 use Rattle.relay_run.proofs.Beside.{kept_stands, leaves_stand, opened_keeps, opened_leaves}
-use Rattle.serve_run.specs.Ends.{IsOpened, end_of_opening}
+use Rattle.serve_run.specs.Ends.{ServeOpened, end_of_opening}
 use Rattle.serve_run.specs.Replayed.{OnlyRead}
 use Rattle.serve_run.specs.declared.end.ServeEnd.{ServeEnd}
 use Rattle.serve_run.proofs.Ending.{not_opened}
@@ -24,9 +24,9 @@ stands_still J one two one_now two_now first second stands = record {
 
 -- they weren't opened
 pub read_unopened : (tells : Bool) (one two one_now two_now : View) (fault : StoreFault) (end : ServeEnd) (J : List Row) → IsDisk one_now → IsDisk two_now
-    → Opened tells one two one_now two_now (Err fault) → IsTrue tells → end ≡ end_of_opening fault → OnlyRead J (IsOpened end) one two one_now two_now
+    → Opened tells one two one_now two_now (Err fault) → IsTrue tells → end ≡ end_of_opening fault → OnlyRead J (ServeOpened end) one two one_now two_now
 read_unopened tells one two one_now two_now fault end J first second opened told is = record {
-  stands = ⊎_elim (λ was. absurd (not_opened fault (subst IsOpened is was))) (λ stands. leaves_stand J one two one_now two_now first second (opened_leaves tells one two one_now two_now (Err fault) opened told J stands));
+  stands = ⊎_elim (λ was. absurd (not_opened fault (subst ServeOpened is was))) (λ stands. leaves_stand J one two one_now two_now first second (opened_leaves tells one two one_now two_now (Err fault) opened told J stands));
   crashes = λ stands. opened_leaves tells one two one_now two_now (Err fault) opened told J stands;
 }
 

@@ -3,10 +3,10 @@ use Rattle.std.proofs.Common.{◌≡◌, ◌⊎◌, ℕ, ◌<◌, ◌≤◌, ◌
 use Rattle.std.proofs.lemmas.Bool.Decides.{nat_tests}
 use Rattle.at_cbor.specs.declared.major.Major.{Major}
 use Rattle.at_cbor.specs.Item.{Item, Items, items_of}
-use Rattle.at_cbor.specs.Spelling.{front_of, items_count, items_spelling, spelling}
+use Rattle.at_cbor.specs.Encoding.{front_of, items_count, items_encoding, encoding}
 use Rattle.event_window.specs.Held.{Event}
 use Rattle.gate_log.specs.Image.{AreShort, IsImage}
-use Rattle.relay_row.specs.Bodies.{body_of, row_spelling, spelled}
+use Rattle.relay_row.specs.Bodies.{rows_body, row_encoding, encoded_rows}
 use Rattle.relay_row.specs.Folds.{events_in, events_of}
 use Rattle.relay_row.specs.Items.{fetched_item, list, row_items, whole_items}
 use Rattle.relay_row.specs.declared.fetched.Fetched.{Fetched}
@@ -30,24 +30,24 @@ short_join (e ∷ one) other first second = (first.0, short_join one other first
 -- ---- a message is no longer than the list of items that has it
 
 abbrev Within : List ℕ → Item → Type 0
-Within message i = length message ≤ length (spelling i)
+Within message i = length message ≤ length (encoding i)
 
 in_bytes : (message : List ℕ) → Within message (Item.bytes message)
 in_bytes message = omega (arith, length-append (front_of Major.Bytes (length message)) message)
 
-in_list : (message : List ℕ) (is : Items) → length message ≤ length (items_spelling is) → Within message (Item.list is)
-in_list message is within = omega (arith, within, length-append (front_of Major.List (items_count is)) (items_spelling is))
+in_list : (message : List ℕ) (is : Items) → length message ≤ length (items_encoding is) → Within message (Item.list is)
+in_list message is within = omega (arith, within, length-append (front_of Major.List (items_count is)) (items_encoding is))
 
 -- this is one of the items
 abbrev Has : Item → List Item → Type 0
 Has i [] = ⊥
 Has i (other ∷ is) = (other ≡ i) ⊎ Has i is
 
-in_items : (message : List ℕ) (i : Item) (is : List Item) → Has i is → Within message i → length message ≤ length (items_spelling (items_of is))
+in_items : (message : List ℕ) (i : Item) (is : List Item) → Has i is → Within message i → length message ≤ length (items_encoding (items_of is))
 in_items message i [] has within = absurd has
 in_items message i (other ∷ is) (inl same) within =
-    omega (arith, within, ap (λ (x : Item). length (spelling x)) same, length-append (spelling other) (items_spelling (items_of is)))
-in_items message i (other ∷ is) (inr has) within = omega (arith, in_items message i is has within, length-append (spelling other) (items_spelling (items_of is)))
+    omega (arith, within, ap (λ (x : Item). length (encoding x)) same, length-append (encoding other) (items_encoding (items_of is)))
+in_items message i (other ∷ is) (inr has) within = omega (arith, in_items message i is has within, length-append (encoding other) (items_encoding (items_of is)))
 
 within_list : (message : List ℕ) (i : Item) (is : List Item) → Has i is → Within message i → Within message (list is)
 within_list message i is has within = in_list message (items_of is) (in_items message i is has within)
@@ -59,7 +59,7 @@ abbrev AllWithin : ℕ → List Event → Type 0
 AllWithin n [] = Unit {0}
 AllWithin n (e ∷ events) = (length e.1 ≤ n) × AllWithin n events
 
-fetched_within : (f : Fetched) (is : List Item) → Has (fetched_item f) is → AllWithin (length (spelling (list is))) (events_of f)
+fetched_within : (f : Fetched) (is : List Item) → Has (fetched_item f) is → AllWithin (length (encoding (list is))) (events_of f)
 fetched_within Fetched.NotAsked is has = tt
 fetched_within Fetched.Absent is has = tt
 fetched_within (Fetched.Refused code) is has = tt
@@ -70,7 +70,7 @@ either_within true n one other first second = first
 either_within false n one other first second = second
 
 abbrev row_length : Row → ℕ
-row_length row = length (spelling (list (row_items row)))
+row_length row = length (encoding (list (row_items row)))
 
 row_within : (row : Row) → AllWithin (row_length row) (events_in row)
 row_within (Row.Taken t) =
@@ -85,13 +85,13 @@ row_within (Row.Carried carried) = tt
 
 -- ---- a row is no longer than the body that has it
 
-row_is : (row : Row) → length (row_spelling row) ≡ row_length row
-unfolding row_spelling
+row_is : (row : Row) → length (row_encoding row) ≡ row_length row
+unfolding row_encoding
 row_is row = refl
 
-body_within : (rows : List Row) → length (spelled rows) ≤ length (body_of rows)
-unfolding body_of
-body_within rows = omega (arith, length-append (front_of Major.List (length rows)) (spelled rows))
+body_within : (rows : List Row) → length (encoded_rows rows) ≤ length (rows_body rows)
+unfolding rows_body
+body_within rows = omega (arith, length-append (front_of Major.List (length rows)) (encoded_rows rows))
 
 within_short : (n : ℕ) (events : List Event) → n < 2 ^ 32 → AllWithin n events → AllShort events
 within_short n [] low within = tt
@@ -106,17 +106,17 @@ rows_join : (one other : List Row) → RowsShort one → RowsShort other → Row
 rows_join [] other first second = second
 rows_join (row ∷ one) other first second = (first.0, rows_join one other first.1 second)
 
-spelled_short : (rows : List Row) → length (spelled rows) < 2 ^ 32 → RowsShort rows
-spelled_short [] low = tt
-spelled_short (row ∷ rows) low =
-    let all = length-append (row_spelling row) (spelled rows) in
-    (within_short (row_length row) (events_in row) (omega (arith, low, all, row_is row)) (row_within row), spelled_short rows (omega (arith, low, all)))
+encoded_short : (rows : List Row) → length (encoded_rows rows) < 2 ^ 32 → RowsShort rows
+encoded_short [] low = tt
+encoded_short (row ∷ rows) low =
+    let all = length-append (row_encoding row) (encoded_rows rows) in
+    (within_short (row_length row) (events_in row) (omega (arith, low, all, row_is row)) (row_within row), encoded_short rows (omega (arith, low, all)))
 
 bodies_short : (bodies : List (List Row)) → AreShort (bytes_of bodies) → RowsShort (joined bodies)
 bodies_short [] short = tt
 bodies_short (rows ∷ bodies) short =
-    let low : length (body_of rows) < 2 ^ 32 = short.0 in
-    rows_join rows (joined bodies) (spelled_short rows (omega (arith, low, body_within rows))) (bodies_short bodies short.1)
+    let low : length (rows_body rows) < 2 ^ 32 = short.0 in
+    rows_join rows (joined bodies) (encoded_short rows (omega (arith, low, body_within rows))) (bodies_short bodies short.1)
 
 -- ---- those that are shown, and those that are served
 

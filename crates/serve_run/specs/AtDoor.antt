@@ -7,7 +7,7 @@ use Rattle.relay_io.specs.declared.door.Turn.{Turn}
 use Rattle.backfill.specs.Serving.{sendings}
 use Rattle.backfill.specs.Target.{cursor_in}
 use Rattle.backfill.specs.declared.target_fault.TargetFault.{TargetFault}
-use Rattle.serve_run.specs.Sessions.{AllVisits, AreCounted, IsCut, IsFailed, IsVisit, IsWhole, Visit, guests_of, turns_of}
+use Rattle.serve_run.specs.Sessions.{AllVisits, AreCounted, IsSentInPart, IsFailed, IsVisit, IsSentWhole, Visit, guests_of, turns_of}
 use Rattle.serve_run.specs.declared.end.ServeEnd.{ServeEnd}
 use Rattle.serve_run.specs.declared.session.Session.{Session}
 
@@ -22,15 +22,15 @@ abbrev pub at_door : List Guest → List Turn → ℕ → AtDoor
 at_door guests turns faults = record { guests = guests; turns = turns; faults = faults }
 
 -- The guest who waited was sent something, by what the target asks for: all of it, or a front of it where the session failed or was broken off.
-abbrev pub Sat : Bool → Held → Result (Option ℕ) TargetFault → List Turn → List Turn → Result Session ServeEnd → Type 0
-Sat tells held asked old new (Ok session) = (sent : List (List ℕ)) × (IsWhole held asked sent session ⊎ IsFailed held asked sent session) × (IsTrue tells → new ≡ old ++ sendings sent)
-Sat tells held asked old new (Err end) = (sent : List (List ℕ)) × IsCut held asked sent × (IsTrue tells → new ≡ old ++ sendings sent)
+abbrev pub SessionServed : Bool → Held → Result (Option ℕ) TargetFault → List Turn → List Turn → Result Session ServeEnd → Type 0
+SessionServed tells held asked old new (Ok session) = (sent : List (List ℕ)) × (IsSentWhole held asked sent session ⊎ IsFailed held asked sent session) × (IsTrue tells → new ≡ old ++ sendings sent)
+SessionServed tells held asked old new (Err end) = (sent : List (List ℕ)) × IsSentInPart held asked sent × (IsTrue tells → new ≡ old ++ sendings sent)
 
 -- Who came had a session, or is nobody, or waited and the session was broken off.
 abbrev pub Received : Bool → Held → Guest → List Turn → List Turn → Result (Option Session) ServeEnd → Type 0
 Received tells held guest old new (Ok (Some session)) = (sent : List (List ℕ)) × IsVisit held guest sent session × (IsTrue tells → new ≡ old ++ sendings sent)
 Received tells held guest old new (Ok None) = (guest ≡ Guest.End) × (IsTrue tells → new ≡ old)
-Received tells held guest old new (Err end) = (target : List ℕ) × (guest ≡ Guest.Target target) × ((sent : List (List ℕ)) × IsCut held (cursor_in target) sent × (IsTrue tells → new ≡ old ++ sendings sent))
+Received tells held guest old new (Err end) = (target : List ℕ) × (guest ≡ Guest.Target target) × ((sent : List (List ℕ)) × IsSentInPart held (cursor_in target) sent × (IsTrue tells → new ≡ old ++ sendings sent))
 
 -- These visits were made, one after another.
 pub record Visited (tells : Bool) (held : Held) (visits : List Visit) (old new : AtDoor) : Type 0 where
@@ -44,24 +44,24 @@ abbrev pub IsStill : Bool → AtDoor → AtDoor → Type 0
 IsStill tells old new = IsTrue tells → (new.guests ≡ old.guests) × (new.turns ≡ old.turns)
 
 -- the door said that nobody comes any more
-abbrev pub IsOver : Bool → AtDoor → AtDoor → Type 0
-IsOver tells old new = IsTrue tells → (next_of old.guests ≡ Guest.End) × (new.guests ≡ others_of old.guests) × (new.turns ≡ old.turns ++ Turn.Came Guest.End ∷ [])
+abbrev pub NobodyComes : Bool → AtDoor → AtDoor → Type 0
+NobodyComes tells old new = IsTrue tells → (next_of old.guests ≡ Guest.End) × (new.guests ≡ others_of old.guests) × (new.turns ≡ old.turns ++ Turn.Came Guest.End ∷ [])
 
 -- A guest came, and the session was broken off behind a front of what was to be sent.
-pub record IsBroken (tells : Bool) (held : Held) (old new : AtDoor) : Type 0 where
+pub record SessionIsBroken (tells : Bool) (held : Held) (old new : AtDoor) : Type 0 where
   pub target : List ℕ
   pub sent : List (List ℕ)
-  pub cut : IsCut held (cursor_in target) sent
+  pub cut : IsSentInPart held (cursor_in target) sent
   pub guests : IsTrue tells → old.guests ≡ Guest.Target target ∷ new.guests
   pub turns : IsTrue tells → new.turns ≡ old.turns ++ Turn.Came (Guest.Target target) ∷ sendings sent
 
 -- what a fault leaves behind the last session: nobody came where the door failed, and else nobody came or a session was broken off
 abbrev pub IsStopped : Bool → Held → ServeEnd → AtDoor → AtDoor → Type 0
 IsStopped tells held ServeEnd.Door old new = IsStill tells old new
-IsStopped tells held end old new = IsStill tells old new ⊎ IsBroken tells held old new
+IsStopped tells held end old new = IsStill tells old new ⊎ SessionIsBroken tells held old new
 
 -- One more guest was met, of so many: who came had a session, or nobody is to come any more, or it was stopped.
-abbrev pub Met : Bool → Held → ℕ → AtDoor → AtDoor → Result (Option Session) ServeEnd → Type 0
-Met tells held most old new (Ok (Some session)) = (v : Visit) × (v.session ≡ session) × Visited tells held (v ∷ []) old new
-Met tells held most old new (Ok None) = ((most ≡ 0) × IsStill tells old new) ⊎ IsOver tells old new
-Met tells held most old new (Err end) = IsStopped tells held end old new
+abbrev pub GuestAccepted : Bool → Held → ℕ → AtDoor → AtDoor → Result (Option Session) ServeEnd → Type 0
+GuestAccepted tells held most old new (Ok (Some session)) = (v : Visit) × (v.session ≡ session) × Visited tells held (v ∷ []) old new
+GuestAccepted tells held most old new (Ok None) = ((most ≡ 0) × IsStill tells old new) ⊎ NobodyComes tells old new
+GuestAccepted tells held most old new (Err end) = IsStopped tells held end old new

@@ -30,19 +30,19 @@ end_of_serving ServeFault.Memory = Err ServeEnd.Memory
 end_of_serving (ServeFault.BadLog place) = Err (ServeEnd.BadLog place)
 
 -- it was opened: the end is none that opening may come to
-abbrev pub IsOpened : ServeEnd → Type 0
-IsOpened ServeEnd.Disk = ⊥
-IsOpened (ServeEnd.BadLog place) = ⊥
-IsOpened ServeEnd.Memory = ⊥
-IsOpened end = ⊤
+abbrev pub ServeOpened : ServeEnd → Type 0
+ServeOpened ServeEnd.Disk = ⊥
+ServeOpened (ServeEnd.BadLog place) = ⊥
+ServeOpened ServeEnd.Memory = ⊥
+ServeOpened end = ⊤
 
--- what the bytes of the two disks were: no image of a journal, which they show at this place, or an image of one, none of whose messages is too long; where the disk failed or memory was wanted nothing is said
-abbrev pub Shows : ServeEnd → List ℕ → List ℕ → Type 0
-Shows ServeEnd.Disk one two = ⊤
-Shows ServeEnd.Memory one two = ⊤
-Shows (ServeEnd.BadLog place) one two = IsBadPairJournalAt place one two
-Shows ServeEnd.TooLong one two = ⊥
-Shows end one two = (J : List Row) × IsPairImageOf J one two
+-- what the bytes of the two disks were: no image of a journal, which they show at this place, or an image of one, none of whose messages is too long; where the disk failed or memory ran out nothing is said
+abbrev pub ServeEndShows : ServeEnd → List ℕ → List ℕ → Type 0
+ServeEndShows ServeEnd.Disk one two = ⊤
+ServeEndShows ServeEnd.Memory one two = ⊤
+ServeEndShows (ServeEnd.BadLog place) one two = IsBadPairJournalAt place one two
+ServeEndShows ServeEnd.TooLong one two = ⊥
+ServeEndShows end one two = (J : List Row) × IsPairImageOf J one two
 
 -- the cause of an end: a count of faults rose
 abbrev pub IsCausedBy : Type 0 → Type 0 → Type 0 → ServeEnd → Type 0
@@ -51,20 +51,20 @@ IsCausedBy disk write door ServeEnd.Door = door
 IsCausedBy disk write door ServeEnd.Disk = disk
 IsCausedBy disk write door end = ⊤
 
--- a line isn't written: the output failed, or memory was wanted
+-- a line isn't written: the output failed, or memory ran out
 abbrev pub IsUnwritten : ServeEnd → Type 0
 IsUnwritten ServeEnd.WriteFault = ⊤
 IsUnwritten ServeEnd.Memory = ⊤
 IsUnwritten end = ⊥
 
--- a session was broken off: the disk failed or has no event where one was, or memory was wanted
+-- a session was broken off: the disk failed or has no event where one was, or memory ran out
 abbrev pub IsOfSession : ServeEnd → Type 0
 IsOfSession ServeEnd.Disk = ⊤
 IsOfSession (ServeEnd.BadLog place) = ⊤
 IsOfSession ServeEnd.Memory = ⊤
 IsOfSession end = ⊥
 
--- no session came of the next guest: it was broken off so, or the door failed, or memory was wanted there
-abbrev pub IsOfMeeting : ServeEnd → Type 0
-IsOfMeeting ServeEnd.Door = ⊤
-IsOfMeeting end = IsOfSession end
+-- no session came of the next guest: it was broken off so, or the door failed, or memory ran out there
+abbrev pub IsOfAccepting : ServeEnd → Type 0
+IsOfAccepting ServeEnd.Door = ⊤
+IsOfAccepting end = IsOfSession end

@@ -6,10 +6,10 @@ use Rattle.relay_io.specs.Streams.{AddsFront}
 use Rattle.relay_row.specs.declared.row.Row.{Row}
 use Rattle.relay_store.specs.Journals.{IsPairImageOf}
 use Rattle.relay_store.specs.Shown.{held_by}
-use Rattle.relay_run.specs.Pairs.{Outside, StandsFor}
+use Rattle.relay_run.specs.Pairs.{PairView, StandsFor}
 use Rattle.backfill.specs.Served.{served}
-use Rattle.backfill.specs.Writing.{framed}
-use Rattle.serve_run.specs.Ends.{IsOpened}
+use Rattle.backfill.specs.Writing.{with_length}
+use Rattle.serve_run.specs.Ends.{ServeOpened}
 use Rattle.serve_run.specs.declared.end.ServeEnd.{ServeEnd}
 
 -- The two disks, which have the journal J, were only read.
@@ -25,6 +25,6 @@ IsReplayed ServeEnd.Done text old new = new ≡ old ++ text
 IsReplayed end text old new = AddsFront old new text
 
 -- The messages that a guest with this cursor is sent were written, each behind its length.
-pub record Replayed (output_tells : Bool) (J : List Row) (cursor : ℕ) (old new : Outside) (end : ServeEnd) : Type 0 where
-  pub written : IsTrue output_tells → IsReplayed end (framed (served (held_by J) (Some cursor))) old.written new.written
-  pub read : OnlyRead J (IsOpened end) old.one old.two new.one new.two
+pub record Replayed (output_tells : Bool) (J : List Row) (cursor : ℕ) (old new : PairView) (end : ServeEnd) : Type 0 where
+  pub written : IsTrue output_tells → IsReplayed end (with_length (served (held_by J) (Some cursor))) old.written new.written
+  pub read : OnlyRead J (ServeOpened end) old.one old.two new.one new.two

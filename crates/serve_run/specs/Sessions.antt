@@ -26,8 +26,8 @@ abbrev pub session_line : ℕ → Session → List ℕ
 session_line number session = numbered (codes "session ") number ++ (told session ++ 10 ∷ [])
 
 -- the last line
-abbrev pub end_line : ℕ → List ℕ
-end_line count = numbered (codes "end ") count ++ codes " sessions\n"
+abbrev pub sessions_end_line : ℕ → List ℕ
+sessions_end_line count = numbered (codes "end ") count ++ codes " sessions\n"
 
 -- ---- what comes of them
 
@@ -42,9 +42,9 @@ came_of last None events future = Session.Sent last events
 came_of last (Some cursor) events future = if future then Session.Future cursor else Session.Sent cursor events
 
 -- a front of what is to be sent, by what the target asks for: nothing where it is refused
-abbrev pub IsCut : Held → Result (Option ℕ) TargetFault → List (List ℕ) → Type 0
-IsCut held (Ok cursor) sent = (left : List (List ℕ)) × (served held cursor ≡ sent ++ left)
-IsCut held (Err fault) sent = sent ≡ []
+abbrev pub IsSentInPart : Held → Result (Option ℕ) TargetFault → List (List ℕ) → Type 0
+IsSentInPart held (Ok cursor) sent = (left : List (List ℕ)) × (served held cursor ≡ sent ++ left)
+IsSentInPart held (Err fault) sent = sent ≡ []
 
 -- how many events a front has
 abbrev pub events_sent : Held → Result (Option ℕ) TargetFault → List (List ℕ) → ℕ
@@ -52,13 +52,13 @@ events_sent held (Ok cursor) sent = length sent - length (notice held cursor)
 events_sent held (Err fault) sent = 0
 
 -- all that is to be sent was sent, by what the target asks for: nothing where it is refused
-abbrev pub IsWhole : Held → Result (Option ℕ) TargetFault → List (List ℕ) → Session → Type 0
-IsWhole held (Ok cursor) sent session = (sent ≡ served held cursor) × (session ≡ session_of held cursor)
-IsWhole held (Err fault) sent session = (sent ≡ []) × (session ≡ Session.BadTarget)
+abbrev pub IsSentWhole : Held → Result (Option ℕ) TargetFault → List (List ℕ) → Session → Type 0
+IsSentWhole held (Ok cursor) sent session = (sent ≡ served held cursor) × (session ≡ session_of held cursor)
+IsSentWhole held (Err fault) sent session = (sent ≡ []) × (session ≡ Session.BadTarget)
 
 -- the session failed, behind a front of it
 abbrev pub IsFailed : Held → Result (Option ℕ) TargetFault → List (List ℕ) → Session → Type 0
-IsFailed held asked sent session = IsCut held asked sent × (session ≡ Session.Failed (events_sent held asked sent))
+IsFailed held asked sent session = IsSentInPart held asked sent × (session ≡ Session.Failed (events_sent held asked sent))
 
 -- A guest who came: what was sent, what came of the session, and the count of failed sendings and endings behind it.
 pub record Visit : Type 0 where
@@ -69,7 +69,7 @@ pub record Visit : Type 0 where
 
 -- what a guest was sent, and what came of it
 abbrev pub IsVisit : Held → Guest → List (List ℕ) → Session → Type 0
-IsVisit held (Guest.Target target) sent session = IsWhole held (cursor_in target) sent session ⊎ IsFailed held (cursor_in target) sent session
+IsVisit held (Guest.Target target) sent session = IsSentWhole held (cursor_in target) sent session ⊎ IsFailed held (cursor_in target) sent session
 IsVisit held Guest.NoHandshake sent session = (sent ≡ []) × (session ≡ Session.NoHandshake)
 IsVisit held Guest.End sent session = ⊥
 

@@ -18,7 +18,7 @@ pub enum ServeEnd {
     Disk,
     /// The disks are no image of a journal, and show it at this place.
     BadLog(u64),
-    /// Memory was wanted.
+    /// Memory ran out.
     Memory,
     /// A message has more bytes than four bytes of length can say. No journal of disks that tell their content has one.
     TooLong,

@@ -10,10 +10,10 @@ ghost use Rattle.relay_row.specs.declared.row.Row.{Row as TheRow};
 ghost use Rattle.relay_store.specs.Journals.{IsPairImageOf};
 ghost use Rattle.relay_store.specs.Shown.{held_by};
 ghost use Rattle.relay_store.specs.Store.{IsKept, Keeps, seen_in};
-ghost use Rattle.relay_run.specs.Pairs.{outside};
+ghost use Rattle.relay_run.specs.Pairs.{pair_view};
 ghost use Rattle.backfill.specs.Served.{served, served_events};
-ghost use Rattle.backfill.specs.Writing.{framed, has_long};
-ghost use Rattle.serve_run.specs.Ends.{IsCausedBy, Shows};
+ghost use Rattle.backfill.specs.Writing.{with_length, has_long};
+ghost use Rattle.serve_run.specs.Ends.{IsCausedBy, ServeEndShows};
 ghost use Rattle.serve_run.specs.Replayed.{IsReplayed, Replayed};
 
 use crate::end::ServeEnd;
@@ -33,7 +33,7 @@ fn replay_events<E: Events, O: Sink>(
 ) -> ServeEnd
     requires { IsTrue E.tells → (held : Held) × E.holds events.old held }
     ensures written { IsTrue E.tells → (held : Held) → E.holds events.old held
-        → IsTrue O.tells → IsReplayed result (framed (served held (Some cursor))) (O.written out.old) (O.written out.new) }
+        → IsTrue O.tells → IsReplayed result (with_length (served held (Some cursor))) (O.written out.old) (O.written out.new) }
     ensures later { E.later events.old events.new }
     ensures disk { result ≡ ServeEnd.Disk → Rose (E.faults events.old) (E.faults events.new) }
     ensures failed { result ≡ ServeEnd.WriteFault → Rose (O.faults out.old) (O.faults out.new) }
@@ -59,7 +59,7 @@ fn replay_from<D: Disk, O: Sink>(
 ) -> ServeEnd
     requires { IsTrue D.tells → IsKept (seen_in store.now) (D.view disk.old) }
     ensures written { IsTrue D.tells → (J : List TheRow) → Keeps J (seen_in store.now) (D.view disk.old)
-        → IsTrue O.tells → IsReplayed result (framed (served (held_by J) (Some cursor))) (O.written out.old) (O.written out.new) }
+        → IsTrue O.tells → IsReplayed result (with_length (served (held_by J) (Some cursor))) (O.written out.old) (O.written out.new) }
     ensures goes { Goes Same (D.view disk.old) (D.view disk.new) }
     ensures disk { result ≡ ServeEnd.Disk → Rose (D.view disk.old).faults (D.view disk.new).faults }
     ensures failed { result ≡ ServeEnd.WriteFault → Rose (O.faults out.old) (O.faults out.new) }
@@ -84,7 +84,7 @@ fn replay_on<D: Disk, O: Sink>(
 ) -> ServeEnd
     requires { IsTrue D.tells → IsKept (seen_in store.now) (view_of_side (seen_in store.now).side (D.view disk.old) (D.view other.old)) }
     ensures written { IsTrue D.tells → (J : List TheRow) → Keeps J (seen_in store.now) (view_of_side (seen_in store.now).side (D.view disk.old) (D.view other.old))
-        → IsTrue O.tells → IsReplayed result (framed (served (held_by J) (Some cursor))) (O.written out.old) (O.written out.new) }
+        → IsTrue O.tells → IsReplayed result (with_length (served (held_by J) (Some cursor))) (O.written out.old) (O.written out.new) }
     ensures one { Goes Same (D.view disk.old) (D.view disk.new) }
     ensures two { Goes Same (D.view other.old) (D.view other.new) }
     ensures disk { result ≡ ServeEnd.Disk → Rose (D.view disk.old).faults (D.view disk.new).faults ⊎ Rose (D.view other.old).faults (D.view other.new).faults }
@@ -113,8 +113,8 @@ pub fn replay<D: Disk, O: Sink>(
 ) -> ServeEnd
     requires { most ≤ LAST_END }
     ensures replayed { IsTrue D.tells → (J : List TheRow) → IsPairImageOf J (D.view disk.old).content (D.view other.old).content
-        → Replayed O.tells J cursor (outside (D.view disk.old) (D.view other.old) (O.written out.old)) (outside (D.view disk.new) (D.view other.new) (O.written out.new)) result }
-    ensures shows { IsTrue D.tells → Shows result (D.view disk.old).content (D.view other.old).content }
+        → Replayed O.tells J cursor (pair_view (D.view disk.old) (D.view other.old) (O.written out.old)) (pair_view (D.view disk.new) (D.view other.new) (O.written out.new)) result }
+    ensures shows { IsTrue D.tells → ServeEndShows result (D.view disk.old).content (D.view other.old).content }
     ensures quiet { (place : ℕ) → result ≡ ServeEnd.BadLog place → IsTrue D.tells → IsTrue O.tells → O.written out.new ≡ O.written out.old }
     ensures caused { IsCausedBy (Rose (D.view disk.old).faults (D.view disk.new).faults ⊎ Rose (D.view other.old).faults (D.view other.new).faults) (Rose (O.faults out.old) (O.faults out.new)) ⊥ result }
     ensures disk_counts { (D.view disk.old).faults ≤ (D.view disk.new).faults }

@@ -9,14 +9,14 @@ ghost use Rattle.relay_row.specs.declared.row.Row.{Row as TheRow};
 ghost use Rattle.relay_store.specs.Journals.{IsPairImageOf};
 ghost use Rattle.relay_store.specs.Shown.{held_by};
 ghost use Rattle.relay_store.specs.Store.{IsKept, Keeps, seen_in};
-ghost use Rattle.relay_run.specs.Pairs.{outside};
+ghost use Rattle.relay_run.specs.Pairs.{pair_view};
 ghost use Rattle.serve_run.specs.AtDoor.{at_door};
-ghost use Rattle.serve_run.specs.Ends.{IsCausedBy, Shows};
+ghost use Rattle.serve_run.specs.Ends.{IsCausedBy, ServeEndShows};
 ghost use Rattle.serve_run.specs.Guests.{GuestsServed, ServedAt, end_in};
 
+use crate::accepting::accept;
 use crate::end::ServeEnd;
 use crate::session::{write_end, write_session};
-use crate::sitting::meet;
 use relay_disk::Disk;
 use relay_io::{Door, Sink};
 use relay_store::Store;
@@ -46,7 +46,7 @@ fn serve_guests<D: Disk, G: Door, O: Sink>(
     ensures out_counts { O.faults out.old ≤ O.faults out.new }
 {
     let mut served = 0;
-    'guests: while let Some(session) = meet(alloc, count - served, store, disk, other, door)? {
+    'guests: while let Some(session) = accept(alloc, count - served, store, disk, other, door)? {
         served += 1;
         write_session(alloc, served, session, out)?;
     }
@@ -68,8 +68,8 @@ pub fn serve<D: Disk, G: Door, O: Sink>(
     requires { most ≤ LAST_END }
     ensures served { IsTrue D.tells → (J : List TheRow) → IsPairImageOf J (D.view disk.old).content (D.view other.old).content
         → ServedAt G.tells O.tells count J (at_door (G.guests door.old) (G.turns door.old) (G.session_faults door.old)) (at_door (G.guests door.new) (G.turns door.new) (G.session_faults door.new))
-        (outside (D.view disk.old) (D.view other.old) (O.written out.old)) (outside (D.view disk.new) (D.view other.new) (O.written out.new)) result }
-    ensures shows { IsTrue D.tells → Shows result (D.view disk.old).content (D.view other.old).content }
+        (pair_view (D.view disk.old) (D.view other.old) (O.written out.old)) (pair_view (D.view disk.new) (D.view other.new) (O.written out.new)) result }
+    ensures shows { IsTrue D.tells → ServeEndShows result (D.view disk.old).content (D.view other.old).content }
     ensures no_long { result ≡ ServeEnd.TooLong → ⊥ }
     ensures quiet { (place : ℕ) → result ≡ ServeEnd.BadLog place → IsTrue D.tells
         → (IsTrue O.tells → O.written out.new ≡ O.written out.old) × (IsTrue G.tells → (G.guests door.new ≡ G.guests door.old) × (G.turns door.new ≡ G.turns door.old)) }

@@ -5,7 +5,7 @@ ghost use Rattle.at_cid.specs.Counts.{Rose};
 ghost use Rattle.relay_io.specs.Streams.{AddsFront};
 ghost use Rattle.relay_run.specs.Lines.{numbered};
 ghost use Rattle.serve_run.specs.Ends.{IsUnwritten};
-ghost use Rattle.serve_run.specs.Sessions.{end_line, session_line, told};
+ghost use Rattle.serve_run.specs.Sessions.{sessions_end_line, session_line, told};
 
 use crate::end::ServeEnd;
 use at_cid::{Memory, Octets};
@@ -68,7 +68,7 @@ fn line_of(alloc: Global, number: u64, session: Session) -> Result<Octets, Memor
 
 // The last line.
 fn last_line(alloc: Global, count: u64) -> Result<Octets, Memory>
-    ensures { IfOk result (λ line. line ≡ end_line count) }
+    ensures { IfOk result (λ line. line ≡ sessions_end_line count) }
 {
     let mut line = Octets::new(alloc);
     add_numbered(&mut line, b"end ", count)?;
@@ -109,8 +109,8 @@ pub(crate) fn write_session<O: Sink>(
 
 /// Writes the last line, behind so many sessions.
 pub(crate) fn write_end<O: Sink>(alloc: Global, count: u64, out: &mut O) -> Result<(), ServeEnd>
-    ensures written { OnOk result (IsTrue O.tells → O.written out.new ≡ O.written out.old ++ end_line count) }
-    ensures front { IfErr result (λ end. IsUnwritten end × (IsTrue O.tells → AddsFront (O.written out.old) (O.written out.new) (end_line count))) }
+    ensures written { OnOk result (IsTrue O.tells → O.written out.new ≡ O.written out.old ++ sessions_end_line count) }
+    ensures front { IfErr result (λ end. IsUnwritten end × (IsTrue O.tells → AddsFront (O.written out.old) (O.written out.new) (sessions_end_line count))) }
     ensures caused { IfErr result (λ end. end ≡ ServeEnd.WriteFault → Rose (O.faults out.old) (O.faults out.new)) }
     ensures counts { O.faults out.old ≤ O.faults out.new }
 {

@@ -11,16 +11,16 @@ use Rattle.relay_row.specs.declared.row.Row.{Row}
 use Rattle.cut_law.specs.Cut.{cut}
 use Rattle.cut_law.specs.Lives.{ComesFrom}
 use Rattle.cut_law.proofs.Changing.{comes_cut, comes_itself, comes_longer}
-use Rattle.relay_step.specs.declared.word.Word.{Word}
+use Rattle.relay_step.specs.declared.command.CommandAnswer.{CommandAnswer}
 use Rattle.relay_store.specs.Journals.{IsOneOf, IsPairImageOf, IsPairJournalOfOne, LeavesPairJournals}
 use Rattle.relay_store.specs.Store.{StoreState, IsOf, Keeps, seen_in}
-use Rattle.relay_store.specs.Words.{Spoken}
+use Rattle.relay_store.specs.Commands.{CommandDone}
 use Rattle.relay_store.specs.declared.done.Done.{Done}
 use Rattle.relay_store.specs.declared.fault.StoreFault.{StoreFault}
 use Rattle.relay_store.specs.declared.store.Store.{Store}
 use Rattle.relay_store.proofs.Images.{kept_log, same_kept, same_pair_journal}
 use Rattle.store_lives.specs.Laws.{HasIn, Has, EachComesFrom, AllCome, AnswersAreKept, HasAnswered, AnswersStand}
-use Rattle.store_lives.specs.Lives.{Machine, IsCall, Calls, Opens, Cuts, GoesFrom, Goes, Crashes, Steps, LivesFrom, disk_of, fault_cut, fault_said, open_after, rows_answered, rows_spoken, stopped, store_in}
+use Rattle.store_lives.specs.Lives.{Machine, IsCall, Calls, Opens, Cuts, GoesFrom, Goes, Crashes, Steps, LivesFrom, disk_of, fault_cut, fault_said, open_after, rows_answered, rows_of_command, stopped, store_in}
 use Rattle.store_lives.proofs.Cut.{came_of_cut}
 use Rattle.store_lives.proofs.Pairs.{HasComing, IsOnSide, call_leaves}
 
@@ -52,10 +52,10 @@ module _ {D : Type 0} (view : D → View) (tells : Bool) (told : IsTrue tells) (
         (subst (λ (t : StoreState). Keeps (J ++ []) t (view d)) (sym same_store) (subst (λ (K : List Row). Keeps K s (view d)) (sym (append-nil J)) keeps));
   }
 
-  said : (J : List Row) (is_word : Word → Type 0) (failed : Type 0) (s s_now : StoreState) (d d_now : D) (result : Result Done StoreFault) → Keeps J s (view d)
-      → (spoken : Spoken view tells J is_word failed s s_now d d_now result) → Did J (rows_spoken view tells J is_word failed s s_now d d_now result spoken) s s_now d d_now (result ≢ Err StoreFault.Disk)
-  said J is_word failed s s_now d d_now result keeps (inl (word, is, journal, worded)) = record { rows = _; run = worded.moments told keeps; keeps = λ not. worded.keeps not told keeps }
-  said J is_word failed s s_now d d_now result keeps (inr unsaid) = did_nothing J s s_now d d_now (result ≢ Err StoreFault.Disk) keeps unsaid.same unsaid.disk_same
+  said : (J : List Row) (is_command : CommandAnswer → Type 0) (failed : Type 0) (s s_now : StoreState) (d d_now : D) (result : Result Done StoreFault) → Keeps J s (view d)
+      → (commanded : CommandDone view tells J is_command failed s s_now d d_now result) → Did J (rows_of_command view tells J is_command failed s s_now d d_now result commanded) s s_now d d_now (result ≢ Err StoreFault.Disk)
+  said J is_command failed s s_now d d_now result keeps (inl (command, is, journal, commanded)) = record { rows = _; run = commanded.moments told keeps; keeps = λ not. commanded.keeps not told keeps }
+  said J is_command failed s s_now d d_now result keeps (inr unsaid) = did_nothing J s s_now d d_now (result ≢ Err StoreFault.Disk) keeps unsaid.same unsaid.disk_same
 
   by_fault : (J answered : List Row) (s s_now : StoreState) (d d_now : D) (result : Result Done StoreFault) (fault : Option StoreFault) → fault ≡ fault_said result
       → Did J answered s s_now d d_now (result ≢ Err StoreFault.Disk) → Did J answered s s_now d d_now (fault ≢ Some StoreFault.Disk)
@@ -64,8 +64,8 @@ module _ {D : Type 0} (view : D → View) (tells : Bool) (told : IsTrue tells) (
   did : (J : List Row) (s s_now : StoreState) (d d_now : D) (fault : Option StoreFault) (of : IsOf J s.core) (call : IsCall view tells s s_now d d_now fault) → Keeps J s (view d)
       → Did J (rows_answered view tells J s s_now d d_now fault of call) s s_now d d_now (fault ≢ Some StoreFault.Disk)
   did J s s_now d d_now fault of (inl takes) keeps = let b = takes.batched J of in record { rows = _; run = b.moments told keeps; keeps = λ not. b.keeps not told keeps }
-  did J s s_now d d_now fault of (inr (result, is, inl operates)) keeps = by_fault J _ s s_now d d_now result fault is (said J _ _ s s_now d d_now result keeps (operates.spoken J of))
-  did J s s_now d d_now fault of (inr (result, is, inr syncs)) keeps = by_fault J _ s s_now d d_now result fault is (said J _ _ s s_now d d_now result keeps (syncs.spoken J of))
+  did J s s_now d d_now fault of (inr (result, is, inl operates)) keeps = by_fault J _ s s_now d d_now result fault is (said J _ _ s s_now d d_now result keeps (operates.commanded J of))
+  did J s s_now d d_now fault of (inr (result, is, inr syncs)) keeps = by_fault J _ s s_now d d_now result fault is (said J _ _ s s_now d d_now result keeps (syncs.commanded J of))
 
   -- what was answered is kept
   still_open : (fault : Option StoreFault) (s : StoreState) → fault ≢ Some StoreFault.Disk → open_after fault s ≡ Some s

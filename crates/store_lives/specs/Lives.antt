@@ -6,7 +6,7 @@ use Rattle.relay_disk.specs.Moments.{PairLeavesOnly}
 use Rattle.gate_log.specs.Beside.{LeavesLive}
 use Rattle.gate_log.specs.Image.{generation}
 use Rattle.gate_log.specs.Pick.{other_side}
-use Rattle.gate_log.specs.declared.limits.TheConstants.{GENERATIONS}
+use Rattle.at_cid.specs.declared.limits.TheConstants.{NUMBERS}
 use Rattle.gate_log.specs.declared.picking.Side.{Side}
 use Rattle.at_event.specs.declared.refusal.Refusal.{Refusal}
 use Rattle.relay_row.specs.declared.row.Row.{Row}
@@ -15,14 +15,14 @@ use Rattle.relay_step.specs.Around.{Around}
 use Rattle.relay_step.specs.Asked.{AskedInVain}
 use Rattle.relay_step.specs.Causes.{CameToNothing, OneTaken}
 use Rattle.relay_step.specs.Steps.{rows}
-use Rattle.relay_step.specs.Words.{OperatedAt, SyncedAt, rows_said}
-use Rattle.relay_step.specs.declared.word.Word.{Word}
+use Rattle.relay_step.specs.Commands.{OperatedAt, SyncedAt, rows_commanded}
+use Rattle.relay_step.specs.declared.command.CommandAnswer.{CommandAnswer}
 use Rattle.relay_store.specs.Batches.{Batched, scene}
 use Rattle.relay_store.specs.Cutting.{IsEitherBeside}
 use Rattle.relay_store.specs.declared.cutting.CutDone.{CutDone}
 use Rattle.relay_store.specs.Opening.{Opened}
 use Rattle.relay_store.specs.Store.{StoreState, IsOf, Keeps, seen_in}
-use Rattle.relay_store.specs.Words.{Spoken, added}
+use Rattle.relay_store.specs.Commands.{CommandDone, added}
 use Rattle.relay_store.specs.declared.done.Done.{Done}
 use Rattle.relay_store.specs.declared.fault.StoreFault.{StoreFault}
 use Rattle.relay_store.specs.declared.message.Message.{Message}
@@ -49,7 +49,7 @@ abbrev pub open_after : Option StoreFault → StoreState → Option StoreState
 open_after (Some StoreFault.Disk) s = None
 open_after fault s = Some s
 
--- the fault that is answered to an operator's word, if one is
+-- the fault that is answered to an operator's command, if one is
 abbrev pub fault_said : Result Done StoreFault → Option StoreFault
 fault_said (Ok done) = None
 fault_said (Err fault) = Some fault
@@ -78,8 +78,8 @@ module _ {D : Type 0} (view : D → View) (tells : Bool) where
     pub did : List ℕ
     pub down : Bool
     pub time : List ℕ
-    pub spoken : (J : List Row) → IsOf J s.core
-        → Spoken view tells J (λ word. OperatedAt clock_tells s.core did down time moments word moments_now) (IsTrue clock_tells → OneTaken moments moments_now) s s_now d d_now result
+    pub commanded : (J : List Row) → IsOf J s.core
+        → CommandDone view tells J (λ command. OperatedAt clock_tells s.core did down time moments command moments_now) (IsTrue clock_tells → OneTaken moments moments_now) s s_now d d_now result
 
   -- A repository was fetched, as `sync_now` promises.
   pub record Syncs (s s_now : StoreState) (d d_now : D) (result : Result Done StoreFault) : Type 0 where
@@ -89,10 +89,10 @@ module _ {D : Type 0} (view : D → View) (tells : Bool) where
     pub around_now : Around
     pub did : List ℕ
     pub time : List ℕ
-    pub spoken : (J : List Row) → IsOf J s.core
-        → Spoken view tells J (λ word. SyncedAt clock_tells repos_tell s.core did time around word around_now) (CameToNothing clock_tells repos_tell (AskedInVain around.panel did around_now.panel) around around_now) s s_now d d_now result
+    pub commanded : (J : List Row) → IsOf J s.core
+        → CommandDone view tells J (λ command. SyncedAt clock_tells repos_tell s.core did time around command around_now) (CameToNothing clock_tells repos_tell (AskedInVain around.panel did around_now.panel) around around_now) s s_now d d_now result
 
-  -- an operator's word was taken, and this was answered
+  -- an operator's command was taken, and this was answered
   abbrev pub Says : StoreState → StoreState → D → D → Result Done StoreFault → Type 0
   Says s s_now d d_now result = Operates s s_now d d_now result ⊎ Syncs s s_now d d_now result
 
@@ -101,15 +101,15 @@ module _ {D : Type 0} (view : D → View) (tells : Bool) where
   IsCall s s_now d d_now fault = Takes s s_now d d_now fault ⊎ ((result : Result Done StoreFault) × (fault ≡ fault_said result) × Says s s_now d d_now result)
 
   -- the rows that a word added
-  abbrev pub rows_spoken : (J : List Row) (is_word : Word → Type 0) (failed : Type 0) (s s_now : StoreState) (d d_now : D) (result : Result Done StoreFault) → Spoken view tells J is_word failed s s_now d d_now result → List Row
-  rows_spoken J is_word failed s s_now d d_now result (inl said) = added result (rows_said said.0)
-  rows_spoken J is_word failed s s_now d d_now result (inr unsaid) = []
+  abbrev pub rows_of_command : (J : List Row) (is_command : CommandAnswer → Type 0) (failed : Type 0) (s s_now : StoreState) (d d_now : D) (result : Result Done StoreFault) → CommandDone view tells J is_command failed s s_now d d_now result → List Row
+  rows_of_command J is_command failed s s_now d d_now result (inl said) = added result (rows_commanded said.0)
+  rows_of_command J is_command failed s s_now d d_now result (inr unsaid) = []
 
   -- the rows of all that a call behind the journal J answered
   abbrev pub rows_answered : (J : List Row) (s s_now : StoreState) (d d_now : D) (fault : Option StoreFault) → IsOf J s.core → IsCall s s_now d d_now fault → List Row
   rows_answered J s s_now d d_now fault of (inl takes) = rows (takes.batched J of).steps
-  rows_answered J s s_now d d_now fault of (inr (result, is, inl operates)) = rows_spoken J _ _ s s_now d d_now result (operates.spoken J of)
-  rows_answered J s s_now d d_now fault of (inr (result, is, inr syncs)) = rows_spoken J _ _ s s_now d d_now result (syncs.spoken J of)
+  rows_answered J s s_now d d_now fault of (inr (result, is, inl operates)) = rows_of_command J _ _ s s_now d d_now result (operates.commanded J of)
+  rows_answered J s s_now d d_now fault of (inr (result, is, inr syncs)) = rows_of_command J _ _ s s_now d d_now result (syncs.commanded J of)
 
   -- A call of the open store: it has the disk of the store's side, and the other one is as it was.
   pub record Calls (s : StoreState) (old now : Machine D) : Type 0 where
@@ -144,7 +144,7 @@ fault_cut (Err fault) = Some fault
 module _ {D : Type 0} (view : D → View) (tells : Bool) where
   -- The journal was to be cut at a number, on the disk of the store's side and the other, as `cut` promises.
   pub record CutAs (s s_now : StoreState) (number : ℕ) (disk other disk_now other_now : D) (result : Result CutDone StoreFault) : Type 0 where
-    pub may : ((why : Refusal) → result ≢ Ok (CutDone.Refused why)) → IsTrue tells → (J : List Row) → Keeps J s (view disk) → MayCut J number × (generation s.log.format + 1 < GENERATIONS)
+    pub may : ((why : Refusal) → result ≢ Ok (CutDone.Refused why)) → IsTrue tells → (J : List Row) → Keeps J s (view disk) → MayCut J number × (generation s.log.format + 1 < NUMBERS)
     pub keeps : (oldest last : ℕ) → result ≡ Ok (CutDone.Cut oldest last) → IsTrue tells → (J : List Row) → Keeps J s (view disk) → Keeps (cut J number) s_now (view other_now)
     pub side : (oldest last : ℕ) → result ≡ Ok (CutDone.Cut oldest last) → s_now.side ≡ other_side s.side
     pub live : (oldest last : ℕ) → result ≡ Ok (CutDone.Cut oldest last) → IsTrue tells → LeavesLive s_now.side (view other_now) (view disk_now)

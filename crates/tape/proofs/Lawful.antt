@@ -2,7 +2,7 @@
 use Rattle.std.proofs.Common.{◌≡◌, ◌≢◌, ℕ, List, [], ◌∷◌, ◌++◌, length, sym, ap, ◌∙◌, append_assoc}
 use Rattle.std.proofs.lemmas.List.{append-nil}
 use Rattle.std.specs.Int.{to_be_bytes, w32}
-use Rattle.tape.specs.Format.{named, sized, record_bytes}
+use Rattle.tape.specs.Format.{with_name, sized, record_bytes}
 use Rattle.tape.specs.Shown.{Shown, nothing, found, bad_name, too_long, cut, Shows, HasBadName, HasLongMessage}
 use Rattle.tape.specs.Laws.{OneThingIsShown, CutRecordsAreCut}
 use Rattle.tape.specs.Front.{front_of, rest_of}
@@ -12,11 +12,11 @@ pub one_thing : OneThingIsShown
 one_thing bytes a b h k = sym (seen bytes a h) ∙ seen bytes b k
 
 -- more bytes behind a name, and behind a length
-more_named : (name rest more : List ℕ) → named name rest ++ more ≡ named name (rest ++ more)
+more_named : (name rest more : List ℕ) → with_name name rest ++ more ≡ with_name name (rest ++ more)
 more_named name rest more = ap (λ (l : List ℕ). length name ∷ l) (append_assoc name rest more)
 
-more_sized : (name : List ℕ) (size : ℕ) (rest more : List ℕ) → named name (sized size rest) ++ more ≡ named name (sized size (rest ++ more))
-more_sized name size rest more = more_named name (sized size rest) more ∙ ap (λ (l : List ℕ). named name l) (append_assoc (to_be_bytes w32 size) rest more)
+more_sized : (name : List ℕ) (size : ℕ) (rest more : List ℕ) → with_name name (sized size rest) ++ more ≡ with_name name (sized size (rest ++ more))
+more_sized name size rest more = more_named name (sized size rest) more ∙ ap (λ (l : List ℕ). with_name name l) (append_assoc (to_be_bytes w32 size) rest more)
 
 more_record : (bytes host message rest more : List ℕ) → Shows bytes (found host message rest) → Shows (bytes ++ more) (found host message (rest ++ more))
 more_record bytes host message rest more h = (h.0, ap (λ (l : List ℕ). l ++ more) h.1 ∙ append_assoc (record_bytes host message) rest more)

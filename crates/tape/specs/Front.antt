@@ -2,14 +2,14 @@
 use Rattle.std.specs.Prelude.{◌≡◌, ◌≤◌, ◌<◌, ℕ, List, [], ◌∷◌, length, take, drop, Bool, true, false, nat_lt, if◌then◌else◌}
 use Rattle.std.specs.Int.{from_be_bytes, w32}
 use Rattle.at_syntax.specs.Host.{is_host}
-use Rattle.relay_io.specs.declared.feed.TheConstants.{LONGEST_MESSAGE}
+use Rattle.relay_io.specs.declared.feed.TheConstants.{LONGEST_FEED_MESSAGE}
 use Rattle.tape.specs.declared.record.TheConstants.{LONGEST_RECORD}
 use Rattle.tape.specs.declared.front.Front.{Front}
 use Rattle.tape.specs.Shown.{Shown, nothing, found, bad_name, too_long, cut, Shows, NeedsMore}
 
 -- behind the length of a message
 abbrev pub message_of : List ℕ → ℕ → List ℕ → Shown
-message_of name size bytes = if nat_lt LONGEST_MESSAGE size then too_long else (if nat_lt (length bytes) size then cut else found name (take size bytes) (drop size bytes))
+message_of name size bytes = if nat_lt LONGEST_FEED_MESSAGE size then too_long else (if nat_lt (length bytes) size then cut else found name (take size bytes) (drop size bytes))
 
 -- behind the name of a host
 abbrev pub behind_name : List ℕ → List ℕ → Shown

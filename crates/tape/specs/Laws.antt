@@ -22,6 +22,6 @@ pub record MoreBytesShowTheSame : Type 0 where
 abbrev pub CutRecordsAreCut : Type 0
 CutRecordsAreCut = (host message front more : List ℕ) → IsRecord host message → IsBytes front → front ++ more ≡ record_bytes host message → front ≢ [] → more ≢ [] → Shows front cut
 
--- the input and the limit tell the answer, unless a read failed or memory was wanted
+-- the input and the limit tell the answer, unless a read failed or memory ran out
 abbrev pub OneAnswer : Type 0
 OneAnswer = (old : Tape) (before : List ℕ) (a b : Result (Option Record) TapeFault) → MayAnswer old before a → MayAnswer old before b → IsTold a → IsTold b → a ≡ b

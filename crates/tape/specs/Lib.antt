@@ -1,7 +1,7 @@
 pub mod Format
 pub mod Shown
 pub mod Laws
-pub mod Window
+pub mod ReadAhead
 pub mod Front
 pub mod Reading
 pub mod Steps

@@ -5,7 +5,7 @@ use Rattle.tape.specs.declared.fault.TapeFault.{TapeFault}
 use Rattle.tape.specs.declared.tape.Tape.{Tape}
 use Rattle.tape.specs.Format.{record_bytes, IsRecord}
 use Rattle.tape.specs.Shown.{nothing, found, bad_name, too_long, cut, Shows, NeedsMore}
-use Rattle.tape.specs.Window.{items}
+use Rattle.tape.specs.ReadAhead.{items}
 
 -- the bytes that were taken and aren't used yet
 abbrev pub held : Tape → List ℕ
@@ -57,7 +57,7 @@ pub record MayAnswer (old : Tape) (before : List ℕ) (answer : Result (Option R
   pub placed : IsPlaced old.place new.place answer
   pub most : new.most ≡ old.most
 
--- no failed read and no want of memory
+-- no failed read and no running out of memory
 abbrev pub IsTold : Result (Option Record) TapeFault → Type 0
 IsTold (Ok answer) = Unit {0}
 IsTold (Err TapeFault.Failed) = ⊥

@@ -19,7 +19,7 @@ pub enum TapeFault {
     /// A call of the source failed.
     #[error("a read failed")]
     Failed,
-    /// Memory was wanted.
+    /// Memory ran out.
     #[error("out of memory")]
     Memory,
     /// As many bytes were taken as may be, and they are too few for an answer.

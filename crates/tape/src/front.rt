@@ -7,7 +7,7 @@ ghost use Rattle.tape.specs.Front.{IsFront, IsLonger, front_of, behind_name};
 use crate::name::host_of;
 use crate::record::{LENGTHS, LONGEST_HEAD, Record};
 use at_cid::{Memory, Octets, Words};
-use relay_io::LONGEST_MESSAGE;
+use relay_io::LONGEST_FEED_MESSAGE;
 use std::alloc::Global;
 
 /// What stands at the front of bytes.
@@ -49,7 +49,7 @@ fn read_message(alloc: Global, host: &str, bytes: &[u8], place: u64) -> Result<F
         return Ok(Front::More(LONGEST_HEAD));
     };
     let size = u32::from_be_bytes(*size) as usize;
-    if size > LONGEST_MESSAGE {
+    if size > LONGEST_FEED_MESSAGE {
         return Ok(Front::TooLong);
     }
     if rest.len() < size {

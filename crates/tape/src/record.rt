@@ -2,7 +2,7 @@
 
 use at_cid::{Octets, Words};
 use at_syntax::LONGEST_HOST;
-use relay_io::LONGEST_MESSAGE;
+use relay_io::LONGEST_FEED_MESSAGE;
 
 /// A message, the host that it is of, and the place of its record, in bytes from the front of the tape.
 #[derive(Debug, Drop)]
@@ -24,4 +24,4 @@ pub const LONGEST_RECORD: usize = 8_388_868;
 
 const _: () = prove!(LONGEST_HEAD == LENGTHS + LONGEST_HOST);
 
-const _: () = prove!(LONGEST_RECORD == LONGEST_HEAD + LONGEST_MESSAGE);
+const _: () = prove!(LONGEST_RECORD == LONGEST_HEAD + LONGEST_FEED_MESSAGE);

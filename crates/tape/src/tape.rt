@@ -9,7 +9,7 @@ ghost use Rattle.tape.specs.declared.fault.TapeFault.{TapeFault};
 use crate::TapeFault;
 use crate::front::{Front, read_front};
 use crate::record::{LENGTHS, LONGEST_RECORD, Record};
-use crate::window::Window;
+use crate::window::ReadAhead;
 use at_cid::Memory;
 use relay_io::Source;
 use std::alloc::Global;
@@ -21,7 +21,7 @@ const PIECE: usize = 1 << 16;
 #[derive(Drop)]
 pub struct Tape {
     alloc: Global,
-    window: Window,
+    window: ReadAhead,
     place: u64,
     most: u64,
     pub ghost within: { place + (window.end - window.start) ≤ most },
@@ -39,7 +39,7 @@ impl Tape {
     {
         Tape {
             alloc,
-            window: Window::new(alloc),
+            window: ReadAhead::new(alloc),
             place: 0,
             most,
         }
@@ -48,7 +48,7 @@ impl Tape {
     /// The next record, or none where the input ends between two records.
     ///
     /// The input is what was taken and isn't used yet, followed by what the source has left; a fault leaves it as it was. A
-    /// record's name is looked at when it is whole, and the length of its message when that is whole. Want of memory may
+    /// record's name is looked at when it is whole, and the length of its message when that is whole. Running out of memory may
     /// stand in place of every answer, and a failed read in place of every answer that needs more bytes.
     pub fn next<I: Source>(&mut self, source: &mut I) -> Result<Option<Record>, TapeFault>
         ensures next { IsTrue I.tells → IsNext self.old (I.left source.old) self.new (I.left source.new) result }

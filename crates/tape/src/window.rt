@@ -6,13 +6,13 @@ ghost use Rattle.at_cid.specs.Link.{IsBytes};
 ghost use Rattle.tape.specs.declared.record.TheConstants.{LONGEST_RECORD};
 
 use crate::record::LONGEST_RECORD;
-use at_cid::Memory;
+use at_cid::{Memory, ghost_bytes};
 use relay_io::{Failed, Source};
 use std::alloc::Global;
 
 /// A room, and the bytes in it from one place to another. What is read goes behind them.
 #[derive(Drop)]
-pub(crate) struct Window {
+pub struct ReadAhead {
     room: Vec<u8>,
     start: usize,
     end: usize,
@@ -21,19 +21,14 @@ pub(crate) struct Window {
     ghost small: { length room.items ≤ LONGEST_RECORD },
 }
 
-// The elements of a slice of bytes are bytes.
-fn tell_bytes(bytes: &[u8])
-    ensures { IsBytes bytes.now }
-{}
-
-impl Window {
-    ghost use Rattle.tape.specs.Window.{items, spare_of};
+impl ReadAhead {
+    ghost use Rattle.tape.specs.ReadAhead.{items, spare_of};
 
     /// No bytes, and no room. Takes no memory.
-    pub(crate) fn new(alloc: Global) -> Window
+    pub fn new(alloc: Global) -> ReadAhead
         ensures { items result ≡ [] }
     {
-        Window {
+        ReadAhead {
             room: Vec::new(alloc),
             start: 0,
             end: 0,
@@ -41,25 +36,25 @@ impl Window {
     }
 
     /// The bytes.
-    pub(crate) fn as_slice(&self) -> &[u8]
+    pub fn as_slice(&self) -> &[u8]
         ensures value { result.now ≡ items self.now }
         ensures bytes { IsBytes (items self.now) }
     {
         let bytes = &self.room[self.start..self.end];
-        tell_bytes(bytes);
+        ghost_bytes(bytes);
         bytes
     }
 
     /// How many bytes there are.
     #[tactic(auto, using(crate::proofs::Windows::length_items))]
-    pub(crate) fn len(&self) -> usize
+    pub fn len(&self) -> usize
         ensures { result ≡ length (items self.now) }
     {
         self.end - self.start
     }
 
     /// Lets go of so many bytes at the front.
-    pub(crate) fn consume(&mut self, count: usize)
+    pub fn consume(&mut self, count: usize)
         requires { count ≤ length (items self.old) }
         ensures { items self.new ≡ drop count (items self.old) }
     {
@@ -67,14 +62,14 @@ impl Window {
     }
 
     /// How much room there is behind the bytes.
-    pub(crate) fn spare(&self) -> usize
+    pub fn spare(&self) -> usize
         ensures { result ≡ spare_of self.now }
     {
         self.room.len() - self.end
     }
 
     /// Moves the bytes to the front of the room, and makes it as long as wanted, where it is shorter.
-    pub(crate) fn make_room(&mut self, wanted: usize) -> Result<(), Memory>
+    pub fn make_room(&mut self, wanted: usize) -> Result<(), Memory>
         requires more { length (items self.old) < wanted }
         requires most { wanted ≤ LONGEST_RECORD }
         ensures items { items self.new ≡ items self.old }
@@ -112,11 +107,7 @@ impl Window {
     }
 
     /// Reads at most so many bytes behind those that are here, and says how many.
-    pub(crate) fn read_from<I: Source>(
-        &mut self,
-        source: &mut I,
-        most: usize,
-    ) -> Result<usize, Failed>
+    pub fn read_from<I: Source>(&mut self, source: &mut I, most: usize) -> Result<usize, Failed>
         requires some { 0 < most }
         requires fits { most ≤ spare_of self.old }
         ensures taken { OnOk result (IsTrue I.tells → items self.new ++ I.left source.new ≡ items self.old ++ I.left source.old) }

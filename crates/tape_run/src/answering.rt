@@ -89,7 +89,7 @@ fn line_over(alloc: Global, host: &str) -> Result<Octets, Memory>
 }
 
 /// Notes a message of a host that ended before, and writes its line.
-pub(crate) fn pass_over<O: Sink>(
+pub(crate) fn skip<O: Sink>(
     alloc: Global,
     host: &str,
     tally: &mut Tally,
@@ -106,12 +106,12 @@ pub(crate) fn pass_over<O: Sink>(
         Ok(text) => text,
         Err(_) => return Err(TapeEnd::Memory),
     };
-    tally.pass_over();
+    tally.skip();
     write_lines(out, &text)
 }
 
 /// Writes the last line, beside the journal's last number, and says how that ended.
-pub(crate) fn finish<O: Sink>(alloc: Global, last: u64, tally: &Tally, out: &mut O) -> TapeEnd
+pub fn finish<O: Sink>(alloc: Global, last: u64, tally: &Tally, out: &mut O) -> TapeEnd
     ensures ends { Finished result (end_line_of tally.now.messages tally.now.events tally.now.refused last) O.tells (O.written out.old) (O.written out.new) }
     ensures counts { O.faults out.old ≤ O.faults out.new }
     ensures caused { result ≡ TapeEnd.WriteFault → Rose (O.faults out.old) (O.faults out.new) }

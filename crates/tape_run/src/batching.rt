@@ -11,7 +11,7 @@ ghost use Rattle.tape_run.specs.Going.{Going, Stopped, point};
 ghost use Rattle.tape_run.specs.Tells.{tells};
 ghost use Rattle.tape_run.specs.Said.{AreLive, FirstHasEnded};
 
-use crate::answering::{answer, pass_over};
+use crate::answering::{answer, skip};
 use crate::end::TapeEnd;
 use crate::tally::Tally;
 use at_authority::Judges;
@@ -53,7 +53,7 @@ fn take_live<D: Disk, P: Judges, R: Repos, C: Clock, O: Sink>(
     requires hosts { AreOfHosts group.now }
     requires live { AreLive tally.old.ended.items group.now }
     requires room { tally.old.messages + length group.now ≤ 2 ^ 63 }
-    ensures took { IfOk result (λ n. (J : List TheRow) → IsOf J store.old.core → Going D.view (tells D.tells C.tells R.tells O.tells) J (take n group.now)
+    ensures recorded { IfOk result (λ n. (J : List TheRow) → IsOf J store.old.core → Going D.view (tells D.tells C.tells R.tells O.tells) J (take n group.now)
         (point (seen_in store.old) tally.old disk.old (around (P.panel judges.old) (C.moments clock.old) (R.repository repos.old)) (O.written out.old))
         (point (seen_in store.new) tally.new disk.new (around (P.panel judges.new) (C.moments clock.new) (R.repository repos.new)) (O.written out.new))) }
     ensures stopped { IfErr result (λ end. (J : List TheRow) → IsOf J store.old.core → Stopped D.view (tells D.tells C.tells R.tells O.tells) J group.now
@@ -98,7 +98,7 @@ fn take_some<D: Disk, P: Judges, R: Repos, C: Clock, O: Sink>(
     requires few { length group.now ≤ MOST_ROWS }
     requires hosts { AreOfHosts group.now }
     requires room { tally.old.messages + length group.now ≤ 2 ^ 63 }
-    ensures took { IfOk result (λ n. (J : List TheRow) → IsOf J store.old.core → Going D.view (tells D.tells C.tells R.tells O.tells) J (take n group.now)
+    ensures recorded { IfOk result (λ n. (J : List TheRow) → IsOf J store.old.core → Going D.view (tells D.tells C.tells R.tells O.tells) J (take n group.now)
         (point (seen_in store.old) tally.old disk.old (around (P.panel judges.old) (C.moments clock.old) (R.repository repos.old)) (O.written out.old))
         (point (seen_in store.new) tally.new disk.new (around (P.panel judges.new) (C.moments clock.new) (R.repository repos.new)) (O.written out.new))) }
     ensures stopped { IfErr result (λ end. (J : List TheRow) → IsOf J store.old.core → Stopped D.view (tells D.tells C.tells R.tells O.tells) J group.now
@@ -115,7 +115,7 @@ fn take_some<D: Disk, P: Judges, R: Repos, C: Clock, O: Sink>(
 {
     let live = live_front(group, tally);
     if live == 0 {
-        return match pass_over(alloc, group[0].host.as_str(), tally, out) {
+        return match skip(alloc, group[0].host.as_str(), tally, out) {
             Ok(()) => Ok(1),
             Err(end) => Err(end),
         };
@@ -124,8 +124,8 @@ fn take_some<D: Disk, P: Judges, R: Repos, C: Clock, O: Sink>(
     take_live(alloc, store, disk, front, judges, repos, clock, tally, out)
 }
 
-/// Takes a group of messages in batches: those of hosts that ended before are passed over, and each batch stops at the end of a host.
-pub(crate) fn take_group<D: Disk, P: Judges, R: Repos, C: Clock, O: Sink>(
+/// Takes a group of messages in batches: those of hosts that ended before are skipped, and each batch stops at the end of a host.
+pub fn take_group<D: Disk, P: Judges, R: Repos, C: Clock, O: Sink>(
     alloc: Global,
     store: &mut Store,
     disk: &mut D,
@@ -141,7 +141,7 @@ pub(crate) fn take_group<D: Disk, P: Judges, R: Repos, C: Clock, O: Sink>(
     requires few { length group.now ≤ MOST_ROWS }
     requires hosts { AreOfHosts group.now }
     requires room { tally.old.messages + length group.now ≤ 2 ^ 63 }
-    ensures took { OnOk result ((J : List TheRow) → IsOf J store.old.core → Going D.view (tells D.tells C.tells R.tells O.tells) J group.now
+    ensures recorded { OnOk result ((J : List TheRow) → IsOf J store.old.core → Going D.view (tells D.tells C.tells R.tells O.tells) J group.now
         (point (seen_in store.old) tally.old disk.old (around (P.panel judges.old) (C.moments clock.old) (R.repository repos.old)) (O.written out.old))
         (point (seen_in store.new) tally.new disk.new (around (P.panel judges.new) (C.moments clock.new) (R.repository repos.new)) (O.written out.new))) }
     ensures stopped { IfErr result (λ end. (J : List TheRow) → IsOf J store.old.core → Stopped D.view (tells D.tells C.tells R.tells O.tells) J group.now

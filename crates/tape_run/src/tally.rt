@@ -9,11 +9,11 @@ use std::alloc::Global;
 /// The hosts that have ended, in the order of their ends, and how many messages there were, how many numbers were given and how
 /// many messages were refused.
 #[derive(Drop)]
-pub(crate) struct Tally {
-    pub(crate) ended: Vec<Words>,
-    pub(crate) messages: u64,
-    pub(crate) events: u64,
-    pub(crate) refused: u64,
+pub struct Tally {
+    pub ended: Vec<Words>,
+    pub messages: u64,
+    pub events: u64,
+    pub refused: u64,
     ghost few_events: { events ≤ messages },
     ghost few_refused: { refused ≤ messages },
 }
@@ -23,7 +23,7 @@ impl Tally {
     ghost use Rattle.tape_run.specs.Said.{IsNoted};
 
     /// The tally of no messages.
-    pub(crate) fn new(alloc: Global) -> Tally
+    pub fn new(alloc: Global) -> Tally
         ensures ended { result.ended.items ≡ [] }
         ensures messages { result.messages ≡ 0 }
         ensures events { result.events ≡ 0 }
@@ -38,7 +38,7 @@ impl Tally {
     }
 
     /// Whether this host has ended.
-    pub(crate) fn has_ended(&self, host: &str) -> bool
+    pub fn has_ended(&self, host: &str) -> bool
         ensures { result ≡ has_ended self.now.ended.items host.now }
     {
         for name in &self.ended {
@@ -50,7 +50,7 @@ impl Tally {
     }
 
     /// Notes a message of a host that ended before.
-    pub(crate) fn pass_over(&mut self)
+    pub(crate) fn skip(&mut self)
         requires { self.old.messages < 2 ^ 63 }
         ensures { (host : List ℕ) → IsNoted ((host, None) ∷ []) self.old self.new }
     {

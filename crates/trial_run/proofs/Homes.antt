@@ -1,14 +1,14 @@
 -- In a made history no two hosts tell of one account.
 use Rattle.std.proofs.Common.{◌≡◌, ◌≤◌, ◌<◌, ℕ, zero, suc, ◌+◌, slice_index_or, List, [], ◌∷◌, length, get_or, Result, Ok, Err, refl, sym, ◌∙◌, ap, subst, arith, inl, inr}
 use Rattle.std.specs.List.{Contains}
-use Rattle.at_cbor.specs.Spelling.{IsString}
+use Rattle.at_cbor.specs.Encoding.{IsString}
 use Rattle.at_event.specs.Frames.{frame_of}
 use Rattle.at_event.specs.Seen.{Seen}
 use Rattle.at_event.specs.declared.frame.Frame.{Frame}
 use Rattle.at_event.specs.declared.frame.FrameFault.{FrameFault}
 use Rattle.relay_gen.specs.Histories.{history}
 use Rattle.relay_gen.specs.Laws.{IsOfItsHost}
-use Rattle.relay_gen.specs.Names.{did_of, host_of}
+use Rattle.relay_gen.specs.Names.{generated_did, host_of}
 use Rattle.relay_gen.proofs.Honest.{own_messages}
 use Rattle.relay_law.specs.Calls.{as_read}
 use Rattle.relay_law.specs.Merges.{IsOf, TellsOf, Names, OneHome}
@@ -44,8 +44,8 @@ sends (m ∷ ms) host did (inr later) =
     let found = sends ms host did later in
     record { message = found.message; e = found.e; there = behind m (host, found.message) ms found.there; reads = found.reads; of_did = found.of_did }
 
-same_account : (a b : ℕ) → did_of a ≡ did_of b → a ≡ b
-unfolding did_of
+same_account : (a b : ℕ) → generated_did a ≡ generated_did b → a ≡ b
+unfolding generated_did
 same_account a b is = let last : 97 + a ≡ 97 + b = ap (λ (l : List ℕ). get_or l 11 0) is in omega (arith, last)
 
 is_string : (ms : Sent) (k : ℕ) (x : List ℕ × List ℕ) → AreStrings ms → k < length ms → slice_index_or ms k x ≡ x → IsString x.1

@@ -9,12 +9,12 @@ use Rattle.std.proofs.lemmas.Slice.Eq.{bytes_eq-Decides}
 use Rattle.at_event.specs.Frames.{frame_of}
 use Rattle.relay_core.specs.Runs.{Message}
 use Rattle.relay_gen.specs.Commits.{Commit, commits_from}
-use Rattle.relay_gen.specs.Histories.{history, sent}
+use Rattle.relay_gen.specs.Histories.{history, generated_messages}
 use Rattle.relay_gen.specs.Messages.{message}
 use Rattle.relay_gen.specs.Names.{host_of}
 use Rattle.relay_law.specs.Calls.{as_read}
 use Rattle.relay_law.specs.Merges.{only, Merge}
-use Rattle.trial_run.specs.Merging.{Sent, is_wanted, those, by_host}
+use Rattle.trial_run.specs.Merging.{Sent, is_chosen, those, by_host}
 
 -- those of a host that read
 read_only : (host : List ℕ) (ms : Sent) → only host (as_read ms) ≡ as_read (those (Some host) ms)
@@ -143,9 +143,9 @@ ones_more : (ms : Sent) (m : List ℕ × List ℕ) → AreOnes ms → IsOne m.0 
 ones_more [] m are one = (one, tt)
 ones_more (x ∷ ms) m are one = (are.0, ones_more ms m are.1 one)
 
-ones_sent : (commits : List Commit) → AreOnes (sent commits)
+ones_sent : (commits : List Commit) → AreOnes (generated_messages commits)
 ones_sent [] = tt
-ones_sent (c ∷ commits) = ones_more (sent commits) (host_of c.account, message c) (ones_sent commits) (is_one c.account)
+ones_sent (c ∷ commits) = ones_more (generated_messages commits) (host_of c.account, message c) (ones_sent commits) (is_one c.account)
 
 pub of_four : (start n : ℕ) → AreOnes (history start n).messages
 of_four start n = ones_sent (commits_from start n).commits
@@ -153,21 +153,21 @@ of_four start n = ones_sent (commits_from start n).commits
 -- ---- one message more of those that are wanted
 
 those_suc : (wanted : Option (List ℕ)) (ms : Sent) (i : ℕ) (host message : List ℕ) → option_map (λ (m : List ℕ × List ℕ). m.0) (slice_get ms i) ≡ Some host → option_map (λ (m : List ℕ × List ℕ). m.1) (slice_get ms i) ≡ Some message
-    → those wanted (take (suc i) ms) ≡ those wanted (take i ms) ++ cond (is_wanted wanted host) ((host, message) ∷ []) []
+    → those wanted (take (suc i) ms) ≡ those wanted (take i ms) ++ cond (is_chosen wanted host) ((host, message) ∷ []) []
 those_suc wanted [] i host message first second = let no : ⊥ = cc in absurd no
 those_suc wanted (m ∷ ms) zero host message first second =
     let h : m.0 ≡ host = cc in
     let b : m.1 ≡ message = cc in
-    (λ t. cond (is_wanted wanted (h t)) ((h t, b t) ∷ []) [])
+    (λ t. cond (is_chosen wanted (h t)) ((h t, b t) ∷ []) [])
 those_suc wanted (m ∷ ms) (suc i) host message first second =
-    elim (is_wanted wanted m.0) as (λ b. cond b (m ∷ those wanted (take (suc i) ms)) (those wanted (take (suc i) ms)) ≡ cond b (m ∷ those wanted (take i ms)) (those wanted (take i ms)) ++ cond (is_wanted wanted host) ((host, message) ∷ []) []) [
+    elim (is_chosen wanted m.0) as (λ b. cond b (m ∷ those wanted (take (suc i) ms)) (those wanted (take (suc i) ms)) ≡ cond b (m ∷ those wanted (take i ms)) (those wanted (take i ms)) ++ cond (is_chosen wanted host) ((host, message) ∷ []) []) [
       | true ↦ ap (λ (l : Sent). m ∷ l) (those_suc wanted ms i host message first second)
       | false ↦ those_suc wanted ms i host message first second
     ]
 
 -- what was taken, with the message at a place, if it is wanted
 pub those_more : (wanted : Option (List ℕ)) (before ms : Sent) (i k : ℕ) (host message : List ℕ) (b : Bool) → k ≡ i → option_map (λ (m : List ℕ × List ℕ). m.0) (slice_get ms k) ≡ Some host → option_map (λ (m : List ℕ × List ℕ). m.1) (slice_get ms k) ≡ Some message
-    → is_wanted wanted host ≡ b → (before ++ those wanted (take i ms)) ++ cond b ((host, message) ∷ []) [] ≡ before ++ those wanted (take (i + 1) ms)
+    → is_chosen wanted host ≡ b → (before ++ those wanted (take i ms)) ++ cond b ((host, message) ∷ []) [] ≡ before ++ those wanted (take (i + 1) ms)
 those_more wanted before ms i k host message b here first second is =
     let h : option_map (λ (m : List ℕ × List ℕ). m.0) (slice_get ms i) ≡ Some host = ap (λ (n : ℕ). option_map (λ (m : List ℕ × List ℕ). m.0) (slice_get ms n)) (sym here) ∙ first in
     let t : option_map (λ (m : List ℕ × List ℕ). m.1) (slice_get ms i) ≡ Some message = ap (λ (n : ℕ). option_map (λ (m : List ℕ × List ℕ). m.1) (slice_get ms n)) (sym here) ∙ second in
@@ -176,7 +176,7 @@ those_more wanted before ms i k host message b here first second is =
 
 -- and if it isn't
 pub those_same : (wanted : Option (List ℕ)) (before ms : Sent) (i k : ℕ) (host message : List ℕ) → k ≡ i → option_map (λ (m : List ℕ × List ℕ). m.0) (slice_get ms k) ≡ Some host → slice_get ms k ≡ Some (host, message)
-    → is_wanted wanted host ≡ false → before ++ those wanted (take i ms) ≡ before ++ those wanted (take (i + 1) ms)
+    → is_chosen wanted host ≡ false → before ++ those wanted (take i ms) ≡ before ++ those wanted (take (i + 1) ms)
 those_same wanted before ms i k host message here first all is =
     sym (append-nil (before ++ those wanted (take i ms))) ∙ those_more wanted before ms i k host message false here first (ap (option_map (λ (m : List ℕ × List ℕ). m.1)) all) is
 

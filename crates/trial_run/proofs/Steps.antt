@@ -1,7 +1,7 @@
 -- One message more in a merge.
 use Rattle.std.proofs.Common.{◌≡◌, ℕ, Bool, true, List, [], ◌∷◌, ◌++◌, map, Option, Some, None, Result, Ok, Err, refl, sym, ◌∙◌, ap, subst, append_assoc}
 use Rattle.std.proofs.lemmas.List.{append-nil}
-use Rattle.at_cbor.specs.Spelling.{IsString}
+use Rattle.at_cbor.specs.Encoding.{IsString}
 use Rattle.at_event.specs.Frames.{frame_of}
 use Rattle.at_event.specs.declared.frame.Frame.{Frame}
 use Rattle.at_event.specs.declared.frame.FrameFault.{FrameFault}
@@ -19,15 +19,15 @@ use Rattle.account_state.specs.Folds.{account}
 use Rattle.relay_core.specs.Decide.{Checks, absent, answers, decided_event}
 use Rattle.relay_core.specs.Rows.{faulty_taken, fetched_of}
 use Rattle.relay_core.specs.Opening.{OpensRight}
-use Rattle.relay_core.specs.Runs.{IsMade}
+use Rattle.relay_core.specs.Runs.{IsMadeBy}
 use Rattle.relay_core.specs.Shown.{shown, shows_home, shows_verdict, found_in, or_zero}
-use Rattle.relay_io.specs.Moments.{first, rest}
+use Rattle.relay_io.specs.Moments.{first_moment, later_moments}
 use Rattle.relay_law.specs.Right.{LinksRight}
 use Rattle.relay_law.proofs.Choosing.{some_right}
 use Rattle.relay_step.specs.Around.{Around, around, Asked, AllAsked, AskedNothing, IsTimed}
-use Rattle.relay_step.specs.Steps.{Told, after_end, passed_over, took, Step, AreSteps, IsTold, ended_by_all, ended_told, message_of, rows, rows_told}
-use Rattle.relay_store.specs.Batches.{Batched, message_from, scene, sent}
-use Rattle.relay_store.specs.Outcomes.{outcome_of, outcome_told, passed_outcome, outcome_as}
+use Rattle.relay_step.specs.Steps.{Decided, after_end, skipped, recorded, Step, AreSteps, IsDecidedAs, ended_by_all, ended_decided, message_of, rows, rows_decided}
+use Rattle.relay_store.specs.Batches.{Batched, message_from, scene, messages_sent}
+use Rattle.relay_store.specs.Outcomes.{outcome_of, outcome_decided, skipped_outcome, outcome_as}
 use Rattle.at_authority.specs.Panels.{Panel}
 use Rattle.relay_store.specs.Store.{Keeps, StoreState, seen_in}
 use Rattle.relay_store.specs.declared.message.Message.{Message}
@@ -40,12 +40,12 @@ use Rattle.trial_run.specs.Taking.{yes, sent_by, AreStrings, IsTrusted, AllTrust
 -- ---- a message that goes out
 
 -- a step that an event is answered to made a row that isn't refused
-pub record Made (told : Told) : Type 0 where
+pub record Made (told : Decided) : Type 0 where
   pub t : Taken
-  pub is : told ≡ took t
+  pub is : told ≡ recorded t
   pub accepted : t.refusal ≡ None
 
-not_passed : (frame : Result Frame FrameFault) (n m : ℕ) → Some (passed_outcome frame) ≡ Some (Outcome.Event n m) → ⊥
+not_passed : (frame : Result Frame FrameFault) (n m : ℕ) → Some (skipped_outcome frame) ≡ Some (Outcome.Event n m) → ⊥
 not_passed (Ok (Frame.Event e)) n m is = cc
 not_passed (Ok (Frame.Faulty seq)) n m is = cc
 not_passed (Ok Frame.Info) n m is = cc
@@ -58,13 +58,13 @@ not_refused : (o : Option Refusal) (t : Taken) (n m : ℕ) → Some (outcome_as 
 not_refused None t n m is = refl
 not_refused (Some r) t n m is = absurd cc
 
-pub goes_out : (frame : Result Frame FrameFault) (told : Told) (n m : ℕ) → outcome_told frame told ≡ Some (Outcome.Event n m) → Made told
+pub goes_out : (frame : Result Frame FrameFault) (told : Decided) (n m : ℕ) → outcome_decided frame told ≡ Some (Outcome.Event n m) → Made told
 goes_out frame after_end n m is = absurd cc
-goes_out frame (passed_over pass) n m is = absurd (not_passed frame n m is)
-goes_out frame (took t) n m is = record { t = t; is = refl; accepted = not_refused t.refusal t n m is }
+goes_out frame (skipped pass) n m is = absurd (not_passed frame n m is)
+goes_out frame (recorded t) n m is = record { t = t; is = refl; accepted = not_refused t.refusal t n m is }
 
 module _ (checks : Checks) (J : List Row) (host : List ℕ) (t : Taken) (none : t.refusal ≡ None) where
-  nothing_fetched : (frame : Result Frame FrameFault) → IsMade checks J (host, frame) (Row.Taken t) → t.fetched ≡ Fetched.NotAsked
+  nothing_fetched : (frame : Result Frame FrameFault) → IsMadeBy checks J (host, frame) (Row.Taken t) → t.fetched ≡ Fetched.NotAsked
   nothing_fetched (Ok (Frame.Event e)) made =
       let is : decided_event checks (last_seq J) (account e.did J) host e (shown t) ≡ t = cc in
       sym (ap (λ (x : Taken). x.fetched) is)
@@ -79,7 +79,7 @@ module _ (checks : Checks) (J : List Row) (host : List ℕ) (t : Taken) (none : 
   nothing_fetched (Err fault) made = absurd made
 
   -- at the moment 0 its row shows the answers of the trusting world
-  shows_yes : (frame : Result Frame FrameFault) → IsMade checks J (host, frame) (Row.Taken t) → t.moment ≡ Some 0 → shown t ≡ yes
+  shows_yes : (frame : Result Frame FrameFault) → IsMadeBy checks J (host, frame) (Row.Taken t) → t.moment ≡ Some 0 → shown t ≡ yes
   shows_yes frame made now =
       let moment : or_zero t.moment ≡ 0 = ap or_zero now in
       let home : shows_home t.refusal ≡ true = ap shows_home none in
@@ -95,26 +95,26 @@ pub record OneStep (steps extra : List Step) (behind : List Message) (host bytes
   pub steps_are : steps ≡ s ∷ []
   pub host_is : s.host ≡ host
   pub bytes_are : s.bytes ≡ bytes
-  pub made : Made s.told
+  pub made : Made s.decided
 
 one_answered : (steps : List Step) (o : Outcome) → map Some (o ∷ []) ≡ map outcome_of steps → (s : Step) × (steps ≡ s ∷ []) × (Some o ≡ outcome_of s)
 one_answered [] o is = let no : ⊥ = cc in absurd no
 one_answered (s ∷ []) o is = (s, refl, cc)
 one_answered (s ∷ x ∷ steps) o is = let no : ⊥ = cc in absurd no
 
-pub one_step : (steps extra : List Step) (behind : List Message) (host bytes : List ℕ) (o : Outcome) (n m : ℕ) → o ≡ Outcome.Event n m → extra ≡ [] → message_from host bytes ∷ [] ≡ sent (steps ++ extra) ++ behind → map Some (o ∷ []) ≡ map outcome_of steps
+pub one_step : (steps extra : List Step) (behind : List Message) (host bytes : List ℕ) (o : Outcome) (n m : ℕ) → o ≡ Outcome.Event n m → extra ≡ [] → message_from host bytes ∷ [] ≡ messages_sent (steps ++ extra) ++ behind → map Some (o ∷ []) ≡ map outcome_of steps
     → OneStep steps extra behind host bytes
 one_step steps extra behind host bytes o n m is none front answers =
     let one = one_answered steps o answers in
     let all : message_from host bytes ∷ [] ≡ message_from one.0.host one.0.bytes ∷ behind =
-    front ∙ ap (λ (l : List Step). sent l ++ behind) (ap (λ (l : List Step). steps ++ l) none ∙ append-nil steps ∙ one.1) in
+    front ∙ ap (λ (l : List Step). messages_sent l ++ behind) (ap (λ (l : List Step). steps ++ l) none ∙ append-nil steps ∙ one.1) in
     let head : message_from host bytes ≡ message_from one.0.host one.0.bytes = cc in
     record {
       s = one.0;
       steps_are = one.1;
       host_is = sym (ap (λ (m : Message). m.host) head);
       bytes_are = sym (ap (λ (m : Message). m.bytes) head);
-      made = goes_out (frame_of one.0.bytes) one.0.told n m (sym one.2 ∙ ap Some is);
+      made = goes_out (frame_of one.0.bytes) one.0.decided n m (sym one.2 ∙ ap Some is);
     }
 
 -- ---- what it asked
@@ -122,14 +122,14 @@ one_step steps extra behind host bytes o n m is none front answers =
 asked_one : (C R : Bool) (J : List Row) (old new : Around) (steps : List Step) (s : Step) → steps ≡ s ∷ [] → AllAsked C R J old steps new → (mid : Around) × Asked C R J old s mid × AskedNothing C R mid new
 asked_one C R J old new steps s is asked = subst (λ (l : List Step). AllAsked C R J old l new) is asked
 
-pub timed : (moments left : List ℕ) (told : Told) (made : Made told) → moments ≡ 0 ∷ [] → IsTimed moments told left → (made.t.moment ≡ Some 0) × (left ≡ 0 ∷ [])
+pub timed : (moments left : List ℕ) (told : Decided) (made : Made told) → moments ≡ 0 ∷ [] → IsTimed moments told left → (made.t.moment ≡ Some 0) × (left ≡ 0 ∷ [])
 timed moments left told made are time =
-    let took_is : IsTimed moments (took made.t) left = subst (λ (x : Told). IsTimed moments x left) made.is time in
-    (took_is.0 ∙ ap (λ (l : List ℕ). Some (first l)) are, took_is.1 ∙ ap rest are)
+    let recorded_is : IsTimed moments (recorded made.t) left = subst (λ (x : Decided). IsTimed moments x left) made.is time in
+    (recorded_is.0 ∙ ap (λ (l : List ℕ). Some (first_moment l)) are, recorded_is.1 ∙ ap later_moments are)
 
 -- ---- a message more
 
-trusted_more : (steps : List Step) (s : Step) → AllTrusted steps → IsTrusted s.told → AllTrusted (steps ++ s ∷ [])
+trusted_more : (steps : List Step) (s : Step) → AllTrusted steps → IsTrusted s.decided → AllTrusted (steps ++ s ∷ [])
 trusted_more [] s all one = (one, tt)
 trusted_more (x ∷ steps) s all one = (all.0, trusted_more steps s all.1 one)
 
@@ -137,8 +137,8 @@ pairs_more : (steps : List Step) (s : Step) → map sent_by (steps ++ s ∷ []) 
 pairs_more [] s = refl
 pairs_more (x ∷ steps) s = ap (λ (l : Sent). sent_by x ∷ l) (pairs_more steps s)
 
-goes_on : (told : Told) (host : List ℕ) (ended : List (List ℕ)) → Made told → ended_told told host ended ≡ ended
-goes_on told host ended made = ap (λ (x : Told). ended_told x host ended) made.is
+goes_on : (told : Decided) (host : List ℕ) (ended : List (List ℕ)) → Made told → ended_decided told host ended ≡ ended
+goes_on told host ended made = ap (λ (x : Decided). ended_decided x host ended) made.is
 
 -- what a batch of one message leaves of a merge
 pub record Next (old : Merge) (sent_before : Sent) (v : View) (v_now : View) (host bytes : List ℕ) (s_now : StoreState) (moments : List ℕ) (repository : List ℕ → Option (List ℕ)) : Type 0 where
@@ -161,22 +161,22 @@ module _ (merge : Merge) (before : Sent) (v : View) (m : IsMerged before merge v
       let one = one_step b.steps b.extra b.behind host bytes o n k is b.which b.front b.answers in
       let all : b.steps ++ b.extra ≡ one.s ∷ [] = ap (λ (l : List Step). b.steps ++ l) b.which ∙ append-nil b.steps ∙ one.steps_are in
       let asked = asked_one true true (rows m.steps) (around panel moments repository) b.asked.mid (b.steps ++ b.extra) one.s all b.asked.turns in
-      let time = timed moments asked.0.moments one.s.told one.made times (asked.1.timed refl) in
-      let told : (checks : Checks) → OpensRight checks → LinksRight checks → IsTold checks (rows m.steps) [] (message_of one.s) one.s.told =
+      let time = timed moments asked.0.moments one.s.decided one.made times (asked.1.timed refl) in
+      let told : (checks : Checks) → OpensRight checks → LinksRight checks → IsDecidedAs checks (rows m.steps) [] (message_of one.s) one.s.decided =
       λ checks opens links. (subst (λ (l : List Step). AreSteps checks (rows m.steps) [] l) all (b.are checks opens links)).0 in
-      let is_took : (checks : Checks) → OpensRight checks → LinksRight checks → IsTold checks (rows m.steps) [] (message_of one.s) (took one.made.t) =
-      λ checks opens links. subst (λ (x : Told). IsTold checks (rows m.steps) [] (message_of one.s) x) one.made.is (told checks opens links) in
+      let is_recorded : (checks : Checks) → OpensRight checks → LinksRight checks → IsDecidedAs checks (rows m.steps) [] (message_of one.s) (recorded one.made.t) =
+      λ checks opens links. subst (λ (x : Decided). IsDecidedAs checks (rows m.steps) [] (message_of one.s) x) one.made.is (told checks opens links) in
       let yes_shown : shown one.made.t ≡ yes =
-      shows_yes some_right.0 (rows m.steps) one.s.host one.made.t one.made.accepted (frame_of one.s.bytes) (is_took some_right.0 some_right.1 some_right.2).2 time.0 in
-      let trusted : IsTrusted one.s.told = subst IsTrusted (sym one.made.is) yes_shown in
+      shows_yes some_right.0 (rows m.steps) one.s.host one.made.t one.made.accepted (frame_of one.s.bytes) (is_recorded some_right.0 some_right.1 some_right.2).2 time.0 in
+      let trusted : IsTrusted one.s.decided = subst IsTrusted (sym one.made.is) yes_shown in
       let rows_are : rows m.steps ++ rows b.steps ≡ rows (m.steps ++ one.s ∷ []) =
-      ap (λ (l : List Step). rows m.steps ++ rows l) one.steps_are ∙ ap (λ (l : List Row). rows m.steps ++ l) (append-nil (rows_told one.s.told)) ∙ sym (rows_one m.steps one.s) in
+      ap (λ (l : List Step). rows m.steps ++ rows l) one.steps_are ∙ ap (λ (l : List Row). rows m.steps ++ l) (append-nil (rows_decided one.s.decided)) ∙ sym (rows_one m.steps one.s) in
       record {
         steps = m.steps ++ one.s ∷ [];
         are_sent = pairs_more m.steps one.s ∙ ap (λ (l : Sent). l ++ sent_by one.s ∷ []) m.are_sent ∙ ap (λ (p : List ℕ × List ℕ). before ++ p ∷ []) (λ i. (one.host_is i, one.bytes_are i));
         are = λ checks opens links. steps_one checks [] [] m.steps one.s (m.are checks opens links)
-            (subst (λ (e : List (List ℕ)). IsTold checks (rows m.steps) e (message_of one.s) one.s.told) (sym m.none_ended) (told checks opens links));
-        none_ended = ended_joined m.steps (one.s ∷ []) [] ∙ goes_on one.s.told one.s.host (ended_by_all m.steps []) one.made ∙ m.none_ended;
+            (subst (λ (e : List (List ℕ)). IsDecidedAs checks (rows m.steps) e (message_of one.s) one.s.decided) (sym m.none_ended) (told checks opens links));
+        none_ended = ended_joined m.steps (one.s ∷ []) [] ∙ goes_on one.s.decided one.s.host (ended_by_all m.steps []) one.made ∙ m.none_ended;
         trusted = trusted_more m.steps one.s m.trusted trusted;
         keeps = subst (λ (J : List Row). Keeps J s_now (view d_now)) rows_are (b.keeps (λ is. cc) refl keeps);
         times = b.asked.stops.moments refl ∙ asked.2.moments refl ∙ time.1;
@@ -201,14 +201,14 @@ kept_again J s v w same keeps = record {
 -- ---- the same, said of equals
 
 pub moved : (xs ys : Sent) (a b : Merge) (d e : MemoryDisk) → xs ≡ ys → a ≡ b → d ≡ e → IsMerged xs a (memory_view d) → IsMerged ys b (memory_view e)
-moved xs ys a b d e sent merge disk h =
-    subst (λ (z : Sent). IsMerged z b (memory_view e)) sent (subst (λ (z : Merge). IsMerged xs z (memory_view e)) merge (subst (λ (z : MemoryDisk). IsMerged xs a (memory_view z)) disk h))
+moved xs ys a b d e messages_sent merge disk h =
+    subst (λ (z : Sent). IsMerged z b (memory_view e)) messages_sent (subst (λ (z : Merge). IsMerged xs z (memory_view e)) merge (subst (λ (z : MemoryDisk). IsMerged xs a (memory_view z)) disk h))
 
 pub four : (s a b c d : Sent) → (((s ++ a) ++ b) ++ c) ++ d ≡ s ++ (a ++ (b ++ (c ++ d)))
 four s a b c d = append_assoc ((s ++ a) ++ b) c d ∙ append_assoc (s ++ a) b (c ++ d) ∙ append_assoc s a (b ++ (c ++ d))
 
 -- ---- strings of bytes
 
-pub strings_more : (sent : Sent) (m : List ℕ × List ℕ) → AreStrings sent → IsString m.1 → AreStrings (sent ++ m ∷ [])
+pub strings_more : (messages_sent : Sent) (m : List ℕ × List ℕ) → AreStrings messages_sent → IsString m.1 → AreStrings (messages_sent ++ m ∷ [])
 strings_more [] m all one = (one, tt)
-strings_more (x ∷ sent) m all one = (all.0, strings_more sent m all.1 one)
+strings_more (x ∷ messages_sent) m all one = (all.0, strings_more messages_sent m all.1 one)

@@ -15,13 +15,13 @@ abbrev pub Sent : Type 0
 Sent = List (List ℕ × List ℕ)
 
 -- one host is wanted, or all are
-abbrev pub is_wanted : Option (List ℕ) → List ℕ → Bool
-is_wanted None host = true
-is_wanted (Some name) host = bytes_eq name host
+abbrev pub is_chosen : Option (List ℕ) → List ℕ → Bool
+is_chosen None host = true
+is_chosen (Some name) host = bytes_eq name host
 
 -- those of one host, or all
 abbrev pub those : Option (List ℕ) → Sent → Sent
-those wanted sent = filter (λ m. is_wanted wanted m.0) sent
+those wanted sent = filter (λ m. is_chosen wanted m.0) sent
 
 -- those of the first host, then those of the second, the third and the fourth
 abbrev pub by_host : Sent → Sent

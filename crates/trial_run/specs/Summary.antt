@@ -4,7 +4,7 @@ use Rattle.at_cid.specs.Link.{cid}
 use Rattle.at_cid.specs.Text.{text_of}
 use Rattle.account_state.specs.Folds.{account}
 use Rattle.account_state.specs.declared.repo.Repo.{Repo}
-use Rattle.relay_gen.specs.Names.{did_of}
+use Rattle.relay_gen.specs.Names.{generated_did}
 use Rattle.relay_row.specs.Folds.{last_seq}
 use Rattle.relay_row.specs.declared.row.Row.{Row}
 
@@ -15,20 +15,20 @@ one_known (Repo.Good head) = 1
 one_known (Repo.Lost rev) = 0
 
 -- the root of its tree, as a link in binary
-abbrev pub root_in : Repo → List ℕ
-root_in Repo.Missing = []
-root_in (Repo.Good head) = head.data_root
-root_in (Repo.Lost rev) = []
+abbrev pub root_of_repo : Repo → List ℕ
+root_of_repo Repo.Missing = []
+root_of_repo (Repo.Good head) = head.data_root
+root_of_repo (Repo.Lost rev) = []
 
 -- how many of the accounts below one have a commit
 abbrev pub known_below : ℕ → List Row → ℕ
 known_below zero J = 0
-known_below (suc a) J = known_below a J + one_known (account (did_of a) J).repo
+known_below (suc a) J = known_below a J + one_known (account (generated_did a) J).repo
 
 -- the roots of the trees of the accounts below one
 abbrev pub roots_below : ℕ → List Row → List ℕ
 roots_below zero J = []
-roots_below (suc a) J = roots_below a J ++ root_in (account (did_of a) J).repo
+roots_below (suc a) J = roots_below a J ++ root_of_repo (account (generated_did a) J).repo
 
 -- a word and a number
 abbrev pub word : List ℕ → ℕ → List ℕ

@@ -1,6 +1,6 @@
 -- A merge while it is taken (own).
 use Rattle.std.specs.Prelude.{◌≡◌, ℕ, true, List, [], ◌∷◌, map, None, IsTrue}
-use Rattle.at_cbor.specs.Spelling.{IsString}
+use Rattle.at_cbor.specs.Encoding.{IsString}
 use Rattle.relay_core.specs.Decide.{Checks, Outside, absent}
 use Rattle.relay_core.specs.Opening.{OpensRight}
 use Rattle.relay_core.specs.Shown.{shown}
@@ -8,7 +8,7 @@ use Rattle.relay_disk.specs.Disk.{View}
 use Rattle.relay_io.specs.Memory.{moments_of}
 use Rattle.relay_io.specs.MemoryRepos.{repository_in}
 use Rattle.relay_law.specs.Right.{LinksRight}
-use Rattle.relay_step.specs.Steps.{Step, Told, after_end, passed_over, took, AreSteps, ended_by_all, rows}
+use Rattle.relay_step.specs.Steps.{Step, Decided, after_end, skipped, recorded, AreSteps, ended_by_all, rows}
 use Rattle.relay_store.specs.Store.{Keeps, seen_in}
 use Rattle.trial_run.specs.Merging.{Sent}
 use Rattle.trial_run.specs.declared.merging.Merge.{Merge}
@@ -21,15 +21,15 @@ sent_by s = (s.host, s.bytes)
 abbrev pub yes : Outside
 yes = record { moment = 0; home = true; verdict = true; fetched = absent }
 
-abbrev pub IsTrusted : Told → Type 0
+abbrev pub IsTrusted : Decided → Type 0
 IsTrusted after_end = ⊥
-IsTrusted (passed_over pass) = ⊥
-IsTrusted (took t) = shown t ≡ yes
+IsTrusted (skipped pass) = ⊥
+IsTrusted (recorded t) = shown t ≡ yes
 
 -- each makes a row, which shows these answers
 abbrev pub AllTrusted : List Step → Type 0
 AllTrusted [] = Unit {0}
-AllTrusted (s ∷ steps) = IsTrusted s.told × AllTrusted steps
+AllTrusted (s ∷ steps) = IsTrusted s.decided × AllTrusted steps
 
 -- each message is a string of bytes
 abbrev pub AreStrings : Sent → Type 0

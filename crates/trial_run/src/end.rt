@@ -7,6 +7,6 @@ pub enum TrialEnd {
     Done,
     /// A call of the output failed.
     WriteFault,
-    /// Memory was wanted.
+    /// Memory ran out.
     Memory,
 }

@@ -1,9 +1,9 @@
 //! Taking made messages into a store that begins with nothing, on a disk in memory.
 
 ghost use Rattle.std.specs.Prelude.{◌≡◌, ◌++◌, ◌∷◌, [], length, true, option_map, IfOk, OnOk};
-ghost use Rattle.at_cbor.specs.Spelling.{IsString};
+ghost use Rattle.at_cbor.specs.Encoding.{IsString};
 ghost use Rattle.relay_disk.specs.MemoryView.{memory_view};
-ghost use Rattle.trial_run.specs.Merging.{Sent, is_wanted, those, by_host};
+ghost use Rattle.trial_run.specs.Merging.{Sent, is_chosen, those, by_host};
 ghost use Rattle.trial_run.specs.Taking.{IsMerged};
 
 use at_authority::TrustAll;
@@ -12,12 +12,9 @@ use at_syntax::host_ok;
 use gate_log::Side;
 use relay_disk::MemoryDisk;
 use relay_gen::{History, host_of};
-use relay_io::{LONGEST_MESSAGE, ListClock, MemoryRepos};
-use relay_store::{Outcome, Store};
+use relay_io::{LONGEST_FEED_MESSAGE, ListClock, MemoryRepos};
+use relay_store::{LONGEST, Outcome, Store};
 use std::alloc::Global;
-
-/// The most bytes of a log.
-const LONGEST: u64 = 1 << 40;
 
 /// Room for the calls of a disk that opening makes, or taking a message.
 const CALLS: usize = 16;
@@ -34,8 +31,8 @@ pub(crate) struct Merge {
 }
 
 // Whether a message of this host is wanted.
-fn is_wanted(wanted: Option<&str>, host: &str) -> bool
-    ensures { result ≡ is_wanted (option_map (λ text. text.now) wanted.entry) host.now }
+fn is_chosen(wanted: Option<&str>, host: &str) -> bool
+    ensures { result ≡ is_chosen (option_map (λ text. text.now) wanted.entry) host.now }
 {
     match wanted {
         Some(name) => name == host,
@@ -47,7 +44,7 @@ fn is_wanted(wanted: Option<&str>, host: &str) -> bool
 fn is_string(message: &[u8]) -> bool
     ensures { result ≡ true → IsString message.now }
 {
-    message.len() <= LONGEST_MESSAGE
+    message.len() <= LONGEST_FEED_MESSAGE
 }
 
 impl Merge {
@@ -118,7 +115,7 @@ impl Merge {
     {
         'messages: for i in 0..n {
             let host = history.host(i + 1);
-            if is_wanted(wanted, host) {
+            if is_chosen(wanted, host) {
                 self.take(alloc, disk, host, history.message(i + 1))?;
             }
         }

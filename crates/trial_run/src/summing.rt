@@ -3,10 +3,10 @@
 ghost use Rattle.std.specs.Prelude.{◌≡◌, ◌≤◌, ◌<◌, ◌+◌, ◌++◌, List, ℕ, true, IfOk, OnOk, codes};
 ghost use Rattle.account_state.specs.Folds.{account as account_in};
 ghost use Rattle.relay_core.specs.Entries.{Holds};
-ghost use Rattle.relay_gen.specs.Names.{did_of};
+ghost use Rattle.relay_gen.specs.Names.{generated_did};
 ghost use Rattle.relay_row.specs.Folds.{last_seq};
 ghost use Rattle.relay_row.specs.declared.row.Row.{Row as TheRow};
-ghost use Rattle.trial_run.specs.Summary.{first_line, known_below, one_known, root_in, roots_below, summary, word};
+ghost use Rattle.trial_run.specs.Summary.{first_line, known_below, one_known, root_of_repo, roots_below, summary, word};
 
 use account_state::{Account, Repo};
 use at_cid::{Memory, Octets, cid_of};
@@ -30,7 +30,7 @@ fn add_word(line: &mut Octets, text: &[u8], number: u64) -> Result<(), Memory>
 fn add_root(roots: &mut Octets, repo: &Repo) -> Result<u64, Memory>
     ensures known { IfOk result (λ known. known ≡ one_known repo.now) }
     ensures few { IfOk result (λ known. known ≤ 1) }
-    ensures roots { OnOk result (roots.new ≡ roots.old ++ root_in repo.now) }
+    ensures roots { OnOk result (roots.new ≡ roots.old ++ root_of_repo repo.now) }
 {
     match repo {
         Repo::Missing | Repo::Lost(_) => Ok(0),
@@ -44,7 +44,7 @@ fn add_root(roots: &mut Octets, repo: &Repo) -> Result<u64, Memory>
 // Of the account of a number.
 fn repo_of(store: &Store, account: u8) -> Repo
     requires { account < 16 }
-    ensures { (J : List TheRow) → Holds store.now.core J → result ≡ (account_in (did_of account) J).repo }
+    ensures { (J : List TheRow) → Holds store.now.core J → result ≡ (account_in (generated_did account) J).repo }
 {
     match store.account(did_of(account)) {
         Some(found) => found.repo(),
@@ -118,7 +118,7 @@ pub(crate) fn sum_up(
 fn is_same(alloc: Global, one: &Store, other: &Store, account: u8) -> Result<bool, Memory>
     requires { account < 16 }
     ensures { IfOk result (λ same. (J K : List TheRow) → Holds one.now.core J → Holds other.now.core K
-        → account_in (did_of account) J ≡ account_in (did_of account) K → same ≡ true) }
+        → account_in (generated_did account) J ≡ account_in (generated_did account) K → same ≡ true) }
 {
     let did = did_of(account);
     let line = account_line(alloc, did, one.account(did))?;

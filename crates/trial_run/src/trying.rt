@@ -11,7 +11,7 @@ ghost use Rattle.relay_row.specs.declared.row.Row.{Row as TheRow};
 ghost use Rattle.trial_run.specs.Summary.{summary};
 ghost use Rattle.trial_run.specs.Taking.{IsMerged};
 ghost use Rattle.trial_run.specs.Merging.{by_host};
-ghost use Rattle.trial_run.specs.Tried.{CameTo, IsImageOf, Tried};
+ghost use Rattle.trial_run.specs.Tried.{TrialCameTo, IsImageOf, Tried};
 
 use crate::end::TrialEnd;
 use crate::merging::Merge;
@@ -97,7 +97,7 @@ fn try_both(
     requires most { n ≤ MOST_MESSAGES }
     requires first { (memory_view first.old).content ≡ [] }
     requires second { (memory_view second.old).content ≡ [] }
-    ensures { IfOk result (λ text. CameTo (λ whole. text ≡ whole)
+    ensures { IfOk result (λ text. TrialCameTo (λ whole. text ≡ whole)
         (λ ones others. IsImageOf ones (memory_view first.new).content × IsImageOf others (memory_view second.new).content) start n) }
 {
     let history = drawn(alloc, start, n)?;

@@ -1,9 +1,9 @@
-//! The want of memory.
+//! The running out of memory.
 
 use anyhow::{Result, bail};
 use at_cid::Memory;
 
-/// What a call gave that fails for want of memory alone.
+/// What a call gave that fails for running out of memory alone.
 pub fn had<T>(answer: Result<T, Memory>) -> Result<T> {
     match answer {
         Ok(value) => Ok(value),

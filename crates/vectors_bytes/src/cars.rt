@@ -22,7 +22,7 @@ fn told(alloc: Global, answer: Result<Car, CarFault>) -> Result<String> {
     }
 }
 
-/// The fault of a CAR, where it isn't the want of memory.
+/// The fault of a CAR, where it isn't running out of memory.
 pub fn fault_of(alloc: Global, fault: CarFault) -> Result<String> {
     if fault == CarFault::Memory {
         bail!("memory");

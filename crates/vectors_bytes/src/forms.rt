@@ -1,6 +1,6 @@
 //! The forms of fields.
 
-use crate::spelled::spelled;
+use crate::encoded::encoded;
 use anyhow::{Result, bail};
 use at_cbor::{Value, decode_whole};
 use at_cid::{Cid, Words};
@@ -109,7 +109,7 @@ fn value_or_absent(alloc: Global, value: Option<&Value>) -> Result<String> {
     let Some(value) = value else {
         return said(alloc, "absent");
     };
-    let item = spelled(alloc, value)?;
+    let item = encoded(alloc, value)?;
     Answer::new(alloc)
         .words("given ")
         .words(item.as_str())

@@ -1,6 +1,6 @@
 //! What stands at the front of bytes in DAG-CBOR, and what is behind it.
 
-use crate::spelled::spelled;
+use crate::encoded::encoded;
 use anyhow::{Result, bail};
 use at_cbor::{
     Major, Value, decode_whole, front_len, string_len, take_behind, take_bytes, take_child,
@@ -98,13 +98,13 @@ fn item(alloc: Global, taken: Option<(Value, &[u8])>) -> Result<Option<String>> 
     let Some((value, rest)) = taken else {
         return Ok(None);
     };
-    let item = spelled(alloc, &value)?;
+    let item = encoded(alloc, &value)?;
     behind(Answer::new(alloc).words(item.as_str()), rest)
 }
 
 fn whole(alloc: Global, value: Option<Value>) -> Result<Option<String>> {
     match value {
-        Some(value) => Ok(Some(spelled(alloc, &value)?)),
+        Some(value) => Ok(Some(encoded(alloc, &value)?)),
         None => Ok(None),
     }
 }

@@ -1,7 +1,7 @@
 //! The DAG-CBOR item at the front of bytes.
 
 use anyhow::{Result, bail, ensure};
-use at_cbor::{CborFault, Value, decode, encode, spelled_len};
+use at_cbor::{CborFault, Value, decode, encode, encoded_len};
 use std::alloc::Global;
 use vector_lines::{Answer, Subject, bytes, had};
 
@@ -27,7 +27,7 @@ fn fault_of(alloc: Global, fault: CborFault) -> Result<String> {
     Ok(format!(in alloc; "{fault:?}")?)
 }
 
-// The kind of a value and the length of its spelling, where it is written as it was given, and a copy is the same.
+// The kind of a value and the length of its encoding, where it is written as it was given, and a copy is the same.
 fn told(alloc: Global, value: &Value, written: &[u8], given: Option<&[u8]>) -> Result<String> {
     ensure!(Some(written) == given, "another spelling");
     let len = written.len();
@@ -39,10 +39,10 @@ fn told(alloc: Global, value: &Value, written: &[u8], given: Option<&[u8]>) -> R
         .end()
 }
 
-// Whether a copy is the same, and has a spelling of that length.
+// Whether a copy is the same, and has an encoding of that length.
 fn is_copied(alloc: Global, value: &Value, len: usize) -> Result<bool> {
     let copy = had(value.try_clone(alloc))?;
-    Ok(copy == *value && spelled_len(value) == len as u64)
+    Ok(copy == *value && encoded_len(value) == len as u64)
 }
 
 fn kind(value: &Value) -> &'static str {

@@ -109,7 +109,7 @@ fn words(alloc: Global, input: &str) -> Result<String> {
     let (letters, more) = parted(rest, " ")?;
     let mut whole = had(Words::from_str(alloc, front))?;
     add_letters(&mut whole, letters, more)?;
-    spelled(alloc, &words_again(alloc, &whole)?)
+    encoded(alloc, &words_again(alloc, &whole)?)
 }
 
 // Adds letters one by one, and then some at once.
@@ -131,7 +131,7 @@ fn words_again(alloc: Global, whole: &Words) -> Result<Words> {
     had(Words::from_str(alloc, copy.as_str()))
 }
 
-fn spelled(alloc: Global, words: &Words) -> Result<String> {
+fn encoded(alloc: Global, words: &Words) -> Result<String> {
     Answer::new(alloc)
         .words(words.as_str())
         .words(" ")

@@ -4,6 +4,7 @@
 
 mod cars;
 mod commits;
+mod encoded;
 mod events;
 mod forms;
 mod frames;
@@ -16,7 +17,6 @@ mod numbers;
 mod pieces;
 mod refusals;
 mod scans;
-mod spelled;
 mod telling;
 mod written;
 

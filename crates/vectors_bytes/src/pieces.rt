@@ -1,6 +1,6 @@
 //! DAG-CBOR put together: single items, and maps and lists that are read and put together anew.
 
-use crate::spelled::spelled;
+use crate::encoded::encoded;
 use anyhow::{Context, Result, bail, ensure};
 use at_cbor::{
     Fields, Value, Values, decode, field, write_bool, write_bytes, write_int, write_link,
@@ -29,7 +29,7 @@ fn in_digits(alloc: Global, octets: &Octets) -> Result<String> {
     Answer::new(alloc).bytes(octets.as_slice()).end()
 }
 
-// The spelling of one item, or of the front of one.
+// The encoding of one item, or of the front of one.
 fn piece(alloc: Global, word: &str, rest: &str) -> Result<Octets> {
     let mut out = Octets::new(alloc);
     match word {
@@ -67,21 +67,21 @@ fn item(alloc: Global, input: &str) -> Result<Value> {
     Ok(value)
 }
 
-// The spelling of a field of a map, or that there is none.
+// The encoding of a field of a map, or that there is none.
 fn field_of(alloc: Global, input: &str) -> Result<String> {
     let (name, map) = parted(input, " ")?;
     let map = item(alloc, map)?;
     match field(&map, name) {
-        Some(value) => spelled(alloc, value),
+        Some(value) => encoded(alloc, value),
         None => said(alloc, "none"),
     }
 }
 
-// How many fields a map has and its last key, and its spelling when its fields are put together anew.
+// How many fields a map has and its last key, and its encoding when its fields are put together anew.
 fn map_again(alloc: Global, input: &str) -> Result<String> {
     let made = fields_again(alloc, input)?;
     let answer = told(alloc, &made)?;
-    with_spelled(alloc, answer, &Value::Map(made))
+    with_encoded(alloc, answer, &Value::Map(made))
 }
 
 fn fields_again(alloc: Global, input: &str) -> Result<Fields> {
@@ -89,19 +89,19 @@ fn fields_again(alloc: Global, input: &str) -> Result<Fields> {
     copied_fields(alloc, map.as_map().context("a map")?)
 }
 
-// The item that a map has under a key, or that there is none, and its spelling when null stands there.
+// The item that a map has under a key, or that there is none, and its encoding when null stands there.
 fn replaced(alloc: Global, input: &str) -> Result<String> {
     let (name, map) = parted(input, " ")?;
     let mut made = fields_again(alloc, map)?;
     let taken = made.replace(name, Value::Null);
     let answer = answered(alloc, &taken)?;
-    with_spelled(alloc, answer, &Value::Map(made))
+    with_encoded(alloc, answer, &Value::Map(made))
 }
 
 fn answered(alloc: Global, value: &Option<Value>) -> Result<Answer> {
     let answer = Answer::new(alloc);
     match value {
-        Some(value) => Ok(answer.words(spelled(alloc, value)?.as_str())),
+        Some(value) => Ok(answer.words(encoded(alloc, value)?.as_str())),
         None => Ok(answer.words("none")),
     }
 }
@@ -121,9 +121,9 @@ fn key_of(key: Option<&Words>) -> &str {
     }
 }
 
-// The answer with the spelling of a value behind it.
-fn with_spelled(alloc: Global, answer: Answer, value: &Value) -> Result<String> {
-    let item = spelled(alloc, value)?;
+// The answer with the encoding of a value behind it.
+fn with_encoded(alloc: Global, answer: Answer, value: &Value) -> Result<String> {
+    let item = encoded(alloc, value)?;
     answer.words(" ").words(item.as_str()).end()
 }
 
@@ -146,11 +146,11 @@ fn add_copy(alloc: Global, made: &mut Fields, key: &Words, value: &Value) -> Res
     had(made.push(key, value))
 }
 
-// How many items a list has, and its spelling when it is put together anew.
+// How many items a list has, and its encoding when it is put together anew.
 fn list_again(alloc: Global, input: &str) -> Result<String> {
     let made = values_again(alloc, input)?;
     let answer = Answer::new(alloc).number(made.len() as u64);
-    with_spelled(alloc, answer, &Value::List(made))
+    with_encoded(alloc, answer, &Value::List(made))
 }
 
 fn values_again(alloc: Global, input: &str) -> Result<Values> {

@@ -3,11 +3,9 @@
 use anyhow::{Result, bail};
 use at_event::{Body, CommitEvent, Event, Frame, FrameFault, Refusal, out_len, read_frame};
 use commit_check::{CheckFault, Checked, check};
+use relay_core::LONGEST_MESSAGE;
 use std::alloc::Global;
 use vector_lines::Answer;
-
-/// The most bytes of an outgoing frame.
-const LONGEST_FRAME: u64 = 4_194_304;
 
 /// What the message comes to.
 pub fn verdict(alloc: Global, message: &[u8]) -> Result<String> {
@@ -27,7 +25,7 @@ fn verdict_on_event(alloc: Global, event: &Event) -> Result<String> {
     let Body::Commit(commit) = &event.body else {
         return refused(alloc, &Refusal::NotCommit);
     };
-    if out_len(event) > LONGEST_FRAME {
+    if out_len(event) > LONGEST_MESSAGE {
         return refused(alloc, &Refusal::TooLong);
     }
     verdict_on_commit(alloc, commit)

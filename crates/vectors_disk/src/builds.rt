@@ -2,7 +2,7 @@
 //! the other disk holds. The build is stopped at each of its calls, and each worst case of the other disk is opened beside the live one.
 
 ghost use Rattle.std.specs.Prelude.{◌<◌};
-ghost use Rattle.gate_log.specs.declared.limits.TheConstants.{GENERATIONS};
+ghost use Rattle.at_cid.specs.declared.limits.TheConstants.{NUMBERS};
 
 use crate::pairs::pair_held;
 use crate::row::Row;
@@ -10,7 +10,8 @@ use crate::texts::MOST;
 use crate::words::{disk_of, fuse_of};
 use crate::worst::image;
 use anyhow::{Result, bail};
-use gate_log::{BODY_LENGTHS, Build, GENERATIONS, Log, LogFault};
+use at_cid::NUMBERS;
+use gate_log::{BODY_LENGTHS, Build, Log, LogFault};
 use relay_disk::{Disk, MemoryDisk, WORST_CASES};
 use std::alloc::Global;
 use vector_lines::{Answer, Subject};
@@ -41,7 +42,7 @@ fn built<D: Disk>(
     generation: u64,
     bodies: &[Vec<u8>],
 ) -> Result<(), LogFault>
-    requires { generation < GENERATIONS }
+    requires { generation < NUMBERS }
 {
     let mut build = Build::begin(alloc, disk, generation, MOST)?;
     for body in bodies {
@@ -56,7 +57,7 @@ fn built<D: Disk>(
 
 // Whether the build of a row comes to its end. Its generation is one that a log may have.
 fn is_built<D: Disk>(alloc: Global, start: &Start, other: &mut D) -> Result<bool> {
-    if start.generation >= GENERATIONS {
+    if start.generation >= NUMBERS {
         bail!("a generation that no log has");
     }
     match built(alloc, other, start.generation, &start.bodies) {

@@ -1,10 +1,12 @@
 //! `MOMENTS ; FAILING ; CALLS = what so many calls answer`, and `LEAST MOST = whether the machine's clock is within`.
 
-ghost use Rattle.std.specs.Prelude.{◌≤◌, ◌-◌, ◌^◌, All, IsTrue};
+ghost use Rattle.std.specs.Prelude.{◌≤◌, ◌-◌, All, IsTrue};
+ghost use Rattle.at_cid.specs.declared.limits.TheConstants.{NUMBERS};
 
 use crate::row::Row;
 use anyhow::{Result, bail};
-use relay_io::{Clock, LAST_MOMENT, ListClock, SystemClock};
+use at_cid::NUMBERS;
+use relay_io::{Clock, ListClock, SystemClock};
 use std::alloc::Global;
 use vector_lines::{Answer, Subject, had, said};
 
@@ -16,9 +18,9 @@ pub struct Moments<'a> {
 }
 
 fn are_moments(moments: &[u64]) -> bool
-    ensures { IsTrue result → All (λ moment. moment ≤ 2 ^ 53 - 1) moments.now }
+    ensures { IsTrue result → All (λ moment. moment ≤ NUMBERS - 1) moments.now }
 {
-    moments.iter().all(|moment| *moment <= LAST_MOMENT)
+    moments.iter().all(|moment| *moment < NUMBERS)
 }
 
 // A clock of moments, which a row that is read to its end has.

@@ -28,7 +28,7 @@ fn with_span(answer: Answer, place: u64, len: usize) -> Answer {
         .words(")")
 }
 
-/// The fault of a log, where it isn't the want of memory.
+/// The fault of a log, where it isn't running out of memory.
 pub fn log_fault(alloc: Global, fault: LogFault) -> Result<String> {
     let answer = Answer::new(alloc);
     match fault {

@@ -3,7 +3,7 @@
 use crate::words::{numbers, with_blank};
 use anyhow::{Result, bail};
 use at_cid::Octets;
-use relay_io::{Feed, FeedFault, LONGEST_MESSAGE, MemoryFeed};
+use relay_io::{Feed, FeedFault, LONGEST_FEED_MESSAGE, MemoryFeed};
 use std::alloc::Global;
 use vector_lines::{Answer, Subject, bytes, had, number, parted};
 
@@ -15,7 +15,7 @@ pub const HOST: &str = "a.example";
 /// Adds a message to those of a feed.
 pub fn add(feed: &mut MemoryFeed, number: u64, message: Vec<u8>) -> Result<()> {
     let message = Octets::from_vec(message);
-    if message.len() > LONGEST_MESSAGE {
+    if message.len() > LONGEST_FEED_MESSAGE {
         bail!("a longer message");
     }
     had(feed.push(number, message))

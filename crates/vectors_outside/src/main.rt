@@ -1,4 +1,4 @@
-//! Compares what the feeds, doors, repositories and streams of memory and of files answer, what is read of tapes and of
+//! Compares what the feeds, doors, wires, repositories and streams of memory and of files answer, what is read of tapes and of
 //! guests' targets, and what authorities and judges answer, with the rows of text files, with each call failing in turn.
 #![tactic(auto)]
 
@@ -13,6 +13,7 @@ mod sinks;
 mod sources;
 mod tapes;
 mod targets;
+mod wires;
 mod words;
 
 use anyhow::Result;
@@ -27,6 +28,7 @@ use std::process::ExitCode;
 use tapes::{LongRecords, TapeCalls, Tapes};
 use targets::Targets;
 use vector_lines::Suite;
+use wires::Wires;
 
 fn compared(rt: &HostRuntime) -> Result<Suite> {
     let mut suite = Suite::new(rt)?;
@@ -43,6 +45,7 @@ fn compare_streams(rt: &HostRuntime, suite: &mut Suite) -> Result<()> {
     suite.file(rt, "feeds", &Feeds)?;
     suite.file(rt, "longest_messages", &LongestMessages)?;
     suite.file(rt, "doors", &Doors)?;
+    suite.file(rt, "wires", &Wires)?;
     suite.file(rt, "targets", &Targets)
 }
 

@@ -10,31 +10,6 @@ use relay_row::{Fetched, Whole};
 use std::alloc::Global;
 use vector_lines::{bytes, link, number, parted};
 
-/// Each refusal of a row that says no more than its number.
-const PLAIN: [Refusal; 21] = [
-    Refusal::BadEvent,
-    Refusal::NotHome,
-    Refusal::Inactive,
-    Refusal::TakenDown,
-    Refusal::TooBig,
-    Refusal::BlocksTooLong,
-    Refusal::TooManyOps,
-    Refusal::BadPath,
-    Refusal::RepeatedPath,
-    Refusal::BadOp,
-    Refusal::Stale,
-    Refusal::BadCar,
-    Refusal::WrongRoot,
-    Refusal::WrongDigest,
-    Refusal::NoCommit,
-    Refusal::BadCommit,
-    Refusal::OtherCommit,
-    Refusal::BadSignature,
-    Refusal::Gap,
-    Refusal::TooLong,
-    Refusal::FutureRev,
-];
-
 fn tid_of(text: &str) -> Result<Tid> {
     Tid::parse(text).context("a revision")
 }
@@ -80,17 +55,8 @@ fn refusal_with(code: &str, detail: &str) -> Result<Refusal> {
 pub fn refusal_of(text: &str) -> Result<Refusal> {
     match text.split_once(':') {
         Some((code, detail)) => refusal_with(code, detail),
-        None => plain_refusal(code_of(text)?),
+        None => Refusal::plain(code_of(text)?).context("a refusal"),
     }
-}
-
-fn plain_refusal(code: u8) -> Result<Refusal> {
-    for refusal in &PLAIN {
-        if refusal.code() == code {
-            return Ok(*refusal);
-        }
-    }
-    bail!("a refusal")
 }
 
 fn whole_of(alloc: Global, text: &str) -> Result<Whole> {

@@ -1,11 +1,11 @@
-//! `BODY = ok COUNT, or BadRow`. What was read is spelled again, in each of the ways in which it can be, copied, read row by row,
+//! `BODY = ok COUNT, or BadRow`. What was read is encoded again, in each of the ways in which it can be, copied, read row by row,
 //! and seen where it stands.
 
-use crate::sights::ensure_seen;
+use crate::peeked::ensure_seen;
 use crate::walked::{ensure_walked, walked};
 use anyhow::{Result, bail, ensure};
 use at_cid::Octets;
-use relay_row::{Row, RowFault, Rows, is_row, read_rows, write_row, write_rows, write_spelled};
+use relay_row::{Row, RowFault, Rows, is_row, read_rows, write_encoded, write_row, write_rows};
 use std::alloc::Global;
 use std::mem;
 use vector_lines::{Answer, Subject, bytes, had, said};
@@ -43,7 +43,7 @@ fn counted(alloc: Global, rows: &Rows, body: &[u8]) -> Result<String> {
         "other rows than are counted"
     );
     ensure!(is_written(alloc, rows, body)?, "other bytes are written");
-    ensure_spelled(alloc, rows.as_slice(), body)?;
+    ensure_encoded(alloc, rows.as_slice(), body)?;
     ensure_seen(rows.as_slice(), body)?;
     Answer::new(alloc).words("ok ").number(len as u64).end()
 }
@@ -53,28 +53,28 @@ fn is_written(alloc: Global, rows: &Rows, body: &[u8]) -> Result<bool> {
     Ok(whole.as_slice() == body)
 }
 
-// Ensures that the spelling of the rows stands behind in the body, and that copies of them have it too.
-fn ensure_spelled(alloc: Global, rows: &[Row], body: &[u8]) -> Result<()> {
-    let out = spelled(alloc, rows)?;
+// Ensures that the encoding of the rows stands behind in the body, and that copies of them have it too.
+fn ensure_encoded(alloc: Global, rows: &[Row], body: &[u8]) -> Result<()> {
+    let out = encoded(alloc, rows)?;
     ensure!(body.ends_with(out.as_slice()), "other rows are spelled");
     ensure_walked(alloc, body, out.as_slice())?;
     ensure_copied(alloc, rows, out.as_slice())
 }
 
-fn spelled(alloc: Global, rows: &[Row]) -> Result<Octets> {
+fn encoded(alloc: Global, rows: &[Row]) -> Result<Octets> {
     let mut out = Octets::new(alloc);
-    had(write_spelled(&mut out, rows))?;
+    had(write_encoded(&mut out, rows))?;
     Ok(out)
 }
 
-// Ensures that copies of the rows, each written by itself, are spelled so one behind another.
-fn ensure_copied(alloc: Global, rows: &[Row], spelled: &[u8]) -> Result<()> {
+// Ensures that copies of the rows, each written by itself, are encoded so one behind another.
+fn ensure_copied(alloc: Global, rows: &[Row], encoded: &[u8]) -> Result<()> {
     let mut out = Octets::new(alloc);
     let mut are_added = true;
     for row in rows {
         are_added &= add_copy(&mut out, row);
     }
-    ensure!(are_added && out.as_slice() == spelled, "a copy differs");
+    ensure!(are_added && out.as_slice() == encoded, "a copy differs");
     Ok(())
 }
 

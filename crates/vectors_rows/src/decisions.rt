@@ -7,10 +7,10 @@ use crate::cores::Told;
 use crate::journals::{last_of, rows_in, with_rows};
 use anyhow::{Result, bail, ensure};
 use at_cbor::write_list_front;
-use at_cid::{Memory, Octets};
+use at_cid::{Memory, NUMBERS, Octets};
 use at_event::{Frame, FrameFault, Refusal, read_frame};
 use relay_core::{Answers, Core, Decision, Next, Pass, Question};
-use relay_row::{Fresh, NUMBERS, Rows, write_fresh};
+use relay_row::{NewRow, Rows, write_new_row};
 use std::alloc::Global;
 use std::mem;
 use vector_lines::{Answer, bytes, had, parted};
@@ -173,19 +173,19 @@ fn body_of(
     ensure!(core.last_seq() < NUMBERS - 1, "no number is left");
     let frame = mem::replace(sent.frame, Frame::Unknown);
     let answers = mem::replace(answers, Answers::new());
-    let fresh = core.row(alloc, sent.host, frame, decision, answers);
-    let body = spelled(alloc, &fresh);
-    mem::drop(fresh);
+    let new_row = core.row(alloc, sent.host, frame, decision, answers);
+    let body = encoded(alloc, &new_row);
+    mem::drop(new_row);
     body
 }
 
 // The body of the row with its message.
-fn spelled(alloc: Global, fresh: &Result<Option<Fresh>, Memory>) -> Result<Octets> {
-    let Ok(Some(fresh)) = fresh else {
+fn encoded(alloc: Global, new_row: &Result<Option<NewRow>, Memory>) -> Result<Octets> {
+    let Ok(Some(new_row)) = new_row else {
         bail!("no row of an event");
     };
     let mut body = Octets::new(alloc);
     had(write_list_front(&mut body, 1))?;
-    had(write_fresh(&mut body, fresh))?;
+    had(write_new_row(&mut body, new_row))?;
     Ok(body)
 }

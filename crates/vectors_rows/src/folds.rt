@@ -42,7 +42,7 @@ impl Follows for Parts {
 fn told<N: Named>(alloc: Global, last: u64, hosts: &Hosts, named: &N) -> Result<String> {
     let answer = Answer::new(alloc).words("last ").number(last);
     let answer = with_hosts(answer.words(" hosts"), hosts);
-    with_accounts(alloc, answer.words(" accounts"), named)?.end()
+    with_accounts(answer.words(" accounts"), named).end()
 }
 
 // The state, told of its parts, each folded alone.
@@ -93,7 +93,7 @@ fn compared(alloc: Global, core: &mut Core, text: &str) -> Result<String> {
 }
 
 // The DID behind another.
-fn next_of<'a>(core: &'a Core, did: &String) -> &'a str {
+fn next_of<'a>(core: &'a Core, did: &str) -> &'a str {
     match core.next_after(did) {
         Some((next, _)) => next,
         None => "none",
@@ -102,8 +102,7 @@ fn next_of<'a>(core: &'a Core, did: &String) -> &'a str {
 
 impl Told for Nexts {
     fn told(&self, alloc: Global, core: &mut Core, did: &str) -> Result<String> {
-        let did = said(alloc, if did == "-" { "" } else { did })?;
-        said(alloc, next_of(core, &did))
+        said(alloc, next_of(core, if did == "-" { "" } else { did }))
     }
 }
 

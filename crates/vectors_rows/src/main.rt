@@ -10,7 +10,7 @@ mod folds;
 mod journals;
 mod operations;
 mod orders;
-mod sights;
+mod peeked;
 mod telling;
 mod walked;
 

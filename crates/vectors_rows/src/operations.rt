@@ -5,9 +5,10 @@ use crate::answers::fetched_of;
 use crate::cores::Told;
 use crate::journals::with_rows;
 use anyhow::{Result, bail, ensure};
+use at_cid::NUMBERS;
 use at_event::Refusal;
 use relay_core::{Core, fetch_refusal};
-use relay_row::{NUMBERS, Row, Rows};
+use relay_row::{Row, Rows};
 use std::alloc::Global;
 use vector_lines::{Answer, had, number, parted, said};
 

@@ -1,13 +1,11 @@
 //! Accounts, hosts and revisions as an answer words them.
 
 use account_state::{Account, Accounts, Repo};
-use anyhow::Result;
 use at_event::Head;
 use at_syntax::{TID_LEN, Tid};
 use host_state::Hosts;
 use relay_core::Core;
-use std::alloc::Global;
-use vector_lines::{Answer, said};
+use vector_lines::Answer;
 
 // More accounts than a line has.
 const MOST: usize = 1000;
@@ -15,17 +13,17 @@ const MOST: usize = 1000;
 /// What has accounts in the order of their DIDs.
 pub trait Named {
     /// The next DID that a row names, with its account.
-    fn next(&self, did: &String) -> Option<(&str, &Account)>;
+    fn next(&self, did: &str) -> Option<(&str, &Account)>;
 }
 
 impl Named for Core {
-    fn next(&self, did: &String) -> Option<(&str, &Account)> {
+    fn next(&self, did: &str) -> Option<(&str, &Account)> {
         self.next_after(did)
     }
 }
 
 impl Named for Accounts {
-    fn next(&self, did: &String) -> Option<(&str, &Account)> {
+    fn next(&self, did: &str) -> Option<(&str, &Account)> {
         self.next_after(did)
     }
 }
@@ -73,17 +71,17 @@ fn with_named(answer: Answer, did: &str, account: &Account) -> Answer {
 }
 
 /// With each account behind its DID, in their order.
-pub fn with_accounts<N: Named>(alloc: Global, answer: Answer, named: &N) -> Result<Answer> {
+pub fn with_accounts<N: Named>(answer: Answer, named: &N) -> Answer {
     let mut answer = answer;
-    let mut name = String::new(alloc);
+    let mut name = "";
     for _ in 0..MOST {
-        let Some((did, account)) = named.next(&name) else {
-            return Ok(answer);
+        let Some((did, account)) = named.next(name) else {
+            return answer;
         };
         answer = with_named(answer, did, account);
-        name = said(alloc, did)?;
+        name = did;
     }
-    Ok(answer)
+    answer
 }
 
 /// With each host and its cursor behind, in first-seen order.

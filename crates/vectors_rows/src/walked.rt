@@ -6,7 +6,7 @@ use relay_row::{BodyRows, MOST_ROWS, Row, RowFault, write_row};
 use std::alloc::Global;
 use std::mem;
 
-// Adds the rows of a body, spelled again.
+// Adds the rows of a body, encoded again.
 fn add_rows(alloc: Global, body: &[u8], out: &mut Octets) -> Result<(), RowFault> {
     let mut rows = BodyRows::of(alloc, body)?;
     for _ in 0..MOST_ROWS + 1 {
@@ -32,7 +32,7 @@ fn add_next(out: &mut Octets, next: &Result<Option<Row>, RowFault>) -> Result<bo
     }
 }
 
-/// Adds the rows of a body, read one after the other and spelled again. False says that it is no body.
+/// Adds the rows of a body, read one after the other and encoded again. False says that it is no body.
 pub fn walked(alloc: Global, body: &[u8], out: &mut Octets) -> Result<bool> {
     match add_rows(alloc, body, out) {
         Ok(()) => Ok(true),
@@ -42,11 +42,11 @@ pub fn walked(alloc: Global, body: &[u8], out: &mut Octets) -> Result<bool> {
 }
 
 /// Ensures that the rows of a body are these, also where they are read one after the other.
-pub fn ensure_walked(alloc: Global, body: &[u8], spelled: &[u8]) -> Result<()> {
+pub fn ensure_walked(alloc: Global, body: &[u8], encoded: &[u8]) -> Result<()> {
     let mut out = Octets::new(alloc);
     let is_body = walked(alloc, body, &mut out)?;
     ensure!(
-        is_body && out.as_slice() == spelled,
+        is_body && out.as_slice() == encoded,
         "one after the other, others are read"
     );
     Ok(())

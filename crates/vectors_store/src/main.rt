@@ -1,4 +1,4 @@
-//! Compares what a store answers with the rows of text files: messages and operators' words, one by one and in groups, on disks
+//! Compares what a store answers with the rows of text files: messages and operators' commands, one by one and in groups, on disks
 //! that are opened again, and stopped at each of their calls.
 #![tactic(auto)]
 

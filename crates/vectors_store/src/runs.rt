@@ -1,7 +1,7 @@
 //! `SETUP | STEP ; .. = what each step answers`. The messages are taken one by one, and again as groups, which answers the same.
 //! Behind either the disks are opened again, which gives the same state.
 
-use crate::sessions::{Told, session};
+use crate::sessions::{Decided, session};
 use crate::setup::{Setup, disk_of, read_setup};
 use crate::steps::{Step, joined, steps_of};
 use anyhow::{Result, bail};
@@ -21,7 +21,7 @@ fn disks(alloc: Global, setup: &Setup<'_>) -> Result<(MemoryDisk, MemoryDisk)> {
     Ok((one, two))
 }
 
-fn reopened(alloc: Global, setup: &Setup<'_>, steps: &[Step<'_>]) -> Result<Told> {
+fn reopened(alloc: Global, setup: &Setup<'_>, steps: &[Step<'_>]) -> Result<Decided> {
     let (mut one, mut two) = disks(alloc, setup)?;
     let told = session(alloc, setup, &mut one, &mut two, steps)?;
     let again = session(alloc, setup, &mut one, &mut two, &[])?;
@@ -32,7 +32,7 @@ fn reopened(alloc: Global, setup: &Setup<'_>, steps: &[Step<'_>]) -> Result<Told
 }
 
 // What is told of messages that were taken one by one, and as groups.
-fn compared(alloc: Global, taken: Told, grouped: &Told) -> Result<String> {
+fn compared(alloc: Global, taken: Decided, grouped: &Decided) -> Result<String> {
     if taken.is_same(grouped) {
         return Ok(taken.report);
     }

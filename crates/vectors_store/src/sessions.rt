@@ -18,14 +18,14 @@ use vector_lines::{had, said};
 
 /// What the steps answered, and the state behind them.
 #[derive(Drop)]
-pub struct Told {
+pub struct Decided {
     pub report: String,
     pub state: String,
 }
 
-impl Told {
+impl Decided {
     /// Whether both are told alike.
-    pub fn is_same(&self, other: &Told) -> bool {
+    pub fn is_same(&self, other: &Decided) -> bool {
         self.report.as_str() == other.report.as_str() && self.state.as_str() == other.state.as_str()
     }
 }
@@ -44,16 +44,16 @@ fn sitting(alloc: Global, setup: &Setup<'_>, store: Store) -> Result<Sitting>
     })
 }
 
-fn unopened(alloc: Global, fault: StoreFault) -> Result<Told> {
+fn unopened(alloc: Global, fault: StoreFault) -> Result<Decided> {
     let report = Report::unopened(alloc, fault)?.end(alloc)?;
     let state = said(alloc, "none")?;
-    Ok(Told { report, state })
+    Ok(Decided { report, state })
 }
 
-fn told_by(alloc: Global, sitting: &Sitting) -> Result<Told> {
+fn told_by(alloc: Global, sitting: &Sitting) -> Result<Decided> {
     let state = state(alloc, sitting.store.core())?;
     let report = sitting.report.end(alloc)?;
-    Ok(Told { report, state })
+    Ok(Decided { report, state })
 }
 
 // Opens a store, and makes the steps.
@@ -64,7 +64,7 @@ fn sat<D: Disk, P: Judges>(
     one: &mut D,
     two: &mut D,
     steps: &[Step<'_>],
-) -> Result<Told> {
+) -> Result<Decided> {
     if setup.most > LAST_END {
         bail!("a limit past the last end");
     }
@@ -87,7 +87,7 @@ fn judged<D: Disk>(
     one: &mut D,
     two: &mut D,
     steps: &[Step<'_>],
-) -> Result<Told> {
+) -> Result<Decided> {
     let mut panel = Panel::new(alloc);
     for text in setup.judges.split(" ; ") {
         if text != "-" {
@@ -107,7 +107,7 @@ pub fn session<D: Disk>(
     one: &mut D,
     two: &mut D,
     steps: &[Step<'_>],
-) -> Result<Told> {
+) -> Result<Decided> {
     if setup.judges == "all" {
         return sat(alloc, setup, &mut TrustAll, one, two, steps);
     }

@@ -3,12 +3,13 @@
 //! are repositories of which so many bytes are given at a call; and `MOMENTS FAILING`. FAILING are the numbers of the calls that
 //! fail, with a comma between two, and `-` is none.
 
-ghost use Rattle.std.specs.Prelude.{◌≤◌, ◌-◌, ◌^◌, All, IsTrue};
+ghost use Rattle.std.specs.Prelude.{◌≤◌, ◌-◌, All, IsTrue};
+ghost use Rattle.at_cid.specs.declared.limits.TheConstants.{NUMBERS};
 
 use anyhow::{Context, Result, bail};
-use at_cid::{Octets, Words};
+use at_cid::{NUMBERS, Octets, Words};
 use relay_disk::MemoryDisk;
-use relay_io::{LAST_MOMENT, ListClock, MemoryRepos, Repository};
+use relay_io::{ListClock, MemoryRepos, Repository};
 use std::alloc::Global;
 use vector_lines::{bytes, had, number, parted};
 
@@ -65,8 +66,8 @@ pub fn numbers(alloc: Global, text: &str) -> Result<Vec<u64>> {
     if text == "-" {
         return Ok(numbers);
     }
-    for word in text.split(',') {
-        numbers.push(number(word)?)?;
+    for command in text.split(',') {
+        numbers.push(number(command)?)?;
     }
     Ok(numbers)
 }
@@ -108,16 +109,16 @@ pub fn repos_of(alloc: Global, text: &str) -> Result<MemoryRepos> {
     let piece = number(words.next().context("a piece")?)?;
     let failing = numbers(alloc, words.next().context("failing calls")?)?;
     let mut repositories = Vec::new(alloc);
-    for word in words {
-        repositories.push(repository_of(alloc, word)?)?;
+    for command in words {
+        repositories.push(repository_of(alloc, command)?)?;
     }
     repos_in_pieces(alloc, repositories, usize::try_from(piece)?, &failing)
 }
 
 fn are_moments(moments: &[u64]) -> bool
-    ensures { IsTrue result → All (λ moment. moment ≤ 2 ^ 53 - 1) moments.now }
+    ensures { IsTrue result → All (λ moment. moment ≤ NUMBERS - 1) moments.now }
 {
-    moments.iter().all(|moment| *moment <= LAST_MOMENT)
+    moments.iter().all(|moment| *moment < NUMBERS)
 }
 
 /// The clock of a row.

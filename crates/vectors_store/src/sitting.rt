@@ -212,7 +212,7 @@ impl Sitting {
             Step::Operate(down, did, time) => self.operate(disk, *down, did, time),
             Step::Sync(did, time) => self.sync_now(disk, judges, did, time),
             Step::After(seq) => self.read_next(disk, *seq),
-            Step::Told(what) => show(self.alloc, &self.store, what, &mut self.report),
+            Step::Decided(what) => show(self.alloc, &self.store, what, &mut self.report),
         }
     }
 

@@ -67,13 +67,13 @@ pub fn state(alloc: Global, core: &Core) -> Result<String> {
         .number(core.last_seq())
         .words(" hosts ");
     let mut answer = with_hosts(answer, core.hosts())?;
-    let mut name = String::new(alloc);
+    let mut name = "";
     for _ in 0..MOST {
-        let Some((did, account)) = core.next_after(&name) else {
+        let Some((did, account)) = core.next_after(name) else {
             break;
         };
         answer = with_account(answer.words(", "), did, Some(account));
-        name = String::from_str(alloc, did)?;
+        name = did;
     }
     answer.end()
 }

@@ -21,7 +21,7 @@ pub enum Step<'a> {
     Sync(&'a str, &'a str),
     /// `after NUMBER`: the next event above it.
     After(u64),
-    Told(Shown<'a>),
+    Decided(Shown<'a>),
 }
 
 /// What is told between two steps.
@@ -53,8 +53,8 @@ fn messages_of(alloc: Global, text: &str) -> Result<Vec<Message>> {
     Ok(messages)
 }
 
-// An operator's word on an account, if it is one.
-fn word_of<'a>(verb: &str, did: &'a str, time: &'a str) -> Option<Step<'a>> {
+// An operator's command on an account, if it is one.
+fn command_of<'a>(verb: &str, did: &'a str, time: &'a str) -> Option<Step<'a>> {
     match verb {
         "down" => Some(Step::Operate(true, did, time)),
         "up" => Some(Step::Operate(false, did, time)),
@@ -66,15 +66,15 @@ fn word_of<'a>(verb: &str, did: &'a str, time: &'a str) -> Option<Step<'a>> {
 // A step that names an account.
 fn step_on<'a>(verb: &str, rest: &'a str) -> Result<Step<'a>> {
     if verb == "account" {
-        return Ok(Step::Told(Shown::Account(rest)));
+        return Ok(Step::Decided(Shown::Account(rest)));
     }
     let (did, time) = parted(rest, " ")?;
-    word_of(verb, did, time).context("a step")
+    command_of(verb, did, time).context("a step")
 }
 
 // What is told between two steps, if it is asked by one word.
-fn told_by(word: &str) -> Option<Shown<'static>> {
-    match word {
+fn told_by(command: &str) -> Option<Shown<'static>> {
+    match command {
         "hosts" => Some(Shown::Hosts),
         "side" => Some(Shown::Side),
         "end" => Some(Shown::End),
@@ -94,7 +94,7 @@ fn step_with<'a>(alloc: Global, verb: &str, rest: &'a str) -> Result<Step<'a>> {
 
 fn step_of(alloc: Global, words: &str) -> Result<Step<'_>> {
     if let Some(shown) = told_by(words) {
-        return Ok(Step::Told(shown));
+        return Ok(Step::Decided(shown));
     }
     let (verb, rest) = parted(words, " ")?;
     step_with(alloc, verb, rest)

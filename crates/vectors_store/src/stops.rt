@@ -4,10 +4,10 @@
 //! behind it. There are three letters for each number of calls on the log's disk, from the step's first on; before that all
 //! are `b`.
 //!
-//! Where memory is wanted a group ends early, and a body takes one more call. If the disk is then stopped, its fault alone is
+//! Where memory runs out a group ends early, and a body takes one more call. If the disk is then stopped, its fault alone is
 //! answered. The calls up to the stop tell: they are others than those of the whole step, and such a row has no answer.
 
-use crate::sessions::{Told, session};
+use crate::sessions::{Decided, session};
 use crate::setup::{Setup, disk_of, read_setup, with_room};
 use crate::sitting::side_name;
 use crate::steps::{Step, steps_of};
@@ -23,7 +23,7 @@ pub struct Stops;
 /// What is left of a step that is stopped behind so many calls.
 #[derive(Drop)]
 struct Left {
-    told: Told,
+    told: Decided,
     one: MemoryDisk,
     two: MemoryDisk,
 }
@@ -79,7 +79,7 @@ impl Run {
     }
 
     // The letter of what was opened, unless it is the state before the step; `?` where it isn't the one behind it.
-    fn letter_of(&self, found: &Told) -> Option<&'static str> {
+    fn letter_of(&self, found: &Decided) -> Option<&'static str> {
         let state = found.state.as_str();
         if state == self.before.told.state.as_str() {
             return None;
@@ -92,7 +92,7 @@ impl Run {
     }
 
     // The letter of the state before the step, by what is told once it is made there; `!` where that is something else.
-    fn letter_again(&self, again: &Told) -> &'static str {
+    fn letter_again(&self, again: &Decided) -> &'static str {
         if again.is_same(&self.behind.told) {
             "b"
         } else {

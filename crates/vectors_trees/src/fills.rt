@@ -1,7 +1,7 @@
 //! `MAP ; LIST = fills yes or no, roots LINK LINK`.
 
+use crate::encoded::with_yes;
 use crate::filling::fills;
-use crate::spelled::with_yes;
 use crate::trees::root_of;
 use crate::words::formed_list;
 use anyhow::Result;

@@ -2,9 +2,9 @@
 //! may stand at a layer between two keys, its layer as a top node, whether it may be one, and where what hangs before its first
 //! key ends.
 
+use crate::encoded::with_yes;
 use crate::parts::node_of;
 use crate::row::Row;
-use crate::spelled::with_yes;
 use anyhow::{Result, bail};
 use mst_node::{Node, layer_of, next_key, node_fits, top_fits};
 use std::alloc::Global;

@@ -3,6 +3,7 @@
 #![tactic(auto)]
 
 mod covers;
+mod encoded;
 mod filling;
 mod fills;
 mod fits;
@@ -16,7 +17,6 @@ mod roots;
 mod rounds;
 mod row;
 mod shown;
-mod spelled;
 mod trees;
 mod undoing;
 mod views;

@@ -1,6 +1,6 @@
 //! `ITEMS ; OPERATIONS = ok ITEMS root LINK, or Clash(i)`.
 
-use crate::spelled::with_tree;
+use crate::encoded::with_tree;
 use crate::trees::root_of;
 use crate::words::{Change, change_of};
 use anyhow::{Result, bail};

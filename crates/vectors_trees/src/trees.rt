@@ -6,7 +6,7 @@ use anyhow::Result;
 use at_car::Blocks;
 use at_cid::Cid;
 use mst_list::{Item, ItemList, height};
-use mst_node::{EMPTY_NODE, Entry, KeyBytes, spell_node};
+use mst_node::{EMPTY_NODE, Entry, KeyBytes, encode_node};
 use std::alloc::Global;
 use vector_lines::had;
 
@@ -132,7 +132,7 @@ pub fn subtree(
 
 // Puts the block of a node among the others.
 fn put_node(alloc: Global, blocks: &mut Blocks, node: &OpenNode) -> Result<Cid> {
-    let block = had(spell_node(alloc, &node.left, node.entries.as_slice()))?;
+    let block = had(encode_node(alloc, &node.left, node.entries.as_slice()))?;
     put_block(blocks, block.as_slice())
 }
 

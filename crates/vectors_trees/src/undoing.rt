@@ -1,11 +1,11 @@
 //! `ITEMS ; OPERATIONS = ok ITEMS root LINK, or the fault, and then guarded yes or no`, and
 //! `ROOT ; BLOCKS ; OPERATIONS = ok root LINK, or the fault`.
 
+use crate::encoded::{with_tree, with_yes};
 use crate::filling::is_map;
 use crate::laws::former_root;
 use crate::row::Row;
 use crate::shown::{seen, tree_of};
-use crate::spelled::{with_tree, with_yes};
 use crate::trees::root_of;
 use crate::views::view_fault;
 use crate::words::{blocks, formed_operations, list, operations};

@@ -1,9 +1,9 @@
 //! `ROOT ; BLOCKS = view ok ITEMS, or the fault, and then walk ok COUNT, or the fault`: what is seen of blocks at a root, and
 //! how many keys the whole tree has.
 
+use crate::encoded::with_items;
 use crate::row::Row;
 use crate::shown::seen;
-use crate::spelled::with_items;
 use crate::walks::walked;
 use crate::words::blocks;
 use anyhow::{Result, bail};
@@ -31,7 +31,7 @@ pub fn with_fault(answer: Answer, name: &str, link: &Cid) -> Answer {
     answer.words(name).words("(").link(link).words(")")
 }
 
-// The tree with the link of its top forgotten, so that the top has to be spelled.
+// The tree with the link of its top forgotten, so that the top has to be encoded.
 fn without_link(tree: StubTree) -> StubTree {
     match tree.into_top() {
         None => StubTree::from_top(None),

@@ -11,7 +11,7 @@ use crate::timed::Timed;
 use at_cid::Octets;
 use httparse::Status;
 use httparse::spans::{EMPTY_HEADER_SPAN, parse_response};
-use relay_io::LONGEST_MESSAGE;
+use relay_io::LONGEST_FEED_MESSAGE;
 use std::alloc::Global;
 use std::io::{Read, Write};
 use std::net::{Ipv4Addr, Net, SocketAddr};
@@ -125,8 +125,8 @@ fn session_on<S: Read + Write + Drop, R: RandomSource + Clock + Copy>(
     let count = stream.admit(behind.as_slice());
     behind.truncate(count);
     let limits = WebSocketConfig::default()
-        .max_message_size(Some(LONGEST_MESSAGE))
-        .max_frame_size(Some(LONGEST_MESSAGE));
+        .max_message_size(Some(LONGEST_FEED_MESSAGE))
+        .max_frame_size(Some(LONGEST_FEED_MESSAGE));
     WebSocket::from_partially_read(
         alloc,
         stream,

@@ -2,7 +2,7 @@
 ghost use Rattle.std.specs.Prelude.{◌≤◌, length};
 
 use crate::limits::LONGEST_SIGN;
-use relay_io::LONGEST_MESSAGE;
+use relay_io::LONGEST_FEED_MESSAGE;
 use websocket::protocol::frame::FrameHeader;
 use websocket::protocol::frame::coding::{Data, OpCode};
 
@@ -89,11 +89,11 @@ impl Frames {
             OpCode::Control(_) => size <= LONGEST_SIGN,
             OpCode::Data(Data::Continue) => {
                 self.message = self.message.saturating_add(size);
-                self.message <= LONGEST_MESSAGE as u64
+                self.message <= LONGEST_FEED_MESSAGE as u64
             }
             OpCode::Data(_) => {
                 self.message = size;
-                size <= LONGEST_MESSAGE as u64
+                size <= LONGEST_FEED_MESSAGE as u64
             }
         }
     }

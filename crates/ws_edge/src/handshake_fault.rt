@@ -12,7 +12,7 @@ use websocket::handshake::HandshakeError;
 pub(crate) enum HandshakeFault {
     /// The other side, or the system, is at fault.
     Refused(Reason),
-    /// Memory was wanted.
+    /// Memory ran out.
     Memory,
 }
 

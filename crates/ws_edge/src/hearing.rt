@@ -2,13 +2,13 @@
 ghost use Rattle.std.specs.Prelude.{◌≡◌, ◌≤◌, List, ℕ, [], length, IsTrue, IfOk, OnOk};
 ghost use Rattle.tungstenite.specs.Content.{text, binary};
 ghost use Rattle.tungstenite.specs.Socket.{content_of};
-ghost use Rattle.relay_io.specs.declared.feed.TheConstants.{LONGEST_MESSAGE};
+ghost use Rattle.relay_io.specs.declared.feed.TheConstants.{LONGEST_FEED_MESSAGE};
 ghost use Rattle.ws_edge.specs.declared.hearing.Heard.{Heard};
 
 use crate::asking::Session;
 use crate::limits::{MOST_SIGNS, PONG_SECONDS, QUIET_SECONDS};
 use at_cid::Octets;
-use relay_io::{FeedFault, LONGEST_MESSAGE};
+use relay_io::{FeedFault, LONGEST_FEED_MESSAGE};
 use std::io::{ErrorKind, Read, Write};
 use std::net::OpenStream;
 use std::random::RandomSource;
@@ -34,7 +34,7 @@ pub(crate) fn next_message<S: Read + Write + OpenStream + Drop, R: RandomSource 
     session: &mut Session<S, R>,
     room: &mut Octets,
 ) -> Result<bool, FeedFault>
-    ensures within { IfOk result (λ more. IsTrue more → length room.new ≤ LONGEST_MESSAGE) }
+    ensures within { IfOk result (λ more. IsTrue more → length room.new ≤ LONGEST_FEED_MESSAGE) }
 {
     for _ in 0..u64::MAX {
         session.get_mut().below().give(QUIET_SECONDS);
@@ -61,7 +61,7 @@ fn listen<S: Read + Write + OpenStream + Drop, R: RandomSource + Clock + Copy>(
     room: &mut Octets,
     sign_answers: bool,
 ) -> Result<Heard, FeedFault>
-    ensures within { IfOk result (λ heard. heard ≡ Heard.Message → length room.new ≤ LONGEST_MESSAGE) }
+    ensures within { IfOk result (λ heard. heard ≡ Heard.Message → length room.new ≤ LONGEST_FEED_MESSAGE) }
 {
     for _ in 0..MOST_SIGNS + 1 {
         let heard = hear(session, room)?;
@@ -77,7 +77,7 @@ fn hear<S: Read + Write + OpenStream + Drop, R: RandomSource + Clock + Copy>(
     session: &mut Session<S, R>,
     room: &mut Octets,
 ) -> Result<Heard, FeedFault>
-    ensures within { IfOk result (λ heard. heard ≡ Heard.Message → length room.new ≤ LONGEST_MESSAGE) }
+    ensures within { IfOk result (λ heard. heard ≡ Heard.Message → length room.new ≤ LONGEST_FEED_MESSAGE) }
 {
     match session.read() {
         Ok(Message::Close(_)) => {
@@ -102,12 +102,12 @@ fn hear<S: Read + Write + OpenStream + Drop, R: RandomSource + Clock + Copy>(
 fn hand_on(message: &Message, room: &mut Octets) -> Result<Heard, FeedFault>
     ensures bytes { (bytes : List ℕ) → content_of message.now ≡ binary bytes → OnOk result (room.new ≡ bytes) }
     ensures text { (words : List ℕ) → content_of message.now ≡ text words → OnOk result (room.new ≡ []) }
-    ensures within { IfOk result (λ heard. heard ≡ Heard.Message → length room.new ≤ LONGEST_MESSAGE) }
+    ensures within { IfOk result (λ heard. heard ≡ Heard.Message → length room.new ≤ LONGEST_FEED_MESSAGE) }
 {
     room.clear();
     match message {
         Message::Binary(bytes) => {
-            if bytes.len() > LONGEST_MESSAGE {
+            if bytes.len() > LONGEST_FEED_MESSAGE {
                 return Err(FeedFault::Failed);
             }
             room.extend(bytes.as_slice())?;

@@ -16,5 +16,6 @@ mod welcome;
 mod ws_door;
 mod ws_feed;
 
+pub use timed::Timed;
 pub use ws_door::{DOOR_PORT, WsDoor};
 pub use ws_feed::WsFeed;

@@ -21,7 +21,7 @@ pub returns-clause-stands : goal.returns-clause-stands
 returns-clause-stands c = λ picks bytes h.
     let left : List ℕ = left_of c.args.progress.now in
     let e : header_at left ≡ Some (c.in-Some.roots, c.in-Some.rest.now) = ap header_at (sym c.left-left.ensures) ∙ sym c.in_ok-roots.ensures.is ∙ ap (option_map (λ x. (x.0, x.1.now))) c.in-Some.is in
-    let fits : IsBytes left = subst IsBytes c.left-left.ensures c.tell_bytes.ensures in
+    let fits : IsBytes left = subst IsBytes c.left-left.ensures c.ghost_bytes.ensures.bytes in
     let less = header_shorter left (c.in-Some.roots, c.in-Some.rest.now) fits e in
     front_read picks bytes c.args.progress.now _ c.in-Some.roots c.in-Some.rest.now (length left - length c.in-Some.rest.now) c.requires.well c.requires.front c.requires.uncut fits e refl (omega (arith, less))
     (c.pass.ensures.fault ∙ c.requires.well) refl c.pass.ensures.sifted
@@ -32,7 +32,7 @@ pub returns-clause-shorter : goal.returns-clause-shorter
 returns-clause-shorter c =
     let left : List ℕ = left_of c.args.progress.now in
     let e : header_at left ≡ Some (c.in-Some.roots, c.in-Some.rest.now) = ap header_at (sym c.left-left.ensures) ∙ sym c.in_ok-roots.ensures.is ∙ ap (option_map (λ x. (x.0, x.1.now))) c.in-Some.is in
-    let fits : IsBytes left = subst IsBytes c.left-left.ensures c.tell_bytes.ensures in
+    let fits : IsBytes left = subst IsBytes c.left-left.ensures c.ghost_bytes.ensures.bytes in
     let less = header_shorter left (c.in-Some.roots, c.in-Some.rest.now) fits e in
     let some = some_bytes left c.requires.uncut in
     let all : length (left_of c.pass.new.self) ≡ length (drop (length left - length c.in-Some.rest.now) left) = ap (λ (l : List ℕ). length l) (c.pass.ensures.left ∙ ap (λ (l : List ℕ). drop (length l - length c.in-Some.rest.now) left) c.left-left.ensures) in

@@ -1,6 +1,6 @@
 use Rattle.std.proofs.Common.{◌≡◌, ◌++◌, length, map, take, drop}
 use Rattle.at_cbor.specs.Item.{size_of, items_of, items_size, fields_of, fields_size}
-use Rattle.at_cbor.specs.Spelling.{items_spelling, fields_spelling}
+use Rattle.at_cbor.specs.Encoding.{items_encoding, fields_encoding}
 use Rattle.at_cbor.specs.View.{item_of, pair_of}
 use Rattle.at_cbor.proofs.Nested.{ValuesBefore, FieldsBefore}
 use Rattle.at_cbor.proofs.writing.+write.Given as goal
@@ -16,14 +16,14 @@ decreases-put_fields l = fields_size (fields_of (map pair_of l.fields.now))
 
 abbrev pub invariant-put_values-loop-value : goal.invariant-put_values-loop-value
 invariant-put_values-loop-value l = record {
-  written : l.out ++ items_spelling (items_of (map item_of (drop l.value-index l.values))) ≡ l.fn.out ++ items_spelling (items_of (map item_of l.values));
+  written : l.out ++ items_encoding (items_of (map item_of (drop l.value-index l.values))) ≡ l.fn.out ++ items_encoding (items_of (map item_of l.values));
   spellable : ValuesBefore l.values l.value-index;
   kept : take (length l.fn.out) l.out ≡ l.fn.out;
 }
 
 abbrev pub invariant-put_fields-loop-key : goal.invariant-put_fields-loop-key
 invariant-put_fields-loop-key l = record {
-  written : l.out ++ fields_spelling (fields_of (map pair_of (drop l.key-index l.fields))) ≡ l.fn.out ++ fields_spelling (fields_of (map pair_of l.fields));
+  written : l.out ++ fields_encoding (fields_of (map pair_of (drop l.key-index l.fields))) ≡ l.fn.out ++ fields_encoding (fields_of (map pair_of l.fields));
   spellable : FieldsBefore l.fields l.key-index;
   kept : take (length l.fn.out) l.out ≡ l.fn.out;
 }

@@ -26,7 +26,7 @@ returns-in_err-tree-clause-only c = λ from to accepts.
 pub returns-in_err-tree-clause-covered : goal.returns-in_err-tree-clause-covered
 returns-in_err-tree-clause-covered c = λ covers.
     let told = stop_refused c.args.event.now c.in_ok-content.content c.in_ok-ops.ops c.start_of-from.result c.in_err-tree.field-0.0 c.in_ok-content.ensures.shown (sym c.has_gap.ensures ∙ c.if-has_gap.false) c.in_ok-content.ensures.content c.start_of-from.ensures c.in_ok-ops.ensures.edits (c.in_err-tree.ensures.stops c.start_of-from.result) in
-    let memory = only_covered c.args.event.now c.in_ok-content.content c.in_ok-ops.ops c.in_err-tree.field-0.0 c.in_ok-content.ensures.content c.in_ok-ops.ensures.edits c.in_ok-ops.ensures.formed c.in_ok-ops.ensures.apart c.tell_linked.ensures told covers in
+    let memory = only_covered c.args.event.now c.in_ok-content.content c.in_ok-ops.ops c.in_err-tree.field-0.0 c.in_ok-content.ensures.content c.in_ok-ops.ensures.edits c.in_ok-ops.ensures.formed c.in_ok-ops.ensures.apart c.ghost_linked.ensures told covers in
     search (rules, memory)
 
 pub returns-in_err-lead_from-clause-refused : goal.returns-in_err-lead_from-clause-refused
@@ -49,7 +49,7 @@ returns-in_err-lead_from-clause-only c = λ from to accepts.
 pub returns-in_err-lead_from-clause-covered : goal.returns-in_err-lead_from-clause-covered
 returns-in_err-lead_from-clause-covered c = λ covers.
     let told = stop_refused c.args.event.now c.in_ok-content.content c.in_ok-ops.ops c.start_of-from.result c.in_err-lead_from.field-0.0 c.in_ok-content.ensures.shown (sym c.has_gap.ensures ∙ c.if-has_gap.false) c.in_ok-content.ensures.content c.start_of-from.ensures c.in_ok-ops.ensures.edits (c.in_err-lead_from.ensures.stops c.in_ok-content.content.car.blocks c.in_ok-tree.ensures.held) in
-    let memory = only_covered c.args.event.now c.in_ok-content.content c.in_ok-ops.ops c.in_err-lead_from.field-0.0 c.in_ok-content.ensures.content c.in_ok-ops.ensures.edits c.in_ok-ops.ensures.formed c.in_ok-ops.ensures.apart c.tell_linked.ensures told covers in
+    let memory = only_covered c.args.event.now c.in_ok-content.content c.in_ok-ops.ops c.in_err-lead_from.field-0.0 c.in_ok-content.ensures.content c.in_ok-ops.ensures.edits c.in_ok-ops.ensures.formed c.in_ok-ops.ensures.apart c.ghost_linked.ensures told covers in
     search (rules, memory)
 
 pub returns-clause-accepted : goal.returns-clause-accepted

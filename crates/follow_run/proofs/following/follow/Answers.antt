@@ -3,7 +3,7 @@ use Rattle.at_cid.specs.Counts.{Rose}
 use Rattle.relay_step.specs.Around.{around}
 use Rattle.tape_run.specs.Tells.{tells}
 use Rattle.tape_run.specs.declared.end.TapeEnd.{TapeEnd}
-use Rattle.ingest_run.specs.Ends.{IsCausedBy, MayEnd, Shows}
+use Rattle.ingest_run.specs.Ends.{IsCausedBy, MayEnd, TapeEndShows}
 use Rattle.ingest_run.specs.Ingested.{Unopened, pair_scene}
 use Rattle.ingest_run.proofs.Endings.{image_shows, none_later, opening_causes, opening_completes, opening_shows}
 use Rattle.ingest_run.proofs.Whole.{opened_of, unopened}
@@ -23,7 +23,7 @@ returns-in-Err-clause-followed g c = λ told J image.
 
 pub returns-in-Err-clause-shows : goal.returns-in-Err-clause-shows
 returns-in-Err-clause-shows g c = λ told.
-    kept_of_store (λ (e : TapeEnd). Shows e (g.D.Disk.view c.args.disk.now).content (g.D.Disk.view c.args.other.now).content) c.in-Err.fault c.of_store.result c.of_taking.result c.of_store.ensures c.of_taking.ensures
+    kept_of_store (λ (e : TapeEnd). TapeEndShows e (g.D.Disk.view c.args.disk.now).content (g.D.Disk.view c.args.other.now).content) c.in-Err.fault c.of_store.result c.of_taking.result c.of_store.ensures c.of_taking.ensures
     (opening_shows c.in-Err.fault (g.D.Disk.view c.args.disk.now).content (g.D.Disk.view c.args.other.now).content (c.in-Err.ensures.few c.in-Err.fault refl) (λ p is. c.in-Err.ensures.bad_log p (ap Err is) told))
 
 pub returns-in-Err-clause-caused : goal.returns-in-Err-clause-caused
@@ -50,7 +50,7 @@ returns-clause-shows g c = λ told.
     let J = kept.0 in
     let image = kept.1 in
     let taken = c.take_on-end.ensures.taken J (opened_of g.D.Disk.view (λ x. g.met.D.Disk.is_disk x) c.args.disk.now c.args.other.now c.open.new.disk c.open.new.other (tells g.D.Disk.tells g.C.Clock.tells g.R.Repos.tells g.O.Sink.tells) told c.in-Ok.store c.in-Ok.ensures.opened J image) in
-    kept_of_taking (λ (e : TapeEnd). Shows e (g.D.Disk.view c.args.disk.now).content (g.D.Disk.view c.args.other.now).content) g.F.Feed.tells c.args.host.now c.args.count _ _ c.take_on-end.result c.of_taking-2.result c.of_taking-2.ensures taken.feed.ends
+    kept_of_taking (λ (e : TapeEnd). TapeEndShows e (g.D.Disk.view c.args.disk.now).content (g.D.Disk.view c.args.other.now).content) g.F.Feed.tells c.args.host.now c.args.count _ _ c.take_on-end.result c.of_taking-2.result c.of_taking-2.ensures taken.feed.ends
     (image_shows c.take_on-end.result taken.taken.extra (g.D.Disk.view c.args.disk.now).content (g.D.Disk.view c.args.other.now).content J taken.taken.which_extra image)
 
 pub returns-clause-caused : goal.returns-clause-caused

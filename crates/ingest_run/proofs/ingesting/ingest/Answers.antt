@@ -3,7 +3,7 @@ use Rattle.at_cid.specs.Counts.{Rose}
 use Rattle.relay_step.specs.Around.{around}
 use Rattle.tape_run.specs.Tells.{tells}
 use Rattle.tape_run.specs.declared.end.TapeEnd.{TapeEnd}
-use Rattle.ingest_run.specs.Ends.{IsCausedBy, MayEnd, Shows}
+use Rattle.ingest_run.specs.Ends.{IsCausedBy, MayEnd, TapeEndShows}
 use Rattle.ingest_run.proofs.Endings.{completes, image_shows, none_later, opening_causes, opening_completes, opening_shows}
 use Rattle.ingest_run.proofs.Whole.{ingested, opened_of, unopened}
 use Rattle.ingest_run.proofs.ingesting.ingest.Goals as goal
@@ -16,7 +16,7 @@ returns-in-Err-clause-ingested g c = λ told J image.
 
 pub returns-in-Err-clause-shows : goal.returns-in-Err-clause-shows
 returns-in-Err-clause-shows g c = λ told.
-    subst (λ (end : TapeEnd). Shows end (g.D.Disk.view c.args.disk.now).content (g.D.Disk.view c.args.other.now).content) (sym c.of_store.ensures)
+    subst (λ (end : TapeEnd). TapeEndShows end (g.D.Disk.view c.args.disk.now).content (g.D.Disk.view c.args.other.now).content) (sym c.of_store.ensures)
     (opening_shows c.in-Err.fault (g.D.Disk.view c.args.disk.now).content (g.D.Disk.view c.args.other.now).content (c.in-Err.ensures.few c.in-Err.fault refl) (λ p is. c.in-Err.ensures.bad_log p (ap Err is) told))
 
 pub returns-in-Err-clause-caused : goal.returns-in-Err-clause-caused

@@ -13,7 +13,7 @@ use Rattle.mst_view.specs.Layered.{LiesBelow, below_items, below_link, entries_o
 use Rattle.mst_view.proofs.Filling.{IsNext, others, tail_is, hangs, bare, passed, filled}
 use Rattle.mst_node.proofs.Told.{both_true}
 use Rattle.mst_node.proofs.Passes.{hang_true, fit_true}
-use Rattle.mst_view.proofs.Spelled.{at_layer}
+use Rattle.mst_view.proofs.Encoded.{at_layer}
 use Rattle.mst_node.proofs.Steps.{at_none, at_hole, at_block, block_bad, block_unfit, block_fit}
 use Rattle.mst_view.proofs.Steps.{sound, ascends, nodes_under, above_zero, hang_of, fails_on, link_of_parts, some_items}
 use Rattle.mst_view.specs.declared.branch.Below.{Below}

@@ -52,7 +52,7 @@ read_branch-requires-clause-link_is c =
     let B = c.args.blocks.now in let left = c.args.left in let es = entries_of c.args.parts.items in let there = c.requires.there in
     let under = nodes_under B c.requires.linked in
     let k = top_known node_of sound B under there.0 left es there.2 c.requires.fits in
-    under c.args.root there.0 c.requires.kind there.1 ∙ ap cid k.spelled
+    under c.args.root there.0 c.requires.kind there.1 ∙ ap cid k.encoded
 
 pub from_top-requires-in-Ok-true : goal.from_top-requires-in-Ok-true
 from_top-requires-in-Ok-true c =

@@ -1,6 +1,6 @@
 use Rattle.std.proofs.Common.{◌≡◌, ◌+◌, ◌*◌, length, None}
 use Rattle.std.specs.Prelude.{option_map}
-use Rattle.mst_node.specs.Covers.{part_spelled, right_spelled}
+use Rattle.mst_node.specs.Covers.{part_encoded, right_encoded}
 use Rattle.mst_view.specs.Layered.{AllAt, rest_items}
 use Rattle.relay_gen.specs.Covers.{on_ways}
 use Rattle.relay_gen.specs.Messages.{with_blocks}
@@ -24,5 +24,5 @@ invariant-cover_parts-parts l =
     let high = option_map (λ k. k.now) l.high in record {
       at : AllAt l.layer l.rest;
       range : IsRange None high (rest_items l.layer l.rest);
-      blocks : with_blocks l.blocks (on_ways l.paths (right_spelled (part_spelled l.layer) l.layer high (rest_items l.layer l.rest))) ≡ with_blocks l.fn.blocks (on_ways l.paths (right_spelled (part_spelled l.layer) l.layer high (rest_items l.layer l.parts)));
+      blocks : with_blocks l.blocks (on_ways l.paths (right_encoded (part_encoded l.layer) l.layer high (rest_items l.layer l.rest))) ≡ with_blocks l.fn.blocks (on_ways l.paths (right_encoded (part_encoded l.layer) l.layer high (rest_items l.layer l.parts)));
     }

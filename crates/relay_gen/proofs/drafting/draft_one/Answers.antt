@@ -6,7 +6,7 @@ use Rattle.mst_list.specs.declared.op.Op.{Op}
 use Rattle.mst_node.proofs.Layers.{eqb_not}
 use Rattle.relay_gen.specs.Draws.{drawn, next}
 use Rattle.relay_gen.specs.Drafts.{Draft, with_op}
-use Rattle.relay_gen.specs.Names.{value_of}
+use Rattle.relay_gen.specs.Names.{generated_value}
 use Rattle.relay_gen.specs.Records.{item_of, op_of}
 use Rattle.relay_gen.proofs.Older.{drawn_edit}
 use Rattle.relay_gen.proofs.Sorted.{item_at, length_items}
@@ -21,7 +21,7 @@ returns c =
     let rs = c.args.records.now in let s = map item_of rs in let n = c.args.number in let j = c.args.place in
     let d : Draft = record { ops = map op_of c.args.changes.now.items; state = c.args.draws.now } in
     let kind = drawn 8 (next d.state) in let kind_is = c.draw-kind.ensures.value in let below = c.draw-kind.ensures.below in
-    let r = c.index-records-index.result in let value = value_of (n * 8 + j) in
+    let r = c.index-records-index.result in let value = generated_value (n * 8 + j) in
     let state : c.draw-index.new.self ≡ next (next d.state) = c.draw-index.ensures.state ∙ ap next c.draw-kind.ensures.state in
     let low : nat_lt kind 5 ≡ false = le-ltb kind 5 (let least = c.if-kind-lt5.false in omega arith) in
     let some : (length s == 0) ≡ false = ap (λ m. m == 0) (length_items rs) ∙ sym c.is_empty.ensures ∙ c.if-is_empty.false in

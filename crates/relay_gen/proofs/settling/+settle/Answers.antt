@@ -4,7 +4,7 @@ use Rattle.mst_view.specs.declared.branch.Part.{Part}
 use Rattle.at_cid.specs.Link.{cid}
 use Rattle.mst_node.specs.NodeBytes.{node_bytes}
 use Rattle.mst_view.specs.Layered.{AllAt, below_link, entries_of, rest_items}
-use Rattle.mst_view.proofs.Spelled.{spelled_node}
+use Rattle.mst_view.proofs.Encoded.{encoded_node}
 use Rattle.mst_view.proofs.Steps.{at_pushed, items_pushed}
 use Rattle.relay_gen.proofs.settling.+settle.Goals as goal
 
@@ -35,5 +35,5 @@ settle_branch-invariant_of-result-2 t c =
       all_at = c.in_ok-rest.ensures.at;
       kept_is = c.cid_of.ensures ∙ ap cid (c.as_slice-2.ensures.value ∙ c.in_ok-block.ensures
           ∙ ap (λ (x : List Part). node_bytes (below_link c.in_ok-first.first) (entries_of x)) c.as_slice.ensures.value
-          ∙ sym (spelled_node _ c.in_ok-first.first c.in_ok-rest.rest.items c.in_ok-first.ensures.lies c.in_ok-rest.ensures.at));
+          ∙ sym (encoded_node _ c.in_ok-first.first c.in_ok-rest.rest.items c.in_ok-first.ensures.lies c.in_ok-rest.ensures.at));
     }

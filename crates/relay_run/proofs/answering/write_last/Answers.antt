@@ -5,4 +5,4 @@ use Rattle.relay_run.proofs.answering.write_last.Goals as goal
 
 pub returns-clause-front : goal.returns-clause-front
 returns-clause-front g c = λ told.
-    front_of_second (g.O.Sink.written c.args.out.now) (g.O.Sink.written c.write_number.new.out) (g.O.Sink.written c.write_all.new.out) (numbered c.args.word.now c.args.number) (10 ∷ []) (c.in_ok-write_number.ensures.written told) (c.write_all.ensures.front told)
+    front_of_second (g.O.Sink.written c.args.out.now) (g.O.Sink.written c.write_number.new.out) (g.O.Sink.written c.write_all.new.out) (numbered c.args.command.now c.args.number) (10 ∷ []) (c.in_ok-write_number.ensures.written told) (c.write_all.ensures.front told)

@@ -5,5 +5,5 @@ use Rattle.relay_run.proofs.answering.write_number.Goals as goal
 
 pub returns-clause-front : goal.returns-clause-front
 returns-clause-front g c = λ told.
-    front_of_second (g.O.Sink.written c.args.out.now) (g.O.Sink.written c.write_all.new.out) (g.O.Sink.written c.write_all-2.new.out) c.args.word.now (decimal c.args.number) (c.in_ok-write_all.ensures.written told)
+    front_of_second (g.O.Sink.written c.args.out.now) (g.O.Sink.written c.write_all.new.out) (g.O.Sink.written c.write_all-2.new.out) c.args.command.now (decimal c.args.number) (c.in_ok-write_all.ensures.written told)
     (subst (λ (l : List ℕ). AddsFront (g.O.Sink.written c.write_all.new.out) (g.O.Sink.written c.write_all-2.new.out) l) (c.as_bytes.ensures.value ∙ c.format.ensures.text) (c.write_all-2.ensures.front told))

@@ -3,7 +3,7 @@ use Rattle.at_cid.specs.Counts.{Rose}
 use Rattle.gate_log.specs.Image.{front, generation}
 use Rattle.gate_log.specs.declared.format.Format.{Format}
 use Rattle.cut_law.specs.Cut.{cut}
-use Rattle.relay_store.specs.Rewriting.{HasNoRoom}
+use Rattle.relay_store.specs.Rewriting.{RewriteHasNoRoom}
 use Rattle.relay_run.proofs.Causing.{image_shows, opening_causes, opening_shows, rose_behind}
 use Rattle.relay_run.proofs.Severed.{answer_causes, answer_few, answer_good, cut_answered, cut_unopened, cut_unwritten, fault_good, kept, reading_rewrites, rewriting_causes}
 use Rattle.relay_run.proofs.cutting.cut.Goals as goal
@@ -46,7 +46,7 @@ returns-clause-cut g c = λ told J image.
     cut_unwritten g.D.Disk.view (λ x. g.met.D.Disk.is_disk x) c.args.disk.now c.args.other.now c.open.new.disk c.open.new.other g.D.Disk.tells told g.O.Sink.tells c.args.most c.args.seq J (g.O.Sink.written c.args.out.now)
     c.in-Ok.store c.in-Ok.ensures.opened image c.cut_on.new.disk c.cut_on.new.other c.in-Err-cut_on.fault
     (c.in-Err-cut_on.ensures.failed c.in-Err-cut_on.fault refl told J keeps) (c.in-Err-cut_on.ensures.few c.in-Err-cut_on.fault refl) (λ p is. c.in-Err-cut_on.ensures.no_bad_log p (ap Err is) told)
-    (λ e is. subst (λ (m : ℕ). HasNoRoom (length (front (Format.Two (generation c.in-Ok.store.log.format + 1)))) m (cut J c.args.seq) e) c.in-Ok.ensures.open.1 (c.in-Err-cut_on.ensures.full e (ap Err is) told J keeps))
+    (λ e is. subst (λ (m : ℕ). RewriteHasNoRoom (length (front (Format.Two (generation c.in-Ok.store.log.format + 1)))) m (cut J c.args.seq) e) c.in-Ok.ensures.open.1 (c.in-Err-cut_on.ensures.full e (ap Err is) told J keeps))
     (c.in-Err-cut_on.ensures.moments told J keeps)
 
 pub returns-clause-shows : goal.returns-clause-shows

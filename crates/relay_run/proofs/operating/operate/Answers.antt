@@ -2,18 +2,18 @@ use Rattle.std.proofs.Common.{◌≡◌, ◌⊎◌, inl, inr, ⊎_elim, Err, IsT
 use Rattle.std.specs.Prelude.{⊤}
 use Rattle.at_cid.specs.Counts.{Rose}
 use Rattle.relay_step.specs.Causes.{OneTaken}
-use Rattle.relay_step.specs.Words.{EndsBehind, OperatedAt}
+use Rattle.relay_step.specs.Commands.{EndsBehind, OperatedAt}
 use Rattle.relay_store.specs.Faults.{IsCause}
 use Rattle.relay_store.specs.Store.{seen_in}
-use Rattle.relay_run.specs.Spoke.{Knows}
-use Rattle.relay_run.proofs.Causing.{done_causes, done_good, image_shows, opening_causes, opening_shows, operating_causes, rose_behind, spoken_good}
+use Rattle.relay_run.specs.CommandRan.{Knows}
+use Rattle.relay_run.proofs.Causing.{done_causes, done_good, image_shows, opening_causes, opening_shows, operating_causes, rose_behind, commanded_good}
 use Rattle.relay_run.proofs.Sounds.{operated_stays}
-use Rattle.relay_run.proofs.Uttered.{opened_knows, opened_of, spoke_err, spoke_ok, spoke_unopened, vain_by}
+use Rattle.relay_run.proofs.Uttered.{opened_knows, opened_of, ran_err, ran_ok, ran_unopened, vain_by}
 use Rattle.relay_run.proofs.operating.operate.Goals as goal
 
-pub returns-in-Err-clause-spoke : goal.returns-in-Err-clause-spoke
-returns-in-Err-clause-spoke g c = λ told J image.
-    spoke_unopened g.D.Disk.tells (g.D.Disk.view c.args.disk.now) (g.D.Disk.view c.args.other.now) (g.D.Disk.view c.open.new.disk) (g.D.Disk.view c.open.new.other) c.in-Err.fault J _ _ _ g.O.Sink.tells c.args.most (g.O.Sink.written c.args.out.now)
+pub returns-in-Err-clause-ran : goal.returns-in-Err-clause-ran
+returns-in-Err-clause-ran g c = λ told J image.
+    ran_unopened g.D.Disk.tells (g.D.Disk.view c.args.disk.now) (g.D.Disk.view c.args.other.now) (g.D.Disk.view c.open.new.disk) (g.D.Disk.view c.open.new.other) c.in-Err.fault J _ _ _ g.O.Sink.tells c.args.most (g.O.Sink.written c.args.out.now)
     (g.met.D.Disk.is_disk c.open.new.disk) (g.met.D.Disk.is_disk c.open.new.other) c.in-Err.ensures.opened told image (c.in-Err.ensures.few c.in-Err.fault refl) refl
 
 pub returns-in-Err-clause-shows : goal.returns-in-Err-clause-shows
@@ -22,15 +22,15 @@ returns-in-Err-clause-shows g c = λ told. opening_shows c.in-Err.fault _ _ (c.i
 pub returns-in-Err-clause-caused : goal.returns-in-Err-clause-caused
 returns-in-Err-clause-caused g c = opening_causes (Rose (g.D.Disk.view c.args.disk.now).faults (g.D.Disk.view c.open.new.disk).faults ⊎ Rose (g.D.Disk.view c.args.other.now).faults (g.D.Disk.view c.open.new.other).faults) (Rose (g.O.Sink.faults c.args.out.now) (g.O.Sink.faults c.args.out.now)) ⊥ ⊥ (Rose (g.C.Clock.faults c.args.clock.now) (g.C.Clock.faults c.args.clock.now)) c.in-Err.fault (c.in-Err.ensures.few c.in-Err.fault refl) (λ is. c.in-Err.ensures.disk (ap Err is))
 
-pub returns-in-Ok-operate_on-clause-spoke : goal.returns-in-Ok-operate_on-clause-spoke
-returns-in-Ok-operate_on-clause-spoke g c = λ told J image.
-    spoke_ok g.D.Disk.view (λ x. g.met.D.Disk.is_disk x) c.args.disk.now c.args.other.now c.open.new.disk c.open.new.other g.D.Disk.tells told c.in-Ok.store c.in-Ok.ensures.opened J image
+pub returns-in-Ok-operate_on-clause-ran : goal.returns-in-Ok-operate_on-clause-ran
+returns-in-Ok-operate_on-clause-ran g c = λ told J image.
+    ran_ok g.D.Disk.view (λ x. g.met.D.Disk.is_disk x) c.args.disk.now c.args.other.now c.open.new.disk c.open.new.other g.D.Disk.tells told c.in-Ok.store c.in-Ok.ensures.opened J image
     c.operate_on.new.disk c.operate_on.new.other c.operate_on.new.store c.in-Ok-operate_on.ensures.beside
-    (λ core word. OperatedAt g.C.Clock.tells core c.args.did.now c.args.down c.args.time.now (g.C.Clock.moments c.args.clock.now) word (g.C.Clock.moments c.operate_on.new.clock))
+    (λ core command. OperatedAt g.C.Clock.tells core c.args.did.now c.args.down c.args.time.now (g.C.Clock.moments c.args.clock.now) command (g.C.Clock.moments c.operate_on.new.clock))
     (IsTrue g.C.Clock.tells → OneTaken (g.C.Clock.moments c.args.clock.now) (g.C.Clock.moments c.operate_on.new.clock)) (g.C.Clock.moments c.operate_on.new.clock ≡ g.C.Clock.moments c.args.clock.now) (λ fault. (IsTrue g.C.Clock.tells → OneTaken (g.C.Clock.moments c.args.clock.now) (g.C.Clock.moments c.operate_on.new.clock)) × IsCause (Knows J (λ core. EndsBehind core c.args.did.now c.args.down)) ⊤ ⊤ ⊤ fault) g.O.Sink.tells c.args.most c.in-Ok.ensures.open.1
-    (λ core holds word at. operated_stays g.C.Clock.tells core J c.args.did.now c.args.down c.args.time.now (g.C.Clock.moments c.args.clock.now) (g.C.Clock.moments c.operate_on.new.clock) holds word at)
+    (λ core holds command at. operated_stays g.C.Clock.tells core J c.args.did.now c.args.down c.args.time.now (g.C.Clock.moments c.args.clock.now) (g.C.Clock.moments c.operate_on.new.clock) holds command at)
     c.in-Ok-operate_on.done c.answer.result (g.O.Sink.written c.args.out.now) (g.O.Sink.written c.answer.new.out)
-    (c.in-Ok-operate_on.ensures.spoken J (opened_of g.D.Disk.view (λ x. g.met.D.Disk.is_disk x) c.args.disk.now c.args.other.now c.open.new.disk c.open.new.other g.D.Disk.tells told c.in-Ok.store c.in-Ok.ensures.opened J image))
+    (c.in-Ok-operate_on.ensures.commanded J (opened_of g.D.Disk.view (λ x. g.met.D.Disk.is_disk x) c.args.disk.now c.args.other.now c.open.new.disk c.open.new.other g.D.Disk.tells told c.in-Ok.store c.in-Ok.ensures.opened J image))
     c.answer.ensures.ends c.answer.ensures.written
 
 pub returns-in-Ok-operate_on-clause-shows : goal.returns-in-Ok-operate_on-clause-shows
@@ -39,15 +39,15 @@ returns-in-Ok-operate_on-clause-shows g c = λ told. let kept = c.in-Ok.ensures.
 pub returns-in-Ok-operate_on-clause-caused : goal.returns-in-Ok-operate_on-clause-caused
 returns-in-Ok-operate_on-clause-caused g c = done_causes _ _ _ _ _ c.in-Ok-operate_on.done c.answer.result c.answer.ensures.ends c.answer.ensures.failed
 
-pub returns-clause-spoke : goal.returns-clause-spoke
-returns-clause-spoke g c = λ told J image.
-    spoke_err g.D.Disk.view (λ x. g.met.D.Disk.is_disk x) c.args.disk.now c.args.other.now c.open.new.disk c.open.new.other g.D.Disk.tells told c.in-Ok.store c.in-Ok.ensures.opened J image
+pub returns-clause-ran : goal.returns-clause-ran
+returns-clause-ran g c = λ told J image.
+    ran_err g.D.Disk.view (λ x. g.met.D.Disk.is_disk x) c.args.disk.now c.args.other.now c.open.new.disk c.open.new.other g.D.Disk.tells told c.in-Ok.store c.in-Ok.ensures.opened J image
     c.operate_on.new.disk c.operate_on.new.other c.operate_on.new.store c.in-Err-operate_on.ensures.beside
-    (λ core word. OperatedAt g.C.Clock.tells core c.args.did.now c.args.down c.args.time.now (g.C.Clock.moments c.args.clock.now) word (g.C.Clock.moments c.operate_on.new.clock))
+    (λ core command. OperatedAt g.C.Clock.tells core c.args.did.now c.args.down c.args.time.now (g.C.Clock.moments c.args.clock.now) command (g.C.Clock.moments c.operate_on.new.clock))
     (IsTrue g.C.Clock.tells → OneTaken (g.C.Clock.moments c.args.clock.now) (g.C.Clock.moments c.operate_on.new.clock)) (g.C.Clock.moments c.operate_on.new.clock ≡ g.C.Clock.moments c.args.clock.now) (λ fault. (IsTrue g.C.Clock.tells → OneTaken (g.C.Clock.moments c.args.clock.now) (g.C.Clock.moments c.operate_on.new.clock)) × IsCause (Knows J (λ core. EndsBehind core c.args.did.now c.args.down)) ⊤ ⊤ ⊤ fault) g.O.Sink.tells c.args.most c.in-Ok.ensures.open.1
-    (λ core holds word at. operated_stays g.C.Clock.tells core J c.args.did.now c.args.down c.args.time.now (g.C.Clock.moments c.args.clock.now) (g.C.Clock.moments c.operate_on.new.clock) holds word at)
+    (λ core holds command at. operated_stays g.C.Clock.tells core J c.args.did.now c.args.down c.args.time.now (g.C.Clock.moments c.args.clock.now) (g.C.Clock.moments c.operate_on.new.clock) holds command at)
     c.in-Err-operate_on.fault (g.O.Sink.written c.args.out.now)
-    (c.in-Err-operate_on.ensures.spoken J (opened_of g.D.Disk.view (λ x. g.met.D.Disk.is_disk x) c.args.disk.now c.args.other.now c.open.new.disk c.open.new.other g.D.Disk.tells told c.in-Ok.store c.in-Ok.ensures.opened J image))
+    (c.in-Err-operate_on.ensures.commanded J (opened_of g.D.Disk.view (λ x. g.met.D.Disk.is_disk x) c.args.disk.now c.args.other.now c.open.new.disk c.open.new.other g.D.Disk.tells told c.in-Ok.store c.in-Ok.ensures.opened J image))
     (λ came. (came, vain_by _ c.in-Err-operate_on.fault (λ is. opened_knows g.D.Disk.view (λ x. g.met.D.Disk.is_disk x) c.args.disk.now c.args.other.now c.open.new.disk c.open.new.other g.D.Disk.tells told c.in-Ok.store c.in-Ok.ensures.opened J image (λ core. EndsBehind core c.args.did.now c.args.down) (c.in-Err-operate_on.ensures.seq_end (ap Err is)))))
 
 pub returns-clause-shows : goal.returns-clause-shows
@@ -56,8 +56,8 @@ returns-clause-shows g c = λ told.
     let J = kept.0 in
     let image = kept.1 in
     image_shows _ _ _ J image
-    (spoken_good g.D.Disk.view g.D.Disk.tells J _ _ (seen_in c.in-Ok.store) (seen_in c.operate_on.new.store) _ _ c.in-Err-operate_on.fault
-    (c.in-Err-operate_on.ensures.spoken J (opened_of g.D.Disk.view (λ x. g.met.D.Disk.is_disk x) c.args.disk.now c.args.other.now c.open.new.disk c.open.new.other g.D.Disk.tells told c.in-Ok.store c.in-Ok.ensures.opened J image)))
+    (commanded_good g.D.Disk.view g.D.Disk.tells J _ _ (seen_in c.in-Ok.store) (seen_in c.operate_on.new.store) _ _ c.in-Err-operate_on.fault
+    (c.in-Err-operate_on.ensures.commanded J (opened_of g.D.Disk.view (λ x. g.met.D.Disk.is_disk x) c.args.disk.now c.args.other.now c.open.new.disk c.open.new.other g.D.Disk.tells told c.in-Ok.store c.in-Ok.ensures.opened J image)))
 
 pub returns-clause-caused : goal.returns-clause-caused
 returns-clause-caused g c = operating_causes _ (Rose (g.O.Sink.faults c.args.out.now) (g.O.Sink.faults c.args.out.now)) _ c.in-Err-operate_on.fault (c.in-Err-operate_on.ensures.few c.in-Err-operate_on.fault refl)

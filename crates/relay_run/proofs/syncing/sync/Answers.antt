@@ -6,18 +6,18 @@ use Rattle.at_syntax.specs.Did.{method_of}
 use Rattle.relay_step.specs.Around.{around}
 use Rattle.relay_step.specs.Asked.{AskedInVain}
 use Rattle.relay_step.specs.Causes.{CameToNothing}
-use Rattle.relay_step.specs.Words.{EndsFetched, SyncedAt, told_where}
+use Rattle.relay_step.specs.Commands.{EndsFetched, SyncedAt, told_where}
 use Rattle.relay_store.specs.Faults.{IsCause}
 use Rattle.relay_store.specs.Store.{seen_in}
-use Rattle.relay_run.specs.Spoke.{Knows}
-use Rattle.relay_run.proofs.Causing.{done_causes, done_good, image_shows, opening_causes, opening_shows, spoken_good}
+use Rattle.relay_run.specs.CommandRan.{Knows}
+use Rattle.relay_run.proofs.Causing.{done_causes, done_good, image_shows, opening_causes, opening_shows, commanded_good}
 use Rattle.relay_run.proofs.Sounds.{synced_stays}
-use Rattle.relay_run.proofs.Uttered.{opened_knows, opened_of, spoke_err, spoke_ok, spoke_unopened, vain_by}
+use Rattle.relay_run.proofs.Uttered.{opened_knows, opened_of, ran_err, ran_ok, ran_unopened, vain_by}
 use Rattle.relay_run.proofs.syncing.sync.Goals as goal
 
-pub returns-in-Err-clause-spoke : goal.returns-in-Err-clause-spoke
-returns-in-Err-clause-spoke g c = λ told J image.
-    spoke_unopened g.D.Disk.tells (g.D.Disk.view c.args.disk.now) (g.D.Disk.view c.args.other.now) (g.D.Disk.view c.open.new.disk) (g.D.Disk.view c.open.new.other) c.in-Err.fault J _ _ _ g.O.Sink.tells c.args.most (g.O.Sink.written c.args.out.now)
+pub returns-in-Err-clause-ran : goal.returns-in-Err-clause-ran
+returns-in-Err-clause-ran g c = λ told J image.
+    ran_unopened g.D.Disk.tells (g.D.Disk.view c.args.disk.now) (g.D.Disk.view c.args.other.now) (g.D.Disk.view c.open.new.disk) (g.D.Disk.view c.open.new.other) c.in-Err.fault J _ _ _ g.O.Sink.tells c.args.most (g.O.Sink.written c.args.out.now)
     (g.met.D.Disk.is_disk c.open.new.disk) (g.met.D.Disk.is_disk c.open.new.other) c.in-Err.ensures.opened told image (c.in-Err.ensures.few c.in-Err.fault refl) refl
 
 pub returns-in-Err-clause-shows : goal.returns-in-Err-clause-shows
@@ -26,15 +26,15 @@ returns-in-Err-clause-shows g c = λ told. opening_shows c.in-Err.fault _ _ (c.i
 pub returns-in-Err-clause-caused : goal.returns-in-Err-clause-caused
 returns-in-Err-clause-caused g c = opening_causes (Rose (g.D.Disk.view c.args.disk.now).faults (g.D.Disk.view c.open.new.disk).faults ⊎ Rose (g.D.Disk.view c.args.other.now).faults (g.D.Disk.view c.open.new.other).faults) (Rose (g.O.Sink.faults c.args.out.now) (g.O.Sink.faults c.args.out.now)) (IsSpent (g.P.Judges.panel c.args.judges.now (method_of c.args.did.now))) (Rose (g.R.Repos.faults c.args.repos.now) (g.R.Repos.faults c.args.repos.now)) (Rose (g.C.Clock.faults c.args.clock.now) (g.C.Clock.faults c.args.clock.now)) c.in-Err.fault (c.in-Err.ensures.few c.in-Err.fault refl) (λ is. c.in-Err.ensures.disk (ap Err is))
 
-pub returns-in-Ok-sync_on-clause-spoke : goal.returns-in-Ok-sync_on-clause-spoke
-returns-in-Ok-sync_on-clause-spoke g c = λ told J image.
-    spoke_ok g.D.Disk.view (λ x. g.met.D.Disk.is_disk x) c.args.disk.now c.args.other.now c.open.new.disk c.open.new.other g.D.Disk.tells told c.in-Ok.store c.in-Ok.ensures.opened J image
+pub returns-in-Ok-sync_on-clause-ran : goal.returns-in-Ok-sync_on-clause-ran
+returns-in-Ok-sync_on-clause-ran g c = λ told J image.
+    ran_ok g.D.Disk.view (λ x. g.met.D.Disk.is_disk x) c.args.disk.now c.args.other.now c.open.new.disk c.open.new.other g.D.Disk.tells told c.in-Ok.store c.in-Ok.ensures.opened J image
     c.sync_on.new.disk c.sync_on.new.other c.sync_on.new.store c.in-Ok-sync_on.ensures.beside
-    (λ core word. SyncedAt g.C.Clock.tells g.R.Repos.tells core c.args.did.now c.args.time.now (around (g.P.Judges.panel c.args.judges.now) (g.C.Clock.moments c.args.clock.now) (g.R.Repos.repository c.args.repos.now)) word (around (g.P.Judges.panel c.sync_on.new.judges) (g.C.Clock.moments c.sync_on.new.clock) (g.R.Repos.repository c.sync_on.new.repos)))
+    (λ core command. SyncedAt g.C.Clock.tells g.R.Repos.tells core c.args.did.now c.args.time.now (around (g.P.Judges.panel c.args.judges.now) (g.C.Clock.moments c.args.clock.now) (g.R.Repos.repository c.args.repos.now)) command (around (g.P.Judges.panel c.sync_on.new.judges) (g.C.Clock.moments c.sync_on.new.clock) (g.R.Repos.repository c.sync_on.new.repos)))
     (CameToNothing g.C.Clock.tells g.R.Repos.tells (AskedInVain (g.P.Judges.panel c.args.judges.now) c.args.did.now (g.P.Judges.panel c.sync_on.new.judges)) (around (g.P.Judges.panel c.args.judges.now) (g.C.Clock.moments c.args.clock.now) (g.R.Repos.repository c.args.repos.now)) (around (g.P.Judges.panel c.sync_on.new.judges) (g.C.Clock.moments c.sync_on.new.clock) (g.R.Repos.repository c.sync_on.new.repos))) (around (g.P.Judges.panel c.sync_on.new.judges) (g.C.Clock.moments c.sync_on.new.clock) (g.R.Repos.repository c.sync_on.new.repos) ≡ around (g.P.Judges.panel c.args.judges.now) (g.C.Clock.moments c.args.clock.now) (g.R.Repos.repository c.args.repos.now)) (λ fault. (CameToNothing g.C.Clock.tells g.R.Repos.tells (AskedInVain (g.P.Judges.panel c.args.judges.now) c.args.did.now (g.P.Judges.panel c.sync_on.new.judges)) (around (g.P.Judges.panel c.args.judges.now) (g.C.Clock.moments c.args.clock.now) (g.R.Repos.repository c.args.repos.now)) (around (g.P.Judges.panel c.sync_on.new.judges) (g.C.Clock.moments c.sync_on.new.clock) (g.R.Repos.repository c.sync_on.new.repos))) × IsCause (Knows J (λ core. EndsFetched core c.args.did.now (told_where g.R.Repos.tells (g.R.Repos.repository c.args.repos.now c.args.did.now)) (g.P.Judges.panel c.args.judges.now) (g.P.Judges.panel c.sync_on.new.judges))) ⊤ ⊤ ⊤ fault) g.O.Sink.tells c.args.most c.in-Ok.ensures.open.1
-    (λ core holds word at. synced_stays g.C.Clock.tells g.R.Repos.tells core J c.args.did.now c.args.time.now (around (g.P.Judges.panel c.args.judges.now) (g.C.Clock.moments c.args.clock.now) (g.R.Repos.repository c.args.repos.now)) (around (g.P.Judges.panel c.sync_on.new.judges) (g.C.Clock.moments c.sync_on.new.clock) (g.R.Repos.repository c.sync_on.new.repos)) holds word at)
+    (λ core holds command at. synced_stays g.C.Clock.tells g.R.Repos.tells core J c.args.did.now c.args.time.now (around (g.P.Judges.panel c.args.judges.now) (g.C.Clock.moments c.args.clock.now) (g.R.Repos.repository c.args.repos.now)) (around (g.P.Judges.panel c.sync_on.new.judges) (g.C.Clock.moments c.sync_on.new.clock) (g.R.Repos.repository c.sync_on.new.repos)) holds command at)
     c.in-Ok-sync_on.done c.answer.result (g.O.Sink.written c.args.out.now) (g.O.Sink.written c.answer.new.out)
-    (c.in-Ok-sync_on.ensures.spoken J (opened_of g.D.Disk.view (λ x. g.met.D.Disk.is_disk x) c.args.disk.now c.args.other.now c.open.new.disk c.open.new.other g.D.Disk.tells told c.in-Ok.store c.in-Ok.ensures.opened J image))
+    (c.in-Ok-sync_on.ensures.commanded J (opened_of g.D.Disk.view (λ x. g.met.D.Disk.is_disk x) c.args.disk.now c.args.other.now c.open.new.disk c.open.new.other g.D.Disk.tells told c.in-Ok.store c.in-Ok.ensures.opened J image))
     c.answer.ensures.ends c.answer.ensures.written
 
 pub returns-in-Ok-sync_on-clause-shows : goal.returns-in-Ok-sync_on-clause-shows
@@ -43,15 +43,15 @@ returns-in-Ok-sync_on-clause-shows g c = λ told. let kept = c.in-Ok.ensures.ope
 pub returns-in-Ok-sync_on-clause-caused : goal.returns-in-Ok-sync_on-clause-caused
 returns-in-Ok-sync_on-clause-caused g c = done_causes _ _ _ _ _ c.in-Ok-sync_on.done c.answer.result c.answer.ensures.ends c.answer.ensures.failed
 
-pub returns-clause-spoke : goal.returns-clause-spoke
-returns-clause-spoke g c = λ told J image.
-    spoke_err g.D.Disk.view (λ x. g.met.D.Disk.is_disk x) c.args.disk.now c.args.other.now c.open.new.disk c.open.new.other g.D.Disk.tells told c.in-Ok.store c.in-Ok.ensures.opened J image
+pub returns-clause-ran : goal.returns-clause-ran
+returns-clause-ran g c = λ told J image.
+    ran_err g.D.Disk.view (λ x. g.met.D.Disk.is_disk x) c.args.disk.now c.args.other.now c.open.new.disk c.open.new.other g.D.Disk.tells told c.in-Ok.store c.in-Ok.ensures.opened J image
     c.sync_on.new.disk c.sync_on.new.other c.sync_on.new.store c.in-Err-sync_on.ensures.beside
-    (λ core word. SyncedAt g.C.Clock.tells g.R.Repos.tells core c.args.did.now c.args.time.now (around (g.P.Judges.panel c.args.judges.now) (g.C.Clock.moments c.args.clock.now) (g.R.Repos.repository c.args.repos.now)) word (around (g.P.Judges.panel c.sync_on.new.judges) (g.C.Clock.moments c.sync_on.new.clock) (g.R.Repos.repository c.sync_on.new.repos)))
+    (λ core command. SyncedAt g.C.Clock.tells g.R.Repos.tells core c.args.did.now c.args.time.now (around (g.P.Judges.panel c.args.judges.now) (g.C.Clock.moments c.args.clock.now) (g.R.Repos.repository c.args.repos.now)) command (around (g.P.Judges.panel c.sync_on.new.judges) (g.C.Clock.moments c.sync_on.new.clock) (g.R.Repos.repository c.sync_on.new.repos)))
     (CameToNothing g.C.Clock.tells g.R.Repos.tells (AskedInVain (g.P.Judges.panel c.args.judges.now) c.args.did.now (g.P.Judges.panel c.sync_on.new.judges)) (around (g.P.Judges.panel c.args.judges.now) (g.C.Clock.moments c.args.clock.now) (g.R.Repos.repository c.args.repos.now)) (around (g.P.Judges.panel c.sync_on.new.judges) (g.C.Clock.moments c.sync_on.new.clock) (g.R.Repos.repository c.sync_on.new.repos))) (around (g.P.Judges.panel c.sync_on.new.judges) (g.C.Clock.moments c.sync_on.new.clock) (g.R.Repos.repository c.sync_on.new.repos) ≡ around (g.P.Judges.panel c.args.judges.now) (g.C.Clock.moments c.args.clock.now) (g.R.Repos.repository c.args.repos.now)) (λ fault. (CameToNothing g.C.Clock.tells g.R.Repos.tells (AskedInVain (g.P.Judges.panel c.args.judges.now) c.args.did.now (g.P.Judges.panel c.sync_on.new.judges)) (around (g.P.Judges.panel c.args.judges.now) (g.C.Clock.moments c.args.clock.now) (g.R.Repos.repository c.args.repos.now)) (around (g.P.Judges.panel c.sync_on.new.judges) (g.C.Clock.moments c.sync_on.new.clock) (g.R.Repos.repository c.sync_on.new.repos))) × IsCause (Knows J (λ core. EndsFetched core c.args.did.now (told_where g.R.Repos.tells (g.R.Repos.repository c.args.repos.now c.args.did.now)) (g.P.Judges.panel c.args.judges.now) (g.P.Judges.panel c.sync_on.new.judges))) ⊤ ⊤ ⊤ fault) g.O.Sink.tells c.args.most c.in-Ok.ensures.open.1
-    (λ core holds word at. synced_stays g.C.Clock.tells g.R.Repos.tells core J c.args.did.now c.args.time.now (around (g.P.Judges.panel c.args.judges.now) (g.C.Clock.moments c.args.clock.now) (g.R.Repos.repository c.args.repos.now)) (around (g.P.Judges.panel c.sync_on.new.judges) (g.C.Clock.moments c.sync_on.new.clock) (g.R.Repos.repository c.sync_on.new.repos)) holds word at)
+    (λ core holds command at. synced_stays g.C.Clock.tells g.R.Repos.tells core J c.args.did.now c.args.time.now (around (g.P.Judges.panel c.args.judges.now) (g.C.Clock.moments c.args.clock.now) (g.R.Repos.repository c.args.repos.now)) (around (g.P.Judges.panel c.sync_on.new.judges) (g.C.Clock.moments c.sync_on.new.clock) (g.R.Repos.repository c.sync_on.new.repos)) holds command at)
     c.in-Err-sync_on.fault (g.O.Sink.written c.args.out.now)
-    (c.in-Err-sync_on.ensures.spoken J (opened_of g.D.Disk.view (λ x. g.met.D.Disk.is_disk x) c.args.disk.now c.args.other.now c.open.new.disk c.open.new.other g.D.Disk.tells told c.in-Ok.store c.in-Ok.ensures.opened J image))
+    (c.in-Err-sync_on.ensures.commanded J (opened_of g.D.Disk.view (λ x. g.met.D.Disk.is_disk x) c.args.disk.now c.args.other.now c.open.new.disk c.open.new.other g.D.Disk.tells told c.in-Ok.store c.in-Ok.ensures.opened J image))
     (λ came. (came, vain_by _ c.in-Err-sync_on.fault (λ is. opened_knows g.D.Disk.view (λ x. g.met.D.Disk.is_disk x) c.args.disk.now c.args.other.now c.open.new.disk c.open.new.other g.D.Disk.tells told c.in-Ok.store c.in-Ok.ensures.opened J image (λ core. EndsFetched core c.args.did.now (told_where g.R.Repos.tells (g.R.Repos.repository c.args.repos.now c.args.did.now)) (g.P.Judges.panel c.args.judges.now) (g.P.Judges.panel c.sync_on.new.judges)) (c.in-Err-sync_on.ensures.seq_end (ap Err is)))))
 
 pub returns-clause-shows : goal.returns-clause-shows
@@ -60,5 +60,5 @@ returns-clause-shows g c = λ told.
     let J = kept.0 in
     let image = kept.1 in
     image_shows _ _ _ J image
-    (spoken_good g.D.Disk.view g.D.Disk.tells J _ _ (seen_in c.in-Ok.store) (seen_in c.sync_on.new.store) _ _ c.in-Err-sync_on.fault
-    (c.in-Err-sync_on.ensures.spoken J (opened_of g.D.Disk.view (λ x. g.met.D.Disk.is_disk x) c.args.disk.now c.args.other.now c.open.new.disk c.open.new.other g.D.Disk.tells told c.in-Ok.store c.in-Ok.ensures.opened J image)))
+    (commanded_good g.D.Disk.view g.D.Disk.tells J _ _ (seen_in c.in-Ok.store) (seen_in c.sync_on.new.store) _ _ c.in-Err-sync_on.fault
+    (c.in-Err-sync_on.ensures.commanded J (opened_of g.D.Disk.view (λ x. g.met.D.Disk.is_disk x) c.args.disk.now c.args.other.now c.open.new.disk c.open.new.other g.D.Disk.tells told c.in-Ok.store c.in-Ok.ensures.opened J image)))

@@ -1,20 +1,21 @@
 use Rattle.std.proofs.Common.{Ok, sym, subst}
 use Rattle.std.specs.Prelude.{IfOk}
 use Rattle.std.proofs.lemmas.Bool.{and_from}
+use Rattle.at_cbor.proofs.Texts.{typed_string}
 use Rattle.at_syntax.specs.Host.{is_host}
 use Rattle.relay_row.specs.Rules.{is_text}
 use Rattle.at_event.specs.declared.frame.Frame.{Frame}
 use Rattle.relay_step.specs.Around.{around}
-use Rattle.relay_step.specs.Messages.{IsAskedOf, IsDecided, IsPassedAs, told_as}
+use Rattle.relay_step.specs.Messages.{IsAskedOf, IsDecided, IsSkippedAs, told_as}
 use Rattle.relay_step.proofs.Vain.{if_ok}
-use Rattle.relay_step.proofs.Others.{asked_event, kept_event, kept_other, passed_event, passed_other, told_event, told_other}
+use Rattle.relay_step.proofs.Others.{asked_event, kept_event, kept_other, skipped_event, skipped_other, decided_as_event, decided_as_other}
 use Rattle.relay_step.proofs.Sending.{text_tested}
 use Rattle.relay_step.proofs.deciding.decide_frame.Goals as goal
 
 pub returns-in-Event-clause-told : goal.returns-in-Event-clause-told
 returns-in-Event-clause-told g c =
     let P : Frame → Type 0 = λ f. IfOk c.decide_event.result (λ t. IsDecided c.args.core.now c.args.host.now (Ok f) (told_as t)) in
-    subst P (sym c.in-Event.is) (if_ok c.decide_event.result _ _ (λ t. told_event g.C.Clock.tells g.R.Repos.tells c.args.core.now c.args.host.now c.in-Event.event t _ _) c.decide_event.ensures.told)
+    subst P (sym c.in-Event.is) (if_ok c.decide_event.result _ _ (λ t. decided_as_event g.C.Clock.tells g.R.Repos.tells c.args.core.now c.args.host.now c.in-Event.event t _ _) c.decide_event.ensures.told)
 
 pub returns-in-Event-clause-asked : goal.returns-in-Event-clause-asked
 returns-in-Event-clause-asked g c =
@@ -25,23 +26,23 @@ returns-in-Event-clause-asked g c =
 
 pub returns-in-Event-clause-passed : goal.returns-in-Event-clause-passed
 returns-in-Event-clause-passed g c =
-    let P : Frame → Type 0 = λ f. IfOk c.decide_event.result (IsPassedAs (Ok f)) in
-    subst P (sym c.in-Event.is) (if_ok c.decide_event.result _ _ (λ t. passed_event g.C.Clock.tells g.R.Repos.tells c.args.core.now c.args.host.now c.in-Event.event t _ _) c.decide_event.ensures.told)
+    let P : Frame → Type 0 = λ f. IfOk c.decide_event.result (IsSkippedAs (Ok f)) in
+    subst P (sym c.in-Event.is) (if_ok c.decide_event.result _ _ (λ t. skipped_event g.C.Clock.tells g.R.Repos.tells c.args.core.now c.args.host.now c.in-Event.event t _ _) c.decide_event.ensures.told)
 
 pub returns-in-Faulty-clause-passed : goal.returns-in-Faulty-clause-passed
 returns-in-Faulty-clause-passed g c =
-    if_ok c.decide_other.result _ _ (λ t. passed_other g.C.Clock.tells c.args.core.now c.args.host.now c.args.frame t (g.C.Clock.moments c.args.clock.now) (g.C.Clock.moments c.decide_other.new.clock)) c.decide_other.ensures.told
+    if_ok c.decide_other.result _ _ (λ t. skipped_other g.C.Clock.tells c.args.core.now c.args.host.now c.args.frame t (g.C.Clock.moments c.args.clock.now) (g.C.Clock.moments c.decide_other.new.clock)) c.decide_other.ensures.told
 
 pub returns-in-Faulty-clause-told : goal.returns-in-Faulty-clause-told
 returns-in-Faulty-clause-told g c =
-    if_ok c.decide_other.result _ _ (λ t. told_other g.C.Clock.tells c.args.core.now c.args.host.now c.args.frame t (g.C.Clock.moments c.args.clock.now) (g.C.Clock.moments c.decide_other.new.clock)) c.decide_other.ensures.told
+    if_ok c.decide_other.result _ _ (λ t. decided_as_other g.C.Clock.tells c.args.core.now c.args.host.now c.args.frame t (g.C.Clock.moments c.args.clock.now) (g.C.Clock.moments c.decide_other.new.clock)) c.decide_other.ensures.told
 
 pub returns-in-Event-clause-formed : goal.returns-in-Event-clause-formed
 returns-in-Event-clause-formed g c =
-    let named = and_from (is_text c.args.host.now) (is_host c.args.host.now) (text_tested c.args.host.now c.tell_text.ensures.string c.tell_text.ensures.utf8) c.requires.host in
-    if_ok c.decide_event.result _ _ (λ t is. kept_event g.C.Clock.tells g.R.Repos.tells c.args.core.now c.args.host.now c.in-Event.event t _ _ is c.made_rows_are_formed.ensures c.tell_event.ensures named) c.decide_event.ensures.told
+    let named = and_from (is_text c.args.host.now) (is_host c.args.host.now) (text_tested c.args.host.now (typed_string c.args.host.now c.ghost_text.ensures.bytes c.ghost_text.ensures.length) c.ghost_text.ensures.utf8) c.requires.host in
+    if_ok c.decide_event.result _ _ (λ t is. kept_event g.C.Clock.tells g.R.Repos.tells c.args.core.now c.args.host.now c.in-Event.event t _ _ is c.made_rows_are_formed.ensures c.ghost_event.ensures named) c.decide_event.ensures.told
 
 pub returns-in-Faulty-clause-formed : goal.returns-in-Faulty-clause-formed
 returns-in-Faulty-clause-formed g c =
-    let named = and_from (is_text c.args.host.now) (is_host c.args.host.now) (text_tested c.args.host.now c.tell_text.ensures.string c.tell_text.ensures.utf8) c.requires.host in
+    let named = and_from (is_text c.args.host.now) (is_host c.args.host.now) (text_tested c.args.host.now (typed_string c.args.host.now c.ghost_text.ensures.bytes c.ghost_text.ensures.length) c.ghost_text.ensures.utf8) c.requires.host in
     if_ok c.decide_other.result _ _ (λ t is. kept_other g.C.Clock.tells c.args.core.now c.args.host.now c.args.frame t (g.C.Clock.moments c.args.clock.now) (g.C.Clock.moments c.decide_other.new.clock) is c.made_rows_are_formed.ensures c.requires.frame named) c.decide_other.ensures.told

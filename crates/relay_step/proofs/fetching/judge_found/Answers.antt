@@ -9,7 +9,7 @@ returns-in-Ok-true-clause-asked g c =
 
 pub returns-in-Ok-true-clause-may : goal.returns-in-Ok-true-clause-may
 returns-in-Ok-true-clause-may g c =
-    (head_kept c.args.did.now c.requires.whole.0 c.args.found.now c.requires.whole.1 c.tell_value.ensures, c.requires.records, linked_to c.args.did.now c.requires.whole.0 c.args.found.now c.requires.whole.1)
+    (head_kept c.args.did.now c.requires.whole.0 c.args.found.now c.requires.whole.1 c.ghost_value.ensures, c.requires.records, linked_to c.args.did.now c.requires.whole.0 c.args.found.now c.requires.whole.1)
 
 pub returns-in-Ok-false-clause-asked : goal.returns-in-Ok-false-clause-asked
 returns-in-Ok-false-clause-asked g c =

@@ -18,14 +18,14 @@ unreachable-requires-in_default-next_for_event g c =
     let other = there.decides c.in_ok-fetched.fetched in
     c.in_default-next_for_event.not-Done other.0 (c.next_for_event.ensures ∙ other.1)
 
-pub returns-clause-took : goal.returns-clause-took
-returns-clause-took g c =
+pub returns-clause-recorded : goal.returns-clause-recorded
+returns-clause-recorded g c =
     let did = c.as_str-did.ensures.value ∙ ap (λ (e : Seen). e.did) c.event.view_is in
     let time = c.as_str.ensures.value ∙ ap (λ (e : Seen). e.time) c.event.view_is in
     let done = sym c.in-Done.ensures in
     lost_by g.R.Repos.tells c.args.core.now c.args.host.now c.args.event c.args.answers c.in_ok-fetched.fetched c.in-Done.decision (found_as c.in_ok-found.found) (g.P.Judges.panel c.args.judges.now) (g.R.Repos.repository c.args.repos.now) (g.P.Judges.panel c.fetch.new.judges)
     c.as_str-did.result.now c.as_str.result.now c.last_rev.result c.repo_of.result c.in-Some.moment c.requires.asks did time c.in-Some.is c.last_rev.ensures c.repo_of.ensures c.in_ok-fetched.ensures.made c.requires.did c.requires.time c.in_ok-found.ensures.may c.in_ok-fetched.ensures.sent
-    c.in_ok-found.ensures.asked c.in_ok-found.ensures.fetched done c.take.result c.take.ensures.took c.take.ensures.number
+    c.in_ok-found.ensures.asked c.in_ok-found.ensures.fetched done c.take.result c.take.ensures.recorded c.take.ensures.number
 
 pub returns-clause-in_vain : goal.returns-clause-in_vain
 returns-clause-in_vain g c =

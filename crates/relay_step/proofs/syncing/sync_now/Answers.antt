@@ -1,9 +1,10 @@
 use Rattle.std.proofs.Common.{ℕ, List, Some, inr, sym, ap, ◌∙◌}
+use Rattle.at_cbor.proofs.Texts.{typed_string}
 use Rattle.relay_row.specs.declared.row.Row.{Row}
 use Rattle.relay_step.specs.Fetches.{found_as}
 use Rattle.relay_step.proofs.Vain.{on_err, plain_fetch, vain_plain}
 use Rattle.relay_step.proofs.Sending.{text_tested}
-use Rattle.relay_step.proofs.Words.{fetched_beside, synced_kept, synced_made, synced_unfit}
+use Rattle.relay_step.proofs.Commands.{fetched_beside, synced_kept, synced_made, synced_unfit}
 use Rattle.relay_step.proofs.syncing.sync_now.Goals as goal
 
 pub returns-in_err-fetched-clause-in_vain : goal.returns-in_err-fetched-clause-in_vain
@@ -56,4 +57,4 @@ pub returns-clause-formed : goal.returns-clause-formed
 returns-clause-formed g c =
     synced_kept c.args.core.now c.args.did.now c.args.time.now c.in_ok-moment.moment (found_as c.in_ok-found.found) c.in-Whole.whole (Row.Synced c.in_ok-did.did c.in-Whole.whole (Some c.in_ok-moment.moment)) c.synced_rows_are_formed.ensures
     (sym c.in-Whole.is ∙ c.in_ok-fetched.ensures.made) (ap (λ (d : List ℕ). Row.Synced d c.in-Whole.whole (Some c.in_ok-moment.moment)) c.in_ok-did.ensures) c.in_ok-found.ensures.may c.in_ok-fetched.ensures.sent
-    (text_tested c.args.did.now c.tell_text.ensures.string c.tell_text.ensures.utf8) c.requires.did c.in_ok-moment.ensures.number
+    (text_tested c.args.did.now (typed_string c.args.did.now c.ghost_text.ensures.bytes c.ghost_text.ensures.length) c.ghost_text.ensures.utf8) c.requires.did c.in_ok-moment.ensures.number

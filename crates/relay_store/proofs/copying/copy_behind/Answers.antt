@@ -1,10 +1,10 @@
 use Rattle.std.proofs.Common.{◌≡◌, ◌∙◌, ◌+◌, ◌∷◌, ◌++◌, [], List, Err, min, length, drop, append_assoc, ap, arith, rules, subst, sym}
 use Rattle.relay_disk.proofs.Moments.{no_call}
 use Rattle.gate_log.specs.Build.{IsClosed}
-use Rattle.gate_log.specs.Log.{Holds as HasBodies}
+use Rattle.gate_log.specs.Log.{HoldsBodies as HasBodies}
 use Rattle.relay_row.specs.declared.row.Row.{Row}
 use Rattle.relay_store.specs.Journals.{AllBodies, bytes_of, joined}
-use Rattle.relay_store.specs.Rewriting.{HasNoRoom}
+use Rattle.relay_store.specs.Rewriting.{RewriteHasNoRoom}
 use Rattle.relay_store.specs.declared.fault.StoreFault.{StoreFault}
 use Rattle.relay_store.proofs.Recopied.{drop_least, next_there}
 use Rattle.relay_store.proofs.Rewritten.{adding_is, copied_both, no_room_behind, no_room_front, on_ok_as, reading_is}
@@ -38,7 +38,7 @@ returns-in_err-put_rows-clause-full g c = λ e is tells before there after each 
     c.in-Ok.ensures.tail ∙ drop_least (c.args.last.index + 1) c.in_ok-rows.rows.items c.min-taken.result taken ∙ ap (λ (l : List Row). drop (c.args.last.index + 1) l) read.0 in
     let failed : c.put_rows.result ≡ Err (StoreFault.Full e) = search rules in
     no_room_front _ _ (drop (c.args.last.index + 1) there) (joined after) e
-    (subst (λ (l : List Row). HasNoRoom c.args.rewrite.now.build.end c.args.rewrite.now.build.most l e) behind (c.put_rows.ensures.full e failed))
+    (subst (λ (l : List Row). RewriteHasNoRoom c.args.rewrite.now.build.end c.args.rewrite.now.build.most l e) behind (c.put_rows.ensures.full e failed))
 
 pub returns-in_err-put_rows-clause-no_bad_log : goal.returns-in_err-put_rows-clause-no_bad_log
 returns-in_err-put_rows-clause-no_bad_log g c = λ p is.
@@ -79,7 +79,7 @@ returns-clause-full g c = λ e is tells before there after each held here.
     let each_now = subst AllBodies again each in
     let held_now = subst (λ (bs : List (List Row)). HasBodies (bytes_of bs) c.args.log.now (g.D.Disk.view c.body_at.new.disk)) again (c.body_at.ensures.holds tells (bytes_of (before ++ there ∷ after)) held) in
     let start = next_there c.args.log.now.format before (there ∷ after) _ here there _ read.1 in
-    subst (λ (l : List Row). HasNoRoom c.args.rewrite.now.build.end c.args.rewrite.now.build.most (l ++ joined after) e) behind
+    subst (λ (l : List Row). RewriteHasNoRoom c.args.rewrite.now.build.end c.args.rewrite.now.build.most (l ++ joined after) e) behind
     (no_room_behind _ c.in-Ok.behind.items (joined after) _ _ _ _ e c.in_ok-put_rows.ensures.copied (c.copy_bodies.ensures.full e is tells (before ++ there ∷ []) after each_now held_now start))
 
 pub returns-clause-no_bad_log : goal.returns-clause-no_bad_log

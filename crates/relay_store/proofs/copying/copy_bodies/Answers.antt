@@ -1,10 +1,10 @@
 use Rattle.std.proofs.Common.{◌≡◌, ◌++◌, [], List, Err, inr, arith, rules, subst, sym}
 use Rattle.relay_disk.proofs.Moments.{joined, still_again, still_here}
-use Rattle.gate_log.specs.Log.{Holds as HasBodies}
+use Rattle.gate_log.specs.Log.{HoldsBodies as HasBodies}
 use Rattle.relay_row.specs.declared.row.Row.{Row}
 use Rattle.relay_store.specs.Journals.{AllBodies, bytes_of}
 use Rattle.relay_store.specs.Journals.{joined as rows_of}
-use Rattle.relay_store.specs.Rewriting.{HasNoRoom}
+use Rattle.relay_store.specs.Rewriting.{RewriteHasNoRoom}
 use Rattle.relay_store.specs.declared.fault.StoreFault.{StoreFault}
 use Rattle.relay_store.proofs.Recopied.{IsRecopied, recopied_all, recopied_more, recopied_none, recopied_rows, recopied_split, recopied_there}
 use Rattle.relay_store.proofs.Rewritten.{adding_is, copied_both, copied_none, no_room_behind, no_room_front, reading_is}
@@ -88,8 +88,8 @@ returns-in_err-put_rows-clause-full g c = λ e failed_is tells before after each
     let body = each_at (before ++ f.done) some.0 some.1 (subst AllBodies split each) in
     let read = c.in_ok-rows.ensures.rows tells (before ++ f.done) some.0 some.1 body now f.here in
     let failed : c.put_rows.result ≡ Err (StoreFault.Full e) = search rules in
-    let full = subst (λ (l : List Row). HasNoRoom c.bodies.rewrite.build.end c.bodies.rewrite.build.most l e) read.0 (c.put_rows.ensures.full e failed) in
-    subst (λ (l : List Row). HasNoRoom c.args.rewrite.now.build.end c.args.rewrite.now.build.most l e) (sym (recopied_rows _ before after _ _ _ f held.ends some.0 some.1 some.2))
+    let full = subst (λ (l : List Row). RewriteHasNoRoom c.bodies.rewrite.build.end c.bodies.rewrite.build.most l e) read.0 (c.put_rows.ensures.full e failed) in
+    subst (λ (l : List Row). RewriteHasNoRoom c.args.rewrite.now.build.end c.args.rewrite.now.build.most l e) (sym (recopied_rows _ before after _ _ _ f held.ends some.0 some.1 some.2))
     (no_room_behind _ inv.rows _ _ _ _ _ e inv.copied (no_room_front _ _ some.0 (rows_of some.1) e full))
 
 pub returns-clause-copied : goal.returns-clause-copied

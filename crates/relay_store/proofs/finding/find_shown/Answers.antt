@@ -7,37 +7,37 @@ use Rattle.relay_store.specs.Shown.{shown_of}
 use Rattle.relay_store.proofs.Searching.{rest_first, rest_found, rest_more, split_first}
 use Rattle.relay_store.proofs.finding.find_shown.Goals as goal
 
-pub returns-in_err-tell_at-clause-no_bad_log : goal.returns-in_err-tell_at-clause-no_bad_log
-returns-in_err-tell_at-clause-no_bad_log g c = λ p is tells bodies rows each holds page all.
-    let failed : c.tell_at.result ≡ Err (EventsFault.BadLog p) = search rules in
-    let first = rest_first g.D.Disk.tells c.args.log.now c.args.core.now (g.D.Disk.view c.args.disk.now) bodies rows _ _ c.places.left.now (split_first c.places.left.now _ c.in-len1-up.len_at_least) (c.places.invariant.rest bodies rows page all) in
-    c.tell_at.ensures.no_bad_log p failed tells bodies first.row each (c.places.invariant.holds tells (bytes_of bodies) holds) (c.places.invariant.fits tells bodies each holds page) first.at
+pub returns-in_err-copy_shown_at-clause-no_bad_log : goal.returns-in_err-copy_shown_at-clause-no_bad_log
+returns-in_err-copy_shown_at-clause-no_bad_log g c = λ p is tells bodies rows each holds buffer all.
+    let failed : c.copy_shown_at.result ≡ Err (EventsFault.BadLog p) = search rules in
+    let first = rest_first g.D.Disk.tells c.args.log.now c.args.core.now (g.D.Disk.view c.args.disk.now) bodies rows _ _ c.places.left.now (split_first c.places.left.now _ c.in-len1-up.len_at_least) (c.places.invariant.rest bodies rows buffer all) in
+    c.copy_shown_at.ensures.no_bad_log p failed tells bodies first.row each (c.places.invariant.holds tells (bytes_of bodies) holds) (c.places.invariant.fits tells bodies each holds buffer) first.at
 
 pub returns-then-branch-clause-first : goal.returns-then-branch-clause-first
-returns-then-branch-clause-first g c = λ tells bodies J rows each holds of page all.
-    let first = rest_first g.D.Disk.tells c.args.log.now c.args.core.now (g.D.Disk.view c.args.disk.now) bodies rows _ _ c.places.left.now (split_first c.places.left.now _ c.in-len1-up.len_at_least) (c.places.invariant.rest bodies rows page all) in
-    let told = c.in_ok-tell_at.ensures.told tells bodies J first.row each (c.places.invariant.holds tells (bytes_of bodies) holds) of (c.places.invariant.fits tells bodies each holds page) first.at in
-    let shown = subst (λ (b : Bool). IsToldOf J first.row b c.tell_at.new.room) c.if-branch.true told in
-    (shown_of J first.others, rest_found g.D.Disk.tells c.args.log.now c.args.core.now (g.D.Disk.view c.args.disk.now) bodies rows _ _ first c.tell_at.new.room tells J each holds of shown)
+returns-then-branch-clause-first g c = λ tells bodies J rows each holds of buffer all.
+    let first = rest_first g.D.Disk.tells c.args.log.now c.args.core.now (g.D.Disk.view c.args.disk.now) bodies rows _ _ c.places.left.now (split_first c.places.left.now _ c.in-len1-up.len_at_least) (c.places.invariant.rest bodies rows buffer all) in
+    let told = c.in_ok-copy_shown_at.ensures.told tells bodies J first.row each (c.places.invariant.holds tells (bytes_of bodies) holds) of (c.places.invariant.fits tells bodies each holds buffer) first.at in
+    let shown = subst (λ (b : Bool). IsToldOf J first.row b c.copy_shown_at.new.room) c.if-branch.true told in
+    (shown_of J first.others, rest_found g.D.Disk.tells c.args.log.now c.args.core.now (g.D.Disk.view c.args.disk.now) bodies rows _ _ first c.copy_shown_at.new.room tells J each holds of shown)
 
 pub places-preserved : goal.places-preserved
 places-preserved g c = record {
-  goes = still_again _ _ _ (g.met.D.Disk.is_disk _) c.places.invariant.goes c.tell_at.ensures.goes;
-  holds = λ tells bodies held. c.tell_at.ensures.holds tells bodies (c.places.invariant.holds tells bodies held);
-  on = c.tell_at.ensures.on;
-  fits = λ tells bodies each holds page.
-      c.tell_at.ensures.fits tells bodies each (c.places.invariant.holds tells (bytes_of bodies) holds) (c.places.invariant.fits tells bodies each holds page);
-  rest = λ bodies rows page all.
-      let first = rest_first g.D.Disk.tells c.args.log.now c.args.core.now (g.D.Disk.view c.args.disk.now) bodies rows _ _ c.places.left.now (split_first c.places.left.now _ c.in-len1-up.len_at_least) (c.places.invariant.rest bodies rows page all) in
-      rest_more g.D.Disk.tells c.args.log.now c.args.core.now (g.D.Disk.view c.args.disk.now) bodies rows _ _ first c.tell_at.new.room
-      (λ tells J each holds of. subst (λ (b : Bool). IsToldOf J first.row b c.tell_at.new.room) c.if-branch.false
-      (c.in_ok-tell_at.ensures.told tells bodies J first.row each (c.places.invariant.holds tells (bytes_of bodies) holds) of (c.places.invariant.fits tells bodies each holds page) first.at));
+  goes = still_again _ _ _ (g.met.D.Disk.is_disk _) c.places.invariant.goes c.copy_shown_at.ensures.goes;
+  holds = λ tells bodies held. c.copy_shown_at.ensures.holds tells bodies (c.places.invariant.holds tells bodies held);
+  on = c.copy_shown_at.ensures.on;
+  fits = λ tells bodies each holds buffer.
+      c.copy_shown_at.ensures.fits tells bodies each (c.places.invariant.holds tells (bytes_of bodies) holds) (c.places.invariant.fits tells bodies each holds buffer);
+  rest = λ bodies rows buffer all.
+      let first = rest_first g.D.Disk.tells c.args.log.now c.args.core.now (g.D.Disk.view c.args.disk.now) bodies rows _ _ c.places.left.now (split_first c.places.left.now _ c.in-len1-up.len_at_least) (c.places.invariant.rest bodies rows buffer all) in
+      rest_more g.D.Disk.tells c.args.log.now c.args.core.now (g.D.Disk.view c.args.disk.now) bodies rows _ _ first c.copy_shown_at.new.room
+      (λ tells J each holds of. subst (λ (b : Bool). IsToldOf J first.row b c.copy_shown_at.new.room) c.if-branch.false
+      (c.in_ok-copy_shown_at.ensures.told tells bodies J first.row each (c.places.invariant.holds tells (bytes_of bodies) holds) of (c.places.invariant.fits tells bodies each holds buffer) first.at));
 }
 
-pub returns-in_err-tell_at-clause-fits : goal.returns-in_err-tell_at-clause-fits
-returns-in_err-tell_at-clause-fits g c = λ tells bodies each holds page.
-    c.tell_at.ensures.fits tells bodies each (c.places.invariant.holds tells (bytes_of bodies) holds) (c.places.invariant.fits tells bodies each holds page)
+pub returns-in_err-copy_shown_at-clause-fits : goal.returns-in_err-copy_shown_at-clause-fits
+returns-in_err-copy_shown_at-clause-fits g c = λ tells bodies each holds buffer.
+    c.copy_shown_at.ensures.fits tells bodies each (c.places.invariant.holds tells (bytes_of bodies) holds) (c.places.invariant.fits tells bodies each holds buffer)
 
 pub returns-then-branch-clause-fits : goal.returns-then-branch-clause-fits
-returns-then-branch-clause-fits g c = λ tells bodies each holds page.
-    c.tell_at.ensures.fits tells bodies each (c.places.invariant.holds tells (bytes_of bodies) holds) (c.places.invariant.fits tells bodies each holds page)
+returns-then-branch-clause-fits g c = λ tells bodies each holds buffer.
+    c.copy_shown_at.ensures.fits tells bodies each (c.places.invariant.holds tells (bytes_of bodies) holds) (c.places.invariant.fits tells bodies each holds buffer)

@@ -21,10 +21,10 @@ prepare-requires-clause-host g c = ap is_host c.as_str-host.ensures.value ∙ ho
 pub prepare-requires-clause-few : goal.prepare-requires-clause-few
 prepare-requires-clause-few g c =
     let so_far = c.group.invariant.taken.gathered in
-    omega (arith, so_far.few, so_far.draft.count, length-drop c.group.message-index c.args.group.now, c.group-test.true, c.requires.few)
+    omega (arith, so_far.few, so_far.pending.count, length-drop c.group.message-index c.args.group.now, c.group-test.true, c.requires.few)
 
 pub prepare-requires-clause-begun : goal.prepare-requires-clause-begun
-prepare-requires-clause-begun g c = c.group.invariant.taken.gathered.draft.begun
+prepare-requires-clause-begun g c = c.group.invariant.taken.gathered.pending.begun
 
 pub prepare-requires-clause-fits : goal.prepare-requires-clause-fits
 prepare-requires-clause-fits g c = c.group.invariant.taken.gathered.fits
@@ -33,7 +33,7 @@ pub returns-then-is_err-clause-stopped : goal.returns-then-is_err-clause-stopped
 returns-then-is_err-clause-stopped g c =
     let a : Around = around (g.P.Judges.panel c.args.judges.now) (g.C.Clock.moments c.args.clock.now) (g.R.Repos.repository c.args.repos.now) in
     let b : Around = around (g.P.Judges.panel c.group.judges) (g.C.Clock.moments c.group.clock) (g.R.Repos.repository c.group.repos) in
-    subst (λ (os : List Outcome). Stopped g.C.Clock.tells g.R.Repos.tells c.args.log.now c.args.group.now c.args.core.now c.group.core c.args.window.now.places c.group.window.places c.group.draft a b os (Some StoreFault.Memory)) (sym c.reserve.ensures.items)
+    subst (λ (os : List Outcome). Stopped g.C.Clock.tells g.R.Repos.tells c.args.log.now c.args.group.now c.args.core.now c.group.core c.args.window.now.places c.group.window.places c.group.pending a b os (Some StoreFault.Memory)) (sym c.reserve.ensures.items)
     (stops_here _ _ _ _ _ _ _ _ _ _ _ _ _ c.group.invariant.taken (Some StoreFault.Memory) (omega arith) (λ none. let no : ⊥ = cc in absurd no) (λ x. nothing_in_vain _ _ x x _ (nothing_here _ _ x)) tt (next_none _ _ _ StoreFault.Memory tt))
 
 pub returns-in-Err-clause-stopped : goal.returns-in-Err-clause-stopped
@@ -44,7 +44,7 @@ returns-in-Err-clause-stopped g c =
     let same : m ≡ c.message-item.result = λ i. record { host = c.as_str-host.ensures.value i; bytes = c.as_slice-bytes.ensures.value i } in
     let now = at_next _ _ _ _ c.group.message-index c.message-item.result m _ _ _ _ _ _ _ _ c.group-test.true c.message-item.is same c.group.invariant.taken in
     let made = c.in-Err.ensures.prepared in
-    subst (λ (os : List Outcome). Stopped g.C.Clock.tells g.R.Repos.tells c.args.log.now c.args.group.now c.args.core.now c.prepare.new.core c.args.window.now.places c.prepare.new.window.places c.prepare.new.draft a b os (Some c.in-Err.fault)) (sym c.reserve.ensures.items)
+    subst (λ (os : List Outcome). Stopped g.C.Clock.tells g.R.Repos.tells c.args.log.now c.args.group.now c.args.core.now c.prepare.new.core c.args.window.now.places c.prepare.new.window.places c.prepare.new.pending a b os (Some c.in-Err.fault)) (sym c.reserve.ensures.items)
     (⊎_elim
     (λ vain. stops_in_vain _ _ _ _ _ _ _ _ _ _ _ _ _ _ now _ _ _ _ c.in-Err.fault made.0 c.prepare.ensures.fits vain)
     (λ late. stops_late _ _ _ _ _ _ _ _ _ _ _ _ _ _ now late.0 _ late.1 _ _ _ c.in-Err.fault made.0 c.prepare.ensures.fits late.2)
@@ -59,7 +59,7 @@ returns-then-is_end-clause-stopped g c =
     let now = at_next _ _ _ _ c.group.message-index c.message-item.result m _ _ _ _ _ _ _ _ c.group-test.true c.message-item.is same c.group.invariant.taken in
     let made = c.in-Ok.ensures.prepared in
     let items : c.push_reserved.new.self.items ≡ c.group.outcomes.items ++ c.in-Ok.outcome ∷ [] = c.push_reserved.ensures.items ∙ ap (λ (l : List Outcome). l ++ c.in-Ok.outcome ∷ []) c.reserve.ensures.items in
-    subst (λ (os : List Outcome). Stopped g.C.Clock.tells g.R.Repos.tells c.args.log.now c.args.group.now c.args.core.now c.prepare.new.core c.args.window.now.places c.prepare.new.window.places c.prepare.new.draft a b os None) (sym items)
+    subst (λ (os : List Outcome). Stopped g.C.Clock.tells g.R.Repos.tells c.args.log.now c.args.group.now c.args.core.now c.prepare.new.core c.args.window.now.places c.prepare.new.window.places c.prepare.new.pending a b os None) (sym items)
     (gathering_ends _ _ _ _ _ _ _ _ _ _ _ _ _ _ now made.0 _ made.1 _ _ _ c.in-Ok.outcome made.2 made.3 c.prepare.ensures.fits (sym c.if-is_end.ensures))
 
 pub group-preserved : goal.group-preserved
@@ -72,7 +72,7 @@ group-preserved g c =
     let made = c.in-Ok.ensures.prepared in
     let items : c.push_reserved.new.self.items ≡ c.group.outcomes.items ++ c.in-Ok.outcome ∷ [] = c.push_reserved.ensures.items ∙ ap (λ (l : List Outcome). l ++ c.in-Ok.outcome ∷ []) c.reserve.ensures.items in
     record {
-      taken = subst (λ (os : List Outcome). IsGathering g.C.Clock.tells g.R.Repos.tells c.args.log.now c.args.group.now (drop (c.group.message-index + 1) c.args.group.now) c.args.core.now c.prepare.new.core c.args.window.now.places c.prepare.new.window.places c.prepare.new.draft a b os) (sym items)
+      taken = subst (λ (os : List Outcome). IsGathering g.C.Clock.tells g.R.Repos.tells c.args.log.now c.args.group.now (drop (c.group.message-index + 1) c.args.group.now) c.args.core.now c.prepare.new.core c.args.window.now.places c.prepare.new.window.places c.prepare.new.pending a b os) (sym items)
           (gathering_more _ _ _ _ _ _ _ _ _ _ _ _ _ _ now made.0 _ made.1 _ _ _ c.in-Ok.outcome made.2 made.3 c.prepare.ensures.fits (sym c.if-is_end.ensures));
       clock_counts = omega (arith, c.group.invariant.clock_counts, c.prepare.ensures.clock_counts);
       repos_count = omega (arith, c.group.invariant.repos_count, c.prepare.ensures.repos_count);

@@ -5,7 +5,7 @@ use Rattle.relay_store.proofs.gathering.gather.Given as goal
 
 abbrev pub invariant-group : goal.invariant-group
 invariant-group g l = record {
-  taken : IsGathering g.C.Clock.tells g.R.Repos.tells l.log l.group (drop l.message-index l.group) l.fn.core l.core l.fn.window.places l.window.places l.draft
+  taken : IsGathering g.C.Clock.tells g.R.Repos.tells l.log l.group (drop l.message-index l.group) l.fn.core l.core l.fn.window.places l.window.places l.pending
       (around (g.P.Judges.panel l.fn.judges) (g.C.Clock.moments l.fn.clock) (g.R.Repos.repository l.fn.repos)) (around (g.P.Judges.panel l.judges) (g.C.Clock.moments l.clock) (g.R.Repos.repository l.repos)) l.outcomes.items;
   clock_counts : g.C.Clock.faults l.fn.clock ≤ g.C.Clock.faults l.clock;
   repos_count : g.R.Repos.faults l.fn.repos ≤ g.R.Repos.faults l.repos;

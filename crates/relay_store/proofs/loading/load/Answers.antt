@@ -1,6 +1,6 @@
 use Rattle.std.proofs.Common.{rules, ◌≡◌, Err, arith, subst}
 use Rattle.relay_disk.proofs.Moments.{still_here, still_again}
-use Rattle.gate_log.specs.Log.{Holds as HasBodies}
+use Rattle.gate_log.specs.Log.{HoldsBodies as HasBodies}
 use Rattle.relay_store.specs.Journals.{bytes_of, joined}
 use Rattle.relay_store.specs.declared.fault.StoreFault.TheVariants.{BadLog}
 use Rattle.relay_store.proofs.Loaded.{at_first, more_left, all_loaded, split_here, one_further, bad_here}
@@ -21,7 +21,7 @@ bodies-preserved g c = record {
       let f = c.bodies.invariant.so_far tells bodies held in
       let some = more_left _ bodies _ _ _ f _ held.ends (omega (arith, c.end.ensures.end)) in
       let now = subst (λ bs. HasBodies bs c.args.log.now (g.D.Disk.view c.bodies.disk)) (split_here _ bodies _ _ _ f some.0 some.1 some.2) (c.bodies.invariant.holds tells bodies held) in
-      one_further _ bodies _ _ _ f some.0 some.1 some.2 _ _ _ (c.in_ok-place.ensures.learned tells (bytes_of f.before) some.0 some.1 (joined f.before) now f.here f.core f.journal);
+      one_further _ bodies _ _ _ f some.0 some.1 some.2 _ _ _ (c.in_ok-place.ensures.applied tells (bytes_of f.before) some.0 some.1 (joined f.before) now f.here f.core f.journal);
 }
 
 pub returns-in_err-place-clause-bad_log : goal.returns-in_err-place-clause-bad_log

@@ -15,8 +15,8 @@ returns-in-Ok-clause-prepared g c =
     let a : Around = around (g.P.Judges.panel c.args.judges.now) (g.C.Clock.moments c.args.clock.now) (g.R.Repos.repository c.args.repos.now) in
     let b : Around = around (g.P.Judges.panel c.decide_message.new.judges) (g.C.Clock.moments c.decide_message.new.clock) (g.R.Repos.repository c.decide_message.new.repos) in
     let taken : IsTaken g.C.Clock.tells g.R.Repos.tells c.args.core.now c.args.host.now c.args.message.now (told_as c.in-Ok.told) a b = record { decided = c.in-Ok.ensures.told; asked = c.in-Ok.ensures.asked; journal = c.in-Ok.ensures.formed } in
-    prepared_by g.C.Clock.tells g.R.Repos.tells c.args.log.now c.args.host.now c.args.message.now _ _ _ _ _ _ a b (told_as c.in-Ok.told) taken c.take_told.result
-    (IfOk-weaker c.take_told.result _ _ (λ o is. is (frame_of c.args.message.now) c.in-Ok.ensures.passed) c.take_told.ensures.ok) c.take_told.ensures.added c.take_told.ensures.as_before c.take_told.ensures.late
+    prepared_by g.C.Clock.tells g.R.Repos.tells c.args.log.now c.args.host.now c.args.message.now _ _ _ _ _ _ a b (told_as c.in-Ok.told) taken c.take_decided.result
+    (IfOk-weaker c.take_decided.result _ _ (λ o is. is (frame_of c.args.message.now) c.in-Ok.ensures.passed) c.take_decided.ensures.ok) c.take_decided.ensures.added c.take_decided.ensures.as_before c.take_decided.ensures.late
 
 pub returns-in-Err-clause-prepared : goal.returns-in-Err-clause-prepared
 returns-in-Err-clause-prepared g c =
@@ -28,7 +28,7 @@ returns-in-Err-clause-prepared g c =
     )
 
 pub returns-in-Ok-clause-risen : goal.returns-in-Ok-clause-risen
-returns-in-Ok-clause-risen g c = risen_by c.args.log.now c.args.draft.now (told_as c.in-Ok.told) _ _ c.take_told.result c.take_told.ensures.late
+returns-in-Ok-clause-risen g c = risen_by c.args.log.now c.args.pending.now (told_as c.in-Ok.told) _ _ c.take_decided.result c.take_decided.ensures.late
 
 pub returns-in-Err-clause-risen : goal.returns-in-Err-clause-risen
 returns-in-Err-clause-risen g c =

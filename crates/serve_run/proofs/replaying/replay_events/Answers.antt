@@ -1,7 +1,7 @@
 use Rattle.std.proofs.Common.{◌∙◌, Err, sym, ap}
 use Rattle.std.specs.Prelude.{Some}
 use Rattle.backfill.specs.Served.{served}
-use Rattle.backfill.specs.Writing.{framed}
+use Rattle.backfill.specs.Writing.{with_length}
 use Rattle.serve_run.proofs.Ending.{fault_written, replay_bad, replay_long}
 use Rattle.serve_run.proofs.replaying.replay_events.Goals as goal
 
@@ -10,7 +10,7 @@ returns-in-Ok-clause-written g c = λ told held holds out. (c.in-Ok.ensures.writ
 
 pub returns-in-Err-clause-written : goal.returns-in-Err-clause-written
 returns-in-Err-clause-written g c = λ told held holds out.
-    fault_written c.in-Err.fault c.of_replay.result (framed (served held (Some c.args.cursor))) _ _ c.of_replay.ensures ((c.in-Err.ensures.written told held holds).front out)
+    fault_written c.in-Err.fault c.of_replay.result (with_length (served held (Some c.args.cursor))) _ _ c.of_replay.ensures ((c.in-Err.ensures.written told held holds).front out)
 
 pub returns-in-Err-clause-no_bad_log : goal.returns-in-Err-clause-no_bad_log
 returns-in-Err-clause-no_bad_log g c = λ place is.

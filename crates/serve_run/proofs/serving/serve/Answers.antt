@@ -2,7 +2,7 @@ use Rattle.std.proofs.Common.{Err, sym, ap, subst}
 use Rattle.relay_store.specs.Shown.{held_by}
 use Rattle.relay_run.proofs.Beside.{opened_keeps}
 use Rattle.serve_run.specs.AtDoor.{at_door}
-use Rattle.serve_run.specs.Ends.{IsOpened, Shows}
+use Rattle.serve_run.specs.Ends.{ServeOpened, ServeEndShows}
 use Rattle.serve_run.specs.declared.end.ServeEnd.{ServeEnd}
 use Rattle.serve_run.proofs.Counting.{served_unopened}
 use Rattle.serve_run.proofs.Ending.{image_shows, opening_shows}
@@ -19,7 +19,7 @@ returns-in-Err-clause-served g c = λ told J image. record {
 
 pub returns-in-Err-clause-shows : goal.returns-in-Err-clause-shows
 returns-in-Err-clause-shows g c = λ told.
-    subst (λ (e : ServeEnd). Shows e (g.D.Disk.view c.args.disk.now).content (g.D.Disk.view c.args.other.now).content) (sym c.of_opening.ensures)
+    subst (λ (e : ServeEnd). ServeEndShows e (g.D.Disk.view c.args.disk.now).content (g.D.Disk.view c.args.other.now).content) (sym c.of_opening.ensures)
     (opening_shows c.in-Err.fault _ _ (λ p is. c.in-Err.ensures.bad_log p (ap Err is) told))
 
 pub returns-in-Ok-serve_guests-clause-served : goal.returns-in-Ok-serve_guests-clause-served
@@ -27,7 +27,7 @@ returns-in-Ok-serve_guests-clause-served g c = λ told J image. record {
   served = c.in-Ok-serve_guests.ensures.served told J
       (opened_keeps g.D.Disk.tells (g.D.Disk.view c.args.disk.now) (g.D.Disk.view c.args.other.now) (g.D.Disk.view c.open.new.disk) (g.D.Disk.view c.open.new.other) c.in-Ok.store c.in-Ok.ensures.opened told J image);
   read = read_opened g.D.Disk.tells (g.D.Disk.view c.args.disk.now) (g.D.Disk.view c.args.other.now) (g.D.Disk.view c.open.new.disk) (g.D.Disk.view c.open.new.other) (g.D.Disk.view c.serve_guests.new.disk) (g.D.Disk.view c.serve_guests.new.other)
-      c.in-Ok.store (IsOpened ServeEnd.Done) J (g.met.D.Disk.is_disk c.open.new.disk) (g.met.D.Disk.is_disk c.open.new.other) c.in-Ok.ensures.opened told image c.serve_guests.ensures.one c.serve_guests.ensures.two;
+      c.in-Ok.store (ServeOpened ServeEnd.Done) J (g.met.D.Disk.is_disk c.open.new.disk) (g.met.D.Disk.is_disk c.open.new.other) c.in-Ok.ensures.opened told image c.serve_guests.ensures.one c.serve_guests.ensures.two;
 }
 
 pub returns-clause-served : goal.returns-clause-served
@@ -35,7 +35,7 @@ returns-clause-served g c = λ told J image. record {
   served = c.in-Err-serve_guests.ensures.served told J
       (opened_keeps g.D.Disk.tells (g.D.Disk.view c.args.disk.now) (g.D.Disk.view c.args.other.now) (g.D.Disk.view c.open.new.disk) (g.D.Disk.view c.open.new.other) c.in-Ok.store c.in-Ok.ensures.opened told J image);
   read = read_opened g.D.Disk.tells (g.D.Disk.view c.args.disk.now) (g.D.Disk.view c.args.other.now) (g.D.Disk.view c.open.new.disk) (g.D.Disk.view c.open.new.other) (g.D.Disk.view c.serve_guests.new.disk) (g.D.Disk.view c.serve_guests.new.other)
-      c.in-Ok.store (IsOpened c.in-Err-serve_guests.end) J (g.met.D.Disk.is_disk c.open.new.disk) (g.met.D.Disk.is_disk c.open.new.other) c.in-Ok.ensures.opened told image c.serve_guests.ensures.one c.serve_guests.ensures.two;
+      c.in-Ok.store (ServeOpened c.in-Err-serve_guests.end) J (g.met.D.Disk.is_disk c.open.new.disk) (g.met.D.Disk.is_disk c.open.new.other) c.in-Ok.ensures.opened told image c.serve_guests.ensures.one c.serve_guests.ensures.two;
 }
 
 pub returns-clause-shows : goal.returns-clause-shows

@@ -1,5 +1,4 @@
 use Rattle.std.proofs.Common.{◌≡◌, ℕ, true, List, Some, None, sym, subst}
-use Rattle.std.specs.String.{string_bytes}
 use Rattle.account_state.specs.Entries.{Entry, entry, is_before}
 use Rattle.account_state.specs.State.{state_of}
 use Rattle.account_state.proofs.Next.{if_next, none_next, next_found, next_above, next_least, next_none}
@@ -12,13 +11,13 @@ returns-clause-found c =
 
 pub returns-clause-above : goal.returns-clause-above
 returns-clause-above c =
-    if_next _ c.next_after.result c.as_bytes.result.now c.self.inside.tree c.next_after.ensures (λ (x : Entry). is_before (string_bytes c.args.did.now) x.0 ≡ true)
+    if_next _ c.next_after.result c.as_bytes.result.now c.self.inside.tree c.next_after.ensures (λ (x : Entry). is_before c.args.did.now x.0 ≡ true)
     (λ x h. subst (λ (text : List ℕ). is_before text x.0 ≡ true) c.as_bytes.ensures.value (next_above c.as_bytes.result.now c.self.inside.tree x h))
 
 pub returns-clause-least : goal.returns-clause-least
 returns-clause-least c =
     if_next _ c.next_after.result c.as_bytes.result.now c.self.inside.tree c.next_after.ensures
-    (λ (x : Entry). (name : List ℕ) → is_before (string_bytes c.args.did.now) name ≡ true → is_before name x.0 ≡ true → entry c.args.self.now name ≡ None)
+    (λ (x : Entry). (name : List ℕ) → is_before c.args.did.now name ≡ true → is_before name x.0 ≡ true → entry c.args.self.now name ≡ None)
     (λ x h name above below.
     subst (λ (es : List Entry). entry es name ≡ None) c.self.view_is
     (next_least c.as_bytes.result.now c.self.inside.tree x c.self.invariant h name (subst (λ (text : List ℕ). is_before text name ≡ true) (sym c.as_bytes.ensures.value) above) below))

@@ -2,7 +2,7 @@ use Rattle.std.proofs.Common.{rules, ◌≡◌, true, false, List, ◌∷◌, �
 use Rattle.std.specs.Global.{Box}
 use Rattle.account_state.specs.Entries.{Entry, is_before, put}
 use Rattle.account_state.specs.Tree.{node_entries}
-use Rattle.account_state.specs.declared.tree.Node.{Node}
+use Rattle.account_state.specs.declared.tree.TreeNode.{TreeNode}
 use Rattle.account_state.proofs.Trees.{opened, before_is, left_shorter, left_sorted, right_shorter, right_sorted, put_before, put_behind}
 use Rattle.account_state.proofs.tree.Tree.+insert.Goals as goal
 use Rattle.account_state.proofs.tree.Tree.+insert.Goals.{then-is_lt, else-is_lt, in-Fork-2, in-Empty-2}
@@ -32,7 +32,7 @@ returns-after-is_lt t c =
           let new : c.as_bytes.result.now ≡ e.0 = let value = c.as_bytes.ensures.value in cc in
           let name : c.as_bytes-in-Fork.result.now ≡ n.name = let value = c.as_bytes-in-Fork.ensures.value in cc in
           let below : is_before e.0 n.name ≡ true = before_is e.0 c.as_bytes.result.now n.name c.as_bytes-in-Fork.result.now c.cmp.result c.is_lt.result true c.cmp.ensures new name c.is_lt.ensures w.if-is_lt.true in
-          ap (λ (b : Box Node). node_entries b.value) w.node-is
+          ap (λ (b : Box TreeNode). node_entries b.value) w.node-is
           ∙ ap (λ (es : List Entry). es ++ (n.name, n.account) ∷ n.right) w.insert.ensures
           ∙ sym (put_before n c.args.self.now is c.requires.sorted e below)
       | else-is_lt w ↦
@@ -41,7 +41,7 @@ returns-after-is_lt t c =
           let new : c.as_bytes.result.now ≡ e.0 = let value = c.as_bytes.ensures.value in cc in
           let name : c.as_bytes-in-Fork.result.now ≡ n.name = let value = c.as_bytes-in-Fork.ensures.value in cc in
           let above : is_before e.0 n.name ≡ false = before_is e.0 c.as_bytes.result.now n.name c.as_bytes-in-Fork.result.now c.cmp.result c.is_lt.result false c.cmp.ensures new name c.is_lt.ensures w.if-is_lt.false in
-          ap (λ (b : Box Node). node_entries b.value) w.node-is
+          ap (λ (b : Box TreeNode). node_entries b.value) w.node-is
           ∙ ap (λ (es : List Entry). n.left ++ (n.name, n.account) ∷ es) w.insert-else-is_lt.ensures
           ∙ sym (put_behind n c.args.self.now is c.requires.sorted e above)
     ] in

@@ -1,6 +1,6 @@
 use Rattle.std.proofs.Common.{rules, ◌≡◌, ℕ, true, false, List, Some, None, refl, sym, ap, ◌∙◌, subst}
 use Rattle.account_state.specs.Entries.{next_in}
-use Rattle.account_state.specs.declared.tree.Node.{Node}
+use Rattle.account_state.specs.declared.tree.TreeNode.{TreeNode}
 use Rattle.account_state.proofs.Next.{none_next, some_next}
 use Rattle.account_state.proofs.Trees.{opened, before_is, left_shorter, left_sorted, right_shorter, right_sorted, behind_right, next_before, next_here, next_past}
 use Rattle.account_state.proofs.tree.Tree.+next_after.Goals as goal
@@ -46,7 +46,7 @@ returns-in-None t c =
     let is = opened c.self.view_is c.in-Fork.is n c.deref-in-None-2.ensures in
     let name : c.as_bytes.result.now ≡ n.name = let value = c.as_bytes.ensures.value in cc in
     let text : c.as_str.result.now ≡ n.name = let value = c.as_str.ensures.value in cc in
-    let left = subst (λ (m : Node). next_in c.args.did.now m.left ≡ None) (c.deref-in-Fork.ensures ∙ sym c.deref-in-None-2.ensures) (none_next _ c.next_after-in-Fork.result c.args.did.now c.deref-in-Fork.result.now.left c.next_after-in-Fork.ensures c.in-None.is) in
+    let left = subst (λ (m : TreeNode). next_in c.args.did.now m.left ≡ None) (c.deref-in-Fork.ensures ∙ sym c.deref-in-None-2.ensures) (none_next _ c.next_after-in-Fork.result c.args.did.now c.deref-in-Fork.result.now.left c.next_after-in-Fork.ensures c.in-None.is) in
     let named : n.account.named ≡ true = cc in
     let above = before_is c.args.did.now c.args.did.now n.name c.as_bytes.result.now c.cmp.result c.is_lt.result true c.cmp.ensures refl name c.is_lt.ensures c.if-not-is_lt.false in
     ap (λ (bytes : List ℕ). Some (bytes, n.account)) text ∙ sym (next_here n c.args.self.now is c.requires c.args.did.now left above named)
@@ -56,7 +56,7 @@ returns-in-None-2 t c =
     let n = c.deref-in-None-2-2.result.now in
     let is = opened c.self.view_is c.in-Fork.is n c.deref-in-None-2-2.ensures in
     let name : c.as_bytes.result.now ≡ n.name = let value = c.as_bytes.ensures.value in cc in
-    let left = subst (λ (m : Node). next_in c.args.did.now m.left ≡ None) (c.deref-in-Fork.ensures ∙ sym c.deref-in-None-2-2.ensures) (none_next _ c.next_after-in-Fork.result c.args.did.now c.deref-in-Fork.result.now.left c.next_after-in-Fork.ensures c.in-None.is) in
+    let left = subst (λ (m : TreeNode). next_in c.args.did.now m.left ≡ None) (c.deref-in-Fork.ensures ∙ sym c.deref-in-None-2-2.ensures) (none_next _ c.next_after-in-Fork.result c.args.did.now c.deref-in-Fork.result.now.left c.next_after-in-Fork.ensures c.in-None.is) in
     let unnamed : n.account.named ≡ false = cc in
     let above = before_is c.args.did.now c.args.did.now n.name c.as_bytes.result.now c.cmp.result c.is_lt.result true c.cmp.ensures refl name c.is_lt.ensures c.if-not-is_lt.false in
     c.next_after-in-None-2.ensures ∙ sym (next_past n c.args.self.now is c.requires c.args.did.now left above unnamed)

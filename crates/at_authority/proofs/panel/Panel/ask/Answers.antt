@@ -14,24 +14,24 @@ none_named : {B : Type 0} (method : B → List ℕ) (xs : List B) (a b : List �
 none_named method xs a b e h = let P : List ℕ → Type 0 = λ n. NonePasses (λ x. bytes_eq (method x) n) xs in subst P e h
 
 pub index_mut-requires : goal.index_mut-requires
-index_mut-requires g c = let low = inside _ c.args.self.now.benches.items c.in-Some.i c.in-Some.ensures in search rules
+index_mut-requires g c = let low = inside _ c.args.self.now.lists.items c.in-Some.i c.in-Some.ensures in search rules
 
 pub returns-in-Some-clause-call : goal.returns-in-Some-clause-call
 returns-in-Some-clause-call g c =
-    is_call (λ b. string_bytes b.method) _ c.args.self.now.benches.items c.in-Some.i c.ask.new.self c.index_mut.result.now c.args.did.now _ (called c.args.did.now c.args.question c.ask.result)
-    (first_named (λ b. string_bytes b.method) c.args.self.now.benches.items c.in-Some.i c.method.result.now (method_of c.args.did.now) c.method.ensures.value c.in-Some.ensures) c.index_mut.ensures.value c.ask.ensures.method c.ask.ensures.asks
+    is_call (λ b. string_bytes b.method) _ c.args.self.now.lists.items c.in-Some.i c.ask.new.self c.index_mut.result.now c.args.did.now _ (called c.args.did.now c.args.question c.ask.result)
+    (first_named (λ b. string_bytes b.method) c.args.self.now.lists.items c.in-Some.i c.method.result.now (method_of c.args.did.now) c.method.ensures.value c.in-Some.ensures) c.index_mut.ensures.value c.ask.ensures.method c.ask.ensures.asks
 
 pub returns-in-Some-clause-spent : goal.returns-in-Some-clause-spent
 returns-in-Some-clause-spent g c =
-    is_spent_at (λ b. string_bytes b.method) _ c.args.self.now.benches.items (method_of c.args.did.now) c.in-Some.i c.ask.new.self c.index_mut.result.now c.ask.result _
-    (first_named (λ b. string_bytes b.method) c.args.self.now.benches.items c.in-Some.i c.method.result.now (method_of c.args.did.now) c.method.ensures.value c.in-Some.ensures) c.index_mut.ensures.value c.ask.ensures.method c.ask.ensures.spent
+    is_spent_at (λ b. string_bytes b.method) _ c.args.self.now.lists.items (method_of c.args.did.now) c.in-Some.i c.ask.new.self c.index_mut.result.now c.ask.result _
+    (first_named (λ b. string_bytes b.method) c.args.self.now.lists.items c.in-Some.i c.method.result.now (method_of c.args.did.now) c.method.ensures.value c.in-Some.ensures) c.index_mut.ensures.value c.ask.ensures.method c.ask.ensures.spent
 
 pub returns-in-None-clause-call : goal.returns-in-None-clause-call
 returns-in-None-clause-call g c =
-    is_no_call (λ b. string_bytes b.method) _ c.args.self.now.benches.items c.args.did.now c.args.question (none_named (λ b. string_bytes b.method) c.args.self.now.benches.items c.method.result.now (method_of c.args.did.now) c.method.ensures.value c.in-None.ensures)
+    is_no_call (λ b. string_bytes b.method) _ c.args.self.now.lists.items c.args.did.now c.args.question (none_named (λ b. string_bytes b.method) c.args.self.now.lists.items c.method.result.now (method_of c.args.did.now) c.method.ensures.value c.in-None.ensures)
 
 pub returns-in-None-clause-spent : goal.returns-in-None-clause-spent
 returns-in-None-clause-spent g c = (
   λ e. absurd cc,
-  λ s. absurd (never_spent (λ b. string_bytes b.method) _ c.args.self.now.benches.items (method_of c.args.did.now) (none_named (λ b. string_bytes b.method) c.args.self.now.benches.items c.method.result.now (method_of c.args.did.now) c.method.ensures.value c.in-None.ensures) s),
+  λ s. absurd (never_spent (λ b. string_bytes b.method) _ c.args.self.now.lists.items (method_of c.args.did.now) (none_named (λ b. string_bytes b.method) c.args.self.now.lists.items c.method.result.now (method_of c.args.did.now) c.method.ensures.value c.in-None.ensures) s),
 )

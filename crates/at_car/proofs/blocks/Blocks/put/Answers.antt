@@ -2,7 +2,7 @@ use Rattle.std.proofs.Common.{◌≡◌, List, sym, ap, ◌∙◌, subst, arith,
 use Rattle.std.specs.Option.{is_some}
 use Rattle.std.proofs.lemmas.Result.{err_from_is_err_and}
 use Rattle.std.specs.FinMap.{contains_key}
-use Rattle.at_car.specs.declared.entry.Entry.{Entry}
+use Rattle.at_car.specs.declared.entry.ScanEntry.{ScanEntry}
 use Rattle.at_car.specs.Blocks.{kept}
 use Rattle.at_car.specs.Entries.{place_of}
 use Rattle.at_car.proofs.Searches.{IsGap}
@@ -16,7 +16,7 @@ returns-in_err-insert-in-Err-clause-err c =
 
 pub returns-in-Ok-clause-ok : goal.returns-in-Ok-clause-ok
 returns-in-Ok-clause-ok c =
-    let any : Entry = record { link = c.args.cid; place = record { start = 0; len = 0 } } in
+    let any : ScanEntry = record { link = c.args.cid; place = record { start = 0; len = 0 } } in
     let there : contains_key c.args.self.now c.args.cid ≡ true =
     ap (λ m. contains_key m c.args.cid) (sym c.self.view_is) ∙ has_laid c.self.inside.buffer c.args.cid c.self.inside.entries.items
     ∙ ap is_some (ap (place_of c.args.cid) (sym c.as_slice.ensures.value) ∙ c.in-Ok.ensures.there any) in
@@ -26,14 +26,14 @@ pub invariant_of-self-in-Err : goal.invariant_of-self-in-Err
 invariant_of-self-in-Err c =
     let left = put_absent c.self.inside.buffer c.args.block.now c.lay.new.buffer c.self.inside.entries.items c.in_ok-place-in-Err.ensures.ok c.self.invariant
     c.insert.new.self.items c.in-Err.index (record { link = c.args.cid; place = c.in_ok-place-in-Err.place }) c.in_ok-place-in-Err.ensures.is c.in_ok-place-in-Err.ensures.within
-    (record { link = c.tell_link.ensures; bytes = λ i. omega (arith, c.type_inv.block i); digest = c.requires })
-    (subst (λ (l : List Entry). IsGap c.args.cid l c.in-Err.index) c.as_slice.ensures.value c.in-Err.ensures.absent) c.in_ok-insert-in-Err.ensures.items in
+    (record { link = c.ghost_link.ensures; bytes = λ i. omega (arith, c.type_inv.block i); digest = c.requires })
+    (subst (λ (l : List ScanEntry). IsGap c.args.cid l c.in-Err.index) c.as_slice.ensures.value c.in-Err.ensures.absent) c.in_ok-insert-in-Err.ensures.items in
     left.0
 
 pub returns-in_ok-insert-in-Err-clause-ok : goal.returns-in_ok-insert-in-Err-clause-ok
 returns-in_ok-insert-in-Err-clause-ok c =
     let left = put_absent c.self.inside.buffer c.args.block.now c.lay.new.buffer c.self.inside.entries.items c.in_ok-place-in-Err.ensures.ok c.self.invariant
     c.insert.new.self.items c.in-Err.index (record { link = c.args.cid; place = c.in_ok-place-in-Err.place }) c.in_ok-place-in-Err.ensures.is c.in_ok-place-in-Err.ensures.within
-    (record { link = c.tell_link.ensures; bytes = λ i. omega (arith, c.type_inv.block i); digest = c.requires })
-    (subst (λ (l : List Entry). IsGap c.args.cid l c.in-Err.index) c.as_slice.ensures.value c.in-Err.ensures.absent) c.in_ok-insert-in-Err.ensures.items in
+    (record { link = c.ghost_link.ensures; bytes = λ i. omega (arith, c.type_inv.block i); digest = c.requires })
+    (subst (λ (l : List ScanEntry). IsGap c.args.cid l c.in-Err.index) c.as_slice.ensures.value c.in-Err.ensures.absent) c.in_ok-insert-in-Err.ensures.items in
     left.1 ∙ ap (λ m. kept m c.args.cid c.args.block.now) c.self.view_is

@@ -1,10 +1,10 @@
 use Rattle.std.proofs.Common.{rules, ◌≡◌, Err, ℕ, [], ◌∷◌, ◌++◌, ◌+◌, ◌-◌, length, drop, sym, subst, arith, length-append, length-drop}
-use Rattle.gate_log.specs.declared.drafts.TheConstants.{AHEAD}
+use Rattle.gate_log.specs.declared.pending_bodies.TheConstants.{AHEAD}
 use Rattle.gate_log.specs.declared.fault.LogFault.TheVariants.{Full}
 use Rattle.gate_log.specs.declared.limits.TheConstants.{BEFORE_BODY}
-use Rattle.gate_log.specs.Log.{LogState, Holds}
+use Rattle.gate_log.specs.Log.{LogState, HoldsBodies}
 use Rattle.gate_log.specs.Crash.{Stands}
-use Rattle.gate_log.specs.Drafts.{body_in}
+use Rattle.gate_log.specs.PendingBodies.{body_in}
 use Rattle.gate_log.proofs.log.Log.append_put.Goals as goal
 
 pub returns-in_err-fits-clause-full : goal.returns-in_err-fits-clause-full
@@ -23,7 +23,7 @@ returns-in_err-fits-clause-full g c = λ e.
 pub returns-in-Ok-clause-added : goal.returns-in-Ok-clause-added
 returns-in-Ok-clause-added g c = λ tells bodies stands.
     let body = body_in c.args.head.now c.args.room.now in
-    let here = subst (λ (s : LogState). Holds bodies s (g.D.Disk.view c.args.disk.now)) (sym c.self.view_is) stands in
+    let here = subst (λ (s : LogState). HoldsBodies bodies s (g.D.Disk.view c.args.disk.now)) (sym c.self.view_is) stands in
     let end : c.self.inside.end + BEFORE_BODY + length body ≡ c.self.inside.end + (length c.args.head.now + c.len.result - AHEAD + BEFORE_BODY) =
     omega (arith, c.len.ensures, length-append c.args.head.now (drop AHEAD c.args.room.now), length-drop AHEAD c.args.room.now, c.requires.begun) in
     subst (λ (n : ℕ). Stands c.self.inside.format (bodies ++ body ∷ []) n (g.D.Disk.view c.add_from_room.new.disk)) end

@@ -9,4 +9,4 @@ returns-in_err-row c =
     rw (p.1, p.2) (no_row c.args.self.now c.self.inside.reader.rest.now c.self.inside.left c.self.view_is c.if-self-eq0-2.false _ (λ row. (row, [])) c.in_err-row.field-0.0 c.in_err-row.ensures)
 
 pub returns : goal.returns
-returns c = row_taken c.args.self.now c.self.inside.reader.rest.now c.self.inside.left c.self.view_is c.if-self-eq0-2.false c.in_ok-row.row _ c.tell_bytes.ensures c.in_ok-row.ensures
+returns c = row_taken c.args.self.now c.self.inside.reader.rest.now c.self.inside.left c.self.view_is c.if-self-eq0-2.false c.in_ok-row.row _ c.ghost_bytes.ensures.bytes c.in_ok-row.ensures

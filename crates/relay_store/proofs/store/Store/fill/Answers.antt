@@ -1,12 +1,12 @@
 use Rattle.std.proofs.Common.{◌≡◌, ◌∙◌, ◌∷◌, ◌++◌, List, Err, rules, subst, sym}
 use Rattle.relay_disk.proofs.Moments.{joined, no_call, still_again}
 use Rattle.gate_log.specs.Build.{IsClosed}
-use Rattle.gate_log.specs.Log.{Holds as HasBodies}
+use Rattle.gate_log.specs.Log.{HoldsBodies as HasBodies}
 use Rattle.relay_row.specs.declared.row.Row.{Row}
 use Rattle.relay_core.specs.Entries.{Holds}
-use Rattle.cut_law.specs.Cut.{front, rest}
+use Rattle.cut_law.specs.Cut.{carried_front, rows_behind_front}
 use Rattle.relay_store.specs.Journals.{AllBodies, bytes_of}
-use Rattle.relay_store.specs.Rewriting.{HasNoRoom}
+use Rattle.relay_store.specs.Rewriting.{RewriteHasNoRoom}
 use Rattle.relay_store.specs.declared.fault.StoreFault.{StoreFault}
 use Rattle.relay_store.proofs.Carried.{cut_is}
 use Rattle.relay_store.proofs.CutFronts.{kept_at}
@@ -40,8 +40,8 @@ returns-in_err-carry-clause-full g c = λ e is tells J n keeps last.
     let held = subst (λ (bs : List (List Row)). HasBodies (bytes_of bs) c.args.self.now.log (g.D.Disk.view c.args.disk.now)) at.split keeps.holds in
     let state = subst (Holds c.in_ok-front.front) (sym at.front_is) (c.in_ok-front.ensures.core tells at.before at.there at.after each held at.here) in
     let failed : c.carry.result ≡ Err (StoreFault.Full e) = search rules in
-    subst (λ (l : List Row). HasNoRoom c.args.rewrite.now.build.end c.args.rewrite.now.build.most l e) (sym (cut_is J n))
-    (no_room_front _ _ _ (rest n J) e (c.carry.ensures.full e failed (front n J) state))
+    subst (λ (l : List Row). RewriteHasNoRoom c.args.rewrite.now.build.end c.args.rewrite.now.build.most l e) (sym (cut_is J n))
+    (no_room_front _ _ _ (rows_behind_front n J) e (c.carry.ensures.full e failed (carried_front n J) state))
 
 pub returns-in_err-carry-clause-no_bad_log : goal.returns-in_err-carry-clause-no_bad_log
 returns-in_err-carry-clause-no_bad_log g c = λ p is.
@@ -64,7 +64,7 @@ returns-clause-copied g c = on_ok_as c.copy_behind.result (λ copied. (
       let state = subst (Holds c.in_ok-front.front) (sym at.front_is) (c.in_ok-front.ensures.core tells at.before at.there at.after each held at.here) in
       let now = c.fold_upto.ensures.holds tells (bytes_of (at.before ++ at.there ∷ at.after)) held in
       let behind = copied.2 tells at.before at.there at.after each now at.here ∙ sym at.rest_is in
-      let first = c.in_ok-carry.ensures.copied.2 (front n J) state in
+      let first = c.in_ok-carry.ensures.copied.2 (carried_front n J) state in
       (λ i. first i ++ behind i) ∙ sym (cut_is J n),
 )) c.copy_behind.ensures.copied
 
@@ -75,10 +75,10 @@ returns-clause-full g c = λ e is tells J n keeps last.
     let held = subst (λ (bs : List (List Row)). HasBodies (bytes_of bs) c.args.self.now.log (g.D.Disk.view c.args.disk.now)) at.split keeps.holds in
     let state = subst (Holds c.in_ok-front.front) (sym at.front_is) (c.in_ok-front.ensures.core tells at.before at.there at.after each held at.here) in
     let now = c.fold_upto.ensures.holds tells (bytes_of (at.before ++ at.there ∷ at.after)) held in
-    let first = c.in_ok-carry.ensures.copied.2 (front n J) state in
+    let first = c.in_ok-carry.ensures.copied.2 (carried_front n J) state in
     let behind = sym at.rest_is in
     let full = c.copy_behind.ensures.full e is tells at.before at.there at.after each now at.here in
-    subst (λ (l : List Row). HasNoRoom c.args.rewrite.now.build.end c.args.rewrite.now.build.most l e)
+    subst (λ (l : List Row). RewriteHasNoRoom c.args.rewrite.now.build.end c.args.rewrite.now.build.most l e)
     ((λ i. first i ++ behind i) ∙ sym (cut_is J n))
     (no_room_behind _ c.in_ok-carry.ensures.copied.0 _ _ _ _ _ e c.in_ok-carry.ensures.copied.1 full)
 

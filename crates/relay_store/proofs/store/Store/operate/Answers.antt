@@ -1,12 +1,12 @@
 use Rattle.relay_store.specs.declared.fault.StoreFault.{StoreFault}
-use Rattle.relay_store.proofs.Spoken.{saying_operating}
+use Rattle.relay_store.proofs.CommandDone.{running_operating}
 use Rattle.relay_store.proofs.store.Store.operate.Goals as goal
 
 pub returns-in-Ok-operate-clause-clock : goal.returns-in-Ok-operate-clause-clock
-returns-in-Ok-operate-clause-clock g c = λ is. absurd (c.say.ensures.few StoreFault.Clock is)
+returns-in-Ok-operate-clause-clock g c = λ is. absurd (c.run_command.ensures.few StoreFault.Clock is)
 
 pub returns-in-Ok-operate-clause-seq_end : goal.returns-in-Ok-operate-clause-seq_end
-returns-in-Ok-operate-clause-seq_end g c = λ is. absurd (c.say.ensures.few StoreFault.SeqEnd is)
+returns-in-Ok-operate-clause-seq_end g c = λ is. absurd (c.run_command.ensures.few StoreFault.SeqEnd is)
 
 pub returns-in-Ok-operate-clause-few : goal.returns-in-Ok-operate-clause-few
-returns-in-Ok-operate-clause-few g c = λ f is. saying_operating f (c.say.ensures.few f is)
+returns-in-Ok-operate-clause-few g c = λ f is. running_operating f (c.run_command.ensures.few f is)

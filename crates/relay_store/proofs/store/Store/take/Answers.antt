@@ -24,10 +24,10 @@ returns-in-Err-prepare-clause-batched g c =
     (λ late. stops_late _ _ _ _ _ _ _ _ _ _ _ _ _ _ now late.0 _ late.1 _ _ _ c.in-Err-prepare.fault made.0 c.prepare.ensures.fits late.2)
     made.1 in
     let not : Some c.in-Err-prepare.fault ≢ Some StoreFault.Disk = ⊎_elim (λ vain. vain_not_disk c.in-Err-prepare.fault vain.of_asking) (λ late. late_not_disk _ _ _ c.in-Err-prepare.fault late.2) made.1 in
-    let count : c.prepare.new.draft.count ≡ 0 = made.0.count ∙ c.in-Ok.ensures.count in
+    let count : c.prepare.new.pending.count ≡ 0 = made.0.count ∙ c.in-Ok.ensures.count in
     batched _ _ _ _ _ _ _ _ _ _ _ _ _ st c.args.self.now.side g.D.Disk.view g.D.Disk.tells c.args.disk.now c.args.disk.now c.args.self.now.log
     (λ tells J rows has on. nothing_leaves J rows _ _ _ _ on (g.met.D.Disk.is_disk c.args.disk.now)) (refl, refl) (λ none. (refl, refl))
-    not (sym (behind_none c.args.self.now.log.end c.prepare.new.draft count)) (λ tells J rows has on. nothing_added J rows _ _ _ _ on (omega (arith, has.count, count)))
+    not (sym (behind_none c.args.self.now.log.end c.prepare.new.pending count)) (λ tells J rows has on. nothing_added J rows _ _ _ _ on (omega (arith, has.count, count)))
 
 pub commit-requires-clause-rows : goal.commit-requires-clause-rows
 commit-requires-clause-rows g c =

@@ -7,7 +7,7 @@ use Rattle.gate_log.specs.Log.{LogState}
 use Rattle.gate_log.proofs.Beside.{leaves_new}
 use Rattle.cut_law.specs.Cut.{cut}
 use Rattle.relay_store.specs.Journals.{bytes_of}
-use Rattle.relay_store.specs.Rewriting.{HasNoRoom, singles}
+use Rattle.relay_store.specs.Rewriting.{RewriteHasNoRoom, singles}
 use Rattle.relay_store.specs.declared.fault.StoreFault.{StoreFault}
 use Rattle.relay_store.proofs.CutPairs.{begun_run, bodies_at, built, closed_run, cut_some, few_bad, few_full, few_is, finished_run, kept_cut, live_closed, live_now, on_err_by, pair_moments}
 use Rattle.relay_store.proofs.store.Store.write_anew.Goals as goal
@@ -103,7 +103,7 @@ returns-in_err-rewrite-clause-few g c = λ f is.
 pub returns-in_err-fill-clause-full : goal.returns-in_err-fill-clause-full
 returns-in_err-fill-clause-full g c = λ e is tells J n keeps last.
     let failed : c.fill.result ≡ Err (StoreFault.Full e) = search rules in
-    subst (λ (b : BuildState). HasNoRoom b.end b.most (cut J n) e) c.in_ok-rewrite.ensures.build (c.fill.ensures.full e failed tells J n keeps last)
+    subst (λ (b : BuildState). RewriteHasNoRoom b.end b.most (cut J n) e) c.in_ok-rewrite.ensures.build (c.fill.ensures.full e failed tells J n keeps last)
 
 pub returns-in_err-fill-clause-no_bad_log : goal.returns-in_err-fill-clause-no_bad_log
 returns-in_err-fill-clause-no_bad_log g c = λ p is tells J n keeps last.

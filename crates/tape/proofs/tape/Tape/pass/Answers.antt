@@ -1,7 +1,7 @@
 use Rattle.std.proofs.Common.{◌≡◌, ℕ, ◌+◌, List, ◌++◌, length, drop, sym, ap, ◌∙◌, arith, length-append, length-drop}
 use Rattle.std.proofs.lemmas.List.{drop_at}
 use Rattle.tape.specs.Format.{record_bytes}
-use Rattle.tape.specs.Window.{items}
+use Rattle.tape.specs.ReadAhead.{items}
 use Rattle.tape.proofs.Windows.{length_items}
 use Rattle.tape.proofs.Fronts.{length_record}
 use Rattle.tape.proofs.tape.Tape.pass.Goals as goal

@@ -7,4 +7,4 @@ pub returns : goal.returns
 returns g c = λ told opened.
     let was : IsTrue c.args.self.now.store.log.is_open = search rules in
     kept_said g.D.Disk.view g.D.Disk.tells _ _ (seen_in c.args.self.now.store) (seen_in c.sync_now-done.new.self) c.args.disk.now c.sync_now-done.new.disk c.sync_now-done.result
-    c.sync_now-done.ensures.spoken told (c.requires told was) (λ closed. shut _ (c.sync_now-done.ensures.closed closed) opened)
+    c.sync_now-done.ensures.commanded told (c.requires told was) (λ closed. shut _ (c.sync_now-done.ensures.closed closed) opened)

@@ -1,0 +1,7 @@
+pub mod Repository
+pub mod Held
+pub mod Lone
+pub mod Playing
+pub mod Syncing
+pub mod State
+pub mod Taken

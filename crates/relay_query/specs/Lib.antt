@@ -1,0 +1,4 @@
+pub mod Accounts
+pub mod Bodies
+pub mod Replies
+pub mod Seen

@@ -1,0 +1,186 @@
+//! Operators' commands taken.
+
+ghost use Rattle.std.specs.Prelude.{◌≡◌, ◌≢◌, ◌≤◌, ◌<◌, ◌++◌, [], ⊤, List, length, false, Err, IsTrue, IfOk, IfErr, OnOk, OnErr};
+ghost use Rattle.at_cid.specs.Counts.{Rose};
+ghost use Rattle.at_syntax.specs.Did.{is_did, method_of};
+ghost use Rattle.at_form.specs.declared.forms.TheConstants.{LONGEST_SHORT_TEXT};
+ghost use Rattle.gate_log.specs.declared.pending_bodies.TheConstants.{AHEAD};
+ghost use Rattle.relay_row.specs.Journal.{IsJournal};
+ghost use Rattle.relay_row.specs.declared.limits.TheConstants.{MOST_ROWS};
+ghost use Rattle.relay_row.specs.declared.row.Row.{Row as TheRow};
+ghost use Rattle.at_authority.specs.Panels.{IsSpent};
+ghost use Rattle.relay_step.specs.Around.{around};
+ghost use Rattle.relay_step.specs.Asked.{AskedInVain};
+ghost use Rattle.relay_step.specs.Causes.{CameToNothing, OneTaken};
+ghost use Rattle.relay_step.specs.Commands.{EndsBehind, EndsFetched, OperatedAt, SyncedAt, rows_commanded, told_where};
+ghost use Rattle.relay_store.specs.PendingBodies.{Fits, HasRows, IsUnchanged};
+ghost use Rattle.relay_store.specs.Store.{IsKept, IsOf, seen_in};
+ghost use Rattle.relay_store.specs.Taking.{AreAdded};
+ghost use Rattle.relay_store.specs.declared.fault.StoreFault.{StoreFault as TheFault};
+ghost use Rattle.relay_store.specs.Commands.{IsLate, IsOfOperating, IsOfCommand, CommandDone, Commanded, done_of, done_row};
+
+use crate::StoreFault;
+use crate::adding::add_row;
+use crate::committing::commit;
+use crate::done::Done;
+use crate::pending::Pending;
+use crate::store::Store;
+use at_authority::Judges;
+use event_window::Window;
+use gate_log::Log;
+use relay_core::Core;
+use relay_disk::Disk;
+use relay_io::{Clock, Repos};
+use relay_row::Row;
+use relay_step::{CommandAnswer, operate, sync_now};
+use std::alloc::Global;
+
+fn done_of_row(row: &Row) -> Done
+    ensures { result ≡ done_row row.now }
+{
+    match row {
+        Row::Taken(_) | Row::Carried(_) => Done::Event(row.seq()),
+        Row::Synced(_, whole, _) => Done::Synced(whole.seq, whole.records),
+        Row::Operated(operated) => Done::Event(operated.seq),
+    }
+}
+
+// Takes a word: its row, if it makes one, is applied and goes into the body under way.
+fn take_command(
+    alloc: Global,
+    log: &Log,
+    core: &mut Core,
+    window: &mut Window,
+    pending: &mut Pending,
+    command: CommandAnswer,
+) -> Result<Done, StoreFault>
+    requires few { pending.old.count < MOST_ROWS }
+    requires begun { AHEAD ≤ length pending.old.body }
+    requires fits { Fits log.now pending.old }
+    ensures fits { Fits log.now pending.new }
+    ensures ok { IfOk result (λ done. done ≡ done_of command) }
+    ensures added { OnOk result (AreAdded log.now.end (rows_commanded command) core.old core.new window.old.places window.new.places pending.old pending.new) }
+    ensures as_before { OnErr result (IsUnchanged core.old core.new window.old.places window.new.places pending.old pending.new) }
+    ensures late { IfErr result (IsLate log.now pending.old (rows_commanded command)) }
+{
+    match command {
+        CommandAnswer::Refused(refusal) => Ok(Done::Refused(refusal)),
+        CommandAnswer::Made(row) => {
+            let done = done_of_row(&row);
+            match add_row(alloc, log, core, window, pending, row) {
+                Ok(()) => Ok(done),
+                Err(fault) => Err(fault),
+            }
+        }
+    }
+}
+
+impl Store {
+    // Takes a word, and makes its row durable.
+    fn run_command<D: Disk>(
+        &mut self,
+        alloc: Global,
+        disk: &mut D,
+        command: CommandAnswer,
+    ) -> Result<Done, StoreFault>
+        requires open { IsTrue self.old.log.is_open }
+        requires on { IsTrue D.tells → IsKept (seen_in self.old) (D.view disk.old) }
+        requires rows { HasRows [] self.old.pending }
+        ensures commanded { (J : List TheRow) → IsOf J self.old.core → IsJournal (J ++ rows_commanded command) → Commanded D.view D.tells J command (seen_in self.old) (seen_in self.new) disk.old disk.new result }
+        ensures open { result ≢ Err StoreFault.Disk → IsTrue self.new.log.is_open }
+        ensures closed { result ≡ Err StoreFault.Disk → self.new.log.is_open ≡ false }
+        ensures disk { result ≡ Err StoreFault.Disk → Rose (D.view disk.old).faults (D.view disk.new).faults }
+        ensures disk_counts { (D.view disk.old).faults ≤ (D.view disk.new).faults }
+        ensures few { (f : TheFault) → result ≡ Err f → IsOfCommand f }
+    {
+        match take_command(
+            alloc,
+            &self.log,
+            &mut self.core,
+            &mut self.window,
+            &mut self.pending,
+            command,
+        ) {
+            Err(fault) => Err(fault),
+            Ok(done) => match commit(&mut self.log, disk, &mut self.pending) {
+                Ok(()) => Ok(done),
+                Err(fault) => Err(fault),
+            },
+        }
+    }
+
+    /// Takes an account down, or restores it, at an operator's command. `time` is that of the event by which this goes out.
+    pub fn operate<D: Disk, C: Clock>(
+        &mut self,
+        alloc: Global,
+        disk: &mut D,
+        did: &str,
+        down: bool,
+        time: &str,
+        clock: &mut C,
+    ) -> Result<Done, StoreFault>
+        requires open { IsTrue self.old.log.is_open }
+        requires on { IsTrue D.tells → IsKept (seen_in self.old) (D.view disk.old) }
+        requires did { IsTrue (is_did did.now) }
+        requires time { length time.now ≤ LONGEST_SHORT_TEXT }
+        ensures commanded { (J : List TheRow) → IsOf J self.old.core → CommandDone D.view D.tells J (λ command. OperatedAt C.tells self.old.core did.now down time.now (C.moments clock.old) command (C.moments clock.new))
+            (IsTrue C.tells → OneTaken (C.moments clock.old) (C.moments clock.new)) (seen_in self.old) (seen_in self.new) disk.old disk.new result }
+        ensures open { result ≢ Err StoreFault.Disk → IsTrue self.new.log.is_open }
+        ensures closed { result ≡ Err StoreFault.Disk → self.new.log.is_open ≡ false }
+        ensures disk { result ≡ Err StoreFault.Disk → Rose (D.view disk.old).faults (D.view disk.new).faults }
+        ensures clock { result ≡ Err StoreFault.Clock → Rose (C.faults clock.old) (C.faults clock.new) }
+        ensures seq_end { result ≡ Err StoreFault.SeqEnd → EndsBehind self.old.core did.now down }
+        ensures few { (f : TheFault) → result ≡ Err f → IsOfOperating f }
+        ensures disk_counts { (D.view disk.old).faults ≤ (D.view disk.new).faults }
+        ensures clock_counts { C.faults clock.old ≤ C.faults clock.new }
+    {
+        match self.pending.start() {
+            Ok(()) => {}
+            Err(_) => return Err(StoreFault::Memory),
+        }
+        match operate(alloc, &self.core, did, down, time, clock) {
+            Ok(command) => self.run_command(alloc, disk, command),
+            Err(fault) => Err(StoreFault::from(fault)),
+        }
+    }
+
+    /// Fetches an account's repository at an operator's command, and takes it over. `time` is that of the event by which this goes out.
+    pub fn sync_now<D: Disk, P: Judges, R: Repos, C: Clock>(
+        &mut self,
+        alloc: Global,
+        disk: &mut D,
+        did: &str,
+        time: &str,
+        judges: &mut P,
+        repos: &mut R,
+        clock: &mut C,
+    ) -> Result<Done, StoreFault>
+        requires open { IsTrue self.old.log.is_open }
+        requires on { IsTrue D.tells → IsKept (seen_in self.old) (D.view disk.old) }
+        requires did { IsTrue (is_did did.now) }
+        requires time { length time.now ≤ LONGEST_SHORT_TEXT }
+        ensures commanded { (J : List TheRow) → IsOf J self.old.core → CommandDone D.view D.tells J
+            (λ command. SyncedAt C.tells R.tells self.old.core did.now time.now (around (P.panel judges.old) (C.moments clock.old) (R.repository repos.old)) command (around (P.panel judges.new) (C.moments clock.new) (R.repository repos.new)))
+            (CameToNothing C.tells R.tells (AskedInVain (P.panel judges.old) did.now (P.panel judges.new)) (around (P.panel judges.old) (C.moments clock.old) (R.repository repos.old)) (around (P.panel judges.new) (C.moments clock.new) (R.repository repos.new)))
+            (seen_in self.old) (seen_in self.new) disk.old disk.new result }
+        ensures open { result ≢ Err StoreFault.Disk → IsTrue self.new.log.is_open }
+        ensures closed { result ≡ Err StoreFault.Disk → self.new.log.is_open ≡ false }
+        ensures disk { result ≡ Err StoreFault.Disk → Rose (D.view disk.old).faults (D.view disk.new).faults }
+        ensures clock { result ≡ Err StoreFault.Clock → Rose (C.faults clock.old) (C.faults clock.new) }
+        ensures repos { result ≡ Err StoreFault.Repos → Rose (R.faults repos.old) (R.faults repos.new) }
+        ensures spent { result ≡ Err StoreFault.Authority → IsSpent (P.panel judges.new (method_of did.now)) }
+        ensures seq_end { result ≡ Err StoreFault.SeqEnd → EndsFetched self.old.core did.now (told_where R.tells (R.repository repos.old did.now)) (P.panel judges.old) (P.panel judges.new) }
+        ensures disk_counts { (D.view disk.old).faults ≤ (D.view disk.new).faults }
+        ensures clock_counts { C.faults clock.old ≤ C.faults clock.new }
+        ensures repos_count { R.faults repos.old ≤ R.faults repos.new }
+    {
+        match self.pending.start() {
+            Ok(()) => {}
+            Err(_) => return Err(StoreFault::Memory),
+        }
+        match sync_now(alloc, &self.core, did, time, judges, repos, clock) {
+            Ok(command) => self.run_command(alloc, disk, command),
+            Err(fault) => Err(StoreFault::from(fault)),
+        }
+    }
+}

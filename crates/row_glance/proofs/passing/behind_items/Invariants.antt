@@ -1,6 +1,0 @@
-use Rattle.std.proofs.Common.{◌≡◌, ◌-◌}
-use Rattle.row_glance.specs.Passing.{times, item_behind}
-use Rattle.row_glance.proofs.passing.behind_items.Given as goal
-
-abbrev pub invariant-items : goal.invariant-items
-invariant-items l = times (l.count - l.counter) item_behind l.rest ≡ times l.count item_behind l.fn.bytes

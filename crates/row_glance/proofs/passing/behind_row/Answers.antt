@@ -1,7 +1,0 @@
-use Rattle.std.proofs.Common.{ap, ◌∙◌}
-use Rattle.row_glance.specs.Passing.{row_behind}
-use Rattle.row_glance.proofs.Rows.{row_passed}
-use Rattle.row_glance.proofs.passing.behind_row.Goals as goal
-
-pub returns : goal.returns
-returns c row rest is e = c.behind_list.ensures ∙ (ap row_behind e ∙ row_passed row rest is)

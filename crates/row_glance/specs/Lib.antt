@@ -1,3 +1,0 @@
-pub mod Sight
-pub mod Passing
-pub mod Glancing

@@ -1,0 +1,7 @@
+use Rattle.std.proofs.Common.{ap, ◌∙◌}
+use Rattle.row_peek.specs.Peeking.{peeked_at}
+use Rattle.row_peek.proofs.Seen.{sees}
+use Rattle.row_peek.proofs.peeking.peek.Goals as goal
+
+pub returns : goal.returns
+returns c row rest is e = sees row rest c.peek_at.result is (c.peek_at.ensures ∙ ap peeked_at e)

@@ -1,0 +1,3 @@
+pub mod Peeked
+pub mod Passing
+pub mod Peeking

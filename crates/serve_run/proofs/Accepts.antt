@@ -1,0 +1,141 @@
+-- Guests who come, one after another.
+use Rattle.std.proofs.Common.{◌≡◌, ◌∙◌, inr, ℕ, ◌+◌, ◌≤◌, List, [], ◌∷◌, ◌++◌, length, Bool, Option, Some, None, Result, Ok, Err, IsTrue, IfOk, IfErr, IfSome, refl, sym, ap, arith, append_assoc, subst}
+use Rattle.std.proofs.lemmas.List.{append-nil}
+use Rattle.event_window.specs.Held.{Held}
+use Rattle.relay_io.specs.Guests.{next_of, others_of}
+use Rattle.relay_io.specs.declared.door.Guest.{Guest}
+use Rattle.relay_io.specs.declared.door.Turn.{Turn}
+use Rattle.backfill.specs.Serving.{sendings}
+use Rattle.backfill.specs.Target.{cursor_in}
+use Rattle.serve_run.specs.AtDoor.{AtDoor, SessionIsBroken, GuestAccepted, Received, SessionServed, Visited}
+use Rattle.serve_run.specs.Ends.{IsOfSession}
+use Rattle.serve_run.specs.Sessions.{AllVisits, AreCounted, IsCounted, IsVisit, Visit, guests_of, lines_behind, session_line, turns_of}
+use Rattle.serve_run.specs.declared.end.ServeEnd.{ServeEnd}
+use Rattle.serve_run.specs.declared.session.Session.{Session}
+
+-- a guest who sat was received
+pub received_served : (tells : Bool) (held : Held) (guest : Guest) (target : List ℕ) (old new : List Turn) (session : Session) → guest ≡ Guest.Target target → SessionServed tells held (cursor_in target) old new (Ok session) → Received tells held guest old new (Ok (Some session))
+received_served tells held guest target old new session is session_served =
+    (session_served.0, subst (λ (g : Guest). IsVisit held g session_served.0 session) (sym is) session_served.1, session_served.2)
+
+pub received_broken : (tells : Bool) (held : Held) (guest : Guest) (target : List ℕ) (old new : List Turn) (end : ServeEnd) → guest ≡ Guest.Target target → SessionServed tells held (cursor_in target) old new (Err end) → Received tells held guest old new (Err end)
+received_broken tells held guest target old new end is session_served = (target, is, session_served)
+
+-- one without a handshake
+pub received_none : (tells : Bool) (held : Held) (guest : Guest) (turns : List Turn) → guest ≡ Guest.NoHandshake → Received tells held guest turns turns (Ok (Some Session.NoHandshake))
+received_none tells held guest turns is =
+    ([], subst (λ (g : Guest). IsVisit held g [] Session.NoHandshake) (sym is) (refl, refl), λ _. sym (append-nil turns))
+
+-- ---- who comes at the door
+
+-- who comes is the first of the guests
+came_first : (guest : Guest) (guests : List Guest) → guest ≡ next_of guests → (guest ≡ Guest.End → ⊥) → guests ≡ guest ∷ others_of guests
+came_first guest [] is other = absurd (other is)
+came_first guest (g ∷ guests) is other = ap (λ (x : Guest). x ∷ guests) (sym is)
+
+no_end : (held : Held) (guest : Guest) (sent : List (List ℕ)) (session : Session) → IsVisit held guest sent session → guest ≡ Guest.End → ⊥
+no_end held guest sent session visit is = subst (λ (g : Guest). IsVisit held g sent session) is visit
+
+target_no_end : (target : List ℕ) → Guest.Target target ≡ Guest.End → ⊥
+target_no_end target is = cc
+
+then_sent : (old mid new : List Turn) (guest : Guest) (messages : List (List ℕ)) → mid ≡ old ++ Turn.Came guest ∷ [] → new ≡ mid ++ sendings messages → new ≡ old ++ Turn.Came guest ∷ sendings messages
+then_sent old mid new guest messages first then = then ∙ ap (λ (l : List Turn). l ++ sendings messages) first ∙ append_assoc old (Turn.Came guest ∷ []) (sendings messages)
+
+module _ (tells : Bool) (held : Held) (most : ℕ) (guest : Guest) (old mid new : AtDoor)
+    (next : IsTrue tells → guest ≡ next_of old.guests) (gone : IsTrue tells → mid.guests ≡ others_of old.guests) (came : IsTrue tells → mid.turns ≡ old.turns ++ Turn.Came guest ∷ [])
+    (same : IsTrue tells → new.guests ≡ mid.guests) where
+  left : IsTrue tells → new.guests ≡ others_of old.guests
+  left t = same t ∙ gone t
+
+  accepted_session : (session : Session) → IsCounted session old.faults new.faults → Received tells held guest mid.turns new.turns (Ok (Some session)) → GuestAccepted tells held most old new (Ok (Some session))
+  accepted_session session counted received = (
+    record { guest = guest; sent = received.0; session = session; faults = new.faults },
+    refl,
+    record {
+      each = (received.1, tt);
+      guests = λ t. came_first guest old.guests (next t) (no_end held guest received.0 session received.1) ∙ ap (λ (l : List Guest). guest ∷ l) (sym (left t));
+      turns = λ t. then_sent old.turns mid.turns new.turns guest received.0 (came t) (received.2 t) ∙ ap (λ (l : List Turn). old.turns ++ Turn.Came guest ∷ l) (sym (append-nil (sendings received.0)));
+      counted = (counted, omega arith);
+    },
+  )
+
+  accepted_nobody : Received tells held guest mid.turns new.turns (Ok None) → GuestAccepted tells held most old new (Ok None)
+  accepted_nobody received = inr (λ t. (
+    sym (next t) ∙ received.0,
+    left t,
+    received.1 t ∙ came t ∙ ap (λ (g : Guest). old.turns ++ Turn.Came g ∷ []) received.0,
+  ))
+
+  broken : (end : ServeEnd) → Received tells held guest mid.turns new.turns (Err end) → SessionIsBroken tells held old new
+  broken end received = record {
+    target = received.0;
+    sent = received.2.0;
+    cut = received.2.1;
+    guests = λ t. came_first (Guest.Target received.0) old.guests (sym received.1 ∙ next t) (target_no_end received.0) ∙ ap (λ (l : List Guest). Guest.Target received.0 ∷ l) (sym (left t));
+    turns = λ t. then_sent old.turns mid.turns new.turns guest received.2.0 (came t) (received.2.2 t) ∙ ap (λ (g : Guest). old.turns ++ Turn.Came g ∷ sendings received.2.0) received.1;
+  }
+
+  accepted_broken : (end : ServeEnd) → IsOfSession end → Received tells held guest mid.turns new.turns (Err end) → GuestAccepted tells held most old new (Err end)
+  accepted_broken ServeEnd.Done of received = absurd of
+  accepted_broken ServeEnd.WriteFault of received = absurd of
+  accepted_broken ServeEnd.Door of received = absurd of
+  accepted_broken ServeEnd.Disk of received = inr (broken ServeEnd.Disk received)
+  accepted_broken (ServeEnd.BadLog p) of received = inr (broken (ServeEnd.BadLog p) received)
+  accepted_broken ServeEnd.Memory of received = inr (broken ServeEnd.Memory received)
+  accepted_broken ServeEnd.TooLong of received = absurd of
+
+  -- who came was met
+  pub accepted_received : (result : Result (Option Session) ServeEnd) → IfOk result (λ found. IfSome found (λ session. IsCounted session old.faults new.faults)) → IfErr result (λ end. IsOfSession end)
+      → Received tells held guest mid.turns new.turns result → GuestAccepted tells held most old new result
+  accepted_received (Ok (Some session)) counted few received = accepted_session session counted received
+  accepted_received (Ok None) counted few received = accepted_nobody received
+  accepted_received (Err end) counted few received = accepted_broken end few received
+
+-- ---- visits one after another
+
+all_more : (held : Held) (visits : List Visit) (v : Visit) → AllVisits held visits → IsVisit held v.guest v.sent v.session → AllVisits held (visits ++ v ∷ [])
+all_more held [] v each is = (is, tt)
+all_more held (first ∷ visits) v each is = (each.0, all_more held visits v each.1 is)
+
+guests_more : (visits other : List Visit) → guests_of (visits ++ other) ≡ guests_of visits ++ guests_of other
+guests_more [] other = refl
+guests_more (v ∷ visits) other = ap (λ (l : List Guest). v.guest ∷ l) (guests_more visits other)
+
+turns_more : (visits other : List Visit) → turns_of (visits ++ other) ≡ turns_of visits ++ turns_of other
+turns_more [] other = refl
+turns_more (v ∷ visits) other =
+    ap (λ (l : List Turn). Turn.Came v.guest ∷ (sendings v.sent ++ l)) (turns_more visits other) ∙ ap (λ (l : List Turn). Turn.Came v.guest ∷ l) (sym (append_assoc (sendings v.sent) (turns_of visits) (turns_of other)))
+
+counted_later : (session : Session) (before mid now : ℕ) → before ≤ mid → IsCounted session mid now → IsCounted session before now
+counted_later (Session.Sent cursor events) before mid now le is = omega (arith, le, is)
+counted_later (Session.Future cursor) before mid now le is = omega (arith, le, is)
+counted_later Session.BadTarget before mid now le is = omega (arith, le, is)
+counted_later Session.NoHandshake before mid now le is = omega (arith, le, is)
+counted_later (Session.Failed events) before mid now le is = omega (arith, le, is)
+
+counted_more : (visits : List Visit) (v : Visit) (before mid now : ℕ) → AreCounted before visits mid → AreCounted mid (v ∷ []) now → AreCounted before (visits ++ v ∷ []) now
+counted_more [] v before mid now first then = (counted_later v.session before mid v.faults first then.0, then.1)
+counted_more (w ∷ visits) v before mid now first then = (first.0, counted_more visits v w.faults mid now first.1 then)
+
+-- no visit was made yet
+pub visited_none : (tells : Bool) (held : Held) (door : AtDoor) → Visited tells held [] door door
+visited_none tells held door = record { each = tt; guests = λ _. refl; turns = λ _. sym (append-nil door.turns); counted = omega arith }
+
+pub visited_more : (tells : Bool) (held : Held) (visits : List Visit) (v : Visit) (old mid new : AtDoor) → Visited tells held visits old mid → Visited tells held (v ∷ []) mid new → Visited tells held (visits ++ v ∷ []) old new
+visited_more tells held visits v old mid new first then = record {
+  each = all_more held visits v first.each then.each.0;
+  guests = λ t. first.guests t ∙ ap (λ (l : List Guest). guests_of visits ++ l) (then.guests t) ∙ sym (append_assoc (guests_of visits) (v.guest ∷ []) new.guests)
+      ∙ ap (λ (l : List Guest). l ++ new.guests) (sym (guests_more visits (v ∷ [])));
+  turns = λ t. then.turns t ∙ ap (λ (l : List Turn). l ++ turns_of (v ∷ [])) (first.turns t) ∙ append_assoc old.turns (turns_of visits) (turns_of (v ∷ []))
+      ∙ ap (λ (l : List Turn). old.turns ++ l) (sym (turns_more visits (v ∷ [])));
+  counted = counted_more visits v old.faults mid.faults new.faults first.counted then.counted;
+}
+
+-- the lines of them
+pub lines_more : (n : ℕ) (visits : List Visit) (v : Visit) → lines_behind n (visits ++ v ∷ []) ≡ lines_behind n visits ++ session_line (n + length visits + 1) v.session
+lines_more n [] v = append-nil (session_line (n + 1) v.session) ∙ ap (λ (m : ℕ). session_line m v.session) (omega arith)
+lines_more n (w ∷ visits) v =
+    ap (λ (l : List ℕ). session_line (n + 1) w.session ++ l) (lines_more (n + 1) visits v)
+    ∙ ap (λ (m : ℕ). session_line (n + 1) w.session ++ (lines_behind (n + 1) visits ++ session_line m v.session)) (omega arith)
+    ∙ sym (append_assoc (session_line (n + 1) w.session) (lines_behind (n + 1) visits) (session_line (n + length (w ∷ visits) + 1) v.session))
