@@ -88,7 +88,7 @@ def alike(i):
 def nested_lists(size):
     """A frame without its fields: lists of one item, as deep as they may lie, one after another."""
     deep = b"\x81" * 61 + b"\x80"
-    return m.spell({"t": "#commit", "op": 1}) + b"\xa1\x61a" + m.head(4, size // 62) + deep * (size // 62)
+    return m.encode({"t": "#commit", "op": 1}) + b"\xa1\x61a" + m.head(4, size // 62) + deep * (size // 62)
 
 
 def blocks_of(message_bytes):

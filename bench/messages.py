@@ -21,7 +21,7 @@ class Link(bytes):
     """The 36 bytes of a link."""
 
 
-def spell(value):
+def encode(value):
     if value is None:
         return b"\xf6"
     if isinstance(value, bool):
@@ -36,9 +36,9 @@ def spell(value):
         text = value.encode()
         return head(3, len(text)) + text
     if isinstance(value, list):
-        return head(4, len(value)) + b"".join(map(spell, value))
+        return head(4, len(value)) + b"".join(map(encode, value))
     keys = sorted(value, key=lambda key: (len(key.encode()), key.encode()))
-    return head(5, len(keys)) + b"".join(spell(key) + spell(value[key]) for key in keys)
+    return head(5, len(keys)) + b"".join(encode(key) + encode(value[key]) for key in keys)
 
 
 def link_of(block):
@@ -71,7 +71,7 @@ def varint(n):
 
 
 def car(root, blocks):
-    front = spell({"version": 1, "roots": [root]})
+    front = encode({"version": 1, "roots": [root]})
     sections = [varint(36 + len(block)) + link + block for link, block in blocks]
     return varint(len(front)) + front + b"".join(sections)
 
@@ -115,10 +115,10 @@ class Tree:
         for i, right in zip(own, parts[1:]):
             key = self.keys[i]
             count = shared(before, key)
-            entries.append(b"\xa4\x61k" + spell(key[count:]) + b"\x61p" + head(0, count) + b"\x61t" + spell(right)
-                           + b"\x61v" + spell(self.pairs[key]))
+            entries.append(b"\xa4\x61k" + encode(key[count:]) + b"\x61p" + head(0, count) + b"\x61t" + encode(right)
+                           + b"\x61v" + encode(self.pairs[key]))
             before = key
-        block = b"\xa2\x61e" + head(4, len(entries)) + b"".join(entries) + b"\x61l" + spell(parts[0])
+        block = b"\xa2\x61e" + head(4, len(entries)) + b"".join(entries) + b"\x61l" + encode(parts[0])
         link = link_of(block)
         self.nodes[self.place(layer, start, end)] = link, block
         return link
@@ -158,7 +158,7 @@ class Tree:
 
 
 def commit_block(rev, data, did=DID):
-    return spell({"did": did, "rev": rev, "sig": bytes(64), "data": data, "prev": None, "version": 3})
+    return encode({"did": did, "rev": rev, "sig": bytes(64), "data": data, "prev": None, "version": 3})
 
 
 def operation(key, was, now):
@@ -180,11 +180,11 @@ def message(seq, rev, since, data, prev_data, changes, blocks, did=DID):
     }
     if prev_data is not None:
         payload["prevData"] = prev_data
-    return spell({"t": "#commit", "op": 1}) + spell(payload)
+    return encode({"t": "#commit", "op": 1}) + encode(payload)
 
 
 def value(n):
-    return link_of(spell({"n": n}))
+    return link_of(encode({"n": n}))
 
 
 def step(pairs, changes, seq=2, rev=2, more=(), heights=None):

@@ -1,28 +1,23 @@
 """Tapes of honest hosts, made by the plain model of messages.py: for each, what the authorities' table has to say, and what
-any relay has to hash of it."""
+any relay has to hash of it. The program that takes them, and what its runs cost, are those of tests/program.py."""
 import itertools
+import pathlib
 import random
+import sys
 
 import messages as m
 
-HOST = b"a.example"
-LINK = 41  # bytes of a link that is spelled
+sys.path.insert(0, str(pathlib.Path(__file__).resolve().parent.parent / "tests"))
+import program  # noqa: E402, F401
+
+HOST = "a.example"
+LINK = 41  # bytes of an encoded link
+ACCOUNT = 208  # bytes that an account takes in memory (bench/accounts)
 
 
-def record(message, host=HOST):
-    """A record of a tape."""
-    return bytes([len(host)]) + host + len(message).to_bytes(4, "big") + message
-
-
-def records(tape):
-    """The hosts and messages of a tape."""
-    at = 0
-    while at < len(tape):
-        host = tape[at + 1:at + 1 + tape[at]]
-        at += 1 + len(host)
-        message = tape[at + 4:at + 4 + int.from_bytes(tape[at:at + 4], "big")]
-        at += 4 + len(message)
-        yield host, message
+def record(message):
+    """A record of a tape of the one host."""
+    return program.record(HOST, message)
 
 
 def did_of(i):
@@ -31,7 +26,7 @@ def did_of(i):
 
 def table(dids, host=HOST):
     """The table of an authority that knows these accounts, and trusts their signatures."""
-    return "".join(f"home {did} {host.decode()}\ntrust {did}\n" for did in dids)
+    return "".join(f"home {did} {host}\ntrust {did}\n" for did in dids)
 
 
 def sync(seq, rev, tree, did):
@@ -39,7 +34,7 @@ def sync(seq, rev, tree, did):
     block = m.commit_block(m.tid(rev), tree.root, did)
     root = m.link_of(block)
     payload = {"did": did, "rev": m.tid(rev), "seq": seq, "time": m.TIME, "blocks": m.car(root, [(root, block)])}
-    return m.spell({"t": "#sync", "op": 1}) + m.spell(payload)
+    return m.encode({"t": "#sync", "op": 1}) + m.encode(payload)
 
 
 def keys_in(block):
@@ -110,7 +105,7 @@ def hashed(before, changes, carried, nodes):
 
 def body(n):
     """A record of 300 bytes."""
-    return m.spell({"n": n, "text": "x" * (300 - len(m.spell({"n": n, "text": ""})) - 1)})
+    return m.encode({"n": n, "text": "x" * (300 - len(m.encode({"n": n, "text": ""})) - 1)})
 
 
 def post(draw):
@@ -122,7 +117,7 @@ def accounts(events, count, more):
     field = {"more": bytes(more)} if more else {}
     for i in range(events):
         payload = {"did": did_of(i % count), "seq": i + 1, "time": m.TIME, "active": True, **field}
-        yield m.spell({"t": "#account", "op": 1}) + m.spell(payload)
+        yield m.encode({"t": "#account", "op": 1}) + m.encode(payload)
 
 
 def firehose(accounts, keys, commits):
@@ -151,13 +146,13 @@ def first_commits(start, end):
     changes = {key: (None, now)}
     tree = m.Tree({key: now})
     nodes = [it for it in tree.nodes.values()]
-    # One message is spelled, and the others differ in the account, the commit that names it, and the number.
+    # One message is encoded, and the others differ in the account, the commit that names it, and the number.
     base = 1 << 16
     did = did_of(0)
     model = m.message(base, m.tid(1), None, tree.root, None, changes, nodes + [(now, block)], did)
     commit = m.commit_block(m.tid(1), tree.root, did)
-    root, number = m.link_of(commit), m.spell("seq") + m.spell(base)
+    root, number = m.link_of(commit), m.encode("seq") + m.encode(base)
     for i in range(start, end):
         own = commit.replace(did.encode(), did_of(i).encode())
         yield (model.replace(commit, own).replace(root, m.link_of(own)).replace(did.encode(), did_of(i).encode())
-               .replace(number, m.spell("seq") + m.spell(base + i)))
+               .replace(number, m.encode("seq") + m.encode(base + i)))

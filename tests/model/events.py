@@ -1,5 +1,5 @@
 """Frames and events of a host's stream."""
-from items import LAST, Fault, Link, Text, is_did, is_node, is_tid, item, spell
+from items import LAST, Fault, Link, Text, is_did, is_node, is_tid, item, encode
 
 KINDS = ("#commit", "#sync", "#identity", "#account")
 
@@ -13,8 +13,8 @@ class Event:
         self.did = payload["repo" if kind == "#commit" else "did"].decode() if self.kind else None
 
     def out_len(self):
-        """The length of the message that goes out, with a number of nine bytes; the payload's has one spelling."""
-        return len(spell({"t": self.name, "op": 1})) + self.size - len(spell(self.seq)) + 9
+        """The length of the message that goes out, with a number of nine bytes; the payload's has one encoding."""
+        return len(encode({"t": self.name, "op": 1})) + self.size - len(encode(self.seq)) + 9
 
 
 def is_short(value):

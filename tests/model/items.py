@@ -7,7 +7,7 @@ import re
 import sys
 
 sys.path.insert(0, str(pathlib.Path(__file__).resolve().parents[2] / "bench"))
-from messages import DIGITS, Link, head, link_of, spell  # noqa: E402, F401
+from messages import DIGITS, Link, head, link_of, encode  # noqa: E402, F401
 
 NODE, RAW = b"\x01\x71\x12\x20", b"\x01\x55\x12\x20"
 LAST = 2**53 - 1

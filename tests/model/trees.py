@@ -1,5 +1,5 @@
 """Trees: their nodes, what blocks show of one, and what undoing operations leaves."""
-from items import Fault, Link, is_node, link_of, spell, whole
+from items import Fault, Link, is_node, link_of, encode, whole
 from messages import height, shared
 
 EMPTY = link_of(bytes.fromhex("a2616580616cf6"))
@@ -11,7 +11,7 @@ def is_child(value):
 
 
 def node(block):
-    """The left link and the entries (key, value, right link) of a node's one spelling."""
+    """The left link and the entries (key, value, right link) of a node's one encoding."""
     found = whole(block)
     if type(found) is not dict or set(found) != {"e", "l"} or type(found["e"]) is not list or not is_child(found["l"]):
         raise Fault
@@ -131,10 +131,10 @@ def undone(shown, changes):
 def root(shown):
     """The link of the tree of a list."""
     keys = [entry[0] for entry in shown if not is_hole(entry)]
-    return link_of(spelled(shown, max(map(height, keys), default=0)))
+    return link_of(encoded(shown, max(map(height, keys), default=0)))
 
 
-def spelled(shown, layer):
+def encoded(shown, layer):
     """The block over a part of a list at a layer."""
     parts, own, part = [], [], []
     for entry in shown:
@@ -151,7 +151,7 @@ def spelled(shown, layer):
         count = shared(before, key)
         entries.append({"k": key[count:], "p": count, "t": right, "v": value})
         before = key
-    return spell({"e": entries, "l": links[0]})
+    return encode({"e": entries, "l": links[0]})
 
 
 def below(part, layer):
@@ -159,4 +159,4 @@ def below(part, layer):
         return None
     if len(part) == 1 and part[0][0] == layer - 1:
         return part[0][1]
-    return link_of(spelled(part, layer - 1))
+    return link_of(encoded(part, layer - 1))

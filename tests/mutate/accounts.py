@@ -11,7 +11,7 @@ REV_STEP = 1 << 10
 
 
 class Parts:
-    """A message before it is spelled: header, payload, and the CAR of its blocks, where it has some: header and sections."""
+    """A message before it is encoded: header, payload, and the CAR of its blocks, where it has some: header and sections."""
 
     def __init__(self, kind, payload, root=None, blocks=None):
         self.header, self.payload = {"t": kind, "op": 1}, payload
@@ -19,13 +19,13 @@ class Parts:
         self.blocks = blocks
 
     def car(self):
-        front = m.spell(self.front)
+        front = m.encode(self.front)
         sections = [m.varint(36 + len(block)) + link + block for link, block in self.blocks]
         return m.varint(len(front)) + front + b"".join(sections)
 
     def message(self):
         payload = self.payload if self.blocks is None else {**self.payload, "blocks": self.car()}
-        return m.spell(self.header) + m.spell(payload)
+        return m.encode(self.header) + m.encode(payload)
 
 
 class Account:

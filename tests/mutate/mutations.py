@@ -39,7 +39,7 @@ def splice(draw, message, others):
 def heads(message):
     """Where heads of items stand: in front, and at the keys of fields and behind them."""
     found = [0]
-    for key in map(m.spell, NAMES):
+    for key in map(m.encode, NAMES):
         at = message.find(key)
         if at >= 0:
             found += [at, at + len(key)]
@@ -52,11 +52,11 @@ def lengths(draw, message, _):
     major = message[at] & 0xE0
     argument = draw.choice((0, 1, 23, 24, 255, 256, 65535, 65536, 2**31, 2**32, 2**53, 2**63, 2**64 - 1, draw.getrandbits(16)))
     size, low = draw.choice(((1, 24), (2, 25), (4, 26), (8, 27)))
-    spelled = draw.choice((
+    encoded = draw.choice((
         m.head(major >> 5, argument),
         bytes([major | low]) + (argument % (1 << 8 * size)).to_bytes(size, "big"),
         bytes([major | draw.randrange(28, 32)]), bytes([message[at] ^ draw.choice((1, 2, 4, 32, 64, 128))])))
-    return message[:at] + spelled + message[at + 1:]
+    return message[:at] + encoded + message[at + 1:]
 
 
 # changes of parts
@@ -187,7 +187,7 @@ def commits(draw, parts):
         found.pop(key, None)
     else:
         found[key] = draw.choice((*VALUES, bytes(8000), bytes(9000)))
-    replace(parts, parts.blocks[0][0], m.spell(found))
+    replace(parts, parts.blocks[0][0], m.encode(found))
 
 
 def bulk(draw, parts):
