@@ -159,6 +159,7 @@ module _ {D : Type 0} (view : D → View) (is_disk : (x : D) → IsDisk (view x)
       stops = taken.stops;
       next = next_end (J ++ rows taken.steps) (seen_in u).core taken.behind new.panel end taken.known taken.next;
       sound = taken.sound;
+      faithful = taken.faithful;
       covered = taken.covered;
     }
 

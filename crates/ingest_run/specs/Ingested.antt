@@ -12,6 +12,7 @@ use Rattle.relay_row.specs.declared.row.Row.{Row}
 use Rattle.relay_core.specs.Decide.{Checks}
 use Rattle.relay_core.specs.Opening.{OpensRight}
 use Rattle.relay_core.specs.Report.{end_line, lines_from}
+use Rattle.relay_law.specs.Heads.{IsFaithfulJournal}
 use Rattle.relay_law.specs.Right.{LinksRight}
 use Rattle.relay_law.specs.Sound.{IsSound}
 use Rattle.relay_step.specs.Around.{Around, AllAsked}
@@ -109,6 +110,8 @@ pub record Ingested (t : Tells) (input_tells : Bool) (most limit : ℕ) (J : Lis
   pub asked : AllAsked t.clock t.repos J old.around (steps ++ (under ++ extra)) mid
   pub stops : StopsAsking t.clock t.repos end behind mid new.around
   pub next : IsNextEnd (J ++ rows steps) behind new.around.panel end
-  -- a sound journal stays sound with the rows of any of the steps in front, and a covered commit gets through
+  -- with the rows of any of the steps in front a sound journal stays sound, and a faithful one faithful; and a covered commit gets through
   pub sound : (front others : List Step) → steps ++ (under ++ extra) ≡ front ++ others → IsSound J → IsSound (J ++ rows front)
+  pub faithful : (front others : List Step) → steps ++ (under ++ extra) ≡ front ++ others
+      → IsFaithfulJournal J → IsFaithfulJournal (J ++ rows front)
   pub covered : CoveredGetThrough J (steps ++ (under ++ extra))

@@ -24,3 +24,5 @@ pub mod Walking
 pub mod Deciding
 pub mod Decided
 pub mod Operating
+pub mod Giving
+pub mod Staying

@@ -32,6 +32,7 @@ use Rattle.relay_law.specs.Carried.{AreOfKnown, CarriesOver}
 use Rattle.relay_law.specs.Chains.{chains}
 use Rattle.relay_law.specs.Covered.{IsCovered}
 use Rattle.relay_law.specs.Faithful.{IsFaithful, AreFaithful}
+use Rattle.relay_law.specs.Heads.{GiveHeads, IsFaithfulJournal}
 use Rattle.relay_law.specs.Formed.{IsReadFrame, AreAnswersFor, AreFormedFor, IsFormedFound}
 use Rattle.relay_law.specs.Histories.{Point, LivesFrom, AllCome}
 use Rattle.relay_law.specs.Merges.{Merge, OneHome, Agree}
@@ -146,3 +147,42 @@ abbrev pub SyncedRowsAreFormed : Type 0
 SyncedRowsAreFormed = (J : List Row) (did time : List ℕ) (head : Head) (records : ℕ) (block : List ℕ) (moment : ℕ)
     → IsJournal J → names_did did ≡ true → IsFormedFound (last_seq J) did time (found head records block) → moment < NUMBERS → last_seq J + 1 < NUMBERS
     → IsJournal (J ++ Row.Synced did (whole_under did time head records block (last_seq J + 1)) (Some moment) ∷ [])
+
+-- A run of right checks, and so a store's, gives the heads that its rows keep.
+abbrev pub RunsGiveHeads : Type 0
+RunsGiveHeads = (checks : Checks) → OpensRight checks → LinksRight checks
+    → (J : List Row) (messages : List Message) (rows : List Row)
+    → AreEvents messages → IsJournal (J ++ rows) → Run checks J messages rows → GiveHeads J rows
+
+-- a run of each checks that open and link rightly gives these rows, whatever bytes the hosts sent
+abbrev pub IsRightRun : List Row → List (List ℕ × List ℕ) → List Row → Type 0
+IsRightRun J sent rows =
+    (checks : Checks) → OpensRight checks → LinksRight checks → Run checks J (as_read sent) rows
+
+-- the row of an operator's command, and that of a repository that an operator had fetched
+abbrev pub operated_row : List Row → List ℕ → Bool → List ℕ → Option ℕ → Row
+operated_row J did down time moment =
+    Row.Operated (operated_as (last_seq J) (account did J) did down time moment)
+
+abbrev pub synced_row : List Row → List ℕ → List ℕ → Head → ℕ → List ℕ → Option ℕ → Row
+synced_row J did time head records block moment =
+    Row.Synced did (whole_under did time head records block (last_seq J + 1)) moment
+
+-- The journals that a relay writes are faithful: the empty one; what a store's run adds, whatever bytes the
+-- hosts sent and whatever was answered; the rows that operators' commands make; and one whose front gives way
+-- to rows that carry it over. So is each front of one.
+pub record JournalsStayFaithful : Type 0 where
+  pub none : IsFaithfulJournal []
+  pub run : (J : List Row) (sent : List (List ℕ × List ℕ)) (rows : List Row)
+      → IsFaithfulJournal J → AllByRecursion (λ m. IsBytes m.1) sent → IsJournal (J ++ rows)
+      → IsRightRun J sent rows → IsFaithfulJournal (J ++ rows)
+  pub operated : (J : List Row) (did : List ℕ) (down : Bool) (time : List ℕ) (moment : Option ℕ)
+      → IsFaithfulJournal J → IsShortText time → IsJournal (J ++ operated_row J did down time moment ∷ [])
+      → IsFaithfulJournal (J ++ operated_row J did down time moment ∷ [])
+  pub synced : (J : List Row) (did time : List ℕ) (head : Head) (records : ℕ) (block : List ℕ)
+      (moment : Option ℕ) → IsFaithfulJournal J → IsShortText time
+      → IsJournal (J ++ synced_row J did time head records block moment ∷ [])
+      → IsFaithfulJournal (J ++ synced_row J did time head records block moment ∷ [])
+  pub cut : (front others carried : List Row) → IsFaithfulJournal (front ++ others)
+      → CarriesOver front carried → IsJournal (carried ++ others) → IsFaithfulJournal (carried ++ others)
+  pub front : (front others : List Row) → IsFaithfulJournal (front ++ others) → IsFaithfulJournal front

@@ -5,6 +5,7 @@ pub mod Calls
 pub mod Merges
 pub mod Covered
 pub mod Faithful
+pub mod Heads
 pub mod Carried
 pub mod Histories
 pub mod Needed

@@ -1,6 +1,6 @@
 //! The laws of journals, each the contract of a function that does nothing.
 
-ghost use Rattle.relay_law.specs.Laws.{CallsAnswerRight, CarriedStaySound, ChecksAreRight, CoveredAreAccepted, DecidedRowsAreFormed, FrontsAreSound, JournalsComeOn, MadeRowsAreFormed, MergesAgree, OperatedRowsAreFormed, OperatorsAreFaithful, OperatorsStaySound, RunsAreFaithful, RunsFollowKnown, RunsStaySound, SentAreEvents, SomeChecksAreRight, SoundReplays, StoresStaySound, SyncedRowsAreFormed};
+ghost use Rattle.relay_law.specs.Laws.{CallsAnswerRight, CarriedStaySound, ChecksAreRight, CoveredAreAccepted, DecidedRowsAreFormed, FrontsAreSound, JournalsComeOn, JournalsStayFaithful, MadeRowsAreFormed, MergesAgree, OperatedRowsAreFormed, OperatorsAreFaithful, OperatorsStaySound, RunsAreFaithful, RunsFollowKnown, RunsGiveHeads, RunsStaySound, SentAreEvents, SomeChecksAreRight, SoundReplays, StoresStaySound, SyncedRowsAreFormed};
 ghost use Rattle.relay_law.specs.Needed.{PremisesAreNeeded};
 
 /// A run behind a sound journal leaves a sound journal.
@@ -106,4 +106,14 @@ pub fn synced_rows_are_formed()
 /// Laws of journals without one of their premises, none of which holds.
 pub fn premises_are_needed()
     ensures { PremisesAreNeeded }
+{}
+
+/// The rows of a run give the heads that they keep.
+pub fn runs_give_heads()
+    ensures { RunsGiveHeads }
+{}
+
+/// The journals that a relay writes are faithful.
+pub fn journals_stay_faithful()
+    ensures { JournalsStayFaithful }
 {}

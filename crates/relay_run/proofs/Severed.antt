@@ -25,6 +25,7 @@ use Rattle.relay_run.specs.Ends.{IsCausedBy, IsWritten}
 use Rattle.relay_run.specs.Pairs.{StandsFor, pair_view}
 use Rattle.relay_run.specs.declared.end.RunEnd.{RunEnd}
 use Rattle.relay_run.proofs.Beside.{kept_front, kept_stands, leaves_stand, opened_keeps, opened_leaves}
+use Rattle.relay_run.proofs.Sounds.{cut_stays}
 use Rattle.relay_run.proofs.Causing.{IsBad, done_causes, done_good, same_bad}
 
 -- ---- two disks
@@ -194,6 +195,7 @@ module _ {D : Type 0} (view : D → View) (is_disk : (x : D) → IsDisk (view x)
       record {
         came = unopened;
         is = (fault, refl, few);
+        faithful = λ is. is;
         written = λ _. refl;
         stands = λ _. ⊎_elim (λ none. absurd none) stands;
         crashes = λ was. record { one = c; two = d; opening = leaves was; behind = still_stands J (view c) (view d) (is_disk c) (is_disk d) (stands was) };
@@ -224,6 +226,7 @@ module _ {D : Type 0} (view : D → View) (is_disk : (x : D) → IsDisk (view x)
         unwritten_by most (cut J number) s.log.format (view e).content (view f).content fault few good
             (λ n. let still = failed.1 n in format_here s.side J (seen_in s) (view e) (view f) (is_disk e) (is_disk f) still.1 still.0) full,
       );
+      faithful = λ is. is;
       written = λ _. refl;
       stands = λ n _. let still = failed.1 (λ is. n (λ i. RunEnd.Fault (is i))) in kept_stands s.side J (seen_in s) (view e) (view f) (is_disk e) (is_disk f) still.1 still.0;
       crashes = leaves_by (λ x y. IsPairImageOf J x y ⊎ IsPairImageOf (cut J number) x y) e f run written;
@@ -238,6 +241,7 @@ module _ {D : Type 0} (view : D → View) (is_disk : (x : D) → IsDisk (view x)
     cut_done e f oldest last end now answer run ends text = record {
       came = answered (CutDone.Cut oldest last);
       is = (answer.0, ends);
+      faithful = cut_stays J number answer.0.0;
       written = text;
       stands = λ _ _. answer.1;
       crashes = leaves_by (λ x y. IsPairImageOf J x y ⊎ IsPairImageOf (cut J number) x y) e f run now;
@@ -250,6 +254,7 @@ module _ {D : Type 0} (view : D → View) (is_disk : (x : D) → IsDisk (view x)
     cut_refused why end now uncut ends text = record {
       came = answered (CutDone.Refused why);
       is = ((s.log.format, format_here s.side J (seen_in s) (view c) (view d) (is_disk c) (is_disk d) (opened.side told) kept, uncut), ends);
+      faithful = λ is. is;
       written = text;
       stands = λ _ _. here;
       crashes = leaves_by (IsPairImageOf J) c d (still_stands J (view c) (view d) (is_disk c) (is_disk d) here) now;

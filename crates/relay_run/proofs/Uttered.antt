@@ -10,6 +10,7 @@ use Rattle.relay_row.specs.Journal.{IsJournal}
 use Rattle.relay_row.specs.declared.row.Row.{Row}
 use Rattle.relay_core.specs.Entries.{Holds}
 use Rattle.relay_core.specs.declared.journal_state.Core.{Core}
+use Rattle.relay_law.specs.Heads.{IsFaithfulJournal}
 use Rattle.relay_law.specs.Sound.{IsSound}
 use Rattle.relay_step.specs.Commands.{rows_commanded}
 use Rattle.relay_step.specs.declared.command.CommandAnswer.{CommandAnswer}
@@ -29,6 +30,7 @@ use Rattle.relay_run.specs.Pairs.{IsOneOfPair, StandsFor, of_pair, pair_view}
 use Rattle.relay_run.specs.CommandRan.{EndsCommand, HasNoRoom, Knows, CommandRan, in_vain, rows_kept, said, unopened}
 use Rattle.relay_run.specs.declared.end.RunEnd.{RunEnd}
 use Rattle.relay_run.proofs.Causing.{answered, same_fault}
+use Rattle.relay_run.proofs.Sounds.{Leaves}
 use Rattle.relay_run.proofs.Beside.{both_same, kept_stands, leaves_stand, one_beside, opened_keeps, opened_leaves, run_on, stands_on, view_on}
 
 -- ---- how a command ends by its word
@@ -137,6 +139,7 @@ ran_unopened tells one two one_now two_now fault J nothing vain is_command out_t
       is = (fault, refl, few, none);
       journal = nil_of IsJournal J image.are.journal;
       sound = nil_of IsSound J;
+      faithful = nil_of IsFaithfulJournal J;
       written = λ _. refl;
       stands = λ n. ⊎_elim (λ none. absurd none) (λ stands. nil_of (λ (K : List Row). StandsFor K one_now two_now) J (leaves_stand J one two one_now two_now first second (leaves stands)));
       crashes = λ stands. pair_weaker (IsPairImageOf J) (IsOneOfPair J []) one one_now two two_now (leaves stands) (λ c d was. inl was);
@@ -173,7 +176,7 @@ module _ {D : Type 0} (view : D → View) (is_disk : (x : D) → IsDisk (view x)
   }
 
   module _ (e f : D) (t : Store) (beside : of_pair (other_side s.side) e f ≡ of_pair (other_side s.side) c d) (P : Core → CommandAnswer → Type 0) (failed nothing : Type 0) (vain : StoreFault → Type 0) (out_told : Bool) (most : ℕ) (most_is : s.log.most ≡ most)
-      (sounds : (core : Core) → Holds core J → (command : CommandAnswer) → P core command → IsSound J → IsSound (J ++ rows_commanded command)) where
+      (stays : (core : Core) → Holds core J → (command : CommandAnswer) → P core command → Leaves J command) where
     keeps_too : Keeps J (seen_in s) (view (of_pair s.side c d))
     keeps_too = subst (Keeps J (seen_in s)) (view_on view is_disk a b c d e f s.side) keeps
 
@@ -200,7 +203,8 @@ module _ {D : Type 0} (view : D → View) (is_disk : (x : D) → IsDisk (view x)
           came = said command;
           is = (opened_knows (λ core. P core command) is, ends_command _ command end ends_too);
           journal = journal;
-          sound = sounds (seen_in s).core keeps.core command is;
+          sound = (stays (seen_in s).core keeps.core command is journal).sound;
+          faithful = (stays (seen_in s).core keeps.core command is journal).faithful;
           written = λ out. subst (λ (x : Done). IsWritten end (done_text x) written now) same (text out);
           stands = λ n _. subst (λ (rows : List Row). StandsFor (J ++ rows) (view e) (view f)) (sym (row_kept command end ends_too))
               (stands_on view is_disk a b c d e f s.side J (J ++ rows_commanded command) (seen_in s) (seen_in t) beside commanded.format keeps (commanded.keeps (ok_not done StoreFault.Disk) told keeps_too) (opened.side told));
@@ -219,7 +223,8 @@ module _ {D : Type 0} (view : D → View) (is_disk : (x : D) → IsDisk (view x)
             same_here (λ x y. HasNoRoom most J row e (view x) (view y)) (commanded.untouched (λ disk. full_not e (sym full_is ∙ same_fault fault StoreFault.Disk disk)) refl).1.1 (no_room most row e most_is full)),
       );
       journal = journal;
-      sound = sounds (seen_in s).core keeps.core command is;
+      sound = (stays (seen_in s).core keeps.core command is journal).sound;
+      faithful = (stays (seen_in s).core keeps.core command is journal).faithful;
       written = λ _. refl;
       stands = λ n _. nil_of (λ (K : List Row). StandsFor K (view e) (view f)) J
           (same_here (λ x y. StandsFor J (view x) (view y)) (commanded.untouched (λ disk. n (ap RunEnd.Fault (same_fault fault StoreFault.Disk disk))) refl).1.1 opened_stands);
@@ -230,6 +235,7 @@ module _ {D : Type 0} (view : D → View) (is_disk : (x : D) → IsDisk (view x)
       is = (fault, refl, subst ComesOfAsking (sym (same_fault fault unsaid.fault unsaid.is)) unsaid.of_asking, vains unsaid.came);
       journal = nil_of IsJournal J image.are.journal;
       sound = nil_of IsSound J;
+      faithful = nil_of IsFaithfulJournal J;
       written = λ _. refl;
       stands = λ n _. nil_of (λ (K : List Row). StandsFor K (view e) (view f)) J (same_here (λ x y. StandsFor J (view x) (view y)) unsaid.disk_same opened_stands);
       crashes = λ stands. same_here (λ x y. PairLeavesOnly (IsOneOfPair J []) (view a) (view x) (view b) (view y)) unsaid.disk_same

@@ -11,6 +11,7 @@ use Rattle.relay_row.specs.Journal.{IsJournal}
 use Rattle.relay_row.specs.declared.row.Row.{Row}
 use Rattle.relay_core.specs.Entries.{Holds}
 use Rattle.relay_core.specs.declared.journal_state.Core.{Core}
+use Rattle.relay_law.specs.Heads.{IsFaithfulJournal}
 use Rattle.relay_law.specs.Sound.{IsSound}
 use Rattle.relay_step.specs.Commands.{rows_commanded}
 use Rattle.relay_step.specs.declared.command.CommandAnswer.{CommandAnswer}
@@ -89,9 +90,10 @@ WasOpened came = ⊤
 pub record CommandRan (output_tells : Bool) (most : ℕ) (J : List Row) (nothing : Type 0) (vain : StoreFault → Type 0) (is_command : CommandAnswer → Type 0) (old new : PairView) (end : RunEnd) : Type 0 where
   pub came : Came
   pub is : IsCome nothing vain is_command (λ row e. HasNoRoom most J row e new.one new.two) end came
-  -- its row, if it made one, keeps the journal's order, and leaves a sound journal sound
+  -- its row, if it made one, keeps the journal's order, and leaves a sound journal sound and a faithful one faithful
   pub journal : IsJournal (J ++ rows_come came)
   pub sound : IsSound J → IsSound (J ++ rows_come came)
+  pub faithful : IsFaithfulJournal J → IsFaithfulJournal (J ++ rows_come came)
   pub written : IsTrue output_tells → IsWritten end (text_come came) old.written new.written
   -- Unless the disk failed, the two stand for the journal with the row that was added: once they were opened, and where they stood for the journal before.
   pub stands : end ≢ RunEnd.Fault StoreFault.Disk → WasOpened came ⊎ StandsFor J old.one old.two → StandsFor (J ++ rows_kept end came) new.one new.two

@@ -9,6 +9,7 @@ use Rattle.gate_log.specs.declared.format.Format.{Format}
 use Rattle.gate_log.specs.declared.picking.Side.{Side}
 use Rattle.relay_row.specs.Folds.{last_seq}
 use Rattle.relay_row.specs.declared.row.Row.{Row}
+use Rattle.relay_law.specs.Heads.{IsFaithfulJournal}
 use Rattle.cut_law.specs.Cut.{MayCut, cut}
 use Rattle.relay_store.specs.Cutting.{IsUncut}
 use Rattle.relay_store.specs.Journals.{IsPairImageOf}
@@ -109,6 +110,8 @@ pub record LeavesOpened {D : Type 0} (view : D → View) (J : List Row) (P : Lis
 pub record WasCut {D : Type 0} (view : D → View) (output_tells : Bool) (most : ℕ) (J : List Row) (c : ℕ) (old new : PairView) (end : RunEnd) : Type 0 where
   pub came : CutCame
   pub is : IsCutCome most J c new.one.content new.two.content end came
+  -- a faithful journal stays faithful
+  pub faithful : IsFaithfulJournal J → IsFaithfulJournal (journal_come J c came)
   pub written : IsTrue output_tells → IsWritten end (cut_text_come c came) old.written new.written
   -- Unless a disk failed, the two stand for the journal, or for the cut one where that was answered: once they were opened, and where they stood for the journal before.
   pub stands : end ≢ RunEnd.Fault StoreFault.Disk → WasOpenedToCut came ⊎ StandsFor J old.one old.two → StandsFor (journal_come J c came) new.one new.two

@@ -20,6 +20,7 @@ ghost use Rattle.relay_run.specs.CommandRan.{Knows, CommandRan};
 
 use crate::answering::answer;
 use crate::end::RunEnd;
+use at_cid::ghost_text;
 use gate_log::Side;
 use relay_disk::Disk;
 use relay_io::{Clock, Sink};
@@ -88,6 +89,7 @@ pub fn operate<D: Disk, C: Clock, O: Sink>(
     ensures clock_counts { C.faults clock.old ≤ C.faults clock.new }
     ensures out_counts { O.faults out.old ≤ O.faults out.new }
 {
+    ghost_text(time);
     let mut store = match Store::open(alloc, disk, other, most) {
         Ok(store) => store,
         Err(fault) => return RunEnd::Fault(fault),

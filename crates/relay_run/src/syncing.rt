@@ -23,6 +23,7 @@ ghost use Rattle.relay_run.specs.CommandRan.{Knows, CommandRan};
 use crate::answering::answer;
 use crate::end::RunEnd;
 use at_authority::Judges;
+use at_cid::ghost_text;
 use gate_log::Side;
 use relay_disk::Disk;
 use relay_io::{Clock, Repos, Sink};
@@ -98,6 +99,7 @@ pub fn sync<D: Disk, P: Judges, R: Repos, C: Clock, O: Sink>(
     ensures repos_count { R.faults repos.old ≤ R.faults repos.new }
     ensures out_counts { O.faults out.old ≤ O.faults out.new }
 {
+    ghost_text(time);
     let mut store = match Store::open(alloc, disk, other, most) {
         Ok(store) => store,
         Err(fault) => return RunEnd::Fault(fault),

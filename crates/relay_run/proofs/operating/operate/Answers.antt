@@ -7,7 +7,7 @@ use Rattle.relay_store.specs.Faults.{IsCause}
 use Rattle.relay_store.specs.Store.{seen_in}
 use Rattle.relay_run.specs.CommandRan.{Knows}
 use Rattle.relay_run.proofs.Causing.{done_causes, done_good, image_shows, opening_causes, opening_shows, operating_causes, rose_behind, commanded_good}
-use Rattle.relay_run.proofs.Sounds.{operated_stays}
+use Rattle.relay_run.proofs.Sounds.{operated_stays, short_text}
 use Rattle.relay_run.proofs.Uttered.{opened_knows, opened_of, ran_err, ran_ok, ran_unopened, vain_by}
 use Rattle.relay_run.proofs.operating.operate.Goals as goal
 
@@ -28,7 +28,7 @@ returns-in-Ok-operate_on-clause-ran g c = λ told J image.
     c.operate_on.new.disk c.operate_on.new.other c.operate_on.new.store c.in-Ok-operate_on.ensures.beside
     (λ core command. OperatedAt g.C.Clock.tells core c.args.did.now c.args.down c.args.time.now (g.C.Clock.moments c.args.clock.now) command (g.C.Clock.moments c.operate_on.new.clock))
     (IsTrue g.C.Clock.tells → OneTaken (g.C.Clock.moments c.args.clock.now) (g.C.Clock.moments c.operate_on.new.clock)) (g.C.Clock.moments c.operate_on.new.clock ≡ g.C.Clock.moments c.args.clock.now) (λ fault. (IsTrue g.C.Clock.tells → OneTaken (g.C.Clock.moments c.args.clock.now) (g.C.Clock.moments c.operate_on.new.clock)) × IsCause (Knows J (λ core. EndsBehind core c.args.did.now c.args.down)) ⊤ ⊤ ⊤ fault) g.O.Sink.tells c.args.most c.in-Ok.ensures.open.1
-    (λ core holds command at. operated_stays g.C.Clock.tells core J c.args.did.now c.args.down c.args.time.now (g.C.Clock.moments c.args.clock.now) (g.C.Clock.moments c.operate_on.new.clock) holds command at)
+    (λ core holds command at. operated_stays g.C.Clock.tells core J c.args.did.now c.args.down c.args.time.now (g.C.Clock.moments c.args.clock.now) (g.C.Clock.moments c.operate_on.new.clock) (short_text c.args.time.now c.ghost_text.ensures.bytes c.ghost_text.ensures.length c.ghost_text.ensures.utf8 c.requires.time) holds command at)
     c.in-Ok-operate_on.done c.answer.result (g.O.Sink.written c.args.out.now) (g.O.Sink.written c.answer.new.out)
     (c.in-Ok-operate_on.ensures.commanded J (opened_of g.D.Disk.view (λ x. g.met.D.Disk.is_disk x) c.args.disk.now c.args.other.now c.open.new.disk c.open.new.other g.D.Disk.tells told c.in-Ok.store c.in-Ok.ensures.opened J image))
     c.answer.ensures.ends c.answer.ensures.written
@@ -45,7 +45,7 @@ returns-clause-ran g c = λ told J image.
     c.operate_on.new.disk c.operate_on.new.other c.operate_on.new.store c.in-Err-operate_on.ensures.beside
     (λ core command. OperatedAt g.C.Clock.tells core c.args.did.now c.args.down c.args.time.now (g.C.Clock.moments c.args.clock.now) command (g.C.Clock.moments c.operate_on.new.clock))
     (IsTrue g.C.Clock.tells → OneTaken (g.C.Clock.moments c.args.clock.now) (g.C.Clock.moments c.operate_on.new.clock)) (g.C.Clock.moments c.operate_on.new.clock ≡ g.C.Clock.moments c.args.clock.now) (λ fault. (IsTrue g.C.Clock.tells → OneTaken (g.C.Clock.moments c.args.clock.now) (g.C.Clock.moments c.operate_on.new.clock)) × IsCause (Knows J (λ core. EndsBehind core c.args.did.now c.args.down)) ⊤ ⊤ ⊤ fault) g.O.Sink.tells c.args.most c.in-Ok.ensures.open.1
-    (λ core holds command at. operated_stays g.C.Clock.tells core J c.args.did.now c.args.down c.args.time.now (g.C.Clock.moments c.args.clock.now) (g.C.Clock.moments c.operate_on.new.clock) holds command at)
+    (λ core holds command at. operated_stays g.C.Clock.tells core J c.args.did.now c.args.down c.args.time.now (g.C.Clock.moments c.args.clock.now) (g.C.Clock.moments c.operate_on.new.clock) (short_text c.args.time.now c.ghost_text.ensures.bytes c.ghost_text.ensures.length c.ghost_text.ensures.utf8 c.requires.time) holds command at)
     c.in-Err-operate_on.fault (g.O.Sink.written c.args.out.now)
     (c.in-Err-operate_on.ensures.commanded J (opened_of g.D.Disk.view (λ x. g.met.D.Disk.is_disk x) c.args.disk.now c.args.other.now c.open.new.disk c.open.new.other g.D.Disk.tells told c.in-Ok.store c.in-Ok.ensures.opened J image))
     (λ came. (came, vain_by _ c.in-Err-operate_on.fault (λ is. opened_knows g.D.Disk.view (λ x. g.met.D.Disk.is_disk x) c.args.disk.now c.args.other.now c.open.new.disk c.open.new.other g.D.Disk.tells told c.in-Ok.store c.in-Ok.ensures.opened J image (λ core. EndsBehind core c.args.did.now c.args.down) (c.in-Err-operate_on.ensures.seq_end (ap Err is)))))
