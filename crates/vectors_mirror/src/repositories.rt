@@ -18,7 +18,8 @@ fn repository(alloc: Global, text: &str) -> Result<Repository> {
     })
 }
 
-fn numbers(alloc: Global, text: &str) -> Result<Vec<u64>> {
+/// The numbers of a text, with blanks between; `-` is none.
+pub fn numbers(alloc: Global, text: &str) -> Result<Vec<u64>> {
     let mut numbers = Vec::new(alloc);
     if text != "-" {
         for word in text.split(' ') {
@@ -31,11 +32,16 @@ fn numbers(alloc: Global, text: &str) -> Result<Vec<u64>> {
 /// The repositories of a text: a DID and bytes each, with commas between; `-` is none. The calls of these numbers fail.
 pub fn repositories(alloc: Global, text: &str, failing: &str) -> Result<MemoryRepos> {
     let failing = numbers(alloc, failing)?;
+    repositories_failing(alloc, text, failing.as_slice())
+}
+
+/// The same, with the numbers as such.
+pub fn repositories_failing(alloc: Global, text: &str, failing: &[u64]) -> Result<MemoryRepos> {
     let mut all = Vec::new(alloc);
     if text != "-" {
         for one in text.split(", ") {
             all.push(repository(alloc, one)?)?;
         }
     }
-    had(MemoryRepos::new(alloc, all, STEP, failing.as_slice()))
+    had(MemoryRepos::new(alloc, all, STEP, failing))
 }

@@ -1,0 +1,10 @@
+pub mod Once
+pub mod OneHeld
+pub mod Opened
+pub mod Replayed
+pub mod After
+pub mod Stepped
+pub mod Followed
+pub mod Mirroring
+pub mod Sent
+pub mod Written

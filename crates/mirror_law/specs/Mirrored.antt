@@ -1,0 +1,78 @@
+-- A mirror beside the journal whose stream it reads (own).
+use Rattle.std.specs.Prelude.{◌≡◌, ℕ, true, List, [], ◌∷◌, Option, Ok}
+use Rattle.at_car.specs.Blocks.{BlockMap}
+use Rattle.at_event.specs.Frames.{frame_of}
+use Rattle.at_event.specs.Seen.{Seen}
+use Rattle.at_event.specs.declared.event.Body.{Body}
+use Rattle.at_event.specs.declared.event.CommitEvent.{CommitEvent}
+use Rattle.at_event.specs.declared.event.SyncEvent.{SyncEvent}
+use Rattle.at_event.specs.declared.frame.Frame.{Frame}
+use Rattle.backfill.specs.Served.{messages_of}
+use Rattle.mst_list.specs.declared.item.Item.{Item}
+use Rattle.mst_list.specs.Edits.{Plays}
+use Rattle.mst_node.specs.Trees.{root}
+use Rattle.relay_row.specs.Folds.{did_of_row, names}
+use Rattle.relay_row.specs.declared.row.Row.{Row}
+use Rattle.commit_check.specs.Step.{edits_of}
+use Rattle.relay_law.specs.Sound.{AreApart, GoesTo, HasBlocks, IsCommit}
+use Rattle.relay_store.specs.Shown.{is_shown, shown_of}
+use Rattle.mirror.specs.Held.{IsHeld}
+use Rattle.mirror.specs.Repository.{Repositories, Answers}
+use Rattle.mirror.specs.declared.holding.Holding.{Holding}
+use Rattle.mirror_law.specs.Open.{Beginning, empty, base, OpenChain, root_of, root_behind}
+
+-- what the rows send to a stream, as the journal J stands
+abbrev pub sent : List Row → List Row → List (List ℕ)
+sent J rows = messages_of (shown_of J rows)
+
+-- none of a DID's rows among these is withheld, as the journal J stands
+abbrev pub NoneWithheld : List Row → List ℕ → List Row → Type 0
+NoneWithheld J did [] = Unit {0}
+NoneWithheld J did (row ∷ rows) =
+    (names did (did_of_row row) ≡ true → is_shown J row ≡ true) × NoneWithheld J did rows
+
+-- a message is read as a `#sync`
+pub record IsSync (message : List ℕ) (sync : SyncEvent) : Type 0 where
+  pub event : Seen
+  pub reads : frame_of message ≡ Ok (Frame.Event event)
+  pub says : event.body ≡ Body.Sync sync
+
+-- The message is a `#sync` that its account's repository answers by this map, whose tree has this
+-- root.
+pub record IsBase (repositories : Repositories) (r message : List ℕ) (s : List Item) : Type 0 where
+  pub sync : SyncEvent
+  pub is : IsSync message sync
+  pub answers : Answers repositories sync s
+  pub rooted : root s ≡ r
+
+-- A chain begins with this map: the empty one where it began empty, else the one that answers its
+-- base. A base that was carried over sent nothing out, so that no mirror begins with it.
+abbrev pub BeginsWith : Repositories → Beginning → List Item → Type 0
+BeginsWith repositories empty s = s ≡ []
+BeginsWith repositories (base r (message ∷ [])) s = IsBase repositories r message s
+BeginsWith repositories (base r messages) s = ⊥
+
+-- commit by commit, from the first map on, different blocks of the map's tree and of those that the
+-- step names don't share a digest
+abbrev pub StayApart : List Item → List (List ℕ × List ℕ) → Type 0
+StayApart s [] = Unit {0}
+StayApart s (k ∷ ks) = (c : CommitEvent) (blocks : BlockMap) → IsCommit k.0 c → HasBlocks c blocks
+    → AreApart s c blocks k.1 × ((t : List Item) → Plays s (edits_of c) t → StayApart t ks)
+
+-- commit by commit, the operations play from the one map to the other, and each map's tree has its
+-- commit's `data` as root
+abbrev pub Replay : List Item → List (List ℕ × List ℕ) → List Item → Type 0
+Replay s [] t = t ≡ s
+Replay s (k ∷ ks) t =
+    (c : CommitEvent) × (middle : List Item)
+    × IsCommit k.0 c × GoesTo s c k.1 middle × Replay middle ks t
+
+-- The chain replays from s, and what is held behind the messages is the map that it replays to, whose
+-- tree has the `data` of its last commit as root. So the account isn't waiting.
+pub record IsMirrored (repositories : Repositories) (did : List ℕ) (messages : List (List ℕ))
+    (chain : OpenChain) (s : List Item) : Type 0 where
+  pub map : List Item
+  pub replayed : Replay s chain.commits map
+  pub rooted : root map ≡ root_behind (root_of chain.began) chain.commits
+  pub held : (holding : Holding) → IsHeld repositories did messages holding
+      → (rev : Option ℕ) × (holding ≡ Holding.Mapped rev map)

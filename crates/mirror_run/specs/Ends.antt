@@ -1,0 +1,29 @@
+-- How mirroring a stream ends (own).
+use Rattle.std.specs.Prelude.{⊤}
+use Rattle.mirror_run.specs.declared.end.MirrorEnd.{MirrorEnd}
+
+-- the ends that a good stream comes to where nothing fails
+abbrev pub MayEnd : MirrorEnd → Type 0
+MayEnd MirrorEnd.Done = ⊤
+MayEnd MirrorEnd.Memory = ⊤
+MayEnd (MirrorEnd.BadStream place) = ⊥
+MayEnd MirrorEnd.ReadFault = ⊥
+MayEnd MirrorEnd.WriteFault = ⊥
+MayEnd MirrorEnd.Repos = ⊥
+MayEnd MirrorEnd.TooLong = ⊥
+
+-- the cause of an end that speaks of a failure
+abbrev pub IsCausedBy : Type 0 → Type 0 → Type 0 → MirrorEnd → Type 0
+IsCausedBy read write repos MirrorEnd.ReadFault = read
+IsCausedBy read write repos MirrorEnd.WriteFault = write
+IsCausedBy read write repos MirrorEnd.Repos = repos
+IsCausedBy read write repos MirrorEnd.Done = ⊤
+IsCausedBy read write repos (MirrorEnd.BadStream place) = ⊤
+IsCausedBy read write repos MirrorEnd.TooLong = ⊤
+IsCausedBy read write repos MirrorEnd.Memory = ⊤
+
+-- none of these has happened
+pub record NoneOf (read write repos : Type 0) : Type 0 where
+  pub no_read : read → ⊥
+  pub no_write : write → ⊥
+  pub no_repos : repos → ⊥

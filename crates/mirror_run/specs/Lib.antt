@@ -1,0 +1,9 @@
+pub mod Stream
+pub mod Front
+pub mod Reading
+pub mod Lines
+pub mod Ends
+pub mod Chains
+pub mod Mirrored
+pub mod Taking
+pub mod Printing
