@@ -3,6 +3,7 @@ import base64
 import hashlib
 import socket
 import struct
+import time
 
 GUID = b"258EAFA5-E914-47DA-95CA-C5AB0DC85B11"
 CONTINUE, TEXT, BINARY, CLOSE, PING, PONG = 0, 1, 2, 8, 9, 10
@@ -80,3 +81,41 @@ def reset(peer):
     """Drops a connection without a farewell."""
     peer.setsockopt(socket.SOL_SOCKET, socket.SO_LINGER, struct.pack("ii", 1, 0))
     peer.close()
+
+
+def says(content):
+    """A peer that sends these bytes and takes what comes."""
+
+    def play(peer):
+        try:
+            peer.sendall(content)
+        except OSError:
+            pass
+        return read_rest(peer, 15)
+
+    return play
+
+
+def connect(port, narrow=False):
+    """A connection to a port of this machine, once it is open. A narrow one takes little at a time."""
+    for _ in range(400):
+        peer = socket.socket()
+        if narrow:
+            peer.setsockopt(socket.SOL_SOCKET, socket.SO_RCVBUF, 4096)
+        try:
+            peer.connect(("127.0.0.1", port))
+            peer.settimeout(20)
+            return peer
+        except OSError:
+            peer.close()
+            time.sleep(0.05)
+    raise ConnectionError(f"nobody let in at port {port}")
+
+
+def played(play, port, narrow=False):
+    """What a peer on a connection of its own hands back: the bytes that came, and how it ended."""
+    with connect(port, narrow) as peer:
+        try:
+            return play(peer)
+        except OSError as error:
+            return b"", type(error).__name__

@@ -3,7 +3,7 @@ import base64
 import socket
 import time
 
-from frames import BINARY, CLOSE, PING, TEXT, frame, read_head, read_rest, reset
+from frames import BINARY, CLOSE, PING, TEXT, frame, played, read_head, read_rest, reset, says
 
 TARGET = "/xrpc/com.atproto.sync.subscribeRepos?cursor=4"
 NONCE = base64.b64encode(b"0123456789abcdef").decode()
@@ -16,19 +16,6 @@ def request(method="GET", target=TARGET, version="HTTP/1.1", more="", upgrade=Tr
     if upgrade:
         lines += ["Connection: keep-alive, Upgrade", "Upgrade: websocket", f"Sec-WebSocket-Version: {protocol}", f"Sec-WebSocket-Key: {key}"]
     return ("\r\n".join(lines) + "\r\n" + more + "\r\n").encode()
-
-
-def says(content):
-    """A guest who sends these bytes and takes what comes."""
-
-    def play(peer):
-        try:
-            peer.sendall(content)
-        except OSError:
-            pass
-        return read_rest(peer, 15)
-
-    return play
 
 
 def enter(peer):
@@ -249,27 +236,5 @@ GUESTS = {
 NARROW = {"never-reads", "drips", "talks-and-never-reads"}
 
 
-def connect(name, port):
-    """A connection to the door, once it is open."""
-    for _ in range(200):
-        peer = socket.socket()
-        if name in NARROW:
-            peer.setsockopt(socket.SOL_SOCKET, socket.SO_RCVBUF, 4096)
-        try:
-            peer.connect(("127.0.0.1", port))
-            peer.settimeout(20)
-            return peer
-        except OSError:
-            peer.close()
-            time.sleep(0.05)
-    raise ConnectionError("the door didn't open")
-
-
 def play(name, port):
-    peer = connect(name, port)
-    try:
-        return GUESTS[name](peer)
-    except OSError as error:
-        return b"", type(error).__name__
-    finally:
-        peer.close()
+    return played(GUESTS[name], port, name in NARROW)

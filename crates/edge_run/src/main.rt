@@ -6,16 +6,20 @@
 //!
 //! `edge_run door GUESTS MESSAGES LENGTH [PORT]` serves so many guests, one after another. Each gets so
 //! many messages of so many bytes, all of them the letter `m`. It prints a line for each guest.
+//!
+//! `edge_run wire REQUESTS LENGTH [PORT]` takes so many requests, one after another, and sends each a
+//! reply of so many bytes, all of them the letter `m`. It prints for each how many bytes it has, and
+//! whether the reply was sent.
 #![tactic(auto)]
 
 ghost use Rattle.std.specs.Prelude.{IsTrue};
 
 use anyhow::{Context, Result, bail};
 use at_cid::Octets;
-use relay_io::{Door, Feed, Guest, WriterSink, write_all};
+use relay_io::{Door, Feed, Guest, Wire, WriterSink, write_all};
 use std::env;
 use std::process::ExitCode;
-use ws_edge::{DOOR_PORT, WsDoor, WsFeed};
+use ws_edge::{DOOR_PORT, TcpWire, WIRE_PORT, WsDoor, WsFeed};
 
 // Writes what a host gives.
 fn follow(rt: &HostRuntime, host: &str, cursor: u64) -> Result<()> {
@@ -68,26 +72,62 @@ fn serve(rt: &HostRuntime, port: u16, guests: u64, times: u64, message: &[u8]) -
     Ok(())
 }
 
+// Replies to requests, each of which gets the same.
+fn reply_to(rt: &HostRuntime, port: u16, requests: u64, reply: &[u8]) -> Result<()> {
+    let mut wire = TcpWire::new(rt, port);
+    let mut request = Octets::new(rt.alloc());
+    for _ in 0..requests {
+        if !wire.next(&mut request)? {
+            break;
+        }
+        let length = request.len();
+        let end = if wire.send(reply).is_ok() {
+            "sent"
+        } else {
+            "failed"
+        };
+        println!(rt; "{length} bytes {end}")?;
+    }
+    Ok(())
+}
+
+// So many bytes, all of them the letter `m`.
+fn content(rt: &HostRuntime, length: &str) -> Result<Vec<u8>> {
+    Ok(vec![in rt.alloc(); b'm'; length.parse::<usize>()?]?)
+}
+
 fn run(rt: &HostRuntime) -> Result<()> {
     let mut words = env::args(rt)?;
     let _program = words.next();
-    let word = words.next().context("feed or door")?;
-    let first = words.next().context("a host, or how many guests")?;
-    let second = words.next().context("a cursor, or how many messages")?;
-    let second = second.parse::<u64>()?;
-    if word.as_str() == "feed" {
-        return follow(rt, first.as_str(), second);
+    let word = words.next().context("feed, door or wire")?;
+    let first = words.next().context("a host, or how many")?;
+    let second = words
+        .next()
+        .context("a cursor, or how many messages, or how long a reply is")?;
+    match word.as_str() {
+        "feed" => follow(rt, first.as_str(), second.parse::<u64>()?),
+        "door" => {
+            let length = words.next().context("how long a message is")?;
+            let message = content(rt, length.as_str())?;
+            let port = port_in(words.next(), DOOR_PORT)?;
+            let guests = first.parse::<u64>()?;
+            serve(rt, port, guests, second.parse::<u64>()?, message.as_slice())
+        }
+        "wire" => {
+            let reply = content(rt, second.as_str())?;
+            let port = port_in(words.next(), WIRE_PORT)?;
+            reply_to(rt, port, first.parse::<u64>()?, reply.as_slice())
+        }
+        _ => bail!("feed, door or wire"),
     }
-    if word.as_str() != "door" {
-        bail!("feed or door");
+}
+
+// The port that is named, or this one.
+fn port_in(word: Option<String>, port: u16) -> Result<u16> {
+    match word {
+        Some(word) => Ok(word.parse::<u16>()?),
+        None => Ok(port),
     }
-    let length = words.next().context("how long a message is")?;
-    let message = vec![in rt.alloc(); b'm'; length.parse::<usize>()?]?;
-    let port = match words.next() {
-        Some(word) => word.parse::<u16>()?,
-        None => DOOR_PORT,
-    };
-    serve(rt, port, first.parse::<u64>()?, second, message.as_slice())
 }
 
 fn main(rt: HostRuntime) -> ExitCode {

@@ -27,8 +27,8 @@ pub enum ServeEnd {
 impl ServeEnd {
     ghost use Rattle.serve_run.specs.Ends.{end_of_opening, end_of_replay};
 
-    // How it ends where the store wasn't opened: with a fault of reading.
-    pub(crate) fn of_opening(fault: StoreFault) -> ServeEnd
+    /// How it ends where the store wasn't opened: with a fault of reading.
+    pub fn of_opening(fault: StoreFault) -> ServeEnd
         ensures { result ≡ end_of_opening fault }
     {
         match fault {
@@ -38,8 +38,8 @@ impl ServeEnd {
         }
     }
 
-    // How a replay ends with a fault.
-    pub(crate) fn of_replay(fault: ReplayFault) -> ServeEnd
+    /// How a replay ends with a fault.
+    pub fn of_replay(fault: ReplayFault) -> ServeEnd
         ensures { result ≡ end_of_replay fault }
     {
         match fault {

@@ -27,10 +27,25 @@ pub(crate) const QUIET_SECONDS: u64 = 30;
 /// The seconds that a host has for a pong, or for anything else that is whole.
 pub(crate) const PONG_SECONDS: u64 = 30;
 
-/// The longest head of a request or an answer, in bytes.
+/// The seconds in which a request on the wire has to come.
+pub(crate) const REQUEST_SECONDS: u64 = 5;
+
+/// The seconds in which a reply on the wire has to leave.
+pub(crate) const REPLY_SECONDS: u64 = 30;
+
+/// The seconds for which a connection of the wire is read on behind its reply.
+pub(crate) const BEHIND_SECONDS: u64 = 1;
+
+/// How many bytes are read at a time, and dropped, behind the last ones that were sent.
+pub(crate) const PIECE_BEHIND: usize = 4096;
+
+/// The most times that so many are read.
+pub(crate) const MOST_PIECES_BEHIND: usize = 1000;
+
+/// The longest head of a handshake, in bytes.
 pub(crate) const LONGEST_HEAD: usize = 16_384;
 
-/// The most fields of a head.
+/// The most fields of such a head.
 pub(crate) const MOST_FIELDS: usize = 100;
 
 /// The longest payload of a ping, a pong or a close, in bytes (RFC 6455, section 5.5).

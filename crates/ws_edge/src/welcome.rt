@@ -6,9 +6,10 @@ ghost use Rattle.ws_edge.specs.Handshakes.{IsAccepted, IsAsked};
 
 use crate::handshake_fault::HandshakeFault;
 use crate::head::{behind_head, read_piece};
+use crate::leaving::{read_on, send_last};
 use crate::limits::{
-    LONGEST_HEAD, LONGEST_WORD, MOST_FIELDS, MOST_WORDS, REFUSAL_SECONDS, SESSION_SECONDS,
-    WELCOME_SECONDS, WRITE_SIZE,
+    LONGEST_HEAD, LONGEST_WORD, MOST_FIELDS, REFUSAL_SECONDS, SESSION_SECONDS, WELCOME_SECONDS,
+    WRITE_SIZE,
 };
 use crate::reason::Reason;
 use crate::serving::Session;
@@ -154,21 +155,13 @@ fn answer_with(alloc: Global, accept: &[u8; 28]) -> Result<Vec<u8>, HandshakeFau
     Ok(answer)
 }
 
-// Tells a guest why, and reads what is on its way: a connection that is closed over bytes that
-// nobody read is reset, and the answer is lost with it.
+// Tells a guest why.
 fn refuse<S: Read + Write + OpenStream + Drop, C: Clock + Copy>(
     stream: &mut Timed<S, C>,
     reason: Reason,
 ) {
     stream.give(REFUSAL_SECONDS);
-    if stream.write_all(reason.answer()).is_err() || stream.end_writing().is_err() {
-        return;
-    }
-    let mut room = [0; LONGEST_WORD];
-    for _ in 0..MOST_WORDS {
-        match stream.read(&mut room) {
-            Ok(count) if count > 0 => {}
-            _ => return,
-        }
+    if send_last(stream, reason.answer()) {
+        read_on(stream);
     }
 }

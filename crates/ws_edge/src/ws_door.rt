@@ -1,14 +1,14 @@
 //! The door over WebSockets.
 ghost use Rattle.std.specs.Prelude.{◌≡◌, [], false, is_some};
 
+use crate::connection::next_connection;
 use crate::handshake_fault::HandshakeFault;
 use crate::limits::WRITE_SIZE;
 use crate::serving::{Session, close_with, hear, send_to};
 use crate::welcome::welcome;
 use relay_io::{Door, DoorFault, Failed, Guest};
 use std::alloc::Global;
-use std::io::ErrorKind;
-use std::net::{Ipv4Addr, Net, OpenListener, SocketAddr};
+use std::net::Net;
 use std::time::Clock;
 
 /// The port at which consumers come in.
@@ -70,7 +70,7 @@ impl<R: Net + Clock + Copy> Door for WsDoor<R> {
         self.guest = None;
         self.unseen = 0;
         self.broken = false;
-        let stream = match connection(&self.rt, self.port, &mut self.listener) {
+        let stream = match next_connection(&self.rt, self.port, &mut self.listener) {
             Ok(Some(stream)) => stream,
             Ok(None) => return Ok(Guest::NoHandshake),
             Err(Failed) => {
@@ -115,27 +115,5 @@ impl<R: Net + Clock + Copy> Door for WsDoor<R> {
         }
         self.session_faults = self.session_faults.saturating_add(1);
         Err(Failed)
-    }
-}
-
-// The next connection, or `None` where it went away before it was taken.
-fn connection<R: Net>(
-    rt: &R,
-    port: u16,
-    listener: &mut Option<R::Listener>,
-) -> Result<Option<R::Stream>, Failed> {
-    if listener.is_none() {
-        match rt.bind(SocketAddr::from((Ipv4Addr::LOCALHOST, port))) {
-            Ok(bound) => *listener = Some(bound),
-            Err(_) => return Err(Failed),
-        }
-    }
-    let Some(listener) = listener else {
-        return Err(Failed);
-    };
-    match listener.accept() {
-        Ok((stream, _)) => Ok(Some(stream)),
-        Err(e) if e.kind() == ErrorKind::ConnectionAborted => Ok(None),
-        Err(_) => Err(Failed),
     }
 }

@@ -1,0 +1,51 @@
+-- How writing the lines of two disks ends.
+use Rattle.std.proofs.Common.{◌≡◌, ◌⊎◌, ⊎_elim, inl, inr, ℕ, ◌≤◌, Result, Err, refl, sym, subst}
+use Rattle.at_cid.specs.Counts.{Rose}
+use Rattle.relay_store.specs.declared.fault.StoreFault.{StoreFault}
+use Rattle.relay_run.proofs.Causing.{rose_behind}
+use Rattle.backfill.specs.declared.replay_fault.ReplayFault.{ReplayFault}
+use Rattle.serve_run.specs.Ends.{end_of_opening, end_of_replay}
+use Rattle.serve_run.specs.declared.end.ServeEnd.{ServeEnd}
+use Rattle.lines_run.specs.OfDisks.{MayEnd}
+
+-- a fault as it is handed up
+abbrev pub faulted : ReplayFault → Result (Unit {0}) ReplayFault
+faulted fault = Err fault
+
+-- the output failed
+pub output_end : (fault : ReplayFault) → faulted fault ≡ faulted ReplayFault.Output → end_of_replay fault ≡ ServeEnd.WriteFault
+output_end ReplayFault.Output is = refl
+output_end ReplayFault.Disk is = absurd cc
+output_end ReplayFault.Memory is = absurd cc
+output_end (ReplayFault.BadLog place) is = absurd cc
+output_end ReplayFault.TooLong is = absurd cc
+
+-- an end of disks that were opened, where no failure comes
+pub may_end : (disk write : Type 0) (end : ServeEnd) → (end ≡ ServeEnd.Disk → disk) → (end ≡ ServeEnd.WriteFault → write) → (end ≡ ServeEnd.Door → ⊥)
+    → ((place : ℕ) → end ≡ ServeEnd.BadLog place → ⊥) → (end ≡ ServeEnd.TooLong → ⊥) → (disk → ⊥) → (write → ⊥) → MayEnd end
+may_end disk write ServeEnd.Done failed unwritten no_door no_bad no_long no_disk no_write = tt
+may_end disk write ServeEnd.WriteFault failed unwritten no_door no_bad no_long no_disk no_write = absurd (no_write (unwritten refl))
+may_end disk write ServeEnd.Door failed unwritten no_door no_bad no_long no_disk no_write = absurd (no_door refl)
+may_end disk write ServeEnd.Disk failed unwritten no_door no_bad no_long no_disk no_write = absurd (no_disk (failed refl))
+may_end disk write (ServeEnd.BadLog place) failed unwritten no_door no_bad no_long no_disk no_write = absurd (no_bad place refl)
+may_end disk write ServeEnd.Memory failed unwritten no_door no_bad no_long no_disk no_write = tt
+may_end disk write ServeEnd.TooLong failed unwritten no_door no_bad no_long no_disk no_write = absurd (no_long refl)
+
+opening_may : (disk : Type 0) (fault : StoreFault) → (fault ≡ StoreFault.Disk → disk) → ((place : ℕ) → fault ≡ StoreFault.BadLog place → ⊥) → (disk → ⊥) → MayEnd (end_of_opening fault)
+opening_may disk StoreFault.Disk failed no_bad no_disk = absurd (no_disk (failed refl))
+opening_may disk (StoreFault.BadLog place) failed no_bad no_disk = absurd (no_bad place refl)
+opening_may disk (StoreFault.Full e) failed no_bad no_disk = tt
+opening_may disk StoreFault.SeqEnd failed no_bad no_disk = tt
+opening_may disk StoreFault.Authority failed no_bad no_disk = tt
+opening_may disk StoreFault.Repos failed no_bad no_disk = tt
+opening_may disk StoreFault.Memory failed no_bad no_disk = tt
+opening_may disk StoreFault.Clock failed no_bad no_disk = tt
+
+-- the end of disks that weren't, where none comes
+pub unopened_may : (disk : Type 0) (fault : StoreFault) (end : ServeEnd) → end ≡ end_of_opening fault → (fault ≡ StoreFault.Disk → disk) → ((place : ℕ) → fault ≡ StoreFault.BadLog place → ⊥) → (disk → ⊥) → MayEnd end
+unopened_may disk fault end is failed no_bad no_disk = subst MayEnd (sym is) (opening_may disk fault failed no_bad no_disk)
+
+-- a count of one of two disks rose behind a call that let none fall
+pub either_behind : (one one_mid one_now two two_mid two_now : ℕ) → one ≤ one_mid → two ≤ two_mid → Rose one_mid one_now ⊎ Rose two_mid two_now → Rose one one_now ⊎ Rose two two_now
+either_behind one one_mid one_now two two_mid two_now first second rose =
+    ⊎_elim (λ r. inl (rose_behind one one_mid one_now first r)) (λ r. inr (rose_behind two two_mid two_now second r)) rose

@@ -1,0 +1,41 @@
+use Rattle.std.proofs.Common.{rules, ◌≡◌, ◌∙◌, ◌++◌, ◌<◌, ◌≤◌, ◌^◌, ℕ, List, Option, IfSome, Err, Ok, IsTrue, arith, subst}
+use Rattle.std.specs.Prelude.{option_map}
+use Rattle.event_window.specs.Held.{IsNext}
+use Rattle.relay_io.specs.Streams.{AddsFront}
+use Rattle.at_event.specs.Frames.{frame_of}
+use Rattle.json_lines.specs.Lines.{lines_read}
+use Rattle.lines_run.proofs.Lining.{lining_broken, lining_done, lining_more, lining_none, lining_stopped, written_err}
+use Rattle.lines_run.proofs.writing.write_lines.Goals as goal
+
+pub returns-in_err-number-clause-written : goal.returns-in_err-number-clause-written
+returns-in_err-number-clause-written g c = λ told held holds writes.
+    written_err c.from_residual.result c.in_err-number.field-0.0 _ _ _ (search rules)
+    (lining_stopped _ _ _ _ _ _ _ (c.events.invariant.lining told held holds) writes)
+
+pub returns-in_err-write_message-clause-written : goal.returns-in_err-write_message-clause-written
+returns-in_err-write_message-clause-written g c = λ told held holds writes.
+    let next = subst (λ (found : Option ℕ). IsNext c.events.last held.shown found c.next_above.new.room) c.in-Some.is
+    (c.in_ok-number.ensures.next told held (c.events.invariant.holds told held holds)) in
+    written_err c.from_residual-in_err-write_message.result c.in_err-write_message.field-0.0 _ _ _ (search rules)
+    (lining_broken _ _ _ _ _ _ _ (c.events.invariant.lining told held holds) c.in-Some.number c.next_above.new.room (g.O.Sink.written c.write_message.new.out) next
+    (λ t. subst (λ (m : List ℕ). AddsFront (g.O.Sink.written c.events.out) (g.O.Sink.written c.write_message.new.out) (lines_read (option_map (λ text. text.now) c.args.collection) (frame_of m))) c.as_slice.ensures.value (c.in_err-write_message.ensures.front t)) writes)
+
+pub events-preserved : goal.events-preserved
+events-preserved g c = record {
+  holds = λ told held holds. c.in_ok-number.ensures.same told held (c.events.invariant.holds told held holds);
+  known = c.in_ok-number.ensures.known;
+  later = g.met.E.Events.later_again _ _ _ c.events.invariant.later c.in_ok-number.ensures.later;
+  event_counts = omega (arith, c.events.invariant.event_counts, c.in_ok-number.ensures.counts);
+  lining = λ told held holds.
+      let next = subst (λ (found : Option ℕ). IsNext c.events.last held.shown found c.next_above.new.room) c.in-Some.is
+      (c.in_ok-number.ensures.next told held (c.events.invariant.holds told held holds)) in
+      lining_more _ _ _ _ _ _ _ (c.events.invariant.lining told held holds) c.in-Some.number c.next_above.new.room (g.O.Sink.written c.write_message.new.out) next
+      (λ t. subst (λ (m : List ℕ). g.O.Sink.written c.write_message.new.out ≡ g.O.Sink.written c.events.out ++ lines_read (option_map (λ text. text.now) c.args.collection) (frame_of m)) c.as_slice.ensures.value (c.in_ok-write_message.ensures.written t));
+  steady = c.in_ok-write_message.ensures.steady ∙ c.events.invariant.steady;
+}
+
+pub returns-clause-written : goal.returns-clause-written
+returns-clause-written g c = λ told held holds writes.
+    let next = subst (λ (found : Option ℕ). IsNext c.events.last held.shown found c.next_above.new.room) c.in_default.is
+    (c.in_ok-number.ensures.next told held (c.events.invariant.holds told held holds)) in
+    lining_done _ _ _ _ _ _ _ (c.events.invariant.lining told held holds) next writes

@@ -1,0 +1,71 @@
+//! The command that answers requests, from opening to its last line.
+
+ghost use Rattle.std.specs.Prelude.{◌≡◌, ◌≤◌, ◌⊎◌, ℕ, List, IsTrue};
+ghost use Rattle.at_cid.specs.Counts.{Rose};
+ghost use Rattle.gate_log.specs.declared.limits.TheConstants.{LAST_END};
+ghost use Rattle.relay_row.specs.declared.row.Row.{Row as TheRow};
+ghost use Rattle.relay_store.specs.Journals.{IsPairImageOf};
+ghost use Rattle.relay_run.specs.Pairs.{pair_view};
+ghost use Rattle.query_run.specs.AtWire.{at_wire};
+ghost use Rattle.query_run.specs.Ends.{IsCausedBy, IsOfDisks, MayEnd, QueryEndShows};
+ghost use Rattle.query_run.specs.OfDisks.{AnsweredBy};
+
+use crate::answering::answer_all;
+use crate::end::QueryEnd;
+use relay_disk::Disk;
+use relay_io::{Sink, Wire};
+use relay_store::Store;
+use std::alloc::Global;
+
+/// Answers at most `count` requests of the wire by the journal on two disks, and writes the lines
+/// of [`answer_all`]. No row of the log is to end past `most`, which is in bytes.
+pub fn query<D: Disk, W: Wire, O: Sink>(
+    alloc: Global,
+    most: u64,
+    count: u64,
+    disk: &mut D,
+    other: &mut D,
+    wire: &mut W,
+    out: &mut O,
+) -> QueryEnd
+    requires { most ≤ LAST_END }
+    ensures answered { IsTrue D.tells → (J : List TheRow)
+        → IsPairImageOf J (D.view disk.old).content (D.view other.old).content
+        → AnsweredBy J W.tells O.tells count
+        (at_wire (W.requests wire.old) (W.exchanges wire.old) (W.send_faults wire.old))
+        (at_wire (W.requests wire.new) (W.exchanges wire.new) (W.send_faults wire.new))
+        (pair_view (D.view disk.old) (D.view other.old) (O.written out.old))
+        (pair_view (D.view disk.new) (D.view other.new) (O.written out.new)) result }
+    ensures shows { IsTrue D.tells
+        → QueryEndShows result (D.view disk.old).content (D.view other.old).content }
+    ensures quiet { IsOfDisks result → (wire.new ≡ wire.old) × (out.new ≡ out.old) }
+
+    // A count of faults rose where the end speaks of one, and where none rose, all is done.
+    ensures caused { IsCausedBy (Rose (D.view disk.old).faults (D.view disk.new).faults
+        ⊎ Rose (D.view other.old).faults (D.view other.new).faults)
+        (Rose (O.faults out.old) (O.faults out.new))
+        (Rose (W.faults wire.old) (W.faults wire.new)) result }
+    ensures complete { IsTrue D.tells → (J : List TheRow)
+        → IsPairImageOf J (D.view disk.old).content (D.view other.old).content
+        → (Rose (D.view disk.old).faults (D.view disk.new).faults
+        ⊎ Rose (D.view other.old).faults (D.view other.new).faults → ⊥)
+        → (Rose (O.faults out.old) (O.faults out.new) → ⊥)
+        → (Rose (W.faults wire.old) (W.faults wire.new) → ⊥) → MayEnd result }
+    ensures no_output { (result ≡ QueryEnd.WriteFault → ⊥)
+        → O.faults out.new ≡ O.faults out.old }
+    ensures no_wire { (result ≡ QueryEnd.Wire → ⊥) → W.faults wire.new ≡ W.faults wire.old }
+    ensures disk_counts { (D.view disk.old).faults ≤ (D.view disk.new).faults }
+    ensures other_counts { (D.view other.old).faults ≤ (D.view other.new).faults }
+    ensures wire_counts { W.faults wire.old ≤ W.faults wire.new }
+    ensures send_counts { W.send_faults wire.old ≤ W.send_faults wire.new }
+    ensures out_counts { O.faults out.old ≤ O.faults out.new }
+{
+    let store = match Store::open(alloc, disk, other, most) {
+        Ok(store) => store,
+        Err(fault) => return QueryEnd::of_opening(fault),
+    };
+    match answer_all(alloc, count, store.core(), wire, out) {
+        Ok(()) => QueryEnd::Done,
+        Err(end) => end,
+    }
+}

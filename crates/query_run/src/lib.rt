@@ -1,0 +1,13 @@
+//! Requests that are answered one after another by the relay's state, and the command that answers
+//! them by the journal of two disks.
+#![tactic(auto)]
+
+mod answering;
+mod command;
+mod end;
+mod line;
+mod round;
+
+pub use answering::answer_all;
+pub use command::query;
+pub use end::QueryEnd;

@@ -1,0 +1,59 @@
+//! One request, its reply and its line.
+
+ghost use Rattle.std.specs.Prelude.{◌≡◌, ◌≤◌, List, ℕ, IfErr, OnOk};
+ghost use Rattle.at_cid.specs.Counts.{Rose};
+ghost use Rattle.relay_row.specs.declared.row.Row.{Row as TheRow};
+ghost use Rattle.relay_core.specs.Entries.{Holds};
+ghost use Rattle.query_run.specs.AtWire.{at_wire};
+ghost use Rattle.query_run.specs.Ends.{IsUnwritten};
+ghost use Rattle.query_run.specs.Queried.{Answered};
+ghost use Rattle.query_run.specs.Rounds.{code_of};
+
+use crate::end::QueryEnd;
+use crate::line::write_request;
+use relay_core::Core;
+use relay_io::{Failed, Sink, Wire};
+use relay_query::answer;
+use std::alloc::Global;
+
+// The three digits of the code of a reply.
+fn code_of(reply: &[u8]) -> &[u8]
+    ensures { result.now ≡ code_of reply.now }
+{
+    let front = &reply[..reply.len().min(12)];
+    &front[front.len().min(9)..]
+}
+
+/// Answers the request that came, and writes its line.
+pub(crate) fn answer_one<W: Wire, O: Sink>(
+    alloc: Global,
+    number: u64,
+    core: &Core,
+    request: &[u8],
+    wire: &mut W,
+    out: &mut O,
+) -> Result<(), QueryEnd>
+    ensures answered { (J : List TheRow) → Holds core.now J
+        → Answered W.tells O.tells J number request.now
+        (at_wire (W.requests wire.old) (W.exchanges wire.old) (W.send_faults wire.old))
+        (at_wire (W.requests wire.new) (W.exchanges wire.new) (W.send_faults wire.new))
+        (O.written out.old) (O.written out.new) result }
+    ensures few { IfErr result (λ end. IsUnwritten end) }
+    ensures failed { IfErr result (λ end. end ≡ QueryEnd.WriteFault
+        → Rose (O.faults out.old) (O.faults out.new)) }
+    ensures steady { OnOk result (O.faults out.new ≡ O.faults out.old) }
+    ensures no_fault { IfErr result (λ end. (end ≡ QueryEnd.WriteFault → ⊥)
+        → O.faults out.new ≡ O.faults out.old) }
+    ensures wire { W.faults wire.new ≡ W.faults wire.old }
+    ensures send_counts { W.send_faults wire.old ≤ W.send_faults wire.new }
+    ensures counts { O.faults out.old ≤ O.faults out.new }
+{
+    let reply = match answer(alloc, core, request) {
+        Ok(reply) => reply,
+        Err(_) => return Err(QueryEnd::Memory),
+    };
+    match wire.send(reply.as_slice()) {
+        Ok(()) => write_request(alloc, number, code_of(reply.as_slice()), out),
+        Err(Failed) => write_request(alloc, number, b"failed", out),
+    }
+}
