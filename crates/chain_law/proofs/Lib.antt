@@ -1,0 +1,9 @@
+pub mod Tables
+pub mod Trailing
+pub mod Renumbered
+pub mod Lengths
+pub mod Own
+pub mod Sending
+pub mod Following
+pub mod Reading
+pub mod Needing

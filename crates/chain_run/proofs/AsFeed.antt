@@ -1,0 +1,139 @@
+-- What a relay behind a relay does, from what following a feed does that gives what the first one serves.
+use Rattle.std.proofs.Common.{◌≡◌, ◌⊎◌, inl, inr, ⊎_elim, ◌∙◌, ℕ, true, List, [], ◌∷◌, ◌++◌, map, Some, refl, sym, ap, subst, append-nil}
+use Rattle.std.specs.List.{AllByRecursion}
+use Rattle.at_cid.specs.Link.{IsBytes}
+use Rattle.at_authority.specs.Panels.{Panel}
+use Rattle.backfill.specs.Served.{served}
+use Rattle.relay_row.specs.Folds.{cursor}
+use Rattle.relay_row.specs.Journal.{IsJournal}
+use Rattle.relay_row.specs.declared.row.Row.{Row}
+use Rattle.relay_row.proofs.Journals.{fronts}
+use Rattle.relay_core.specs.Decide.{Checks}
+use Rattle.relay_core.specs.Opening.{OpensRight}
+use Rattle.relay_core.specs.Runs.{Message as Read, Run, has_ended}
+use Rattle.relay_law.specs.Calls.{as_read}
+use Rattle.relay_law.specs.Faithful.{AreFaithful}
+use Rattle.relay_law.specs.Laws.{AreEvents}
+use Rattle.relay_law.specs.Right.{LinksRight}
+use Rattle.relay_law.proofs.Choosing.{some_right}
+use Rattle.relay_law.proofs.Reading.{runs_faithful}
+use Rattle.relay_law.proofs.Sent.{sent_events}
+use Rattle.relay_step.specs.Around.{AllAsked}
+use Rattle.relay_step.specs.Steps.{Step, AreSteps, ended_by_all, message_of, messages, rows}
+use Rattle.relay_step.proofs.Steps.{steps_join, steps_run}
+use Rattle.relay_store.specs.Batches.{messages_sent}
+use Rattle.relay_store.specs.Shown.{held_by}
+use Rattle.relay_store.specs.declared.message.Message.{Message}
+use Rattle.relay_store.proofs.Runs.{sent_joined}
+use Rattle.tape_run.specs.Feeds.{AreOf, bytes_of_messages}
+use Rattle.tape_run.specs.Tapes.{AreRecords}
+use Rattle.tape_run.specs.Tells.{Tells}
+use Rattle.tape_run.proofs.Joining.{journal_joined}
+use Rattle.tape_run.proofs.Records.{records_front}
+use Rattle.ingest_run.specs.Ingested.{PairScene}
+use Rattle.follow_run.specs.Followed.{Followed}
+use Rattle.follow_run.specs.declared.end.FeedEnd.{FeedEnd}
+use Rattle.trust_law.specs.Trust.{Trusts}
+use Rattle.trust_law.proofs.Trusting.{steps_show}
+use Rattle.chain_run.specs.Chained.{AccountsFollow, AllTaken, Chained}
+use Rattle.chain_run.specs.declared.taking.TheConstants.{MOST_SERVED}
+use Rattle.chain_run.proofs.Few.{not_as_many}
+use Rattle.chain_run.proofs.Serving.{served_follow}
+
+-- ---- faithful rows
+
+abbrev pairs : List Step → List (List ℕ × List ℕ)
+pairs steps = map (λ (s : Step). (s.host, s.bytes)) steps
+
+pairs_read : (steps : List Step) → messages steps ≡ as_read (pairs steps)
+pairs_read [] = refl
+pairs_read (s ∷ steps) = ap (λ (l : List Read). message_of s ∷ l) (pairs_read steps)
+
+pairs_bytes : (steps : List Step) → AreRecords (messages_sent steps) → AllByRecursion (λ (m : List ℕ × List ℕ). IsBytes m.1) (pairs steps)
+pairs_bytes [] all = tt
+pairs_bytes (s ∷ steps) all = (all.1, pairs_bytes steps all.2)
+
+faithful_joined : (xs ys : List Row) → AreFaithful xs → AreFaithful ys → AreFaithful (xs ++ ys)
+faithful_joined [] ys one two = two
+faithful_joined (x ∷ xs) ys one two = (one.0, faithful_joined xs ys one.1 two)
+
+-- ---- what was followed
+
+no_more : (steps under extra : List Step) → under ≡ [] → extra ≡ [] → steps ++ (under ++ extra) ≡ steps
+no_more steps under extra none over = ap (λ (l : List Step). steps ++ (l ++ extra)) none ∙ ap (λ (l : List Step). steps ++ l) over ∙ append-nil steps
+
+module _ (t : Tells) (host : List ℕ) (most : ℕ) (one two : List Row) (journal : IsJournal one) (left : List (List ℕ)) (old new : PairScene) (trusts : Trusts old.around.panel) (trusts_still : Trusts new.around.panel) where
+  abbrev pub given : ℕ → List (List ℕ)
+  given n = served (held_by one) (Some n)
+
+  abbrev pub FollowedTo : FeedEnd → Type 0
+  FollowedTo end = Followed t true host most MOST_SERVED given left two old new end
+
+  run : (end : FeedEnd) (f : FollowedTo end) (checks : Checks) → OpensRight checks → LinksRight checks → Run checks two (messages f.taken.steps) (rows f.taken.steps)
+  run end f checks opens links = steps_run checks two [] f.taken.steps ((steps_join checks two [] f.taken.steps (f.taken.under ++ f.taken.extra)).0 (f.taken.are checks opens links)).0
+
+  faithful : (end : FeedEnd) (f : FollowedTo end) → AreFaithful two → AreFaithful (two ++ rows f.taken.steps)
+  faithful end f was =
+      let steps = f.taken.steps in
+      let over = f.taken.under ++ f.taken.extra in
+      let all : AreRecords (messages_sent (steps ++ over)) = records_front (messages_sent (steps ++ over)) f.taken.behind f.taken.records in
+      let records : AreRecords (messages_sent steps) = records_front (messages_sent steps) (messages_sent over) (subst AreRecords (sent_joined steps over) all) in
+      let are : AreEvents (messages steps) = subst AreEvents (sym (pairs_read steps)) (sent_events (pairs steps) (pairs_bytes steps records)) in
+      let whole : IsJournal ((two ++ rows steps) ++ rows over) = subst IsJournal (sym (journal_joined two steps over)) f.taken.journal in
+      faithful_joined two (rows steps) was
+      (runs_faithful some_right.0 two (messages steps) (rows steps) are (fronts (two ++ rows steps) (rows over) whole) (run end f some_right.0 some_right.1 some_right.2))
+
+  -- where it is done
+  module _ (f : FollowedTo FeedEnd.Done) where
+    abbrev steps : List Step
+    steps = f.taken.steps
+
+    same : steps ++ (f.taken.under ++ f.taken.extra) ≡ steps
+    same = no_more steps f.taken.under f.taken.extra f.taken.which_under f.taken.which_extra
+
+    are : (checks : Checks) → OpensRight checks → LinksRight checks → AreSteps checks two [] steps
+    are checks opens links = subst (λ (l : List Step). AreSteps checks two [] l) same (f.taken.are checks opens links)
+
+    sent : messages_sent (steps ++ (f.taken.under ++ f.taken.extra)) ++ f.taken.behind ≡ messages_sent steps
+    sent = ap (λ (l : List Message). messages_sent (steps ++ (f.taken.under ++ f.taken.extra)) ++ l) f.taken.all ∙ append-nil _ ∙ ap messages_sent same
+
+    hosts : AreOf host (messages_sent steps)
+    hosts = subst (AreOf host) sent f.feed.hosts
+
+    front : given (cursor host two) ≡ bytes_of_messages (messages_sent steps) ++ f.feed.rest
+    front = f.feed.front refl ∙ ap (λ (l : List Message). bytes_of_messages l ++ f.feed.rest) sent
+
+    over : (f.feed.rest ≡ []) ⊎ (has_ended (ended_by_all steps []) host ≡ true)
+    over = ⊎_elim (λ many. absurd (not_as_many one (cursor host two) (steps ++ (f.taken.under ++ f.taken.extra)) f.taken.behind f.feed.rest journal (f.feed.front refl) many))
+        (λ ended. ⊎_elim (λ none. inl (none refl)) (λ is. inr (sym (ap (λ (l : List Step). has_ended (ended_by_all l []) host) same) ∙ is)) ended) f.feed.ends
+
+    all_taken : AllTaken host (given (cursor host two)) steps
+    all_taken = ⊎_elim (λ none. inl (front ∙ ap (λ (l : List (List ℕ)). bytes_of_messages (messages_sent steps) ++ l) none ∙ append-nil (bytes_of_messages (messages_sent steps)))) (λ is. inr (f.feed.rest, front, is)) over
+
+    asked : AllAsked t.clock t.repos two old.around steps f.taken.mid
+    asked = subst (λ (l : List Step). AllAsked t.clock t.repos two old.around l f.taken.mid) same f.taken.asked
+
+    trusts_behind : Trusts f.taken.mid.panel
+    trusts_behind name = ap (λ (p : Panel). p name) (sym f.taken.stops.panel) ∙ trusts_still name
+
+    follows : AccountsFollow host one two (rows steps)
+    follows checks opens links made new_to did could =
+        served_follow checks opens links one two host did steps f.feed.rest journal made new_to (are checks opens links) hosts front over
+        (steps_show checks opens t.clock t.repos two [] old.around f.taken.mid steps (are checks opens links) asked trusts trusts_behind) could
+
+  all_of : (end : FeedEnd) (f : FollowedTo end) → end ≡ FeedEnd.Done → AllTaken host (given (cursor host two)) f.taken.steps
+  all_of FeedEnd.Done f is = all_taken f
+  all_of FeedEnd.Feed f is = absurd cc
+  all_of FeedEnd.WriteFault f is = absurd cc
+  all_of (FeedEnd.Store fault) f is = absurd cc
+  all_of FeedEnd.Memory f is = absurd cc
+
+  law_of : (end : FeedEnd) (f : FollowedTo end) → end ≡ FeedEnd.Done → AccountsFollow host one two (rows f.taken.steps)
+  law_of FeedEnd.Done f is = follows f
+  law_of FeedEnd.Feed f is = absurd cc
+  law_of FeedEnd.WriteFault f is = absurd cc
+  law_of (FeedEnd.Store fault) f is = absurd cc
+  law_of FeedEnd.Memory f is = absurd cc
+
+  pub chained : (end : FeedEnd) → FollowedTo end → Chained t host most one two old new end
+  chained end f = record { left = left; followed = f; run = run end f; all = all_of end f; faithful = faithful end f; law = law_of end f }

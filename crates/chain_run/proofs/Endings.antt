@@ -1,0 +1,123 @@
+-- How a relay behind a relay ends: the causes, what the disks show, and what ends it where nothing fails.
+use Rattle.std.proofs.Common.{◌≡◌, inl, inr, ℕ, List, Result, Ok, Err, IfOk, refl, arith}
+use Rattle.at_cid.specs.Counts.{Rose}
+use Rattle.event_window.specs.declared.fault.EventsFault.{EventsFault}
+use Rattle.relay_step.specs.Steps.{Step}
+use Rattle.relay_store.specs.Journals.{IsBadPairJournalAt}
+use Rattle.relay_store.specs.Opening.{IsOfReading}
+use Rattle.relay_store.specs.declared.fault.StoreFault.{StoreFault}
+use Rattle.relay_store.proofs.Images.{no_journal}
+use Rattle.tape_run.specs.Ends.{AreExtraAt}
+use Rattle.tape_run.specs.declared.end.TapeEnd.{TapeEnd}
+use Rattle.ingest_run.specs.Ends.{NoneOf, IsCausedBy as IsTakingCausedBy}
+use Rattle.follow_run.specs.Ends.{feed_end, tape_end}
+use Rattle.chain_run.specs.Ends.{IsCausedBy, MayEnd, end_of_feed, end_of_store, end_of_taken, taking_end}
+use Rattle.chain_run.specs.Places.{ChainEndShows, HoldsJournal, Place}
+use Rattle.chain_run.specs.declared.end.ChainEnd.{ChainEnd}
+
+not_rose : {A : Type 0} → Rose 0 0 → A
+not_rose rose = let none : ⊥ = omega (arith, rose) in absurd none
+
+-- an end is that of a feed which gives the same
+pub ends_alike : (disk write repos clock : Type 0) (taken : Result TapeEnd EventsFault) → IfOk taken (λ end. IsTakingCausedBy disk (Rose 0 0) write repos clock end) → ((at : ℕ) → taken ≡ Err (EventsFault.BadLog at) → ⊥)
+    → end_of_taken taken ≡ end_of_feed (feed_end (taking_end taken))
+ends_alike disk write repos clock (Ok TapeEnd.Done) caused good = refl
+ends_alike disk write repos clock (Ok (TapeEnd.Bad place)) caused good = refl
+ends_alike disk write repos clock (Ok TapeEnd.ReadFault) caused good = not_rose caused
+ends_alike disk write repos clock (Ok TapeEnd.WriteFault) caused good = refl
+ends_alike disk write repos clock (Ok TapeEnd.TooLong) caused good = refl
+ends_alike disk write repos clock (Ok (TapeEnd.Store fault)) caused good = refl
+ends_alike disk write repos clock (Ok TapeEnd.Memory) caused good = refl
+ends_alike disk write repos clock (Err EventsFault.Disk) caused good = refl
+ends_alike disk write repos clock (Err EventsFault.Memory) caused good = refl
+ends_alike disk write repos clock (Err (EventsFault.BadLog place)) caused good = absurd (good place refl)
+
+-- ---- causes
+
+pub opening_causes : (disk write repos clock : Type 0) (fault : StoreFault) → IsOfReading fault → (fault ≡ StoreFault.Disk → disk) → IsCausedBy disk write repos clock (end_of_store fault)
+opening_causes disk write repos clock StoreFault.Disk of cause = cause refl
+opening_causes disk write repos clock (StoreFault.BadLog place) of cause = tt
+opening_causes disk write repos clock (StoreFault.Full e) of cause = absurd of
+opening_causes disk write repos clock StoreFault.SeqEnd of cause = absurd of
+opening_causes disk write repos clock StoreFault.Authority of cause = absurd of
+opening_causes disk write repos clock StoreFault.Repos of cause = absurd of
+opening_causes disk write repos clock StoreFault.Memory of cause = tt
+opening_causes disk write repos clock StoreFault.Clock of cause = absurd of
+
+pub taking_causes : (first second disk write repos clock : Type 0) (taken : Result TapeEnd EventsFault) → (first → disk) → (second → disk) → IfOk taken (λ end. IsTakingCausedBy second (Rose 0 0) write repos clock end) → (taken ≡ Err EventsFault.Disk → first)
+    → IsCausedBy disk write repos clock (end_of_taken taken)
+taking_causes first second disk write repos clock (Ok TapeEnd.Done) one two caused cause = tt
+taking_causes first second disk write repos clock (Ok (TapeEnd.Bad place)) one two caused cause = tt
+taking_causes first second disk write repos clock (Ok TapeEnd.ReadFault) one two caused cause = tt
+taking_causes first second disk write repos clock (Ok TapeEnd.WriteFault) one two caused cause = caused
+taking_causes first second disk write repos clock (Ok TapeEnd.TooLong) one two caused cause = tt
+taking_causes first second disk write repos clock (Ok TapeEnd.Memory) one two caused cause = tt
+taking_causes first second disk write repos clock (Ok (TapeEnd.Store StoreFault.Disk)) one two caused cause = two caused
+taking_causes first second disk write repos clock (Ok (TapeEnd.Store (StoreFault.BadLog place))) one two caused cause = tt
+taking_causes first second disk write repos clock (Ok (TapeEnd.Store (StoreFault.Full e))) one two caused cause = tt
+taking_causes first second disk write repos clock (Ok (TapeEnd.Store StoreFault.SeqEnd)) one two caused cause = tt
+taking_causes first second disk write repos clock (Ok (TapeEnd.Store StoreFault.Authority)) one two caused cause = tt
+taking_causes first second disk write repos clock (Ok (TapeEnd.Store StoreFault.Repos)) one two caused cause = caused
+taking_causes first second disk write repos clock (Ok (TapeEnd.Store StoreFault.Memory)) one two caused cause = tt
+taking_causes first second disk write repos clock (Ok (TapeEnd.Store StoreFault.Clock)) one two caused cause = caused
+taking_causes first second disk write repos clock (Err EventsFault.Disk) one two caused cause = one (cause refl)
+taking_causes first second disk write repos clock (Err EventsFault.Memory) one two caused cause = tt
+taking_causes first second disk write repos clock (Err (EventsFault.BadLog place)) one two caused cause = tt
+
+-- ---- what the disks show
+
+pub first_shows : (fault : StoreFault) (old : Place) → IsOfReading fault → ((at : ℕ) → fault ≡ StoreFault.BadLog at → IsBadPairJournalAt at old.first.content old.first_other.content) → ChainEndShows (end_of_store fault) old
+first_shows StoreFault.Disk old of bad = tt
+first_shows (StoreFault.BadLog place) old of bad = inl (bad place refl)
+first_shows (StoreFault.Full e) old of bad = absurd of
+first_shows StoreFault.SeqEnd old of bad = absurd of
+first_shows StoreFault.Authority old of bad = absurd of
+first_shows StoreFault.Repos old of bad = absurd of
+first_shows StoreFault.Memory old of bad = tt
+first_shows StoreFault.Clock old of bad = absurd of
+
+pub second_shows : (fault : StoreFault) (old : Place) → IsOfReading fault → HoldsJournal old.first old.first_other → ((at : ℕ) → fault ≡ StoreFault.BadLog at → IsBadPairJournalAt at old.second.content old.second_other.content)
+    → ChainEndShows (end_of_store fault) old
+second_shows StoreFault.Disk old of first bad = tt
+second_shows (StoreFault.BadLog place) old of first bad = inr (first, bad place refl)
+second_shows (StoreFault.Full e) old of first bad = absurd of
+second_shows StoreFault.SeqEnd old of first bad = absurd of
+second_shows StoreFault.Authority old of first bad = absurd of
+second_shows StoreFault.Repos old of first bad = absurd of
+second_shows StoreFault.Memory old of first bad = tt
+second_shows StoreFault.Clock old of first bad = absurd of
+
+pub both_show : (taken : Result TapeEnd EventsFault) (extra : List Step) (old : Place) → AreExtraAt (tape_end (feed_end (taking_end taken))) extra → ((at : ℕ) → taken ≡ Err (EventsFault.BadLog at) → ⊥) → HoldsJournal old.first old.first_other → HoldsJournal old.second old.second_other
+    → ChainEndShows (end_of_taken taken) old
+both_show (Ok TapeEnd.Done) extra old which good first second = (first, second)
+both_show (Ok (TapeEnd.Bad place)) extra old which good first second = tt
+both_show (Ok TapeEnd.ReadFault) extra old which good first second = tt
+both_show (Ok TapeEnd.WriteFault) extra old which good first second = (first, second)
+both_show (Ok TapeEnd.TooLong) extra old which good first second = tt
+both_show (Ok TapeEnd.Memory) extra old which good first second = tt
+both_show (Ok (TapeEnd.Store StoreFault.Disk)) extra old which good first second = tt
+both_show (Ok (TapeEnd.Store (StoreFault.BadLog place))) extra old which good first second = absurd which
+both_show (Ok (TapeEnd.Store (StoreFault.Full e))) extra old which good first second = (first, second)
+both_show (Ok (TapeEnd.Store StoreFault.SeqEnd)) extra old which good first second = (first, second)
+both_show (Ok (TapeEnd.Store StoreFault.Authority)) extra old which good first second = tt
+both_show (Ok (TapeEnd.Store StoreFault.Repos)) extra old which good first second = (first, second)
+both_show (Ok (TapeEnd.Store StoreFault.Memory)) extra old which good first second = tt
+both_show (Ok (TapeEnd.Store StoreFault.Clock)) extra old which good first second = (first, second)
+both_show (Err EventsFault.Disk) extra old which good first second = tt
+both_show (Err EventsFault.Memory) extra old which good first second = tt
+both_show (Err (EventsFault.BadLog place)) extra old which good first second = absurd (good place refl)
+
+-- ---- what ends it where nothing fails
+
+pub completes : (disk write repos clock : Type 0) (end : ChainEnd) (old : Place) → IsCausedBy disk write repos clock end → ChainEndShows end old → HoldsJournal old.first old.first_other → HoldsJournal old.second old.second_other
+    → NoneOf disk ⊥ write repos clock → MayEnd end
+completes disk write repos clock ChainEnd.Done old caused shows first second none = tt
+completes disk write repos clock ChainEnd.WriteFault old caused shows first second none = absurd (none.no_write caused)
+completes disk write repos clock ChainEnd.Disk old caused shows first second none = absurd (none.no_disk caused)
+completes disk write repos clock ChainEnd.Repos old caused shows first second none = absurd (none.no_repos caused)
+completes disk write repos clock (ChainEnd.BadLog place) old caused (inl bad) first second none = absurd (no_journal place old.first.content old.first_other.content first.0 first.1 bad)
+completes disk write repos clock (ChainEnd.BadLog place) old caused (inr bad) first second none = absurd (no_journal place old.second.content old.second_other.content second.0 second.1 bad.1)
+completes disk write repos clock (ChainEnd.Full e) old caused shows first second none = tt
+completes disk write repos clock ChainEnd.SeqEnd old caused shows first second none = tt
+completes disk write repos clock ChainEnd.Memory old caused shows first second none = tt
+completes disk write repos clock ChainEnd.Clock old caused shows first second none = absurd (none.no_clock caused)

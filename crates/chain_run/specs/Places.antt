@@ -1,0 +1,79 @@
+-- What a relay behind a relay works on, at one moment (own).
+use Rattle.std.specs.Prelude.{◌≤◌, ◌⊎◌, ⊤, ℕ, List, [], Option}
+use Rattle.at_cid.specs.Counts.{Rose}
+use Rattle.at_authority.specs.Trusting.{trusting}
+use Rattle.relay_disk.specs.Disk.{View}
+use Rattle.relay_row.specs.declared.row.Row.{Row}
+use Rattle.relay_step.specs.Around.{around}
+use Rattle.relay_store.specs.Journals.{IsBadPairJournalAt, IsPairImageOf}
+use Rattle.ingest_run.specs.Ends.{NoneOf}
+use Rattle.ingest_run.specs.Ingested.{PairScene, pair_scene}
+use Rattle.chain_run.specs.Ends.{IsCausedBy}
+use Rattle.chain_run.specs.declared.end.ChainEnd.{ChainEnd}
+
+-- how often the repositories, the clock and the output have failed; the views of the disks say it of them
+pub record Failures : Type 0 where
+  pub repos : ℕ
+  pub clock : ℕ
+  pub output : ℕ
+
+abbrev pub failures : ℕ → ℕ → ℕ → Failures
+failures repos clock output = record { repos = repos; clock = clock; output = output }
+
+-- the two disks of the first relay and those of the second; what the clock and the repositories tell; what is written; and what has failed
+pub record Place : Type 1 where
+  pub first : View
+  pub first_other : View
+  pub second : View
+  pub second_other : View
+  pub moments : List ℕ
+  pub repository : List ℕ → Option (List ℕ)
+  pub written : List ℕ
+  pub failed : Failures
+
+abbrev pub place : View → View → View → View → List ℕ → (List ℕ → Option (List ℕ)) → List ℕ → Failures → Place
+place first first_other second second_other moments repository written failed =
+    record { first = first; first_other = first_other; second = second; second_other = second_other; moments = moments; repository = repository; written = written; failed = failed }
+
+-- what the second relay takes its messages with: its disks, judges that say yes to everything, the clock, the repositories and the output
+abbrev pub second_scene : Place → PairScene
+second_scene p = pair_scene p.second p.second_other (around (λ name. trusting) p.moments p.repository) [] p.written
+
+-- two disks are an image of some journal
+abbrev pub HoldsJournal : View → View → Type 0
+HoldsJournal one two = (J : List Row) × IsPairImageOf J one.content two.content
+
+-- What the bytes of the disks were, by how it ended. The first pair is opened before the second.
+abbrev pub ChainEndShows : ChainEnd → Place → Type 0
+ChainEndShows ChainEnd.Disk old = ⊤
+ChainEndShows ChainEnd.Memory old = ⊤
+ChainEndShows (ChainEnd.BadLog at) old = IsBadPairJournalAt at old.first.content old.first_other.content
+    ⊎ (HoldsJournal old.first old.first_other × IsBadPairJournalAt at old.second.content old.second_other.content)
+ChainEndShows end old = HoldsJournal old.first old.first_other × HoldsJournal old.second old.second_other
+
+-- a disk of a pair failed
+abbrev pub PairFailed : View → View → View → View → Type 0
+PairFailed one two one_now two_now = Rose one.faults one_now.faults ⊎ Rose two.faults two_now.faults
+
+-- a disk of either pair did
+abbrev pub DiskFailed : Place → Place → Type 0
+DiskFailed old new = PairFailed old.first old.first_other new.first new.first_other ⊎ PairFailed old.second old.second_other new.second new.second_other
+
+-- an end that speaks of a failure comes only where its count rose
+abbrev pub ChainCaused : Place → Place → ChainEnd → Type 0
+ChainCaused old new end =
+    IsCausedBy (DiskFailed old new) (Rose old.failed.output new.failed.output) (Rose old.failed.repos new.failed.repos) (Rose old.failed.clock new.failed.clock) end
+
+-- no count rose
+abbrev pub IsFlawless : Place → Place → Type 0
+IsFlawless old new = NoneOf (DiskFailed old new) ⊥ (Rose old.failed.output new.failed.output) (Rose old.failed.repos new.failed.repos) (Rose old.failed.clock new.failed.clock)
+
+-- no count fell
+pub record CountsKept (old new : Place) : Type 0 where
+  pub first : old.first.faults ≤ new.first.faults
+  pub first_other : old.first_other.faults ≤ new.first_other.faults
+  pub second : old.second.faults ≤ new.second.faults
+  pub second_other : old.second_other.faults ≤ new.second_other.faults
+  pub repos : old.failed.repos ≤ new.failed.repos
+  pub clock : old.failed.clock ≤ new.failed.clock
+  pub output : old.failed.output ≤ new.failed.output
