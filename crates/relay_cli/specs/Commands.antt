@@ -1,7 +1,8 @@
 -- The commands, by the words that each is encoded with.
-use Rattle.std.specs.Prelude.{◌≡◌, ℕ, ◌≤◌, ◌-◌, List, [], ◌∷◌, IsTrue, length, codes, decimal, ⊤}
+use Rattle.std.specs.Prelude.{◌≡◌, ◌≢◌, Option, Some, None, ℕ, ◌≤◌, ◌-◌, List, [], ◌∷◌, IsTrue, length, codes, decimal, ⊤}
 use Rattle.at_syntax.specs.Did.{is_did}
 use Rattle.at_syntax.specs.Host.{is_host}
+use Rattle.at_syntax.specs.Path.{is_collection}
 use Rattle.relay_cli.specs.declared.verb.Verb.{Verb}
 use Rattle.at_form.specs.declared.forms.TheConstants.{LONGEST_SHORT_TEXT}
 use Rattle.relay_cli.specs.declared.command.Command.{Command}
@@ -22,6 +23,9 @@ verb_name Verb.Restore = codes "restore"
 verb_name Verb.Sync = codes "sync"
 verb_name Verb.Cut = codes "cut"
 verb_name Verb.Trial = codes "trial"
+verb_name Verb.Mirror = codes "mirror"
+verb_name Verb.Query = codes "query"
+verb_name Verb.Lines = codes "lines"
 
 abbrev pub verb_of : Command → Verb
 verb_of Command.Check = Verb.Check
@@ -36,6 +40,14 @@ verb_of (Command.Restore did time) = Verb.Restore
 verb_of (Command.Sync did time) = Verb.Sync
 verb_of (Command.Cut seq) = Verb.Cut
 verb_of (Command.Trial start count) = Verb.Trial
+verb_of Command.Mirror = Verb.Mirror
+verb_of (Command.Query count) = Verb.Query
+verb_of (Command.Lines cursor collection) = Verb.Lines
+
+-- the word of a collection, or the one for all
+abbrev pub collection_word : Option (List ℕ) → List ℕ
+collection_word None = codes "-"
+collection_word (Some text) = text
 
 -- the words behind the first; numbers in decimal, without sign and without zeros in front
 abbrev pub rest_of : Command → List (List ℕ)
@@ -51,6 +63,9 @@ rest_of (Command.Restore did time) = did ∷ time ∷ []
 rest_of (Command.Sync did time) = did ∷ time ∷ []
 rest_of (Command.Cut seq) = decimal seq ∷ []
 rest_of (Command.Trial start count) = decimal start ∷ decimal count ∷ []
+rest_of Command.Mirror = []
+rest_of (Command.Query count) = decimal count ∷ []
+rest_of (Command.Lines cursor collection) = decimal cursor ∷ collection_word collection ∷ []
 
 pub record IsNumber (least most n : ℕ) : Type 0 where
   pub from_least : least ≤ n
@@ -60,6 +75,11 @@ pub record IsNumber (least most n : ℕ) : Type 0 where
 pub record IsTime (time : List ℕ) : Type 0 where
   pub some : 1 ≤ length time
   pub short : length time ≤ LONGEST_SHORT_TEXT
+
+-- a collection that is named isn't named as the word for all
+abbrev pub IsCollection : Option (List ℕ) → Type 0
+IsCollection None = ⊤
+IsCollection (Some text) = IsTrue (is_collection text) × (text ≢ codes "-")
 
 -- each argument is in its range, or of its form
 abbrev pub IsInForm : Command → Type 0
@@ -75,6 +95,9 @@ IsInForm (Command.Restore did time) = IsTrue (is_did did) × IsTime time
 IsInForm (Command.Sync did time) = IsTrue (is_did did) × IsTime time
 IsInForm (Command.Cut seq) = IsNumber 0 (NUMBERS - 1) seq
 IsInForm (Command.Trial start count) = IsNumber 0 (NUMBERS - 1) start × IsNumber 1 MOST_TRIED count
+IsInForm Command.Mirror = ⊤
+IsInForm (Command.Query count) = IsNumber 1 MOST count
+IsInForm (Command.Lines cursor collection) = IsNumber 0 (NUMBERS - 1) cursor × IsCollection collection
 
 -- the command has this first word and these words behind it
 pub record IsOf (verb : Verb) (rest : List (List ℕ)) (command : Command) : Type 0 where

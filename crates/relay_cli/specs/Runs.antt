@@ -1,5 +1,5 @@
 -- What a run of a command does to the outside (own).
-use Rattle.std.specs.Prelude.{◌≡◌, ⊤, ℕ, ◌+◌, ◌≤◌, ◌<◌, Bool, true, false, List, [], ◌++◌, length, IsTrue, ◌⊎◌}
+use Rattle.std.specs.Prelude.{◌≡◌, ◌≢◌, ⊤, Option, ℕ, ◌+◌, ◌≤◌, ◌<◌, Bool, true, false, List, [], ◌++◌, length, IsTrue, ◌⊎◌}
 use Rattle.at_authority.specs.Panels.{IsSpent}
 use Rattle.at_cid.specs.Counts.{Rose}
 use Rattle.at_syntax.specs.Did.{method_of}
@@ -14,6 +14,16 @@ use Rattle.relay_disk.specs.Disk.{View}
 use Rattle.relay_io.specs.Streams.{AddsFront}
 use Rattle.relay_io.specs.declared.feed.TheConstants.{LONGEST_FEED_MESSAGE}
 use Rattle.relay_row.specs.declared.row.Row.{Row}
+use Rattle.backfill.specs.Writing.{with_length}
+use Rattle.lines_run.specs.OfDisks.{LinesWritten, MayEnd as MayEndLines}
+use Rattle.mirror_run.specs.Ends.{MayEnd as MayEndMirror, NoneOf as NoneOfMirror}
+use Rattle.mirror_run.specs.Mirrored.{Mirrored}
+use Rattle.mirror_run.specs.Stream.{BeginWith, IsBadBehind}
+use Rattle.mirror_run.specs.declared.end.MirrorEnd.{MirrorEnd}
+use Rattle.query_run.specs.AtWire.{AtWire}
+use Rattle.query_run.specs.Ends.{IsOfDisks, MayEnd as MayEndQuery, QueryEndShows as QueryHadJournal}
+use Rattle.query_run.specs.OfDisks.{AnsweredBy}
+use Rattle.query_run.specs.declared.end.QueryEnd.{QueryEnd}
 use Rattle.relay_run.specs.Cutting.{IsOfCutting, WasCut}
 use Rattle.relay_run.specs.Ends.{IsOfShowing, IsQuiet as IsQuietEnd, RunEndShows as HadJournal}
 use Rattle.relay_run.specs.Pairs.{PairView, pair_view}
@@ -43,7 +53,7 @@ use Rattle.relay_cli.specs.declared.command.Command.{Command}
 use Rattle.relay_store.specs.declared.limits.TheConstants.{LONGEST}
 use Rattle.relay_cli.specs.declared.status.Status.{Status}
 use Rattle.relay_cli.specs.declared.verdict.CheckVerdict.{CheckVerdict}
-use Rattle.relay_cli.specs.Statuses.{status_of, status_of_feed, status_of_run, status_of_serving, status_of_tape, status_of_trial}
+use Rattle.relay_cli.specs.Statuses.{status_of, status_of_feed, status_of_mirror, status_of_query, status_of_run, status_of_serving, status_of_tape, status_of_trial}
 use Rattle.relay_cli.specs.Report.{line_of}
 use Rattle.relay_cli.specs.Verdicts.{IsVerdict}
 
@@ -104,11 +114,13 @@ pub record OutsideTells : Type 0 where
   pub output : Bool
   pub feed : Bool
   pub door : Bool
+  pub wire : Bool
 
-abbrev pub outside_tells : Bool → Bool → Bool → Bool → Bool → Bool → Bool → OutsideTells
-outside_tells disk clock repos input output feed door = record { disk = disk; clock = clock; repos = repos; input = input; output = output; feed = feed; door = door }
+abbrev pub outside_tells : Bool → Bool → Bool → Bool → Bool → Bool → Bool → Bool → OutsideTells
+outside_tells disk clock repos input output feed door wire =
+    record { disk = disk; clock = clock; repos = repos; input = input; output = output; feed = feed; door = door; wire = wire }
 
--- How often each object of a run has failed.
+-- How often each object of a run has failed; of the wire, to give the next request.
 pub record Faults : Type 0 where
   pub disk : ℕ
   pub other : ℕ
@@ -118,10 +130,11 @@ pub record Faults : Type 0 where
   pub output : ℕ
   pub feed : ℕ
   pub door : ℕ
+  pub wire : ℕ
 
-abbrev pub faults : ℕ → ℕ → ℕ → ℕ → ℕ → ℕ → ℕ → ℕ → Faults
-faults disk other repos clock input output feed door =
-    record { disk = disk; other = other; repos = repos; clock = clock; input = input; output = output; feed = feed; door = door }
+abbrev pub faults : ℕ → ℕ → ℕ → ℕ → ℕ → ℕ → ℕ → ℕ → ℕ → Faults
+faults disk other repos clock input output feed door wire =
+    record { disk = disk; other = other; repos = repos; clock = clock; input = input; output = output; feed = feed; door = door; wire = wire }
 
 -- no count fell
 pub record Kept (old new : Faults) : Type 0 where
@@ -133,6 +146,7 @@ pub record Kept (old new : Faults) : Type 0 where
   pub output : old.output ≤ new.output
   pub feed : old.feed ≤ new.feed
   pub door : old.door ≤ new.door
+  pub wire : old.wire ≤ new.wire
 
 -- a status that speaks of a failure comes only where a count rose
 abbrev pub Caused : Status → Faults → Faults → Type 0
@@ -143,9 +157,10 @@ Caused Status.ReadFault old new = Rose old.input new.input
 Caused Status.WriteFault old new = Rose old.output new.output
 Caused Status.Feed old new = Rose old.feed new.feed
 Caused Status.Door old new = Rose old.door new.door
+Caused Status.Wire old new = Rose old.wire new.wire
 Caused status old new = ⊤
 
--- What the objects of a run hold at one moment: the two disks; what the judges, the clock and the repositories tell; what is left of the input, and what is written; what the feed gives of each host behind each number, and what is left of the stream that is open; and who comes to the door, and what happened there.
+-- What the objects of a run hold at one moment: the two disks; what the judges, the clock and the repositories tell; what is left of the input, and what is written; what the feed gives of each host behind each number, and what is left of the stream that is open; who comes to the door, and what happened there; and the requests of the wire, and what happened on it.
 pub record Place : Type 1 where
   pub one : View
   pub two : View
@@ -155,10 +170,11 @@ pub record Place : Type 1 where
   pub given : List ℕ → ℕ → List (List ℕ)
   pub coming : List (List ℕ)
   pub door : AtDoor
+  pub wire : AtWire
 
-abbrev pub place : View → View → Around → List ℕ → List ℕ → (List ℕ → ℕ → List (List ℕ)) → List (List ℕ) → AtDoor → Place
-place one two around left written given coming door =
-    record { one = one; two = two; around = around; left = left; written = written; given = given; coming = coming; door = door }
+abbrev pub place : View → View → Around → List ℕ → List ℕ → (List ℕ → ℕ → List (List ℕ)) → List (List ℕ) → AtDoor → AtWire → Place
+place one two around left written given coming door wire =
+    record { one = one; two = two; around = around; left = left; written = written; given = given; coming = coming; door = door; wire = wire }
 
 -- the two disks and what is written
 abbrev pub disks : Place → PairView
@@ -184,9 +200,9 @@ pub record Ended (t : OutsideTells) (old new : Place) (status : Status) (Does : 
 abbrev pub IsShown : (List Row → List ℕ) → OutsideTells → Place → Place → Status → Type 0
 IsShown text t old new status = Ended t old new status (λ end. IsOfShowing end × ((new.around ≡ old.around) × ((new.left ≡ old.left) × OnJournal t old (λ J. TextShown t.output J (text J) (disks old) (disks new) end))))
 
--- an account is taken down or restored at a time, of which the clock is asked
+-- an account is taken down or restored at a time, of which the clock is asked; no authority is asked, so none is missing
 abbrev pub RanOperated : List ℕ → Bool → List ℕ → OutsideTells → Place → Place → Status → Type 0
-RanOperated did down time t old new status = Ended t old new status (λ end. (new.around.panel ≡ old.around.panel) × ((new.left ≡ old.left)
+RanOperated did down time t old new status = Ended t old new status (λ end. (end ≢ RunEnd.Fault StoreFault.Authority) × (new.around.panel ≡ old.around.panel) × ((new.left ≡ old.left)
     × OnJournal t old (λ J. CommandRan t.output LONGEST J (new.around.moments ≡ old.around.moments)
     (λ fault. (IsTrue t.clock → OneTaken old.around.moments new.around.moments) × IsCause (Knows J (λ core. EndsBehind core did down)) ⊤ ⊤ ⊤ fault)
     (λ word. Knows J (λ core. OperatedAt t.clock core did down time old.around.moments word new.around.moments)) (disks old) (disks new) end)))
@@ -253,17 +269,63 @@ pub record IsTried (start count : ℕ) (t : OutsideTells) (old new : Place) (sta
   pub second : List ℕ
   pub tried : Tried t.output start count first second old.written new.written end
 
+-- no count rose of the disks and of the output
+abbrev pub IsFlawlessText : Faults → Faults → Type 0
+IsFlawlessText old new = (Rose old.disk new.disk ⊎ Rose old.other new.other → ⊥) × (Rose old.output new.output → ⊥)
+
+-- the lines of operations are written, and all of them where no count rose, unless memory runs out
+abbrev pub AreLinesGiven : ℕ → Option (List ℕ) → OutsideTells → Place → Place → Faults → Faults → Status → Type 0
+AreLinesGiven cursor collection t old new failed failed_now status = IsGivenOut t old new status (λ end. OnJournal t old (λ J.
+    LinesWritten t.output J collection cursor (disks old) (disks new) end × (IsFlawlessText failed failed_now → MayEndLines end)))
+
+-- Requests were to be answered by the journal, and nothing else was asked or read. The end tells what the disks were; where they failed or have no journal no request was taken and nothing was written.
+pub record IsQueried (count : ℕ) (t : OutsideTells) (old new : Place) (failed failed_now : Faults) (status : Status) : Type 0 where
+  pub end : QueryEnd
+  pub status_is : status ≡ status_of_query end
+  pub had : IsTrue t.disk → QueryHadJournal end old.one.content old.two.content
+  pub quiet : IsOfDisks end → (new.wire ≡ old.wire) × (new.written ≡ old.written)
+  pub unasked : new.around ≡ old.around
+  pub unread : new.left ≡ old.left
+  pub does : OnJournal t old (λ J. AnsweredBy J t.wire t.output count old.wire new.wire (disks old) (disks new) end)
+  -- all is done where no count rose, unless memory runs out
+  pub complete : OnJournal t old (λ J. IsFlawlessText failed failed_now → (Rose failed.wire failed_now.wire → ⊥) → MayEndQuery end)
+
+-- no count rose of what a mirror uses
+abbrev pub IsFlawlessMirror : Faults → Faults → Type 0
+IsFlawlessMirror old new = NoneOfMirror (Rose old.input new.input) (Rose old.output new.output) (Rose old.repos new.repos)
+
+-- The stream on the input was to be mirrored, and ended so.
+pub record IsMirroredFrom (t : OutsideTells) (old new : Place) (failed failed_now : Faults) (status : Status) : Type 0 where
+  pub end : MirrorEnd
+  pub status_is : status ≡ status_of_mirror end
+  pub does : Mirrored t.input t.output t.repos LONGEST old.around.repository old.left old.written new.written end
+  -- a whole stream is mirrored where nothing fails, unless memory runs out; of another the place is told
+  pub complete : IsTrue t.input → length old.left < LONGEST → IsFlawlessMirror failed failed_now
+      → (messages : List (List ℕ)) → BeginWith old.left messages [] → MayEndMirror end
+  pub bad : IsTrue t.input → length old.left < LONGEST → IsFlawlessMirror failed failed_now
+      → (messages : List (List ℕ)) → (rest : List ℕ) → BeginWith old.left messages rest → IsBadBehind messages rest
+      → (end ≡ MirrorEnd.BadStream (length (with_length messages))) ⊎ (end ≡ MirrorEnd.Memory)
+
 -- whether a command works on the journal
 abbrev pub is_on_journal : Command → Bool
 is_on_journal Command.Check = false
 is_on_journal (Command.Trial start count) = false
+is_on_journal Command.Mirror = false
 is_on_journal command = true
 
--- whether a command reads the input, asks the feed, or the door
+-- whether a command reads the input, asks the repositories, the feed, the door or the wire
 abbrev pub uses_input : Command → Bool
 uses_input Command.Check = true
 uses_input Command.Ingest = true
+uses_input Command.Mirror = true
 uses_input command = false
+
+abbrev pub uses_repos : Command → Bool
+uses_repos Command.Ingest = true
+uses_repos (Command.Follow host count) = true
+uses_repos (Command.Sync did time) = true
+uses_repos Command.Mirror = true
+uses_repos command = false
 
 abbrev pub uses_feed : Command → Bool
 uses_feed (Command.Follow host count) = true
@@ -272,6 +334,10 @@ uses_feed command = false
 abbrev pub uses_door : Command → Bool
 uses_door (Command.Serve count) = true
 uses_door command = false
+
+abbrev pub uses_wire : Command → Bool
+uses_wire (Command.Query count) = true
+uses_wire command = false
 
 -- What a run of each command does, on disks that are seen so.
 abbrev pub Ran : {D : Type 0} → (D → View) → OutsideTells → Place → Place → Faults → Faults → Status → Command → Type 0
@@ -288,3 +354,6 @@ Ran view t old new failed failed_now status (Command.Follow host count) = IsFoll
 Ran view t old new failed failed_now status (Command.Replay cursor) = IsGivenOut t old new status (λ end. OnJournal t old (λ J. Replayed t.output J cursor (disks old) (disks new) end))
 Ran view t old new failed failed_now status (Command.Serve count) = IsGivenOut t old new status (λ end. OnJournal t old (λ J. ServedAt t.door t.output count J old.door new.door (disks old) (disks new) end))
 Ran view t old new failed failed_now status (Command.Trial start count) = IsTried start count t old new status
+Ran view t old new failed failed_now status Command.Mirror = IsMirroredFrom t old new failed failed_now status
+Ran view t old new failed failed_now status (Command.Query count) = IsQueried count t old new failed failed_now status
+Ran view t old new failed failed_now status (Command.Lines cursor collection) = AreLinesGiven cursor collection t old new failed failed_now status

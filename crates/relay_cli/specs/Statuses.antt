@@ -2,6 +2,8 @@
 use Rattle.std.specs.Prelude.{ℕ}
 use Rattle.at_event.specs.Refusals.{code_of}
 use Rattle.follow_run.specs.declared.end.FeedEnd.{FeedEnd}
+use Rattle.mirror_run.specs.declared.end.MirrorEnd.{MirrorEnd}
+use Rattle.query_run.specs.declared.end.QueryEnd.{QueryEnd}
 use Rattle.relay_run.specs.declared.end.RunEnd.{RunEnd}
 use Rattle.relay_store.specs.declared.fault.StoreFault.{StoreFault}
 use Rattle.serve_run.specs.declared.end.ServeEnd.{ServeEnd}
@@ -28,6 +30,8 @@ code_of_status Status.TooLong = 13
 code_of_status Status.Memory = 14
 code_of_status (Status.Refused code) = 15
 code_of_status Status.Clock = 17
+code_of_status (Status.BadStream place) = 18
+code_of_status Status.Wire = 19
 
 -- how a run ends that came to this verdict
 abbrev pub status_of : CheckVerdict → Status
@@ -85,3 +89,22 @@ abbrev pub status_of_trial : TrialEnd → Status
 status_of_trial TrialEnd.Done = Status.Done
 status_of_trial TrialEnd.WriteFault = Status.WriteFault
 status_of_trial TrialEnd.Memory = Status.Memory
+
+-- of a stream that is mirrored
+abbrev pub status_of_mirror : MirrorEnd → Status
+status_of_mirror MirrorEnd.Done = Status.Done
+status_of_mirror (MirrorEnd.BadStream place) = Status.BadStream place
+status_of_mirror MirrorEnd.ReadFault = Status.ReadFault
+status_of_mirror MirrorEnd.WriteFault = Status.WriteFault
+status_of_mirror MirrorEnd.Repos = Status.Repos
+status_of_mirror MirrorEnd.TooLong = Status.TooLong
+status_of_mirror MirrorEnd.Memory = Status.Memory
+
+-- of requests that are answered
+abbrev pub status_of_query : QueryEnd → Status
+status_of_query QueryEnd.Done = Status.Done
+status_of_query QueryEnd.WriteFault = Status.WriteFault
+status_of_query QueryEnd.Wire = Status.Wire
+status_of_query QueryEnd.Disk = Status.Disk
+status_of_query (QueryEnd.BadLog place) = Status.BadLog place
+status_of_query QueryEnd.Memory = Status.Memory

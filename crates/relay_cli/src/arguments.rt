@@ -1,14 +1,14 @@
 //! The words of a command behind its first.
-ghost use Rattle.std.specs.Prelude.{◌≡◌, ◌≢◌, ℕ, IfOk, IsErrOf, IsTrue, decimal};
+ghost use Rattle.std.specs.Prelude.{◌≡◌, ◌≢◌, ℕ, List, Option, IfOk, IsErrOf, IsTrue, decimal};
 ghost use Rattle.at_syntax.specs.Did.{is_did};
 ghost use Rattle.at_syntax.specs.Host.{is_host};
 ghost use Rattle.relay_cli.specs.declared.words_fault.WordsFault.{WordsFault};
-ghost use Rattle.relay_cli.specs.Commands.{IsNumber, IsTime};
+ghost use Rattle.relay_cli.specs.Commands.{IsCollection, IsNumber, IsTime, collection_word};
 
 use crate::words_fault::WordsFault;
 use at_cid::Words;
 use at_form::LONGEST_SHORT_TEXT;
-use at_syntax::{did_ok, host_ok};
+use at_syntax::{collection_ok, did_ok, host_ok};
 use itoa::Buffer;
 use std::alloc::Global;
 
@@ -57,4 +57,20 @@ pub fn time_from(alloc: Global, word: &str) -> Result<Words, WordsFault>
         return Err(WordsFault::NoCommand);
     }
     Ok(Words::from_str(alloc, word)?)
+}
+
+/// The collection that a word is, or none where it is `-`, which stands for all.
+pub fn collection_from(alloc: Global, word: &str) -> Result<Option<Words>, WordsFault>
+    ensures collection { IfOk result (λ found. IsCollection found
+        × (word.now ≡ collection_word found)) }
+    ensures none { IsErrOf result WordsFault.NoCommand → (collection : Option (List ℕ))
+        → IsCollection collection → word.now ≢ collection_word collection }
+{
+    if word == "-" {
+        return Ok(None);
+    }
+    if !collection_ok(word) {
+        return Err(WordsFault::NoCommand);
+    }
+    Ok(Some(Words::from_str(alloc, word)?))
 }

@@ -3,13 +3,13 @@ ghost use Rattle.std.specs.Prelude.{◌≡◌, [], ◌∷◌, IfOk, IsErrOf, map
 ghost use Rattle.relay_cli.specs.declared.words_fault.WordsFault.{WordsFault};
 ghost use Rattle.relay_cli.specs.Commands.{IsOf, IsEncoded};
 
-use crate::arguments::{did_from, host_from, number_from, time_from};
+use crate::arguments::{collection_from, did_from, host_from, number_from, time_from};
 use crate::verb::{Verb, verb_from};
 use crate::words_fault::WordsFault;
 use at_cid::{NUMBERS, Words};
 use std::alloc::Global;
 
-/// The greatest count of messages or guests.
+/// The greatest count of messages, guests or requests.
 pub const MOST: u64 = 1_000_000;
 
 /// The greatest count of messages of a trial.
@@ -42,6 +42,12 @@ pub enum Command {
     Cut(u64),
     /// Runs so many made messages from this start, in two merges.
     Trial(u64, u64),
+    /// Mirrors the stream on the input.
+    Mirror,
+    /// Answers so many requests.
+    Query(u64),
+    /// Writes the operations behind this number as lines of JSON: those on records of this collection, or all.
+    Lines(u64, Option<Words>),
 }
 
 /// The command that the words are.
@@ -75,6 +81,7 @@ fn alone(verb: Verb) -> Result<Command, WordsFault>
         Verb::Check => Ok(Command::Check),
         Verb::Ingest => Ok(Command::Ingest),
         Verb::Hosts => Ok(Command::Hosts),
+        Verb::Mirror => Ok(Command::Mirror),
         _ => Err(WordsFault::NoCommand),
     }
 }
@@ -89,6 +96,7 @@ fn with_one(alloc: Global, verb: Verb, one: &str) -> Result<Command, WordsFault>
         Verb::Serve => Ok(Command::Serve(number_from(one, 1, MOST)?)),
         Verb::Account => Ok(Command::Account(did_from(alloc, one)?)),
         Verb::Cut => Ok(Command::Cut(number_from(one, 0, NUMBERS - 1)?)),
+        Verb::Query => Ok(Command::Query(number_from(one, 1, MOST)?)),
         _ => Err(WordsFault::NoCommand),
     }
 }
@@ -110,6 +118,10 @@ fn with_two(alloc: Global, verb: Verb, one: &str, other: &str) -> Result<Command
         Verb::Takedown => Ok(Command::Takedown(did_from(alloc, one)?, time_from(alloc, other)?)),
         Verb::Restore => Ok(Command::Restore(did_from(alloc, one)?, time_from(alloc, other)?)),
         Verb::Sync => Ok(Command::Sync(did_from(alloc, one)?, time_from(alloc, other)?)),
+        Verb::Lines => {
+            let cursor = number_from(one, 0, NUMBERS - 1)?;
+            Ok(Command::Lines(cursor, collection_from(alloc, other)?))
+        }
         _ => Err(WordsFault::NoCommand),
     }
 }

@@ -23,6 +23,9 @@ The words, and what they do:
   sync DID TIME          fetches an account's whole repository, and takes it over
   cut SEQ                takes the events up to a number out of the journal
   trial START N          takes N made messages into two journals in memory
+  mirror                 prints each account's records, by what replay 0 wrote on the input
+  query N                answers N requests over HTTP, one after another, on 127.0.0.1 port 2471
+  lines CURSOR COLL      writes the operations behind a number as lines of JSON, of a collection or all (-)
 
 The files of DIR:
   log, log.2             the journal, on the one or the other
@@ -39,8 +42,9 @@ The statuses:
    4  writing the output failed             14  there was no memory
    5  a disk failed                         15  refused, as the line says
    6  no authority of a method is left      17  the clock can't be read
-   7  reading a repository failed
-   8  the host can't be reached
+   7  reading a repository failed          18  the stream has something else than
+   8  the host can't be reached                a message
+                                           19  requests can't be taken
 ";
 
 /// What a status means, and what to do, in a line; none where all was done.
@@ -76,6 +80,12 @@ pub fn advice(status: Status) -> Option<&'static str> {
         Status::Refused(_) => Some("refused: the line says why"),
         Status::Clock => Some(
             "the clock can't be read: mend the machine's clock, and run it again",
+        ),
+        Status::BadStream(_) => Some(
+            "the stream has something else than a message: look at how it was cut or copied",
+        ),
+        Status::Wire => Some(
+            "requests can't be taken: see that the port is free, and run it again",
         ),
     }
 }

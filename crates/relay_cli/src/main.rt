@@ -7,7 +7,6 @@ mod command;
 mod help;
 mod judging;
 mod parts;
-mod progress;
 mod report;
 mod running;
 mod status;
@@ -19,8 +18,8 @@ use at_authority::Panel;
 use at_cid::Memory;
 pub use checking::check;
 use help::{HELP, VERSION, advice};
-use parts::{TABLES, authority_in, disk_in, repos_in};
-use progress::{Counted, Watched};
+use parts::{TABLES, authority_in};
+use program_parts::{Counted, Watched, disk_in, repos_in};
 use relay_io::{ReaderSource, SystemClock, WriterSink, write_all};
 pub use running::relay;
 pub use status::Status;
@@ -28,12 +27,20 @@ use std::cell::Cell;
 use std::env;
 use std::io::IsTerminal;
 use std::process::ExitCode;
-use ws_edge::{DOOR_PORT, WsDoor, WsFeed};
+use ws_edge::{DOOR_PORT, TcpWire, WIRE_PORT, WsDoor, WsFeed};
 
 // Whether the words are those of a run that writes a report, of which it is said how far it is.
 fn is_reported(words: &[String]) -> bool {
     match words.first() {
         Some(word) => matches!(word.as_str(), "ingest" | "follow"),
+        None => false,
+    }
+}
+
+// Whether the words are those of a run that reads all of its input first, of which it is said how far that is.
+fn is_mirrored(words: &[String]) -> bool {
+    match words.first() {
+        Some(word) => word.as_str() == "mirror",
         None => false,
     }
 }
@@ -50,10 +57,16 @@ fn run_in(rt: &HostRuntime, folder: &str, words: &[String]) -> Result<Status, Me
     let mut other = disk_in(rt, folder, "log.2")?;
     let mut clock = SystemClock::new(rt);
     let taken = Cell::new(0);
-    let mut input = Counted::new(ReaderSource::new(rt.stdin()), &taken);
+    let mut input = Counted::new(
+        ReaderSource::new(rt.stdin()),
+        rt,
+        &taken,
+        is_mirrored(words),
+    );
     let mut out = Watched::new(WriterSink::new(rt.stdout()), rt, &taken, is_reported(words));
     let mut feed = WsFeed::new(rt.alloc(), rt);
     let mut door = WsDoor::new(rt.alloc(), rt, DOOR_PORT);
+    let mut wire = TcpWire::new(rt, WIRE_PORT);
     let status = relay(
         rt.alloc(),
         words,
@@ -66,7 +79,9 @@ fn run_in(rt: &HostRuntime, folder: &str, words: &[String]) -> Result<Status, Me
         &mut out,
         &mut door,
         &mut clock,
+        &mut wire,
     );
+    input.end();
     out.end();
     Ok(status)
 }

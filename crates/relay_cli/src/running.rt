@@ -1,19 +1,24 @@
 //! The top call.
-ghost use Rattle.std.specs.Prelude.{◌≡◌, ◌⊎◌, map, string_bytes, false};
+ghost use Rattle.std.specs.Prelude.{◌≡◌, ◌⊎◌, map, option_map, string_bytes, false};
 ghost use Rattle.relay_step.specs.Around.{around};
 ghost use Rattle.relay_cli.specs.Commands.{IsInForm, IsEncoded};
+ghost use Rattle.query_run.specs.AtWire.{at_wire};
 ghost use Rattle.serve_run.specs.AtDoor.{at_door};
-ghost use Rattle.relay_cli.specs.Runs.{Caused, Kept, Ran, faults, is_on_journal, place, outside_tells, uses_door, uses_feed, uses_input};
+ghost use Rattle.relay_cli.specs.Runs.{Caused, Kept, Ran, faults, is_on_journal, place, outside_tells, uses_door, uses_feed, uses_input, uses_repos, uses_wire};
 
 use crate::checking::check;
 use crate::command::{Command, command_from};
 use crate::status::Status;
 use crate::words_fault::WordsFault;
 use at_authority::Judges;
+use at_cid::Words;
 use follow_run::follow;
 use ingest_run::ingest;
+use lines_run::lines;
+use mirror_run::mirror;
+use query_run::query;
 use relay_disk::Disk;
-use relay_io::{Clock, Door, Feed, LONGEST_FEED_MESSAGE, Repos, Sink, Source};
+use relay_io::{Clock, Door, Feed, LONGEST_FEED_MESSAGE, Repos, Sink, Source, Wire};
 use relay_run::{account, cut, hosts, operate, sync};
 use relay_store::LONGEST;
 use serve_run::{replay, serve};
@@ -21,7 +26,7 @@ use std::alloc::Global;
 use trial_run::trial;
 
 /// Does what the words say.
-pub fn relay<P: Judges, F: Feed, R: Repos, D: Disk, I: Source, O: Sink, G: Door, C: Clock>(
+pub fn relay<P: Judges, F: Feed, R: Repos, D: Disk, I: Source, O: Sink, G: Door, C: Clock, W: Wire>(
     alloc: Global,
     words: &[String],
     panel: &mut P,
@@ -33,42 +38,92 @@ pub fn relay<P: Judges, F: Feed, R: Repos, D: Disk, I: Source, O: Sink, G: Door,
     out: &mut O,
     door: &mut G,
     clock: &mut C,
+    wire: &mut W,
 ) -> Status
     // What the words say is done, unless memory runs out for the words.
-    ensures ran { ((command : Command) → IsEncoded (map string_bytes words.now) command → Ran D.view (outside_tells D.tells C.tells R.tells I.tells O.tells F.tells G.tells)
-        (place (D.view disk.old) (D.view other.old) (around (P.panel panel.old) (C.moments clock.old) (R.repository repos.old)) (I.left input.old) (O.written out.old) (F.behind feed.old) (F.left feed.old) (at_door (G.guests door.old) (G.turns door.old) (G.session_faults door.old)))
-        (place (D.view disk.new) (D.view other.new) (around (P.panel panel.new) (C.moments clock.new) (R.repository repos.new)) (I.left input.new) (O.written out.new) (F.behind feed.new) (F.left feed.new) (at_door (G.guests door.new) (G.turns door.new) (G.session_faults door.new)))
-        (faults (D.view disk.old).faults (D.view other.old).faults (R.faults repos.old) (C.faults clock.old) (I.faults input.old) (O.faults out.old) (F.faults feed.old) (G.faults door.old))
-        (faults (D.view disk.new).faults (D.view other.new).faults (R.faults repos.new) (C.faults clock.new) (I.faults input.new) (O.faults out.new) (F.faults feed.new) (G.faults door.new)) result command)
-        ⊎ ((result ≡ Status.Memory) × ((panel.new ≡ panel.old) × ((repos.new ≡ repos.old) × ((disk.new ≡ disk.old) × ((other.new ≡ other.old) × ((input.new ≡ input.old) × ((out.new ≡ out.old) × ((clock.new ≡ clock.old) × ((feed.new ≡ feed.old) × (door.new ≡ door.old)))))))))) }
+    ensures ran { let tells = outside_tells D.tells C.tells R.tells I.tells O.tells F.tells G.tells W.tells in
+        let before = place (D.view disk.old) (D.view other.old)
+        (around (P.panel panel.old) (C.moments clock.old) (R.repository repos.old))
+        (I.left input.old) (O.written out.old) (F.behind feed.old) (F.left feed.old)
+        (at_door (G.guests door.old) (G.turns door.old) (G.session_faults door.old))
+        (at_wire (W.requests wire.old) (W.exchanges wire.old) (W.send_faults wire.old)) in
+        let after = place (D.view disk.new) (D.view other.new)
+        (around (P.panel panel.new) (C.moments clock.new) (R.repository repos.new))
+        (I.left input.new) (O.written out.new) (F.behind feed.new) (F.left feed.new)
+        (at_door (G.guests door.new) (G.turns door.new) (G.session_faults door.new))
+        (at_wire (W.requests wire.new) (W.exchanges wire.new) (W.send_faults wire.new)) in
+        let failed = faults (D.view disk.old).faults (D.view other.old).faults
+        (R.faults repos.old) (C.faults clock.old) (I.faults input.old) (O.faults out.old)
+        (F.faults feed.old) (G.faults door.old) (W.faults wire.old) in
+        let failed_now = faults (D.view disk.new).faults (D.view other.new).faults
+        (R.faults repos.new) (C.faults clock.new) (I.faults input.new) (O.faults out.new)
+        (F.faults feed.new) (G.faults door.new) (W.faults wire.new) in
+        ((command : Command) → IsEncoded (map string_bytes words.now) command
+        → Ran D.view tells before after failed failed_now result command)
+        ⊎ ((result ≡ Status.Memory) × (panel.new ≡ panel.old) × (repos.new ≡ repos.old)
+        × (disk.new ≡ disk.old) × (other.new ≡ other.old) × (input.new ≡ input.old)
+        × (out.new ≡ out.old) × (clock.new ≡ clock.old) × (feed.new ≡ feed.old)
+        × (door.new ≡ door.old) × (wire.new ≡ wire.old)) }
 
-    // `check` works on its streams alone, and `trial` on the output alone. Words that are no command touch nothing.
-    ensures alone { ((command : Command) → IsEncoded (map string_bytes words.now) command → is_on_journal command ≡ false)
-        → (panel.new ≡ panel.old) × ((repos.new ≡ repos.old) × ((disk.new ≡ disk.old) × ((other.new ≡ other.old) × (clock.new ≡ clock.old)))) }
-    ensures unread { ((command : Command) → IsEncoded (map string_bytes words.now) command → uses_input command ≡ false) → input.new ≡ input.old }
-    ensures unwritten { ((command : Command) → IsEncoded (map string_bytes words.now) command → ⊥) → out.new ≡ out.old }
-    ensures unasked_feed { ((command : Command) → IsEncoded (map string_bytes words.now) command → uses_feed command ≡ false) → feed.new ≡ feed.old }
-    ensures unasked_door { ((command : Command) → IsEncoded (map string_bytes words.now) command → uses_door command ≡ false) → door.new ≡ door.old }
-    ensures no_command { ((command : Command) → IsEncoded (map string_bytes words.now) command → ⊥) → (result ≡ Status.Usage) ⊎ (result ≡ Status.Memory) }
-    ensures usage { result ≡ Status.Usage → (command : Command) → IsEncoded (map string_bytes words.now) command → ⊥ }
+    // What a command has no use for is left alone. Words that are no command touch nothing.
+    ensures alone { ((command : Command) → IsEncoded (map string_bytes words.now) command
+        → is_on_journal command ≡ false)
+        → (panel.new ≡ panel.old) × (disk.new ≡ disk.old) × (other.new ≡ other.old)
+        × (clock.new ≡ clock.old) }
+    ensures unread { ((command : Command) → IsEncoded (map string_bytes words.now) command
+        → uses_input command ≡ false) → input.new ≡ input.old }
+    ensures unwritten { ((command : Command) → IsEncoded (map string_bytes words.now) command
+        → ⊥) → out.new ≡ out.old }
+    ensures unfetched { ((command : Command) → IsEncoded (map string_bytes words.now) command
+        → uses_repos command ≡ false) → repos.new ≡ repos.old }
+    ensures unasked_feed { ((command : Command) → IsEncoded (map string_bytes words.now) command
+        → uses_feed command ≡ false) → feed.new ≡ feed.old }
+    ensures unasked_door { ((command : Command) → IsEncoded (map string_bytes words.now) command
+        → uses_door command ≡ false) → door.new ≡ door.old }
+    ensures unasked_wire { ((command : Command) → IsEncoded (map string_bytes words.now) command
+        → uses_wire command ≡ false) → wire.new ≡ wire.old }
+    ensures no_command { ((command : Command) → IsEncoded (map string_bytes words.now) command
+        → ⊥) → (result ≡ Status.Usage) ⊎ (result ≡ Status.Memory) }
+    ensures usage { result ≡ Status.Usage
+        → (command : Command) → IsEncoded (map string_bytes words.now) command → ⊥ }
 
     // A status that speaks of a failure comes only where a count of failures rose, and no count falls.
-    ensures caused { Caused result (faults (D.view disk.old).faults (D.view other.old).faults (R.faults repos.old) (C.faults clock.old) (I.faults input.old) (O.faults out.old) (F.faults feed.old) (G.faults door.old))
-        (faults (D.view disk.new).faults (D.view other.new).faults (R.faults repos.new) (C.faults clock.new) (I.faults input.new) (O.faults out.new) (F.faults feed.new) (G.faults door.new)) }
-    ensures counts { Kept (faults (D.view disk.old).faults (D.view other.old).faults (R.faults repos.old) (C.faults clock.old) (I.faults input.old) (O.faults out.old) (F.faults feed.old) (G.faults door.old))
-        (faults (D.view disk.new).faults (D.view other.new).faults (R.faults repos.new) (C.faults clock.new) (I.faults input.new) (O.faults out.new) (F.faults feed.new) (G.faults door.new)) }
+    ensures caused { let failed = faults (D.view disk.old).faults (D.view other.old).faults
+        (R.faults repos.old) (C.faults clock.old) (I.faults input.old) (O.faults out.old)
+        (F.faults feed.old) (G.faults door.old) (W.faults wire.old) in
+        let failed_now = faults (D.view disk.new).faults (D.view other.new).faults
+        (R.faults repos.new) (C.faults clock.new) (I.faults input.new) (O.faults out.new)
+        (F.faults feed.new) (G.faults door.new) (W.faults wire.new) in
+        Caused result failed failed_now }
+    ensures counts { let failed = faults (D.view disk.old).faults (D.view other.old).faults
+        (R.faults repos.old) (C.faults clock.old) (I.faults input.old) (O.faults out.old)
+        (F.faults feed.old) (G.faults door.old) (W.faults wire.old) in
+        let failed_now = faults (D.view disk.new).faults (D.view other.new).faults
+        (R.faults repos.new) (C.faults clock.new) (I.faults input.new) (O.faults out.new)
+        (F.faults feed.new) (G.faults door.new) (W.faults wire.new) in
+        Kept failed failed_now }
 {
     match command_from(alloc, words) {
         Ok(command) => run(
-            alloc, &command, panel, feed, repos, disk, other, input, out, door, clock,
+            alloc, &command, panel, feed, repos, disk, other, input, out, door, clock, wire,
         ),
         Err(WordsFault::NoCommand) => Status::Usage,
         Err(WordsFault::Memory) => Status::Memory,
     }
 }
 
+// The text of a collection, where one is named.
+fn text_in(collection: &Option<Words>) -> Option<&str>
+    ensures { option_map (λ text. text.now) result ≡ collection.now }
+{
+    match collection {
+        Some(collection) => Some(collection.as_str()),
+        None => None,
+    }
+}
+
 // Runs a command.
-fn run<P: Judges, F: Feed, R: Repos, D: Disk, I: Source, O: Sink, G: Door, C: Clock>(
+fn run<P: Judges, F: Feed, R: Repos, D: Disk, I: Source, O: Sink, G: Door, C: Clock, W: Wire>(
     alloc: Global,
     command: &Command,
     panel: &mut P,
@@ -80,22 +135,50 @@ fn run<P: Judges, F: Feed, R: Repos, D: Disk, I: Source, O: Sink, G: Door, C: Cl
     out: &mut O,
     door: &mut G,
     clock: &mut C,
+    wire: &mut W,
 ) -> Status
     requires form { IsInForm command.now }
-    ensures ran { Ran D.view (outside_tells D.tells C.tells R.tells I.tells O.tells F.tells G.tells)
-        (place (D.view disk.old) (D.view other.old) (around (P.panel panel.old) (C.moments clock.old) (R.repository repos.old)) (I.left input.old) (O.written out.old) (F.behind feed.old) (F.left feed.old) (at_door (G.guests door.old) (G.turns door.old) (G.session_faults door.old)))
-        (place (D.view disk.new) (D.view other.new) (around (P.panel panel.new) (C.moments clock.new) (R.repository repos.new)) (I.left input.new) (O.written out.new) (F.behind feed.new) (F.left feed.new) (at_door (G.guests door.new) (G.turns door.new) (G.session_faults door.new)))
-        (faults (D.view disk.old).faults (D.view other.old).faults (R.faults repos.old) (C.faults clock.old) (I.faults input.old) (O.faults out.old) (F.faults feed.old) (G.faults door.old))
-        (faults (D.view disk.new).faults (D.view other.new).faults (R.faults repos.new) (C.faults clock.new) (I.faults input.new) (O.faults out.new) (F.faults feed.new) (G.faults door.new)) result command.now }
-    ensures alone { is_on_journal command.now ≡ false → (panel.new ≡ panel.old) × ((repos.new ≡ repos.old) × ((disk.new ≡ disk.old) × ((other.new ≡ other.old) × (clock.new ≡ clock.old)))) }
+    ensures ran { let tells = outside_tells D.tells C.tells R.tells I.tells O.tells F.tells G.tells W.tells in
+        let before = place (D.view disk.old) (D.view other.old)
+        (around (P.panel panel.old) (C.moments clock.old) (R.repository repos.old))
+        (I.left input.old) (O.written out.old) (F.behind feed.old) (F.left feed.old)
+        (at_door (G.guests door.old) (G.turns door.old) (G.session_faults door.old))
+        (at_wire (W.requests wire.old) (W.exchanges wire.old) (W.send_faults wire.old)) in
+        let after = place (D.view disk.new) (D.view other.new)
+        (around (P.panel panel.new) (C.moments clock.new) (R.repository repos.new))
+        (I.left input.new) (O.written out.new) (F.behind feed.new) (F.left feed.new)
+        (at_door (G.guests door.new) (G.turns door.new) (G.session_faults door.new))
+        (at_wire (W.requests wire.new) (W.exchanges wire.new) (W.send_faults wire.new)) in
+        let failed = faults (D.view disk.old).faults (D.view other.old).faults
+        (R.faults repos.old) (C.faults clock.old) (I.faults input.old) (O.faults out.old)
+        (F.faults feed.old) (G.faults door.old) (W.faults wire.old) in
+        let failed_now = faults (D.view disk.new).faults (D.view other.new).faults
+        (R.faults repos.new) (C.faults clock.new) (I.faults input.new) (O.faults out.new)
+        (F.faults feed.new) (G.faults door.new) (W.faults wire.new) in
+        Ran D.view tells before after failed failed_now result command.now }
+    ensures alone { is_on_journal command.now ≡ false
+        → (panel.new ≡ panel.old) × (disk.new ≡ disk.old) × (other.new ≡ other.old)
+        × (clock.new ≡ clock.old) }
     ensures unread { uses_input command.now ≡ false → input.new ≡ input.old }
+    ensures unfetched { uses_repos command.now ≡ false → repos.new ≡ repos.old }
     ensures unasked_feed { uses_feed command.now ≡ false → feed.new ≡ feed.old }
     ensures unasked_door { uses_door command.now ≡ false → door.new ≡ door.old }
+    ensures unasked_wire { uses_wire command.now ≡ false → wire.new ≡ wire.old }
     ensures no_usage { result ≡ Status.Usage → ⊥ }
-    ensures caused { Caused result (faults (D.view disk.old).faults (D.view other.old).faults (R.faults repos.old) (C.faults clock.old) (I.faults input.old) (O.faults out.old) (F.faults feed.old) (G.faults door.old))
-        (faults (D.view disk.new).faults (D.view other.new).faults (R.faults repos.new) (C.faults clock.new) (I.faults input.new) (O.faults out.new) (F.faults feed.new) (G.faults door.new)) }
-    ensures counts { Kept (faults (D.view disk.old).faults (D.view other.old).faults (R.faults repos.old) (C.faults clock.old) (I.faults input.old) (O.faults out.old) (F.faults feed.old) (G.faults door.old))
-        (faults (D.view disk.new).faults (D.view other.new).faults (R.faults repos.new) (C.faults clock.new) (I.faults input.new) (O.faults out.new) (F.faults feed.new) (G.faults door.new)) }
+    ensures caused { let failed = faults (D.view disk.old).faults (D.view other.old).faults
+        (R.faults repos.old) (C.faults clock.old) (I.faults input.old) (O.faults out.old)
+        (F.faults feed.old) (G.faults door.old) (W.faults wire.old) in
+        let failed_now = faults (D.view disk.new).faults (D.view other.new).faults
+        (R.faults repos.new) (C.faults clock.new) (I.faults input.new) (O.faults out.new)
+        (F.faults feed.new) (G.faults door.new) (W.faults wire.new) in
+        Caused result failed failed_now }
+    ensures counts { let failed = faults (D.view disk.old).faults (D.view other.old).faults
+        (R.faults repos.old) (C.faults clock.old) (I.faults input.old) (O.faults out.old)
+        (F.faults feed.old) (G.faults door.old) (W.faults wire.old) in
+        let failed_now = faults (D.view disk.new).faults (D.view other.new).faults
+        (R.faults repos.new) (C.faults clock.new) (I.faults input.new) (O.faults out.new)
+        (F.faults feed.new) (G.faults door.new) (W.faults wire.new) in
+        Kept failed failed_now }
 {
     match command {
         Command::Check => check(alloc, LONGEST_FEED_MESSAGE, input, out),
@@ -134,5 +217,13 @@ fn run<P: Judges, F: Feed, R: Repos, D: Disk, I: Source, O: Sink, G: Door, C: Cl
             Status::from(serve(alloc, LONGEST, *count, disk, other, door, out))
         }
         Command::Trial(start, count) => Status::from(trial(alloc, *start, *count, out)),
+        Command::Mirror => Status::from(mirror(alloc, LONGEST, input, repos, out)),
+        Command::Query(count) => {
+            Status::from(query(alloc, LONGEST, *count, disk, other, wire, out))
+        }
+        Command::Lines(cursor, collection) => {
+            let collection = text_in(collection);
+            Status::from(lines(alloc, LONGEST, disk, other, *cursor, collection, out))
+        }
     }
 }

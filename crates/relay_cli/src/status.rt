@@ -3,13 +3,15 @@ ghost use Rattle.std.specs.Prelude.{◌≡◌};
 ghost use Rattle.relay_cli.specs.Statuses.{code_of_status};
 
 use follow_run::FeedEnd;
+use mirror_run::MirrorEnd;
+use query_run::QueryEnd;
 use relay_run::RunEnd;
 use relay_store::StoreFault;
 use serve_run::ServeEnd;
 use tape_run::TapeEnd;
 use trial_run::TrialEnd;
 
-/// How a run ended. A place or an end is in bytes from the front of its tape or log.
+/// How a run ended. A place or an end is in bytes from the front of its tape, stream or log.
 #[derive(Clone, Copy, Debug, PartialEq, Eq)]
 pub enum Status {
     /// All was done, and all that is to be written was written.
@@ -46,6 +48,10 @@ pub enum Status {
     Refused(u8),
     /// A call of the clock failed.
     Clock,
+    /// What stands in the stream from this place on is no message that can be taken.
+    BadStream(u64),
+    /// The wire didn't give the next request.
+    Wire,
 }
 
 impl Status {
@@ -71,6 +77,8 @@ impl Status {
             Status::Memory => 14,
             Status::Refused(_) => 15,
             Status::Clock => 17,
+            Status::BadStream(_) => 18,
+            Status::Wire => 19,
         }
     }
 }
@@ -170,6 +178,41 @@ impl From<TrialEnd> for Status {
             TrialEnd::Done => Status::Done,
             TrialEnd::WriteFault => Status::WriteFault,
             TrialEnd::Memory => Status::Memory,
+        }
+    }
+}
+
+impl From<MirrorEnd> for Status {
+    ghost use Rattle.relay_cli.specs.Statuses.{status_of_mirror};
+
+    ghost from_gives = { λ end status. status ≡ status_of_mirror end };
+
+    fn from(end: MirrorEnd) -> Status {
+        match end {
+            MirrorEnd::Done => Status::Done,
+            MirrorEnd::BadStream(place) => Status::BadStream(place),
+            MirrorEnd::ReadFault => Status::ReadFault,
+            MirrorEnd::WriteFault => Status::WriteFault,
+            MirrorEnd::Repos => Status::Repos,
+            MirrorEnd::TooLong => Status::TooLong,
+            MirrorEnd::Memory => Status::Memory,
+        }
+    }
+}
+
+impl From<QueryEnd> for Status {
+    ghost use Rattle.relay_cli.specs.Statuses.{status_of_query};
+
+    ghost from_gives = { λ end status. status ≡ status_of_query end };
+
+    fn from(end: QueryEnd) -> Status {
+        match end {
+            QueryEnd::Done => Status::Done,
+            QueryEnd::WriteFault => Status::WriteFault,
+            QueryEnd::Wire => Status::Wire,
+            QueryEnd::Disk => Status::Disk,
+            QueryEnd::BadLog(place) => Status::BadLog(place),
+            QueryEnd::Memory => Status::Memory,
         }
     }
 }

@@ -17,6 +17,9 @@ pub enum Verb {
     Sync,
     Cut,
     Trial,
+    Mirror,
+    Query,
+    Lines,
 }
 
 /// The command that a first word is of.
@@ -47,6 +50,12 @@ pub fn verb_from(word: &str) -> Option<Verb>
         Some(Verb::Cut)
     } else if word == "trial" {
         Some(Verb::Trial)
+    } else if word == "mirror" {
+        Some(Verb::Mirror)
+    } else if word == "query" {
+        Some(Verb::Query)
+    } else if word == "lines" {
+        Some(Verb::Lines)
     } else {
         None
     }

@@ -12,17 +12,82 @@ const FIRST: u64 = 2_000;
 /// And how many from one time to the next.
 const NEXT: u64 = 500;
 
-/// A source that counts the bytes that are taken of it.
+/// When something is to be said: never where standard error is no terminal, and else from time to time.
+#[derive(Drop)]
+struct Pace<'a> {
+    rt: &'a HostRuntime,
+    start: Option<Instant>,
+    due: u64,
+    said: bool,
+}
+
+impl<'a> Pace<'a> {
+    fn new(rt: &'a HostRuntime, is_told: bool) -> Self {
+        let start = if is_told && rt.stderr().is_terminal() {
+            Instant::now(rt).ok()
+        } else {
+            None
+        };
+        Pace {
+            rt,
+            start,
+            due: FIRST,
+            said: false,
+        }
+    }
+
+    // The milliseconds since the start, where it is time to say something.
+    fn is_due(&mut self) -> Option<u64> {
+        let gone = self.start?.elapsed(self.rt).ok()?;
+        let gone = u64::try_from(gone.as_millis()).ok()?;
+        if gone < self.due {
+            return None;
+        }
+        self.due = gone.saturating_add(NEXT);
+        self.said = true;
+        Some(gone)
+    }
+
+    // Ends the line on the terminal, if there is one.
+    fn end(&self) {
+        if self.said {
+            let _ = eprintln!(self.rt; "");
+        }
+    }
+}
+
+/// A source that counts the bytes that are taken of it, and says from time to time how many they are.
 #[derive(Drop)]
 pub struct Counted<'a, I: Source> {
     input: I,
     taken: &'a Cell<u64>,
+    pace: Pace<'a>,
 }
 
 impl<'a, I: Source> Counted<'a, I> {
-    /// The same source.
-    pub fn new(input: I, taken: &'a Cell<u64>) -> Self {
-        Counted { input, taken }
+    /// The same source. Nothing is said unless `is_told`.
+    pub fn new(input: I, rt: &'a HostRuntime, taken: &'a Cell<u64>, is_told: bool) -> Self {
+        Counted {
+            input,
+            taken,
+            pace: Pace::new(rt, is_told),
+        }
+    }
+
+    /// Ends the line on the terminal, if there is one.
+    pub fn end(&self) {
+        self.pace.end();
+    }
+
+    fn tell(&mut self)
+        ensures input { self.new.input ≡ self.old.input }
+    {
+        let Some(gone) = self.pace.is_due() else {
+            return;
+        };
+        let megabytes = self.taken.get() / 1_000_000;
+        let rate = megabytes.saturating_mul(1_000) / gone.max(1);
+        let _ = eprint!(self.pace.rt; "\r{megabytes} MB, {rate} MB a second ");
     }
 }
 
@@ -37,6 +102,7 @@ impl<I: Source> Source for Counted<'_, I> {
         let count = self.input.read(room)?;
         self.taken
             .set(self.taken.get().saturating_add(count as u64));
+        self.tell();
         Ok(count)
     }
 }
@@ -95,62 +161,37 @@ impl Lines {
 #[derive(Drop)]
 pub struct Watched<'a, O: Sink> {
     out: O,
-    rt: &'a HostRuntime,
     taken: &'a Cell<u64>,
     lines: Lines,
-    start: Option<Instant>,
-    due: u64,
-    said: bool,
+    pace: Pace<'a>,
 }
 
 impl<'a, O: Sink> Watched<'a, O> {
     /// The same sink. `taken` are the bytes of the input so far; nothing is said unless `is_reported`.
     pub fn new(out: O, rt: &'a HostRuntime, taken: &'a Cell<u64>, is_reported: bool) -> Self {
-        let start = if is_reported && rt.stderr().is_terminal() {
-            Instant::now(rt).ok()
-        } else {
-            None
-        };
         Watched {
             out,
-            rt,
             taken,
             lines: Lines::new(),
-            start,
-            due: FIRST,
-            said: false,
+            pace: Pace::new(rt, is_reported),
         }
     }
 
     /// Ends the line on the terminal, if there is one.
     pub fn end(&self) {
-        if self.said {
-            let _ = eprintln!(self.rt; "");
-        }
-    }
-
-    // The milliseconds since the start, where it is time to say something.
-    fn is_due(&self) -> Option<u64> {
-        let gone = self.start?.elapsed(self.rt).ok()?;
-        let gone = u64::try_from(gone.as_millis()).ok()?;
-        if gone < self.due {
-            return None;
-        }
-        Some(gone)
+        self.pace.end();
     }
 
     fn tell(&mut self)
         ensures out { self.new.out ≡ self.old.out }
     {
-        let Some(gone) = self.is_due() else {
+        let Some(gone) = self.pace.is_due() else {
             return;
         };
-        self.due = gone.saturating_add(NEXT);
-        self.said = true;
         let lines = self.lines;
         let rate = lines.messages.saturating_mul(1_000) / gone.max(1);
         let megabytes = self.taken.get() / 1_000_000;
-        let _ = eprint!(self.rt;
+        let _ = eprint!(self.pace.rt;
             "\r{} messages, {megabytes} MB, {} events, {} refused, {rate} messages a second ",
             lines.messages, lines.events, lines.refused
         );
@@ -166,7 +207,7 @@ impl<O: Sink> Sink for Watched<'_, O> {
 
     fn write(&mut self, piece: &[u8]) -> Result<usize, Failed> {
         let count = self.out.write(piece)?;
-        if self.start.is_some() && !piece.starts_with(b"end ") {
+        if self.pace.start.is_some() && !piece.starts_with(b"end ") {
             self.lines.read(&piece[..count]);
             self.tell();
         }
