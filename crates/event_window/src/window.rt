@@ -1,6 +1,6 @@
 //! The places of events, in the order of their numbers.
 
-ghost use Rattle.std.specs.Prelude.{◌≡◌, ◌≤◌, ◌<◌, ◌+◌, ◌++◌, ◌∷◌, [], length, drop, slice_get, vec_len, vec_capacity, max, None, IfSome, OnErr, OnOk, true};
+ghost use Rattle.std.specs.Prelude.{◌≡◌, ◌≤◌, ◌<◌, ◌+◌, ◌++◌, ◌∷◌, [], ℕ, length, drop, slice_get, vec_len, vec_capacity, max, None, IfSome, OnErr, OnOk, true};
 ghost use Rattle.event_window.specs.Window.{AreAbove, IsLastUpto, all_above, is_at_most};
 
 use crate::place::Place;
@@ -53,6 +53,13 @@ impl Window {
         Ok(())
     }
 
+    /// All of them.
+    pub fn as_slice(&self) -> &[Place]
+        ensures { result.now ≡ self.now.places }
+    {
+        self.places.as_slice()
+    }
+
     /// For how many more there is room.
     pub fn spare(&self) -> usize
         ensures { result ≡ self.now.spare }
@@ -102,7 +109,8 @@ impl Window {
     /// The places of the numbers above a number, where the numbers rise. They are searched for, unless there are as many as `likely`
     /// says, which is seen at once.
     pub fn above(&self, seq: u64, likely: usize) -> &[Place]
-        ensures { AreAbove 0 self.now.places → result.now ≡ all_above seq self.now.places }
+        ensures above { AreAbove 0 self.now.places → result.now ≡ all_above seq self.now.places }
+        ensures part { (count : ℕ) × (result.now ≡ drop count self.now.places) }
     {
         let places = self.places.as_slice();
         let index = places.len().saturating_sub(likely);

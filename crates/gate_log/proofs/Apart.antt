@@ -34,11 +34,11 @@ module _ (place n m : ℕ) (more : m ≡ n + 1) where
       front : (l : List ℕ) → take place l ≡ take place (take (place + n) l)
       front l = sym (take-take place (place + n) l (omega arith))
 
-  pub wider_moments : (old mid : View) → IsDisk old → Goes (Torn place n) old mid → LeavesOnly (PartOf (Torn place m) old) old mid
-  wider_moments old mid disk goes = weaker _ _ old mid (write_leaves place n old mid disk goes) (λ c from. (from.0, from.1, torn_wider from.0 c from.2))
+  pub wider_moments : (old mid : View) → IsDisk old → IsDisk mid → Goes (Torn place n) old mid → LeavesOnly (PartOf (Torn place m) old) old mid
+  wider_moments old mid disk disk_mid goes = weaker _ _ old mid (write_leaves place n old mid disk disk_mid goes) (λ c from. (from.0, from.1, torn_wider from.0 c from.2))
 
-  pub apart_moments : (old mid new : View) → IsDisk old → Goes (Torn place n) old mid → LeavesOnly (PartOf (Torn (place + n) 1) mid) mid new → LeavesOnly (PartOf (Torn place m) old) old new
-  apart_moments old mid new disk goes run = joined _ old mid new (wider_moments old mid disk goes)
+  pub apart_moments : (old mid new : View) → IsDisk old → IsDisk mid → Goes (Torn place n) old mid → LeavesOnly (PartOf (Torn (place + n) 1) mid) mid new → LeavesOnly (PartOf (Torn place m) old) old new
+  apart_moments old mid new disk disk_mid goes run = joined _ old mid new (wider_moments old mid disk disk_mid goes)
       (weaker _ _ mid new run (λ c from. let back = goes.follows from.0 from.1 in (back.0, back.1, torn_both back.0 from.0 c back.2 from.2)))
 
 -- both done whole

@@ -2,7 +2,7 @@
 use Rattle.std.proofs.Common.{inl, inr, ⊎_elim, ℕ, ◌≤◌, ◌<◌, List, subst, arith}
 use Rattle.relay_disk.specs.Disk.{View, Goes, Same, IsDisk}
 use Rattle.relay_disk.specs.Moments.{LeavesOnly, PairLeavesOnly}
-use Rattle.relay_disk.proofs.Moments.{one_call, unchanged, pair_of}
+use Rattle.relay_disk.proofs.Moments.{read_left, unchanged}
 use Rattle.gate_log.specs.declared.format.Format.{Format}
 use Rattle.gate_log.specs.declared.format.Format.TheVariants as Formats
 use Rattle.gate_log.specs.declared.picking.Side.{Side}
@@ -67,9 +67,11 @@ module _ (side : Side) (f : Format) (bodies others : List (List ℕ)) (end g : �
   -- while the one is only read, and a whole log is built on the other
   pub built_beside : (disk_now other_now : View) → IsDisk disk → Goes Same disk disk_now → LeavesOnly (IsRebuilt other g others) other other_now
       → PairLeavesOnly (IsEitherBeside side bodies others) disk disk_now other other_now
-  built_beside disk_now other_now is goes run =
-      pair_of disk.may_leave (IsRebuilt other g others) (IsEitherBeside side bodies others) disk disk_now other other_now
-      (one_call disk.may_leave Same disk disk_now is goes (λ c left. left) (λ c left. unchanged disk disk_now goes c left)) run each
+  built_beside disk_now other_now is goes run = record {
+    one_later = goes.later;
+    two_later = run.later;
+    each = λ c d left beside. each c d (read_left disk disk_now is goes c left) (run.each d beside);
+  }
 
 -- once it stands, each crash leaves it picked
 pub leaves_new : (side : Side) (f h : Format) (bodies others : List (List ℕ)) (end end_now : ℕ) (disk disk_now other_now : View) → Stands f bodies end disk → Goes Same disk disk_now

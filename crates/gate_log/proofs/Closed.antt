@@ -35,8 +35,8 @@ module _ (format : Format) (bodies : List (List ℕ)) (end : ℕ) (old : View) (
       closed_torn end n from.0 c (omega (arith, builds.ends, made_some format bodies)) from.2 (builds.left from.0 from.1)
 
   -- while records are added
-  pub closed_still : (n : ℕ) (new : View) → IsDisk old → Goes (Torn end n) old new → LeavesOnly IsClosed old new
-  closed_still n new disk goes = one_call IsClosed (Torn end n) old new disk goes builds.left (closed_now n new goes)
+  pub closed_still : (n : ℕ) (new : View) → IsDisk old → IsDisk new → Goes (Torn end n) old new → LeavesOnly IsClosed old new
+  closed_still n new disk disk_now goes = one_call IsClosed (Torn end n) old new disk disk_now goes builds.left (closed_now n new goes)
 
   pub builds_long : length old.content ≡ end + 1
   builds_long = omega (arith, builds.ends, ap length builds.now, ap length (shut_front format bodies (0 ∷ [])), length-append (shut (made format bodies)) (0 ∷ []), shut_long format bodies)

@@ -40,8 +40,8 @@ module _ (bodies : List (List ℕ)) (build : BuildState) (v : View) (has : HasBu
     place_inside = omega (arith, place_is, builds_long _ _ _ _ has.built)
 
     -- while they are written
-    pub closed_writing : (n : ℕ) (w : View) → IsDisk v → Goes (Torn place n) v w → LeavesOnly IsClosed v w
-    closed_writing n w disk goes = closed_still _ _ _ _ has.built n w disk (subst (λ (p : ℕ). Goes (Torn p n) v w) place_is goes)
+    pub closed_writing : (n : ℕ) (w : View) → IsDisk v → IsDisk w → Goes (Torn place n) v w → LeavesOnly IsClosed v w
+    closed_writing n w disk disk_now goes = closed_still _ _ _ _ has.built n w disk disk_now (subst (λ (p : ℕ). Goes (Torn p n) v w) place_is goes)
 
     -- and once they are
     pub all_written : (piece : List ℕ) (w : View) → piece ≡ build.waiting ++ 0 ∷ [] → Goes (Torn place (length piece)) v w

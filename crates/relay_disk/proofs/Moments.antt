@@ -2,15 +2,52 @@
 use Rattle.std.proofs.Common.{◌∙◌, length, inl, inr, ⊎_elim, ℕ, List, refl, sym, subst, arith}
 use Rattle.std.proofs.lemmas.List.{take_all}
 use Rattle.relay_disk.specs.Disk.{View, Goes, IsAsBefore, IsDisk, IsSettled, Torn, Cut, Same}
-use Rattle.relay_disk.specs.Moments.{LeavesOnly, PairLeavesOnly, PartOf}
+use Rattle.relay_disk.specs.Moments.{LeavesOnly, PairLeavesOnly, PartOf, TimeGoesOn}
+
+-- time goes on in a call
+pub time_called : (part : List ℕ → List ℕ → Type 0) (old new : View) → IsDisk old → IsDisk new → Goes part old new → TimeGoesOn old new
+time_called part old new disk disk_now goes = record {
+  later = goes.later;
+  parts = λ t c le left. ⊎_elim (λ was. inl was) (λ now. inr (disk_now.counts_now old.moment c goes.later now)) (goes.nothing_else t c le left);
+  keeps = goes.keeps;
+  since = λ t c le left. ⊎_elim
+      (λ was. goes.keeps t c le (disk.counts_now t c le (disk.only_now c was)))
+      (λ now. disk_now.counts_now t c (omega (arith, le, goes.later)) now)
+      (goes.nothing_else old.moment c (omega arith) left);
+}
+
+-- stands still where there is none
+pub time_here : (v : View) → IsDisk v → TimeGoesOn v v
+time_here v disk = record {
+  later = omega arith;
+  parts = λ t c le left. inl left;
+  keeps = λ t c le was. was;
+  since = λ t c le left. disk.counts_now t c le (disk.only_now c left);
+}
+
+-- and goes on from one moment to the next
+pub time_joined : (old mid new : View) → TimeGoesOn old mid → TimeGoesOn mid new → TimeGoesOn old new
+time_joined old mid new first second = record {
+  later = omega (arith, first.later, second.later);
+  parts = λ t c le left. ⊎_elim
+      (λ was. ⊎_elim (λ early. inl early) (λ then. inr (second.keeps old.moment c first.later then)) (first.parts t c le was))
+      (λ now. inr (second.since old.moment c first.later now))
+      (second.parts t c (omega (arith, le, first.later)) left);
+  keeps = λ t c le was. second.keeps t c (omega (arith, le, first.later)) (first.keeps t c le was);
+  since = λ t c le left. ⊎_elim
+      (λ was. second.keeps t c (omega (arith, le, first.later)) (first.since t c le was))
+      (λ now. second.since t c (omega (arith, le, first.later)) now)
+      (second.parts old.moment c first.later left);
+}
 
 -- one call, before and after which a crash leaves what has P
-pub one_call : (P : List ℕ → Type 0) (part : List ℕ → List ℕ → Type 0) (old new : View) → IsDisk old → Goes part old new
+pub one_call : (P : List ℕ → Type 0) (part : List ℕ → List ℕ → Type 0) (old new : View) → IsDisk old → IsDisk new → Goes part old new
     → ((c : List ℕ) → old.may_leave c → P c) → ((c : List ℕ) → new.may_leave c → P c) → LeavesOnly P old new
-one_call P part old new disk goes before after = record {
+one_call P part old new disk disk_now goes before after = record {
   later = goes.later;
   each = λ c left. ⊎_elim (λ was. before c (disk.only_now c was)) (after c) (goes.nothing_else old.moment c (omega arith) left);
   before = λ t c le left. ⊎_elim (λ was. inl was) (λ now. inr (after c now)) (goes.nothing_else t c le left);
+  time = time_called part old new disk disk_now goes;
 }
 
 -- no call
@@ -19,6 +56,7 @@ no_call P old disk before = record {
   later = omega arith;
   each = λ c left. before c (disk.only_now c left);
   before = λ t c le left. inl left;
+  time = time_here old disk;
 }
 
 -- one run after another
@@ -27,6 +65,7 @@ joined P old mid new first second = record {
   later = omega (arith, first.later, second.later);
   each = λ c left. ⊎_elim (first.each c) (λ has. has) (second.before old.moment c first.later left);
   before = λ t c le left. ⊎_elim (first.before t c le) (λ has. inr has) (second.before t c (omega (arith, le, first.later)) left);
+  time = time_joined old mid new first.time second.time;
 }
 
 -- what has P has Q
@@ -35,6 +74,7 @@ weaker P Q old new run also = record {
   later = run.later;
   each = λ c left. also c (run.each c left);
   before = λ t c le left. ⊎_elim (λ was. inl was) (λ has. inr (also c has)) (run.before t c le left);
+  time = run.time;
 }
 
 -- what a crash may leave after such a call it could leave before
@@ -44,8 +84,8 @@ unchanged old new goes c now =
     subst old.may_leave (sym from.2) from.1
 
 -- a call that does nothing to the bytes, after others
-pub still : (P : List ℕ → Type 0) (old mid new : View) → IsDisk mid → LeavesOnly P old mid → ((c : List ℕ) → mid.may_leave c → P c) → Goes Same mid new → LeavesOnly P old new
-still P old mid new disk run has goes = joined P old mid new run (one_call P Same mid new disk goes has (λ c now. has c (unchanged mid new goes c now)))
+pub still : (P : List ℕ → Type 0) (old mid new : View) → IsDisk mid → IsDisk new → LeavesOnly P old mid → ((c : List ℕ) → mid.may_leave c → P c) → Goes Same mid new → LeavesOnly P old new
+still P old mid new disk disk_now run has goes = joined P old mid new run (one_call P Same mid new disk disk_now goes has (λ c now. has c (unchanged mid new goes c now)))
 
 -- a write that was not done at all
 pub untorn : (place n : ℕ) (bytes : List ℕ) → Torn place n bytes bytes
@@ -56,14 +96,14 @@ pub uncut : (size : ℕ) (old : List ℕ) → Cut size old old
 uncut size old = record { no_shorter = omega arith; front = sym (take_all (length old) old (omega arith)) }
 
 -- a write leaves a part of it
-pub write_leaves : (place n : ℕ) (old new : View) → IsDisk old → Goes (Torn place n) old new → LeavesOnly (PartOf (Torn place n) old) old new
-write_leaves place n old new disk goes =
-    one_call (PartOf (Torn place n) old) (Torn place n) old new disk goes (λ c was. (c, was, untorn place n c)) goes.follows
+pub write_leaves : (place n : ℕ) (old new : View) → IsDisk old → IsDisk new → Goes (Torn place n) old new → LeavesOnly (PartOf (Torn place n) old) old new
+write_leaves place n old new disk disk_now goes =
+    one_call (PartOf (Torn place n) old) (Torn place n) old new disk disk_now goes (λ c was. (c, was, untorn place n c)) goes.follows
 
 -- a cut leaves a part of it
-pub cut_leaves : (size : ℕ) (old new : View) → IsDisk old → Goes (Cut size) old new → LeavesOnly (PartOf (Cut size) old) old new
-cut_leaves size old new disk goes =
-    one_call (PartOf (Cut size) old) (Cut size) old new disk goes (λ c was. (c, was, uncut size c)) goes.follows
+pub cut_leaves : (size : ℕ) (old new : View) → IsDisk old → IsDisk new → Goes (Cut size) old new → LeavesOnly (PartOf (Cut size) old) old new
+cut_leaves size old new disk disk_now goes =
+    one_call (PartOf (Cut size) old) (Cut size) old new disk disk_now goes (λ c was. (c, was, uncut size c)) goes.follows
 
 -- calls that do nothing to the bytes, one after another
 pub still_again : (old mid new : View) → IsDisk old → Goes Same old mid → Goes Same mid new → Goes Same old new

@@ -58,9 +58,9 @@ module _ (was : RowsLeft) (bytes : List ℕ) (count : ℕ) (is : ◌≡◌ {A = 
       let same : row_at bytes ≡ row_at (row_encoding row ++ encoded_rows rows) = ap row_at (ap (λ (left : RowsLeft). left.bytes) is ∙ are.bytes) in
       absurd cc
 
-  pub no_row : (now : RowsLeft) (view : Row → Row × List ℕ) (e : RowFault) → Reads view (Err e) (row_at bytes) → TakesNext (Err e) was now
-  no_row now view RowFault.BadRow none = no_rows none
-  no_row now view RowFault.Memory none = tt
+  pub no_row : (now : RowsLeft) (view : Row → Row × List ℕ) (e : RowFault) → now ≡ was → Reads view (Err e) (row_at bytes) → TakesNext (Err e) was now
+  no_row now view RowFault.BadRow kept none = (no_rows none, kept)
+  no_row now view RowFault.Memory kept none = kept
 
 -- ---- rows that were read, and those that are left
 

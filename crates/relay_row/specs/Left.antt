@@ -38,9 +38,10 @@ BeginsBody (Ok left) body = AreBehindFront body left
 BeginsBody (Err RowFault.BadRow) body = (rows : List Row) → IsBody rows body → ⊥
 BeginsBody (Err RowFault.Memory) body = ⊤
 
--- The row in front; none where no rows are left; BadRow only where what was left is that of no rows; else memory ran out.
+-- The row in front; none where no rows are left; BadRow only where what was left is that of no rows;
+-- else memory ran out. Without a row all is left that was.
 abbrev pub TakesNext : Result (Option Row) RowFault → RowsLeft → RowsLeft → Type 0
 TakesNext (Ok (Some row)) was now = AreInFront (row ∷ []) was now
 TakesNext (Ok None) was now = AreLeft [] was × (now ≡ was)
-TakesNext (Err RowFault.BadRow) was now = (rows : List Row) → AreLeft rows was → ⊥
-TakesNext (Err RowFault.Memory) was now = ⊤
+TakesNext (Err RowFault.BadRow) was now = ((rows : List Row) → AreLeft rows was → ⊥) × (now ≡ was)
+TakesNext (Err RowFault.Memory) was now = now ≡ was

@@ -40,7 +40,7 @@ impl<'a> BodyRows<'a> {
         Ok(BodyRows { reader, left })
     }
 
-    /// The next row. `BadRow`: no rows are all that is left.
+    /// The next row. `BadRow`: no rows are all that is left. After an error all is left that was.
     pub fn next(&mut self) -> Result<Option<Row>, RowFault>
         ensures { TakesNext result self.old self.new }
     {
@@ -51,8 +51,16 @@ impl<'a> BodyRows<'a> {
         if self.left == 0 {
             return Err(RowFault::BadRow);
         }
-        let row = read_row(&mut self.reader)?;
-        self.left -= 1;
-        Ok(Some(row))
+        let bytes = self.reader.rest;
+        match read_row(&mut self.reader) {
+            Ok(row) => {
+                self.left -= 1;
+                Ok(Some(row))
+            }
+            Err(fault) => {
+                self.reader.rest = bytes;
+                Err(fault)
+            }
+        }
     }
 }

@@ -2,3 +2,4 @@ pub mod Times
 pub mod Passed
 pub mod Rows
 pub mod Seen
+pub mod Ends

@@ -17,17 +17,16 @@ use Rattle.relay_row.specs.declared.operated.Operated.{Operated}
 use Rattle.relay_row.specs.declared.carried.Carried.{Carried}
 use Rattle.relay_row.specs.declared.row.Row.{Row}
 use Rattle.relay_row.specs.Folds.{did_of_row, events_of, events_in}
-use Rattle.relay_row.specs.Items.{number, list, if_there, code, detail_items, whole_items, effect_item, fetched_item, row_items}
+use Rattle.relay_row.specs.Items.{number, rev_text, list, if_there, code, detail_items, whole_items, effect_item, fetched_item, row_items}
 use Rattle.relay_row.specs.Bodies.{row_encoding}
 use Rattle.relay_row.specs.Rules.{is_positive, is_moment, is_message, is_whole, is_timed, names_did, is_taken, is_operated, is_row}
 use Rattle.relay_row.proofs.Again.{then_encode, list_then, message_fits, FitsFetched, repo_number_small}
 use Rattle.relay_row.proofs.AgainRows.{Readable, taken_fits, did_text, few_items}
 use Rattle.row_peek.specs.declared.peeked.Peeked.{Peeked}
 use Rattle.row_peek.specs.Peeked.{is_of_repo, Sees}
-use Rattle.row_peek.specs.Passing.{scalars_behind}
-use Rattle.row_peek.specs.Peeking.{Seen, seen, message_at, whole_at, outcome_at, taken_at, synced_at, operated_at, peeked_at}
+use Rattle.row_peek.specs.Peeking.{Seen, seen, message_at, whole_items_at, whole_at, outcome_at, taken_at, synced_at, operated_at, peeked_at}
 use Rattle.row_peek.proofs.Passed.{scalars_passed, items_passed, scalar_passes}
-use Rattle.row_peek.proofs.Rows.{number_short, positive_short, before_message, whole_fits, detail_passes, effect_passes}
+use Rattle.row_peek.proofs.Rows.{number_short, positive_short, whole_fits, detail_passes, effect_passes}
 
 -- ---- messages
 
@@ -35,23 +34,33 @@ message_seen : (m rest : List ℕ) → length m < 2 ^ 64 → message_at (encodin
 unfolding message_at
 message_seen m rest short = rw (string_again m rest short) refl
 
--- the message of the first of these events
-abbrev first_message : List (ℕ × List ℕ) → Option (List ℕ)
-first_message [] = None
-first_message (event ∷ others) = Some event.1
+-- the first of these events
+abbrev first_event : List (ℕ × List ℕ) → Option (ℕ × List ℕ)
+first_event [] = None
+first_event (event ∷ others) = Some event
 
-whole_seen : (w : Whole) (rest : List ℕ) → is_whole w ≡ true → whole_at (encoding (list (whole_items w)) ++ rest) ≡ Some w.message
-unfolding whole_at info_of tail_of
-whole_seen w rest is =
+-- the items of a whole repository between its number and its message
+abbrev between : Whole → List Item
+between w = rev_text w.head.rev ∷ Item.link w.head.data_root ∷ Item.link w.head.commit ∷ number w.records ∷ []
+
+items_of_whole : (w : Whole) (rest : List ℕ) → is_whole w ≡ true
+    → whole_items_at (encoding (number w.seq) ++ then_encode (between w) (encoding (Item.bytes w.message) ++ rest)) ≡ Some (w.seq, w.message)
+unfolding whole_items_at
+items_of_whole w rest is =
     let fits = whole_fits w is in
-    let behind : scalars_behind 5 (then_encode (whole_items w) rest) ≡ Some (encoding (Item.bytes w.message) ++ rest) = scalars_passed (before_message w) (encoding (Item.bytes w.message) ++ rest) fits.before in
-    ap whole_at (list_then (whole_items w) rest) ∙ rw behind (message_seen w.message rest fits.message)
+    let behind = encoding (Item.bytes w.message) ++ rest in
+    rw (number_again Major.Unsigned w.seq (then_encode (between w) behind) fits.before.0)
+    (rw (scalars_passed (between w) behind fits.before.1) (rw (message_seen w.message rest fits.message) refl))
+
+whole_seen : (w : Whole) (rest : List ℕ) → is_whole w ≡ true → whole_at (encoding (list (whole_items w)) ++ rest) ≡ Some (w.seq, w.message)
+unfolding whole_at info_of tail_of
+whole_seen w rest is = ap whole_at (list_then (whole_items w) rest) ∙ items_of_whole w rest is
 
 no_whole : (b : ℕ) (bytes : List ℕ) → b < 24 → whole_at (b ∷ bytes) ≡ None
 unfolding whole_at
 no_whole b bytes small = let other : eqb b 134 ≡ false = grind (arith, nat_tests) in rw other refl
 
-fetched_seen : (timed : Bool) (x : Fetched) (rest : List ℕ) → FitsFetched timed x → whole_at (encoding (fetched_item x) ++ rest) ≡ first_message (events_of x)
+fetched_seen : (timed : Bool) (x : Fetched) (rest : List ℕ) → FitsFetched timed x → whole_at (encoding (fetched_item x) ++ rest) ≡ first_event (events_of x)
 unfolding whole_at
 fetched_seen timed Fetched.NotAsked rest is = refl
 fetched_seen timed Fetched.Absent rest is = no_whole (32 * 0 + info_of 0) (tail_of 0 ++ rest) (omega (arith, (form_0 0 (lit< tt)).0))
@@ -62,8 +71,8 @@ fetched_seen timed (Fetched.Whole w) rest is = whole_seen w rest is
 
 -- ---- taken messages
 
-abbrev outcome_of : Taken → Option (Bool × List ℕ)
-outcome_of t = cond (eqb t.seq 0) (first_message (events_of t.fetched) >>= λ m. Some (true, m)) (Some (leb t.kind 2, t.message))
+abbrev outcome_of : Taken → Option (Bool × (ℕ × List ℕ))
+outcome_of t = cond (eqb t.seq 0) (first_event (events_of t.fetched) >>= λ e. Some (true, e)) (Some (leb t.kind 2, (t.seq, t.message)))
 
 outcome_seen : (t : Taken) (rest : List ℕ) → Readable t → outcome_at t.kind (then_encode (number t.seq ∷ Item.bytes t.message ∷ effect_item t.effect ∷ fetched_item t.fetched ∷ []) rest) ≡ outcome_of t
 unfolding outcome_at
@@ -93,13 +102,13 @@ taken_seen t rest h =
 -- the first of a row's events
 abbrev told : List ℕ → Bool → List (ℕ × List ℕ) → Option Seen
 told did of_repo [] = None
-told did of_repo (event ∷ others) = Some (did, (of_repo, event.1))
+told did of_repo (event ∷ others) = Some (did, (of_repo, event))
 
 abbrev peeked_of : Row → Option Seen
 peeked_of row = told (did_of_row row) (is_of_repo row) (events_in row)
 
 outcome_decided : (did : List ℕ) (none big : Bool) (seq : ℕ) (message : List ℕ) (x : Fetched)
-    → ((cond none (first_message (events_of x) >>= λ m. Some (true, m)) (Some (big, message))) >>= λ o. Some (did, o)) ≡ told did (cond none true big) (cond none (events_of x) ((seq, message) ∷ []))
+    → ((cond none (first_event (events_of x) >>= λ e. Some (true, e)) (Some (big, (seq, message)))) >>= λ o. Some (did, o)) ≡ told did (cond none true big) (cond none (events_of x) ((seq, message) ∷ []))
 outcome_decided did false big seq message x = refl
 outcome_decided did true big seq message Fetched.NotAsked = refl
 outcome_decided did true big seq message Fetched.Absent = refl
@@ -128,11 +137,11 @@ of_carried : (b : ℕ) (bytes : List ℕ) → peeked_at (b ∷ (encoding (number
 unfolding peeked_at info_of tail_of
 of_carried b bytes = refl
 
-synced_seen : (did : List ℕ) (whole : Whole) (rest : List ℕ) → IsText did → is_whole whole ≡ true → synced_at (then_encode (Item.text did ∷ list (whole_items whole) ∷ []) rest) ≡ Some (did, (true, whole.message))
+synced_seen : (did : List ℕ) (whole : Whole) (rest : List ℕ) → IsText did → is_whole whole ≡ true → synced_at (then_encode (Item.text did ∷ list (whole_items whole) ∷ []) rest) ≡ Some (did, (true, (whole.seq, whole.message)))
 unfolding synced_at
 synced_seen did whole rest text is = rw (text_again did (encoding (list (whole_items whole)) ++ rest) text) (rw (whole_seen whole rest is) refl)
 
-operated_seen : (o : Operated) (rest : List ℕ) → is_operated o ≡ true → operated_at (then_encode (Item.text o.did ∷ Item.bool o.down ∷ number o.seq ∷ Item.bytes o.message ∷ []) rest) ≡ Some (o.did, (false, o.message))
+operated_seen : (o : Operated) (rest : List ℕ) → is_operated o ≡ true → operated_at (then_encode (Item.text o.did ∷ Item.bool o.down ∷ number o.seq ∷ Item.bytes o.message ∷ []) rest) ≡ Some (o.did, (false, (o.seq, o.message)))
 unfolding operated_at is_operated
 operated_seen o rest h =
     let a = and_parts (names_did o.did) _ h in
@@ -140,8 +149,9 @@ operated_seen o rest h =
     let c = and_parts (is_message o.message) (is_moment o.moment) b.1 in
     let out = encoding (Item.bytes o.message) ++ rest in
     rw (text_again o.did (then_encode (Item.bool o.down ∷ number o.seq ∷ []) out) (did_text o.did a.0))
-    (rw (scalars_passed (Item.bool o.down ∷ number o.seq ∷ []) out (tt, (positive_short o.seq b.0, tt)))
-    (rw (message_seen o.message rest (message_fits o.message c.0).0) refl))
+    (rw (scalars_passed (Item.bool o.down ∷ []) (encoding (number o.seq) ++ out) (tt, tt))
+    (rw (number_again Major.Unsigned o.seq out (positive_short o.seq b.0))
+    (rw (message_seen o.message rest (message_fits o.message c.0).0) refl)))
 
 items_seen : (b : ℕ) (row : Row) (rest : List ℕ) → is_row row ≡ true → peeked_at (b ∷ then_encode (row_items row) rest) ≡ peeked_of row
 unfolding is_row
@@ -181,12 +191,11 @@ shown_by row [] None is few e = is
 shown_by row [] (Some s) is few e = absurd cc
 shown_by row (event ∷ []) None is few e = absurd cc
 shown_by row (event ∷ []) (Some s) is few e =
-    let same = same_Some (seen s) (did_of_row row, (is_of_repo row, event.1)) e in
-    let message : s.message.now ≡ event.1 = ap (λ (x : Seen). x.1.1) same in
+    let same = same_Some (seen s) (did_of_row row, (is_of_repo row, event)) e in
     record {
       did = ap (λ (x : Seen). x.0) same;
       of_repo = ap (λ (x : Seen). x.1.0) same;
-      event = (event.0, is ∙ ap (λ (m : List ℕ). (event.0, m) ∷ []) (sym message));
+      event = is ∙ ap (λ (e : ℕ × List ℕ). e ∷ []) (sym (ap (λ (x : Seen). x.1.1) same));
     }
 shown_by row (event ∷ other ∷ others) s is few e = absurd (omega (arith, few))
 

@@ -1,5 +1,5 @@
 -- The bytes behind items (own). That they are those that are left where such an item stands in front is proved of them.
-use Rattle.std.specs.Prelude.{ℕ, zero, suc, ◌/◌, ◌%◌, ◌||◌, ◌==◌, nat_lt, if◌then◌else◌, List, [], ◌∷◌, length, drop, Option, Some, None}
+use Rattle.std.specs.Prelude.{ℕ, zero, suc, ◌/◌, ◌%◌, Bool, true, false, ◌&&◌, ◌||◌, ◌==◌, nat_le, nat_lt, if◌then◌else◌, List, [], ◌∷◌, length, drop, Option, Some, None}
 use Rattle.at_cbor.specs.Heads.{argument_at}
 use Rattle.at_cbor.specs.Taking.{◌>>=◌, number_at}
 use Rattle.at_cbor.specs.declared.major.Major.{Major}
@@ -46,3 +46,13 @@ items_behind n bytes = times n item_behind bytes
 -- the bytes behind a list of items of a row
 unfoldable pub row_behind : List ℕ → Option (List ℕ)
 row_behind bytes = number_at Major.List bytes >>= λ n. items_behind n.0 n.1
+
+-- no bytes, or such as begin with a list
+abbrev pub ends_before : Option (List ℕ) → Bool
+ends_before None = false
+ends_before (Some []) = true
+ends_before (Some (first ∷ bytes)) = nat_le 128 first && nat_lt first 160
+
+-- behind the row in front there are none, or another list
+unfoldable pub ends_row : List ℕ → Bool
+ends_row bytes = ends_before (row_behind bytes)

@@ -1,8 +1,8 @@
 //! The bytes behind the items of rows. Where no such item stands in front, any bytes may be answered, or none.
 
 ghost use Rattle.std.specs.Prelude.{◌≡◌, ℕ, List, ◌++◌, true, Some, option_map};
-ghost use Rattle.row_peek.specs.Passing.{past, content_behind, scalar_behind, scalars_behind, item_content_behind, item_behind, items_behind, row_behind};
-ghost use Rattle.relay_row.specs.Bodies.{row_encoding};
+ghost use Rattle.row_peek.specs.Passing.{past, content_behind, scalar_behind, scalars_behind, item_content_behind, item_behind, items_behind, row_behind, ends_row};
+ghost use Rattle.relay_row.specs.Bodies.{row_encoding, encoded_rows};
 ghost use Rattle.relay_row.specs.Rules.{is_row};
 ghost use Rattle.relay_row.specs.declared.row.Row.{Row};
 
@@ -108,4 +108,24 @@ pub fn behind_row(bytes: &[u8]) -> Option<&[u8]>
     ensures { (row : Row) (rest : List ℕ) → is_row row ≡ true → bytes.now ≡ row_encoding row ++ rest → option_map (λ r. r.now) result ≡ Some rest }
 {
     behind_list(bytes)
+}
+
+/// Whether the items of the row at the front of bytes end with the bytes, or where another list begins.
+#[tactic(auto, unfolding(crate::specs::Passing::ends_row))]
+fn ends_list(bytes: &[u8]) -> bool
+    ensures { result ≡ ends_row bytes.now }
+{
+    match behind_list(bytes) {
+        Some([first, ..]) => *first >= 0x80 && *first < 0xa0,
+        Some([]) => true,
+        None => false,
+    }
+}
+
+/// Whether the row at the front of bytes ends as a row of a body does: with the bytes, or where another list begins.
+pub fn ends_row(bytes: &[u8]) -> bool
+    ensures found { result ≡ ends_row bytes.now }
+    ensures row { (row : Row) (more : List Row) → is_row row ≡ true → bytes.now ≡ row_encoding row ++ encoded_rows more → result ≡ true }
+{
+    ends_list(bytes)
 }

@@ -7,6 +7,8 @@ pub struct Peeked<'a> {
     pub did: &'a str,
     /// Whether the event is of a commit or a sync.
     pub of_repo: bool,
+    /// The event's number.
+    pub seq: u64,
     /// The event's message.
     pub message: &'a [u8],
 }

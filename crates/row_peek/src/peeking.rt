@@ -1,7 +1,7 @@
 //! What a row sends out, found by its items' places.
 
 ghost use Rattle.std.specs.Prelude.{◌≡◌, ℕ, List, ◌++◌, true, option_map};
-ghost use Rattle.row_peek.specs.Peeking.{seen, message_at, whole_at, outcome_at, taken_at, synced_at, operated_at, peeked_at};
+ghost use Rattle.row_peek.specs.Peeking.{seen, message_at, whole_items_at, whole_at, outcome_at, taken_at, synced_at, operated_at, peeked_at};
 ghost use Rattle.relay_row.specs.Bodies.{row_encoding};
 ghost use Rattle.relay_row.specs.Rules.{is_row};
 ghost use Rattle.relay_row.specs.declared.row.Row.{Row};
@@ -23,30 +23,40 @@ fn lend_message(bytes: &[u8]) -> Option<&[u8]>
     Some(message)
 }
 
-/// The message of a whole repository, where one was fetched: the last of its six items.
+/// The number of a whole repository's event, and its message: the first and the last of its six items.
+#[tactic(auto, unfolding(crate::specs::Peeking::whole_items_at))]
+fn peek_whole_items(bytes: &[u8]) -> Option<(u64, &[u8])>
+    ensures { option_map (λ x. (x.0, x.1.now)) result ≡ whole_items_at bytes.now }
+{
+    let (seq, rest) = take_number(Major::Unsigned, bytes)?;
+    let message = lend_message(behind_scalars(4, rest)?)?;
+    Some((seq, message))
+}
+
+/// The event of a whole repository, where one was fetched.
 #[tactic(auto, unfolding(crate::specs::Peeking::whole_at))]
-fn whole_message(bytes: &[u8]) -> Option<&[u8]>
-    ensures { option_map (λ message. message.now) result ≡ whole_at bytes.now }
+fn peek_whole(bytes: &[u8]) -> Option<(u64, &[u8])>
+    ensures { option_map (λ x. (x.0, x.1.now)) result ≡ whole_at bytes.now }
 {
     match bytes {
-        [WHOLE, rest @ ..] => lend_message(behind_scalars(5, rest)?),
+        [WHOLE, rest @ ..] => peek_whole_items(rest),
         _ => None,
     }
 }
 
-/// From its number on, whether the event that a message of this kind led to is of a commit or a sync, and that event's message: its
-/// own, or where it has no number, that of the repository that was fetched.
+/// From its number on, whether the event that a message of this kind led to is of a commit or a sync, and that event: its own, or
+/// where it has no number, that of the repository that was fetched.
 #[tactic(auto, unfolding(crate::specs::Peeking::outcome_at))]
-fn peek_outcome(kind: u64, bytes: &[u8]) -> Option<(bool, &[u8])>
-    ensures { option_map (λ x. (x.0, x.1.now)) result ≡ outcome_at kind bytes.now }
+fn peek_outcome(kind: u64, bytes: &[u8]) -> Option<(bool, u64, &[u8])>
+    ensures { option_map (λ x. (x.0, (x.1, x.2.now))) result ≡ outcome_at kind bytes.now }
 {
     let (seq, rest) = take_number(Major::Unsigned, bytes)?;
     let (message, rest) = take_bytes(rest)?;
     if seq != 0 {
-        return Some((kind <= 2, message));
+        return Some((kind <= 2, seq, message));
     }
-    let message = whole_message(behind_item(rest)?)?;
-    Some((true, message))
+    let (seq, message) = peek_whole(behind_item(rest)?)?;
+    Some((true, seq, message))
 }
 
 /// Of a message that was taken: behind the host and its number are the account, the kind, and what was decided.
@@ -58,10 +68,11 @@ fn peek_taken(bytes: &[u8]) -> Option<Peeked<'_>>
     let (did, rest) = take_text(rest)?;
     let (kind, rest) = take_number(Major::Unsigned, rest)?;
     let rest = behind_items(2, rest)?;
-    let (of_repo, message) = peek_outcome(kind, rest)?;
+    let (of_repo, seq, message) = peek_outcome(kind, rest)?;
     Some(Peeked {
         did,
         of_repo,
+        seq,
         message,
     })
 }
@@ -72,10 +83,11 @@ fn peek_synced(bytes: &[u8]) -> Option<Peeked<'_>>
     ensures { option_map seen result ≡ synced_at bytes.now }
 {
     let (did, rest) = take_text(bytes)?;
-    let message = whole_message(rest)?;
+    let (seq, message) = peek_whole(rest)?;
     Some(Peeked {
         did,
         of_repo: true,
+        seq,
         message,
     })
 }
@@ -86,10 +98,12 @@ fn peek_operated(bytes: &[u8]) -> Option<Peeked<'_>>
     ensures { option_map seen result ≡ operated_at bytes.now }
 {
     let (did, rest) = take_text(bytes)?;
-    let message = lend_message(behind_scalars(2, rest)?)?;
+    let (seq, rest) = take_number(Major::Unsigned, behind_scalars(1, rest)?)?;
+    let message = lend_message(rest)?;
     Some(Peeked {
         did,
         of_repo: false,
+        seq,
         message,
     })
 }
@@ -109,7 +123,8 @@ fn peek_at(bytes: &[u8]) -> Option<Peeked<'_>>
 
 /// What is seen of the row at the front of bytes. None where it sends no event out, and it may be where no row stands there.
 pub fn peek(bytes: &[u8]) -> Option<Peeked<'_>>
-    ensures { (row : Row) (rest : List ℕ) → is_row row ≡ true → bytes.now ≡ row_encoding row ++ rest → Sees row result }
+    ensures found { option_map seen result ≡ peeked_at bytes.now }
+    ensures sees { (row : Row) (rest : List ℕ) → is_row row ≡ true → bytes.now ≡ row_encoding row ++ rest → Sees row result }
 {
     peek_at(bytes)
 }

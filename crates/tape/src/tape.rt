@@ -1,6 +1,6 @@
 //! Reading a tape.
 
-ghost use Rattle.std.specs.Prelude.{◌≡◌, ◌≤◌, ◌<◌, ◌+◌, ◌-◌, ◌++◌, [], length, List, ℕ, IsTrue, IfOk, IfErr, OnOk, OnErr, IsErrOf};
+ghost use Rattle.std.specs.Prelude.{◌≡◌, ◌≢◌, ◌≤◌, ◌<◌, ◌+◌, ◌-◌, ◌++◌, [], length, List, ℕ, IsTrue, IfOk, IfErr, OnOk, OnErr, IsErrOf};
 ghost use Rattle.at_cid.specs.Counts.{Rose};
 ghost use Rattle.tape.specs.Front.{ShowsFront, IsLonger};
 ghost use Rattle.tape.specs.Format.{record_bytes};
@@ -55,6 +55,8 @@ impl Tape {
         ensures placed { IsPlaced self.old.place self.new.place result }
         ensures most { self.new.most ≡ self.old.most }
         ensures counts { I.faults source.old ≤ I.faults source.new }
+        ensures steady { OnOk result (I.faults source.new ≡ I.faults source.old) }
+        ensures no_fault { IfErr result (λ fault. fault ≢ TapeFault.Failed → I.faults source.new ≡ I.faults source.old) }
         ensures failed { IsErrOf result TapeFault.Failed → Rose (I.faults source.old) (I.faults source.new) }
     {
         'pieces: loop {
@@ -108,6 +110,8 @@ impl Tape {
         ensures place { self.new.place ≡ self.old.place }
         ensures most { self.new.most ≡ self.old.most }
         ensures counts { I.faults source.old ≤ I.faults source.new }
+        ensures steady { OnOk result (I.faults source.new ≡ I.faults source.old) }
+        ensures no_fault { IfErr result (λ fault. fault ≢ TapeFault.Failed → I.faults source.new ≡ I.faults source.old) }
         ensures failed { IsErrOf result TapeFault.Failed → Rose (I.faults source.old) (I.faults source.new) }
     {
         let left = self.most - self.place - self.window.len() as u64;

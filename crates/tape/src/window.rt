@@ -117,6 +117,7 @@ impl ReadAhead {
         ensures most { IfOk result (λ n. n ≤ most) }
         ensures end { IfOk result (λ n. IsTrue I.tells → n ≡ 0 → I.left source.new ≡ []) }
         ensures counts { I.faults source.old ≤ I.faults source.new }
+        ensures steady { OnOk result (I.faults source.new ≡ I.faults source.old) }
         ensures failed { OnErr result (Rose (I.faults source.old) (I.faults source.new)) }
     {
         let end = self.end;

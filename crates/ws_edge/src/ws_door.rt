@@ -26,8 +26,6 @@ pub struct WsDoor<R: Net + Clock + Copy> {
     guest: Option<Session<R::Stream, R>>,
     // The bytes that were handed over since the last look at what the guest says.
     unseen: usize,
-    // Whether a message of this session was not taken.
-    broken: bool,
     faults: u64,
     session_faults: u64,
 }
@@ -46,7 +44,6 @@ impl<R: Net + Clock + Copy> WsDoor<R> {
             listener: None,
             guest: None,
             unseen: 0,
-            broken: false,
             faults: 0,
             session_faults: 0,
         }
@@ -69,7 +66,6 @@ impl<R: Net + Clock + Copy> Door for WsDoor<R> {
     fn next(&mut self) -> Result<Guest, DoorFault> {
         self.guest = None;
         self.unseen = 0;
-        self.broken = false;
         let stream = match next_connection(&self.rt, self.port, &mut self.listener) {
             Ok(Some(stream)) => stream,
             Ok(None) => return Ok(Guest::NoHandshake),
@@ -100,7 +96,7 @@ impl<R: Net + Clock + Copy> Door for WsDoor<R> {
             sent = hear(session);
         }
         if let Err(DoorFault::Failed) = sent {
-            self.broken = true;
+            self.guest = None;
             self.session_faults = self.session_faults.saturating_add(1);
         }
         sent
@@ -110,7 +106,7 @@ impl<R: Net + Clock + Copy> Door for WsDoor<R> {
         let Some(mut session) = self.guest.take() else {
             return Ok(());
         };
-        if !self.broken && close_with(&mut session) {
+        if close_with(&mut session) {
             return Ok(());
         }
         self.session_faults = self.session_faults.saturating_add(1);

@@ -8,7 +8,7 @@ pub returns-in_err-write_at-clause-part : goal.returns-in_err-write_at-clause-pa
 returns-in_err-write_at-clause-part g c = torn_wider c.args.place (length c.args.piece.now) _ (one_more c.args.piece.now) _ _ c.write_at.ensures.goes.content
 
 pub returns-in_err-write_at-clause-moments : goal.returns-in_err-write_at-clause-moments
-returns-in_err-write_at-clause-moments g c = wider_moments c.args.place (length c.args.piece.now) _ (one_more c.args.piece.now) _ _ (g.met.D.Disk.is_disk _) c.write_at.ensures.goes
+returns-in_err-write_at-clause-moments g c = wider_moments c.args.place (length c.args.piece.now) _ (one_more c.args.piece.now) _ _ (g.met.D.Disk.is_disk _) (g.met.D.Disk.is_disk _) c.write_at.ensures.goes
 
 pub returns-clause-part : goal.returns-clause-part
 returns-clause-part g c = torn_both c.args.place (length c.args.piece.now) _ (one_more c.args.piece.now) _ _ _ c.write_at.ensures.goes.content c.write_through.ensures.part
@@ -21,4 +21,4 @@ returns-clause-ok g c = on_ok_weaker c.write_through.result (λ second tells.
     (second tells)) c.write_through.ensures.ok
 
 pub returns-clause-moments : goal.returns-clause-moments
-returns-clause-moments g c = apart_moments c.args.place (length c.args.piece.now) _ (one_more c.args.piece.now) _ _ _ (g.met.D.Disk.is_disk _) c.write_at.ensures.goes c.write_through.ensures.moments
+returns-clause-moments g c = apart_moments c.args.place (length c.args.piece.now) _ (one_more c.args.piece.now) _ _ _ (g.met.D.Disk.is_disk _) (g.met.D.Disk.is_disk _) c.write_at.ensures.goes c.write_through.ensures.moments

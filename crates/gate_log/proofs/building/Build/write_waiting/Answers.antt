@@ -18,4 +18,4 @@ returns-clause-written g c = on_ok_weaker c.write_at-answer.result (λ content t
 pub returns-clause-moments : goal.returns-clause-moments
 returns-clause-moments g c = λ tells.
     let on = subst (λ (s : BuildState). IsBuiltOn (g.D.Disk.view c.args.disk.now) s) (sym c.self.view_is) (c.requires tells) in
-    closed_writing _ _ _ on.1 (c.self.inside.end - c.len.result) (omega arith) _ _ (g.met.D.Disk.is_disk _) c.write_at-answer.ensures.goes
+    closed_writing _ _ _ on.1 (c.self.inside.end - c.len.result) (omega arith) _ _ (g.met.D.Disk.is_disk _) (g.met.D.Disk.is_disk _) c.write_at-answer.ensures.goes

@@ -1,4 +1,4 @@
-use Rattle.std.proofs.Common.{◌≡◌, ◌≤◌, ◌-◌, IsTrue}
+use Rattle.std.proofs.Common.{◌≡◌, ◌-◌, IsTrue}
 use Rattle.tape.specs.Reading.{coming, taken}
 use Rattle.tape.proofs.tape.Tape.next.Given as goal
 
@@ -10,7 +10,7 @@ invariant-pieces g l =
       stays : IsTrue g.I.Source.tells → coming l.self (left l.source) ≡ coming l.fn.self (left l.fn.source);
       place : l.self.place ≡ l.fn.self.place;
       most : l.self.most ≡ l.fn.self.most;
-      counts : faults l.fn.source ≤ faults l.source;
+      steady : faults l.source ≡ faults l.fn.source;
     }
 
 abbrev pub decreases-pieces : goal.decreases-pieces
