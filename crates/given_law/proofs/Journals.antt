@@ -110,7 +110,7 @@ module _ (checks : Checks) (J K : List Row) (given : AreGiven checks [] J) where
 
   messages_given : TakesMessages checks J K → Given K
   messages_given m =
-      let all = steps_given checks m.clock_tells m.repos_tell J m.ended m.old m.new m.steps m.tell m.repositories m.messages given m.are m.asked in
+      let all = steps_given checks m.clock_tells m.repos_tell J m.ended m.old m.new m.steps m.repositories m.messages given m.are m.asked in
       let parts = subst Given (ap (λ (more : List Row). J ++ more) m.made ∙ sym (append_assoc J m.held m.lost)) all in
       subst Given (sym m.now) (front_given checks (J ++ m.held) m.lost [] parts)
 

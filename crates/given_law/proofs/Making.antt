@@ -3,6 +3,7 @@ use Rattle.std.proofs.Common.{◌≡◌, inl, inr, ℕ, ◌+◌, Bool, true, fal
 use Rattle.std.proofs.lemmas.List.{append-nil}
 use Rattle.std.specs.Prelude.{if◌then◌else◌}
 use Rattle.at_cid.specs.Link.{IsBytes}
+use Rattle.at_authority.specs.Calls.{Call}
 use Rattle.at_authority.specs.Panels.{Panel}
 use Rattle.at_event.specs.Formed.{IsShortText}
 use Rattle.at_event.specs.Frames.{frame_of}
@@ -29,7 +30,7 @@ use Rattle.relay_core.specs.Rows.{fetched_of}
 use Rattle.relay_core.specs.Runs.{IsMadeBy}
 use Rattle.relay_core.specs.Shown.{found_in, or_zero, shown}
 use Rattle.relay_step.specs.Around.{Around, AllAsked, SameRepositories}
-use Rattle.relay_step.specs.Fetching.{IsFetched, IsFetchedFrom, IsFetchedTold, fetched_good, found_by}
+use Rattle.relay_step.specs.Fetching.{AreBytes, IsFetched, IsFetchedAs, IsFetchedFrom, IsFetchedTold, Where, found_by, is_good, told_where}
 use Rattle.relay_step.specs.Operators.{IsFetchCommand, IsSyncedBy}
 use Rattle.relay_step.specs.declared.command.CommandAnswer.{CommandAnswer}
 use Rattle.relay_step.specs.Steps.{Step, Decided, after_end, skipped, recorded, AreSteps, IsDecidedAs, ended_decided, message_of, rows, rows_decided}
@@ -55,17 +56,40 @@ answered_found did least moment good bytes head n block are (Ok checked) is same
     record { bytes = bytes; are = are; checked = checked; whole = is; head_is = so.heads; block_is = so.blocks }
 answered_found did least moment good bytes head n block are (Err fault) is same = absurd cc
 
-stored_found : (o : Option (List ℕ)) → IsOfBytes o → (did : List ℕ) (least : Option ℕ) (moment : ℕ) (good : Bool) (head : Head) (n : ℕ) (block : List ℕ)
-    → IsFetchedFrom o did least moment good (found head n block) → IsOfRepository did least head block
-stored_found None are did least moment good head n block from = absurd cc
-stored_found (Some bytes) are did least moment good head n block from = answered_found did least moment good bytes head n block (are bytes refl) from.answer from.is from.found_is
+not_absent : (head : Head) (n : ℕ) (block : List ℕ) → found head n block ≡ absent → ⊥
+not_absent head n block same = cc
 
-in_some : (f : Fetched) (o : Option (List ℕ)) → IsOfBytes o → (did : List ℕ) (least : Option ℕ) (moment : ℕ) (good : Bool)
-    → ((whole : Whole) → f ≡ Fetched.Whole whole → IsFetchedFrom o did least moment good (found_in f)) → IsFoundOfRepository did least (found_in f)
-in_some Fetched.NotAsked o are did least moment good from = tt
-in_some Fetched.Absent o are did least moment good from = tt
-in_some (Fetched.Refused code) o are did least moment good from = tt
-in_some (Fetched.Whole whole) o are did least moment good from = stored_found o are did least moment good whole.head whole.records _ (from whole refl)
+stored_found : (o : Option (List ℕ)) → IsOfBytes o → (did : List ℕ) (least : Option ℕ) (moment : ℕ) (good : Bool) (head : Head) (n : ℕ) (block : List ℕ) (calls : List Call)
+    → IsFetchedFrom o did least moment good (found head n block) calls → IsOfRepository did least head block
+stored_found None are did least moment good head n block calls from = absurd (not_absent head n block from.0)
+stored_found (Some bytes) are did least moment good head n block calls from = answered_found did least moment good bytes head n block (are bytes refl) from.answer from.is from.found_is
+
+of_bytes : (o : Option (List ℕ)) → AreBytes o → IsOfBytes o
+of_bytes None are bytes is = absurd cc
+of_bytes (Some b) are bytes is = let same : b ≡ bytes = cc in subst IsBytes same are
+
+-- a repository that is told is bytes
+abbrev ToldBytes : Option (Option (List ℕ)) → Type 0
+ToldBytes o = (repository : Option (List ℕ)) → o ≡ Some repository → IsOfBytes repository
+
+fetched_found : (o : Option (Option (List ℕ))) → ToldBytes o → (did : List ℕ) (least : Option ℕ) (moment : ℕ) (head : Head) (n : ℕ) (block : List ℕ) (calls : List Call) → IsFetchedAs o did least moment (found head n block) calls → IsOfRepository did least head block
+fetched_found (Some repository) are did least moment head n block calls from = stored_found repository (are repository refl) did least moment true head n block calls from
+fetched_found None are did least moment head n block calls (some, bytes, from) = stored_found some (of_bytes some bytes) did least moment true head n block calls from
+
+in_some : (f : Fetched) (o : Option (Option (List ℕ))) → ToldBytes o → (did : List ℕ) (least : Option ℕ) (moment : ℕ) (calls : List Call)
+    → ((whole : Whole) → f ≡ Fetched.Whole whole → IsFetchedAs o did least moment (found_in f) calls) → IsFoundOfRepository did least (found_in f)
+in_some Fetched.NotAsked o are did least moment calls from = tt
+in_some Fetched.Absent o are did least moment calls from = tt
+in_some (Fetched.Refused code) o are did least moment calls from = tt
+in_some (Fetched.Whole whole) o are did least moment calls from = fetched_found o are did least moment whole.head whole.records _ calls (from whole refl)
+
+-- where repositories tell, they tell bytes
+abbrev TellBytes : Bool → (List ℕ → Option (List ℕ)) → Type 0
+TellBytes tells repository = IsTrue tells → GiveBytes repository
+
+told_bytes : (tells : Bool) (repository : List ℕ → Option (List ℕ)) (did : List ℕ) → TellBytes tells repository → ToldBytes (told_where tells (repository did))
+told_bytes true repository did are one same = let is : repository did ≡ one = cc in subst IsOfBytes is (are refl did)
+told_bytes false repository did are one same = absurd cc
 
 -- ---- a row that took a repository over lost its account
 
@@ -87,19 +111,23 @@ asked_so (Some r) f whole same = record { refusal = r; is = refl; lost = lost_so
 some_is : (t u : Taken) → Some t ≡ Some u → t ≡ u
 some_is t u same = cc
 
-event_given : (checks : Checks) (J : List Row) (host : List ℕ) (e : Seen) (t : Taken) (repository : List ℕ → Option (List ℕ)) → GiveBytes repository → IsFetched repository J t.refusal t
+where_held : (b : Bool) (A B : Type 0) → IsTrue b → Where b A B → A
+where_held true A B is held = held
+where_held false A B is held = absurd cc
+
+event_given : (checks : Checks) (J : List Row) (host : List ℕ) (e : Seen) (t : Taken) (tells : Bool) (repository : List ℕ → Option (List ℕ)) (calls : List Call) → TellBytes tells repository → IsFetched tells repository J t.did t.refusal (or_zero t.moment) (found_in t.fetched) calls
     → decided_event checks (last_seq J) (account e.did J) host e (shown t) ≡ t → (message : List ℕ) → IsBytes message → frame_of message ≡ Ok (Frame.Event e) → IsOfEvent checks J t
-event_given checks J host e t repository are fetched is message spelled reads =
+event_given checks J host e t tells repository calls are fetched is message spelled reads =
     let a = account e.did J in
     let d = decision_for a e.body (found_in t.fetched) (refusal_of checks a e (shown t)) in
     let f = fetched_as (last_seq J) e (found_in t.fetched) in
     let refusals : d.refusal ≡ t.refusal = ap (λ (u : Taken). u.refusal) is in
     let fetches : fetched_of d.refusal (Some f) ≡ t.fetched = ap (λ (u : Taken). u.fetched) is in
     let dids : t.did ≡ e.did = sym (ap (λ (u : Taken). u.did) is) in
-    let from : (whole : Whole) → t.fetched ≡ Fetched.Whole whole → IsFetchedFrom (repository t.did) t.did (last_rev (account t.did J).repo) (or_zero t.moment) (fetched_good t.fetched) (found_in t.fetched) =
+    let from : (whole : Whole) → t.fetched ≡ Fetched.Whole whole → IsFetchedAs (told_where tells (repository t.did)) t.did (last_rev (account t.did J).repo) (or_zero t.moment) (found_in t.fetched) calls =
     λ whole whole_is.
     let so = asked_so d.refusal f whole (fetches ∙ whole_is) in
-    subst (λ (q : Option Refusal). IsFetched repository J q t) (sym refusals ∙ so.is) fetched so.lost in
+    where_held (loses (code_of so.refusal)) _ _ so.lost (subst (λ (q : Option Refusal). IsFetched tells repository J t.did q (or_zero t.moment) (found_in t.fetched) calls) (sym refusals ∙ so.is) fetched) in
     record {
       host = host;
       event = e;
@@ -107,39 +135,39 @@ event_given checks J host e t repository are fetched is message spelled reads =
       moment = Some (or_zero t.moment);
       read = frames_events message e spelled reads;
       fetched = subst (λ (did : List ℕ). IsFoundOfRepository did (last_rev (account did J).repo) (found_in t.fetched)) dids
-          (in_some t.fetched (repository t.did) (are t.did) t.did (last_rev (account t.did J).repo) (or_zero t.moment) (fetched_good t.fetched) from);
+          (in_some t.fetched (told_where tells (repository t.did)) (told_bytes tells repository t.did are) t.did (last_rev (account t.did J).repo) (or_zero t.moment) calls from);
       is = sym is;
     }
 
-frame_given : (checks : Checks) (J : List Row) (host : List ℕ) (message : List ℕ) (frame : Result Frame FrameFault) (t : Taken) (repository : List ℕ → Option (List ℕ)) → GiveBytes repository → IsFetched repository J t.refusal t
+frame_given : (checks : Checks) (J : List Row) (host : List ℕ) (message : List ℕ) (frame : Result Frame FrameFault) (t : Taken) (tells : Bool) (repository : List ℕ → Option (List ℕ)) (calls : List Call) → TellBytes tells repository → IsFetched tells repository J t.did t.refusal (or_zero t.moment) (found_in t.fetched) calls
     → IsMadeBy checks J (host, frame) (Row.Taken t) → IsBytes message → frame_of message ≡ frame → IsGiven checks J (Row.Taken t)
-frame_given checks J host message (Ok (Frame.Event e)) t repository are fetched is_made spelled reads =
-    inl (event_given checks J host e t repository are fetched (some_is _ t is_made) message spelled reads)
-frame_given checks J host message (Ok (Frame.Faulty seq)) t repository are fetched is_made spelled reads =
+frame_given checks J host message (Ok (Frame.Event e)) t tells repository calls are fetched is_made spelled reads =
+    inl (event_given checks J host e t tells repository calls are fetched (some_is _ t is_made) message spelled reads)
+frame_given checks J host message (Ok (Frame.Faulty seq)) t tells repository calls are fetched is_made spelled reads =
     inr (record { host = host; seq = seq; moment = Some (or_zero t.moment); is = sym (some_is _ t is_made) })
-frame_given checks J host message (Ok Frame.Info) t repository are fetched is_made spelled reads = absurd cc
-frame_given checks J host message (Ok Frame.Error) t repository are fetched is_made spelled reads = absurd cc
-frame_given checks J host message (Ok Frame.Unknown) t repository are fetched is_made spelled reads = absurd cc
-frame_given checks J host message (Err fault) t repository are fetched is_made spelled reads = absurd is_made
+frame_given checks J host message (Ok Frame.Info) t tells repository calls are fetched is_made spelled reads = absurd cc
+frame_given checks J host message (Ok Frame.Error) t tells repository calls are fetched is_made spelled reads = absurd cc
+frame_given checks J host message (Ok Frame.Unknown) t tells repository calls are fetched is_made spelled reads = absurd cc
+frame_given checks J host message (Err fault) t tells repository calls are fetched is_made spelled reads = absurd is_made
 
 -- ---- the rows of all steps
 
-stored_on : (old new : List ℕ → Option (List ℕ)) → SameRepositories old new → GiveBytes old → GiveBytes new
-stored_on old new same are = λ did bytes is. are did bytes (sym (same did) ∙ is)
+stored_on : (tells : Bool) (old new : List ℕ → Option (List ℕ)) → (IsTrue tells → SameRepositories old new) → TellBytes tells old → TellBytes tells new
+stored_on tells old new same are told = λ did bytes is. are told did bytes (sym (same told did) ∙ is)
 
-told_given : (checks : Checks) (J : List Row) (ended : List (List ℕ)) (s : Step) (told : Decided) (others : List Row) (repository : List ℕ → Option (List ℕ)) → GiveBytes repository → IsBytes s.bytes
-    → IsDecidedAs checks J ended (message_of s) told → IsFetchedTold repository J told → AreGiven checks (J ++ rows_decided told) others → AreGiven checks J (rows_decided told ++ others)
-told_given checks J ended s after_end others repository are spelled is fetched given = subst (λ (K : List Row). AreGiven checks K others) (append-nil J) given
-told_given checks J ended s (skipped pass) others repository are spelled is fetched given = subst (λ (K : List Row). AreGiven checks K others) (append-nil J) given
-told_given checks J ended s (recorded t) others repository are spelled is fetched given = (frame_given checks J s.host s.bytes (frame_of s.bytes) t repository are fetched is.2 spelled refl, given)
+told_given : (checks : Checks) (J : List Row) (ended : List (List ℕ)) (s : Step) (told : Decided) (others : List Row) (tells : Bool) (repository : List ℕ → Option (List ℕ)) (calls : List Call) → TellBytes tells repository → IsBytes s.bytes
+    → IsDecidedAs checks J ended (message_of s) told → IsFetchedTold tells repository J told calls → AreGiven checks (J ++ rows_decided told) others → AreGiven checks J (rows_decided told ++ others)
+told_given checks J ended s after_end others tells repository calls are spelled is fetched given = subst (λ (K : List Row). AreGiven checks K others) (append-nil J) given
+told_given checks J ended s (skipped pass) others tells repository calls are spelled is fetched given = subst (λ (K : List Row). AreGiven checks K others) (append-nil J) given
+told_given checks J ended s (recorded t) others tells repository calls are spelled is fetched given = (frame_given checks J s.host s.bytes (frame_of s.bytes) t tells repository calls are fetched is.2 spelled refl, given)
 
-all_given : (checks : Checks) (clock_tells repos_tell : Bool) → IsTrue repos_tell → (steps : List Step) (J : List Row) (ended : List (List ℕ)) (old new : Around) → GiveBytes old.repository → AreOfBytes steps
+all_given : (checks : Checks) (clock_tells repos_tell : Bool) (steps : List Step) (J : List Row) (ended : List (List ℕ)) (old new : Around) → TellBytes repos_tell old.repository → AreOfBytes steps
     → AreSteps checks J ended steps → AllAsked clock_tells repos_tell J old steps new → AreGiven checks J (rows steps)
-all_given checks clock_tells repos_tell tells [] J ended old new are spelled is asked = tt
-all_given checks clock_tells repos_tell tells (s ∷ steps) J ended old new are spelled is asked =
+all_given checks clock_tells repos_tell [] J ended old new are spelled is asked = tt
+all_given checks clock_tells repos_tell (s ∷ steps) J ended old new are spelled is asked =
     let mid = asked.0 in
-    told_given checks J ended s s.decided (rows steps) old.repository are spelled.0 is.0 (asked.1.fetched tells)
-    (all_given checks clock_tells repos_tell tells steps (J ++ rows_decided s.decided) (ended_decided s.decided s.host ended) mid new (stored_on old.repository mid.repository (asked.1.same tells) are) spelled.1 is.1 asked.2)
+    told_given checks J ended s s.decided (rows steps) repos_tell old.repository asked.1.fetch are spelled.0 is.0 asked.1.fetched
+    (all_given checks clock_tells repos_tell steps (J ++ rows_decided s.decided) (ended_decided s.decided s.host ended) mid new (stored_on repos_tell old.repository mid.repository asked.1.same are) spelled.1 is.1 asked.2)
 
 pub joined_given : (checks : Checks) (one two front : List Row) → AreGiven checks front one → AreGiven checks (front ++ one) two → AreGiven checks front (one ++ two)
 joined_given checks [] two front first second = subst (λ (K : List Row). AreGiven checks K two) (append-nil front) second
@@ -147,8 +175,8 @@ joined_given checks (row ∷ one) two front first second =
     (first.0, joined_given checks one two (front ++ row ∷ []) first.1 (subst (λ (K : List Row). AreGiven checks K two) (sym (append_assoc front (row ∷ []) one)) second))
 
 pub steps_given : StepsAreGiven
-steps_given checks clock_tells repos_tell J ended old new steps tells are spelled given is asked =
-    joined_given checks J (rows steps) [] given (all_given checks clock_tells repos_tell tells steps J ended old new are spelled is asked)
+steps_given checks clock_tells repos_tell J ended old new steps are spelled given is asked =
+    joined_given checks J (rows steps) [] given (all_given checks clock_tells repos_tell steps J ended old new are spelled is asked)
 
 -- ---- operators' commands
 
@@ -160,13 +188,13 @@ row_is : (one two : Row) → CommandAnswer.Made one ≡ CommandAnswer.Made two �
 row_is one two same = cc
 
 found_given : (checks : Checks) (J : List Row) (did time : List ℕ) (moment : ℕ) (repository : Option (List ℕ)) (row : Row) → IsShortText time → IsOfBytes repository
-    → sync_refusal (account did J) ≡ None → (good : Bool) (f : Found) → IsFetchedFrom repository did (last_rev (account did J).repo) moment good f → IsFetchCommand (last_seq J) did time moment f (CommandAnswer.Made row) → IsGiven checks J row
-found_given checks J did time moment repository row short are fine good absent from is = absurd cc
-found_given checks J did time moment repository row short are fine good (unfit n) from is = absurd cc
-found_given checks J did time moment repository row short are fine good (found head records block) from is =
+    → sync_refusal (account did J) ≡ None → (f : Found) (calls : List Call) → IsFetchedFrom repository did (last_rev (account did J).repo) moment (is_good f) f calls → IsFetchCommand (last_seq J) did time moment f (CommandAnswer.Made row) → IsGiven checks J row
+found_given checks J did time moment repository row short are fine absent calls from is = absurd cc
+found_given checks J did time moment repository row short are fine (unfit n) calls from is = absurd cc
+found_given checks J did time moment repository row short are fine (found head records block) calls from is =
     let made = row_is row (Row.Synced did (whole_under did time head records block (last_seq J + 1)) (Some moment)) is in
     subst (λ (x : Row). IsGiven checks J x) (sym made)
-    (record { time = time; short = short; allowed = fine; head = head; records = records; block = block; fetched = stored_found repository are did (last_rev (account did J).repo) moment good head records block from; is = refl })
+    (record { time = time; short = short; allowed = fine; head = head; records = records; block = block; fetched = stored_found repository are did (last_rev (account did J).repo) moment true head records block calls from; is = refl })
 
 synced_by : (checks : Checks) (old new : Panel) (J : List Row) (did time : List ℕ) (moment : ℕ) (repository : Option (List ℕ)) (row : Row) → IsShortText time → IsOfBytes repository
     → (q : Option Refusal) → sync_refusal (account did J) ≡ q → IsSyncedBy q old J did time moment (Some repository) (CommandAnswer.Made row) new → IsGiven checks J row
@@ -175,8 +203,7 @@ synced_by checks old new J did time moment repository row short are (Some r) fin
     refused_not : (x : Row) (r : Refusal) → CommandAnswer.Made x ≡ CommandAnswer.Refused r → ⊥
     refused_not x r same = absurd cc
 synced_by checks old new J did time moment repository row short are None fine by =
-    let from = by.fetched repository refl in
-    found_given checks J did time moment repository row short are fine from.0 by.found from.1 by.command_is
+    found_given checks J did time moment repository row short are fine by.found by.fetch.calls by.fetch.fetched by.command_is
 
 pub synced_given : SyncedAreGiven
 synced_given checks old new J did time moment repository row short are by =

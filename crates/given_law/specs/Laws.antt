@@ -12,10 +12,10 @@ use Rattle.relay_step.specs.declared.command.CommandAnswer.{CommandAnswer}
 use Rattle.chain_law.specs.Given.{AreGiven, IsGiven}
 use Rattle.given_law.specs.Made.{AreOfBytes, IsOfBytes, GiveBytes, ComeByCommands}
 
--- Behind rows that are given, the rows of steps are given, where the repositories tell.
+-- Behind rows that are given, the rows of steps are given, where the repositories that tell give bytes.
 abbrev pub StepsAreGiven : Type 0
 StepsAreGiven = (checks : Checks) (clock_tells repos_tell : Bool) (J : List Row) (ended : List (List ℕ)) (old new : Around) (steps : List Step)
-    → IsTrue repos_tell → GiveBytes old.repository → AreOfBytes steps → AreGiven checks [] J
+    → (IsTrue repos_tell → GiveBytes old.repository) → AreOfBytes steps → AreGiven checks [] J
     → AreSteps checks J ended steps → AllAsked clock_tells repos_tell J old steps new → AreGiven checks [] (J ++ rows steps)
 
 -- So is the row of an account that is taken down or restored, at a time that is short text.

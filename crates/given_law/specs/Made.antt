@@ -34,8 +34,7 @@ pub record TakesMessages (checks : Checks) (J K : List Row) : Type 0 where
   pub steps : List Step
   pub are : AreSteps checks J ended steps
   pub asked : AllAsked clock_tells repos_tell J old steps new
-  pub tell : IsTrue repos_tell
-  pub repositories : GiveBytes old.repository
+  pub repositories : IsTrue repos_tell → GiveBytes old.repository
   pub messages : AreOfBytes steps
   pub held : List Row
   pub lost : List Row

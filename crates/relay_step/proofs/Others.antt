@@ -54,9 +54,10 @@ unread_decided c host fault checks J opens links holds = (refl, refl)
 
 pub nothing_asked : (clock_tells repos_tell : Bool) (c : Core) (old new : Around) (host : List ℕ) (frame : Result Frame FrameFault) (pass : Pass) → AskedNothing clock_tells repos_tell old new → IsAskedOf clock_tells repos_tell c old host frame (skipped pass) new
 nothing_asked clock_tells repos_tell c old new host frame pass is J holds = record {
-  answered = record { calls = []; are = refl; made = is.panel };
+  fetch = [];
+  fetched = refl;
+  made = is.panel;
   timed = is.moments;
-  fetched = λ tells. tt;
   same = is.same;
 }
 
@@ -124,9 +125,10 @@ module _ (clock_tells : Bool) (c : Core) (host : List ℕ) (frame : Frame) (t : 
       let P : Frame → Type 0 = λ f. AskedOf clock_tells repos_tell J (around panel moments old) host (Ok f) (recorded t) (around panel left new) in
       let Q : Taken → Type 0 = λ u. AskedOf clock_tells repos_tell J (around panel moments old) host (Ok (Frame.Faulty is.seq)) (recorded u) (around panel left new) in
       subst P (sym is.is) (subst Q (sym is.taken) (record {
-        answered = record { calls = []; are = refl; made = refl };
+        fetch = [];
+        fetched = refl;
+        made = refl;
         timed = λ tells. (ap Some (is.timed tells).next, (is.timed tells).gone);
-        fetched = λ tells loses. absurd cc;
         same = same;
       }))
 
@@ -146,24 +148,25 @@ module _ (clock_tells : Bool) (c : Core) (host : List ℕ) (frame : Frame) (t : 
 
 -- ---- an event
 
-zero_or : (tells : Bool) (last : ℕ) (a : State) (e : Seen) (repository : List ℕ → Option (List ℕ)) (moment : ℕ) (r : Option Refusal) (o : Option Fetched) (fetch : List Call) → IsFetchedSo tells last a e repository moment r o fetch → first_seq (events_of (fetched_of r o)) < NUMBERS
-zero_or tells last a e repository moment None None fetch is = lit< tt
-zero_or tells last a e repository moment (Some r) None fetch is = lit< tt
-zero_or tells last a e repository moment r (Some f) fetch is =
+zero_or : (tells : Bool) (last : ℕ) (a : State) (e : Seen) (repository : List ℕ → Option (List ℕ)) (moment : ℕ) (r : Option Refusal) (o : Option Fetched) (what : Found) (fetch : List Call) → IsSendable last e what → IsFetchedSo tells last a e repository moment r o what fetch
+    → first_seq (events_of (fetched_of r o)) < NUMBERS
+zero_or tells last a e repository moment None None what fetch can is = lit< tt
+zero_or tells last a e repository moment (Some r) None what fetch can is = lit< tt
+zero_or tells last a e repository moment r (Some f) what fetch can is =
     let P : Fetched → Type 0 = λ g. first_seq (events_of g) < NUMBERS in
-    subst P (sym (fetched_there tells last a e repository moment r f fetch is)) (go is.what is.sendable)
+    subst P (sym (fetched_there tells last a e repository moment r f what fetch is)) (go what can)
   where
     go : (w : Found) → IsSendable last e w → first_seq (events_of (fetched_as last e w)) < NUMBERS
     go absent can = lit< tt
     go (unfit n) can = lit< tt
     go (found head records block) can = (can head records block refl).number
 
-seq_below : (tells : Bool) (c : Core) (a : State) (host : List ℕ) (e : Seen) (x : Answers) (d : Decision) (repository : List ℕ → Option (List ℕ)) (moment : ℕ) (fetch : List Call) → (goes_out d.refusal d.held ≡ true → c.last + 1 < NUMBERS)
-    → IsFetchedSo tells c.last a e repository moment d.refusal x.fetched fetch → seq_in (Row.Taken (event_taken c.last host e d x)) < NUMBERS
-seq_below tells c a host e x d repository moment fetch number so =
+seq_below : (tells : Bool) (c : Core) (a : State) (host : List ℕ) (e : Seen) (x : Answers) (d : Decision) (repository : List ℕ → Option (List ℕ)) (moment : ℕ) (what : Found) (fetch : List Call) → (goes_out d.refusal d.held ≡ true → c.last + 1 < NUMBERS)
+    → IsSendable c.last e what → IsFetchedSo tells c.last a e repository moment d.refusal x.fetched what fetch → seq_in (Row.Taken (event_taken c.last host e d x)) < NUMBERS
+seq_below tells c a host e x d repository moment what fetch number can so =
     elim (goes_out d.refusal d.held) as (λ b. goes_out d.refusal d.held ≡ b → seq_in (Row.Taken (event_taken c.last host e d x)) < NUMBERS) [
       | true ↦ λ out. let P : ℕ → Type 0 = λ n. n < NUMBERS in subst P (sym (sent_gives c.last host e x d out)) (number out)
-      | false ↦ λ out. rw out (zero_or tells c.last a e repository moment d.refusal x.fetched fetch so)
+      | false ↦ λ out. rw out (zero_or tells c.last a e repository moment d.refusal x.fetched what fetch can so)
     ] refl
 
 pub event_kept : (clock_tells repos_tell : Bool) (c : Core) (host : List ℕ) (e : Seen) (t : Taken) (old new : Around) → EventRecorded clock_tells repos_tell c host e t old new → MadeRowsAreFormed → IsEvent e → names_host host ≡ true → KeepsJournal c (Row.Taken t ∷ [])
@@ -175,9 +178,9 @@ event_kept clock_tells repos_tell c host e t old new is law event named J holds 
     let S : Taken → Type 0 = λ u. seq_in (Row.Taken u) < NUMBERS in
     law J host (Frame.Event e) is.x is.d (Row.Taken t) journal named event
     (subst B (holds.accounts e.did) (subst A holds.last is.right))
-    (subst D (holds.accounts e.did) (subst C (cursor_tells c J holds host) is.done))
+    (subst D (holds.accounts e.did) (subst C (cursor_tells c J holds host) is.answered.done))
     (ap (λ (n : ℕ). Some (Row.Taken (event_taken n host e is.d is.x))) (sym holds.last) ∙ ap (λ (u : Taken). Some (Row.Taken u)) (sym is.taken))
-    (subst S (sym is.taken) (seq_below repos_tell c (account_in c e.did) host e is.x is.d old.repository (or_zero is.x.moment) is.fetch is.number is.fetched))
+    (subst S (sym is.taken) (seq_below repos_tell c (account_in c e.did) host e is.x is.d old.repository (or_zero is.x.moment) is.what is.answered.fetch is.number is.sendable is.answered.fetched))
 
 -- ---- what came of an event, or of another message
 

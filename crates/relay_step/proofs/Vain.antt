@@ -1,22 +1,24 @@
 -- What was asked in vain, and the causes of faults.
 use Rattle.std.proofs.Common.{◌≡◌, ℕ, ◌≤◌, inl, inr, Bool, true, false, cond, List, [], ◌∷◌, ◌++◌, length, Option, Some, None, Result, Ok, Err, refl, sym, ap, ◌∙◌, subst, arith}
-use Rattle.std.specs.Prelude.{◌==◌, OnErr, IfOk, IfErr}
+use Rattle.std.specs.Prelude.{OnErr, IfOk, IfErr}
 use Rattle.std.specs.List.{filter}
-use Rattle.at_authority.specs.Calls.{Call, fails, IsCall, AreCalls}
+use Rattle.at_authority.specs.Calls.{Call, answers, fails, IsCall, AreCalls}
+use Rattle.at_authority.specs.Queries.{asks_verdict}
 use Rattle.at_authority.specs.Panels.{Panel}
 use Rattle.at_authority.proofs.Runs.{join}
 use Rattle.at_event.specs.Seen.{Seen}
-use Rattle.relay_core.specs.Decide.{Found, absent, unfit, found}
+use Rattle.relay_core.specs.Decide.{Found}
+use Rattle.relay_core.specs.Table.{is_ahead}
 use Rattle.relay_core.specs.declared.answers.Answers.{Answers}
 use Rattle.relay_core.specs.declared.answers.Question.{Question}
-use Rattle.relay_core.specs.declared.limits.TheConstants.{FETCHED_UNSIGNED}
-use Rattle.relay_step.specs.Asked.{AllAbout, AskedInVain, IsRefusedOnce, Where, is_refresh, signed_by, verdict_call}
-use Rattle.at_cid.specs.Counts.{Rose}
+use Rattle.repo_sync.specs.declared.fault.RepoFault.{RepoFault}
+use Rattle.repo_sync.specs.declared.found.Found.{Found as Checked}
+use Rattle.relay_step.specs.Asked.{AllAbout, AskedInVain, is_refresh, signed_by, verdict_call}
 use Rattle.relay_core.specs.declared.decision.Next.{Next}
 use Rattle.relay_step.specs.Causes.{IsCause, OneTaken}
 use Rattle.relay_step.specs.Fetches.{AskedPlain}
 use Rattle.relay_step.specs.declared.fault.StepFault.{StepFault}
-use Rattle.relay_step.specs.Operators.{AnsweredFetch, AreFoundCalls}
+use Rattle.relay_step.specs.Fetching.{AnsweredFetch, IsFetchedAs, IsFetchedFrom, is_good, verdict_on}
 use Rattle.relay_step.specs.Questions.{IsTimedSo, calls_told, home_told, is_fetch, is_last, refresh_told, verdict_told}
 
 about_joined : (did : List ℕ) (xs ys : List Call) → AllAbout did xs → AllAbout did ys → AllAbout did (xs ++ ys)
@@ -74,17 +76,31 @@ plain_failed old new did call = record { calls = fails did ∷ []; about = (refl
 pub vain_plain : (old new : Panel) (did : List ℕ) → AskedPlain old did new → AskedInVain old did new
 vain_plain old new did plain = record { calls = plain.calls; about = plain.about; once = rw plain.plain (omega arith); made = plain.made }
 
-found_plain : (did : List ℕ) (f : Found) (calls : List Call) → AreFoundCalls did f calls → AllAbout did calls × (filter is_refresh calls ≡ [])
-found_plain did absent calls are = rw are (tt, refl)
-found_plain did (unfit n) calls are = go (n == FETCHED_UNSIGNED) are
-  where
-    go : (b : Bool) → Where b (IsRefusedOnce did calls) (calls ≡ []) → AllAbout did calls × (filter is_refresh calls ≡ [])
-    go true is = rw is.are ((refl, tt), refl)
-    go false is = rw is (tt, refl)
-found_plain did (found head records block) calls are = rw are.are ((refl, tt), refl)
+-- a fetch asks about its account, and for no refresh
+abbrev IsPlain : List ℕ → List Call → Type 0
+IsPlain did calls = AllAbout did calls × (filter is_refresh calls ≡ [])
 
-pub plain_fetch : (old new : Panel) (did : List ℕ) (f : Found) → AnsweredFetch old did f new → AskedPlain old did new
-plain_fetch old new did f is = let both = found_plain did f is.calls is.are in record { calls = is.calls; about = both.0; plain = both.1; made = is.made }
+none_plain : (did : List ℕ) (calls : List Call) → calls ≡ [] → IsPlain did calls
+none_plain did calls is = subst (IsPlain did) (sym is) (tt, refl)
+
+verdict_plain : (did : List ℕ) (moment : ℕ) (good : Bool) (answer : Result Checked RepoFault) → IsPlain did (verdict_on did moment good answer)
+verdict_plain did moment good (Ok checked) =
+    elim (is_ahead checked.head.rev (Some moment)) as (λ b. IsPlain did (cond b [] (answers (asks_verdict did checked.digest checked.sig) good ∷ []))) [
+      | true ↦ (tt, refl)
+      | false ↦ ((refl, tt), refl)
+    ]
+verdict_plain did moment good (Err fault) = (tt, refl)
+
+from_plain : (o : Option (List ℕ)) (did : List ℕ) (least : Option ℕ) (moment : ℕ) (good : Bool) (f : Found) (calls : List Call) → IsFetchedFrom o did least moment good f calls → IsPlain did calls
+from_plain None did least moment good f calls is = none_plain did calls is.1
+from_plain (Some bytes) did least moment good f calls is = subst (IsPlain did) (sym is.asked) (verdict_plain did moment good is.answer)
+
+found_plain : (o : Option (Option (List ℕ))) (did : List ℕ) (least : Option ℕ) (moment : ℕ) (f : Found) (calls : List Call) → IsFetchedAs o did least moment f calls → IsPlain did calls
+found_plain (Some o) did least moment f calls is = from_plain o did least moment (is_good f) f calls is
+found_plain None did least moment f calls (some, are, from) = from_plain some did least moment (is_good f) f calls from
+
+pub plain_fetch : (o : Option (Option (List ℕ))) (did : List ℕ) (least : Option ℕ) (moment : ℕ) (old : Panel) (f : Found) (new : Panel) → AnsweredFetch o did least moment old f new → AskedPlain old did new
+plain_fetch o did least moment old f new is = let both = found_plain o did least moment f is.calls is.fetched in record { calls = is.calls; about = both.0; plain = both.1; made = is.made }
 
 pub plain_failed_as : (old new : Panel) (did d : List ℕ) → d ≡ did → IsCall (fails d) old new → AskedPlain old did new
 plain_failed_as old new did d same call = let P : List ℕ → Type 0 = λ x. IsCall (fails x) old new in plain_failed old new did (subst P same call)
@@ -101,26 +117,22 @@ pub one_taken : (moments : List ℕ) (m : Option ℕ) (left : List ℕ) → IsTi
 one_taken moments None left h = inl h
 one_taken moments (Some m) left h = inr h.gone
 
-pub cause_later : (spent : Type 0) (a b c : ℕ) (fault : StepFault) → a ≤ b → IsCause ⊥ spent ⊥ (Rose b c) fault → IsCause ⊥ spent ⊥ (Rose a c) fault
-cause_later spent a b c StepFault.SeqEnd low h = h
-cause_later spent a b c StepFault.Authority low h = h
-cause_later spent a b c StepFault.Repos low h = h
-cause_later spent a b c StepFault.Clock low h = omega (arith, low, h)
-cause_later spent a b c StepFault.Memory low h = tt
+pub cause_map : (A B S T R Q C D : Type 0) → (A → B) → (S → T) → (R → Q) → (C → D) → (fault : StepFault) → IsCause A S R C fault → IsCause B T Q D fault
+cause_map A B S T R Q C D ends spent repos clock StepFault.SeqEnd h = ends h
+cause_map A B S T R Q C D ends spent repos clock StepFault.Authority h = spent h
+cause_map A B S T R Q C D ends spent repos clock StepFault.Repos h = repos h
+cause_map A B S T R Q C D ends spent repos clock StepFault.Clock h = clock h
+cause_map A B S T R Q C D ends spent repos clock StepFault.Memory h = tt
 
-pub cause_as : (A B S R C : Type 0) (fault : StepFault) → (A → B) → IsCause A ⊥ ⊥ ⊥ fault → IsCause B S R C fault
-cause_as A B S R C StepFault.SeqEnd f h = f h
-cause_as A B S R C StepFault.Authority f h = absurd h
-cause_as A B S R C StepFault.Repos f h = absurd h
-cause_as A B S R C StepFault.Clock f h = absurd h
-cause_as A B S R C StepFault.Memory f h = tt
+pub no_cause : (B : Type 0) → ⊥ → B
+no_cause B h = absurd h
 
-pub cause_lost : (A B S R C : Type 0) (fault : StepFault) → (A → B) → IsCause A S R ⊥ fault → IsCause B S R C fault
-cause_lost A B S R C StepFault.SeqEnd f h = f h
-cause_lost A B S R C StepFault.Authority f h = h
-cause_lost A B S R C StepFault.Repos f h = h
-cause_lost A B S R C StepFault.Clock f h = absurd h
-cause_lost A B S R C StepFault.Memory f h = tt
+pub same_cause : (B : Type 0) → B → B
+same_cause B h = h
+
+-- where only the numbers may have ended
+pub cause_ends : (A B S R C : Type 0) → (A → B) → (fault : StepFault) → IsCause A ⊥ ⊥ ⊥ fault → IsCause B S R C fault
+cause_ends A B S R C ends fault h = cause_map A B ⊥ S ⊥ R ⊥ C ends (no_cause S) (no_cause R) (no_cause C) fault h
 
 pub if_ok : {A E : Type 0} (r : Result A E) (P Q : A → Type 0) → ((x : A) → P x → Q x) → IfOk r P → IfOk r Q
 if_ok (Ok x) P Q f h = f x h

@@ -1,12 +1,13 @@
 -- What steps ask of the parts that are handed in: judges, a clock and repositories (own).
 use Rattle.std.specs.Prelude.{◌≡◌, ℕ, Bool, List, [], ◌∷◌, ◌++◌, Option, Some, Result, IsTrue}
+use Rattle.at_authority.specs.Calls.{Call, AreCalls}
 use Rattle.at_authority.specs.Panels.{Panel}
 use Rattle.at_event.specs.Frames.{frame_of}
 use Rattle.at_event.specs.declared.frame.Frame.{Frame}
 use Rattle.at_event.specs.declared.frame.FrameFault.{FrameFault}
 use Rattle.relay_io.specs.Moments.{first_moment, later_moments}
 use Rattle.relay_row.specs.declared.row.Row.{Row}
-use Rattle.relay_step.specs.Asked.{Answered}
+use Rattle.relay_step.specs.Asked.{step_calls}
 use Rattle.relay_step.specs.Fetching.{IsFetchedTold}
 use Rattle.relay_step.specs.Steps.{Decided, after_end, skipped, recorded, Step, rows_decided}
 
@@ -28,11 +29,13 @@ IsTimed moments (recorded t) left = (t.moment ≡ Some (first_moment moments)) �
 abbrev pub SameRepositories : (List ℕ → Option (List ℕ)) → (List ℕ → Option (List ℕ)) → Type 0
 SameRepositories old new = (did : List ℕ) → new did ≡ old did
 
--- What a host's message, as it reads, asked behind the journal J where this came of it: of the clock and of the repositories where they tell.
+-- What a host's message, as it reads, asked behind the journal J where this came of it: of the judges, of the clock where it tells, and of the repositories.
 pub record AskedOf (clock_tells repos_tell : Bool) (J : List Row) (old : Around) (host : List ℕ) (frame : Result Frame FrameFault) (told : Decided) (new : Around) : Type 0 where
-  pub answered : Answered old.panel host frame told new.panel
+  -- the calls of the judges for its fetch, and what that found
+  pub fetch : List Call
+  pub fetched : IsFetchedTold repos_tell old.repository J told fetch
+  pub made : AreCalls old.panel (step_calls host frame told fetch) new.panel
   pub timed : IsTrue clock_tells → IsTimed old.moments told new.moments
-  pub fetched : IsTrue repos_tell → IsFetchedTold old.repository J told
   pub same : IsTrue repos_tell → SameRepositories old.repository new.repository
 
 -- What one step behind the journal J asked, and was told.

@@ -3,8 +3,6 @@ use Rattle.std.specs.Prelude.{◌≡◌, ℕ, ◌≤◌, Bool, true, false, ◌&
 use Rattle.std.specs.List.{filter}
 use Rattle.sha2.specs.Sha256.{sha256}
 use Rattle.at_car.specs.Car.{car_of}
-use Rattle.at_commit.specs.Commit.{commit_of}
-use Rattle.at_commit.specs.declared.commit.Commit.{Commit}
 use Rattle.at_event.specs.Refusals.{code_of}
 use Rattle.at_event.specs.Seen.{Seen}
 use Rattle.at_event.specs.declared.event.Body.{Body}
@@ -16,10 +14,7 @@ use Rattle.event_checks.specs.Table.{car_in}
 use Rattle.at_authority.specs.Calls.{Call, answers, refreshes, did_called, AreCalls}
 use Rattle.at_authority.specs.Panels.{Panel}
 use Rattle.at_authority.specs.Queries.{asks_home, asks_verdict}
-use Rattle.relay_row.specs.declared.fetched.Fetched.{Fetched}
-use Rattle.relay_row.specs.declared.taken.Taken.{Taken}
-use Rattle.relay_core.specs.Shown.{shows_home, shows_verdict, commit_block_in}
-use Rattle.relay_core.specs.declared.limits.TheConstants.{FETCHED_UNSIGNED}
+use Rattle.relay_core.specs.Shown.{shows_home, shows_verdict}
 use Rattle.relay_step.specs.Steps.{Decided, after_end, skipped, recorded}
 
 -- the digest that was signed, and the signature, of the commit object in a CAR
@@ -56,47 +51,16 @@ verdict_call did (Some signed) good = answers (asks_verdict did signed.0 signed.
 abbrev pub verdict_calls : Seen → Option Refusal → List Call
 verdict_calls e r = if asks_for_verdict r then verdict_call e.did (signed_by e.body) (shows_verdict r) else []
 
--- The signature of a commit that was fetched is asked for, where nothing before it stops its repository.
-pub record IsAskedOf (did block : List ℕ) (calls : List Call) : Type 0 where
-  pub commit : Commit
-  pub object : commit_of block ≡ Ok commit
-  pub are : calls ≡ answers (asks_verdict did (sha256 commit.unsigned) commit.sig) true ∷ []
-
--- a bad one, of a commit that isn't kept
-pub record IsRefusedOnce (did : List ℕ) (calls : List Call) : Type 0 where
-  pub digest : List ℕ
-  pub sig : List ℕ
-  pub are : calls ≡ answers (asks_verdict did digest sig) false ∷ []
-
--- the one where a test holds, the other where it doesn't
-abbrev pub Where : Bool → Type 0 → Type 0 → Type 0
-Where true held other = held
-Where false held other = other
-
-abbrev pub AreFetchCalls : List ℕ → Fetched → List Call → Type 0
-AreFetchCalls did Fetched.NotAsked calls = calls ≡ []
-AreFetchCalls did Fetched.Absent calls = calls ≡ []
-AreFetchCalls did (Fetched.Refused n) calls = Where (n == FETCHED_UNSIGNED) (IsRefusedOnce did calls) (calls ≡ [])
-AreFetchCalls did (Fetched.Whole w) calls = IsAskedOf did (commit_block_in w.message w.head.commit) calls
-
--- the calls of a step that made a row of an event
-pub record AreCallsOf (host : List ℕ) (e : Seen) (t : Taken) (calls : List Call) : Type 0 where
-  pub fetch : List Call
-  pub fetched : AreFetchCalls e.did t.fetched fetch
-  pub are : calls ≡ home_calls host e t.refusal ++ (verdict_calls e t.refusal ++ fetch)
+-- the calls about an event to which a refusal applies, or none: behind those of its own table, those of its fetch
+abbrev pub event_calls : List ℕ → Seen → Option Refusal → List Call → List Call
+event_calls host e r fetch = home_calls host e r ++ (verdict_calls e r ++ fetch)
 
 -- the calls of a step: one that makes no row makes none, nor does an event with a bad field
-abbrev pub AreStepCalls : List ℕ → Result Frame FrameFault → Decided → List Call → Type 0
-AreStepCalls host frame after_end calls = calls ≡ []
-AreStepCalls host frame (skipped pass) calls = calls ≡ []
-AreStepCalls host (Ok (Frame.Event e)) (recorded t) calls = AreCallsOf host e t calls
-AreStepCalls host frame (recorded t) calls = calls ≡ []
-
--- Between these panels the judges were asked what the step shows, and nothing else.
-pub record Answered (old : Panel) (host : List ℕ) (frame : Result Frame FrameFault) (told : Decided) (new : Panel) : Type 0 where
-  pub calls : List Call
-  pub are : AreStepCalls host frame told calls
-  pub made : AreCalls old calls new
+abbrev pub step_calls : List ℕ → Result Frame FrameFault → Decided → List Call → List Call
+step_calls host frame after_end fetch = []
+step_calls host frame (skipped pass) fetch = []
+step_calls host (Ok (Frame.Event e)) (recorded t) fetch = event_calls host e t.refusal fetch
+step_calls host frame (recorded t) fetch = []
 
 abbrev pub is_refresh : Call → Bool
 is_refresh (refreshes did) = true

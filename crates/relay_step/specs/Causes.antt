@@ -1,13 +1,17 @@
 -- Why a message or a word came to nothing, and what was asked until then.
-use Rattle.std.specs.Prelude.{◌≡◌, ⊤, ℕ, List, Bool, Result, Ok, Err, IsTrue, ◌⊎◌}
+use Rattle.std.specs.Prelude.{◌≡◌, ⊤, ℕ, List, Bool, None, Result, Ok, Err, IsTrue, ◌⊎◌}
 use Rattle.at_syntax.specs.Did.{method_of}
 use Rattle.at_authority.specs.Calls.{Call, fails}
 use Rattle.at_authority.specs.Panels.{Panel, IsSpent}
 use Rattle.at_event.specs.declared.frame.Frame.{Frame}
 use Rattle.at_event.specs.declared.frame.FrameFault.{FrameFault}
 use Rattle.relay_io.specs.Moments.{later_moments}
+use Rattle.relay_core.specs.Decide.{passed}
+use Rattle.relay_core.specs.Entries.{cursor_in}
+use Rattle.relay_core.specs.declared.journal_state.Core.{Core}
 use Rattle.relay_step.specs.Around.{Around, SameRepositories}
 use Rattle.relay_step.specs.Asked.{AskedInVain}
+use Rattle.relay_step.specs.Questions.{length_line}
 use Rattle.relay_step.specs.declared.fault.StepFault.{StepFault}
 
 -- the cause of each fault: that the numbers end, that no authority is left, that a count of faults rose. Only running out of memory has none
@@ -23,10 +27,13 @@ abbrev pub called : {A : Type 0} → List ℕ → (A → Call) → Result A Step
 called did call (Ok x) = call x
 called did call (Err fault) = fails did
 
--- all authorities of the method of the account that a message names have fallen; a message that names none asks nobody
-abbrev pub IsSpentFor : Result Frame FrameFault → Panel → Type 0
-IsSpentFor (Ok (Frame.Event e)) panel = IsSpent (panel (method_of e.did))
-IsSpentFor other panel = ⊥
+-- All authorities of the method of the account that a message names have fallen, and the judges are asked:
+-- the event stands above its host's cursor, and its outgoing message isn't too long.
+abbrev pub IsSpentFor : Core → List ℕ → Result Frame FrameFault → Panel → Type 0
+IsSpentFor c host (Ok (Frame.Event e)) panel =
+    (passed (cursor_in c host) (Frame.Event e) ≡ None) × (length_line e ≡ None)
+    × IsSpent (panel (method_of e.did))
+IsSpentFor c host other panel = ⊥
 
 -- what a message asked of the judges that comes to nothing
 abbrev pub AskedInVainOf : Panel → Result Frame FrameFault → Panel → Type 0

@@ -1,18 +1,21 @@
 -- What is owed of an operator's command, by the relay's state: behind each journal for which it stands (own).
-use Rattle.std.specs.Prelude.{◌≡◌, ℕ, ◌+◌, ◌≤◌, List, [], ◌∷◌, Bool, true, Option, Some, None, IsTrue, if◌then◌else◌}
-use Rattle.at_authority.specs.Panels.{Panel}
-use Rattle.at_event.specs.declared.head.Head.{Head}
+use Rattle.std.specs.Prelude.{◌≡◌, ℕ, ◌+◌, ◌≤◌, List, [], ◌∷◌, Bool, true, false, Option, Some, None, Ok, IsTrue}
+use Rattle.at_authority.specs.Panels.{IsSpent}
+use Rattle.at_syntax.specs.Did.{method_of}
 use Rattle.relay_io.specs.Moments.{first_moment, later_moments}
 use Rattle.at_cid.specs.declared.limits.TheConstants.{NUMBERS}
 use Rattle.relay_row.specs.declared.row.Row.{Row}
 use Rattle.account_state.specs.Folds.{last_rev}
-use Rattle.relay_core.specs.Decide.{found}
+use Rattle.relay_core.specs.Decide.{Found, is_found}
 use Rattle.relay_core.specs.Entries.{Holds, account_in}
 use Rattle.relay_core.specs.Operating.{operate_refusal, sync_refusal}
+use Rattle.relay_core.specs.Table.{is_ahead}
 use Rattle.relay_core.specs.declared.journal_state.Core.{Core}
+use Rattle.repo_sync.specs.Repository.{IsAnswer}
+use Rattle.repo_sync.specs.declared.found.Found.{Found as Checked}
 use Rattle.relay_step.specs.Around.{Around, SameRepositories}
-use Rattle.relay_step.specs.Fetching.{IsFetchedFrom}
-use Rattle.relay_step.specs.Operators.{AnsweredFetch, IsOperated, IsSyncedNow}
+use Rattle.relay_step.specs.Fetching.{AnsweredFetch, told_where}
+use Rattle.relay_step.specs.Operators.{IsOperated, IsSyncedNow}
 use Rattle.relay_step.specs.declared.command.CommandAnswer.{CommandAnswer}
 
 -- the rows of a word
@@ -35,20 +38,36 @@ pub record OperatedAt (clock_tells : Bool) (c : Core) (did : List ℕ) (down : B
 abbrev pub EndsBehind : Core → List ℕ → Bool → Type 0
 EndsBehind c did down = (operate_refusal (account_in c did) down ≡ None) × (NUMBERS ≤ c.last + 1)
 
--- The numbers end: the one behind the last is none, and the word isn't refused, and what was fetched at a moment would be taken over.
-pub record EndsFetched (c : Core) (did : List ℕ) (repository : Option (Option (List ℕ))) (old new : Panel) : Type 0 where
+-- The numbers end: the one behind the last is none, the word isn't refused, and what was fetched at a moment of the clock
+-- would be taken over.
+pub record EndsFetched (clock_tells repos_tell : Bool) (c : Core) (did : List ℕ) (old new : Around)
+    : Type 0 where
   pub ends : NUMBERS ≤ c.last + 1
   pub fine : sync_refusal (account_in c did) ≡ None
   pub moment : ℕ
-  pub head : Head
-  pub records : ℕ
-  pub block : List ℕ
-  pub asked : AnsweredFetch old did (found head records block) new
-  pub fetched : (bytes : Option (List ℕ)) → repository ≡ Some bytes → IsFetchedFrom bytes did (last_rev (account_in c did).repo) moment true (found head records block)
+  pub now : IsTrue clock_tells → IsNow old.moments moment new.moments
+  pub found : Found
+  pub whole : is_found found ≡ true
+  pub fetch : AnsweredFetch (told_where repos_tell (old.repository did)) did
+      (last_rev (account_in c did).repo) moment old.panel found new.panel
 
--- what is told, where it is
-abbrev pub told_where : {A : Type 0} → Bool → A → Option A
-told_where tells x = if tells then Some x else None
+-- the signature of a repository's commit is asked for: it is whole, and its revision isn't far ahead of the moment
+abbrev pub IsJudged : Option (List ℕ) → List ℕ → Option ℕ → ℕ → Type 0
+IsJudged None did least moment = ⊥
+IsJudged (Some bytes) did least moment =
+    (checked : Checked) × IsAnswer did least bytes (Ok checked)
+    × (is_ahead checked.head.rev (Some moment) ≡ false)
+
+-- No authority of the account's method is left, and the judges are asked: the word isn't refused, and what is fetched
+-- at a moment of the clock is judged.
+pub record SpentFetching (clock_tells repos_tell : Bool) (c : Core) (did : List ℕ)
+    (old new : Around) : Type 0 where
+  pub fine : sync_refusal (account_in c did) ≡ None
+  pub moment : ℕ
+  pub now : IsTrue clock_tells → IsNow old.moments moment new.moments
+  pub judged : IsTrue repos_tell
+      → IsJudged (old.repository did) did (last_rev (account_in c did).repo) moment
+  pub spent : IsSpent (new.panel (method_of did))
 
 -- An account was synchronized at a moment of the clock with what its repository came to, or the word was refused.
 pub record SyncedAt (clock_tells repos_tell : Bool) (c : Core) (did time : List ℕ) (old : Around) (command : CommandAnswer) (new : Around) : Type 0 where

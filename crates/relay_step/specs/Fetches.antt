@@ -1,5 +1,5 @@
 -- What a fetch found, as rows and the relay's own events need it (own).
-use Rattle.std.specs.Prelude.{◌≡◌, ⊤, ℕ, ◌+◌, ◌<◌, ◌^◌, Bool, true, not, ◌==◌, List, [], length, Option, Some, None}
+use Rattle.std.specs.Prelude.{◌≡◌, ⊤, ℕ, ◌+◌, ◌<◌, ◌^◌, true, List, [], length, Option, Some, None}
 use Rattle.std.specs.List.{filter}
 use Rattle.at_authority.specs.Calls.{Call, AreCalls}
 use Rattle.at_authority.specs.Panels.{Panel}
@@ -11,7 +11,6 @@ use Rattle.relay_row.specs.Rules.{is_head, is_message, is_repo_number}
 use Rattle.relay_row.specs.declared.fetched.Fetched.{Fetched}
 use Rattle.at_cid.specs.declared.limits.TheConstants.{NUMBERS}
 use Rattle.relay_core.specs.Decide.{Found, absent, unfit, found, commit_car, sync_message, whole_under}
-use Rattle.relay_core.specs.declared.limits.TheConstants.{FETCHED_UNSIGNED}
 use Rattle.repo_sync.specs.Repository.{IsWhole}
 use Rattle.repo_sync.specs.Faults.{fault_number}
 use Rattle.repo_sync.specs.declared.fault.RepoFault.{RepoFault}
@@ -34,12 +33,6 @@ abbrev pub refused_as : RepoFault → Option ℕ
 refused_as RepoFault.Memory = None
 refused_as RepoFault.Failed = None
 refused_as fault = Some (fault_number fault)
-
--- a bad signature where what was found says so, else a good one
-abbrev pub is_good : Found → Bool
-is_good absent = true
-is_good (unfit n) = not (n == FETCHED_UNSIGNED)
-is_good (found head records block) = true
 
 -- what was found is the whole of some bytes
 pub record IsOfBytes (did : List ℕ) (least : Option ℕ) (checked : Checked) : Type 0 where

@@ -1,14 +1,17 @@
--- What the fetch of a repository finds (own).
-use Rattle.std.specs.Prelude.{◌≡◌, ℕ, Bool, true, List, Option, Some, None, Result, Ok, Err, IsTrue, ◌==◌, not}
+-- What the fetch of a repository finds, and what it asks of the judges (own).
+use Rattle.std.specs.Prelude.{◌≡◌, ⊤, ℕ, Bool, true, false, List, [], ◌∷◌, Option, Some, None, Result, Ok, Err, ◌==◌, not, if◌then◌else◌}
+use Rattle.at_authority.specs.Calls.{Call, answers, AreCalls}
+use Rattle.at_authority.specs.Panels.{Panel}
+use Rattle.at_authority.specs.Queries.{asks_verdict}
+use Rattle.at_cid.specs.Link.{IsBytes}
 use Rattle.at_event.specs.Refusals.{code_of}
 use Rattle.at_event.specs.declared.refusal.Refusal.{Refusal}
 use Rattle.relay_row.specs.Rules.{loses}
-use Rattle.relay_row.specs.declared.fetched.Fetched.{Fetched}
 use Rattle.relay_row.specs.declared.row.Row.{Row}
-use Rattle.relay_row.specs.declared.taken.Taken.{Taken}
 use Rattle.account_state.specs.Folds.{account, last_rev}
-use Rattle.relay_core.specs.Decide.{Found, absent, unfit, judged}
+use Rattle.relay_core.specs.Decide.{Found, absent, unfit, found, judged}
 use Rattle.relay_core.specs.Shown.{found_in, or_zero}
+use Rattle.relay_core.specs.Table.{is_ahead}
 use Rattle.relay_core.specs.declared.limits.TheConstants.{FETCHED_UNSIGNED}
 use Rattle.repo_sync.specs.Faults.{fault_number}
 use Rattle.repo_sync.specs.Repository.{IsAnswer}
@@ -21,29 +24,77 @@ abbrev pub found_by : ℕ → Bool → Result Checked RepoFault → Found
 found_by moment good (Ok checked) = judged moment good checked.head checked.records checked.block
 found_by moment good (Err fault) = unfit (fault_number fault)
 
--- the bytes of a repository come to this
-pub record IsFoundOf (did : List ℕ) (least : Option ℕ) (moment : ℕ) (good : Bool) (bytes : List ℕ) (f : Found) : Type 0 where
+-- what is asked about it: the signature of a commit whose repository is whole, and whose revision isn't far ahead
+abbrev pub verdict_on : List ℕ → ℕ → Bool → Result Checked RepoFault → List Call
+verdict_on did moment good (Ok checked) =
+    if is_ahead checked.head.rev (Some moment) then []
+    else answers (asks_verdict did checked.digest checked.sig) good ∷ []
+verdict_on did moment good (Err fault) = []
+
+-- the bytes of a repository come to this, and this is asked
+pub record IsFoundOf (did : List ℕ) (least : Option ℕ) (moment : ℕ) (good : Bool) (bytes : List ℕ)
+    (f : Found) (calls : List Call) : Type 0 where
   pub answer : Result Checked RepoFault
   pub is : IsAnswer did least bytes answer
   pub found_is : f ≡ found_by moment good answer
+  pub asked : calls ≡ verdict_on did moment good answer
 
--- A fetch finds this of a DID that has a repository or none.
-abbrev pub IsFetchedFrom : Option (List ℕ) → List ℕ → Option ℕ → ℕ → Bool → Found → Type 0
-IsFetchedFrom None did least moment good f = f ≡ absent
-IsFetchedFrom (Some bytes) did least moment good f = IsFoundOf did least moment good bytes f
+-- The fetch of a DID that has this repository, or none, comes to this, and this is asked.
+abbrev pub IsFetchedFrom : Option (List ℕ) → List ℕ → Option ℕ → ℕ → Bool → Found → List Call
+    → Type 0
+IsFetchedFrom None did least moment good f calls = (f ≡ absent) × (calls ≡ [])
+IsFetchedFrom (Some bytes) did least moment good f calls =
+    IsFoundOf did least moment good bytes f calls
 
--- a bad signature where what was fetched says so, else a good one
-abbrev pub fetched_good : Fetched → Bool
-fetched_good (Fetched.Refused n) = not (n == FETCHED_UNSIGNED)
-fetched_good other = true
+-- a bad signature where what was found says so, else a good one
+abbrev pub is_good : Found → Bool
+is_good absent = true
+is_good (unfit n) = not (n == FETCHED_UNSIGNED)
+is_good (found head records block) = true
 
--- Where a refusal loses its account, what was fetched is what the account's repository came to, beside the last revision before the row.
-abbrev pub IsFetched : (List ℕ → Option (List ℕ)) → List Row → Option Refusal → Taken → Type 0
-IsFetched repository J None t = Unit {0}
-IsFetched repository J (Some r) t = IsTrue (loses (code_of r))
-    → IsFetchedFrom (repository t.did) t.did (last_rev (account t.did J).repo) (or_zero t.moment) (fetched_good t.fetched) (found_in t.fetched)
+-- what is told, where it is
+abbrev pub told_where : {A : Type 0} → Bool → A → Option A
+told_where tells x = if tells then Some x else None
 
-abbrev pub IsFetchedTold : (List ℕ → Option (List ℕ)) → List Row → Decided → Type 0
-IsFetchedTold repository J after_end = Unit {0}
-IsFetchedTold repository J (skipped pass) = Unit {0}
-IsFetchedTold repository J (recorded t) = IsFetched repository J t.refusal t
+abbrev pub AreBytes : Option (List ℕ) → Type 0
+AreBytes None = ⊤
+AreBytes (Some bytes) = IsBytes bytes
+
+-- A fetch found this, and asked this: of the repository that is told, or else of some.
+abbrev pub IsFetchedAs : Option (Option (List ℕ)) → List ℕ → Option ℕ → ℕ → Found → List Call
+    → Type 0
+IsFetchedAs (Some repository) did least moment f calls =
+    IsFetchedFrom repository did least moment (is_good f) f calls
+IsFetchedAs None did least moment f calls =
+    (repository : Option (List ℕ)) × AreBytes repository
+    × IsFetchedFrom repository did least moment (is_good f) f calls
+
+-- a fetch between these panels
+pub record AnsweredFetch (repository : Option (Option (List ℕ))) (did : List ℕ) (least : Option ℕ)
+    (moment : ℕ) (old : Panel) (f : Found) (new : Panel) : Type 0 where
+  pub calls : List Call
+  pub fetched : IsFetchedAs repository did least moment f calls
+  pub made : AreCalls old calls new
+
+-- the one where a test holds, the other where it doesn't
+abbrev pub Where : Bool → Type 0 → Type 0 → Type 0
+Where true held other = held
+Where false held other = other
+
+-- What is fetched behind a refusal: the account's repository where it loses its account, beside the last revision
+-- before the row, and else nothing.
+abbrev pub IsFetched : Bool → (List ℕ → Option (List ℕ)) → List Row → List ℕ → Option Refusal → ℕ
+    → Found → List Call → Type 0
+IsFetched repos_tell repository J did None moment f calls = calls ≡ []
+IsFetched repos_tell repository J did (Some r) moment f calls = Where (loses (code_of r))
+    (IsFetchedAs (told_where repos_tell (repository did)) did (last_rev (account did J).repo)
+    moment f calls)
+    (calls ≡ [])
+
+-- the same of what came of a message
+abbrev pub IsFetchedTold : Bool → (List ℕ → Option (List ℕ)) → List Row → Decided → List Call
+    → Type 0
+IsFetchedTold repos_tell repository J after_end calls = calls ≡ []
+IsFetchedTold repos_tell repository J (skipped pass) calls = calls ≡ []
+IsFetchedTold repos_tell repository J (recorded t) calls =
+    IsFetched repos_tell repository J t.did t.refusal (or_zero t.moment) (found_in t.fetched) calls

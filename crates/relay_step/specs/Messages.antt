@@ -1,22 +1,26 @@
 -- What is owed of the decision of a message, by the relay's state: behind each journal for which it stands (own).
-use Rattle.std.specs.Prelude.{◌≡◌, ℕ, ◌+◌, ◌≤◌, List, [], ◌++◌, Bool, Some, None, Result, Ok, Err}
+use Rattle.std.specs.Prelude.{◌≡◌, ℕ, ◌+◌, ◌≤◌, List, [], ◌++◌, Bool, Option, None, Result, Ok, Err, IsTrue}
+use Rattle.at_authority.specs.Calls.{Call, AreCalls}
+use Rattle.at_event.specs.Seen.{Seen}
 use Rattle.at_event.specs.declared.frame.Frame.{Frame}
 use Rattle.at_event.specs.declared.frame.FrameFault.{FrameFault}
+use Rattle.at_event.specs.declared.refusal.Refusal.{Refusal}
 use Rattle.relay_row.specs.Folds.{last_seq, seq_in}
 use Rattle.relay_row.specs.Journal.{IsJournal}
 use Rattle.at_cid.specs.declared.limits.TheConstants.{NUMBERS}
 use Rattle.relay_row.specs.declared.row.Row.{Row}
 use Rattle.relay_row.specs.declared.taken.Taken.{Taken}
 use Rattle.account_state.specs.Folds.{account}
-use Rattle.relay_core.specs.Decide.{Checks, Outside, decided}
-use Rattle.relay_core.specs.Entries.{Holds}
+use Rattle.relay_core.specs.Decide.{Checks, Outside, decided_event, passed}
+use Rattle.relay_core.specs.Entries.{Holds, cursor_in}
 use Rattle.relay_core.specs.Opening.{OpensRight}
-use Rattle.relay_core.specs.Runs.{skipped_by}
-use Rattle.relay_core.specs.Table.{did_of}
 use Rattle.relay_core.specs.declared.decision.Pass.{Pass}
 use Rattle.relay_core.specs.declared.journal_state.Core.{Core}
 use Rattle.relay_law.specs.Right.{LinksRight}
-use Rattle.relay_step.specs.Around.{Around, Asked, AskedOf}
+use Rattle.relay_step.specs.Around.{Around, Asked, AskedOf, SameRepositories}
+use Rattle.relay_step.specs.Asked.{event_calls}
+use Rattle.relay_step.specs.Commands.{IsNow}
+use Rattle.relay_step.specs.Fetching.{IsFetched}
 use Rattle.relay_step.specs.Steps.{Decided, skipped, recorded, Step, IsDecidedAs}
 use Rattle.relay_step.specs.declared.decided.Skipped.{Skipped}
 use Rattle.relay_step.specs.declared.decided.Decided.{Decided as Outcome}
@@ -66,15 +70,26 @@ IsAsked clock_tells repos_tell c old s new = (J : List Row) → Holds c J → As
 abbrev pub KeepsJournal : Core → List Row → Type 0
 KeepsJournal c rows = (J : List Row) → Holds c J → IsJournal J → IsJournal (J ++ rows)
 
--- there are answers to a message whose row gives the number behind the last one
-pub record GivesNext (c : Core) (host : List ℕ) (frame : Frame) (checks : Checks) (J : List Row) : Type 0 where
+-- What an event asked around behind the journal J, where these were the answers and this refusal applies, or none.
+pub record AskedFor (clock_tells repos_tell : Bool) (J : List Row) (old : Around) (host : List ℕ)
+    (e : Seen) (refusal : Option Refusal) (outside : Outside) (new : Around) : Type 0 where
+  pub fetch : List Call
+  pub fetched : IsFetched repos_tell old.repository J e.did refusal outside.moment outside.fetched fetch
+  pub made : AreCalls old.panel (event_calls host e refusal fetch) new.panel
+  pub now : IsTrue clock_tells → IsNow old.moments outside.moment new.moments
+  pub same : IsTrue repos_tell → SameRepositories old.repository new.repository
+
+-- The numbers end: the one behind the last is none, and a message would give it by this row, for answers that were given.
+pub record EndsNumbers (clock_tells repos_tell : Bool) (c : Core) (old : Around) (host : List ℕ)
+    (frame : Result Frame FrameFault) (new : Around) : Type 0 where
+  pub event : Seen
   pub outside : Outside
   pub taken : Taken
-  pub above : skipped_by J (host, Ok frame) ≡ None
-  pub decides : decided checks (last_seq J) (account (did_of frame) J) host frame outside ≡ Some taken
+  pub is : frame ≡ Ok (Frame.Event event)
+  pub above : passed (cursor_in c host) (Frame.Event event) ≡ None
+  pub decides : (checks : Checks) (J : List Row) → OpensRight checks → LinksRight checks → Holds c J
+      → decided_event checks (last_seq J) (account event.did J) host event outside ≡ taken
+  pub asked : (J : List Row) → Holds c J
+      → AskedFor clock_tells repos_tell J old host event taken.refusal outside new
   pub gives : seq_in (Row.Taken taken) ≡ c.last + 1
-
--- The numbers end: the one behind the last is none, and a message would give it.
-abbrev pub EndsNumbers : Core → List ℕ → Result Frame FrameFault → Type 0
-EndsNumbers c host (Err fault) = ⊥
-EndsNumbers c host (Ok frame) = (NUMBERS ≤ c.last + 1) × ((checks : Checks) (J : List Row) → OpensRight checks → LinksRight checks → Holds c J → GivesNext c host frame checks J)
+  pub ends : NUMBERS ≤ c.last + 1

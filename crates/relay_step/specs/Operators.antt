@@ -1,6 +1,5 @@
 -- What operators' commands come to: a refusal, or a row (own).
-use Rattle.std.specs.Prelude.{◌≡◌, ℕ, ◌+◌, Bool, List, [], Option, Some, None, ◌==◌}
-use Rattle.at_authority.specs.Calls.{Call, AreCalls}
+use Rattle.std.specs.Prelude.{◌≡◌, ℕ, ◌+◌, Bool, List, Option, Some, None}
 use Rattle.at_authority.specs.Panels.{Panel}
 use Rattle.at_event.specs.declared.refusal.Refusal.{Refusal}
 use Rattle.relay_row.specs.Folds.{last_seq}
@@ -8,9 +7,7 @@ use Rattle.relay_row.specs.declared.row.Row.{Row}
 use Rattle.account_state.specs.Folds.{account, last_rev}
 use Rattle.relay_core.specs.Decide.{Found, absent, unfit, found, whole_under}
 use Rattle.relay_core.specs.Operating.{operate_refusal, operated_as, sync_refusal}
-use Rattle.relay_core.specs.declared.limits.TheConstants.{FETCHED_UNSIGNED}
-use Rattle.relay_step.specs.Asked.{IsAskedOf, IsRefusedOnce, Where}
-use Rattle.relay_step.specs.Fetching.{IsFetchedFrom}
+use Rattle.relay_step.specs.Fetching.{AnsweredFetch}
 use Rattle.relay_step.specs.declared.command.CommandAnswer.{CommandAnswer}
 
 -- Behind the journal J, taking an account down or restoring it at a moment comes to this.
@@ -25,22 +22,10 @@ IsFetchCommand last did time moment absent command = command ≡ CommandAnswer.R
 IsFetchCommand last did time moment (unfit n) command = command ≡ CommandAnswer.Refused (Refusal.RepositoryRefused n)
 IsFetchCommand last did time moment (found head records block) command = command ≡ CommandAnswer.Made (Row.Synced did (whole_under did time head records block (last + 1)) (Some moment))
 
--- what a fetch that found this asked of the judges
-abbrev pub AreFoundCalls : List ℕ → Found → List Call → Type 0
-AreFoundCalls did absent calls = calls ≡ []
-AreFoundCalls did (unfit n) calls = Where (n == FETCHED_UNSIGNED) (IsRefusedOnce did calls) (calls ≡ [])
-AreFoundCalls did (found head records block) calls = IsAskedOf did block calls
-
-pub record AnsweredFetch (old : Panel) (did : List ℕ) (f : Found) (new : Panel) : Type 0 where
-  pub calls : List Call
-  pub are : AreFoundCalls did f calls
-  pub made : AreCalls old calls new
-
 -- what an account's word of synchronizing comes to where it isn't refused at once: what its repository came to, beside the last revision
 pub record IsFetchedNow (old : Panel) (J : List Row) (did time : List ℕ) (moment : ℕ) (repository : Option (Option (List ℕ))) (command : CommandAnswer) (new : Panel) : Type 0 where
   pub found : Found
-  pub asked : AnsweredFetch old did found new
-  pub fetched : (bytes : Option (List ℕ)) → repository ≡ Some bytes → (good : Bool) × IsFetchedFrom bytes did (last_rev (account did J).repo) moment good found
+  pub fetch : AnsweredFetch repository did (last_rev (account did J).repo) moment old found new
   pub command_is : IsFetchCommand (last_seq J) did time moment found command
 
 abbrev pub IsSyncedBy : Option Refusal → Panel → List Row → List ℕ → List ℕ → ℕ → Option (Option (List ℕ)) → CommandAnswer → Panel → Type 0

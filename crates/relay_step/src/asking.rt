@@ -1,15 +1,15 @@
 //! The questions about an event, asked one at a time.
 
-ghost use Rattle.std.specs.Prelude.{◌≡◌, ◌≤◌, ◌<◌, ℕ, List, true, false, IsTrue, IfOk, IfErr, OnOk, OnErr};
+ghost use Rattle.std.specs.Prelude.{◌≡◌, ◌≤◌, ◌<◌, ℕ, List, true, false, Ok, IsTrue, IfOk, IfErr, OnOk, OnErr};
 ghost use Rattle.at_cid.specs.Counts.{Rose};
-ghost use Rattle.at_syntax.specs.Did.{is_did, method_of};
-ghost use Rattle.at_authority.specs.Panels.{IsSpent, Panel};
+ghost use Rattle.at_syntax.specs.Did.{is_did};
+ghost use Rattle.at_authority.specs.Panels.{Panel};
 ghost use Rattle.at_event.specs.declared.frame.Frame.{Frame as AFrame};
 ghost use Rattle.relay_core.specs.Entries.{account_in, cursor_in};
 ghost use Rattle.relay_core.specs.Table.{next_of};
 ghost use Rattle.relay_core.specs.declared.decision.Next.{Next as ANext};
 ghost use Rattle.relay_step.specs.Asked.{AskedInVain};
-ghost use Rattle.relay_step.specs.Causes.{IsCause, OneTaken};
+ghost use Rattle.relay_step.specs.Causes.{IsCause, IsSpentFor, OneTaken};
 ghost use Rattle.relay_step.specs.Fetches.{AskedPlain};
 ghost use Rattle.relay_step.specs.Questions.{AreAsked, IsReadFor, is_fetch, is_last, open_count};
 
@@ -65,7 +65,7 @@ fn ask_one<P: Judges, C: Clock>(
     ensures fewer { OnOk result (open_count answers.new < open_count answers.old) }
     ensures in_vain { OnErr result (AskedPlain (P.panel judges.old) event.now.did (P.panel judges.new)) }
     ensures kept { OnErr result (IsTrue C.tells → C.moments clock.new ≡ C.moments clock.old) }
-    ensures caused { IfErr result (IsCause ⊥ (IsSpent (P.panel judges.new (method_of event.now.did))) ⊥ (Rose (C.faults clock.old) (C.faults clock.new))) }
+    ensures caused { IfErr result (IsCause ⊥ (IsSpentFor core.now host.now (Ok (AFrame.Event event.now)) (P.panel judges.new)) ⊥ (Rose (C.faults clock.old) (C.faults clock.new))) }
     ensures counts { C.faults clock.old ≤ C.faults clock.new }
 {
     let did = event.did.as_str();
@@ -115,7 +115,7 @@ pub(crate) fn ask_all<P: Judges, C: Clock>(
     ensures last { IfOk result (λ x. is_last x.0 ≡ true) }
     ensures in_vain { OnErr result (AskedInVain (P.panel judges.old) event.now.did (P.panel judges.new)) }
     ensures moments { OnErr result (IsTrue C.tells → OneTaken (C.moments clock.old) (C.moments clock.new)) }
-    ensures caused { IfErr result (IsCause ⊥ (IsSpent (P.panel judges.new (method_of event.now.did))) ⊥ (Rose (C.faults clock.old) (C.faults clock.new))) }
+    ensures caused { IfErr result (IsCause ⊥ (IsSpentFor core.now host.now (Ok (AFrame.Event event.now)) (P.panel judges.new)) ⊥ (Rose (C.faults clock.old) (C.faults clock.new))) }
     ensures counts { C.faults clock.old ≤ C.faults clock.new }
 {
     let repo = repo_of(core, event.did.as_str());

@@ -2,9 +2,7 @@
 
 ghost use Rattle.std.specs.Prelude.{◌≡◌, ◌≤◌, false, Ok, IsTrue, IfOk, IfErr, OnErr};
 ghost use Rattle.at_cid.specs.Counts.{Rose};
-ghost use Rattle.at_syntax.specs.Did.{method_of};
 ghost use Rattle.at_syntax.specs.Host.{is_host};
-ghost use Rattle.at_authority.specs.Panels.{IsSpent};
 ghost use Rattle.at_event.specs.Formed.{IsFormedFrame};
 ghost use Rattle.at_event.specs.Frames.{frame_of};
 ghost use Rattle.at_event.specs.declared.frame.Frame.{Frame as AFrame};
@@ -42,7 +40,8 @@ fn decide_event<P: Judges, R: Repos, C: Clock>(
     ensures told { IfOk result (λ told. EventDecided C.tells R.tells core.now host.now event told (around (P.panel judges.old) (C.moments clock.old) (R.repository repos.old)) (around (P.panel judges.new) (C.moments clock.new) (R.repository repos.new))) }
     ensures in_vain { OnErr result (CameToNothing C.tells R.tells (AskedInVain (P.panel judges.old) event.did (P.panel judges.new))
         (around (P.panel judges.old) (C.moments clock.old) (R.repository repos.old)) (around (P.panel judges.new) (C.moments clock.new) (R.repository repos.new))) }
-    ensures caused { IfErr result (IsCause (EndsNumbers core.now host.now (Ok (AFrame.Event event))) (IsSpent (P.panel judges.new (method_of event.did)))
+    ensures caused { IfErr result (IsCause (EndsNumbers C.tells R.tells core.now (around (P.panel judges.old) (C.moments clock.old) (R.repository repos.old)) host.now (Ok (AFrame.Event event)) (around (P.panel judges.new) (C.moments clock.new) (R.repository repos.new)))
+        (IsSpentFor core.now host.now (Ok (AFrame.Event event)) (P.panel judges.new))
         (Rose (R.faults repos.old) (R.faults repos.new)) (Rose (C.faults clock.old) (C.faults clock.new))) }
     ensures clock_counts { C.faults clock.old ≤ C.faults clock.new }
     ensures repos_count { R.faults repos.old ≤ R.faults repos.new }
@@ -104,7 +103,8 @@ fn decide_frame<P: Judges, R: Repos, C: Clock>(
     ensures formed { IfOk result (λ told. KeepsJournal core.now (rows_decided (told_as told))) }
     ensures in_vain { OnErr result (CameToNothing C.tells R.tells (AskedInVainOf (P.panel judges.old) (Ok frame) (P.panel judges.new))
         (around (P.panel judges.old) (C.moments clock.old) (R.repository repos.old)) (around (P.panel judges.new) (C.moments clock.new) (R.repository repos.new))) }
-    ensures caused { IfErr result (IsCause (EndsNumbers core.now host.now (Ok frame)) (IsSpentFor (Ok frame) (P.panel judges.new))
+    ensures caused { IfErr result (IsCause (EndsNumbers C.tells R.tells core.now (around (P.panel judges.old) (C.moments clock.old) (R.repository repos.old)) host.now (Ok frame) (around (P.panel judges.new) (C.moments clock.new) (R.repository repos.new)))
+        (IsSpentFor core.now host.now (Ok frame) (P.panel judges.new))
         (Rose (R.faults repos.old) (R.faults repos.new)) (Rose (C.faults clock.old) (C.faults clock.new))) }
     ensures clock_counts { C.faults clock.old ≤ C.faults clock.new }
     ensures repos_count { R.faults repos.old ≤ R.faults repos.new }
@@ -146,7 +146,8 @@ pub fn decide_message<P: Judges, R: Repos, C: Clock>(
     // Where it fails.
     ensures in_vain { OnErr result (CameToNothing C.tells R.tells (AskedInVainOf (P.panel judges.old) (frame_of message.now) (P.panel judges.new))
         (around (P.panel judges.old) (C.moments clock.old) (R.repository repos.old)) (around (P.panel judges.new) (C.moments clock.new) (R.repository repos.new))) }
-    ensures caused { IfErr result (IsCause (EndsNumbers core.now host.now (frame_of message.now)) (IsSpentFor (frame_of message.now) (P.panel judges.new))
+    ensures caused { IfErr result (IsCause (EndsNumbers C.tells R.tells core.now (around (P.panel judges.old) (C.moments clock.old) (R.repository repos.old)) host.now (frame_of message.now) (around (P.panel judges.new) (C.moments clock.new) (R.repository repos.new)))
+        (IsSpentFor core.now host.now (frame_of message.now) (P.panel judges.new))
         (Rose (R.faults repos.old) (R.faults repos.new)) (Rose (C.faults clock.old) (C.faults clock.new))) }
     ensures clock_counts { C.faults clock.old ≤ C.faults clock.new }
     ensures repos_count { R.faults repos.old ≤ R.faults repos.new }

@@ -1,18 +1,20 @@
 //! The fetch of an account's repository.
 
-ghost use Rattle.std.specs.Prelude.{◌≡◌, ◌+◌, ◌≤◌, ◌<◌, ℕ, Option, Ok, true, IsTrue, IfOk, IfErr, OnOk, OnErr};
+ghost use Rattle.std.specs.Prelude.{◌≡◌, ◌+◌, ◌≤◌, ◌<◌, ℕ, Option, Some, Ok, true, false, IsTrue, IfOk, IfErr, OnOk, OnErr};
 ghost use Rattle.at_cid.specs.Counts.{Rose};
 ghost use Rattle.at_syntax.specs.Did.{is_did, method_of};
+ghost use Rattle.at_authority.specs.Calls.{AreCalls};
 ghost use Rattle.at_authority.specs.Panels.{IsSpent};
 ghost use Rattle.at_car.specs.Blocks.{IsLinkOf};
 ghost use Rattle.relay_row.specs.Rules.{is_message};
 ghost use Rattle.at_cid.specs.declared.limits.TheConstants.{NUMBERS};
 ghost use Rattle.relay_core.specs.Decide.{is_found, whole_under};
+ghost use Rattle.relay_core.specs.Table.{is_ahead};
 ghost use Rattle.relay_step.specs.Around.{SameRepositories};
 ghost use Rattle.relay_step.specs.Causes.{IsCause};
-ghost use Rattle.relay_step.specs.Fetches.{AskedPlain, IsOfBytes, IsSent, IsTyped, MayBeKept, found_as, is_good, judged_as, made_of, refused_as};
-ghost use Rattle.relay_step.specs.Fetching.{IsFetchedFrom, found_by};
-ghost use Rattle.relay_step.specs.Operators.{AnsweredFetch};
+ghost use Rattle.relay_step.specs.Commands.{IsJudged};
+ghost use Rattle.relay_step.specs.Fetches.{AskedPlain, IsOfBytes, IsSent, IsTyped, MayBeKept, found_as, judged_as, made_of, refused_as};
+ghost use Rattle.relay_step.specs.Fetching.{AnsweredFetch, found_by, is_good, told_where, verdict_on};
 ghost use Rattle.relay_step.specs.declared.fault.StepFault.{StepFault as Fault};
 
 use crate::fault::StepFault;
@@ -51,11 +53,11 @@ fn judge_found<P: Judges>(
     requires did { IsTrue (is_did did.now) }
     requires whole { (least : Option ℕ) × IsOfBytes did.now least found.now }
     requires records { found.now.records < NUMBERS }
-    ensures asked { IfOk result (λ number. AnsweredFetch (P.panel judges.old) did.now (judged_as found.now number) (P.panel judges.new)) }
+    ensures asked { IfOk result (λ number. AreCalls (P.panel judges.old) (verdict_on did.now moment (is_good (judged_as found.now number)) (Ok found.now)) (P.panel judges.new)) }
     ensures judged { IfOk result (λ number. judged_as found.now number ≡ found_by moment (is_good (judged_as found.now number)) (Ok found.now)) }
     ensures may { IfOk result (λ number. MayBeKept (judged_as found.now number)) }
     ensures in_vain { OnErr result (AskedPlain (P.panel judges.old) did.now (P.panel judges.new)) }
-    ensures caused { IfErr result (IsCause ⊥ (IsSpent (P.panel judges.new (method_of did.now))) ⊥ ⊥) }
+    ensures caused { IfErr result (IsCause ⊥ ((is_ahead found.now.head.rev (Some moment) ≡ false) × IsSpent (P.panel judges.new (method_of did.now))) ⊥ ⊥) }
 {
     found.head.rev.ghost_value();
     if is_ahead(found.head.rev, Some(moment)) {
@@ -96,12 +98,13 @@ pub(crate) fn fetch<P: Judges, R: Repos>(
     repos: &mut R,
 ) -> Result<FoundRepo, StepFault>
     requires did { IsTrue (is_did did.now) }
-    ensures asked { IfOk result (λ fetch. AnsweredFetch (P.panel judges.old) did.now (found_as fetch) (P.panel judges.new)) }
-    ensures fetched { IfOk result (λ fetch. IsTrue R.tells → IsFetchedFrom (R.repository repos.old did.now) did.now least moment (is_good (found_as fetch)) (found_as fetch)) }
+    ensures fetched { IfOk result (λ fetch. AnsweredFetch (told_where R.tells (R.repository repos.old did.now)) did.now least moment (P.panel judges.old) (found_as fetch) (P.panel judges.new)) }
     ensures may { IfOk result (λ fetch. MayBeKept (found_as fetch)) }
     ensures same { IsTrue R.tells → SameRepositories (R.repository repos.old) (R.repository repos.new) }
     ensures in_vain { OnErr result (AskedPlain (P.panel judges.old) did.now (P.panel judges.new)) }
-    ensures caused { IfErr result (IsCause ⊥ (IsSpent (P.panel judges.new (method_of did.now))) (Rose (R.faults repos.old) (R.faults repos.new)) ⊥) }
+    // No authority is left only where one is asked.
+    ensures caused { IfErr result (IsCause ⊥ ((IsTrue R.tells → IsJudged (R.repository repos.old did.now) did.now least moment) × IsSpent (P.panel judges.new (method_of did.now)))
+        (Rose (R.faults repos.old) (R.faults repos.new)) ⊥) }
     ensures counts { R.faults repos.old ≤ R.faults repos.new }
 {
     match repos.open(did) {

@@ -1,12 +1,11 @@
 //! An event whose refusal loses its account: the account's repository is fetched.
 
-ghost use Rattle.std.specs.Prelude.{◌≡◌, ◌+◌, ◌≤◌, ◌<◌, length, Some, IsTrue, IfOk, IfErr, OnErr};
+ghost use Rattle.std.specs.Prelude.{◌≡◌, ◌≤◌, length, Some, IsTrue, IfOk, IfErr, OnErr};
 ghost use Rattle.at_cid.specs.Counts.{Rose};
 ghost use Rattle.at_syntax.specs.Did.{is_did, method_of};
 ghost use Rattle.at_form.specs.declared.forms.TheConstants.{LONGEST_SHORT_TEXT};
 ghost use Rattle.at_authority.specs.Panels.{IsSpent};
 ghost use Rattle.at_event.specs.declared.frame.Frame.{Frame as AFrame};
-ghost use Rattle.at_cid.specs.declared.limits.TheConstants.{NUMBERS};
 ghost use Rattle.relay_core.specs.Entries.{account_in, cursor_in};
 ghost use Rattle.relay_core.specs.Table.{next_of};
 ghost use Rattle.relay_core.specs.declared.answers.Question.{Question as AQuestion};
@@ -14,7 +13,7 @@ ghost use Rattle.relay_core.specs.declared.decision.Next.{Next as ANext};
 ghost use Rattle.relay_step.specs.Around.{SameRepositories};
 ghost use Rattle.relay_step.specs.Causes.{IsCause};
 ghost use Rattle.relay_step.specs.Fetches.{AskedPlain};
-ghost use Rattle.relay_step.specs.Taking.{LostRecorded};
+ghost use Rattle.relay_step.specs.Taking.{LostEnds, LostRecorded};
 
 use crate::asking::repo_of;
 use crate::decided::Decided;
@@ -44,7 +43,7 @@ pub(crate) fn take_lost<P: Judges, R: Repos>(
     ensures recorded { IfOk result (λ told. LostRecorded R.tells core.now host.now event answers told (P.panel judges.old) (R.repository repos.old) (P.panel judges.new)) }
     ensures same { IsTrue R.tells → SameRepositories (R.repository repos.old) (R.repository repos.new) }
     ensures in_vain { OnErr result (AskedPlain (P.panel judges.old) event.did (P.panel judges.new)) }
-    ensures caused { IfErr result (IsCause (NUMBERS ≤ core.now.last + 1) (IsSpent (P.panel judges.new (method_of event.did))) (Rose (R.faults repos.old) (R.faults repos.new)) ⊥) }
+    ensures caused { IfErr result (IsCause (LostEnds R.tells core.now event answers (P.panel judges.old) (R.repository repos.old) (P.panel judges.new)) (IsSpent (P.panel judges.new (method_of event.did))) (Rose (R.faults repos.old) (R.faults repos.new)) ⊥) }
     ensures counts { R.faults repos.old ≤ R.faults repos.new }
 {
     let did = event.did.as_str();

@@ -2,14 +2,13 @@
 
 ghost use Rattle.std.specs.Prelude.{◌≡◌, ◌≤◌, length, IsTrue, IfOk, IfErr, OnErr};
 ghost use Rattle.at_cid.specs.Counts.{Rose};
-ghost use Rattle.at_syntax.specs.Did.{is_did, method_of};
+ghost use Rattle.at_syntax.specs.Did.{is_did};
 ghost use Rattle.at_form.specs.declared.forms.TheConstants.{LONGEST_SHORT_TEXT};
-ghost use Rattle.at_authority.specs.Panels.{IsSpent};
 ghost use Rattle.relay_step.specs.Asked.{AskedInVain};
 ghost use Rattle.relay_step.specs.Around.{around};
 ghost use Rattle.relay_step.specs.Causes.{CameToNothing, IsCause};
 ghost use Rattle.relay_step.specs.Messages.{KeepsJournal};
-ghost use Rattle.relay_step.specs.Commands.{EndsFetched, SyncedAt, rows_commanded, told_where};
+ghost use Rattle.relay_step.specs.Commands.{EndsFetched, SpentFetching, SyncedAt, rows_commanded};
 
 use crate::asking::repo_of;
 use crate::command::CommandAnswer;
@@ -43,7 +42,9 @@ pub fn sync_now<P: Judges, R: Repos, C: Clock>(
     ensures formed { IfOk result (λ command. KeepsJournal core.now (rows_commanded command)) }
     ensures in_vain { OnErr result (CameToNothing C.tells R.tells (AskedInVain (P.panel judges.old) did.now (P.panel judges.new))
         (around (P.panel judges.old) (C.moments clock.old) (R.repository repos.old)) (around (P.panel judges.new) (C.moments clock.new) (R.repository repos.new))) }
-    ensures caused { IfErr result (IsCause (EndsFetched core.now did.now (told_where R.tells (R.repository repos.old did.now)) (P.panel judges.old) (P.panel judges.new)) (IsSpent (P.panel judges.new (method_of did.now)))
+    ensures caused { IfErr result (IsCause
+        (EndsFetched C.tells R.tells core.now did.now (around (P.panel judges.old) (C.moments clock.old) (R.repository repos.old)) (around (P.panel judges.new) (C.moments clock.new) (R.repository repos.new)))
+        (SpentFetching C.tells R.tells core.now did.now (around (P.panel judges.old) (C.moments clock.old) (R.repository repos.old)) (around (P.panel judges.new) (C.moments clock.new) (R.repository repos.new)))
         (Rose (R.faults repos.old) (R.faults repos.new)) (Rose (C.faults clock.old) (C.faults clock.new))) }
     ensures clock_counts { C.faults clock.old ≤ C.faults clock.new }
     ensures repos_count { R.faults repos.old ≤ R.faults repos.new }

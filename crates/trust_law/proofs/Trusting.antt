@@ -37,7 +37,7 @@ use Rattle.relay_core.specs.declared.limits.TheConstants.{LONGEST_MESSAGE}
 use Rattle.relay_core.proofs.Showing.{table}
 use Rattle.relay_law.proofs.Sounding.{taken_is}
 use Rattle.relay_step.specs.Around.{Around, AllAsked}
-use Rattle.relay_step.specs.Asked.{AreStepCalls, home_calls, refresh_calls, signed_by, verdict_call, verdict_calls}
+use Rattle.relay_step.specs.Asked.{step_calls, home_calls, refresh_calls, signed_by, verdict_call, verdict_calls}
 use Rattle.relay_step.specs.Steps.{Step, Decided, after_end, skipped, recorded, AreSteps, IsDecidedAs, message_of, rows, rows_decided, ended_decided}
 use Rattle.trust_law.specs.Trust.{TrustingStepsShow}
 use Rattle.std.specs.Prelude.{nat_lt}
@@ -129,7 +129,7 @@ calls_yes (call ∷ calls) old new (mid, is, others) say none =
 steps_later : (C R : Bool) (steps : List Step) (J : List Row) (old new : Around) → AllAsked C R J old steps new → (name : List ℕ) → (old.panel name).fallen ≤ (new.panel name).fallen
 steps_later C R [] J old new asked name = omega (arith, ap (λ (p : Panel). (p name).fallen) asked.panel)
 steps_later C R (s ∷ steps) J old new (mid, asked, others) name =
-    omega (arith, calls_later asked.answered.calls old.panel mid.panel asked.answered.made name, steps_later C R steps (J ++ rows_decided s.decided) mid new others name)
+    omega (arith, calls_later (step_calls s.host (frame_of s.bytes) s.decided asked.fetch) old.panel mid.panel asked.made name, steps_later C R steps (J ++ rows_decided s.decided) mid new others name)
 
 yes_right : (xs ys : List Call) → AllYes (xs ++ ys) → AllYes ys
 yes_right [] ys all = all
@@ -220,38 +220,37 @@ decision_refusal : (a : State) (body : Body) (f : Found) (q : Option Refusal) �
 decision_refusal a body f None = refl
 decision_refusal a body f (Some r) = refl
 
-taken_yes : (checks : Checks) → OpensRight checks → (J : List Row) (host : List ℕ) (frame : Result Frame FrameFault) (t : Taken) (calls : List Call) → IsMadeBy checks J (host, frame) (Row.Taken t) → AreStepCalls host frame (recorded t) calls → AllYes calls
+taken_yes : (checks : Checks) → OpensRight checks → (J : List Row) (host : List ℕ) (frame : Result Frame FrameFault) (t : Taken) (fetch : List Call) → IsMadeBy checks J (host, frame) (Row.Taken t) → AllYes (step_calls host frame (recorded t) fetch)
     → says_yes (Row.Taken t) ≡ true
-taken_yes checks opens J host (Ok (Frame.Event e)) t calls made are all =
+taken_yes checks opens J host (Ok (Frame.Event e)) t fetch made all =
     let a = account e.did J in
     let is = taken_is (decided_event checks (last_seq J) a host e (shown t)) t made in
     let same : refusal_of checks a e (shown t) ≡ t.refusal = sym (decision_refusal a e.body (shown t).fetched (refusal_of checks a e (shown t))) ∙ ap (λ (s : Taken). s.refusal) is in
-    let every = subst AllYes are.are all in
-    let behind = yes_right (home_calls host e t.refusal) _ every in
-    and_from (shows_home t.refusal) (shows_verdict t.refusal) (home_shown host e t.refusal (yes_left (home_calls host e t.refusal) _ every))
-    (verdict_shown e t.refusal (λ bad. is_signed checks opens a e (shown t) (same ∙ bad)) (yes_left (verdict_calls e t.refusal) are.fetch behind))
-taken_yes checks opens J host (Ok (Frame.Faulty seq)) t calls made are all =
+    let behind = yes_right (home_calls host e t.refusal) _ all in
+    and_from (shows_home t.refusal) (shows_verdict t.refusal) (home_shown host e t.refusal (yes_left (home_calls host e t.refusal) _ all))
+    (verdict_shown e t.refusal (λ bad. is_signed checks opens a e (shown t) (same ∙ bad)) (yes_left (verdict_calls e t.refusal) fetch behind))
+taken_yes checks opens J host (Ok (Frame.Faulty seq)) t fetch made all =
     let P : Taken → Type 0 = λ s. says_yes (Row.Taken s) ≡ true in
     subst P (taken_is (faulty_taken host seq (Some (shown t).moment)) t made) refl
-taken_yes checks opens J host (Ok Frame.Info) t calls made are all = absurd cc
-taken_yes checks opens J host (Ok Frame.Error) t calls made are all = absurd cc
-taken_yes checks opens J host (Ok Frame.Unknown) t calls made are all = absurd cc
-taken_yes checks opens J host (Err fault) t calls made are all = absurd made
+taken_yes checks opens J host (Ok Frame.Info) t fetch made all = absurd cc
+taken_yes checks opens J host (Ok Frame.Error) t fetch made all = absurd cc
+taken_yes checks opens J host (Ok Frame.Unknown) t fetch made all = absurd cc
+taken_yes checks opens J host (Err fault) t fetch made all = absurd made
 
-told_yes : (checks : Checks) → OpensRight checks → (J : List Row) (ended : List (List ℕ)) (s : Step) (told : Decided) (calls : List Call) → IsDecidedAs checks J ended (message_of s) told → AreStepCalls s.host (frame_of s.bytes) told calls → AllYes calls
+told_yes : (checks : Checks) → OpensRight checks → (J : List Row) (ended : List (List ℕ)) (s : Step) (told : Decided) (fetch : List Call) → IsDecidedAs checks J ended (message_of s) told → AllYes (step_calls s.host (frame_of s.bytes) told fetch)
     → (others : List Row) → list_all says_yes others ≡ true → list_all says_yes (rows_decided told ++ others) ≡ true
-told_yes checks opens J ended s after_end calls is are all others rest = rest
-told_yes checks opens J ended s (skipped pass) calls is are all others rest = rest
-told_yes checks opens J ended s (recorded t) calls is are all others rest =
-    and_from (says_yes (Row.Taken t)) (list_all says_yes others) (taken_yes checks opens J s.host (frame_of s.bytes) t calls is.2 are all) rest
+told_yes checks opens J ended s after_end fetch is all others rest = rest
+told_yes checks opens J ended s (skipped pass) fetch is all others rest = rest
+told_yes checks opens J ended s (recorded t) fetch is all others rest =
+    and_from (says_yes (Row.Taken t)) (list_all says_yes others) (taken_yes checks opens J s.host (frame_of s.bytes) t fetch is.2 all) rest
 
 all_show : (checks : Checks) → OpensRight checks → (C R : Bool) (steps : List Step) (J : List Row) (ended : List (List ℕ)) (old new : Around) → AreSteps checks J ended steps → AllAsked C R J old steps new → AllSayYes old.panel → NoneFell new.panel
     → list_all says_yes (rows steps) ≡ true
 all_show checks opens C R [] J ended old new are asked say none = refl
 all_show checks opens C R (s ∷ steps) J ended old new are (mid, asked, others) say none =
     let stands : NoneFell mid.panel = λ name. omega (arith, steps_later C R steps (J ++ rows_decided s.decided) mid new others name, none name) in
-    let one = calls_yes asked.answered.calls old.panel mid.panel asked.answered.made say stands in
-    told_yes checks opens J ended s s.decided asked.answered.calls are.0 asked.answered.are one.1 (rows steps)
+    let one = calls_yes (step_calls s.host (frame_of s.bytes) s.decided asked.fetch) old.panel mid.panel asked.made say stands in
+    told_yes checks opens J ended s s.decided asked.fetch are.0 one.1 (rows steps)
     (all_show checks opens C R steps (J ++ rows_decided s.decided) (ended_decided s.decided s.host ended) mid new are.1 others one.0 none)
 
 pub steps_show : TrustingStepsShow

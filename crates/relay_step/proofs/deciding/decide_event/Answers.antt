@@ -3,8 +3,8 @@ use Rattle.at_event.specs.Seen.{Seen}
 use Rattle.at_event.proofs.Formed.{events_formed}
 use Rattle.relay_step.specs.Around.{around}
 use Rattle.relay_step.specs.declared.decided.Skipped.{Skipped}
-use Rattle.relay_step.proofs.Vain.{cause_as, cause_lost, if_err, last_fetch, map_err, on_err, one_taken, plain_none, vain_with}
-use Rattle.relay_step.proofs.Losses.{done_ends, done_told, lost_ends, lost_told, pass_told}
+use Rattle.relay_step.proofs.Vain.{cause_ends, cause_map, if_err, last_fetch, map_err, no_cause, on_err, one_taken, plain_none, same_cause, vain_with}
+use Rattle.relay_step.proofs.Losses.{done_ends, done_told, lost_ends, lost_spent, lost_told, pass_told}
 use Rattle.relay_step.proofs.deciding.decide_event.Goals as goal
 
 pub ask_all-requires : goal.ask_all-requires
@@ -37,8 +37,9 @@ returns-in-Done-clause-in_vain g c =
 
 pub returns-in-Done-clause-caused : goal.returns-in-Done-clause-caused
 returns-in-Done-clause-caused g c =
-    if_err c.take.result _ _ (λ fault. cause_as _ _ _ _ _ fault (λ both.
-    done_ends c.args.core.now c.args.host.now c.args.event c.in_ok-next.answers c.in-Done.decision (sym c.in_ok-next.ensures.next ∙ c.in-Done.is) c.in_ok-next.ensures.asked.right c.in_ok-next.ensures.asked.linked c.in_ok-next.ensures.asked.unfetched both.0 both.1)) c.take.ensures.caused
+    if_err c.take.result _ _ (λ fault. cause_ends _ _ _ _ _ (λ both.
+    done_ends g.C.Clock.tells g.R.Repos.tells c.args.core.now c.args.host.now c.args.event c.in_ok-next.answers c.in-Done.decision (around (g.P.Judges.panel c.args.judges.now) (g.C.Clock.moments c.args.clock.now) (g.R.Repos.repository c.args.repos.now))
+    (g.P.Judges.panel c.ask_all.new.judges) (g.C.Clock.moments c.ask_all.new.clock) c.in_ok-next.ensures.asked (sym c.in_ok-next.ensures.next ∙ c.in-Done.is) both.0 both.1) fault) c.take.ensures.caused
 
 pub returns-in-Ask-clause-told : goal.returns-in-Ask-clause-told
 returns-in-Ask-clause-told g c =
@@ -56,5 +57,8 @@ returns-in-Ask-clause-in_vain g c =
 
 pub returns-in-Ask-clause-caused : goal.returns-in-Ask-clause-caused
 returns-in-Ask-clause-caused g c =
-    if_err c.take_lost.result _ _ (λ fault. cause_lost _ _ _ _ _ fault (λ ends.
-    lost_ends c.args.core.now c.args.host.now c.args.event c.in_ok-next.answers (last_fetch c.in-Ask.field-0 c.in_ok-next.next _ c.in-Ask.is c.in_ok-next.ensures.next c.in_ok-next.ensures.last) c.in_ok-next.ensures.asked.right c.in_ok-next.ensures.asked.linked ends)) c.take_lost.ensures.caused
+    let asks = last_fetch c.in-Ask.field-0 c.in_ok-next.next _ c.in-Ask.is c.in_ok-next.ensures.next c.in_ok-next.ensures.last in
+    if_err c.take_lost.result _ _ (λ fault. cause_map _ _ _ _ _ _ _ _
+    (lost_ends g.C.Clock.tells g.R.Repos.tells c.args.core.now c.args.host.now c.args.event c.in_ok-next.answers (around (g.P.Judges.panel c.args.judges.now) (g.C.Clock.moments c.args.clock.now) (g.R.Repos.repository c.args.repos.now))
+    (g.P.Judges.panel c.ask_all.new.judges) (g.C.Clock.moments c.ask_all.new.clock) (g.R.Repos.repository c.take_lost.new.repos) (g.P.Judges.panel c.take_lost.new.judges) c.in_ok-next.ensures.asked asks c.take_lost.ensures.same)
+    (lost_spent c.args.core.now c.args.host.now c.args.event c.in_ok-next.answers (g.P.Judges.panel c.take_lost.new.judges) asks) (same_cause _) (no_cause _) fault) c.take_lost.ensures.caused

@@ -8,7 +8,7 @@ use Rattle.at_event.specs.declared.frame.Frame.{Frame}
 use Rattle.relay_step.specs.Around.{around}
 use Rattle.relay_step.specs.Messages.{IsAskedOf, IsDecided, IsSkippedAs, told_as}
 use Rattle.relay_step.proofs.Vain.{if_ok}
-use Rattle.relay_step.proofs.Others.{asked_event, kept_event, kept_other, skipped_event, skipped_other, decided_as_event, decided_as_other}
+use Rattle.relay_step.proofs.Others.{asked_event, asked_other, kept_event, kept_other, skipped_event, skipped_other, decided_as_event, decided_as_other}
 use Rattle.relay_step.proofs.Sending.{text_tested}
 use Rattle.relay_step.proofs.deciding.decide_frame.Goals as goal
 
@@ -46,3 +46,7 @@ pub returns-in-Faulty-clause-formed : goal.returns-in-Faulty-clause-formed
 returns-in-Faulty-clause-formed g c =
     let named = and_from (is_text c.args.host.now) (is_host c.args.host.now) (text_tested c.args.host.now (typed_string c.args.host.now c.ghost_text.ensures.bytes c.ghost_text.ensures.length) c.ghost_text.ensures.utf8) c.requires.host in
     if_ok c.decide_other.result _ _ (λ t is. kept_other g.C.Clock.tells c.args.core.now c.args.host.now c.args.frame t (g.C.Clock.moments c.args.clock.now) (g.C.Clock.moments c.decide_other.new.clock) is c.made_rows_are_formed.ensures c.requires.frame named) c.decide_other.ensures.told
+
+pub returns-in-Faulty-clause-asked : goal.returns-in-Faulty-clause-asked
+returns-in-Faulty-clause-asked g c =
+    if_ok c.decide_other.result _ _ (λ t. asked_other g.C.Clock.tells g.R.Repos.tells c.args.core.now c.args.host.now c.args.frame t (g.P.Judges.panel c.args.judges.now) (g.C.Clock.moments c.args.clock.now) (g.C.Clock.moments c.decide_other.new.clock) (g.R.Repos.repository c.args.repos.now)) c.decide_other.ensures.told

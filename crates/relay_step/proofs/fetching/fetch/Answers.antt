@@ -1,17 +1,28 @@
-use Rattle.std.proofs.Common.{◌∙◌, arith}
-use Rattle.relay_step.proofs.Fetched.{asked_by, fetched_by, may_by}
+use Rattle.std.proofs.Common.{None, Some, ◌∙◌, arith}
+use Rattle.relay_step.proofs.Fetched.{judged_fetched, may_by, refused_fetched}
 use Rattle.relay_step.proofs.fetching.fetch.Goals as goal
 
 pub returns-in-Some : goal.returns-in-Some
 returns-in-Some g c =
     let some = c.in-Err.ensures.some in
     record {
-      asked = asked_by c.args.did.now c.args.least some.bytes c.in-Err.fault c.in-Some.number (g.P.Judges.panel c.args.judges.now) c.in-Some.ensures some.refused;
-      fetched = λ told. fetched_by (g.R.Repos.repository c.args.repos.now c.args.did.now) (g.R.Repos.left c.open.new.self) c.args.did.now c.args.least c.args.moment c.in-Err.fault c.in-Some.number c.in-Ok-true.field-0 c.in-Ok-true.field-0-test (c.in-Ok-true.ensures.opened told)
-          c.in-Some.ensures (c.in-Err.ensures.refused told);
-      may = may_by c.args.did.now c.args.least some.bytes c.in-Err.fault c.in-Some.number c.in-Some.ensures some.refused;
+      fetched = refused_fetched g.R.Repos.tells (g.R.Repos.repository c.args.repos.now c.args.did.now) (g.R.Repos.left c.open.new.self) c.args.did.now c.args.least c.args.moment c.in-Ok-true.field-0 c.in-Ok-true.ensures.opened c.in-Ok-true.field-0-test c.in-Err.fault c.in-Some.number some.bytes
+          (g.P.Judges.panel c.args.judges.now) c.in-Some.ensures some.are some.refused c.in-Err.ensures.refused;
+      may = may_by c.in-Err.fault c.in-Some.number c.in-Some.ensures;
       same = λ told did. c.in-Err.ensures.same told did ∙ c.in-Ok-true.ensures.same told did;
       in_vain = tt;
       caused = tt;
       counts = omega (arith, c.in-Ok-true.ensures.counts, c.in-Err.ensures.counts);
     }
+
+pub returns-in-Ok-None-clause-fetched : goal.returns-in-Ok-None-clause-fetched
+returns-in-Ok-None-clause-fetched g c =
+    let some = c.in-Ok.ensures.some in
+    judged_fetched g.R.Repos.tells (g.R.Repos.repository c.args.repos.now c.args.did.now) (g.R.Repos.left c.open.new.self) c.args.did.now c.args.least c.args.moment c.in-Ok-true.field-0 c.in-Ok-true.ensures.opened c.in-Ok-true.field-0-test (g.P.Judges.panel c.args.judges.now)
+    (g.P.Judges.panel c.judge_found.new.judges) c.in-Ok.found c.in-Ok-None.field-0 c.in-Ok.ensures.whole (record { bytes = some.bytes; are = some.are; whole = some.whole }) c.in-Ok-None.ensures.judged c.in-Ok-None.ensures.asked None c.in-Ok-None.field-0-is
+
+pub returns-in-Ok-Some-clause-fetched : goal.returns-in-Ok-Some-clause-fetched
+returns-in-Ok-Some-clause-fetched g c =
+    let some = c.in-Ok.ensures.some in
+    judged_fetched g.R.Repos.tells (g.R.Repos.repository c.args.repos.now c.args.did.now) (g.R.Repos.left c.open.new.self) c.args.did.now c.args.least c.args.moment c.in-Ok-true.field-0 c.in-Ok-true.ensures.opened c.in-Ok-true.field-0-test (g.P.Judges.panel c.args.judges.now)
+    (g.P.Judges.panel c.judge_found.new.judges) c.in-Ok.found c.in-Ok-Some.field-0 c.in-Ok.ensures.whole (record { bytes = some.bytes; are = some.are; whole = some.whole }) c.in-Ok-Some.ensures.judged c.in-Ok-Some.ensures.asked (Some c.in-Ok-Some.number) c.in-Ok-Some.field-0-is

@@ -1,10 +1,11 @@
+use Rattle.std.proofs.Common.{false, sym, true, ◌∙◌}
 use Rattle.relay_step.proofs.Vain.{plain_failed}
-use Rattle.relay_step.proofs.Fetched.{asked_bad_at, asked_good_at, head_kept, linked_to}
+use Rattle.relay_step.proofs.Fetched.{calls_near, head_kept, linked_to}
 use Rattle.relay_step.proofs.fetching.judge_found.Goals as goal
 
 pub returns-in-Ok-true-clause-asked : goal.returns-in-Ok-true-clause-asked
 returns-in-Ok-true-clause-asked g c =
-    asked_good_at c.args.did.now c.requires.whole.0 c.args.found.now c.requires.whole.1 (g.P.Judges.panel c.args.judges.now) (g.P.Judges.panel c.ask_verdict.new.judges) c.as_slice.result.now c.in-Ok-true.field-0 c.as_slice.ensures.value c.in-Ok-true.field-0-test
+    calls_near c.args.did.now c.args.moment true c.in-Ok-true.field-0 c.args.found.now c.as_slice.result.now (g.P.Judges.panel c.args.judges.now) (g.P.Judges.panel c.ask_verdict.new.judges) (sym c.is_ahead.ensures ∙ c.if-is_ahead.false) c.in-Ok-true.field-0-test c.as_slice.ensures.value
     c.in-Ok-true.ensures.call
 
 pub returns-in-Ok-true-clause-may : goal.returns-in-Ok-true-clause-may
@@ -13,7 +14,8 @@ returns-in-Ok-true-clause-may g c =
 
 pub returns-in-Ok-false-clause-asked : goal.returns-in-Ok-false-clause-asked
 returns-in-Ok-false-clause-asked g c =
-    asked_bad_at c.args.did.now c.args.found.now.digest c.as_slice.result.now (g.P.Judges.panel c.args.judges.now) (g.P.Judges.panel c.ask_verdict.new.judges) c.in-Ok-false.field-0 c.in-Ok-false.field-0-test c.in-Ok-false.ensures.call
+    calls_near c.args.did.now c.args.moment false c.in-Ok-false.field-0 c.args.found.now c.as_slice.result.now (g.P.Judges.panel c.args.judges.now) (g.P.Judges.panel c.ask_verdict.new.judges) (sym c.is_ahead.ensures ∙ c.if-is_ahead.false) c.in-Ok-false.field-0-test c.as_slice.ensures.value
+    c.in-Ok-false.ensures.call
 
 pub returns-in-Err-clause-in_vain : goal.returns-in-Err-clause-in_vain
 returns-in-Err-clause-in_vain g c = plain_failed (g.P.Judges.panel c.args.judges.now) (g.P.Judges.panel c.ask_verdict.new.judges) c.args.did.now c.in-Err.ensures.call
