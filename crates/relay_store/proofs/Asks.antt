@@ -1,19 +1,23 @@
 -- What steps ask, one after another.
-use Rattle.std.proofs.Common.{inl, ℕ, List, [], ◌∷◌, ◌++◌, Bool, Option, Some, None, Result, Ok, Err, refl, sym, ◌∙◌, subst, arith, append_assoc}
+use Rattle.std.proofs.Common.{◌≡◌, inl, ℕ, List, [], ◌∷◌, ◌++◌, Bool, true, false, Option, Some, None, Result, Ok, Err, refl, sym, ap, ◌∙◌, subst, arith, append_assoc}
 use Rattle.std.proofs.lemmas.List.{append-nil}
+use Rattle.std.specs.Prelude.{IsTrue}
+use Rattle.at_authority.specs.Calls.{Call, AreCalls}
 use Rattle.at_authority.specs.Panels.{Panel}
+use Rattle.at_event.specs.Refusals.{code_of}
 use Rattle.at_event.specs.Frames.{frame_of}
 use Rattle.at_event.specs.declared.frame.Frame.{Frame}
 use Rattle.at_event.specs.declared.frame.FrameFault.{FrameFault}
 use Rattle.at_event.specs.declared.refusal.Refusal.{Refusal}
+use Rattle.relay_row.specs.Rules.{loses}
 use Rattle.relay_row.specs.declared.row.Row.{Row}
-use Rattle.relay_row.specs.declared.taken.Taken.{Taken}
 use Rattle.account_state.specs.Folds.{account, last_rev}
+use Rattle.relay_core.specs.Decide.{Found}
 use Rattle.relay_core.specs.Shown.{found_in, or_zero}
 use Rattle.relay_step.specs.Around.{Around, Asked, AskedNothing, AllAsked, IsTimed, SameRepositories}
-use Rattle.relay_step.specs.Asked.{Answered}
+use Rattle.relay_step.specs.Asked.{step_calls}
 use Rattle.relay_step.specs.Causes.{AskedInVainOf, CameToNothing}
-use Rattle.relay_step.specs.Fetching.{IsFetched, IsFetchedFrom, IsFetchedTold, fetched_good}
+use Rattle.relay_step.specs.Fetching.{IsFetched, IsFetchedAs, IsFetchedTold, Where, told_where}
 use Rattle.relay_step.specs.Steps.{Step, Decided, after_end, skipped, recorded, rows, rows_decided}
 use Rattle.relay_store.specs.Batches.{InVain}
 use Rattle.relay_store.specs.declared.message.Message.{Message}
@@ -28,22 +32,30 @@ nothing_after clock_tells repos_tell a b c one two = record {
   same = λ tells did. two.same tells did ∙ one.same tells did;
 }
 
-fetched_for : (old mid : List ℕ → Option (List ℕ)) (J : List Row) (refusal : Option Refusal) (t : Taken) → SameRepositories old mid → IsFetched mid J refusal t → IsFetched old J refusal t
-fetched_for old mid J None t same fetched = tt
-fetched_for old mid J (Some r) t same fetched = λ loses.
-    subst (λ (bytes : Option (List ℕ)). IsFetchedFrom bytes t.did (last_rev (account t.did J).repo) (or_zero t.moment) (fetched_good t.fetched) (found_in t.fetched)) (same t.did) (fetched loses)
+-- what was fetched of repositories that tell the same
+fetched_for : (tells : Bool) (old mid : List ℕ → Option (List ℕ)) (J : List Row) (did : List ℕ) (refusal : Option Refusal) (moment : ℕ) (f : Found) (calls : List Call) → (IsTrue tells → SameRepositories old mid) → IsFetched tells mid J did refusal moment f calls
+    → IsFetched tells old J did refusal moment f calls
+fetched_for tells old mid J did None moment f calls same fetched = fetched
+fetched_for tells old mid J did (Some r) moment f calls same fetched =
+    let told : told_where tells (mid did) ≡ told_where tells (old did) = told_same tells same in
+    subst (λ (o : Option (Option (List ℕ))). Where (loses (code_of r)) (IsFetchedAs o did (last_rev (account did J).repo) moment f calls) (calls ≡ [])) told fetched
+  where
+    told_same : (b : Bool) → (IsTrue b → SameRepositories old mid) → told_where b (mid did) ≡ told_where b (old did)
+    told_same true same = ap Some (same refl did)
+    told_same false same = refl
 
-fetched_from : (old mid : List ℕ → Option (List ℕ)) (J : List Row) (told : Decided) → SameRepositories old mid → IsFetchedTold mid J told → IsFetchedTold old J told
-fetched_from old mid J after_end same fetched = tt
-fetched_from old mid J (skipped pass) same fetched = tt
-fetched_from old mid J (recorded t) same fetched = fetched_for old mid J t.refusal t same fetched
+fetched_from : (tells : Bool) (old mid : List ℕ → Option (List ℕ)) (J : List Row) (told : Decided) (calls : List Call) → (IsTrue tells → SameRepositories old mid) → IsFetchedTold tells mid J told calls → IsFetchedTold tells old J told calls
+fetched_from tells old mid J after_end calls same fetched = fetched
+fetched_from tells old mid J (skipped pass) calls same fetched = fetched
+fetched_from tells old mid J (recorded t) calls same fetched = fetched_for tells old mid J t.did t.refusal (or_zero t.moment) (found_in t.fetched) calls same fetched
 
 -- what was asked behind nothing
 asked_from : (clock_tells repos_tell : Bool) (J : List Row) (a b c : Around) (s : Step) → AskedNothing clock_tells repos_tell a b → Asked clock_tells repos_tell J b s c → Asked clock_tells repos_tell J a s c
 asked_from clock_tells repos_tell J a b c s none asked = record {
-  answered = subst (λ (p : Panel). Answered p s.host (frame_of s.bytes) s.decided c.panel) none.panel asked.answered;
+  fetch = asked.fetch;
+  fetched = fetched_from repos_tell a.repository b.repository J s.decided asked.fetch none.same asked.fetched;
+  made = subst (λ (p : Panel). AreCalls p (step_calls s.host (frame_of s.bytes) s.decided asked.fetch) c.panel) none.panel asked.made;
   timed = λ tells. subst (λ (m : List ℕ). IsTimed m s.decided c.moments) (none.moments tells) (asked.timed tells);
-  fetched = λ tells. fetched_from a.repository b.repository J s.decided (none.same tells) (asked.fetched tells);
   same = λ tells did. asked.same tells did ∙ none.same tells did;
 }
 

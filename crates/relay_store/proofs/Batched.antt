@@ -1,5 +1,5 @@
 -- What was taken ahead of the disk, once it is durable.
-use Rattle.std.proofs.Common.{◌≡◌, ◌≢◌, inl, inr, ◌⊎◌, ⊎_elim, ◌≤◌, List, [], ◌++◌, length, map, Bool, Option, Some, None, IsTrue, refl, sym, ◌∙◌, ap, subst, arith, append_assoc, length-append, ◌+◌}
+use Rattle.std.proofs.Common.{◌≡◌, ◌≢◌, inl, inr, ◌⊎◌, ⊎_elim, ◌≤◌, List, [], ◌∷◌, ◌++◌, length, map, Bool, Option, Some, None, IsTrue, refl, sym, ◌∙◌, ap, subst, arith, append_assoc, length-append, ◌+◌}
 use Rattle.std.proofs.lemmas.List.{append-nil, length-map}
 use Rattle.event_window.specs.declared.place.Place.{Place}
 use Rattle.relay_disk.specs.Disk.{View, IsDisk}
@@ -12,9 +12,8 @@ use Rattle.relay_core.specs.Entries.{Holds}
 use Rattle.relay_core.specs.declared.journal_state.Core.{Core}
 use Rattle.relay_row.specs.Journal.{IsJournal}
 use Rattle.relay_step.specs.Around.{Around}
-use Rattle.relay_step.specs.Causes.{CameToNothing}
 use Rattle.relay_step.specs.Steps.{Step, rows}
-use Rattle.relay_store.specs.Batches.{AreAnswers, AreExtra, Batched, EndsLast, HasEnd, InVain, StopsAsking, message_from, scene, messages_sent}
+use Rattle.relay_store.specs.Batches.{AreAnswers, AreExtra, Batched, EndsLast, HasEnd, StopsAsking, message_from, scene, messages_sent}
 use Rattle.relay_store.specs.PendingBodies.{HasRows, IsAhead, behind_pending, end_of}
 use Rattle.relay_store.specs.Journals.{IsOneOf, bytes_of}
 use Rattle.relay_store.specs.Outcomes.{outcome_of}
@@ -64,16 +63,12 @@ extra_few (Some StoreFault.Repos) extra which = omega (arith, ap length which)
 extra_few (Some StoreFault.Memory) extra which = which
 extra_few (Some StoreFault.Clock) extra which = omega (arith, ap length which)
 
-came_of : (C R : Bool) (fault : Option StoreFault) (behind : List Message) (b c : Around) → StopsAsking C R fault behind b c → CameToNothing C R (InVain behind b.panel c.panel) b c
-came_of C R None behind b c stops = nothing_in_vain C R b c behind stops
-came_of C R (Some StoreFault.Disk) behind b c stops = stops
-came_of C R (Some (StoreFault.BadLog p)) behind b c stops = stops
-came_of C R (Some (StoreFault.Full e)) behind b c stops = nothing_in_vain C R b c behind stops
-came_of C R (Some StoreFault.SeqEnd) behind b c stops = stops
-came_of C R (Some StoreFault.Authority) behind b c stops = stops
-came_of C R (Some StoreFault.Repos) behind b c stops = stops
-came_of C R (Some StoreFault.Memory) behind b c stops = stops
-came_of C R (Some StoreFault.Clock) behind b c stops = stops
+-- the disk may fail behind each of them
+disk_stops : (C R : Bool) (fault : Option StoreFault) (extra : List Step) (behind : List Message) (b c : Around)
+    → StopsAsking C R fault extra behind b c → StopsAsking C R (Some StoreFault.Disk) extra behind b c
+disk_stops C R None [] behind b c stops = nothing_in_vain C R b c behind stops
+disk_stops C R None (s ∷ extra) behind b c stops = stops
+disk_stops C R (Some fault) extra behind b c stops = stops
 
 module _ (C R : Bool) (log : LogState) (group : List Message) (state state_now : Core) (places places_now : List Place) (d_now : Pending) (a b : Around) (outcomes : List Outcome) (fault : Option StoreFault)
     (st : Stopped C R log group state state_now places places_now d_now a b outcomes fault) (side : Side) where
@@ -149,7 +144,7 @@ module _ (C R : Bool) (log : LogState) (group : List Message) (state state_now :
       asked = st.asked J of.holds;
       room = roomy;
       full = st.full;
-      next = st.ends_next;
+      next = st.ends_next J of.holds;
       format = format.0;
       most = format.1;
       end = λ n. ends ∙ behind_is log.end (rows st.gathered.steps) d_now st.gathered.pending;
@@ -174,10 +169,10 @@ module _ (C R : Bool) (log : LogState) (group : List Message) (state state_now :
           answers = refl;
           ends = tt;
           all = λ none. let no : ⊥ = cc in absurd no;
-          asked = record { mid = asked.mid; turns = asked.turns; stops = came_of C R fault st.behind asked.mid b asked.stops };
+          asked = record { mid = asked.mid; turns = asked.turns; stops = disk_stops C R fault st.extra st.behind asked.mid b asked.stops };
           room = roomy;
           full = tt;
-          next = next_none state_now st.behind b.panel StoreFault.Disk tt;
+          next = next_none C R state_now st.behind asked.mid b StoreFault.Disk tt;
           format = format.0;
           most = format.1;
           end = λ n. absurd (n refl);
@@ -210,7 +205,7 @@ batched_none view tells C R J group log side state places disk a outcomes no_out
   asked = record { mid = a; turns = nothing_here C R a; stops = nothing_in_vain C R a a group (nothing_here C R a) };
   room = inl refl;
   full = tt;
-  next = next_none state group a.panel StoreFault.Memory tt;
+  next = next_none C R state group a a StoreFault.Memory tt;
   format = refl;
   most = refl;
   end = λ n. refl;

@@ -13,7 +13,7 @@ use Rattle.relay_core.specs.Entries.{Holds}
 use Rattle.relay_core.specs.declared.journal_state.Core.{Core}
 use Rattle.relay_step.specs.Commands.{rows_commanded}
 use Rattle.relay_step.specs.declared.command.CommandAnswer.{CommandAnswer}
-use Rattle.relay_store.specs.PendingBodies.{Fits, HasRows, IsAhead, IsUnchanged}
+use Rattle.relay_store.specs.PendingBodies.{Fits, HasRows, IsAhead, IsUnchanged, behind_pending}
 use Rattle.relay_store.specs.Journals.{IsOneOf}
 use Rattle.relay_store.specs.Places.{places_in}
 use Rattle.relay_store.specs.Store.{IsOf, Keeps, seen}
@@ -25,6 +25,7 @@ use Rattle.relay_store.specs.declared.fault.StoreFault.{StoreFault}
 use Rattle.relay_store.proofs.Batched.{kept_of}
 use Rattle.relay_store.proofs.Commits.{no_rows}
 use Rattle.relay_store.proofs.Images.{kept_log}
+use Rattle.relay_store.proofs.Rooms.{behind_is}
 use Rattle.relay_store.proofs.Encodings.{pending_is}
 
 pub late_command : (log : LogState) (d : Pending) (rows : List Row) (row : Row) (f : StoreFault) → ((f ≡ StoreFault.Memory) ⊎ ((e : ℕ) × (f ≡ StoreFault.Full e)))
@@ -82,6 +83,7 @@ module _ {D : Type 0} (view : D → View) (tells : Bool) (J : List Row) (command
     room = inl refl;
     format = refl;
     most = refl;
+    end = λ n. refl;
     known = λ n. subst (Holds state_now) (sym (append-nil J)) (same.core J of.holds);
     keeps = λ n told keeps. subst (λ (K : List Row). Keeps K (seen log side state_now places_now) (view disk)) (sym (append-nil J))
         (record { bodies = keeps.bodies; are = keeps.are; holds = keeps.holds; core = same.core J keeps.core; window = same.window ∙ keeps.window });
@@ -109,10 +111,10 @@ module _ {D : Type 0} (view : D → View) (tells : Bool) (J : List Row) (command
     module _ (disk_now : D) (log_now : LogState) (fits : Fits log d_now)
         (moments : IsTrue tells → (J rows : List Row) → HasRows rows d_now → IsAhead J rows log state_now places_now (view disk) → LeavesOnly (IsOneOf log.format J rows) (view disk) (view disk_now))
         (format : (log_now.format ≡ log.format) × (log_now.most ≡ log.most)) where
-      pub worded_ok : (done : Done) → done ≡ done_of command → (d_now.count ≡ 0 → (log_now ≡ log) × (disk_now ≡ disk))
+      pub worded_ok : (done : Done) → done ≡ done_of command → (d_now.count ≡ 0 → (log_now ≡ log) × (disk_now ≡ disk)) → log_now.end ≡ behind_pending log.end d_now
           → (IsTrue tells → (J rows : List Row) → HasRows rows d_now → IsAhead J rows log state_now places_now (view disk) → IsAhead (J ++ rows) [] log_now state_now places_now (view disk_now))
           → Commanded view tells J command (seen log side state places) (seen log_now side state_now places_now) disk disk_now (Ok done)
-      worded_ok done is untouched more = record {
+      worded_ok done is untouched ends more = record {
         answer = is;
         room = ⊎_elim
             (λ none. inl (no_rows (rows_commanded command) (sym commanded_rows.count ∙ none)))
@@ -120,6 +122,7 @@ module _ {D : Type 0} (view : D → View) (tells : Bool) (J : List Row) (command
             fits;
         format = format.0;
         most = format.1;
+        end = λ n. ends ∙ behind_is log.end (rows_commanded command) d_now commanded_rows;
         known = λ n. add.core J of.holds;
         keeps = λ n told keeps. kept_of (J ++ rows_commanded command) log_now side state_now places_now (view disk_now) (more told J (rows_commanded command) commanded_rows (ahead (view disk) keeps));
         untouched = λ n none.
@@ -134,6 +137,7 @@ module _ {D : Type 0} (view : D → View) (tells : Bool) (J : List Row) (command
         room = inl refl;
         format = format.0;
         most = format.1;
+        end = λ n. absurd (n refl);
         known = λ n. absurd (n refl);
         keeps = λ n. absurd (n refl);
         untouched = λ n. absurd (n refl);

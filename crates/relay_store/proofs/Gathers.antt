@@ -18,10 +18,10 @@ use Rattle.relay_core.specs.Opening.{OpensRight}
 use Rattle.relay_core.specs.declared.journal_state.Core.{Core}
 use Rattle.relay_law.specs.Right.{LinksRight}
 use Rattle.relay_step.specs.Around.{Around, AllAsked}
-use Rattle.relay_step.specs.Causes.{CameToNothing, IsSpentFor}
+use Rattle.relay_step.specs.Causes.{IsSpentFor}
 use Rattle.relay_step.specs.Messages.{EndsNumbers, KeepsJournal}
 use Rattle.relay_step.specs.Steps.{Step, Decided, after_end, skipped, recorded, AreSteps, IsDecidedAs, ended_decided, rows, rows_decided, step_of}
-use Rattle.relay_store.specs.Batches.{AreExtra, EndsFull, EndsNext, HasEnd, InVain, NoneEnds, StopsAsking, is_end, messages_sent}
+use Rattle.relay_store.specs.Batches.{AreExtra, EndsFull, EndsNext, HasEnd, NoneEnds, StopsAsking, is_end, messages_sent}
 use Rattle.relay_store.specs.PendingBodies.{Fits, HasRows, IsUnchanged}
 use Rattle.relay_store.specs.Faults.{IsCause}
 use Rattle.relay_store.specs.Outcomes.{outcome_decided, skipped_outcome}
@@ -31,7 +31,7 @@ use Rattle.relay_store.specs.declared.pending.Pending.{Pending}
 use Rattle.relay_store.specs.declared.fault.StoreFault.{StoreFault}
 use Rattle.relay_store.specs.declared.message.Message.{Message}
 use Rattle.relay_store.specs.declared.outcome.Outcome.{Outcome}
-use Rattle.relay_store.proofs.Asks.{all_one, nothing_here, nothing_in_vain}
+use Rattle.relay_store.proofs.Asks.{all_one, nothing_here}
 use Rattle.relay_store.proofs.Folds.{places_append}
 use Rattle.relay_store.proofs.Nexts.{next_none, next_nothing}
 use Rattle.relay_store.proofs.Runs.{answers_one, ended_joined, ends_none, ends_one, none_one, rows_one, sent_joined, stays_on, steps_one, told_few}
@@ -54,16 +54,6 @@ extra_of StoreFault.Repos of = refl
 extra_of StoreFault.Memory of = omega arith
 extra_of StoreFault.Clock of = refl
 
-asks_of : (C R : Bool) (f : StoreFault) (behind : List Message) (b c : Around) → ComesOfAsking f → CameToNothing C R (InVain behind b.panel c.panel) b c → StopsAsking C R (Some f) behind b c
-asks_of C R StoreFault.Disk behind b c of came = absurd of
-asks_of C R (StoreFault.BadLog p) behind b c of came = absurd of
-asks_of C R (StoreFault.Full e) behind b c of came = absurd of
-asks_of C R StoreFault.SeqEnd behind b c of came = came
-asks_of C R StoreFault.Authority behind b c of came = came
-asks_of C R StoreFault.Repos behind b c of came = came
-asks_of C R StoreFault.Memory behind b c of came = came
-asks_of C R StoreFault.Clock behind b c of came = came
-
 full_of : (f : StoreFault) (log : LogState) (steps : List Step) → ComesOfAsking f → EndsFull log steps [] (Some f)
 full_of StoreFault.Disk log steps of = absurd of
 full_of (StoreFault.BadLog p) log steps of = absurd of
@@ -74,15 +64,16 @@ full_of StoreFault.Repos log steps of = tt
 full_of StoreFault.Memory log steps of = tt
 full_of StoreFault.Clock log steps of = tt
 
-next_of : (f : StoreFault) (state : Core) (m : Message) (left : List Message) (c : Around) → ComesOfAsking f → IsCause (EndsNumbers state m.host (frame_of m.bytes)) (IsSpentFor (frame_of m.bytes) c.panel) ⊤ ⊤ f → EndsNext state (m ∷ left) c.panel (Some f)
-next_of StoreFault.Disk state m left c of cause = absurd of
-next_of (StoreFault.BadLog p) state m left c of cause = absurd of
-next_of (StoreFault.Full e) state m left c of cause = absurd of
-next_of StoreFault.SeqEnd state m left c of cause = cause
-next_of StoreFault.Authority state m left c of cause = cause
-next_of StoreFault.Repos state m left c of cause = tt
-next_of StoreFault.Memory state m left c of cause = tt
-next_of StoreFault.Clock state m left c of cause = tt
+next_of : (C R : Bool) (f : StoreFault) (state : Core) (m : Message) (left : List Message) (b c : Around) → ComesOfAsking f → IsCause (EndsNumbers C R state b m.host (frame_of m.bytes) c) (IsSpentFor state m.host (frame_of m.bytes) c.panel) ⊤ ⊤ f
+    → EndsNext C R state (m ∷ left) b c (Some f)
+next_of C R StoreFault.Disk state m left b c of cause = absurd of
+next_of C R (StoreFault.BadLog p) state m left b c of cause = absurd of
+next_of C R (StoreFault.Full e) state m left b c of cause = absurd of
+next_of C R StoreFault.SeqEnd state m left b c of cause = cause
+next_of C R StoreFault.Authority state m left b c of cause = cause
+next_of C R StoreFault.Repos state m left b c of cause = tt
+next_of C R StoreFault.Memory state m left b c of cause = tt
+next_of C R StoreFault.Clock state m left b c of cause = tt
 
 pub vain_not_disk : (f : StoreFault) → ComesOfAsking f → Some f ≢ Some StoreFault.Disk
 vain_not_disk StoreFault.Disk of is = of
@@ -114,16 +105,6 @@ late_extra log d told StoreFault.Repos s late = absurd late
 late_extra log d told StoreFault.Memory s late = omega arith
 late_extra log d told StoreFault.Clock s late = absurd late
 
-late_asks : (C R : Bool) (log : LogState) (d : Pending) (told : Decided) (f : StoreFault) (behind : List Message) (c : Around) → IsTooLate log d told f → StopsAsking C R (Some f) behind c c
-late_asks C R log d told StoreFault.Disk behind c late = absurd late
-late_asks C R log d told (StoreFault.BadLog p) behind c late = absurd late
-late_asks C R log d told (StoreFault.Full e) behind c late = nothing_here C R c
-late_asks C R log d told StoreFault.SeqEnd behind c late = absurd late
-late_asks C R log d told StoreFault.Authority behind c late = absurd late
-late_asks C R log d told StoreFault.Repos behind c late = absurd late
-late_asks C R log d told StoreFault.Memory behind c late = nothing_in_vain C R c c behind (nothing_here C R c)
-late_asks C R log d told StoreFault.Clock behind c late = absurd late
-
 late_full : (log : LogState) (d : Pending) (told : Decided) (f : StoreFault) (steps : List Step) (s : Step) → s.decided ≡ told → HasRows (rows steps) d → IsTooLate log d told f → EndsFull log steps (s ∷ []) (Some f)
 late_full log d told StoreFault.Disk steps s same has late = absurd late
 late_full log d told (StoreFault.BadLog p) steps s same has late = absurd late
@@ -134,15 +115,15 @@ late_full log d told StoreFault.Repos steps s same has late = absurd late
 late_full log d told StoreFault.Memory steps s same has late = tt
 late_full log d told StoreFault.Clock steps s same has late = absurd late
 
-late_next : (log : LogState) (d : Pending) (told : Decided) (f : StoreFault) (state : Core) (behind : List Message) (c : Around) → IsTooLate log d told f → EndsNext state behind c.panel (Some f)
-late_next log d told StoreFault.Disk state behind c late = absurd late
-late_next log d told (StoreFault.BadLog p) state behind c late = absurd late
-late_next log d told (StoreFault.Full e) state behind c late = next_none state behind c.panel (StoreFault.Full e) tt
-late_next log d told StoreFault.SeqEnd state behind c late = absurd late
-late_next log d told StoreFault.Authority state behind c late = absurd late
-late_next log d told StoreFault.Repos state behind c late = absurd late
-late_next log d told StoreFault.Memory state behind c late = next_none state behind c.panel StoreFault.Memory tt
-late_next log d told StoreFault.Clock state behind c late = absurd late
+late_next : (C R : Bool) (log : LogState) (d : Pending) (told : Decided) (f : StoreFault) (state : Core) (behind : List Message) (c : Around) → IsTooLate log d told f → EndsNext C R state behind c c (Some f)
+late_next C R log d told StoreFault.Disk state behind c late = absurd late
+late_next C R log d told (StoreFault.BadLog p) state behind c late = absurd late
+late_next C R log d told (StoreFault.Full e) state behind c late = next_none C R state behind c c (StoreFault.Full e) tt
+late_next C R log d told StoreFault.SeqEnd state behind c late = absurd late
+late_next C R log d told StoreFault.Authority state behind c late = absurd late
+late_next C R log d told StoreFault.Repos state behind c late = absurd late
+late_next C R log d told StoreFault.Memory state behind c late = next_none C R state behind c c StoreFault.Memory tt
+late_next C R log d told StoreFault.Clock state behind c late = absurd late
 
 -- nothing was applied since
 unchanged_gathered : (C R : Bool) (log : LogState) (group left : List Message) (state state_mid state_now : Core) (places places_mid places_now : List Place) (d d_now : Pending) (a b : Around) (outcomes : List Outcome)
@@ -198,7 +179,7 @@ module _ (C R : Bool) (log : LogState) (group : List Message) where
 
   module _ (left : List Message) (state state_now : Core) (places places_now : List Place) (d : Pending) (a b : Around) (outcomes : List Outcome) (so_far : IsGathering C R log group left state state_now places places_now d a b outcomes) where
     -- nothing more is taken
-    pub stops_here : (fault : Option StoreFault) → AreExtra fault [] → (fault ≡ None → (left ≡ []) ⊎ HasEnd outcomes) → ((c : Around) → StopsAsking C R fault left c c) → EndsFull log so_far.gathered.steps [] fault → EndsNext state_now left b.panel fault
+    pub stops_here : (fault : Option StoreFault) → AreExtra fault [] → (fault ≡ None → (left ≡ []) ⊎ HasEnd outcomes) → ((c : Around) → StopsAsking C R fault [] left c c) → EndsFull log so_far.gathered.steps [] fault → EndsNext C R state_now left b b fault
         → Stopped C R log group state state_now places places_now d a b outcomes fault
     stops_here fault which all asks full next =
         let g = so_far.gathered in
@@ -216,7 +197,7 @@ module _ (C R : Bool) (log : LogState) (group : List Message) where
           all = all;
           asked = λ J holds. record { mid = b; turns = subst (λ (l : List Step). AllAsked C R J a l b) (sym (append-nil g.steps)) (g.asked J holds); stops = asks b };
           full = full;
-          ends_next = next;
+          ends_next = λ J holds. next;
         }
 
   module _ (m : Message) (left : List Message) (state state_mid : Core) (places places_mid : List Place) (d : Pending) (a b : Around) (outcomes : List Outcome)
@@ -298,7 +279,7 @@ module _ (C R : Bool) (log : LogState) (group : List Message) where
               all = λ none. inr (outcomes, o, refl, ends);
               asked = λ J holds. record { mid = c; turns = subst (λ (l : List Step). AllAsked C R J a l c) (sym (append-nil g.steps)) (g.asked J holds); stops = nothing_here C R c };
               full = tt;
-              ends_next = next_nothing state_now left c.panel;
+              ends_next = λ J holds. next_nothing C R state_now left c c;
             }
 
         -- and none is left
@@ -320,7 +301,7 @@ module _ (C R : Bool) (log : LogState) (group : List Message) where
               all = λ none. inl last;
               asked = λ J holds. record { mid = c; turns = subst (λ (l : List Step). AllAsked C R J a l c) (sym (append-nil g.steps)) (g.asked J holds); stops = nothing_here C R c };
               full = tt;
-              ends_next = next_nothing state_now left c.panel;
+              ends_next = λ J holds. next_nothing C R state_now left c c;
             }
 
         -- its row found no room, or no memory
@@ -338,9 +319,9 @@ module _ (C R : Bool) (log : LogState) (group : List Message) where
           journal = journal_now;
           ends = ends_none outcomes so_far.none_ends;
           all = λ none. let no : ⊥ = cc in absurd no;
-          asked = λ J holds. record { mid = c; turns = asked_now J holds; stops = late_asks C R log d told f left c late };
+          asked = λ J holds. record { mid = c; turns = asked_now J holds; stops = nothing_here C R c };
           full = late_full log d told f so_far.gathered.steps (step_of m.host m.bytes told) refl so_far.gathered.pending late;
-          ends_next = late_next log d told f state_now left c late;
+          ends_next = λ J holds. late_next C R log d told f state_now left c late;
         }
 
     -- a fault came of the message alone
@@ -361,7 +342,9 @@ module _ (C R : Bool) (log : LogState) (group : List Message) where
           journal = subst (λ (l : List Step). KeepsJournal state (rows l)) (sym (append-nil so_far.gathered.steps)) so_far.gathered.journal;
           ends = ends_none outcomes so_far.none_ends;
           all = λ none. let no : ⊥ = cc in absurd no;
-          asked = λ J holds. record { mid = b; turns = subst (λ (l : List Step). AllAsked C R J a l b) (sym (append-nil so_far.gathered.steps)) (so_far.gathered.asked J holds); stops = asks_of C R f (m ∷ left) b c vain.of_asking vain.asked };
+          asked = λ J holds. record { mid = b; turns = subst (λ (l : List Step). AllAsked C R J a l b) (sym (append-nil so_far.gathered.steps)) (so_far.gathered.asked J holds); stops = vain.asked };
           full = full_of f log so_far.gathered.steps vain.of_asking;
-          ends_next = next_of f state_now m left c vain.of_asking (subst (λ (k : Core). IsCause (EndsNumbers k m.host (frame_of m.bytes)) (IsSpentFor (frame_of m.bytes) c.panel) ⊤ ⊤ f) (sym vain.same) vain.ends);
+          ends_next = λ J holds.
+              next_of C R f state_now m left b c vain.of_asking
+              (subst (λ (k : Core). IsCause (EndsNumbers C R k b m.host (frame_of m.bytes) c) (IsSpentFor k m.host (frame_of m.bytes) c.panel) ⊤ ⊤ f) (sym vain.same) vain.ends);
         }

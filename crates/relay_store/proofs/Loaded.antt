@@ -37,6 +37,10 @@ rest_cases (body ∷ after) = inr (body, after, refl)
 pub length_made : (format : Format) (xs ys : List (List ℕ)) → length (made format (xs ++ ys)) ≡ length (made format xs) + length (records ys)
 length_made format xs ys = omega (arith, ap length (records-append xs ys), length-append (records xs) (records ys), length-append (front format) (records (xs ++ ys)), length-append (front format) (records xs))
 
+-- no bodies have one among them
+pub no_split : (before after : List (List ℕ)) (body : List ℕ) → [] ≡ before ++ body ∷ after → ⊥
+no_split before after body split = omega (arith, ap length split, length-append before (body ∷ after))
+
 pub some_records : (body : List ℕ) (after : List (List ℕ)) → 0 < length (records (body ∷ after))
 some_records body after = omega (arith, length-append (behind_gate body) (records after))
 

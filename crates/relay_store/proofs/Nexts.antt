@@ -1,7 +1,7 @@
 -- What the other faults say of the next message: nothing.
-use Rattle.std.proofs.Common.{List, [], ◌∷◌, Some, None}
-use Rattle.at_authority.specs.Panels.{Panel}
+use Rattle.std.proofs.Common.{Bool, List, [], ◌∷◌, Some, None}
 use Rattle.relay_core.specs.declared.journal_state.Core.{Core}
+use Rattle.relay_step.specs.Around.{Around}
 use Rattle.relay_store.specs.Batches.{EndsNext}
 use Rattle.relay_store.specs.declared.fault.StoreFault.{StoreFault}
 use Rattle.relay_store.specs.declared.message.Message.{Message}
@@ -12,24 +12,24 @@ IsOther StoreFault.SeqEnd = ⊥
 IsOther StoreFault.Authority = ⊥
 IsOther f = Unit {0}
 
-pub next_none : (state : Core) (behind : List Message) (panel : Panel) (f : StoreFault) → IsOther f → EndsNext state behind panel (Some f)
-next_none state [] panel StoreFault.Disk other = tt
-next_none state [] panel (StoreFault.BadLog p) other = tt
-next_none state [] panel (StoreFault.Full e) other = tt
-next_none state [] panel StoreFault.SeqEnd other = absurd other
-next_none state [] panel StoreFault.Authority other = absurd other
-next_none state [] panel StoreFault.Repos other = tt
-next_none state [] panel StoreFault.Memory other = tt
-next_none state [] panel StoreFault.Clock other = tt
-next_none state (m ∷ behind) panel StoreFault.Disk other = tt
-next_none state (m ∷ behind) panel (StoreFault.BadLog p) other = tt
-next_none state (m ∷ behind) panel (StoreFault.Full e) other = tt
-next_none state (m ∷ behind) panel StoreFault.SeqEnd other = absurd other
-next_none state (m ∷ behind) panel StoreFault.Authority other = absurd other
-next_none state (m ∷ behind) panel StoreFault.Repos other = tt
-next_none state (m ∷ behind) panel StoreFault.Memory other = tt
-next_none state (m ∷ behind) panel StoreFault.Clock other = tt
+pub next_none : (C R : Bool) (state : Core) (behind : List Message) (old new : Around) (f : StoreFault) → IsOther f → EndsNext C R state behind old new (Some f)
+next_none C R state [] old new StoreFault.Disk other = tt
+next_none C R state [] old new (StoreFault.BadLog p) other = tt
+next_none C R state [] old new (StoreFault.Full e) other = tt
+next_none C R state [] old new StoreFault.SeqEnd other = absurd other
+next_none C R state [] old new StoreFault.Authority other = absurd other
+next_none C R state [] old new StoreFault.Repos other = tt
+next_none C R state [] old new StoreFault.Memory other = tt
+next_none C R state [] old new StoreFault.Clock other = tt
+next_none C R state (m ∷ behind) old new StoreFault.Disk other = tt
+next_none C R state (m ∷ behind) old new (StoreFault.BadLog p) other = tt
+next_none C R state (m ∷ behind) old new (StoreFault.Full e) other = tt
+next_none C R state (m ∷ behind) old new StoreFault.SeqEnd other = absurd other
+next_none C R state (m ∷ behind) old new StoreFault.Authority other = absurd other
+next_none C R state (m ∷ behind) old new StoreFault.Repos other = tt
+next_none C R state (m ∷ behind) old new StoreFault.Memory other = tt
+next_none C R state (m ∷ behind) old new StoreFault.Clock other = tt
 
-pub next_nothing : (state : Core) (behind : List Message) (panel : Panel) → EndsNext state behind panel None
-next_nothing state [] panel = tt
-next_nothing state (m ∷ behind) panel = tt
+pub next_nothing : (C R : Bool) (state : Core) (behind : List Message) (old new : Around) → EndsNext C R state behind old new None
+next_nothing C R state [] old new = tt
+next_nothing C R state (m ∷ behind) old new = tt

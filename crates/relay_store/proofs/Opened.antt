@@ -1,12 +1,12 @@
 -- What opening a pair of disks, and reading its log back, leaves.
-use Rattle.std.proofs.Common.{◌≡◌, inl, ℕ, List, [], ◌∷◌, length, refl, sym, ◌∙◌, ap, subst, arith, length-append}
+use Rattle.std.proofs.Common.{◌≡◌, ◌≢◌, inl, ℕ, Bool, Err, IsTrue, List, [], ◌∷◌, length, refl, sym, ◌∙◌, ap, subst, arith, length-append}
 use Rattle.relay_disk.specs.Disk.{View, Goes, Same, IsDisk, IsSynced}
 use Rattle.relay_disk.specs.Moments.{PairLeavesOnly}
 use Rattle.relay_disk.proofs.Moments.{unchanged, still_again, pair_still_one, pair_still_two, pair_weaker}
 use Rattle.gate_log.specs.Image.{IsMade, IsUnmade}
 use Rattle.gate_log.specs.Log.{LogState}
 use Rattle.gate_log.specs.Log.{HoldsBodies as HasBodies}
-use Rattle.gate_log.specs.Pick.{IsPicked, IsPairImage, IsPairImageOfOne, LeavesPairImages, LeavesSide, of_side, view_of_side}
+use Rattle.gate_log.specs.Pick.{IsPicked, IsPairImage, IsPairImageOfOne, LeavesPairImages, LeavesSide, of_side, other_side, view_of_side}
 use Rattle.gate_log.specs.declared.picking.Side.{Side}
 use Rattle.gate_log.specs.declared.picking.Side.TheVariants.{One, Two}
 use Rattle.gate_log.specs.declared.fault.LogFault.{LogFault}
@@ -17,7 +17,7 @@ use Rattle.event_window.specs.declared.place.Place.{Place}
 use Rattle.relay_row.specs.declared.row.Row.{Row}
 use Rattle.relay_core.specs.declared.journal_state.Core.{Core}
 use Rattle.relay_store.specs.Journals.{joined, bytes_of, AreBodiesOf, IsPairImageOf, LeavesPairJournals, IsPairJournalOfOne, IsBadBodyAt}
-use Rattle.relay_store.specs.Opening.{IsLoaded, IsBadAmong}
+use Rattle.relay_store.specs.Opening.{BothOnlyRead, IsLoaded, IsBadAmong, Opened}
 use Rattle.relay_store.specs.Store.{Keeps, seen}
 
 module _ (one two : View) where
@@ -57,6 +57,21 @@ of_content : (side : Side) (one two : View) → of_side side one.content two.con
 of_content One one two = refl
 of_content Two one two = refl
 
+-- a log with a fault behind its front was made before
+pub not_unmade : (side : Side) (log : LogState) (one two : View) (v : View) (bodies : List (List ℕ)) → IsPicked one.content two.content side → IsPairImage bodies one.content two.content → HasBodies bodies log v → (HasBodies [] log v → ⊥)
+    → IsUnmade (of_side side one.content two.content) → ⊥
+not_unmade side log one two v bodies picked image holds some unmade =
+    let none : IsPairImage [] one.content two.content = (side, picked, inl (unmade, refl)) in
+    some (subst (λ (bs : List (List ℕ)). HasBodies bs log v) (sym (same_pair [] bodies one.content two.content none image)) holds)
+
+-- of two disks of which one was only read
+pub both_sides : (side : Side) (one one_now two two_now : View) → Goes Same (view_of_side side one two) (view_of_side side one_now two_now) → Goes Same (view_of_side (other_side side) one two) (view_of_side (other_side side) one_now two_now) → BothOnlyRead one two one_now two_now
+both_sides One one one_now two two_now live beside = record { first = live; second = beside }
+both_sides Two one one_now two two_now live beside = record { first = beside; second = live }
+
+pub both_again : (one one_mid one_now two two_mid two_now : View) → IsDisk one → IsDisk two → BothOnlyRead one two one_mid two_mid → Goes Same one_mid one_now → Goes Same two_mid two_now → BothOnlyRead one two one_now two_now
+both_again one one_mid one_now two two_mid two_now d e before first second = record { first = still_again one one_mid one_now d before.first first; second = still_again two two_mid two_now e before.second second }
+
 -- a log's bad body is a journal's
 pub bad_journal : (p : ℕ) (side : Side) (log : LogState) (one one_mid two two_mid : View) (bodies : List (List ℕ)) → IsPicked one.content two.content side → IsPairImage bodies one.content two.content
     → HasBodies bodies log (view_of_side side one_mid two_mid) → ((IsUnmade (of_side side one.content two.content) → ⊥) → Goes Same (view_of_side side one two) (view_of_side side one_mid two_mid))
@@ -93,3 +108,13 @@ log_bad LogFault.Disk p is = let no : ⊥ = cc in absurd no
 log_bad (LogFault.BadLog q) p is = let same : q ≡ p = cc in ap LogFault.BadLog same
 log_bad (LogFault.Full e) p is = let no : ⊥ = cc in absurd no
 log_bad LogFault.Memory p is = let no : ⊥ = cc in absurd no
+
+pub log_read : (tells : Type 0) (f : LogFault) (P : Type 0) → ((e : ℕ) → f ≡ LogFault.Full e → ⊥) → ((p : ℕ) → f ≡ LogFault.BadLog p → tells → P) → (f ≡ LogFault.Memory → P) → of_log f ≢ StoreFault.Disk → tells → P
+log_read tells LogFault.Disk P full bad memory failed told = absurd (failed refl)
+log_read tells (LogFault.BadLog q) P full bad memory failed told = bad q refl told
+log_read tells (LogFault.Full e) P full bad memory failed told = absurd (full e refl)
+log_read tells LogFault.Memory P full bad memory failed told = memory refl
+
+-- so an opening that shows a bad log only read both disks
+pub bad_read : (tells : Bool) (one two one_now two_now : View) (f : StoreFault) (p : ℕ) → Opened tells one two one_now two_now (Err f) → f ≡ StoreFault.BadLog p → IsTrue tells → BothOnlyRead one two one_now two_now
+bad_read tells one two one_now two_now f p opened is told = opened.read f refl (λ disk. let wrong : ⊥ = cc in wrong) told

@@ -1,5 +1,6 @@
 -- Bodies that are read again, one after another.
-use Rattle.std.proofs.Common.{◌≡◌, inl, inr, ⊎_elim, ◌⊎◌, ℕ, ◌+◌, ◌<◌, Bool, List, [], ◌∷◌, ◌++◌, length, drop, min, IsTrue, refl, sym, ◌∙◌, ap, subst, arith, append_assoc, length-append}
+use Rattle.std.proofs.Common.{◌≡◌, inl, inr, ⊎_elim, ◌⊎◌, ℕ, ◌+◌, ◌<◌, Bool, true, false, List, [], ◌∷◌, ◌++◌, length, drop, min, IsTrue, refl, sym, ◌∙◌, ap, subst, arith, append_assoc, length-append}
+use Rattle.std.specs.List.{list_all}
 use Rattle.std.proofs.lemmas.Bool.{cases_lt}
 use Rattle.std.proofs.lemmas.List.{append-nil, drop_all}
 use Rattle.relay_disk.specs.Disk.{View, Goes, Same}
@@ -10,14 +11,18 @@ use Rattle.gate_log.specs.declared.format.Format.{Format}
 use Rattle.gate_log.specs.declared.limits.TheConstants.{BEFORE_BODY}
 use Rattle.gate_log.proofs.Append.{made-push}
 use Rattle.relay_row.specs.Bodies.{rows_body}
+use Rattle.relay_row.specs.Journal.{IsJournal, keeps_order}
+use Rattle.relay_row.specs.Rules.{is_row}
 use Rattle.relay_row.specs.declared.row.Row.{Row}
 use Rattle.relay_core.specs.Entries.{Holds}
 use Rattle.relay_core.specs.declared.journal_state.Core.{Core}
 use Rattle.relay_store.specs.Journals.{AllBodies, bytes_of, joined}
+use Rattle.relay_store.specs.Rereading.{BreaksOrder, GrowsInOrder, IsOfSome}
 use Rattle.relay_store.specs.Rewriting.{IsCopied}
 use Rattle.relay_store.specs.declared.rewriting.Rewrite.{Rewrite}
 use Rattle.relay_store.proofs.CutFronts.{joined_both}
 use Rattle.relay_store.proofs.Folds.{bytes_push, joined_push}
+use Rattle.relay_store.proofs.Ordering.{DoneInOrder, done_all, done_more, done_none, done_stops}
 use Rattle.relay_store.proofs.Loaded.{length_made, some_records}
 use Rattle.relay_store.proofs.Standing.{bytes_joined}
 
@@ -52,19 +57,33 @@ pub record IsMoving (rows left : List Row) (core now : Core) : Type 0 where
   pub done : List Row
   pub split : rows ≡ done ++ left
   pub moved : (J : List Row) → Holds core J → Holds now (J ++ done)
+  pub ordered : DoneInOrder rows done core
 
 pub moving_none : (rows left : List Row) (core : Core) → rows ≡ left → IsMoving rows left core core
-moving_none rows left core is = record { done = []; split = is; moved = λ J holds. subst (Holds core) (sym (append-nil J)) holds }
+moving_none rows left core is = record { done = []; split = is; moved = λ J holds. subst (Holds core) (sym (append-nil J)) holds; ordered = done_none rows core }
 
-pub moving_more : (rows left rest : List Row) (row : Row) (core now : Core) (f : IsMoving rows left core now) → left ≡ row ∷ rest → (next : Core) → ((J : List Row) → Holds now J → Holds next (J ++ row ∷ [])) → IsMoving rows rest core next
-moving_more rows left rest row core now f is next moves = record {
+pub moving_more : (rows left rest : List Row) (row : Row) (core now : Core) (f : IsMoving rows left core now) → left ≡ row ∷ rest → (next : Core) → ((J : List Row) → Holds now J → Holds next (J ++ row ∷ []))
+    → ((J : List Row) → Holds now J → true ≡ keeps_order J row) → IsMoving rows rest core next
+moving_more rows left rest row core now f is next moves order = record {
   done = f.done ++ row ∷ [];
   split = f.split ∙ ap (λ (l : List Row). f.done ++ l) is ∙ sym (append_assoc f.done (row ∷ []) rest);
   moved = λ J holds. subst (Holds next) (append_assoc J f.done (row ∷ [])) (moves (J ++ f.done) (f.moved J holds));
+  ordered = done_more rows f.done left rest row core now f.split is f.moved f.ordered order;
 }
 
 pub moving_all : (rows : List Row) (core now : Core) → IsMoving rows [] core now → (J : List Row) → Holds core J → Holds now (J ++ rows)
 moving_all rows core now f J holds = subst (λ (l : List Row). Holds now (J ++ l)) (sym (f.split ∙ append-nil f.done)) (f.moved J holds)
+
+pub moving_ordered : (rows : List Row) (core now : Core) → IsMoving rows [] core now → GrowsInOrder rows core
+moving_ordered rows core now f = done_all rows f.done core f.split f.ordered
+
+pub moving_stops : (rows left rest : List Row) (row : Row) (core now : Core) (f : IsMoving rows left core now) → left ≡ row ∷ rest
+    → ((J : List Row) → Holds now J → false ≡ keeps_order J row) → BreaksOrder rows core
+moving_stops rows left rest row core now f is order = done_stops rows f.done left rest row core now f.split is f.moved order
+
+-- some journal is known, and more rows that come in order
+pub some_more : (rows : List Row) (core now : Core) → list_all is_row rows ≡ true → ((J : List Row) → Holds core J → Holds now (J ++ rows)) → GrowsInOrder rows core → IsOfSome core → IsOfSome now
+some_more rows core now formed moves grows some = (some.0 ++ rows, record { holds = moves some.0 some.1.holds; journal = grows some.0 some.1.holds some.1.journal formed })
 
 -- ---- while a state is moved by bodies
 
@@ -76,10 +95,14 @@ pub record IsFolded (format : Format) (before : List (List Row)) (place : ℕ) (
   pub here : place ≡ length (made format (bytes_of done))
   pub core_is : Holds core (joined done)
 
+pub folded_journal : (done : List (List Row)) (there : List Row) (behind : List (List Row)) → IsJournal (joined (done ++ there ∷ behind)) → IsJournal (joined done ++ (there ++ joined behind))
+folded_journal done there behind journal = subst IsJournal (joined_both done (there ∷ behind)) journal
+
 pub record IsFolding (tells : Bool) (log : LogState) (v w : View) (upto place : ℕ) (core : Core) : Type 0 where
   pub goes : Goes Same v w
   pub holds : IsTrue tells → (bodies : List (List ℕ)) → HasBodies bodies log v → HasBodies bodies log w
   pub on : IsTrue tells → IsOn w log
+  pub known : IsOfSome core
   pub so_far : IsTrue tells → (before after : List (List Row)) → AllBodies (before ++ after) → HasBodies (bytes_of (before ++ after)) log v → upto ≡ length (made log.format (bytes_of before)) → IsFolded log.format before place core
 
 pub folded_none : (format : Format) (before : List (List Row)) (place : ℕ) (core : Core) → place ≡ length (made format []) → Holds core [] → IsFolded format before place core
@@ -126,6 +149,7 @@ pub record IsRecopying (tells : Bool) (log : LogState) (v v_now : View) (start p
   pub on : IsTrue tells → IsOn v_now log
   pub rows : List Row
   pub copied : IsCopied tells rows r now w w_now
+  pub known : IsOfSome r.core → IsOfSome now.core
   pub so_far : IsTrue tells → (before after : List (List Row)) → AllBodies (before ++ after) → HasBodies (bytes_of (before ++ after)) log v → start ≡ length (made log.format (bytes_of before)) → IsRecopied log.format before after place rows
 
 pub recopied_none : (format : Format) (before after : List (List Row)) (place : ℕ) → place ≡ length (made format (bytes_of before)) → IsRecopied format before after place []

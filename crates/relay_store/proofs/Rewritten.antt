@@ -1,5 +1,5 @@
 -- Rows that are written anew, each as a body of its own.
-use Rattle.std.proofs.Common.{◌≡◌, inl, inr, ⊎_elim, ℕ, ◌+◌, ◌<◌, ◌≤◌, Bool, List, [], ◌∷◌, ◌++◌, length, IsTrue, Result, Ok, Err, OnOk, refl, sym, ◌∙◌, ap, subst, arith, append_assoc, length-append}
+use Rattle.std.proofs.Common.{◌≡◌, inl, inr, ⊎_elim, ℕ, ◌+◌, ◌<◌, ◌≤◌, Bool, true, false, List, [], ◌∷◌, ◌++◌, length, IsTrue, Result, Ok, Err, OnOk, refl, sym, ◌∙◌, ap, subst, arith, append_assoc, length-append}
 use Rattle.std.proofs.lemmas.List.{append-nil}
 use Rattle.std.proofs.lemmas.Bool.{cases_lt}
 use Rattle.event_window.specs.declared.place.Place.{Place}
@@ -13,16 +13,19 @@ use Rattle.gate_log.specs.declared.format.Format.{Format}
 use Rattle.gate_log.specs.declared.limits.TheConstants.{AROUND_BODY, BEFORE_BODY}
 use Rattle.gate_log.proofs.Append.{records-append}
 use Rattle.relay_row.specs.Bodies.{rows_body}
+use Rattle.relay_row.specs.Journal.{keeps_order}
 use Rattle.relay_row.specs.declared.row.Row.{Row}
 use Rattle.relay_core.specs.Entries.{Holds}
 use Rattle.relay_store.specs.Faults.{of_log}
 use Rattle.relay_store.specs.Journals.{bytes_of, joined}
 use Rattle.relay_store.specs.Places.{place_of, places_behind, places_in}
 use Rattle.relay_store.specs.Opening.{IsOfReading}
+use Rattle.relay_store.specs.Rereading.{BreaksOrder, GrowsInOrder}
 use Rattle.relay_store.specs.Rewriting.{singles, end_behind, IsCopied, RewriteHasNoRoom, IsOfAdding, IsOfRewriting}
 use Rattle.relay_store.specs.declared.fault.StoreFault.{StoreFault}
 use Rattle.relay_store.specs.declared.rewriting.Rewrite.{Rewrite}
 use Rattle.relay_store.proofs.Loaded.{length_made}
+use Rattle.relay_store.proofs.Ordering.{DoneInOrder, done_all, done_more, done_stops}
 use Rattle.relay_store.proofs.Standing.{bytes_joined}
 
 singles_joined : (xs ys : List Row) → singles (xs ++ ys) ≡ singles xs ++ singles ys
@@ -212,14 +215,19 @@ pub record IsPutting (tells : Bool) (rows left : List Row) (r now : Rewrite) (v 
   pub done : List Row
   pub split : rows ≡ done ++ left
   pub copied : IsCopied tells done r now v w
+  pub ordered : DoneInOrder rows done r.core
 
 module _ (tells : Bool) (rows left rest : List Row) (row : Row) (r now : Rewrite) (v w : View) (so_far : IsPutting tells rows left r now v w) (is : left ≡ row ∷ rest) where
-  pub put_more : (next : Rewrite) (x : View) → IsCopied tells (row ∷ []) now next w x → IsPutting tells rows rest r next v x
-  put_more next x one = record {
+  pub put_more : (next : Rewrite) (x : View) → IsCopied tells (row ∷ []) now next w x → ((J : List Row) → Holds now.core J → true ≡ keeps_order J row) → IsPutting tells rows rest r next v x
+  put_more next x one order = record {
     done = so_far.done ++ row ∷ [];
     split = so_far.split ∙ ap (λ (l : List Row). so_far.done ++ l) is ∙ sym (append_assoc so_far.done (row ∷ []) rest);
     copied = copied_both tells so_far.done (row ∷ []) r now next v w x so_far.copied one;
+    ordered = done_more rows so_far.done left rest row r.core now.core so_far.split is so_far.copied.core so_far.ordered order;
   }
+
+  pub put_stops : ((J : List Row) → Holds now.core J → false ≡ keeps_order J row) → BreaksOrder rows r.core
+  put_stops order = done_stops rows so_far.done left rest row r.core now.core so_far.split is so_far.copied.core order
 
   pub put_full : (e : ℕ) → RewriteHasNoRoom now.build.end now.build.most (row ∷ []) e → RewriteHasNoRoom r.build.end r.build.most rows e
   put_full e full =
@@ -228,3 +236,6 @@ module _ (tells : Bool) (rows left rest : List Row) (row : Row) (r now : Rewrite
 
 pub put_all : (tells : Bool) (rows : List Row) (r now : Rewrite) (v w : View) → IsPutting tells rows [] r now v w → IsCopied tells rows r now v w
 put_all tells rows r now v w so_far = subst (λ (l : List Row). IsCopied tells l r now v w) (sym (so_far.split ∙ append-nil so_far.done)) so_far.copied
+
+pub put_ordered : (tells : Bool) (rows : List Row) (r now : Rewrite) (v w : View) → IsPutting tells rows [] r now v w → GrowsInOrder rows r.core
+put_ordered tells rows r now v w so_far = done_all rows so_far.done r.core so_far.split so_far.ordered

@@ -70,9 +70,9 @@ module _ (place index : ℕ) (was left : RowsLeft) (state state_now : Core) (pla
 
   pub no_rows_were : (answer : Result (Option Row) RowFault) (now : RowsLeft) → TakesNext answer left now → answer ≡ Err RowFault.BadRow → (rows : List Row) → AreLeft rows was → ⊥
   no_rows_were answer now next is rows are =
-      let none : (rows : List Row) → AreLeft rows left → ⊥ = subst (λ (r : Result (Option Row) RowFault). TakesNext r left now) is next in
+      let bad : TakesNext (Err RowFault.BadRow) left now = subst (λ (r : Result (Option Row) RowFault). TakesNext r left now) is next in
       let others = others_left so_far.done rows was left so_far.read are in
-      none others.0 others.2
+      bad.0 others.0 others.2
 
 module _ (body : List ℕ) (left : RowsLeft) (behind : AreBehindFront body left) where
   pub body_applied : (place : ℕ) (state state_now : Core) (places places_now : List Place) → (rows : List Row) × AreLeft rows left × AreApplied place rows state state_now places places_now

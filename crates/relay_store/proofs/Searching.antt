@@ -1,7 +1,9 @@
 -- The search for the first event that is shown.
-use Rattle.std.proofs.Common.{◌≡◌, ℕ, ◌-◌, ◌≤◌, ◌<◌, Bool, true, false, List, [], ◌∷◌, ◌++◌, length, take, drop, slice_index_or, refl, sym, ◌∙◌, ap, subst, arith}
-use Rattle.std.specs.Prelude.{if◌then◌else◌, IsTrue}
-use Rattle.std.proofs.lemmas.List.{take_all}
+use Rattle.std.proofs.Common.{◌≡◌, ℕ, ◌-◌, ◌≤◌, ◌<◌, Bool, true, false, List, [], ◌∷◌, ◌++◌, length, take, drop, slice_index_or, Option, Some, None, refl, sym, ◌∙◌, ap, subst, arith}
+use Rattle.std.specs.Prelude.{if◌then◌else◌, IfSome, IsTrue}
+use Rattle.std.specs.List.{Contains}
+use Rattle.std.proofs.lemmas.List.{take_all, take-append-drop}
+use Rattle.std.proofs.lemmas.List.Elements.{Contains-append_left, Contains-append_right, Contains-push}
 use Rattle.relay_disk.specs.Disk.{View}
 use Rattle.event_window.specs.Held.{Event}
 use Rattle.event_window.specs.declared.place.Place.{Place}
@@ -14,7 +16,7 @@ use Rattle.relay_row.specs.Folds.{events_in}
 use Rattle.relay_row.specs.declared.row.Row.{Row}
 use Rattle.relay_core.specs.Entries.{Holds}
 use Rattle.relay_core.specs.declared.journal_state.Core.{Core}
-use Rattle.relay_store.specs.Events.{AllStand, IsRest, IsToldOf, StandsAt, message_of}
+use Rattle.relay_store.specs.Events.{AllStand, IsReadOf, IsRest, IsToldOf, StandsAt, message_of}
 use Rattle.relay_store.specs.Journals.{AllBodies, bytes_of}
 use Rattle.relay_store.specs.Shown.{is_shown, shown_of}
 use Rattle.relay_store.proofs.Loaded.{length_made, some_records}
@@ -30,6 +32,23 @@ body_inside format before body after = omega (arith, length_made format before (
 pub split_first : (left : List Place) (d : Place) → 1 ≤ length left → left ≡ slice_index_or left 0 d ∷ take (length left - 1) (drop 1 left)
 split_first [] d some = absurd (omega (arith, some))
 split_first (p ∷ left) d some = ap (λ (l : List Place). p ∷ l) (sym (take_all (length (p ∷ left) - 1) left (omega arith)))
+
+pub first_within : (p : Place) (rest left : List Place) → left ≡ p ∷ rest → Contains left p
+first_within p rest left split = subst (λ (l : List Place). Contains l p) (sym split) (Contains-append_left (p ∷ []) rest p (Contains-push [] p))
+
+pub rest_within : (p : Place) (rest left : List Place) → left ≡ p ∷ rest → (q : Place) → Contains rest q → Contains left q
+rest_within p rest left split q there = subst (λ (l : List Place). Contains l q) (sym split) (Contains-append_right (p ∷ []) rest q there)
+
+-- what is behind some of them is among them
+from_part : (part places : List Place) → ((count : ℕ) × (part ≡ drop count places)) → (p : Place) → Contains part p → Contains places p
+from_part part places behind p there =
+    subst (λ (l : List Place). Contains l p) (take-append-drop behind.0 places)
+    (Contains-append_right (take behind.0 places) (drop behind.0 places) p (subst (λ (l : List Place). Contains l p) behind.1 there))
+
+pub read_from_part : (part places : List Place) → ((count : ℕ) × (part ≡ drop count places)) → (left room : List ℕ) (found : Option ℕ)
+    → IfSome found (λ n. IsReadOf part left n room) → IfSome found (λ n. IsReadOf places left n room)
+read_from_part part places behind left room None read = tt
+read_from_part part places behind left room (Some n) read = (read.0, from_part part places behind read.0 read.1, read.2, read.3)
 
 one_shown : (J : List Row) (p : Place) (row : Row) (room : List ℕ) (es : List Event) → true ≡ is_shown J row → events_in row ≡ (p.seq, message_of (events_in row)) ∷ [] → room ≡ message_of (events_in row)
     → (if is_shown J row then events_in row else []) ++ es ≡ (p.seq, room) ∷ es

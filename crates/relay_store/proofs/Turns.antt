@@ -82,7 +82,7 @@ risen_late log d told repos clock StoreFault.Memory late = tt
 risen_late log d told repos clock StoreFault.Clock late = absurd late
 
 pub vain_of : (clock_tells repos_tell : Bool) (state : Core) (host message : List ℕ) (old new : Around) (repos clock : Type 0) (f : StepFault) → CameToNothing clock_tells repos_tell (AskedInVainOf old.panel (frame_of message) new.panel) old new
-    → IsStepCause (EndsNumbers state host (frame_of message)) (IsSpentFor (frame_of message) new.panel) repos clock f → IsInVain clock_tells repos_tell state state host message old new (of_step f)
+    → IsStepCause (EndsNumbers clock_tells repos_tell state old host (frame_of message) new) (IsSpentFor state host (frame_of message) new.panel) repos clock f → IsInVain clock_tells repos_tell state state host message old new (of_step f)
 vain_of clock_tells repos_tell state host message old new repos clock f asked cause = record {
   of_asking = of_asking f;
   same = refl;

@@ -60,17 +60,23 @@ abbrev pub InVain : List Message → Panel → Panel → Type 0
 InVain [] old new = new ≡ old
 InVain (m ∷ behind) old new = AskedInVainOf old (frame_of m.bytes) new
 
--- what was asked behind the steps: nothing, or for the next message, in vain
-abbrev pub StopsAsking : Bool → Bool → Option StoreFault → List Message → Around → Around → Type 0
-StopsAsking clock_tells repos_tell None behind old new = AskedNothing clock_tells repos_tell old new
-StopsAsking clock_tells repos_tell (Some (StoreFault.Full end)) behind old new = AskedNothing clock_tells repos_tell old new
-StopsAsking clock_tells repos_tell (Some fault) behind old new = CameToNothing clock_tells repos_tell (InVain behind old.panel new.panel) old new
+-- what was asked behind the steps where a fault came: nothing where a step is left over, and else for the next message, in vain
+abbrev pub AsksBehind : Bool → Bool → List Step → List Message → Around → Around → Type 0
+AsksBehind clock_tells repos_tell [] behind old new =
+    CameToNothing clock_tells repos_tell (InVain behind old.panel new.panel) old new
+AsksBehind clock_tells repos_tell (s ∷ extra) behind old new = AskedNothing clock_tells repos_tell old new
+
+-- what was asked behind the steps: nothing, unless a fault came
+abbrev pub StopsAsking : Bool → Bool → Option StoreFault → List Step → List Message → Around → Around → Type 0
+StopsAsking clock_tells repos_tell None extra behind old new = AskedNothing clock_tells repos_tell old new
+StopsAsking clock_tells repos_tell (Some fault) extra behind old new = AsksBehind clock_tells repos_tell extra behind old new
 
 -- what the steps and the next message asked
-pub record AskedInTurn (clock_tells repos_tell : Bool) (J : List Row) (old : Around) (taken : List Step) (fault : Option StoreFault) (behind : List Message) (new : Around) : Type 0 where
+pub record AskedInTurn (clock_tells repos_tell : Bool) (J : List Row) (old : Around) (steps extra : List Step)
+    (fault : Option StoreFault) (behind : List Message) (new : Around) : Type 0 where
   pub mid : Around
-  pub turns : AllAsked clock_tells repos_tell J old taken mid
-  pub stops : StopsAsking clock_tells repos_tell fault behind mid new
+  pub turns : AllAsked clock_tells repos_tell J old (steps ++ extra) mid
+  pub stops : StopsAsking clock_tells repos_tell fault extra behind mid new
 
 -- the log had no room for the row of the step behind those in the body
 abbrev pub EndsFull : LogState → List Step → List Step → Option StoreFault → Type 0
@@ -83,12 +89,15 @@ AreAnswers (Some StoreFault.Disk) steps outcomes = outcomes ≡ []
 AreAnswers fault steps outcomes = map Some outcomes ≡ map outcome_of steps
 
 -- for the next message the numbers end, or no authority is left
-abbrev pub EndsNext : Core → List Message → Panel → Option StoreFault → Type 0
-EndsNext core [] panel (Some StoreFault.SeqEnd) = ⊥
-EndsNext core (m ∷ behind) panel (Some StoreFault.SeqEnd) = EndsNumbers core m.host (frame_of m.bytes)
-EndsNext core [] panel (Some StoreFault.Authority) = ⊥
-EndsNext core (m ∷ behind) panel (Some StoreFault.Authority) = IsSpentFor (frame_of m.bytes) panel
-EndsNext core behind panel fault = Unit {0}
+abbrev pub EndsNext : Bool → Bool → Core → List Message → Around → Around → Option StoreFault
+    → Type 0
+EndsNext clock_tells repos_tell core [] old new (Some StoreFault.SeqEnd) = ⊥
+EndsNext clock_tells repos_tell core (m ∷ behind) old new (Some StoreFault.SeqEnd) =
+    EndsNumbers clock_tells repos_tell core old m.host (frame_of m.bytes) new
+EndsNext clock_tells repos_tell core [] old new (Some StoreFault.Authority) = ⊥
+EndsNext clock_tells repos_tell core (m ∷ behind) old new (Some StoreFault.Authority) =
+    IsSpentFor core m.host (frame_of m.bytes) new.panel
+EndsNext clock_tells repos_tell core behind old new fault = Unit {0}
 
 -- what a store was, and what it and its disk are now
 pub record Scene (D : Type 0) : Type 0 where
@@ -114,11 +123,11 @@ pub record Batched {D : Type 0} (view : D → View) (tells clock_tells repos_tel
   pub ends : EndsLast outcomes
   pub all : fault ≡ None → (behind ≡ []) ⊎ HasEnd outcomes
   -- what was asked, in turn
-  pub asked : AskedInTurn clock_tells repos_tell J old.around (steps ++ extra) fault behind new.around
+  pub asked : AskedInTurn clock_tells repos_tell J old.around steps extra fault behind new.around
   -- each row in the body had room, and a row that hadn't ends the steps
   pub room : (rows steps ≡ []) ⊎ (end_of old.store.log.end (rows steps) ≤ old.store.log.most)
   pub full : EndsFull old.store.log steps extra fault
-  pub next : EndsNext new.store.core behind new.around.panel fault
+  pub next : EndsNext clock_tells repos_tell new.store.core behind asked.mid new.around fault
   -- the log is of the format that it had, and may go as far
   pub format : new.store.log.format ≡ old.store.log.format
   pub most : new.store.log.most ≡ old.store.log.most

@@ -10,7 +10,7 @@ use Rattle.relay_core.specs.Entries.{Holds}
 use Rattle.relay_step.specs.Commands.{rows_commanded}
 use Rattle.relay_step.specs.declared.command.CommandAnswer.{CommandAnswer}
 use Rattle.relay_store.specs.Journals.{IsOneOf}
-use Rattle.relay_store.specs.PendingBodies.{HasRows, IsFull, end_of}
+use Rattle.relay_store.specs.PendingBodies.{HasRows, IsFull, end_of, pending_end}
 use Rattle.relay_store.specs.Store.{StoreState, Keeps}
 use Rattle.relay_store.specs.Taking.{ComesOfAsking}
 use Rattle.relay_store.specs.declared.done.Done.{Done}
@@ -82,6 +82,8 @@ pub record Commanded {D : Type 0} (view : D → View) (tells : Bool) (J : List R
   -- the log is of the format that it had, and may go as far
   pub format : new.log.format ≡ old.log.format
   pub most : new.log.most ≡ old.log.most
+  -- the next body goes behind the one of the row
+  pub end : result ≢ Err StoreFault.Disk → new.log.end ≡ pending_end old.log.end (added result (rows_commanded command))
   -- after every fault but the disk's the row is known, if one was added, and the disk holds it
   pub known : result ≢ Err StoreFault.Disk → Holds new.core (J ++ added result (rows_commanded command))
   pub keeps : result ≢ Err StoreFault.Disk → IsTrue tells → Keeps J old (view disk) → Keeps (J ++ added result (rows_commanded command)) new (view disk_now)

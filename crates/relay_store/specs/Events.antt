@@ -1,5 +1,6 @@
 -- Where the events of a journal are found again, and what is told of them (own).
 use Rattle.std.specs.Prelude.{◌≡◌, ℕ, Bool, true, List, [], ◌∷◌, ◌++◌, length, drop, slice_get, Option, Some, None, IsTrue}
+use Rattle.std.specs.List.{Contains}
 use Rattle.event_window.specs.Held.{Event, Held}
 use Rattle.event_window.specs.declared.place.Place.{Place}
 use Rattle.relay_disk.specs.Disk.{View, Goes, Same}
@@ -10,6 +11,8 @@ use Rattle.gate_log.specs.Log.{HoldsBodies as HasBodies}
 use Rattle.relay_row.specs.Bodies.{encoded_rows}
 use Rattle.relay_row.specs.Folds.{events_in}
 use Rattle.relay_row.specs.declared.row.Row.{Row}
+use Rattle.row_peek.specs.Passing.{ends_row}
+use Rattle.row_peek.specs.Peeking.{event_at}
 use Rattle.relay_core.specs.Entries.{Holds}
 use Rattle.relay_core.specs.declared.journal_state.Core.{Core}
 use Rattle.relay_store.specs.Journals.{AllBodies, bytes_of}
@@ -57,6 +60,17 @@ pub record IsToldOf (J : List Row) (row : Row) (shown : Bool) (room : List ℕ) 
   pub is : shown ≡ is_shown J row
   pub message : shown ≡ true → room ≡ message_of (events_in row)
 
+-- Of any disk: the event that is seen of the row at the front of these bytes has this number, and where it is shown, its message is in the room; and the row ends as one of a body does.
+pub record IsReadAs (left : List ℕ) (seq : ℕ) (shown : Bool) (room : List ℕ) : Type 0 where
+  pub message : List ℕ
+  pub seen : event_at left ≡ Some (seq, message)
+  pub ends : ends_row left ≡ true
+  pub given : shown ≡ true → room ≡ message
+
+-- At the front of these bytes an event is seen that has this message, and a number that is kept at one of these places.
+abbrev pub IsReadOf : List Place → List ℕ → ℕ → List ℕ → Type 0
+IsReadOf places left n message = (p : Place) × Contains places p × (p.seq ≡ n) × IsReadAs left n true message
+
 -- This is the first of events, and its message is in the room.
 abbrev pub IsFirst : List Event → Option ℕ → List ℕ → Type 0
 IsFirst events None room = events ≡ []
@@ -71,7 +85,9 @@ pub record IsRest (tells : Bool) (log : LogState) (core : Core) (v : View) (bodi
 -- while the first event that is shown is searched for, from a buffer on
 pub record IsSearching (tells : Bool) (log : LogState) (core : Core) (old now : View) (buffer buffer_now : BufferState) (places left : List Place) : Type 0 where
   pub goes : Goes Same old now
+  pub steady : now.faults ≡ old.faults
   pub holds : IsTrue tells → (bodies : List (List ℕ)) → HasBodies bodies log old → HasBodies bodies log now
   pub on : IsTrue tells → IsOn now log
   pub fits : IsTrue tells → (bodies : List (List Row)) → AllBodies bodies → HasBodies (bytes_of bodies) log old → IsBufferOf log.format bodies buffer → IsBufferOf log.format bodies buffer_now
+  pub within : (p : Place) → Contains left p → Contains places p
   pub rest : (bodies : List (List Row)) (rows : List Row) → IsBufferOf log.format bodies buffer → AllStand log.format bodies places rows → IsRest tells log core old bodies left rows

@@ -3,6 +3,7 @@ pub mod Places
 pub mod Store
 pub mod Outcomes
 pub mod PendingBodies
+pub mod Room
 pub mod Opening
 pub mod Batches
 pub mod Taking
@@ -14,3 +15,4 @@ pub mod Rereading
 pub mod Lines
 pub mod Rewriting
 pub mod Cutting
+pub mod ShownMessages

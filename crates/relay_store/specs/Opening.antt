@@ -1,5 +1,5 @@
 -- What opening a store finds (own).
-use Rattle.std.specs.Prelude.{◌≡◌, ⊤, ℕ, Bool, List, ◌∷◌, ◌++◌, length, Result, IsTrue, IfOk}
+use Rattle.std.specs.Prelude.{◌≡◌, ◌≢◌, ⊤, ℕ, Bool, List, ◌∷◌, ◌++◌, length, Result, Err, IsTrue, IfOk}
 use Rattle.event_window.specs.declared.place.Place.{Place}
 use Rattle.relay_disk.specs.Disk.{View, Goes, Same}
 use Rattle.relay_disk.specs.Moments.{PairLeavesOnly}
@@ -20,6 +20,11 @@ use Rattle.relay_store.specs.Store.{Keeps, seen_in}
 use Rattle.relay_store.specs.declared.fault.StoreFault.{StoreFault}
 use Rattle.relay_store.specs.declared.store.Store.{Store}
 
+-- Two disks were only read: they hold what they held, and so does all that a crash may leave.
+pub record BothOnlyRead (one two one_now two_now : View) : Type 0 where
+  pub first : Goes Same one one_now
+  pub second : Goes Same two two_now
+
 -- An opening of the store of two disks, whatever it answers.
 pub record Opened (tells : Bool) (one two one_now two_now : View) (result : Result Store StoreFault) : Type 0 where
   -- the store's journal is the one of which the pair is an image
@@ -29,6 +34,8 @@ pub record Opened (tells : Bool) (one two one_now two_now : View) (result : Resu
   pub beside : IfOk result (λ s. Goes Same (view_of_side (other_side s.side) one two) (view_of_side (other_side s.side) one_now two_now))
   -- whatever moments a crash strikes the two at, it leaves an image of one of the journals that one before could leave
   pub moments : IsTrue tells → LeavesPairJournals one two → PairLeavesOnly (IsPairJournalOfOne one two) one one_now two two_now
+  -- where it comes to no store, and no call of a disk failed, both were only read: a damaged log stays as it is
+  pub read : (fault : StoreFault) → result ≡ Err fault → fault ≢ StoreFault.Disk → IsTrue tells → BothOnlyRead one two one_now two_now
 
 -- The rows of the body at this place are applied, behind the journal J.
 pub record IsApplied (place : ℕ) (body : List ℕ) (J : List Row) (state : Core) (places places_now : List Place) : Type 0 where

@@ -49,7 +49,8 @@ pub record IsInVain (clock_tells repos_tell : Bool) (core core_now : Core) (host
   pub of_asking : ComesOfAsking fault
   pub same : core_now ≡ core
   pub asked : CameToNothing clock_tells repos_tell (AskedInVainOf old.panel (frame_of message) new.panel) old new
-  pub ends : IsCause (EndsNumbers core host (frame_of message)) (IsSpentFor (frame_of message) new.panel) ⊤ ⊤ fault
+  pub ends : IsCause (EndsNumbers clock_tells repos_tell core old host (frame_of message) new)
+      (IsSpentFor core host (frame_of message) new.panel) ⊤ ⊤ fault
 
 -- a fault that comes behind its decision: its row had no room, or memory ran out
 abbrev pub IsTooLate : LogState → Pending → Decided → StoreFault → Type 0
@@ -98,9 +99,10 @@ pub record Stopped (clock_tells repos_tell : Bool) (log : LogState) (group : Lis
   pub journal : KeepsJournal core (rows (gathered.steps ++ extra))
   pub ends : EndsLast outcomes
   pub all : fault ≡ None → (behind ≡ []) ⊎ HasEnd outcomes
-  pub asked : (J : List Row) → Holds core J → AskedInTurn clock_tells repos_tell J old (gathered.steps ++ extra) fault behind new
+  pub asked : (J : List Row) → Holds core J → AskedInTurn clock_tells repos_tell J old gathered.steps extra fault behind new
   pub full : EndsFull log gathered.steps extra fault
-  pub ends_next : EndsNext core_now behind new.panel fault
+  pub ends_next : (J : List Row) → (holds : Holds core J)
+      → EndsNext clock_tells repos_tell core_now behind (asked J holds).mid new fault
 
 -- each is of a host's name
 abbrev pub AreOfHosts : List Message → Type 0

@@ -1,6 +1,6 @@
 //! Reading a body of a log again.
 
-ghost use Rattle.std.specs.Prelude.{◌≡◌, ◌≤◌, ◌<◌, ◌+◌, ◌++◌, ◌∷◌, ℕ, List, length, Err, IsTrue, IfOk};
+ghost use Rattle.std.specs.Prelude.{◌≡◌, ◌≤◌, ◌<◌, ◌+◌, ◌++◌, ◌∷◌, ℕ, List, length, Err, IsTrue, IfOk, OnOk, OnErr};
 ghost use Rattle.at_cid.specs.Counts.{Rose};
 ghost use Rattle.relay_disk.specs.Disk.{Goes, Same};
 ghost use Rattle.gate_log.specs.Image.{made};
@@ -35,6 +35,8 @@ pub(crate) fn read_body<D: Disk>(
     ensures goes { Goes Same (D.view disk.old) (D.view disk.new) }
     ensures holds { IsTrue D.tells → (bodies : List (List ℕ)) → HasBodies bodies log.now (D.view disk.old) → HasBodies bodies log.now (D.view disk.new) }
     ensures on { IsTrue D.tells → IsOn (D.view disk.new) log.now }
+    ensures steady { OnOk result ((D.view disk.new).faults ≡ (D.view disk.old).faults) }
+    ensures no_fault { OnErr result ((result ≡ Err LogFault.Disk → ⊥) → (D.view disk.new).faults ≡ (D.view disk.old).faults) }
     ensures disk { result ≡ Err LogFault.Disk → Rose (D.view disk.old).faults (D.view disk.new).faults }
 {
     if place >= log.end() {

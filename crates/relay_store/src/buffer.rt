@@ -1,6 +1,6 @@
 //! Where one is in a log while its events are read back.
 
-ghost use Rattle.std.specs.Prelude.{◌≡◌, ◌≤◌, ◌<◌, ◌+◌, ◌++◌, ◌∷◌, ◌⊎◌, [], ℕ, List, length, drop, Some, None, Err, true, false, IsTrue, IfOk, IfSome, OnOk};
+ghost use Rattle.std.specs.Prelude.{◌≡◌, ◌≤◌, ◌<◌, ◌+◌, ◌++◌, ◌∷◌, ◌⊎◌, ◌↔◌, [], ℕ, List, length, drop, Some, None, Err, true, false, IsTrue, IfOk, IfSome, OnOk, OnErr, option_map};
 ghost use Rattle.std.specs.List.{list_all};
 ghost use Rattle.at_cid.specs.Counts.{Rose};
 ghost use Rattle.relay_disk.specs.Disk.{Goes, Same};
@@ -11,7 +11,9 @@ ghost use Rattle.gate_log.specs.Log.{HoldsBodies as HasBodies, IsOn};
 ghost use Rattle.relay_row.specs.Bodies.{IsBody, rows_body, row_encoding, encoded_rows};
 ghost use Rattle.relay_row.specs.Rules.{is_row};
 ghost use Rattle.relay_row.specs.declared.row.Row.{Row as TheRow};
+ghost use Rattle.row_peek.specs.Passing.{ends_row};
 ghost use Rattle.row_peek.specs.Peeked.{Sees};
+ghost use Rattle.row_peek.specs.Peeking.{peeked_at, seen};
 ghost use Rattle.relay_store.specs.Events.{IsBufferOf};
 ghost use Rattle.relay_store.specs.Journals.{AllBodies, bytes_of};
 
@@ -20,7 +22,7 @@ use at_cbor::take_list_front;
 use event_window::{EventsFault, Place};
 use gate_log::{Log, LogFault};
 use relay_disk::Disk;
-use row_peek::{Peeked, behind_row, peek};
+use row_peek::{Peeked, behind_row, ends_row, peek};
 use std::alloc::Global;
 use std::marker::Model;
 
@@ -47,7 +49,7 @@ impl Model for Buffer {
 
 // What a fault of reading a log at a place comes to.
 fn fault_of(fault: LogFault) -> EventsFault
-    ensures disk { result ≡ EventsFault.Disk → fault ≡ LogFault.Disk }
+    ensures disk { (result ≡ EventsFault.Disk) ↔ (fault ≡ LogFault.Disk) }
     ensures bad_log { (p : ℕ) → result ≡ EventsFault.BadLog p → (fault ≡ LogFault.BadLog p) ⊎ (fault ≡ LogFault.Full p) }
 {
     match fault {
@@ -117,6 +119,8 @@ fn rows_at<D: Disk>(
     ensures goes { Goes Same (D.view disk.old) (D.view disk.new) }
     ensures holds { IsTrue D.tells → (bodies : List (List ℕ)) → HasBodies bodies log.now (D.view disk.old) → HasBodies bodies log.now (D.view disk.new) }
     ensures on { IsTrue D.tells → IsOn (D.view disk.new) log.now }
+    ensures steady { OnOk result ((D.view disk.new).faults ≡ (D.view disk.old).faults) }
+    ensures no_fault { OnErr result ((result ≡ Err EventsFault.Disk → ⊥) → (D.view disk.new).faults ≡ (D.view disk.old).faults) }
     ensures disk { result ≡ Err EventsFault.Disk → Rose (D.view disk.old).faults (D.view disk.new).faults }
 {
     match read_body(log, disk, place, room) {
@@ -167,6 +171,8 @@ impl Buffer {
         ensures goes { Goes Same (D.view disk.old) (D.view disk.new) }
         ensures holds { IsTrue D.tells → (bodies : List (List ℕ)) → HasBodies bodies log.now (D.view disk.old) → HasBodies bodies log.now (D.view disk.new) }
         ensures on { IsTrue D.tells → IsOn (D.view disk.new) log.now }
+        ensures steady { OnOk result ((D.view disk.new).faults ≡ (D.view disk.old).faults) }
+        ensures no_fault { OnErr result ((result ≡ Err EventsFault.Disk → ⊥) → (D.view disk.new).faults ≡ (D.view disk.old).faults) }
         ensures disk { result ≡ Err EventsFault.Disk → Rose (D.view disk.old).faults (D.view disk.new).faults }
     {
         self.place = 0;
@@ -212,9 +218,19 @@ impl Buffer {
         true
     }
 
+    /// Whether the row before which it is ends as one of a body does.
+    pub(crate) fn ends_row(&self) -> bool
+        ensures found { result ≡ ends_row self.now.left }
+        ensures row { (row : TheRow) (more : List TheRow) → is_row row ≡ true → self.now.left ≡ row_encoding row ++ encoded_rows more → result ≡ true }
+    {
+        let (_, left) = self.body.as_slice().split_at(self.at);
+        ends_row(left)
+    }
+
     /// What is seen of the row before which it is.
     pub(crate) fn peeked(&self) -> Option<Peeked<'_>>
-        ensures { (row : TheRow) (rest : List ℕ) → is_row row ≡ true → self.now.left ≡ row_encoding row ++ rest → Sees row result }
+        ensures found { option_map seen result ≡ peeked_at self.now.left }
+        ensures sees { (row : TheRow) (rest : List ℕ) → is_row row ≡ true → self.now.left ≡ row_encoding row ++ rest → Sees row result }
     {
         let (_, left) = self.body.as_slice().split_at(self.at);
         peek(left)

@@ -2,17 +2,16 @@
 
 ghost use Rattle.std.specs.Prelude.{◌≡◌, ◌≢◌, ◌≤◌, ◌<◌, ◌++◌, [], ⊤, List, length, false, Err, IsTrue, IfOk, IfErr, OnOk, OnErr};
 ghost use Rattle.at_cid.specs.Counts.{Rose};
-ghost use Rattle.at_syntax.specs.Did.{is_did, method_of};
+ghost use Rattle.at_syntax.specs.Did.{is_did};
 ghost use Rattle.at_form.specs.declared.forms.TheConstants.{LONGEST_SHORT_TEXT};
 ghost use Rattle.gate_log.specs.declared.pending_bodies.TheConstants.{AHEAD};
 ghost use Rattle.relay_row.specs.Journal.{IsJournal};
 ghost use Rattle.relay_row.specs.declared.limits.TheConstants.{MOST_ROWS};
 ghost use Rattle.relay_row.specs.declared.row.Row.{Row as TheRow};
-ghost use Rattle.at_authority.specs.Panels.{IsSpent};
 ghost use Rattle.relay_step.specs.Around.{around};
 ghost use Rattle.relay_step.specs.Asked.{AskedInVain};
 ghost use Rattle.relay_step.specs.Causes.{CameToNothing, OneTaken};
-ghost use Rattle.relay_step.specs.Commands.{EndsBehind, EndsFetched, OperatedAt, SyncedAt, rows_commanded, told_where};
+ghost use Rattle.relay_step.specs.Commands.{EndsBehind, EndsFetched, OperatedAt, SpentFetching, SyncedAt, rows_commanded};
 ghost use Rattle.relay_store.specs.PendingBodies.{Fits, HasRows, IsUnchanged};
 ghost use Rattle.relay_store.specs.Store.{IsKept, IsOf, seen_in};
 ghost use Rattle.relay_store.specs.Taking.{AreAdded};
@@ -168,8 +167,10 @@ impl Store {
         ensures disk { result ≡ Err StoreFault.Disk → Rose (D.view disk.old).faults (D.view disk.new).faults }
         ensures clock { result ≡ Err StoreFault.Clock → Rose (C.faults clock.old) (C.faults clock.new) }
         ensures repos { result ≡ Err StoreFault.Repos → Rose (R.faults repos.old) (R.faults repos.new) }
-        ensures spent { result ≡ Err StoreFault.Authority → IsSpent (P.panel judges.new (method_of did.now)) }
-        ensures seq_end { result ≡ Err StoreFault.SeqEnd → EndsFetched self.old.core did.now (told_where R.tells (R.repository repos.old did.now)) (P.panel judges.old) (P.panel judges.new) }
+        ensures spent { result ≡ Err StoreFault.Authority → SpentFetching C.tells R.tells self.old.core did.now (around (P.panel judges.old) (C.moments clock.old) (R.repository repos.old))
+            (around (P.panel judges.new) (C.moments clock.new) (R.repository repos.new)) }
+        ensures seq_end { result ≡ Err StoreFault.SeqEnd → EndsFetched C.tells R.tells self.old.core did.now (around (P.panel judges.old) (C.moments clock.old) (R.repository repos.old))
+            (around (P.panel judges.new) (C.moments clock.new) (R.repository repos.new)) }
         ensures disk_counts { (D.view disk.old).faults ≤ (D.view disk.new).faults }
         ensures clock_counts { C.faults clock.old ≤ C.faults clock.new }
         ensures repos_count { R.faults repos.old ≤ R.faults repos.new }

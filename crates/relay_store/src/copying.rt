@@ -7,8 +7,11 @@ ghost use Rattle.relay_disk.specs.Moments.{LeavesOnly};
 ghost use Rattle.gate_log.specs.Image.{made};
 ghost use Rattle.gate_log.specs.Log.{HoldsBodies as HasBodies, IsOn};
 ghost use Rattle.gate_log.specs.Build.{IsBuiltOn, IsClosed};
+ghost use Rattle.relay_row.specs.Journal.{IsJournal};
 ghost use Rattle.relay_row.specs.declared.row.Row.{Row as TheRow};
+ghost use Rattle.relay_core.specs.Entries.{Holds};
 ghost use Rattle.relay_store.specs.Journals.{AllBodies, bytes_of, joined};
+ghost use Rattle.relay_store.specs.Rereading.{IsOfSome};
 ghost use Rattle.relay_store.specs.Rewriting.{CopiedAs, RewriteHasNoRoom, IsOfRewriting};
 ghost use Rattle.relay_store.specs.declared.fault.StoreFault.{StoreFault as TheFault};
 
@@ -35,11 +38,13 @@ fn copy_bodies<D: Disk>(
     ensures copied { OnOk result (CopiedAs D.tells (λ rows. IsTrue D.tells → (before after : List (List TheRow)) → AllBodies (before ++ after)
         → HasBodies (bytes_of (before ++ after)) log.now (D.view disk.old) → from ≡ length (made log.now.format (bytes_of before)) → rows ≡ joined after)
         rewrite.old rewrite.new (D.view other.old) (D.view other.new)) }
+    ensures known { OnOk result (IsOfSome rewrite.old.core → IsOfSome rewrite.new.core) }
     ensures full { (e : ℕ) → result ≡ Err (StoreFault.Full e) → IsTrue D.tells → (before after : List (List TheRow)) → AllBodies (before ++ after)
         → HasBodies (bytes_of (before ++ after)) log.now (D.view disk.old) → from ≡ length (made log.now.format (bytes_of before))
         → RewriteHasNoRoom rewrite.old.build.end rewrite.old.build.most (joined after) e }
     ensures no_bad_log { (p : ℕ) → result ≡ Err (StoreFault.BadLog p) → IsTrue D.tells → (before after : List (List TheRow)) → AllBodies (before ++ after)
-        → HasBodies (bytes_of (before ++ after)) log.now (D.view disk.old) → from ≡ length (made log.now.format (bytes_of before)) → ⊥ }
+        → HasBodies (bytes_of (before ++ after)) log.now (D.view disk.old) → from ≡ length (made log.now.format (bytes_of before))
+        → (J : List TheRow) → Holds rewrite.old.core J → IsJournal (J ++ joined after) → ⊥ }
     ensures run { IsTrue D.tells → LeavesOnly IsClosed (D.view other.old) (D.view other.new) }
     ensures goes { Goes Same (D.view disk.old) (D.view disk.new) }
     ensures holds { IsTrue D.tells → (bodies : List (List ℕ)) → HasBodies bodies log.now (D.view disk.old) → HasBodies bodies log.now (D.view disk.new) }
@@ -51,7 +56,7 @@ fn copy_bodies<D: Disk>(
     let mut place = from;
     'bodies: while place < log.end() {
         let (rows, next) = body_at(alloc, log, disk, place, room)?;
-        put_rows(rewrite, other, rows)?;
+        put_rows(rewrite, other, place, rows)?;
         place = next;
     }
     Ok(())
@@ -72,13 +77,15 @@ pub(crate) fn copy_behind<D: Disk>(
         → HasBodies (bytes_of (before ++ there ∷ after)) log.now (D.view disk.old) → last.place ≡ length (made log.now.format (bytes_of before))
         → rows ≡ drop (last.index + 1) there ++ joined after)
         rewrite.old rewrite.new (D.view other.old) (D.view other.new)) }
+    ensures known { OnOk result (IsOfSome rewrite.old.core → IsOfSome rewrite.new.core) }
     ensures full { (e : ℕ) → result ≡ Err (StoreFault.Full e) → IsTrue D.tells
         → (before : List (List TheRow)) (there : List TheRow) (after : List (List TheRow)) → AllBodies (before ++ there ∷ after)
         → HasBodies (bytes_of (before ++ there ∷ after)) log.now (D.view disk.old) → last.place ≡ length (made log.now.format (bytes_of before))
         → RewriteHasNoRoom rewrite.old.build.end rewrite.old.build.most (drop (last.index + 1) there ++ joined after) e }
     ensures no_bad_log { (p : ℕ) → result ≡ Err (StoreFault.BadLog p) → IsTrue D.tells
         → (before : List (List TheRow)) (there : List TheRow) (after : List (List TheRow)) → AllBodies (before ++ there ∷ after)
-        → HasBodies (bytes_of (before ++ there ∷ after)) log.now (D.view disk.old) → last.place ≡ length (made log.now.format (bytes_of before)) → ⊥ }
+        → HasBodies (bytes_of (before ++ there ∷ after)) log.now (D.view disk.old) → last.place ≡ length (made log.now.format (bytes_of before))
+        → (J : List TheRow) → Holds rewrite.old.core J → IsJournal (J ++ (drop (last.index + 1) there ++ joined after)) → ⊥ }
     ensures run { IsTrue D.tells → LeavesOnly IsClosed (D.view other.old) (D.view other.new) }
     ensures goes { Goes Same (D.view disk.old) (D.view disk.new) }
     ensures holds { IsTrue D.tells → (bodies : List (List ℕ)) → HasBodies bodies log.now (D.view disk.old) → HasBodies bodies log.now (D.view disk.new) }
@@ -93,6 +100,6 @@ pub(crate) fn copy_behind<D: Disk>(
     let Ok(behind) = rows.split_off(taken) else {
         return Err(StoreFault::Memory);
     };
-    put_rows(rewrite, other, behind)?;
+    put_rows(rewrite, other, last.place, behind)?;
     copy_bodies(alloc, log, disk, next, &mut room, rewrite, other)
 }

@@ -6,7 +6,7 @@ ghost use Rattle.at_event.specs.declared.refusal.Refusal.{Refusal as TheRefusal}
 ghost use Rattle.event_window.specs.Held.{oldest_of};
 ghost use Rattle.event_window.specs.Window.{IsLastUpto};
 ghost use Rattle.relay_disk.specs.Disk.{Goes, Same};
-ghost use Rattle.relay_disk.specs.Moments.{LeavesOnly, PairLeavesOnly};
+ghost use Rattle.relay_disk.specs.Moments.{LeavesOnly, PairLeavesOnly, TimeGoesOn};
 ghost use Rattle.gate_log.specs.Image.{front, generation};
 ghost use Rattle.gate_log.specs.Log.{HoldsBodies as HasBodies, IsOn};
 ghost use Rattle.gate_log.specs.Pick.{other_side};
@@ -18,7 +18,9 @@ ghost use Rattle.relay_row.specs.declared.row.Row.{Row as TheRow};
 ghost use Rattle.relay_core.specs.Entries.{Holds};
 ghost use Rattle.cut_law.specs.Cut.{MayCut, cut};
 ghost use Rattle.relay_store.specs.Cutting.{IsEitherBeside, IsUncut};
-ghost use Rattle.relay_store.specs.Rewriting.{CopiedAs, RewriteHasNoRoom, IsOfRewriting};
+ghost use Rattle.relay_store.specs.Journals.{bytes_of};
+ghost use Rattle.relay_store.specs.Rereading.{IsOfSomeCut};
+ghost use Rattle.relay_store.specs.Rewriting.{CopiedAs, RewriteHasNoRoom, IsOfRewriting, singles};
 ghost use Rattle.relay_store.specs.Shown.{held_by};
 ghost use Rattle.relay_store.specs.Store.{IsKept, Keeps, seen, seen_in};
 ghost use Rattle.relay_store.specs.declared.cutting.CutDone.{CutDone as TheDone};
@@ -108,10 +110,12 @@ impl Store {
         requires build { IsTrue D.tells → IsBuiltOn (D.view other.old) rewrite.old.build }
         ensures copied { OnOk result (CopiedAs D.tells (λ rows. IsTrue D.tells → (J : List TheRow) (c : ℕ) → Keeps J (seen_in self.now) (D.view disk.old)
             → IsLastUpto c last self.now.window.places → rows ≡ cut J c) rewrite.old rewrite.new (D.view other.old) (D.view other.new)) }
+        ensures known { OnOk result (Holds rewrite.old.core [] → IsOfSomeCut rewrite.new.core) }
         ensures full { (e : ℕ) → result ≡ Err (StoreFault.Full e) → IsTrue D.tells → (J : List TheRow) (c : ℕ) → Keeps J (seen_in self.now) (D.view disk.old)
             → IsLastUpto c last self.now.window.places → RewriteHasNoRoom rewrite.old.build.end rewrite.old.build.most (cut J c) e }
         ensures no_bad_log { (p : ℕ) → result ≡ Err (StoreFault.BadLog p) → IsTrue D.tells → (J : List TheRow) (c : ℕ)
-            → Keeps J (seen_in self.now) (D.view disk.old) → IsLastUpto c last self.now.window.places → ⊥ }
+            → Keeps J (seen_in self.now) (D.view disk.old) → IsLastUpto c last self.now.window.places → c ≤ last_seq J
+            → Holds rewrite.old.core [] → ⊥ }
         ensures run { IsTrue D.tells → LeavesOnly IsClosed (D.view other.old) (D.view other.new) }
         ensures goes { Goes Same (D.view disk.old) (D.view disk.new) }
         ensures holds { IsTrue D.tells → (bodies : List (List ℕ)) → HasBodies bodies self.now.log (D.view disk.old) → HasBodies bodies self.now.log (D.view disk.new) }
@@ -139,11 +143,15 @@ impl Store {
             × IsTrue anew.log.is_open) }
         ensures room { IfOk result (λ anew. IsTrue D.tells → (J : List TheRow) (c : ℕ) → Keeps J (seen_in self.now) (D.view disk.old)
             → IsLastUpto c last self.now.window.places → anew.log.end < anew.log.most) }
+        ensures bodies { IfOk result (λ anew. IsTrue D.tells → (J : List TheRow) (c : ℕ) → Keeps J (seen_in self.now) (D.view disk.old)
+            → IsLastUpto c last self.now.window.places → HasBodies (bytes_of (singles (cut J c))) anew.log (D.view other.new)) }
+        ensures known { IfOk result (λ anew. IsOfSomeCut anew.core) }
         ensures keeps { IfOk result (λ anew. IsTrue D.tells → (J : List TheRow) (c : ℕ) → Keeps J (seen_in self.now) (D.view disk.old)
             → IsLastUpto c last self.now.window.places → c ≤ last_seq J → (side : Side) → Keeps (cut J c) (seen anew.log side anew.core anew.window.places) (D.view other.new)) }
         ensures moments { IsTrue D.tells → (J : List TheRow) (c : ℕ) → Keeps J (seen_in self.now) (D.view disk.old)
             → IsLastUpto c last self.now.window.places → c ≤ last_seq J → (side : Side) → LeavesLive side (D.view disk.old) (D.view other.old)
             → PairLeavesOnly (IsEitherBeside side J (cut J c)) (D.view disk.old) (D.view disk.new) (D.view other.old) (D.view other.new) }
+        ensures time { IsTrue D.tells → TimeGoesOn (D.view other.old) (D.view other.new) }
         ensures live { OnOk result (IsTrue D.tells → (side : Side) → LeavesLive (other_side side) (D.view other.new) (D.view disk.new)) }
         ensures as_before { OnErr result (result ≢ Err StoreFault.Disk → IsTrue D.tells → (side : Side)
             → LeavesLive side (D.view disk.old) (D.view other.old) → LeavesLive side (D.view disk.new) (D.view other.new)) }
@@ -153,7 +161,7 @@ impl Store {
             → IsLastUpto c last self.now.window.places
             → RewriteHasNoRoom (length (front (Format.Two (generation self.now.log.format + 1)))) self.now.log.most (cut J c) e }
         ensures no_bad_log { (p : ℕ) → result ≡ Err (StoreFault.BadLog p) → IsTrue D.tells → (J : List TheRow) (c : ℕ)
-            → Keeps J (seen_in self.now) (D.view disk.old) → IsLastUpto c last self.now.window.places → ⊥ }
+            → Keeps J (seen_in self.now) (D.view disk.old) → IsLastUpto c last self.now.window.places → c ≤ last_seq J → ⊥ }
         ensures disk { result ≡ Err StoreFault.Disk → Rose (D.view disk.old).faults (D.view disk.new).faults
             ⊎ Rose (D.view other.old).faults (D.view other.new).faults }
         ensures counts { (D.view other.old).faults ≤ (D.view other.new).faults }
@@ -198,13 +206,18 @@ impl Store {
         ensures refused { (why : TheRefusal) → result ≡ Ok (CutDone.Refused why) → IsTrue D.tells → (J : List TheRow)
             → Keeps J (seen_in self.old) (D.view disk.old) → IsUncut J self.old.log.format seq why }
 
-        // Else there is none, and the store has the cut journal, on the other disk. Its log is of the next generation, and all rows have room.
+        // Else there is none, and the store has the cut journal, on the other disk. Its log is of the next generation, each row is a body
+        // of its own, and all have room.
         ensures may { ((why : TheRefusal) → result ≢ Ok (CutDone.Refused why)) → IsTrue D.tells → (J : List TheRow)
             → Keeps J (seen_in self.old) (D.view disk.old) → MayCut J seq × (generation self.old.log.format + 1 < NUMBERS) }
         ensures keeps { (oldest last : ℕ) → result ≡ Ok (CutDone.Cut oldest last) → IsTrue D.tells → (J : List TheRow)
             → Keeps J (seen_in self.old) (D.view disk.old) → Keeps (cut J seq) (seen_in self.new) (D.view other.new) }
+        ensures bodies { (oldest last : ℕ) → result ≡ Ok (CutDone.Cut oldest last) → IsTrue D.tells → (J : List TheRow)
+            → Keeps J (seen_in self.old) (D.view disk.old) → HasBodies (bytes_of (singles (cut J seq))) self.new.log (D.view other.new) }
         ensures told { (oldest last : ℕ) → result ≡ Ok (CutDone.Cut oldest last) → IsTrue D.tells → (J : List TheRow)
             → Keeps J (seen_in self.old) (D.view disk.old) → (oldest ≡ oldest_of (held_by (cut J seq))) × (last ≡ last_seq (cut J seq)) }
+        // Of any disk: what was read again keeps the order of numbers, so that what was written is a journal.
+        ensures known { (oldest last : ℕ) → result ≡ Ok (CutDone.Cut oldest last) → IsOfSomeCut self.new.core }
         ensures anew { (oldest last : ℕ) → result ≡ Ok (CutDone.Cut oldest last) → (self.new.side ≡ other_side self.old.side)
             × (self.new.log.format ≡ Format.Two (generation self.old.log.format + 1)) × (self.new.log.most ≡ self.old.log.most) }
         ensures room { (oldest last : ℕ) → result ≡ Ok (CutDone.Cut oldest last) → IsTrue D.tells → self.new.log.end < self.new.log.most }
@@ -214,6 +227,7 @@ impl Store {
         // Whatever moments of the call a crash strikes the two disks at, it leaves an image of the journal or of the cut one.
         ensures moments { IsTrue D.tells → (J : List TheRow) → Keeps J (seen_in self.old) (D.view disk.old)
             → PairLeavesOnly (IsEitherBeside self.old.side J (cut J seq)) (D.view disk.old) (D.view disk.new) (D.view other.old) (D.view other.new) }
+        ensures time { IsTrue D.tells → TimeGoesOn (D.view other.old) (D.view other.new) }
 
         // After every fault but the disk's the store is as before, on its disk.
         ensures as_before { OnErr result (result ≢ Err StoreFault.Disk → (self.new ≡ self.old)

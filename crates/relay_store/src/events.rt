@@ -4,7 +4,7 @@ ghost use Rattle.std.specs.Prelude.{◌≡◌, List, IsTrue, refl};
 ghost use Rattle.std.proofs.Common.{◌∙◌, ap};
 ghost use Rattle.event_window.specs.Held.{Held};
 ghost use Rattle.relay_row.specs.declared.row.Row.{Row as TheRow};
-ghost use Rattle.relay_store.specs.Events.{HasEvents};
+ghost use Rattle.relay_store.specs.Events.{HasEvents, IsReadOf};
 ghost use Rattle.relay_store.specs.Rereading.{IsReread, reread_again, reread_here};
 ghost use Rattle.relay_store.specs.Shown.{held_by};
 ghost use Rattle.relay_store.specs.Store.{Keeps, seen_in};
@@ -66,6 +66,8 @@ impl<D: Disk> Events for EventReader<'_, D> {
     ghost tells = { D.tells };
 
     ghost holds = { λ reader held. HasEvents (seen_in reader.store.now) (D.view reader.disk.now) reader.buffer held };
+
+    ghost is_read = { λ reader n message. IsReadOf reader.store.now.window.places reader.buffer.left n message };
 
     ghost faults = { λ reader. (D.view reader.disk.now).faults };
 

@@ -1,17 +1,17 @@
 //! Finding events again, by their places.
 
-ghost use Rattle.std.specs.Prelude.{◌≡◌, ◌≤◌, ◌++◌, ◌∷◌, [], ℕ, List, length, true, Err, IsTrue, IfOk, OnOk};
+ghost use Rattle.std.specs.Prelude.{◌≡◌, ◌≤◌, ◌++◌, ◌∷◌, [], ℕ, List, length, true, Err, IsTrue, IfOk, IfSome, OnOk, OnErr};
 ghost use Rattle.at_cid.specs.Counts.{Rose};
 ghost use Rattle.relay_disk.specs.Disk.{Goes, Same};
 ghost use Rattle.event_window.specs.declared.fault.EventsFault.{EventsFault};
 ghost use Rattle.gate_log.specs.Image.{made};
 ghost use Rattle.gate_log.specs.Log.{HoldsBodies as HasBodies, IsOn};
-ghost use Rattle.relay_row.specs.Bodies.{IsBody, rows_body, row_encoding};
+ghost use Rattle.relay_row.specs.Bodies.{IsBody, encoded_rows, rows_body, row_encoding};
 ghost use Rattle.relay_row.specs.Folds.{events_in};
 ghost use Rattle.relay_row.specs.Rules.{is_row};
 ghost use Rattle.relay_row.specs.declared.row.Row.{Row as TheRow};
 ghost use Rattle.relay_core.specs.Entries.{Holds};
-ghost use Rattle.relay_store.specs.Events.{AllStand, IsFirst, IsBufferOf, IsToldOf, StandsAt};
+ghost use Rattle.relay_store.specs.Events.{AllStand, IsFirst, IsBufferOf, IsReadAs, IsReadOf, IsToldOf, StandsAt, message_of};
 ghost use Rattle.relay_store.specs.Journals.{AllBodies, bytes_of};
 ghost use Rattle.relay_store.specs.Shown.{shown_of};
 
@@ -23,7 +23,7 @@ use gate_log::Log;
 use relay_core::Core;
 use relay_disk::Disk;
 
-// Tells of the event of the row before which the buffer is.
+// Tells of the event of the row before which the buffer is, which is to have the number that was kept.
 fn copy_shown(
     core: &Core,
     buffer: &Buffer,
@@ -32,13 +32,20 @@ fn copy_shown(
 ) -> Result<bool, EventsFault>
     ensures told { IfOk result (λ shown. (J : List TheRow) (row : TheRow) (rest : List ℕ) → Holds core.now J → is_row row ≡ true
         → buffer.now.left ≡ row_encoding row ++ rest → IsToldOf J row shown room.new) }
-    ensures bad_log { (p : ℕ) → result ≡ Err (EventsFault.BadLog p) → (row : TheRow) (rest : List ℕ) → is_row row ≡ true
-        → buffer.now.left ≡ row_encoding row ++ rest → events_in row ≡ [] }
+    ensures kept { IfOk result (λ shown. IsReadAs buffer.now.left place.seq shown room.new) }
+    ensures bad_log { (p : ℕ) → result ≡ Err (EventsFault.BadLog p) → (row : TheRow) (more : List TheRow) → is_row row ≡ true
+        → buffer.now.left ≡ row_encoding row ++ encoded_rows more → events_in row ≡ (place.seq, message_of (events_in row)) ∷ [] → ⊥ }
     ensures no_disk { result ≡ Err EventsFault.Disk → ⊥ }
 {
     let Some(peeked) = buffer.peeked() else {
         return Err(EventsFault::BadLog(place.place));
     };
+    if peeked.seq != place.seq {
+        return Err(EventsFault::BadLog(place.place));
+    }
+    if !buffer.ends_row() {
+        return Err(EventsFault::BadLog(place.place));
+    }
     if !is_shown(core, &peeked) {
         return Ok(false);
     }
@@ -65,6 +72,8 @@ fn refill_body<D: Disk>(
     ensures goes { Goes Same (D.view disk.old) (D.view disk.new) }
     ensures holds { IsTrue D.tells → (bodies : List (List ℕ)) → HasBodies bodies log.now (D.view disk.old) → HasBodies bodies log.now (D.view disk.new) }
     ensures on { IsTrue D.tells → IsOn (D.view disk.new) log.now }
+    ensures steady { OnOk result ((D.view disk.new).faults ≡ (D.view disk.old).faults) }
+    ensures no_fault { OnErr result ((result ≡ Err EventsFault.Disk → ⊥) → (D.view disk.new).faults ≡ (D.view disk.old).faults) }
     ensures disk { result ≡ Err EventsFault.Disk → Rose (D.view disk.old).faults (D.view disk.new).faults }
 {
     if buffer.is_before(place) {
@@ -90,6 +99,8 @@ fn refill_to<D: Disk>(
     ensures goes { Goes Same (D.view disk.old) (D.view disk.new) }
     ensures holds { IsTrue D.tells → (bodies : List (List ℕ)) → HasBodies bodies log.now (D.view disk.old) → HasBodies bodies log.now (D.view disk.new) }
     ensures on { IsTrue D.tells → IsOn (D.view disk.new) log.now }
+    ensures steady { OnOk result ((D.view disk.new).faults ≡ (D.view disk.old).faults) }
+    ensures no_fault { OnErr result ((result ≡ Err EventsFault.Disk → ⊥) → (D.view disk.new).faults ≡ (D.view disk.old).faults) }
     ensures disk { result ≡ Err EventsFault.Disk → Rose (D.view disk.old).faults (D.view disk.new).faults }
 {
     refill_body(log, disk, place, buffer)?;
@@ -112,6 +123,7 @@ fn copy_shown_at<D: Disk>(
     ensures told { IfOk result (λ shown. IsTrue D.tells → (bodies : List (List TheRow)) (J : List TheRow) (row : TheRow) → AllBodies bodies
         → HasBodies (bytes_of bodies) log.now (D.view disk.old) → Holds core.now J → IsBufferOf log.now.format bodies buffer.old
         → StandsAt log.now.format bodies place row → IsToldOf J row shown room.new) }
+    ensures kept { IfOk result (λ shown. IsReadAs buffer.new.left place.seq shown room.new) }
     ensures fits { IsTrue D.tells → (bodies : List (List TheRow)) → AllBodies bodies → HasBodies (bytes_of bodies) log.now (D.view disk.old)
         → IsBufferOf log.now.format bodies buffer.old → IsBufferOf log.now.format bodies buffer.new }
     ensures no_bad_log { (p : ℕ) → result ≡ Err (EventsFault.BadLog p) → IsTrue D.tells → (bodies : List (List TheRow)) (row : TheRow)
@@ -120,6 +132,8 @@ fn copy_shown_at<D: Disk>(
     ensures goes { Goes Same (D.view disk.old) (D.view disk.new) }
     ensures holds { IsTrue D.tells → (bodies : List (List ℕ)) → HasBodies bodies log.now (D.view disk.old) → HasBodies bodies log.now (D.view disk.new) }
     ensures on { IsTrue D.tells → IsOn (D.view disk.new) log.now }
+    ensures steady { OnOk result ((D.view disk.new).faults ≡ (D.view disk.old).faults) }
+    ensures no_fault { OnErr result ((result ≡ Err EventsFault.Disk → ⊥) → (D.view disk.new).faults ≡ (D.view disk.old).faults) }
     ensures disk { result ≡ Err EventsFault.Disk → Rose (D.view disk.old).faults (D.view disk.new).faults }
 {
     refill_to(log, disk, place, buffer)?;
@@ -139,6 +153,7 @@ pub(crate) fn find_shown<D: Disk>(
     ensures first { IfOk result (λ found. IsTrue D.tells → (bodies : List (List TheRow)) (J rows : List TheRow) → AllBodies bodies
         → HasBodies (bytes_of bodies) log.now (D.view disk.old) → Holds core.now J → IsBufferOf log.now.format bodies buffer.old
         → AllStand log.now.format bodies places.now rows → IsFirst (shown_of J rows) found room.new) }
+    ensures kept { IfOk result (λ found. IfSome found (λ n. IsReadOf places.now buffer.new.left n room.new)) }
     ensures fits { IsTrue D.tells → (bodies : List (List TheRow)) → AllBodies bodies → HasBodies (bytes_of bodies) log.now (D.view disk.old)
         → IsBufferOf log.now.format bodies buffer.old → IsBufferOf log.now.format bodies buffer.new }
     ensures no_bad_log { (p : ℕ) → result ≡ Err (EventsFault.BadLog p) → IsTrue D.tells → (bodies : List (List TheRow)) (rows : List TheRow)
@@ -146,6 +161,8 @@ pub(crate) fn find_shown<D: Disk>(
         → AllStand log.now.format bodies places.now rows → ⊥ }
     ensures goes { Goes Same (D.view disk.old) (D.view disk.new) }
     ensures holds { IsTrue D.tells → (bodies : List (List ℕ)) → HasBodies bodies log.now (D.view disk.old) → HasBodies bodies log.now (D.view disk.new) }
+    ensures steady { OnOk result ((D.view disk.new).faults ≡ (D.view disk.old).faults) }
+    ensures no_fault { OnErr result ((result ≡ Err EventsFault.Disk → ⊥) → (D.view disk.new).faults ≡ (D.view disk.old).faults) }
     ensures disk { result ≡ Err EventsFault.Disk → Rose (D.view disk.old).faults (D.view disk.new).faults }
 {
     let mut left = places;

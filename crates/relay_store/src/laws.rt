@@ -3,6 +3,7 @@
 ghost use Rattle.std.specs.Prelude.{◌≡◌, List, ℕ};
 ghost use Rattle.relay_row.specs.declared.row.Row.{Row};
 ghost use Rattle.relay_store.specs.Lines.{LinesReport};
+ghost use Rattle.relay_store.specs.ShownMessages.{ShownAsRead};
 ghost use Rattle.relay_store.specs.Journals.{IsBadPairJournalAt, IsPairImageOf};
 
 /// The bytes of two disks are an image of one journal at most.
@@ -23,4 +24,9 @@ pub fn lines_are_the_reports()
 /// Two disks show a fault at one place at most.
 pub fn faults_have_one_place()
     ensures { (place other : ℕ) (one two : List ℕ) → IsBadPairJournalAt place one two → IsBadPairJournalAt other one two → place ≡ other }
+{}
+
+/// What is shown of a faithful journal's events follows from their messages alone.
+pub fn events_are_shown_as_read()
+    ensures { ShownAsRead }
 {}

@@ -36,7 +36,8 @@ pub use done::Done;
 pub use events::EventReader;
 pub use fault::StoreFault;
 pub use laws::{
-    faults_are_no_journals, faults_have_one_place, lines_are_the_reports, pairs_have_one_journal,
+    events_are_shown_as_read, faults_are_no_journals, faults_have_one_place, lines_are_the_reports,
+    pairs_have_one_journal,
 };
 pub use limits::LONGEST;
 pub use lines::{end_line, line};

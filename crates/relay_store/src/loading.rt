@@ -115,6 +115,9 @@ pub(crate) fn load<D: Disk>(
     ensures holds { IsTrue D.tells → (bodies : List (List ℕ)) → HasBodies bodies log.now (D.view disk.old) → HasBodies bodies log.now (D.view disk.new) }
     ensures disk { result ≡ Err StoreFault.Disk → Rose (D.view disk.old).faults (D.view disk.new).faults }
     ensures few { (f : TheFault) → result ≡ Err f → IsOfReading f }
+
+    // A log without bodies is learned without a fault.
+    ensures some { (f : TheFault) → result ≡ Err f → IsTrue D.tells → HasBodies [] log.now (D.view disk.old) → ⊥ }
 {
     let mut room = Vec::new(alloc);
     let mut place = log.first();

@@ -44,6 +44,8 @@ fn load_side<D: Disk>(
         → HasBodies bodies log.now (view_of_side side (D.view one.new) (D.view two.new)) }
     ensures disk { result ≡ Err StoreFault.Disk → Rose (D.view one.old).faults (D.view one.new).faults ⊎ Rose (D.view two.old).faults (D.view two.new).faults }
     ensures few { (f : TheFault) → result ≡ Err f → IsOfReading f }
+    ensures some { (f : TheFault) → result ≡ Err f → IsTrue D.tells
+        → HasBodies [] log.now (view_of_side side (D.view one.old) (D.view two.old)) → ⊥ }
 {
     match side {
         Side::One => load(alloc, log, one, core, window),

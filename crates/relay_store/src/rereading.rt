@@ -1,21 +1,24 @@
 //! Reading a journal's rows again, body by body.
 
-ghost use Rattle.std.specs.Prelude.{◌≡◌, ◌≤◌, ◌<◌, ◌+◌, ◌++◌, ◌∷◌, [], ℕ, List, length, take, IsTrue, IfOk, OnOk};
+ghost use Rattle.std.specs.Prelude.{◌≡◌, ◌≤◌, ◌<◌, ◌+◌, ◌++◌, ◌∷◌, [], ℕ, List, length, take, true, IsTrue, IfOk, OnOk};
+ghost use Rattle.std.specs.List.{list_all};
 ghost use Rattle.at_cid.specs.Counts.{Rose};
 ghost use Rattle.relay_disk.specs.Disk.{Goes, Same};
 ghost use Rattle.gate_log.specs.Image.{made};
 ghost use Rattle.gate_log.specs.Log.{HoldsBodies as HasBodies, IsOn};
 ghost use Rattle.gate_log.specs.declared.limits.TheConstants.{BEFORE_BODY};
 ghost use Rattle.relay_row.specs.Bodies.{IsBody, rows_body};
+ghost use Rattle.relay_row.specs.Journal.{IsJournal};
+ghost use Rattle.relay_row.specs.Rules.{is_row};
 ghost use Rattle.relay_row.specs.declared.row.Row.{Row as TheRow};
 ghost use Rattle.relay_core.specs.Entries.{Holds};
 ghost use Rattle.relay_store.specs.Journals.{AllBodies, bytes_of, joined};
 ghost use Rattle.relay_store.specs.Opening.{IsOfReading};
+ghost use Rattle.relay_store.specs.Rereading.{BreaksOrder, GrowsInOrder, IsOfSome};
 ghost use Rattle.relay_store.specs.declared.fault.StoreFault.{StoreFault as TheFault};
 
 use crate::StoreFault;
 use crate::bodies::read_body;
-use at_cid::Memory;
 use event_window::Place;
 use gate_log::Log;
 use relay_core::Core;
@@ -34,6 +37,7 @@ pub(crate) fn body_at<D: Disk>(
 ) -> Result<(Vec<Row>, u64), StoreFault>
     requires on { IsTrue D.tells → IsOn (D.view disk.old) log.now }
     ensures next { IfOk result (λ found. (place < found.1) × (found.1 ≤ log.now.end)) }
+    ensures formed { IfOk result (λ found. list_all is_row found.0.items ≡ true) }
     ensures rows { IfOk result (λ found. IsTrue D.tells → (before : List (List TheRow)) (there : List TheRow) (after : List (List TheRow))
         → IsBody there (rows_body there) → HasBodies (bytes_of (before ++ there ∷ after)) log.now (D.view disk.old)
         → place ≡ length (made log.now.format (bytes_of before))
@@ -59,12 +63,19 @@ pub(crate) fn body_at<D: Disk>(
     }
 }
 
-// Moves a state by rows.
-fn fold_rows(core: &mut Core, rows: Vec<Row>) -> Result<(), Memory>
-    ensures { OnOk result ((J : List TheRow) → Holds core.old J → Holds core.new (J ++ rows.items)) }
+// Moves a state by rows that were read of the body at a place, as long as they keep the order.
+fn fold_rows(core: &mut Core, place: u64, rows: Vec<Row>) -> Result<(), StoreFault>
+    ensures moved { OnOk result ((J : List TheRow) → Holds core.old J → Holds core.new (J ++ rows.items)) }
+    ensures ordered { OnOk result (GrowsInOrder rows.items core.old) }
+    ensures bad_log { (p : ℕ) → result ≡ Err (StoreFault.BadLog p) → BreaksOrder rows.items core.old }
+    ensures no_disk { result ≡ Err StoreFault.Disk → ⊥ }
+    ensures few { (f : TheFault) → result ≡ Err f → IsOfReading f }
 {
     let mut left = VecDeque::from_vec(rows);
     'rows: while let Some(row) = left.pop_front() {
+        if !core.is_next(&row) {
+            return Err(StoreFault::BadLog(place));
+        }
         core.touch(row.host(), row.did())?;
         core.apply(row);
     }
@@ -82,11 +93,13 @@ fn fold_before<D: Disk>(
 ) -> Result<(), StoreFault>
     requires on { IsTrue D.tells → IsOn (D.view disk.old) log.now }
     requires core { Holds core.old [] }
+    ensures known { OnOk result (IsOfSome core.new) }
     ensures core { OnOk result (IsTrue D.tells → (before after : List (List TheRow)) → AllBodies (before ++ after)
         → HasBodies (bytes_of (before ++ after)) log.now (D.view disk.old) → upto ≡ length (made log.now.format (bytes_of before))
         → Holds core.new (joined before)) }
     ensures no_bad_log { (p : ℕ) → result ≡ Err (StoreFault.BadLog p) → IsTrue D.tells → (before after : List (List TheRow)) → AllBodies (before ++ after)
-        → HasBodies (bytes_of (before ++ after)) log.now (D.view disk.old) → upto ≡ length (made log.now.format (bytes_of before)) → ⊥ }
+        → HasBodies (bytes_of (before ++ after)) log.now (D.view disk.old) → upto ≡ length (made log.now.format (bytes_of before))
+        → IsJournal (joined (before ++ after)) → ⊥ }
     ensures goes { Goes Same (D.view disk.old) (D.view disk.new) }
     ensures holds { IsTrue D.tells → (bodies : List (List ℕ)) → HasBodies bodies log.now (D.view disk.old) → HasBodies bodies log.now (D.view disk.new) }
     ensures on { IsTrue D.tells → IsOn (D.view disk.new) log.now }
@@ -96,7 +109,7 @@ fn fold_before<D: Disk>(
     let mut place = log.first();
     'bodies: while place < upto {
         let (rows, next) = body_at(alloc, log, disk, place, room)?;
-        fold_rows(core, rows)?;
+        fold_rows(core, place, rows)?;
         place = next;
     }
     Ok(())
@@ -110,13 +123,14 @@ pub(crate) fn fold_upto<D: Disk>(
     last: Place,
 ) -> Result<Core, StoreFault>
     requires on { IsTrue D.tells → IsOn (D.view disk.old) log.now }
+    ensures known { IfOk result (λ core. IsOfSome core) }
     ensures core { IfOk result (λ core. IsTrue D.tells → (before : List (List TheRow)) (there : List TheRow) (after : List (List TheRow))
         → AllBodies (before ++ there ∷ after) → HasBodies (bytes_of (before ++ there ∷ after)) log.now (D.view disk.old)
         → last.place ≡ length (made log.now.format (bytes_of before)) → Holds core (joined before ++ take (last.index + 1) there)) }
     ensures no_bad_log { (p : ℕ) → result ≡ Err (StoreFault.BadLog p) → IsTrue D.tells
         → (before : List (List TheRow)) (there : List TheRow) (after : List (List TheRow))
         → AllBodies (before ++ there ∷ after) → HasBodies (bytes_of (before ++ there ∷ after)) log.now (D.view disk.old)
-        → last.place ≡ length (made log.now.format (bytes_of before)) → ⊥ }
+        → last.place ≡ length (made log.now.format (bytes_of before)) → IsJournal (joined (before ++ there ∷ after)) → ⊥ }
     ensures goes { Goes Same (D.view disk.old) (D.view disk.new) }
     ensures holds { IsTrue D.tells → (bodies : List (List ℕ)) → HasBodies bodies log.now (D.view disk.old) → HasBodies bodies log.now (D.view disk.new) }
     ensures on { IsTrue D.tells → IsOn (D.view disk.new) log.now }
@@ -128,6 +142,6 @@ pub(crate) fn fold_upto<D: Disk>(
     fold_before(alloc, log, disk, last.place, &mut room, &mut core)?;
     let (mut rows, _) = body_at(alloc, log, disk, last.place, &mut room)?;
     rows.truncate(usize::from(last.index) + 1);
-    fold_rows(&mut core, rows)?;
+    fold_rows(&mut core, last.place, rows)?;
     Ok(core)
 }

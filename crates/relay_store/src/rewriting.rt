@@ -6,7 +6,8 @@ ghost use Rattle.relay_disk.specs.Moments.{LeavesOnly};
 ghost use Rattle.gate_log.specs.Build.{IsBuiltOn, IsClosed};
 ghost use Rattle.gate_log.specs.declared.limits.TheConstants.{BODY_LENGTHS};
 ghost use Rattle.relay_row.specs.Bodies.{rows_body};
-ghost use Rattle.relay_store.specs.Rewriting.{IsCopied, RewriteHasNoRoom, IsOfAdding};
+ghost use Rattle.relay_store.specs.Rereading.{BreaksOrder, GrowsInOrder};
+ghost use Rattle.relay_store.specs.Rewriting.{IsCopied, RewriteHasNoRoom, IsOfAdding, IsOfRewriting};
 ghost use Rattle.relay_store.specs.declared.fault.StoreFault.{StoreFault as TheFault};
 
 use crate::StoreFault;
@@ -68,22 +69,28 @@ pub(crate) fn put_row<D: Disk>(
     Ok(())
 }
 
-/// Adds rows, each as a body of its own.
+/// Adds rows that were read of the body at a place, each as a body of its own, as long as they keep the order.
 pub(crate) fn put_rows<D: Disk>(
     rewrite: &mut Rewrite,
     other: &mut D,
+    place: u64,
     rows: Vec<Row>,
 ) -> Result<(), StoreFault>
     requires on { IsTrue D.tells → IsBuiltOn (D.view other.old) rewrite.old.build }
+    ensures ordered { OnOk result (GrowsInOrder rows.items rewrite.old.core) }
+    ensures bad_log { (p : ℕ) → result ≡ Err (StoreFault.BadLog p) → BreaksOrder rows.items rewrite.old.core }
     ensures copied { OnOk result (IsCopied D.tells rows.items rewrite.old rewrite.new (D.view other.old) (D.view other.new)) }
     ensures run { IsTrue D.tells → LeavesOnly IsClosed (D.view other.old) (D.view other.new) }
     ensures disk { result ≡ Err StoreFault.Disk → Rose (D.view other.old).faults (D.view other.new).faults }
     ensures counts { (D.view other.old).faults ≤ (D.view other.new).faults }
     ensures full { (e : ℕ) → result ≡ Err (StoreFault.Full e) → RewriteHasNoRoom rewrite.old.build.end rewrite.old.build.most rows.items e }
-    ensures few { (f : TheFault) → result ≡ Err f → IsOfAdding f }
+    ensures few { (f : TheFault) → result ≡ Err f → IsOfRewriting f }
 {
     let mut left = VecDeque::from_vec(rows);
     'rows: while let Some(row) = left.pop_front() {
+        if !rewrite.core.is_next(&row) {
+            return Err(StoreFault::BadLog(place));
+        }
         put_row(rewrite, other, row)?;
     }
     Ok(())

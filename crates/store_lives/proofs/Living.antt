@@ -3,7 +3,7 @@ use Rattle.std.proofs.Common.{◌≡◌, ◌≢◌, ◌⊎◌, inl, inr, ⊎_eli
 use Rattle.std.proofs.lemmas.List.{append-nil}
 use Rattle.relay_disk.specs.Disk.{View, IsDisk}
 use Rattle.relay_disk.specs.Moments.{LeavesOnly, PairLeavesOnly}
-use Rattle.relay_disk.proofs.Moments.{no_call, pair_now_too, pair_weaker}
+use Rattle.relay_disk.proofs.Moments.{no_call, pair_now_too, pair_weaker, still}
 use Rattle.gate_log.specs.Pick.{LeavesSide, view_of_side}
 use Rattle.gate_log.specs.declared.picking.Side.{Side}
 use Rattle.gate_log.specs.declared.picking.Side.TheVariants.{One, Two}
@@ -20,7 +20,7 @@ use Rattle.relay_store.specs.declared.fault.StoreFault.{StoreFault}
 use Rattle.relay_store.specs.declared.store.Store.{Store}
 use Rattle.relay_store.proofs.Images.{kept_log, same_kept, same_pair_journal}
 use Rattle.store_lives.specs.Laws.{HasIn, Has, EachComesFrom, AllCome, AnswersAreKept, HasAnswered, AnswersStand}
-use Rattle.store_lives.specs.Lives.{Machine, IsCall, Calls, Opens, Cuts, GoesFrom, Goes, Crashes, Steps, LivesFrom, disk_of, fault_cut, fault_said, open_after, rows_answered, rows_of_command, stopped, store_in}
+use Rattle.store_lives.specs.Lives.{Machine, IsCall, Calls, Opens, Cuts, Rereads, GoesFrom, Goes, Crashes, Steps, LivesFrom, disk_of, fault_cut, fault_said, open_after, rows_answered, rows_of_command, stopped, store_in}
 use Rattle.store_lives.proofs.Cut.{came_of_cut}
 use Rattle.store_lives.proofs.Pairs.{HasComing, IsOnSide, call_leaves}
 
@@ -244,12 +244,30 @@ module _ {D : Type 0} (view : D → View) (tells : Bool) (told : IsTrue tells) (
       let none = unopened C old.store old safe in
       subst (Went C old) (sym is) (record { run = here C old none; safe = none })
 
+  -- ---- a reading of events
+
+  reread : (C : List Row) (s : StoreState) (old now : Machine D) → IsRunning C s old → Rereads view tells s old now → Went C old now
+  reread C s old now runs rereads =
+      let here : (c : List ℕ) → (view (disk_of s.side old)).may_leave c → IsOneOf s.log.format runs.journal [] c = λ c left. inl (kept_log runs.journal s (view (disk_of s.side old)) runs.keeps c left) in
+      let leaves = still (IsOneOf s.log.format runs.journal []) _ _ _ (disks (disk_of s.side old)) (disks (disk_of s.side now)) (no_call (IsOneOf s.log.format runs.journal []) _ (disks (disk_of s.side old)) here) here rereads.reread.goes in
+      let both = call_leaves view disks passes C runs.journal [] s runs.comes s.side old now runs.keeps runs.picked rereads.beside leaves in
+      record {
+        run = pair_weaker (IsOnSide passes C s.side) (HasComing passes C) (view old.one) (view now.one) (view old.two) (view now.two) both (λ c d is. is.all);
+        safe = at C (Some s) now rereads.store (record {
+          journal = runs.journal;
+          comes = runs.comes;
+          keeps = rereads.reread.keeps told runs.journal runs.keeps;
+          picked = λ c d left beside. (pair_now_too (IsOnSide passes C s.side) (view old.one) (view now.one) (view old.two) (view now.two) (disks now.one) (disks now.two) both c d left beside).picked;
+        });
+      }
+
   -- ---- a life
 
   goes_from : (C : List Row) (o : Option StoreState) (old now : Machine D) → IsSafeIn C o old → GoesFrom view tells passes o old now → Went C old now
   goes_from C None old now safe opening = opens C old now safe opening
   goes_from C (Some s) old now runs (inl calls) = called C s old now runs calls
-  goes_from C (Some s) old now runs (inr cuts) = was_cut C s old now runs cuts
+  goes_from C (Some s) old now runs (inr (inl cuts)) = was_cut C s old now runs cuts
+  goes_from C (Some s) old now runs (inr (inr rereads)) = reread C s old now runs rereads
 
   goes : (C : List Row) (old now : Machine D) → IsSafe C old → Goes view tells passes old now → Went C old now
   goes C old now safe (inl from) = goes_from C old.store old now safe from
@@ -291,7 +309,8 @@ module _ {D : Type 0} (view : D → View) (tells : Bool) (told : IsTrue tells) (
   known_from : (o : Option StoreState) (old now : Machine D) → IsKnownIn o old → GoesFrom view tells passes o old now → IsKnown now
   known_from None old now known opening = subst (λ (o : Option StoreState). IsKnownIn o now) (sym opening.store) (opened_known old now opening.result opening.opened.keeps opening.opened.side)
   known_from (Some s) old now known (inl calls) = known_of known.0 now.store now (called known.0 s old now known.1 calls).safe
-  known_from (Some s) old now known (inr cuts) = known_of known.0 now.store now (was_cut known.0 s old now known.1 cuts).safe
+  known_from (Some s) old now known (inr (inl cuts)) = known_of known.0 now.store now (was_cut known.0 s old now known.1 cuts).safe
+  known_from (Some s) old now known (inr (inr rereads)) = known_of known.0 now.store now (reread known.0 s old now known.1 rereads).safe
 
   known_goes : (old now : Machine D) → IsKnown old → Goes view tells passes old now → IsKnown now
   known_goes old now known (inl from) = known_from old.store old now known from

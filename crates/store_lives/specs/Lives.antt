@@ -1,4 +1,4 @@
--- The life of a machine that has a store: calls, failed calls, cuts, openings, and crashes at any moment of them (own).
+-- The life of a machine that has a store: calls, failed calls, cuts, readings of its events, openings, and crashes at any moment of them (own).
 use Rattle.std.specs.Prelude.{◌≡◌, ◌≢◌, ◌⊎◌, ◌+◌, ◌<◌, ℕ, Bool, true, List, [], ◌∷◌, Option, Some, None, Result, Ok, Err, IsTrue, OnErr}
 use Rattle.std.proofs.Common.{inl, inr}
 use Rattle.relay_disk.specs.Disk.{View, IsSettled}
@@ -21,6 +21,7 @@ use Rattle.relay_store.specs.Batches.{Batched, scene}
 use Rattle.relay_store.specs.Cutting.{IsEitherBeside}
 use Rattle.relay_store.specs.declared.cutting.CutDone.{CutDone}
 use Rattle.relay_store.specs.Opening.{Opened}
+use Rattle.relay_store.specs.Rereading.{IsReread}
 use Rattle.relay_store.specs.Store.{StoreState, IsOf, Keeps, seen_in}
 use Rattle.relay_store.specs.Commands.{CommandDone, added}
 use Rattle.relay_store.specs.declared.done.Done.{Done}
@@ -120,6 +121,12 @@ module _ {D : Type 0} (view : D → View) (tells : Bool) where
     pub beside : disk_of (other_side s.side) now ≡ disk_of (other_side s.side) old
     pub store : now.store ≡ open_after fault s_now
 
+  -- Events of the open store were given out, or not: the disk of its side was only read, as `next_after` promises, and the other one is as it was.
+  pub record Rereads (s : StoreState) (old now : Machine D) : Type 0 where
+    pub reread : IsReread tells s (view (disk_of s.side old)) (view (disk_of s.side now))
+    pub beside : disk_of (other_side s.side) now ≡ disk_of (other_side s.side) old
+    pub store : now.store ≡ Some s
+
   -- The store of the two disks is opened, or isn't.
   pub record Opens (old now : Machine D) : Type 0 where
     pub result : Result Store StoreFault
@@ -165,10 +172,10 @@ module _ {D : Type 0} (view : D → View) (tells : Bool) (passes : ℕ → Bool)
         → CutAs view tells s s_now number (disk_of s.side old) (disk_of (other_side s.side) old) (disk_of s.side now) (disk_of (other_side s.side) now) result
     pub store : now.store ≡ open_after (fault_cut result) s_now
 
-  -- a call of the store that is open, or a cut, or an opening where none is
+  -- a call of the store that is open, or a cut, or a reading of its events, or an opening where none is
   abbrev pub GoesFrom : Option StoreState → Machine D → Machine D → Type 0
   GoesFrom None old now = Opens view tells old now
-  GoesFrom (Some s) old now = Calls view tells s old now ⊎ Cuts s old now
+  GoesFrom (Some s) old now = Calls view tells s old now ⊎ (Cuts s old now ⊎ Rereads view tells s old now)
 
   -- one of these, or the store is let go
   abbrev pub Goes : Machine D → Machine D → Type 0

@@ -1,5 +1,6 @@
 use Rattle.std.proofs.Common.{◌≡◌, ◌∙◌, ℕ, List, Err, ⊎_elim, ap, drop, subst, sym}
 use Rattle.event_window.specs.declared.fault.EventsFault.{EventsFault}
+use Rattle.gate_log.specs.declared.fault.LogFault.{LogFault}
 use Rattle.relay_row.specs.Bodies.{IsBody, encoded_rows}
 use Rattle.relay_store.proofs.buffer.rows_at.Goals as goal
 
@@ -10,6 +11,13 @@ returns-in-Err-clause-no_bad_log g c = λ p is tells before there after body hol
     (λ at. c.read_body.ensures.no_bad_log p (c.in-Err.is ∙ ap Err at) tells before there after holds here)
     (λ full. c.read_body.ensures.no_full p (c.in-Err.is ∙ ap Err full))
     (c.fault_of.ensures.bad_log p bad)
+
+pub returns-in-Err-clause-no_fault : goal.returns-in-Err-clause-no_fault
+returns-in-Err-clause-no_fault g c = λ other.
+    c.in-Err.ensures.no_fault (λ is.
+    let same : c.in-Err.fault ≡ LogFault.Disk = cc in
+    let told : c.fault_of.result ≡ EventsFault.Disk = c.fault_of.ensures.disk.1 same in
+    other (ap Err told))
 
 pub returns-in-Some-clause-rows : goal.returns-in-Some-clause-rows
 returns-in-Some-clause-rows g c = λ tells before there after body holds here.

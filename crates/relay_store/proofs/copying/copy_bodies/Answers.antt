@@ -1,13 +1,14 @@
-use Rattle.std.proofs.Common.{◌≡◌, ◌++◌, [], List, Err, inr, arith, rules, subst, sym}
+use Rattle.std.proofs.Common.{◌≡◌, ◌∙◌, ◌++◌, [], List, Err, ap, append_assoc, inr, arith, rules, subst, sym}
 use Rattle.relay_disk.proofs.Moments.{joined, still_again, still_here}
 use Rattle.gate_log.specs.Log.{HoldsBodies as HasBodies}
+use Rattle.relay_row.specs.Journal.{IsJournal}
 use Rattle.relay_row.specs.declared.row.Row.{Row}
 use Rattle.relay_store.specs.Journals.{AllBodies, bytes_of}
 use Rattle.relay_store.specs.Journals.{joined as rows_of}
 use Rattle.relay_store.specs.Rewriting.{RewriteHasNoRoom}
 use Rattle.relay_store.specs.declared.fault.StoreFault.{StoreFault}
-use Rattle.relay_store.proofs.Recopied.{IsRecopied, recopied_all, recopied_more, recopied_none, recopied_rows, recopied_split, recopied_there}
-use Rattle.relay_store.proofs.Rewritten.{adding_is, copied_both, copied_none, no_room_behind, no_room_front, reading_is}
+use Rattle.relay_store.proofs.Recopied.{IsRecopied, recopied_all, recopied_more, recopied_none, recopied_rows, recopied_split, recopied_there, some_more}
+use Rattle.relay_store.proofs.Rewritten.{copied_both, copied_none, no_room_behind, no_room_front, reading_is}
 use Rattle.relay_store.proofs.Searching.{each_at}
 use Rattle.relay_store.proofs.copying.copy_bodies.Goals as goal
 
@@ -18,6 +19,7 @@ bodies-init g c = record {
   on = c.requires.log;
   rows = [];
   copied = copied_none _ _ _ (g.met.D.Disk.is_disk _) c.requires.build;
+  known = λ some. some;
   so_far = λ tells before after each held is. recopied_none _ before after _ is;
 }
 
@@ -33,6 +35,7 @@ bodies-preserved g c =
       on = c.body_at.ensures.on;
       rows = inv.rows ++ c.in_ok-rows.rows.items;
       copied = copied_both _ _ _ _ _ _ _ _ _ inv.copied c.in_ok-put_rows.ensures.copied;
+      known = λ some. some_more _ _ _ c.in_ok-rows.ensures.formed c.in_ok-put_rows.ensures.copied.core c.in_ok-put_rows.ensures.ordered (inv.known some);
       so_far = λ tells before after each held is.
           let f = inv.so_far tells before after each held is in
           let some = recopied_there _ before after _ _ _ f held.ends (omega (arith, c.bodies-test.true, c.end.ensures.end)) in
@@ -45,7 +48,7 @@ bodies-preserved g c =
     }
 
 pub returns-in_err-rows-clause-no_bad_log : goal.returns-in_err-rows-clause-no_bad_log
-returns-in_err-rows-clause-no_bad_log g c = λ p failed_is tells before after each held is.
+returns-in_err-rows-clause-no_bad_log g c = λ p failed_is tells before after each held is J first journal.
     let inv = c.bodies.invariant in
     let f = inv.so_far tells before after each held is in
     let some = recopied_there _ before after _ _ _ f held.ends (omega (arith, c.bodies-test.true, c.end.ensures.end)) in
@@ -116,11 +119,25 @@ returns-in_err-rows-clause-few g c = λ f is.
     reading_is f (c.body_at.ensures.few f failed)
 
 pub returns-in_err-put_rows-clause-no_bad_log : goal.returns-in_err-put_rows-clause-no_bad_log
-returns-in_err-put_rows-clause-no_bad_log g c = λ p is.
+returns-in_err-put_rows-clause-no_bad_log g c = λ p failed_is tells before after each held is J first journal.
+    let inv = c.bodies.invariant in
+    let f = inv.so_far tells before after each held is in
+    let some = recopied_there _ before after _ _ _ f held.ends (omega (arith, c.bodies-test.true, c.end.ensures.end)) in
+    let split = recopied_split _ before after _ _ _ f held.ends some.0 some.1 some.2 in
+    let now = subst (λ (bs : List (List Row)). HasBodies (bytes_of bs) c.args.log.now (g.D.Disk.view c.bodies.disk)) split (inv.holds tells (bytes_of (before ++ after)) held) in
+    let body = each_at (before ++ f.done) some.0 some.1 (subst AllBodies split each) in
+    let read = c.in_ok-rows.ensures.rows tells (before ++ f.done) some.0 some.1 body now f.here in
     let failed : c.put_rows.result ≡ Err (StoreFault.BadLog p) = search rules in
-    absurd (c.put_rows.ensures.few (StoreFault.BadLog p) failed)
+    let behind = rows_of some.1 in
+    let whole : J ++ rows_of after ≡ (J ++ inv.rows) ++ (some.0 ++ behind) =
+    ap (λ (l : List Row). J ++ l) (recopied_rows _ before after _ _ _ f held.ends some.0 some.1 some.2) ∙ sym (append_assoc J inv.rows (some.0 ++ behind)) in
+    c.put_rows.ensures.bad_log p failed (J ++ inv.rows) behind (inv.copied.core J first)
+    (subst (λ (l : List Row). IsJournal ((J ++ inv.rows) ++ (l ++ behind))) (sym read.0) (subst IsJournal whole journal))
 
 pub returns-in_err-put_rows-clause-few : goal.returns-in_err-put_rows-clause-few
 returns-in_err-put_rows-clause-few g c = λ f is.
     let failed : c.put_rows.result ≡ Err f = search rules in
-    adding_is f (c.put_rows.ensures.few f failed)
+    c.put_rows.ensures.few f failed
+
+pub returns-clause-known : goal.returns-clause-known
+returns-clause-known g c = c.bodies.invariant.known

@@ -1,4 +1,4 @@
-use Rattle.std.proofs.Common.{rules, ◌≡◌, ◌∙◌, Err, subst, sym}
+use Rattle.std.proofs.Common.{rules, ◌≡◌, ◌∙◌, suc, Err, drop, subst}
 use Rattle.std.proofs.lemmas.Result.{IfOk-weaker}
 use Rattle.event_window.specs.declared.fault.EventsFault.{EventsFault}
 use Rattle.relay_store.proofs.Buffering.{formed_at, left_at}
@@ -24,7 +24,5 @@ pub returns-clause-no_bad_log : goal.returns-clause-no_bad_log
 returns-clause-no_bad_log g c = λ p is tells bodies row each holds buffer at.
     let there = c.in_ok-refill_to.ensures.there in
     let left = c.refill_to.ensures.fits tells bodies each holds buffer at.before at.rows at.after at.split (there.0 ∙ at.here) in
-    let none = c.copy_shown.ensures.bad_log p is row _ (formed_at at.rows c.args.place.index row (each_at at.before at.rows at.after (subst AllBodies at.split each)).formed at.row_at)
-    (left_at at.rows _ _ c.args.place.index row left there.1 at.row_at) in
-    let both = sym none ∙ at.sends in
-    absurd cc
+    c.copy_shown.ensures.bad_log p is row (drop (suc c.args.place.index) at.rows) (formed_at at.rows c.args.place.index row (each_at at.before at.rows at.after (subst AllBodies at.split each)).formed at.row_at)
+    (left_at at.rows _ _ c.args.place.index row left there.1 at.row_at) at.sends

@@ -1,11 +1,21 @@
-use Rattle.std.proofs.Common.{rules, ◌≡◌, Bool, Err, subst}
+use Rattle.std.proofs.Common.{rules, ◌≡◌, ◌∙◌, ◌-◌, Bool, Err, List, drop, length, refl, slice_index_or, subst, take}
+use Rattle.event_window.specs.declared.place.Place.{Place}
 use Rattle.relay_disk.proofs.Moments.{still_again}
 use Rattle.event_window.specs.declared.fault.EventsFault.{EventsFault}
-use Rattle.relay_store.specs.Events.{IsToldOf}
+use Rattle.relay_store.specs.Events.{IsReadAs, IsToldOf}
 use Rattle.relay_store.specs.Journals.{bytes_of}
 use Rattle.relay_store.specs.Shown.{shown_of}
-use Rattle.relay_store.proofs.Searching.{rest_first, rest_found, rest_more, split_first}
+use Rattle.relay_store.proofs.Searching.{first_within, rest_first, rest_found, rest_more, rest_within, split_first}
 use Rattle.relay_store.proofs.finding.find_shown.Goals as goal
+
+abbrev no_place : Place
+no_place = record { seq = 0; place = 0; index = 0 }
+
+abbrev first_of : List Place → Place
+first_of left = slice_index_or left 0 no_place
+
+abbrev others_of : List Place → List Place
+others_of left = take (length left - 1) (drop 1 left)
 
 pub returns-in_err-copy_shown_at-clause-no_bad_log : goal.returns-in_err-copy_shown_at-clause-no_bad_log
 returns-in_err-copy_shown_at-clause-no_bad_log g c = λ p is tells bodies rows each holds buffer all.
@@ -25,6 +35,10 @@ places-preserved g c = record {
   goes = still_again _ _ _ (g.met.D.Disk.is_disk _) c.places.invariant.goes c.copy_shown_at.ensures.goes;
   holds = λ tells bodies held. c.copy_shown_at.ensures.holds tells bodies (c.places.invariant.holds tells bodies held);
   on = c.copy_shown_at.ensures.on;
+  steady = c.in_ok-copy_shown_at.ensures.steady ∙ c.places.invariant.steady;
+  within = λ p there. c.places.invariant.within p
+      (rest_within (first_of c.places.left.now) (others_of c.places.left.now) c.places.left.now
+      (split_first c.places.left.now no_place c.in-len1-up.len_at_least) p there);
   fits = λ tells bodies each holds buffer.
       c.copy_shown_at.ensures.fits tells bodies each (c.places.invariant.holds tells (bytes_of bodies) holds) (c.places.invariant.fits tells bodies each holds buffer);
   rest = λ bodies rows buffer all.
@@ -41,3 +55,16 @@ returns-in_err-copy_shown_at-clause-fits g c = λ tells bodies each holds buffer
 pub returns-then-branch-clause-fits : goal.returns-then-branch-clause-fits
 returns-then-branch-clause-fits g c = λ tells bodies each holds buffer.
     c.copy_shown_at.ensures.fits tells bodies each (c.places.invariant.holds tells (bytes_of bodies) holds) (c.places.invariant.fits tells bodies each holds buffer)
+
+pub returns-then-branch-clause-kept : goal.returns-then-branch-clause-kept
+returns-then-branch-clause-kept g c =
+    let first = first_of c.places.left.now in (
+      first,
+      c.places.invariant.within first
+          (first_within first (others_of c.places.left.now) c.places.left.now (split_first c.places.left.now no_place c.in-len1-up.len_at_least)),
+      refl,
+      subst (λ (b : Bool). IsReadAs c.copy_shown_at.new.buffer.left first.seq b c.copy_shown_at.new.room) c.if-branch.true c.in_ok-copy_shown_at.ensures.kept,
+    )
+
+pub returns-then-branch-clause-steady : goal.returns-then-branch-clause-steady
+returns-then-branch-clause-steady g c = c.in_ok-copy_shown_at.ensures.steady ∙ c.places.invariant.steady

@@ -34,7 +34,7 @@ returns-then-is_err-clause-stopped g c =
     let a : Around = around (g.P.Judges.panel c.args.judges.now) (g.C.Clock.moments c.args.clock.now) (g.R.Repos.repository c.args.repos.now) in
     let b : Around = around (g.P.Judges.panel c.group.judges) (g.C.Clock.moments c.group.clock) (g.R.Repos.repository c.group.repos) in
     subst (λ (os : List Outcome). Stopped g.C.Clock.tells g.R.Repos.tells c.args.log.now c.args.group.now c.args.core.now c.group.core c.args.window.now.places c.group.window.places c.group.pending a b os (Some StoreFault.Memory)) (sym c.reserve.ensures.items)
-    (stops_here _ _ _ _ _ _ _ _ _ _ _ _ _ c.group.invariant.taken (Some StoreFault.Memory) (omega arith) (λ none. let no : ⊥ = cc in absurd no) (λ x. nothing_in_vain _ _ x x _ (nothing_here _ _ x)) tt (next_none _ _ _ StoreFault.Memory tt))
+    (stops_here _ _ _ _ _ _ _ _ _ _ _ _ _ c.group.invariant.taken (Some StoreFault.Memory) (omega arith) (λ none. let no : ⊥ = cc in absurd no) (λ x. nothing_in_vain _ _ x x _ (nothing_here _ _ x)) tt (next_none _ _ _ _ _ _ StoreFault.Memory tt))
 
 pub returns-in-Err-clause-stopped : goal.returns-in-Err-clause-stopped
 returns-in-Err-clause-stopped g c =
@@ -80,4 +80,4 @@ group-preserved g c =
 
 pub returns-clause-stopped : goal.returns-clause-stopped
 returns-clause-stopped g c =
-    stops_here _ _ _ _ _ _ _ _ _ _ _ _ _ c.group.invariant.taken None refl (λ none. inl (drop_all c.group.message-index c.args.group.now c.group-test.false)) (λ x. nothing_here _ _ x) tt (next_nothing _ _ _)
+    stops_here _ _ _ _ _ _ _ _ _ _ _ _ _ c.group.invariant.taken None refl (λ none. inl (drop_all c.group.message-index c.args.group.now c.group-test.false)) (λ x. nothing_here _ _ x) tt (next_nothing _ _ _ _ _ _)

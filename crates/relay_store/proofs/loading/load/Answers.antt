@@ -1,9 +1,9 @@
-use Rattle.std.proofs.Common.{rules, ◌≡◌, Err, arith, subst}
+use Rattle.std.proofs.Common.{rules, ◌≡◌, Err, [], arith, subst}
 use Rattle.relay_disk.proofs.Moments.{still_here, still_again}
 use Rattle.gate_log.specs.Log.{HoldsBodies as HasBodies}
 use Rattle.relay_store.specs.Journals.{bytes_of, joined}
 use Rattle.relay_store.specs.declared.fault.StoreFault.TheVariants.{BadLog}
-use Rattle.relay_store.proofs.Loaded.{at_first, more_left, all_loaded, split_here, one_further, bad_here}
+use Rattle.relay_store.proofs.Loaded.{at_first, more_left, all_loaded, no_split, split_here, one_further, bad_here}
 use Rattle.relay_store.proofs.loading.load.Goals as goal
 
 pub bodies-init : goal.bodies-init
@@ -34,3 +34,9 @@ returns-in_err-place-clause-bad_log g c = λ p is tells bodies held.
 
 pub returns-clause-loaded : goal.returns-clause-loaded
 returns-clause-loaded g c = λ tells bodies held. all_loaded _ bodies _ _ _ (c.bodies.invariant.so_far tells bodies held) _ held.ends (omega (arith, c.end.ensures.end))
+
+pub returns-in_err-place-clause-some : goal.returns-in_err-place-clause-some
+returns-in_err-place-clause-some g c = λ fault is tells held.
+    let f = c.bodies.invariant.so_far tells [] held in
+    let some = more_left _ [] _ _ _ f _ held.ends (omega (arith, c.end.ensures.end)) in
+    no_split (bytes_of f.before) some.1 some.0 (split_here _ [] _ _ _ f some.0 some.1 some.2)

@@ -1,6 +1,8 @@
-use Rattle.std.proofs.Common.{◌≡◌, ◌∙◌, ℕ, List, Result, Err, ap, subst, sym}
+use Rattle.std.proofs.Common.{◌≡◌, ◌∙◌, true, ℕ, List, Result, Err, ap, subst, sym}
+use Rattle.std.specs.List.{list_all}
 use Rattle.relay_row.specs.Answers.{ReadsBody}
 use Rattle.relay_row.specs.Bodies.{IsBody}
+use Rattle.relay_row.specs.Rules.{is_row}
 use Rattle.relay_row.specs.declared.fault.RowFault.{RowFault}
 use Rattle.relay_row.specs.declared.row.Row.{Row}
 use Rattle.relay_row.proofs.Bodies.{same_rows}
@@ -24,3 +26,6 @@ returns-in-Err-BadRow-clause-no_bad_log g c = λ p is tells before there after b
     let read = c.in-Ok.ensures.body tells before there after body holds here in
     let bad = subst (λ (r : Result (List Row) RowFault). ReadsBody r c.as_slice.result.now) (c.in-Err-BadRow.is ∙ ap Err c.in-Err-BadRow.field-0-is) c.read_rows.ensures in
     bad there (subst (λ (b : List ℕ). IsBody there b) (sym c.as_slice.ensures.value) read.0)
+
+pub returns-in-Ok-read_rows-clause-formed : goal.returns-in-Ok-read_rows-clause-formed
+returns-in-Ok-read_rows-clause-formed g c = subst (λ (l : List Row). list_all is_row l ≡ true) (sym c.into_vec.ensures) c.in-Ok-read_rows.ensures.formed

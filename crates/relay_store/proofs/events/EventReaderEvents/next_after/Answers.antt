@@ -4,6 +4,7 @@ use Rattle.event_window.specs.Held.{Held, IsNext}
 use Rattle.event_window.specs.declared.place.Place.{Place}
 use Rattle.relay_store.specs.Events.{AllStand}
 use Rattle.relay_store.specs.Journals.{bytes_of}
+use Rattle.relay_store.proofs.Searching.{read_from_part}
 use Rattle.relay_store.proofs.Reread.{next_of, still_has, still_kept, window_rises}
 use Rattle.relay_store.proofs.events.EventReaderEvents.next_after.Goals as goal
 
@@ -12,7 +13,7 @@ returns-clause-next g c = IfOk-weaker c.find_shown.result _ _
     (λ found first tells held has.
     let keeps = has.1 in
     let near = next_of has.0 _ _ keeps c.args.seq in
-    let stand = subst (λ (places : List Place). AllStand c.args.self.now.store.now.log.format keeps.bodies places near.0) (sym (c.above-places.ensures (window_rises has.0 _ _ keeps))) near.1 in
+    let stand = subst (λ (places : List Place). AllStand c.args.self.now.store.now.log.format keeps.bodies places near.0) (sym (c.above-places.ensures.above (window_rises has.0 _ _ keeps))) near.1 in
     subst (λ (h : Held). IsNext c.args.seq h.shown found c.find_shown.new.room) (sym has.2)
     (near.2 found c.find_shown.new.room (first tells keeps.bodies has.0 near.0 keeps.are.each keeps.holds keeps.core has.3 stand)))
     c.find_shown.ensures.first
@@ -21,7 +22,7 @@ pub returns-clause-no_bad_log : goal.returns-clause-no_bad_log
 returns-clause-no_bad_log g c = λ place is tells held has.
     let keeps = has.1 in
     let near = next_of has.0 _ _ keeps c.args.seq in
-    let stand = subst (λ (places : List Place). AllStand c.args.self.now.store.now.log.format keeps.bodies places near.0) (sym (c.above-places.ensures (window_rises has.0 _ _ keeps))) near.1 in
+    let stand = subst (λ (places : List Place). AllStand c.args.self.now.store.now.log.format keeps.bodies places near.0) (sym (c.above-places.ensures.above (window_rises has.0 _ _ keeps))) near.1 in
     c.find_shown.ensures.no_bad_log place is tells keeps.bodies near.0 keeps.are.each keeps.holds has.3 stand
 
 pub returns-clause-same : goal.returns-clause-same
@@ -39,3 +40,8 @@ returns-clause-later g c = (
     keeps = λ tells J keeps. still_kept J _ _ _ keeps (c.find_shown.ensures.holds tells (bytes_of keeps.bodies) keeps.holds);
   },
 )
+
+pub returns-clause-read : goal.returns-clause-read
+returns-clause-read g c = IfOk-weaker c.find_shown.result _ _
+    (λ found kept. read_from_part _ _ c.above-places.ensures.part _ _ found kept)
+    c.find_shown.ensures.kept

@@ -3,6 +3,7 @@ use Rattle.std.specs.Prelude.{map}
 use Rattle.at_event.specs.declared.refusal.Refusal.{Refusal}
 use Rattle.event_window.specs.Held.{first_or}
 use Rattle.event_window.specs.declared.place.Place.{Place}
+use Rattle.relay_disk.proofs.Moments.{time_here}
 use Rattle.relay_row.specs.Folds.{last_seq}
 use Rattle.cut_law.specs.Cut.{cut}
 use Rattle.relay_store.specs.Cutting.{IsUncut}
@@ -125,4 +126,22 @@ pub returns-in-Err-clause-no_bad_log : goal.returns-in-Err-clause-no_bad_log
 returns-in-Err-clause-no_bad_log g c = λ p is tells.
     let on = c.requires.on tells in
     let failed : c.write_anew.result ≡ Err (StoreFault.BadLog p) = search rules in
-    c.write_anew.ensures.no_bad_log p failed tells on.0 c.args.seq on.1 (c.in-Some.ensures.last (window_rises on.0 _ _ on.1))
+    let last = on.1.core.last in
+    let held : c.args.seq ≤ last_seq on.0 = omega (arith, c.if-seq-last_seq.false, c.last_seq.ensures, last) in
+    c.write_anew.ensures.no_bad_log p failed tells on.0 c.args.seq on.1 (c.in-Some.ensures.last (window_rises on.0 _ _ on.1)) held
+
+pub returns-in-Ok-clause-bodies : goal.returns-in-Ok-clause-bodies
+returns-in-Ok-clause-bodies g c = λ first behind is tells J keeps.
+    c.in-Ok.ensures.bodies tells J c.args.seq keeps (c.in-Some.ensures.last (window_rises J _ _ keeps))
+
+pub returns-then-seq-last_seq-clause-time : goal.returns-then-seq-last_seq-clause-time
+returns-then-seq-last_seq-clause-time g c = λ tells. time_here _ (g.met.D.Disk.is_disk _)
+
+pub returns-in_default-clause-time : goal.returns-in_default-clause-time
+returns-in_default-clause-time g c = λ tells. time_here _ (g.met.D.Disk.is_disk _)
+
+pub returns-then-generation-clause-time : goal.returns-then-generation-clause-time
+returns-then-generation-clause-time g c = λ tells. time_here _ (g.met.D.Disk.is_disk _)
+
+pub returns-in-Ok-clause-known : goal.returns-in-Ok-clause-known
+returns-in-Ok-clause-known g c = λ first behind is. c.in-Ok.ensures.known

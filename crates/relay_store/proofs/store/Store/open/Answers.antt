@@ -1,7 +1,8 @@
-use Rattle.std.proofs.Common.{rules, ◌≡◌, ◌∙◌, Err, inl, inr, sym, ap}
+use Rattle.std.proofs.Common.{rules, ◌≡◌, ◌∙◌, Err, IsTrue, inl, inr, sym, ap}
 use Rattle.gate_log.specs.Pick.{other_side}
+use Rattle.relay_store.specs.Opening.{BothOnlyRead}
 use Rattle.relay_store.specs.declared.fault.StoreFault.{StoreFault}
-use Rattle.relay_store.proofs.Opened.{bad_journal, journals_leave, log_bad, opened_journal, pair_images, side_again, side_stays, then_read}
+use Rattle.relay_store.proofs.Opened.{bad_journal, both_again, both_sides, journals_leave, log_bad, log_read, not_unmade, opened_journal, pair_images, side_again, side_stays, then_read}
 use Rattle.relay_store.proofs.store.Store.open.Goals as goal
 
 pub returns-in-Err-clause-opened : goal.returns-in-Err-clause-opened
@@ -10,6 +11,14 @@ returns-in-Err-clause-opened g c = record {
   side = tt;
   beside = tt;
   moments = λ tells journals. journals_leave _ _ _ _ journals (c.open_pair.ensures.moments tells (pair_images (g.D.Disk.view c.args.disk.now) (g.D.Disk.view c.args.other.now) journals));
+  read = λ fault is no_disk tells.
+      let same : c.from.result ≡ fault = cc in
+      log_read (IsTrue g.D.Disk.tells) c.in-Err.fault
+      (BothOnlyRead (g.D.Disk.view c.args.disk.now) (g.D.Disk.view c.args.other.now) (g.D.Disk.view c.open_pair.new.one) (g.D.Disk.view c.open_pair.new.two))
+      (λ e full. c.open_pair.ensures.no_full e (c.in-Err.is ∙ ap Err full))
+      (λ p bad told. let both = c.open_pair.ensures.reads p (c.in-Err.is ∙ ap Err bad) told in record { first = both.0; second = both.1 })
+      (λ memory. let both = c.open_pair.ensures.memory (c.in-Err.is ∙ ap Err memory) in record { first = both.0; second = both.1 })
+      (λ disk. no_disk (sym same ∙ c.from.ensures ∙ disk)) tells;
 }
 
 pub returns-in-Err-clause-bad_log : goal.returns-in-Err-clause-bad_log
@@ -24,6 +33,13 @@ returns-in_err-load_side-clause-opened g c = record {
   beside = search rules;
   moments = λ tells journals.
       then_read _ _ _ _ _ _ (g.met.D.Disk.is_disk _) (g.met.D.Disk.is_disk _) (journals_leave _ _ _ _ journals (c.open_pair.ensures.moments tells (pair_images (g.D.Disk.view c.args.disk.now) (g.D.Disk.view c.args.other.now) journals))) c.load_side.ensures.one c.load_side.ensures.two;
+  read = λ fault is no_disk tells.
+      let failed : c.load_side.result ≡ Err fault = search rules in
+      let held = c.in-Ok.ensures.holds tells in
+      let side = c.in-Ok.found.0 in
+      let made = not_unmade side c.in-Ok.found.1 (g.D.Disk.view c.args.disk.now) (g.D.Disk.view c.args.other.now) _ held.0 (c.in-Ok.ensures.picked tells) held.1 held.2 (c.load_side.ensures.some fault failed tells) in
+      both_again _ _ _ _ _ _ (g.met.D.Disk.is_disk _) (g.met.D.Disk.is_disk _)
+      (both_sides side _ _ _ _ (c.in-Ok.ensures.only_read tells made) c.in-Ok.ensures.beside) c.load_side.ensures.one c.load_side.ensures.two;
 }
 
 pub returns-in_err-load_side-clause-bad_log : goal.returns-in_err-load_side-clause-bad_log
@@ -48,4 +64,5 @@ returns-clause-opened g c = record {
   beside = side_again (other_side c.in-Ok.found.0) _ _ _ _ _ _ (g.met.D.Disk.is_disk _) (g.met.D.Disk.is_disk _) c.in-Ok.ensures.beside c.load_side.ensures.one c.load_side.ensures.two;
   moments = λ tells journals.
       then_read _ _ _ _ _ _ (g.met.D.Disk.is_disk _) (g.met.D.Disk.is_disk _) (journals_leave _ _ _ _ journals (c.open_pair.ensures.moments tells (pair_images (g.D.Disk.view c.args.disk.now) (g.D.Disk.view c.args.other.now) journals))) c.load_side.ensures.one c.load_side.ensures.two;
+  read = λ fault is no_disk tells. let no : ⊥ = cc in absurd no;
 }

@@ -34,7 +34,7 @@ pub returns-in-Ok-commit-clause-commanded : goal.returns-in-Ok-commit-clause-com
 returns-in-Ok-commit-clause-commanded g c = λ J of journal.
     worded_ok g.D.Disk.view g.D.Disk.tells J c.args.command c.args.self.now.log c.args.self.now.side c.args.self.now.core c.args.self.now.window.places c.args.self.now.pending c.requires.rows of c.args.disk.now
     journal _ _ _ c.in-Ok.ensures.added c.commit.new.disk c.commit.new.log c.take_command.ensures.fits (λ tells K rows has on. c.commit.ensures.moments tells K rows _ _ has on) c.commit.ensures.format
-    c.in-Ok.done c.in-Ok.ensures.ok c.commit.ensures.untouched (λ tells K rows has on. c.in-Ok-commit.ensures.added tells K rows _ _ has on)
+    c.in-Ok.done c.in-Ok.ensures.ok c.commit.ensures.untouched c.in-Ok-commit.ensures.end (λ tells K rows has on. c.in-Ok-commit.ensures.added tells K rows _ _ has on)
 
 pub returns-in-Err-commit-clause-commanded : goal.returns-in-Err-commit-clause-commanded
 returns-in-Err-commit-clause-commanded g c = λ J of journal.

@@ -1,5 +1,5 @@
 use Rattle.std.proofs.Common.{◌≡◌, ◌∙◌, ◌+◌, ⊎_elim, Err, ap, arith, rules, sym, subst}
-use Rattle.relay_disk.proofs.Moments.{now_too, still_here}
+use Rattle.relay_disk.proofs.Moments.{now_too, still_here, time_joined}
 use Rattle.gate_log.specs.Build.{BuildState}
 use Rattle.gate_log.specs.Image.{generation}
 use Rattle.gate_log.specs.Beside.{LeavesLive}
@@ -106,6 +106,30 @@ returns-in_err-fill-clause-full g c = λ e is tells J n keeps last.
     subst (λ (b : BuildState). RewriteHasNoRoom b.end b.most (cut J n) e) c.in_ok-rewrite.ensures.build (c.fill.ensures.full e failed tells J n keeps last)
 
 pub returns-in_err-fill-clause-no_bad_log : goal.returns-in_err-fill-clause-no_bad_log
-returns-in_err-fill-clause-no_bad_log g c = λ p is tells J n keeps last.
+returns-in_err-fill-clause-no_bad_log g c = λ p is tells J n keeps last low.
     let failed : c.fill.result ≡ Err (StoreFault.BadLog p) = search rules in
-    c.fill.ensures.no_bad_log p failed tells J n keeps last
+    c.fill.ensures.no_bad_log p failed tells J n keeps last low c.in_ok-rewrite.ensures.core
+
+pub returns-in-Ok-clause-bodies : goal.returns-in-Ok-clause-bodies
+returns-in-Ok-clause-bodies g c = λ tells J n keeps last.
+    let copied = c.in_ok-fill.ensures.copied in
+    c.in-Ok.ensures.holds tells (bytes_of (singles (cut J n))) (built _ _ (cut J n) _ _ _ _ tells (c.in_ok-rewrite.ensures.begun tells) copied.1 (copied.2 tells J n keeps last))
+
+pub returns-in_err-rewrite-clause-time : goal.returns-in_err-rewrite-clause-time
+returns-in_err-rewrite-clause-time g c = λ tells. (c.begin.ensures.moments tells).time
+
+pub returns-in_err-fill-clause-time : goal.returns-in_err-fill-clause-time
+returns-in_err-fill-clause-time g c = λ tells. time_joined _ _ _ (c.begin.ensures.moments tells).time (c.fill.ensures.run tells).time
+
+pub returns-in-Ok-clause-time : goal.returns-in-Ok-clause-time
+returns-in-Ok-clause-time g c = λ tells.
+    let on = c.in_ok-fill.ensures.copied.1.on tells in
+    time_joined _ _ _ (time_joined _ _ _ (c.begin.ensures.moments tells).time (c.fill.ensures.run tells).time) (c.finish.ensures.moments tells on.0 on.1).time
+
+pub returns-clause-time : goal.returns-clause-time
+returns-clause-time g c = λ tells.
+    let on = c.in_ok-fill.ensures.copied.1.on tells in
+    time_joined _ _ _ (time_joined _ _ _ (c.begin.ensures.moments tells).time (c.fill.ensures.run tells).time) (c.finish.ensures.moments tells on.0 on.1).time
+
+pub returns-in-Ok-clause-known : goal.returns-in-Ok-clause-known
+returns-in-Ok-clause-known g c = c.in_ok-fill.ensures.known c.in_ok-rewrite.ensures.core
