@@ -1,6 +1,6 @@
 //! The command by which a host is followed.
 
-ghost use Rattle.std.specs.Prelude.{◌≡◌, ◌≤◌, ◌<◌, ◌^◌, ◌⊎◌, List, [], true, IsTrue};
+ghost use Rattle.std.specs.Prelude.{◌≡◌, ◌≢◌, ◌≤◌, ◌<◌, ◌^◌, ◌⊎◌, List, [], true, IsTrue, ℕ};
 ghost use Rattle.at_cid.specs.Counts.{Rose};
 ghost use Rattle.at_syntax.specs.Host.{is_host};
 ghost use Rattle.gate_log.specs.Pick.{other_side, view_of_side};
@@ -9,15 +9,19 @@ ghost use Rattle.relay_row.specs.Folds.{cursor};
 ghost use Rattle.relay_row.specs.declared.row.Row.{Row as TheRow};
 ghost use Rattle.relay_step.specs.Around.{around};
 ghost use Rattle.relay_store.specs.Journals.{IsPairImageOf};
+ghost use Rattle.relay_store.specs.Opening.{BothOnlyRead};
 ghost use Rattle.relay_store.specs.Store.{IsKept, IsOf, seen_in};
+ghost use Rattle.relay_store.specs.declared.fault.StoreFault.{StoreFault};
 ghost use Rattle.relay_run.specs.Pairs.{of_pair};
 ghost use Rattle.tape_run.specs.Tells.{tells};
 ghost use Rattle.tape_run.specs.Feeds.{TakenOfFeed};
 ghost use Rattle.tape_run.specs.Taken.{scene};
+ghost use Rattle.tape_run.specs.declared.end.TapeEnd.{TapeEnd as TheEnd};
 ghost use Rattle.ingest_run.specs.Ends.{IsCausedBy, MayEnd, NoneOf, TapeEndShows};
 ghost use Rattle.ingest_run.specs.Ingested.{Unopened, pair_scene};
 ghost use Rattle.follow_run.specs.Ends.{tape_end};
 ghost use Rattle.follow_run.specs.Followed.{Followed};
+ghost use Rattle.follow_run.specs.declared.end.FeedEnd.{FeedEnd as TheFeedEnd};
 
 use crate::end::FeedEnd;
 use at_authority::Judges;
@@ -51,6 +55,7 @@ fn take_on<D: Disk, P: Judges, R: Repos, C: Clock, F: Feed, O: Sink>(
         (scene (seen_in store.new) (of_pair (seen_in store.old).side disk.new other.new) (around (P.panel judges.new) (C.moments clock.new) (R.repository repos.new)) [] (O.written out.new)) result }
     ensures beside { of_pair (other_side (seen_in store.old).side) disk.new other.new ≡ of_pair (other_side (seen_in store.old).side) disk.old other.old }
     ensures caused { IsCausedBy (Rose (D.view disk.old).faults (D.view disk.new).faults ⊎ Rose (D.view other.old).faults (D.view other.new).faults) (Rose (F.faults feed.old) (F.faults feed.new)) (Rose (O.faults out.old) (O.faults out.new)) (Rose (R.faults repos.old) (R.faults repos.new)) (Rose (C.faults clock.old) (C.faults clock.new)) result }
+    ensures steady { result ≢ TheEnd.ReadFault → F.faults feed.new ≡ F.faults feed.old }
     ensures disk_counts { (D.view disk.old).faults ≤ (D.view disk.new).faults }
     ensures other_counts { (D.view other.old).faults ≤ (D.view other.new).faults }
     ensures repos_count { R.faults repos.old ≤ R.faults repos.new }
@@ -91,7 +96,13 @@ pub fn follow<D: Disk, P: Judges, R: Repos, C: Clock, F: Feed, O: Sink>(
         → (Unopened J (pair_scene (D.view disk.old) (D.view other.old) (around (P.panel judges.old) (C.moments clock.old) (R.repository repos.old)) [] (O.written out.old)) (pair_scene (D.view disk.new) (D.view other.new) (around (P.panel judges.new) (C.moments clock.new) (R.repository repos.new)) [] (O.written out.new)) (tape_end result) × (F.left feed.new ≡ F.left feed.old))
         ⊎ Followed (tells D.tells C.tells R.tells O.tells) F.tells host.now most count (λ n. F.behind feed.old host.now n) (F.left feed.new) J (pair_scene (D.view disk.old) (D.view other.old) (around (P.panel judges.old) (C.moments clock.old) (R.repository repos.old)) [] (O.written out.old)) (pair_scene (D.view disk.new) (D.view other.new) (around (P.panel judges.new) (C.moments clock.new) (R.repository repos.new)) [] (O.written out.new)) result }
     ensures shows { IsTrue D.tells → TapeEndShows (tape_end result) (D.view disk.old).content (D.view other.old).content }
+    // A damaged log is only read, and nothing else is done.
+    ensures unopened { (place : ℕ) → result ≡ FeedEnd.Store (StoreFault.BadLog place) → IsTrue D.tells
+        → BothOnlyRead (D.view disk.old) (D.view other.old) (D.view disk.new) (D.view other.new)
+        × (judges.new ≡ judges.old) × (repos.new ≡ repos.old) × (clock.new ≡ clock.old)
+        × (feed.new ≡ feed.old) × (out.new ≡ out.old) }
     ensures caused { IsCausedBy (Rose (D.view disk.old).faults (D.view disk.new).faults ⊎ Rose (D.view other.old).faults (D.view other.new).faults) (Rose (F.faults feed.old) (F.faults feed.new)) (Rose (O.faults out.old) (O.faults out.new)) (Rose (R.faults repos.old) (R.faults repos.new)) (Rose (C.faults clock.old) (C.faults clock.new)) (tape_end result) }
+    ensures steady { result ≢ TheFeedEnd.Feed → F.faults feed.new ≡ F.faults feed.old }
 
     // It is done, unless memory runs out, the log is full, or the numbers or the authorities end.
     ensures complete { IsTrue D.tells → (J : List TheRow) → IsPairImageOf J (D.view disk.old).content (D.view other.old).content

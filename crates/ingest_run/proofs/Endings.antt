@@ -1,18 +1,20 @@
 -- How taking a tape ends: what the disks show, the causes, and what ends a whole tape.
-use Rattle.std.proofs.Common.{◌≡◌, ◌⊎◌, inl, inr, ⊎_elim, ◌∙◌, ℕ, ◌+◌, ◌<◌, ◌≤◌, List, ◌++◌, length, refl, sym, ap, subst, arith, length-append}
+use Rattle.std.proofs.Common.{◌≡◌, ◌⊎◌, inl, inr, ⊎_elim, ◌∙◌, ℕ, ◌+◌, ◌<◌, ◌≤◌, List, ◌++◌, length, refl, sym, ap, subst, arith, length-append, Bool, Err, IsTrue}
 use Rattle.at_cid.specs.Counts.{Rose}
 use Rattle.relay_row.specs.declared.row.Row.{Row}
 use Rattle.relay_step.specs.Steps.{Step}
 use Rattle.relay_store.specs.Journals.{IsBadPairJournalAt, IsPairImageOf}
-use Rattle.relay_store.specs.Opening.{IsOfReading}
+use Rattle.relay_store.specs.Opening.{BothOnlyRead, IsOfReading, Opened}
 use Rattle.relay_store.specs.declared.fault.StoreFault.{StoreFault}
 use Rattle.relay_store.specs.declared.message.Message.{Message}
 use Rattle.relay_store.proofs.Images.{no_journal}
+use Rattle.relay_store.proofs.Opened.{bad_read}
 use Rattle.tape_run.specs.Ends.{AreExtraAt, end_of_store}
 use Rattle.tape_run.specs.Tapes.{AreRecords, IsOnTape, encoded_records}
 use Rattle.tape_run.specs.declared.end.TapeEnd.{TapeEnd}
 use Rattle.ingest_run.specs.Ends.{IsCausedBy, MayEnd, NoneOf, TapeEndShows}
 use Rattle.ingest_run.proofs.Grammar.{no_fault}
+use Rattle.relay_disk.specs.Disk.{View}
 
 -- ---- opening
 
@@ -47,7 +49,25 @@ opening_completes disk read write repos clock StoreFault.Repos one two J image o
 opening_completes disk read write repos clock StoreFault.Memory one two J image of cause bad none = tt
 opening_completes disk read write repos clock StoreFault.Clock one two J image of cause bad none = absurd of
 
+pub opening_bad : (fault : StoreFault) (place : ℕ) → end_of_store fault ≡ TapeEnd.Store (StoreFault.BadLog place) → fault ≡ StoreFault.BadLog place
+opening_bad StoreFault.Disk place is = let no : ⊥ = cc in absurd no
+opening_bad (StoreFault.BadLog q) place is = let same : q ≡ place = cc in ap StoreFault.BadLog same
+opening_bad (StoreFault.Full e) place is = let no : ⊥ = cc in absurd no
+opening_bad StoreFault.SeqEnd place is = let no : ⊥ = cc in absurd no
+opening_bad StoreFault.Authority place is = let no : ⊥ = cc in absurd no
+opening_bad StoreFault.Repos place is = let no : ⊥ = cc in absurd no
+opening_bad StoreFault.Memory place is = let no : ⊥ = cc in absurd no
+opening_bad StoreFault.Clock place is = let no : ⊥ = cc in absurd no
+
+-- a bad log was only read
+pub opening_read : (tells : Bool) (one two one_now two_now : View) (fault : StoreFault) (end : TapeEnd) (place : ℕ) → Opened tells one two one_now two_now (Err fault) → end ≡ end_of_store fault → end ≡ TapeEnd.Store (StoreFault.BadLog place) → IsTrue tells → BothOnlyRead one two one_now two_now
+opening_read tells one two one_now two_now fault end place opened of is told = bad_read tells one two one_now two_now fault place opened (opening_bad fault place (sym of ∙ is)) told
+
 -- ---- behind it
+
+-- two disks with a journal show no bad log
+pub never_bad : (end : TapeEnd) (place : ℕ) (one two : List ℕ) (J : List Row) → IsPairImageOf J one two → TapeEndShows end one two → end ≡ TapeEnd.Store (StoreFault.BadLog place) → ⊥
+never_bad end place one two J image shows is = no_journal place one two J image (subst (λ (e : TapeEnd). TapeEndShows e one two) is shows)
 
 pub image_shows : (end : TapeEnd) (over : List Step) (one two : List ℕ) (J : List Row) → AreExtraAt end over → IsPairImageOf J one two → TapeEndShows end one two
 image_shows TapeEnd.Done over one two J which image = (J, image)

@@ -1,12 +1,10 @@
 -- What taking a tape did on two disks, from what it did on the one that is picked.
-use Rattle.std.proofs.Common.{◌≡◌, ◌≢◌, inl, inr, ⊎_elim, ℕ, List, [], ◌++◌, Bool, Ok, Err, IsTrue, refl, sym, subst}
+use Rattle.std.proofs.Common.{◌≡◌, ◌≢◌, inl, inr, ⊎_elim, ℕ, List, [], ◌++◌, Bool, Ok, Err, IsTrue, refl, sym, ◌∙◌, subst}
 use Rattle.std.proofs.lemmas.List.{append-nil}
-use Rattle.at_authority.specs.Panels.{Panel}
 use Rattle.relay_disk.specs.Disk.{View, IsDisk}
 use Rattle.relay_disk.specs.Moments.{PairLeavesOnly}
 use Rattle.gate_log.specs.Image.{HasFront}
-use Rattle.gate_log.specs.Log.{LogState}
-use Rattle.gate_log.specs.Pick.{LeavesSide, other_side, view_of_side}
+use Rattle.gate_log.specs.Pick.{IsPicked, LeavesSide, other_side, view_of_side}
 use Rattle.gate_log.specs.declared.format.Format.{Format}
 use Rattle.gate_log.specs.declared.picking.Side.{Side}
 use Rattle.gate_log.specs.declared.picking.Side.TheVariants.{One, Two}
@@ -22,14 +20,15 @@ use Rattle.relay_store.specs.Store.{IsOf, Keeps, seen_in}
 use Rattle.relay_store.specs.declared.fault.StoreFault.{StoreFault}
 use Rattle.relay_store.specs.declared.message.Message.{Message}
 use Rattle.relay_store.specs.declared.store.Store.{Store}
+use Rattle.relay_store.proofs.OnDisk.{pair_has_no_room, pair_has_room}
 use Rattle.relay_run.specs.Pairs.{IsOneOfPair, StandsFor, of_pair}
 use Rattle.relay_run.proofs.Beside.{ComesBeside, image_of_side, leaves_on, leaves_stand, log_front, opened_keeps, opened_leaves, run_on, stands_on, view_now, view_on}
-use Rattle.tape_run.specs.Crashes.{IsFullFor, IsOnTheWay, Leaves}
-use Rattle.tape_run.specs.Ends.{disk_failed, end_of_store, fault_in}
+use Rattle.tape_run.specs.Crashes.{IsOnTheWay, Leaves}
+use Rattle.tape_run.specs.Ends.{FullOnly, disk_failed, end_of_store, fault_in}
 use Rattle.tape_run.specs.Tells.{Tells}
 use Rattle.tape_run.specs.Taken.{Taken, scene}
 use Rattle.tape_run.specs.declared.end.TapeEnd.{TapeEnd}
-use Rattle.ingest_run.specs.Ingested.{Ingested, IsFullOn, IsLogOn, IsNextEnd, IsPairOnTheWay, Unopened, pair_scene}
+use Rattle.ingest_run.specs.Ingested.{Ingested, IsNextEnd, IsPairOnTheWay, Unopened, pair_scene}
 
 -- they weren't opened
 pub unopened : (tells : Bool) (one two one_now two_now : View) (fault : StoreFault) (J : List Row) (around : Around) (left written : List ℕ) (end : TapeEnd) → IsDisk one_now → IsDisk two_now
@@ -49,21 +48,9 @@ unopened tells one two one_now two_now fault J around left written end first sec
 
 -- ---- facts by the end
 
-full_on : (most : ℕ) (J R O : List Row) (log : LogState) (one two : View) (end : TapeEnd) → log.most ≡ most → IsLogOn log one two → IsFullFor J R O log end → IsFullOn most J R O one two end
-full_on most J R O log one two (TapeEnd.Store (StoreFault.Full e)) is on full = (log, is, on, full)
-full_on most J R O log one two (TapeEnd.Store StoreFault.Disk) is on full = tt
-full_on most J R O log one two (TapeEnd.Store (StoreFault.BadLog p)) is on full = tt
-full_on most J R O log one two (TapeEnd.Store StoreFault.SeqEnd) is on full = tt
-full_on most J R O log one two (TapeEnd.Store StoreFault.Authority) is on full = tt
-full_on most J R O log one two (TapeEnd.Store StoreFault.Repos) is on full = tt
-full_on most J R O log one two (TapeEnd.Store StoreFault.Memory) is on full = tt
-full_on most J R O log one two (TapeEnd.Store StoreFault.Clock) is on full = tt
-full_on most J R O log one two TapeEnd.Done is on full = tt
-full_on most J R O log one two (TapeEnd.Bad place) is on full = tt
-full_on most J R O log one two TapeEnd.ReadFault is on full = tt
-full_on most J R O log one two TapeEnd.WriteFault is on full = tt
-full_on most J R O log one two TapeEnd.TooLong is on full = tt
-full_on most J R O log one two TapeEnd.Memory is on full = tt
+full_on : (one two : Row → ℕ → Type 0) (extra : List Row) (end : TapeEnd) → (end ≢ disk_failed → (row : Row) (e : ℕ) → one row e → two row e) → FullOnly one extra end → FullOnly two extra end
+full_on one two extra (TapeEnd.Store (StoreFault.Full e)) more full = (full.0, full.1, more (λ is. let no : ⊥ = cc in no) full.0 e full.2)
+full_on one two extra end more full = tt
 
 seq_not : TapeEnd.Store StoreFault.SeqEnd ≡ disk_failed → ⊥
 seq_not is = cc
@@ -71,21 +58,21 @@ seq_not is = cc
 authority_not : TapeEnd.Store StoreFault.Authority ≡ disk_failed → ⊥
 authority_not is = cc
 
-next_end : (K : List Row) (core : Core) (behind : List Message) (panel : Panel) (end : TapeEnd) → (end ≢ disk_failed → Holds core K) → EndsNext core behind panel (fault_in end) → IsNextEnd K behind panel end
-next_end K core behind panel (TapeEnd.Store StoreFault.SeqEnd) known next = (core, known seq_not, next)
-next_end K core behind panel (TapeEnd.Store StoreFault.Authority) known next = (core, known authority_not, next)
-next_end K core behind panel (TapeEnd.Store StoreFault.Disk) known next = tt
-next_end K core behind panel (TapeEnd.Store (StoreFault.BadLog p)) known next = tt
-next_end K core behind panel (TapeEnd.Store (StoreFault.Full e)) known next = tt
-next_end K core behind panel (TapeEnd.Store StoreFault.Repos) known next = tt
-next_end K core behind panel (TapeEnd.Store StoreFault.Memory) known next = tt
-next_end K core behind panel (TapeEnd.Store StoreFault.Clock) known next = tt
-next_end K core behind panel TapeEnd.Done known next = tt
-next_end K core behind panel (TapeEnd.Bad place) known next = tt
-next_end K core behind panel TapeEnd.ReadFault known next = tt
-next_end K core behind panel TapeEnd.WriteFault known next = tt
-next_end K core behind panel TapeEnd.TooLong known next = tt
-next_end K core behind panel TapeEnd.Memory known next = tt
+next_end : (t : Tells) (K : List Row) (core : Core) (behind : List Message) (old new : Around) (end : TapeEnd) → (end ≢ disk_failed → Holds core K) → EndsNext t.clock t.repos core behind old new (fault_in end) → IsNextEnd t K behind old new end
+next_end t K core behind old new (TapeEnd.Store StoreFault.SeqEnd) known next = (core, known seq_not, next)
+next_end t K core behind old new (TapeEnd.Store StoreFault.Authority) known next = (core, known authority_not, next)
+next_end t K core behind old new (TapeEnd.Store StoreFault.Disk) known next = tt
+next_end t K core behind old new (TapeEnd.Store (StoreFault.BadLog p)) known next = tt
+next_end t K core behind old new (TapeEnd.Store (StoreFault.Full e)) known next = tt
+next_end t K core behind old new (TapeEnd.Store StoreFault.Repos) known next = tt
+next_end t K core behind old new (TapeEnd.Store StoreFault.Memory) known next = tt
+next_end t K core behind old new (TapeEnd.Store StoreFault.Clock) known next = tt
+next_end t K core behind old new TapeEnd.Done known next = tt
+next_end t K core behind old new (TapeEnd.Bad place) known next = tt
+next_end t K core behind old new TapeEnd.ReadFault known next = tt
+next_end t K core behind old new TapeEnd.WriteFault known next = tt
+next_end t K core behind old new TapeEnd.TooLong known next = tt
+next_end t K core behind old new TapeEnd.Memory known next = tt
 
 -- ---- crashes
 
@@ -119,7 +106,7 @@ module _ {D : Type 0} (view : D → View) (is_disk : (x : D) → IsDisk (view x)
 
   module _ (e f : D) (u : Store) (beside : of_pair (other_side s.side) e f ≡ of_pair (other_side s.side) c d) (input_tells : Bool) (most limit : ℕ) (most_is : s.log.most ≡ most) (old new : Around) (left left_now written written_now : List ℕ) (end : TapeEnd)
       (taken : Taken view t input_tells limit J (scene (seen_in s) (of_pair s.side c d) old left written) (scene (seen_in u) (of_pair s.side e f) new left_now written_now) end) where
-    leaves : Leaves J (rows taken.steps) (rows taken.under) (rows taken.extra) (seen_in s) (view (of_pair s.side c d)) (seen_in u) (view (of_pair s.side e f)) end
+    leaves : Leaves J (rows taken.steps) (rows taken.under) (seen_in s) (view (of_pair s.side c d)) (seen_in u) (view (of_pair s.side e f)) end
     leaves = taken.on_disk told (subst (Keeps J (seen_in s)) (view_on view is_disk a b c d e f s.side) keeps)
 
     fronts : (x : List ℕ) → (view (of_pair s.side e f)).may_leave x → HasFront (seen_in s).log.format x
@@ -128,12 +115,11 @@ module _ {D : Type 0} (view : D → View) (is_disk : (x : D) → IsDisk (view x)
     side_left : LeavesSide s.side (view e) (view f)
     side_left = leaves_on view is_disk a b c d e f s.side J (seen_in s) beside keeps fronts (opened.side told)
 
-    log_on : IsLogOn (seen_in s).log (view e) (view f)
-    log_on = record {
-      side = s.side;
-      picked = side_left (view e).content (view f).content (is_disk e).possible (is_disk f).possible;
-      front = subst (λ (v : View). HasFront (seen_in s).log.format v.content) (sym (view_now view is_disk a b c d e f s.side)) (fronts (view (of_pair s.side e f)).content (is_disk (of_pair s.side e f)).possible);
-    }
+    picked : IsPicked (view e).content (view f).content s.side
+    picked = side_left (view e).content (view f).content (is_disk e).possible (is_disk f).possible
+
+    keeps_now : end ≢ disk_failed → Keeps (J ++ rows taken.steps) (seen_in u) (view_of_side s.side (view e) (view f))
+    keeps_now not = subst (Keeps (J ++ rows taken.steps) (seen_in u)) (sym (view_now view is_disk a b c d e f s.side)) (leaves.keeps not)
 
     pub ingested : Ingested t input_tells most limit J (pair_scene (view a) (view b) old left written) (pair_scene (view e) (view f) new left_now written_now) end
     ingested = record {
@@ -152,12 +138,18 @@ module _ {D : Type 0} (view : D → View) (is_disk : (x : D) → IsDisk (view x)
       crashes = λ stands. run_on view is_disk a b c d e f s.side J (seen_in s) (IsOnTheWay (seen_in s).log.format J (rows taken.steps) (rows taken.under)) (IsPairOnTheWay J (rows taken.steps) (rows taken.under)) beside keeps
           (opened_leaves t.disk (view a) (view b) (view c) (view d) (Ok s) opened told J stands) leaves.moments (none_yet J (rows taken.steps) (rows taken.under)) (on_the_way s.side J (rows taken.steps) (rows taken.under) (seen_in s).log.format);
       left = left_on view e f s.side (J ++ rows taken.steps) (rows taken.under) (seen_in s).log.format side_left leaves.left;
-      full = full_on most J (rows taken.steps) (rows taken.extra) (seen_in s).log (view e) (view f) end most_is log_on leaves.full;
+      room = λ not. ⊎_elim
+          (λ none. inl none.0)
+          (λ within. inr (pair_has_room (J ++ rows taken.steps) (seen_in u) s.side (view e) (view f) (keeps_now not) picked most (taken.most ∙ most_is) within))
+          (taken.room not);
+      full = full_on _ _ (rows taken.extra) end
+          (λ not row n full. pair_has_no_room (J ++ rows taken.steps) (seen_in u) s.side (view e) (view f) (keeps_now not) picked most row n (taken.most ∙ most_is) full)
+          taken.full;
       written = taken.written;
       mid = taken.mid;
       asked = taken.asked;
       stops = taken.stops;
-      next = next_end (J ++ rows taken.steps) (seen_in u).core taken.behind new.panel end taken.known taken.next;
+      next = next_end t (J ++ rows taken.steps) (seen_in u).core taken.behind taken.mid new end taken.known taken.next;
       sound = taken.sound;
       faithful = taken.faithful;
       covered = taken.covered;

@@ -1,17 +1,12 @@
 -- What taking a tape into the journal of two disks does (own).
 use Rattle.std.specs.Prelude.{◌≡◌, ◌≢◌, ◌⊎◌, ⊤, ℕ, Bool, List, [], ◌++◌, Some, IsTrue}
-use Rattle.at_authority.specs.Panels.{Panel}
 use Rattle.relay_disk.specs.Disk.{View}
 use Rattle.relay_disk.specs.Moments.{PairLeavesOnly}
-use Rattle.gate_log.specs.Image.{HasFront}
-use Rattle.gate_log.specs.Log.{LogState}
-use Rattle.gate_log.specs.Pick.{IsPicked, view_of_side}
-use Rattle.gate_log.specs.declared.picking.Side.{Side}
 use Rattle.relay_row.specs.Journal.{IsJournal}
 use Rattle.relay_row.specs.declared.row.Row.{Row}
 use Rattle.relay_core.specs.Decide.{Checks}
 use Rattle.relay_core.specs.Opening.{OpensRight}
-use Rattle.relay_core.specs.Report.{end_line, lines_from}
+use Rattle.relay_core.specs.Report.{end_line}
 use Rattle.relay_law.specs.Heads.{IsFaithfulJournal}
 use Rattle.relay_law.specs.Right.{LinksRight}
 use Rattle.relay_law.specs.Sound.{IsSound}
@@ -20,11 +15,12 @@ use Rattle.relay_step.specs.Steps.{Step, AreSteps, messages, rows}
 use Rattle.relay_store.specs.Batches.{EndsNext, messages_sent}
 use Rattle.relay_store.specs.Journals.{IsPairImageOf}
 use Rattle.relay_store.specs.Opening.{IsOfReading}
+use Rattle.relay_store.specs.Room.{PairHasNoRoom, PairHasRoom}
 use Rattle.relay_store.specs.declared.fault.StoreFault.{StoreFault}
 use Rattle.relay_store.specs.declared.message.Message.{Message}
 use Rattle.tape_run.specs.Covered.{CoveredGetThrough}
-use Rattle.tape_run.specs.Crashes.{BatchHasNoRoom}
-use Rattle.tape_run.specs.Ends.{AreExtraAt, AreTaken, AreUnder, IsReportWritten, StopsAsking, disk_failed, end_of_store}
+use Rattle.tape_run.specs.Lines.{lines_of}
+use Rattle.tape_run.specs.Ends.{AreExtraAt, AreTaken, AreUnder, FullOnly, IsReportWritten, StopsAsking, disk_failed, end_of_store}
 use Rattle.tape_run.specs.Tells.{Tells}
 use Rattle.tape_run.specs.Tapes.{AreRecords, IsOnTape}
 use Rattle.tape_run.specs.declared.end.TapeEnd.{TapeEnd}
@@ -53,22 +49,13 @@ pub record IsPairSoFar (J rows : List Row) (c d : List ℕ) : Type 0 where
 abbrev pub IsPairOnTheWay : List Row → List Row → List Row → List ℕ → List ℕ → Type 0
 IsPairOnTheWay J rows under c d = IsPairSoFar J rows c d ⊎ IsPairImageOf ((J ++ rows) ++ under) c d
 
--- the log that is picked of the two disks is of this format
-pub record IsLogOn (log : LogState) (one two : View) : Type 0 where
-  pub side : Side
-  pub picked : IsPicked one.content two.content side
-  pub front : HasFront log.format (view_of_side side one two).content
-
--- the log is full only where a row has no room in the one that is picked
-abbrev pub IsFullOn : ℕ → List Row → List Row → List Row → View → View → TapeEnd → Type 0
-IsFullOn most J rows extra one two (TapeEnd.Store (StoreFault.Full e)) = (log : LogState) × (log.most ≡ most) × IsLogOn log one two × BatchHasNoRoom J rows extra log e
-IsFullOn most J rows extra one two end = ⊤
-
 -- for the next message the numbers end behind this journal, or no authority is left, where that ended it
-abbrev pub IsNextEnd : List Row → List Message → Panel → TapeEnd → Type 0
-IsNextEnd K behind panel (TapeEnd.Store StoreFault.SeqEnd) = Knows K (λ core. EndsNext core behind panel (Some StoreFault.SeqEnd))
-IsNextEnd K behind panel (TapeEnd.Store StoreFault.Authority) = Knows K (λ core. EndsNext core behind panel (Some StoreFault.Authority))
-IsNextEnd K behind panel end = ⊤
+abbrev pub IsNextEnd : Tells → List Row → List Message → Around → Around → TapeEnd → Type 0
+IsNextEnd t K behind old new (TapeEnd.Store StoreFault.SeqEnd) =
+    Knows K (λ core. EndsNext t.clock t.repos core behind old new (Some StoreFault.SeqEnd))
+IsNextEnd t K behind old new (TapeEnd.Store StoreFault.Authority) =
+    Knows K (λ core. EndsNext t.clock t.repos core behind old new (Some StoreFault.Authority))
+IsNextEnd t K behind old new end = ⊤
 
 -- The disks weren't opened: nothing was taken, asked or written, and where they stood for the journal J they do again, at each moment of a crash.
 pub record Unopened (J : List Row) (old new : PairScene) (end : TapeEnd) : Type 0 where
@@ -102,14 +89,16 @@ pub record Ingested (t : Tells) (input_tells : Bool) (most limit : ℕ) (J : Lis
   -- Whatever moments a crash strikes the two at, it leaves the journal with some of the rows, or all and those of the body under way, and at the end with all.
   pub crashes : StandsFor J old.one old.two → PairLeavesOnly (IsPairOnTheWay J (rows steps) (rows under)) old.one new.one old.two new.two
   pub left : (c d : List ℕ) → new.one.may_leave c → new.two.may_leave d → IsOneOfPair (J ++ rows steps) (rows under) c d
-  pub full : IsFullOn most J (rows steps) (rows extra) new.one new.two end
+  -- the log that is picked had room for all rows that were added, and is full only where it has none for the row of the step left over
+  pub room : end ≢ disk_failed → (rows steps ≡ []) ⊎ PairHasRoom most (J ++ rows steps) new.one.content new.two.content
+  pub full : FullOnly (λ row e. PairHasNoRoom most (J ++ rows steps) row e new.one.content new.two.content) (rows extra) end
   -- what is written is the report of the steps
-  pub written : IsTrue t.output → IsReportWritten end (lines_from J [] (messages steps) (rows steps)) (end_line J (messages steps) (rows steps)) old.written new.written
-  -- what was asked: of each step what it shows, and for one more message at most what came to nothing
+  pub written : IsTrue t.output → IsReportWritten end (lines_of steps) (end_line J (messages steps) (rows steps)) old.written new.written
+  -- what was asked: of each step what it shows, and for one more message, where no step is left over, what came to nothing
   pub mid : Around
   pub asked : AllAsked t.clock t.repos J old.around (steps ++ (under ++ extra)) mid
-  pub stops : StopsAsking t.clock t.repos end behind mid new.around
-  pub next : IsNextEnd (J ++ rows steps) behind new.around.panel end
+  pub stops : StopsAsking t.clock t.repos end extra behind mid new.around
+  pub next : IsNextEnd t (J ++ rows steps) behind mid new.around end
   -- with the rows of any of the steps in front a sound journal stays sound, and a faithful one faithful; and a covered commit gets through
   pub sound : (front others : List Step) → steps ++ (under ++ extra) ≡ front ++ others → IsSound J → IsSound (J ++ rows front)
   pub faithful : (front others : List Step) → steps ++ (under ++ extra) ≡ front ++ others

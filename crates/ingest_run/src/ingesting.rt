@@ -1,13 +1,15 @@
 //! The command by which a tape is taken.
 
-ghost use Rattle.std.specs.Prelude.{◌≡◌, ◌≤◌, ◌<◌, ◌^◌, ◌⊎◌, List, length, IsTrue};
+ghost use Rattle.std.specs.Prelude.{◌≡◌, ◌≤◌, ◌<◌, ◌^◌, ◌⊎◌, ℕ, List, length, IsTrue};
 ghost use Rattle.at_cid.specs.Counts.{Rose};
 ghost use Rattle.gate_log.specs.Pick.{other_side, view_of_side};
 ghost use Rattle.gate_log.specs.declared.limits.TheConstants.{LAST_END};
 ghost use Rattle.relay_row.specs.declared.row.Row.{Row as TheRow};
 ghost use Rattle.relay_step.specs.Around.{around};
 ghost use Rattle.relay_store.specs.Journals.{IsPairImageOf};
+ghost use Rattle.relay_store.specs.Opening.{BothOnlyRead};
 ghost use Rattle.relay_store.specs.Store.{IsKept, IsOf, seen_in};
+ghost use Rattle.relay_store.specs.declared.fault.StoreFault.{StoreFault};
 ghost use Rattle.relay_store.specs.declared.message.Message.{Message as TheMessage};
 ghost use Rattle.relay_run.specs.Pairs.{of_pair};
 ghost use Rattle.tape_run.specs.Tells.{tells};
@@ -79,6 +81,11 @@ pub fn ingest<D: Disk, P: Judges, R: Repos, C: Clock, I: Source, O: Sink>(
         → Unopened J (pair_scene (D.view disk.old) (D.view other.old) (around (P.panel judges.old) (C.moments clock.old) (R.repository repos.old)) (I.left input.old) (O.written out.old)) (pair_scene (D.view disk.new) (D.view other.new) (around (P.panel judges.new) (C.moments clock.new) (R.repository repos.new)) (I.left input.new) (O.written out.new)) result
         ⊎ Ingested (tells D.tells C.tells R.tells O.tells) I.tells most limit J (pair_scene (D.view disk.old) (D.view other.old) (around (P.panel judges.old) (C.moments clock.old) (R.repository repos.old)) (I.left input.old) (O.written out.old)) (pair_scene (D.view disk.new) (D.view other.new) (around (P.panel judges.new) (C.moments clock.new) (R.repository repos.new)) (I.left input.new) (O.written out.new)) result }
     ensures shows { IsTrue D.tells → TapeEndShows result (D.view disk.old).content (D.view other.old).content }
+    // A damaged log is only read, and nothing else is done.
+    ensures unopened { (place : ℕ) → result ≡ TapeEnd.Store (StoreFault.BadLog place) → IsTrue D.tells
+        → BothOnlyRead (D.view disk.old) (D.view other.old) (D.view disk.new) (D.view other.new)
+        × (judges.new ≡ judges.old) × (repos.new ≡ repos.old) × (clock.new ≡ clock.old)
+        × (input.new ≡ input.old) × (out.new ≡ out.old) }
     ensures caused { IsCausedBy (Rose (D.view disk.old).faults (D.view disk.new).faults ⊎ Rose (D.view other.old).faults (D.view other.new).faults) (Rose (I.faults input.old) (I.faults input.new)) (Rose (O.faults out.old) (O.faults out.new)) (Rose (R.faults repos.old) (R.faults repos.new)) (Rose (C.faults clock.old) (C.faults clock.new)) result }
 
     // A whole tape is taken, unless memory runs out, the log is full, or the numbers or the authorities end.

@@ -8,6 +8,7 @@ ghost use Rattle.gate_log.specs.Pick.{view_of_side};
 ghost use Rattle.gate_log.specs.declared.limits.TheConstants.{LAST_END};
 ghost use Rattle.relay_row.specs.declared.row.Row.{Row as TheRow};
 ghost use Rattle.relay_store.specs.Journals.{IsPairImageOf};
+ghost use Rattle.relay_store.specs.Opening.{BothOnlyRead};
 ghost use Rattle.relay_store.specs.Shown.{held_by};
 ghost use Rattle.relay_store.specs.Store.{IsKept, Keeps, seen_in};
 ghost use Rattle.relay_run.specs.Pairs.{pair_view};
@@ -141,8 +142,11 @@ pub fn lines<D: Disk, O: Sink>(
         (pair_view (D.view disk.new) (D.view other.new) (O.written out.new)) result }
     ensures shows { IsTrue D.tells
         → ServeEndShows result (D.view disk.old).content (D.view other.old).content }
-    ensures quiet { (place : ℕ) → result ≡ ServeEnd.BadLog place → IsTrue D.tells
-        → IsTrue O.tells → O.written out.new ≡ O.written out.old }
+
+    // A damaged log is only read, and nothing else is done.
+    ensures unopened { (place : ℕ) → result ≡ ServeEnd.BadLog place → IsTrue D.tells
+        → BothOnlyRead (D.view disk.old) (D.view other.old) (D.view disk.new) (D.view other.new)
+        × (out.new ≡ out.old) }
 
     // A count of faults rose where the end speaks of one, and where none rose, all is done.
     ensures caused { IsCausedBy (Rose (D.view disk.old).faults (D.view disk.new).faults

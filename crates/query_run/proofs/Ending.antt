@@ -1,11 +1,12 @@
 -- How answering requests by the journal of two disks ends.
-use Rattle.std.proofs.Common.{◌≡◌, ⊎_elim, ℕ, ◌≤◌, Bool, List, [], length, Ok, Err, IsTrue, refl, sym, ap, subst, arith}
+use Rattle.std.proofs.Common.{◌≡◌, ⊎_elim, ℕ, ◌≤◌, Bool, List, [], length, Ok, Err, IsTrue, refl, sym, ap, subst, arith, ◌∙◌}
 use Rattle.std.proofs.lemmas.List.{append-nil}
-use Rattle.relay_disk.specs.Disk.{View, IsDisk}
+use Rattle.relay_disk.specs.Disk.{IsDisk, View}
 use Rattle.relay_row.specs.declared.row.Row.{Row}
 use Rattle.relay_store.specs.Journals.{IsBadPairJournalAt, IsPairImageOf}
-use Rattle.relay_store.specs.Opening.{Opened}
+use Rattle.relay_store.specs.Opening.{BothOnlyRead, Opened}
 use Rattle.relay_store.specs.declared.fault.StoreFault.{StoreFault}
+use Rattle.relay_store.proofs.Opened.{bad_read}
 use Rattle.relay_run.proofs.Beside.{leaves_stand, opened_leaves}
 use Rattle.serve_run.specs.Replayed.{OnlyRead}
 use Rattle.query_run.specs.AtWire.{AtWire}
@@ -45,6 +46,20 @@ opening_shows StoreFault.Clock one two bad = tt
 
 pub unopened_shows : (fault : StoreFault) (end : QueryEnd) (one two : List ℕ) → end ≡ end_of_opening fault → ((p : ℕ) → fault ≡ StoreFault.BadLog p → IsBadPairJournalAt p one two) → QueryEndShows end one two
 unopened_shows fault end one two is bad = subst (λ (e : QueryEnd). QueryEndShows e one two) (sym is) (opening_shows fault one two bad)
+
+opening_bad : (fault : StoreFault) (place : ℕ) → end_of_opening fault ≡ QueryEnd.BadLog place → fault ≡ StoreFault.BadLog place
+opening_bad StoreFault.Disk place is = let no : ⊥ = cc in absurd no
+opening_bad (StoreFault.BadLog q) place is = let same : q ≡ place = cc in ap StoreFault.BadLog same
+opening_bad (StoreFault.Full e) place is = let no : ⊥ = cc in absurd no
+opening_bad StoreFault.SeqEnd place is = let no : ⊥ = cc in absurd no
+opening_bad StoreFault.Authority place is = let no : ⊥ = cc in absurd no
+opening_bad StoreFault.Repos place is = let no : ⊥ = cc in absurd no
+opening_bad StoreFault.Memory place is = let no : ⊥ = cc in absurd no
+opening_bad StoreFault.Clock place is = let no : ⊥ = cc in absurd no
+
+-- a bad log was only read
+pub opening_read : (tells : Bool) (one two one_now two_now : View) (fault : StoreFault) (end : QueryEnd) (place : ℕ) → Opened tells one two one_now two_now (Err fault) → end ≡ end_of_opening fault → end ≡ QueryEnd.BadLog place → IsTrue tells → BothOnlyRead one two one_now two_now
+opening_read tells one two one_now two_now fault end place opened of is told = bad_read tells one two one_now two_now fault place opened (opening_bad fault place (sym of ∙ is)) told
 
 opening_may : (disk : Type 0) (fault : StoreFault) → (fault ≡ StoreFault.Disk → disk) → ((p : ℕ) → fault ≡ StoreFault.BadLog p → ⊥) → (disk → ⊥) → MayEnd (end_of_opening fault)
 opening_may disk StoreFault.Disk failed no_bad no_disk = absurd (no_disk (failed refl))

@@ -5,6 +5,7 @@ ghost use Rattle.at_cid.specs.Counts.{Rose};
 ghost use Rattle.gate_log.specs.declared.limits.TheConstants.{LAST_END};
 ghost use Rattle.relay_row.specs.declared.row.Row.{Row as TheRow};
 ghost use Rattle.relay_store.specs.Journals.{IsPairImageOf};
+ghost use Rattle.relay_store.specs.Opening.{BothOnlyRead};
 ghost use Rattle.relay_run.specs.Pairs.{pair_view};
 ghost use Rattle.query_run.specs.AtWire.{at_wire};
 ghost use Rattle.query_run.specs.Ends.{IsCausedBy, IsOfDisks, MayEnd, QueryEndShows};
@@ -39,6 +40,8 @@ pub fn query<D: Disk, W: Wire, O: Sink>(
     ensures shows { IsTrue D.tells
         → QueryEndShows result (D.view disk.old).content (D.view other.old).content }
     ensures quiet { IsOfDisks result → (wire.new ≡ wire.old) × (out.new ≡ out.old) }
+    ensures unopened { (place : ℕ) → result ≡ QueryEnd.BadLog place → IsTrue D.tells
+        → BothOnlyRead (D.view disk.old) (D.view other.old) (D.view disk.new) (D.view other.new) }
 
     // A count of faults rose where the end speaks of one, and where none rose, all is done.
     ensures caused { IsCausedBy (Rose (D.view disk.old).faults (D.view disk.new).faults

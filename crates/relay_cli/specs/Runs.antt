@@ -1,8 +1,6 @@
 -- What a run of a command does to the outside (own).
 use Rattle.std.specs.Prelude.{◌≡◌, ◌≢◌, ⊤, Option, ℕ, ◌+◌, ◌≤◌, ◌<◌, Bool, true, false, List, [], ◌++◌, length, IsTrue, ◌⊎◌}
-use Rattle.at_authority.specs.Panels.{IsSpent}
 use Rattle.at_cid.specs.Counts.{Rose}
-use Rattle.at_syntax.specs.Did.{method_of}
 use Rattle.account_state.specs.Folds.{account}
 use Rattle.host_state.specs.Folds.{hosts}
 use Rattle.follow_run.specs.Ends.{tape_end}
@@ -33,12 +31,13 @@ use Rattle.relay_run.specs.declared.end.RunEnd.{RunEnd}
 use Rattle.relay_step.specs.Around.{Around}
 use Rattle.relay_step.specs.Asked.{AskedInVain}
 use Rattle.relay_step.specs.Causes.{CameToNothing, OneTaken}
-use Rattle.relay_step.specs.Commands.{EndsBehind, EndsFetched, OperatedAt, SyncedAt, told_where}
+use Rattle.relay_step.specs.Commands.{EndsBehind, EndsFetched, OperatedAt, SpentFetching, SyncedAt}
 use Rattle.relay_store.specs.Faults.{IsCause}
 use Rattle.relay_store.specs.Journals.{IsPairImageOf}
+use Rattle.relay_store.specs.Opening.{BothOnlyRead}
 use Rattle.relay_store.specs.declared.fault.StoreFault.{StoreFault}
 use Rattle.serve_run.specs.AtDoor.{AtDoor}
-use Rattle.serve_run.specs.Ends.{ServeEndShows as ServeHadJournal}
+use Rattle.serve_run.specs.Ends.{IsDoorCount, ServeEndShows as ServeHadJournal}
 use Rattle.serve_run.specs.Guests.{ServedAt}
 use Rattle.serve_run.specs.Replayed.{Replayed}
 use Rattle.serve_run.specs.declared.end.ServeEnd.{ServeEnd}
@@ -184,6 +183,17 @@ disks p = pair_view p.one p.two p.written
 abbrev pub whole_input : Place → PairScene
 whole_input p = pair_scene p.one p.two p.around p.left p.written
 
+-- The two disks were only read, and nothing else was done: nothing is written, taken, sent or asked.
+pub record OnlyDisksRead (old new : Place) : Type 0 where
+  pub disks_read : BothOnlyRead old.one old.two new.one new.two
+  pub around : new.around ≡ old.around
+  pub left : new.left ≡ old.left
+  pub written : new.written ≡ old.written
+  pub given : new.given ≡ old.given
+  pub coming : new.coming ≡ old.coming
+  pub door : new.door ≡ old.door
+  pub wire : new.wire ≡ old.wire
+
 -- what a command does with the journal of the two disks, where they tell it
 abbrev pub OnJournal : OutsideTells → Place → (List Row → Type 0) → Type 0
 OnJournal t p Does = IsTrue t.disk → (J : List Row) → IsPairImageOf J p.one.content p.two.content → Does J
@@ -209,11 +219,14 @@ RanOperated did down time t old new status = Ended t old new status (λ end. (en
 
 -- an account's repository is fetched and taken over at a time, of which judges, clock and repositories are asked
 abbrev pub IsSynced : List ℕ → List ℕ → OutsideTells → Place → Place → Status → Type 0
-IsSynced did time t old new status = Ended t old new status (λ end. (new.left ≡ old.left) × ((end ≡ RunEnd.Fault StoreFault.Authority → IsSpent (new.around.panel (method_of did)))
+IsSynced did time t old new status = Ended t old new status (λ end. (new.left ≡ old.left)
     × OnJournal t old (λ J. CommandRan t.output LONGEST J (new.around ≡ old.around)
-    (λ fault. CameToNothing t.clock t.repos (AskedInVain old.around.panel did new.around.panel) old.around new.around
-    × IsCause (Knows J (λ core. EndsFetched core did (told_where t.repos (old.around.repository did)) old.around.panel new.around.panel)) ⊤ ⊤ ⊤ fault)
-    (λ word. Knows J (λ core. SyncedAt t.clock t.repos core did time old.around word new.around)) (disks old) (disks new) end)))
+    (λ fault. CameToNothing t.clock t.repos (AskedInVain old.around.panel did new.around.panel)
+    old.around new.around
+    × IsCause (Knows J (λ core. EndsFetched t.clock t.repos core did old.around new.around))
+    (Knows J (λ core. SpentFetching t.clock t.repos core did old.around new.around)) ⊤ ⊤ fault)
+    (λ word. Knows J (λ core. SyncedAt t.clock t.repos core did time old.around word new.around))
+    (disks old) (disks new) end))
 
 -- the journal is cut at a number, and nothing else is asked or read
 abbrev pub RanCut : {D : Type 0} → (D → View) → ℕ → OutsideTells → Place → Place → Status → Type 0
@@ -250,13 +263,14 @@ pub record IsFollowed (host : List ℕ) (count : ℕ) (t : OutsideTells) (old ne
       ⊎ Followed (tape_tells t.disk t.clock t.repos t.output) t.feed host LONGEST count (old.given host) new.coming J (all_but_feed old) (all_but_feed new) end)
   -- it is done where nothing fails, unless memory runs out, the log is full, or the numbers or the authorities end
   pub complete : OnJournal t old (λ J. IsFlawlessFeed failed failed_now → MayEnd (tape_end end))
+  -- and where a call of the feed failed, that is told
+  pub steady : end ≢ FeedEnd.Feed → failed_now.feed ≡ failed.feed
 
--- Events were to be given out, and nothing else was asked or read. The end tells what the disks were, and where they have no journal nothing was written.
+-- Events were to be given out, and nothing else was asked or read. The end tells what the disks were.
 pub record IsGivenOut (t : OutsideTells) (old new : Place) (status : Status) (Does : ServeEnd → Type 0) : Type 0 where
   pub end : ServeEnd
   pub status_is : status ≡ status_of_serving end
   pub had : IsTrue t.disk → ServeHadJournal end old.one.content old.two.content
-  pub quiet : (place : ℕ) → end ≡ ServeEnd.BadLog place → IsTrue t.disk → IsTrue t.output → new.written ≡ old.written
   pub unasked : new.around ≡ old.around
   pub unread : new.left ≡ old.left
   pub does : Does end
@@ -351,8 +365,13 @@ Ran view t old new failed failed_now status (Command.Restore did time) = RanOper
 Ran view t old new failed failed_now status (Command.Sync did time) = IsSynced did time t old new status
 Ran view t old new failed failed_now status (Command.Cut seq) = RanCut view seq t old new status
 Ran view t old new failed failed_now status (Command.Follow host count) = IsFollowed host count t old new failed failed_now status
-Ran view t old new failed failed_now status (Command.Replay cursor) = IsGivenOut t old new status (λ end. OnJournal t old (λ J. Replayed t.output J cursor (disks old) (disks new) end))
-Ran view t old new failed failed_now status (Command.Serve count) = IsGivenOut t old new status (λ end. OnJournal t old (λ J. ServedAt t.door t.output count J old.door new.door (disks old) (disks new) end))
+Ran view t old new failed failed_now status (Command.Replay cursor) =
+    IsGivenOut t old new status (λ end. OnJournal t old (λ J. Replayed t.output
+    (Rose failed.output failed_now.output) J cursor (disks old) (disks new) end))
+Ran view t old new failed failed_now status (Command.Serve count) =
+    IsGivenOut t old new status (λ end. IsDoorCount failed.door failed_now.door end
+    × OnJournal t old (λ J. ServedAt t.door t.output count J old.door new.door
+    (disks old) (disks new) end))
 Ran view t old new failed failed_now status (Command.Trial start count) = IsTried start count t old new status
 Ran view t old new failed failed_now status Command.Mirror = IsMirroredFrom t old new failed failed_now status
 Ran view t old new failed failed_now status (Command.Query count) = IsQueried count t old new failed failed_now status

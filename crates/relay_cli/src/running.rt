@@ -1,10 +1,10 @@
 //! The top call.
-ghost use Rattle.std.specs.Prelude.{◌≡◌, ◌⊎◌, map, option_map, string_bytes, false};
+ghost use Rattle.std.specs.Prelude.{◌≡◌, ◌⊎◌, ℕ, IsTrue, map, option_map, string_bytes, false};
 ghost use Rattle.relay_step.specs.Around.{around};
 ghost use Rattle.relay_cli.specs.Commands.{IsInForm, IsEncoded};
 ghost use Rattle.query_run.specs.AtWire.{at_wire};
 ghost use Rattle.serve_run.specs.AtDoor.{at_door};
-ghost use Rattle.relay_cli.specs.Runs.{Caused, Kept, Ran, faults, is_on_journal, place, outside_tells, uses_door, uses_feed, uses_input, uses_repos, uses_wire};
+ghost use Rattle.relay_cli.specs.Runs.{Caused, Kept, OnlyDisksRead, Ran, faults, is_on_journal, place, outside_tells, uses_door, uses_feed, uses_input, uses_repos, uses_wire};
 
 use crate::checking::check;
 use crate::command::{Command, command_from};
@@ -64,6 +64,19 @@ pub fn relay<P: Judges, F: Feed, R: Repos, D: Disk, I: Source, O: Sink, G: Door,
         × (disk.new ≡ disk.old) × (other.new ≡ other.old) × (input.new ≡ input.old)
         × (out.new ≡ out.old) × (clock.new ≡ clock.old) × (feed.new ≡ feed.old)
         × (door.new ≡ door.old) × (wire.new ≡ wire.old)) }
+
+    // Disks that hold no journal are only read, whatever the command, and nothing else is done.
+    ensures damaged { let before = place (D.view disk.old) (D.view other.old)
+        (around (P.panel panel.old) (C.moments clock.old) (R.repository repos.old))
+        (I.left input.old) (O.written out.old) (F.behind feed.old) (F.left feed.old)
+        (at_door (G.guests door.old) (G.turns door.old) (G.session_faults door.old))
+        (at_wire (W.requests wire.old) (W.exchanges wire.old) (W.send_faults wire.old)) in
+        let after = place (D.view disk.new) (D.view other.new)
+        (around (P.panel panel.new) (C.moments clock.new) (R.repository repos.new))
+        (I.left input.new) (O.written out.new) (F.behind feed.new) (F.left feed.new)
+        (at_door (G.guests door.new) (G.turns door.new) (G.session_faults door.new))
+        (at_wire (W.requests wire.new) (W.exchanges wire.new) (W.send_faults wire.new)) in
+        (at : ℕ) → result ≡ Status.BadLog at → IsTrue D.tells → OnlyDisksRead before after }
 
     // What a command has no use for is left alone. Words that are no command touch nothing.
     ensures alone { ((command : Command) → IsEncoded (map string_bytes words.now) command
@@ -156,6 +169,17 @@ fn run<P: Judges, F: Feed, R: Repos, D: Disk, I: Source, O: Sink, G: Door, C: Cl
         (R.faults repos.new) (C.faults clock.new) (I.faults input.new) (O.faults out.new)
         (F.faults feed.new) (G.faults door.new) (W.faults wire.new) in
         Ran D.view tells before after failed failed_now result command.now }
+    ensures damaged { let before = place (D.view disk.old) (D.view other.old)
+        (around (P.panel panel.old) (C.moments clock.old) (R.repository repos.old))
+        (I.left input.old) (O.written out.old) (F.behind feed.old) (F.left feed.old)
+        (at_door (G.guests door.old) (G.turns door.old) (G.session_faults door.old))
+        (at_wire (W.requests wire.old) (W.exchanges wire.old) (W.send_faults wire.old)) in
+        let after = place (D.view disk.new) (D.view other.new)
+        (around (P.panel panel.new) (C.moments clock.new) (R.repository repos.new))
+        (I.left input.new) (O.written out.new) (F.behind feed.new) (F.left feed.new)
+        (at_door (G.guests door.new) (G.turns door.new) (G.session_faults door.new))
+        (at_wire (W.requests wire.new) (W.exchanges wire.new) (W.send_faults wire.new)) in
+        (at : ℕ) → result ≡ Status.BadLog at → IsTrue D.tells → OnlyDisksRead before after }
     ensures alone { is_on_journal command.now ≡ false
         → (panel.new ≡ panel.old) × (disk.new ≡ disk.old) × (other.new ≡ other.old)
         × (clock.new ≡ clock.old) }

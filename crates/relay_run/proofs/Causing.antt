@@ -1,16 +1,18 @@
 -- How commands end: what the disks show, and the causes.
-use Rattle.std.proofs.Common.{◌≡◌, ◌∙◌, ◌⊎◌, inl, inr, ℕ, ◌≤◌, List, Bool, Result, Err, refl, sym, subst, arith}
+use Rattle.std.proofs.Common.{◌≡◌, ◌∙◌, ◌⊎◌, inl, inr, ℕ, ◌≤◌, List, Bool, Result, Err, IsTrue, refl, sym, subst, arith}
 use Rattle.at_cid.specs.Counts.{Rose}
 use Rattle.relay_disk.specs.Disk.{View}
 use Rattle.relay_row.specs.declared.row.Row.{Row}
 use Rattle.relay_step.specs.declared.command.CommandAnswer.{CommandAnswer}
 use Rattle.relay_store.specs.Journals.{IsBadPairJournalAt, IsPairImageOf}
-use Rattle.relay_store.specs.Opening.{IsOfReading}
+use Rattle.relay_store.specs.Opening.{BothOnlyRead, IsOfReading, Opened}
 use Rattle.relay_store.specs.Store.{StoreState}
 use Rattle.relay_store.specs.Taking.{ComesOfAsking}
 use Rattle.relay_store.specs.Commands.{IsAnswer, IsOfOperating, CommandDone}
 use Rattle.relay_store.specs.declared.done.Done.{Done}
 use Rattle.relay_store.specs.declared.fault.StoreFault.{StoreFault}
+use Rattle.relay_store.proofs.Images.{no_journal}
+use Rattle.relay_store.proofs.Opened.{bad_read}
 use Rattle.relay_run.specs.Ends.{IsCausedBy, IsOpened, RunEndShows}
 use Rattle.relay_run.specs.Lines.{IsEndOf}
 use Rattle.relay_run.specs.declared.end.RunEnd.{RunEnd}
@@ -36,6 +38,16 @@ opening_shows StoreFault.Authority one two of bad = absurd of
 opening_shows StoreFault.Repos one two of bad = absurd of
 opening_shows StoreFault.Memory one two of bad = tt
 opening_shows StoreFault.Clock one two of bad = absurd of
+
+-- a bad log was only read
+pub opening_read : (tells : Bool) (one two one_now two_now : View) (fault : StoreFault) (place : ℕ) → Opened tells one two one_now two_now (Err fault) → RunEnd.Fault fault ≡ RunEnd.Fault (StoreFault.BadLog place) → IsTrue tells → BothOnlyRead one two one_now two_now
+opening_read tells one two one_now two_now fault place opened is told =
+    let bad : fault ≡ StoreFault.BadLog place = cc in
+    bad_read tells one two one_now two_now fault place opened bad told
+
+-- and two disks with a journal show none
+pub never_bad : (end : RunEnd) (place : ℕ) (one two : List ℕ) (J : List Row) → IsPairImageOf J one two → RunEndShows end one two → end ≡ RunEnd.Fault (StoreFault.BadLog place) → ⊥
+never_bad end place one two J image shows is = no_journal place one two J image (subst (λ (e : RunEnd). RunEndShows e one two) is shows)
 
 pub opening_causes : (disk write spent repos clock : Type 0) (fault : StoreFault) → IsOfReading fault → (fault ≡ StoreFault.Disk → disk) → IsCausedBy disk write spent repos clock (RunEnd.Fault fault)
 opening_causes disk write spent repos clock StoreFault.Disk of cause = cause refl

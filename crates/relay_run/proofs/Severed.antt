@@ -1,26 +1,29 @@
 -- What the command does that cuts the journal of two disks, from what opening found and the store answered.
-use Rattle.std.proofs.Common.{◌≡◌, ◌≢◌, ◌⊎◌, ⊎_elim, ℕ, ◌+◌, List, length, Bool, Result, Ok, Err, OnErr, IsTrue, refl, sym, ◌∙◌, ap, subst, arith}
+use Rattle.std.proofs.Common.{◌≡◌, ◌≢◌, ◌⊎◌, inl, ⊎_elim, ℕ, ◌+◌, ◌<◌, List, length, Bool, Result, Ok, Err, OnErr, IsTrue, refl, sym, ◌∙◌, ap, subst, arith, length-append}
 use Rattle.at_event.specs.declared.refusal.Refusal.{Refusal}
 use Rattle.relay_disk.specs.Disk.{View, IsDisk}
-use Rattle.relay_disk.specs.Moments.{PairLeavesOnly}
-use Rattle.gate_log.specs.Image.{front, generation}
+use Rattle.relay_disk.specs.Moments.{PairLeavesOnly, TimeGoesOn}
+use Rattle.relay_disk.proofs.Moments.{time_here}
+use Rattle.gate_log.specs.Image.{HasFront, IsMade, front, generation, made, records}
+use Rattle.gate_log.specs.Log.{LogState}
+use Rattle.gate_log.specs.Log.{HoldsBodies as HasBodies}
 use Rattle.gate_log.specs.Beside.{LeavesLive}
-use Rattle.gate_log.specs.Pick.{LeavesSide, other_side, view_of_side}
+use Rattle.gate_log.specs.Pick.{LeavesSide, of_side, other_side, view_of_side}
 use Rattle.gate_log.specs.declared.format.Format.{Format}
 use Rattle.gate_log.specs.declared.picking.Side.{Side}
 use Rattle.gate_log.specs.declared.picking.Side.TheVariants.{One, Two}
 use Rattle.relay_row.specs.declared.row.Row.{Row}
 use Rattle.cut_law.specs.Cut.{MayCut, cut}
 use Rattle.relay_store.specs.Cutting.{IsEitherBeside, IsUncut}
-use Rattle.relay_store.specs.Journals.{IsPairImageOf}
+use Rattle.relay_store.specs.Journals.{IsPairImageOf, bytes_of}
 use Rattle.relay_store.specs.Opening.{IsOfReading, Opened}
-use Rattle.relay_store.specs.Rewriting.{RewriteHasNoRoom, IsOfRewriting}
+use Rattle.relay_store.specs.Rewriting.{RewriteHasNoRoom, IsOfRewriting, singles}
 use Rattle.relay_store.specs.Store.{Keeps, StoreState, seen_in}
 use Rattle.relay_store.specs.declared.cutting.CutDone.{CutDone}
 use Rattle.relay_store.specs.declared.done.Done.{Done}
 use Rattle.relay_store.specs.declared.fault.StoreFault.{StoreFault}
 use Rattle.relay_store.specs.declared.store.Store.{Store}
-use Rattle.relay_run.specs.Cutting.{EndsCut, IsAnswerOf, IsOfCutting, IsOfFormat, IsUnwritten, LeavesOpened, WasCut, answered, cut_text, unopened, unwritten}
+use Rattle.relay_run.specs.Cutting.{EndsCut, IsAnswerOf, IsOfCutting, IsOfFormat, IsUnwritten, IsWrittenAnew, LeavesOpened, WasCut, answered, cut_text, unopened, unwritten}
 use Rattle.relay_run.specs.Ends.{IsCausedBy, IsWritten}
 use Rattle.relay_run.specs.Pairs.{StandsFor, pair_view}
 use Rattle.relay_run.specs.declared.end.RunEnd.{RunEnd}
@@ -113,6 +116,20 @@ not_disk result fault is other disk = other (cc)
 pub on_fault : (result : Result CutDone StoreFault) (fault : StoreFault) (P : Type 0) → result ≡ Err fault → OnErr result P → P
 on_fault result fault P is has = subst (λ (r : Result CutDone StoreFault). OnErr r P) is has
 
+-- what was written anew
+rows_fit : (format : Format) (K : List Row) (end most : ℕ) → end ≡ length (made format (bytes_of (singles K))) → end < most → length (front format) + length (records (bytes_of (singles K))) < most
+rows_fit format K end most is below = omega (arith, is, below, length-append (front format) (records (bytes_of (singles K))))
+
+pub written_anew : (side : Side) (most : ℕ) (K : List Row) (format : Format) (log : LogState) (one two : List ℕ) (v : View) → HasFront format (of_side side one two) → v.content ≡ of_side (other_side side) one two
+    → log.format ≡ Format.Two (generation format + 1) → log.most ≡ most → log.end < log.most → HasBodies (bytes_of (singles K)) log v → IsWrittenAnew most K one two
+written_anew side most K format log one two v former there is limit below holds = record {
+  side = side;
+  format = format;
+  former = former;
+  anew = subst (λ (f : Format). IsMade f (bytes_of (singles K)) (of_side (other_side side) one two)) is (subst (IsMade log.format (bytes_of (singles K))) there holds.now);
+  room = subst (λ (f : Format). length (front f) + length (records (bytes_of (singles K))) < most) is (rows_fit log.format K log.end most holds.ends (omega (arith, below, limit)));
+}
+
 -- ---- how it ends
 
 unwritten_by : (most : ℕ) (K : List Row) (format : Format) (one two : List ℕ) (fault : StoreFault) → IsOfRewriting fault → ((p : ℕ) → fault ≡ StoreFault.BadLog p → ⊥) → (fault ≢ StoreFault.Disk → IsOfFormat format one two)
@@ -198,7 +215,7 @@ module _ {D : Type 0} (view : D → View) (is_disk : (x : D) → IsDisk (view x)
         faithful = λ is. is;
         written = λ _. refl;
         stands = λ _. ⊎_elim (λ none. absurd none) stands;
-        crashes = λ was. record { one = c; two = d; opening = leaves was; behind = still_stands J (view c) (view d) (is_disk c) (is_disk d) (stands was) };
+        crashes = λ was. record { one = c; two = d; opening = leaves was; behind = still_stands J (view c) (view d) (is_disk c) (is_disk d) (stands was); first = λ x left. inl left; second = λ x left. inl left };
       }
 
   module _ (s : Store) (opened : Opened tells (view a) (view b) (view c) (view d) (Ok s)) (image : IsPairImageOf J (view a).content (view b).content) where
@@ -208,16 +225,19 @@ module _ {D : Type 0} (view : D → View) (is_disk : (x : D) → IsDisk (view x)
     here : StandsFor J (view c) (view d)
     here = kept_stands s.side J (seen_in s) (view c) (view d) (is_disk c) (is_disk d) (opened.side told) kept
 
-    leaves_by : (P : List ℕ → List ℕ → Type 0) (e f : D) → PairLeavesOnly P (view c) (view e) (view d) (view f) → (now : List ℕ) → StandsFor J (view a) (view b)
+    leaves_by : (P : List ℕ → List ℕ → Type 0) (e f : D) → PairLeavesOnly P (view c) (view e) (view d) (view f) → TimeGoesOn (view c) (view e) × TimeGoesOn (view d) (view f) → (now : List ℕ) → StandsFor J (view a) (view b)
         → LeavesOpened view J P (pair_view (view a) (view b) written) (pair_view (view e) (view f) now)
-    leaves_by P e f run now was = record { one = c; two = d; opening = opened_leaves tells (view a) (view b) (view c) (view d) (Ok s) opened told J was; behind = run }
+    leaves_by P e f run times now was =
+        let opening = opened_leaves tells (view a) (view b) (view c) (view d) (Ok s) opened told J was in
+        record { one = c; two = d; opening = opening; behind = run; first = λ x left. times.0.parts (view a).moment x opening.one_later left; second = λ x left. times.1.parts (view b).moment x opening.two_later left }
 
     -- the journal wasn't written anew
     pub cut_unwritten : (e f : D) (fault : StoreFault) → MayCut J number × (fault ≢ StoreFault.Disk → Keeps J (seen_in s) (view_of_side s.side (view e) (view f)) × LeavesSide s.side (view e) (view f))
         → IsOfRewriting fault → ((p : ℕ) → fault ≡ StoreFault.BadLog p → ⊥) → ((n : ℕ) → fault ≡ StoreFault.Full n → RewriteHasNoRoom (length (front (Format.Two (generation s.log.format + 1)))) most (cut J number) n)
         → PairLeavesOnly (λ x y. IsPairImageOf J x y ⊎ IsPairImageOf (cut J number) x y) (view c) (view e) (view d) (view f)
+        → TimeGoesOn (view c) (view e) × TimeGoesOn (view d) (view f)
         → WasCut view out_told most J number (pair_view (view a) (view b) written) (pair_view (view e) (view f) written) (RunEnd.Fault fault)
-    cut_unwritten e f fault failed few good full run = record {
+    cut_unwritten e f fault failed few good full run times = record {
       came = unwritten;
       is = (
         fault,
@@ -229,22 +249,23 @@ module _ {D : Type 0} (view : D → View) (is_disk : (x : D) → IsDisk (view x)
       faithful = λ is. is;
       written = λ _. refl;
       stands = λ n _. let still = failed.1 (λ is. n (λ i. RunEnd.Fault (is i))) in kept_stands s.side J (seen_in s) (view e) (view f) (is_disk e) (is_disk f) still.1 still.0;
-      crashes = leaves_by (λ x y. IsPairImageOf J x y ⊎ IsPairImageOf (cut J number) x y) e f run written;
+      crashes = leaves_by (λ x y. IsPairImageOf J x y ⊎ IsPairImageOf (cut J number) x y) e f run times written;
     }
 
     -- it was cut
     pub cut_done : (e f : D) (oldest last : ℕ) (end : RunEnd) (now : List ℕ)
-        → IsAnswerOf J number (view e).content (view f).content (CutDone.Cut oldest last) × StandsFor (cut J number) (view e) (view f)
+        → IsAnswerOf most J number (view e).content (view f).content (CutDone.Cut oldest last) × StandsFor (cut J number) (view e) (view f)
         → PairLeavesOnly (λ x y. IsPairImageOf J x y ⊎ IsPairImageOf (cut J number) x y) (view c) (view e) (view d) (view f)
+        → TimeGoesOn (view c) (view e) × TimeGoesOn (view d) (view f)
         → EndsCut (CutDone.Cut oldest last) end → (IsTrue out_told → IsWritten end (cut_text number (CutDone.Cut oldest last)) written now)
         → WasCut view out_told most J number (pair_view (view a) (view b) written) (pair_view (view e) (view f) now) end
-    cut_done e f oldest last end now answer run ends text = record {
+    cut_done e f oldest last end now answer run times ends text = record {
       came = answered (CutDone.Cut oldest last);
       is = (answer.0, ends);
       faithful = cut_stays J number answer.0.0;
       written = text;
       stands = λ _ _. answer.1;
-      crashes = leaves_by (λ x y. IsPairImageOf J x y ⊎ IsPairImageOf (cut J number) x y) e f run now;
+      crashes = leaves_by (λ x y. IsPairImageOf J x y ⊎ IsPairImageOf (cut J number) x y) e f run times now;
     }
 
     -- it is refused
@@ -257,18 +278,19 @@ module _ {D : Type 0} (view : D → View) (is_disk : (x : D) → IsDisk (view x)
       faithful = λ is. is;
       written = text;
       stands = λ _ _. here;
-      crashes = leaves_by (IsPairImageOf J) c d (still_stands J (view c) (view d) (is_disk c) (is_disk d) here) now;
+      crashes = leaves_by (IsPairImageOf J) c d (still_stands J (view c) (view d) (is_disk c) (is_disk d) here) (time_here (view c) (is_disk c), time_here (view d) (is_disk d)) now;
     }
 
     -- either
     pub cut_answered : (e f : D) (done : CutDone) (end : RunEnd) (now : List ℕ)
         → ((why : Refusal) → done ≡ CutDone.Refused why → ((e ≡ c) × (f ≡ d)) × IsUncut J s.log.format number why)
-        → ((oldest last : ℕ) → done ≡ CutDone.Cut oldest last → IsAnswerOf J number (view e).content (view f).content (CutDone.Cut oldest last) × StandsFor (cut J number) (view e) (view f))
+        → ((oldest last : ℕ) → done ≡ CutDone.Cut oldest last → IsAnswerOf most J number (view e).content (view f).content (CutDone.Cut oldest last) × StandsFor (cut J number) (view e) (view f))
         → PairLeavesOnly (λ x y. IsPairImageOf J x y ⊎ IsPairImageOf (cut J number) x y) (view c) (view e) (view d) (view f)
+        → TimeGoesOn (view c) (view e) × TimeGoesOn (view d) (view f)
         → EndsCut done end → (IsTrue out_told → IsWritten end (cut_text number done) written now)
         → WasCut view out_told most J number (pair_view (view a) (view b) written) (pair_view (view e) (view f) now) end
-    cut_answered e f (CutDone.Cut oldest last) end now refused done run ends text = cut_done e f oldest last end now (done oldest last refl) run ends text
-    cut_answered e f (CutDone.Refused why) end now refused done run ends text =
+    cut_answered e f (CutDone.Cut oldest last) end now refused done run times ends text = cut_done e f oldest last end now (done oldest last refl) run times ends text
+    cut_answered e f (CutDone.Refused why) end now refused done run times ends text =
         let still = refused why refl in
         subst (λ (x : D). WasCut view out_told most J number (pair_view (view a) (view b) written) (pair_view (view x) (view f) now) end) (sym still.0.0)
         (subst (λ (y : D). WasCut view out_told most J number (pair_view (view a) (view b) written) (pair_view (view c) (view y) now) end) (sym still.0.1) (cut_refused why end now still.1 ends text))

@@ -1,11 +1,11 @@
 -- What an operator's command did, from what the store answered.
-use Rattle.std.proofs.Common.{◌≡◌, inl, inr, ⊎_elim, ℕ, List, [], ◌∷◌, ◌++◌, length, Bool, Result, Ok, Err, IsTrue, refl, sym, ◌∙◌, ap, subst, arith}
+use Rattle.std.proofs.Common.{◌≡◌, inl, inr, ◌⊎◌, ⊎_elim, ℕ, List, [], ◌∷◌, ◌++◌, length, Bool, Result, Ok, Err, IsTrue, refl, sym, ◌∙◌, ap, subst, arith}
 use Rattle.std.specs.Prelude.{⊤}
 use Rattle.std.proofs.lemmas.List.{append-nil}
 use Rattle.relay_disk.specs.Disk.{View, IsDisk}
 use Rattle.relay_disk.specs.Moments.{LeavesOnly, PairLeavesOnly}
 use Rattle.relay_disk.proofs.Moments.{pair_weaker}
-use Rattle.gate_log.specs.Pick.{other_side, view_of_side}
+use Rattle.gate_log.specs.Pick.{LeavesSide, other_side, view_of_side}
 use Rattle.relay_row.specs.Journal.{IsJournal}
 use Rattle.relay_row.specs.declared.row.Row.{Row}
 use Rattle.relay_core.specs.Entries.{Holds}
@@ -14,24 +14,26 @@ use Rattle.relay_law.specs.Heads.{IsFaithfulJournal}
 use Rattle.relay_law.specs.Sound.{IsSound}
 use Rattle.relay_step.specs.Commands.{rows_commanded}
 use Rattle.relay_step.specs.declared.command.CommandAnswer.{CommandAnswer}
-use Rattle.relay_store.specs.PendingBodies.{IsFull, end_of}
+use Rattle.relay_store.specs.PendingBodies.{IsFull}
+use Rattle.relay_store.specs.Room.{PairHasNoRoom, PairHasRoom}
 use Rattle.relay_store.specs.Faults.{IsCause}
 use Rattle.relay_store.specs.Journals.{IsOneOf, IsPairImageOf}
 use Rattle.relay_store.specs.Opening.{IsOfReading, Opened}
 use Rattle.relay_store.specs.Store.{IsOf, Keeps, StoreState, seen_in}
 use Rattle.relay_store.specs.Taking.{ComesOfAsking}
-use Rattle.relay_store.specs.Commands.{IsAnswer, CommandDone, done_of, done_row}
+use Rattle.relay_store.specs.Commands.{IsAnswer, CommandDone, Commanded, done_of, done_row}
 use Rattle.relay_store.specs.declared.done.Done.{Done}
 use Rattle.relay_store.specs.declared.fault.StoreFault.{StoreFault}
 use Rattle.relay_store.specs.declared.store.Store.{Store}
+use Rattle.relay_store.proofs.OnDisk.{ends_within, pair_has_no_room, pair_has_room}
 use Rattle.relay_run.specs.Ends.{IsWritten}
 use Rattle.relay_run.specs.Lines.{IsEndOf, done_text}
 use Rattle.relay_run.specs.Pairs.{IsOneOfPair, StandsFor, of_pair, pair_view}
-use Rattle.relay_run.specs.CommandRan.{EndsCommand, HasNoRoom, Knows, CommandRan, in_vain, rows_kept, said, unopened}
+use Rattle.relay_run.specs.CommandRan.{EndsCommand, Knows, CommandRan, in_vain, rows_kept, said, unopened}
 use Rattle.relay_run.specs.declared.end.RunEnd.{RunEnd}
 use Rattle.relay_run.proofs.Causing.{answered, same_fault}
 use Rattle.relay_run.proofs.Sounds.{Leaves}
-use Rattle.relay_run.proofs.Beside.{both_same, kept_stands, leaves_stand, one_beside, opened_keeps, opened_leaves, run_on, stands_on, view_on}
+use Rattle.relay_run.proofs.Beside.{both_same, kept_fronts, kept_stands, leaves_on, leaves_stand, one_beside, opened_keeps, opened_leaves, run_on, stands_on, view_now, view_on}
 
 -- ---- how a command ends by its word
 
@@ -104,15 +106,15 @@ fault_word no_room (CommandAnswer.Refused r) StoreFault.Memory s is full = tt
 fault_word no_room (CommandAnswer.Refused r) StoreFault.Clock s is full = absurd is
 
 -- a fault that comes of asking, by its cause
-pub vain_by : (X : Type 0) (fault : StoreFault) → (fault ≡ StoreFault.SeqEnd → X) → IsCause X ⊤ ⊤ ⊤ fault
-vain_by X StoreFault.Disk ends = tt
-vain_by X (StoreFault.BadLog p) ends = tt
-vain_by X (StoreFault.Full e) ends = tt
-vain_by X StoreFault.SeqEnd ends = ends refl
-vain_by X StoreFault.Authority ends = tt
-vain_by X StoreFault.Repos ends = tt
-vain_by X StoreFault.Memory ends = tt
-vain_by X StoreFault.Clock ends = tt
+pub vain_by : (X Y : Type 0) (fault : StoreFault) → (fault ≡ StoreFault.SeqEnd → X) → (fault ≡ StoreFault.Authority → Y) → IsCause X Y ⊤ ⊤ fault
+vain_by X Y StoreFault.Disk ends spent = tt
+vain_by X Y (StoreFault.BadLog p) ends spent = tt
+vain_by X Y (StoreFault.Full e) ends spent = tt
+vain_by X Y StoreFault.SeqEnd ends spent = ends refl
+vain_by X Y StoreFault.Authority ends spent = spent refl
+vain_by X Y StoreFault.Repos ends spent = tt
+vain_by X Y StoreFault.Memory ends spent = tt
+vain_by X Y StoreFault.Clock ends spent = tt
 
 full_not : (e : ℕ) → StoreFault.Full e ≡ StoreFault.Disk → ⊥
 full_not e is = cc
@@ -141,6 +143,7 @@ ran_unopened tells one two one_now two_now fault J nothing vain is_command out_t
       sound = nil_of IsSound J;
       faithful = nil_of IsFaithfulJournal J;
       written = λ _. refl;
+      room = inl refl;
       stands = λ n. ⊎_elim (λ none. absurd none) (λ stands. nil_of (λ (K : List Row). StandsFor K one_now two_now) J (leaves_stand J one two one_now two_now first second (leaves stands)));
       crashes = λ stands. pair_weaker (IsPairImageOf J) (IsOneOfPair J []) one one_now two two_now (leaves stands) (λ c d was. inl was);
     }
@@ -163,17 +166,8 @@ module _ {D : Type 0} (view : D → View) (is_disk : (x : D) → IsDisk (view x)
   still : StandsFor J (view a) (view b) → PairLeavesOnly (IsPairImageOf J) (view a) (view c) (view b) (view d)
   still = opened_leaves tells (view a) (view b) (view c) (view d) (Ok s) opened told J
 
-  no_room : (most : ℕ) (row : Row) (e : ℕ) → s.log.most ≡ most → IsFull (seen_in s).log [] row e → HasNoRoom most J row e (view c) (view d)
-  no_room most row e most_is full = record {
-    side = s.side;
-    picked = opened.side told (view c).content (view d).content (is_disk c).possible (is_disk d).possible;
-    format = (seen_in s).log.format;
-    bodies = keeps.bodies;
-    are = keeps.are;
-    is_made = keeps.holds.now;
-    there = full.there ∙ ap (λ (n : ℕ). end_of n (row ∷ [])) keeps.holds.ends;
-    past = omega (arith, full.past, full.there, most_is);
-  }
+  no_room : (most : ℕ) (row : Row) (e : ℕ) → s.log.most ≡ most → IsFull (seen_in s).log [] row e → PairHasNoRoom most J row e (view c).content (view d).content
+  no_room = pair_has_no_room J (seen_in s) s.side (view c) (view d) keeps (opened.side told (view c).content (view d).content (is_disk c).possible (is_disk d).possible)
 
   module _ (e f : D) (t : Store) (beside : of_pair (other_side s.side) e f ≡ of_pair (other_side s.side) c d) (P : Core → CommandAnswer → Type 0) (failed nothing : Type 0) (vain : StoreFault → Type 0) (out_told : Bool) (most : ℕ) (most_is : s.log.most ≡ most)
       (stays : (core : Core) → Holds core J → (command : CommandAnswer) → P core command → Leaves J command) where
@@ -192,6 +186,21 @@ module _ {D : Type 0} (view : D → View) (is_disk : (x : D) → IsDisk (view x)
         let both = both_same view is_disk a b c d e f s.side beside same in
         subst (λ (y : D). Q e y) (sym both.1) (subst (λ (x : D). Q x d) (sym both.0) was)
 
+    -- the log had room for the row of a word
+    had_room : (command : CommandAnswer) (done : Done) → Commanded view tells J command (seen_in s) (seen_in t) (of_pair s.side c d) (of_pair s.side e f) (Ok done)
+        → (rows_commanded command ≡ []) ⊎ PairHasRoom most (J ++ rows_commanded command) (view e).content (view f).content
+    had_room command done commanded =
+        let not = ok_not done StoreFault.Disk in
+        let K = J ++ rows_commanded command in
+        let now : Keeps K (seen_in t) (view (of_pair s.side e f)) = commanded.keeps not told keeps_too in
+        let leaves : LeavesSide s.side (view e) (view f) =
+        leaves_on view is_disk a b c d e f s.side J (seen_in s) beside keeps (kept_fronts K (seen_in s).log.format (seen_in t) (view (of_pair s.side e f)) commanded.format now) (opened.side told) in
+        ⊎_elim
+        (λ none. inl none.0)
+        (λ within. inr (pair_has_room K (seen_in t) s.side (view e) (view f) (subst (Keeps K (seen_in t)) (sym (view_now view is_disk a b c d e f s.side)) now)
+        (leaves (view e).content (view f).content (is_disk e).possible (is_disk f).possible) most (commanded.most ∙ most_is) within))
+        (ends_within (seen_in s).log (seen_in t).log (rows_commanded command) (commanded.end not) commanded.most commanded.room)
+
     -- the store answered what came of a word
     pub ran_ok : (done : Done) (end : RunEnd) (written now : List ℕ) → CommandDone view tells J (P (seen_in s).core) failed (seen_in s) (seen_in t) (of_pair s.side c d) (of_pair s.side e f) (Ok done)
         → IsEndOf done end → (IsTrue out_told → IsWritten end (done_text done) written now)
@@ -206,6 +215,7 @@ module _ {D : Type 0} (view : D → View) (is_disk : (x : D) → IsDisk (view x)
           sound = (stays (seen_in s).core keeps.core command is journal).sound;
           faithful = (stays (seen_in s).core keeps.core command is journal).faithful;
           written = λ out. subst (λ (x : Done). IsWritten end (done_text x) written now) same (text out);
+          room = subst (λ (rows : List Row). (rows ≡ []) ⊎ PairHasRoom most (J ++ rows) (view e).content (view f).content) (sym (row_kept command end ends_too)) (had_room command done commanded);
           stands = λ n _. subst (λ (rows : List Row). StandsFor (J ++ rows) (view e) (view f)) (sym (row_kept command end ends_too))
               (stands_on view is_disk a b c d e f s.side J (J ++ rows_commanded command) (seen_in s) (seen_in t) beside commanded.format keeps (commanded.keeps (ok_not done StoreFault.Disk) told keeps_too) (opened.side told));
           crashes = crashes_of (rows_commanded command) (commanded.moments told keeps_too);
@@ -220,12 +230,13 @@ module _ {D : Type 0} (view : D → View) (is_disk : (x : D) → IsDisk (view x)
       is = (
         opened_knows (λ core. P core command) is,
         fault_word _ command fault (seen_in s) commanded.answer (λ row e full_is full.
-            same_here (λ x y. HasNoRoom most J row e (view x) (view y)) (commanded.untouched (λ disk. full_not e (sym full_is ∙ same_fault fault StoreFault.Disk disk)) refl).1.1 (no_room most row e most_is full)),
+            same_here (λ x y. PairHasNoRoom most J row e (view x).content (view y).content) (commanded.untouched (λ disk. full_not e (sym full_is ∙ same_fault fault StoreFault.Disk disk)) refl).1.1 (no_room most row e most_is full)),
       );
       journal = journal;
       sound = (stays (seen_in s).core keeps.core command is journal).sound;
       faithful = (stays (seen_in s).core keeps.core command is journal).faithful;
       written = λ _. refl;
+      room = inl refl;
       stands = λ n _. nil_of (λ (K : List Row). StandsFor K (view e) (view f)) J
           (same_here (λ x y. StandsFor J (view x) (view y)) (commanded.untouched (λ disk. n (ap RunEnd.Fault (same_fault fault StoreFault.Disk disk))) refl).1.1 opened_stands);
       crashes = crashes_of (rows_commanded command) (commanded.moments told keeps_too);
@@ -237,6 +248,7 @@ module _ {D : Type 0} (view : D → View) (is_disk : (x : D) → IsDisk (view x)
       sound = nil_of IsSound J;
       faithful = nil_of IsFaithfulJournal J;
       written = λ _. refl;
+      room = inl refl;
       stands = λ n _. nil_of (λ (K : List Row). StandsFor K (view e) (view f)) J (same_here (λ x y. StandsFor J (view x) (view y)) unsaid.disk_same opened_stands);
       crashes = λ stands. same_here (λ x y. PairLeavesOnly (IsOneOfPair J []) (view a) (view x) (view b) (view y)) unsaid.disk_same
           (pair_weaker (IsPairImageOf J) (IsOneOfPair J []) (view a) (view c) (view b) (view d) (still stands) (λ x y was. inl was));

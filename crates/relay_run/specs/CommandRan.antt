@@ -1,12 +1,7 @@
 -- What an operator's command does on two disks (own).
-use Rattle.std.specs.Prelude.{◌≡◌, ◌≢◌, ◌⊎◌, ◌<◌, ⊤, ℕ, Bool, List, [], ◌∷◌, ◌++◌, length, IsTrue}
+use Rattle.std.specs.Prelude.{◌≡◌, ◌≢◌, ◌⊎◌, ⊤, ℕ, Bool, List, [], ◌++◌, IsTrue}
 use Rattle.at_event.specs.Refusals.{code_of}
-use Rattle.relay_disk.specs.Disk.{View}
 use Rattle.relay_disk.specs.Moments.{PairLeavesOnly}
-use Rattle.gate_log.specs.Image.{IsMade, made}
-use Rattle.gate_log.specs.Pick.{IsPicked, view_of_side}
-use Rattle.gate_log.specs.declared.format.Format.{Format}
-use Rattle.gate_log.specs.declared.picking.Side.{Side}
 use Rattle.relay_row.specs.Journal.{IsJournal}
 use Rattle.relay_row.specs.declared.row.Row.{Row}
 use Rattle.relay_core.specs.Entries.{Holds}
@@ -15,8 +10,7 @@ use Rattle.relay_law.specs.Heads.{IsFaithfulJournal}
 use Rattle.relay_law.specs.Sound.{IsSound}
 use Rattle.relay_step.specs.Commands.{rows_commanded}
 use Rattle.relay_step.specs.declared.command.CommandAnswer.{CommandAnswer}
-use Rattle.relay_store.specs.PendingBodies.{end_of}
-use Rattle.relay_store.specs.Journals.{AreBodiesOf, bytes_of}
+use Rattle.relay_store.specs.Room.{PairHasNoRoom, PairHasRoom}
 use Rattle.relay_store.specs.Opening.{IsOfReading}
 use Rattle.relay_store.specs.Taking.{ComesOfAsking}
 use Rattle.relay_store.specs.Commands.{done_of}
@@ -35,17 +29,6 @@ pub data Came : Type 0 where
 -- what is known of the journal says so
 abbrev pub Knows : List Row → (Core → Type 0) → Type 0
 Knows J says = (core : Core) × Holds core J × says core
-
--- The log of the two disks has no room for a row behind the journal: it would end at this place, past the most.
-pub record HasNoRoom (most : ℕ) (J : List Row) (row : Row) (e : ℕ) (one two : View) : Type 0 where
-  pub side : Side
-  pub picked : IsPicked one.content two.content side
-  pub format : Format
-  pub bodies : List (List Row)
-  pub are : AreBodiesOf J bodies
-  pub is_made : IsMade format (bytes_of bodies) (view_of_side side one two).content
-  pub there : e ≡ end_of (length (made format (bytes_of bodies))) (row ∷ [])
-  pub past : most < e
 
 -- how a command may end by whose word this was: it made a row, for which there may be no room, or it was refused
 abbrev pub EndsCommand : (Row → ℕ → Type 0) → CommandAnswer → RunEnd → Type 0
@@ -89,12 +72,14 @@ WasOpened came = ⊤
 -- An operator's command came to two disks that have the journal J.
 pub record CommandRan (output_tells : Bool) (most : ℕ) (J : List Row) (nothing : Type 0) (vain : StoreFault → Type 0) (is_command : CommandAnswer → Type 0) (old new : PairView) (end : RunEnd) : Type 0 where
   pub came : Came
-  pub is : IsCome nothing vain is_command (λ row e. HasNoRoom most J row e new.one new.two) end came
+  pub is : IsCome nothing vain is_command (λ row e. PairHasNoRoom most J row e new.one.content new.two.content) end came
   -- its row, if it made one, keeps the journal's order, and leaves a sound journal sound and a faithful one faithful
   pub journal : IsJournal (J ++ rows_come came)
   pub sound : IsSound J → IsSound (J ++ rows_come came)
   pub faithful : IsFaithfulJournal J → IsFaithfulJournal (J ++ rows_come came)
   pub written : IsTrue output_tells → IsWritten end (text_come came) old.written new.written
+  -- the log that is picked had room for the row that was added
+  pub room : (rows_kept end came ≡ []) ⊎ PairHasRoom most (J ++ rows_kept end came) new.one.content new.two.content
   -- Unless the disk failed, the two stand for the journal with the row that was added: once they were opened, and where they stood for the journal before.
   pub stands : end ≢ RunEnd.Fault StoreFault.Disk → WasOpened came ⊎ StandsFor J old.one old.two → StandsFor (J ++ rows_kept end came) new.one new.two
   -- And then, whatever moments a crash strikes the two at, it leaves the journal, with the row or without.

@@ -1,10 +1,10 @@
 -- What the command does that cuts the journal of two disks (own).
-use Rattle.std.specs.Prelude.{◌≡◌, ◌≢◌, ◌⊎◌, ◌+◌, ⊤, ℕ, Bool, List, [], ◌∷◌, ◌++◌, length, codes, IsTrue}
+use Rattle.std.specs.Prelude.{◌≡◌, ◌≢◌, ◌⊎◌, ◌+◌, ◌<◌, ⊤, ℕ, Bool, List, [], ◌∷◌, ◌++◌, length, codes, IsTrue}
 use Rattle.event_window.specs.Held.{oldest_of}
 use Rattle.relay_disk.specs.Disk.{View}
 use Rattle.relay_disk.specs.Moments.{PairLeavesOnly}
-use Rattle.gate_log.specs.Image.{HasFront, front, generation}
-use Rattle.gate_log.specs.Pick.{IsPicked, of_side}
+use Rattle.gate_log.specs.Image.{HasFront, IsMade, front, generation}
+use Rattle.gate_log.specs.Pick.{IsPicked, of_side, other_side}
 use Rattle.gate_log.specs.declared.format.Format.{Format}
 use Rattle.gate_log.specs.declared.picking.Side.{Side}
 use Rattle.relay_row.specs.Folds.{last_seq}
@@ -12,9 +12,9 @@ use Rattle.relay_row.specs.declared.row.Row.{Row}
 use Rattle.relay_law.specs.Heads.{IsFaithfulJournal}
 use Rattle.cut_law.specs.Cut.{MayCut, cut}
 use Rattle.relay_store.specs.Cutting.{IsUncut}
-use Rattle.relay_store.specs.Journals.{IsPairImageOf}
+use Rattle.relay_store.specs.Journals.{IsPairImageOf, bytes_of}
 use Rattle.relay_store.specs.Opening.{IsOfReading}
-use Rattle.relay_store.specs.Rewriting.{RewriteHasNoRoom, IsOfRewriting}
+use Rattle.relay_store.specs.Rewriting.{RewriteHasNoRoom, IsOfRewriting, end_behind, singles}
 use Rattle.relay_store.specs.Shown.{held_by}
 use Rattle.relay_store.specs.declared.cutting.CutDone.{CutDone}
 use Rattle.relay_store.specs.declared.done.Done.{Done}
@@ -44,10 +44,21 @@ pub record IsOfFormat (format : Format) (one two : List ℕ) : Type 0 where
   pub picked : IsPicked one two side
   pub fronted : HasFront format (of_side side one two)
 
--- what is answered to cutting the journal J at a number: it was cut; or it is refused, and these two disks still have its log
-abbrev pub IsAnswerOf : List Row → ℕ → List ℕ → List ℕ → CutDone → Type 0
-IsAnswerOf J c one two (CutDone.Cut oldest last) = MayCut J c × (oldest ≡ oldest_of (held_by (cut J c))) × (last ≡ last_seq (cut J c))
-IsAnswerOf J c one two (CutDone.Refused why) = (format : Format) × IsOfFormat format one two × IsUncut J format c why
+-- Beside the log that one of two disks has, the journal K was written anew on the other: in a log of the next generation,
+-- each row as a body of its own, and all rows have room.
+pub record IsWrittenAnew (most : ℕ) (K : List Row) (one two : List ℕ) : Type 0 where
+  pub side : Side
+  pub format : Format
+  pub former : HasFront format (of_side side one two)
+  pub anew : IsMade (Format.Two (generation format + 1)) (bytes_of (singles K)) (of_side (other_side side) one two)
+  pub room : end_behind (length (front (Format.Two (generation format + 1)))) K < most
+
+-- what is answered to cutting the journal J at a number: it was cut, and written anew on these two disks; or it is refused,
+-- and they still have its log
+abbrev pub IsAnswerOf : ℕ → List Row → ℕ → List ℕ → List ℕ → CutDone → Type 0
+IsAnswerOf most J c one two (CutDone.Cut oldest last) =
+    MayCut J c × (oldest ≡ oldest_of (held_by (cut J c))) × (last ≡ last_seq (cut J c)) × IsWrittenAnew most (cut J c) one two
+IsAnswerOf most J c one two (CutDone.Refused why) = (format : Format) × IsOfFormat format one two × IsUncut J format c why
 
 -- why a journal wasn't written anew: a call of a disk failed, or a row has no room in a log of the generation behind that of these two disks, or memory ran out
 abbrev pub IsUnwritten : ℕ → List Row → List ℕ → List ℕ → StoreFault → Type 0
@@ -68,7 +79,7 @@ pub data CutCame : Type 0 where
 abbrev pub IsCutCome : ℕ → List Row → ℕ → List ℕ → List ℕ → RunEnd → CutCame → Type 0
 IsCutCome most J c one two end unopened = (fault : StoreFault) × (end ≡ RunEnd.Fault fault) × IsOfReading fault
 IsCutCome most J c one two end unwritten = (fault : StoreFault) × (end ≡ RunEnd.Fault fault) × MayCut J c × IsUnwritten most (cut J c) one two fault
-IsCutCome most J c one two end (answered done) = IsAnswerOf J c one two done × EndsCut done end
+IsCutCome most J c one two end (answered done) = IsAnswerOf most J c one two done × EndsCut done end
 
 -- the line
 abbrev pub cut_text_come : ℕ → CutCame → List ℕ
@@ -105,6 +116,9 @@ pub record LeavesOpened {D : Type 0} (view : D → View) (J : List Row) (P : Lis
   pub two : D
   pub opening : PairLeavesOnly (IsPairImageOf J) old.one (view one) old.two (view two)
   pub behind : PairLeavesOnly P (view one) new.one (view two) new.two
+  -- what a crash since the start leaves on each, it leaves while they were opened, or from then on
+  pub first : (c : List ℕ) → new.one.left_since old.one.moment c → (view one).left_since old.one.moment c ⊎ new.one.left_since (view one).moment c
+  pub second : (c : List ℕ) → new.two.left_since old.two.moment c → (view two).left_since old.two.moment c ⊎ new.two.left_since (view two).moment c
 
 -- The journal J of two disks was to be cut at a number.
 pub record WasCut {D : Type 0} (view : D → View) (output_tells : Bool) (most : ℕ) (J : List Row) (c : ℕ) (old new : PairView) (end : RunEnd) : Type 0 where

@@ -4,7 +4,7 @@ ghost use Rattle.std.specs.Prelude.{◌≡◌, ◌≢◌, ◌≤◌, ◌⊎◌, 
 ghost use Rattle.at_cid.specs.Counts.{Rose};
 ghost use Rattle.at_event.specs.declared.refusal.Refusal.{Refusal as TheRefusal};
 ghost use Rattle.relay_io.specs.Streams.{AddsFront};
-ghost use Rattle.relay_disk.specs.Moments.{PairLeavesOnly};
+ghost use Rattle.relay_disk.specs.Moments.{PairLeavesOnly, TimeGoesOn};
 ghost use Rattle.gate_log.specs.Image.{front, generation};
 ghost use Rattle.gate_log.specs.Pick.{LeavesSide, view_of_side};
 ghost use Rattle.gate_log.specs.declared.format.Format.{Format as TheFormat};
@@ -16,6 +16,7 @@ ghost use Rattle.relay_store.specs.Journals.{IsPairImageOf};
 ghost use Rattle.relay_store.specs.Rewriting.{RewriteHasNoRoom, IsOfRewriting};
 ghost use Rattle.relay_store.specs.Store.{IsKept, Keeps, seen_in};
 ghost use Rattle.relay_store.specs.declared.fault.StoreFault.{StoreFault as TheFault};
+ghost use Rattle.relay_store.specs.Opening.{BothOnlyRead};
 ghost use Rattle.relay_run.specs.Cutting.{EndsCut, IsAnswerOf, IsOfCutting, WasCut, cut_text};
 ghost use Rattle.relay_run.specs.Ends.{IsCausedBy, IsQuiet, IsWritten, RunEndShows};
 ghost use Rattle.relay_run.specs.Lines.{numbered};
@@ -81,7 +82,8 @@ fn cut_on<D: Disk>(
         → Keeps J (seen_in store.old) (view_of_side (seen_in store.old).side (D.view disk.old) (D.view other.old)) → IsUncut J (seen_in store.old).log.format seq why }
     ensures cut { (oldest last : ℕ) → result ≡ Ok (CutDone.Cut oldest last) → IsTrue D.tells → (J : List TheRow)
         → Keeps J (seen_in store.old) (view_of_side (seen_in store.old).side (D.view disk.old) (D.view other.old))
-        → IsAnswerOf J seq (D.view disk.new).content (D.view other.new).content (CutDone.Cut oldest last) × StandsFor (cut_of J seq) (D.view disk.new) (D.view other.new) }
+        → IsAnswerOf (seen_in store.old).log.most J seq (D.view disk.new).content (D.view other.new).content (CutDone.Cut oldest last)
+        × StandsFor (cut_of J seq) (D.view disk.new) (D.view other.new) }
     ensures failed { (f : TheFault) → result ≡ Err f → IsTrue D.tells → (J : List TheRow)
         → Keeps J (seen_in store.old) (view_of_side (seen_in store.old).side (D.view disk.old) (D.view other.old))
         → MayCut J seq × (f ≢ StoreFault.Disk → Keeps J (seen_in store.old) (view_of_side (seen_in store.old).side (D.view disk.new) (D.view other.new))
@@ -92,6 +94,7 @@ fn cut_on<D: Disk>(
     ensures no_bad_log { (p : ℕ) → result ≡ Err (StoreFault.BadLog p) → IsTrue D.tells → ⊥ }
     ensures moments { IsTrue D.tells → (J : List TheRow) → Keeps J (seen_in store.old) (view_of_side (seen_in store.old).side (D.view disk.old) (D.view other.old))
         → PairLeavesOnly (λ c d. IsPairImageOf J c d ⊎ IsPairImageOf (cut_of J seq) c d) (D.view disk.old) (D.view disk.new) (D.view other.old) (D.view other.new) }
+    ensures time { IsTrue D.tells → TimeGoesOn (D.view disk.old) (D.view disk.new) × TimeGoesOn (D.view other.old) (D.view other.new) }
     ensures disk { result ≡ Err StoreFault.Disk → Rose (D.view disk.old).faults (D.view disk.new).faults ⊎ Rose (D.view other.old).faults (D.view other.new).faults }
     ensures few { (f : TheFault) → result ≡ Err f → IsOfRewriting f }
     ensures disk_counts { (D.view disk.old).faults ≤ (D.view disk.new).faults }
@@ -119,6 +122,10 @@ pub fn cut<D: Disk, O: Sink>(
         → WasCut D.view O.tells most J seq (pair_view (D.view disk.old) (D.view other.old) (O.written out.old)) (pair_view (D.view disk.new) (D.view other.new) (O.written out.new)) result }
     ensures shows { IsTrue D.tells → RunEndShows result (D.view disk.old).content (D.view other.old).content }
     ensures quiet { IsTrue O.tells → IsQuiet result (O.written out.old) (O.written out.new) }
+    // A damaged log is only read, and nothing else is done.
+    ensures unopened { (place : ℕ) → result ≡ RunEnd.Fault (StoreFault.BadLog place) → IsTrue D.tells
+        → BothOnlyRead (D.view disk.old) (D.view other.old) (D.view disk.new) (D.view other.new)
+        × (out.new ≡ out.old) }
     ensures few { IsOfCutting result }
     ensures caused { IsCausedBy (Rose (D.view disk.old).faults (D.view disk.new).faults ⊎ Rose (D.view other.old).faults (D.view other.new).faults) (Rose (O.faults out.old) (O.faults out.new)) ⊥ ⊥ ⊥ result }
     ensures disk_counts { (D.view disk.old).faults ≤ (D.view disk.new).faults }

@@ -1,6 +1,6 @@
 //! The commands by which an account is taken down or restored.
 
-ghost use Rattle.std.specs.Prelude.{◌≡◌, ◌≤◌, ◌⊎◌, ⊤, List, Err, length, IsTrue};
+ghost use Rattle.std.specs.Prelude.{◌≡◌, ◌≤◌, ◌⊎◌, ⊤, ℕ, List, Err, length, IsTrue};
 ghost use Rattle.at_cid.specs.Counts.{Rose};
 ghost use Rattle.at_form.specs.declared.forms.TheConstants.{LONGEST_SHORT_TEXT};
 ghost use Rattle.at_syntax.specs.Did.{is_did};
@@ -14,6 +14,7 @@ ghost use Rattle.relay_store.specs.Journals.{IsPairImageOf};
 ghost use Rattle.relay_store.specs.Store.{IsKept, IsOf, seen_in};
 ghost use Rattle.relay_store.specs.Commands.{IsOfOperating, CommandDone};
 ghost use Rattle.relay_store.specs.declared.fault.StoreFault.{StoreFault as TheFault};
+ghost use Rattle.relay_store.specs.Opening.{BothOnlyRead};
 ghost use Rattle.relay_run.specs.Ends.{IsCausedBy, IsQuiet, RunEndShows};
 ghost use Rattle.relay_run.specs.Pairs.{of_pair, pair_view};
 ghost use Rattle.relay_run.specs.CommandRan.{Knows, CommandRan};
@@ -83,6 +84,10 @@ pub fn operate<D: Disk, C: Clock, O: Sink>(
         (pair_view (D.view disk.old) (D.view other.old) (O.written out.old)) (pair_view (D.view disk.new) (D.view other.new) (O.written out.new)) result }
     ensures shows { IsTrue D.tells → RunEndShows result (D.view disk.old).content (D.view other.old).content }
     ensures quiet { IsTrue O.tells → IsQuiet result (O.written out.old) (O.written out.new) }
+    // A damaged log is only read, and nothing else is done.
+    ensures unopened { (place : ℕ) → result ≡ RunEnd.Fault (StoreFault.BadLog place) → IsTrue D.tells
+        → BothOnlyRead (D.view disk.old) (D.view other.old) (D.view disk.new) (D.view other.new)
+        × (clock.new ≡ clock.old) × (out.new ≡ out.old) }
     ensures caused { IsCausedBy (Rose (D.view disk.old).faults (D.view disk.new).faults ⊎ Rose (D.view other.old).faults (D.view other.new).faults) (Rose (O.faults out.old) (O.faults out.new)) ⊥ ⊥ (Rose (C.faults clock.old) (C.faults clock.new)) result }
     ensures disk_counts { (D.view disk.old).faults ≤ (D.view disk.new).faults }
     ensures other_counts { (D.view other.old).faults ≤ (D.view other.new).faults }

@@ -1,6 +1,6 @@
 //! The commands that show a journal.
 
-ghost use Rattle.std.specs.Prelude.{◌≡◌, ◌≤◌, ◌⊎◌, ⊤, List, IsTrue};
+ghost use Rattle.std.specs.Prelude.{◌≡◌, ◌≤◌, ◌⊎◌, ⊤, ℕ, List, IsTrue};
 ghost use Rattle.at_cid.specs.Counts.{Rose};
 ghost use Rattle.gate_log.specs.declared.limits.TheConstants.{LAST_END};
 ghost use Rattle.relay_row.specs.declared.row.Row.{Row as TheRow};
@@ -8,6 +8,7 @@ ghost use Rattle.account_state.specs.Folds.{account as account_of};
 ghost use Rattle.host_state.specs.Folds.{hosts as hosts_of};
 ghost use Rattle.state_lines.specs.Lines.{account_text, hosts_text};
 ghost use Rattle.relay_store.specs.Journals.{IsPairImageOf};
+ghost use Rattle.relay_store.specs.Opening.{BothOnlyRead};
 ghost use Rattle.relay_run.specs.Ends.{IsCausedBy, IsOfShowing, IsQuiet, IsWritten, RunEndShows};
 ghost use Rattle.relay_run.specs.Pairs.{pair_view};
 ghost use Rattle.relay_run.specs.Shown.{TextShown};
@@ -46,6 +47,10 @@ pub fn account<D: Disk, O: Sink>(
         → TextShown O.tells J (account_text did.now (account_of did.now J)) (pair_view (D.view disk.old) (D.view other.old) (O.written out.old)) (pair_view (D.view disk.new) (D.view other.new) (O.written out.new)) result }
     ensures shows { IsTrue D.tells → RunEndShows result (D.view disk.old).content (D.view other.old).content }
     ensures quiet { IsTrue O.tells → IsQuiet result (O.written out.old) (O.written out.new) }
+    // A damaged log is only read, and nothing else is done.
+    ensures unopened { (place : ℕ) → result ≡ RunEnd.Fault (StoreFault.BadLog place) → IsTrue D.tells
+        → BothOnlyRead (D.view disk.old) (D.view other.old) (D.view disk.new) (D.view other.new)
+        × (out.new ≡ out.old) }
     ensures few { IsOfShowing result }
     ensures caused { IsCausedBy (Rose (D.view disk.old).faults (D.view disk.new).faults ⊎ Rose (D.view other.old).faults (D.view other.new).faults) (Rose (O.faults out.old) (O.faults out.new)) ⊤ ⊤ ⊤ result }
     ensures disk_counts { (D.view disk.old).faults ≤ (D.view disk.new).faults }
@@ -75,6 +80,10 @@ pub fn hosts<D: Disk, O: Sink>(
         → TextShown O.tells J (hosts_text (hosts_of J)) (pair_view (D.view disk.old) (D.view other.old) (O.written out.old)) (pair_view (D.view disk.new) (D.view other.new) (O.written out.new)) result }
     ensures shows { IsTrue D.tells → RunEndShows result (D.view disk.old).content (D.view other.old).content }
     ensures quiet { IsTrue O.tells → IsQuiet result (O.written out.old) (O.written out.new) }
+    // A damaged log is only read, and nothing else is done.
+    ensures unopened { (place : ℕ) → result ≡ RunEnd.Fault (StoreFault.BadLog place) → IsTrue D.tells
+        → BothOnlyRead (D.view disk.old) (D.view other.old) (D.view disk.new) (D.view other.new)
+        × (out.new ≡ out.old) }
     ensures few { IsOfShowing result }
     ensures caused { IsCausedBy (Rose (D.view disk.old).faults (D.view disk.new).faults ⊎ Rose (D.view other.old).faults (D.view other.new).faults) (Rose (O.faults out.old) (O.faults out.new)) ⊤ ⊤ ⊤ result }
     ensures disk_counts { (D.view disk.old).faults ≤ (D.view disk.new).faults }

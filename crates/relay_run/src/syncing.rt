@@ -1,6 +1,6 @@
 //! The command by which an account's repository is fetched and taken over.
 
-ghost use Rattle.std.specs.Prelude.{◌≡◌, ◌≤◌, ◌⊎◌, ⊤, List, Err, length, IsTrue};
+ghost use Rattle.std.specs.Prelude.{◌≡◌, ◌≤◌, ◌⊎◌, ⊤, ℕ, List, Err, length, IsTrue};
 ghost use Rattle.at_authority.specs.Panels.{IsSpent};
 ghost use Rattle.at_cid.specs.Counts.{Rose};
 ghost use Rattle.at_form.specs.declared.forms.TheConstants.{LONGEST_SHORT_TEXT};
@@ -11,11 +11,12 @@ ghost use Rattle.relay_row.specs.declared.row.Row.{Row as TheRow};
 ghost use Rattle.relay_step.specs.Around.{around};
 ghost use Rattle.relay_step.specs.Asked.{AskedInVain};
 ghost use Rattle.relay_step.specs.Causes.{CameToNothing};
-ghost use Rattle.relay_step.specs.Commands.{EndsFetched, SyncedAt, told_where};
+ghost use Rattle.relay_step.specs.Commands.{EndsFetched, SpentFetching, SyncedAt};
 ghost use Rattle.relay_store.specs.Faults.{IsCause};
 ghost use Rattle.relay_store.specs.Journals.{IsPairImageOf};
 ghost use Rattle.relay_store.specs.Store.{IsKept, IsOf, seen_in};
 ghost use Rattle.relay_store.specs.Commands.{CommandDone};
+ghost use Rattle.relay_store.specs.Opening.{BothOnlyRead};
 ghost use Rattle.relay_run.specs.Ends.{IsCausedBy, IsQuiet, RunEndShows};
 ghost use Rattle.relay_run.specs.Pairs.{of_pair, pair_view};
 ghost use Rattle.relay_run.specs.CommandRan.{Knows, CommandRan};
@@ -54,8 +55,10 @@ fn sync_on<D: Disk, P: Judges, R: Repos, C: Clock>(
     ensures disk { result ≡ Err StoreFault.Disk → Rose (D.view disk.old).faults (D.view disk.new).faults ⊎ Rose (D.view other.old).faults (D.view other.new).faults }
     ensures clock { result ≡ Err StoreFault.Clock → Rose (C.faults clock.old) (C.faults clock.new) }
     ensures repos { result ≡ Err StoreFault.Repos → Rose (R.faults repos.old) (R.faults repos.new) }
-    ensures spent { result ≡ Err StoreFault.Authority → IsSpent (P.panel judges.new (method_of did.now)) }
-    ensures seq_end { result ≡ Err StoreFault.SeqEnd → EndsFetched (seen_in store.old).core did.now (told_where R.tells (R.repository repos.old did.now)) (P.panel judges.old) (P.panel judges.new) }
+    ensures spent { result ≡ Err StoreFault.Authority → SpentFetching C.tells R.tells (seen_in store.old).core did.now (around (P.panel judges.old) (C.moments clock.old) (R.repository repos.old))
+        (around (P.panel judges.new) (C.moments clock.new) (R.repository repos.new)) }
+    ensures seq_end { result ≡ Err StoreFault.SeqEnd → EndsFetched C.tells R.tells (seen_in store.old).core did.now (around (P.panel judges.old) (C.moments clock.old) (R.repository repos.old))
+        (around (P.panel judges.new) (C.moments clock.new) (R.repository repos.new)) }
     ensures disk_counts { (D.view disk.old).faults ≤ (D.view disk.new).faults }
     ensures other_counts { (D.view other.old).faults ≤ (D.view other.new).faults }
     ensures clock_counts { C.faults clock.old ≤ C.faults clock.new }
@@ -87,11 +90,17 @@ pub fn sync<D: Disk, P: Judges, R: Repos, C: Clock, O: Sink>(
     ensures ran { IsTrue D.tells → (J : List TheRow) → IsPairImageOf J (D.view disk.old).content (D.view other.old).content
         → CommandRan O.tells most J (around (P.panel judges.new) (C.moments clock.new) (R.repository repos.new) ≡ around (P.panel judges.old) (C.moments clock.old) (R.repository repos.old))
         (λ fault. CameToNothing C.tells R.tells (AskedInVain (P.panel judges.old) did.now (P.panel judges.new)) (around (P.panel judges.old) (C.moments clock.old) (R.repository repos.old)) (around (P.panel judges.new) (C.moments clock.new) (R.repository repos.new))
-        × IsCause (Knows J (λ core. EndsFetched core did.now (told_where R.tells (R.repository repos.old did.now)) (P.panel judges.old) (P.panel judges.new))) ⊤ ⊤ ⊤ fault)
+        × IsCause
+        (Knows J (λ core. EndsFetched C.tells R.tells core did.now (around (P.panel judges.old) (C.moments clock.old) (R.repository repos.old)) (around (P.panel judges.new) (C.moments clock.new) (R.repository repos.new))))
+        (Knows J (λ core. SpentFetching C.tells R.tells core did.now (around (P.panel judges.old) (C.moments clock.old) (R.repository repos.old)) (around (P.panel judges.new) (C.moments clock.new) (R.repository repos.new)))) ⊤ ⊤ fault)
         (λ command. Knows J (λ core. SyncedAt C.tells R.tells core did.now time.now (around (P.panel judges.old) (C.moments clock.old) (R.repository repos.old)) command (around (P.panel judges.new) (C.moments clock.new) (R.repository repos.new))))
         (pair_view (D.view disk.old) (D.view other.old) (O.written out.old)) (pair_view (D.view disk.new) (D.view other.new) (O.written out.new)) result }
     ensures shows { IsTrue D.tells → RunEndShows result (D.view disk.old).content (D.view other.old).content }
     ensures quiet { IsTrue O.tells → IsQuiet result (O.written out.old) (O.written out.new) }
+    // A damaged log is only read, and nothing else is done.
+    ensures unopened { (place : ℕ) → result ≡ RunEnd.Fault (StoreFault.BadLog place) → IsTrue D.tells
+        → BothOnlyRead (D.view disk.old) (D.view other.old) (D.view disk.new) (D.view other.new)
+        × (judges.new ≡ judges.old) × (repos.new ≡ repos.old) × (clock.new ≡ clock.old) × (out.new ≡ out.old) }
     ensures caused { IsCausedBy (Rose (D.view disk.old).faults (D.view disk.new).faults ⊎ Rose (D.view other.old).faults (D.view other.new).faults) (Rose (O.faults out.old) (O.faults out.new)) (IsSpent (P.panel judges.new (method_of did.now))) (Rose (R.faults repos.old) (R.faults repos.new)) (Rose (C.faults clock.old) (C.faults clock.new)) result }
     ensures disk_counts { (D.view disk.old).faults ≤ (D.view disk.new).faults }
     ensures other_counts { (D.view other.old).faults ≤ (D.view other.new).faults }

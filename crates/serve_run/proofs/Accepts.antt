@@ -1,5 +1,5 @@
 -- Guests who come, one after another.
-use Rattle.std.proofs.Common.{◌≡◌, ◌∙◌, inr, ℕ, ◌+◌, ◌≤◌, List, [], ◌∷◌, ◌++◌, length, Bool, Option, Some, None, Result, Ok, Err, IsTrue, IfOk, IfErr, IfSome, refl, sym, ap, arith, append_assoc, subst}
+use Rattle.std.proofs.Common.{◌≡◌, ◌∙◌, inr, ℕ, ◌+◌, List, [], ◌∷◌, ◌++◌, length, Bool, Option, Some, None, Result, Ok, Err, IsTrue, IfErr, refl, sym, ap, arith, append_assoc, subst}
 use Rattle.std.proofs.lemmas.List.{append-nil}
 use Rattle.event_window.specs.Held.{Held}
 use Rattle.relay_io.specs.Guests.{next_of, others_of}
@@ -8,8 +8,8 @@ use Rattle.relay_io.specs.declared.door.Turn.{Turn}
 use Rattle.backfill.specs.Serving.{sendings}
 use Rattle.backfill.specs.Target.{cursor_in}
 use Rattle.serve_run.specs.AtDoor.{AtDoor, SessionIsBroken, GuestAccepted, Received, SessionServed, Visited}
-use Rattle.serve_run.specs.Ends.{IsOfSession}
-use Rattle.serve_run.specs.Sessions.{AllVisits, AreCounted, IsCounted, IsVisit, Visit, guests_of, lines_behind, session_line, turns_of}
+use Rattle.serve_run.specs.Ends.{IsGuestCount, IsOfSession}
+use Rattle.serve_run.specs.Sessions.{AllVisits, AreCounted, IsCounted, IsVisit, Visit, ending_of, guests_of, lines_behind, session_line, turns_of}
 use Rattle.serve_run.specs.declared.end.ServeEnd.{ServeEnd}
 use Rattle.serve_run.specs.declared.session.Session.{Session}
 
@@ -39,8 +39,8 @@ no_end held guest sent session visit is = subst (λ (g : Guest). IsVisit held g 
 target_no_end : (target : List ℕ) → Guest.Target target ≡ Guest.End → ⊥
 target_no_end target is = cc
 
-then_sent : (old mid new : List Turn) (guest : Guest) (messages : List (List ℕ)) → mid ≡ old ++ Turn.Came guest ∷ [] → new ≡ mid ++ sendings messages → new ≡ old ++ Turn.Came guest ∷ sendings messages
-then_sent old mid new guest messages first then = then ∙ ap (λ (l : List Turn). l ++ sendings messages) first ∙ append_assoc old (Turn.Came guest ∷ []) (sendings messages)
+then_came : (old mid new : List Turn) (guest : Guest) (turns : List Turn) → mid ≡ old ++ Turn.Came guest ∷ [] → new ≡ mid ++ turns → new ≡ old ++ Turn.Came guest ∷ turns
+then_came old mid new guest turns first then = then ∙ ap (λ (l : List Turn). l ++ turns) first ∙ append_assoc old (Turn.Came guest ∷ []) turns
 
 module _ (tells : Bool) (held : Held) (most : ℕ) (guest : Guest) (old mid new : AtDoor)
     (next : IsTrue tells → guest ≡ next_of old.guests) (gone : IsTrue tells → mid.guests ≡ others_of old.guests) (came : IsTrue tells → mid.turns ≡ old.turns ++ Turn.Came guest ∷ [])
@@ -55,42 +55,47 @@ module _ (tells : Bool) (held : Held) (most : ℕ) (guest : Guest) (old mid new 
     record {
       each = (received.1, tt);
       guests = λ t. came_first guest old.guests (next t) (no_end held guest received.0 session received.1) ∙ ap (λ (l : List Guest). guest ∷ l) (sym (left t));
-      turns = λ t. then_sent old.turns mid.turns new.turns guest received.0 (came t) (received.2 t) ∙ ap (λ (l : List Turn). old.turns ++ Turn.Came guest ∷ l) (sym (append-nil (sendings received.0)));
-      counted = (counted, omega arith);
+      turns = λ t. then_came old.turns mid.turns new.turns guest (sendings received.0 ++ ending_of session) (came t) (received.2 t)
+          ∙ ap (λ (l : List Turn). old.turns ++ Turn.Came guest ∷ (sendings received.0 ++ l)) (sym (append-nil (ending_of session)));
+      counted = (counted, refl);
     },
   )
 
-  accepted_nobody : Received tells held guest mid.turns new.turns (Ok None) → GuestAccepted tells held most old new (Ok None)
-  accepted_nobody received = inr (λ t. (
-    sym (next t) ∙ received.0,
-    left t,
-    received.1 t ∙ came t ∙ ap (λ (g : Guest). old.turns ++ Turn.Came g ∷ []) received.0,
-  ))
+  accepted_nobody : new.faults ≡ old.faults → Received tells held guest mid.turns new.turns (Ok None) → GuestAccepted tells held most old new (Ok None)
+  accepted_nobody counted received = inr (
+    counted,
+    λ t. (
+      sym (next t) ∙ received.0,
+      left t,
+      received.1 t ∙ came t ∙ ap (λ (g : Guest). old.turns ++ Turn.Came g ∷ []) received.0,
+    ),
+  )
 
-  broken : (end : ServeEnd) → Received tells held guest mid.turns new.turns (Err end) → SessionIsBroken tells held old new
-  broken end received = record {
+  broken : (end : ServeEnd) → new.faults ≡ old.faults → Received tells held guest mid.turns new.turns (Err end) → SessionIsBroken tells held old new
+  broken end counted received = record {
     target = received.0;
     sent = received.2.0;
     cut = received.2.1;
     guests = λ t. came_first (Guest.Target received.0) old.guests (sym received.1 ∙ next t) (target_no_end received.0) ∙ ap (λ (l : List Guest). Guest.Target received.0 ∷ l) (sym (left t));
-    turns = λ t. then_sent old.turns mid.turns new.turns guest received.2.0 (came t) (received.2.2 t) ∙ ap (λ (g : Guest). old.turns ++ Turn.Came g ∷ sendings received.2.0) received.1;
+    turns = λ t. then_came old.turns mid.turns new.turns guest (sendings received.2.0) (came t) (received.2.2 t) ∙ ap (λ (g : Guest). old.turns ++ Turn.Came g ∷ sendings received.2.0) received.1;
+    counted = counted;
   }
 
-  accepted_broken : (end : ServeEnd) → IsOfSession end → Received tells held guest mid.turns new.turns (Err end) → GuestAccepted tells held most old new (Err end)
-  accepted_broken ServeEnd.Done of received = absurd of
-  accepted_broken ServeEnd.WriteFault of received = absurd of
-  accepted_broken ServeEnd.Door of received = absurd of
-  accepted_broken ServeEnd.Disk of received = inr (broken ServeEnd.Disk received)
-  accepted_broken (ServeEnd.BadLog p) of received = inr (broken (ServeEnd.BadLog p) received)
-  accepted_broken ServeEnd.Memory of received = inr (broken ServeEnd.Memory received)
-  accepted_broken ServeEnd.TooLong of received = absurd of
+  accepted_broken : (end : ServeEnd) → IsOfSession end → new.faults ≡ old.faults → Received tells held guest mid.turns new.turns (Err end) → GuestAccepted tells held most old new (Err end)
+  accepted_broken ServeEnd.Done of counted received = absurd of
+  accepted_broken ServeEnd.WriteFault of counted received = absurd of
+  accepted_broken ServeEnd.Door of counted received = absurd of
+  accepted_broken ServeEnd.Disk of counted received = inr (broken ServeEnd.Disk counted received)
+  accepted_broken (ServeEnd.BadLog p) of counted received = inr (broken (ServeEnd.BadLog p) counted received)
+  accepted_broken ServeEnd.Memory of counted received = inr (broken ServeEnd.Memory counted received)
+  accepted_broken ServeEnd.TooLong of counted received = absurd of
 
   -- who came was met
-  pub accepted_received : (result : Result (Option Session) ServeEnd) → IfOk result (λ found. IfSome found (λ session. IsCounted session old.faults new.faults)) → IfErr result (λ end. IsOfSession end)
+  pub accepted_received : (result : Result (Option Session) ServeEnd) → IsGuestCount old.faults new.faults result → IfErr result (λ end. IsOfSession end)
       → Received tells held guest mid.turns new.turns result → GuestAccepted tells held most old new result
   accepted_received (Ok (Some session)) counted few received = accepted_session session counted received
-  accepted_received (Ok None) counted few received = accepted_nobody received
-  accepted_received (Err end) counted few received = accepted_broken end few received
+  accepted_received (Ok None) counted few received = accepted_nobody counted received
+  accepted_received (Err end) counted few received = accepted_broken end few counted received
 
 -- ---- visits one after another
 
@@ -105,22 +110,17 @@ guests_more (v ∷ visits) other = ap (λ (l : List Guest). v.guest ∷ l) (gues
 turns_more : (visits other : List Visit) → turns_of (visits ++ other) ≡ turns_of visits ++ turns_of other
 turns_more [] other = refl
 turns_more (v ∷ visits) other =
-    ap (λ (l : List Turn). Turn.Came v.guest ∷ (sendings v.sent ++ l)) (turns_more visits other) ∙ ap (λ (l : List Turn). Turn.Came v.guest ∷ l) (sym (append_assoc (sendings v.sent) (turns_of visits) (turns_of other)))
-
-counted_later : (session : Session) (before mid now : ℕ) → before ≤ mid → IsCounted session mid now → IsCounted session before now
-counted_later (Session.Sent cursor events) before mid now le is = omega (arith, le, is)
-counted_later (Session.Future cursor) before mid now le is = omega (arith, le, is)
-counted_later Session.BadTarget before mid now le is = omega (arith, le, is)
-counted_later Session.NoHandshake before mid now le is = omega (arith, le, is)
-counted_later (Session.Failed events) before mid now le is = omega (arith, le, is)
+    ap (λ (l : List Turn). Turn.Came v.guest ∷ (sendings v.sent ++ (ending_of v.session ++ l))) (turns_more visits other)
+    ∙ ap (λ (l : List Turn). Turn.Came v.guest ∷ (sendings v.sent ++ l)) (sym (append_assoc (ending_of v.session) (turns_of visits) (turns_of other)))
+    ∙ ap (λ (l : List Turn). Turn.Came v.guest ∷ l) (sym (append_assoc (sendings v.sent) (ending_of v.session ++ turns_of visits) (turns_of other)))
 
 counted_more : (visits : List Visit) (v : Visit) (before mid now : ℕ) → AreCounted before visits mid → AreCounted mid (v ∷ []) now → AreCounted before (visits ++ v ∷ []) now
-counted_more [] v before mid now first then = (counted_later v.session before mid v.faults first then.0, then.1)
+counted_more [] v before mid now first then = (subst (λ (n : ℕ). IsCounted v.session n v.faults) first then.0, then.1)
 counted_more (w ∷ visits) v before mid now first then = (first.0, counted_more visits v w.faults mid now first.1 then)
 
 -- no visit was made yet
 pub visited_none : (tells : Bool) (held : Held) (door : AtDoor) → Visited tells held [] door door
-visited_none tells held door = record { each = tt; guests = λ _. refl; turns = λ _. sym (append-nil door.turns); counted = omega arith }
+visited_none tells held door = record { each = tt; guests = λ _. refl; turns = λ _. sym (append-nil door.turns); counted = refl }
 
 pub visited_more : (tells : Bool) (held : Held) (visits : List Visit) (v : Visit) (old mid new : AtDoor) → Visited tells held visits old mid → Visited tells held (v ∷ []) mid new → Visited tells held (visits ++ v ∷ []) old new
 visited_more tells held visits v old mid new first then = record {

@@ -1,5 +1,5 @@
 -- While guests are served, and how that ends.
-use Rattle.std.proofs.Common.{◌≡◌, ◌∙◌, ◌⊎◌, ⊎_elim, inl, inr, ℕ, ◌+◌, ◌-◌, ◌≤◌, ◌<◌, List, [], ◌∷◌, ◌++◌, length, Bool, Some, None, Result, Ok, Err, IsTrue, IfErr, OnOk, refl, sym, ap, arith, append_assoc, length-append, subst}
+use Rattle.std.proofs.Common.{◌≡◌, ◌∙◌, ◌⊎◌, ⊎_elim, inl, inr, ℕ, ◌+◌, ◌-◌, ◌≤◌, ◌<◌, List, [], ◌∷◌, ◌++◌, length, Bool, Option, Some, None, Result, Ok, Err, IsTrue, IfErr, OnOk, refl, sym, ap, arith, append_assoc, length-append, subst}
 use Rattle.std.proofs.lemmas.List.{append-nil}
 use Rattle.event_window.specs.Held.{Held}
 use Rattle.relay_disk.specs.Disk.{View, Goes, Same}
@@ -15,7 +15,7 @@ use Rattle.relay_store.specs.Store.{Keeps, StoreState}
 use Rattle.relay_store.specs.declared.fault.StoreFault.{StoreFault}
 use Rattle.relay_run.proofs.Writing.{front_of_first, front_of_second}
 use Rattle.serve_run.specs.AtDoor.{AtDoor, NobodyComes, IsStill, GuestAccepted, Visited}
-use Rattle.serve_run.specs.Ends.{IsCausedBy, IsOfAccepting, IsUnwritten, end_of_opening}
+use Rattle.serve_run.specs.Ends.{IsCausedBy, IsDoorCount, IsOfAccepting, IsOfSession, IsUnwritten, end_of_opening}
 use Rattle.serve_run.specs.Guests.{GuestsServed, IsBehind, AreLinesWritten, end_in}
 use Rattle.serve_run.specs.Sessions.{Visit, sessions_end_line, lines_behind, session_line}
 use Rattle.serve_run.specs.declared.end.ServeEnd.{ServeEnd}
@@ -62,7 +62,7 @@ serving_none door_tells output_tells count held door old = record {
 }
 
 still_same : (tells : Bool) (door : AtDoor) → IsStill tells door door
-still_same tells door = λ _. (refl, refl)
+still_same tells door = (refl, λ _. (refl, refl))
 
 -- the lines of these visits and of one more
 lines_then : (visits : List Visit) (v : Visit) (served : ℕ) (session : Session) → served ≡ length visits → v.session ≡ session → lines_behind 0 (visits ++ v ∷ []) ≡ lines_behind 0 visits ++ session_line (served + 1) session
@@ -224,6 +224,46 @@ unwritten_causes disk write door ServeEnd.Disk of failed = absurd of
 unwritten_causes disk write door (ServeEnd.BadLog p) of failed = absurd of
 unwritten_causes disk write door ServeEnd.Memory of failed = tt
 unwritten_causes disk write door ServeEnd.TooLong of failed = absurd of
+
+-- ---- the door's own count
+
+door_stands : (end : ServeEnd) (before now : ℕ) → (end ≡ ServeEnd.Door → ⊥) → now ≡ before → IsDoorCount before now end
+door_stands ServeEnd.Done before now other same = same
+door_stands ServeEnd.WriteFault before now other same = same
+door_stands ServeEnd.Door before now other same = absurd (other refl)
+door_stands ServeEnd.Disk before now other same = same
+door_stands (ServeEnd.BadLog p) before now other same = same
+door_stands ServeEnd.Memory before now other same = same
+door_stands ServeEnd.TooLong before now other same = same
+
+no_door_in_session : (end : ServeEnd) → IsOfSession end → end ≡ ServeEnd.Door → ⊥
+no_door_in_session end of is = subst IsOfSession is of
+
+no_door_in_lines : (end : ServeEnd) → IsUnwritten end → end ≡ ServeEnd.Door → ⊥
+no_door_in_lines end un is = subst IsUnwritten is un
+
+-- a session leaves it
+pub session_door : (result : Result (Option Session) ServeEnd) (before now : ℕ) → IfErr result (λ end. IsOfSession end) → now ≡ before → IfErr result (λ end. IsDoorCount before now end)
+session_door (Ok found) before now few same = tt
+session_door (Err end) before now few same = door_stands end before now (no_door_in_session end few) same
+
+-- and so does a line
+pub unwritten_door : (end : ServeEnd) (before now : ℕ) → IsUnwritten end → now ≡ before → IsDoorCount before now end
+unwritten_door end before now un same = door_stands end before now (no_door_in_lines end un) same
+
+pub told_door : (result : Result (Unit {0}) ServeEnd) (before now : ℕ) (P : Type 0) → IfErr result (λ end. IsUnwritten end × P) → now ≡ before → IsDoorCount before now (end_in result)
+told_door (Ok done) before now P un same = same
+told_door (Err end) before now P un same = unwritten_door end before now un.0 same
+
+pub opening_door : (fault : StoreFault) (n : ℕ) (end : ServeEnd) → end ≡ end_of_opening fault → IsDoorCount n n end
+opening_door StoreFault.Disk n end is = subst (IsDoorCount n n) (sym is) refl
+opening_door (StoreFault.BadLog p) n end is = subst (IsDoorCount n n) (sym is) refl
+opening_door (StoreFault.Full e) n end is = subst (IsDoorCount n n) (sym is) refl
+opening_door StoreFault.SeqEnd n end is = subst (IsDoorCount n n) (sym is) refl
+opening_door StoreFault.Authority n end is = subst (IsDoorCount n n) (sym is) refl
+opening_door StoreFault.Repos n end is = subst (IsDoorCount n n) (sym is) refl
+opening_door StoreFault.Memory n end is = subst (IsDoorCount n n) (sym is) refl
+opening_door StoreFault.Clock n end is = subst (IsDoorCount n n) (sym is) refl
 
 -- ---- disks that weren't opened
 

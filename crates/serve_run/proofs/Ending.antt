@@ -1,13 +1,18 @@
 -- How commands end that give events out.
-use Rattle.std.proofs.Common.{◌≡◌, ℕ, List, refl, sym, subst}
+use Rattle.std.proofs.Common.{◌≡◌, ◌⊎◌, inl, ℕ, List, [], refl, sym, subst, ◌∙◌, Bool, Err, IsTrue, ap}
+use Rattle.std.proofs.lemmas.List.{append-nil}
 use Rattle.relay_io.specs.Streams.{AddsFront}
 use Rattle.relay_row.specs.declared.row.Row.{Row}
 use Rattle.relay_store.specs.Journals.{IsBadPairJournalAt, IsPairImageOf}
 use Rattle.relay_store.specs.declared.fault.StoreFault.{StoreFault}
+use Rattle.backfill.specs.Writing.{AddsMessages, IsOfReading}
 use Rattle.backfill.specs.declared.replay_fault.ReplayFault.{ReplayFault}
 use Rattle.serve_run.specs.Ends.{ServeOpened, ServeEndShows, end_of_opening, end_of_replay}
-use Rattle.serve_run.specs.Replayed.{IsReplayed}
+use Rattle.serve_run.specs.Replayed.{IsReplayed, IsUnbroken}
 use Rattle.serve_run.specs.declared.end.ServeEnd.{ServeEnd}
+use Rattle.relay_disk.specs.Disk.{View}
+use Rattle.relay_store.specs.Opening.{BothOnlyRead, Opened}
+use Rattle.relay_store.proofs.Opened.{bad_read}
 
 -- ---- opening
 
@@ -30,6 +35,20 @@ opening_shows StoreFault.Authority one two bad = tt
 opening_shows StoreFault.Repos one two bad = tt
 opening_shows StoreFault.Memory one two bad = tt
 opening_shows StoreFault.Clock one two bad = tt
+
+opening_bad : (fault : StoreFault) (place : ℕ) → end_of_opening fault ≡ ServeEnd.BadLog place → fault ≡ StoreFault.BadLog place
+opening_bad StoreFault.Disk place is = let no : ⊥ = cc in absurd no
+opening_bad (StoreFault.BadLog q) place is = let same : q ≡ place = cc in ap StoreFault.BadLog same
+opening_bad (StoreFault.Full e) place is = let no : ⊥ = cc in absurd no
+opening_bad StoreFault.SeqEnd place is = let no : ⊥ = cc in absurd no
+opening_bad StoreFault.Authority place is = let no : ⊥ = cc in absurd no
+opening_bad StoreFault.Repos place is = let no : ⊥ = cc in absurd no
+opening_bad StoreFault.Memory place is = let no : ⊥ = cc in absurd no
+opening_bad StoreFault.Clock place is = let no : ⊥ = cc in absurd no
+
+-- a bad log was only read
+pub opening_read : (tells : Bool) (one two one_now two_now : View) (fault : StoreFault) (end : ServeEnd) (place : ℕ) → Opened tells one two one_now two_now (Err fault) → end ≡ end_of_opening fault → end ≡ ServeEnd.BadLog place → IsTrue tells → BothOnlyRead one two one_now two_now
+opening_read tells one two one_now two_now fault end place opened of is told = bad_read tells one two one_now two_now fault place opened (opening_bad fault place (sym of ∙ is)) told
 
 -- ---- behind it
 
@@ -81,3 +100,24 @@ none_written StoreFault.Clock text bytes front = front
 
 pub nothing_written : (fault : StoreFault) (end : ServeEnd) (text bytes : List ℕ) → end ≡ end_of_opening fault → AddsFront bytes bytes text → IsReplayed end text bytes bytes
 nothing_written fault end text bytes is front = subst (λ (e : ServeEnd). IsReplayed e text bytes bytes) (sym is) (none_written fault text bytes front)
+
+-- where reading ended it, whole messages were written
+pub fault_unbroken : (fault : ReplayFault) (end : ServeEnd) (failed : Type 0) (messages : List (List ℕ)) (old new : List ℕ) → end ≡ end_of_replay fault
+    → (IsOfReading fault → AddsMessages messages old new ⊎ failed) → IsUnbroken end failed messages old new
+fault_unbroken ReplayFault.Output end failed messages old new is adds = subst (λ (e : ServeEnd). IsUnbroken e failed messages old new) (sym is) tt
+fault_unbroken ReplayFault.Disk end failed messages old new is adds = subst (λ (e : ServeEnd). IsUnbroken e failed messages old new) (sym is) (adds tt)
+fault_unbroken ReplayFault.Memory end failed messages old new is adds = subst (λ (e : ServeEnd). IsUnbroken e failed messages old new) (sym is) tt
+fault_unbroken (ReplayFault.BadLog p) end failed messages old new is adds = subst (λ (e : ServeEnd). IsUnbroken e failed messages old new) (sym is) (adds tt)
+fault_unbroken ReplayFault.TooLong end failed messages old new is adds = subst (λ (e : ServeEnd). IsUnbroken e failed messages old new) (sym is) (adds tt)
+
+adds_nothing : (messages : List (List ℕ)) (bytes : List ℕ) → AddsMessages messages bytes bytes
+adds_nothing messages bytes = record { written = []; left = messages; split = refl; bytes = sym (append-nil bytes) }
+
+pub nothing_broken : (end : ServeEnd) (failed : Type 0) (messages : List (List ℕ)) (bytes : List ℕ) → IsUnbroken end failed messages bytes bytes
+nothing_broken ServeEnd.Done failed messages bytes = tt
+nothing_broken ServeEnd.WriteFault failed messages bytes = tt
+nothing_broken ServeEnd.Door failed messages bytes = tt
+nothing_broken ServeEnd.Disk failed messages bytes = inl (adds_nothing messages bytes)
+nothing_broken (ServeEnd.BadLog p) failed messages bytes = inl (adds_nothing messages bytes)
+nothing_broken ServeEnd.Memory failed messages bytes = tt
+nothing_broken ServeEnd.TooLong failed messages bytes = inl (adds_nothing messages bytes)

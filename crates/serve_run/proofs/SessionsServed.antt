@@ -1,16 +1,16 @@
 -- What a guest was sent, and what comes of it.
-use Rattle.std.proofs.Common.{◌≡◌, ◌∙◌, ◌⊎◌, inl, inr, ℕ, ◌-◌, List, [], ◌++◌, length, Bool, Option, Some, None, Result, Ok, Err, IsTrue, refl, sym, ap, arith, length-append, subst}
+use Rattle.std.proofs.Common.{◌≡◌, ◌∙◌, ◌⊎◌, inl, inr, ℕ, ◌-◌, List, [], ◌∷◌, ◌++◌, length, Bool, true, false, Option, Some, None, Result, Ok, Err, IsTrue, OnOk, refl, sym, ap, arith, length-append, subst}
 use Rattle.std.proofs.lemmas.List.{append-nil}
 use Rattle.event_window.specs.Held.{Held}
 use Rattle.relay_io.specs.declared.door.Turn.{Turn}
 use Rattle.backfill.specs.Served.{is_future, notice, served, served_events}
-use Rattle.backfill.specs.Serving.{Serves, sendings}
+use Rattle.backfill.specs.Serving.{IsCountOf, Serves, sendings}
 use Rattle.backfill.specs.declared.serve_fault.ServeFault.{ServeFault}
 use Rattle.backfill.specs.declared.serving.Served.{Served}
 use Rattle.backfill.specs.declared.target_fault.TargetFault.{TargetFault}
 use Rattle.serve_run.specs.AtDoor.{SessionServed}
-use Rattle.serve_run.specs.Ends.{end_of_serving}
-use Rattle.serve_run.specs.Sessions.{came_of, session_of}
+use Rattle.serve_run.specs.Ends.{IsSessionCount, end_of_serving}
+use Rattle.serve_run.specs.Sessions.{IsCounted, came_of, ending_of, session_of}
 use Rattle.serve_run.specs.declared.end.ServeEnd.{ServeEnd}
 use Rattle.serve_run.specs.declared.session.Session.{Session}
 
@@ -22,18 +22,37 @@ came_is : (held : Held) (cursor : Option ℕ) (last n : ℕ) (future : Bool) →
 came_is held None last n future last_is n_is future_is = rw (last_is, n_is) refl
 came_is held (Some cursor) last n future last_is n_is future_is = rw (n_is, future_is) refl
 
+-- the session of a guest who was sent all is closed
+came_closed : (last : ℕ) (cursor : Option ℕ) (n : ℕ) (future : Bool) (session : Session) → session ≡ came_of last cursor n future → ending_of session ≡ Turn.Closed ∷ []
+came_closed last None n future session is = ap ending_of is
+came_closed last (Some cursor) n true session is = ap ending_of is
+came_closed last (Some cursor) n false session is = ap ending_of is
+
+-- and didn't fail
+pub came_counted : (last : ℕ) (cursor : Option ℕ) (n : ℕ) (future : Bool) (session : Session) (before now : ℕ) → session ≡ came_of last cursor n future → now ≡ before → IsCounted session before now
+came_counted last None n future session before now is same = subst (λ (s : Session). IsCounted s before now) (sym is) same
+came_counted last (Some cursor) n true session before now is same = subst (λ (s : Session). IsCounted s before now) (sym is) same
+came_counted last (Some cursor) n false session before now is same = subst (λ (s : Session). IsCounted s before now) (sym is) same
+
 -- all was sent
 pub served_whole : (tells : Bool) (held : Held) (cursor : Option ℕ) (old new : List Turn) (served_now : Served) (last : ℕ) (session : Session)
     → Serves tells held cursor old new (Ok served_now) → last ≡ held.last → served_now.future ≡ is_future held cursor → session ≡ came_of last cursor served_now.sent served_now.future → SessionServed tells held (Ok cursor) old new (Ok session)
 served_whole tells held cursor old new served_now last session sends last_is future_is is =
-    let all : served held cursor ≡ sends.sent = sends.split ∙ ap (λ (l : List (List ℕ)). sends.sent ++ l) sends.whole ∙ append-nil sends.sent in
-    (sends.sent, inl (sym all, is ∙ came_is held cursor last served_now.sent served_now.future last_is (events_are held cursor sends.sent served_now.sent all sends.count) future_is), sends.turns)
+    let all : served held cursor ≡ sends.sent = sends.split ∙ ap (λ (l : List (List ℕ)). sends.sent ++ l) sends.whole ∙ append-nil sends.sent in (
+      sends.sent,
+      inl (sym all, is ∙ came_is held cursor last served_now.sent served_now.future last_is (events_are held cursor sends.sent served_now.sent all sends.count) future_is),
+      λ t. sends.turns t ∙ ap (λ (l : List Turn). old ++ (sendings sends.sent ++ l)) (sym (came_closed last cursor served_now.sent served_now.future session is)),
+    )
+
+-- nothing more happened
+cut_off : (old new : List Turn) (sent : List (List ℕ)) → new ≡ old ++ (sendings sent ++ []) → new ≡ old ++ sendings sent
+cut_off old new sent is = is ∙ ap (λ (l : List Turn). old ++ l) (append-nil (sendings sent))
 
 served_behind : (tells : Bool) (held : Held) (cursor : Option ℕ) (old new : List Turn) (fault : ServeFault) → Serves tells held cursor old new (Err fault) → SessionServed tells held (Ok cursor) old new (end_of_serving fault)
 served_behind tells held cursor old new (ServeFault.Door n) sends = (sends.sent, inr ((sends.left, sends.split), ap Session.Failed sends.count), sends.turns)
-served_behind tells held cursor old new ServeFault.Disk sends = (sends.sent, (sends.left, sends.split), sends.turns)
-served_behind tells held cursor old new ServeFault.Memory sends = (sends.sent, (sends.left, sends.split), sends.turns)
-served_behind tells held cursor old new (ServeFault.BadLog p) sends = (sends.sent, (sends.left, sends.split), sends.turns)
+served_behind tells held cursor old new ServeFault.Disk sends = (sends.sent, (sends.left, sends.split), λ t. cut_off old new sends.sent (sends.turns t))
+served_behind tells held cursor old new ServeFault.Memory sends = (sends.sent, (sends.left, sends.split), λ t. cut_off old new sends.sent (sends.turns t))
+served_behind tells held cursor old new (ServeFault.BadLog p) sends = (sends.sent, (sends.left, sends.split), λ t. cut_off old new sends.sent (sends.turns t))
 
 -- the session failed or was broken off
 pub served_fault : (tells : Bool) (held : Held) (cursor : Option ℕ) (old new : List Turn) (fault : ServeFault) (result : Result Session ServeEnd) → Serves tells held cursor old new (Err fault) → result ≡ end_of_serving fault → SessionServed tells held (Ok cursor) old new result
@@ -45,10 +64,10 @@ nothing_sent old new same = same ∙ sym (append-nil old)
 
 -- a target was refused
 pub served_refused : (tells : Bool) (held : Held) (asked : Result (Option ℕ) TargetFault) (fault : TargetFault) (old new : List Turn) (session : Session) → asked ≡ Err fault → (session ≡ Session.BadTarget) ⊎ (session ≡ Session.Failed 0)
-    → (IsTrue tells → new ≡ old) → SessionServed tells held asked old new (Ok session)
-served_refused tells held (Ok cursor) fault old new session is came same = absurd cc
-served_refused tells held (Err f) fault old new session is (inl bad) same = ([], inl (refl, bad), λ t. nothing_sent old new (same t))
-served_refused tells held (Err f) fault old new session is (inr failed) same = ([], inr (refl, failed), λ t. nothing_sent old new (same t))
+    → (IsTrue tells → new ≡ old ++ ending_of session) → SessionServed tells held asked old new (Ok session)
+served_refused tells held (Ok cursor) fault old new session is came ended = absurd cc
+served_refused tells held (Err f) fault old new session is (inl bad) ended = ([], inl (refl, bad), ended)
+served_refused tells held (Err f) fault old new session is (inr failed) ended = ([], inr (refl, failed), ended)
 
 -- memory ran out for the target
 pub served_unread : (tells : Bool) (held : Held) (asked : Result (Option ℕ) TargetFault) (turns : List Turn) (end : ServeEnd) → SessionServed tells held asked turns turns (Err end)
@@ -68,3 +87,17 @@ serving_bad (ServeFault.Door n) p is = absurd cc
 serving_bad ServeFault.Disk p is = absurd cc
 serving_bad ServeFault.Memory p is = absurd cc
 serving_bad (ServeFault.BadLog q) p is = cc
+
+-- the count of the failures of sessions, as serving leaves it
+pub serving_counts : (fault : ServeFault) (before now : ℕ) (result : Result Session ServeEnd) → result ≡ end_of_serving fault → IsCountOf before now fault → IsSessionCount before now result
+serving_counts (ServeFault.Door n) before now result is count = subst (λ (r : Result Session ServeEnd). IsSessionCount before now r) (sym is) count
+serving_counts ServeFault.Disk before now result is count = subst (λ (r : Result Session ServeEnd). IsSessionCount before now r) (sym is) count
+serving_counts ServeFault.Memory before now result is count = subst (λ (r : Result Session ServeEnd). IsSessionCount before now r) (sym is) count
+serving_counts (ServeFault.BadLog p) before now result is count = subst (λ (r : Result Session ServeEnd). IsSessionCount before now r) (sym is) count
+
+-- a session that failed is over
+pub serving_over : (fault : ServeFault) (P : Type 0) (result : Result Session ServeEnd) → result ≡ end_of_serving fault → ((n : ℕ) → fault ≡ ServeFault.Door n → P) → OnOk result P
+serving_over (ServeFault.Door n) P result is over = subst (λ (r : Result Session ServeEnd). OnOk r P) (sym is) (over n refl)
+serving_over ServeFault.Disk P result is over = subst (λ (r : Result Session ServeEnd). OnOk r P) (sym is) tt
+serving_over ServeFault.Memory P result is over = subst (λ (r : Result Session ServeEnd). OnOk r P) (sym is) tt
+serving_over (ServeFault.BadLog p) P result is over = subst (λ (r : Result Session ServeEnd). OnOk r P) (sym is) tt

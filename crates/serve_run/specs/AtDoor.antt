@@ -7,7 +7,7 @@ use Rattle.relay_io.specs.declared.door.Turn.{Turn}
 use Rattle.backfill.specs.Serving.{sendings}
 use Rattle.backfill.specs.Target.{cursor_in}
 use Rattle.backfill.specs.declared.target_fault.TargetFault.{TargetFault}
-use Rattle.serve_run.specs.Sessions.{AllVisits, AreCounted, IsSentInPart, IsFailed, IsVisit, IsSentWhole, Visit, guests_of, turns_of}
+use Rattle.serve_run.specs.Sessions.{AllVisits, AreCounted, IsSentInPart, IsFailed, IsVisit, IsSentWhole, Visit, ending_of, guests_of, turns_of}
 use Rattle.serve_run.specs.declared.end.ServeEnd.{ServeEnd}
 use Rattle.serve_run.specs.declared.session.Session.{Session}
 
@@ -21,14 +21,19 @@ pub record AtDoor : Type 0 where
 abbrev pub at_door : List Guest → List Turn → ℕ → AtDoor
 at_door guests turns faults = record { guests = guests; turns = turns; faults = faults }
 
--- The guest who waited was sent something, by what the target asks for: all of it, or a front of it where the session failed or was broken off.
+-- The guest who waited was sent something, by what the target asks for, and the session ended: all of it, or a front of
+-- it where the session failed or was broken off.
 abbrev pub SessionServed : Bool → Held → Result (Option ℕ) TargetFault → List Turn → List Turn → Result Session ServeEnd → Type 0
-SessionServed tells held asked old new (Ok session) = (sent : List (List ℕ)) × (IsSentWhole held asked sent session ⊎ IsFailed held asked sent session) × (IsTrue tells → new ≡ old ++ sendings sent)
+SessionServed tells held asked old new (Ok session) =
+    (sent : List (List ℕ)) × (IsSentWhole held asked sent session ⊎ IsFailed held asked sent session)
+    × (IsTrue tells → new ≡ old ++ (sendings sent ++ ending_of session))
 SessionServed tells held asked old new (Err end) = (sent : List (List ℕ)) × IsSentInPart held asked sent × (IsTrue tells → new ≡ old ++ sendings sent)
 
 -- Who came had a session, or is nobody, or waited and the session was broken off.
 abbrev pub Received : Bool → Held → Guest → List Turn → List Turn → Result (Option Session) ServeEnd → Type 0
-Received tells held guest old new (Ok (Some session)) = (sent : List (List ℕ)) × IsVisit held guest sent session × (IsTrue tells → new ≡ old ++ sendings sent)
+Received tells held guest old new (Ok (Some session)) =
+    (sent : List (List ℕ)) × IsVisit held guest sent session
+    × (IsTrue tells → new ≡ old ++ (sendings sent ++ ending_of session))
 Received tells held guest old new (Ok None) = (guest ≡ Guest.End) × (IsTrue tells → new ≡ old)
 Received tells held guest old new (Err end) = (target : List ℕ) × (guest ≡ Guest.Target target) × ((sent : List (List ℕ)) × IsSentInPart held (cursor_in target) sent × (IsTrue tells → new ≡ old ++ sendings sent))
 
@@ -39,13 +44,17 @@ pub record Visited (tells : Bool) (held : Held) (visits : List Visit) (old new :
   pub turns : IsTrue tells → new.turns ≡ old.turns ++ turns_of visits
   pub counted : AreCounted old.faults visits new.faults
 
--- nobody came, and nothing was sent
+-- nobody came, nothing was sent, and no session failed
 abbrev pub IsStill : Bool → AtDoor → AtDoor → Type 0
-IsStill tells old new = IsTrue tells → (new.guests ≡ old.guests) × (new.turns ≡ old.turns)
+IsStill tells old new =
+    (new.faults ≡ old.faults) × (IsTrue tells → (new.guests ≡ old.guests) × (new.turns ≡ old.turns))
 
 -- the door said that nobody comes any more
 abbrev pub NobodyComes : Bool → AtDoor → AtDoor → Type 0
-NobodyComes tells old new = IsTrue tells → (next_of old.guests ≡ Guest.End) × (new.guests ≡ others_of old.guests) × (new.turns ≡ old.turns ++ Turn.Came Guest.End ∷ [])
+NobodyComes tells old new =
+    (new.faults ≡ old.faults)
+    × (IsTrue tells → (next_of old.guests ≡ Guest.End) × (new.guests ≡ others_of old.guests)
+    × (new.turns ≡ old.turns ++ Turn.Came Guest.End ∷ []))
 
 -- A guest came, and the session was broken off behind a front of what was to be sent.
 pub record SessionIsBroken (tells : Bool) (held : Held) (old new : AtDoor) : Type 0 where
@@ -54,6 +63,7 @@ pub record SessionIsBroken (tells : Bool) (held : Held) (old new : AtDoor) : Typ
   pub cut : IsSentInPart held (cursor_in target) sent
   pub guests : IsTrue tells → old.guests ≡ Guest.Target target ∷ new.guests
   pub turns : IsTrue tells → new.turns ≡ old.turns ++ Turn.Came (Guest.Target target) ∷ sendings sent
+  pub counted : new.faults ≡ old.faults
 
 -- what a fault leaves behind the last session: nobody came where the door failed, and else nobody came or a session was broken off
 abbrev pub IsStopped : Bool → Held → ServeEnd → AtDoor → AtDoor → Type 0

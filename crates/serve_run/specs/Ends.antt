@@ -1,10 +1,12 @@
 -- How a command ends that gives events out (own).
-use Rattle.std.specs.Prelude.{⊤, ℕ, List, Result, Ok, Err}
+use Rattle.std.specs.Prelude.{◌≡◌, ⊤, ℕ, List, Option, Some, None, Result, Ok, Err}
+use Rattle.at_cid.specs.Counts.{Rose}
 use Rattle.relay_row.specs.declared.row.Row.{Row}
 use Rattle.relay_store.specs.Journals.{IsBadPairJournalAt, IsPairImageOf}
 use Rattle.relay_store.specs.declared.fault.StoreFault.{StoreFault}
 use Rattle.backfill.specs.declared.replay_fault.ReplayFault.{ReplayFault}
 use Rattle.backfill.specs.declared.serve_fault.ServeFault.{ServeFault}
+use Rattle.serve_run.specs.Sessions.{IsCounted}
 use Rattle.serve_run.specs.declared.session.Session.{Session}
 use Rattle.serve_run.specs.declared.end.ServeEnd.{ServeEnd}
 
@@ -51,6 +53,11 @@ IsCausedBy disk write door ServeEnd.Door = door
 IsCausedBy disk write door ServeEnd.Disk = disk
 IsCausedBy disk write door end = ⊤
 
+-- the door's count of the faults of `next`: it rose where the door failed, and else stands
+abbrev pub IsDoorCount : ℕ → ℕ → ServeEnd → Type 0
+IsDoorCount before now ServeEnd.Door = Rose before now
+IsDoorCount before now end = now ≡ before
+
 -- a line isn't written: the output failed, or memory ran out
 abbrev pub IsUnwritten : ServeEnd → Type 0
 IsUnwritten ServeEnd.WriteFault = ⊤
@@ -68,3 +75,14 @@ IsOfSession end = ⊥
 abbrev pub IsOfAccepting : ServeEnd → Type 0
 IsOfAccepting ServeEnd.Door = ⊤
 IsOfAccepting end = IsOfSession end
+
+-- the count of the failures of sessions, behind what came of one: if it was broken off, it didn't fail
+abbrev pub IsSessionCount : ℕ → ℕ → Result Session ServeEnd → Type 0
+IsSessionCount before now (Ok session) = IsCounted session before now
+IsSessionCount before now (Err end) = now ≡ before
+
+-- the same, where there may be none
+abbrev pub IsGuestCount : ℕ → ℕ → Result (Option Session) ServeEnd → Type 0
+IsGuestCount before now (Ok (Some session)) = IsCounted session before now
+IsGuestCount before now (Ok None) = now ≡ before
+IsGuestCount before now (Err end) = now ≡ before

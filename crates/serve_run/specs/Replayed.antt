@@ -1,5 +1,5 @@
 -- What a replay of two disks does (own).
-use Rattle.std.specs.Prelude.{◌≡◌, ◌⊎◌, ℕ, Bool, List, ◌++◌, Some, IsTrue}
+use Rattle.std.specs.Prelude.{◌≡◌, ◌⊎◌, ⊤, ℕ, Bool, List, ◌++◌, Some, IsTrue}
 use Rattle.relay_disk.specs.Disk.{View}
 use Rattle.relay_disk.specs.Moments.{PairLeavesOnly}
 use Rattle.relay_io.specs.Streams.{AddsFront}
@@ -8,7 +8,7 @@ use Rattle.relay_store.specs.Journals.{IsPairImageOf}
 use Rattle.relay_store.specs.Shown.{held_by}
 use Rattle.relay_run.specs.Pairs.{PairView, StandsFor}
 use Rattle.backfill.specs.Served.{served}
-use Rattle.backfill.specs.Writing.{with_length}
+use Rattle.backfill.specs.Writing.{AddsMessages, with_length}
 use Rattle.serve_run.specs.Ends.{ServeOpened}
 use Rattle.serve_run.specs.declared.end.ServeEnd.{ServeEnd}
 
@@ -24,7 +24,17 @@ abbrev pub IsReplayed : ServeEnd → List ℕ → List ℕ → List ℕ → Type
 IsReplayed ServeEnd.Done text old new = new ≡ old ++ text
 IsReplayed end text old new = AddsFront old new text
 
--- The messages that a guest with this cursor is sent were written, each behind its length.
-pub record Replayed (output_tells : Bool) (J : List Row) (cursor : ℕ) (old new : PairView) (end : ServeEnd) : Type 0 where
+-- where reading ended it no message was written in part, unless the output failed too
+abbrev pub IsUnbroken : ServeEnd → Type 0 → List (List ℕ) → List ℕ → List ℕ → Type 0
+IsUnbroken ServeEnd.Disk failed messages old new = AddsMessages messages old new ⊎ failed
+IsUnbroken (ServeEnd.BadLog place) failed messages old new = AddsMessages messages old new ⊎ failed
+IsUnbroken ServeEnd.TooLong failed messages old new = AddsMessages messages old new ⊎ failed
+IsUnbroken end failed messages old new = ⊤
+
+-- The messages that a guest with this cursor is sent were written, each behind its length. The output may have failed.
+pub record Replayed (output_tells : Bool) (failed : Type 0) (J : List Row) (cursor : ℕ) (old new : PairView)
+    (end : ServeEnd) : Type 0 where
   pub written : IsTrue output_tells → IsReplayed end (with_length (served (held_by J) (Some cursor))) old.written new.written
+  pub unbroken : IsTrue output_tells
+      → IsUnbroken end failed (served (held_by J) (Some cursor)) old.written new.written
   pub read : OnlyRead J (ServeOpened end) old.one old.two new.one new.two

@@ -1,5 +1,5 @@
 -- Sessions of guests, and their lines (own): numbers are decimal, and each line ends in a line feed.
-use Rattle.std.specs.Prelude.{◌≡◌, ⊤, false, ◌⊎◌, ◌≤◌, ℕ, ◌+◌, ◌-◌, List, [], ◌∷◌, ◌++◌, length, nat_lt, Bool, Option, Some, None, Result, Ok, Err, codes, if◌then◌else◌}
+use Rattle.std.specs.Prelude.{◌≡◌, ◌⊎◌, ℕ, ◌+◌, ◌-◌, List, [], ◌∷◌, ◌++◌, length, nat_lt, Bool, Option, Some, None, Result, Ok, Err, codes, if◌then◌else◌}
 use Rattle.at_cid.specs.Counts.{Rose}
 use Rattle.event_window.specs.Held.{Held}
 use Rattle.relay_io.specs.declared.door.Guest.{Guest}
@@ -78,19 +78,20 @@ abbrev pub AllVisits : Held → List Visit → Type 0
 AllVisits held [] = Unit {0}
 AllVisits held (v ∷ visits) = IsVisit held v.guest v.sent v.session × AllVisits held visits
 
--- a session that didn't fail is ended: nobody waits
-abbrev pub IsClosed : Session → Bool → Type 0
-IsClosed (Session.Failed events) waits = ⊤
-IsClosed session waits = waits ≡ false
+-- how a session ends at the door: closed, or failed; without a handshake there is none to end
+abbrev pub ending_of : Session → List Turn
+ending_of (Session.Failed events) = Turn.Failed ∷ []
+ending_of Session.NoHandshake = []
+ending_of session = Turn.Closed ∷ []
 
--- the count of a session's failures: it rose where the session failed
+-- the count of the failures of sessions: it rose where this one failed, and else stands
 abbrev pub IsCounted : Session → ℕ → ℕ → Type 0
 IsCounted (Session.Failed events) before now = Rose before now
-IsCounted session before now = before ≤ now
+IsCounted session before now = now ≡ before
 
 -- it did in each of these sessions, from one to the next
 abbrev pub AreCounted : ℕ → List Visit → ℕ → Type 0
-AreCounted before [] now = before ≤ now
+AreCounted before [] now = now ≡ before
 AreCounted before (v ∷ visits) now = IsCounted v.session before v.faults × AreCounted v.faults visits now
 
 -- their guests, in order
@@ -98,10 +99,10 @@ abbrev pub guests_of : List Visit → List Guest
 guests_of [] = []
 guests_of (v ∷ visits) = v.guest ∷ guests_of visits
 
--- what happened at the door: each came, and was sent this
+-- what happened at the door: each came, was sent this, and the session ended
 abbrev pub turns_of : List Visit → List Turn
 turns_of [] = []
-turns_of (v ∷ visits) = Turn.Came v.guest ∷ (sendings v.sent ++ turns_of visits)
+turns_of (v ∷ visits) = Turn.Came v.guest ∷ (sendings v.sent ++ (ending_of v.session ++ turns_of visits))
 
 -- their lines, numbered from the one behind n
 abbrev pub lines_behind : ℕ → List Visit → List ℕ

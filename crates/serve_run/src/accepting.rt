@@ -1,6 +1,6 @@
 //! One guest's session.
 
-ghost use Rattle.std.specs.Prelude.{◌≡◌, ◌≤◌, ◌<◌, ◌⊎◌, ℕ, List, Ok, Err, Option, IsTrue, IfOk, IfErr, IfSome};
+ghost use Rattle.std.specs.Prelude.{◌≡◌, ◌≤◌, ◌<◌, ◌⊎◌, ◌++◌, ℕ, List, Ok, Err, Option, false, IsTrue, IfOk, IfErr, IfSome, OnOk};
 ghost use Rattle.at_cid.specs.Counts.{Rose};
 ghost use Rattle.event_window.specs.Held.{Held};
 ghost use Rattle.relay_disk.specs.Disk.{Goes, Same};
@@ -11,8 +11,8 @@ ghost use Rattle.relay_store.specs.Store.{IsKept, Keeps, seen_in};
 ghost use Rattle.relay_io.specs.Guests.{does_wait};
 ghost use Rattle.backfill.specs.Target.{cursor_in};
 ghost use Rattle.serve_run.specs.AtDoor.{GuestAccepted, Received, SessionServed, at_door};
-ghost use Rattle.serve_run.specs.Ends.{IsOfAccepting, IsOfSession, end_of_serving};
-ghost use Rattle.serve_run.specs.Sessions.{IsClosed, IsCounted, came_of};
+ghost use Rattle.serve_run.specs.Ends.{IsDoorCount, IsGuestCount, IsOfAccepting, IsOfSession, IsSessionCount, end_of_serving};
+ghost use Rattle.serve_run.specs.Sessions.{IsCounted, came_of, ending_of};
 
 use crate::end::ServeEnd;
 use crate::session::Session;
@@ -59,8 +59,8 @@ fn serve_events<E: Events, G: Door>(
     ensures session_served { IsTrue E.tells → (held : Held) → E.holds events.old held → SessionServed G.tells held (Ok cursor) (G.turns door.old) (G.turns door.new) result }
     ensures guests { IsTrue G.tells → G.guests door.new ≡ G.guests door.old }
     ensures later { E.later events.old events.new }
-    ensures counted { IfOk result (λ session. IsCounted session (G.session_faults door.old) (G.session_faults door.new)) }
-    ensures closed { IfOk result (λ session. IsClosed session (G.waits door.new)) }
+    ensures counted { IsSessionCount (G.session_faults door.old) (G.session_faults door.new) result }
+    ensures closed { OnOk result (G.waits door.new ≡ false) }
     ensures few { IfErr result (λ end. IsOfSession end) }
     ensures disk { result ≡ Err ServeEnd.Disk → Rose (E.faults events.old) (E.faults events.new) }
     ensures no_bad_log { (place : ℕ) → result ≡ Err (ServeEnd.BadLog place) → IsTrue E.tells → (held : Held) → E.holds events.old held → ⊥ }
@@ -88,8 +88,8 @@ fn serve_store<D: Disk, G: Door>(
         → SessionServed G.tells (held_by J) (Ok cursor) (G.turns door.old) (G.turns door.new) result }
     ensures guests { IsTrue G.tells → G.guests door.new ≡ G.guests door.old }
     ensures goes { Goes Same (D.view disk.old) (D.view disk.new) }
-    ensures counted { IfOk result (λ session. IsCounted session (G.session_faults door.old) (G.session_faults door.new)) }
-    ensures closed { IfOk result (λ session. IsClosed session (G.waits door.new)) }
+    ensures counted { IsSessionCount (G.session_faults door.old) (G.session_faults door.new) result }
+    ensures closed { OnOk result (G.waits door.new ≡ false) }
     ensures few { IfErr result (λ end. IsOfSession end) }
     ensures disk { result ≡ Err ServeEnd.Disk → Rose (D.view disk.old).faults (D.view disk.new).faults }
     ensures no_bad_log { (place : ℕ) → result ≡ Err (ServeEnd.BadLog place) → IsTrue D.tells → ⊥ }
@@ -116,8 +116,8 @@ fn serve_side<D: Disk, G: Door>(
     ensures guests { IsTrue G.tells → G.guests door.new ≡ G.guests door.old }
     ensures one { Goes Same (D.view disk.old) (D.view disk.new) }
     ensures two { Goes Same (D.view other.old) (D.view other.new) }
-    ensures counted { IfOk result (λ session. IsCounted session (G.session_faults door.old) (G.session_faults door.new)) }
-    ensures closed { IfOk result (λ session. IsClosed session (G.waits door.new)) }
+    ensures counted { IsSessionCount (G.session_faults door.old) (G.session_faults door.new) result }
+    ensures closed { OnOk result (G.waits door.new ≡ false) }
     ensures few { IfErr result (λ end. IsOfSession end) }
     ensures disk { result ≡ Err ServeEnd.Disk → Rose (D.view disk.old).faults (D.view disk.new).faults ⊎ Rose (D.view other.old).faults (D.view other.new).faults }
     ensures no_bad_log { (place : ℕ) → result ≡ Err (ServeEnd.BadLog place) → IsTrue D.tells → ⊥ }
@@ -134,8 +134,9 @@ fn serve_side<D: Disk, G: Door>(
 fn reject<G: Door>(door: &mut G) -> Session
     requires { IsTrue (G.waits door.old) }
     ensures session { (result ≡ Session.BadTarget) ⊎ (result ≡ Session.Failed 0) }
-    ensures same { IsTrue G.tells → (G.guests door.new ≡ G.guests door.old) × (G.turns door.new ≡ G.turns door.old) }
-    ensures closed { IsClosed result (G.waits door.new) }
+    ensures guests { IsTrue G.tells → G.guests door.new ≡ G.guests door.old }
+    ensures ended { IsTrue G.tells → G.turns door.new ≡ G.turns door.old ++ ending_of result }
+    ensures closed { G.waits door.new ≡ false }
     ensures counted { IsCounted result (G.session_faults door.old) (G.session_faults door.new) }
     ensures counts { G.faults door.new ≡ G.faults door.old }
     ensures session_counts { G.session_faults door.old ≤ G.session_faults door.new }
@@ -162,8 +163,8 @@ fn serve_session<D: Disk, G: Door>(
     ensures guests { IsTrue G.tells → G.guests door.new ≡ G.guests door.old }
     ensures one { Goes Same (D.view disk.old) (D.view disk.new) }
     ensures two { Goes Same (D.view other.old) (D.view other.new) }
-    ensures counted { IfOk result (λ session. IsCounted session (G.session_faults door.old) (G.session_faults door.new)) }
-    ensures closed { IfOk result (λ session. IsClosed session (G.waits door.new)) }
+    ensures counted { IsSessionCount (G.session_faults door.old) (G.session_faults door.new) result }
+    ensures closed { OnOk result (G.waits door.new ≡ false) }
     ensures few { IfErr result (λ end. IsOfSession end) }
     ensures disk { result ≡ Err ServeEnd.Disk → Rose (D.view disk.old).faults (D.view disk.new).faults ⊎ Rose (D.view other.old).faults (D.view other.new).faults }
     ensures no_bad_log { (place : ℕ) → result ≡ Err (ServeEnd.BadLog place) → IsTrue D.tells → ⊥ }
@@ -193,8 +194,8 @@ fn receive<D: Disk, G: Door>(
     ensures guests { IsTrue G.tells → G.guests door.new ≡ G.guests door.old }
     ensures one { Goes Same (D.view disk.old) (D.view disk.new) }
     ensures two { Goes Same (D.view other.old) (D.view other.new) }
-    ensures counted { IfOk result (λ found. IfSome found (λ session. IsCounted session (G.session_faults door.old) (G.session_faults door.new))) }
-    ensures closed { IfOk result (λ found. IfSome found (λ session. IsClosed session (G.waits door.new))) }
+    ensures counted { IsGuestCount (G.session_faults door.old) (G.session_faults door.new) result }
+    ensures closed { OnOk result (G.waits door.new ≡ false) }
     ensures few { IfErr result (λ end. IsOfSession end) }
     ensures disk { result ≡ Err ServeEnd.Disk → Rose (D.view disk.old).faults (D.view disk.new).faults ⊎ Rose (D.view other.old).faults (D.view other.new).faults }
     ensures no_bad_log { (place : ℕ) → result ≡ Err (ServeEnd.BadLog place) → IsTrue D.tells → ⊥ }
@@ -228,11 +229,13 @@ pub(crate) fn accept<D: Disk, G: Door>(
     ensures some { IfOk result (λ found. IfSome found (λ _. 0 < most)) }
     ensures one { Goes Same (D.view disk.old) (D.view disk.new) }
     ensures two { Goes Same (D.view other.old) (D.view other.new) }
-    ensures closed { IfOk result (λ found. IfSome found (λ session. IsClosed session (G.waits door.new))) }
+    ensures closed { IfOk result (λ found. IfSome found (λ _. G.waits door.new ≡ false)) }
     ensures few { IfErr result (λ end. IsOfAccepting end) }
     ensures disk { result ≡ Err ServeEnd.Disk → Rose (D.view disk.old).faults (D.view disk.new).faults ⊎ Rose (D.view other.old).faults (D.view other.new).faults }
     ensures door { result ≡ Err ServeEnd.Door → Rose (G.faults door.old) (G.faults door.new) }
     ensures no_bad_log { (place : ℕ) → result ≡ Err (ServeEnd.BadLog place) → IsTrue D.tells → ⊥ }
+    ensures steady { OnOk result (G.faults door.new ≡ G.faults door.old) }
+    ensures door_count { IfErr result (λ end. IsDoorCount (G.faults door.old) (G.faults door.new) end) }
     ensures counts { G.faults door.old ≤ G.faults door.new }
     ensures session_counts { G.session_faults door.old ≤ G.session_faults door.new }
 {

@@ -8,13 +8,14 @@ ghost use Rattle.gate_log.specs.Pick.{view_of_side};
 ghost use Rattle.gate_log.specs.declared.limits.TheConstants.{LAST_END};
 ghost use Rattle.relay_row.specs.declared.row.Row.{Row as TheRow};
 ghost use Rattle.relay_store.specs.Journals.{IsPairImageOf};
+ghost use Rattle.relay_store.specs.Opening.{BothOnlyRead};
 ghost use Rattle.relay_store.specs.Shown.{held_by};
 ghost use Rattle.relay_store.specs.Store.{IsKept, Keeps, seen_in};
 ghost use Rattle.relay_run.specs.Pairs.{pair_view};
 ghost use Rattle.backfill.specs.Served.{served, served_events};
 ghost use Rattle.backfill.specs.Writing.{with_length, has_long};
 ghost use Rattle.serve_run.specs.Ends.{IsCausedBy, ServeEndShows};
-ghost use Rattle.serve_run.specs.Replayed.{IsReplayed, Replayed};
+ghost use Rattle.serve_run.specs.Replayed.{IsReplayed, IsUnbroken, Replayed};
 
 use crate::end::ServeEnd;
 use event_window::Events;
@@ -34,6 +35,9 @@ fn replay_events<E: Events, O: Sink>(
     requires { IsTrue E.tells → (held : Held) × E.holds events.old held }
     ensures written { IsTrue E.tells → (held : Held) → E.holds events.old held
         → IsTrue O.tells → IsReplayed result (with_length (served held (Some cursor))) (O.written out.old) (O.written out.new) }
+    ensures unbroken { IsTrue E.tells → (held : Held) → E.holds events.old held → IsTrue O.tells
+        → IsUnbroken result (Rose (O.faults out.old) (O.faults out.new)) (served held (Some cursor))
+        (O.written out.old) (O.written out.new) }
     ensures later { E.later events.old events.new }
     ensures disk { result ≡ ServeEnd.Disk → Rose (E.faults events.old) (E.faults events.new) }
     ensures failed { result ≡ ServeEnd.WriteFault → Rose (O.faults out.old) (O.faults out.new) }
@@ -60,6 +64,10 @@ fn replay_from<D: Disk, O: Sink>(
     requires { IsTrue D.tells → IsKept (seen_in store.now) (D.view disk.old) }
     ensures written { IsTrue D.tells → (J : List TheRow) → Keeps J (seen_in store.now) (D.view disk.old)
         → IsTrue O.tells → IsReplayed result (with_length (served (held_by J) (Some cursor))) (O.written out.old) (O.written out.new) }
+    ensures unbroken { IsTrue D.tells → (J : List TheRow) → Keeps J (seen_in store.now) (D.view disk.old)
+        → IsTrue O.tells
+        → IsUnbroken result (Rose (O.faults out.old) (O.faults out.new)) (served (held_by J) (Some cursor))
+        (O.written out.old) (O.written out.new) }
     ensures goes { Goes Same (D.view disk.old) (D.view disk.new) }
     ensures disk { result ≡ ServeEnd.Disk → Rose (D.view disk.old).faults (D.view disk.new).faults }
     ensures failed { result ≡ ServeEnd.WriteFault → Rose (O.faults out.old) (O.faults out.new) }
@@ -85,6 +93,12 @@ fn replay_on<D: Disk, O: Sink>(
     requires { IsTrue D.tells → IsKept (seen_in store.now) (view_of_side (seen_in store.now).side (D.view disk.old) (D.view other.old)) }
     ensures written { IsTrue D.tells → (J : List TheRow) → Keeps J (seen_in store.now) (view_of_side (seen_in store.now).side (D.view disk.old) (D.view other.old))
         → IsTrue O.tells → IsReplayed result (with_length (served (held_by J) (Some cursor))) (O.written out.old) (O.written out.new) }
+    ensures unbroken { IsTrue D.tells → (J : List TheRow)
+        → Keeps J (seen_in store.now)
+        (view_of_side (seen_in store.now).side (D.view disk.old) (D.view other.old))
+        → IsTrue O.tells
+        → IsUnbroken result (Rose (O.faults out.old) (O.faults out.new)) (served (held_by J) (Some cursor))
+        (O.written out.old) (O.written out.new) }
     ensures one { Goes Same (D.view disk.old) (D.view disk.new) }
     ensures two { Goes Same (D.view other.old) (D.view other.new) }
     ensures disk { result ≡ ServeEnd.Disk → Rose (D.view disk.old).faults (D.view disk.new).faults ⊎ Rose (D.view other.old).faults (D.view other.new).faults }
@@ -113,9 +127,15 @@ pub fn replay<D: Disk, O: Sink>(
 ) -> ServeEnd
     requires { most ≤ LAST_END }
     ensures replayed { IsTrue D.tells → (J : List TheRow) → IsPairImageOf J (D.view disk.old).content (D.view other.old).content
-        → Replayed O.tells J cursor (pair_view (D.view disk.old) (D.view other.old) (O.written out.old)) (pair_view (D.view disk.new) (D.view other.new) (O.written out.new)) result }
+        → Replayed O.tells (Rose (O.faults out.old) (O.faults out.new)) J cursor
+        (pair_view (D.view disk.old) (D.view other.old) (O.written out.old))
+        (pair_view (D.view disk.new) (D.view other.new) (O.written out.new)) result }
     ensures shows { IsTrue D.tells → ServeEndShows result (D.view disk.old).content (D.view other.old).content }
-    ensures quiet { (place : ℕ) → result ≡ ServeEnd.BadLog place → IsTrue D.tells → IsTrue O.tells → O.written out.new ≡ O.written out.old }
+
+    // A damaged log is only read, and nothing else is done.
+    ensures unopened { (place : ℕ) → result ≡ ServeEnd.BadLog place → IsTrue D.tells
+        → BothOnlyRead (D.view disk.old) (D.view other.old) (D.view disk.new) (D.view other.new)
+        × (out.new ≡ out.old) }
     ensures caused { IsCausedBy (Rose (D.view disk.old).faults (D.view disk.new).faults ⊎ Rose (D.view other.old).faults (D.view other.new).faults) (Rose (O.faults out.old) (O.faults out.new)) ⊥ result }
     ensures disk_counts { (D.view disk.old).faults ≤ (D.view disk.new).faults }
     ensures other_counts { (D.view other.old).faults ≤ (D.view other.new).faults }

@@ -7,11 +7,12 @@ ghost use Rattle.gate_log.specs.Pick.{view_of_side};
 ghost use Rattle.gate_log.specs.declared.limits.TheConstants.{LAST_END};
 ghost use Rattle.relay_row.specs.declared.row.Row.{Row as TheRow};
 ghost use Rattle.relay_store.specs.Journals.{IsPairImageOf};
+ghost use Rattle.relay_store.specs.Opening.{BothOnlyRead};
 ghost use Rattle.relay_store.specs.Shown.{held_by};
 ghost use Rattle.relay_store.specs.Store.{IsKept, Keeps, seen_in};
 ghost use Rattle.relay_run.specs.Pairs.{pair_view};
 ghost use Rattle.serve_run.specs.AtDoor.{at_door};
-ghost use Rattle.serve_run.specs.Ends.{IsCausedBy, ServeEndShows};
+ghost use Rattle.serve_run.specs.Ends.{IsCausedBy, IsDoorCount, ServeEndShows};
 ghost use Rattle.serve_run.specs.Guests.{GuestsServed, ServedAt, end_in};
 
 use crate::accepting::accept;
@@ -41,6 +42,7 @@ fn serve_guests<D: Disk, G: Door, O: Sink>(
     ensures caused { IsCausedBy (Rose (D.view disk.old).faults (D.view disk.new).faults ⊎ Rose (D.view other.old).faults (D.view other.new).faults) (Rose (O.faults out.old) (O.faults out.new)) (Rose (G.faults door.old) (G.faults door.new)) (end_in result) }
     ensures no_bad_log { (place : ℕ) → end_in result ≡ ServeEnd.BadLog place → IsTrue D.tells → ⊥ }
     ensures no_long { end_in result ≡ ServeEnd.TooLong → ⊥ }
+    ensures door_count { IsDoorCount (G.faults door.old) (G.faults door.new) (end_in result) }
     ensures door_counts { G.faults door.old ≤ G.faults door.new }
     ensures session_counts { G.session_faults door.old ≤ G.session_faults door.new }
     ensures out_counts { O.faults out.old ≤ O.faults out.new }
@@ -71,9 +73,13 @@ pub fn serve<D: Disk, G: Door, O: Sink>(
         (pair_view (D.view disk.old) (D.view other.old) (O.written out.old)) (pair_view (D.view disk.new) (D.view other.new) (O.written out.new)) result }
     ensures shows { IsTrue D.tells → ServeEndShows result (D.view disk.old).content (D.view other.old).content }
     ensures no_long { result ≡ ServeEnd.TooLong → ⊥ }
-    ensures quiet { (place : ℕ) → result ≡ ServeEnd.BadLog place → IsTrue D.tells
-        → (IsTrue O.tells → O.written out.new ≡ O.written out.old) × (IsTrue G.tells → (G.guests door.new ≡ G.guests door.old) × (G.turns door.new ≡ G.turns door.old)) }
+
+    // A damaged log is only read, and nothing else is done.
+    ensures unopened { (place : ℕ) → result ≡ ServeEnd.BadLog place → IsTrue D.tells
+        → BothOnlyRead (D.view disk.old) (D.view other.old) (D.view disk.new) (D.view other.new)
+        × (door.new ≡ door.old) × (out.new ≡ out.old) }
     ensures caused { IsCausedBy (Rose (D.view disk.old).faults (D.view disk.new).faults ⊎ Rose (D.view other.old).faults (D.view other.new).faults) (Rose (O.faults out.old) (O.faults out.new)) (Rose (G.faults door.old) (G.faults door.new)) result }
+    ensures door_count { IsDoorCount (G.faults door.old) (G.faults door.new) result }
     ensures disk_counts { (D.view disk.old).faults ≤ (D.view disk.new).faults }
     ensures other_counts { (D.view other.old).faults ≤ (D.view other.new).faults }
     ensures door_counts { G.faults door.old ≤ G.faults door.new }

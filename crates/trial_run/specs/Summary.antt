@@ -1,5 +1,5 @@
 -- What a trial writes (own): numbers are decimal, and each line ends in a line feed.
-use Rattle.std.specs.Prelude.{ℕ, zero, suc, ◌+◌, List, [], ◌∷◌, ◌++◌, codes, decimal}
+use Rattle.std.specs.Prelude.{◌≡◌, ◌<◌, ℕ, zero, suc, ◌+◌, List, [], ◌∷◌, ◌++◌, codes, decimal}
 use Rattle.at_cid.specs.Link.{cid}
 use Rattle.at_cid.specs.Text.{text_of}
 use Rattle.account_state.specs.Folds.{account}
@@ -7,6 +7,7 @@ use Rattle.account_state.specs.declared.repo.Repo.{Repo}
 use Rattle.relay_gen.specs.Names.{generated_did}
 use Rattle.relay_row.specs.Folds.{last_seq}
 use Rattle.relay_row.specs.declared.row.Row.{Row}
+use Rattle.state_lines.specs.Lines.{account_text}
 
 -- 1 for a repository whose last commit is known
 abbrev pub one_known : Repo → ℕ
@@ -29,6 +30,14 @@ known_below (suc a) J = known_below a J + one_known (account (generated_did a) J
 abbrev pub roots_below : ℕ → List Row → List ℕ
 roots_below zero J = []
 roots_below (suc a) J = roots_below a J ++ root_of_repo (account (generated_did a) J).repo
+
+-- what two journals show of an account is the same
+abbrev pub IsShownSame : ℕ → List Row → List Row → Type 0
+IsShownSame a J K = account_text (generated_did a) (account (generated_did a) J) ≡ account_text (generated_did a) (account (generated_did a) K)
+
+-- of each account of a made history
+abbrev pub AreShownSame : List Row → List Row → Type 0
+AreShownSame J K = (a : ℕ) → a < 16 → IsShownSame a J K
 
 -- a word and a number
 abbrev pub word : List ℕ → ℕ → List ℕ

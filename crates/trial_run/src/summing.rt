@@ -1,12 +1,12 @@
 //! The summary of a trial.
 
-ghost use Rattle.std.specs.Prelude.{◌≡◌, ◌≤◌, ◌<◌, ◌+◌, ◌++◌, List, ℕ, true, IfOk, OnOk, codes};
+ghost use Rattle.std.specs.Prelude.{◌≡◌, ◌↔◌, ◌≤◌, ◌<◌, ◌+◌, ◌++◌, List, ℕ, true, IfOk, OnOk, codes};
 ghost use Rattle.account_state.specs.Folds.{account as account_in};
 ghost use Rattle.relay_core.specs.Entries.{Holds};
 ghost use Rattle.relay_gen.specs.Names.{generated_did};
 ghost use Rattle.relay_row.specs.Folds.{last_seq};
 ghost use Rattle.relay_row.specs.declared.row.Row.{Row as TheRow};
-ghost use Rattle.trial_run.specs.Summary.{first_line, known_below, one_known, root_of_repo, roots_below, summary, word};
+ghost use Rattle.trial_run.specs.Summary.{AreShownSame, IsShownSame, first_line, known_below, one_known, root_of_repo, roots_below, summary, word};
 
 use account_state::{Account, Repo};
 use at_cid::{Memory, Octets, cid_of};
@@ -118,7 +118,7 @@ pub(crate) fn sum_up(
 fn is_same(alloc: Global, one: &Store, other: &Store, account: u8) -> Result<bool, Memory>
     requires { account < 16 }
     ensures { IfOk result (λ same. (J K : List TheRow) → Holds one.now.core J → Holds other.now.core K
-        → account_in (generated_did account) J ≡ account_in (generated_did account) K → same ≡ true) }
+        → (same ≡ true) ↔ IsShownSame account J K) }
 {
     let did = did_of(account);
     let line = account_line(alloc, did, one.account(did))?;
@@ -128,8 +128,10 @@ fn is_same(alloc: Global, one: &Store, other: &Store, account: u8) -> Result<boo
 
 /// Whether two stores say the same of all accounts of a made history.
 pub(crate) fn are_same(alloc: Global, one: &Store, other: &Store) -> Result<bool, Memory>
-    ensures { IfOk result (λ same. (J K : List TheRow) → Holds one.now.core J → Holds other.now.core K
+    ensures same { IfOk result (λ same. (J K : List TheRow) → Holds one.now.core J → Holds other.now.core K
         → ((did : List ℕ) → account_in did J ≡ account_in did K) → same ≡ true) }
+    ensures exact { IfOk result (λ same. (J K : List TheRow) → Holds one.now.core J → Holds other.now.core K
+        → (same ≡ true) ↔ AreShownSame J K) }
 {
     for account in 0..ACCOUNTS {
         if !is_same(alloc, one, other, account)? {

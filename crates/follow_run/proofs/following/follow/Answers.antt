@@ -1,14 +1,17 @@
-use Rattle.std.proofs.Common.{◌⊎◌, inl, inr, ap, refl, Err, []}
+use Rattle.std.proofs.Common.{◌⊎◌, inl, inr, ap, refl, Err, [], ◌≡◌}
 use Rattle.at_cid.specs.Counts.{Rose}
 use Rattle.relay_step.specs.Around.{around}
 use Rattle.tape_run.specs.Tells.{tells}
 use Rattle.tape_run.specs.declared.end.TapeEnd.{TapeEnd}
 use Rattle.ingest_run.specs.Ends.{IsCausedBy, MayEnd, TapeEndShows}
 use Rattle.ingest_run.specs.Ingested.{Unopened, pair_scene}
-use Rattle.ingest_run.proofs.Endings.{image_shows, none_later, opening_causes, opening_completes, opening_shows}
+use Rattle.ingest_run.proofs.Endings.{image_shows, never_bad, none_later, opening_causes, opening_completes, opening_read, opening_shows}
 use Rattle.ingest_run.proofs.Whole.{opened_of, unopened}
 use Rattle.follow_run.proofs.Whole.{cause_kept, completes, followed_on, kept_of_store, kept_of_taking}
 use Rattle.follow_run.proofs.following.follow.Goals as goal
+use Rattle.relay_store.specs.Opening.{BothOnlyRead}
+use Rattle.relay_store.specs.declared.fault.StoreFault.{StoreFault}
+use Rattle.follow_run.specs.Ends.{tape_end}
 
 pub returns-in-Err-clause-followed : goal.returns-in-Err-clause-followed
 returns-in-Err-clause-followed g c = λ told J image.
@@ -64,3 +67,19 @@ returns-clause-complete g c = λ told J image none.
     kept_of_taking MayEnd g.F.Feed.tells c.args.host.now c.args.count _ _ c.take_on-end.result c.of_taking-2.result c.of_taking-2.ensures taken.feed.ends
     (completes _ _ _ _ _ g.F.Feed.tells c.args.host.now c.args.count _ taken.taken.extra _ c.take_on-end.result taken.feed.ends taken.taken.which_extra c.take_on-end.ensures.caused
     (none_later (g.D.Disk.view c.args.disk.now).faults (g.D.Disk.view c.open.new.disk).faults (g.D.Disk.view c.take_on-end.new.disk).faults (g.D.Disk.view c.args.other.now).faults (g.D.Disk.view c.open.new.other).faults (g.D.Disk.view c.take_on-end.new.other).faults _ _ _ _ c.in-Ok.ensures.counts.0 c.in-Ok.ensures.counts.1 none))
+
+pub returns-in-Err-clause-unopened : goal.returns-in-Err-clause-unopened
+returns-in-Err-clause-unopened g c = λ place is told. (
+  kept_of_store (λ (e : TapeEnd). e ≡ TapeEnd.Store (StoreFault.BadLog place) → BothOnlyRead (g.D.Disk.view c.args.disk.now) (g.D.Disk.view c.args.other.now) (g.D.Disk.view c.open.new.disk) (g.D.Disk.view c.open.new.other)) c.in-Err.fault c.of_store.result c.of_taking.result c.of_store.ensures c.of_taking.ensures
+      (λ bad. opening_read g.D.Disk.tells (g.D.Disk.view c.args.disk.now) (g.D.Disk.view c.args.other.now) (g.D.Disk.view c.open.new.disk) (g.D.Disk.view c.open.new.other) c.in-Err.fault _ place c.in-Err.ensures.opened refl bad told) (ap tape_end is),
+  refl,
+  refl,
+  refl,
+  refl,
+  refl,
+)
+
+pub returns-clause-unopened : goal.returns-clause-unopened
+returns-clause-unopened g c = λ place is told.
+    let kept = c.in-Ok.ensures.opened.keeps told in
+    absurd (never_bad (tape_end c.of_taking-2.result) place (g.D.Disk.view c.args.disk.now).content (g.D.Disk.view c.args.other.now).content kept.0 kept.1 (returns-clause-shows g c told) (ap tape_end is))

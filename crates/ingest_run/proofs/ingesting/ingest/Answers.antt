@@ -4,7 +4,7 @@ use Rattle.relay_step.specs.Around.{around}
 use Rattle.tape_run.specs.Tells.{tells}
 use Rattle.tape_run.specs.declared.end.TapeEnd.{TapeEnd}
 use Rattle.ingest_run.specs.Ends.{IsCausedBy, MayEnd, TapeEndShows}
-use Rattle.ingest_run.proofs.Endings.{completes, image_shows, none_later, opening_causes, opening_completes, opening_shows}
+use Rattle.ingest_run.proofs.Endings.{completes, image_shows, never_bad, none_later, opening_causes, opening_completes, opening_read, opening_shows}
 use Rattle.ingest_run.proofs.Whole.{ingested, opened_of, unopened}
 use Rattle.ingest_run.proofs.ingesting.ingest.Goals as goal
 
@@ -52,3 +52,18 @@ returns-clause-complete g c = λ told input_told J image messages are is short n
     let taken = c.take_on.ensures.taken J (opened_of g.D.Disk.view (λ x. g.met.D.Disk.is_disk x) c.args.disk.now c.args.other.now c.open.new.disk c.open.new.other (tells g.D.Disk.tells g.C.Clock.tells g.R.Repos.tells g.O.Sink.tells) told c.in-Ok.store c.in-Ok.ensures.opened J image) in
     completes _ _ _ _ _ c.take_on.result taken.extra c.args.limit (g.I.Source.left c.args.input.now) (g.I.Source.left c.take_on.new.input) _ messages taken.which_extra taken.records (taken.from input_told) are is short c.take_on.ensures.caused
     (none_later (g.D.Disk.view c.args.disk.now).faults (g.D.Disk.view c.open.new.disk).faults (g.D.Disk.view c.take_on.new.disk).faults (g.D.Disk.view c.args.other.now).faults (g.D.Disk.view c.open.new.other).faults (g.D.Disk.view c.take_on.new.other).faults _ _ _ _ c.in-Ok.ensures.counts.0 c.in-Ok.ensures.counts.1 none)
+
+pub returns-in-Err-clause-unopened : goal.returns-in-Err-clause-unopened
+returns-in-Err-clause-unopened g c = λ place is told. (
+  opening_read g.D.Disk.tells (g.D.Disk.view c.args.disk.now) (g.D.Disk.view c.args.other.now) (g.D.Disk.view c.open.new.disk) (g.D.Disk.view c.open.new.other) c.in-Err.fault c.of_store.result place c.in-Err.ensures.opened c.of_store.ensures is told,
+  refl,
+  refl,
+  refl,
+  refl,
+  refl,
+)
+
+pub returns-clause-unopened : goal.returns-clause-unopened
+returns-clause-unopened g c = λ place is told.
+    let kept = c.in-Ok.ensures.opened.keeps told in
+    absurd (never_bad c.take_on.result place (g.D.Disk.view c.args.disk.now).content (g.D.Disk.view c.args.other.now).content kept.0 kept.1 (returns-clause-shows g c told) is)

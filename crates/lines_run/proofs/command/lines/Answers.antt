@@ -1,4 +1,4 @@
-use Rattle.std.proofs.Common.{Err, sym, ap, arith, subst}
+use Rattle.std.proofs.Common.{Err, sym, ap, arith, subst, refl}
 use Rattle.std.specs.Prelude.{option_map}
 use Rattle.std.proofs.lemmas.List.{append-nil}
 use Rattle.relay_store.specs.Shown.{held_by}
@@ -6,7 +6,7 @@ use Rattle.relay_store.proofs.Images.{no_journal}
 use Rattle.relay_run.proofs.Beside.{opened_keeps}
 use Rattle.serve_run.specs.Ends.{ServeOpened, ServeEndShows}
 use Rattle.serve_run.specs.declared.end.ServeEnd.{ServeEnd}
-use Rattle.serve_run.proofs.Ending.{image_shows, nothing_written, opening_shows}
+use Rattle.serve_run.proofs.Ending.{image_shows, nothing_written, opening_read, opening_shows}
 use Rattle.serve_run.proofs.Reading.{read_opened, read_unopened}
 use Rattle.lines_run.specs.Lines.{lines_above}
 use Rattle.lines_run.proofs.Ending.{either_behind, may_end, unopened_may}
@@ -45,3 +45,12 @@ pub returns-in-Err-clause-complete : goal.returns-in-Err-clause-complete
 returns-in-Err-clause-complete g c = λ told J image no_disk no_write.
     unopened_may _ c.in-Err.fault c.of_opening.result c.of_opening.ensures (λ is. c.in-Err.ensures.disk (ap Err is))
     (λ p is. no_journal p _ _ J image (c.in-Err.ensures.bad_log p (ap Err is) told)) no_disk
+
+pub returns-in-Err-clause-unopened : goal.returns-in-Err-clause-unopened
+returns-in-Err-clause-unopened g c = λ place is told. (
+  opening_read g.D.Disk.tells (g.D.Disk.view c.args.disk.now) (g.D.Disk.view c.args.other.now) (g.D.Disk.view c.open.new.disk) (g.D.Disk.view c.open.new.other) c.in-Err.fault c.of_opening.result place c.in-Err.ensures.opened c.of_opening.ensures is told,
+  refl,
+)
+
+pub returns-in-Ok-clause-unopened : goal.returns-in-Ok-clause-unopened
+returns-in-Ok-clause-unopened g c = λ place is told. absurd (c.lines_on.ensures.no_bad_log place is told)

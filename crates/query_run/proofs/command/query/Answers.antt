@@ -6,9 +6,9 @@ use Rattle.relay_store.proofs.Images.{no_journal}
 use Rattle.relay_run.proofs.Beside.{opened_keeps}
 use Rattle.serve_run.proofs.Reading.{read_opened}
 use Rattle.query_run.specs.AtWire.{at_wire}
-use Rattle.query_run.specs.Ends.{QueryOpened, end_in}
+use Rattle.query_run.specs.Ends.{IsOfDisks, QueryOpened, end_in}
 use Rattle.query_run.specs.declared.end.QueryEnd.{QueryEnd}
-use Rattle.query_run.proofs.Ending.{answering_causes, answering_may, answering_shows, not_of_disks, queried_unopened, read_unopened, unopened_may, unopened_shows}
+use Rattle.query_run.proofs.Ending.{answering_causes, answering_may, answering_shows, not_of_disks, opening_read, queried_unopened, read_unopened, unopened_may, unopened_shows}
 use Rattle.query_run.proofs.command.query.Goals as goal
 
 pub returns-in-Err-clause-answered : goal.returns-in-Err-clause-answered
@@ -78,3 +78,9 @@ returns-clause-no_output g c = λ no. c.in-Err-answer_all.ensures.no_output (λ 
 
 pub returns-clause-no_wire : goal.returns-clause-no_wire
 returns-clause-no_wire g c = λ no. c.in-Err-answer_all.ensures.no_wire (λ is. no (ap end_in is))
+
+pub returns-in-Err-clause-unopened : goal.returns-in-Err-clause-unopened
+returns-in-Err-clause-unopened g c = λ place is told. opening_read g.D.Disk.tells (g.D.Disk.view c.args.disk.now) (g.D.Disk.view c.args.other.now) (g.D.Disk.view c.open.new.disk) (g.D.Disk.view c.open.new.other) c.in-Err.fault c.of_opening.result place c.in-Err.ensures.opened c.of_opening.ensures is told
+
+pub returns-clause-unopened : goal.returns-clause-unopened
+returns-clause-unopened g c = λ place is told. absurd (not_of_disks c.in-Err-answer_all.end c.in-Err-answer_all.ensures.few (subst IsOfDisks (sym is) tt))

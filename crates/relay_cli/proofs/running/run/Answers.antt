@@ -1,5 +1,8 @@
-use Rattle.std.proofs.Common.{ap, false, refl, true}
+use Rattle.std.proofs.Common.{◌∙◌, ap, false, refl, sym, true}
 use Rattle.query_run.specs.AtWire.{at_wire}
+use Rattle.relay_step.specs.Around.{around}
+use Rattle.serve_run.specs.AtDoor.{at_door}
+use Rattle.relay_cli.proofs.Damaged.{check_good, feed_bad, mirror_good, of_disks, query_bad, run_bad, serving_bad, tape_bad, trial_good}
 use Rattle.relay_cli.proofs.Words.{followed_of, lines_ran, operated_of, ran_as, spent_by, synced_of}
 use Rattle.relay_cli.proofs.running.run.Goals as goal
 
@@ -30,7 +33,7 @@ returns-in-Sync-clause-ran g c =
       status_is = c.from-in-Sync.ensures;
       had = c.sync.ensures.shows;
       quiet = c.sync.ensures.quiet;
-      does = (refl, (λ is. spent_by _ _ _ _ _ c.sync.result c.sync.ensures.caused is, c.sync.ensures.ran));
+      does = (refl, c.sync.ensures.ran);
     }))
 
 pub returns-in-Ingest-clause-ran : goal.returns-in-Ingest-clause-ran
@@ -52,6 +55,7 @@ returns-in-Follow-clause-ran g c =
       unread = refl;
       does = c.follow.ensures.followed;
       complete = λ told J image. c.follow.ensures.complete told J image;
+      steady = c.follow.ensures.steady;
     }))
 
 pub returns-in-Cut-clause-ran : goal.returns-in-Cut-clause-ran
@@ -70,7 +74,6 @@ returns-in-Replay-clause-ran g c =
       end = c.replay.result;
       status_is = c.from-in-Replay.ensures;
       had = c.replay.ensures.shows;
-      quiet = c.replay.ensures.quiet;
       unasked = refl;
       unread = refl;
       does = c.replay.ensures.replayed;
@@ -82,10 +85,9 @@ returns-in-Serve-clause-ran g c =
       end = c.serve.result;
       status_is = c.from-in-Serve.ensures;
       had = c.serve.ensures.shows;
-      quiet = λ place is told output. (c.serve.ensures.quiet place is told).0 output;
       unasked = refl;
       unread = refl;
-      does = c.serve.ensures.served;
+      does = (c.serve.ensures.door_count, c.serve.ensures.served);
     })
 
 pub returns-in-Trial-clause-ran : goal.returns-in-Trial-clause-ran
@@ -127,8 +129,185 @@ returns-in-Lines-clause-ran g c =
       end = c.lines.result;
       status_is = c.from-in-Lines.ensures;
       had = c.lines.ensures.shows;
-      quiet = c.lines.ensures.quiet;
       unasked = refl;
       unread = refl;
       does = λ told J image. (c.lines.ensures.written told J image, λ flawless. c.lines.ensures.complete told J image flawless.0 flawless.1);
     })
+
+pub returns-in-Account-clause-damaged : goal.returns-in-Account-clause-damaged
+returns-in-Account-clause-damaged g c = λ at is told.
+    let bad = c.account.ensures.unopened at (run_bad c.account.result at (sym c.from-in-Account.ensures ∙ is)) told in
+    record {
+      disks_read = bad.0;
+      around = refl;
+      left = refl;
+      written = ap g.O.Sink.written bad.1;
+      given = refl;
+      coming = refl;
+      door = refl;
+      wire = refl;
+    }
+
+pub returns-in-Hosts-clause-damaged : goal.returns-in-Hosts-clause-damaged
+returns-in-Hosts-clause-damaged g c = λ at is told.
+    let bad = c.hosts.ensures.unopened at (run_bad c.hosts.result at (sym c.from-in-Hosts.ensures ∙ is)) told in
+    record {
+      disks_read = bad.0;
+      around = refl;
+      left = refl;
+      written = ap g.O.Sink.written bad.1;
+      given = refl;
+      coming = refl;
+      door = refl;
+      wire = refl;
+    }
+
+pub returns-in-Takedown-clause-damaged : goal.returns-in-Takedown-clause-damaged
+returns-in-Takedown-clause-damaged g c = λ at is told.
+    let bad = c.operate.ensures.unopened at (run_bad c.operate.result at (sym c.from-in-Takedown.ensures ∙ is)) told in
+    record {
+      disks_read = bad.0;
+      around = ap (λ clock. around (g.P.Judges.panel c.args.panel.now) (g.C.Clock.moments clock) (g.R.Repos.repository c.args.repos.now)) bad.1;
+      left = refl;
+      written = ap g.O.Sink.written bad.2;
+      given = refl;
+      coming = refl;
+      door = refl;
+      wire = refl;
+    }
+
+pub returns-in-Restore-clause-damaged : goal.returns-in-Restore-clause-damaged
+returns-in-Restore-clause-damaged g c = λ at is told.
+    let bad = c.operate-in-Restore.ensures.unopened at (run_bad c.operate-in-Restore.result at (sym c.from-in-Restore.ensures ∙ is)) told in
+    record {
+      disks_read = bad.0;
+      around = ap (λ clock. around (g.P.Judges.panel c.args.panel.now) (g.C.Clock.moments clock) (g.R.Repos.repository c.args.repos.now)) bad.1;
+      left = refl;
+      written = ap g.O.Sink.written bad.2;
+      given = refl;
+      coming = refl;
+      door = refl;
+      wire = refl;
+    }
+
+pub returns-in-Sync-clause-damaged : goal.returns-in-Sync-clause-damaged
+returns-in-Sync-clause-damaged g c = λ at is told.
+    let bad = c.sync.ensures.unopened at (run_bad c.sync.result at (sym c.from-in-Sync.ensures ∙ is)) told in
+    record {
+      disks_read = bad.0;
+      around = λ i. around (g.P.Judges.panel (bad.1 i)) (g.C.Clock.moments (bad.3 i)) (g.R.Repos.repository (bad.2 i));
+      left = refl;
+      written = ap g.O.Sink.written bad.4;
+      given = refl;
+      coming = refl;
+      door = refl;
+      wire = refl;
+    }
+
+pub returns-in-Cut-clause-damaged : goal.returns-in-Cut-clause-damaged
+returns-in-Cut-clause-damaged g c = λ at is told.
+    let bad = c.cut.ensures.unopened at (run_bad c.cut.result at (sym c.from-in-Cut.ensures ∙ is)) told in
+    record {
+      disks_read = bad.0;
+      around = refl;
+      left = refl;
+      written = ap g.O.Sink.written bad.1;
+      given = refl;
+      coming = refl;
+      door = refl;
+      wire = refl;
+    }
+
+pub returns-in-Ingest-clause-damaged : goal.returns-in-Ingest-clause-damaged
+returns-in-Ingest-clause-damaged g c = λ at is told.
+    let bad = c.ingest.ensures.unopened at (tape_bad c.ingest.result at (sym c.from.ensures ∙ is)) told in
+    record {
+      disks_read = bad.0;
+      around = λ i. around (g.P.Judges.panel (bad.1 i)) (g.C.Clock.moments (bad.3 i)) (g.R.Repos.repository (bad.2 i));
+      left = ap g.I.Source.left bad.4;
+      written = ap g.O.Sink.written bad.5;
+      given = refl;
+      coming = refl;
+      door = refl;
+      wire = refl;
+    }
+
+pub returns-in-Follow-clause-damaged : goal.returns-in-Follow-clause-damaged
+returns-in-Follow-clause-damaged g c = λ at is told.
+    let bad = c.follow.ensures.unopened at (feed_bad c.follow.result at (sym c.from-in-Follow.ensures ∙ is)) told in
+    record {
+      disks_read = bad.0;
+      around = λ i. around (g.P.Judges.panel (bad.1 i)) (g.C.Clock.moments (bad.3 i)) (g.R.Repos.repository (bad.2 i));
+      left = refl;
+      written = ap g.O.Sink.written bad.5;
+      given = ap g.F.Feed.behind bad.4;
+      coming = ap g.F.Feed.left bad.4;
+      door = refl;
+      wire = refl;
+    }
+
+pub returns-in-Replay-clause-damaged : goal.returns-in-Replay-clause-damaged
+returns-in-Replay-clause-damaged g c = λ at is told.
+    let bad = c.replay.ensures.unopened at (serving_bad c.replay.result at (sym c.from-in-Replay.ensures ∙ is)) told in
+    record {
+      disks_read = bad.0;
+      around = refl;
+      left = refl;
+      written = ap g.O.Sink.written bad.1;
+      given = refl;
+      coming = refl;
+      door = refl;
+      wire = refl;
+    }
+
+pub returns-in-Serve-clause-damaged : goal.returns-in-Serve-clause-damaged
+returns-in-Serve-clause-damaged g c = λ at is told.
+    let bad = c.serve.ensures.unopened at (serving_bad c.serve.result at (sym c.from-in-Serve.ensures ∙ is)) told in
+    record {
+      disks_read = bad.0;
+      around = refl;
+      left = refl;
+      written = ap g.O.Sink.written bad.2;
+      given = refl;
+      coming = refl;
+      door = ap (λ door. at_door (g.G.Door.guests door) (g.G.Door.turns door) (g.G.Door.session_faults door)) bad.1;
+      wire = refl;
+    }
+
+pub returns-in-Lines-clause-damaged : goal.returns-in-Lines-clause-damaged
+returns-in-Lines-clause-damaged g c = λ at is told.
+    let bad = c.lines.ensures.unopened at (serving_bad c.lines.result at (sym c.from-in-Lines.ensures ∙ is)) told in
+    record {
+      disks_read = bad.0;
+      around = refl;
+      left = refl;
+      written = ap g.O.Sink.written bad.1;
+      given = refl;
+      coming = refl;
+      door = refl;
+      wire = refl;
+    }
+
+pub returns-in-Query-clause-damaged : goal.returns-in-Query-clause-damaged
+returns-in-Query-clause-damaged g c = λ at is told.
+    let end_is = query_bad c.query.result at (sym c.from-in-Query.ensures ∙ is) in
+    let same = c.query.ensures.quiet (of_disks c.query.result at end_is) in
+    record {
+      disks_read = c.query.ensures.unopened at end_is told;
+      around = refl;
+      left = refl;
+      written = ap g.O.Sink.written same.1;
+      given = refl;
+      coming = refl;
+      door = refl;
+      wire = ap (λ wire. at_wire (g.W.Wire.requests wire) (g.W.Wire.exchanges wire) (g.W.Wire.send_faults wire)) same.0;
+    }
+
+pub returns-in-Trial-clause-damaged : goal.returns-in-Trial-clause-damaged
+returns-in-Trial-clause-damaged g c = λ at is told. absurd (trial_good c.trial.result at (sym c.from-in-Trial.ensures ∙ is))
+
+pub returns-in-Mirror-clause-damaged : goal.returns-in-Mirror-clause-damaged
+returns-in-Mirror-clause-damaged g c = λ at is told. absurd (mirror_good c.mirror.result at (sym c.from-in-Mirror.ensures ∙ is))
+
+pub returns-in-Check-clause-damaged : goal.returns-in-Check-clause-damaged
+returns-in-Check-clause-damaged g c = λ at is told. absurd (check_good _ _ _ c.check.result at c.check.ensures.checked is)

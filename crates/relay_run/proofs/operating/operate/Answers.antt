@@ -6,7 +6,8 @@ use Rattle.relay_step.specs.Commands.{EndsBehind, OperatedAt}
 use Rattle.relay_store.specs.Faults.{IsCause}
 use Rattle.relay_store.specs.Store.{seen_in}
 use Rattle.relay_run.specs.CommandRan.{Knows}
-use Rattle.relay_run.proofs.Causing.{done_causes, done_good, image_shows, opening_causes, opening_shows, operating_causes, rose_behind, commanded_good}
+use Rattle.relay_run.specs.declared.end.RunEnd.{RunEnd}
+use Rattle.relay_run.proofs.Causing.{commanded_good, done_causes, done_good, image_shows, never_bad, opening_causes, opening_read, opening_shows, operating_causes, rose_behind}
 use Rattle.relay_run.proofs.Sounds.{operated_stays, short_text}
 use Rattle.relay_run.proofs.Uttered.{opened_knows, opened_of, ran_err, ran_ok, ran_unopened, vain_by}
 use Rattle.relay_run.proofs.operating.operate.Goals as goal
@@ -48,7 +49,7 @@ returns-clause-ran g c = λ told J image.
     (λ core holds command at. operated_stays g.C.Clock.tells core J c.args.did.now c.args.down c.args.time.now (g.C.Clock.moments c.args.clock.now) (g.C.Clock.moments c.operate_on.new.clock) (short_text c.args.time.now c.ghost_text.ensures.bytes c.ghost_text.ensures.length c.ghost_text.ensures.utf8 c.requires.time) holds command at)
     c.in-Err-operate_on.fault (g.O.Sink.written c.args.out.now)
     (c.in-Err-operate_on.ensures.commanded J (opened_of g.D.Disk.view (λ x. g.met.D.Disk.is_disk x) c.args.disk.now c.args.other.now c.open.new.disk c.open.new.other g.D.Disk.tells told c.in-Ok.store c.in-Ok.ensures.opened J image))
-    (λ came. (came, vain_by _ c.in-Err-operate_on.fault (λ is. opened_knows g.D.Disk.view (λ x. g.met.D.Disk.is_disk x) c.args.disk.now c.args.other.now c.open.new.disk c.open.new.other g.D.Disk.tells told c.in-Ok.store c.in-Ok.ensures.opened J image (λ core. EndsBehind core c.args.did.now c.args.down) (c.in-Err-operate_on.ensures.seq_end (ap Err is)))))
+    (λ came. (came, vain_by _ _ c.in-Err-operate_on.fault (λ is. opened_knows g.D.Disk.view (λ x. g.met.D.Disk.is_disk x) c.args.disk.now c.args.other.now c.open.new.disk c.open.new.other g.D.Disk.tells told c.in-Ok.store c.in-Ok.ensures.opened J image (λ core. EndsBehind core c.args.did.now c.args.down) (c.in-Err-operate_on.ensures.seq_end (ap Err is))) (λ is. tt)))
 
 pub returns-clause-shows : goal.returns-clause-shows
 returns-clause-shows g c = λ told.
@@ -63,3 +64,20 @@ pub returns-clause-caused : goal.returns-clause-caused
 returns-clause-caused g c = operating_causes _ (Rose (g.O.Sink.faults c.args.out.now) (g.O.Sink.faults c.args.out.now)) _ c.in-Err-operate_on.fault (c.in-Err-operate_on.ensures.few c.in-Err-operate_on.fault refl)
     (λ is. ⊎_elim (λ first. inl (rose_behind _ _ _ c.in-Ok.ensures.counts.0 first)) (λ second. inr (rose_behind _ _ _ c.in-Ok.ensures.counts.1 second)) (c.in-Err-operate_on.ensures.disk (ap Err is)))
     (λ is. c.in-Err-operate_on.ensures.clock (ap Err is))
+
+pub returns-in-Err-clause-unopened : goal.returns-in-Err-clause-unopened
+returns-in-Err-clause-unopened g c = λ place is told. (
+  opening_read g.D.Disk.tells (g.D.Disk.view c.args.disk.now) (g.D.Disk.view c.args.other.now) (g.D.Disk.view c.open.new.disk) (g.D.Disk.view c.open.new.other) c.in-Err.fault place c.in-Err.ensures.opened is told,
+  refl,
+  refl,
+)
+
+pub returns-in-Ok-operate_on-clause-unopened : goal.returns-in-Ok-operate_on-clause-unopened
+returns-in-Ok-operate_on-clause-unopened g c = λ place is told.
+    let kept = c.in-Ok.ensures.opened.keeps told in
+    absurd (never_bad (c.answer.result) place (g.D.Disk.view c.args.disk.now).content (g.D.Disk.view c.args.other.now).content kept.0 kept.1 (returns-in-Ok-operate_on-clause-shows g c told) is)
+
+pub returns-clause-unopened : goal.returns-clause-unopened
+returns-clause-unopened g c = λ place is told.
+    let kept = c.in-Ok.ensures.opened.keeps told in
+    absurd (never_bad (RunEnd.Fault c.in-Err-operate_on.fault) place (g.D.Disk.view c.args.disk.now).content (g.D.Disk.view c.args.other.now).content kept.0 kept.1 (returns-clause-shows g c told) is)

@@ -6,11 +6,12 @@ use Rattle.at_syntax.specs.Did.{method_of}
 use Rattle.relay_step.specs.Around.{around}
 use Rattle.relay_step.specs.Asked.{AskedInVain}
 use Rattle.relay_step.specs.Causes.{CameToNothing}
-use Rattle.relay_step.specs.Commands.{EndsFetched, SyncedAt, told_where}
+use Rattle.relay_step.specs.Commands.{EndsFetched, SpentFetching, SyncedAt}
 use Rattle.relay_store.specs.Faults.{IsCause}
 use Rattle.relay_store.specs.Store.{seen_in}
 use Rattle.relay_run.specs.CommandRan.{Knows}
-use Rattle.relay_run.proofs.Causing.{done_causes, done_good, image_shows, opening_causes, opening_shows, commanded_good}
+use Rattle.relay_run.specs.declared.end.RunEnd.{RunEnd}
+use Rattle.relay_run.proofs.Causing.{commanded_good, done_causes, done_good, image_shows, never_bad, opening_causes, opening_read, opening_shows}
 use Rattle.relay_run.proofs.Sounds.{synced_stays, short_text}
 use Rattle.relay_run.proofs.Uttered.{opened_knows, opened_of, ran_err, ran_ok, ran_unopened, vain_by}
 use Rattle.relay_run.proofs.syncing.sync.Goals as goal
@@ -31,7 +32,7 @@ returns-in-Ok-sync_on-clause-ran g c = λ told J image.
     ran_ok g.D.Disk.view (λ x. g.met.D.Disk.is_disk x) c.args.disk.now c.args.other.now c.open.new.disk c.open.new.other g.D.Disk.tells told c.in-Ok.store c.in-Ok.ensures.opened J image
     c.sync_on.new.disk c.sync_on.new.other c.sync_on.new.store c.in-Ok-sync_on.ensures.beside
     (λ core command. SyncedAt g.C.Clock.tells g.R.Repos.tells core c.args.did.now c.args.time.now (around (g.P.Judges.panel c.args.judges.now) (g.C.Clock.moments c.args.clock.now) (g.R.Repos.repository c.args.repos.now)) command (around (g.P.Judges.panel c.sync_on.new.judges) (g.C.Clock.moments c.sync_on.new.clock) (g.R.Repos.repository c.sync_on.new.repos)))
-    (CameToNothing g.C.Clock.tells g.R.Repos.tells (AskedInVain (g.P.Judges.panel c.args.judges.now) c.args.did.now (g.P.Judges.panel c.sync_on.new.judges)) (around (g.P.Judges.panel c.args.judges.now) (g.C.Clock.moments c.args.clock.now) (g.R.Repos.repository c.args.repos.now)) (around (g.P.Judges.panel c.sync_on.new.judges) (g.C.Clock.moments c.sync_on.new.clock) (g.R.Repos.repository c.sync_on.new.repos))) (around (g.P.Judges.panel c.sync_on.new.judges) (g.C.Clock.moments c.sync_on.new.clock) (g.R.Repos.repository c.sync_on.new.repos) ≡ around (g.P.Judges.panel c.args.judges.now) (g.C.Clock.moments c.args.clock.now) (g.R.Repos.repository c.args.repos.now)) (λ fault. (CameToNothing g.C.Clock.tells g.R.Repos.tells (AskedInVain (g.P.Judges.panel c.args.judges.now) c.args.did.now (g.P.Judges.panel c.sync_on.new.judges)) (around (g.P.Judges.panel c.args.judges.now) (g.C.Clock.moments c.args.clock.now) (g.R.Repos.repository c.args.repos.now)) (around (g.P.Judges.panel c.sync_on.new.judges) (g.C.Clock.moments c.sync_on.new.clock) (g.R.Repos.repository c.sync_on.new.repos))) × IsCause (Knows J (λ core. EndsFetched core c.args.did.now (told_where g.R.Repos.tells (g.R.Repos.repository c.args.repos.now c.args.did.now)) (g.P.Judges.panel c.args.judges.now) (g.P.Judges.panel c.sync_on.new.judges))) ⊤ ⊤ ⊤ fault) g.O.Sink.tells c.args.most c.in-Ok.ensures.open.1
+    (CameToNothing g.C.Clock.tells g.R.Repos.tells (AskedInVain (g.P.Judges.panel c.args.judges.now) c.args.did.now (g.P.Judges.panel c.sync_on.new.judges)) (around (g.P.Judges.panel c.args.judges.now) (g.C.Clock.moments c.args.clock.now) (g.R.Repos.repository c.args.repos.now)) (around (g.P.Judges.panel c.sync_on.new.judges) (g.C.Clock.moments c.sync_on.new.clock) (g.R.Repos.repository c.sync_on.new.repos))) (around (g.P.Judges.panel c.sync_on.new.judges) (g.C.Clock.moments c.sync_on.new.clock) (g.R.Repos.repository c.sync_on.new.repos) ≡ around (g.P.Judges.panel c.args.judges.now) (g.C.Clock.moments c.args.clock.now) (g.R.Repos.repository c.args.repos.now)) (λ fault. (CameToNothing g.C.Clock.tells g.R.Repos.tells (AskedInVain (g.P.Judges.panel c.args.judges.now) c.args.did.now (g.P.Judges.panel c.sync_on.new.judges)) (around (g.P.Judges.panel c.args.judges.now) (g.C.Clock.moments c.args.clock.now) (g.R.Repos.repository c.args.repos.now)) (around (g.P.Judges.panel c.sync_on.new.judges) (g.C.Clock.moments c.sync_on.new.clock) (g.R.Repos.repository c.sync_on.new.repos))) × IsCause (Knows J (λ core. EndsFetched g.C.Clock.tells g.R.Repos.tells core c.args.did.now (around (g.P.Judges.panel c.args.judges.now) (g.C.Clock.moments c.args.clock.now) (g.R.Repos.repository c.args.repos.now)) (around (g.P.Judges.panel c.sync_on.new.judges) (g.C.Clock.moments c.sync_on.new.clock) (g.R.Repos.repository c.sync_on.new.repos)))) (Knows J (λ core. SpentFetching g.C.Clock.tells g.R.Repos.tells core c.args.did.now (around (g.P.Judges.panel c.args.judges.now) (g.C.Clock.moments c.args.clock.now) (g.R.Repos.repository c.args.repos.now)) (around (g.P.Judges.panel c.sync_on.new.judges) (g.C.Clock.moments c.sync_on.new.clock) (g.R.Repos.repository c.sync_on.new.repos)))) ⊤ ⊤ fault) g.O.Sink.tells c.args.most c.in-Ok.ensures.open.1
     (λ core holds command at. synced_stays g.C.Clock.tells g.R.Repos.tells core J c.args.did.now c.args.time.now (around (g.P.Judges.panel c.args.judges.now) (g.C.Clock.moments c.args.clock.now) (g.R.Repos.repository c.args.repos.now)) (around (g.P.Judges.panel c.sync_on.new.judges) (g.C.Clock.moments c.sync_on.new.clock) (g.R.Repos.repository c.sync_on.new.repos)) (short_text c.args.time.now c.ghost_text.ensures.bytes c.ghost_text.ensures.length c.ghost_text.ensures.utf8 c.requires.time) holds command at)
     c.in-Ok-sync_on.done c.answer.result (g.O.Sink.written c.args.out.now) (g.O.Sink.written c.answer.new.out)
     (c.in-Ok-sync_on.ensures.commanded J (opened_of g.D.Disk.view (λ x. g.met.D.Disk.is_disk x) c.args.disk.now c.args.other.now c.open.new.disk c.open.new.other g.D.Disk.tells told c.in-Ok.store c.in-Ok.ensures.opened J image))
@@ -48,11 +49,15 @@ returns-clause-ran g c = λ told J image.
     ran_err g.D.Disk.view (λ x. g.met.D.Disk.is_disk x) c.args.disk.now c.args.other.now c.open.new.disk c.open.new.other g.D.Disk.tells told c.in-Ok.store c.in-Ok.ensures.opened J image
     c.sync_on.new.disk c.sync_on.new.other c.sync_on.new.store c.in-Err-sync_on.ensures.beside
     (λ core command. SyncedAt g.C.Clock.tells g.R.Repos.tells core c.args.did.now c.args.time.now (around (g.P.Judges.panel c.args.judges.now) (g.C.Clock.moments c.args.clock.now) (g.R.Repos.repository c.args.repos.now)) command (around (g.P.Judges.panel c.sync_on.new.judges) (g.C.Clock.moments c.sync_on.new.clock) (g.R.Repos.repository c.sync_on.new.repos)))
-    (CameToNothing g.C.Clock.tells g.R.Repos.tells (AskedInVain (g.P.Judges.panel c.args.judges.now) c.args.did.now (g.P.Judges.panel c.sync_on.new.judges)) (around (g.P.Judges.panel c.args.judges.now) (g.C.Clock.moments c.args.clock.now) (g.R.Repos.repository c.args.repos.now)) (around (g.P.Judges.panel c.sync_on.new.judges) (g.C.Clock.moments c.sync_on.new.clock) (g.R.Repos.repository c.sync_on.new.repos))) (around (g.P.Judges.panel c.sync_on.new.judges) (g.C.Clock.moments c.sync_on.new.clock) (g.R.Repos.repository c.sync_on.new.repos) ≡ around (g.P.Judges.panel c.args.judges.now) (g.C.Clock.moments c.args.clock.now) (g.R.Repos.repository c.args.repos.now)) (λ fault. (CameToNothing g.C.Clock.tells g.R.Repos.tells (AskedInVain (g.P.Judges.panel c.args.judges.now) c.args.did.now (g.P.Judges.panel c.sync_on.new.judges)) (around (g.P.Judges.panel c.args.judges.now) (g.C.Clock.moments c.args.clock.now) (g.R.Repos.repository c.args.repos.now)) (around (g.P.Judges.panel c.sync_on.new.judges) (g.C.Clock.moments c.sync_on.new.clock) (g.R.Repos.repository c.sync_on.new.repos))) × IsCause (Knows J (λ core. EndsFetched core c.args.did.now (told_where g.R.Repos.tells (g.R.Repos.repository c.args.repos.now c.args.did.now)) (g.P.Judges.panel c.args.judges.now) (g.P.Judges.panel c.sync_on.new.judges))) ⊤ ⊤ ⊤ fault) g.O.Sink.tells c.args.most c.in-Ok.ensures.open.1
+    (CameToNothing g.C.Clock.tells g.R.Repos.tells (AskedInVain (g.P.Judges.panel c.args.judges.now) c.args.did.now (g.P.Judges.panel c.sync_on.new.judges)) (around (g.P.Judges.panel c.args.judges.now) (g.C.Clock.moments c.args.clock.now) (g.R.Repos.repository c.args.repos.now)) (around (g.P.Judges.panel c.sync_on.new.judges) (g.C.Clock.moments c.sync_on.new.clock) (g.R.Repos.repository c.sync_on.new.repos))) (around (g.P.Judges.panel c.sync_on.new.judges) (g.C.Clock.moments c.sync_on.new.clock) (g.R.Repos.repository c.sync_on.new.repos) ≡ around (g.P.Judges.panel c.args.judges.now) (g.C.Clock.moments c.args.clock.now) (g.R.Repos.repository c.args.repos.now)) (λ fault. (CameToNothing g.C.Clock.tells g.R.Repos.tells (AskedInVain (g.P.Judges.panel c.args.judges.now) c.args.did.now (g.P.Judges.panel c.sync_on.new.judges)) (around (g.P.Judges.panel c.args.judges.now) (g.C.Clock.moments c.args.clock.now) (g.R.Repos.repository c.args.repos.now)) (around (g.P.Judges.panel c.sync_on.new.judges) (g.C.Clock.moments c.sync_on.new.clock) (g.R.Repos.repository c.sync_on.new.repos))) × IsCause (Knows J (λ core. EndsFetched g.C.Clock.tells g.R.Repos.tells core c.args.did.now (around (g.P.Judges.panel c.args.judges.now) (g.C.Clock.moments c.args.clock.now) (g.R.Repos.repository c.args.repos.now)) (around (g.P.Judges.panel c.sync_on.new.judges) (g.C.Clock.moments c.sync_on.new.clock) (g.R.Repos.repository c.sync_on.new.repos)))) (Knows J (λ core. SpentFetching g.C.Clock.tells g.R.Repos.tells core c.args.did.now (around (g.P.Judges.panel c.args.judges.now) (g.C.Clock.moments c.args.clock.now) (g.R.Repos.repository c.args.repos.now)) (around (g.P.Judges.panel c.sync_on.new.judges) (g.C.Clock.moments c.sync_on.new.clock) (g.R.Repos.repository c.sync_on.new.repos)))) ⊤ ⊤ fault) g.O.Sink.tells c.args.most c.in-Ok.ensures.open.1
     (λ core holds command at. synced_stays g.C.Clock.tells g.R.Repos.tells core J c.args.did.now c.args.time.now (around (g.P.Judges.panel c.args.judges.now) (g.C.Clock.moments c.args.clock.now) (g.R.Repos.repository c.args.repos.now)) (around (g.P.Judges.panel c.sync_on.new.judges) (g.C.Clock.moments c.sync_on.new.clock) (g.R.Repos.repository c.sync_on.new.repos)) (short_text c.args.time.now c.ghost_text.ensures.bytes c.ghost_text.ensures.length c.ghost_text.ensures.utf8 c.requires.time) holds command at)
     c.in-Err-sync_on.fault (g.O.Sink.written c.args.out.now)
     (c.in-Err-sync_on.ensures.commanded J (opened_of g.D.Disk.view (λ x. g.met.D.Disk.is_disk x) c.args.disk.now c.args.other.now c.open.new.disk c.open.new.other g.D.Disk.tells told c.in-Ok.store c.in-Ok.ensures.opened J image))
-    (λ came. (came, vain_by _ c.in-Err-sync_on.fault (λ is. opened_knows g.D.Disk.view (λ x. g.met.D.Disk.is_disk x) c.args.disk.now c.args.other.now c.open.new.disk c.open.new.other g.D.Disk.tells told c.in-Ok.store c.in-Ok.ensures.opened J image (λ core. EndsFetched core c.args.did.now (told_where g.R.Repos.tells (g.R.Repos.repository c.args.repos.now c.args.did.now)) (g.P.Judges.panel c.args.judges.now) (g.P.Judges.panel c.sync_on.new.judges)) (c.in-Err-sync_on.ensures.seq_end (ap Err is)))))
+    (λ came. (
+      came,
+      vain_by _ _ c.in-Err-sync_on.fault (λ is. opened_knows g.D.Disk.view (λ x. g.met.D.Disk.is_disk x) c.args.disk.now c.args.other.now c.open.new.disk c.open.new.other g.D.Disk.tells told c.in-Ok.store c.in-Ok.ensures.opened J image (λ core. EndsFetched g.C.Clock.tells g.R.Repos.tells core c.args.did.now (around (g.P.Judges.panel c.args.judges.now) (g.C.Clock.moments c.args.clock.now) (g.R.Repos.repository c.args.repos.now)) (around (g.P.Judges.panel c.sync_on.new.judges) (g.C.Clock.moments c.sync_on.new.clock) (g.R.Repos.repository c.sync_on.new.repos))) (c.in-Err-sync_on.ensures.seq_end (ap Err is)))
+          (λ is. opened_knows g.D.Disk.view (λ x. g.met.D.Disk.is_disk x) c.args.disk.now c.args.other.now c.open.new.disk c.open.new.other g.D.Disk.tells told c.in-Ok.store c.in-Ok.ensures.opened J image (λ core. SpentFetching g.C.Clock.tells g.R.Repos.tells core c.args.did.now (around (g.P.Judges.panel c.args.judges.now) (g.C.Clock.moments c.args.clock.now) (g.R.Repos.repository c.args.repos.now)) (around (g.P.Judges.panel c.sync_on.new.judges) (g.C.Clock.moments c.sync_on.new.clock) (g.R.Repos.repository c.sync_on.new.repos))) (c.in-Err-sync_on.ensures.spent (ap Err is))),
+    ))
 
 pub returns-clause-shows : goal.returns-clause-shows
 returns-clause-shows g c = λ told.
@@ -62,3 +67,22 @@ returns-clause-shows g c = λ told.
     image_shows _ _ _ J image
     (commanded_good g.D.Disk.view g.D.Disk.tells J _ _ (seen_in c.in-Ok.store) (seen_in c.sync_on.new.store) _ _ c.in-Err-sync_on.fault
     (c.in-Err-sync_on.ensures.commanded J (opened_of g.D.Disk.view (λ x. g.met.D.Disk.is_disk x) c.args.disk.now c.args.other.now c.open.new.disk c.open.new.other g.D.Disk.tells told c.in-Ok.store c.in-Ok.ensures.opened J image)))
+
+pub returns-in-Err-clause-unopened : goal.returns-in-Err-clause-unopened
+returns-in-Err-clause-unopened g c = λ place is told. (
+  opening_read g.D.Disk.tells (g.D.Disk.view c.args.disk.now) (g.D.Disk.view c.args.other.now) (g.D.Disk.view c.open.new.disk) (g.D.Disk.view c.open.new.other) c.in-Err.fault place c.in-Err.ensures.opened is told,
+  refl,
+  refl,
+  refl,
+  refl,
+)
+
+pub returns-in-Ok-sync_on-clause-unopened : goal.returns-in-Ok-sync_on-clause-unopened
+returns-in-Ok-sync_on-clause-unopened g c = λ place is told.
+    let kept = c.in-Ok.ensures.opened.keeps told in
+    absurd (never_bad (c.answer.result) place (g.D.Disk.view c.args.disk.now).content (g.D.Disk.view c.args.other.now).content kept.0 kept.1 (returns-in-Ok-sync_on-clause-shows g c told) is)
+
+pub returns-clause-unopened : goal.returns-clause-unopened
+returns-clause-unopened g c = λ place is told.
+    let kept = c.in-Ok.ensures.opened.keeps told in
+    absurd (never_bad (RunEnd.Fault c.in-Err-sync_on.fault) place (g.D.Disk.view c.args.disk.now).content (g.D.Disk.view c.args.other.now).content kept.0 kept.1 (returns-clause-shows g c told) is)

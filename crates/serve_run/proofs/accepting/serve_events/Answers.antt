@@ -1,5 +1,5 @@
-use Rattle.std.proofs.Common.{◌∙◌, Err, sym, ap}
-use Rattle.serve_run.proofs.SessionsServed.{served_fault, served_whole, serving_bad}
+use Rattle.std.proofs.Common.{◌≡◌, ◌∙◌, Err, false, sym, ap}
+use Rattle.serve_run.proofs.SessionsServed.{came_counted, served_fault, served_whole, serving_bad, serving_counts, serving_over}
 use Rattle.serve_run.proofs.accepting.serve_events.Goals as goal
 
 pub returns-in-Ok-clause-session_served : goal.returns-in-Ok-clause-session_served
@@ -15,3 +15,16 @@ returns-in-Err-clause-session_served g c = λ told held holds.
 pub returns-in-Err-clause-no_bad_log : goal.returns-in-Err-clause-no_bad_log
 returns-in-Err-clause-no_bad_log g c = λ place is.
     c.in-Err.ensures.no_bad_log place (ap Err (serving_bad c.in-Err.fault place (sym c.session_after.ensures ∙ is)))
+
+pub returns-in-Ok-clause-counted : goal.returns-in-Ok-clause-counted
+returns-in-Ok-clause-counted g c =
+    came_counted c.last_seq-last.result c.args.cursor c.in-Ok.served.sent c.in-Ok.served.future c.session_of.result (g.G.Door.session_faults c.args.door.now) (g.G.Door.session_faults c.serve.new.door)
+    c.session_of.ensures c.in-Ok.ensures.steady
+
+pub returns-in-Err-clause-counted : goal.returns-in-Err-clause-counted
+returns-in-Err-clause-counted g c =
+    serving_counts c.in-Err.fault (g.G.Door.session_faults c.args.door.now) (g.G.Door.session_faults c.serve.new.door) c.session_after.result c.session_after.ensures c.in-Err.ensures.counted
+
+pub returns-in-Err-clause-closed : goal.returns-in-Err-clause-closed
+returns-in-Err-clause-closed g c =
+    serving_over c.in-Err.fault (g.G.Door.waits c.serve.new.door ≡ false) c.session_after.result c.session_after.ensures (λ n is. c.in-Err.ensures.over n (ap Err is))

@@ -1,4 +1,4 @@
-use Rattle.std.proofs.Common.{Err, sym, ap, arith, subst}
+use Rattle.std.proofs.Common.{Err, sym, ap, arith, subst, refl}
 use Rattle.std.specs.Prelude.{Some}
 use Rattle.std.proofs.lemmas.List.{append-nil}
 use Rattle.backfill.specs.Served.{served}
@@ -7,7 +7,7 @@ use Rattle.relay_store.specs.Shown.{held_by}
 use Rattle.relay_run.proofs.Beside.{opened_keeps}
 use Rattle.serve_run.specs.Ends.{ServeOpened, ServeEndShows}
 use Rattle.serve_run.specs.declared.end.ServeEnd.{ServeEnd}
-use Rattle.serve_run.proofs.Ending.{image_shows, nothing_written, opening_shows}
+use Rattle.serve_run.proofs.Ending.{image_shows, nothing_broken, nothing_written, opening_shows, opening_read}
 use Rattle.serve_run.proofs.Reading.{read_opened, read_unopened}
 use Rattle.serve_run.proofs.Short.{none_too_long}
 use Rattle.serve_run.proofs.replaying.replay.Goals as goal
@@ -15,6 +15,8 @@ use Rattle.serve_run.proofs.replaying.replay.Goals as goal
 pub returns-in-Ok-clause-replayed : goal.returns-in-Ok-clause-replayed
 returns-in-Ok-clause-replayed g c = λ told J image. record {
   written = c.replay_on.ensures.written told J
+      (opened_keeps g.D.Disk.tells (g.D.Disk.view c.args.disk.now) (g.D.Disk.view c.args.other.now) (g.D.Disk.view c.open.new.disk) (g.D.Disk.view c.open.new.other) c.in-Ok.store c.in-Ok.ensures.opened told J image);
+  unbroken = c.replay_on.ensures.unbroken told J
       (opened_keeps g.D.Disk.tells (g.D.Disk.view c.args.disk.now) (g.D.Disk.view c.args.other.now) (g.D.Disk.view c.open.new.disk) (g.D.Disk.view c.open.new.other) c.in-Ok.store c.in-Ok.ensures.opened told J image);
   read = read_opened g.D.Disk.tells (g.D.Disk.view c.args.disk.now) (g.D.Disk.view c.args.other.now) (g.D.Disk.view c.open.new.disk) (g.D.Disk.view c.open.new.other) (g.D.Disk.view c.replay_on.new.disk) (g.D.Disk.view c.replay_on.new.other)
       c.in-Ok.store (ServeOpened c.replay_on.result) J (g.met.D.Disk.is_disk c.open.new.disk) (g.met.D.Disk.is_disk c.open.new.other) c.in-Ok.ensures.opened told image c.replay_on.ensures.one c.replay_on.ensures.two;
@@ -29,6 +31,7 @@ returns-in-Ok-clause-shows g c = λ told.
 pub returns-in-Err-clause-replayed : goal.returns-in-Err-clause-replayed
 returns-in-Err-clause-replayed g c = λ told J image. record {
   written = λ _. nothing_written c.in-Err.fault c.of_opening.result (with_length (served (held_by J) (Some c.args.cursor))) (g.O.Sink.written c.args.out.now) c.of_opening.ensures (0, omega arith, sym (append-nil (g.O.Sink.written c.args.out.now)));
+  unbroken = λ _. nothing_broken c.of_opening.result _ (served (held_by J) (Some c.args.cursor)) (g.O.Sink.written c.args.out.now);
   read = read_unopened g.D.Disk.tells (g.D.Disk.view c.args.disk.now) (g.D.Disk.view c.args.other.now) (g.D.Disk.view c.open.new.disk) (g.D.Disk.view c.open.new.other) c.in-Err.fault c.of_opening.result J
       (g.met.D.Disk.is_disk c.open.new.disk) (g.met.D.Disk.is_disk c.open.new.other) c.in-Err.ensures.opened told c.of_opening.ensures;
 }
@@ -37,3 +40,12 @@ pub returns-in-Err-clause-shows : goal.returns-in-Err-clause-shows
 returns-in-Err-clause-shows g c = λ told.
     subst (λ (e : ServeEnd). ServeEndShows e (g.D.Disk.view c.args.disk.now).content (g.D.Disk.view c.args.other.now).content) (sym c.of_opening.ensures)
     (opening_shows c.in-Err.fault _ _ (λ p is. c.in-Err.ensures.bad_log p (ap Err is) told))
+
+pub returns-in-Err-clause-unopened : goal.returns-in-Err-clause-unopened
+returns-in-Err-clause-unopened g c = λ place is told. (
+  opening_read g.D.Disk.tells (g.D.Disk.view c.args.disk.now) (g.D.Disk.view c.args.other.now) (g.D.Disk.view c.open.new.disk) (g.D.Disk.view c.open.new.other) c.in-Err.fault c.of_opening.result place c.in-Err.ensures.opened c.of_opening.ensures is told,
+  refl,
+)
+
+pub returns-in-Ok-clause-unopened : goal.returns-in-Ok-clause-unopened
+returns-in-Ok-clause-unopened g c = λ place is told. absurd (c.replay_on.ensures.no_bad_log place is told)

@@ -14,3 +14,6 @@ returns-clause-no_bad_log g c = λ place is told.
 
 pub returns-clause-too_long : goal.returns-clause-too_long
 returns-clause-too_long g c = λ is told J keeps. c.replay_events.ensures.too_long is told (held_by J) (c.events-events.ensures.held told J keeps)
+
+pub returns-clause-unbroken : goal.returns-clause-unbroken
+returns-clause-unbroken g c = λ told J keeps. c.replay_events.ensures.unbroken told (held_by J) (c.events-events.ensures.held told J keeps)

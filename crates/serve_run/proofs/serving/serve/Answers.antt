@@ -1,11 +1,11 @@
-use Rattle.std.proofs.Common.{Err, sym, ap, subst}
+use Rattle.std.proofs.Common.{Err, sym, ap, subst, refl}
 use Rattle.relay_store.specs.Shown.{held_by}
 use Rattle.relay_run.proofs.Beside.{opened_keeps}
 use Rattle.serve_run.specs.AtDoor.{at_door}
 use Rattle.serve_run.specs.Ends.{ServeOpened, ServeEndShows}
 use Rattle.serve_run.specs.declared.end.ServeEnd.{ServeEnd}
-use Rattle.serve_run.proofs.Counting.{served_unopened}
-use Rattle.serve_run.proofs.Ending.{image_shows, opening_shows}
+use Rattle.serve_run.proofs.Counting.{opening_door, served_unopened}
+use Rattle.serve_run.proofs.Ending.{image_shows, opening_shows, opening_read}
 use Rattle.serve_run.proofs.Reading.{read_opened, read_unopened}
 use Rattle.serve_run.proofs.serving.serve.Goals as goal
 
@@ -42,3 +42,16 @@ pub returns-clause-shows : goal.returns-clause-shows
 returns-clause-shows g c = λ told.
     let kept = c.in-Ok.ensures.opened.keeps told in
     image_shows c.in-Err-serve_guests.end _ _ kept.0 kept.1 (λ p is. c.in-Err-serve_guests.ensures.no_bad_log p is told) c.in-Err-serve_guests.ensures.no_long
+
+pub returns-in-Err-clause-door_count : goal.returns-in-Err-clause-door_count
+returns-in-Err-clause-door_count g c = opening_door c.in-Err.fault (g.G.Door.faults c.args.door.now) c.of_opening.result c.of_opening.ensures
+
+pub returns-in-Err-clause-unopened : goal.returns-in-Err-clause-unopened
+returns-in-Err-clause-unopened g c = λ place is told. (
+  opening_read g.D.Disk.tells (g.D.Disk.view c.args.disk.now) (g.D.Disk.view c.args.other.now) (g.D.Disk.view c.open.new.disk) (g.D.Disk.view c.open.new.other) c.in-Err.fault c.of_opening.result place c.in-Err.ensures.opened c.of_opening.ensures is told,
+  refl,
+  refl,
+)
+
+pub returns-clause-unopened : goal.returns-clause-unopened
+returns-clause-unopened g c = λ place is told. absurd (c.in-Err-serve_guests.ensures.no_bad_log place is told)

@@ -1,13 +1,16 @@
-use Rattle.std.proofs.Common.{rules, ◌≡◌, ◌-◌, ◌<◌, Option, Ok, IfSome, arith, subst}
+use Rattle.std.proofs.Common.{rules, ◌≡◌, ◌∙◌, ◌-◌, ◌<◌, IsTrue, ℕ, Option, Ok, IfSome, arith, subst}
 use Rattle.relay_disk.proofs.Moments.{still_again}
 use Rattle.gate_log.specs.Pick.{view_of_side}
+use Rattle.relay_io.specs.Streams.{AddsFront}
 use Rattle.relay_store.specs.Shown.{held_by}
 use Rattle.relay_store.specs.Store.{seen_in}
 use Rattle.serve_run.specs.AtDoor.{GuestAccepted, at_door}
+use Rattle.serve_run.specs.Ends.{IsDoorCount}
 use Rattle.serve_run.specs.Guests.{GuestsServed}
+use Rattle.serve_run.specs.Sessions.{sessions_end_line}
 use Rattle.serve_run.specs.declared.end.ServeEnd.{ServeEnd}
 use Rattle.serve_run.specs.declared.session.Session.{Session}
-use Rattle.serve_run.proofs.Counting.{ended, ended_too, goes_side, keeps_still, serving_end, serving_more, serving_stopped, serving_unwritten}
+use Rattle.serve_run.proofs.Counting.{ended, ended_too, goes_side, keeps_still, serving_end, serving_more, serving_stopped, serving_unwritten, told_door, unwritten_door}
 use Rattle.serve_run.proofs.serving.serve_guests.Goals as goal
 
 pub returns-in_err-session-clause-served : goal.returns-in_err-session-clause-served
@@ -44,7 +47,7 @@ guests-preserved g c = record {
   within =
       let some = subst (λ (found : Option Session). IfSome found (λ _. 0 < c.args.count - c.guests.served)) c.in-Some.is c.in_ok-session.ensures.some in
       omega (arith, some, c.guests.invariant.within);
-  door_counts = omega (arith, c.guests.invariant.door_counts, c.in_ok-session.ensures.counts);
+  steady = c.in_ok-session.ensures.steady ∙ c.guests.invariant.steady;
   session_counts = omega (arith, c.guests.invariant.session_counts, c.in_ok-session.ensures.session_counts);
   out_counts = omega (arith, c.guests.invariant.out_counts, c.in_ok-write_session.ensures.counts);
 }
@@ -80,3 +83,20 @@ returns-clause-served g c = λ told J keeps.
     (at_door (g.G.Door.guests c.accept.new.door) (g.G.Door.turns c.accept.new.door) (g.G.Door.session_faults c.accept.new.door))
     (g.O.Sink.written c.args.out.now) (g.O.Sink.written c.guests.out) (c.guests.invariant.serving told J keeps)
     (g.O.Sink.written c.write_end.new.out) c.write_end.result accepted c.write_end.ensures.written c.write_end.ensures.front
+
+pub returns-in_err-session-clause-door_count : goal.returns-in_err-session-clause-door_count
+returns-in_err-session-clause-door_count g c =
+    let is : c.from_residual.result ≡ ended c.in_err-session.field-0.0 = search rules in
+    ended_too (λ (end : ServeEnd). IsDoorCount (g.G.Door.faults c.args.door.now) (g.G.Door.faults c.accept.new.door) end) c.from_residual.result c.in_err-session.field-0.0 is
+    (subst (λ (n : ℕ). IsDoorCount n (g.G.Door.faults c.accept.new.door) c.in_err-session.field-0.0) c.guests.invariant.steady c.in_err-session.ensures.door_count)
+
+pub returns-in_err-write_session-clause-door_count : goal.returns-in_err-write_session-clause-door_count
+returns-in_err-write_session-clause-door_count g c =
+    let is : c.from_residual-in_err-write_session.result ≡ ended c.in_err-write_session.field-0.0 = search rules in
+    ended_too (λ (end : ServeEnd). IsDoorCount (g.G.Door.faults c.args.door.now) (g.G.Door.faults c.accept.new.door) end) c.from_residual-in_err-write_session.result c.in_err-write_session.field-0.0 is
+    (unwritten_door c.in_err-write_session.field-0.0 (g.G.Door.faults c.args.door.now) (g.G.Door.faults c.accept.new.door) c.in_err-write_session.ensures.front.0 (c.in_ok-session.ensures.steady ∙ c.guests.invariant.steady))
+
+pub returns-clause-door_count : goal.returns-clause-door_count
+returns-clause-door_count g c =
+    told_door c.write_end.result (g.G.Door.faults c.args.door.now) (g.G.Door.faults c.accept.new.door) (IsTrue g.O.Sink.tells → AddsFront (g.O.Sink.written c.guests.out) (g.O.Sink.written c.write_end.new.out) (sessions_end_line c.guests.served))
+    c.write_end.ensures.front (c.in_ok-session.ensures.steady ∙ c.guests.invariant.steady)

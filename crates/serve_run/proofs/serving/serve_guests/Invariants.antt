@@ -1,4 +1,4 @@
-use Rattle.std.proofs.Common.{◌≤◌, ◌-◌, List, IsTrue}
+use Rattle.std.proofs.Common.{◌≡◌, ◌≤◌, ◌-◌, List, IsTrue}
 use Rattle.relay_disk.specs.Disk.{Goes, Same}
 use Rattle.gate_log.specs.Pick.{view_of_side}
 use Rattle.relay_row.specs.declared.row.Row.{Row}
@@ -18,7 +18,7 @@ invariant-guests g l =
           (at_door (g.G.Door.guests l.fn.door) (g.G.Door.turns l.fn.door) (g.G.Door.session_faults l.fn.door)) (at_door (g.G.Door.guests l.door) (g.G.Door.turns l.door) (g.G.Door.session_faults l.door))
           (g.O.Sink.written l.fn.out) (g.O.Sink.written l.out);
       within : l.served ≤ l.fn.count;
-      door_counts : g.G.Door.faults l.fn.door ≤ g.G.Door.faults l.door;
+      steady : g.G.Door.faults l.door ≡ g.G.Door.faults l.fn.door;
       session_counts : g.G.Door.session_faults l.fn.door ≤ g.G.Door.session_faults l.door;
       out_counts : g.O.Sink.faults l.fn.out ≤ g.O.Sink.faults l.out;
     }
