@@ -1,6 +1,7 @@
 /* Preloaded by `run` into the program under test: counts the calls that it makes of one of its parts, makes the one of a
    number fail, or that one and all behind it, and notes what the disks were told to do. A write that fails has done half of
-   its work. A call moves at most a number of bytes, where one is given. */
+   its work. A call moves at most a number of bytes, where one is given. Where a byte of the log is named, reads behind a
+   number of them give it changed; how many there were is noted at the end. */
 #define _GNU_SOURCE
 #include <errno.h>
 #include <fcntl.h>
@@ -23,6 +24,8 @@ static char part;
 static long number, seen;
 static size_t piece;
 static int is_fuse, trace = -1;
+static long changed = -1, reads, reads_as_kept;
+static unsigned char change;
 
 static void start(void) __attribute__((constructor));
 static void start(void) {
@@ -31,6 +34,16 @@ static void start(void) {
     is_fuse = getenv("FAILING_FUSE") != NULL;
     piece = getenv("FAILING_PIECE") ? atol(getenv("FAILING_PIECE")) : SIZE_MAX;
     trace = syscall(SYS_openat, AT_FDCWD, getenv("FAILING_TRACE"), O_WRONLY | O_CREAT | O_APPEND, 0600);
+    if (getenv("FAILING_CHANGED") == NULL) return;
+    changed = atol(getenv("FAILING_CHANGED"));
+    change = atoi(getenv("FAILING_CHANGE"));
+    reads_as_kept = atol(getenv("FAILING_READS"));
+}
+
+static void end(void) __attribute__((destructor));
+static void end(void) {
+    char line[64];
+    if (changed >= 0) syscall(SYS_write, trace, line, snprintf(line, sizeof line, "reads %ld\n", reads));
 }
 
 static int fails_of(char of) {
@@ -104,7 +117,11 @@ int close(int file) {
 ssize_t read(int file, void *room, size_t count) { return fails(file) ? -1 : syscall(SYS_read, file, room, part_of(count)); }
 
 ssize_t pread(int file, void *room, size_t count, off_t place) {
-    return fails(file) ? -1 : syscall(SYS_pread64, file, room, part_of(count), place);
+    if (fails(file)) return -1;
+    ssize_t done = syscall(SYS_pread64, file, room, part_of(count), place);
+    if (file < 0 || file >= FILES || parts[file] != 'd' || is_second[file]) return done;
+    if (++reads > reads_as_kept && changed >= place && changed < place + done) ((unsigned char *)room)[changed - place] ^= change;
+    return done;
 }
 
 ssize_t pread64(int file, void *room, size_t count, off_t place) { return pread(file, room, count, place); }

@@ -38,17 +38,20 @@ fn follow(rt: &HostRuntime, host: &str, cursor: u64) -> Result<()> {
     Ok(())
 }
 
-// Sends the message so many times to the guest who waits, and says how many were taken.
-fn send_times<G: Door>(door: &mut G, times: u64, message: &[u8]) -> u64
+// Sends the message so many times to the guest who waits, and ends the session. Says how many were
+// taken, and how it ended.
+fn send_times<G: Door>(door: &mut G, times: u64, message: &[u8]) -> (u64, &'static str)
     requires { IsTrue (G.waits door.old) }
-    ensures { IsTrue (G.waits door.new) }
 {
     'sends: for i in 0..times {
         if door.send(message).is_err() {
-            return i;
+            return (i, "failed");
         }
     }
-    times
+    if door.close().is_ok() {
+        return (times, "closed");
+    }
+    (times, "failed")
 }
 
 // Serves guests, each of whom gets the message so many times.
@@ -57,12 +60,7 @@ fn serve(rt: &HostRuntime, port: u16, guests: u64, times: u64, message: &[u8]) -
     for _ in 0..guests {
         match door.next()? {
             Guest::Target(target) => {
-                let sent = send_times(&mut door, times, message);
-                let end = if door.close().is_ok() {
-                    "closed"
-                } else {
-                    "failed"
-                };
+                let (sent, end) = send_times(&mut door, times, message);
                 println!(rt; "{} sent {sent} {end}", target.as_str())?;
             }
             Guest::NoHandshake => println!(rt; "no handshake")?,

@@ -1,5 +1,6 @@
-//! Bytes as they stand in a row.
+//! Bytes and numbers as they stand in a row.
 
+use crate::reading::number;
 use anyhow::{Context, Result};
 use std::alloc::Global;
 
@@ -9,6 +10,30 @@ pub fn bytes(alloc: Global, text: &str) -> Result<Vec<u8>> {
         return Ok(Vec::new(alloc));
     }
     hex::decode(alloc, text).context("hexadecimal")
+}
+
+/// The numbers with a comma between two, or `-` for none.
+pub(crate) fn numbers(alloc: Global, text: &str) -> Result<Vec<u64>> {
+    let mut numbers = Vec::new(alloc);
+    if text == "-" {
+        return Ok(numbers);
+    }
+    for word in text.split(',') {
+        numbers.push(number(word)?)?;
+    }
+    Ok(numbers)
+}
+
+/// The pieces in hexadecimal with a blank between two, or `-` for none.
+pub fn pieces(alloc: Global, text: &str) -> Result<Vec<Vec<u8>>> {
+    let mut pieces = Vec::new(alloc);
+    if text == "-" {
+        return Ok(pieces);
+    }
+    for word in text.split(' ') {
+        pieces.push(bytes(alloc, word)?)?;
+    }
+    Ok(pieces)
 }
 
 /// Adds the bytes in hexadecimal, or `-` where there are none.

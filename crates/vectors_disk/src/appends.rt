@@ -5,14 +5,13 @@ ghost use Rattle.std.specs.Prelude.{◌≤◌, IsTrue, OnOk};
 ghost use Rattle.gate_log.specs.Log.{IsOn};
 
 use crate::logging::{append, append_put};
-use crate::row::Row;
 use crate::texts::{MOST, with_call};
 use crate::words::disk_of;
 use anyhow::{Result, bail};
 use gate_log::{LAST_END, Log, LogFault};
 use relay_disk::{Call, Disk, MemoryDisk};
 use std::alloc::Global;
-use vector_lines::{Answer, Subject, said};
+use vector_lines::{Answer, Row, Subject, said};
 
 pub struct Appends;
 

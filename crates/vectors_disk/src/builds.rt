@@ -5,7 +5,6 @@ ghost use Rattle.std.specs.Prelude.{◌<◌};
 ghost use Rattle.at_cid.specs.declared.limits.TheConstants.{NUMBERS};
 
 use crate::pairs::pair_held;
-use crate::row::Row;
 use crate::texts::MOST;
 use crate::words::{disk_of, fuse_of};
 use crate::worst::image;
@@ -14,7 +13,7 @@ use at_cid::NUMBERS;
 use gate_log::{BODY_LENGTHS, Build, Log, LogFault};
 use relay_disk::{Disk, MemoryDisk, WORST_CASES};
 use std::alloc::Global;
-use vector_lines::{Answer, Subject};
+use vector_lines::{Answer, Row, Subject};
 
 pub struct Builds;
 

@@ -3,12 +3,11 @@
 ghost use Rattle.std.specs.Prelude.{◌≤◌, ◌-◌, All, IsTrue};
 ghost use Rattle.at_cid.specs.declared.limits.TheConstants.{NUMBERS};
 
-use crate::row::Row;
 use anyhow::{Result, bail};
 use at_cid::NUMBERS;
 use relay_io::{Clock, ListClock, SystemClock};
 use std::alloc::Global;
-use vector_lines::{Answer, Subject, had, said};
+use vector_lines::{Answer, Row, Subject, had, said};
 
 pub struct Clocks;
 

@@ -4,12 +4,11 @@
 use crate::logging::held;
 use crate::scripts::{Step, run, script};
 use crate::stops::added;
-use crate::words::pieces;
 use anyhow::Result;
 use relay_disk::{Disk, FileDisk, LazyFile};
 use std::alloc::Global;
 use std::fs;
-use vector_lines::{Answer, Subject};
+use vector_lines::{Answer, Subject, pieces};
 
 #[derive(Drop)]
 pub struct FileDisks<'a> {

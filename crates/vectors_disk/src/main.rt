@@ -11,7 +11,6 @@ mod logs;
 mod pairs;
 mod picks;
 mod reads;
-mod row;
 mod scripts;
 mod sinks;
 mod sources;

@@ -4,7 +4,6 @@
 
 use crate::logging::{append, bodies};
 use crate::picks::side_name;
-use crate::row::Row;
 use crate::texts::{MOST, log_fault};
 use crate::words::{disk_of, fuse_of};
 use crate::worst::image;
@@ -12,7 +11,7 @@ use anyhow::Result;
 use gate_log::{LogFault, Side, open_pair};
 use relay_disk::{Disk, MemoryDisk, WORST_CASES};
 use std::alloc::Global;
-use vector_lines::{Answer, Subject};
+use vector_lines::{Answer, Row, Subject};
 
 pub struct Pairs;
 

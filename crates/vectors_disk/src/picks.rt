@@ -1,12 +1,11 @@
 //! `ONE TWO = One, Two or BadLog(0)`: the disk that has the log, of two.
 
 use crate::pairs::two_disks;
-use crate::row::Row;
 use crate::texts::log_fault;
 use anyhow::Result;
 use gate_log::{Side, pick};
 use std::alloc::Global;
-use vector_lines::{Subject, said};
+use vector_lines::{Row, Subject, said};
 
 pub struct Picks;
 

@@ -1,7 +1,6 @@
 //! `CONTENT ; PLACE = body BYTES next PLACE, or BadLog(PLACE)`. Reading a body is stopped at each call in turn.
 
 use crate::logging::body_at;
-use crate::row::Row;
 use crate::texts::{MOST, log_fault};
 use crate::words::{disk_of, fuse_of};
 use anyhow::Result;
@@ -9,7 +8,7 @@ use at_cid::Octets;
 use gate_log::{Log, LogFault};
 use relay_disk::Disk;
 use std::alloc::Global;
-use vector_lines::{Answer, Subject};
+use vector_lines::{Answer, Row, Subject};
 
 pub struct Reads;
 

@@ -1,9 +1,9 @@
 //! Scripts of calls of a disk.
 
-use crate::row::Row;
 use anyhow::Result;
 use relay_disk::{Disk, Failed};
 use std::alloc::Global;
+use vector_lines::Row;
 
 /// A call of a script. A call on content asks the disk for its size first, and isn't made where it doesn't fit.
 #[derive(Drop)]

@@ -1,10 +1,9 @@
 //! `BYTES ; STEP ; ROOM ; FAILING = what is written, and whether all is`.
 
-use crate::row::Row;
 use anyhow::{Result, bail};
 use relay_io::{MemorySink, write_all};
 use std::alloc::Global;
-use vector_lines::{Answer, Subject, had};
+use vector_lines::{Answer, Row, Subject, had};
 
 pub struct Sinks;
 

@@ -1,11 +1,10 @@
 //! `BYTES ; STEP ; LIMIT ; FAILING = the bytes that are read to the end, or the fault`.
 
-use crate::row::Row;
 use anyhow::{Result, bail};
 use at_cid::Octets;
 use relay_io::{MemorySource, ReadFault, read_to_end};
 use std::alloc::Global;
-use vector_lines::{Answer, Subject, had, said};
+use vector_lines::{Answer, Row, Subject, had, said};
 
 pub struct Sources;
 

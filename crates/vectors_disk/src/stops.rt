@@ -3,7 +3,6 @@
 //! holds what was before, and the body can be appended, or what is after where the last call is all that is left.
 
 use crate::logging::{append, held};
-use crate::row::Row;
 use crate::texts::MOST;
 use crate::words::{disk_of, fuse_of};
 use crate::worst::image;
@@ -11,7 +10,7 @@ use anyhow::Result;
 use gate_log::{Log, LogFault};
 use relay_disk::{Disk, MemoryDisk, WORST_CASES};
 use std::alloc::Global;
-use vector_lines::{Answer, Subject};
+use vector_lines::{Answer, Row, Subject};
 
 pub struct Stops;
 

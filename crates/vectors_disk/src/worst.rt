@@ -1,12 +1,11 @@
 //! `CONTENT ; SCRIPT = IMAGE IMAGE IMAGE`: the worst cases of a crash behind a script.
 
-use crate::row::Row;
 use crate::scripts::{run, script};
 use crate::words::{ROOM, disk_of};
 use anyhow::{Context, Result};
 use relay_disk::{MemoryDisk, WORST_CASES};
 use std::alloc::Global;
-use vector_lines::{Answer, Subject, had};
+use vector_lines::{Answer, Row, Subject, had};
 
 pub struct Worst;
 

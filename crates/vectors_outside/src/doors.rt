@@ -67,7 +67,10 @@ impl Watched {
         }
         match self.door.send(message) {
             Ok(()) => Ok("sent"),
-            Err(DoorFault::Failed) => Ok("Failed"),
+            Err(DoorFault::Failed) => {
+                self.waits = false;
+                Ok("Failed")
+            }
             Err(DoorFault::Memory) => bail!("out of memory"),
         }
     }
@@ -107,6 +110,8 @@ fn with_turns(mut answer: Answer, turns: &[Turn]) -> Answer {
         answer = match turn {
             Turn::Came(guest) => answer.words(" came:").words(named(guest)),
             Turn::Sent(message) => answer.words(" sent:").bytes(message.as_slice()),
+            Turn::Closed => answer.words(" closed"),
+            Turn::Failed => answer.words(" failed"),
         };
     }
     answer

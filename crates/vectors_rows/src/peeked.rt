@@ -30,7 +30,10 @@ fn is_seen(row: &Row, peeked: Option<Peeked>) -> bool {
     match (sent(row), peeked) {
         (None, None) => true,
         (Some((of_repo, message)), Some(peeked)) => {
-            peeked.did == row.did() && peeked.of_repo == of_repo && peeked.message == message
+            peeked.did == row.did()
+                && peeked.of_repo == of_repo
+                && peeked.seq == row.seq()
+                && peeked.message == message
         }
         _ => false,
     }

@@ -4,11 +4,10 @@
 
 use crate::encoded::with_yes;
 use crate::parts::node_of;
-use crate::row::Row;
 use anyhow::{Result, bail};
 use mst_node::{Node, layer_of, next_key, node_fits, top_fits};
 use std::alloc::Global;
-use vector_lines::{Answer, Subject};
+use vector_lines::{Answer, Row, Subject};
 
 pub struct Fits;
 

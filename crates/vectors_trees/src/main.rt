@@ -15,7 +15,6 @@ mod playing;
 mod replays;
 mod roots;
 mod rounds;
-mod row;
 mod shown;
 mod trees;
 mod undoing;

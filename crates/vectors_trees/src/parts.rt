@@ -1,7 +1,6 @@
 //! `left LINK entries KEY>VALUE>RIGHT .. = a node, or no node`.
 
 use crate::nodes::with_node;
-use crate::row::Row;
 use anyhow::Result;
 use at_cid::{Memory, Octets};
 use mst_node::{
@@ -9,7 +8,7 @@ use mst_node::{
     write_front, write_node,
 };
 use std::alloc::Global;
-use vector_lines::{Answer, Subject, had, said};
+use vector_lines::{Answer, Row, Subject, had, said};
 
 pub struct Parts;
 

@@ -2,12 +2,11 @@
 //! map that fills it.
 
 use crate::laws::former_root;
-use crate::row::Row;
 use crate::words::{Change, change_of, formed_list};
 use anyhow::Result;
 use mst_list::ItemList;
 use std::alloc::Global;
-use vector_lines::{Answer, Subject, said};
+use vector_lines::{Answer, Row, Subject, said};
 
 pub struct Replays;
 

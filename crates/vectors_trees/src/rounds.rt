@@ -1,6 +1,5 @@
 //! `SEED ROUNDS = alike, of each ending more than 5`: undoing generated operations on trees with holes and on their lists.
 
-use crate::row::Row;
 use crate::shown::seen_whole;
 use crate::trees::put_tree;
 use crate::undoing::{undone_list, undone_tree};
@@ -11,7 +10,7 @@ use at_cid::{Cid, Octets, cid_of};
 use mst_list::{Item, ItemList, Op, OpList};
 use mst_view::StubTree;
 use std::alloc::Global;
-use vector_lines::{Answer, Subject, had, said};
+use vector_lines::{Answer, Row, Subject, had, said};
 
 pub struct Rounds;
 

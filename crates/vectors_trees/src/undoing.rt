@@ -4,7 +4,6 @@
 use crate::encoded::{with_tree, with_yes};
 use crate::filling::is_map;
 use crate::laws::former_root;
-use crate::row::Row;
 use crate::shown::{seen, tree_of};
 use crate::trees::root_of;
 use crate::views::view_fault;
@@ -16,7 +15,7 @@ use mst_list::{ItemList, OpList, UndoFault, guarded, undo_list};
 use mst_undo::{are_apart, undo};
 use mst_view::StubTree;
 use std::alloc::Global;
-use vector_lines::{Answer, Subject, had, parted, said};
+use vector_lines::{Answer, Row, Subject, had, parted, said};
 
 pub struct Undoing;
 

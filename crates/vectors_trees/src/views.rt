@@ -2,7 +2,6 @@
 //! how many keys the whole tree has.
 
 use crate::encoded::with_items;
-use crate::row::Row;
 use crate::shown::seen;
 use crate::walks::walked;
 use crate::words::blocks;
@@ -12,7 +11,7 @@ use at_cid::Cid;
 use mst_list::ItemList;
 use mst_view::{Branch, StubTree, ViewFault};
 use std::alloc::Global;
-use vector_lines::{Answer, Subject, had, said};
+use vector_lines::{Answer, Row, Subject, had, said};
 
 pub struct Views;
 

@@ -1,12 +1,11 @@
 //! `KEY:WAS>NOW ; VALUE ; clear or beside a hole = fine, other or uncovered`: what an operation is to a list by the value of its
 //! key there, and by whether a hole stands beside it.
 
-use crate::row::Row;
 use crate::words::operation;
 use anyhow::Result;
 use mst_list::{Verdict, weigh};
 use std::alloc::Global;
-use vector_lines::{Subject, said};
+use vector_lines::{Row, Subject, said};
 
 pub struct Weighs;
 

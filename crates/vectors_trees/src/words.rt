@@ -1,12 +1,11 @@
 //! Links, lists, operations and blocks as a row words them.
 
-use crate::row::Row;
 use anyhow::{Context, Result, bail};
 use at_car::Blocks;
 use at_cid::{Cid, cid_of};
 use mst_list::{Item, ItemList, Op, OpList};
 use std::alloc::Global;
-use vector_lines::{bytes, had, link};
+use vector_lines::{Row, bytes, had};
 
 /// The most operations of a commit.
 const MOST_OPERATIONS: usize = 200;
@@ -16,13 +15,6 @@ const MOST_OPERATIONS: usize = 200;
 pub struct Change {
     pub list: ItemList,
     pub ops: OpList,
-}
-
-pub fn link_or_none(text: &str) -> Result<Option<Cid>> {
-    if text == "-" {
-        return Ok(None);
-    }
-    Ok(Some(link(text)?))
 }
 
 // The item of a word `K:KEY:LINK` or `H:LAYER:LINK`.

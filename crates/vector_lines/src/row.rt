@@ -1,10 +1,11 @@
 //! The parts of a row.
 
-use crate::words::link_or_none;
+use crate::links::{link, link_or_none};
+use crate::reading::number;
+use crate::words::{bytes, numbers, pieces};
 use anyhow::{Result, bail};
 use at_cid::{Cid, Octets, cid_of};
 use std::alloc::Global;
-use vector_lines::{bytes, link, number};
 
 /// What is left of a row. Whether all of its parts could be read is told at the end, once: so a function that reads many parts
 /// has one error, and is proved quickly.
@@ -53,6 +54,11 @@ impl<'a> Row<'a> {
         }
     }
 
+    /// The next part, a number of bytes.
+    pub fn size(&mut self, mark: &str) -> usize {
+        self.number(mark) as usize
+    }
+
     /// The next part, the number of a layer.
     pub fn layer(&mut self, mark: &str) -> u8 {
         match u8::try_from(self.number(mark)) {
@@ -78,6 +84,28 @@ impl<'a> Row<'a> {
     /// The next part, bytes.
     pub fn octets(&mut self, mark: &str) -> Octets {
         Octets::from_vec(self.bytes(mark))
+    }
+
+    /// The next part, numbers.
+    pub fn numbers(&mut self, mark: &str) -> Vec<u64> {
+        match numbers(self.alloc, self.part(mark)) {
+            Ok(numbers) => numbers,
+            Err(_) => {
+                self.is_read = false;
+                Vec::new(self.alloc)
+            }
+        }
+    }
+
+    /// The next part, pieces.
+    pub fn pieces(&mut self, mark: &str) -> Vec<Vec<u8>> {
+        match pieces(self.alloc, self.part(mark)) {
+            Ok(pieces) => pieces,
+            Err(_) => {
+                self.is_read = false;
+                Vec::new(self.alloc)
+            }
+        }
     }
 
     /// The next part, a link.
