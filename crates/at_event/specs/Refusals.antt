@@ -1,6 +1,7 @@
 -- The number and the word of each refusal, own.
 use Rattle.std.specs.Prelude.{ℕ, List, [], ◌∷◌, ◌==◌, Option, Some, None, if◌then◌else◌, codes}
 use Rattle.at_event.specs.declared.refusal.Refusal.{Refusal}
+use Rattle.at_event.specs.declared.refusal.TheConstants.{BAD_NODE, OTHER_OP, NOT_COVERED, OTHER_DATA}
 
 -- the number in rows and reports
 abbrev pub code_of : Refusal → ℕ
@@ -23,10 +24,10 @@ code_of Refusal.BadCommit = 16
 code_of Refusal.OtherCommit = 17
 code_of Refusal.BadSignature = 18
 code_of Refusal.Gap = 19
-code_of (Refusal.BadNode a) = 20
-code_of (Refusal.OtherOp a) = 21
-code_of (Refusal.NotCovered a) = 22
-code_of (Refusal.OtherData a b) = 23
+code_of (Refusal.BadNode a) = BAD_NODE
+code_of (Refusal.OtherOp a) = OTHER_OP
+code_of (Refusal.NotCovered a) = NOT_COVERED
+code_of (Refusal.OtherData a b) = OTHER_DATA
 code_of Refusal.TooLong = 24
 code_of Refusal.FutureRev = 25
 code_of Refusal.NotCommit = 30

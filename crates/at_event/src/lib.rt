@@ -27,5 +27,5 @@ pub use map_fields::{
 pub use ops::{Action, EventOp, EventOps};
 pub use own::{account_frame, sync_frame};
 pub use reading::read_frame;
-pub use refusal::Refusal;
+pub use refusal::{BAD_NODE, NOT_COVERED, OTHER_DATA, OTHER_OP, Refusal};
 pub use writing::{frame_len, out_frame, out_len, write_frame};

@@ -5,6 +5,18 @@ ghost use Rattle.at_event.specs.Refusals.{code_of, refusal_name, plain_refusal};
 
 use at_cid::Cid;
 
+/// The number of [`Refusal::BadNode`].
+pub const BAD_NODE: u8 = 20;
+
+/// The number of [`Refusal::OtherOp`].
+pub const OTHER_OP: u8 = 21;
+
+/// The number of [`Refusal::NotCovered`].
+pub const NOT_COVERED: u8 = 22;
+
+/// The number of [`Refusal::OtherData`].
+pub const OTHER_DATA: u8 = 23;
+
 /// Why a message, or an operator's command, is refused.
 #[derive(Clone, Copy, Debug, PartialEq, Eq)]
 pub enum Refusal {
@@ -101,10 +113,10 @@ impl Refusal {
             Refusal::OtherCommit => 17,
             Refusal::BadSignature => 18,
             Refusal::Gap => 19,
-            Refusal::BadNode(_) => 20,
-            Refusal::OtherOp(_) => 21,
-            Refusal::NotCovered(_) => 22,
-            Refusal::OtherData(_, _) => 23,
+            Refusal::BadNode(_) => BAD_NODE,
+            Refusal::OtherOp(_) => OTHER_OP,
+            Refusal::NotCovered(_) => NOT_COVERED,
+            Refusal::OtherData(_, _) => OTHER_DATA,
             Refusal::TooLong => 24,
             Refusal::FutureRev => 25,
             Refusal::NotCommit => 30,

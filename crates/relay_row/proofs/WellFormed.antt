@@ -22,6 +22,7 @@ use Rattle.relay_row.specs.WellFormed.{GoesOut, IsAcceptedRow, IsCarriedAccount,
 use Rattle.relay_row.specs.declared.carried.Carried.{Carried}
 use Rattle.relay_row.specs.declared.carried.CarriedAccount.{CarriedAccount}
 use Rattle.relay_row.specs.declared.carried.CarriedRepo.{CarriedRepo}
+use Rattle.relay_row.specs.declared.limits.TheConstants.{PLACES}
 use Rattle.relay_row.specs.declared.fetched.Fetched.{Fetched}
 use Rattle.relay_row.specs.declared.fetched.Whole.{Whole}
 use Rattle.at_cid.specs.declared.limits.TheConstants.{NUMBERS}
@@ -165,8 +166,8 @@ detail_is Refusal.OtherCommit = yes tt
 detail_is Refusal.BadSignature = yes tt
 detail_is Refusal.Gap = yes tt
 detail_is (Refusal.BadNode link) = node_is link
-detail_is (Refusal.OtherOp place) = Decides-ltb place (2 ^ 32)
-detail_is (Refusal.NotCovered place) = Decides-ltb place (2 ^ 32)
+detail_is (Refusal.OtherOp place) = Decides-ltb place PLACES
+detail_is (Refusal.NotCovered place) = Decides-ltb place PLACES
 detail_is (Refusal.OtherData want got) = Decides-and (is_node want) (is_node got) (node_is want) (node_is got)
 detail_is Refusal.TooLong = yes tt
 detail_is Refusal.FutureRev = yes tt

@@ -3,6 +3,7 @@ use Rattle.std.specs.Prelude.{ℕ, zero, suc, ◌+◌, List, [], ◌∷◌, ◌=
 use Rattle.at_event.specs.Refusals.{plain_refusal}
 use Rattle.at_event.specs.declared.head.Head.{Head}
 use Rattle.at_event.specs.declared.refusal.Refusal.{Refusal}
+use Rattle.at_event.specs.declared.refusal.TheConstants.{BAD_NODE, OTHER_OP, NOT_COVERED, OTHER_DATA}
 use Rattle.relay_row.specs.declared.limits.TheConstants.{MOST_ROWS}
 use Rattle.relay_row.specs.declared.fetched.Whole.{Whole}
 use Rattle.relay_row.specs.declared.fetched.Fetched.{Fetched}
@@ -43,13 +44,13 @@ plain n = if n == 0 then Some None else option_map Some (plain_refusal n)
 
 unfoldable pub one_detail : ℕ → Reading (Option Refusal)
 one_detail n =
-    if n == 20 then (link_at >>= λ link. give (Some (Refusal.BadNode link)))
-    else (if n == 21 then (place_at >>= λ i. give (Some (Refusal.OtherOp i)))
-    else (if n == 22 then (place_at >>= λ i. give (Some (Refusal.NotCovered i)))
+    if n == BAD_NODE then (link_at >>= λ link. give (Some (Refusal.BadNode link)))
+    else (if n == OTHER_OP then (place_at >>= λ i. give (Some (Refusal.OtherOp i)))
+    else (if n == NOT_COVERED then (place_at >>= λ i. give (Some (Refusal.NotCovered i)))
     else fail))
 
 unfoldable pub two_details : ℕ → Reading (Option Refusal)
-two_details n = if n == 23 then (link_at >>= λ want. link_at >>= λ got. give (Some (Refusal.OtherData want got))) else fail
+two_details n = if n == OTHER_DATA then (link_at >>= λ want. link_at >>= λ got. give (Some (Refusal.OtherData want got))) else fail
 
 abbrev pub details : ℕ → ℕ → Reading (Option Refusal)
 details n count = if count == 0 then given (plain n) else (if count == 1 then one_detail n else (if count == 2 then two_details n else fail))

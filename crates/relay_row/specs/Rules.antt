@@ -13,6 +13,7 @@ use Rattle.at_event.specs.Refusals.{code_of}
 use Rattle.at_event.specs.declared.refusal.Refusal.{Refusal}
 use Rattle.at_cid.specs.declared.limits.TheConstants.{NUMBERS}
 use Rattle.at_form.specs.declared.forms.TheConstants.{LONGEST_SHORT_TEXT}
+use Rattle.relay_row.specs.declared.limits.TheConstants.{PLACES}
 use Rattle.relay_row.specs.declared.fetched.Whole.{Whole}
 use Rattle.relay_row.specs.declared.fetched.Fetched.{Fetched}
 use Rattle.relay_row.specs.declared.taken.Effect.{Effect}
@@ -85,8 +86,8 @@ is_whole w = is_positive w.seq && (is_head w.head && (is_number w.records && is_
 abbrev pub is_detail : Refusal → Bool
 is_detail (Refusal.BadNode link) = is_node link
 is_detail (Refusal.OtherData want got) = is_node want && is_node got
-is_detail (Refusal.OtherOp i) = nat_lt i (2 ^ 32)
-is_detail (Refusal.NotCovered i) = nat_lt i (2 ^ 32)
+is_detail (Refusal.OtherOp i) = nat_lt i PLACES
+is_detail (Refusal.NotCovered i) = nat_lt i PLACES
 is_detail refusal = true
 
 -- a refusal after which the account is lost and its repository is fetched

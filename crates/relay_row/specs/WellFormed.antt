@@ -10,6 +10,7 @@ use Rattle.at_event.specs.Refusals.{code_of}
 use Rattle.at_event.specs.declared.refusal.Refusal.{Refusal}
 use Rattle.at_cid.specs.declared.limits.TheConstants.{NUMBERS}
 use Rattle.at_form.specs.declared.forms.TheConstants.{LONGEST_SHORT_TEXT}
+use Rattle.relay_row.specs.declared.limits.TheConstants.{PLACES}
 use Rattle.relay_row.specs.declared.fetched.Whole.{Whole}
 use Rattle.relay_row.specs.declared.fetched.Fetched.{Fetched}
 use Rattle.relay_row.specs.declared.taken.Effect.{Effect}
@@ -71,8 +72,8 @@ pub record IsWhole (w : Whole) : Type 0 where
 abbrev pub IsDetail : Refusal → Type 0
 IsDetail (Refusal.BadNode link) = IsNodeLink link
 IsDetail (Refusal.OtherData want got) = IsNodeLink want × IsNodeLink got
-IsDetail (Refusal.OtherOp place) = place < 2 ^ 32
-IsDetail (Refusal.NotCovered place) = place < 2 ^ 32
+IsDetail (Refusal.OtherOp place) = place < PLACES
+IsDetail (Refusal.NotCovered place) = place < PLACES
 IsDetail refusal = ⊤
 
 -- the refusals after which the account is lost, so that its repository is fetched: too big, behind a gap, or without proof

@@ -13,7 +13,7 @@ use crate::items::{
 };
 use crate::reader::ItemReader;
 use crate::taken::Effect;
-use at_event::{Head, Refusal};
+use at_event::{BAD_NODE, Head, NOT_COVERED, OTHER_DATA, OTHER_OP, Refusal};
 
 #[tactic(auto, unfolding(crate::specs::Reading::head_at))]
 pub fn read_head(reader: &mut ItemReader) -> Result<Head, RowFault>
@@ -73,15 +73,15 @@ fn read_one_detail(reader: &mut ItemReader, code: u8) -> Result<Option<Refusal>,
     ensures { Reads (λ x. (x, reader.new.rest.now)) result (one_detail code reader.old.rest.now) }
 {
     match code {
-        20 => {
+        BAD_NODE => {
             let link = read_link(reader)?;
             Ok(Some(Refusal::BadNode(link)))
         }
-        21 => {
+        OTHER_OP => {
             let place = read_place(reader)?;
             Ok(Some(Refusal::OtherOp(place)))
         }
-        22 => {
+        NOT_COVERED => {
             let place = read_place(reader)?;
             Ok(Some(Refusal::NotCovered(place)))
         }
@@ -93,7 +93,7 @@ fn read_one_detail(reader: &mut ItemReader, code: u8) -> Result<Option<Refusal>,
 fn read_two_details(reader: &mut ItemReader, code: u8) -> Result<Option<Refusal>, RowFault>
     ensures { Reads (λ x. (x, reader.new.rest.now)) result (two_details code reader.old.rest.now) }
 {
-    if code != 23 {
+    if code != OTHER_DATA {
         return Err(RowFault::BadRow);
     }
     let want = read_link(reader)?;

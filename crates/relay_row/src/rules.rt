@@ -6,6 +6,7 @@ ghost use Rattle.relay_row.specs.Rules.{is_number, is_positive, is_moment, is_no
 
 use crate::carried::{Carried, CarriedRepo};
 use crate::fetched::{Fetched, Whole};
+use crate::limits::PLACES;
 use crate::operated::Operated;
 use crate::row::Row;
 use crate::taken::{Effect, Taken};
@@ -102,7 +103,7 @@ fn is_detail(refusal: &Refusal) -> bool
     match refusal {
         Refusal::BadNode(link) => is_node(link),
         Refusal::OtherData(want, got) => is_node(want) && is_node(got),
-        Refusal::OtherOp(place) | Refusal::NotCovered(place) => *place <= u32::MAX,
+        Refusal::OtherOp(place) | Refusal::NotCovered(place) => u64::from(*place) < PLACES,
         _ => true,
     }
 }
