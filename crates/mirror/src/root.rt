@@ -7,7 +7,7 @@ ghost use Rattle.mst_node.specs.Trees.{entries_at, first_part, part_link, root, 
 
 use at_cid::{Cid, Memory, Octets, cid_of};
 use mst_list::{Item, ItemList, height};
-use mst_node::{Entry, KeyBytes, encode_node};
+use mst_node::{Entry, encode_node};
 use std::alloc::Global;
 
 // The layer of the top node.
@@ -82,7 +82,7 @@ fn entries_at(alloc: Global, layer: u8, items: &[Item]) -> Result<Vec<Entry>, Me
             && height(key.as_slice()) == layer
         {
             let right = part_link(alloc, layer, first_part(others, layer))?;
-            let key = KeyBytes::from_slice(alloc, key.as_slice())?;
+            let key = key.try_clone()?;
             entries.push(Entry {
                 key,
                 value: *value,

@@ -1,4 +1,5 @@
 pub mod Height
+pub mod KeyBytes
 pub mod Lists
 pub mod Edits
 pub mod Faults

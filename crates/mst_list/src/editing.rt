@@ -4,6 +4,7 @@ ghost use Rattle.std.specs.Prelude.{◌≡◌, OnOk};
 ghost use Rattle.mst_list.specs.Edits.{put};
 
 use crate::item::Item;
+use crate::key_bytes::KeyBytes;
 use crate::scanning::{place_of, value_of};
 use at_cid::{Cid, Memory, Octets};
 
@@ -15,7 +16,7 @@ pub fn put(items: &mut Vec<Item>, key: &Octets, value: Option<Cid>) -> Result<()
     let visible = value_of(items.as_slice(), key.as_slice()).is_some();
     match value {
         Some(value) => {
-            let item = Item::Key(key.try_clone()?, value);
+            let item = Item::Key(KeyBytes::of(key)?, value);
             if visible {
                 items[at] = item;
             } else {

@@ -1,7 +1,8 @@
 //! The heights of keys.
 
-ghost use Rattle.std.specs.Prelude.{◌≡◌, ◌≤◌, ◌*◌, length};
+ghost use Rattle.std.specs.Prelude.{◌≡◌, ◌≤◌, ◌*◌, ◌++◌, ℕ, List, length};
 ghost use Rattle.at_cid.specs.declared.cid.TheConstants.{DIGEST_LEN};
+ghost use Rattle.sha2.specs.Hashers.{Holds256};
 ghost use Rattle.mst_list.specs.Height.{height, leading_zeros};
 ghost use Rattle.mst_list.specs.declared.limits.TheConstants.{MOST_HEIGHT};
 
@@ -31,5 +32,19 @@ pub fn height(key: &[u8]) -> u8
     ensures most { result ≤ MOST_HEIGHT }
 {
     let digest = Sha256::digest(key);
+    (leading_zeros(&digest) / 2) as u8
+}
+
+/// [`height`] of the key that has these bytes behind those that a hasher was given.
+#[tactic(auto, unfolding(crate::specs::Height::height))]
+pub fn height_behind(hasher: &Sha256, rest: &[u8]) -> u8
+    ensures value { (front : List ℕ) → Holds256 hasher.now front → result ≡ height (front ++ rest.now) }
+    ensures most { result ≤ MOST_HEIGHT }
+{
+    let Ok(mut hasher) = hasher.clone() else {
+        unreachable!()
+    };
+    hasher.update(rest);
+    let digest = hasher.finalize();
     (leading_zeros(&digest) / 2) as u8
 }

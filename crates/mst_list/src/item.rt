@@ -4,14 +4,15 @@ ghost use Rattle.std.specs.Prelude.{◌≡◌, ◌↔◌, ◌≤◌, IfOk, IsTru
 ghost use Rattle.at_cid.specs.Link.{IsBytes, IsLink, IsNodeLink};
 ghost use Rattle.mst_list.specs.Lists.{IsKey, IsFormed};
 
-use at_cid::{Cid, Kind, Memory, Octets, ghost_link};
+use crate::key_bytes::KeyBytes;
+use at_cid::{Cid, Kind, Memory, ghost_link};
 use std::alloc::Global;
 
 /// A key with the link of its record; or a hole, which is a subtree that is known by its link alone, with the layer of
 /// its top node.
 #[derive(Debug, Drop, PartialEq, Eq)]
 pub enum Item {
-    Key(Octets, Cid),
+    Key(KeyBytes, Cid),
     Hole(u8, Cid),
 }
 
@@ -19,11 +20,11 @@ pub enum Item {
 pub const MOST_KEY_BYTES: usize = 830;
 
 /// Whether a key has 1 to [`MOST_KEY_BYTES`] bytes.
-pub(crate) fn is_key(key: &Octets) -> bool
+pub(crate) fn is_key(key: &[u8]) -> bool
+    requires { IsBytes key.now }
     ensures { IsTrue result ↔ IsKey key.now }
 {
-    let bytes = key.as_slice();
-    !bytes.is_empty() && bytes.len() <= MOST_KEY_BYTES
+    !key.is_empty() && key.len() <= MOST_KEY_BYTES
 }
 
 impl Item {
@@ -34,7 +35,7 @@ impl Item {
         match self {
             Item::Key(key, value) => {
                 ghost_link(value);
-                is_key(key)
+                is_key(key.as_slice())
             }
             Item::Hole(_, link) => {
                 ghost_link(link);

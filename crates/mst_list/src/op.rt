@@ -21,6 +21,6 @@ impl Op {
     {
         ghost_link_or_none(&self.was);
         ghost_link_or_none(&self.now);
-        is_key(&self.key) && (self.was.is_some() || self.now.is_some())
+        is_key(self.key.as_slice()) && (self.was.is_some() || self.now.is_some())
     }
 }

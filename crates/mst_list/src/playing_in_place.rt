@@ -12,6 +12,7 @@ ghost use Rattle.mst_list.specs.Maps.{AllApply, IsJudgedFault, edited, items_put
 
 use crate::item::Item;
 use crate::item_list::ItemList;
+use crate::key_bytes::KeyBytes;
 use crate::op::Op;
 use crate::op_list::OpList;
 use crate::playing::PlayFault;
@@ -45,7 +46,7 @@ fn items_put(alloc: Global, ops: &[Op]) -> Result<Vec<Item>, Memory>
         left -= 1;
         let op = &ops[left];
         if let Some(value) = op.now {
-            made.push(Item::Key(op.key.try_clone()?, value))?;
+            made.push(Item::Key(KeyBytes::of(&op.key)?, value))?;
         }
     }
     Ok(made)

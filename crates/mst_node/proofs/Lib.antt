@@ -24,3 +24,4 @@ pub mod Steps
 pub mod Finds
 pub mod Gives
 pub mod Blames
+pub mod Fronts

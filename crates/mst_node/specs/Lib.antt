@@ -1,6 +1,5 @@
 pub mod NodeBytes
 pub mod Nodes
-pub mod KeyBytes
 pub mod Trees
 pub mod Covers
 pub mod NodeFaults
@@ -10,3 +9,4 @@ pub mod Laws
 pub mod Fits
 pub mod FirstFault
 pub mod TreeReading
+pub mod Fronts

@@ -4,8 +4,8 @@ ghost use Rattle.std.specs.Prelude.{◌≡◌, Bool, true, is_some};
 ghost use Rattle.mst_node.specs.Nodes.{entry_with};
 ghost use Rattle.mst_node.specs.declared.entry.Entry.{Entry};
 
-use crate::key_bytes::KeyBytes;
 use at_cid::Cid;
+use mst_list::KeyBytes;
 
 /// A key of a node with the link of its record, and what is known of the subtree to its right: its link at least.
 pub trait Keyed {

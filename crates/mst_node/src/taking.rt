@@ -9,11 +9,10 @@ ghost use Rattle.mst_node.specs.Reading.{key_before};
 ghost use Rattle.mst_node.specs.Taking.{IsTaken, key_at, right_at, value_at, goes_above, link_of, value_in, may_follow, next_at, entries_at, front_at, end_at, node_at};
 
 use crate::fault::NodeFault;
-use crate::key_bytes::KeyBytes;
 use crate::keyed::Keyed;
 use at_cbor::{Major, take_behind, take_bytes, take_child, take_list_front, take_number};
 use at_cid::{Cid, Kind, LINK_LEN, Memory, parse_binary};
-use mst_list::MOST_KEY_BYTES;
+use mst_list::{KeyBytes, MOST_KEY_BYTES};
 use std::alloc::Global;
 
 /// What begins with the link of an entry's value, its last field. What stands in front of the link is compared as a whole.

@@ -14,8 +14,7 @@ use crate::editing::single;
 use crate::gaps::{place, replace_gap};
 use crate::joining::join_below;
 use at_cid::{Cid, Memory, Octets};
-use mst_list::Op;
-use mst_node::KeyBytes;
+use mst_list::{KeyBytes, Op};
 use mst_view::{Below, Branch, Part, Rest};
 use std::alloc::Global;
 

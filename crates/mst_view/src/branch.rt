@@ -4,7 +4,8 @@ ghost use Rattle.std.specs.Prelude.{◌≡◌};
 ghost use Rattle.mst_view.specs.Layered.{stub_of};
 
 use at_cid::Cid;
-use mst_node::{KeyBytes, Keyed};
+use mst_list::KeyBytes;
+use mst_node::Keyed;
 use std::marker::Model;
 
 /// A node (Repository specification, MST structure), seen in contracts as its layer and the list of what it holds.

@@ -5,12 +5,11 @@ ghost use Rattle.mst_list.specs.Lists.{AreFormed};
 ghost use Rattle.mst_view.specs.Layered.{LiesBelow, below_items};
 
 use crate::branch::{Below, Branch};
-use at_cid::{Memory, Octets};
+use at_cid::Memory;
 use mst_list::{Item, ItemList};
-use std::alloc::Global;
 
 #[cycle(list)]
-fn list_below(alloc: Global, layer: u8, below: &Below, list: &mut ItemList) -> Result<(), Memory>
+fn list_below(layer: u8, below: &Below, list: &mut ItemList) -> Result<(), Memory>
     requires lies { LiesBelow layer below.now }
     requires formed { AreFormed (below_items layer below.now) }
     ensures { OnOk result (list.new ≡ list.old ++ below_items layer below.now) }
@@ -18,21 +17,21 @@ fn list_below(alloc: Global, layer: u8, below: &Below, list: &mut ItemList) -> R
     match below {
         Below::Empty => Ok(()),
         Below::Hole(link) => list.push(Item::Hole(layer - 1, *link)),
-        Below::Tree(branch) => list_branch(alloc, branch, list),
+        Below::Tree(branch) => list_branch(branch, list),
     }
 }
 
 /// Puts what a node holds at the end of a list.
 #[cycle(list)]
-pub(crate) fn list_branch(alloc: Global, branch: &Branch, list: &mut ItemList) -> Result<(), Memory>
+pub(crate) fn list_branch(branch: &Branch, list: &mut ItemList) -> Result<(), Memory>
     requires { AreFormed branch.now.items }
     ensures { OnOk result (list.new ≡ list.old ++ branch.now.items) }
 {
-    list_below(alloc, branch.layer, &branch.first, list)?;
+    list_below(branch.layer, &branch.first, list)?;
     for part in &branch.rest {
-        let key = Octets::from_slice(alloc, part.key.as_slice())?;
+        let key = part.key.try_clone()?;
         list.push(Item::Key(key, part.value))?;
-        list_below(alloc, branch.layer, &part.below, list)?;
+        list_below(branch.layer, &part.below, list)?;
     }
     Ok(())
 }

@@ -69,7 +69,7 @@ impl StubTree {
     {
         let mut list = ItemList::new(alloc);
         if let Some(top) = &self.top {
-            list_branch(alloc, top, &mut list)?;
+            list_branch(top, &mut list)?;
         }
         Ok(list)
     }

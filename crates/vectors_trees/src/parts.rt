@@ -3,9 +3,10 @@
 use crate::nodes::with_node;
 use anyhow::Result;
 use at_cid::{Memory, Octets};
+use mst_list::KeyBytes;
 use mst_node::{
-    Entries, Entry, KeyBytes, Node, bare_len, entry_len, read_node, write_end, write_entry,
-    write_front, write_node,
+    Entries, Entry, Node, bare_len, entry_len, read_node, write_end, write_entry, write_front,
+    write_node,
 };
 use std::alloc::Global;
 use vector_lines::{Answer, Row, Subject, had, said};

@@ -7,7 +7,7 @@ use crate::words::{Change, add_operation, put_block};
 use anyhow::Result;
 use at_car::Blocks;
 use at_cid::{Cid, Octets, cid_of};
-use mst_list::{Item, ItemList, Op, OpList};
+use mst_list::{Item, ItemList, KeyBytes, Op, OpList};
 use mst_view::StubTree;
 use std::alloc::Global;
 use vector_lines::{Answer, Row, Subject, had, said};
@@ -45,7 +45,7 @@ fn operation(seed: &mut u32) -> (Option<Cid>, Option<Cid>, bool) {
 
 // Adds a key with the value that is now there.
 fn hold(list: &mut ItemList, key: &Octets) -> Result<()> {
-    let item = Item::Key(had(key.try_clone())?, cid_of(b"now"));
+    let item = Item::Key(had(KeyBytes::of(key))?, cid_of(b"now"));
     if item.is_formed() {
         had(list.push(item))?;
     }

@@ -5,8 +5,8 @@ use crate::words::put_block;
 use anyhow::Result;
 use at_car::Blocks;
 use at_cid::Cid;
-use mst_list::{Item, ItemList, height};
-use mst_node::{EMPTY_NODE, Entry, KeyBytes, encode_node};
+use mst_list::{Item, ItemList, KeyBytes, height};
+use mst_node::{EMPTY_NODE, Entry, encode_node};
 use std::alloc::Global;
 use vector_lines::had;
 

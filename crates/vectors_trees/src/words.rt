@@ -3,7 +3,7 @@
 use anyhow::{Context, Result, bail};
 use at_car::Blocks;
 use at_cid::{Cid, cid_of};
-use mst_list::{Item, ItemList, Op, OpList};
+use mst_list::{Item, ItemList, KeyBytes, Op, OpList};
 use std::alloc::Global;
 use vector_lines::{Row, bytes, had};
 
@@ -21,7 +21,7 @@ pub struct Change {
 fn item(alloc: Global, word: &str) -> Result<Item> {
     let mut row = Row::new(alloc, word);
     let item = match row.part(":") {
-        "K" => Item::Key(row.octets(":"), row.link(":")),
+        "K" => Item::Key(had(KeyBytes::of(&row.octets(":")))?, row.link(":")),
         _ => Item::Hole(row.layer(":"), row.link(":")),
     };
     row.end()?;

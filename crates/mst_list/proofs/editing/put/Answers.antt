@@ -29,8 +29,8 @@ returns-then-visible c =
     let k = c.args.key.now in let F = c.args.items.now.items in let v = c.in-Some.value in
     let at : c.place_of-at.result ≡ length (before k F) = cc in
     let some : is_some (value_at k F) ≡ true = cc in
-    let copied : c.in_ok-try_clone-in-Some.field-0 ≡ k = c.in_ok-try_clone-in-Some.ensures in
-    ap (λ n. set F n (Key c.in_ok-try_clone-in-Some.field-0 v)) at ∙ ap (λ j. set F (length (before k F)) (Key j v)) copied
+    let copied : c.in_ok-of-in-Some.field-0 ≡ k = c.in_ok-of-in-Some.ensures in
+    ap (λ n. set F n (Key c.in_ok-of-in-Some.field-0 v)) at ∙ ap (λ j. set F (length (before k F)) (Key j v)) copied
     ∙ put_visible k v F some ∙ ap (λ o. put k o F) (sym c.in-Some.is)
 
 pub returns-in_ok-insert-in-Some : goal.returns-in_ok-insert-in-Some
@@ -38,9 +38,9 @@ returns-in_ok-insert-in-Some c =
     let k = c.args.key.now in let F = c.args.items.now.items in let v = c.in-Some.value in
     let at : c.place_of-at.result ≡ length (before k F) = cc in
     let some : is_some (value_at k F) ≡ false = cc in
-    let copied : c.in_ok-try_clone-in-Some.field-0 ≡ k = c.in_ok-try_clone-in-Some.ensures in
+    let copied : c.in_ok-of-in-Some.field-0 ≡ k = c.in_ok-of-in-Some.ensures in
     c.in_ok-insert-in-Some.ensures.items
-    ∙ ap (λ n. insert F n (Key c.in_ok-try_clone-in-Some.field-0 v)) at ∙ ap (λ j. insert F (length (before k F)) (Key j v)) copied
+    ∙ ap (λ n. insert F n (Key c.in_ok-of-in-Some.field-0 v)) at ∙ ap (λ j. insert F (length (before k F)) (Key j v)) copied
     ∙ put_absent k v F some ∙ ap (λ o. put k o F) (sym c.in-Some.is)
 
 pub returns-then-visible-2 : goal.returns-then-visible-2

@@ -1,4 +1,4 @@
-use Rattle.std.proofs.Common.{ℕ, List, sym, ap, ◌∙◌, subst, arith}
+use Rattle.std.proofs.Common.{ℕ, List, sym, ap, subst, arith}
 use Rattle.mst_list.specs.declared.item.Item.TheVariants.{Key}
 use Rattle.mst_list.specs.Lists.{IsFormed, AreFormed}
 use Rattle.mst_list.proofs.Fills.{formed_parts}
@@ -22,7 +22,7 @@ list_branch-push-requires t c =
     let W : Layered → Type 0 = λ v. AreFormed v.items in let V : List Part → Type 0 = λ x. AreFormed (rest_items h x) in
     let formed = subst V (sym c.deref-part-items.ensures.value) (formed_parts (below_items h first) (rest_items h c.branch.inside.rest.items) (subst W (sym c.branch.view_is) c.requires)).1 in
     let K : List ℕ → Type 0 = λ k. IsFormed (Key k p.value) in
-    subst K (sym (c.in_ok-key.ensures ∙ c.as_slice.ensures.value)) (part_formed h ps c.loop-part.part-index p formed c.loop-part-test.true c.part-item.is).0
+    subst K (sym c.in_ok-key.ensures) (part_formed h ps c.loop-part.part-index p formed c.loop-part-test.true c.part-item.is).0
 
 pub list_branch-list_below-requires-in-loop-part : goal.list_branch-list_below-requires-in-loop-part
 list_branch-list_below-requires-in-loop-part t c =

@@ -1,8 +1,10 @@
-//! The keys of entries.
+//! The keys of items and of entries.
 
-ghost use Rattle.std.specs.Prelude.{◌≡◌, ◌≤◌, ◌+◌, ◌++◌, length, take, IfOk, IfSome};
+ghost use Rattle.std.specs.Prelude.{◌≡◌, ◌≤◌, ◌+◌, ◌++◌, length, take, nat_eq, IfOk, IfSome};
+ghost use Rattle.std.specs.Cmp.{partial_equiv_from_equiv};
+ghost use Rattle.std.specs.Cmp.Lexicographic.{nat_list_eq_equiv, pointwise};
 ghost use Rattle.at_cid.specs.Link.{IsBytes};
-ghost use Rattle.mst_node.specs.KeyBytes.{kept_bytes};
+ghost use Rattle.mst_list.specs.KeyBytes.{kept_bytes};
 ghost use Rattle.at_cid.specs.declared.short_text.TheConstants.{MOST_SHORT_BYTES};
 
 use at_cid::{MOST_SHORT_BYTES, Memory, Octets, ghost_bytes};
@@ -28,11 +30,26 @@ impl Model for KeyBytes {
 
     ghost Value = { List ℕ };
 
-    ghost use Rattle.mst_node.specs.KeyBytes.{kept_bytes, IsKept};
+    ghost use Rattle.mst_list.specs.KeyBytes.{kept_bytes, IsKept};
 
     ghost view = { λ a. kept_bytes a.kept };
 
     ghost invariant = { λ a. IsKept a.kept };
+}
+
+impl PartialEq for KeyBytes {
+    ghost eq = { pointwise nat_eq };
+
+    ghost laws = { partial_equiv_from_equiv nat_list_eq_equiv };
+
+    #[inline]
+    fn eq(&self, other: &KeyBytes) -> bool {
+        self.as_slice() == other.as_slice()
+    }
+}
+
+impl Eq for KeyBytes {
+    ghost laws = { nat_list_eq_equiv };
 }
 
 /// The bytes of two slices, one behind the other, where they are few.
@@ -84,7 +101,7 @@ impl KeyBytes {
 
     /// So many of these bytes, and others behind them, where these and those are few.
     #[inline(always)]
-    pub(crate) fn going_on(&self, count: usize, tail: &[u8]) -> Option<KeyBytes>
+    pub fn going_on(&self, count: usize, tail: &[u8]) -> Option<KeyBytes>
         requires { count ≤ length self.now }
         ensures { IfSome result (λ key. key ≡ take count self.now ++ tail.now) }
     {
@@ -101,6 +118,19 @@ impl KeyBytes {
         ensures { IfOk result (λ key. key ≡ bytes.now) }
     {
         KeyBytes::joined(alloc, bytes, &[])
+    }
+
+    /// A copy of bytes that stand apart.
+    pub fn of(bytes: &Octets) -> Result<KeyBytes, Memory>
+        ensures { IfOk result (λ key. key ≡ bytes.now) }
+    {
+        if bytes.len() <= MOST_SHORT_BYTES {
+            return Ok(short(bytes.as_slice(), &[], bytes.len()));
+        }
+        let bytes = bytes.try_clone()?;
+        Ok(KeyBytes {
+            kept: Kept::Long(bytes),
+        })
     }
 
     /// The bytes.

@@ -1,7 +1,7 @@
 -- The bytes of keys, which are kept in an array where they are few.
 use Rattle.std.specs.Prelude.{ℕ, ◌≤◌, List, take}
-use Rattle.mst_node.specs.declared.key_bytes.Kept.{Kept}
-use Rattle.mst_node.specs.declared.key_bytes.Kept.TheVariants.{Short, Long}
+use Rattle.mst_list.specs.declared.key_bytes.Kept.{Kept}
+use Rattle.mst_list.specs.declared.key_bytes.Kept.TheVariants.{Short, Long}
 use Rattle.at_cid.specs.declared.short_text.TheConstants.{MOST_SHORT_BYTES}
 
 -- the bytes that are kept: the first ones of the array, or all
