@@ -1,6 +1,7 @@
 pub mod State
 pub mod Folds
 pub mod Entries
+pub mod Shape
 pub mod Tree
 pub mod Falls
 pub mod Dids

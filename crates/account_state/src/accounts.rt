@@ -14,7 +14,8 @@ use std::alloc::Global;
 use std::marker::Model;
 
 /// The accounts, each under its DID, seen in contracts as the list of them in the order of their DIDs. A DID that was
-/// touched and that no row names has room, and no account.
+/// touched and that no row names has room, and no account. They lie in a tree that is low whatever DIDs were touched in
+/// whatever order: n DIDs are at most 2 log2(n + 1) deep, and no call recurses deeper.
 #[derive(Drop)]
 pub struct Accounts {
     alloc: Global,
@@ -24,12 +25,13 @@ pub struct Accounts {
 impl Model for Accounts {
     ghost use Rattle.std.specs.Prelude.{List};
     ghost use Rattle.account_state.specs.Entries.{Entry, IsSorted};
+    ghost use Rattle.account_state.specs.Shape.{IsLow};
 
     ghost Value = { List Entry };
 
-    ghost view = { λ a. a.tree };
+    ghost view = { λ a. a.tree.entries };
 
-    ghost invariant = { λ a. IsSorted a.tree };
+    ghost invariant = { λ a. IsSorted a.tree.entries × IsLow a.tree };
 }
 
 impl Accounts {
@@ -62,6 +64,10 @@ impl Accounts {
     {
         if self.tree.get(did.as_bytes()).is_some() {
             return Ok(());
+        }
+        // A tree of this level has 2 ^ 255 - 1 accounts or more, for which no memory is large enough.
+        if self.tree.level() == u8::MAX {
+            return Err(Memory);
         }
         let node = TreeNode::unnamed(self.alloc, did)?;
         self.tree.insert(Box::new(self.alloc, node)?);

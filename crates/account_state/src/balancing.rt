@@ -1,71 +1,53 @@
 //! Keeping a search tree low.
 
-ghost use Rattle.std.specs.Prelude.{◌≡◌};
-ghost use Rattle.account_state.specs.Tree.{entries, node_entries};
+ghost use Rattle.std.specs.Prelude.{◌≡◌, ◌+◌, ◌<◌, ◌≤◌};
+ghost use Rattle.account_state.specs.Shape.{IsSide, Settles};
+ghost use Rattle.account_state.specs.Tree.{IsBalanced, node_entries, shape};
 
 use crate::tree::{Link, Tree, TreeNode};
 use std::mem;
 
-// Its level, and 0 where it is empty.
-fn level(tree: &Tree) -> u8 {
-    match &tree.link {
-        Link::Empty => 0,
-        Link::Fork(level, _) => *level,
-    }
-}
-
-// The level of what stands behind its first node.
-fn level_behind(tree: &Tree) -> u8 {
-    match &tree.link {
-        Link::Empty => 0,
-        Link::Fork(_, node) => level(&node.right),
-    }
-}
-
-// A node whose left side is on its level goes behind it.
-fn skew(at: u8, mut node: Box<TreeNode>) -> Link
-    ensures { entries result ≡ node_entries node.value }
+/// A node whose left side may have come to stand on its level, with a left side that is lower: the first node of a left
+/// side on its level goes before it. Takes no memory.
+pub(crate) fn skew(at: u8, mut node: Box<TreeNode>) -> Box<TreeNode>
+    requires left { IsSide at node.value.left }
+    requires left_ends { node.value.left.right_level < at }
+    requires right { IsSide at node.value.right }
+    requires right_ends { node.value.right.right_level < at }
+    ensures entries { node_entries result.value ≡ node_entries node.value }
+    ensures left { IsSide at result.value.left }
+    ensures lower { result.value.left.level + 1 ≡ at }
+    ensures right { IsSide at result.value.right }
+    ensures ends { result.value.right.right_level ≤ node.value.right.level }
 {
-    if level(&node.left) != at {
+    if node.left.level() != at {
+        return node;
+    }
+    let Link::Fork(_, mut left) = mem::replace(&mut node.left, Tree::new()).open() else {
+        unreachable!()
+    };
+    node.left = mem::replace(&mut left.right, Tree::new());
+    left.right = Tree::close(Link::Fork(at, node));
+    left
+}
+
+/// A node on whose level two more may stand to the right: of three in a row the middle one goes up. Takes no memory.
+pub(crate) fn split(at: u8, mut node: Box<TreeNode>) -> Link
+    requires left { IsSide at node.value.left }
+    requires lower { node.value.left.level + 1 ≡ at }
+    requires right { IsSide at node.value.right }
+    requires level { at < 255 }
+    ensures entries { (shape result).entries ≡ node_entries node.value }
+    ensures balanced { IsBalanced result }
+    ensures level { Settles at node.value.right.right_level (shape result) }
+{
+    if node.right.right_level() != at {
         return Link::Fork(at, node);
     }
-    match mem::replace(&mut node.left.link, Link::Empty) {
-        Link::Empty => Link::Fork(at, node),
-        Link::Fork(_, mut left) => {
-            node.left = mem::replace(&mut left.right, Tree::new());
-            left.right = Tree {
-                link: Link::Fork(at, node),
-            };
-            Link::Fork(at, left)
-        }
-    }
-}
-
-// Of three nodes on a level the middle one goes up.
-fn split(at: u8, mut node: Box<TreeNode>) -> Link
-    ensures { entries result ≡ node_entries node.value }
-{
-    if level_behind(&node.right) != at {
-        return Link::Fork(at, node);
-    }
-    match mem::replace(&mut node.right.link, Link::Empty) {
-        Link::Empty => Link::Fork(at, node),
-        Link::Fork(_, mut right) => {
-            node.right = mem::replace(&mut right.left, Tree::new());
-            right.left = Tree {
-                link: Link::Fork(at, node),
-            };
-            Link::Fork(at.saturating_add(1), right)
-        }
-    }
-}
-
-/// A node below which one more was put, brought to its level again. Takes no memory.
-pub(crate) fn balanced(at: u8, node: Box<TreeNode>) -> Link
-    ensures { entries result ≡ node_entries node.value }
-{
-    match skew(at, node) {
-        Link::Empty => Link::Empty,
-        Link::Fork(at, node) => split(at, node),
-    }
+    let Link::Fork(_, mut right) = mem::replace(&mut node.right, Tree::new()).open() else {
+        unreachable!()
+    };
+    node.right = mem::replace(&mut right.left, Tree::new());
+    right.left = Tree::close(Link::Fork(at, node));
+    Link::Fork(at + 1, right)
 }

@@ -9,26 +9,26 @@ pub invariant_of-self-2 : goal.invariant_of-self-2
 invariant_of-self-2 c =
     let e : Entry = (c.in_ok-new.field-0.value.name, c.in_ok-new.field-0.value.account) in
     let name : e.0 ≡ c.args.did.now = ap (λ (n : TreeNode). n.name) c.in_ok-new.ensures.ok ∙ c.in_ok-node.ensures.name in
-    let gone : found_entry c.args.did.now c.self.inside.tree ≡ None = ap (λ (text : List ℕ). found_entry text c.self.inside.tree) (sym c.as_bytes.ensures.value) ∙ absent_from _ c.get.result _ c.get.ensures (sym c.is_some.ensures ∙ c.if-is_some.false) in
-    touched_sorted c.args.self.now c.self.inside.tree c.insert.new.self c.self.view_is e c.args.did.now name gone c.insert.ensures c.self.invariant
+    let gone : found_entry c.args.did.now c.self.inside.tree.entries ≡ None = ap (λ (text : List ℕ). found_entry text c.self.inside.tree.entries) (sym c.as_bytes.ensures.value) ∙ absent_from _ c.get.result _ c.get.ensures (sym c.is_some.ensures ∙ c.if-is_some.false) in
+    (touched_sorted c.args.self.now c.self.inside.tree.entries c.insert.new.self.entries c.self.view_is e c.args.did.now name gone c.insert.ensures.entries c.self.invariant.0, c.insert.ensures.low)
 
 pub returns-clause-entries : goal.returns-clause-entries
 returns-clause-entries c =
     let e : Entry = (c.in_ok-new.field-0.value.name, c.in_ok-new.field-0.value.account) in
     let name : e.0 ≡ c.args.did.now = ap (λ (n : TreeNode). n.name) c.in_ok-new.ensures.ok ∙ c.in_ok-node.ensures.name in
-    let gone : found_entry c.args.did.now c.self.inside.tree ≡ None = ap (λ (text : List ℕ). found_entry text c.self.inside.tree) (sym c.as_bytes.ensures.value) ∙ absent_from _ c.get.result _ c.get.ensures (sym c.is_some.ensures ∙ c.if-is_some.false) in
-    touched_entries c.args.self.now c.self.inside.tree c.insert.new.self c.self.view_is e c.args.did.now name gone c.insert.ensures (ap (λ (n : TreeNode). known n.account) c.in_ok-new.ensures.ok ∙ c.in_ok-node.ensures.account)
+    let gone : found_entry c.args.did.now c.self.inside.tree.entries ≡ None = ap (λ (text : List ℕ). found_entry text c.self.inside.tree.entries) (sym c.as_bytes.ensures.value) ∙ absent_from _ c.get.result _ c.get.ensures (sym c.is_some.ensures ∙ c.if-is_some.false) in
+    touched_entries c.args.self.now c.self.inside.tree.entries c.insert.new.self.entries c.self.view_is e c.args.did.now name gone c.insert.ensures.entries (ap (λ (n : TreeNode). known n.account) c.in_ok-new.ensures.ok ∙ c.in_ok-node.ensures.account)
 
 pub returns-clause-room : goal.returns-clause-room
 returns-clause-room c =
     let e : Entry = (c.in_ok-new.field-0.value.name, c.in_ok-new.field-0.value.account) in
     let name : e.0 ≡ c.args.did.now = ap (λ (n : TreeNode). n.name) c.in_ok-new.ensures.ok ∙ c.in_ok-node.ensures.name in
-    let gone : found_entry c.args.did.now c.self.inside.tree ≡ None = ap (λ (text : List ℕ). found_entry text c.self.inside.tree) (sym c.as_bytes.ensures.value) ∙ absent_from _ c.get.result _ c.get.ensures (sym c.is_some.ensures ∙ c.if-is_some.false) in
-    touched_room c.args.self.now c.self.inside.tree c.insert.new.self c.self.view_is e c.args.did.now name gone c.insert.ensures
+    let gone : found_entry c.args.did.now c.self.inside.tree.entries ≡ None = ap (λ (text : List ℕ). found_entry text c.self.inside.tree.entries) (sym c.as_bytes.ensures.value) ∙ absent_from _ c.get.result _ c.get.ensures (sym c.is_some.ensures ∙ c.if-is_some.false) in
+    touched_room c.args.self.now c.self.inside.tree.entries c.insert.new.self.entries c.self.view_is e c.args.did.now name gone c.insert.ensures.entries
 
 pub returns-clause-kept : goal.returns-clause-kept
 returns-clause-kept c =
     let e : Entry = (c.in_ok-new.field-0.value.name, c.in_ok-new.field-0.value.account) in
     let name : e.0 ≡ c.args.did.now = ap (λ (n : TreeNode). n.name) c.in_ok-new.ensures.ok ∙ c.in_ok-node.ensures.name in
-    let gone : found_entry c.args.did.now c.self.inside.tree ≡ None = ap (λ (text : List ℕ). found_entry text c.self.inside.tree) (sym c.as_bytes.ensures.value) ∙ absent_from _ c.get.result _ c.get.ensures (sym c.is_some.ensures ∙ c.if-is_some.false) in
-    touched_kept c.args.self.now c.self.inside.tree c.insert.new.self c.self.view_is e c.args.did.now name gone c.insert.ensures
+    let gone : found_entry c.args.did.now c.self.inside.tree.entries ≡ None = ap (λ (text : List ℕ). found_entry text c.self.inside.tree.entries) (sym c.as_bytes.ensures.value) ∙ absent_from _ c.get.result _ c.get.ensures (sym c.is_some.ensures ∙ c.if-is_some.false) in
+    touched_kept c.args.self.now c.self.inside.tree.entries c.insert.new.self.entries c.self.view_is e c.args.did.now name gone c.insert.ensures.entries
