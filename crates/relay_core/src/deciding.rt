@@ -4,6 +4,7 @@
 ghost use Rattle.std.specs.Prelude.{◌≡◌, [], ◌∷◌, if◌then◌else◌};
 ghost use Rattle.at_event.specs.declared.event.Body.{Body};
 ghost use Rattle.at_event.specs.declared.frame.Frame.{Frame as TheFrame};
+ghost use Rattle.at_event.specs.Writing.{out_length};
 ghost use Rattle.account_state.specs.State.{State};
 ghost use Rattle.relay_core.specs.Entries.{state_in};
 ghost use Rattle.relay_core.specs.Table.{walk, next_at, next_of, refused, accepted, is_ahead, home_line, link_line, repo_lines, body_lines, event_lines, faulty_lines};
@@ -132,13 +133,14 @@ fn next_of_account(account: Option<&Account>, body: &Body, answers: &Answers) ->
     }
 }
 
-fn next_of_event(account: Option<&Account>, event: &Event, answers: &Answers) -> Next
+fn next_of_event(account: Option<&Account>, event: &Event, len: u64, answers: &Answers) -> Next
+    requires { len ≡ out_length event.now }
     ensures { result ≡ next_at (walk (event_lines (state_in account.entry) event.now answers.now)) (state_in account.entry) event.now.body answers.now.fetched }
 {
     if answers.moment.is_none() {
         return Next::Ask(Question::Moment);
     }
-    if out_len(event) > LONGEST_MESSAGE {
+    if len > LONGEST_MESSAGE {
         return refuse(Refusal::TooLong, answers);
     }
     match &event.body {
@@ -158,6 +160,24 @@ fn next_of_faulty(answers: &Answers) -> Next
     refuse(Refusal::BadEvent, answers)
 }
 
+/// What comes next for an event, at its host's cursor and the account of its DID, where `len` is how long it goes out at
+/// most, as [`out_len`] tells.
+pub fn next_for_event_of_len(
+    cursor: u64,
+    account: Option<&Account>,
+    event: &Event,
+    len: u64,
+    answers: &Answers,
+) -> Next
+    requires { len ≡ out_length event.now }
+    ensures { result ≡ next_of cursor (state_in account.entry) (TheFrame.Event event.now) answers.now }
+{
+    if event.seq <= cursor {
+        return Next::Pass(Pass::Old);
+    }
+    next_of_event(account, event, len, answers)
+}
+
 /// What comes next for an event, at its host's cursor and the account of its DID.
 pub fn next_for_event(
     cursor: u64,
@@ -167,10 +187,7 @@ pub fn next_for_event(
 ) -> Next
     ensures { result ≡ next_of cursor (state_in account.entry) (TheFrame.Event event.now) answers.now }
 {
-    if event.seq <= cursor {
-        return Next::Pass(Pass::Old);
-    }
-    next_of_event(account, event, answers)
+    next_for_event_of_len(cursor, account, event, out_len(event), answers)
 }
 
 /// What comes next for a message, at its host's cursor and the account of its DID.

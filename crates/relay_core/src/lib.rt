@@ -16,7 +16,7 @@ mod standing;
 mod state;
 
 pub use answers::{Answers, Question};
-pub use deciding::is_ahead;
+pub use deciding::{is_ahead, next_for_event_of_len};
 pub use decision::{Decision, Next, Pass};
 pub use journal_state::Core;
 pub use laws::{

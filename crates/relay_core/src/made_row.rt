@@ -142,6 +142,21 @@ fn take_faulty(alloc: Global, host: &str, seq: u64, moment: Option<u64>) -> Resu
 }
 
 impl Core {
+    /// The row of an event that is decided so, behind the last number. The event and the answers move into it.
+    pub fn row_of_event(
+        &self,
+        alloc: Global,
+        host: &str,
+        event: Event,
+        decision: &Decision,
+        answers: Answers,
+    ) -> Result<NewRow, Memory>
+        requires { goes_out decision.now.refusal decision.now.held ≡ true → self.now.last + 1 < NUMBERS }
+        ensures { IfOk result (λ taken. taken ≡ event_taken self.now.last host.now event decision.now answers) }
+    {
+        take_event(alloc, self.last, host, event, decision, answers)
+    }
+
     /// The row of a message that is decided so, behind the last number; none for a message that
     /// makes no row. The message and the answers move into it.
     pub fn row(
@@ -157,7 +172,7 @@ impl Core {
     {
         match frame {
             Frame::Event(event) => {
-                let row = take_event(alloc, self.last, host, event, decision, answers)?;
+                let row = self.row_of_event(alloc, host, event, decision, answers)?;
                 Ok(Some(row))
             }
             Frame::Faulty(seq) => {

@@ -35,6 +35,10 @@ IsSpentFor c host (Ok (Frame.Event e)) panel =
     × IsSpent (panel (method_of e.did))
 IsSpentFor c host other panel = ⊥
 
+-- no method lost the last of its authorities
+abbrev pub SpendsNone : Panel → Panel → Type 0
+SpendsNone old new = (name : List ℕ) → IsSpent (new name) → IsSpent (old name)
+
 -- what a message asked of the judges that comes to nothing
 abbrev pub AskedInVainOf : Panel → Result Frame FrameFault → Panel → Type 0
 AskedInVainOf old (Ok (Frame.Event e)) new = AskedInVain old e.did new

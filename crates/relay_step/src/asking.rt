@@ -1,36 +1,44 @@
 //! The questions about an event, asked one at a time.
 
-ghost use Rattle.std.specs.Prelude.{◌≡◌, ◌≤◌, ◌<◌, ℕ, List, true, false, Ok, IsTrue, IfOk, IfErr, OnOk, OnErr};
+ghost use Rattle.std.specs.Prelude.{◌≡◌, ◌≢◌, ◌≤◌, ◌<◌, ℕ, List, true, false, Ok, Err, IsTrue, IfOk, IfErr, OnOk, OnErr};
 ghost use Rattle.at_cid.specs.Counts.{Rose};
 ghost use Rattle.at_syntax.specs.Did.{is_did};
 ghost use Rattle.at_authority.specs.Panels.{Panel};
+ghost use Rattle.at_event.specs.Writing.{out_length};
 ghost use Rattle.at_event.specs.declared.frame.Frame.{Frame as AFrame};
-ghost use Rattle.relay_core.specs.Entries.{account_in, cursor_in};
+ghost use Rattle.relay_core.specs.Entries.{account_in, cursor_in, state_in};
 ghost use Rattle.relay_core.specs.Table.{next_of};
 ghost use Rattle.relay_core.specs.declared.decision.Next.{Next as ANext};
 ghost use Rattle.relay_step.specs.Asked.{AskedInVain};
-ghost use Rattle.relay_step.specs.Causes.{IsCause, IsSpentFor, OneTaken};
+ghost use Rattle.relay_step.specs.Causes.{IsCause, IsSpentFor, OneTaken, SpendsNone};
 ghost use Rattle.relay_step.specs.Fetches.{AskedPlain};
 ghost use Rattle.relay_step.specs.Questions.{AreAsked, IsReadFor, is_fetch, is_last, open_count};
 
 use crate::fault::StepFault;
 use crate::outside::{ask_home, ask_moment, ask_refresh};
 use crate::reading::{Read, follow, judge, last_rev, open};
-use account_state::Repo;
+use account_state::{Account, Repo};
 use at_authority::Judges;
-use at_event::Event;
-use relay_core::{Answers, Core, Next, Question};
+use at_event::{Event, out_len};
+use relay_core::{Answers, Core, Next, Question, next_for_event_of_len};
 use relay_io::Clock;
 use std::alloc::Global;
+
+// What is known of the repository of an account that was looked up.
+fn repo_in(account: Option<&Account>) -> Repo
+    ensures { result ≡ (state_in account.entry).repo }
+{
+    match account {
+        Some(account) => account.repo(),
+        None => Repo::Missing,
+    }
+}
 
 /// What is known of the repository of an account.
 pub(crate) fn repo_of(core: &Core, did: &str) -> Repo
     ensures { result ≡ (account_in core.now did.now).repo }
 {
-    match core.account(did) {
-        Some(account) => account.repo(),
-        None => Repo::Missing,
-    }
+    repo_in(core.account(did))
 }
 
 // Whether the account's repository is asked for.
@@ -67,6 +75,9 @@ fn ask_one<P: Judges, C: Clock>(
     ensures kept { OnErr result (IsTrue C.tells → C.moments clock.new ≡ C.moments clock.old) }
     ensures caused { IfErr result (IsCause ⊥ (IsSpentFor core.now host.now (Ok (AFrame.Event event.now)) (P.panel judges.new)) ⊥ (Rose (C.faults clock.old) (C.faults clock.new))) }
     ensures counts { C.faults clock.old ≤ C.faults clock.new }
+    ensures unspent { result ≢ Err StepFault.Authority
+        → SpendsNone (P.panel judges.old) (P.panel judges.new) }
+    ensures steady { result ≢ Err StepFault.Clock → C.faults clock.new ≡ C.faults clock.old }
 {
     let did = event.did.as_str();
     match question {
@@ -100,6 +111,65 @@ fn ask_one<P: Judges, C: Clock>(
     Ok(())
 }
 
+// Asks all that is to be known of an event before it is decided, or before its account's repository is fetched, where the
+// host's cursor, the account and its repository, and how long the event goes out at most, are known.
+fn ask_known<P: Judges, C: Clock>(
+    alloc: Global,
+    core: &Core,
+    host: &str,
+    event: &Event,
+    cursor: u64,
+    account: Option<&Account>,
+    repo: &Repo,
+    len: u64,
+    judges: &mut P,
+    clock: &mut C,
+) -> Result<(Next, Answers), StepFault>
+    requires cursor { cursor ≡ cursor_in core.now host.now }
+    requires account { state_in account ≡ account_in core.now event.now.did }
+    requires repo { repo.now ≡ (account_in core.now event.now.did).repo }
+    requires len { len ≡ out_length event.now }
+    requires did { IsTrue (is_did event.now.did) }
+    ensures asked { IfOk result (λ x. AreAsked C.tells core.now.last (cursor_in core.now host.now) (account_in core.now event.now.did) host.now event.now x.1 (P.panel judges.old) (C.moments clock.old) (P.panel judges.new) (C.moments clock.new)) }
+    ensures next { IfOk result (λ x. x.0 ≡ next_of (cursor_in core.now host.now) (account_in core.now event.now.did) (AFrame.Event event.now) x.1) }
+    ensures last { IfOk result (λ x. is_last x.0 ≡ true) }
+    ensures in_vain { OnErr result (AskedInVain (P.panel judges.old) event.now.did (P.panel judges.new)) }
+    ensures moments { OnErr result (IsTrue C.tells → OneTaken (C.moments clock.old) (C.moments clock.new)) }
+    ensures caused { IfErr result (IsCause ⊥ (IsSpentFor core.now host.now (Ok (AFrame.Event event.now)) (P.panel judges.new)) ⊥ (Rose (C.faults clock.old) (C.faults clock.new))) }
+    ensures counts { C.faults clock.old ≤ C.faults clock.new }
+    ensures unspent { result ≢ Err StepFault.Authority
+        → SpendsNone (P.panel judges.old) (P.panel judges.new) }
+    ensures steady { result ≢ Err StepFault.Clock → C.faults clock.new ≡ C.faults clock.old }
+{
+    let mut answers = Answers::new();
+    let mut read = Read::Nothing;
+    'asking: loop {
+        match next_for_event_of_len(cursor, account, event, len, &answers) {
+            Next::Ask(question) => {
+                if is_fetch(question) {
+                    return Ok((Next::Ask(question), answers));
+                }
+                match ask_one(
+                    alloc,
+                    core,
+                    host,
+                    event,
+                    repo,
+                    question,
+                    &mut answers,
+                    &mut read,
+                    judges,
+                    clock,
+                ) {
+                    Ok(()) => {}
+                    Err(fault) => return Err(fault),
+                }
+            }
+            next => return Ok((next, answers)),
+        }
+    }
+}
+
 /// Asks all that is to be known of an event before it is decided, or before its account's repository is fetched.
 pub(crate) fn ask_all<P: Judges, C: Clock>(
     alloc: Global,
@@ -117,33 +187,14 @@ pub(crate) fn ask_all<P: Judges, C: Clock>(
     ensures moments { OnErr result (IsTrue C.tells → OneTaken (C.moments clock.old) (C.moments clock.new)) }
     ensures caused { IfErr result (IsCause ⊥ (IsSpentFor core.now host.now (Ok (AFrame.Event event.now)) (P.panel judges.new)) ⊥ (Rose (C.faults clock.old) (C.faults clock.new))) }
     ensures counts { C.faults clock.old ≤ C.faults clock.new }
+    ensures unspent { result ≢ Err StepFault.Authority
+        → SpendsNone (P.panel judges.old) (P.panel judges.new) }
+    ensures steady { result ≢ Err StepFault.Clock → C.faults clock.new ≡ C.faults clock.old }
 {
-    let repo = repo_of(core, event.did.as_str());
-    let mut answers = Answers::new();
-    let mut read = Read::Nothing;
-    'asking: loop {
-        match core.next_for_event(host, event, &answers) {
-            Next::Ask(question) => {
-                if is_fetch(question) {
-                    return Ok((Next::Ask(question), answers));
-                }
-                match ask_one(
-                    alloc,
-                    core,
-                    host,
-                    event,
-                    &repo,
-                    question,
-                    &mut answers,
-                    &mut read,
-                    judges,
-                    clock,
-                ) {
-                    Ok(()) => {}
-                    Err(fault) => return Err(fault),
-                }
-            }
-            next => return Ok((next, answers)),
-        }
-    }
+    let account = core.account(event.did.as_str());
+    let repo = repo_in(account);
+    let (cursor, len) = (core.cursor(host), out_len(event));
+    ask_known(
+        alloc, core, host, event, cursor, account, &repo, len, judges, clock,
+    )
 }

@@ -1,6 +1,6 @@
 //! One message decided.
 
-ghost use Rattle.std.specs.Prelude.{◌≡◌, ◌≤◌, false, Ok, IsTrue, IfOk, IfErr, OnErr};
+ghost use Rattle.std.specs.Prelude.{◌≡◌, ◌≢◌, ◌≤◌, false, Ok, Err, IsTrue, IfOk, IfErr, OnErr};
 ghost use Rattle.at_cid.specs.Counts.{Rose};
 ghost use Rattle.at_syntax.specs.Host.{is_host};
 ghost use Rattle.at_event.specs.Formed.{IsFormedFrame};
@@ -8,7 +8,7 @@ ghost use Rattle.at_event.specs.Frames.{frame_of};
 ghost use Rattle.at_event.specs.declared.frame.Frame.{Frame as AFrame};
 ghost use Rattle.relay_step.specs.Around.{around};
 ghost use Rattle.relay_step.specs.Asked.{AskedInVain};
-ghost use Rattle.relay_step.specs.Causes.{AskedInVainOf, CameToNothing, IsCause, IsSpentFor, OneTaken};
+ghost use Rattle.relay_step.specs.Causes.{AskedInVainOf, CameToNothing, IsCause, IsSpentFor, OneTaken, SpendsNone};
 ghost use Rattle.relay_step.specs.Messages.{EndsNumbers, IsAsked, IsAskedOf, IsDecided, IsSkippedAs, KeepsJournal, told_as};
 ghost use Rattle.relay_step.specs.Steps.{rows_decided, step_of};
 ghost use Rattle.relay_step.specs.Taking.{EventDecided, OtherDecided, is_event};
@@ -45,6 +45,10 @@ fn decide_event<P: Judges, R: Repos, C: Clock>(
         (Rose (R.faults repos.old) (R.faults repos.new)) (Rose (C.faults clock.old) (C.faults clock.new))) }
     ensures clock_counts { C.faults clock.old ≤ C.faults clock.new }
     ensures repos_count { R.faults repos.old ≤ R.faults repos.new }
+    ensures unspent { result ≢ Err StepFault.Authority
+        → SpendsNone (P.panel judges.old) (P.panel judges.new) }
+    ensures clock_steady { result ≢ Err StepFault.Clock → C.faults clock.new ≡ C.faults clock.old }
+    ensures repos_steady { result ≢ Err StepFault.Repos → R.faults repos.new ≡ R.faults repos.old }
 {
     event.ghost_event();
     let (next, answers) = ask_all(alloc, core, host, &event, judges, clock)?;
@@ -68,6 +72,7 @@ fn decide_other<C: Clock>(
     ensures in_vain { OnErr result (IsTrue C.tells → OneTaken (C.moments clock.old) (C.moments clock.new)) }
     ensures caused { IfErr result (IsCause ⊥ ⊥ ⊥ (Rose (C.faults clock.old) (C.faults clock.new))) }
     ensures counts { C.faults clock.old ≤ C.faults clock.new }
+    ensures steady { result ≢ Err StepFault.Clock → C.faults clock.new ≡ C.faults clock.old }
 {
     let mut answers = Answers::new();
     match core.next(host, &frame, &answers) {
@@ -108,6 +113,10 @@ fn decide_frame<P: Judges, R: Repos, C: Clock>(
         (Rose (R.faults repos.old) (R.faults repos.new)) (Rose (C.faults clock.old) (C.faults clock.new))) }
     ensures clock_counts { C.faults clock.old ≤ C.faults clock.new }
     ensures repos_count { R.faults repos.old ≤ R.faults repos.new }
+    ensures unspent { result ≢ Err StepFault.Authority
+        → SpendsNone (P.panel judges.old) (P.panel judges.new) }
+    ensures clock_steady { result ≢ Err StepFault.Clock → C.faults clock.new ≡ C.faults clock.old }
+    ensures repos_steady { result ≢ Err StepFault.Repos → R.faults repos.new ≡ R.faults repos.old }
 {
     made_rows_are_formed();
     ghost_text(host);
@@ -151,6 +160,10 @@ pub fn decide_message<P: Judges, R: Repos, C: Clock>(
         (Rose (R.faults repos.old) (R.faults repos.new)) (Rose (C.faults clock.old) (C.faults clock.new))) }
     ensures clock_counts { C.faults clock.old ≤ C.faults clock.new }
     ensures repos_count { R.faults repos.old ≤ R.faults repos.new }
+    ensures unspent { result ≢ Err StepFault.Authority
+        → SpendsNone (P.panel judges.old) (P.panel judges.new) }
+    ensures clock_steady { result ≢ Err StepFault.Clock → C.faults clock.new ≡ C.faults clock.old }
+    ensures repos_steady { result ≢ Err StepFault.Repos → R.faults repos.new ≡ R.faults repos.old }
 {
     match read_frame(alloc, message) {
         Ok(frame) => decide_frame(alloc, core, host, frame, judges, repos, clock),

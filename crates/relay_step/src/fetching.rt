@@ -1,6 +1,6 @@
 //! The fetch of an account's repository.
 
-ghost use Rattle.std.specs.Prelude.{◌≡◌, ◌+◌, ◌≤◌, ◌<◌, ℕ, Option, Some, Ok, true, false, IsTrue, IfOk, IfErr, OnOk, OnErr};
+ghost use Rattle.std.specs.Prelude.{◌≡◌, ◌≢◌, ◌+◌, ◌≤◌, ◌<◌, ℕ, Option, Some, Ok, Err, true, false, IsTrue, IfOk, IfErr, OnOk, OnErr};
 ghost use Rattle.at_cid.specs.Counts.{Rose};
 ghost use Rattle.at_syntax.specs.Did.{is_did, method_of};
 ghost use Rattle.at_authority.specs.Calls.{AreCalls};
@@ -11,7 +11,7 @@ ghost use Rattle.at_cid.specs.declared.limits.TheConstants.{NUMBERS};
 ghost use Rattle.relay_core.specs.Decide.{is_found, whole_under};
 ghost use Rattle.relay_core.specs.Table.{is_ahead};
 ghost use Rattle.relay_step.specs.Around.{SameRepositories};
-ghost use Rattle.relay_step.specs.Causes.{IsCause};
+ghost use Rattle.relay_step.specs.Causes.{IsCause, SpendsNone};
 ghost use Rattle.relay_step.specs.Commands.{IsJudged};
 ghost use Rattle.relay_step.specs.Fetches.{AskedPlain, IsOfBytes, IsSent, IsTyped, MayBeKept, found_as, judged_as, made_of, refused_as};
 ghost use Rattle.relay_step.specs.Fetching.{AnsweredFetch, found_by, is_good, told_where, verdict_on};
@@ -58,6 +58,8 @@ fn judge_found<P: Judges>(
     ensures may { IfOk result (λ number. MayBeKept (judged_as found.now number)) }
     ensures in_vain { OnErr result (AskedPlain (P.panel judges.old) did.now (P.panel judges.new)) }
     ensures caused { IfErr result (IsCause ⊥ ((is_ahead found.now.head.rev (Some moment) ≡ false) × IsSpent (P.panel judges.new (method_of did.now))) ⊥ ⊥) }
+    ensures unspent { result ≢ Err StepFault.Authority
+        → SpendsNone (P.panel judges.old) (P.panel judges.new) }
 {
     found.head.rev.ghost_value();
     if is_ahead(found.head.rev, Some(moment)) {
@@ -106,6 +108,9 @@ pub(crate) fn fetch<P: Judges, R: Repos>(
     ensures caused { IfErr result (IsCause ⊥ ((IsTrue R.tells → IsJudged (R.repository repos.old did.now) did.now least moment) × IsSpent (P.panel judges.new (method_of did.now)))
         (Rose (R.faults repos.old) (R.faults repos.new)) ⊥) }
     ensures counts { R.faults repos.old ≤ R.faults repos.new }
+    ensures unspent { result ≢ Err StepFault.Authority
+        → SpendsNone (P.panel judges.old) (P.panel judges.new) }
+    ensures steady { result ≢ Err StepFault.Repos → R.faults repos.new ≡ R.faults repos.old }
 {
     match repos.open(did) {
         Ok(true) => {}

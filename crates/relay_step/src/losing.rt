@@ -1,6 +1,6 @@
 //! An event whose refusal loses its account: the account's repository is fetched.
 
-ghost use Rattle.std.specs.Prelude.{◌≡◌, ◌≤◌, length, Some, IsTrue, IfOk, IfErr, OnErr};
+ghost use Rattle.std.specs.Prelude.{◌≡◌, ◌≢◌, ◌≤◌, length, Some, Err, IsTrue, IfOk, IfErr, OnErr};
 ghost use Rattle.at_cid.specs.Counts.{Rose};
 ghost use Rattle.at_syntax.specs.Did.{is_did, method_of};
 ghost use Rattle.at_form.specs.declared.forms.TheConstants.{LONGEST_SHORT_TEXT};
@@ -11,7 +11,7 @@ ghost use Rattle.relay_core.specs.Table.{next_of};
 ghost use Rattle.relay_core.specs.declared.answers.Question.{Question as AQuestion};
 ghost use Rattle.relay_core.specs.declared.decision.Next.{Next as ANext};
 ghost use Rattle.relay_step.specs.Around.{SameRepositories};
-ghost use Rattle.relay_step.specs.Causes.{IsCause};
+ghost use Rattle.relay_step.specs.Causes.{IsCause, SpendsNone};
 ghost use Rattle.relay_step.specs.Fetches.{AskedPlain};
 ghost use Rattle.relay_step.specs.Taking.{LostEnds, LostRecorded};
 
@@ -45,6 +45,9 @@ pub(crate) fn take_lost<P: Judges, R: Repos>(
     ensures in_vain { OnErr result (AskedPlain (P.panel judges.old) event.did (P.panel judges.new)) }
     ensures caused { IfErr result (IsCause (LostEnds R.tells core.now event answers (P.panel judges.old) (R.repository repos.old) (P.panel judges.new)) (IsSpent (P.panel judges.new (method_of event.did))) (Rose (R.faults repos.old) (R.faults repos.new)) ⊥) }
     ensures counts { R.faults repos.old ≤ R.faults repos.new }
+    ensures unspent { result ≢ Err StepFault.Authority
+        → SpendsNone (P.panel judges.old) (P.panel judges.new) }
+    ensures steady { result ≢ Err StepFault.Repos → R.faults repos.new ≡ R.faults repos.old }
 {
     let did = event.did.as_str();
     let Some(moment) = answers.moment else {

@@ -1,6 +1,6 @@
 //! An account taken down or restored at an operator's command.
 
-ghost use Rattle.std.specs.Prelude.{◌≡◌, ◌≤◌, length, IsTrue, IfOk, IfErr, OnErr};
+ghost use Rattle.std.specs.Prelude.{◌≡◌, ◌≢◌, ◌≤◌, length, Err, IsTrue, IfOk, IfErr, OnErr};
 ghost use Rattle.at_cid.specs.Counts.{Rose};
 ghost use Rattle.at_syntax.specs.Did.{is_did};
 ghost use Rattle.at_form.specs.declared.forms.TheConstants.{LONGEST_SHORT_TEXT};
@@ -35,6 +35,7 @@ pub fn operate<C: Clock>(
     ensures in_vain { OnErr result (IsTrue C.tells → OneTaken (C.moments clock.old) (C.moments clock.new)) }
     ensures caused { IfErr result (IsCause (EndsBehind core.now did.now down) ⊥ ⊥ (Rose (C.faults clock.old) (C.faults clock.new))) }
     ensures counts { C.faults clock.old ≤ C.faults clock.new }
+    ensures steady { result ≢ Err StepFault.Clock → C.faults clock.new ≡ C.faults clock.old }
 {
     let moment = ask_moment(clock)?;
     if let Some(refusal) = core.operate_refusal(did, down) {

@@ -1,13 +1,13 @@
 //! The judges and the clock, asked once each.
 
-ghost use Rattle.std.specs.Prelude.{◌≡◌, ◌≤◌, ◌<◌, IsTrue, IfOk, IfErr, OnErr};
+ghost use Rattle.std.specs.Prelude.{◌≡◌, ◌≢◌, ◌≤◌, ◌<◌, Err, IsTrue, IfOk, IfErr, OnErr};
 ghost use Rattle.at_cid.specs.Counts.{Rose};
 ghost use Rattle.at_syntax.specs.Did.{is_did, method_of};
 ghost use Rattle.at_authority.specs.Calls.{IsCall, answers, refreshes};
 ghost use Rattle.at_authority.specs.Panels.{IsSpent};
 ghost use Rattle.at_authority.specs.Queries.{asks_home, asks_verdict};
 ghost use Rattle.at_cid.specs.declared.limits.TheConstants.{NUMBERS};
-ghost use Rattle.relay_step.specs.Causes.{IsCause, called};
+ghost use Rattle.relay_step.specs.Causes.{IsCause, SpendsNone, called};
 ghost use Rattle.relay_step.specs.Commands.{IsNow};
 
 use crate::fault::StepFault;
@@ -19,6 +19,8 @@ pub(crate) fn ask_home<P: Judges>(judges: &mut P, did: &str, host: &str) -> Resu
     requires { IsTrue (is_did did.now) }
     ensures call { IsCall (called did.now (answers (asks_home did.now host.now)) result) (P.panel judges.old) (P.panel judges.new) }
     ensures caused { IfErr result (IsCause ⊥ (IsSpent (P.panel judges.new (method_of did.now))) ⊥ ⊥) }
+    ensures unspent { result ≢ Err StepFault.Authority
+        → SpendsNone (P.panel judges.old) (P.panel judges.new) }
 {
     match judges.home(did, host) {
         Ok(is_home) => Ok(is_home),
@@ -37,6 +39,8 @@ pub(crate) fn ask_verdict<P: Judges>(
     requires { IsTrue (is_did did.now) }
     ensures call { IsCall (called did.now (answers (asks_verdict did.now digest.now sig.now)) result) (P.panel judges.old) (P.panel judges.new) }
     ensures caused { IfErr result (IsCause ⊥ (IsSpent (P.panel judges.new (method_of did.now))) ⊥ ⊥) }
+    ensures unspent { result ≢ Err StepFault.Authority
+        → SpendsNone (P.panel judges.old) (P.panel judges.new) }
 {
     match judges.verdict(did, digest, sig) {
         Ok(is_good) => Ok(is_good),
@@ -50,6 +54,8 @@ pub(crate) fn ask_refresh<P: Judges>(judges: &mut P, did: &str) -> Result<(), St
     requires { IsTrue (is_did did.now) }
     ensures call { IsCall (called did.now (λ _. refreshes did.now) result) (P.panel judges.old) (P.panel judges.new) }
     ensures caused { IfErr result (IsCause ⊥ (IsSpent (P.panel judges.new (method_of did.now))) ⊥ ⊥) }
+    ensures unspent { result ≢ Err StepFault.Authority
+        → SpendsNone (P.panel judges.old) (P.panel judges.new) }
 {
     match judges.refresh(did) {
         Ok(()) => Ok(()),
@@ -65,6 +71,7 @@ pub(crate) fn ask_moment<C: Clock>(clock: &mut C) -> Result<u64, StepFault>
     ensures kept { OnErr result (IsTrue C.tells → C.moments clock.new ≡ C.moments clock.old) }
     ensures caused { IfErr result (IsCause ⊥ ⊥ ⊥ (Rose (C.faults clock.old) (C.faults clock.new))) }
     ensures counts { C.faults clock.old ≤ C.faults clock.new }
+    ensures steady { result ≢ Err StepFault.Clock → C.faults clock.new ≡ C.faults clock.old }
 {
     match clock.now() {
         Ok(moment) => Ok(moment),

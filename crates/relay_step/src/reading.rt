@@ -1,6 +1,6 @@
 //! An event's blocks, read once: what is opened, what is judged, and what follows.
 
-ghost use Rattle.std.specs.Prelude.{◌≡◌, true, IsTrue, IfOk, IfErr, OnErr, Some};
+ghost use Rattle.std.specs.Prelude.{◌≡◌, ◌≢◌, true, Err, IsTrue, IfOk, IfErr, OnErr, Some};
 ghost use Rattle.at_syntax.specs.Did.{is_did, method_of};
 ghost use Rattle.at_authority.specs.Calls.{IsCall, AreCalls, fails};
 ghost use Rattle.at_authority.specs.Panels.{IsSpent};
@@ -9,7 +9,7 @@ ghost use Rattle.account_state.specs.Folds.{last_rev};
 ghost use Rattle.relay_law.specs.Formed.{IsOpenedAs};
 ghost use Rattle.relay_law.specs.Right.{expect_of};
 ghost use Rattle.relay_step.specs.Asked.{signed_by, verdict_call};
-ghost use Rattle.relay_step.specs.Causes.{IsCause};
+ghost use Rattle.relay_step.specs.Causes.{IsCause, SpendsNone};
 ghost use Rattle.relay_step.specs.Questions.{IsLinkAnswer, IsReadFor, IsReadOf, has_blocks, is_commit};
 ghost use Rattle.relay_step.specs.declared.fault.StepFault.{StepFault as Fault};
 
@@ -95,6 +95,8 @@ pub(crate) fn judge<P: Judges>(
     ensures calls { IfOk result (λ good. AreCalls (P.panel judges.old) (verdict_call event.now.did (signed_by event.now.body) good) (P.panel judges.new)) }
     ensures failed { OnErr result (IsCall (fails event.now.did) (P.panel judges.old) (P.panel judges.new)) }
     ensures caused { IfErr result (IsCause ⊥ (IsSpent (P.panel judges.new (method_of event.now.did))) ⊥ ⊥) }
+    ensures unspent { result ≢ Err StepFault.Authority
+        → SpendsNone (P.panel judges.old) (P.panel judges.new) }
 {
     match (&event.body, read) {
         (Body::Commit(_), Read::Commit(opened)) => ask_verdict(

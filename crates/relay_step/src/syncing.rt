@@ -1,12 +1,12 @@
 //! An account synchronized at an operator's command.
 
-ghost use Rattle.std.specs.Prelude.{◌≡◌, ◌≤◌, length, IsTrue, IfOk, IfErr, OnErr};
+ghost use Rattle.std.specs.Prelude.{◌≡◌, ◌≢◌, ◌≤◌, length, Err, IsTrue, IfOk, IfErr, OnErr};
 ghost use Rattle.at_cid.specs.Counts.{Rose};
 ghost use Rattle.at_syntax.specs.Did.{is_did};
 ghost use Rattle.at_form.specs.declared.forms.TheConstants.{LONGEST_SHORT_TEXT};
 ghost use Rattle.relay_step.specs.Asked.{AskedInVain};
 ghost use Rattle.relay_step.specs.Around.{around};
-ghost use Rattle.relay_step.specs.Causes.{CameToNothing, IsCause};
+ghost use Rattle.relay_step.specs.Causes.{CameToNothing, IsCause, SpendsNone};
 ghost use Rattle.relay_step.specs.Messages.{KeepsJournal};
 ghost use Rattle.relay_step.specs.Commands.{EndsFetched, SpentFetching, SyncedAt, rows_commanded};
 
@@ -48,6 +48,10 @@ pub fn sync_now<P: Judges, R: Repos, C: Clock>(
         (Rose (R.faults repos.old) (R.faults repos.new)) (Rose (C.faults clock.old) (C.faults clock.new))) }
     ensures clock_counts { C.faults clock.old ≤ C.faults clock.new }
     ensures repos_count { R.faults repos.old ≤ R.faults repos.new }
+    ensures unspent { result ≢ Err StepFault.Authority
+        → SpendsNone (P.panel judges.old) (P.panel judges.new) }
+    ensures clock_steady { result ≢ Err StepFault.Clock → C.faults clock.new ≡ C.faults clock.old }
+    ensures repos_steady { result ≢ Err StepFault.Repos → R.faults repos.new ≡ R.faults repos.old }
 {
     let moment = ask_moment(clock)?;
     if let Some(refusal) = core.sync_refusal(did) {

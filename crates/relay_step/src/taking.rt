@@ -9,7 +9,7 @@ ghost use Rattle.relay_step.specs.declared.decided.Decided.{Decided as Outcome};
 use crate::decided::Decided;
 use crate::fault::StepFault;
 use at_cid::NUMBERS;
-use at_event::{Event, Frame};
+use at_event::Event;
 use relay_core::{Answers, Core, Decision, goes_out};
 use std::alloc::Global;
 
@@ -37,8 +37,6 @@ pub(crate) fn take(
     if goes_out(decision) && is_full(core) {
         return Err(StepFault::SeqEnd);
     }
-    match core.row(alloc, host, Frame::Event(event), decision, answers)? {
-        Some(row) => Ok(Decided::Recorded(row)),
-        None => unreachable!(),
-    }
+    let row = core.row_of_event(alloc, host, event, decision, answers)?;
+    Ok(Decided::Recorded(row))
 }

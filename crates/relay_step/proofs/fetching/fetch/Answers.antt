@@ -1,6 +1,14 @@
-use Rattle.std.proofs.Common.{None, Some, ◌∙◌, arith}
+use Rattle.std.proofs.Common.{◌≡◌, ◌≢◌, ℕ, None, Some, ap, ◌∙◌, arith}
+use Rattle.repo_sync.specs.declared.fault.RepoFault.{RepoFault}
+use Rattle.relay_step.specs.Fetches.{refused_as}
 use Rattle.relay_step.proofs.Fetched.{judged_fetched, may_by, refused_fetched}
 use Rattle.relay_step.proofs.fetching.fetch.Goals as goal
+
+not_none : (n : ℕ) → Some n ≡ None → ⊥
+not_none n none = absurd cc
+
+refused_read : (fault : RepoFault) (n : ℕ) → Some n ≡ refused_as fault → fault ≢ RepoFault.Failed
+refused_read fault n refused is = not_none n (refused ∙ ap refused_as is)
 
 pub returns-in-Some : goal.returns-in-Some
 returns-in-Some g c =
@@ -13,6 +21,10 @@ returns-in-Some g c =
       in_vain = tt;
       caused = tt;
       counts = omega (arith, c.in-Ok-true.ensures.counts, c.in-Err.ensures.counts);
+      unspent = λ other name spent. spent;
+      steady = λ other. c.in-Err.ensures.steady (λ failed.
+          let same : c.in-Err.fault ≡ RepoFault.Failed = cc in
+          refused_read c.in-Err.fault c.in-Some.number c.in-Some.ensures same) ∙ c.in-Ok-true.ensures.steady;
     }
 
 pub returns-in-Ok-None-clause-fetched : goal.returns-in-Ok-None-clause-fetched
