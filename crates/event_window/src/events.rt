@@ -1,6 +1,6 @@
 //! Who gives out events.
 
-ghost use Rattle.std.specs.Prelude.{◌≡◌, ◌≤◌, ℕ, List, Bool, IsTrue, IfOk, IfSome, OnOk, OnErr};
+ghost use Rattle.std.specs.Prelude.{◌≡◌, ◌≤◌, ◌<◌, ◌^◌, ℕ, List, Bool, IsTrue, IfOk, IfSome, OnOk, OnErr, length};
 ghost use Rattle.at_cid.specs.Counts.{Rose};
 ghost use Rattle.event_window.specs.Held.{Held, IsNext, oldest_of};
 ghost use Rattle.event_window.specs.declared.fault.EventsFault.{EventsFault};
@@ -34,11 +34,13 @@ pub trait Events {
         ensures { IsTrue tells → (held : Held) → holds self.now held → result ≡ oldest_of held };
 
     /// The next event above a number that is shown: its number, and its message, which is put into the room in place of what was
-    /// there. What is read has to have the number that was kept, whether or not it is told what is held. Where there is none, and after a fault, nothing is said of the room.
+    /// there. What is read has to have the number that was kept, and fewer than 2^32 bytes, whether or not it is told what is held.
+    /// Where there is none, and after a fault, nothing is said of the room.
     fn next_after(&mut self, seq: u64, room: &mut Octets) -> Result<Option<u64>, EventsFault>
         requires known { IsTrue tells → (held : Held) × holds self.old held }
         ensures next { IfOk result (λ found. IsTrue tells → (held : Held) → holds self.old held → IsNext seq held.shown found room.new) }
         ensures read { IfOk result (λ found. IfSome found (λ n. is_read self.new n room.new)) }
+        ensures short { IfOk result (λ found. IfSome found (λ n. length room.new < 2 ^ 32)) }
         ensures same { IsTrue tells → (held : Held) → holds self.old held → holds self.new held }
         ensures later { later self.old self.new }
         ensures steady { OnOk result (faults self.new ≡ faults self.old) }

@@ -53,13 +53,6 @@ impl Window {
         Ok(())
     }
 
-    /// All of them.
-    pub fn as_slice(&self) -> &[Place]
-        ensures { result.now ≡ self.now.places }
-    {
-        self.places.as_slice()
-    }
-
     /// For how many more there is room.
     pub fn spare(&self) -> usize
         ensures { result ≡ self.now.spare }

@@ -1,5 +1,5 @@
 //! The log itself: its end on the disk, and the room in which records are put together.
-ghost use Rattle.std.specs.Prelude.{◌≡◌, ◌≤◌, ◌<◌, ◌+◌, ◌↔◌, ◌++◌, ◌∷◌, [], List, ℕ, false, true, max, length, vec_capacity, IsTrue, IfOk, OnOk, OnErr};
+ghost use Rattle.std.specs.Prelude.{◌≡◌, ◌≤◌, ◌<◌, ◌+◌, ◌^◌, ◌↔◌, ◌++◌, ◌∷◌, [], List, ℕ, false, true, max, length, vec_capacity, IsTrue, IfOk, OnOk, OnErr};
 ghost use Rattle.at_cid.specs.Counts.{Rose};
 ghost use Rattle.relay_disk.specs.Disk.{Goes, Same, IsSynced};
 ghost use Rattle.relay_disk.specs.Moments.{LeavesOnly};
@@ -330,6 +330,7 @@ impl Log {
             → HoldsBodies (before ++ body ∷ after) self.now (D.view disk.old) → place ≡ place_behind self.now before
             → (room.new.items ≡ body) × (next ≡ place + BEFORE_BODY + length body)) }
         ensures next { IfOk result (λ next. (place < next) × (next ≤ self.now.end)) }
+        ensures short { OnOk result (length room.new.items < 2 ^ 32) }
         ensures bad_log { (p : ℕ) → result ≡ Err (LogFault.BadLog p) → IsTrue D.tells
             → (before : List (List ℕ)) (body : List ℕ) (after : List (List ℕ))
             → HoldsBodies (before ++ body ∷ after) self.now (D.view disk.old) → place ≡ place_behind self.now before → ⊥ }

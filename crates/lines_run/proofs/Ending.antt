@@ -18,18 +18,16 @@ output_end ReplayFault.Output is = refl
 output_end ReplayFault.Disk is = absurd cc
 output_end ReplayFault.Memory is = absurd cc
 output_end (ReplayFault.BadLog place) is = absurd cc
-output_end ReplayFault.TooLong is = absurd cc
 
 -- an end of disks that were opened, where no failure comes
 pub may_end : (disk write : Type 0) (end : ServeEnd) → (end ≡ ServeEnd.Disk → disk) → (end ≡ ServeEnd.WriteFault → write) → (end ≡ ServeEnd.Door → ⊥)
-    → ((place : ℕ) → end ≡ ServeEnd.BadLog place → ⊥) → (end ≡ ServeEnd.TooLong → ⊥) → (disk → ⊥) → (write → ⊥) → MayEnd end
-may_end disk write ServeEnd.Done failed unwritten no_door no_bad no_long no_disk no_write = tt
-may_end disk write ServeEnd.WriteFault failed unwritten no_door no_bad no_long no_disk no_write = absurd (no_write (unwritten refl))
-may_end disk write ServeEnd.Door failed unwritten no_door no_bad no_long no_disk no_write = absurd (no_door refl)
-may_end disk write ServeEnd.Disk failed unwritten no_door no_bad no_long no_disk no_write = absurd (no_disk (failed refl))
-may_end disk write (ServeEnd.BadLog place) failed unwritten no_door no_bad no_long no_disk no_write = absurd (no_bad place refl)
-may_end disk write ServeEnd.Memory failed unwritten no_door no_bad no_long no_disk no_write = tt
-may_end disk write ServeEnd.TooLong failed unwritten no_door no_bad no_long no_disk no_write = absurd (no_long refl)
+    → ((place : ℕ) → end ≡ ServeEnd.BadLog place → ⊥) → (disk → ⊥) → (write → ⊥) → MayEnd end
+may_end disk write ServeEnd.Done failed unwritten no_door no_bad no_disk no_write = tt
+may_end disk write ServeEnd.WriteFault failed unwritten no_door no_bad no_disk no_write = absurd (no_write (unwritten refl))
+may_end disk write ServeEnd.Door failed unwritten no_door no_bad no_disk no_write = absurd (no_door refl)
+may_end disk write ServeEnd.Disk failed unwritten no_door no_bad no_disk no_write = absurd (no_disk (failed refl))
+may_end disk write (ServeEnd.BadLog place) failed unwritten no_door no_bad no_disk no_write = absurd (no_bad place refl)
+may_end disk write ServeEnd.Memory failed unwritten no_door no_bad no_disk no_write = tt
 
 opening_may : (disk : Type 0) (fault : StoreFault) → (fault ≡ StoreFault.Disk → disk) → ((place : ℕ) → fault ≡ StoreFault.BadLog place → ⊥) → (disk → ⊥) → MayEnd (end_of_opening fault)
 opening_may disk StoreFault.Disk failed no_bad no_disk = absurd (no_disk (failed refl))

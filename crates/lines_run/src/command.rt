@@ -48,7 +48,6 @@ fn lines_of_events<E: Events, O: Sink>(
     ensures no_door { result ≡ ServeEnd.Door → ⊥ }
     ensures no_bad_log { (place : ℕ) → result ≡ ServeEnd.BadLog place
         → IsTrue E.tells → (held : Held) → E.holds events.old held → ⊥ }
-    ensures no_long { result ≡ ServeEnd.TooLong → ⊥ }
     ensures counts { O.faults out.old ≤ O.faults out.new }
 {
     match write_lines(alloc, events, cursor, collection, out) {
@@ -79,7 +78,6 @@ fn lines_from<D: Disk, O: Sink>(
         → O.faults out.new ≡ O.faults out.old }
     ensures no_door { result ≡ ServeEnd.Door → ⊥ }
     ensures no_bad_log { (place : ℕ) → result ≡ ServeEnd.BadLog place → IsTrue D.tells → ⊥ }
-    ensures no_long { result ≡ ServeEnd.TooLong → ⊥ }
     ensures counts { O.faults out.old ≤ O.faults out.new }
 {
     let mut events = store.events(alloc, disk);
@@ -113,7 +111,6 @@ fn lines_on<D: Disk, O: Sink>(
         → O.faults out.new ≡ O.faults out.old }
     ensures no_door { result ≡ ServeEnd.Door → ⊥ }
     ensures no_bad_log { (place : ℕ) → result ≡ ServeEnd.BadLog place → IsTrue D.tells → ⊥ }
-    ensures no_long { result ≡ ServeEnd.TooLong → ⊥ }
     ensures counts { O.faults out.old ≤ O.faults out.new }
 {
     match store.side() {
@@ -159,7 +156,6 @@ pub fn lines<D: Disk, O: Sink>(
         → (Rose (O.faults out.old) (O.faults out.new) → ⊥) → MayEnd result }
     ensures no_fault { (result ≡ ServeEnd.WriteFault → ⊥)
         → O.faults out.new ≡ O.faults out.old }
-    ensures no_long { result ≡ ServeEnd.TooLong → ⊥ }
     ensures disk_counts { (D.view disk.old).faults ≤ (D.view disk.new).faults }
     ensures other_counts { (D.view other.old).faults ≤ (D.view other.new).faults }
     ensures out_counts { O.faults out.old ≤ O.faults out.new }

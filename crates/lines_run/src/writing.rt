@@ -104,7 +104,6 @@ pub fn write_lines<E: Events, O: Sink>(
         → O.faults out.new ≡ O.faults out.old }
     ensures no_bad_log { (place : ℕ) → result ≡ Err (ReplayFault.BadLog place)
         → IsTrue E.tells → (held : Held) → E.holds events.old held → ⊥ }
-    ensures no_long { result ≡ Err ReplayFault.TooLong → ⊥ }
     ensures event_counts { E.faults events.old ≤ E.faults events.new }
     ensures counts { O.faults out.old ≤ O.faults out.new }
 {

@@ -1,6 +1,6 @@
 //! Reading a body of a log again.
 
-ghost use Rattle.std.specs.Prelude.{◌≡◌, ◌≤◌, ◌<◌, ◌+◌, ◌++◌, ◌∷◌, ℕ, List, length, Err, IsTrue, IfOk, OnOk, OnErr};
+ghost use Rattle.std.specs.Prelude.{◌≡◌, ◌≤◌, ◌<◌, ◌+◌, ◌^◌, ◌++◌, ◌∷◌, ℕ, List, length, Err, IsTrue, IfOk, OnOk, OnErr};
 ghost use Rattle.at_cid.specs.Counts.{Rose};
 ghost use Rattle.relay_disk.specs.Disk.{Goes, Same};
 ghost use Rattle.gate_log.specs.Image.{made};
@@ -23,6 +23,7 @@ pub(crate) fn read_body<D: Disk>(
 ) -> Result<u64, LogFault>
     requires on { IsTrue D.tells → IsOn (D.view disk.old) log.now }
     ensures next { IfOk result (λ next. (place < next) × (next ≤ log.now.end)) }
+    ensures short { OnOk result (length room.new.items < 2 ^ 32) }
     ensures body { IfOk result (λ next. IsTrue D.tells → (before : List (List TheRow)) (there : List TheRow) (after : List (List TheRow))
         → IsBody there (rows_body there) → HasBodies (bytes_of (before ++ there ∷ after)) log.now (D.view disk.old)
         → place ≡ length (made log.now.format (bytes_of before))

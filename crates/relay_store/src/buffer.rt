@@ -1,6 +1,6 @@
 //! Where one is in a log while its events are read back.
 
-ghost use Rattle.std.specs.Prelude.{◌≡◌, ◌≤◌, ◌<◌, ◌+◌, ◌++◌, ◌∷◌, ◌⊎◌, ◌↔◌, [], ℕ, List, length, drop, Some, None, Err, true, false, IsTrue, IfOk, IfSome, OnOk, OnErr, option_map};
+ghost use Rattle.std.specs.Prelude.{◌≡◌, ◌≤◌, ◌<◌, ◌+◌, ◌^◌, ◌++◌, ◌∷◌, ◌⊎◌, ◌↔◌, [], ℕ, List, length, drop, Some, None, Err, true, false, IsTrue, IfOk, IfSome, OnOk, OnErr, option_map};
 ghost use Rattle.std.specs.List.{list_all};
 ghost use Rattle.at_cid.specs.Counts.{Rose};
 ghost use Rattle.relay_disk.specs.Disk.{Goes, Same};
@@ -37,14 +37,15 @@ pub struct Buffer {
 }
 
 impl Model for Buffer {
-    ghost use Rattle.std.specs.Prelude.{◌≤◌, drop, vec_len};
+    ghost use Rattle.std.specs.Prelude.{◌≤◌, ◌<◌, ◌^◌, drop, vec_len};
     ghost use Rattle.relay_store.specs.Events.{BufferState};
 
     ghost Value = { BufferState };
 
     ghost view = { λ p. record { place = p.place; index = p.index; left = drop p.at p.body.items } };
 
-    ghost invariant = { λ p. p.at ≤ vec_len p.body };
+    // The body is shorter than its length can say.
+    ghost invariant = { λ p. (p.at ≤ vec_len p.body) × (vec_len p.body < 2 ^ 32) };
 }
 
 // What a fault of reading a log at a place comes to.
@@ -100,7 +101,7 @@ fn next_row(body: &[u8], at: usize) -> Option<usize>
     start_of(body, rest)
 }
 
-// Reads the body at a place into a room, and says where its rows begin.
+// Reads the body at a place into a room, and says where its rows begin. After a fault of reading the room is empty.
 fn rows_at<D: Disk>(
     log: &Log,
     disk: &mut D,
@@ -112,6 +113,7 @@ fn rows_at<D: Disk>(
         → IsBody there (rows_body there) → HasBodies (bytes_of (before ++ there ∷ after)) log.now (D.view disk.old)
         → place ≡ length (made log.now.format (bytes_of before)) → drop at room.new.items ≡ encoded_rows there) }
     ensures within { IfOk result (λ at. at ≤ length room.new.items) }
+    ensures short { length room.new.items < 2 ^ 32 }
     ensures no_bad_log { (p : ℕ) → result ≡ Err (EventsFault.BadLog p) → IsTrue D.tells
         → (before : List (List TheRow)) (there : List TheRow) (after : List (List TheRow))
         → IsBody there (rows_body there) → HasBodies (bytes_of (before ++ there ∷ after)) log.now (D.view disk.old)
@@ -125,7 +127,10 @@ fn rows_at<D: Disk>(
 {
     match read_body(log, disk, place, room) {
         Ok(_) => {}
-        Err(fault) => return Err(fault_of(fault)),
+        Err(fault) => {
+            room.clear();
+            return Err(fault_of(fault));
+        }
     }
     match first_row(room.as_slice()) {
         Some(at) => Ok(at),
@@ -231,6 +236,7 @@ impl Buffer {
     pub(crate) fn peeked(&self) -> Option<Peeked<'_>>
         ensures found { option_map seen result ≡ peeked_at self.now.left }
         ensures sees { (row : TheRow) (rest : List ℕ) → is_row row ≡ true → self.now.left ≡ row_encoding row ++ rest → Sees row result }
+        ensures short { IfSome result (λ seen. length seen.message.now < 2 ^ 32) }
     {
         let (_, left) = self.body.as_slice().split_at(self.at);
         peek(left)

@@ -1,6 +1,6 @@
 //! Finding events again, by their places.
 
-ghost use Rattle.std.specs.Prelude.{◌≡◌, ◌≤◌, ◌++◌, ◌∷◌, [], ℕ, List, length, true, Err, IsTrue, IfOk, IfSome, OnOk, OnErr};
+ghost use Rattle.std.specs.Prelude.{◌≡◌, ◌≤◌, ◌<◌, ◌^◌, ◌++◌, ◌∷◌, [], ℕ, List, length, true, Err, IsTrue, IfOk, IfSome, OnOk, OnErr};
 ghost use Rattle.at_cid.specs.Counts.{Rose};
 ghost use Rattle.relay_disk.specs.Disk.{Goes, Same};
 ghost use Rattle.event_window.specs.declared.fault.EventsFault.{EventsFault};
@@ -33,6 +33,7 @@ fn copy_shown(
     ensures told { IfOk result (λ shown. (J : List TheRow) (row : TheRow) (rest : List ℕ) → Holds core.now J → is_row row ≡ true
         → buffer.now.left ≡ row_encoding row ++ rest → IsToldOf J row shown room.new) }
     ensures kept { IfOk result (λ shown. IsReadAs buffer.now.left place.seq shown room.new) }
+    ensures short { IfOk result (λ shown. shown ≡ true → length room.new < 2 ^ 32) }
     ensures bad_log { (p : ℕ) → result ≡ Err (EventsFault.BadLog p) → (row : TheRow) (more : List TheRow) → is_row row ≡ true
         → buffer.now.left ≡ row_encoding row ++ encoded_rows more → events_in row ≡ (place.seq, message_of (events_in row)) ∷ [] → ⊥ }
     ensures no_disk { result ≡ Err EventsFault.Disk → ⊥ }
@@ -124,6 +125,7 @@ fn copy_shown_at<D: Disk>(
         → HasBodies (bytes_of bodies) log.now (D.view disk.old) → Holds core.now J → IsBufferOf log.now.format bodies buffer.old
         → StandsAt log.now.format bodies place row → IsToldOf J row shown room.new) }
     ensures kept { IfOk result (λ shown. IsReadAs buffer.new.left place.seq shown room.new) }
+    ensures short { IfOk result (λ shown. shown ≡ true → length room.new < 2 ^ 32) }
     ensures fits { IsTrue D.tells → (bodies : List (List TheRow)) → AllBodies bodies → HasBodies (bytes_of bodies) log.now (D.view disk.old)
         → IsBufferOf log.now.format bodies buffer.old → IsBufferOf log.now.format bodies buffer.new }
     ensures no_bad_log { (p : ℕ) → result ≡ Err (EventsFault.BadLog p) → IsTrue D.tells → (bodies : List (List TheRow)) (row : TheRow)
@@ -154,6 +156,7 @@ pub(crate) fn find_shown<D: Disk>(
         → HasBodies (bytes_of bodies) log.now (D.view disk.old) → Holds core.now J → IsBufferOf log.now.format bodies buffer.old
         → AllStand log.now.format bodies places.now rows → IsFirst (shown_of J rows) found room.new) }
     ensures kept { IfOk result (λ found. IfSome found (λ n. IsReadOf places.now buffer.new.left n room.new)) }
+    ensures short { IfOk result (λ found. IfSome found (λ n. length room.new < 2 ^ 32)) }
     ensures fits { IsTrue D.tells → (bodies : List (List TheRow)) → AllBodies bodies → HasBodies (bytes_of bodies) log.now (D.view disk.old)
         → IsBufferOf log.now.format bodies buffer.old → IsBufferOf log.now.format bodies buffer.new }
     ensures no_bad_log { (p : ℕ) → result ≡ Err (EventsFault.BadLog p) → IsTrue D.tells → (bodies : List (List TheRow)) (rows : List TheRow)

@@ -3,3 +3,4 @@ pub mod Passed
 pub mod Rows
 pub mod Seen
 pub mod Ends
+pub mod Within

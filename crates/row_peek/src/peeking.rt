@@ -1,6 +1,6 @@
 //! What a row sends out, found by its items' places.
 
-ghost use Rattle.std.specs.Prelude.{◌≡◌, ℕ, List, ◌++◌, true, option_map};
+ghost use Rattle.std.specs.Prelude.{◌≡◌, ◌≤◌, ℕ, List, ◌++◌, true, length, IfSome, option_map};
 ghost use Rattle.row_peek.specs.Peeking.{seen, message_at, whole_items_at, whole_at, outcome_at, taken_at, synced_at, operated_at, peeked_at};
 ghost use Rattle.relay_row.specs.Bodies.{row_encoding};
 ghost use Rattle.relay_row.specs.Rules.{is_row};
@@ -125,6 +125,7 @@ fn peek_at(bytes: &[u8]) -> Option<Peeked<'_>>
 pub fn peek(bytes: &[u8]) -> Option<Peeked<'_>>
     ensures found { option_map seen result ≡ peeked_at bytes.now }
     ensures sees { (row : Row) (rest : List ℕ) → is_row row ≡ true → bytes.now ≡ row_encoding row ++ rest → Sees row result }
+    ensures within { IfSome result (λ seen. length seen.message.now ≤ length bytes.now) }
 {
     peek_at(bytes)
 }

@@ -88,7 +88,6 @@ module _ (tells : Bool) (held : Held) (most : ℕ) (guest : Guest) (old mid new 
   accepted_broken ServeEnd.Disk of counted received = inr (broken ServeEnd.Disk counted received)
   accepted_broken (ServeEnd.BadLog p) of counted received = inr (broken (ServeEnd.BadLog p) counted received)
   accepted_broken ServeEnd.Memory of counted received = inr (broken ServeEnd.Memory counted received)
-  accepted_broken ServeEnd.TooLong of counted received = absurd of
 
   -- who came was met
   pub accepted_received : (result : Result (Option Session) ServeEnd) → IsGuestCount old.faults new.faults result → IfErr result (λ end. IsOfSession end)

@@ -78,7 +78,6 @@ told_behind tells held all ServeEnd.Disk old new un was = absurd un
 told_behind tells held all (ServeEnd.BadLog p) old new un was = absurd un
 told_behind tells held all ServeEnd.Memory old new un (inl still) = inl still
 told_behind tells held all ServeEnd.Memory old new un (inr over) = inr (inl over)
-told_behind tells held all ServeEnd.TooLong old new un was = absurd un
 
 told_front : (end : ServeEnd) (lines last old new : List ℕ) → IsUnwritten end → AddsFront old new (lines ++ last) → AreLinesWritten end lines last old new
 told_front ServeEnd.Done lines last old new un front = absurd un
@@ -87,7 +86,6 @@ told_front ServeEnd.Door lines last old new un front = absurd un
 told_front ServeEnd.Disk lines last old new un front = absurd un
 told_front (ServeEnd.BadLog p) lines last old new un front = absurd un
 told_front ServeEnd.Memory lines last old new un front = front
-told_front ServeEnd.TooLong lines last old new un front = absurd un
 
 -- all of a text is a front of it and more
 whole_front : (old text more : List ℕ) → AddsFront old (old ++ text) (text ++ more)
@@ -159,7 +157,6 @@ module _ (door_tells output_tells : Bool) (count served : ℕ) (held : Held) (do
     behind = ⊎_elim (λ still. inl still) (λ broken. inr (inr broken)) accepted;
     written = λ t. subst (λ (l : List ℕ). AddsFront old l (lines_behind 0 serving.visits ++ sessions_end_line (length serving.visits))) (sym (serving.written t)) (whole_front old (lines_behind 0 serving.visits) (sessions_end_line (length serving.visits)));
   }
-  serving_stopped ServeEnd.TooLong of accepted = absurd of
 
   at_last : GuestAccepted door_tells held (count - served) mid new (Ok None) → ((length serving.visits ≡ count) × IsStill door_tells mid new) ⊎ NobodyComes door_tells mid new
   at_last (inl (none, still)) = inl (omega (arith, none, serving.few, serving.number), still)
@@ -214,7 +211,6 @@ accepting_causes disk write door ServeEnd.Door of failed gone = gone refl
 accepting_causes disk write door ServeEnd.Disk of failed gone = failed refl
 accepting_causes disk write door (ServeEnd.BadLog p) of failed gone = tt
 accepting_causes disk write door ServeEnd.Memory of failed gone = tt
-accepting_causes disk write door ServeEnd.TooLong of failed gone = absurd of
 
 pub unwritten_causes : (disk write door : Type 0) (end : ServeEnd) → IsUnwritten end → (end ≡ ServeEnd.WriteFault → write) → IsCausedBy disk write door end
 unwritten_causes disk write door ServeEnd.Done of failed = absurd of
@@ -223,7 +219,6 @@ unwritten_causes disk write door ServeEnd.Door of failed = absurd of
 unwritten_causes disk write door ServeEnd.Disk of failed = absurd of
 unwritten_causes disk write door (ServeEnd.BadLog p) of failed = absurd of
 unwritten_causes disk write door ServeEnd.Memory of failed = tt
-unwritten_causes disk write door ServeEnd.TooLong of failed = absurd of
 
 -- ---- the door's own count
 
@@ -234,7 +229,6 @@ door_stands ServeEnd.Door before now other same = absurd (other refl)
 door_stands ServeEnd.Disk before now other same = same
 door_stands (ServeEnd.BadLog p) before now other same = same
 door_stands ServeEnd.Memory before now other same = same
-door_stands ServeEnd.TooLong before now other same = same
 
 no_door_in_session : (end : ServeEnd) → IsOfSession end → end ≡ ServeEnd.Door → ⊥
 no_door_in_session end of is = subst IsOfSession is of

@@ -52,14 +52,13 @@ opening_read tells one two one_now two_now fault end place opened of is told = b
 
 -- ---- behind it
 
-pub image_shows : (end : ServeEnd) (one two : List ℕ) (J : List Row) → IsPairImageOf J one two → ((p : ℕ) → end ≡ ServeEnd.BadLog p → ⊥) → (end ≡ ServeEnd.TooLong → ⊥) → ServeEndShows end one two
-image_shows ServeEnd.Done one two J image good short = (J, image)
-image_shows ServeEnd.WriteFault one two J image good short = (J, image)
-image_shows ServeEnd.Door one two J image good short = (J, image)
-image_shows ServeEnd.Disk one two J image good short = tt
-image_shows (ServeEnd.BadLog p) one two J image good short = absurd (good p refl)
-image_shows ServeEnd.Memory one two J image good short = tt
-image_shows ServeEnd.TooLong one two J image good short = absurd (short refl)
+pub image_shows : (end : ServeEnd) (one two : List ℕ) (J : List Row) → IsPairImageOf J one two → ((p : ℕ) → end ≡ ServeEnd.BadLog p → ⊥) → ServeEndShows end one two
+image_shows ServeEnd.Done one two J image good = (J, image)
+image_shows ServeEnd.WriteFault one two J image good = (J, image)
+image_shows ServeEnd.Door one two J image good = (J, image)
+image_shows ServeEnd.Disk one two J image good = tt
+image_shows (ServeEnd.BadLog p) one two J image good = absurd (good p refl)
+image_shows ServeEnd.Memory one two J image good = tt
 
 -- ---- a replay
 
@@ -68,7 +67,6 @@ front_written ReplayFault.Output text old new front = front
 front_written ReplayFault.Disk text old new front = front
 front_written ReplayFault.Memory text old new front = front
 front_written (ReplayFault.BadLog p) text old new front = front
-front_written ReplayFault.TooLong text old new front = front
 
 pub fault_written : (fault : ReplayFault) (end : ServeEnd) (text old new : List ℕ) → end ≡ end_of_replay fault → AddsFront old new text → IsReplayed end text old new
 fault_written fault end text old new is front = subst (λ (e : ServeEnd). IsReplayed e text old new) (sym is) (front_written fault text old new front)
@@ -78,14 +76,6 @@ replay_bad ReplayFault.Output p is = absurd cc
 replay_bad ReplayFault.Disk p is = absurd cc
 replay_bad ReplayFault.Memory p is = absurd cc
 replay_bad (ReplayFault.BadLog q) p is = cc
-replay_bad ReplayFault.TooLong p is = absurd cc
-
-pub replay_long : (fault : ReplayFault) → end_of_replay fault ≡ ServeEnd.TooLong → fault ≡ ReplayFault.TooLong
-replay_long ReplayFault.Output is = absurd cc
-replay_long ReplayFault.Disk is = absurd cc
-replay_long ReplayFault.Memory is = absurd cc
-replay_long (ReplayFault.BadLog q) is = absurd cc
-replay_long ReplayFault.TooLong is = refl
 
 -- nothing was written
 none_written : (fault : StoreFault) (text bytes : List ℕ) → AddsFront bytes bytes text → IsReplayed (end_of_opening fault) text bytes bytes
@@ -108,7 +98,6 @@ fault_unbroken ReplayFault.Output end failed messages old new is adds = subst (�
 fault_unbroken ReplayFault.Disk end failed messages old new is adds = subst (λ (e : ServeEnd). IsUnbroken e failed messages old new) (sym is) (adds tt)
 fault_unbroken ReplayFault.Memory end failed messages old new is adds = subst (λ (e : ServeEnd). IsUnbroken e failed messages old new) (sym is) tt
 fault_unbroken (ReplayFault.BadLog p) end failed messages old new is adds = subst (λ (e : ServeEnd). IsUnbroken e failed messages old new) (sym is) (adds tt)
-fault_unbroken ReplayFault.TooLong end failed messages old new is adds = subst (λ (e : ServeEnd). IsUnbroken e failed messages old new) (sym is) (adds tt)
 
 adds_nothing : (messages : List (List ℕ)) (bytes : List ℕ) → AddsMessages messages bytes bytes
 adds_nothing messages bytes = record { written = []; left = messages; split = refl; bytes = sym (append-nil bytes) }
@@ -120,4 +109,3 @@ nothing_broken ServeEnd.Door failed messages bytes = tt
 nothing_broken ServeEnd.Disk failed messages bytes = inl (adds_nothing messages bytes)
 nothing_broken (ServeEnd.BadLog p) failed messages bytes = inl (adds_nothing messages bytes)
 nothing_broken ServeEnd.Memory failed messages bytes = tt
-nothing_broken ServeEnd.TooLong failed messages bytes = inl (adds_nothing messages bytes)

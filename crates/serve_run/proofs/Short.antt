@@ -1,5 +1,5 @@
 -- The messages of a journal's events are short: each stands in a body of its log, whose length four bytes say.
-use Rattle.std.proofs.Common.{◌≡◌, ◌⊎◌, ℕ, ◌<◌, ◌≤◌, ◌^◌, inl, inr, List, [], ◌∷◌, ◌++◌, length, Bool, true, false, Some, IsTrue, refl, ap, arith, length-append, subst, if◌then◌else◌, ◌==◌, nat_le}
+use Rattle.std.proofs.Common.{◌≡◌, ◌⊎◌, ℕ, ◌<◌, ◌≤◌, ◌^◌, inl, inr, List, [], ◌∷◌, ◌++◌, length, Bool, true, false, Some, refl, ap, arith, length-append, subst, if◌then◌else◌, ◌==◌, nat_le}
 use Rattle.std.proofs.lemmas.Bool.Decides.{nat_tests}
 use Rattle.at_cbor.specs.declared.major.Major.{Major}
 use Rattle.at_cbor.specs.Item.{Item, Items, items_of}
@@ -152,11 +152,6 @@ image_short J [] bytes are image = subst RowsShort are tt
 image_short J (rows ∷ bodies) bytes are (inl unmade) = absurd cc
 image_short J (rows ∷ bodies) bytes are (inr (format, is_made)) = subst RowsShort are (bodies_short (rows ∷ bodies) is_made.short)
 
-not_true : (b : Bool) → b ≡ false → IsTrue b → ⊥
-not_true true is holds = cc
-not_true false is holds = cc
-
 -- no message of a journal that two disks have is too long
-pub none_too_long : (J : List Row) (one two : List ℕ) (cursor : ℕ) → IsPairImageOf J one two → IsTrue (has_long (served_events (held_by J) (Some cursor))) → ⊥
-none_too_long J one two cursor image =
-    not_true _ (following_short (standing_of (held_by J) cursor) (shown_of J J) cursor (shown_short J J (image_short J image.bodies _ image.are.rows image.image.2)))
+pub none_too_long : (J : List Row) (one two : List ℕ) (cursor : ℕ) → IsPairImageOf J one two → has_long (served_events (held_by J) (Some cursor)) ≡ false
+none_too_long J one two cursor image = following_short (standing_of (held_by J) cursor) (shown_of J J) cursor (shown_short J J (image_short J image.bodies _ image.are.rows image.image.2))

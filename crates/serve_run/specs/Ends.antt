@@ -22,7 +22,6 @@ end_of_replay ReplayFault.Output = ServeEnd.WriteFault
 end_of_replay ReplayFault.Disk = ServeEnd.Disk
 end_of_replay ReplayFault.Memory = ServeEnd.Memory
 end_of_replay (ReplayFault.BadLog place) = ServeEnd.BadLog place
-end_of_replay ReplayFault.TooLong = ServeEnd.TooLong
 
 -- what a fault of serving brings: the session failed, or was broken off
 abbrev pub end_of_serving : ServeFault → Result Session ServeEnd
@@ -38,12 +37,11 @@ ServeOpened (ServeEnd.BadLog place) = ⊥
 ServeOpened ServeEnd.Memory = ⊥
 ServeOpened end = ⊤
 
--- what the bytes of the two disks were: no image of a journal, which they show at this place, or an image of one, none of whose messages is too long; where the disk failed or memory ran out nothing is said
+-- what the bytes of the two disks were: no image of a journal, which they show at this place, or an image of one; where the disk failed or memory ran out nothing is said
 abbrev pub ServeEndShows : ServeEnd → List ℕ → List ℕ → Type 0
 ServeEndShows ServeEnd.Disk one two = ⊤
 ServeEndShows ServeEnd.Memory one two = ⊤
 ServeEndShows (ServeEnd.BadLog place) one two = IsBadPairJournalAt place one two
-ServeEndShows ServeEnd.TooLong one two = ⊥
 ServeEndShows end one two = (J : List Row) × IsPairImageOf J one two
 
 -- the cause of an end: a count of faults rose

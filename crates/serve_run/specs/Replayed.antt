@@ -28,7 +28,6 @@ IsReplayed end text old new = AddsFront old new text
 abbrev pub IsUnbroken : ServeEnd → Type 0 → List (List ℕ) → List ℕ → List ℕ → Type 0
 IsUnbroken ServeEnd.Disk failed messages old new = AddsMessages messages old new ⊎ failed
 IsUnbroken (ServeEnd.BadLog place) failed messages old new = AddsMessages messages old new ⊎ failed
-IsUnbroken ServeEnd.TooLong failed messages old new = AddsMessages messages old new ⊎ failed
 IsUnbroken end failed messages old new = ⊤
 
 -- The messages that a guest with this cursor is sent were written, each behind its length. The output may have failed.

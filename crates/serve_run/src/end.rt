@@ -20,8 +20,6 @@ pub enum ServeEnd {
     BadLog(u64),
     /// Memory ran out.
     Memory,
-    /// A message has more bytes than four bytes of length can say. No journal of disks that tell their content has one.
-    TooLong,
 }
 
 impl ServeEnd {
@@ -47,7 +45,6 @@ impl ServeEnd {
             ReplayFault::Disk => ServeEnd::Disk,
             ReplayFault::Memory => ServeEnd::Memory,
             ReplayFault::BadLog(place) => ServeEnd::BadLog(place),
-            ReplayFault::TooLong => ServeEnd::TooLong,
         }
     }
 }

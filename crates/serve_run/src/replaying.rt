@@ -1,6 +1,6 @@
 //! The command that writes what a guest would be sent.
 
-ghost use Rattle.std.specs.Prelude.{◌≡◌, ◌≤◌, ◌⊎◌, ℕ, List, Some, IsTrue};
+ghost use Rattle.std.specs.Prelude.{◌≡◌, ◌≤◌, ◌⊎◌, ℕ, List, Some, IsTrue, false};
 ghost use Rattle.at_cid.specs.Counts.{Rose};
 ghost use Rattle.event_window.specs.Held.{Held};
 ghost use Rattle.relay_disk.specs.Disk.{Goes, Same};
@@ -43,8 +43,6 @@ fn replay_events<E: Events, O: Sink>(
     ensures failed { result ≡ ServeEnd.WriteFault → Rose (O.faults out.old) (O.faults out.new) }
     ensures no_door { result ≡ ServeEnd.Door → ⊥ }
     ensures no_bad_log { (place : ℕ) → result ≡ ServeEnd.BadLog place → IsTrue E.tells → (held : Held) → E.holds events.old held → ⊥ }
-    ensures too_long { result ≡ ServeEnd.TooLong → IsTrue E.tells → (held : Held) → E.holds events.old held
-        → IsTrue (has_long (served_events held (Some cursor))) }
     ensures counts { O.faults out.old ≤ O.faults out.new }
 {
     match backfill::replay(alloc, events, cursor, out) {
@@ -73,8 +71,6 @@ fn replay_from<D: Disk, O: Sink>(
     ensures failed { result ≡ ServeEnd.WriteFault → Rose (O.faults out.old) (O.faults out.new) }
     ensures no_door { result ≡ ServeEnd.Door → ⊥ }
     ensures no_bad_log { (place : ℕ) → result ≡ ServeEnd.BadLog place → IsTrue D.tells → ⊥ }
-    ensures too_long { result ≡ ServeEnd.TooLong → IsTrue D.tells → (J : List TheRow) → Keeps J (seen_in store.now) (D.view disk.old)
-        → IsTrue (has_long (served_events (held_by J) (Some cursor))) }
     ensures counts { O.faults out.old ≤ O.faults out.new }
 {
     let mut events = store.events(alloc, disk);
@@ -105,8 +101,6 @@ fn replay_on<D: Disk, O: Sink>(
     ensures failed { result ≡ ServeEnd.WriteFault → Rose (O.faults out.old) (O.faults out.new) }
     ensures no_door { result ≡ ServeEnd.Door → ⊥ }
     ensures no_bad_log { (place : ℕ) → result ≡ ServeEnd.BadLog place → IsTrue D.tells → ⊥ }
-    ensures too_long { result ≡ ServeEnd.TooLong → IsTrue D.tells → (J : List TheRow) → Keeps J (seen_in store.now) (view_of_side (seen_in store.now).side (D.view disk.old) (D.view other.old))
-        → IsTrue (has_long (served_events (held_by J) (Some cursor))) }
     ensures counts { O.faults out.old ≤ O.faults out.new }
 {
     match store.side() {
@@ -131,6 +125,10 @@ pub fn replay<D: Disk, O: Sink>(
         (pair_view (D.view disk.old) (D.view other.old) (O.written out.old))
         (pair_view (D.view disk.new) (D.view other.new) (O.written out.new)) result }
     ensures shows { IsTrue D.tells → ServeEndShows result (D.view disk.old).content (D.view other.old).content }
+
+    // Four bytes say the length of each message.
+    ensures short { IsTrue D.tells → (J : List TheRow) → IsPairImageOf J (D.view disk.old).content (D.view other.old).content
+        → has_long (served_events (held_by J) (Some cursor)) ≡ false }
 
     // A damaged log is only read, and nothing else is done.
     ensures unopened { (place : ℕ) → result ≡ ServeEnd.BadLog place → IsTrue D.tells

@@ -41,7 +41,6 @@ fn serve_guests<D: Disk, G: Door, O: Sink>(
     ensures two { Goes Same (D.view other.old) (D.view other.new) }
     ensures caused { IsCausedBy (Rose (D.view disk.old).faults (D.view disk.new).faults ⊎ Rose (D.view other.old).faults (D.view other.new).faults) (Rose (O.faults out.old) (O.faults out.new)) (Rose (G.faults door.old) (G.faults door.new)) (end_in result) }
     ensures no_bad_log { (place : ℕ) → end_in result ≡ ServeEnd.BadLog place → IsTrue D.tells → ⊥ }
-    ensures no_long { end_in result ≡ ServeEnd.TooLong → ⊥ }
     ensures door_count { IsDoorCount (G.faults door.old) (G.faults door.new) (end_in result) }
     ensures door_counts { G.faults door.old ≤ G.faults door.new }
     ensures session_counts { G.session_faults door.old ≤ G.session_faults door.new }
@@ -72,7 +71,6 @@ pub fn serve<D: Disk, G: Door, O: Sink>(
         → ServedAt G.tells O.tells count J (at_door (G.guests door.old) (G.turns door.old) (G.session_faults door.old)) (at_door (G.guests door.new) (G.turns door.new) (G.session_faults door.new))
         (pair_view (D.view disk.old) (D.view other.old) (O.written out.old)) (pair_view (D.view disk.new) (D.view other.new) (O.written out.new)) result }
     ensures shows { IsTrue D.tells → ServeEndShows result (D.view disk.old).content (D.view other.old).content }
-    ensures no_long { result ≡ ServeEnd.TooLong → ⊥ }
 
     // A damaged log is only read, and nothing else is done.
     ensures unopened { (place : ℕ) → result ≡ ServeEnd.BadLog place → IsTrue D.tells

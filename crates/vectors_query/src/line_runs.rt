@@ -51,6 +51,5 @@ fn with_end(answer: Answer, end: ServeEnd) -> Answer {
         ServeEnd::Disk => answer.words("Disk"),
         ServeEnd::BadLog(place) => answer.words("BadLog ").number(place),
         ServeEnd::Memory => answer.words("Memory"),
-        ServeEnd::TooLong => answer.words("TooLong"),
     }
 }

@@ -1,4 +1,4 @@
-use Rattle.std.proofs.Common.{◌∷◌, [], length, refl, Ok, Err, Some}
+use Rattle.std.proofs.Common.{◌∷◌, [], length, refl, Ok, Err}
 use Rattle.relay_io.specs.declared.door.Turn.{Turn}
 use Rattle.backfill.specs.Served.{notice, served}
 use Rattle.backfill.specs.declared.serve_fault.ServeFault.{ServeFault}

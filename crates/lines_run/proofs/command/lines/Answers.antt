@@ -23,11 +23,11 @@ returns-in-Ok-clause-written g c = λ told J image. record {
 pub returns-in-Ok-clause-shows : goal.returns-in-Ok-clause-shows
 returns-in-Ok-clause-shows g c = λ told.
     let kept = c.in-Ok.ensures.opened.keeps told in
-    image_shows c.lines_on.result _ _ kept.0 kept.1 (λ p is. c.lines_on.ensures.no_bad_log p is told) c.lines_on.ensures.no_long
+    image_shows c.lines_on.result _ _ kept.0 kept.1 (λ p is. c.lines_on.ensures.no_bad_log p is told)
 
 pub returns-in-Ok-clause-complete : goal.returns-in-Ok-clause-complete
 returns-in-Ok-clause-complete g c = λ told J image no_disk no_write.
-    may_end _ _ c.lines_on.result (λ is. either_behind _ _ _ _ _ _ c.in-Ok.ensures.counts.0 c.in-Ok.ensures.counts.1 (c.lines_on.ensures.disk is)) c.lines_on.ensures.failed c.lines_on.ensures.no_door (λ p is. c.lines_on.ensures.no_bad_log p is told) c.lines_on.ensures.no_long no_disk no_write
+    may_end _ _ c.lines_on.result (λ is. either_behind _ _ _ _ _ _ c.in-Ok.ensures.counts.0 c.in-Ok.ensures.counts.1 (c.lines_on.ensures.disk is)) c.lines_on.ensures.failed c.lines_on.ensures.no_door (λ p is. c.lines_on.ensures.no_bad_log p is told) no_disk no_write
 
 pub returns-in-Err-clause-written : goal.returns-in-Err-clause-written
 returns-in-Err-clause-written g c = λ told J image. record {

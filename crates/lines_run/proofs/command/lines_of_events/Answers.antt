@@ -1,6 +1,6 @@
 use Rattle.std.proofs.Common.{◌∙◌, Err, sym, ap}
 use Rattle.std.specs.Prelude.{option_map}
-use Rattle.serve_run.proofs.Ending.{fault_written, replay_bad, replay_long}
+use Rattle.serve_run.proofs.Ending.{fault_written, replay_bad}
 use Rattle.lines_run.specs.Lines.{lines_above}
 use Rattle.lines_run.proofs.Ending.{output_end}
 use Rattle.lines_run.proofs.command.lines_of_events.Goals as goal
@@ -15,7 +15,3 @@ returns-in-Err-clause-no_fault g c = λ no. c.in-Err.ensures.no_fault (λ is. no
 pub returns-in-Err-clause-no_bad_log : goal.returns-in-Err-clause-no_bad_log
 returns-in-Err-clause-no_bad_log g c = λ place is.
     c.in-Err.ensures.no_bad_log place (ap Err (replay_bad c.in-Err.fault place (sym c.of_replay.ensures ∙ is)))
-
-pub returns-in-Err-clause-no_long : goal.returns-in-Err-clause-no_long
-returns-in-Err-clause-no_long g c = λ is.
-    c.in-Err.ensures.no_long (ap Err (replay_long c.in-Err.fault (sym c.of_replay.ensures ∙ is)))

@@ -26,7 +26,12 @@ pub returns-in-Ok-clause-shows : goal.returns-in-Ok-clause-shows
 returns-in-Ok-clause-shows g c = λ told.
     let kept = c.in-Ok.ensures.opened.keeps told in
     image_shows c.replay_on.result _ _ kept.0 kept.1 (λ p is. c.replay_on.ensures.no_bad_log p is told)
-    (λ is. none_too_long kept.0 _ _ c.args.cursor kept.1 (c.replay_on.ensures.too_long is told kept.0 kept.2))
+
+pub returns-in-Ok-clause-short : goal.returns-in-Ok-clause-short
+returns-in-Ok-clause-short g c = λ told J image. none_too_long J _ _ c.args.cursor image
+
+pub returns-in-Err-clause-short : goal.returns-in-Err-clause-short
+returns-in-Err-clause-short g c = λ told J image. none_too_long J _ _ c.args.cursor image
 
 pub returns-in-Err-clause-replayed : goal.returns-in-Err-clause-replayed
 returns-in-Err-clause-replayed g c = λ told J image. record {

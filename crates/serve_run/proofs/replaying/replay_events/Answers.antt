@@ -2,7 +2,7 @@ use Rattle.std.proofs.Common.{◌∙◌, Err, sym, ap}
 use Rattle.std.specs.Prelude.{Some}
 use Rattle.backfill.specs.Served.{served}
 use Rattle.backfill.specs.Writing.{with_length}
-use Rattle.serve_run.proofs.Ending.{fault_unbroken, fault_written, replay_bad, replay_long}
+use Rattle.serve_run.proofs.Ending.{fault_unbroken, fault_written, replay_bad}
 use Rattle.serve_run.proofs.replaying.replay_events.Goals as goal
 
 pub returns-in-Ok-clause-written : goal.returns-in-Ok-clause-written
@@ -15,10 +15,6 @@ returns-in-Err-clause-written g c = λ told held holds out.
 pub returns-in-Err-clause-no_bad_log : goal.returns-in-Err-clause-no_bad_log
 returns-in-Err-clause-no_bad_log g c = λ place is.
     c.in-Err.ensures.no_bad_log place (ap Err (replay_bad c.in-Err.fault place (sym c.of_replay.ensures ∙ is)))
-
-pub returns-in-Err-clause-too_long : goal.returns-in-Err-clause-too_long
-returns-in-Err-clause-too_long g c = λ is.
-    c.in-Err.ensures.too_long (ap Err (replay_long c.in-Err.fault (sym c.of_replay.ensures ∙ is)))
 
 pub returns-in-Err-clause-unbroken : goal.returns-in-Err-clause-unbroken
 returns-in-Err-clause-unbroken g c = λ told held holds out.

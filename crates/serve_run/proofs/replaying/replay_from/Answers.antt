@@ -12,8 +12,5 @@ returns-clause-no_bad_log g c = λ place is told.
     let kept = c.requires told in
     c.replay_events.ensures.no_bad_log place is told (held_by kept.0) (c.events-events.ensures.held told kept.0 kept.1)
 
-pub returns-clause-too_long : goal.returns-clause-too_long
-returns-clause-too_long g c = λ is told J keeps. c.replay_events.ensures.too_long is told (held_by J) (c.events-events.ensures.held told J keeps)
-
 pub returns-clause-unbroken : goal.returns-clause-unbroken
 returns-clause-unbroken g c = λ told J keeps. c.replay_events.ensures.unbroken told (held_by J) (c.events-events.ensures.held told J keeps)

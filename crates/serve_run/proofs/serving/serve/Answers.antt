@@ -41,7 +41,7 @@ returns-clause-served g c = λ told J image. record {
 pub returns-clause-shows : goal.returns-clause-shows
 returns-clause-shows g c = λ told.
     let kept = c.in-Ok.ensures.opened.keeps told in
-    image_shows c.in-Err-serve_guests.end _ _ kept.0 kept.1 (λ p is. c.in-Err-serve_guests.ensures.no_bad_log p is told) c.in-Err-serve_guests.ensures.no_long
+    image_shows c.in-Err-serve_guests.end _ _ kept.0 kept.1 (λ p is. c.in-Err-serve_guests.ensures.no_bad_log p is told)
 
 pub returns-in-Err-clause-door_count : goal.returns-in-Err-clause-door_count
 returns-in-Err-clause-door_count g c = opening_door c.in-Err.fault (g.G.Door.faults c.args.door.now) c.of_opening.result c.of_opening.ensures
