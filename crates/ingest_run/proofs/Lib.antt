@@ -1,3 +1,4 @@
 pub mod Grammar
 pub mod Endings
+pub mod NextMessage
 pub mod Whole

@@ -9,26 +9,23 @@ use Rattle.gate_log.specs.declared.format.Format.{Format}
 use Rattle.gate_log.specs.declared.picking.Side.{Side}
 use Rattle.gate_log.specs.declared.picking.Side.TheVariants.{One, Two}
 use Rattle.relay_row.specs.declared.row.Row.{Row}
-use Rattle.relay_core.specs.Entries.{Holds}
-use Rattle.relay_core.specs.declared.journal_state.Core.{Core}
 use Rattle.relay_step.specs.Around.{Around}
 use Rattle.relay_step.specs.Steps.{rows}
-use Rattle.relay_store.specs.Batches.{EndsNext}
 use Rattle.relay_store.specs.Journals.{IsOneOf, IsPairImageOf}
 use Rattle.relay_store.specs.Opening.{IsOfReading, Opened}
 use Rattle.relay_store.specs.Store.{IsOf, Keeps, seen_in}
 use Rattle.relay_store.specs.declared.fault.StoreFault.{StoreFault}
-use Rattle.relay_store.specs.declared.message.Message.{Message}
 use Rattle.relay_store.specs.declared.store.Store.{Store}
 use Rattle.relay_store.proofs.OnDisk.{pair_has_no_room, pair_has_room}
 use Rattle.relay_run.specs.Pairs.{IsOneOfPair, StandsFor, of_pair}
 use Rattle.relay_run.proofs.Beside.{ComesBeside, image_of_side, leaves_on, leaves_stand, log_front, opened_keeps, opened_leaves, run_on, stands_on, view_now, view_on}
 use Rattle.tape_run.specs.Crashes.{IsOnTheWay, Leaves}
-use Rattle.tape_run.specs.Ends.{FullOnly, disk_failed, end_of_store, fault_in}
+use Rattle.tape_run.specs.Ends.{FullOnly, disk_failed, end_of_store}
 use Rattle.tape_run.specs.Tells.{Tells}
 use Rattle.tape_run.specs.Taken.{Taken, scene}
 use Rattle.tape_run.specs.declared.end.TapeEnd.{TapeEnd}
-use Rattle.ingest_run.specs.Ingested.{Ingested, IsNextEnd, IsPairOnTheWay, Unopened, pair_scene}
+use Rattle.ingest_run.specs.Ingested.{Ingested, IsPairOnTheWay, Unopened, pair_scene}
+use Rattle.ingest_run.proofs.NextMessage.{next_end}
 
 -- they weren't opened
 pub unopened : (tells : Bool) (one two one_now two_now : View) (fault : StoreFault) (J : List Row) (around : Around) (left written : List ℕ) (end : TapeEnd) → IsDisk one_now → IsDisk two_now
@@ -51,28 +48,6 @@ unopened tells one two one_now two_now fault J around left written end first sec
 full_on : (one two : Row → ℕ → Type 0) (extra : List Row) (end : TapeEnd) → (end ≢ disk_failed → (row : Row) (e : ℕ) → one row e → two row e) → FullOnly one extra end → FullOnly two extra end
 full_on one two extra (TapeEnd.Store (StoreFault.Full e)) more full = (full.0, full.1, more (λ is. let no : ⊥ = cc in no) full.0 e full.2)
 full_on one two extra end more full = tt
-
-seq_not : TapeEnd.Store StoreFault.SeqEnd ≡ disk_failed → ⊥
-seq_not is = cc
-
-authority_not : TapeEnd.Store StoreFault.Authority ≡ disk_failed → ⊥
-authority_not is = cc
-
-next_end : (t : Tells) (K : List Row) (core : Core) (behind : List Message) (old new : Around) (end : TapeEnd) → (end ≢ disk_failed → Holds core K) → EndsNext t.clock t.repos core behind old new (fault_in end) → IsNextEnd t K behind old new end
-next_end t K core behind old new (TapeEnd.Store StoreFault.SeqEnd) known next = (core, known seq_not, next)
-next_end t K core behind old new (TapeEnd.Store StoreFault.Authority) known next = (core, known authority_not, next)
-next_end t K core behind old new (TapeEnd.Store StoreFault.Disk) known next = tt
-next_end t K core behind old new (TapeEnd.Store (StoreFault.BadLog p)) known next = tt
-next_end t K core behind old new (TapeEnd.Store (StoreFault.Full e)) known next = tt
-next_end t K core behind old new (TapeEnd.Store StoreFault.Repos) known next = tt
-next_end t K core behind old new (TapeEnd.Store StoreFault.Memory) known next = tt
-next_end t K core behind old new (TapeEnd.Store StoreFault.Clock) known next = tt
-next_end t K core behind old new TapeEnd.Done known next = tt
-next_end t K core behind old new (TapeEnd.Bad place) known next = tt
-next_end t K core behind old new TapeEnd.ReadFault known next = tt
-next_end t K core behind old new TapeEnd.WriteFault known next = tt
-next_end t K core behind old new TapeEnd.TooLong known next = tt
-next_end t K core behind old new TapeEnd.Memory known next = tt
 
 -- ---- crashes
 

@@ -1,5 +1,5 @@
 -- What taking a tape into the journal of two disks does (own).
-use Rattle.std.specs.Prelude.{◌≡◌, ◌≢◌, ◌⊎◌, ⊤, ℕ, Bool, List, [], ◌++◌, Some, IsTrue}
+use Rattle.std.specs.Prelude.{◌≡◌, ◌≢◌, ◌⊎◌, ℕ, Bool, List, [], ◌++◌, IsTrue}
 use Rattle.relay_disk.specs.Disk.{View}
 use Rattle.relay_disk.specs.Moments.{PairLeavesOnly}
 use Rattle.relay_row.specs.Journal.{IsJournal}
@@ -12,7 +12,7 @@ use Rattle.relay_law.specs.Right.{LinksRight}
 use Rattle.relay_law.specs.Sound.{IsSound}
 use Rattle.relay_step.specs.Around.{Around, AllAsked}
 use Rattle.relay_step.specs.Steps.{Step, AreSteps, messages, rows}
-use Rattle.relay_store.specs.Batches.{EndsNext, messages_sent}
+use Rattle.relay_store.specs.Batches.{messages_sent}
 use Rattle.relay_store.specs.Journals.{IsPairImageOf}
 use Rattle.relay_store.specs.Opening.{IsOfReading}
 use Rattle.relay_store.specs.Room.{PairHasNoRoom, PairHasRoom}
@@ -25,7 +25,7 @@ use Rattle.tape_run.specs.Tells.{Tells}
 use Rattle.tape_run.specs.Tapes.{AreRecords, IsOnTape}
 use Rattle.tape_run.specs.declared.end.TapeEnd.{TapeEnd}
 use Rattle.relay_run.specs.Pairs.{IsOneOfPair, StandsFor}
-use Rattle.relay_run.specs.CommandRan.{Knows}
+use Rattle.ingest_run.specs.NextMessage.{IsNextEnd}
 
 -- The two disks, what the judges, the clock and the repositories tell, what is left of the input, and what is written, at one moment.
 pub record PairScene : Type 1 where
@@ -48,14 +48,6 @@ pub record IsPairSoFar (J rows : List Row) (c d : List ℕ) : Type 0 where
 -- or with all of them, and behind those the rows of a body under way
 abbrev pub IsPairOnTheWay : List Row → List Row → List Row → List ℕ → List ℕ → Type 0
 IsPairOnTheWay J rows under c d = IsPairSoFar J rows c d ⊎ IsPairImageOf ((J ++ rows) ++ under) c d
-
--- for the next message the numbers end behind this journal, or no authority is left, where that ended it
-abbrev pub IsNextEnd : Tells → List Row → List Message → Around → Around → TapeEnd → Type 0
-IsNextEnd t K behind old new (TapeEnd.Store StoreFault.SeqEnd) =
-    Knows K (λ core. EndsNext t.clock t.repos core behind old new (Some StoreFault.SeqEnd))
-IsNextEnd t K behind old new (TapeEnd.Store StoreFault.Authority) =
-    Knows K (λ core. EndsNext t.clock t.repos core behind old new (Some StoreFault.Authority))
-IsNextEnd t K behind old new end = ⊤
 
 -- The disks weren't opened: nothing was taken, asked or written, and where they stood for the journal J they do again, at each moment of a crash.
 pub record Unopened (J : List Row) (old new : PairScene) (end : TapeEnd) : Type 0 where

@@ -53,7 +53,6 @@ serving_bad ServeEnd.Door at is = let no : ⊥ = cc in absurd no
 serving_bad ServeEnd.Disk at is = let no : ⊥ = cc in absurd no
 serving_bad (ServeEnd.BadLog p) at is = let same : p ≡ at = cc in ap ServeEnd.BadLog same
 serving_bad ServeEnd.Memory at is = let no : ⊥ = cc in absurd no
-serving_bad ServeEnd.TooLong at is = let no : ⊥ = cc in absurd no
 
 pub query_bad : (end : QueryEnd) (at : ℕ) → status_of_query end ≡ Status.BadLog at → end ≡ QueryEnd.BadLog at
 query_bad QueryEnd.Done at is = let no : ⊥ = cc in absurd no

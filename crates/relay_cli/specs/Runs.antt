@@ -26,13 +26,9 @@ use Rattle.relay_run.specs.Cutting.{IsOfCutting, WasCut}
 use Rattle.relay_run.specs.Ends.{IsOfShowing, IsQuiet as IsQuietEnd, RunEndShows as HadJournal}
 use Rattle.relay_run.specs.Pairs.{PairView, pair_view}
 use Rattle.relay_run.specs.Shown.{TextShown}
-use Rattle.relay_run.specs.CommandRan.{Knows, CommandRan}
+use Rattle.relay_run.specs.Behind.{WasOperated, WasSynced}
 use Rattle.relay_run.specs.declared.end.RunEnd.{RunEnd}
 use Rattle.relay_step.specs.Around.{Around}
-use Rattle.relay_step.specs.Asked.{AskedInVain}
-use Rattle.relay_step.specs.Causes.{CameToNothing, OneTaken}
-use Rattle.relay_step.specs.Commands.{EndsBehind, EndsFetched, OperatedAt, SpentFetching, SyncedAt}
-use Rattle.relay_store.specs.Faults.{IsCause}
 use Rattle.relay_store.specs.Journals.{IsPairImageOf}
 use Rattle.relay_store.specs.Opening.{BothOnlyRead}
 use Rattle.relay_store.specs.declared.fault.StoreFault.{StoreFault}
@@ -212,21 +208,16 @@ IsShown text t old new status = Ended t old new status (λ end. IsOfShowing end 
 
 -- an account is taken down or restored at a time, of which the clock is asked; no authority is asked, so none is missing
 abbrev pub RanOperated : List ℕ → Bool → List ℕ → OutsideTells → Place → Place → Status → Type 0
-RanOperated did down time t old new status = Ended t old new status (λ end. (end ≢ RunEnd.Fault StoreFault.Authority) × (new.around.panel ≡ old.around.panel) × ((new.left ≡ old.left)
-    × OnJournal t old (λ J. CommandRan t.output LONGEST J (new.around.moments ≡ old.around.moments)
-    (λ fault. (IsTrue t.clock → OneTaken old.around.moments new.around.moments) × IsCause (Knows J (λ core. EndsBehind core did down)) ⊤ ⊤ ⊤ fault)
-    (λ word. Knows J (λ core. OperatedAt t.clock core did down time old.around.moments word new.around.moments)) (disks old) (disks new) end)))
+RanOperated did down time t old new status = Ended t old new status (λ end.
+    (end ≢ RunEnd.Fault StoreFault.Authority) × (new.around.panel ≡ old.around.panel)
+    × ((new.left ≡ old.left) × OnJournal t old (λ J. WasOperated t.output t.clock LONGEST J did down time
+    old.around.moments new.around.moments (disks old) (disks new) end)))
 
 -- an account's repository is fetched and taken over at a time, of which judges, clock and repositories are asked
 abbrev pub IsSynced : List ℕ → List ℕ → OutsideTells → Place → Place → Status → Type 0
 IsSynced did time t old new status = Ended t old new status (λ end. (new.left ≡ old.left)
-    × OnJournal t old (λ J. CommandRan t.output LONGEST J (new.around ≡ old.around)
-    (λ fault. CameToNothing t.clock t.repos (AskedInVain old.around.panel did new.around.panel)
-    old.around new.around
-    × IsCause (Knows J (λ core. EndsFetched t.clock t.repos core did old.around new.around))
-    (Knows J (λ core. SpentFetching t.clock t.repos core did old.around new.around)) ⊤ ⊤ fault)
-    (λ word. Knows J (λ core. SyncedAt t.clock t.repos core did time old.around word new.around))
-    (disks old) (disks new) end))
+    × OnJournal t old (λ J. WasSynced t.output t.clock t.repos LONGEST J did time
+    old.around new.around (disks old) (disks new) end))
 
 -- the journal is cut at a number, and nothing else is asked or read
 abbrev pub RanCut : {D : Type 0} → (D → View) → ℕ → OutsideTells → Place → Place → Status → Type 0

@@ -74,7 +74,7 @@ status_of_feed FeedEnd.WriteFault = Status.WriteFault
 status_of_feed (FeedEnd.Store fault) = status_of_fault fault
 status_of_feed FeedEnd.Memory = Status.Memory
 
--- of a command that gives events out; no message of a journal is too long to be written behind its length
+-- of a command that gives events out
 abbrev pub status_of_serving : ServeEnd → Status
 status_of_serving ServeEnd.Done = Status.Done
 status_of_serving ServeEnd.WriteFault = Status.WriteFault
@@ -82,7 +82,6 @@ status_of_serving ServeEnd.Door = Status.Door
 status_of_serving ServeEnd.Disk = Status.Disk
 status_of_serving (ServeEnd.BadLog place) = Status.BadLog place
 status_of_serving ServeEnd.Memory = Status.Memory
-status_of_serving ServeEnd.TooLong = Status.Memory
 
 -- of a trial
 abbrev pub status_of_trial : TrialEnd → Status

@@ -163,7 +163,7 @@ impl From<ServeEnd> for Status {
             ServeEnd::Door => Status::Door,
             ServeEnd::Disk => Status::Disk,
             ServeEnd::BadLog(place) => Status::BadLog(place),
-            ServeEnd::Memory | ServeEnd::TooLong => Status::Memory,
+            ServeEnd::Memory => Status::Memory,
         }
     }
 }

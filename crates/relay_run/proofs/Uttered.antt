@@ -29,7 +29,7 @@ use Rattle.relay_store.proofs.OnDisk.{ends_within, pair_has_no_room, pair_has_ro
 use Rattle.relay_run.specs.Ends.{IsWritten}
 use Rattle.relay_run.specs.Lines.{IsEndOf, done_text}
 use Rattle.relay_run.specs.Pairs.{IsOneOfPair, StandsFor, of_pair, pair_view}
-use Rattle.relay_run.specs.CommandRan.{EndsCommand, Knows, CommandRan, in_vain, rows_kept, said, unopened}
+use Rattle.relay_run.specs.CommandRan.{EndsCommand, CommandRan, in_vain, rows_kept, said, unopened}
 use Rattle.relay_run.specs.declared.end.RunEnd.{RunEnd}
 use Rattle.relay_run.proofs.Causing.{answered, same_fault}
 use Rattle.relay_run.proofs.Sounds.{Leaves}
@@ -157,8 +157,8 @@ module _ {D : Type 0} (view : D → View) (is_disk : (x : D) → IsDisk (view x)
   pub opened_of : IsOf J (seen_in s).core
   opened_of = record { holds = keeps.core; journal = keeps.are.journal }
 
-  pub opened_knows : (P : Core → Type 0) → P (seen_in s).core → Knows J P
-  opened_knows P is = ((seen_in s).core, keeps.core, is)
+  pub opened_holds : Holds (seen_in s).core J
+  opened_holds = keeps.core
 
   opened_stands : StandsFor J (view c) (view d)
   opened_stands = kept_stands s.side J (seen_in s) (view c) (view d) (is_disk c) (is_disk d) (opened.side told) keeps
@@ -169,7 +169,8 @@ module _ {D : Type 0} (view : D → View) (is_disk : (x : D) → IsDisk (view x)
   no_room : (most : ℕ) (row : Row) (e : ℕ) → s.log.most ≡ most → IsFull (seen_in s).log [] row e → PairHasNoRoom most J row e (view c).content (view d).content
   no_room = pair_has_no_room J (seen_in s) s.side (view c) (view d) keeps (opened.side told (view c).content (view d).content (is_disk c).possible (is_disk d).possible)
 
-  module _ (e f : D) (t : Store) (beside : of_pair (other_side s.side) e f ≡ of_pair (other_side s.side) c d) (P : Core → CommandAnswer → Type 0) (failed nothing : Type 0) (vain : StoreFault → Type 0) (out_told : Bool) (most : ℕ) (most_is : s.log.most ≡ most)
+  module _ (e f : D) (t : Store) (beside : of_pair (other_side s.side) e f ≡ of_pair (other_side s.side) c d) (P : Core → CommandAnswer → Type 0) (is_command : CommandAnswer → Type 0) (failed nothing : Type 0) (vain : StoreFault → Type 0) (out_told : Bool) (most : ℕ) (most_is : s.log.most ≡ most)
+      (behind : (core : Core) → Holds core J → (command : CommandAnswer) → P core command → is_command command)
       (stays : (core : Core) → Holds core J → (command : CommandAnswer) → P core command → Leaves J command) where
     keeps_too : Keeps J (seen_in s) (view (of_pair s.side c d))
     keeps_too = subst (Keeps J (seen_in s)) (view_on view is_disk a b c d e f s.side) keeps
@@ -204,13 +205,13 @@ module _ {D : Type 0} (view : D → View) (is_disk : (x : D) → IsDisk (view x)
     -- the store answered what came of a word
     pub ran_ok : (done : Done) (end : RunEnd) (written now : List ℕ) → CommandDone view tells J (P (seen_in s).core) failed (seen_in s) (seen_in t) (of_pair s.side c d) (of_pair s.side e f) (Ok done)
         → IsEndOf done end → (IsTrue out_told → IsWritten end (done_text done) written now)
-        → CommandRan out_told most J nothing vain (λ command. Knows J (λ core. P core command)) (pair_view (view a) (view b) written) (pair_view (view e) (view f) now) end
+        → CommandRan out_told most J nothing vain is_command (pair_view (view a) (view b) written) (pair_view (view e) (view f) now) end
     ran_ok done end written now (inl (command, is, journal, commanded)) ends text =
         let same : done ≡ done_of command = commanded.answer in
         let ends_too : IsEndOf (done_of command) end = subst (λ (x : Done). IsEndOf x end) same ends in
         record {
           came = said command;
-          is = (opened_knows (λ core. P core command) is, ends_command _ command end ends_too);
+          is = (behind (seen_in s).core keeps.core command is, ends_command _ command end ends_too);
           journal = journal;
           sound = (stays (seen_in s).core keeps.core command is journal).sound;
           faithful = (stays (seen_in s).core keeps.core command is journal).faithful;
@@ -224,11 +225,11 @@ module _ {D : Type 0} (view : D → View) (is_disk : (x : D) → IsDisk (view x)
 
     -- a fault
     pub ran_err : (fault : StoreFault) (written : List ℕ) → CommandDone view tells J (P (seen_in s).core) failed (seen_in s) (seen_in t) (of_pair s.side c d) (of_pair s.side e f) (Err fault) → (failed → vain fault)
-        → CommandRan out_told most J nothing vain (λ command. Knows J (λ core. P core command)) (pair_view (view a) (view b) written) (pair_view (view e) (view f) written) (RunEnd.Fault fault)
+        → CommandRan out_told most J nothing vain is_command (pair_view (view a) (view b) written) (pair_view (view e) (view f) written) (RunEnd.Fault fault)
     ran_err fault written (inl (command, is, journal, commanded)) vains = record {
       came = said command;
       is = (
-        opened_knows (λ core. P core command) is,
+        behind (seen_in s).core keeps.core command is,
         fault_word _ command fault (seen_in s) commanded.answer (λ row e full_is full.
             same_here (λ x y. PairHasNoRoom most J row e (view x).content (view y).content) (commanded.untouched (λ disk. full_not e (sym full_is ∙ same_fault fault StoreFault.Disk disk)) refl).1.1 (no_room most row e most_is full)),
       );

@@ -4,8 +4,6 @@ use Rattle.at_event.specs.Refusals.{code_of}
 use Rattle.relay_disk.specs.Moments.{PairLeavesOnly}
 use Rattle.relay_row.specs.Journal.{IsJournal}
 use Rattle.relay_row.specs.declared.row.Row.{Row}
-use Rattle.relay_core.specs.Entries.{Holds}
-use Rattle.relay_core.specs.declared.journal_state.Core.{Core}
 use Rattle.relay_law.specs.Heads.{IsFaithfulJournal}
 use Rattle.relay_law.specs.Sound.{IsSound}
 use Rattle.relay_step.specs.Commands.{rows_commanded}
@@ -25,10 +23,6 @@ pub data Came : Type 0 where
   unopened : Came
   in_vain : Came
   said : (command : CommandAnswer) → Came
-
--- what is known of the journal says so
-abbrev pub Knows : List Row → (Core → Type 0) → Type 0
-Knows J says = (core : Core) × Holds core J × says core
 
 -- how a command may end by whose word this was: it made a row, for which there may be no room, or it was refused
 abbrev pub EndsCommand : (Row → ℕ → Type 0) → CommandAnswer → RunEnd → Type 0

@@ -3,4 +3,5 @@ pub mod Ends
 pub mod Lines
 pub mod Shown
 pub mod CommandRan
+pub mod Behind
 pub mod Cutting

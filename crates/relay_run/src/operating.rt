@@ -1,6 +1,6 @@
 //! The commands by which an account is taken down or restored.
 
-ghost use Rattle.std.specs.Prelude.{◌≡◌, ◌≤◌, ◌⊎◌, ⊤, ℕ, List, Err, length, IsTrue};
+ghost use Rattle.std.specs.Prelude.{◌≡◌, ◌≤◌, ◌⊎◌, ℕ, List, Err, length, IsTrue};
 ghost use Rattle.at_cid.specs.Counts.{Rose};
 ghost use Rattle.at_form.specs.declared.forms.TheConstants.{LONGEST_SHORT_TEXT};
 ghost use Rattle.at_syntax.specs.Did.{is_did};
@@ -9,7 +9,6 @@ ghost use Rattle.gate_log.specs.declared.limits.TheConstants.{LAST_END};
 ghost use Rattle.relay_row.specs.declared.row.Row.{Row as TheRow};
 ghost use Rattle.relay_step.specs.Causes.{OneTaken};
 ghost use Rattle.relay_step.specs.Commands.{EndsBehind, OperatedAt};
-ghost use Rattle.relay_store.specs.Faults.{IsCause};
 ghost use Rattle.relay_store.specs.Journals.{IsPairImageOf};
 ghost use Rattle.relay_store.specs.Store.{IsKept, IsOf, seen_in};
 ghost use Rattle.relay_store.specs.Commands.{IsOfOperating, CommandDone};
@@ -17,7 +16,7 @@ ghost use Rattle.relay_store.specs.declared.fault.StoreFault.{StoreFault as TheF
 ghost use Rattle.relay_store.specs.Opening.{BothOnlyRead};
 ghost use Rattle.relay_run.specs.Ends.{IsCausedBy, IsQuiet, RunEndShows};
 ghost use Rattle.relay_run.specs.Pairs.{of_pair, pair_view};
-ghost use Rattle.relay_run.specs.CommandRan.{Knows, CommandRan};
+ghost use Rattle.relay_run.specs.Behind.{WasOperated};
 
 use crate::answering::answer;
 use crate::end::RunEnd;
@@ -78,10 +77,10 @@ pub fn operate<D: Disk, C: Clock, O: Sink>(
     requires did { IsTrue (is_did did.now) }
     requires time { length time.now ≤ LONGEST_SHORT_TEXT }
     ensures ran { IsTrue D.tells → (J : List TheRow) → IsPairImageOf J (D.view disk.old).content (D.view other.old).content
-        → CommandRan O.tells most J (C.moments clock.new ≡ C.moments clock.old)
-        (λ fault. (IsTrue C.tells → OneTaken (C.moments clock.old) (C.moments clock.new)) × IsCause (Knows J (λ core. EndsBehind core did.now down)) ⊤ ⊤ ⊤ fault)
-        (λ command. Knows J (λ core. OperatedAt C.tells core did.now down time.now (C.moments clock.old) command (C.moments clock.new)))
-        (pair_view (D.view disk.old) (D.view other.old) (O.written out.old)) (pair_view (D.view disk.new) (D.view other.new) (O.written out.new)) result }
+        → WasOperated O.tells C.tells most J did.now down time.now
+        (C.moments clock.old) (C.moments clock.new)
+        (pair_view (D.view disk.old) (D.view other.old) (O.written out.old))
+        (pair_view (D.view disk.new) (D.view other.new) (O.written out.new)) result }
     ensures shows { IsTrue D.tells → RunEndShows result (D.view disk.old).content (D.view other.old).content }
     ensures quiet { IsTrue O.tells → IsQuiet result (O.written out.old) (O.written out.new) }
     // A damaged log is only read, and nothing else is done.

@@ -1,6 +1,6 @@
 //! The command by which an account's repository is fetched and taken over.
 
-ghost use Rattle.std.specs.Prelude.{◌≡◌, ◌≤◌, ◌⊎◌, ⊤, ℕ, List, Err, length, IsTrue};
+ghost use Rattle.std.specs.Prelude.{◌≡◌, ◌≤◌, ◌⊎◌, ℕ, List, Err, length, IsTrue};
 ghost use Rattle.at_authority.specs.Panels.{IsSpent};
 ghost use Rattle.at_cid.specs.Counts.{Rose};
 ghost use Rattle.at_form.specs.declared.forms.TheConstants.{LONGEST_SHORT_TEXT};
@@ -12,14 +12,13 @@ ghost use Rattle.relay_step.specs.Around.{around};
 ghost use Rattle.relay_step.specs.Asked.{AskedInVain};
 ghost use Rattle.relay_step.specs.Causes.{CameToNothing};
 ghost use Rattle.relay_step.specs.Commands.{EndsFetched, SpentFetching, SyncedAt};
-ghost use Rattle.relay_store.specs.Faults.{IsCause};
 ghost use Rattle.relay_store.specs.Journals.{IsPairImageOf};
 ghost use Rattle.relay_store.specs.Store.{IsKept, IsOf, seen_in};
 ghost use Rattle.relay_store.specs.Commands.{CommandDone};
 ghost use Rattle.relay_store.specs.Opening.{BothOnlyRead};
 ghost use Rattle.relay_run.specs.Ends.{IsCausedBy, IsQuiet, RunEndShows};
 ghost use Rattle.relay_run.specs.Pairs.{of_pair, pair_view};
-ghost use Rattle.relay_run.specs.CommandRan.{Knows, CommandRan};
+ghost use Rattle.relay_run.specs.Behind.{WasSynced};
 
 use crate::answering::answer;
 use crate::end::RunEnd;
@@ -88,13 +87,11 @@ pub fn sync<D: Disk, P: Judges, R: Repos, C: Clock, O: Sink>(
     requires did { IsTrue (is_did did.now) }
     requires time { length time.now ≤ LONGEST_SHORT_TEXT }
     ensures ran { IsTrue D.tells → (J : List TheRow) → IsPairImageOf J (D.view disk.old).content (D.view other.old).content
-        → CommandRan O.tells most J (around (P.panel judges.new) (C.moments clock.new) (R.repository repos.new) ≡ around (P.panel judges.old) (C.moments clock.old) (R.repository repos.old))
-        (λ fault. CameToNothing C.tells R.tells (AskedInVain (P.panel judges.old) did.now (P.panel judges.new)) (around (P.panel judges.old) (C.moments clock.old) (R.repository repos.old)) (around (P.panel judges.new) (C.moments clock.new) (R.repository repos.new))
-        × IsCause
-        (Knows J (λ core. EndsFetched C.tells R.tells core did.now (around (P.panel judges.old) (C.moments clock.old) (R.repository repos.old)) (around (P.panel judges.new) (C.moments clock.new) (R.repository repos.new))))
-        (Knows J (λ core. SpentFetching C.tells R.tells core did.now (around (P.panel judges.old) (C.moments clock.old) (R.repository repos.old)) (around (P.panel judges.new) (C.moments clock.new) (R.repository repos.new)))) ⊤ ⊤ fault)
-        (λ command. Knows J (λ core. SyncedAt C.tells R.tells core did.now time.now (around (P.panel judges.old) (C.moments clock.old) (R.repository repos.old)) command (around (P.panel judges.new) (C.moments clock.new) (R.repository repos.new))))
-        (pair_view (D.view disk.old) (D.view other.old) (O.written out.old)) (pair_view (D.view disk.new) (D.view other.new) (O.written out.new)) result }
+        → WasSynced O.tells C.tells R.tells most J did.now time.now
+        (around (P.panel judges.old) (C.moments clock.old) (R.repository repos.old))
+        (around (P.panel judges.new) (C.moments clock.new) (R.repository repos.new))
+        (pair_view (D.view disk.old) (D.view other.old) (O.written out.old))
+        (pair_view (D.view disk.new) (D.view other.new) (O.written out.new)) result }
     ensures shows { IsTrue D.tells → RunEndShows result (D.view disk.old).content (D.view other.old).content }
     ensures quiet { IsTrue O.tells → IsQuiet result (O.written out.old) (O.written out.new) }
     // A damaged log is only read, and nothing else is done.

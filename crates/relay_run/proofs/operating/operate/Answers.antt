@@ -2,14 +2,15 @@ use Rattle.std.proofs.Common.{◌≡◌, ◌⊎◌, inl, inr, ⊎_elim, Err, IsT
 use Rattle.std.specs.Prelude.{⊤}
 use Rattle.at_cid.specs.Counts.{Rose}
 use Rattle.relay_step.specs.Causes.{OneTaken}
-use Rattle.relay_step.specs.Commands.{EndsBehind, OperatedAt}
+use Rattle.relay_step.specs.Commands.{OperatedAt}
 use Rattle.relay_store.specs.Faults.{IsCause}
 use Rattle.relay_store.specs.Store.{seen_in}
-use Rattle.relay_run.specs.CommandRan.{Knows}
+use Rattle.relay_run.specs.Behind.{NumbersEndBehind, OperatedBehind}
 use Rattle.relay_run.specs.declared.end.RunEnd.{RunEnd}
+use Rattle.relay_run.proofs.Behind.{numbers_end, operated_behind}
 use Rattle.relay_run.proofs.Causing.{commanded_good, done_causes, done_good, image_shows, never_bad, opening_causes, opening_read, opening_shows, operating_causes, rose_behind}
 use Rattle.relay_run.proofs.Sounds.{operated_stays, short_text}
-use Rattle.relay_run.proofs.Uttered.{opened_knows, opened_of, ran_err, ran_ok, ran_unopened, vain_by}
+use Rattle.relay_run.proofs.Uttered.{opened_holds, opened_of, ran_err, ran_ok, ran_unopened, vain_by}
 use Rattle.relay_run.proofs.operating.operate.Goals as goal
 
 pub returns-in-Err-clause-ran : goal.returns-in-Err-clause-ran
@@ -28,7 +29,9 @@ returns-in-Ok-operate_on-clause-ran g c = λ told J image.
     ran_ok g.D.Disk.view (λ x. g.met.D.Disk.is_disk x) c.args.disk.now c.args.other.now c.open.new.disk c.open.new.other g.D.Disk.tells told c.in-Ok.store c.in-Ok.ensures.opened J image
     c.operate_on.new.disk c.operate_on.new.other c.operate_on.new.store c.in-Ok-operate_on.ensures.beside
     (λ core command. OperatedAt g.C.Clock.tells core c.args.did.now c.args.down c.args.time.now (g.C.Clock.moments c.args.clock.now) command (g.C.Clock.moments c.operate_on.new.clock))
-    (IsTrue g.C.Clock.tells → OneTaken (g.C.Clock.moments c.args.clock.now) (g.C.Clock.moments c.operate_on.new.clock)) (g.C.Clock.moments c.operate_on.new.clock ≡ g.C.Clock.moments c.args.clock.now) (λ fault. (IsTrue g.C.Clock.tells → OneTaken (g.C.Clock.moments c.args.clock.now) (g.C.Clock.moments c.operate_on.new.clock)) × IsCause (Knows J (λ core. EndsBehind core c.args.did.now c.args.down)) ⊤ ⊤ ⊤ fault) g.O.Sink.tells c.args.most c.in-Ok.ensures.open.1
+    (λ command. OperatedBehind g.C.Clock.tells J c.args.did.now c.args.down c.args.time.now (g.C.Clock.moments c.args.clock.now) command (g.C.Clock.moments c.operate_on.new.clock))
+    (IsTrue g.C.Clock.tells → OneTaken (g.C.Clock.moments c.args.clock.now) (g.C.Clock.moments c.operate_on.new.clock)) (g.C.Clock.moments c.operate_on.new.clock ≡ g.C.Clock.moments c.args.clock.now) (λ fault. (IsTrue g.C.Clock.tells → OneTaken (g.C.Clock.moments c.args.clock.now) (g.C.Clock.moments c.operate_on.new.clock)) × IsCause (NumbersEndBehind J c.args.did.now c.args.down) ⊤ ⊤ ⊤ fault) g.O.Sink.tells c.args.most c.in-Ok.ensures.open.1
+    (λ core holds command at. operated_behind core J holds g.C.Clock.tells c.args.did.now c.args.down c.args.time.now (g.C.Clock.moments c.args.clock.now) command (g.C.Clock.moments c.operate_on.new.clock) at)
     (λ core holds command at. operated_stays g.C.Clock.tells core J c.args.did.now c.args.down c.args.time.now (g.C.Clock.moments c.args.clock.now) (g.C.Clock.moments c.operate_on.new.clock) (short_text c.args.time.now c.ghost_text.ensures.bytes c.ghost_text.ensures.length c.ghost_text.ensures.utf8 c.requires.time) holds command at)
     c.in-Ok-operate_on.done c.answer.result (g.O.Sink.written c.args.out.now) (g.O.Sink.written c.answer.new.out)
     (c.in-Ok-operate_on.ensures.commanded J (opened_of g.D.Disk.view (λ x. g.met.D.Disk.is_disk x) c.args.disk.now c.args.other.now c.open.new.disk c.open.new.other g.D.Disk.tells told c.in-Ok.store c.in-Ok.ensures.opened J image))
@@ -45,11 +48,13 @@ returns-clause-ran g c = λ told J image.
     ran_err g.D.Disk.view (λ x. g.met.D.Disk.is_disk x) c.args.disk.now c.args.other.now c.open.new.disk c.open.new.other g.D.Disk.tells told c.in-Ok.store c.in-Ok.ensures.opened J image
     c.operate_on.new.disk c.operate_on.new.other c.operate_on.new.store c.in-Err-operate_on.ensures.beside
     (λ core command. OperatedAt g.C.Clock.tells core c.args.did.now c.args.down c.args.time.now (g.C.Clock.moments c.args.clock.now) command (g.C.Clock.moments c.operate_on.new.clock))
-    (IsTrue g.C.Clock.tells → OneTaken (g.C.Clock.moments c.args.clock.now) (g.C.Clock.moments c.operate_on.new.clock)) (g.C.Clock.moments c.operate_on.new.clock ≡ g.C.Clock.moments c.args.clock.now) (λ fault. (IsTrue g.C.Clock.tells → OneTaken (g.C.Clock.moments c.args.clock.now) (g.C.Clock.moments c.operate_on.new.clock)) × IsCause (Knows J (λ core. EndsBehind core c.args.did.now c.args.down)) ⊤ ⊤ ⊤ fault) g.O.Sink.tells c.args.most c.in-Ok.ensures.open.1
+    (λ command. OperatedBehind g.C.Clock.tells J c.args.did.now c.args.down c.args.time.now (g.C.Clock.moments c.args.clock.now) command (g.C.Clock.moments c.operate_on.new.clock))
+    (IsTrue g.C.Clock.tells → OneTaken (g.C.Clock.moments c.args.clock.now) (g.C.Clock.moments c.operate_on.new.clock)) (g.C.Clock.moments c.operate_on.new.clock ≡ g.C.Clock.moments c.args.clock.now) (λ fault. (IsTrue g.C.Clock.tells → OneTaken (g.C.Clock.moments c.args.clock.now) (g.C.Clock.moments c.operate_on.new.clock)) × IsCause (NumbersEndBehind J c.args.did.now c.args.down) ⊤ ⊤ ⊤ fault) g.O.Sink.tells c.args.most c.in-Ok.ensures.open.1
+    (λ core holds command at. operated_behind core J holds g.C.Clock.tells c.args.did.now c.args.down c.args.time.now (g.C.Clock.moments c.args.clock.now) command (g.C.Clock.moments c.operate_on.new.clock) at)
     (λ core holds command at. operated_stays g.C.Clock.tells core J c.args.did.now c.args.down c.args.time.now (g.C.Clock.moments c.args.clock.now) (g.C.Clock.moments c.operate_on.new.clock) (short_text c.args.time.now c.ghost_text.ensures.bytes c.ghost_text.ensures.length c.ghost_text.ensures.utf8 c.requires.time) holds command at)
     c.in-Err-operate_on.fault (g.O.Sink.written c.args.out.now)
     (c.in-Err-operate_on.ensures.commanded J (opened_of g.D.Disk.view (λ x. g.met.D.Disk.is_disk x) c.args.disk.now c.args.other.now c.open.new.disk c.open.new.other g.D.Disk.tells told c.in-Ok.store c.in-Ok.ensures.opened J image))
-    (λ came. (came, vain_by _ _ c.in-Err-operate_on.fault (λ is. opened_knows g.D.Disk.view (λ x. g.met.D.Disk.is_disk x) c.args.disk.now c.args.other.now c.open.new.disk c.open.new.other g.D.Disk.tells told c.in-Ok.store c.in-Ok.ensures.opened J image (λ core. EndsBehind core c.args.did.now c.args.down) (c.in-Err-operate_on.ensures.seq_end (ap Err is))) (λ is. tt)))
+    (λ came. (came, vain_by _ _ c.in-Err-operate_on.fault (λ is. numbers_end (seen_in c.in-Ok.store).core J (opened_holds g.D.Disk.view (λ x. g.met.D.Disk.is_disk x) c.args.disk.now c.args.other.now c.open.new.disk c.open.new.other g.D.Disk.tells told c.in-Ok.store c.in-Ok.ensures.opened J image) c.args.did.now c.args.down (c.in-Err-operate_on.ensures.seq_end (ap Err is))) (λ is. tt)))
 
 pub returns-clause-shows : goal.returns-clause-shows
 returns-clause-shows g c = λ told.

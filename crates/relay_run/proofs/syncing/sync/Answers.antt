@@ -6,14 +6,15 @@ use Rattle.at_syntax.specs.Did.{method_of}
 use Rattle.relay_step.specs.Around.{around}
 use Rattle.relay_step.specs.Asked.{AskedInVain}
 use Rattle.relay_step.specs.Causes.{CameToNothing}
-use Rattle.relay_step.specs.Commands.{EndsFetched, SpentFetching, SyncedAt}
+use Rattle.relay_step.specs.Commands.{SyncedAt}
 use Rattle.relay_store.specs.Faults.{IsCause}
 use Rattle.relay_store.specs.Store.{seen_in}
-use Rattle.relay_run.specs.CommandRan.{Knows}
+use Rattle.relay_run.specs.Behind.{FetchEndsNumbers, FetchIsSpent, SyncedBehind}
 use Rattle.relay_run.specs.declared.end.RunEnd.{RunEnd}
+use Rattle.relay_run.proofs.Behind.{fetch_ends, fetch_is_spent, synced_behind}
 use Rattle.relay_run.proofs.Causing.{commanded_good, done_causes, done_good, image_shows, never_bad, opening_causes, opening_read, opening_shows}
 use Rattle.relay_run.proofs.Sounds.{synced_stays, short_text}
-use Rattle.relay_run.proofs.Uttered.{opened_knows, opened_of, ran_err, ran_ok, ran_unopened, vain_by}
+use Rattle.relay_run.proofs.Uttered.{opened_holds, opened_of, ran_err, ran_ok, ran_unopened, vain_by}
 use Rattle.relay_run.proofs.syncing.sync.Goals as goal
 
 pub returns-in-Err-clause-ran : goal.returns-in-Err-clause-ran
@@ -32,7 +33,9 @@ returns-in-Ok-sync_on-clause-ran g c = λ told J image.
     ran_ok g.D.Disk.view (λ x. g.met.D.Disk.is_disk x) c.args.disk.now c.args.other.now c.open.new.disk c.open.new.other g.D.Disk.tells told c.in-Ok.store c.in-Ok.ensures.opened J image
     c.sync_on.new.disk c.sync_on.new.other c.sync_on.new.store c.in-Ok-sync_on.ensures.beside
     (λ core command. SyncedAt g.C.Clock.tells g.R.Repos.tells core c.args.did.now c.args.time.now (around (g.P.Judges.panel c.args.judges.now) (g.C.Clock.moments c.args.clock.now) (g.R.Repos.repository c.args.repos.now)) command (around (g.P.Judges.panel c.sync_on.new.judges) (g.C.Clock.moments c.sync_on.new.clock) (g.R.Repos.repository c.sync_on.new.repos)))
-    (CameToNothing g.C.Clock.tells g.R.Repos.tells (AskedInVain (g.P.Judges.panel c.args.judges.now) c.args.did.now (g.P.Judges.panel c.sync_on.new.judges)) (around (g.P.Judges.panel c.args.judges.now) (g.C.Clock.moments c.args.clock.now) (g.R.Repos.repository c.args.repos.now)) (around (g.P.Judges.panel c.sync_on.new.judges) (g.C.Clock.moments c.sync_on.new.clock) (g.R.Repos.repository c.sync_on.new.repos))) (around (g.P.Judges.panel c.sync_on.new.judges) (g.C.Clock.moments c.sync_on.new.clock) (g.R.Repos.repository c.sync_on.new.repos) ≡ around (g.P.Judges.panel c.args.judges.now) (g.C.Clock.moments c.args.clock.now) (g.R.Repos.repository c.args.repos.now)) (λ fault. (CameToNothing g.C.Clock.tells g.R.Repos.tells (AskedInVain (g.P.Judges.panel c.args.judges.now) c.args.did.now (g.P.Judges.panel c.sync_on.new.judges)) (around (g.P.Judges.panel c.args.judges.now) (g.C.Clock.moments c.args.clock.now) (g.R.Repos.repository c.args.repos.now)) (around (g.P.Judges.panel c.sync_on.new.judges) (g.C.Clock.moments c.sync_on.new.clock) (g.R.Repos.repository c.sync_on.new.repos))) × IsCause (Knows J (λ core. EndsFetched g.C.Clock.tells g.R.Repos.tells core c.args.did.now (around (g.P.Judges.panel c.args.judges.now) (g.C.Clock.moments c.args.clock.now) (g.R.Repos.repository c.args.repos.now)) (around (g.P.Judges.panel c.sync_on.new.judges) (g.C.Clock.moments c.sync_on.new.clock) (g.R.Repos.repository c.sync_on.new.repos)))) (Knows J (λ core. SpentFetching g.C.Clock.tells g.R.Repos.tells core c.args.did.now (around (g.P.Judges.panel c.args.judges.now) (g.C.Clock.moments c.args.clock.now) (g.R.Repos.repository c.args.repos.now)) (around (g.P.Judges.panel c.sync_on.new.judges) (g.C.Clock.moments c.sync_on.new.clock) (g.R.Repos.repository c.sync_on.new.repos)))) ⊤ ⊤ fault) g.O.Sink.tells c.args.most c.in-Ok.ensures.open.1
+    (λ command. SyncedBehind g.C.Clock.tells g.R.Repos.tells J c.args.did.now c.args.time.now (around (g.P.Judges.panel c.args.judges.now) (g.C.Clock.moments c.args.clock.now) (g.R.Repos.repository c.args.repos.now)) command (around (g.P.Judges.panel c.sync_on.new.judges) (g.C.Clock.moments c.sync_on.new.clock) (g.R.Repos.repository c.sync_on.new.repos)))
+    (CameToNothing g.C.Clock.tells g.R.Repos.tells (AskedInVain (g.P.Judges.panel c.args.judges.now) c.args.did.now (g.P.Judges.panel c.sync_on.new.judges)) (around (g.P.Judges.panel c.args.judges.now) (g.C.Clock.moments c.args.clock.now) (g.R.Repos.repository c.args.repos.now)) (around (g.P.Judges.panel c.sync_on.new.judges) (g.C.Clock.moments c.sync_on.new.clock) (g.R.Repos.repository c.sync_on.new.repos))) (around (g.P.Judges.panel c.sync_on.new.judges) (g.C.Clock.moments c.sync_on.new.clock) (g.R.Repos.repository c.sync_on.new.repos) ≡ around (g.P.Judges.panel c.args.judges.now) (g.C.Clock.moments c.args.clock.now) (g.R.Repos.repository c.args.repos.now)) (λ fault. (CameToNothing g.C.Clock.tells g.R.Repos.tells (AskedInVain (g.P.Judges.panel c.args.judges.now) c.args.did.now (g.P.Judges.panel c.sync_on.new.judges)) (around (g.P.Judges.panel c.args.judges.now) (g.C.Clock.moments c.args.clock.now) (g.R.Repos.repository c.args.repos.now)) (around (g.P.Judges.panel c.sync_on.new.judges) (g.C.Clock.moments c.sync_on.new.clock) (g.R.Repos.repository c.sync_on.new.repos))) × IsCause (FetchEndsNumbers g.C.Clock.tells g.R.Repos.tells J c.args.did.now (around (g.P.Judges.panel c.args.judges.now) (g.C.Clock.moments c.args.clock.now) (g.R.Repos.repository c.args.repos.now)) (around (g.P.Judges.panel c.sync_on.new.judges) (g.C.Clock.moments c.sync_on.new.clock) (g.R.Repos.repository c.sync_on.new.repos))) (FetchIsSpent g.C.Clock.tells g.R.Repos.tells J c.args.did.now (around (g.P.Judges.panel c.args.judges.now) (g.C.Clock.moments c.args.clock.now) (g.R.Repos.repository c.args.repos.now)) (around (g.P.Judges.panel c.sync_on.new.judges) (g.C.Clock.moments c.sync_on.new.clock) (g.R.Repos.repository c.sync_on.new.repos))) ⊤ ⊤ fault) g.O.Sink.tells c.args.most c.in-Ok.ensures.open.1
+    (λ core holds command at. synced_behind core J holds g.C.Clock.tells g.R.Repos.tells c.args.did.now c.args.time.now (around (g.P.Judges.panel c.args.judges.now) (g.C.Clock.moments c.args.clock.now) (g.R.Repos.repository c.args.repos.now)) command (around (g.P.Judges.panel c.sync_on.new.judges) (g.C.Clock.moments c.sync_on.new.clock) (g.R.Repos.repository c.sync_on.new.repos)) at)
     (λ core holds command at. synced_stays g.C.Clock.tells g.R.Repos.tells core J c.args.did.now c.args.time.now (around (g.P.Judges.panel c.args.judges.now) (g.C.Clock.moments c.args.clock.now) (g.R.Repos.repository c.args.repos.now)) (around (g.P.Judges.panel c.sync_on.new.judges) (g.C.Clock.moments c.sync_on.new.clock) (g.R.Repos.repository c.sync_on.new.repos)) (short_text c.args.time.now c.ghost_text.ensures.bytes c.ghost_text.ensures.length c.ghost_text.ensures.utf8 c.requires.time) holds command at)
     c.in-Ok-sync_on.done c.answer.result (g.O.Sink.written c.args.out.now) (g.O.Sink.written c.answer.new.out)
     (c.in-Ok-sync_on.ensures.commanded J (opened_of g.D.Disk.view (λ x. g.met.D.Disk.is_disk x) c.args.disk.now c.args.other.now c.open.new.disk c.open.new.other g.D.Disk.tells told c.in-Ok.store c.in-Ok.ensures.opened J image))
@@ -49,14 +52,16 @@ returns-clause-ran g c = λ told J image.
     ran_err g.D.Disk.view (λ x. g.met.D.Disk.is_disk x) c.args.disk.now c.args.other.now c.open.new.disk c.open.new.other g.D.Disk.tells told c.in-Ok.store c.in-Ok.ensures.opened J image
     c.sync_on.new.disk c.sync_on.new.other c.sync_on.new.store c.in-Err-sync_on.ensures.beside
     (λ core command. SyncedAt g.C.Clock.tells g.R.Repos.tells core c.args.did.now c.args.time.now (around (g.P.Judges.panel c.args.judges.now) (g.C.Clock.moments c.args.clock.now) (g.R.Repos.repository c.args.repos.now)) command (around (g.P.Judges.panel c.sync_on.new.judges) (g.C.Clock.moments c.sync_on.new.clock) (g.R.Repos.repository c.sync_on.new.repos)))
-    (CameToNothing g.C.Clock.tells g.R.Repos.tells (AskedInVain (g.P.Judges.panel c.args.judges.now) c.args.did.now (g.P.Judges.panel c.sync_on.new.judges)) (around (g.P.Judges.panel c.args.judges.now) (g.C.Clock.moments c.args.clock.now) (g.R.Repos.repository c.args.repos.now)) (around (g.P.Judges.panel c.sync_on.new.judges) (g.C.Clock.moments c.sync_on.new.clock) (g.R.Repos.repository c.sync_on.new.repos))) (around (g.P.Judges.panel c.sync_on.new.judges) (g.C.Clock.moments c.sync_on.new.clock) (g.R.Repos.repository c.sync_on.new.repos) ≡ around (g.P.Judges.panel c.args.judges.now) (g.C.Clock.moments c.args.clock.now) (g.R.Repos.repository c.args.repos.now)) (λ fault. (CameToNothing g.C.Clock.tells g.R.Repos.tells (AskedInVain (g.P.Judges.panel c.args.judges.now) c.args.did.now (g.P.Judges.panel c.sync_on.new.judges)) (around (g.P.Judges.panel c.args.judges.now) (g.C.Clock.moments c.args.clock.now) (g.R.Repos.repository c.args.repos.now)) (around (g.P.Judges.panel c.sync_on.new.judges) (g.C.Clock.moments c.sync_on.new.clock) (g.R.Repos.repository c.sync_on.new.repos))) × IsCause (Knows J (λ core. EndsFetched g.C.Clock.tells g.R.Repos.tells core c.args.did.now (around (g.P.Judges.panel c.args.judges.now) (g.C.Clock.moments c.args.clock.now) (g.R.Repos.repository c.args.repos.now)) (around (g.P.Judges.panel c.sync_on.new.judges) (g.C.Clock.moments c.sync_on.new.clock) (g.R.Repos.repository c.sync_on.new.repos)))) (Knows J (λ core. SpentFetching g.C.Clock.tells g.R.Repos.tells core c.args.did.now (around (g.P.Judges.panel c.args.judges.now) (g.C.Clock.moments c.args.clock.now) (g.R.Repos.repository c.args.repos.now)) (around (g.P.Judges.panel c.sync_on.new.judges) (g.C.Clock.moments c.sync_on.new.clock) (g.R.Repos.repository c.sync_on.new.repos)))) ⊤ ⊤ fault) g.O.Sink.tells c.args.most c.in-Ok.ensures.open.1
+    (λ command. SyncedBehind g.C.Clock.tells g.R.Repos.tells J c.args.did.now c.args.time.now (around (g.P.Judges.panel c.args.judges.now) (g.C.Clock.moments c.args.clock.now) (g.R.Repos.repository c.args.repos.now)) command (around (g.P.Judges.panel c.sync_on.new.judges) (g.C.Clock.moments c.sync_on.new.clock) (g.R.Repos.repository c.sync_on.new.repos)))
+    (CameToNothing g.C.Clock.tells g.R.Repos.tells (AskedInVain (g.P.Judges.panel c.args.judges.now) c.args.did.now (g.P.Judges.panel c.sync_on.new.judges)) (around (g.P.Judges.panel c.args.judges.now) (g.C.Clock.moments c.args.clock.now) (g.R.Repos.repository c.args.repos.now)) (around (g.P.Judges.panel c.sync_on.new.judges) (g.C.Clock.moments c.sync_on.new.clock) (g.R.Repos.repository c.sync_on.new.repos))) (around (g.P.Judges.panel c.sync_on.new.judges) (g.C.Clock.moments c.sync_on.new.clock) (g.R.Repos.repository c.sync_on.new.repos) ≡ around (g.P.Judges.panel c.args.judges.now) (g.C.Clock.moments c.args.clock.now) (g.R.Repos.repository c.args.repos.now)) (λ fault. (CameToNothing g.C.Clock.tells g.R.Repos.tells (AskedInVain (g.P.Judges.panel c.args.judges.now) c.args.did.now (g.P.Judges.panel c.sync_on.new.judges)) (around (g.P.Judges.panel c.args.judges.now) (g.C.Clock.moments c.args.clock.now) (g.R.Repos.repository c.args.repos.now)) (around (g.P.Judges.panel c.sync_on.new.judges) (g.C.Clock.moments c.sync_on.new.clock) (g.R.Repos.repository c.sync_on.new.repos))) × IsCause (FetchEndsNumbers g.C.Clock.tells g.R.Repos.tells J c.args.did.now (around (g.P.Judges.panel c.args.judges.now) (g.C.Clock.moments c.args.clock.now) (g.R.Repos.repository c.args.repos.now)) (around (g.P.Judges.panel c.sync_on.new.judges) (g.C.Clock.moments c.sync_on.new.clock) (g.R.Repos.repository c.sync_on.new.repos))) (FetchIsSpent g.C.Clock.tells g.R.Repos.tells J c.args.did.now (around (g.P.Judges.panel c.args.judges.now) (g.C.Clock.moments c.args.clock.now) (g.R.Repos.repository c.args.repos.now)) (around (g.P.Judges.panel c.sync_on.new.judges) (g.C.Clock.moments c.sync_on.new.clock) (g.R.Repos.repository c.sync_on.new.repos))) ⊤ ⊤ fault) g.O.Sink.tells c.args.most c.in-Ok.ensures.open.1
+    (λ core holds command at. synced_behind core J holds g.C.Clock.tells g.R.Repos.tells c.args.did.now c.args.time.now (around (g.P.Judges.panel c.args.judges.now) (g.C.Clock.moments c.args.clock.now) (g.R.Repos.repository c.args.repos.now)) command (around (g.P.Judges.panel c.sync_on.new.judges) (g.C.Clock.moments c.sync_on.new.clock) (g.R.Repos.repository c.sync_on.new.repos)) at)
     (λ core holds command at. synced_stays g.C.Clock.tells g.R.Repos.tells core J c.args.did.now c.args.time.now (around (g.P.Judges.panel c.args.judges.now) (g.C.Clock.moments c.args.clock.now) (g.R.Repos.repository c.args.repos.now)) (around (g.P.Judges.panel c.sync_on.new.judges) (g.C.Clock.moments c.sync_on.new.clock) (g.R.Repos.repository c.sync_on.new.repos)) (short_text c.args.time.now c.ghost_text.ensures.bytes c.ghost_text.ensures.length c.ghost_text.ensures.utf8 c.requires.time) holds command at)
     c.in-Err-sync_on.fault (g.O.Sink.written c.args.out.now)
     (c.in-Err-sync_on.ensures.commanded J (opened_of g.D.Disk.view (λ x. g.met.D.Disk.is_disk x) c.args.disk.now c.args.other.now c.open.new.disk c.open.new.other g.D.Disk.tells told c.in-Ok.store c.in-Ok.ensures.opened J image))
     (λ came. (
       came,
-      vain_by _ _ c.in-Err-sync_on.fault (λ is. opened_knows g.D.Disk.view (λ x. g.met.D.Disk.is_disk x) c.args.disk.now c.args.other.now c.open.new.disk c.open.new.other g.D.Disk.tells told c.in-Ok.store c.in-Ok.ensures.opened J image (λ core. EndsFetched g.C.Clock.tells g.R.Repos.tells core c.args.did.now (around (g.P.Judges.panel c.args.judges.now) (g.C.Clock.moments c.args.clock.now) (g.R.Repos.repository c.args.repos.now)) (around (g.P.Judges.panel c.sync_on.new.judges) (g.C.Clock.moments c.sync_on.new.clock) (g.R.Repos.repository c.sync_on.new.repos))) (c.in-Err-sync_on.ensures.seq_end (ap Err is)))
-          (λ is. opened_knows g.D.Disk.view (λ x. g.met.D.Disk.is_disk x) c.args.disk.now c.args.other.now c.open.new.disk c.open.new.other g.D.Disk.tells told c.in-Ok.store c.in-Ok.ensures.opened J image (λ core. SpentFetching g.C.Clock.tells g.R.Repos.tells core c.args.did.now (around (g.P.Judges.panel c.args.judges.now) (g.C.Clock.moments c.args.clock.now) (g.R.Repos.repository c.args.repos.now)) (around (g.P.Judges.panel c.sync_on.new.judges) (g.C.Clock.moments c.sync_on.new.clock) (g.R.Repos.repository c.sync_on.new.repos))) (c.in-Err-sync_on.ensures.spent (ap Err is))),
+      vain_by _ _ c.in-Err-sync_on.fault (λ is. fetch_ends (seen_in c.in-Ok.store).core J (opened_holds g.D.Disk.view (λ x. g.met.D.Disk.is_disk x) c.args.disk.now c.args.other.now c.open.new.disk c.open.new.other g.D.Disk.tells told c.in-Ok.store c.in-Ok.ensures.opened J image) g.C.Clock.tells g.R.Repos.tells c.args.did.now (around (g.P.Judges.panel c.args.judges.now) (g.C.Clock.moments c.args.clock.now) (g.R.Repos.repository c.args.repos.now)) (around (g.P.Judges.panel c.sync_on.new.judges) (g.C.Clock.moments c.sync_on.new.clock) (g.R.Repos.repository c.sync_on.new.repos)) (c.in-Err-sync_on.ensures.seq_end (ap Err is)))
+          (λ is. fetch_is_spent (seen_in c.in-Ok.store).core J (opened_holds g.D.Disk.view (λ x. g.met.D.Disk.is_disk x) c.args.disk.now c.args.other.now c.open.new.disk c.open.new.other g.D.Disk.tells told c.in-Ok.store c.in-Ok.ensures.opened J image) g.C.Clock.tells g.R.Repos.tells c.args.did.now (around (g.P.Judges.panel c.args.judges.now) (g.C.Clock.moments c.args.clock.now) (g.R.Repos.repository c.args.repos.now)) (around (g.P.Judges.panel c.sync_on.new.judges) (g.C.Clock.moments c.sync_on.new.clock) (g.R.Repos.repository c.sync_on.new.repos)) (c.in-Err-sync_on.ensures.spent (ap Err is))),
     ))
 
 pub returns-clause-shows : goal.returns-clause-shows

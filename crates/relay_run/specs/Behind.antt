@@ -1,0 +1,93 @@
+-- What the commands on an account do, behind the journal of two disks (own).
+use Rattle.std.specs.Prelude.{◌≡◌, ⊤, ℕ, ◌+◌, ◌≤◌, Bool, true, List, None, IsTrue}
+use Rattle.at_authority.specs.Panels.{IsSpent}
+use Rattle.at_cid.specs.declared.limits.TheConstants.{NUMBERS}
+use Rattle.at_syntax.specs.Did.{method_of}
+use Rattle.relay_row.specs.Folds.{last_seq}
+use Rattle.relay_row.specs.declared.row.Row.{Row}
+use Rattle.account_state.specs.Folds.{account, last_rev}
+use Rattle.relay_core.specs.Decide.{Found, is_found}
+use Rattle.relay_core.specs.Operating.{operate_refusal, sync_refusal}
+use Rattle.relay_step.specs.Around.{Around, SameRepositories}
+use Rattle.relay_step.specs.Asked.{AskedInVain}
+use Rattle.relay_step.specs.Causes.{CameToNothing, OneTaken}
+use Rattle.relay_step.specs.Commands.{IsJudged, IsNow}
+use Rattle.relay_step.specs.Fetching.{AnsweredFetch, told_where}
+use Rattle.relay_step.specs.Operators.{IsOperated, IsSyncedNow}
+use Rattle.relay_step.specs.declared.command.CommandAnswer.{CommandAnswer}
+use Rattle.relay_store.specs.Faults.{IsCause}
+use Rattle.relay_run.specs.CommandRan.{CommandRan}
+use Rattle.relay_run.specs.Pairs.{PairView}
+use Rattle.relay_run.specs.declared.end.RunEnd.{RunEnd}
+
+-- ---- an account taken down or restored
+
+-- Behind the journal J, an account was taken down or restored at a moment of the clock, or the command
+-- was refused.
+pub record OperatedBehind (clock_tells : Bool) (J : List Row) (did : List ℕ) (down : Bool)
+    (time moments : List ℕ) (command : CommandAnswer) (left : List ℕ) : Type 0 where
+  pub moment : ℕ
+  pub now : IsTrue clock_tells → IsNow moments moment left
+  pub operated : IsOperated J did down time moment command
+
+-- The numbers end behind the journal J: the one behind the last is none, and the command isn't refused.
+abbrev pub NumbersEndBehind : List Row → List ℕ → Bool → Type 0
+NumbersEndBehind J did down = (operate_refusal (account did J) down ≡ None) × (NUMBERS ≤ last_seq J + 1)
+
+-- An account of the journal J of two disks was to be taken down, or restored.
+abbrev pub WasOperated : Bool → Bool → ℕ → List Row → List ℕ → Bool → List ℕ → List ℕ → List ℕ
+    → PairView → PairView → RunEnd → Type 0
+WasOperated output_tells clock_tells most J did down time moments left old new end =
+    CommandRan output_tells most J (left ≡ moments)
+    (λ fault. (IsTrue clock_tells → OneTaken moments left)
+    × IsCause (NumbersEndBehind J did down) ⊤ ⊤ ⊤ fault)
+    (λ command. OperatedBehind clock_tells J did down time moments command left)
+    old new end
+
+-- ---- an account's repository fetched and taken over
+
+-- Behind the journal J, an account was synchronized at a moment of the clock with what its repository
+-- came to, or the command was refused.
+pub record SyncedBehind (clock_tells repos_tell : Bool) (J : List Row) (did time : List ℕ)
+    (old : Around) (command : CommandAnswer) (new : Around) : Type 0 where
+  pub moment : ℕ
+  pub now : IsTrue clock_tells → IsNow old.moments moment new.moments
+  pub synced : IsSyncedNow old.panel J did time moment (told_where repos_tell (old.repository did))
+      command new.panel
+  pub same : IsTrue repos_tell → SameRepositories old.repository new.repository
+
+-- The numbers end behind the journal J: the one behind the last is none, the command isn't refused, and
+-- what was fetched at a moment of the clock would be taken over.
+pub record FetchEndsNumbers (clock_tells repos_tell : Bool) (J : List Row) (did : List ℕ)
+    (old new : Around) : Type 0 where
+  pub ends : NUMBERS ≤ last_seq J + 1
+  pub fine : sync_refusal (account did J) ≡ None
+  pub moment : ℕ
+  pub now : IsTrue clock_tells → IsNow old.moments moment new.moments
+  pub found : Found
+  pub whole : is_found found ≡ true
+  pub fetch : AnsweredFetch (told_where repos_tell (old.repository did)) did
+      (last_rev (account did J).repo) moment old.panel found new.panel
+
+-- No authority of the account's method is left, and the judges are asked: the command isn't refused, and
+-- what is fetched behind the journal J at a moment of the clock is judged.
+pub record FetchIsSpent (clock_tells repos_tell : Bool) (J : List Row) (did : List ℕ)
+    (old new : Around) : Type 0 where
+  pub fine : sync_refusal (account did J) ≡ None
+  pub moment : ℕ
+  pub now : IsTrue clock_tells → IsNow old.moments moment new.moments
+  pub judged : IsTrue repos_tell
+      → IsJudged (old.repository did) did (last_rev (account did J).repo) moment
+  pub spent : IsSpent (new.panel (method_of did))
+
+-- An account of the journal J of two disks was to be synchronized.
+abbrev pub WasSynced : Bool → Bool → Bool → ℕ → List Row → List ℕ → List ℕ → Around → Around
+    → PairView → PairView → RunEnd → Type 0
+WasSynced output_tells clock_tells repos_tell most J did time around around_now old new end =
+    CommandRan output_tells most J (around_now ≡ around)
+    (λ fault. CameToNothing clock_tells repos_tell
+    (AskedInVain around.panel did around_now.panel) around around_now
+    × IsCause (FetchEndsNumbers clock_tells repos_tell J did around around_now)
+    (FetchIsSpent clock_tells repos_tell J did around around_now) ⊤ ⊤ fault)
+    (λ command. SyncedBehind clock_tells repos_tell J did time around command around_now)
+    old new end
