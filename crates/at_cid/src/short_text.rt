@@ -54,10 +54,8 @@ impl ShortText {
     pub(crate) fn as_str(&self) -> &str
         ensures { result.now ≡ self.now }
     {
-        match str::from_utf8(self.as_bytes()) {
-            Ok(text) => text,
-            Err(_) => unreachable!(),
-        }
+        // Only texts are written into the array, so they aren't tested again.
+        unsafe { str::from_utf8_unchecked(self.as_bytes()) }
     }
 
     /// The bytes of the text.
