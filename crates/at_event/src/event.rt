@@ -1,5 +1,6 @@
 //! An event of a host's stream.
 
+use crate::commit_box::CommitBox;
 use crate::kind::EventKind;
 use crate::ops::EventOps;
 use at_cbor::Value;
@@ -52,7 +53,7 @@ pub struct AccountEvent {
 #[derive(Debug, Drop)]
 pub enum Body {
     /// A repository has a new commit.
-    Commit(CommitEvent),
+    Commit(CommitBox),
     /// A repository's state is stated anew.
     Sync(SyncEvent),
     /// The account's identity may have changed.
@@ -86,7 +87,7 @@ impl Body {
         ensures { option_map (λ blocks. blocks.now) result ≡ blocks_of self.now }
     {
         match self {
-            Body::Commit(commit) => Some(&commit.blocks),
+            Body::Commit(commit) => Some(&commit.get().blocks),
             Body::Sync(sync) => Some(&sync.blocks),
             Body::Identity | Body::Account(_) => None,
         }

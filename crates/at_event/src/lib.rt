@@ -1,6 +1,7 @@
 //! The frames of a host's stream: what a message says, the events that a relay passes on, and its own events.
 #![tactic(auto)]
 
+mod commit_box;
 mod event;
 mod flaw;
 mod forms;
@@ -16,6 +17,7 @@ mod refusal;
 mod table;
 mod writing;
 
+pub use commit_box::CommitBox;
 pub use event::{AccountEvent, Body, CommitEvent, Event, SyncEvent};
 pub use frame::{Frame, FrameFault};
 pub use head::Head;

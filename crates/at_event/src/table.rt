@@ -10,6 +10,7 @@ ghost use Rattle.at_event.specs.Table.{action_of, op_of, ops_of, ops_in, too_big
 ghost use Rattle.at_event.specs.Flaws.{Reads};
 ghost use Rattle.at_event.specs.Writing.{blocks_of, with_blocks};
 
+use crate::commit_box::CommitBox;
 use crate::event::{AccountEvent, Body, CommitEvent, SyncEvent};
 use crate::flaw::Flaw;
 use crate::forms::{
@@ -150,7 +151,10 @@ pub fn read_body(alloc: Global, kind: EventKind, fields: &mut Value) -> Result<B
     ensures left { IfOk result (λ body. item_of fields.old ≡ with_blocks (blocks_of body) (item_of fields.new)) }
 {
     match kind {
-        EventKind::Commit => Ok(Body::Commit(read_commit(alloc, fields)?)),
+        EventKind::Commit => {
+            let commit = read_commit(alloc, fields)?;
+            Ok(Body::Commit(CommitBox::new(alloc, commit)?))
+        }
         EventKind::Sync => Ok(Body::Sync(read_sync(alloc, fields)?)),
         EventKind::Identity => Ok(Body::Identity),
         EventKind::Account => Ok(Body::Account(read_account(fields)?)),

@@ -66,6 +66,7 @@ pub fn lines(
     let Body::Commit(commit) = &event.body else {
         return Ok(());
     };
+    let commit = commit.get();
     let lines = lines_of_ops(alloc, event, commit.rev, commit.ops.as_slice(), collection)?;
     out.extend(lines.as_slice())
 }

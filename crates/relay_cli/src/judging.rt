@@ -34,7 +34,7 @@ fn judge_event(alloc: Global, event: Event) -> Result<CheckVerdict, Memory>
     drop(rest);
     match body {
         Body::Commit(_) if too_long => Ok(CheckVerdict::Refused(Refusal::TooLong)),
-        Body::Commit(commit) => judge_commit(alloc, &commit),
+        Body::Commit(commit) => judge_commit(alloc, commit.get()),
         _ => Ok(CheckVerdict::Refused(Refusal::NotCommit)),
     }
 }

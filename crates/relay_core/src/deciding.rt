@@ -144,7 +144,7 @@ fn next_of_event(account: Option<&Account>, event: &Event, len: u64, answers: &A
         return refuse(Refusal::TooLong, answers);
     }
     match &event.body {
-        Body::Commit(commit) => next_of_repo(account, &event.body, commit.rev, true, answers),
+        Body::Commit(commit) => next_of_repo(account, &event.body, commit.get().rev, true, answers),
         Body::Sync(sync) => next_of_repo(account, &event.body, sync.rev, false, answers),
         Body::Identity => next_of_identity(account, answers),
         Body::Account(_) => next_of_account(account, &event.body, answers),

@@ -78,7 +78,7 @@ pub(crate) fn open(
     ensures memory { IfErr result (λ fault. fault ≡ Fault.Memory) }
 {
     match body {
-        Body::Commit(commit) => open_commit_event(alloc, commit, last),
+        Body::Commit(commit) => open_commit_event(alloc, commit.get(), last),
         Body::Sync(sync) => open_sync_event(alloc, sync, last),
         Body::Identity | Body::Account(_) => unreachable!(),
     }
@@ -152,7 +152,7 @@ pub(crate) fn follow(
         unreachable!()
     };
     event.ghost_event();
-    match link(alloc, commit, opened, &expect_of(repo)) {
+    match link(alloc, commit.get(), opened, &expect_of(repo)) {
         Ok(()) => Ok(Ok(())),
         Err(CheckFault::Refused(refusal)) => Ok(Err(refusal)),
         Err(CheckFault::Memory) => Err(StepFault::Memory),

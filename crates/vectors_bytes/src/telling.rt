@@ -33,6 +33,7 @@ fn commit_of(event: &Event) -> Result<&CommitEvent> {
     let Body::Commit(commit) = &event.body else {
         bail!("the event is no commit");
     };
+    let commit = commit.get();
     let len = commit.ops.len();
     ensure!(commit.ops.is_empty() == (len == 0), "which are empty");
     ensure!(commit.ops.get(len).is_none(), "none behind the last");

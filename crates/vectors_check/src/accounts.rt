@@ -25,7 +25,7 @@ fn event_in(answer: Result<Frame, FrameFault>) -> Result<Event> {
 /// The commit of an event.
 pub fn commit_of(event: &Event) -> Result<&CommitEvent> {
     match &event.body {
-        Body::Commit(commit) => Ok(commit),
+        Body::Commit(commit) => Ok(commit.get()),
         _ => bail!("the event is no commit"),
     }
 }

@@ -28,7 +28,7 @@ fn verdict_on_event(alloc: Global, event: &Event) -> Result<String> {
     if out_len(event) > LONGEST_MESSAGE {
         return refused(alloc, &Refusal::TooLong);
     }
-    verdict_on_commit(alloc, commit)
+    verdict_on_commit(alloc, commit.get())
 }
 
 /// What the commit comes to.
