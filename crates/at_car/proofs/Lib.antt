@@ -11,6 +11,7 @@ pub mod Varints
 pub mod Sections
 pub mod Again
 pub mod Takes
+pub mod Digests
 pub mod Written
 pub mod Faults
 pub mod Extends

@@ -1,29 +1,20 @@
 -- The relay's own events are short.
-use Rattle.std.proofs.Common.{◌≡◌, ℕ, ◌+◌, ◌-◌, ◌≤◌, ◌^◌, Bool, true, false, cond, ltb, List, ◌++◌, length, min, Option, Some, None, Ok, Err, codes, refl, arith}
+use Rattle.std.proofs.Common.{◌≡◌, ℕ, ◌+◌, ◌-◌, ◌≤◌, ◌^◌, Bool, true, false, ltb, List, ◌++◌, length, min, Option, Some, None, Ok, Err, codes, refl, arith}
 use Rattle.std.specs.Prelude.{nat_lt}
-use Rattle.std.proofs.lemmas.Bool.{le-ltb, ltb-false}
+use Rattle.std.proofs.lemmas.Bool.{le-ltb}
 use Rattle.std.proofs.lemmas.List.{length-append}
 use Rattle.std.proofs.Math.Nat.{min-le_left}
 use Rattle.at_cbor.specs.Item.{Item, Fields, no_fields, field}
 use Rattle.at_cbor.specs.Encoding.{front_of, tail_of, encoding, text_encoding, fields_count, fields_encoding}
 use Rattle.at_cbor.specs.declared.major.Major.{Major}
-use Rattle.at_car.specs.Blocks.{IsLinkOf}
-use Rattle.at_car.proofs.Lengths.{car_short as one_car_short}
-use Rattle.at_commit.specs.Commit.{commit_at, commit_of}
-use Rattle.at_commit.specs.declared.commit.Commit.{Commit}
-use Rattle.at_commit.specs.declared.reading.TheConstants.{LONGEST_BLOCK}
-use Rattle.at_commit.specs.declared.fault.CommitFault.{CommitFault}
-use Rattle.at_cbor.specs.Taking.{whole_item}
 use Rattle.at_syntax.specs.Did.{is_did}
 use Rattle.at_syntax.specs.Tid.{digits_of}
 use Rattle.at_event.specs.Writing.{header_of, event_message, number_item, out_of, out_length, sync_payload, sync_seen, account_payload, account_seen, status_field}
 use Rattle.at_event.specs.declared.kind.EventKind.{EventKind}
-use Rattle.at_event.specs.declared.head.Head.{Head}
 use Rattle.at_event.proofs.OwnEvents.{IsStatus}
 use Rattle.at_cid.specs.declared.limits.TheConstants.{NUMBERS}
 use Rattle.std.specs.Prelude.{nat_le}
 use Rattle.std.proofs.lemmas.Bool.{and_parts, leb-true}
-use Rattle.relay_core.specs.Decide.{commit_car}
 use Rattle.relay_core.specs.declared.limits.TheConstants.{LONGEST_MESSAGE}
 use Rattle.relay_law.proofs.Encoded.{front_short}
 use Rattle.chain_law.proofs.Trailing.{is_long}
@@ -49,19 +40,6 @@ digits_short rev = refl
 pub did_short : (did : List ℕ) → is_did did ≡ true → length did ≤ 2048
 unfolding is_did
 did_short did h = leb-true (length did) 2048 (and_parts (nat_le (length did) 2048) _ h).0
-
--- ---- the CAR of a commit alone
-
-pub car_short : (head : Head) (block : List ℕ) → IsLinkOf head.commit block → length block ≤ LONGEST_BLOCK → length (commit_car head block) ≤ 10000
-car_short head block is few = omega (arith, few, one_car_short head.commit block is.link)
-
-pub block_short : (block : List ℕ) (commit : Commit) → commit_of block ≡ Ok commit → length block ≤ LONGEST_BLOCK
-unfolding commit_of
-block_short block commit h =
-    elim (ltb LONGEST_BLOCK (length block)) as (λ b. ltb LONGEST_BLOCK (length block) ≡ b → cond b (Err CommitFault.TooLong) (commit_at (whole_item block)) ≡ Ok commit → length block ≤ LONGEST_BLOCK) [
-      | true ↦ λ known e. absurd cc
-      | false ↦ λ known e. ltb-false LONGEST_BLOCK (length block) known
-    ] refl h
 
 -- ---- messages
 

@@ -5,7 +5,6 @@ use Rattle.std.specs.Str.{bytes_eq}
 use Rattle.std.proofs.lemmas.Bool.{and_from, eq-eqb, le-ltb, not-false}
 use Rattle.at_car.specs.Blocks.{IsLinkOf}
 use Rattle.at_car.specs.Car.{car_of}
-use Rattle.at_car.proofs.Written.{written_again}
 use Rattle.at_commit.specs.Commit.{commit_of, is_of}
 use Rattle.at_commit.specs.declared.commit.Commit.{Commit}
 use Rattle.at_event.specs.Seen.{Seen}
@@ -32,12 +31,12 @@ use Rattle.repo_sync.specs.declared.found.Found.{Found as Checked}
 use Rattle.relay_core.specs.Decide.{Checks, commit_blocks, commit_car}
 use Rattle.relay_core.specs.Opening.{OpensRight, IsHeadIn, shown_alone}
 use Rattle.relay_core.specs.Table.{refusal_in}
-use Rattle.relay_core.proofs.Returning.{one_linked}
 use Rattle.chain_law.specs.Chained.{is_raised}
 use Rattle.chain_law.specs.Given.{IsOfRepository}
+use Rattle.relay_law.proofs.Blocks.{block_short, car_again, car_short, head_in}
 use Rattle.relay_law.proofs.Own.{takendown}
 use Rattle.at_car.proofs.Lengths.{found_one}
-use Rattle.chain_law.proofs.Lengths.{block_short, car_short, did_short, sync_fits, account_fits}
+use Rattle.chain_law.proofs.Lengths.{did_short, sync_fits, account_fits}
 use Rattle.chain_law.proofs.Renumbered.{one_head, shown_active}
 use Rattle.chain_law.proofs.Trailing.{Trails, Carries, opens_to}
 
@@ -94,15 +93,12 @@ record IsOpen (did : List ℕ) (head : Head) (car : CarResult) : Type 0 where
 car_open : (did : List ℕ) (head : Head) (block : List ℕ) → IsCommitted did head block → IsOpen did head (car_of (commit_car head block))
 car_open did head block is =
     let blocks = commit_blocks head block in
-    let few = car_short head block is.linked (block_short block is.commit is.reads) in
-    let car : car_of (commit_car head block) ≡ Ok (head.commit ∷ [], blocks) = written_again head.commit blocks is.linked.link (one_linked head.commit block is.linked) (omega (arith, few)) in
     let P : CarResult → Type 0 = λ c. IsOpen did head c in
-    let there : block_in (Ok (head.commit ∷ [], blocks)) ≡ Some block = found_one head.commit block in
-    let object : object_in (Ok (head.commit ∷ [], blocks)) ≡ Some is.commit = ap object_in_block there ∙ ap read_object is.reads in
-    subst P (sym car) (record {
+    let object : object_in (Ok (head.commit ∷ [], blocks)) ≡ Some is.commit = ap object_in_block (found_one head.commit block) ∙ ap read_object is.reads in
+    subst P (sym (car_again head block is.commit is.linked is.reads)) (record {
       form = refl;
       digests = refl;
-      top = record { block = block; commit = is.commit; found = record { root_is = refl; block_is = there; object_is = object }; rev_is = refl; data_is = is.data_is };
+      top = head_in head block is.commit is.reads is.data_is;
       own = ap (λ (o : Option Commit). is_commit_of did head.rev o) object ∙ is.own;
     })
 

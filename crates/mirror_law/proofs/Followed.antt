@@ -245,7 +245,7 @@ pub row_goes : (repositories : Repositories) (J : List Row) (row : Row) (chain :
     → (is_account row ≡ true → (account (did_of_row row) J).repo ≡ Repo.Missing) → Goes repositories (account (did_of_row row) J) row chain held next
 unfolding is_row
 row_goes repositories J (Row.Taken t) chain held next formed faithful kept start =
-    taken_goes repositories t (account t.did J) chain held next faithful.0 kept faithful.1 t.refusal refl (decided_formed t formed)
+    taken_goes repositories t (account t.did J) chain held next faithful.0 kept.0 faithful.1 t.refusal refl (decided_formed t formed)
 row_goes repositories J (Row.Synced did whole moment) chain held next formed faithful kept start = λ follows h.
     stated repositories did whole held next faithful h
 row_goes repositories J (Row.Operated o) chain held next formed faithful kept start = λ follows h.

@@ -10,6 +10,7 @@ pub mod Keys
 pub mod Merging
 pub mod Agreeing
 pub mod Completing
+pub mod Blocks
 pub mod Own
 pub mod Reading
 pub mod Known

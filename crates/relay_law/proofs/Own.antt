@@ -13,6 +13,8 @@ use Rattle.at_syntax.specs.Did.{is_did}
 use Rattle.at_event.specs.Formed.{IsShortText}
 use Rattle.at_event.specs.Refusals.{code_of}
 use Rattle.at_event.specs.Writing.{header_of, event_message, sync_payload, sync_seen, account_seen}
+use Rattle.at_event.specs.declared.event.Body.{Body}
+use Rattle.at_event.specs.declared.event.SyncEvent.{SyncEvent}
 use Rattle.at_event.specs.declared.head.Head.{Head}
 use Rattle.at_event.specs.declared.kind.EventKind.{EventKind}
 use Rattle.at_event.specs.declared.refusal.Refusal.{Refusal}
@@ -36,9 +38,13 @@ use Rattle.account_state.specs.State.{State}
 use Rattle.account_state.specs.declared.repo.Repo.{Repo}
 use Rattle.commit_check.proofs.Held.{bytes_left, bytes_right}
 use Rattle.relay_core.specs.Decide.{commit_car, sync_message, whole_under}
+use Rattle.relay_core.specs.Opening.{IsHeadOf}
 use Rattle.relay_core.specs.Operating.{operated_as, operated_message}
-use Rattle.relay_law.specs.Faithful.{ReadsAs, IsFaithful, IsFaithfulWhole, IsCommandOf}
-use Rattle.relay_law.specs.Laws.{OperatorsAreFaithful}
+use Rattle.relay_core.specs.Rows.{kind_number}
+use Rattle.relay_law.specs.Faithful.{ReadsAs, IsFaithful, IsFaithfulWhole, IsCommandOf, IsSyncAt}
+use Rattle.relay_law.specs.Heads.{BlockGives, GivesItsHead, WholeGives}
+use Rattle.relay_law.specs.Laws.{OperatorsAreFaithful, synced_row}
+use Rattle.relay_law.proofs.Blocks.{own_head}
 
 -- ---- the blocks in a message that is a byte string are one
 
@@ -74,10 +80,19 @@ sync_blocks did rev blocks time seq h =
 pub number_below : (n : ℕ) → is_positive n ≡ true → n < NUMBERS
 number_below n h = ltb-true n NUMBERS (and_parts (nat_lt 0 n) (is_number n) h).1
 
-pub whole_reads : (did time : List ℕ) (head : Head) (records : ℕ) (block : List ℕ) (n : ℕ) → IsText did → is_did did ≡ true → IsShortText time → is_whole (whole_under did time head records block n) ≡ true
-    → IsFaithfulWhole did (whole_under did time head records block n)
+abbrev pub own_sync : List ℕ → Head → List ℕ → SyncEvent
+own_sync did head block = record { did = did; rev = head.rev; blocks = commit_car head block }
+
+-- the message is read as what it says, and holds bytes
+record ReadsOwn (did time : List ℕ) (head : Head) (block : List ℕ) (n : ℕ) : Type 0 where
+  sent : ReadsAs (sync_message did time head block n) did n (λ body. body ≡ Body.Sync (own_sync did head block))
+  car : IsString (commit_car head block)
+  formed : is_head head ≡ true
+
+own_reads : (did time : List ℕ) (head : Head) (records : ℕ) (block : List ℕ) (n : ℕ) → IsText did → is_did did ≡ true → IsShortText time → is_whole (whole_under did time head records block n) ≡ true
+    → ReadsOwn did time head block n
 unfolding is_whole sync_message
-whole_reads did time head records block n text is short formed =
+own_reads did time head records block n text is short formed =
     let message = event_message EventKind.Sync (sync_payload did head.rev (commit_car head block) time n) in
     let one = and_parts (is_positive n) (is_head head && (is_number records && is_message message)) formed in
     let two = and_parts (is_head head) (is_number records && is_message message) one.1 in
@@ -85,12 +100,36 @@ whole_reads did time head records block n text is short formed =
     let rev = rev_fits head.rev (and_parts (is_rev head.rev) (is_node head.data_root && is_cid head.commit) two.0).0 in
     let car = sync_blocks did head.rev (commit_car head block) time n (message_fits message three.1) in
     record {
-      event = sync_seen did head.rev (commit_car head block) time n;
-      reads = sync_again did head.rev (commit_car head block) time n text.0 (IsUtf8-from_is_utf8 did text.1) is rev car short.text.0 (IsUtf8-from_is_utf8 time short.text.1) short.short (number_below n one.0);
-      did_is = refl;
-      seq_is = refl;
-      says = (record { did = did; rev = head.rev; blocks = commit_car head block }, refl, refl);
+      sent = record {
+        event = sync_seen did head.rev (commit_car head block) time n;
+        reads = sync_again did head.rev (commit_car head block) time n text.0 (IsUtf8-from_is_utf8 did text.1) is rev car short.text.0 (IsUtf8-from_is_utf8 time short.text.1) short.short (number_below n one.0);
+        did_is = refl;
+        seq_is = refl;
+        says = refl;
+      };
+      car = car;
+      formed = two.0;
     }
+
+-- what is read as something says all that this says
+says_more : (message did : List ℕ) (seq : ℕ) (P Q : Body → Type 0) → ((body : Body) → P body → Q body) → ReadsAs message did seq P → ReadsAs message did seq Q
+says_more message did seq P Q more r = record { event = r.event; reads = r.reads; did_is = r.did_is; seq_is = r.seq_is; says = more r.event.body r.says }
+
+pub whole_reads : (did time : List ℕ) (head : Head) (records : ℕ) (block : List ℕ) (n : ℕ) → IsText did → is_did did ≡ true → IsShortText time → is_whole (whole_under did time head records block n) ≡ true
+    → IsFaithfulWhole did (whole_under did time head records block n)
+whole_reads did time head records block n text is short formed =
+    let w = whole_under did time head records block n in
+    let own = own_reads did time head records block n text is short formed in
+    says_more w.message did n (λ (b : Body). b ≡ Body.Sync (own_sync did head block)) (λ (b : Body). IsSyncAt w b) (λ b same. (own_sync did head block, same, refl)) own.sent
+
+-- where its block gives the head, its message does
+pub whole_gives : (did time : List ℕ) (head : Head) (records : ℕ) (block : List ℕ) (n : ℕ) → IsText did → is_did did ≡ true → IsShortText time → BlockGives head block
+    → is_whole (whole_under did time head records block n) ≡ true → WholeGives did (whole_under did time head records block n)
+whole_gives did time head records block n text is short gives formed =
+    let w = whole_under did time head records block n in
+    let own = own_reads did time head records block n text is short formed in
+    let P : Body → Type 0 = λ b. (kind_number b ≡ 2) × IsHeadOf b head in
+    says_more w.message did n (λ (b : Body). b ≡ Body.Sync (own_sync did head block)) P (λ b same. subst P (sym same) (refl, own_head head block gives own.formed own.car)) own.sent
 
 pub did_named : (did : List ℕ) → names_did did ≡ true → IsText did × (is_did did ≡ true)
 did_named did h = (did_text did h, (and_parts (is_text did) (is_did did) h).1)
@@ -181,15 +220,33 @@ operated_reads J did down time moment short journal =
     let named = did_named did one.0 in
     word_reads (account did J) did down time (last_seq J + 1) moment (account_status did J (fronts J (Row.Operated o ∷ []) journal)) named.0 named.1 short (number_below (last_seq J + 1) two.0) o refl
 
-synced_reads : (J : List Row) (did time : List ℕ) (head : Head) (records : ℕ) (block : List ℕ) (moment : Option ℕ) → IsShortText time → IsJournal (J ++ Row.Synced did (whole_under did time head records block (last_seq J + 1)) moment ∷ [])
-    → IsFaithful (Row.Synced did (whole_under did time head records block (last_seq J + 1)) moment)
+-- what the row of an operator's command to synchronize an account shows
+record IsSyncedWell (did time : List ℕ) (head : Head) (records : ℕ) (block : List ℕ) (n : ℕ) : Type 0 where
+  text : IsText did
+  named : is_did did ≡ true
+  whole : is_whole (whole_under did time head records block n) ≡ true
+
+synced_well : (J : List Row) (did time : List ℕ) (head : Head) (records : ℕ) (block : List ℕ) (moment : Option ℕ) → IsJournal (J ++ synced_row J did time head records block moment ∷ [])
+    → IsSyncedWell did time head records block (last_seq J + 1)
 unfolding is_row
-synced_reads J did time head records block moment short journal =
+synced_well J did time head records block moment journal =
     let w = whole_under did time head records block (last_seq J + 1) in
     let formed = (grew J (Row.Synced did w moment) journal).0 in
     let one = and_parts (names_did did) (is_whole w && is_moment moment) formed in
     let named = did_named did one.0 in
-    whole_reads did time head records block (last_seq J + 1) named.0 named.1 short (and_parts (is_whole w) (is_moment moment) one.1).0
+    record { text = named.0; named = named.1; whole = (and_parts (is_whole w) (is_moment moment) one.1).0 }
+
+synced_reads : (J : List Row) (did time : List ℕ) (head : Head) (records : ℕ) (block : List ℕ) (moment : Option ℕ) → IsShortText time → IsJournal (J ++ synced_row J did time head records block moment ∷ [])
+    → IsFaithful (synced_row J did time head records block moment)
+synced_reads J did time head records block moment short journal =
+    let well = synced_well J did time head records block moment journal in
+    whole_reads did time head records block (last_seq J + 1) well.text well.named short well.whole
+
+pub synced_gives : (J : List Row) (did time : List ℕ) (head : Head) (records : ℕ) (block : List ℕ) (moment : Option ℕ) → IsShortText time → BlockGives head block
+    → IsJournal (J ++ synced_row J did time head records block moment ∷ []) → GivesItsHead J (synced_row J did time head records block moment)
+synced_gives J did time head records block moment short gives journal =
+    let well = synced_well J did time head records block moment journal in
+    whole_gives did time head records block (last_seq J + 1) well.text well.named short gives well.whole
 
 pub operators_faithful : OperatorsAreFaithful
 operators_faithful = record { operated = operated_reads; synced = synced_reads }

@@ -31,7 +31,7 @@ use Rattle.relay_law.proofs.Carrying.{carried_sound}
 use Rattle.relay_law.proofs.Choosing.{some_right}
 use Rattle.relay_law.proofs.Growing.{fronts_sound}
 use Rattle.relay_law.proofs.Known.{some_name}
-use Rattle.relay_law.proofs.Own.{operators_faithful}
+use Rattle.relay_law.proofs.Own.{operators_faithful, synced_gives}
 use Rattle.relay_law.proofs.Reading.{runs_faithful}
 use Rattle.relay_law.proofs.Sent.{sent_events, stores_sound}
 use Rattle.relay_law.proofs.Sounding.{operators_sound}
@@ -71,8 +71,8 @@ heads_back J (row ∷ xs) ys h =
 -- ---- rows that carry a front over
 
 one_moved : (J K : List Row) (row : Row) → ((did : List ℕ) → account did J ≡ account did K) → GivesItsHead J row → GivesItsHead K row
-one_moved J K (Row.Taken t) same h = let P : State → Type 0 = λ a. EffectGives a.repo t t.effect in subst P (same t.did) h
-one_moved J K (Row.Synced did whole moment) same h = tt
+one_moved J K (Row.Taken t) same h = let P : State → Type 0 = λ a. EffectGives a.repo t t.effect in (subst P (same t.did) h.0, h.1)
+one_moved J K (Row.Synced did whole moment) same h = h
 one_moved J K (Row.Operated o) same h = tt
 one_moved J K (Row.Carried c) same h = tt
 
@@ -139,7 +139,7 @@ row_known : (J : List Row) (row : Row) → GivesItsHead J row → IsOfKnown J ro
 row_known J (Row.Taken t) h did m d rev part lost =
     let there = some_name (names did t.did) (part_in (Row.Taken t)) m d part in
     let P : List ℕ → Type 0 = λ x. (account x J).repo ≡ Repo.Lost rev in
-    taken_known (account t.did J).repo t t.fetched m d rev h there.1 (subst P (names_same did t.did there.0) lost)
+    taken_known (account t.did J).repo t t.fetched m d rev h.0 there.1 (subst P (names_same did t.did there.0) lost)
 row_known J (Row.Synced name whole moment) h did m d rev part lost = let there = (some_name (names did name) (part_in (Row.Synced name whole moment)) m d part).1 in absurd cc
 row_known J (Row.Operated o) h did m d rev part lost = let there = (some_name (names did o.did) (part_in (Row.Operated o)) m d part).1 in absurd cc
 row_known J (Row.Carried (Carried.Last seq)) h did m d rev part lost = let there = (some_name (names did []) nothing m d part).1 in absurd cc
@@ -162,16 +162,17 @@ joins J rows journal sound is faithful heads =
 pub stay_faithful : JournalsStayFaithful
 stay_faithful = record {
   none = none_faithful;
-  run = λ J sent rows is bytes journal run.
+  run = λ J sent rows is bytes journal given run.
       let right = some_right in
       let made = run right.0 right.1 right.2 in
       joins J rows journal (stores_sound J sent rows bytes journal is.sound run) is
       (runs_faithful right.0 J (as_read sent) rows (sent_events sent bytes) journal made)
-      (runs_give right.0 right.1 right.2 J (as_read sent) rows (sent_events sent bytes) journal made);
+      (runs_give right.0 right.1 right.2 J (as_read sent) rows (sent_events sent bytes) journal given made);
   operated = λ J did down time moment is short journal.
       joins J _ journal (operators_sound.operated J _ is.sound) is (operators_faithful.operated J did down time moment short journal, tt) (tt, tt);
-  synced = λ J did time head records block moment is short journal.
-      joins J _ journal (operators_sound.synced J did _ moment is.sound) is (operators_faithful.synced J did time head records block moment short journal, tt) (tt, tt);
+  synced = λ J did time head records block moment is short gives journal.
+      joins J _ journal (operators_sound.synced J did _ moment is.sound) is (operators_faithful.synced J did time head records block moment short journal, tt)
+      (synced_gives J did time head records block moment short gives journal, tt);
   cut = λ front others carried is over journal.
       record {
         journal = journal;

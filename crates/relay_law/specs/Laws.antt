@@ -32,7 +32,7 @@ use Rattle.relay_law.specs.Carried.{AreOfKnown, CarriesOver}
 use Rattle.relay_law.specs.Chains.{chains}
 use Rattle.relay_law.specs.Covered.{IsCovered}
 use Rattle.relay_law.specs.Faithful.{IsFaithful, AreFaithful}
-use Rattle.relay_law.specs.Heads.{GiveHeads, IsFaithfulJournal}
+use Rattle.relay_law.specs.Heads.{BlockGives, FetchesGive, GiveHeads, IsFaithfulJournal}
 use Rattle.relay_law.specs.Formed.{IsReadFrame, AreAnswersFor, AreFormedFor, IsFormedFound}
 use Rattle.relay_law.specs.Histories.{Point, LivesFrom, AllCome}
 use Rattle.relay_law.specs.Merges.{Merge, OneHome, Agree}
@@ -148,11 +148,11 @@ SyncedRowsAreFormed = (J : List Row) (did time : List ℕ) (head : Head) (record
     → IsJournal J → names_did did ≡ true → IsFormedFound (last_seq J) did time (found head records block) → moment < NUMBERS → last_seq J + 1 < NUMBERS
     → IsJournal (J ++ Row.Synced did (whole_under did time head records block (last_seq J + 1)) (Some moment) ∷ [])
 
--- A run of right checks, and so a store's, gives the heads that its rows keep.
+-- A run of right checks, and so a store's, gives the heads that its rows keep, as long as what was fetched was given by its blocks.
 abbrev pub RunsGiveHeads : Type 0
 RunsGiveHeads = (checks : Checks) → OpensRight checks → LinksRight checks
     → (J : List Row) (messages : List Message) (rows : List Row)
-    → AreEvents messages → IsJournal (J ++ rows) → Run checks J messages rows → GiveHeads J rows
+    → AreEvents messages → IsJournal (J ++ rows) → FetchesGive rows → Run checks J messages rows → GiveHeads J rows
 
 -- a run of each checks that open and link rightly gives these rows, whatever bytes the hosts sent
 abbrev pub IsRightRun : List Row → List (List ℕ × List ℕ) → List Row → Type 0
@@ -169,18 +169,19 @@ synced_row J did time head records block moment =
     Row.Synced did (whole_under did time head records block (last_seq J + 1)) moment
 
 -- The journals that a relay writes are faithful: the empty one; what a store's run adds, whatever bytes the
--- hosts sent and whatever was answered; the rows that operators' commands make; and one whose front gives way
--- to rows that carry it over. So is each front of one.
+-- hosts sent and whatever was answered, as long as the block of each repository that was fetched gives its head;
+-- the rows that operators' commands make; and one whose front gives way to rows that carry it over. So is each
+-- front of one.
 pub record JournalsStayFaithful : Type 0 where
   pub none : IsFaithfulJournal []
   pub run : (J : List Row) (sent : List (List ℕ × List ℕ)) (rows : List Row)
       → IsFaithfulJournal J → AllByRecursion (λ m. IsBytes m.1) sent → IsJournal (J ++ rows)
-      → IsRightRun J sent rows → IsFaithfulJournal (J ++ rows)
+      → FetchesGive rows → IsRightRun J sent rows → IsFaithfulJournal (J ++ rows)
   pub operated : (J : List Row) (did : List ℕ) (down : Bool) (time : List ℕ) (moment : Option ℕ)
       → IsFaithfulJournal J → IsShortText time → IsJournal (J ++ operated_row J did down time moment ∷ [])
       → IsFaithfulJournal (J ++ operated_row J did down time moment ∷ [])
   pub synced : (J : List Row) (did time : List ℕ) (head : Head) (records : ℕ) (block : List ℕ)
-      (moment : Option ℕ) → IsFaithfulJournal J → IsShortText time
+      (moment : Option ℕ) → IsFaithfulJournal J → IsShortText time → BlockGives head block
       → IsJournal (J ++ synced_row J did time head records block moment ∷ [])
       → IsFaithfulJournal (J ++ synced_row J did time head records block moment ∷ [])
   pub cut : (front others carried : List Row) → IsFaithfulJournal (front ++ others)

@@ -9,6 +9,7 @@ pub mod Taken
 pub mod Fetched
 pub mod Losses
 pub mod Steps
+pub mod Blocks
 pub mod Others
 pub mod Commands
 pub mod Sending
