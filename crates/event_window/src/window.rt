@@ -67,6 +67,13 @@ impl Window {
         self.places.len()
     }
 
+    /// The places.
+    pub fn as_slice(&self) -> &[Place]
+        ensures { result.now ≡ self.now.places }
+    {
+        self.places.as_slice()
+    }
+
     /// Adds the place of one more event behind the others. Takes no memory.
     pub fn push(&mut self, place: Place)
         requires { 0 < self.old.spare }

@@ -148,3 +148,8 @@ few_bad p (inr is) = let wrong : ⊥ = cc in wrong
 pub few_is : (f : StoreFault) → (f ≡ StoreFault.Disk) ⊎ (f ≡ StoreFault.Memory) → IsOfRewriting f
 few_is f (inl is) = subst IsOfRewriting (sym is) tt
 few_is f (inr is) = subst IsOfRewriting (sym is) tt
+
+-- and what is said of an error that came
+pub on_err_at : {T E P : Type 0} (r : Result T E) (f : E) → r ≡ Err f → OnErr r P → P
+on_err_at (Ok x) f is h = absurd cc
+on_err_at (Err e) f is h = h

@@ -100,6 +100,7 @@ folded_journal done there behind journal = subst IsJournal (joined_both done (th
 
 pub record IsFolding (tells : Bool) (log : LogState) (v w : View) (upto place : ℕ) (core : Core) : Type 0 where
   pub goes : Goes Same v w
+  pub steady : w.faults ≡ v.faults
   pub holds : IsTrue tells → (bodies : List (List ℕ)) → HasBodies bodies log v → HasBodies bodies log w
   pub on : IsTrue tells → IsOn w log
   pub known : IsOfSome core
@@ -145,6 +146,7 @@ pub record IsRecopied (format : Format) (before after : List (List Row)) (place 
 
 pub record IsRecopying (tells : Bool) (log : LogState) (v v_now : View) (start place : ℕ) (r now : Rewrite) (w w_now : View) : Type 0 where
   pub goes : Goes Same v v_now
+  pub steady : v_now.faults ≡ v.faults
   pub holds : IsTrue tells → (bodies : List (List ℕ)) → HasBodies bodies log v → HasBodies bodies log v_now
   pub on : IsTrue tells → IsOn v_now log
   pub rows : List Row

@@ -114,7 +114,7 @@ events_sent_by : (b : Bool) (row : Row) (rows rest : List Row) → (b ≡ true �
 events_sent_by true row rows rest none same = same ∙ ap (λ (l : List Event). l ++ events rows) (sym (none refl))
 events_sent_by false row rows rest none same = ap (λ (l : List Event). events_in row ++ l) same
 
-events_sent : (rows : List Row) → list_all is_row rows ≡ true → events (sent rows) ≡ events rows
+pub events_sent : (rows : List Row) → list_all is_row rows ≡ true → events (sent rows) ≡ events rows
 events_sent [] formed = refl
 events_sent (row ∷ rows) formed =
     let both = and_parts (is_row row) (list_all is_row rows) formed in

@@ -72,7 +72,7 @@ module _ (tells : Bool) where
     core = λ J holds. subst (Holds r.core) (sym (append-nil J)) holds;
     window = λ before here. sym (append-nil r.window.places);
     run = λ told. no_call IsClosed v disk (on told).1.built.left;
-    counts = omega arith;
+    steady = refl;
   }
 
   pub copied_one : (row : Row) (r now : Rewrite) (v w : View) → now.build ≡ record r.build { end = r.build.end + BEFORE_BODY + length (rows_body (row ∷ [])); waiting = now.build.waiting }
@@ -81,8 +81,8 @@ module _ (tells : Bool) where
       → (IsTrue tells → (bodies : List (List ℕ)) → HasBuilt bodies r.build v → HasBuilt (bodies ++ rows_body (row ∷ []) ∷ []) now.build w)
       → ((J : List Row) → Holds r.core J → Holds now.core (J ++ row ∷ []))
       → now.window.places ≡ r.window.places ++ place_of r.build.end 0 row
-      → (IsTrue tells → LeavesOnly IsClosed v w) → v.faults ≤ w.faults → IsCopied tells (row ∷ []) r now v w
-  copied_one row r now v w is fits on added core window run counts = record {
+      → (IsTrue tells → LeavesOnly IsClosed v w) → w.faults ≡ v.faults → IsCopied tells (row ∷ []) r now v w
+  copied_one row r now v w is fits on added core window run steady = record {
     format = ap (λ (b : BuildState). b.format) is;
     most = ap (λ (b : BuildState). b.most) is;
     end = omega (arith, ap (λ (b : BuildState). b.end) is, one_end r.build.end row);
@@ -98,7 +98,7 @@ module _ (tells : Bool) where
         window ∙ ap (λ (n : ℕ). r.window.places ++ place_of n 0 row) here
         ∙ ap (λ (l : List Place). r.window.places ++ l) (sym (append-nil (place_of place 0 row)) ∙ sym (append-nil (place_of place 0 row ++ [])));
     run = run;
-    counts = counts;
+    steady = steady;
   }
 
   module _ (xs ys : List Row) (r0 r1 r2 : Rewrite) (v0 v1 v2 : View) (first : IsCopied tells xs r0 r1 v0 v1) (second : IsCopied tells ys r1 r2 v1 v2) where
@@ -136,7 +136,7 @@ module _ (tells : Bool) where
       core = λ J holds. subst (Holds r2.core) (append_assoc J xs ys) (second.core (J ++ xs) (first.core J holds));
       window = both_window;
       run = λ told. run_on IsClosed v0 v1 v2 (first.run told) (second.run told);
-      counts = omega (arith, first.counts, second.counts);
+      steady = second.steady ∙ first.steady;
     }
 
 pub not_both : (r : Result ℕ LogFault) (x : ℕ) (f : LogFault) → r ≡ Ok x → r ≡ Err f → ⊥

@@ -1,6 +1,7 @@
 -- Cutting the journal of a store: it is written anew on the other disk of the pair (own).
-use Rattle.std.specs.Prelude.{◌≡◌, ◌⊎◌, ◌<◌, ◌≤◌, ◌+◌, ℕ, List, false}
+use Rattle.std.specs.Prelude.{◌≡◌, ◌⊎◌, ◌<◌, ◌≤◌, ◌+◌, ℕ, List, [], ◌∷◌, false, nat_lt, if◌then◌else◌}
 use Rattle.at_event.specs.declared.refusal.Refusal.{Refusal}
+use Rattle.event_window.specs.declared.place.Place.{Place}
 use Rattle.gate_log.specs.declared.format.Format.{Format}
 use Rattle.at_cid.specs.declared.limits.TheConstants.{NUMBERS}
 use Rattle.gate_log.specs.declared.picking.Side.{Side}
@@ -26,3 +27,8 @@ IsUncut J format c Refusal.PastEnd = last_seq J < c
 IsUncut J format c Refusal.NothingToCut = (c ≤ last_seq J) × (have_old c J ≡ false)
 IsUncut J format c Refusal.LastCut = MayCut J c × (generation format + 1 ≡ NUMBERS)
 IsUncut J format c refusal = ⊥
+
+-- the numbers of places that are above a number, in order
+abbrev pub kept_above : ℕ → List Place → List ℕ
+kept_above seq [] = []
+kept_above seq (p ∷ places) = if nat_lt seq p.seq then p.seq ∷ kept_above seq places else kept_above seq places

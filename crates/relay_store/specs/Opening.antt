@@ -98,6 +98,7 @@ pub record IsLoading (tells : Bool) (log : LogState) (old now : View) (place : �
   pub goes : Goes Same old now
   pub holds : IsTrue tells → (bodies : List (List ℕ)) → HasBodies bodies log old → HasBodies bodies log now
   pub so_far : IsTrue tells → (bodies : List (List ℕ)) → HasBodies bodies log old → IsFrontOf log.format bodies place core window
+  pub steady : now.faults ≡ old.faults
 
 -- what reading may answer
 abbrev pub IsOfReading : StoreFault → Type 0

@@ -34,7 +34,7 @@ pub record IsCopied (tells : Bool) (rows : List Row) (old new : Rewrite) (v w : 
       → new.window.places ≡ old.window.places ++ places_behind old.build.format before (singles rows)
   -- a crash on the way leaves the gate closed
   pub run : IsTrue tells → LeavesOnly IsClosed v w
-  pub counts : v.faults ≤ w.faults
+  pub steady : w.faults ≡ v.faults
 
 -- One of these rows has no room, as a body of its own behind those before it: with the closed gate behind it, it would end there. Those before it have room.
 pub record RewriteHasNoRoom (end most : ℕ) (rows : List Row) (e : ℕ) : Type 0 where

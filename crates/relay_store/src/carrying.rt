@@ -1,6 +1,6 @@
 //! The rows that carry a state over.
 
-ghost use Rattle.std.specs.Prelude.{◌≡◌, ◌≤◌, ◌∷◌, [], ℕ, List, Some, IsTrue, IfOk, OnOk};
+ghost use Rattle.std.specs.Prelude.{◌≡◌, ◌≢◌, ◌≤◌, ◌∷◌, [], ℕ, List, Some, IsTrue, IfOk, OnOk, OnErr};
 ghost use Rattle.at_cid.specs.Counts.{Rose};
 ghost use Rattle.relay_disk.specs.Moments.{LeavesOnly};
 ghost use Rattle.gate_log.specs.Build.{IsBuiltOn, IsClosed};
@@ -62,6 +62,7 @@ fn carry_host<D: Disk>(
     ensures copied { OnOk result (IsCopied D.tells (host_rows ((name.now, cursor) ∷ [])) rewrite.old rewrite.new (D.view other.old) (D.view other.new)) }
     ensures run { IsTrue D.tells → LeavesOnly IsClosed (D.view other.old) (D.view other.new) }
     ensures disk { result ≡ Err StoreFault.Disk → Rose (D.view other.old).faults (D.view other.new).faults }
+    ensures no_fault { OnErr result (result ≢ Err StoreFault.Disk → (D.view other.new).faults ≡ (D.view other.old).faults) }
     ensures counts { (D.view other.old).faults ≤ (D.view other.new).faults }
     ensures full { (e : ℕ) → result ≡ Err (StoreFault.Full e)
         → RewriteHasNoRoom rewrite.old.build.end rewrite.old.build.most (host_rows ((name.now, cursor) ∷ [])) e }
@@ -85,6 +86,7 @@ fn carry_hosts<D: Disk>(
     ensures copied { OnOk result (IsCopied D.tells (host_rows (listed hosts.now)) rewrite.old rewrite.new (D.view other.old) (D.view other.new)) }
     ensures run { IsTrue D.tells → LeavesOnly IsClosed (D.view other.old) (D.view other.new) }
     ensures disk { result ≡ Err StoreFault.Disk → Rose (D.view other.old).faults (D.view other.new).faults }
+    ensures no_fault { OnErr result (result ≢ Err StoreFault.Disk → (D.view other.new).faults ≡ (D.view other.old).faults) }
     ensures counts { (D.view other.old).faults ≤ (D.view other.new).faults }
     ensures full { (e : ℕ) → result ≡ Err (StoreFault.Full e)
         → RewriteHasNoRoom rewrite.old.build.end rewrite.old.build.most (host_rows (listed hosts.now)) e }
@@ -111,6 +113,7 @@ fn carry_accounts<D: Disk>(
         rewrite.old rewrite.new (D.view other.old) (D.view other.new)) }
     ensures run { IsTrue D.tells → LeavesOnly IsClosed (D.view other.old) (D.view other.new) }
     ensures disk { result ≡ Err StoreFault.Disk → Rose (D.view other.old).faults (D.view other.new).faults }
+    ensures no_fault { OnErr result (result ≢ Err StoreFault.Disk → (D.view other.new).faults ≡ (D.view other.old).faults) }
     ensures counts { (D.view other.old).faults ≤ (D.view other.new).faults }
     ensures full { (e : ℕ) → result ≡ Err (StoreFault.Full e) → (A : List TheRow) → Holds core.now A
         → RewriteHasNoRoom rewrite.old.build.end rewrite.old.build.most (account_rows A (dids A)) e }
@@ -137,6 +140,7 @@ pub(crate) fn carry<D: Disk>(
         rewrite.old rewrite.new (D.view other.old) (D.view other.new)) }
     ensures run { IsTrue D.tells → LeavesOnly IsClosed (D.view other.old) (D.view other.new) }
     ensures disk { result ≡ Err StoreFault.Disk → Rose (D.view other.old).faults (D.view other.new).faults }
+    ensures no_fault { OnErr result (result ≢ Err StoreFault.Disk → (D.view other.new).faults ≡ (D.view other.old).faults) }
     ensures counts { (D.view other.old).faults ≤ (D.view other.new).faults }
     ensures full { (e : ℕ) → result ≡ Err (StoreFault.Full e) → (A : List TheRow) → Holds core.now A
         → RewriteHasNoRoom rewrite.old.build.end rewrite.old.build.most (carried A) e }

@@ -10,7 +10,7 @@ ghost use Rattle.relay_row.specs.declared.limits.TheConstants.{MOST_ROWS};
 ghost use Rattle.relay_row.specs.declared.row.Row.{Row as TheRow};
 ghost use Rattle.relay_step.specs.Around.{around};
 ghost use Rattle.relay_step.specs.Asked.{AskedInVain};
-ghost use Rattle.relay_step.specs.Causes.{CameToNothing, OneTaken};
+ghost use Rattle.relay_step.specs.Causes.{CameToNothing, OneTaken, SpendsNone};
 ghost use Rattle.relay_step.specs.Commands.{EndsBehind, EndsFetched, OperatedAt, SpentFetching, SyncedAt, rows_commanded};
 ghost use Rattle.relay_store.specs.PendingBodies.{Fits, HasRows, IsUnchanged};
 ghost use Rattle.relay_store.specs.Store.{IsKept, IsOf, seen_in};
@@ -91,6 +91,7 @@ impl Store {
         ensures disk { result ≡ Err StoreFault.Disk → Rose (D.view disk.old).faults (D.view disk.new).faults }
         ensures disk_counts { (D.view disk.old).faults ≤ (D.view disk.new).faults }
         ensures few { (f : TheFault) → result ≡ Err f → IsOfCommand f }
+        ensures disk_steady { result ≢ Err StoreFault.Disk → (D.view disk.new).faults ≡ (D.view disk.old).faults }
     {
         match take_command(
             alloc,
@@ -132,6 +133,8 @@ impl Store {
         ensures few { (f : TheFault) → result ≡ Err f → IsOfOperating f }
         ensures disk_counts { (D.view disk.old).faults ≤ (D.view disk.new).faults }
         ensures clock_counts { C.faults clock.old ≤ C.faults clock.new }
+        ensures disk_steady { result ≢ Err StoreFault.Disk → (D.view disk.new).faults ≡ (D.view disk.old).faults }
+        ensures clock_steady { result ≢ Err StoreFault.Clock → C.faults clock.new ≡ C.faults clock.old }
     {
         match self.pending.start() {
             Ok(()) => {}
@@ -174,6 +177,10 @@ impl Store {
         ensures disk_counts { (D.view disk.old).faults ≤ (D.view disk.new).faults }
         ensures clock_counts { C.faults clock.old ≤ C.faults clock.new }
         ensures repos_count { R.faults repos.old ≤ R.faults repos.new }
+        ensures disk_steady { result ≢ Err StoreFault.Disk → (D.view disk.new).faults ≡ (D.view disk.old).faults }
+        ensures clock_steady { result ≢ Err StoreFault.Clock → C.faults clock.new ≡ C.faults clock.old }
+        ensures repos_steady { result ≢ Err StoreFault.Repos → R.faults repos.new ≡ R.faults repos.old }
+        ensures unspent { result ≢ Err StoreFault.Authority → SpendsNone (P.panel judges.old) (P.panel judges.new) }
     {
         match self.pending.start() {
             Ok(()) => {}

@@ -40,6 +40,7 @@ pub(crate) fn commit<D: Disk>(
     ensures open { OnOk result (IsTrue log.new.is_open) }
     ensures disk { OnErr result ((result ≡ Err StoreFault.Disk) × ((log.new.is_open ≡ false) × Rose (D.view disk.old).faults (D.view disk.new).faults)) }
     ensures counts { (D.view disk.old).faults ≤ (D.view disk.new).faults }
+    ensures steady { OnOk result ((D.view disk.new).faults ≡ (D.view disk.old).faults) }
 {
     if pending.count == 0 {
         return Ok(());

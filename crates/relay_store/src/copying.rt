@@ -1,6 +1,6 @@
 //! Copying the rows behind a place of a log into one that is being built.
 
-ghost use Rattle.std.specs.Prelude.{◌≡◌, ◌≤◌, ◌<◌, ◌+◌, ◌⊎◌, ◌++◌, ◌∷◌, ℕ, List, length, drop, IsTrue, OnOk};
+ghost use Rattle.std.specs.Prelude.{◌≡◌, ◌≢◌, ◌≤◌, ◌<◌, ◌+◌, ◌⊎◌, ◌++◌, ◌∷◌, ℕ, List, length, drop, IsTrue, OnOk, OnErr};
 ghost use Rattle.at_cid.specs.Counts.{Rose};
 ghost use Rattle.relay_disk.specs.Disk.{Goes, Same};
 ghost use Rattle.relay_disk.specs.Moments.{LeavesOnly};
@@ -50,6 +50,9 @@ fn copy_bodies<D: Disk>(
     ensures holds { IsTrue D.tells → (bodies : List (List ℕ)) → HasBodies bodies log.now (D.view disk.old) → HasBodies bodies log.now (D.view disk.new) }
     ensures disk { result ≡ Err StoreFault.Disk → Rose (D.view disk.old).faults (D.view disk.new).faults
         ⊎ Rose (D.view other.old).faults (D.view other.new).faults }
+    ensures steady { OnOk result (((D.view disk.new).faults ≡ (D.view disk.old).faults) × ((D.view other.new).faults ≡ (D.view other.old).faults)) }
+    ensures no_fault { OnErr result (result ≢ Err StoreFault.Disk
+        → ((D.view disk.new).faults ≡ (D.view disk.old).faults) × ((D.view other.new).faults ≡ (D.view other.old).faults)) }
     ensures counts { (D.view other.old).faults ≤ (D.view other.new).faults }
     ensures few { (f : TheFault) → result ≡ Err f → IsOfRewriting f }
 {
@@ -91,6 +94,9 @@ pub(crate) fn copy_behind<D: Disk>(
     ensures holds { IsTrue D.tells → (bodies : List (List ℕ)) → HasBodies bodies log.now (D.view disk.old) → HasBodies bodies log.now (D.view disk.new) }
     ensures disk { result ≡ Err StoreFault.Disk → Rose (D.view disk.old).faults (D.view disk.new).faults
         ⊎ Rose (D.view other.old).faults (D.view other.new).faults }
+    ensures steady { OnOk result (((D.view disk.new).faults ≡ (D.view disk.old).faults) × ((D.view other.new).faults ≡ (D.view other.old).faults)) }
+    ensures no_fault { OnErr result (result ≢ Err StoreFault.Disk
+        → ((D.view disk.new).faults ≡ (D.view disk.old).faults) × ((D.view other.new).faults ≡ (D.view other.old).faults)) }
     ensures counts { (D.view other.old).faults ≤ (D.view other.new).faults }
     ensures few { (f : TheFault) → result ≡ Err f → IsOfRewriting f }
 {

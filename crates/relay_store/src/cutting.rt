@@ -1,10 +1,11 @@
 //! Cutting a store's journal.
 
-ghost use Rattle.std.specs.Prelude.{◌≡◌, ◌≢◌, ◌≤◌, ◌<◌, ◌+◌, ◌⊎◌, ◌++◌, ◌∷◌, [], ℕ, List, length, false, IsTrue, IfOk, OnOk, OnErr};
+ghost use Rattle.std.specs.Prelude.{◌≡◌, ◌≢◌, ◌≤◌, ◌<◌, ◌+◌, ◌⊎◌, ◌++◌, ◌∷◌, [], ℕ, List, length, map, true, false, IsTrue, IfOk, OnOk, OnErr};
 ghost use Rattle.at_cid.specs.Counts.{Rose};
 ghost use Rattle.at_event.specs.declared.refusal.Refusal.{Refusal as TheRefusal};
 ghost use Rattle.event_window.specs.Held.{oldest_of};
 ghost use Rattle.event_window.specs.Window.{IsLastUpto};
+ghost use Rattle.event_window.specs.declared.place.Place.{Place as ThePlace};
 ghost use Rattle.relay_disk.specs.Disk.{Goes, Same};
 ghost use Rattle.relay_disk.specs.Moments.{LeavesOnly, PairLeavesOnly, TimeGoesOn};
 ghost use Rattle.gate_log.specs.Image.{front, generation};
@@ -17,7 +18,7 @@ ghost use Rattle.relay_row.specs.Folds.{last_seq};
 ghost use Rattle.relay_row.specs.declared.row.Row.{Row as TheRow};
 ghost use Rattle.relay_core.specs.Entries.{Holds};
 ghost use Rattle.cut_law.specs.Cut.{MayCut, cut};
-ghost use Rattle.relay_store.specs.Cutting.{IsEitherBeside, IsUncut};
+ghost use Rattle.relay_store.specs.Cutting.{IsEitherBeside, IsUncut, kept_above};
 ghost use Rattle.relay_store.specs.Journals.{bytes_of};
 ghost use Rattle.relay_store.specs.Rereading.{IsOfSomeCut};
 ghost use Rattle.relay_store.specs.Rewriting.{CopiedAs, RewriteHasNoRoom, IsOfRewriting, singles};
@@ -28,6 +29,7 @@ ghost use Rattle.relay_store.specs.declared.fault.StoreFault.{StoreFault as TheF
 
 use crate::StoreFault;
 use crate::carrying::carry;
+use crate::comparing::have_kept;
 use crate::copying::copy_behind;
 use crate::rereading::fold_upto;
 use crate::rewriting::Rewrite;
@@ -71,6 +73,8 @@ fn begin<D: Disk>(alloc: Global, log: &Log, other: &mut D) -> Result<Rewrite, St
     ensures window { IfOk result (λ rewrite. rewrite.window.places ≡ []) }
     ensures moments { IsTrue D.tells → LeavesOnly (IsFormerOrIdle (D.view other.old)) (D.view other.old) (D.view other.new) }
     ensures disk { result ≡ Err StoreFault.Disk → Rose (D.view other.old).faults (D.view other.new).faults }
+    ensures steady { OnOk result ((D.view other.new).faults ≡ (D.view other.old).faults) }
+    ensures no_fault { OnErr result (result ≢ Err StoreFault.Disk → (D.view other.new).faults ≡ (D.view other.old).faults) }
     ensures counts { (D.view other.old).faults ≤ (D.view other.new).faults }
     ensures memory { result ≡ Err StoreFault.Memory → other.new ≡ other.old }
     ensures few { (f : TheFault) → result ≡ Err f → (f ≡ StoreFault.Disk) ⊎ (f ≡ StoreFault.Memory) }
@@ -121,6 +125,9 @@ impl Store {
         ensures holds { IsTrue D.tells → (bodies : List (List ℕ)) → HasBodies bodies self.now.log (D.view disk.old) → HasBodies bodies self.now.log (D.view disk.new) }
         ensures disk { result ≡ Err StoreFault.Disk → Rose (D.view disk.old).faults (D.view disk.new).faults
             ⊎ Rose (D.view other.old).faults (D.view other.new).faults }
+        ensures steady { OnOk result (((D.view disk.new).faults ≡ (D.view disk.old).faults) × ((D.view other.new).faults ≡ (D.view other.old).faults)) }
+        ensures no_fault { OnErr result (result ≢ Err StoreFault.Disk
+            → ((D.view disk.new).faults ≡ (D.view disk.old).faults) × ((D.view other.new).faults ≡ (D.view other.old).faults)) }
         ensures counts { (D.view other.old).faults ≤ (D.view other.new).faults }
         ensures few { (f : TheFault) → result ≡ Err f → IsOfRewriting f }
     {
@@ -129,13 +136,25 @@ impl Store {
         copy_behind(alloc, &self.log, disk, last, rewrite, other)
     }
 
-    // Writes that journal anew on the other disk.
+    // Whether what was written anew has the last number that was kept, and of the events' those that are above a number.
+    fn has_kept(&self, seq: u64, rewrite: &Rewrite) -> bool
+        ensures kept { result ≡ true → (map (λ (p : ThePlace). p.seq) rewrite.now.window.places ≡ kept_above seq self.now.window.places)
+            × (rewrite.now.core.last ≡ self.now.core.last) }
+        ensures lost { result ≡ false → (map (λ (p : ThePlace). p.seq) rewrite.now.window.places ≡ kept_above seq self.now.window.places)
+            × (rewrite.now.core.last ≡ self.now.core.last) → ⊥ }
+    {
+        rewrite.core.last_seq() == self.core.last_seq()
+            && have_kept(rewrite.window.as_slice(), seq, self.window.as_slice())
+    }
+
+    // Writes that journal anew on the other disk, and compares its numbers with those that were kept above one before its log is opened.
     fn write_anew<D: Disk>(
         &self,
         alloc: Global,
         disk: &mut D,
         other: &mut D,
         last: Place,
+        seq: u64,
     ) -> Result<Anew, StoreFault>
         requires on { IsTrue D.tells → IsOn (D.view disk.old) self.now.log }
         requires generation { generation self.now.log.format + 1 < NUMBERS }
@@ -146,6 +165,8 @@ impl Store {
         ensures bodies { IfOk result (λ anew. IsTrue D.tells → (J : List TheRow) (c : ℕ) → Keeps J (seen_in self.now) (D.view disk.old)
             → IsLastUpto c last self.now.window.places → HasBodies (bytes_of (singles (cut J c))) anew.log (D.view other.new)) }
         ensures known { IfOk result (λ anew. IsOfSomeCut anew.core) }
+        ensures numbers { IfOk result (λ anew. (map (λ (p : ThePlace). p.seq) anew.window.places ≡ kept_above seq self.now.window.places)
+            × (anew.core.last ≡ self.now.core.last)) }
         ensures keeps { IfOk result (λ anew. IsTrue D.tells → (J : List TheRow) (c : ℕ) → Keeps J (seen_in self.now) (D.view disk.old)
             → IsLastUpto c last self.now.window.places → c ≤ last_seq J → (side : Side) → Keeps (cut J c) (seen anew.log side anew.core anew.window.places) (D.view other.new)) }
         ensures moments { IsTrue D.tells → (J : List TheRow) (c : ℕ) → Keeps J (seen_in self.now) (D.view disk.old)
@@ -160,15 +181,21 @@ impl Store {
         ensures full { (e : ℕ) → result ≡ Err (StoreFault.Full e) → IsTrue D.tells → (J : List TheRow) (c : ℕ) → Keeps J (seen_in self.now) (D.view disk.old)
             → IsLastUpto c last self.now.window.places
             → RewriteHasNoRoom (length (front (Format.Two (generation self.now.log.format + 1)))) self.now.log.most (cut J c) e }
-        ensures no_bad_log { (p : ℕ) → result ≡ Err (StoreFault.BadLog p) → IsTrue D.tells → (J : List TheRow) (c : ℕ)
-            → Keeps J (seen_in self.now) (D.view disk.old) → IsLastUpto c last self.now.window.places → c ≤ last_seq J → ⊥ }
+        ensures no_bad_log { (p : ℕ) → result ≡ Err (StoreFault.BadLog p) → IsTrue D.tells → (J : List TheRow)
+            → Keeps J (seen_in self.now) (D.view disk.old) → IsLastUpto seq last self.now.window.places → seq ≤ last_seq J → ⊥ }
         ensures disk { result ≡ Err StoreFault.Disk → Rose (D.view disk.old).faults (D.view disk.new).faults
             ⊎ Rose (D.view other.old).faults (D.view other.new).faults }
+        ensures steady { OnOk result (((D.view disk.new).faults ≡ (D.view disk.old).faults) × ((D.view other.new).faults ≡ (D.view other.old).faults)) }
+        ensures no_fault { OnErr result (result ≢ Err StoreFault.Disk
+            → ((D.view disk.new).faults ≡ (D.view disk.old).faults) × ((D.view other.new).faults ≡ (D.view other.old).faults)) }
         ensures counts { (D.view other.old).faults ≤ (D.view other.new).faults }
         ensures few { (f : TheFault) → result ≡ Err f → IsOfRewriting f }
     {
         let mut rewrite = begin(alloc, &self.log, other)?;
         self.fill(alloc, disk, other, last, &mut rewrite)?;
+        if !self.has_kept(seq, &rewrite) {
+            return Err(StoreFault::BadLog(last.place));
+        }
         let Rewrite {
             build,
             core,
@@ -218,6 +245,10 @@ impl Store {
             → Keeps J (seen_in self.old) (D.view disk.old) → (oldest ≡ oldest_of (held_by (cut J seq))) × (last ≡ last_seq (cut J seq)) }
         // Of any disk: what was read again keeps the order of numbers, so that what was written is a journal.
         ensures known { (oldest last : ℕ) → result ≡ Ok (CutDone.Cut oldest last) → IsOfSomeCut self.new.core }
+        // Of any disk: the events that are left have the numbers that were kept of them.
+        ensures numbers { (oldest last : ℕ) → result ≡ Ok (CutDone.Cut oldest last)
+            → (map (λ (p : ThePlace). p.seq) self.new.window.places ≡ kept_above seq self.old.window.places)
+            × (self.new.core.last ≡ self.old.core.last) }
         ensures anew { (oldest last : ℕ) → result ≡ Ok (CutDone.Cut oldest last) → (self.new.side ≡ other_side self.old.side)
             × (self.new.log.format ≡ Format.Two (generation self.old.log.format + 1)) × (self.new.log.most ≡ self.old.log.most) }
         ensures room { (oldest last : ℕ) → result ≡ Ok (CutDone.Cut oldest last) → IsTrue D.tells → self.new.log.end < self.new.log.most }
@@ -239,6 +270,8 @@ impl Store {
         ensures closed { result ≡ Err StoreFault.Disk → self.new.log.is_open ≡ false }
         ensures disk { result ≡ Err StoreFault.Disk → Rose (D.view disk.old).faults (D.view disk.new).faults
             ⊎ Rose (D.view other.old).faults (D.view other.new).faults }
+        ensures steady { result ≢ Err StoreFault.Disk → ((D.view disk.new).faults ≡ (D.view disk.old).faults)
+            × ((D.view other.new).faults ≡ (D.view other.old).faults) }
         ensures counts { (D.view other.old).faults ≤ (D.view other.new).faults }
         ensures full { (e : ℕ) → result ≡ Err (StoreFault.Full e) → IsTrue D.tells → (J : List TheRow) → Keeps J (seen_in self.old) (D.view disk.old)
             → RewriteHasNoRoom (length (front (Format.Two (generation self.old.log.format + 1)))) self.old.log.most (cut J seq) e }
@@ -254,7 +287,7 @@ impl Store {
         if self.log.generation() >= NUMBERS - 1 {
             return Ok(CutDone::Refused(Refusal::LastCut));
         }
-        match self.write_anew(alloc, disk, other, last) {
+        match self.write_anew(alloc, disk, other, last, seq) {
             Ok(anew) => {
                 self.log = anew.log;
                 self.core = anew.core;

@@ -1,10 +1,11 @@
 //! Messages taken one after another, ahead of the disk.
 
-ghost use Rattle.std.specs.Prelude.{◌≡◌, ◌≤◌, ◌<◌, ⊤, [], ℕ, List, length, drop, IsTrue, IfSome, Some};
+ghost use Rattle.std.specs.Prelude.{◌≡◌, ◌≢◌, ◌≤◌, ◌<◌, ⊤, [], ℕ, List, length, drop, IsTrue, IfSome, Some};
 ghost use Rattle.at_cid.specs.Counts.{Rose};
 ghost use Rattle.at_syntax.specs.Host.{is_host};
 ghost use Rattle.relay_row.specs.declared.limits.TheConstants.{MOST_ROWS};
 ghost use Rattle.relay_step.specs.Around.{around};
+ghost use Rattle.relay_step.specs.Causes.{SpendsNone};
 ghost use Rattle.relay_store.specs.Batches.{is_end};
 ghost use Rattle.relay_store.specs.PendingBodies.{HasRows};
 ghost use Rattle.relay_store.specs.Faults.{IsRisen};
@@ -55,6 +56,9 @@ pub(crate) fn gather<P: Judges, R: Repos, C: Clock>(
     ensures no_disk { result ≡ Some StoreFault.Disk → ⊥ }
     ensures clock_counts { C.faults clock.old ≤ C.faults clock.new }
     ensures repos_count { R.faults repos.old ≤ R.faults repos.new }
+    ensures clock_steady { result ≢ Some StoreFault.Clock → C.faults clock.new ≡ C.faults clock.old }
+    ensures repos_steady { result ≢ Some StoreFault.Repos → R.faults repos.new ≡ R.faults repos.old }
+    ensures unspent { result ≢ Some StoreFault.Authority → SpendsNone (P.panel judges.old) (P.panel judges.new) }
 {
     'group: for message in group {
         if outcomes.reserve(1).is_err() {

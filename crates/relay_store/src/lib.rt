@@ -9,6 +9,7 @@ mod buffer;
 mod carrying;
 mod commanding;
 mod committing;
+mod comparing;
 mod copying;
 mod cutting;
 mod done;

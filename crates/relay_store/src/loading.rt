@@ -1,6 +1,6 @@
 //! Reading a log's bodies back.
 
-ghost use Rattle.std.specs.Prelude.{◌≡◌, ◌≤◌, ◌<◌, ◌+◌, ◌++◌, ◌∷◌, [], ℕ, List, length, IsTrue, IfOk, OnOk};
+ghost use Rattle.std.specs.Prelude.{◌≡◌, ◌≢◌, ◌≤◌, ◌<◌, ◌+◌, ◌++◌, ◌∷◌, [], ℕ, List, length, Err, IsTrue, IfOk, OnOk};
 ghost use Rattle.at_cid.specs.Counts.{Rose};
 ghost use Rattle.relay_disk.specs.Disk.{Goes, Same};
 ghost use Rattle.gate_log.specs.Image.{made};
@@ -87,6 +87,7 @@ fn load_body<D: Disk>(
     ensures on { IsTrue D.tells → IsOn (D.view disk.new) log.now }
     ensures disk { result ≡ Err StoreFault.Disk → Rose (D.view disk.old).faults (D.view disk.new).faults }
     ensures few { (f : TheFault) → result ≡ Err f → IsOfReading f }
+    ensures steady { result ≢ Err StoreFault.Disk → (D.view disk.new).faults ≡ (D.view disk.old).faults }
 {
     let next = log.read_into(disk, place, room)?;
     match apply_body(alloc, core, window, place, room.as_slice()) {
@@ -115,6 +116,7 @@ pub(crate) fn load<D: Disk>(
     ensures holds { IsTrue D.tells → (bodies : List (List ℕ)) → HasBodies bodies log.now (D.view disk.old) → HasBodies bodies log.now (D.view disk.new) }
     ensures disk { result ≡ Err StoreFault.Disk → Rose (D.view disk.old).faults (D.view disk.new).faults }
     ensures few { (f : TheFault) → result ≡ Err f → IsOfReading f }
+    ensures steady { result ≢ Err StoreFault.Disk → (D.view disk.new).faults ≡ (D.view disk.old).faults }
 
     // A log without bodies is learned without a fault.
     ensures some { (f : TheFault) → result ≡ Err f → IsTrue D.tells → HasBodies [] log.now (D.view disk.old) → ⊥ }

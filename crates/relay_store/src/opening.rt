@@ -1,6 +1,6 @@
 //! Opening a store.
 
-ghost use Rattle.std.specs.Prelude.{◌≡◌, ◌≤◌, ◌⊎◌, [], ℕ, List, IsTrue, IfOk, OnOk};
+ghost use Rattle.std.specs.Prelude.{◌≡◌, ◌≢◌, ◌≤◌, ◌⊎◌, [], ℕ, List, Err, IsTrue, IfOk, OnOk};
 ghost use Rattle.at_cid.specs.Counts.{Rose};
 ghost use Rattle.relay_disk.specs.Disk.{Goes, Same, IsSynced};
 ghost use Rattle.gate_log.specs.Log.{HoldsBodies as HasBodies, IsOn};
@@ -44,6 +44,8 @@ fn load_side<D: Disk>(
         → HasBodies bodies log.now (view_of_side side (D.view one.new) (D.view two.new)) }
     ensures disk { result ≡ Err StoreFault.Disk → Rose (D.view one.old).faults (D.view one.new).faults ⊎ Rose (D.view two.old).faults (D.view two.new).faults }
     ensures few { (f : TheFault) → result ≡ Err f → IsOfReading f }
+    ensures steady { result ≢ Err StoreFault.Disk → ((D.view one.new).faults ≡ (D.view one.old).faults)
+        × ((D.view two.new).faults ≡ (D.view two.old).faults) }
     ensures some { (f : TheFault) → result ≡ Err f → IsTrue D.tells
         → HasBodies [] log.now (view_of_side side (D.view one.old) (D.view two.old)) → ⊥ }
 {
@@ -72,6 +74,8 @@ impl Store {
             ⊎ Rose (D.view other.old).faults (D.view other.new).faults }
         ensures counts { ((D.view disk.old).faults ≤ (D.view disk.new).faults) × ((D.view other.old).faults ≤ (D.view other.new).faults) }
         ensures few { (f : TheFault) → result ≡ Err f → IsOfReading f }
+        ensures steady { result ≢ Err StoreFault.Disk → ((D.view disk.new).faults ≡ (D.view disk.old).faults)
+            × ((D.view other.new).faults ≡ (D.view other.old).faults) }
     {
         let mut core = Core::new(alloc);
         let mut window = Window::new(alloc);

@@ -1,6 +1,6 @@
 //! One message decided, and its row taken, ahead of the disk.
 
-ghost use Rattle.std.specs.Prelude.{◌≡◌, ◌≤◌, ◌<◌, ℕ, length, IsTrue, IfOk, IfErr, OnOk, OnErr, Some, Result};
+ghost use Rattle.std.specs.Prelude.{◌≡◌, ◌≢◌, ◌≤◌, ◌<◌, ℕ, length, IsTrue, IfOk, IfErr, OnOk, OnErr, Some, Result, Err};
 ghost use Rattle.at_cid.specs.Counts.{Rose};
 ghost use Rattle.at_event.specs.Frames.{frame_of};
 ghost use Rattle.at_event.specs.declared.frame.Frame.{Frame as TheFrame};
@@ -9,6 +9,7 @@ ghost use Rattle.at_syntax.specs.Host.{is_host};
 ghost use Rattle.gate_log.specs.declared.pending_bodies.TheConstants.{AHEAD};
 ghost use Rattle.relay_row.specs.declared.limits.TheConstants.{MOST_ROWS};
 ghost use Rattle.relay_step.specs.Around.{around};
+ghost use Rattle.relay_step.specs.Causes.{SpendsNone};
 ghost use Rattle.relay_step.specs.Messages.{IsSkippedAs, told_as};
 ghost use Rattle.relay_step.specs.Steps.{rows_decided};
 ghost use Rattle.relay_store.specs.PendingBodies.{Fits, IsUnchanged};
@@ -120,6 +121,9 @@ pub(crate) fn prepare<P: Judges, R: Repos, C: Clock>(
     ensures risen { IfErr result (IsRisen (Rose (R.faults repos.old) (R.faults repos.new)) (Rose (C.faults clock.old) (C.faults clock.new))) }
     ensures clock_counts { C.faults clock.old ≤ C.faults clock.new }
     ensures repos_count { R.faults repos.old ≤ R.faults repos.new }
+    ensures clock_steady { result ≢ Err StoreFault.Clock → C.faults clock.new ≡ C.faults clock.old }
+    ensures repos_steady { result ≢ Err StoreFault.Repos → R.faults repos.new ≡ R.faults repos.old }
+    ensures unspent { result ≢ Err StoreFault.Authority → SpendsNone (P.panel judges.old) (P.panel judges.new) }
 {
     match decide_message(alloc, core, host, message, judges, repos, clock) {
         Ok(told) => take_decided(alloc, log, core, window, pending, told),

@@ -1,6 +1,6 @@
 //! Reading a journal's rows again, body by body.
 
-ghost use Rattle.std.specs.Prelude.{◌≡◌, ◌≤◌, ◌<◌, ◌+◌, ◌++◌, ◌∷◌, [], ℕ, List, length, take, true, IsTrue, IfOk, OnOk};
+ghost use Rattle.std.specs.Prelude.{◌≡◌, ◌≢◌, ◌≤◌, ◌<◌, ◌+◌, ◌++◌, ◌∷◌, [], ℕ, List, length, take, true, IsTrue, IfOk, OnOk, OnErr};
 ghost use Rattle.std.specs.List.{list_all};
 ghost use Rattle.at_cid.specs.Counts.{Rose};
 ghost use Rattle.relay_disk.specs.Disk.{Goes, Same};
@@ -50,6 +50,8 @@ pub(crate) fn body_at<D: Disk>(
     ensures holds { IsTrue D.tells → (bodies : List (List ℕ)) → HasBodies bodies log.now (D.view disk.old) → HasBodies bodies log.now (D.view disk.new) }
     ensures on { IsTrue D.tells → IsOn (D.view disk.new) log.now }
     ensures disk { result ≡ Err StoreFault.Disk → Rose (D.view disk.old).faults (D.view disk.new).faults }
+    ensures steady { OnOk result ((D.view disk.new).faults ≡ (D.view disk.old).faults) }
+    ensures no_fault { OnErr result (result ≢ Err StoreFault.Disk → (D.view disk.new).faults ≡ (D.view disk.old).faults) }
     ensures few { (f : TheFault) → result ≡ Err f → IsOfReading f }
 {
     let next = match read_body(log, disk, place, room) {
@@ -104,6 +106,8 @@ fn fold_before<D: Disk>(
     ensures holds { IsTrue D.tells → (bodies : List (List ℕ)) → HasBodies bodies log.now (D.view disk.old) → HasBodies bodies log.now (D.view disk.new) }
     ensures on { IsTrue D.tells → IsOn (D.view disk.new) log.now }
     ensures disk { result ≡ Err StoreFault.Disk → Rose (D.view disk.old).faults (D.view disk.new).faults }
+    ensures steady { OnOk result ((D.view disk.new).faults ≡ (D.view disk.old).faults) }
+    ensures no_fault { OnErr result (result ≢ Err StoreFault.Disk → (D.view disk.new).faults ≡ (D.view disk.old).faults) }
     ensures few { (f : TheFault) → result ≡ Err f → IsOfReading f }
 {
     let mut place = log.first();
@@ -135,6 +139,8 @@ pub(crate) fn fold_upto<D: Disk>(
     ensures holds { IsTrue D.tells → (bodies : List (List ℕ)) → HasBodies bodies log.now (D.view disk.old) → HasBodies bodies log.now (D.view disk.new) }
     ensures on { IsTrue D.tells → IsOn (D.view disk.new) log.now }
     ensures disk { result ≡ Err StoreFault.Disk → Rose (D.view disk.old).faults (D.view disk.new).faults }
+    ensures steady { OnOk result ((D.view disk.new).faults ≡ (D.view disk.old).faults) }
+    ensures no_fault { OnErr result (result ≢ Err StoreFault.Disk → (D.view disk.new).faults ≡ (D.view disk.old).faults) }
     ensures few { (f : TheFault) → result ≡ Err f → IsOfReading f }
 {
     let mut room = Vec::new(alloc);

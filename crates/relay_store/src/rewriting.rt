@@ -1,6 +1,6 @@
 //! A journal written anew into a log that is being built, each row as a body of its own.
 
-ghost use Rattle.std.specs.Prelude.{◌≡◌, ◌≤◌, ◌<◌, ◌∷◌, [], ℕ, length, IsTrue, OnOk};
+ghost use Rattle.std.specs.Prelude.{◌≡◌, ◌≢◌, ◌≤◌, ◌<◌, ◌∷◌, [], ℕ, length, IsTrue, OnOk, OnErr};
 ghost use Rattle.at_cid.specs.Counts.{Rose};
 ghost use Rattle.relay_disk.specs.Moments.{LeavesOnly};
 ghost use Rattle.gate_log.specs.Build.{IsBuiltOn, IsClosed};
@@ -55,6 +55,7 @@ pub(crate) fn put_row<D: Disk>(
     ensures copied { OnOk result (IsCopied D.tells (row ∷ []) rewrite.old rewrite.new (D.view other.old) (D.view other.new)) }
     ensures run { IsTrue D.tells → LeavesOnly IsClosed (D.view other.old) (D.view other.new) }
     ensures disk { result ≡ Err StoreFault.Disk → Rose (D.view other.old).faults (D.view other.new).faults }
+    ensures no_fault { OnErr result (result ≢ Err StoreFault.Disk → (D.view other.new).faults ≡ (D.view other.old).faults) }
     ensures counts { (D.view other.old).faults ≤ (D.view other.new).faults }
     ensures full { (e : ℕ) → result ≡ Err (StoreFault.Full e) → RewriteHasNoRoom rewrite.old.build.end rewrite.old.build.most (row ∷ []) e }
     ensures few { (f : TheFault) → result ≡ Err f → IsOfAdding f }
@@ -82,6 +83,7 @@ pub(crate) fn put_rows<D: Disk>(
     ensures copied { OnOk result (IsCopied D.tells rows.items rewrite.old rewrite.new (D.view other.old) (D.view other.new)) }
     ensures run { IsTrue D.tells → LeavesOnly IsClosed (D.view other.old) (D.view other.new) }
     ensures disk { result ≡ Err StoreFault.Disk → Rose (D.view other.old).faults (D.view other.new).faults }
+    ensures no_fault { OnErr result (result ≢ Err StoreFault.Disk → (D.view other.new).faults ≡ (D.view other.old).faults) }
     ensures counts { (D.view other.old).faults ≤ (D.view other.new).faults }
     ensures full { (e : ℕ) → result ≡ Err (StoreFault.Full e) → RewriteHasNoRoom rewrite.old.build.end rewrite.old.build.most rows.items e }
     ensures few { (f : TheFault) → result ≡ Err f → IsOfRewriting f }

@@ -6,6 +6,7 @@ ghost use Rattle.at_syntax.specs.Host.{is_host};
 ghost use Rattle.relay_row.specs.declared.limits.TheConstants.{MOST_ROWS};
 ghost use Rattle.relay_row.specs.declared.row.Row.{Row as TheRow};
 ghost use Rattle.relay_step.specs.Around.{around};
+ghost use Rattle.relay_step.specs.Causes.{SpendsNone};
 ghost use Rattle.relay_store.specs.Batches.{Batched, HasEnd, scene, outcomes_in, fault_in, message_from};
 ghost use Rattle.relay_store.specs.Faults.{IsRisenOf};
 ghost use Rattle.relay_store.specs.Store.{IsKept, IsOf, seen_in};
@@ -59,12 +60,20 @@ impl Store {
         ensures on { result.fault ≢ Some StoreFault.Disk → IsTrue D.tells → IsKept (seen_in self.new) (D.view disk.new) }
         ensures open { result.fault ≢ Some StoreFault.Disk → IsTrue self.new.log.is_open }
         ensures closed { result.fault ≡ Some StoreFault.Disk → self.new.log.is_open ≡ false }
+        ensures unanswered { result.fault ≡ Some StoreFault.Disk → result.outcomes.items ≡ [] }
         ensures side { self.new.side ≡ self.old.side }
         ensures risen { IfSome result.fault (IsRisenOf (Rose (D.view disk.old).faults (D.view disk.new).faults)
             (Rose (R.faults repos.old) (R.faults repos.new)) (Rose (C.faults clock.old) (C.faults clock.new))) }
         ensures disk_counts { (D.view disk.old).faults ≤ (D.view disk.new).faults }
         ensures clock_counts { C.faults clock.old ≤ C.faults clock.new }
         ensures repos_count { R.faults repos.old ≤ R.faults repos.new }
+        ensures disk_steady { result.fault ≢ Some StoreFault.Disk → (D.view disk.new).faults ≡ (D.view disk.old).faults }
+        ensures clock_steady { result.fault ≢ Some StoreFault.Disk → result.fault ≢ Some StoreFault.Clock
+            → C.faults clock.new ≡ C.faults clock.old }
+        ensures repos_steady { result.fault ≢ Some StoreFault.Disk → result.fault ≢ Some StoreFault.Repos
+            → R.faults repos.new ≡ R.faults repos.old }
+        ensures unspent { result.fault ≢ Some StoreFault.Disk → result.fault ≢ Some StoreFault.Authority
+            → SpendsNone (P.panel judges.old) (P.panel judges.new) }
     {
         let mut outcomes = Vec::new(alloc);
         match self.pending.start() {
@@ -123,6 +132,13 @@ impl Store {
         ensures disk_counts { (D.view disk.old).faults ≤ (D.view disk.new).faults }
         ensures clock_counts { C.faults clock.old ≤ C.faults clock.new }
         ensures repos_count { R.faults repos.old ≤ R.faults repos.new }
+        ensures disk_steady { fault_in result ≢ Some StoreFault.Disk → (D.view disk.new).faults ≡ (D.view disk.old).faults }
+        ensures clock_steady { fault_in result ≢ Some StoreFault.Disk → fault_in result ≢ Some StoreFault.Clock
+            → C.faults clock.new ≡ C.faults clock.old }
+        ensures repos_steady { fault_in result ≢ Some StoreFault.Disk → fault_in result ≢ Some StoreFault.Repos
+            → R.faults repos.new ≡ R.faults repos.old }
+        ensures unspent { fault_in result ≢ Some StoreFault.Disk → fault_in result ≢ Some StoreFault.Authority
+            → SpendsNone (P.panel judges.old) (P.panel judges.new) }
     {
         match self.pending.start() {
             Ok(()) => {}

@@ -27,10 +27,10 @@ returns-in_err-put_row-clause-run g c = λ tells. joined _ _ _ _ (c.accounts.inv
 pub returns-in_err-put_row-clause-disk : goal.returns-in_err-put_row-clause-disk
 returns-in_err-put_row-clause-disk g c = λ is.
     let failed : c.put_row.result ≡ Err StoreFault.Disk = search rules in
-    omega (arith, c.accounts.invariant.0.copied.counts, c.put_row.ensures.disk failed)
+    omega (arith, c.accounts.invariant.0.copied.steady, c.put_row.ensures.disk failed)
 
 pub returns-in_err-put_row-clause-counts : goal.returns-in_err-put_row-clause-counts
-returns-in_err-put_row-clause-counts g c = omega (arith, c.accounts.invariant.0.copied.counts, c.put_row.ensures.counts)
+returns-in_err-put_row-clause-counts g c = omega (arith, c.accounts.invariant.0.copied.steady, c.put_row.ensures.counts)
 
 pub returns-in_err-put_row-clause-full : goal.returns-in_err-put_row-clause-full
 returns-in_err-put_row-clause-full g c = λ e is.

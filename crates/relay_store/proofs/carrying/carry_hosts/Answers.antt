@@ -21,10 +21,10 @@ returns-in_err-carry_host-clause-run g c = λ tells. joined _ _ _ _ (c.each.inva
 pub returns-in_err-carry_host-clause-disk : goal.returns-in_err-carry_host-clause-disk
 returns-in_err-carry_host-clause-disk g c = λ is.
     let failed : c.carry_host.result ≡ Err StoreFault.Disk = search rules in
-    omega (arith, c.each.invariant.counts, c.carry_host.ensures.disk failed)
+    omega (arith, c.each.invariant.steady, c.carry_host.ensures.disk failed)
 
 pub returns-in_err-carry_host-clause-counts : goal.returns-in_err-carry_host-clause-counts
-returns-in_err-carry_host-clause-counts g c = omega (arith, c.each.invariant.counts, c.carry_host.ensures.counts)
+returns-in_err-carry_host-clause-counts g c = omega (arith, c.each.invariant.steady, c.carry_host.ensures.counts)
 
 pub returns-in_err-carry_host-clause-full : goal.returns-in_err-carry_host-clause-full
 returns-in_err-carry_host-clause-full g c = λ e is.

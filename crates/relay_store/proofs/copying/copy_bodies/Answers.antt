@@ -1,4 +1,4 @@
-use Rattle.std.proofs.Common.{◌≡◌, ◌∙◌, ◌++◌, [], List, Err, ap, append_assoc, inr, arith, rules, subst, sym}
+use Rattle.std.proofs.Common.{◌≡◌, ◌∙◌, ◌++◌, [], List, Err, ap, append_assoc, inr, refl, arith, rules, subst, sym}
 use Rattle.relay_disk.proofs.Moments.{joined, still_again, still_here}
 use Rattle.gate_log.specs.Log.{HoldsBodies as HasBodies}
 use Rattle.relay_row.specs.Journal.{IsJournal}
@@ -15,6 +15,7 @@ use Rattle.relay_store.proofs.copying.copy_bodies.Goals as goal
 pub bodies-init : goal.bodies-init
 bodies-init g c = record {
   goes = still_here _;
+  steady = refl;
   holds = λ tells bodies held. held;
   on = c.requires.log;
   rows = [];
@@ -31,6 +32,7 @@ bodies-preserved g c =
     let inv = c.bodies.invariant in
     record {
       goes = still_again _ _ _ (g.met.D.Disk.is_disk _) inv.goes c.body_at.ensures.goes;
+      steady = c.in_ok-rows.ensures.steady ∙ inv.steady;
       holds = λ tells bodies held. c.body_at.ensures.holds tells bodies (inv.holds tells bodies held);
       on = c.body_at.ensures.on;
       rows = inv.rows ++ c.in_ok-rows.rows.items;
@@ -62,7 +64,7 @@ pub returns-in_err-rows-clause-run : goal.returns-in_err-rows-clause-run
 returns-in_err-rows-clause-run g c = c.bodies.invariant.copied.run
 
 pub returns-in_err-rows-clause-counts : goal.returns-in_err-rows-clause-counts
-returns-in_err-rows-clause-counts g c = c.bodies.invariant.copied.counts
+returns-in_err-rows-clause-counts g c = omega (arith, c.bodies.invariant.copied.steady)
 
 pub returns-in_err-rows-clause-goes : goal.returns-in_err-rows-clause-goes
 returns-in_err-rows-clause-goes g c = still_again _ _ _ (g.met.D.Disk.is_disk _) c.bodies.invariant.goes c.body_at.ensures.goes
@@ -74,12 +76,12 @@ pub returns-in_err-put_rows-clause-run : goal.returns-in_err-put_rows-clause-run
 returns-in_err-put_rows-clause-run g c = λ tells. joined _ _ _ _ (c.bodies.invariant.copied.run tells) (c.put_rows.ensures.run tells)
 
 pub returns-in_err-put_rows-clause-counts : goal.returns-in_err-put_rows-clause-counts
-returns-in_err-put_rows-clause-counts g c = omega (arith, c.bodies.invariant.copied.counts, c.put_rows.ensures.counts)
+returns-in_err-put_rows-clause-counts g c = omega (arith, c.bodies.invariant.copied.steady, c.put_rows.ensures.counts)
 
 pub returns-in_err-put_rows-clause-disk : goal.returns-in_err-put_rows-clause-disk
 returns-in_err-put_rows-clause-disk g c = λ is.
     let failed : c.put_rows.result ≡ Err StoreFault.Disk = search rules in
-    inr (omega (arith, c.bodies.invariant.copied.counts, c.put_rows.ensures.disk failed))
+    inr (omega (arith, c.bodies.invariant.copied.steady, c.put_rows.ensures.disk failed))
 
 pub returns-in_err-put_rows-clause-full : goal.returns-in_err-put_rows-clause-full
 returns-in_err-put_rows-clause-full g c = λ e failed_is tells before after each held is.
@@ -106,7 +108,7 @@ pub returns-clause-run : goal.returns-clause-run
 returns-clause-run g c = c.bodies.invariant.copied.run
 
 pub returns-clause-counts : goal.returns-clause-counts
-returns-clause-counts g c = c.bodies.invariant.copied.counts
+returns-clause-counts g c = omega (arith, c.bodies.invariant.copied.steady)
 
 pub returns-in_err-rows-clause-full : goal.returns-in_err-rows-clause-full
 returns-in_err-rows-clause-full g c = λ e is.

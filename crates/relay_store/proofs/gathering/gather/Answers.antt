@@ -13,7 +13,7 @@ use Rattle.relay_store.proofs.Nexts.{next_none, next_nothing}
 use Rattle.relay_store.proofs.gathering.gather.Goals as goal
 
 pub group-init : goal.group-init
-group-init g c = record { taken = at_start _ _ _ _ _ _ _ _ _ c.requires.rows c.requires.no_outcome; clock_counts = omega arith; repos_count = omega arith }
+group-init g c = record { taken = at_start _ _ _ _ _ _ _ _ _ c.requires.rows c.requires.no_outcome; clock_counts = omega arith; repos_count = omega arith; clock_steady = refl; repos_steady = refl; unspent = λ name spent. spent }
 
 pub prepare-requires-clause-host : goal.prepare-requires-clause-host
 prepare-requires-clause-host g c = ap is_host c.as_str-host.ensures.value ∙ host_at c.args.group.now c.group.message-index c.message-item.result c.requires.hosts c.group-test.true c.message-item.is
@@ -76,8 +76,47 @@ group-preserved g c =
           (gathering_more _ _ _ _ _ _ _ _ _ _ _ _ _ _ now made.0 _ made.1 _ _ _ c.in-Ok.outcome made.2 made.3 c.prepare.ensures.fits (sym c.if-is_end.ensures));
       clock_counts = omega (arith, c.group.invariant.clock_counts, c.prepare.ensures.clock_counts);
       repos_count = omega (arith, c.group.invariant.repos_count, c.prepare.ensures.repos_count);
+      clock_steady = c.in-Ok.ensures.clock_steady (λ err. absurd cc) ∙ c.group.invariant.clock_steady;
+      repos_steady = c.in-Ok.ensures.repos_steady (λ err. absurd cc) ∙ c.group.invariant.repos_steady;
+      unspent = λ name spent. c.group.invariant.unspent name (c.in-Ok.ensures.unspent (λ err. absurd cc) name spent);
     }
 
 pub returns-clause-stopped : goal.returns-clause-stopped
 returns-clause-stopped g c =
     stops_here _ _ _ _ _ _ _ _ _ _ _ _ _ c.group.invariant.taken None refl (λ none. inl (drop_all c.group.message-index c.args.group.now c.group-test.false)) (λ x. nothing_here _ _ x) tt (next_nothing _ _ _ _ _ _)
+
+pub returns-then-is_err-clause-clock_steady : goal.returns-then-is_err-clause-clock_steady
+returns-then-is_err-clause-clock_steady g c = λ other. c.group.invariant.clock_steady
+
+pub returns-then-is_err-clause-repos_steady : goal.returns-then-is_err-clause-repos_steady
+returns-then-is_err-clause-repos_steady g c = λ other. c.group.invariant.repos_steady
+
+pub returns-then-is_err-clause-unspent : goal.returns-then-is_err-clause-unspent
+returns-then-is_err-clause-unspent g c = λ other. c.group.invariant.unspent
+
+pub returns-in-Err-clause-clock_steady : goal.returns-in-Err-clause-clock_steady
+returns-in-Err-clause-clock_steady g c = λ other. c.in-Err.ensures.clock_steady (λ is. other cc) ∙ c.group.invariant.clock_steady
+
+pub returns-in-Err-clause-repos_steady : goal.returns-in-Err-clause-repos_steady
+returns-in-Err-clause-repos_steady g c = λ other. c.in-Err.ensures.repos_steady (λ is. other cc) ∙ c.group.invariant.repos_steady
+
+pub returns-in-Err-clause-unspent : goal.returns-in-Err-clause-unspent
+returns-in-Err-clause-unspent g c = λ other. λ name spent. c.group.invariant.unspent name (c.in-Err.ensures.unspent (λ is. other cc) name spent)
+
+pub returns-then-is_end-clause-clock_steady : goal.returns-then-is_end-clause-clock_steady
+returns-then-is_end-clause-clock_steady g c = λ other. c.in-Ok.ensures.clock_steady (λ err. absurd cc) ∙ c.group.invariant.clock_steady
+
+pub returns-then-is_end-clause-repos_steady : goal.returns-then-is_end-clause-repos_steady
+returns-then-is_end-clause-repos_steady g c = λ other. c.in-Ok.ensures.repos_steady (λ err. absurd cc) ∙ c.group.invariant.repos_steady
+
+pub returns-then-is_end-clause-unspent : goal.returns-then-is_end-clause-unspent
+returns-then-is_end-clause-unspent g c = λ other. λ name spent. c.group.invariant.unspent name (c.in-Ok.ensures.unspent (λ err. absurd cc) name spent)
+
+pub returns-clause-clock_steady : goal.returns-clause-clock_steady
+returns-clause-clock_steady g c = λ other. c.group.invariant.clock_steady
+
+pub returns-clause-repos_steady : goal.returns-clause-repos_steady
+returns-clause-repos_steady g c = λ other. c.group.invariant.repos_steady
+
+pub returns-clause-unspent : goal.returns-clause-unspent
+returns-clause-unspent g c = λ other. c.group.invariant.unspent

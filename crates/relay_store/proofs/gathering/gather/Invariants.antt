@@ -1,5 +1,6 @@
-use Rattle.std.proofs.Common.{◌≤◌, drop}
+use Rattle.std.proofs.Common.{◌≡◌, ◌≤◌, drop}
 use Rattle.relay_step.specs.Around.{around}
+use Rattle.relay_step.specs.Causes.{SpendsNone}
 use Rattle.relay_store.specs.Taking.{IsGathering}
 use Rattle.relay_store.proofs.gathering.gather.Given as goal
 
@@ -9,4 +10,7 @@ invariant-group g l = record {
       (around (g.P.Judges.panel l.fn.judges) (g.C.Clock.moments l.fn.clock) (g.R.Repos.repository l.fn.repos)) (around (g.P.Judges.panel l.judges) (g.C.Clock.moments l.clock) (g.R.Repos.repository l.repos)) l.outcomes.items;
   clock_counts : g.C.Clock.faults l.fn.clock ≤ g.C.Clock.faults l.clock;
   repos_count : g.R.Repos.faults l.fn.repos ≤ g.R.Repos.faults l.repos;
+  clock_steady : g.C.Clock.faults l.clock ≡ g.C.Clock.faults l.fn.clock;
+  repos_steady : g.R.Repos.faults l.repos ≡ g.R.Repos.faults l.fn.repos;
+  unspent : SpendsNone (g.P.Judges.panel l.fn.judges) (g.P.Judges.panel l.judges);
 }

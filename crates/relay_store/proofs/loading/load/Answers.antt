@@ -1,4 +1,4 @@
-use Rattle.std.proofs.Common.{rules, ◌≡◌, Err, [], arith, subst}
+use Rattle.std.proofs.Common.{rules, ◌≡◌, ◌∙◌, Err, [], arith, refl, subst}
 use Rattle.relay_disk.proofs.Moments.{still_here, still_again}
 use Rattle.gate_log.specs.Log.{HoldsBodies as HasBodies}
 use Rattle.relay_store.specs.Journals.{bytes_of, joined}
@@ -11,6 +11,7 @@ bodies-init g c = record {
   goes = still_here _;
   holds = λ tells bodies held. held;
   so_far = λ tells bodies held. at_first _ bodies _ _ _ c.first-place.ensures c.requires.core c.requires.window;
+  steady = refl;
 }
 
 pub bodies-preserved : goal.bodies-preserved
@@ -22,6 +23,7 @@ bodies-preserved g c = record {
       let some = more_left _ bodies _ _ _ f _ held.ends (omega (arith, c.end.ensures.end)) in
       let now = subst (λ bs. HasBodies bs c.args.log.now (g.D.Disk.view c.bodies.disk)) (split_here _ bodies _ _ _ f some.0 some.1 some.2) (c.bodies.invariant.holds tells bodies held) in
       one_further _ bodies _ _ _ f some.0 some.1 some.2 _ _ _ (c.in_ok-place.ensures.applied tells (bytes_of f.before) some.0 some.1 (joined f.before) now f.here f.core f.journal);
+  steady = c.in_ok-place.ensures.steady (λ err. absurd cc) ∙ c.bodies.invariant.steady;
 }
 
 pub returns-in_err-place-clause-bad_log : goal.returns-in_err-place-clause-bad_log
@@ -40,3 +42,9 @@ returns-in_err-place-clause-some g c = λ fault is tells held.
     let f = c.bodies.invariant.so_far tells [] held in
     let some = more_left _ [] _ _ _ f _ held.ends (omega (arith, c.end.ensures.end)) in
     no_split (bytes_of f.before) some.1 some.0 (split_here _ [] _ _ _ f some.0 some.1 some.2)
+
+pub returns-in_err-place-clause-steady : goal.returns-in_err-place-clause-steady
+returns-in_err-place-clause-steady g c = λ other. c.load_body.ensures.steady (λ is. other (search rules)) ∙ c.bodies.invariant.steady
+
+pub returns-clause-steady : goal.returns-clause-steady
+returns-clause-steady g c = λ other. c.bodies.invariant.steady

@@ -1,10 +1,11 @@
-use Rattle.std.proofs.Common.{inl, sym, subst}
+use Rattle.std.proofs.Common.{◌≡◌, ◌∙◌, Err, inl, sym, ap, subst}
 use Rattle.std.proofs.lemmas.Result.{IfOk-weaker}
 use Rattle.at_cid.specs.Counts.{Rose}
 use Rattle.at_event.specs.Frames.{frame_of}
 use Rattle.relay_step.specs.Around.{Around, around}
 use Rattle.relay_step.specs.Messages.{told_as}
-use Rattle.relay_store.specs.Faults.{IsRisen}
+use Rattle.relay_step.specs.declared.fault.StepFault.{StepFault}
+use Rattle.relay_store.specs.Faults.{IsRisen, of_step}
 use Rattle.relay_store.specs.Taking.{IsInVain, IsTaken}
 use Rattle.relay_store.specs.declared.fault.StoreFault.{StoreFault}
 use Rattle.relay_store.proofs.Turns.{prepared_by, risen_by, risen_of, unchanged_here, vain_of}
@@ -34,3 +35,27 @@ pub returns-in-Err-clause-risen : goal.returns-in-Err-clause-risen
 returns-in-Err-clause-risen g c =
     subst (IsRisen (Rose (g.R.Repos.faults c.args.repos.now) (g.R.Repos.faults c.decide_message.new.repos)) (Rose (g.C.Clock.faults c.args.clock.now) (g.C.Clock.faults c.decide_message.new.clock))) (sym c.from.ensures)
     (risen_of _ _ _ _ c.in-Err.fault c.in-Err.ensures.caused)
+
+pub returns-in-Ok-clause-clock_steady : goal.returns-in-Ok-clause-clock_steady
+returns-in-Ok-clause-clock_steady g c = λ other. c.in-Ok.ensures.clock_steady (λ err. absurd cc)
+
+pub returns-in-Err-clause-clock_steady : goal.returns-in-Err-clause-clock_steady
+returns-in-Err-clause-clock_steady g c = λ other. c.in-Err.ensures.clock_steady (λ is.
+    let same : c.in-Err.fault ≡ StepFault.Clock = cc in
+    other (ap Err (c.from.ensures ∙ ap of_step same)))
+
+pub returns-in-Ok-clause-repos_steady : goal.returns-in-Ok-clause-repos_steady
+returns-in-Ok-clause-repos_steady g c = λ other. c.in-Ok.ensures.repos_steady (λ err. absurd cc)
+
+pub returns-in-Err-clause-repos_steady : goal.returns-in-Err-clause-repos_steady
+returns-in-Err-clause-repos_steady g c = λ other. c.in-Err.ensures.repos_steady (λ is.
+    let same : c.in-Err.fault ≡ StepFault.Repos = cc in
+    other (ap Err (c.from.ensures ∙ ap of_step same)))
+
+pub returns-in-Ok-clause-unspent : goal.returns-in-Ok-clause-unspent
+returns-in-Ok-clause-unspent g c = λ other. c.in-Ok.ensures.unspent (λ err. absurd cc)
+
+pub returns-in-Err-clause-unspent : goal.returns-in-Err-clause-unspent
+returns-in-Err-clause-unspent g c = λ other. c.in-Err.ensures.unspent (λ is.
+    let same : c.in-Err.fault ≡ StepFault.Authority = cc in
+    other (ap Err (c.from.ensures ∙ ap of_step same)))

@@ -1,4 +1,4 @@
-use Rattle.std.proofs.Common.{◌≡◌, ◌++◌, [], List, Err, arith, rules, subst, sym}
+use Rattle.std.proofs.Common.{◌≡◌, ◌∙◌, ◌++◌, [], List, Err, refl, arith, rules, subst, sym}
 use Rattle.relay_disk.proofs.Moments.{still_again, still_here}
 use Rattle.gate_log.specs.Log.{HoldsBodies as HasBodies}
 use Rattle.relay_row.specs.declared.row.Row.{Row}
@@ -14,6 +14,7 @@ use Rattle.relay_store.proofs.rereading.fold_before.Goals as goal
 pub bodies-init : goal.bodies-init
 bodies-init g c = record {
   goes = still_here _;
+  steady = refl;
   holds = λ tells bodies held. held;
   on = c.requires.on;
   known = ([], record { holds = c.requires.core; journal = no_rows });
@@ -25,6 +26,7 @@ bodies-preserved g c =
     let inv = c.bodies.invariant in
     record {
       goes = still_again _ _ _ (g.met.D.Disk.is_disk _) inv.goes c.body_at.ensures.goes;
+      steady = c.in_ok-rows.ensures.steady ∙ inv.steady;
       holds = λ tells bodies held. c.body_at.ensures.holds tells bodies (inv.holds tells bodies held);
       on = c.body_at.ensures.on;
       known = some_more _ _ _ c.in_ok-rows.ensures.formed c.in_ok-fold_rows.ensures.moved c.in_ok-fold_rows.ensures.ordered inv.known;

@@ -1,7 +1,9 @@
 use Rattle.std.proofs.Common.{◌≡◌, ◌∙◌, ◌∷◌, ◌+◌, ◌++◌, [], ℕ, List, Err, length, arith, ap, sym, subst}
 use Rattle.gate_log.specs.Build.{HasBuilt}
+use Rattle.gate_log.specs.declared.fault.LogFault.{LogFault}
 use Rattle.gate_log.specs.declared.limits.TheConstants.{AROUND_BODY, BEFORE_BODY}
 use Rattle.relay_row.specs.Bodies.{rows_body}
+use Rattle.relay_store.specs.Faults.{of_log}
 use Rattle.relay_store.specs.Places.{place_of}
 use Rattle.relay_store.specs.declared.fault.StoreFault.{StoreFault}
 use Rattle.relay_store.proofs.Rewritten.{copied_one, log_full, no_room_one, not_both}
@@ -13,6 +15,13 @@ returns-in-Err-clause-full g c = λ e is.
     let full = (c.add.ensures.full e).0 (c.in-Err.is ∙ ap Err (log_full c.in-Err.fault e (sym c.from.ensures ∙ same))) in
     let body : c.as_slice.result.now ≡ rows_body (c.args.row ∷ []) = c.as_slice.ensures.value ∙ c.in_ok-encode_body.ensures.body in
     no_room_one _ _ c.args.row e (omega (arith, full.0, ap length body)) full.1
+
+pub returns-in-Err-clause-no_fault : goal.returns-in-Err-clause-no_fault
+returns-in-Err-clause-no_fault g c = λ other.
+    let untouched = c.in-Err.ensures.untouched (λ is.
+    let same : c.in-Err.fault ≡ LogFault.Disk = cc in
+    other (ap Err (c.from.ensures ∙ ap of_log same))) in
+    ap (λ d. (g.D.Disk.view d).faults) untouched.1
 
 pub returns-clause-copied : goal.returns-clause-copied
 returns-clause-copied g c =
@@ -27,4 +36,4 @@ returns-clause-copied g c =
     (λ J holds. c.apply_row.ensures.core J (c.make_room.ensures.core J holds))
     (c.apply_row.ensures.window ∙ (λ i. c.make_room.ensures.window i ++ place_of (c.in-Ok.ensures.place i) 0 c.args.row))
     c.add.ensures.moments
-    c.add.ensures.counts
+    c.in-Ok.ensures.steady

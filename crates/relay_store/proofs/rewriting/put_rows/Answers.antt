@@ -21,10 +21,10 @@ returns-in_err-put_row-clause-run g c = λ tells. joined _ _ _ _ (c.rows.invaria
 pub returns-in_err-put_row-clause-disk : goal.returns-in_err-put_row-clause-disk
 returns-in_err-put_row-clause-disk g c = λ is.
     let failed : c.put_row.result ≡ Err StoreFault.Disk = search rules in
-    omega (arith, c.rows.invariant.copied.counts, c.put_row.ensures.disk failed)
+    omega (arith, c.rows.invariant.copied.steady, c.put_row.ensures.disk failed)
 
 pub returns-in_err-put_row-clause-counts : goal.returns-in_err-put_row-clause-counts
-returns-in_err-put_row-clause-counts g c = omega (arith, c.rows.invariant.copied.counts, c.put_row.ensures.counts)
+returns-in_err-put_row-clause-counts g c = omega (arith, c.rows.invariant.copied.steady, c.put_row.ensures.counts)
 
 pub returns-in_err-put_row-clause-full : goal.returns-in_err-put_row-clause-full
 returns-in_err-put_row-clause-full g c = λ e is.
@@ -40,7 +40,7 @@ pub returns-clause-run : goal.returns-clause-run
 returns-clause-run g c = c.rows.invariant.copied.run
 
 pub returns-clause-counts : goal.returns-clause-counts
-returns-clause-counts g c = c.rows.invariant.copied.counts
+returns-clause-counts g c = omega (arith, c.rows.invariant.copied.steady)
 
 pub returns-then-not-is_next-clause-bad_log : goal.returns-then-not-is_next-clause-bad_log
 returns-then-not-is_next-clause-bad_log g c = λ p is. put_stops _ _ _ _ _ _ _ _ _ c.rows.invariant c.in-Some.ensures.items c.if-not-is_next.ensures
@@ -49,7 +49,7 @@ pub returns-then-not-is_next-clause-run : goal.returns-then-not-is_next-clause-r
 returns-then-not-is_next-clause-run g c = c.rows.invariant.copied.run
 
 pub returns-then-not-is_next-clause-counts : goal.returns-then-not-is_next-clause-counts
-returns-then-not-is_next-clause-counts g c = c.rows.invariant.copied.counts
+returns-then-not-is_next-clause-counts g c = omega (arith, c.rows.invariant.copied.steady)
 
 pub returns-in_err-put_row-clause-bad_log : goal.returns-in_err-put_row-clause-bad_log
 returns-in_err-put_row-clause-bad_log g c = λ p is.

@@ -128,7 +128,7 @@ returns-in-Err-clause-no_bad_log g c = λ p is tells.
     let failed : c.write_anew.result ≡ Err (StoreFault.BadLog p) = search rules in
     let last = on.1.core.last in
     let held : c.args.seq ≤ last_seq on.0 = omega (arith, c.if-seq-last_seq.false, c.last_seq.ensures, last) in
-    c.write_anew.ensures.no_bad_log p failed tells on.0 c.args.seq on.1 (c.in-Some.ensures.last (window_rises on.0 _ _ on.1)) held
+    c.write_anew.ensures.no_bad_log p failed tells on.0 on.1 (c.in-Some.ensures.last (window_rises on.0 _ _ on.1)) held
 
 pub returns-in-Ok-clause-bodies : goal.returns-in-Ok-clause-bodies
 returns-in-Ok-clause-bodies g c = λ first behind is tells J keeps.
@@ -145,3 +145,6 @@ returns-then-generation-clause-time g c = λ tells. time_here _ (g.met.D.Disk.is
 
 pub returns-in-Ok-clause-known : goal.returns-in-Ok-clause-known
 returns-in-Ok-clause-known g c = λ first behind is. c.in-Ok.ensures.known
+
+pub returns-in-Ok-clause-numbers : goal.returns-in-Ok-clause-numbers
+returns-in-Ok-clause-numbers g c = λ first behind is. c.in-Ok.ensures.numbers

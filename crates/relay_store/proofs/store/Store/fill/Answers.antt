@@ -1,4 +1,5 @@
 use Rattle.std.proofs.Common.{◌≡◌, ◌∙◌, ◌∷◌, ◌++◌, [], List, Err, ap, rules, subst, sym}
+use Rattle.std.proofs.lemmas.Result.{on_err_weaker}
 use Rattle.relay_disk.proofs.Moments.{joined, no_call, still_again}
 use Rattle.gate_log.specs.Build.{IsClosed}
 use Rattle.gate_log.specs.Log.{HoldsBodies as HasBodies}
@@ -121,3 +122,8 @@ returns-clause-known g c = on_ok_as c.copy_behind.result (λ known empty.
         },
       ),
     )) c.copy_behind.ensures.known
+
+pub returns-clause-no_fault : goal.returns-clause-no_fault
+returns-clause-no_fault g c = on_err_weaker c.copy_behind.result (λ fine other.
+    let behind = fine other in
+    (behind.0 ∙ c.in_ok-front.ensures.steady, behind.1 ∙ c.in_ok-carry.ensures.copied.1.steady)) c.copy_behind.ensures.no_fault

@@ -1,5 +1,7 @@
 use Rattle.std.proofs.Common.{rules, ◌≡◌, ◌∙◌, Err, IsTrue, inl, inr, sym, ap}
 use Rattle.gate_log.specs.Pick.{other_side}
+use Rattle.gate_log.specs.declared.fault.LogFault.{LogFault}
+use Rattle.relay_store.specs.Faults.{of_log}
 use Rattle.relay_store.specs.Opening.{BothOnlyRead}
 use Rattle.relay_store.specs.declared.fault.StoreFault.{StoreFault}
 use Rattle.relay_store.proofs.Opened.{bad_journal, both_again, both_sides, journals_leave, log_bad, log_read, not_unmade, opened_journal, pair_images, side_again, side_stays, then_read}
@@ -66,3 +68,20 @@ returns-clause-opened g c = record {
       then_read _ _ _ _ _ _ (g.met.D.Disk.is_disk _) (g.met.D.Disk.is_disk _) (journals_leave _ _ _ _ journals (c.open_pair.ensures.moments tells (pair_images (g.D.Disk.view c.args.disk.now) (g.D.Disk.view c.args.other.now) journals))) c.load_side.ensures.one c.load_side.ensures.two;
   read = λ fault is no_disk tells. let no : ⊥ = cc in absurd no;
 }
+
+pub returns-in-Err-clause-steady : goal.returns-in-Err-clause-steady
+returns-in-Err-clause-steady g c = λ other. c.in-Err.ensures.no_fault (λ is.
+    let same : c.in-Err.fault ≡ LogFault.Disk = cc in
+    other (ap Err (c.from.ensures ∙ ap of_log same)))
+
+pub returns-in_err-load_side-clause-steady : goal.returns-in_err-load_side-clause-steady
+returns-in_err-load_side-clause-steady g c = λ other.
+    let opened = c.in-Ok.ensures.steady in
+    let loaded = c.load_side.ensures.steady (λ is. other (search rules)) in
+    (loaded.0 ∙ opened.0, loaded.1 ∙ opened.1)
+
+pub returns-clause-steady : goal.returns-clause-steady
+returns-clause-steady g c = λ other.
+    let opened = c.in-Ok.ensures.steady in
+    let loaded = c.in_ok-load_side.ensures.steady (λ err. absurd cc) in
+    (loaded.0 ∙ opened.0, loaded.1 ∙ opened.1)

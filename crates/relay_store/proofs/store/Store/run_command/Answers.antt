@@ -1,4 +1,4 @@
-use Rattle.std.proofs.Common.{rules, ◌≡◌, [], Some, arith, subst}
+use Rattle.std.proofs.Common.{rules, ◌≡◌, [], Some, Err, ap, arith, subst}
 use Rattle.std.proofs.lemmas.Option.{same_Some}
 use Rattle.relay_step.specs.Commands.{rows_commanded}
 use Rattle.relay_store.specs.Commands.{IsOfCommand}
@@ -42,3 +42,11 @@ returns-in-Err-commit-clause-commanded g c = λ J of journal.
     worded_fails_as g.D.Disk.view g.D.Disk.tells J c.args.command c.args.self.now.log c.args.self.now.side c.args.self.now.core c.args.self.now.window.places c.args.self.now.pending c.requires.rows of c.args.disk.now
     journal _ _ _ c.in-Ok.ensures.added c.commit.new.disk c.commit.new.log c.take_command.ensures.fits (λ tells K rows has on. c.commit.ensures.moments tells K rows _ _ has on) c.commit.ensures.format
     c.in-Err-commit.fault (same_Some _ _ failed)
+
+pub returns-in-Ok-commit-clause-disk_steady : goal.returns-in-Ok-commit-clause-disk_steady
+returns-in-Ok-commit-clause-disk_steady g c = λ other. c.in-Ok-commit.ensures.steady
+
+pub returns-in-Err-commit-clause-disk_steady : goal.returns-in-Err-commit-clause-disk_steady
+returns-in-Err-commit-clause-disk_steady g c = λ other.
+    let failed : Some c.in-Err-commit.fault ≡ Some StoreFault.Disk = search rules in
+    absurd (other (ap Err (same_Some _ _ failed)))

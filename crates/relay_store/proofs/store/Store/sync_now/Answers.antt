@@ -1,3 +1,6 @@
+use Rattle.std.proofs.Common.{◌≡◌, ◌∙◌, Err, ap}
+use Rattle.relay_step.specs.declared.fault.StepFault.{StepFault}
+use Rattle.relay_store.specs.Faults.{of_step}
 use Rattle.relay_store.specs.declared.fault.StoreFault.{StoreFault}
 use Rattle.relay_store.proofs.store.Store.sync_now.Goals as goal
 
@@ -12,3 +15,27 @@ returns-in-Ok-sync_now-clause-spent g c = λ is. absurd (c.run_command.ensures.f
 
 pub returns-in-Ok-sync_now-clause-seq_end : goal.returns-in-Ok-sync_now-clause-seq_end
 returns-in-Ok-sync_now-clause-seq_end g c = λ is. absurd (c.run_command.ensures.few StoreFault.SeqEnd is)
+
+pub returns-in-Ok-sync_now-clause-clock_steady : goal.returns-in-Ok-sync_now-clause-clock_steady
+returns-in-Ok-sync_now-clause-clock_steady g c = λ other. c.in-Ok-sync_now.ensures.clock_steady (λ err. absurd cc)
+
+pub returns-in-Err-sync_now-clause-clock_steady : goal.returns-in-Err-sync_now-clause-clock_steady
+returns-in-Err-sync_now-clause-clock_steady g c = λ other. c.in-Err-sync_now.ensures.clock_steady (λ is.
+    let same : c.in-Err-sync_now.fault ≡ StepFault.Clock = cc in
+    other (ap Err (c.from.ensures ∙ ap of_step same)))
+
+pub returns-in-Ok-sync_now-clause-repos_steady : goal.returns-in-Ok-sync_now-clause-repos_steady
+returns-in-Ok-sync_now-clause-repos_steady g c = λ other. c.in-Ok-sync_now.ensures.repos_steady (λ err. absurd cc)
+
+pub returns-in-Err-sync_now-clause-repos_steady : goal.returns-in-Err-sync_now-clause-repos_steady
+returns-in-Err-sync_now-clause-repos_steady g c = λ other. c.in-Err-sync_now.ensures.repos_steady (λ is.
+    let same : c.in-Err-sync_now.fault ≡ StepFault.Repos = cc in
+    other (ap Err (c.from.ensures ∙ ap of_step same)))
+
+pub returns-in-Ok-sync_now-clause-unspent : goal.returns-in-Ok-sync_now-clause-unspent
+returns-in-Ok-sync_now-clause-unspent g c = λ other. c.in-Ok-sync_now.ensures.unspent (λ err. absurd cc)
+
+pub returns-in-Err-sync_now-clause-unspent : goal.returns-in-Err-sync_now-clause-unspent
+returns-in-Err-sync_now-clause-unspent g c = λ other. c.in-Err-sync_now.ensures.unspent (λ is.
+    let same : c.in-Err-sync_now.fault ≡ StepFault.Authority = cc in
+    other (ap Err (c.from.ensures ∙ ap of_step same)))

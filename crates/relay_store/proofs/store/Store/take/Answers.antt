@@ -76,3 +76,44 @@ returns-in-Err-commit-clause-batched g c =
     batched_fails_as _ _ _ _ _ _ _ _ _ _ _ _ _ st c.args.self.now.side g.D.Disk.view g.D.Disk.tells c.args.disk.now c.commit.new.disk c.commit.new.log
     (λ tells J rows has on. c.commit.ensures.moments tells J rows _ _ has on) c.commit.ensures.format c.commit.ensures.untouched
     [] (Some c.in-Err-commit.fault) refl failed
+
+pub returns-in-Err-prepare-clause-clock_steady : goal.returns-in-Err-prepare-clause-clock_steady
+returns-in-Err-prepare-clause-clock_steady g c = λ not other. c.in-Err-prepare.ensures.clock_steady (λ is. other cc)
+
+pub returns-in-Err-prepare-clause-repos_steady : goal.returns-in-Err-prepare-clause-repos_steady
+returns-in-Err-prepare-clause-repos_steady g c = λ not other. c.in-Err-prepare.ensures.repos_steady (λ is. other cc)
+
+pub returns-in-Err-prepare-clause-unspent : goal.returns-in-Err-prepare-clause-unspent
+returns-in-Err-prepare-clause-unspent g c = λ not other. c.in-Err-prepare.ensures.unspent (λ is. other cc)
+
+pub returns-in-Ok-commit-clause-disk_steady : goal.returns-in-Ok-commit-clause-disk_steady
+returns-in-Ok-commit-clause-disk_steady g c = λ not. c.in-Ok-commit.ensures.steady
+
+pub returns-in-Ok-commit-clause-clock_steady : goal.returns-in-Ok-commit-clause-clock_steady
+returns-in-Ok-commit-clause-clock_steady g c = λ not other. c.in-Ok-prepare.ensures.clock_steady (λ err. absurd cc)
+
+pub returns-in-Ok-commit-clause-repos_steady : goal.returns-in-Ok-commit-clause-repos_steady
+returns-in-Ok-commit-clause-repos_steady g c = λ not other. c.in-Ok-prepare.ensures.repos_steady (λ err. absurd cc)
+
+pub returns-in-Ok-commit-clause-unspent : goal.returns-in-Ok-commit-clause-unspent
+returns-in-Ok-commit-clause-unspent g c = λ not other. c.in-Ok-prepare.ensures.unspent (λ err. absurd cc)
+
+pub returns-in-Err-commit-clause-disk_steady : goal.returns-in-Err-commit-clause-disk_steady
+returns-in-Err-commit-clause-disk_steady g c = λ not.
+    let failed : Some c.in-Err-commit.fault ≡ Some StoreFault.Disk = search rules in
+    absurd (not failed)
+
+pub returns-in-Err-commit-clause-clock_steady : goal.returns-in-Err-commit-clause-clock_steady
+returns-in-Err-commit-clause-clock_steady g c = λ not.
+    let failed : Some c.in-Err-commit.fault ≡ Some StoreFault.Disk = search rules in
+    absurd (not failed)
+
+pub returns-in-Err-commit-clause-repos_steady : goal.returns-in-Err-commit-clause-repos_steady
+returns-in-Err-commit-clause-repos_steady g c = λ not.
+    let failed : Some c.in-Err-commit.fault ≡ Some StoreFault.Disk = search rules in
+    absurd (not failed)
+
+pub returns-in-Err-commit-clause-unspent : goal.returns-in-Err-commit-clause-unspent
+returns-in-Err-commit-clause-unspent g c = λ not.
+    let failed : Some c.in-Err-commit.fault ≡ Some StoreFault.Disk = search rules in
+    absurd (not failed)

@@ -40,3 +40,35 @@ returns-in-Err-commit-clause-batched g c =
     batched_fails_as _ _ _ _ _ _ _ _ _ _ _ _ _ c.gather-fault.ensures.stopped c.args.self.now.side g.D.Disk.view g.D.Disk.tells c.args.disk.now c.commit.new.disk c.commit.new.log
     (λ tells J rows has on. c.commit.ensures.moments tells J rows _ _ has on) c.commit.ensures.format c.commit.ensures.untouched
     c.new.result.items (Some c.in-Err-commit.fault) c.new.ensures.items failed
+
+pub returns-in-Ok-commit-clause-disk_steady : goal.returns-in-Ok-commit-clause-disk_steady
+returns-in-Ok-commit-clause-disk_steady g c = λ not. c.in-Ok-commit.ensures.steady
+
+pub returns-in-Ok-commit-clause-clock_steady : goal.returns-in-Ok-commit-clause-clock_steady
+returns-in-Ok-commit-clause-clock_steady g c = λ not. c.gather-fault.ensures.clock_steady
+
+pub returns-in-Ok-commit-clause-repos_steady : goal.returns-in-Ok-commit-clause-repos_steady
+returns-in-Ok-commit-clause-repos_steady g c = λ not. c.gather-fault.ensures.repos_steady
+
+pub returns-in-Ok-commit-clause-unspent : goal.returns-in-Ok-commit-clause-unspent
+returns-in-Ok-commit-clause-unspent g c = λ not. c.gather-fault.ensures.unspent
+
+pub returns-in-Err-commit-clause-disk_steady : goal.returns-in-Err-commit-clause-disk_steady
+returns-in-Err-commit-clause-disk_steady g c = λ not.
+    let failed : Some c.in-Err-commit.fault ≡ Some StoreFault.Disk = search rules in
+    absurd (not failed)
+
+pub returns-in-Err-commit-clause-clock_steady : goal.returns-in-Err-commit-clause-clock_steady
+returns-in-Err-commit-clause-clock_steady g c = λ not.
+    let failed : Some c.in-Err-commit.fault ≡ Some StoreFault.Disk = search rules in
+    absurd (not failed)
+
+pub returns-in-Err-commit-clause-repos_steady : goal.returns-in-Err-commit-clause-repos_steady
+returns-in-Err-commit-clause-repos_steady g c = λ not.
+    let failed : Some c.in-Err-commit.fault ≡ Some StoreFault.Disk = search rules in
+    absurd (not failed)
+
+pub returns-in-Err-commit-clause-unspent : goal.returns-in-Err-commit-clause-unspent
+returns-in-Err-commit-clause-unspent g c = λ not.
+    let failed : Some c.in-Err-commit.fault ≡ Some StoreFault.Disk = search rules in
+    absurd (not failed)

@@ -1,4 +1,4 @@
-use Rattle.std.proofs.Common.{◌≡◌, ◌∙◌, ◌+◌, ⊎_elim, Err, ap, arith, rules, sym, subst}
+use Rattle.std.proofs.Common.{◌≡◌, ◌∙◌, ◌+◌, ⊎_elim, Err, false, true, ap, arith, rules, sym, subst}
 use Rattle.relay_disk.proofs.Moments.{now_too, still_here, time_joined}
 use Rattle.gate_log.specs.Build.{BuildState}
 use Rattle.gate_log.specs.Image.{generation}
@@ -9,7 +9,8 @@ use Rattle.cut_law.specs.Cut.{cut}
 use Rattle.relay_store.specs.Journals.{bytes_of}
 use Rattle.relay_store.specs.Rewriting.{RewriteHasNoRoom, singles}
 use Rattle.relay_store.specs.declared.fault.StoreFault.{StoreFault}
-use Rattle.relay_store.proofs.CutPairs.{begun_run, bodies_at, built, closed_run, cut_some, few_bad, few_full, few_is, finished_run, kept_cut, live_closed, live_now, on_err_by, pair_moments}
+use Rattle.relay_store.proofs.CutPairs.{begun_run, bodies_at, built, closed_run, cut_some, few_bad, few_full, few_is, finished_run, kept_cut, live_closed, live_now, on_err_at, on_err_by, pair_moments}
+use Rattle.relay_store.proofs.KeptNumbers.{copied_numbers}
 use Rattle.relay_store.proofs.store.Store.write_anew.Goals as goal
 
 pub returns-in_err-rewrite-clause-moments : goal.returns-in_err-rewrite-clause-moments
@@ -85,6 +86,14 @@ returns-in_err-fill-clause-as_before g c = on_err_by c.from_residual-in_err-fill
     let on = c.requires.on tells in
     live_closed c.args.self.now.log on.0 (g.D.Disk.view c.args.disk.now) _ _ on.1 side c.fill.ensures.goes (now_too _ _ _ (g.met.D.Disk.is_disk _) (c.fill.ensures.run tells)))
 
+pub returns-in_err-fill-clause-no_fault : goal.returns-in_err-fill-clause-no_fault
+returns-in_err-fill-clause-no_fault g c = on_err_by c.from_residual-in_err-fill.result (λ f is other.
+    let failed : c.fill.result ≡ Err f = search rules in
+    let fine = on_err_at c.fill.result f failed c.fill.ensures.no_fault (λ e.
+    let same : f ≡ StoreFault.Disk = cc in
+    other (is ∙ ap Err same)) in
+    (fine.0, fine.1 ∙ c.in_ok-rewrite.ensures.steady))
+
 pub returns-in_err-rewrite-clause-full : goal.returns-in_err-rewrite-clause-full
 returns-in_err-rewrite-clause-full g c = λ e is.
     let failed : c.begin.result ≡ Err (StoreFault.Full e) = search rules in
@@ -106,9 +115,9 @@ returns-in_err-fill-clause-full g c = λ e is tells J n keeps last.
     subst (λ (b : BuildState). RewriteHasNoRoom b.end b.most (cut J n) e) c.in_ok-rewrite.ensures.build (c.fill.ensures.full e failed tells J n keeps last)
 
 pub returns-in_err-fill-clause-no_bad_log : goal.returns-in_err-fill-clause-no_bad_log
-returns-in_err-fill-clause-no_bad_log g c = λ p is tells J n keeps last low.
+returns-in_err-fill-clause-no_bad_log g c = λ p is tells J keeps last low.
     let failed : c.fill.result ≡ Err (StoreFault.BadLog p) = search rules in
-    c.fill.ensures.no_bad_log p failed tells J n keeps last low c.in_ok-rewrite.ensures.core
+    c.fill.ensures.no_bad_log p failed tells J c.args.seq keeps last low c.in_ok-rewrite.ensures.core
 
 pub returns-in-Ok-clause-bodies : goal.returns-in-Ok-clause-bodies
 returns-in-Ok-clause-bodies g c = λ tells J n keeps last.
@@ -133,3 +142,29 @@ returns-clause-time g c = λ tells.
 
 pub returns-in-Ok-clause-known : goal.returns-in-Ok-clause-known
 returns-in-Ok-clause-known g c = c.in_ok-fill.ensures.known c.in_ok-rewrite.ensures.core
+
+pub returns-then-not-has_kept-clause-moments : goal.returns-then-not-has_kept-clause-moments
+returns-then-not-has_kept-clause-moments g c = λ tells J n keeps last below side live.
+    let next = generation c.args.self.now.log.format + 1 in
+    pair_moments J _ _ _ keeps side live (cut J n) next (bodies_at J _ _ keeps n c.args.last last below) (omega arith) (g.met.D.Disk.is_disk _) _ _ c.fill.ensures.goes
+    (closed_run _ next (bytes_of (singles (cut J n))) _ _ (begun_run _ next (bytes_of (singles (cut J n))) _ (c.begin.ensures.moments tells)) (c.fill.ensures.run tells))
+
+pub returns-then-not-has_kept-clause-as_before : goal.returns-then-not-has_kept-clause-as_before
+returns-then-not-has_kept-clause-as_before g c = λ other tells side live.
+    let on = c.requires.on tells in
+    live_closed c.args.self.now.log on.0 (g.D.Disk.view c.args.disk.now) _ _ on.1 side c.fill.ensures.goes (now_too _ _ _ (g.met.D.Disk.is_disk _) (c.fill.ensures.run tells))
+
+pub returns-then-not-has_kept-clause-time : goal.returns-then-not-has_kept-clause-time
+returns-then-not-has_kept-clause-time g c = λ tells. time_joined _ _ _ (c.begin.ensures.moments tells).time (c.fill.ensures.run tells).time
+
+pub returns-then-not-has_kept-clause-no_bad_log : goal.returns-then-not-has_kept-clause-no_bad_log
+returns-then-not-has_kept-clause-no_bad_log g c = λ p is tells J keeps last low.
+    let copied = c.in_ok-fill.ensures.copied in
+    let lost : c.has_kept.result ≡ false = search rules in
+    c.has_kept.ensures.lost lost
+    (copied_numbers J _ _ keeps c.args.seq c.args.last last low _ _ _ _ _ _ (c.in_ok-rewrite.ensures.begun tells) c.in_ok-rewrite.ensures.core c.in_ok-rewrite.ensures.window copied.1 (copied.2 tells J c.args.seq keeps last))
+
+pub returns-in-Ok-clause-numbers : goal.returns-in-Ok-clause-numbers
+returns-in-Ok-clause-numbers g c =
+    let kept : c.has_kept.result ≡ true = search rules in
+    c.has_kept.ensures.kept kept
