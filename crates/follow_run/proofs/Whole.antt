@@ -1,5 +1,5 @@
 -- What following a host did on two disks, from what it did on the one that is picked.
-use Rattle.std.proofs.Common.{◌≡◌, ◌≤◌, ◌⊎◌, inl, inr, ⊎_elim, ℕ, Bool, false, List, [], ◌++◌, Ok, IsTrue, refl, sym, subst, arith}
+use Rattle.std.proofs.Common.{◌≡◌, ◌≤◌, ◌⊎◌, inl, inr, ⊎_elim, ℕ, Bool, false, List, [], ◌++◌, Result, Ok, Err, IsTrue, refl, sym, subst, arith}
 use Rattle.at_cid.specs.Counts.{Rose}
 use Rattle.relay_disk.specs.Disk.{View, IsDisk}
 use Rattle.gate_log.specs.Pick.{other_side}
@@ -17,6 +17,7 @@ use Rattle.relay_store.specs.Store.{seen_in}
 use Rattle.relay_store.specs.declared.message.Message.{Message}
 use Rattle.relay_store.specs.declared.store.Store.{Store}
 use Rattle.relay_run.specs.Pairs.{of_pair}
+use Rattle.tape_run.specs.Causes.{HidesNone}
 use Rattle.tape_run.specs.Ends.{AreExtraAt, end_of_store}
 use Rattle.tape_run.specs.Feeds.{IsFeedEnd, IsOnFeed, TakenOfFeed}
 use Rattle.tape_run.specs.Taken.{scene}
@@ -139,3 +140,21 @@ completes disk read write repos clock feed_tells host most steps over rest (Tape
 completes disk read write repos clock feed_tells host most steps over rest (TapeEnd.Store StoreFault.Repos) ends which caused none = absurd (none.no_repos caused)
 completes disk read write repos clock feed_tells host most steps over rest (TapeEnd.Store StoreFault.Memory) ends which caused none = absurd which
 completes disk read write repos clock feed_tells host most steps over rest (TapeEnd.Store StoreFault.Clock) ends which caused none = absurd (none.no_clock caused)
+
+-- ---- what no end hides
+
+hides_none_at : (end : TapeEnd) → HidesNone (tape_end (feed_end end)) → HidesNone end
+hides_none_at TapeEnd.Done none = tt
+hides_none_at (TapeEnd.Bad place) none = tt
+hides_none_at TapeEnd.ReadFault none = tt
+hides_none_at TapeEnd.WriteFault none = none
+hides_none_at TapeEnd.TooLong none = tt
+hides_none_at (TapeEnd.Store fault) none = none
+hides_none_at TapeEnd.Memory none = none
+
+pub hides_none : (end : TapeEnd) (told : FeedEnd) → told ≡ feed_end end → HidesNone (tape_end told) → HidesNone end
+hides_none end told is none = hides_none_at end (subst (λ (e : FeedEnd). HidesNone (tape_end e)) is none)
+
+-- what was opened didn't fail
+pub never_failed : {T : Type 0} (x : T) → ◌≡◌ {A = Result T StoreFault} (Ok x) (Err StoreFault.Disk) → ⊥
+never_failed x is = let no : ⊥ = cc in no

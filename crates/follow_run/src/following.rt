@@ -8,11 +8,13 @@ ghost use Rattle.gate_log.specs.declared.limits.TheConstants.{LAST_END};
 ghost use Rattle.relay_row.specs.Folds.{cursor};
 ghost use Rattle.relay_row.specs.declared.row.Row.{Row as TheRow};
 ghost use Rattle.relay_step.specs.Around.{around};
+ghost use Rattle.relay_step.specs.Causes.{SpendsNone};
 ghost use Rattle.relay_store.specs.Journals.{IsPairImageOf};
 ghost use Rattle.relay_store.specs.Opening.{BothOnlyRead};
 ghost use Rattle.relay_store.specs.Store.{IsKept, IsOf, seen_in};
 ghost use Rattle.relay_store.specs.declared.fault.StoreFault.{StoreFault};
 ghost use Rattle.relay_run.specs.Pairs.{of_pair};
+ghost use Rattle.tape_run.specs.Causes.{HidesNone};
 ghost use Rattle.tape_run.specs.Tells.{tells};
 ghost use Rattle.tape_run.specs.Feeds.{TakenOfFeed};
 ghost use Rattle.tape_run.specs.Taken.{scene};
@@ -55,6 +57,13 @@ fn take_on<D: Disk, P: Judges, R: Repos, C: Clock, F: Feed, O: Sink>(
         (scene (seen_in store.new) (of_pair (seen_in store.old).side disk.new other.new) (around (P.panel judges.new) (C.moments clock.new) (R.repository repos.new)) [] (O.written out.new)) result }
     ensures beside { of_pair (other_side (seen_in store.old).side) disk.new other.new ≡ of_pair (other_side (seen_in store.old).side) disk.old other.old }
     ensures caused { IsCausedBy (Rose (D.view disk.old).faults (D.view disk.new).faults ⊎ Rose (D.view other.old).faults (D.view other.new).faults) (Rose (F.faults feed.old) (F.faults feed.new)) (Rose (O.faults out.old) (O.faults out.new)) (Rose (R.faults repos.old) (R.faults repos.new)) (Rose (C.faults clock.old) (C.faults clock.new)) result }
+    ensures disks_steady { result ≢ TheEnd.Store StoreFault.Disk → ((D.view disk.new).faults ≡ (D.view disk.old).faults)
+        × ((D.view other.new).faults ≡ (D.view other.old).faults) }
+    ensures out_steady { result ≢ TheEnd.WriteFault → O.faults out.new ≡ O.faults out.old }
+    ensures repos_steady { HidesNone result → result ≢ TheEnd.Store StoreFault.Repos → R.faults repos.new ≡ R.faults repos.old }
+    ensures clock_steady { HidesNone result → result ≢ TheEnd.Store StoreFault.Clock → C.faults clock.new ≡ C.faults clock.old }
+    ensures unspent { HidesNone result → result ≢ TheEnd.Store StoreFault.Authority
+        → SpendsNone (P.panel judges.old) (P.panel judges.new) }
     ensures steady { result ≢ TheEnd.ReadFault → F.faults feed.new ≡ F.faults feed.old }
     ensures disk_counts { (D.view disk.old).faults ≤ (D.view disk.new).faults }
     ensures other_counts { (D.view other.old).faults ≤ (D.view other.new).faults }
@@ -102,6 +111,13 @@ pub fn follow<D: Disk, P: Judges, R: Repos, C: Clock, F: Feed, O: Sink>(
         × (judges.new ≡ judges.old) × (repos.new ≡ repos.old) × (clock.new ≡ clock.old)
         × (feed.new ≡ feed.old) × (out.new ≡ out.old) }
     ensures caused { IsCausedBy (Rose (D.view disk.old).faults (D.view disk.new).faults ⊎ Rose (D.view other.old).faults (D.view other.new).faults) (Rose (F.faults feed.old) (F.faults feed.new)) (Rose (O.faults out.old) (O.faults out.new)) (Rose (R.faults repos.old) (R.faults repos.new)) (Rose (C.faults clock.old) (C.faults clock.new)) (tape_end result) }
+    ensures disks_steady { result ≢ TheFeedEnd.Store StoreFault.Disk → ((D.view disk.new).faults ≡ (D.view disk.old).faults)
+        × ((D.view other.new).faults ≡ (D.view other.old).faults) }
+    ensures out_steady { result ≢ TheFeedEnd.WriteFault → O.faults out.new ≡ O.faults out.old }
+    ensures repos_steady { HidesNone (tape_end result) → result ≢ TheFeedEnd.Store StoreFault.Repos → R.faults repos.new ≡ R.faults repos.old }
+    ensures clock_steady { HidesNone (tape_end result) → result ≢ TheFeedEnd.Store StoreFault.Clock → C.faults clock.new ≡ C.faults clock.old }
+    ensures unspent { HidesNone (tape_end result) → result ≢ TheFeedEnd.Store StoreFault.Authority
+        → SpendsNone (P.panel judges.old) (P.panel judges.new) }
     ensures steady { result ≢ TheFeedEnd.Feed → F.faults feed.new ≡ F.faults feed.old }
 
     // It is done, unless memory runs out, the log is full, or the numbers or the authorities end.

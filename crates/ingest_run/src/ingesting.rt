@@ -1,17 +1,19 @@
 //! The command by which a tape is taken.
 
-ghost use Rattle.std.specs.Prelude.{◌≡◌, ◌≤◌, ◌<◌, ◌^◌, ◌⊎◌, ℕ, List, length, IsTrue};
+ghost use Rattle.std.specs.Prelude.{◌≡◌, ◌≢◌, ◌≤◌, ◌<◌, ◌^◌, ◌⊎◌, ℕ, List, length, IsTrue};
 ghost use Rattle.at_cid.specs.Counts.{Rose};
 ghost use Rattle.gate_log.specs.Pick.{other_side, view_of_side};
 ghost use Rattle.gate_log.specs.declared.limits.TheConstants.{LAST_END};
 ghost use Rattle.relay_row.specs.declared.row.Row.{Row as TheRow};
 ghost use Rattle.relay_step.specs.Around.{around};
+ghost use Rattle.relay_step.specs.Causes.{SpendsNone};
 ghost use Rattle.relay_store.specs.Journals.{IsPairImageOf};
 ghost use Rattle.relay_store.specs.Opening.{BothOnlyRead};
 ghost use Rattle.relay_store.specs.Store.{IsKept, IsOf, seen_in};
 ghost use Rattle.relay_store.specs.declared.fault.StoreFault.{StoreFault};
 ghost use Rattle.relay_store.specs.declared.message.Message.{Message as TheMessage};
 ghost use Rattle.relay_run.specs.Pairs.{of_pair};
+ghost use Rattle.tape_run.specs.Causes.{EndsByTape, HidesNone};
 ghost use Rattle.tape_run.specs.Tells.{tells};
 ghost use Rattle.tape_run.specs.Taken.{Taken, scene};
 ghost use Rattle.tape_run.specs.Tapes.{AreRecords, encoded_records};
@@ -47,6 +49,14 @@ fn take_on<D: Disk, P: Judges, R: Repos, C: Clock, I: Source, O: Sink>(
         (scene (seen_in store.new) (of_pair (seen_in store.old).side disk.new other.new) (around (P.panel judges.new) (C.moments clock.new) (R.repository repos.new)) (I.left input.new) (O.written out.new)) result }
     ensures beside { of_pair (other_side (seen_in store.old).side) disk.new other.new ≡ of_pair (other_side (seen_in store.old).side) disk.old other.old }
     ensures caused { IsCausedBy (Rose (D.view disk.old).faults (D.view disk.new).faults ⊎ Rose (D.view other.old).faults (D.view other.new).faults) (Rose (I.faults input.old) (I.faults input.new)) (Rose (O.faults out.old) (O.faults out.new)) (Rose (R.faults repos.old) (R.faults repos.new)) (Rose (C.faults clock.old) (C.faults clock.new)) result }
+    ensures disks_steady { result ≢ TapeEnd.Store StoreFault.Disk → ((D.view disk.new).faults ≡ (D.view disk.old).faults)
+        × ((D.view other.new).faults ≡ (D.view other.old).faults) }
+    ensures input_steady { EndsByTape result → I.faults input.new ≡ I.faults input.old }
+    ensures out_steady { result ≢ TapeEnd.WriteFault → O.faults out.new ≡ O.faults out.old }
+    ensures repos_steady { HidesNone result → result ≢ TapeEnd.Store StoreFault.Repos → R.faults repos.new ≡ R.faults repos.old }
+    ensures clock_steady { HidesNone result → result ≢ TapeEnd.Store StoreFault.Clock → C.faults clock.new ≡ C.faults clock.old }
+    ensures unspent { HidesNone result → result ≢ TapeEnd.Store StoreFault.Authority
+        → SpendsNone (P.panel judges.old) (P.panel judges.new) }
     ensures disk_counts { (D.view disk.old).faults ≤ (D.view disk.new).faults }
     ensures other_counts { (D.view other.old).faults ≤ (D.view other.new).faults }
     ensures repos_count { R.faults repos.old ≤ R.faults repos.new }
@@ -87,6 +97,14 @@ pub fn ingest<D: Disk, P: Judges, R: Repos, C: Clock, I: Source, O: Sink>(
         × (judges.new ≡ judges.old) × (repos.new ≡ repos.old) × (clock.new ≡ clock.old)
         × (input.new ≡ input.old) × (out.new ≡ out.old) }
     ensures caused { IsCausedBy (Rose (D.view disk.old).faults (D.view disk.new).faults ⊎ Rose (D.view other.old).faults (D.view other.new).faults) (Rose (I.faults input.old) (I.faults input.new)) (Rose (O.faults out.old) (O.faults out.new)) (Rose (R.faults repos.old) (R.faults repos.new)) (Rose (C.faults clock.old) (C.faults clock.new)) result }
+    ensures disks_steady { result ≢ TapeEnd.Store StoreFault.Disk → ((D.view disk.new).faults ≡ (D.view disk.old).faults)
+        × ((D.view other.new).faults ≡ (D.view other.old).faults) }
+    ensures input_steady { EndsByTape result → I.faults input.new ≡ I.faults input.old }
+    ensures out_steady { result ≢ TapeEnd.WriteFault → O.faults out.new ≡ O.faults out.old }
+    ensures repos_steady { HidesNone result → result ≢ TapeEnd.Store StoreFault.Repos → R.faults repos.new ≡ R.faults repos.old }
+    ensures clock_steady { HidesNone result → result ≢ TapeEnd.Store StoreFault.Clock → C.faults clock.new ≡ C.faults clock.old }
+    ensures unspent { HidesNone result → result ≢ TapeEnd.Store StoreFault.Authority
+        → SpendsNone (P.panel judges.old) (P.panel judges.new) }
 
     // A whole tape is taken, unless memory runs out, the log is full, or the numbers or the authorities end.
     ensures complete { IsTrue D.tells → IsTrue I.tells → (J : List TheRow) → IsPairImageOf J (D.view disk.old).content (D.view other.old).content

@@ -1,5 +1,5 @@
 -- How writing the lines of two disks ends.
-use Rattle.std.proofs.Common.{◌≡◌, ◌⊎◌, ⊎_elim, inl, inr, ℕ, ◌≤◌, Result, Err, refl, sym, subst}
+use Rattle.std.proofs.Common.{◌≡◌, ◌⊎◌, ⊎_elim, inl, inr, ℕ, ◌≤◌, Result, Err, refl, sym, ap, subst}
 use Rattle.at_cid.specs.Counts.{Rose}
 use Rattle.relay_store.specs.declared.fault.StoreFault.{StoreFault}
 use Rattle.relay_run.proofs.Causing.{rose_behind}
@@ -18,6 +18,10 @@ output_end ReplayFault.Output is = refl
 output_end ReplayFault.Disk is = absurd cc
 output_end ReplayFault.Memory is = absurd cc
 output_end (ReplayFault.BadLog place) is = absurd cc
+
+-- a disk failed
+pub disk_end : (fault : ReplayFault) → faulted fault ≡ faulted ReplayFault.Disk → end_of_replay fault ≡ ServeEnd.Disk
+disk_end fault is = let same : fault ≡ ReplayFault.Disk = cc in ap end_of_replay same
 
 -- an end of disks that were opened, where no failure comes
 pub may_end : (disk write : Type 0) (end : ServeEnd) → (end ≡ ServeEnd.Disk → disk) → (end ≡ ServeEnd.WriteFault → write) → (end ≡ ServeEnd.Door → ⊥)

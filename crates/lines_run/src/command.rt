@@ -1,6 +1,6 @@
 //! The command that writes operations as lines of JSON, from opening to its last line.
 
-ghost use Rattle.std.specs.Prelude.{◌≡◌, ◌≤◌, ◌⊎◌, ℕ, List, IsTrue, option_map};
+ghost use Rattle.std.specs.Prelude.{◌≡◌, ◌≢◌, ◌≤◌, ◌⊎◌, ℕ, List, IsTrue, option_map};
 ghost use Rattle.at_cid.specs.Counts.{Rose};
 ghost use Rattle.event_window.specs.Held.{Held};
 ghost use Rattle.relay_disk.specs.Disk.{Goes, Same};
@@ -42,9 +42,9 @@ fn lines_of_events<E: Events, O: Sink>(
         (O.written out.old) (O.written out.new) }
     ensures later { E.later events.old events.new }
     ensures disk { result ≡ ServeEnd.Disk → Rose (E.faults events.old) (E.faults events.new) }
+    ensures event_steady { result ≢ ServeEnd.Disk → E.faults events.new ≡ E.faults events.old }
     ensures failed { result ≡ ServeEnd.WriteFault → Rose (O.faults out.old) (O.faults out.new) }
-    ensures no_fault { (result ≡ ServeEnd.WriteFault → ⊥)
-        → O.faults out.new ≡ O.faults out.old }
+    ensures out_steady { result ≢ ServeEnd.WriteFault → O.faults out.new ≡ O.faults out.old }
     ensures no_door { result ≡ ServeEnd.Door → ⊥ }
     ensures no_bad_log { (place : ℕ) → result ≡ ServeEnd.BadLog place
         → IsTrue E.tells → (held : Held) → E.holds events.old held → ⊥ }
@@ -73,9 +73,10 @@ fn lines_from<D: Disk, O: Sink>(
     ensures goes { Goes Same (D.view disk.old) (D.view disk.new) }
     ensures disk { result ≡ ServeEnd.Disk
         → Rose (D.view disk.old).faults (D.view disk.new).faults }
+    ensures disk_steady { result ≢ ServeEnd.Disk
+        → (D.view disk.new).faults ≡ (D.view disk.old).faults }
     ensures failed { result ≡ ServeEnd.WriteFault → Rose (O.faults out.old) (O.faults out.new) }
-    ensures no_fault { (result ≡ ServeEnd.WriteFault → ⊥)
-        → O.faults out.new ≡ O.faults out.old }
+    ensures out_steady { result ≢ ServeEnd.WriteFault → O.faults out.new ≡ O.faults out.old }
     ensures no_door { result ≡ ServeEnd.Door → ⊥ }
     ensures no_bad_log { (place : ℕ) → result ≡ ServeEnd.BadLog place → IsTrue D.tells → ⊥ }
     ensures counts { O.faults out.old ≤ O.faults out.new }
@@ -106,9 +107,10 @@ fn lines_on<D: Disk, O: Sink>(
     ensures disk { result ≡ ServeEnd.Disk
         → Rose (D.view disk.old).faults (D.view disk.new).faults
         ⊎ Rose (D.view other.old).faults (D.view other.new).faults }
+    ensures disks_steady { result ≢ ServeEnd.Disk → ((D.view disk.new).faults ≡ (D.view disk.old).faults)
+        × ((D.view other.new).faults ≡ (D.view other.old).faults) }
     ensures failed { result ≡ ServeEnd.WriteFault → Rose (O.faults out.old) (O.faults out.new) }
-    ensures no_fault { (result ≡ ServeEnd.WriteFault → ⊥)
-        → O.faults out.new ≡ O.faults out.old }
+    ensures out_steady { result ≢ ServeEnd.WriteFault → O.faults out.new ≡ O.faults out.old }
     ensures no_door { result ≡ ServeEnd.Door → ⊥ }
     ensures no_bad_log { (place : ℕ) → result ≡ ServeEnd.BadLog place → IsTrue D.tells → ⊥ }
     ensures counts { O.faults out.old ≤ O.faults out.new }
@@ -154,8 +156,9 @@ pub fn lines<D: Disk, O: Sink>(
         → (Rose (D.view disk.old).faults (D.view disk.new).faults
         ⊎ Rose (D.view other.old).faults (D.view other.new).faults → ⊥)
         → (Rose (O.faults out.old) (O.faults out.new) → ⊥) → MayEnd result }
-    ensures no_fault { (result ≡ ServeEnd.WriteFault → ⊥)
-        → O.faults out.new ≡ O.faults out.old }
+    ensures disks_steady { result ≢ ServeEnd.Disk → ((D.view disk.new).faults ≡ (D.view disk.old).faults)
+        × ((D.view other.new).faults ≡ (D.view other.old).faults) }
+    ensures out_steady { result ≢ ServeEnd.WriteFault → O.faults out.new ≡ O.faults out.old }
     ensures disk_counts { (D.view disk.old).faults ≤ (D.view disk.new).faults }
     ensures other_counts { (D.view other.old).faults ≤ (D.view other.new).faults }
     ensures out_counts { O.faults out.old ≤ O.faults out.new }

@@ -1,6 +1,6 @@
 //! Writing the lines of events, one after another.
 
-ghost use Rattle.std.specs.Prelude.{◌≡◌, ◌≤◌, ◌<◌, ◌++◌, ℕ, List, IsTrue, IfOk, IfErr, IfSome, OnOk, OnErr, Err, option_map};
+ghost use Rattle.std.specs.Prelude.{◌≡◌, ◌≢◌, ◌≤◌, ◌<◌, ◌++◌, ℕ, List, IsTrue, IfOk, IfErr, IfSome, OnOk, OnErr, Err, option_map};
 ghost use Rattle.at_cid.specs.Counts.{Rose};
 ghost use Rattle.at_event.specs.Frames.{frame_of};
 ghost use Rattle.event_window.specs.Held.{Held, IsNext};
@@ -34,6 +34,7 @@ fn next_above<E: Events>(
     ensures few { IfErr result (λ f. IsOfEvents f) }
     ensures disk { result ≡ Err ReplayFault.Disk
         → Rose (E.faults events.old) (E.faults events.new) }
+    ensures event_steady { result ≢ Err ReplayFault.Disk → E.faults events.new ≡ E.faults events.old }
     ensures counts { E.faults events.old ≤ E.faults events.new }
     ensures no_bad_log { (place : ℕ) → result ≡ Err (ReplayFault.BadLog place)
         → IsTrue E.tells → (held : Held) → E.holds events.old held → ⊥ }
@@ -98,6 +99,7 @@ pub fn write_lines<E: Events, O: Sink>(
     ensures later { E.later events.old events.new }
     ensures disk { result ≡ Err ReplayFault.Disk
         → Rose (E.faults events.old) (E.faults events.new) }
+    ensures event_steady { result ≢ Err ReplayFault.Disk → E.faults events.new ≡ E.faults events.old }
     ensures failed { result ≡ Err ReplayFault.Output
         → Rose (O.faults out.old) (O.faults out.new) }
     ensures no_fault { (result ≡ Err ReplayFault.Output → ⊥)

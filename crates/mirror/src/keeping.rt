@@ -136,6 +136,7 @@ impl Mirror {
         ensures repositories { IsTrue R.tells → (did : List ℕ)
             → R.repository repos.new did ≡ R.repository repos.old did }
         ensures counts { R.faults repos.old ≤ R.faults repos.new }
+        ensures steady { result ≢ Err fault.MirrorFault.Repos → R.faults repos.new ≡ R.faults repos.old }
     {
         let held = after_sync(self.alloc, sync, repos)?;
         let step = step_of(&held);
@@ -155,12 +156,13 @@ impl Mirror {
         ensures repositories { IsTrue R.tells → (did : List ℕ)
             → R.repository repos.new did ≡ R.repository repos.old did }
         ensures counts { R.faults repos.old ≤ R.faults repos.new }
+        ensures steady { result ≢ Err fault.MirrorFault.Repos → R.faults repos.new ≡ R.faults repos.old }
     {
         if event.seq <= self.last {
             return Err(MirrorFault::BadMessage);
         }
         let step = match &event.body {
-            Body::Commit(commit) => self.take_commit(event.did.as_str(), commit)?,
+            Body::Commit(commit) => self.take_commit(event.did.as_str(), commit.get())?,
             Body::Sync(sync) => self.take_sync(event.did.as_str(), sync, repos)?,
             Body::Identity | Body::Account(_) => Step::Passed,
         };
@@ -184,6 +186,7 @@ impl Mirror {
         ensures repositories { IsTrue R.tells → (did : List ℕ)
             → R.repository repos.new did ≡ R.repository repos.old did }
         ensures counts { R.faults repos.old ≤ R.faults repos.new }
+        ensures steady { result ≢ Err fault.MirrorFault.Repos → R.faults repos.new ≡ R.faults repos.old }
     {
         let frame = match read_frame(self.alloc, message) {
             Ok(frame) => frame,

@@ -110,6 +110,7 @@ fn map_of<R: Repos>(
     ensures counts { R.faults repos.old ≤ R.faults repos.new }
     ensures failed { IsErrOf result MirrorFault.Repos
         → Rose (R.faults repos.old) (R.faults repos.new) }
+    ensures steady { result ≢ Err MirrorFault.Repos → R.faults repos.new ≡ R.faults repos.old }
     ensures good { result ≢ Err MirrorFault.BadMessage }
 {
     match scan_repo(alloc, repos) {
@@ -132,6 +133,7 @@ pub(crate) fn after_sync<R: Repos>(
     ensures counts { R.faults repos.old ≤ R.faults repos.new }
     ensures failed { IsErrOf result MirrorFault.Repos
         → Rose (R.faults repos.old) (R.faults repos.new) }
+    ensures steady { result ≢ Err MirrorFault.Repos → R.faults repos.new ≡ R.faults repos.old }
     ensures good { result ≢ Err MirrorFault.BadMessage }
 {
     let Some(link) = stated_link(alloc, sync)? else {

@@ -264,3 +264,12 @@ pub bad_of : (input_tells output_tells tell : Bool) (limit : ℕ) (repositories 
     → (end ≡ MirrorEnd.BadStream (length (with_length messages))) ⊎ (end ≡ MirrorEnd.Memory)
 bad_of input_tells output_tells tell limit repositories input old new end m told short read write repos none cause messages rest begin bad =
     ends_bad limit input messages m.messages rest m.rest begin m.good (m.split told) short read write repos none end cause (m.left told) bad
+
+-- ---- counts that stand
+
+-- a fault of a read, or of the repositories, brings the end that speaks of it
+pub read_failed : (fault : StreamFault) (place : ℕ) → fault ≡ StreamFault.Failed → end_of_stream fault place ≡ MirrorEnd.ReadFault
+read_failed fault place is = ap (λ (f : StreamFault). end_of_stream f place) is
+
+pub repos_failed : (fault : MirrorFault) (place : ℕ) → fault ≡ MirrorFault.Repos → end_of_mirror fault place ≡ MirrorEnd.Repos
+repos_failed fault place is = ap (λ (f : MirrorFault). end_of_mirror f place) is

@@ -1,6 +1,6 @@
 //! The command that mirrors a stream.
 
-ghost use Rattle.std.specs.Prelude.{◌≡◌, ◌≤◌, ◌<◌, ◌^◌, ◌⊎◌, ℕ, List, [], length, IsTrue};
+ghost use Rattle.std.specs.Prelude.{◌≡◌, ◌≢◌, ◌≤◌, ◌<◌, ◌^◌, ◌⊎◌, ℕ, List, [], length, IsTrue};
 ghost use Rattle.at_cid.specs.Counts.{Rose};
 ghost use Rattle.backfill.specs.Writing.{with_length};
 ghost use Rattle.mirror_run.specs.Ends.{IsCausedBy, MayEnd, NoneOf};
@@ -50,6 +50,9 @@ pub fn mirror<I: Source, R: Repos, O: Sink>(
     ensures input_counts { I.faults input.old ≤ I.faults input.new }
     ensures repos_count { R.faults repos.old ≤ R.faults repos.new }
     ensures out_counts { O.faults out.old ≤ O.faults out.new }
+    ensures input_steady { result ≢ MirrorEnd.ReadFault → I.faults input.new ≡ I.faults input.old }
+    ensures out_steady { result ≢ MirrorEnd.WriteFault → O.faults out.new ≡ O.faults out.old }
+    ensures repos_steady { result ≢ MirrorEnd.Repos → R.faults repos.new ≡ R.faults repos.old }
 {
     match take_stream(alloc, limit, input, repos) {
         Ok(taken) => write_text(alloc, &taken.mirror, taken.events, out),

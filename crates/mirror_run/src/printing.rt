@@ -1,6 +1,6 @@
 //! The lines of a mirror on an output.
 
-ghost use Rattle.std.specs.Prelude.{◌≡◌, ◌≤◌, ◌++◌, ℕ, List, [], false, IsTrue, IfOk, IfErr, OnOk, OnErr};
+ghost use Rattle.std.specs.Prelude.{◌≡◌, ◌≢◌, ◌≤◌, ◌++◌, ℕ, List, [], false, IsTrue, IfOk, IfErr, OnOk, OnErr, Err};
 ghost use Rattle.at_cid.specs.Counts.{Rose};
 ghost use Rattle.relay_io.specs.Streams.{AddsFront};
 ghost use Rattle.mirror.specs.State.{is_known};
@@ -43,6 +43,7 @@ fn write_some<O: Sink>(out: &mut O, text: &mut Octets, enough: usize) -> Result<
         × (IsTrue O.tells → AddsFront (O.written out.old) (O.written out.new) text.old)) }
     ensures all { OnOk result (enough ≡ 0 → text.new ≡ []) }
     ensures counts { O.faults out.old ≤ O.faults out.new }
+    ensures steady { OnOk result (O.faults out.new ≡ O.faults out.old) }
     ensures failed { OnErr result (Rose (O.faults out.old) (O.faults out.new)) }
 {
     if text.len() < enough {
@@ -73,6 +74,7 @@ fn write_accounts<O: Sink>(
         → (dids : List (List ℕ)) → AreKnown mirror.now dids
         → AddsFront (O.written out.old) (O.written out.new) (lines_in mirror.now dids))) }
     ensures counts { O.faults out.old ≤ O.faults out.new }
+    ensures steady { result ≢ Err MirrorEnd.WriteFault → O.faults out.new ≡ O.faults out.old }
     ensures failed { IfErr result (λ end. end ≡ MirrorEnd.WriteFault
         → Rose (O.faults out.old) (O.faults out.new)) }
 {
@@ -99,6 +101,7 @@ fn write_end<O: Sink>(alloc: Global, events: u64, out: &mut O, text: &mut Octets
         (O.written out.old) (O.written out.new) }
     ensures wrote { IsLate result }
     ensures counts { O.faults out.old ≤ O.faults out.new }
+    ensures steady { result ≢ MirrorEnd.WriteFault → O.faults out.new ≡ O.faults out.old }
     ensures failed { result ≡ MirrorEnd.WriteFault
         → Rose (O.faults out.old) (O.faults out.new) }
 {
@@ -129,6 +132,7 @@ pub(crate) fn write_text<O: Sink>(
         (O.written out.old) (O.written out.new) }
     ensures wrote { IsLate result }
     ensures counts { O.faults out.old ≤ O.faults out.new }
+    ensures steady { result ≢ MirrorEnd.WriteFault → O.faults out.new ≡ O.faults out.old }
     ensures failed { result ≡ MirrorEnd.WriteFault
         → Rose (O.faults out.old) (O.faults out.new) }
 {

@@ -1,6 +1,6 @@
 //! Reading a stream.
 
-ghost use Rattle.std.specs.Prelude.{◌≡◌, ◌≤◌, ◌<◌, ◌+◌, ◌++◌, [], length, List, ℕ, IsTrue, IfOk, IfErr, OnOk, OnErr, IsErrOf, Err};
+ghost use Rattle.std.specs.Prelude.{◌≡◌, ◌≢◌, ◌≤◌, ◌<◌, ◌+◌, ◌++◌, [], length, List, ℕ, IsTrue, IfOk, IfErr, OnOk, OnErr, IsErrOf, Err};
 ghost use Rattle.at_cid.specs.Counts.{Rose};
 ghost use Rattle.backfill.specs.Writing.{stream_frame};
 ghost use Rattle.tape.specs.ReadAhead.{items};
@@ -99,6 +99,7 @@ impl MessageReader {
         ensures counts { I.faults source.old ≤ I.faults source.new }
         ensures failed { IsErrOf result StreamFault.Failed
             → Rose (I.faults source.old) (I.faults source.new) }
+        ensures steady { result ≢ Err StreamFault.Failed → I.faults source.new ≡ I.faults source.old }
     {
         'pieces: loop {
             let total = match self.front()? {
@@ -154,6 +155,7 @@ impl MessageReader {
         ensures counts { I.faults source.old ≤ I.faults source.new }
         ensures failed { IsErrOf result StreamFault.Failed
             → Rose (I.faults source.old) (I.faults source.new) }
+        ensures steady { result ≢ Err StreamFault.Failed → I.faults source.new ≡ I.faults source.old }
     {
         let left = self.most - self.place - self.window.len() as u64;
         if left == 0 {

@@ -1,11 +1,12 @@
 -- How answering requests by the journal of two disks ends.
-use Rattle.std.proofs.Common.{◌≡◌, ⊎_elim, ℕ, ◌≤◌, Bool, List, [], length, Ok, Err, IsTrue, refl, sym, ap, subst, arith, ◌∙◌}
+use Rattle.std.proofs.Common.{◌≡◌, ◌≢◌, ⊎_elim, ℕ, ◌≤◌, Bool, List, [], length, Result, Ok, Err, IsTrue, refl, sym, ap, subst, arith, ◌∙◌}
 use Rattle.std.proofs.lemmas.List.{append-nil}
 use Rattle.relay_disk.specs.Disk.{IsDisk, View}
 use Rattle.relay_row.specs.declared.row.Row.{Row}
 use Rattle.relay_store.specs.Journals.{IsBadPairJournalAt, IsPairImageOf}
 use Rattle.relay_store.specs.Opening.{BothOnlyRead, Opened}
 use Rattle.relay_store.specs.declared.fault.StoreFault.{StoreFault}
+use Rattle.relay_store.specs.declared.store.Store.{Store}
 use Rattle.relay_store.proofs.Opened.{bad_read}
 use Rattle.relay_run.proofs.Beside.{leaves_stand, opened_leaves}
 use Rattle.serve_run.specs.Replayed.{OnlyRead}
@@ -144,3 +145,14 @@ answering_may write wire QueryEnd.Wire of unwritten failed no_write no_wire = ab
 answering_may write wire QueryEnd.Disk of unwritten failed no_write no_wire = absurd of
 answering_may write wire (QueryEnd.BadLog p) of unwritten failed no_write no_wire = absurd of
 answering_may write wire QueryEnd.Memory of unwritten failed no_write no_wire = tt
+
+-- a fault as opening hands it up
+abbrev pub unopened : StoreFault → Result Store StoreFault
+unopened fault = Err fault
+
+disk_ends : (fault : StoreFault) → unopened fault ≡ unopened StoreFault.Disk → end_of_opening fault ≡ QueryEnd.Disk
+disk_ends fault is = let same : fault ≡ StoreFault.Disk = cc in ap end_of_opening same
+
+-- what held where no disk failed in opening holds where the end is none of a disk
+pub opening_steady : (fault : StoreFault) (end : QueryEnd) (steady : Type 0) → end ≡ end_of_opening fault → (unopened fault ≢ unopened StoreFault.Disk → steady) → end ≢ QueryEnd.Disk → steady
+opening_steady fault end steady of otherwise other = otherwise (λ is. other (of ∙ disk_ends fault is))

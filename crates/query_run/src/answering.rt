@@ -1,6 +1,6 @@
 //! Requests that are answered one after another.
 
-ghost use Rattle.std.specs.Prelude.{◌≡◌, ◌≤◌, ◌<◌, List, ℕ, IfOk, IfErr, OnOk, IsTrue, Err};
+ghost use Rattle.std.specs.Prelude.{◌≡◌, ◌≢◌, ◌≤◌, ◌<◌, List, ℕ, IfOk, IfErr, OnOk, IsTrue, Err};
 ghost use Rattle.at_cid.specs.Counts.{Rose};
 ghost use Rattle.relay_row.specs.declared.row.Row.{Row as TheRow};
 ghost use Rattle.relay_core.specs.Entries.{Holds};
@@ -60,12 +60,10 @@ pub fn answer_all<W: Wire, O: Sink>(
         (O.written out.old) (O.written out.new) (end_in result) }
     ensures few { IfErr result (λ end. IsOfAnswering end) }
     ensures wire { result ≡ Err QueryEnd.Wire → Rose (W.faults wire.old) (W.faults wire.new) }
-    ensures no_wire { (result ≡ Err QueryEnd.Wire → ⊥)
-        → W.faults wire.new ≡ W.faults wire.old }
+    ensures wire_steady { result ≢ Err QueryEnd.Wire → W.faults wire.new ≡ W.faults wire.old }
     ensures output { result ≡ Err QueryEnd.WriteFault
         → Rose (O.faults out.old) (O.faults out.new) }
-    ensures no_output { (result ≡ Err QueryEnd.WriteFault → ⊥)
-        → O.faults out.new ≡ O.faults out.old }
+    ensures out_steady { result ≢ Err QueryEnd.WriteFault → O.faults out.new ≡ O.faults out.old }
     ensures counts { W.faults wire.old ≤ W.faults wire.new }
     ensures send_counts { W.send_faults wire.old ≤ W.send_faults wire.new }
     ensures out_counts { O.faults out.old ≤ O.faults out.new }

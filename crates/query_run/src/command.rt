@@ -1,6 +1,6 @@
 //! The command that answers requests, from opening to its last line.
 
-ghost use Rattle.std.specs.Prelude.{◌≡◌, ◌≤◌, ◌⊎◌, ℕ, List, IsTrue};
+ghost use Rattle.std.specs.Prelude.{◌≡◌, ◌≢◌, ◌≤◌, ◌⊎◌, ℕ, List, IsTrue};
 ghost use Rattle.at_cid.specs.Counts.{Rose};
 ghost use Rattle.gate_log.specs.declared.limits.TheConstants.{LAST_END};
 ghost use Rattle.relay_row.specs.declared.row.Row.{Row as TheRow};
@@ -54,9 +54,10 @@ pub fn query<D: Disk, W: Wire, O: Sink>(
         ⊎ Rose (D.view other.old).faults (D.view other.new).faults → ⊥)
         → (Rose (O.faults out.old) (O.faults out.new) → ⊥)
         → (Rose (W.faults wire.old) (W.faults wire.new) → ⊥) → MayEnd result }
-    ensures no_output { (result ≡ QueryEnd.WriteFault → ⊥)
-        → O.faults out.new ≡ O.faults out.old }
-    ensures no_wire { (result ≡ QueryEnd.Wire → ⊥) → W.faults wire.new ≡ W.faults wire.old }
+    ensures disks_steady { result ≢ QueryEnd.Disk → ((D.view disk.new).faults ≡ (D.view disk.old).faults)
+        × ((D.view other.new).faults ≡ (D.view other.old).faults) }
+    ensures out_steady { result ≢ QueryEnd.WriteFault → O.faults out.new ≡ O.faults out.old }
+    ensures wire_steady { result ≢ QueryEnd.Wire → W.faults wire.new ≡ W.faults wire.old }
     ensures disk_counts { (D.view disk.old).faults ≤ (D.view disk.new).faults }
     ensures other_counts { (D.view other.old).faults ≤ (D.view other.new).faults }
     ensures wire_counts { W.faults wire.old ≤ W.faults wire.new }

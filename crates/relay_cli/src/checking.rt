@@ -1,5 +1,5 @@
 //! The command `check`.
-ghost use Rattle.std.specs.Prelude.{◌≤◌};
+ghost use Rattle.std.specs.Prelude.{◌≡◌, ◌≢◌, ◌≤◌};
 ghost use Rattle.relay_cli.specs.Runs.{Checked, streams};
 
 use crate::judging::judge;
@@ -13,6 +13,8 @@ pub fn check<I: Source, O: Sink>(alloc: Global, limit: usize, input: &mut I, out
     ensures checked { Checked limit (streams I.tells (I.left input.old) (I.faults input.old) O.tells (O.written out.old) (O.faults out.old)) (streams I.tells (I.left input.new) (I.faults input.new) O.tells (O.written out.new) (O.faults out.new)) result }
     ensures in_counts { I.faults input.old ≤ I.faults input.new }
     ensures out_counts { O.faults out.old ≤ O.faults out.new }
+    ensures input_steady { result ≢ Status.ReadFault → I.faults input.new ≡ I.faults input.old }
+    ensures out_steady { result ≢ Status.WriteFault → O.faults out.new ≡ O.faults out.old }
 {
     let message = match read_to_end(alloc, input, limit) {
         Ok(message) => message,

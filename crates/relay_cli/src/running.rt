@@ -1,9 +1,11 @@
 //! The top call.
-ghost use Rattle.std.specs.Prelude.{◌≡◌, ◌⊎◌, ℕ, IsTrue, map, option_map, string_bytes, false};
+ghost use Rattle.std.specs.Prelude.{◌≡◌, ◌≢◌, ◌⊎◌, ℕ, IsTrue, map, option_map, string_bytes, false};
 ghost use Rattle.relay_step.specs.Around.{around};
+ghost use Rattle.relay_step.specs.Causes.{SpendsNone};
 ghost use Rattle.relay_cli.specs.Commands.{IsInForm, IsEncoded};
 ghost use Rattle.query_run.specs.AtWire.{at_wire};
 ghost use Rattle.serve_run.specs.AtDoor.{at_door};
+ghost use Rattle.relay_cli.specs.Faults.{Told, may_hide, speaks_of_part};
 ghost use Rattle.relay_cli.specs.Runs.{Caused, Kept, OnlyDisksRead, Ran, faults, is_on_journal, place, outside_tells, uses_door, uses_feed, uses_input, uses_repos, uses_wire};
 
 use crate::checking::check;
@@ -115,6 +117,26 @@ pub fn relay<P: Judges, F: Feed, R: Repos, D: Disk, I: Source, O: Sink, G: Door,
         (R.faults repos.new) (C.faults clock.new) (I.faults input.new) (O.faults out.new)
         (F.faults feed.new) (G.faults door.new) (W.faults wire.new) in
         Kept failed failed_now }
+
+    // And the other way: a count that rose is what the status speaks of. One that speaks of no part comes where none failed, but
+    // where the command may hide it; and an authority that is missing is told as such.
+    ensures told { let failed = faults (D.view disk.old).faults (D.view other.old).faults
+        (R.faults repos.old) (C.faults clock.old) (I.faults input.old) (O.faults out.old)
+        (F.faults feed.old) (G.faults door.old) (W.faults wire.old) in
+        let failed_now = faults (D.view disk.new).faults (D.view other.new).faults
+        (R.faults repos.new) (C.faults clock.new) (I.faults input.new) (O.faults out.new)
+        (F.faults feed.new) (G.faults door.new) (W.faults wire.new) in
+        Told result failed failed_now }
+    ensures flawless { let failed = faults (D.view disk.old).faults (D.view other.old).faults
+        (R.faults repos.old) (C.faults clock.old) (I.faults input.old) (O.faults out.old)
+        (F.faults feed.old) (G.faults door.old) (W.faults wire.old) in
+        let failed_now = faults (D.view disk.new).faults (D.view other.new).faults
+        (R.faults repos.new) (C.faults clock.new) (I.faults input.new) (O.faults out.new)
+        (F.faults feed.new) (G.faults door.new) (W.faults wire.new) in
+        ((command : Command) → IsEncoded (map string_bytes words.now) command
+        → may_hide command result ≡ false) → speaks_of_part result ≡ false
+        → (failed_now ≡ failed) × (result ≢ Status.Authority
+        → SpendsNone (P.panel panel.old) (P.panel panel.new)) }
 {
     match command_from(alloc, words) {
         Ok(command) => run(
@@ -203,6 +225,22 @@ fn run<P: Judges, F: Feed, R: Repos, D: Disk, I: Source, O: Sink, G: Door, C: Cl
         (R.faults repos.new) (C.faults clock.new) (I.faults input.new) (O.faults out.new)
         (F.faults feed.new) (G.faults door.new) (W.faults wire.new) in
         Kept failed failed_now }
+    ensures told { let failed = faults (D.view disk.old).faults (D.view other.old).faults
+        (R.faults repos.old) (C.faults clock.old) (I.faults input.old) (O.faults out.old)
+        (F.faults feed.old) (G.faults door.old) (W.faults wire.old) in
+        let failed_now = faults (D.view disk.new).faults (D.view other.new).faults
+        (R.faults repos.new) (C.faults clock.new) (I.faults input.new) (O.faults out.new)
+        (F.faults feed.new) (G.faults door.new) (W.faults wire.new) in
+        Told result failed failed_now }
+    ensures flawless { let failed = faults (D.view disk.old).faults (D.view other.old).faults
+        (R.faults repos.old) (C.faults clock.old) (I.faults input.old) (O.faults out.old)
+        (F.faults feed.old) (G.faults door.old) (W.faults wire.old) in
+        let failed_now = faults (D.view disk.new).faults (D.view other.new).faults
+        (R.faults repos.new) (C.faults clock.new) (I.faults input.new) (O.faults out.new)
+        (F.faults feed.new) (G.faults door.new) (W.faults wire.new) in
+        may_hide command.now result ≡ false → speaks_of_part result ≡ false
+        → (failed_now ≡ failed) × (result ≢ Status.Authority
+        → SpendsNone (P.panel panel.old) (P.panel panel.new)) }
 {
     match command {
         Command::Check => check(alloc, LONGEST_FEED_MESSAGE, input, out),

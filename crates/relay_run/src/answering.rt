@@ -1,6 +1,6 @@
 //! The line of what was answered to an operator.
 
-ghost use Rattle.std.specs.Prelude.{◌≡◌, ◌≤◌, ◌++◌, ◌∷◌, [], IsTrue, IfOk, OnOk, OnErr};
+ghost use Rattle.std.specs.Prelude.{◌≡◌, ◌≢◌, ◌≤◌, ◌++◌, ◌∷◌, [], IsTrue, IfOk, OnOk, OnErr};
 ghost use Rattle.at_cid.specs.Counts.{Rose};
 ghost use Rattle.relay_io.specs.Streams.{AddsFront};
 ghost use Rattle.relay_run.specs.Ends.{IsWritten};
@@ -20,6 +20,7 @@ pub(crate) fn write_number<O: Sink>(out: &mut O, command: &[u8], number: u64) ->
     ensures written { OnOk result (IsTrue O.tells → O.written out.new ≡ O.written out.old ++ numbered command.now number) }
     ensures front { IsTrue O.tells → AddsFront (O.written out.old) (O.written out.new) (numbered command.now number) }
     ensures counts { O.faults out.old ≤ O.faults out.new }
+    ensures steady { OnOk result (O.faults out.new ≡ O.faults out.old) }
     ensures failed { OnErr result (Rose (O.faults out.old) (O.faults out.new)) }
 {
     write_all(out, command)?;
@@ -31,6 +32,7 @@ pub(crate) fn write_last<O: Sink>(out: &mut O, command: &[u8], number: u64) -> R
     ensures written { OnOk result (IsTrue O.tells → O.written out.new ≡ O.written out.old ++ (numbered command.now number ++ 10 ∷ [])) }
     ensures front { IsTrue O.tells → AddsFront (O.written out.old) (O.written out.new) (numbered command.now number ++ 10 ∷ []) }
     ensures counts { O.faults out.old ≤ O.faults out.new }
+    ensures steady { OnOk result (O.faults out.new ≡ O.faults out.old) }
     ensures failed { OnErr result (Rose (O.faults out.old) (O.faults out.new)) }
 {
     write_number(out, command, number)?;
@@ -41,6 +43,7 @@ fn write_synced<O: Sink>(out: &mut O, seq: u64, records: u64) -> Result<(), Fail
     ensures written { OnOk result (IsTrue O.tells → O.written out.new ≡ O.written out.old ++ done_text (Done.Synced seq records)) }
     ensures front { IsTrue O.tells → AddsFront (O.written out.old) (O.written out.new) (done_text (Done.Synced seq records)) }
     ensures counts { O.faults out.old ≤ O.faults out.new }
+    ensures steady { OnOk result (O.faults out.new ≡ O.faults out.old) }
     ensures failed { OnErr result (Rose (O.faults out.old) (O.faults out.new)) }
 {
     write_number(out, b"synced ", seq)?;
@@ -62,6 +65,7 @@ pub(crate) fn answer_refused<O: Sink>(alloc: Global, refusal: &Refusal, out: &mu
     ensures written { IsTrue O.tells → IsWritten result (done_text (Done.Refused refusal.now)) (O.written out.old) (O.written out.new) }
     ensures failed { result ≡ RunEnd.WriteFault → Rose (O.faults out.old) (O.faults out.new) }
     ensures counts { O.faults out.old ≤ O.faults out.new }
+    ensures steady { result ≢ RunEnd.WriteFault → O.faults out.new ≡ O.faults out.old }
 {
     let line = match refused_line(alloc, refusal) {
         Ok(line) => line,
@@ -79,6 +83,7 @@ pub(crate) fn answer<O: Sink>(alloc: Global, done: &Done, out: &mut O) -> RunEnd
     ensures written { IsTrue O.tells → IsWritten result (done_text done.now) (O.written out.old) (O.written out.new) }
     ensures failed { result ≡ RunEnd.WriteFault → Rose (O.faults out.old) (O.faults out.new) }
     ensures counts { O.faults out.old ≤ O.faults out.new }
+    ensures steady { result ≢ RunEnd.WriteFault → O.faults out.new ≡ O.faults out.old }
 {
     let written = match done {
         Done::Event(seq) => write_last(out, b"event ", *seq),

@@ -34,6 +34,7 @@ fn write_bounds<O: Sink>(out: &mut O, oldest: u64, last: u64) -> Result<(), Fail
     ensures written { OnOk result (IsTrue O.tells → O.written out.new ≡ O.written out.old ++ (numbered (codes " oldest ") oldest ++ (numbered (codes " last ") last ++ 10 ∷ []))) }
     ensures front { IsTrue O.tells → AddsFront (O.written out.old) (O.written out.new) (numbered (codes " oldest ") oldest ++ (numbered (codes " last ") last ++ 10 ∷ [])) }
     ensures counts { O.faults out.old ≤ O.faults out.new }
+    ensures steady { OnOk result (O.faults out.new ≡ O.faults out.old) }
     ensures failed { OnErr result (Rose (O.faults out.old) (O.faults out.new)) }
 {
     write_number(out, b" oldest ", oldest)?;
@@ -44,6 +45,7 @@ fn write_cut<O: Sink>(out: &mut O, seq: u64, oldest: u64, last: u64) -> Result<(
     ensures written { OnOk result (IsTrue O.tells → O.written out.new ≡ O.written out.old ++ cut_text seq (CutDone.Cut oldest last)) }
     ensures front { IsTrue O.tells → AddsFront (O.written out.old) (O.written out.new) (cut_text seq (CutDone.Cut oldest last)) }
     ensures counts { O.faults out.old ≤ O.faults out.new }
+    ensures steady { OnOk result (O.faults out.new ≡ O.faults out.old) }
     ensures failed { OnErr result (Rose (O.faults out.old) (O.faults out.new)) }
 {
     write_number(out, b"cut ", seq)?;
@@ -56,6 +58,7 @@ fn answer<O: Sink>(alloc: Global, seq: u64, done: &CutDone, out: &mut O) -> RunE
     ensures written { IsTrue O.tells → IsWritten result (cut_text seq done.now) (O.written out.old) (O.written out.new) }
     ensures failed { result ≡ RunEnd.WriteFault → Rose (O.faults out.old) (O.faults out.new) }
     ensures counts { O.faults out.old ≤ O.faults out.new }
+    ensures steady { result ≢ RunEnd.WriteFault → O.faults out.new ≡ O.faults out.old }
 {
     match done {
         CutDone::Refused(refusal) => answer_refused(alloc, refusal, out),
@@ -99,6 +102,8 @@ fn cut_on<D: Disk>(
     ensures few { (f : TheFault) → result ≡ Err f → IsOfRewriting f }
     ensures disk_counts { (D.view disk.old).faults ≤ (D.view disk.new).faults }
     ensures other_counts { (D.view other.old).faults ≤ (D.view other.new).faults }
+    ensures disks_steady { result ≢ Err StoreFault.Disk → ((D.view disk.new).faults ≡ (D.view disk.old).faults)
+        × ((D.view other.new).faults ≡ (D.view other.old).faults) }
 {
     match store.side() {
         Side::One => store.cut(alloc, disk, other, seq),
@@ -131,6 +136,9 @@ pub fn cut<D: Disk, O: Sink>(
     ensures disk_counts { (D.view disk.old).faults ≤ (D.view disk.new).faults }
     ensures other_counts { (D.view other.old).faults ≤ (D.view other.new).faults }
     ensures out_counts { O.faults out.old ≤ O.faults out.new }
+    ensures disks_steady { result ≢ RunEnd.Fault StoreFault.Disk → ((D.view disk.new).faults ≡ (D.view disk.old).faults)
+        × ((D.view other.new).faults ≡ (D.view other.old).faults) }
+    ensures out_steady { result ≢ RunEnd.WriteFault → O.faults out.new ≡ O.faults out.old }
 {
     let mut store = match Store::open(alloc, disk, other, most) {
         Ok(store) => store,

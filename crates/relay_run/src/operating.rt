@@ -1,6 +1,6 @@
 //! The commands by which an account is taken down or restored.
 
-ghost use Rattle.std.specs.Prelude.{◌≡◌, ◌≤◌, ◌⊎◌, ℕ, List, Err, length, IsTrue};
+ghost use Rattle.std.specs.Prelude.{◌≡◌, ◌≢◌, ◌≤◌, ◌⊎◌, ℕ, List, Err, length, IsTrue};
 ghost use Rattle.at_cid.specs.Counts.{Rose};
 ghost use Rattle.at_form.specs.declared.forms.TheConstants.{LONGEST_SHORT_TEXT};
 ghost use Rattle.at_syntax.specs.Did.{is_did};
@@ -53,6 +53,9 @@ fn operate_on<D: Disk, C: Clock>(
     ensures disk_counts { (D.view disk.old).faults ≤ (D.view disk.new).faults }
     ensures other_counts { (D.view other.old).faults ≤ (D.view other.new).faults }
     ensures clock_counts { C.faults clock.old ≤ C.faults clock.new }
+    ensures disks_steady { result ≢ Err StoreFault.Disk → ((D.view disk.new).faults ≡ (D.view disk.old).faults)
+        × ((D.view other.new).faults ≡ (D.view other.old).faults) }
+    ensures clock_steady { result ≢ Err StoreFault.Clock → C.faults clock.new ≡ C.faults clock.old }
 {
     match store.side() {
         Side::One => store.operate(alloc, disk, did, down, time, clock),
@@ -92,6 +95,10 @@ pub fn operate<D: Disk, C: Clock, O: Sink>(
     ensures other_counts { (D.view other.old).faults ≤ (D.view other.new).faults }
     ensures clock_counts { C.faults clock.old ≤ C.faults clock.new }
     ensures out_counts { O.faults out.old ≤ O.faults out.new }
+    ensures disks_steady { result ≢ RunEnd.Fault StoreFault.Disk → ((D.view disk.new).faults ≡ (D.view disk.old).faults)
+        × ((D.view other.new).faults ≡ (D.view other.old).faults) }
+    ensures out_steady { result ≢ RunEnd.WriteFault → O.faults out.new ≡ O.faults out.old }
+    ensures clock_steady { result ≢ RunEnd.Fault StoreFault.Clock → C.faults clock.new ≡ C.faults clock.old }
 {
     ghost_text(time);
     let mut store = match Store::open(alloc, disk, other, most) {

@@ -1,6 +1,6 @@
 //! The commands that show a journal.
 
-ghost use Rattle.std.specs.Prelude.{◌≡◌, ◌≤◌, ◌⊎◌, ⊤, ℕ, List, IsTrue};
+ghost use Rattle.std.specs.Prelude.{◌≡◌, ◌≢◌, ◌≤◌, ◌⊎◌, ⊤, ℕ, List, IsTrue};
 ghost use Rattle.at_cid.specs.Counts.{Rose};
 ghost use Rattle.gate_log.specs.declared.limits.TheConstants.{LAST_END};
 ghost use Rattle.relay_row.specs.declared.row.Row.{Row as TheRow};
@@ -26,6 +26,7 @@ fn show<O: Sink>(text: &[u8], out: &mut O) -> RunEnd
     ensures written { IsTrue O.tells → IsWritten result text.now (O.written out.old) (O.written out.new) }
     ensures failed { result ≡ RunEnd.WriteFault → Rose (O.faults out.old) (O.faults out.new) }
     ensures counts { O.faults out.old ≤ O.faults out.new }
+    ensures steady { result ≢ RunEnd.WriteFault → O.faults out.new ≡ O.faults out.old }
 {
     match write_all(out, text) {
         Ok(()) => RunEnd::Done,
@@ -56,6 +57,9 @@ pub fn account<D: Disk, O: Sink>(
     ensures disk_counts { (D.view disk.old).faults ≤ (D.view disk.new).faults }
     ensures other_counts { (D.view other.old).faults ≤ (D.view other.new).faults }
     ensures out_counts { O.faults out.old ≤ O.faults out.new }
+    ensures disks_steady { result ≢ RunEnd.Fault StoreFault.Disk → ((D.view disk.new).faults ≡ (D.view disk.old).faults)
+        × ((D.view other.new).faults ≡ (D.view other.old).faults) }
+    ensures out_steady { result ≢ RunEnd.WriteFault → O.faults out.new ≡ O.faults out.old }
 {
     match Store::open(alloc, disk, other, most) {
         Ok(store) => match account_line(alloc, did, store.account(did)) {
@@ -89,6 +93,9 @@ pub fn hosts<D: Disk, O: Sink>(
     ensures disk_counts { (D.view disk.old).faults ≤ (D.view disk.new).faults }
     ensures other_counts { (D.view other.old).faults ≤ (D.view other.new).faults }
     ensures out_counts { O.faults out.old ≤ O.faults out.new }
+    ensures disks_steady { result ≢ RunEnd.Fault StoreFault.Disk → ((D.view disk.new).faults ≡ (D.view disk.old).faults)
+        × ((D.view other.new).faults ≡ (D.view other.old).faults) }
+    ensures out_steady { result ≢ RunEnd.WriteFault → O.faults out.new ≡ O.faults out.old }
 {
     match Store::open(alloc, disk, other, most) {
         Ok(store) => match host_lines(alloc, store.hosts()) {

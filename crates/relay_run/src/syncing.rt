@@ -1,6 +1,6 @@
 //! The command by which an account's repository is fetched and taken over.
 
-ghost use Rattle.std.specs.Prelude.{◌≡◌, ◌≤◌, ◌⊎◌, ℕ, List, Err, length, IsTrue};
+ghost use Rattle.std.specs.Prelude.{◌≡◌, ◌≢◌, ◌≤◌, ◌⊎◌, ℕ, List, Err, length, IsTrue};
 ghost use Rattle.at_authority.specs.Panels.{IsSpent};
 ghost use Rattle.at_cid.specs.Counts.{Rose};
 ghost use Rattle.at_form.specs.declared.forms.TheConstants.{LONGEST_SHORT_TEXT};
@@ -10,7 +10,7 @@ ghost use Rattle.gate_log.specs.declared.limits.TheConstants.{LAST_END};
 ghost use Rattle.relay_row.specs.declared.row.Row.{Row as TheRow};
 ghost use Rattle.relay_step.specs.Around.{around};
 ghost use Rattle.relay_step.specs.Asked.{AskedInVain};
-ghost use Rattle.relay_step.specs.Causes.{CameToNothing};
+ghost use Rattle.relay_step.specs.Causes.{CameToNothing, SpendsNone};
 ghost use Rattle.relay_step.specs.Commands.{EndsFetched, SpentFetching, SyncedAt};
 ghost use Rattle.relay_store.specs.Journals.{IsPairImageOf};
 ghost use Rattle.relay_store.specs.Store.{IsKept, IsOf, seen_in};
@@ -62,6 +62,11 @@ fn sync_on<D: Disk, P: Judges, R: Repos, C: Clock>(
     ensures other_counts { (D.view other.old).faults ≤ (D.view other.new).faults }
     ensures clock_counts { C.faults clock.old ≤ C.faults clock.new }
     ensures repos_count { R.faults repos.old ≤ R.faults repos.new }
+    ensures disks_steady { result ≢ Err StoreFault.Disk → ((D.view disk.new).faults ≡ (D.view disk.old).faults)
+        × ((D.view other.new).faults ≡ (D.view other.old).faults) }
+    ensures clock_steady { result ≢ Err StoreFault.Clock → C.faults clock.new ≡ C.faults clock.old }
+    ensures repos_steady { result ≢ Err StoreFault.Repos → R.faults repos.new ≡ R.faults repos.old }
+    ensures unspent { result ≢ Err StoreFault.Authority → SpendsNone (P.panel judges.old) (P.panel judges.new) }
 {
     match store.side() {
         Side::One => store.sync_now(alloc, disk, did, time, judges, repos, clock),
@@ -104,6 +109,12 @@ pub fn sync<D: Disk, P: Judges, R: Repos, C: Clock, O: Sink>(
     ensures clock_counts { C.faults clock.old ≤ C.faults clock.new }
     ensures repos_count { R.faults repos.old ≤ R.faults repos.new }
     ensures out_counts { O.faults out.old ≤ O.faults out.new }
+    ensures disks_steady { result ≢ RunEnd.Fault StoreFault.Disk → ((D.view disk.new).faults ≡ (D.view disk.old).faults)
+        × ((D.view other.new).faults ≡ (D.view other.old).faults) }
+    ensures out_steady { result ≢ RunEnd.WriteFault → O.faults out.new ≡ O.faults out.old }
+    ensures clock_steady { result ≢ RunEnd.Fault StoreFault.Clock → C.faults clock.new ≡ C.faults clock.old }
+    ensures repos_steady { result ≢ RunEnd.Fault StoreFault.Repos → R.faults repos.new ≡ R.faults repos.old }
+    ensures unspent { result ≢ RunEnd.Fault StoreFault.Authority → SpendsNone (P.panel judges.old) (P.panel judges.new) }
 {
     ghost_text(time);
     let mut store = match Store::open(alloc, disk, other, most) {

@@ -1,5 +1,5 @@
 -- While guests are served, and how that ends.
-use Rattle.std.proofs.Common.{◌≡◌, ◌∙◌, ◌⊎◌, ⊎_elim, inl, inr, ℕ, ◌+◌, ◌-◌, ◌≤◌, ◌<◌, List, [], ◌∷◌, ◌++◌, length, Bool, Option, Some, None, Result, Ok, Err, IsTrue, IfErr, OnOk, refl, sym, ap, arith, append_assoc, length-append, subst}
+use Rattle.std.proofs.Common.{◌≢◌, ◌≡◌, ◌∙◌, ◌⊎◌, ⊎_elim, inl, inr, ℕ, ◌+◌, ◌-◌, ◌≤◌, ◌<◌, List, [], ◌∷◌, ◌++◌, length, Bool, Option, Some, None, Result, Ok, Err, IsTrue, IfErr, OnOk, refl, sym, ap, arith, append_assoc, length-append, subst}
 use Rattle.std.proofs.lemmas.List.{append-nil}
 use Rattle.event_window.specs.Held.{Held}
 use Rattle.relay_disk.specs.Disk.{View, Goes, Same}
@@ -295,3 +295,12 @@ none_served door_tells output_tells count held door old fault = record {
 pub served_unopened : (door_tells output_tells : Bool) (count : ℕ) (held : Held) (door : AtDoor) (old : List ℕ) (fault : StoreFault) (end : ServeEnd) → end ≡ end_of_opening fault → GuestsServed door_tells output_tells count held door door old old end
 served_unopened door_tells output_tells count held door old fault end is =
     subst (λ (e : ServeEnd). GuestsServed door_tells output_tells count held door door old old e) (sym is) (none_served door_tells output_tells count held door old fault)
+
+-- it stands where the door didn't fail
+pub door_same : (end : ServeEnd) (before now : ℕ) → IsDoorCount before now end → end ≢ ServeEnd.Door → now ≡ before
+door_same ServeEnd.Done before now count other = count
+door_same ServeEnd.WriteFault before now count other = count
+door_same ServeEnd.Door before now count other = absurd (other refl)
+door_same ServeEnd.Disk before now count other = count
+door_same (ServeEnd.BadLog p) before now count other = count
+door_same ServeEnd.Memory before now count other = count

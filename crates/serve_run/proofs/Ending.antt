@@ -1,10 +1,11 @@
 -- How commands end that give events out.
-use Rattle.std.proofs.Common.{◌≡◌, ◌⊎◌, inl, ℕ, List, [], refl, sym, subst, ◌∙◌, Bool, Err, IsTrue, ap}
+use Rattle.std.proofs.Common.{◌≡◌, ◌≢◌, ◌⊎◌, inl, ℕ, List, [], refl, sym, subst, ◌∙◌, Bool, Result, Err, IsTrue, ap}
 use Rattle.std.proofs.lemmas.List.{append-nil}
 use Rattle.relay_io.specs.Streams.{AddsFront}
 use Rattle.relay_row.specs.declared.row.Row.{Row}
 use Rattle.relay_store.specs.Journals.{IsBadPairJournalAt, IsPairImageOf}
 use Rattle.relay_store.specs.declared.fault.StoreFault.{StoreFault}
+use Rattle.relay_store.specs.declared.store.Store.{Store}
 use Rattle.backfill.specs.Writing.{AddsMessages, IsOfReading}
 use Rattle.backfill.specs.declared.replay_fault.ReplayFault.{ReplayFault}
 use Rattle.serve_run.specs.Ends.{ServeOpened, ServeEndShows, end_of_opening, end_of_replay}
@@ -50,6 +51,17 @@ opening_bad StoreFault.Clock place is = let no : ⊥ = cc in absurd no
 pub opening_read : (tells : Bool) (one two one_now two_now : View) (fault : StoreFault) (end : ServeEnd) (place : ℕ) → Opened tells one two one_now two_now (Err fault) → end ≡ end_of_opening fault → end ≡ ServeEnd.BadLog place → IsTrue tells → BothOnlyRead one two one_now two_now
 opening_read tells one two one_now two_now fault end place opened of is told = bad_read tells one two one_now two_now fault place opened (opening_bad fault place (sym of ∙ is)) told
 
+-- a fault as opening hands it up
+abbrev pub unopened : StoreFault → Result Store StoreFault
+unopened fault = Err fault
+
+disk_ends : (fault : StoreFault) → unopened fault ≡ unopened StoreFault.Disk → end_of_opening fault ≡ ServeEnd.Disk
+disk_ends fault is = let same : fault ≡ StoreFault.Disk = cc in ap end_of_opening same
+
+-- what held where no disk failed in opening holds where the end is none of a disk
+pub opening_steady : (fault : StoreFault) (end : ServeEnd) (steady : Type 0) → end ≡ end_of_opening fault → (unopened fault ≢ unopened StoreFault.Disk → steady) → end ≢ ServeEnd.Disk → steady
+opening_steady fault end steady of otherwise other = otherwise (λ is. other (of ∙ disk_ends fault is))
+
 -- ---- behind it
 
 pub image_shows : (end : ServeEnd) (one two : List ℕ) (J : List Row) → IsPairImageOf J one two → ((p : ℕ) → end ≡ ServeEnd.BadLog p → ⊥) → ServeEndShows end one two
@@ -76,6 +88,20 @@ replay_bad ReplayFault.Output p is = absurd cc
 replay_bad ReplayFault.Disk p is = absurd cc
 replay_bad ReplayFault.Memory p is = absurd cc
 replay_bad (ReplayFault.BadLog q) p is = cc
+
+-- a fault of a replay as it is handed up
+abbrev pub broken : ReplayFault → Result ℕ ReplayFault
+broken fault = Err fault
+
+pub replay_disk : (fault : ReplayFault) → broken fault ≡ broken ReplayFault.Disk → end_of_replay fault ≡ ServeEnd.Disk
+replay_disk fault is = let same : fault ≡ ReplayFault.Disk = cc in ap end_of_replay same
+
+-- a fault isn't the end of all
+pub replay_undone : (fault : ReplayFault) → end_of_replay fault ≡ ServeEnd.Done → ⊥
+replay_undone ReplayFault.Output is = cc
+replay_undone ReplayFault.Disk is = cc
+replay_undone ReplayFault.Memory is = cc
+replay_undone (ReplayFault.BadLog p) is = cc
 
 -- nothing was written
 none_written : (fault : StoreFault) (text bytes : List ℕ) → AddsFront bytes bytes text → IsReplayed (end_of_opening fault) text bytes bytes

@@ -101,3 +101,10 @@ serving_over (ServeFault.Door n) P result is over = subst (λ (r : Result Sessio
 serving_over ServeFault.Disk P result is over = subst (λ (r : Result Session ServeEnd). OnOk r P) (sym is) tt
 serving_over ServeFault.Memory P result is over = subst (λ (r : Result Session ServeEnd). OnOk r P) (sym is) tt
 serving_over (ServeFault.BadLog p) P result is over = subst (λ (r : Result Session ServeEnd). OnOk r P) (sym is) tt
+
+-- a fault of serving as it is handed up
+abbrev pub unserved : ServeFault → Result Served ServeFault
+unserved fault = Err fault
+
+pub serving_disk : (fault : ServeFault) → unserved fault ≡ unserved ServeFault.Disk → end_of_serving fault ≡ end_of_serving ServeFault.Disk
+serving_disk fault is = let same : fault ≡ ServeFault.Disk = cc in ap end_of_serving same

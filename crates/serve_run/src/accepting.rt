@@ -1,6 +1,6 @@
 //! One guest's session.
 
-ghost use Rattle.std.specs.Prelude.{◌≡◌, ◌≤◌, ◌<◌, ◌⊎◌, ◌++◌, ℕ, List, Ok, Err, Option, false, IsTrue, IfOk, IfErr, IfSome, OnOk};
+ghost use Rattle.std.specs.Prelude.{◌≡◌, ◌≢◌, ◌≤◌, ◌<◌, ◌⊎◌, ◌++◌, ℕ, List, Ok, Err, Option, false, IsTrue, IfOk, IfErr, IfSome, OnOk};
 ghost use Rattle.at_cid.specs.Counts.{Rose};
 ghost use Rattle.event_window.specs.Held.{Held};
 ghost use Rattle.relay_disk.specs.Disk.{Goes, Same};
@@ -63,6 +63,7 @@ fn serve_events<E: Events, G: Door>(
     ensures closed { OnOk result (G.waits door.new ≡ false) }
     ensures few { IfErr result (λ end. IsOfSession end) }
     ensures disk { result ≡ Err ServeEnd.Disk → Rose (E.faults events.old) (E.faults events.new) }
+    ensures event_steady { result ≢ Err ServeEnd.Disk → E.faults events.new ≡ E.faults events.old }
     ensures no_bad_log { (place : ℕ) → result ≡ Err (ServeEnd.BadLog place) → IsTrue E.tells → (held : Held) → E.holds events.old held → ⊥ }
     ensures counts { G.faults door.new ≡ G.faults door.old }
     ensures session_counts { G.session_faults door.old ≤ G.session_faults door.new }
@@ -92,6 +93,7 @@ fn serve_store<D: Disk, G: Door>(
     ensures closed { OnOk result (G.waits door.new ≡ false) }
     ensures few { IfErr result (λ end. IsOfSession end) }
     ensures disk { result ≡ Err ServeEnd.Disk → Rose (D.view disk.old).faults (D.view disk.new).faults }
+    ensures disk_steady { result ≢ Err ServeEnd.Disk → (D.view disk.new).faults ≡ (D.view disk.old).faults }
     ensures no_bad_log { (place : ℕ) → result ≡ Err (ServeEnd.BadLog place) → IsTrue D.tells → ⊥ }
     ensures counts { G.faults door.new ≡ G.faults door.old }
     ensures session_counts { G.session_faults door.old ≤ G.session_faults door.new }
@@ -120,6 +122,8 @@ fn serve_side<D: Disk, G: Door>(
     ensures closed { OnOk result (G.waits door.new ≡ false) }
     ensures few { IfErr result (λ end. IsOfSession end) }
     ensures disk { result ≡ Err ServeEnd.Disk → Rose (D.view disk.old).faults (D.view disk.new).faults ⊎ Rose (D.view other.old).faults (D.view other.new).faults }
+    ensures disks_steady { result ≢ Err ServeEnd.Disk → ((D.view disk.new).faults ≡ (D.view disk.old).faults)
+        × ((D.view other.new).faults ≡ (D.view other.old).faults) }
     ensures no_bad_log { (place : ℕ) → result ≡ Err (ServeEnd.BadLog place) → IsTrue D.tells → ⊥ }
     ensures counts { G.faults door.new ≡ G.faults door.old }
     ensures session_counts { G.session_faults door.old ≤ G.session_faults door.new }
@@ -167,6 +171,8 @@ fn serve_session<D: Disk, G: Door>(
     ensures closed { OnOk result (G.waits door.new ≡ false) }
     ensures few { IfErr result (λ end. IsOfSession end) }
     ensures disk { result ≡ Err ServeEnd.Disk → Rose (D.view disk.old).faults (D.view disk.new).faults ⊎ Rose (D.view other.old).faults (D.view other.new).faults }
+    ensures disks_steady { result ≢ Err ServeEnd.Disk → ((D.view disk.new).faults ≡ (D.view disk.old).faults)
+        × ((D.view other.new).faults ≡ (D.view other.old).faults) }
     ensures no_bad_log { (place : ℕ) → result ≡ Err (ServeEnd.BadLog place) → IsTrue D.tells → ⊥ }
     ensures counts { G.faults door.new ≡ G.faults door.old }
     ensures session_counts { G.session_faults door.old ≤ G.session_faults door.new }
@@ -198,6 +204,8 @@ fn receive<D: Disk, G: Door>(
     ensures closed { OnOk result (G.waits door.new ≡ false) }
     ensures few { IfErr result (λ end. IsOfSession end) }
     ensures disk { result ≡ Err ServeEnd.Disk → Rose (D.view disk.old).faults (D.view disk.new).faults ⊎ Rose (D.view other.old).faults (D.view other.new).faults }
+    ensures disks_steady { result ≢ Err ServeEnd.Disk → ((D.view disk.new).faults ≡ (D.view disk.old).faults)
+        × ((D.view other.new).faults ≡ (D.view other.old).faults) }
     ensures no_bad_log { (place : ℕ) → result ≡ Err (ServeEnd.BadLog place) → IsTrue D.tells → ⊥ }
     ensures counts { G.faults door.new ≡ G.faults door.old }
     ensures session_counts { G.session_faults door.old ≤ G.session_faults door.new }
@@ -232,6 +240,8 @@ pub(crate) fn accept<D: Disk, G: Door>(
     ensures closed { IfOk result (λ found. IfSome found (λ _. G.waits door.new ≡ false)) }
     ensures few { IfErr result (λ end. IsOfAccepting end) }
     ensures disk { result ≡ Err ServeEnd.Disk → Rose (D.view disk.old).faults (D.view disk.new).faults ⊎ Rose (D.view other.old).faults (D.view other.new).faults }
+    ensures disks_steady { result ≢ Err ServeEnd.Disk → ((D.view disk.new).faults ≡ (D.view disk.old).faults)
+        × ((D.view other.new).faults ≡ (D.view other.old).faults) }
     ensures door { result ≡ Err ServeEnd.Door → Rose (G.faults door.old) (G.faults door.new) }
     ensures no_bad_log { (place : ℕ) → result ≡ Err (ServeEnd.BadLog place) → IsTrue D.tells → ⊥ }
     ensures steady { OnOk result (G.faults door.new ≡ G.faults door.old) }

@@ -1,6 +1,6 @@
 //! The command that writes what a guest would be sent.
 
-ghost use Rattle.std.specs.Prelude.{◌≡◌, ◌≤◌, ◌⊎◌, ℕ, List, Some, IsTrue, false};
+ghost use Rattle.std.specs.Prelude.{◌≡◌, ◌≢◌, ◌≤◌, ◌⊎◌, ℕ, List, Some, IsTrue, false};
 ghost use Rattle.at_cid.specs.Counts.{Rose};
 ghost use Rattle.event_window.specs.Held.{Held};
 ghost use Rattle.relay_disk.specs.Disk.{Goes, Same};
@@ -44,6 +44,8 @@ fn replay_events<E: Events, O: Sink>(
     ensures no_door { result ≡ ServeEnd.Door → ⊥ }
     ensures no_bad_log { (place : ℕ) → result ≡ ServeEnd.BadLog place → IsTrue E.tells → (held : Held) → E.holds events.old held → ⊥ }
     ensures counts { O.faults out.old ≤ O.faults out.new }
+    ensures event_steady { result ≢ ServeEnd.Disk → E.faults events.new ≡ E.faults events.old }
+    ensures out_steady { result ≡ ServeEnd.Done → O.faults out.new ≡ O.faults out.old }
 {
     match backfill::replay(alloc, events, cursor, out) {
         Ok(_) => ServeEnd::Done,
@@ -72,6 +74,8 @@ fn replay_from<D: Disk, O: Sink>(
     ensures no_door { result ≡ ServeEnd.Door → ⊥ }
     ensures no_bad_log { (place : ℕ) → result ≡ ServeEnd.BadLog place → IsTrue D.tells → ⊥ }
     ensures counts { O.faults out.old ≤ O.faults out.new }
+    ensures disk_steady { result ≢ ServeEnd.Disk → (D.view disk.new).faults ≡ (D.view disk.old).faults }
+    ensures out_steady { result ≡ ServeEnd.Done → O.faults out.new ≡ O.faults out.old }
 {
     let mut events = store.events(alloc, disk);
     replay_events(alloc, &mut events, cursor, out)
@@ -102,6 +106,9 @@ fn replay_on<D: Disk, O: Sink>(
     ensures no_door { result ≡ ServeEnd.Door → ⊥ }
     ensures no_bad_log { (place : ℕ) → result ≡ ServeEnd.BadLog place → IsTrue D.tells → ⊥ }
     ensures counts { O.faults out.old ≤ O.faults out.new }
+    ensures disks_steady { result ≢ ServeEnd.Disk → ((D.view disk.new).faults ≡ (D.view disk.old).faults)
+        × ((D.view other.new).faults ≡ (D.view other.old).faults) }
+    ensures out_steady { result ≡ ServeEnd.Done → O.faults out.new ≡ O.faults out.old }
 {
     match store.side() {
         Side::One => replay_from(alloc, store, disk, cursor, out),
@@ -138,6 +145,10 @@ pub fn replay<D: Disk, O: Sink>(
     ensures disk_counts { (D.view disk.old).faults ≤ (D.view disk.new).faults }
     ensures other_counts { (D.view other.old).faults ≤ (D.view other.new).faults }
     ensures out_counts { O.faults out.old ≤ O.faults out.new }
+    ensures disks_steady { result ≢ ServeEnd.Disk → ((D.view disk.new).faults ≡ (D.view disk.old).faults)
+        × ((D.view other.new).faults ≡ (D.view other.old).faults) }
+    // Behind a fault of reading, the output may fail too.
+    ensures out_steady { result ≡ ServeEnd.Done → O.faults out.new ≡ O.faults out.old }
 {
     match Store::open(alloc, disk, other, most) {
         Ok(store) => replay_on(alloc, &store, disk, other, cursor, out),

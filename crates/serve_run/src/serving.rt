@@ -1,6 +1,6 @@
 //! The command that serves guests.
 
-ghost use Rattle.std.specs.Prelude.{◌≡◌, ◌≤◌, ◌⊎◌, ℕ, List, Ok, Err, IsTrue};
+ghost use Rattle.std.specs.Prelude.{◌≡◌, ◌≢◌, ◌≤◌, ◌⊎◌, ℕ, List, Ok, Err, IsTrue};
 ghost use Rattle.at_cid.specs.Counts.{Rose};
 ghost use Rattle.relay_disk.specs.Disk.{Goes, Same};
 ghost use Rattle.gate_log.specs.Pick.{view_of_side};
@@ -45,6 +45,9 @@ fn serve_guests<D: Disk, G: Door, O: Sink>(
     ensures door_counts { G.faults door.old ≤ G.faults door.new }
     ensures session_counts { G.session_faults door.old ≤ G.session_faults door.new }
     ensures out_counts { O.faults out.old ≤ O.faults out.new }
+    ensures disks_steady { result ≢ Err ServeEnd.Disk → ((D.view disk.new).faults ≡ (D.view disk.old).faults)
+        × ((D.view other.new).faults ≡ (D.view other.old).faults) }
+    ensures out_steady { result ≢ Err ServeEnd.WriteFault → O.faults out.new ≡ O.faults out.old }
 {
     let mut served = 0;
     'guests: while let Some(session) = accept(alloc, count - served, store, disk, other, door)? {
@@ -83,6 +86,10 @@ pub fn serve<D: Disk, G: Door, O: Sink>(
     ensures door_counts { G.faults door.old ≤ G.faults door.new }
     ensures session_counts { G.session_faults door.old ≤ G.session_faults door.new }
     ensures out_counts { O.faults out.old ≤ O.faults out.new }
+    ensures disks_steady { result ≢ ServeEnd.Disk → ((D.view disk.new).faults ≡ (D.view disk.old).faults)
+        × ((D.view other.new).faults ≡ (D.view other.old).faults) }
+    ensures out_steady { result ≢ ServeEnd.WriteFault → O.faults out.new ≡ O.faults out.old }
+    ensures door_steady { result ≢ ServeEnd.Door → G.faults door.new ≡ G.faults door.old }
 {
     let store = match Store::open(alloc, disk, other, most) {
         Ok(store) => store,

@@ -1,6 +1,6 @@
 //! What comes of a guest's session, and its line.
 
-ghost use Rattle.std.specs.Prelude.{◌≡◌, ◌≤◌, ◌++◌, IfOk, OnOk, IfErr, IsTrue};
+ghost use Rattle.std.specs.Prelude.{◌≡◌, ◌≢◌, ◌≤◌, ◌++◌, IfOk, OnOk, IfErr, IsTrue, Err};
 ghost use Rattle.at_cid.specs.Counts.{Rose};
 ghost use Rattle.relay_io.specs.Streams.{AddsFront};
 ghost use Rattle.relay_run.specs.Lines.{numbered};
@@ -82,6 +82,7 @@ fn write_line<O: Sink>(out: &mut O, line: &Octets) -> Result<(), ServeEnd>
     ensures front { IfErr result (λ end. IsUnwritten end × (IsTrue O.tells → AddsFront (O.written out.old) (O.written out.new) line.now)) }
     ensures caused { IfErr result (λ end. end ≡ ServeEnd.WriteFault → Rose (O.faults out.old) (O.faults out.new)) }
     ensures counts { O.faults out.old ≤ O.faults out.new }
+    ensures steady { result ≢ Err ServeEnd.WriteFault → O.faults out.new ≡ O.faults out.old }
 {
     match write_all(out, line.as_slice()) {
         Ok(()) => Ok(()),
@@ -100,6 +101,7 @@ pub(crate) fn write_session<O: Sink>(
     ensures front { IfErr result (λ end. IsUnwritten end × (IsTrue O.tells → AddsFront (O.written out.old) (O.written out.new) (session_line number session))) }
     ensures caused { IfErr result (λ end. end ≡ ServeEnd.WriteFault → Rose (O.faults out.old) (O.faults out.new)) }
     ensures counts { O.faults out.old ≤ O.faults out.new }
+    ensures steady { result ≢ Err ServeEnd.WriteFault → O.faults out.new ≡ O.faults out.old }
 {
     match line_of(alloc, number, session) {
         Ok(line) => write_line(out, &line),
@@ -113,6 +115,7 @@ pub(crate) fn write_end<O: Sink>(alloc: Global, count: u64, out: &mut O) -> Resu
     ensures front { IfErr result (λ end. IsUnwritten end × (IsTrue O.tells → AddsFront (O.written out.old) (O.written out.new) (sessions_end_line count))) }
     ensures caused { IfErr result (λ end. end ≡ ServeEnd.WriteFault → Rose (O.faults out.old) (O.faults out.new)) }
     ensures counts { O.faults out.old ≤ O.faults out.new }
+    ensures steady { result ≢ Err ServeEnd.WriteFault → O.faults out.new ≡ O.faults out.old }
 {
     match last_line(alloc, count) {
         Ok(line) => write_line(out, &line),

@@ -1,12 +1,13 @@
 //! Lines of the report, as messages are answered.
 
-ghost use Rattle.std.specs.Prelude.{◌≡◌, ◌≤◌, ◌<◌, ◌+◌, ◌^◌, [], ◌∷◌, ◌++◌, None, OnOk, OnErr, IfOk, IfErr, IsTrue, length};
+ghost use Rattle.std.specs.Prelude.{◌≡◌, ◌≢◌, ◌≤◌, ◌<◌, ◌+◌, ◌^◌, [], ◌∷◌, ◌++◌, None, OnOk, OnErr, IfOk, IfErr, IsTrue, length};
 ghost use Rattle.at_cid.specs.Counts.{Rose};
 ghost use Rattle.relay_io.specs.Streams.{AddsFront};
 ghost use Rattle.relay_core.specs.Report.{over_line};
 ghost use Rattle.relay_store.specs.Lines.{end_line_of};
 ghost use Rattle.tape_run.specs.Stops.{IsUnwritten, Finished};
 ghost use Rattle.tape_run.specs.Said.{IsNoted, answered, text_of};
+ghost use Rattle.tape_run.specs.declared.end.TapeEnd.{TapeEnd as TheEnd};
 
 use crate::end::TapeEnd;
 use crate::tally::Tally;
@@ -43,6 +44,8 @@ fn write_lines<O: Sink>(out: &mut O, text: &Octets) -> Result<(), TapeEnd>
     ensures front { IfErr result (λ end. (end ≡ TapeEnd.WriteFault) × (IsTrue O.tells → AddsFront (O.written out.old) (O.written out.new) text.now)) }
     ensures counts { O.faults out.old ≤ O.faults out.new }
     ensures failed { OnErr result (Rose (O.faults out.old) (O.faults out.new)) }
+    ensures steady { OnOk result (O.faults out.new ≡ O.faults out.old) }
+    ensures no_fault { IfErr result (λ end. end ≢ TheEnd.WriteFault → O.faults out.new ≡ O.faults out.old) }
 {
     match write_all(out, text.as_slice()) {
         Ok(()) => Ok(()),
@@ -66,6 +69,8 @@ pub(crate) fn answer<O: Sink>(
     ensures front { IfErr result (λ end. IsUnwritten end × (IsTrue O.tells → AddsFront (O.written out.old) (O.written out.new) (text_of (answered group.now outcomes.now)))) }
     ensures counts { O.faults out.old ≤ O.faults out.new }
     ensures caused { IfErr result (λ end. end ≡ TapeEnd.WriteFault → Rose (O.faults out.old) (O.faults out.new)) }
+    ensures steady { OnOk result (O.faults out.new ≡ O.faults out.old) }
+    ensures no_fault { IfErr result (λ end. end ≢ TheEnd.WriteFault → O.faults out.new ≡ O.faults out.old) }
 {
     if outcomes.is_empty() {
         return Ok(());
@@ -101,6 +106,8 @@ pub(crate) fn skip<O: Sink>(
     ensures front { IfErr result (λ end. IsUnwritten end × (IsTrue O.tells → AddsFront (O.written out.old) (O.written out.new) (over_line host.now))) }
     ensures counts { O.faults out.old ≤ O.faults out.new }
     ensures caused { IfErr result (λ end. end ≡ TapeEnd.WriteFault → Rose (O.faults out.old) (O.faults out.new)) }
+    ensures steady { OnOk result (O.faults out.new ≡ O.faults out.old) }
+    ensures no_fault { IfErr result (λ end. end ≢ TheEnd.WriteFault → O.faults out.new ≡ O.faults out.old) }
 {
     let text = match line_over(alloc, host) {
         Ok(text) => text,
@@ -115,6 +122,7 @@ pub fn finish<O: Sink>(alloc: Global, last: u64, tally: &Tally, out: &mut O) -> 
     ensures ends { Finished result (end_line_of tally.now.messages tally.now.events tally.now.refused last) O.tells (O.written out.old) (O.written out.new) }
     ensures counts { O.faults out.old ≤ O.faults out.new }
     ensures caused { result ≡ TapeEnd.WriteFault → Rose (O.faults out.old) (O.faults out.new) }
+    ensures steady { result ≢ TheEnd.WriteFault → O.faults out.new ≡ O.faults out.old }
 {
     let mut text = Octets::new(alloc);
     match end_line(

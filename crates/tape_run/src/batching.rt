@@ -6,8 +6,9 @@ ghost use Rattle.relay_row.specs.declared.row.Row.{Row as TheRow};
 ghost use Rattle.relay_step.specs.Around.{around};
 ghost use Rattle.relay_store.specs.Store.{IsKept, IsOf, seen_in};
 ghost use Rattle.relay_store.specs.Taking.{AreOfHosts};
-ghost use Rattle.tape_run.specs.Causes.{Caused, Kept, faults};
+ghost use Rattle.tape_run.specs.Causes.{Caused, Kept, Told, Unmoved, faults};
 ghost use Rattle.tape_run.specs.Going.{Going, Stopped, point};
+ghost use Rattle.tape_run.specs.Stops.{IsStop};
 ghost use Rattle.tape_run.specs.Tells.{tells};
 ghost use Rattle.tape_run.specs.Said.{AreLive, FirstHasEnded};
 
@@ -67,6 +68,9 @@ fn take_live<D: Disk, P: Judges, R: Repos, C: Clock, O: Sink>(
     ensures count { IfOk result (λ n. tally.new.messages ≤ tally.old.messages + n) }
     ensures counts { Kept (faults (D.view disk.old).faults (R.faults repos.old) (C.faults clock.old) 0 (O.faults out.old)) (faults (D.view disk.new).faults (R.faults repos.new) (C.faults clock.new) 0 (O.faults out.new)) }
     ensures caused { IfErr result (λ end. Caused end (faults (D.view disk.old).faults (R.faults repos.old) (C.faults clock.old) 0 (O.faults out.old)) (faults (D.view disk.new).faults (R.faults repos.new) (C.faults clock.new) 0 (O.faults out.new))) }
+    ensures stop { IfErr result IsStop }
+    ensures unmoved { OnOk result (Unmoved (faults (D.view disk.old).faults (R.faults repos.old) (C.faults clock.old) 0 (O.faults out.old)) (faults (D.view disk.new).faults (R.faults repos.new) (C.faults clock.new) 0 (O.faults out.new)) (P.panel judges.old) (P.panel judges.new)) }
+    ensures told { IfErr result (λ end. Told end (faults (D.view disk.old).faults (R.faults repos.old) (C.faults clock.old) 0 (O.faults out.old)) (faults (D.view disk.new).faults (R.faults repos.new) (C.faults clock.new) 0 (O.faults out.new)) (P.panel judges.old) (P.panel judges.new)) }
 {
     let batch = store.take_all(alloc, disk, group, judges, repos, clock);
     let outcomes = batch.outcomes.as_slice();
@@ -112,6 +116,9 @@ fn take_some<D: Disk, P: Judges, R: Repos, C: Clock, O: Sink>(
     ensures count { IfOk result (λ n. tally.new.messages ≤ tally.old.messages + n) }
     ensures counts { Kept (faults (D.view disk.old).faults (R.faults repos.old) (C.faults clock.old) 0 (O.faults out.old)) (faults (D.view disk.new).faults (R.faults repos.new) (C.faults clock.new) 0 (O.faults out.new)) }
     ensures caused { IfErr result (λ end. Caused end (faults (D.view disk.old).faults (R.faults repos.old) (C.faults clock.old) 0 (O.faults out.old)) (faults (D.view disk.new).faults (R.faults repos.new) (C.faults clock.new) 0 (O.faults out.new))) }
+    ensures stop { IfErr result IsStop }
+    ensures unmoved { OnOk result (Unmoved (faults (D.view disk.old).faults (R.faults repos.old) (C.faults clock.old) 0 (O.faults out.old)) (faults (D.view disk.new).faults (R.faults repos.new) (C.faults clock.new) 0 (O.faults out.new)) (P.panel judges.old) (P.panel judges.new)) }
+    ensures told { IfErr result (λ end. Told end (faults (D.view disk.old).faults (R.faults repos.old) (C.faults clock.old) 0 (O.faults out.old)) (faults (D.view disk.new).faults (R.faults repos.new) (C.faults clock.new) 0 (O.faults out.new)) (P.panel judges.old) (P.panel judges.new)) }
 {
     let live = live_front(group, tally);
     if live == 0 {
@@ -153,6 +160,9 @@ pub fn take_group<D: Disk, P: Judges, R: Repos, C: Clock, O: Sink>(
     ensures count { OnOk result (tally.new.messages ≤ tally.old.messages + length group.now) }
     ensures counts { Kept (faults (D.view disk.old).faults (R.faults repos.old) (C.faults clock.old) 0 (O.faults out.old)) (faults (D.view disk.new).faults (R.faults repos.new) (C.faults clock.new) 0 (O.faults out.new)) }
     ensures caused { IfErr result (λ end. Caused end (faults (D.view disk.old).faults (R.faults repos.old) (C.faults clock.old) 0 (O.faults out.old)) (faults (D.view disk.new).faults (R.faults repos.new) (C.faults clock.new) 0 (O.faults out.new))) }
+    ensures stop { IfErr result IsStop }
+    ensures unmoved { OnOk result (Unmoved (faults (D.view disk.old).faults (R.faults repos.old) (C.faults clock.old) 0 (O.faults out.old)) (faults (D.view disk.new).faults (R.faults repos.new) (C.faults clock.new) 0 (O.faults out.new)) (P.panel judges.old) (P.panel judges.new)) }
+    ensures told { IfErr result (λ end. Told end (faults (D.view disk.old).faults (R.faults repos.old) (C.faults clock.old) 0 (O.faults out.old)) (faults (D.view disk.new).faults (R.faults repos.new) (C.faults clock.new) 0 (O.faults out.new)) (P.panel judges.old) (P.panel judges.new)) }
 {
     let mut done = 0;
     'batches: while done < group.len() {

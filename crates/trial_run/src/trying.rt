@@ -1,6 +1,6 @@
 //! A trial of merges.
 
-ghost use Rattle.std.specs.Prelude.{◌≡◌, ◌≤◌, [], List, ℕ, length, IfOk};
+ghost use Rattle.std.specs.Prelude.{◌≡◌, ◌≢◌, ◌≤◌, [], List, ℕ, length, IfOk};
 ghost use Rattle.at_cid.specs.Counts.{Rose};
 ghost use Rattle.relay_disk.specs.MemoryView.{memory_view};
 ghost use Rattle.relay_gen.specs.Histories.{history as history_of};
@@ -126,6 +126,7 @@ pub fn trial_on<O: Sink>(
     ensures tried { Tried O.tells start n (memory_view first.new).content (memory_view second.new).content (O.written out.old) (O.written out.new) result }
     ensures failed { result ≡ TrialEnd.WriteFault → Rose (O.faults out.old) (O.faults out.new) }
     ensures counts { O.faults out.old ≤ O.faults out.new }
+    ensures out_steady { result ≢ TrialEnd.WriteFault → O.faults out.new ≡ O.faults out.old }
 {
     let text = match try_both(alloc, start, n, first, second) {
         Ok(text) => text,
@@ -144,6 +145,7 @@ pub fn trial<O: Sink>(alloc: Global, start: u64, n: u64, out: &mut O) -> TrialEn
     ensures tried { (first second : List ℕ) × Tried O.tells start n first second (O.written out.old) (O.written out.new) result }
     ensures failed { result ≡ TrialEnd.WriteFault → Rose (O.faults out.old) (O.faults out.new) }
     ensures counts { O.faults out.old ≤ O.faults out.new }
+    ensures out_steady { result ≢ TrialEnd.WriteFault → O.faults out.new ≡ O.faults out.old }
 {
     let (Ok(mut first), Ok(mut second)) = (
         MemoryDisk::new(alloc, &[], &[]),

@@ -1,17 +1,18 @@
-use Rattle.std.proofs.Common.{◌⊎◌, inl, inr, ap, refl, Err, [], ◌≡◌}
+use Rattle.std.proofs.Common.{◌⊎◌, inl, inr, ap, refl, Err, [], ◌≡◌, ◌∙◌}
 use Rattle.at_cid.specs.Counts.{Rose}
 use Rattle.relay_step.specs.Around.{around}
+use Rattle.tape_run.specs.Ends.{end_of_store}
 use Rattle.tape_run.specs.Tells.{tells}
 use Rattle.tape_run.specs.declared.end.TapeEnd.{TapeEnd}
 use Rattle.ingest_run.specs.Ends.{IsCausedBy, MayEnd, TapeEndShows}
 use Rattle.ingest_run.specs.Ingested.{Unopened, pair_scene}
 use Rattle.ingest_run.proofs.Endings.{image_shows, never_bad, none_later, opening_causes, opening_completes, opening_read, opening_shows}
 use Rattle.ingest_run.proofs.Whole.{opened_of, unopened}
-use Rattle.follow_run.proofs.Whole.{cause_kept, completes, followed_on, kept_of_store, kept_of_taking}
+use Rattle.follow_run.proofs.Whole.{cause_kept, completes, followed_on, hides_none, kept_of_store, kept_of_taking, never_failed}
 use Rattle.follow_run.proofs.following.follow.Goals as goal
 use Rattle.relay_store.specs.Opening.{BothOnlyRead}
 use Rattle.relay_store.specs.declared.fault.StoreFault.{StoreFault}
-use Rattle.follow_run.specs.Ends.{tape_end}
+use Rattle.follow_run.specs.Ends.{feed_end, tape_end}
 
 pub returns-in-Err-clause-followed : goal.returns-in-Err-clause-followed
 returns-in-Err-clause-followed g c = λ told J image.
@@ -83,3 +84,31 @@ pub returns-clause-unopened : goal.returns-clause-unopened
 returns-clause-unopened g c = λ place is told.
     let kept = c.in-Ok.ensures.opened.keeps told in
     absurd (never_bad (tape_end c.of_taking-2.result) place (g.D.Disk.view c.args.disk.now).content (g.D.Disk.view c.args.other.now).content kept.0 kept.1 (returns-clause-shows g c told) (ap tape_end is))
+
+pub returns-in-Err-clause-disks_steady : goal.returns-in-Err-clause-disks_steady
+returns-in-Err-clause-disks_steady g c = λ not.
+    c.in-Err.ensures.steady (λ is. let disk : c.in-Err.fault ≡ StoreFault.Disk = cc in not (c.of_taking.ensures ∙ ap feed_end (c.of_store.ensures ∙ ap end_of_store disk)))
+
+pub returns-in-Err-clause-unspent : goal.returns-in-Err-clause-unspent
+returns-in-Err-clause-unspent g c = λ none not name spent. spent
+
+pub returns-clause-disks_steady : goal.returns-clause-disks_steady
+returns-clause-disks_steady g c = λ not.
+    let opened = c.in-Ok.ensures.steady (λ is. never_failed _ is) in
+    let taken = c.take_on-end.ensures.disks_steady (λ is. not (c.of_taking-2.ensures ∙ ap feed_end is)) in
+    (taken.0 ∙ opened.0, taken.1 ∙ opened.1)
+
+pub returns-clause-out_steady : goal.returns-clause-out_steady
+returns-clause-out_steady g c = λ not. c.take_on-end.ensures.out_steady (λ is. not (c.of_taking-2.ensures ∙ ap feed_end is))
+
+pub returns-clause-repos_steady : goal.returns-clause-repos_steady
+returns-clause-repos_steady g c = λ none not.
+    c.take_on-end.ensures.repos_steady (hides_none c.take_on-end.result c.of_taking-2.result c.of_taking-2.ensures none) (λ is. not (c.of_taking-2.ensures ∙ ap feed_end is))
+
+pub returns-clause-clock_steady : goal.returns-clause-clock_steady
+returns-clause-clock_steady g c = λ none not.
+    c.take_on-end.ensures.clock_steady (hides_none c.take_on-end.result c.of_taking-2.result c.of_taking-2.ensures none) (λ is. not (c.of_taking-2.ensures ∙ ap feed_end is))
+
+pub returns-clause-unspent : goal.returns-clause-unspent
+returns-clause-unspent g c = λ none not.
+    c.take_on-end.ensures.unspent (hides_none c.take_on-end.result c.of_taking-2.result c.of_taking-2.ensures none) (λ is. not (c.of_taking-2.ensures ∙ ap feed_end is))

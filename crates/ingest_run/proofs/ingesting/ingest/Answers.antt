@@ -1,6 +1,8 @@
-use Rattle.std.proofs.Common.{◌⊎◌, inl, inr, Err, refl, sym, ap, subst}
+use Rattle.std.proofs.Common.{◌≡◌, ◌⊎◌, inl, inr, Err, refl, sym, ap, ◌∙◌, subst}
 use Rattle.at_cid.specs.Counts.{Rose}
 use Rattle.relay_step.specs.Around.{around}
+use Rattle.relay_store.specs.declared.fault.StoreFault.{StoreFault}
+use Rattle.tape_run.specs.Ends.{end_of_store}
 use Rattle.tape_run.specs.Tells.{tells}
 use Rattle.tape_run.specs.declared.end.TapeEnd.{TapeEnd}
 use Rattle.ingest_run.specs.Ends.{IsCausedBy, MayEnd, TapeEndShows}
@@ -67,3 +69,16 @@ pub returns-clause-unopened : goal.returns-clause-unopened
 returns-clause-unopened g c = λ place is told.
     let kept = c.in-Ok.ensures.opened.keeps told in
     absurd (never_bad c.take_on.result place (g.D.Disk.view c.args.disk.now).content (g.D.Disk.view c.args.other.now).content kept.0 kept.1 (returns-clause-shows g c told) is)
+
+pub returns-in-Err-clause-disks_steady : goal.returns-in-Err-clause-disks_steady
+returns-in-Err-clause-disks_steady g c = λ not.
+    c.in-Err.ensures.steady (λ is. let disk : c.in-Err.fault ≡ StoreFault.Disk = cc in not (c.of_store.ensures ∙ ap end_of_store disk))
+
+pub returns-in-Err-clause-unspent : goal.returns-in-Err-clause-unspent
+returns-in-Err-clause-unspent g c = λ none not name spent. spent
+
+pub returns-clause-disks_steady : goal.returns-clause-disks_steady
+returns-clause-disks_steady g c = λ not.
+    let opened = c.in-Ok.ensures.steady (λ is. absurd cc) in
+    let taken = c.take_on.ensures.disks_steady not in
+    (taken.0 ∙ opened.0, taken.1 ∙ opened.1)

@@ -1,4 +1,4 @@
-use Rattle.std.proofs.Common.{Err, sym, ap, arith, subst, refl}
+use Rattle.std.proofs.Common.{◌∙◌, Err, sym, ap, arith, subst, refl}
 use Rattle.std.specs.Prelude.{option_map}
 use Rattle.std.proofs.lemmas.List.{append-nil}
 use Rattle.relay_store.specs.Shown.{held_by}
@@ -6,7 +6,7 @@ use Rattle.relay_store.proofs.Images.{no_journal}
 use Rattle.relay_run.proofs.Beside.{opened_keeps}
 use Rattle.serve_run.specs.Ends.{ServeOpened, ServeEndShows}
 use Rattle.serve_run.specs.declared.end.ServeEnd.{ServeEnd}
-use Rattle.serve_run.proofs.Ending.{image_shows, nothing_written, opening_read, opening_shows}
+use Rattle.serve_run.proofs.Ending.{image_shows, nothing_written, opening_read, opening_shows, opening_steady}
 use Rattle.serve_run.proofs.Reading.{read_opened, read_unopened}
 use Rattle.lines_run.specs.Lines.{lines_above}
 use Rattle.lines_run.proofs.Ending.{either_behind, may_end, unopened_may}
@@ -54,3 +54,12 @@ returns-in-Err-clause-unopened g c = λ place is told. (
 
 pub returns-in-Ok-clause-unopened : goal.returns-in-Ok-clause-unopened
 returns-in-Ok-clause-unopened g c = λ place is told. absurd (c.lines_on.ensures.no_bad_log place is told)
+
+pub returns-in-Err-clause-disks_steady : goal.returns-in-Err-clause-disks_steady
+returns-in-Err-clause-disks_steady g c = opening_steady c.in-Err.fault c.of_opening.result _ c.of_opening.ensures c.in-Err.ensures.steady
+
+pub returns-in-Ok-clause-disks_steady : goal.returns-in-Ok-clause-disks_steady
+returns-in-Ok-clause-disks_steady g c = λ no.
+    let opened = c.in-Ok.ensures.steady (λ is. absurd cc) in
+    let read = c.lines_on.ensures.disks_steady no in
+    (read.0 ∙ opened.0, read.1 ∙ opened.1)

@@ -2,16 +2,19 @@ use Rattle.std.proofs.Common.{◌∙◌, Err, sym, ap}
 use Rattle.std.specs.Prelude.{option_map}
 use Rattle.serve_run.proofs.Ending.{fault_written, replay_bad}
 use Rattle.lines_run.specs.Lines.{lines_above}
-use Rattle.lines_run.proofs.Ending.{output_end}
+use Rattle.lines_run.proofs.Ending.{disk_end, output_end}
 use Rattle.lines_run.proofs.command.lines_of_events.Goals as goal
 
 pub returns-in-Err-clause-written : goal.returns-in-Err-clause-written
 returns-in-Err-clause-written g c = λ told held holds out.
     fault_written c.in-Err.fault c.of_replay.result (lines_above (option_map (λ text. text.now) c.args.collection) c.args.cursor held.shown) _ _ c.of_replay.ensures (c.in-Err.ensures.written told held holds out)
 
-pub returns-in-Err-clause-no_fault : goal.returns-in-Err-clause-no_fault
-returns-in-Err-clause-no_fault g c = λ no. c.in-Err.ensures.no_fault (λ is. no (c.of_replay.ensures ∙ output_end c.in-Err.fault is))
+pub returns-in-Err-clause-out_steady : goal.returns-in-Err-clause-out_steady
+returns-in-Err-clause-out_steady g c = λ no. c.in-Err.ensures.no_fault (λ is. no (c.of_replay.ensures ∙ output_end c.in-Err.fault is))
 
 pub returns-in-Err-clause-no_bad_log : goal.returns-in-Err-clause-no_bad_log
 returns-in-Err-clause-no_bad_log g c = λ place is.
     c.in-Err.ensures.no_bad_log place (ap Err (replay_bad c.in-Err.fault place (sym c.of_replay.ensures ∙ is)))
+
+pub returns-in-Err-clause-event_steady : goal.returns-in-Err-clause-event_steady
+returns-in-Err-clause-event_steady g c = λ no. c.in-Err.ensures.event_steady (λ is. no (c.of_replay.ensures ∙ disk_end c.in-Err.fault is))

@@ -26,6 +26,7 @@ events-preserved g c = record {
   known = c.in_ok-number.ensures.known;
   later = g.met.E.Events.later_again _ _ _ c.events.invariant.later c.in_ok-number.ensures.later;
   event_counts = omega (arith, c.events.invariant.event_counts, c.in_ok-number.ensures.counts);
+  event_steady = c.in_ok-number.ensures.event_steady (λ is. absurd cc) ∙ c.events.invariant.event_steady;
   lining = λ told held holds.
       let next = subst (λ (found : Option ℕ). IsNext c.events.last held.shown found c.next_above.new.room) c.in-Some.is
       (c.in_ok-number.ensures.next told held (c.events.invariant.holds told held holds)) in

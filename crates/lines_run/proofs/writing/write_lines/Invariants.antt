@@ -11,6 +11,7 @@ invariant-events g l =
       known : IsTrue g.E.Events.tells → (held : Held) × g.E.Events.holds l.events held;
       later : g.E.Events.later l.fn.events l.events;
       event_counts : g.E.Events.faults l.fn.events ≤ g.E.Events.faults l.events;
+      event_steady : g.E.Events.faults l.events ≡ g.E.Events.faults l.fn.events;
       lining : IsTrue g.E.Events.tells → (held : Held) → g.E.Events.holds l.fn.events held
           → IsLining g.O.Sink.tells (option_map (λ text. text.now) l.collection) held.shown l.cursor l.last (g.O.Sink.written l.fn.out) (g.O.Sink.written l.out);
       steady : g.O.Sink.faults l.out ≡ g.O.Sink.faults l.fn.out;

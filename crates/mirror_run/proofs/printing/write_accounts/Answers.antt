@@ -1,4 +1,4 @@
-use Rattle.std.proofs.Common.{sym, subst, arith, rules}
+use Rattle.std.proofs.Common.{◌∙◌, refl, sym, subst, arith, rules}
 use Rattle.std.specs.String.{string_bytes}
 use Rattle.mirror_run.specs.Printing.{IsUnwritten}
 use Rattle.mirror_run.proofs.Printed.{printed_all, printed_part, printed_so_far, printing_more, printing_starts}
@@ -10,6 +10,7 @@ accounts-init g c = (
   record {
     printing = λ told dids are. printing_starts c.args.mirror.now dids _ c.args.text.now c.requires.named c.requires.start are;
     counts = omega arith;
+    steady = refl;
   },
   search rules,
 )
@@ -43,6 +44,7 @@ accounts-preserved g c = (
         printing_more c.args.mirror.now dids c.accounts.last.now _ _ _ (c.accounts.invariant.0.printing told dids are) c.in-Some.did.now c.in-Some.ensures.found c.in-Some.ensures.above c.in-Some.ensures.least
         c.add_account.new.text c.in-Ok.ensures _ _ (c.in-Ok-write_some.ensures.moved told);
     counts = omega (arith, c.accounts.invariant.0.counts, c.in-Ok-write_some.ensures.counts);
+    steady = c.in-Ok-write_some.ensures.steady ∙ c.accounts.invariant.0.steady;
   },
   search rules,
 )

@@ -4,9 +4,11 @@ use Rattle.backfill.specs.Writing.{stream_frame}
 use Rattle.relay_io.specs.declared.feed.TheConstants.{LONGEST_FEED_MESSAGE}
 use Rattle.mirror_run.specs.Reading.{coming}
 use Rattle.mirror_run.specs.Taking.{HasStopped, end_of_mirror}
+use Rattle.mirror.specs.declared.fault.MirrorFault.{MirrorFault}
 use Rattle.mirror_run.specs.declared.end.MirrorEnd.{MirrorEnd}
+use Rattle.mirror_run.specs.declared.reader.StreamFault.{StreamFault}
 use Rattle.mirror_run.proofs.Fronts.{length_frame}
-use Rattle.mirror_run.proofs.Stopping.{mirror_stopped, stream_stopped}
+use Rattle.mirror_run.proofs.Stopping.{mirror_stopped, read_failed, repos_failed, stream_stopped}
 use Rattle.mirror_run.proofs.Takings.{none_more, one_more, taken_more}
 use Rattle.mirror_run.proofs.taking.take_stream.Goals as goal
 use Rattle.mirror_run.proofs.taking.take_stream.Goals.{then-last-last_seq, else-last-last_seq}
@@ -57,4 +59,23 @@ messages-preserved g c =
       repositories = λ told did. c.in-Ok.ensures.repositories told did ∙ c.messages.invariant.repositories told did;
       input = omega (arith, c.messages.invariant.input, c.in-Ok-Some.ensures.counts);
       repos = omega (arith, c.messages.invariant.repos, c.in-Ok.ensures.counts);
+      input_steady = c.in-Ok-Some.ensures.steady (λ is. absurd cc) ∙ c.messages.invariant.input_steady;
+      repos_steady = c.in-Ok.ensures.steady (λ is. absurd cc) ∙ c.messages.invariant.repos_steady;
     }
+
+pub returns-in-Err-clause-input_steady : goal.returns-in-Err-clause-input_steady
+returns-in-Err-clause-input_steady g c = λ no.
+    c.in-Err.ensures.steady (λ is.
+    let failed : c.in-Err.fault ≡ StreamFault.Failed = cc in
+    no (ap Err (c.of_stream.ensures ∙ read_failed c.in-Err.fault c.place-place.result failed)))
+    ∙ c.messages.invariant.input_steady
+
+pub returns-in-Err-take-clause-input_steady : goal.returns-in-Err-take-clause-input_steady
+returns-in-Err-take-clause-input_steady g c = λ no. c.in-Ok-Some.ensures.steady (λ is. absurd cc) ∙ c.messages.invariant.input_steady
+
+pub returns-in-Err-take-clause-repos_steady : goal.returns-in-Err-take-clause-repos_steady
+returns-in-Err-take-clause-repos_steady g c = λ no.
+    c.in-Err-take.ensures.steady (λ is.
+    let failed : c.in-Err-take.fault ≡ MirrorFault.Repos = cc in
+    no (ap Err (c.of_mirror.ensures ∙ repos_failed c.in-Err-take.fault c.place-place.result failed)))
+    ∙ c.messages.invariant.repos_steady

@@ -14,6 +14,8 @@ invariant-messages g l =
       repositories : IsTrue g.R.Repos.tells → (did : List ℕ) → repository l.repos did ≡ repository l.fn.repos did;
       input : g.I.Source.faults l.fn.input ≤ g.I.Source.faults l.input;
       repos : g.R.Repos.faults l.fn.repos ≤ g.R.Repos.faults l.repos;
+      input_steady : g.I.Source.faults l.input ≡ g.I.Source.faults l.fn.input;
+      repos_steady : g.R.Repos.faults l.repos ≡ g.R.Repos.faults l.fn.repos;
     }
 
 abbrev pub decreases-messages : goal.decreases-messages

@@ -8,7 +8,7 @@ use Rattle.serve_run.proofs.Reading.{read_opened}
 use Rattle.query_run.specs.AtWire.{at_wire}
 use Rattle.query_run.specs.Ends.{IsOfDisks, QueryOpened, end_in}
 use Rattle.query_run.specs.declared.end.QueryEnd.{QueryEnd}
-use Rattle.query_run.proofs.Ending.{answering_causes, answering_may, answering_shows, not_of_disks, opening_read, queried_unopened, read_unopened, unopened_may, unopened_shows}
+use Rattle.query_run.proofs.Ending.{answering_causes, answering_may, answering_shows, not_of_disks, opening_read, opening_steady, queried_unopened, read_unopened, unopened_may, unopened_shows}
 use Rattle.query_run.proofs.command.query.Goals as goal
 
 pub returns-in-Err-clause-answered : goal.returns-in-Err-clause-answered
@@ -67,20 +67,23 @@ pub returns-clause-complete : goal.returns-clause-complete
 returns-clause-complete g c = λ told J image no_disk no_write no_wire.
     answering_may _ _ c.in-Err-answer_all.end c.in-Err-answer_all.ensures.few (λ is. c.in-Err-answer_all.ensures.output (ap Err is)) (λ is. c.in-Err-answer_all.ensures.wire (ap Err is)) no_write no_wire
 
-pub returns-in-Ok-answer_all-clause-no_output : goal.returns-in-Ok-answer_all-clause-no_output
-returns-in-Ok-answer_all-clause-no_output g c = λ no. c.in-Ok-answer_all.ensures.no_output (λ is. no (ap end_in is))
+pub returns-in-Ok-answer_all-clause-out_steady : goal.returns-in-Ok-answer_all-clause-out_steady
+returns-in-Ok-answer_all-clause-out_steady g c = λ no. c.in-Ok-answer_all.ensures.out_steady (λ is. no (ap end_in is))
 
-pub returns-in-Ok-answer_all-clause-no_wire : goal.returns-in-Ok-answer_all-clause-no_wire
-returns-in-Ok-answer_all-clause-no_wire g c = λ no. c.in-Ok-answer_all.ensures.no_wire (λ is. no (ap end_in is))
+pub returns-in-Ok-answer_all-clause-wire_steady : goal.returns-in-Ok-answer_all-clause-wire_steady
+returns-in-Ok-answer_all-clause-wire_steady g c = λ no. c.in-Ok-answer_all.ensures.wire_steady (λ is. no (ap end_in is))
 
-pub returns-clause-no_output : goal.returns-clause-no_output
-returns-clause-no_output g c = λ no. c.in-Err-answer_all.ensures.no_output (λ is. no (ap end_in is))
+pub returns-clause-out_steady : goal.returns-clause-out_steady
+returns-clause-out_steady g c = λ no. c.in-Err-answer_all.ensures.out_steady (λ is. no (ap end_in is))
 
-pub returns-clause-no_wire : goal.returns-clause-no_wire
-returns-clause-no_wire g c = λ no. c.in-Err-answer_all.ensures.no_wire (λ is. no (ap end_in is))
+pub returns-clause-wire_steady : goal.returns-clause-wire_steady
+returns-clause-wire_steady g c = λ no. c.in-Err-answer_all.ensures.wire_steady (λ is. no (ap end_in is))
 
 pub returns-in-Err-clause-unopened : goal.returns-in-Err-clause-unopened
 returns-in-Err-clause-unopened g c = λ place is told. opening_read g.D.Disk.tells (g.D.Disk.view c.args.disk.now) (g.D.Disk.view c.args.other.now) (g.D.Disk.view c.open.new.disk) (g.D.Disk.view c.open.new.other) c.in-Err.fault c.of_opening.result place c.in-Err.ensures.opened c.of_opening.ensures is told
 
 pub returns-clause-unopened : goal.returns-clause-unopened
 returns-clause-unopened g c = λ place is told. absurd (not_of_disks c.in-Err-answer_all.end c.in-Err-answer_all.ensures.few (subst IsOfDisks (sym is) tt))
+
+pub returns-in-Err-clause-disks_steady : goal.returns-in-Err-clause-disks_steady
+returns-in-Err-clause-disks_steady g c = opening_steady c.in-Err.fault c.of_opening.result _ c.of_opening.ensures c.in-Err.ensures.steady

@@ -4,6 +4,12 @@ use Rattle.relay_step.specs.Around.{around}
 use Rattle.serve_run.specs.AtDoor.{at_door}
 use Rattle.relay_cli.proofs.Damaged.{check_good, feed_bad, mirror_good, of_disks, query_bad, run_bad, serving_bad, tape_bad, trial_good}
 use Rattle.relay_cli.proofs.Words.{followed_of, lines_ran, operated_of, ran_as, spent_by, synced_of}
+use Rattle.relay_cli.proofs.Flawless.{ends_by_tape, feed_quiet, of_command, of_end, quiet, replay_quiet, tape_hides_none}
+use Rattle.relay_cli.specs.Faults.{speaks_of_part}
+use Rattle.relay_cli.specs.Runs.{faults}
+use Rattle.relay_cli.specs.Statuses.{status_of_feed, status_of_mirror, status_of_query, status_of_run, status_of_serving, status_of_tape, status_of_trial}
+use Rattle.relay_cli.specs.declared.command.Command.{Command}
+use Rattle.relay_cli.specs.declared.status.Status.{Status}
 use Rattle.relay_cli.proofs.running.run.Goals as goal
 
 pub returns-in-Takedown-clause-ran : goal.returns-in-Takedown-clause-ran
@@ -311,3 +317,230 @@ returns-in-Mirror-clause-damaged g c = λ at is told. absurd (mirror_good c.mirr
 
 pub returns-in-Check-clause-damaged : goal.returns-in-Check-clause-damaged
 returns-in-Check-clause-damaged g c = λ at is told. absurd (check_good _ _ _ c.check.result at c.check.ensures.checked is)
+
+pub returns-in-Account-clause-told : goal.returns-in-Account-clause-told
+returns-in-Account-clause-told g c = record {
+  disks = λ not. c.account.ensures.disks_steady (λ e. not (c.from-in-Account.ensures ∙ ap status_of_run e));
+  feed = λ not. refl;
+  door = λ not. refl;
+  wire = λ not. refl;
+}
+
+pub returns-in-Account-clause-flawless : goal.returns-in-Account-clause-flawless
+returns-in-Account-clause-flawless g c = λ hidden none.
+    let disks = c.account.ensures.disks_steady (λ e. quiet _ Status.Disk refl none (c.from-in-Account.ensures ∙ ap status_of_run e)) in
+    let out = c.account.ensures.out_steady (λ e. quiet _ Status.WriteFault refl none (c.from-in-Account.ensures ∙ ap status_of_run e)) in
+    ((λ i. faults (disks.0 i) (disks.1 i) (g.R.Repos.faults c.args.repos.now) (g.C.Clock.faults c.args.clock.now) (g.I.Source.faults c.args.input.now) (out i) (g.F.Feed.faults c.args.feed.now) (g.G.Door.faults c.args.door.now) (g.W.Wire.faults c.args.wire.now)), λ not name s. s)
+
+pub returns-in-Hosts-clause-told : goal.returns-in-Hosts-clause-told
+returns-in-Hosts-clause-told g c = record {
+  disks = λ not. c.hosts.ensures.disks_steady (λ e. not (c.from-in-Hosts.ensures ∙ ap status_of_run e));
+  feed = λ not. refl;
+  door = λ not. refl;
+  wire = λ not. refl;
+}
+
+pub returns-in-Hosts-clause-flawless : goal.returns-in-Hosts-clause-flawless
+returns-in-Hosts-clause-flawless g c = λ hidden none.
+    let disks = c.hosts.ensures.disks_steady (λ e. quiet _ Status.Disk refl none (c.from-in-Hosts.ensures ∙ ap status_of_run e)) in
+    let out = c.hosts.ensures.out_steady (λ e. quiet _ Status.WriteFault refl none (c.from-in-Hosts.ensures ∙ ap status_of_run e)) in
+    ((λ i. faults (disks.0 i) (disks.1 i) (g.R.Repos.faults c.args.repos.now) (g.C.Clock.faults c.args.clock.now) (g.I.Source.faults c.args.input.now) (out i) (g.F.Feed.faults c.args.feed.now) (g.G.Door.faults c.args.door.now) (g.W.Wire.faults c.args.wire.now)), λ not name s. s)
+
+pub returns-in-Takedown-clause-told : goal.returns-in-Takedown-clause-told
+returns-in-Takedown-clause-told g c = record {
+  disks = λ not. c.operate.ensures.disks_steady (λ e. not (c.from-in-Takedown.ensures ∙ ap status_of_run e));
+  feed = λ not. refl;
+  door = λ not. refl;
+  wire = λ not. refl;
+}
+
+pub returns-in-Takedown-clause-flawless : goal.returns-in-Takedown-clause-flawless
+returns-in-Takedown-clause-flawless g c = λ hidden none.
+    let disks = c.operate.ensures.disks_steady (λ e. quiet _ Status.Disk refl none (c.from-in-Takedown.ensures ∙ ap status_of_run e)) in
+    let out = c.operate.ensures.out_steady (λ e. quiet _ Status.WriteFault refl none (c.from-in-Takedown.ensures ∙ ap status_of_run e)) in
+    let clock = c.operate.ensures.clock_steady (λ e. quiet _ Status.Clock refl none (c.from-in-Takedown.ensures ∙ ap status_of_run e)) in
+    ((λ i. faults (disks.0 i) (disks.1 i) (g.R.Repos.faults c.args.repos.now) (clock i) (g.I.Source.faults c.args.input.now) (out i) (g.F.Feed.faults c.args.feed.now) (g.G.Door.faults c.args.door.now) (g.W.Wire.faults c.args.wire.now)), λ not name s. s)
+
+pub returns-in-Restore-clause-told : goal.returns-in-Restore-clause-told
+returns-in-Restore-clause-told g c = record {
+  disks = λ not. c.operate-in-Restore.ensures.disks_steady (λ e. not (c.from-in-Restore.ensures ∙ ap status_of_run e));
+  feed = λ not. refl;
+  door = λ not. refl;
+  wire = λ not. refl;
+}
+
+pub returns-in-Restore-clause-flawless : goal.returns-in-Restore-clause-flawless
+returns-in-Restore-clause-flawless g c = λ hidden none.
+    let disks = c.operate-in-Restore.ensures.disks_steady (λ e. quiet _ Status.Disk refl none (c.from-in-Restore.ensures ∙ ap status_of_run e)) in
+    let out = c.operate-in-Restore.ensures.out_steady (λ e. quiet _ Status.WriteFault refl none (c.from-in-Restore.ensures ∙ ap status_of_run e)) in
+    let clock = c.operate-in-Restore.ensures.clock_steady (λ e. quiet _ Status.Clock refl none (c.from-in-Restore.ensures ∙ ap status_of_run e)) in
+    ((λ i. faults (disks.0 i) (disks.1 i) (g.R.Repos.faults c.args.repos.now) (clock i) (g.I.Source.faults c.args.input.now) (out i) (g.F.Feed.faults c.args.feed.now) (g.G.Door.faults c.args.door.now) (g.W.Wire.faults c.args.wire.now)), λ not name s. s)
+
+pub returns-in-Sync-clause-told : goal.returns-in-Sync-clause-told
+returns-in-Sync-clause-told g c = record {
+  disks = λ not. c.sync.ensures.disks_steady (λ e. not (c.from-in-Sync.ensures ∙ ap status_of_run e));
+  feed = λ not. refl;
+  door = λ not. refl;
+  wire = λ not. refl;
+}
+
+pub returns-in-Sync-clause-flawless : goal.returns-in-Sync-clause-flawless
+returns-in-Sync-clause-flawless g c = λ hidden none.
+    let disks = c.sync.ensures.disks_steady (λ e. quiet _ Status.Disk refl none (c.from-in-Sync.ensures ∙ ap status_of_run e)) in
+    let out = c.sync.ensures.out_steady (λ e. quiet _ Status.WriteFault refl none (c.from-in-Sync.ensures ∙ ap status_of_run e)) in
+    let clock = c.sync.ensures.clock_steady (λ e. quiet _ Status.Clock refl none (c.from-in-Sync.ensures ∙ ap status_of_run e)) in
+    let repos = c.sync.ensures.repos_steady (λ e. quiet _ Status.Repos refl none (c.from-in-Sync.ensures ∙ ap status_of_run e)) in
+    ((λ i. faults (disks.0 i) (disks.1 i) (repos i) (clock i) (g.I.Source.faults c.args.input.now) (out i) (g.F.Feed.faults c.args.feed.now) (g.G.Door.faults c.args.door.now) (g.W.Wire.faults c.args.wire.now)), λ not. c.sync.ensures.unspent (λ e. not (c.from-in-Sync.ensures ∙ ap status_of_run e)))
+
+pub returns-in-Cut-clause-told : goal.returns-in-Cut-clause-told
+returns-in-Cut-clause-told g c = record {
+  disks = λ not. c.cut.ensures.disks_steady (λ e. not (c.from-in-Cut.ensures ∙ ap status_of_run e));
+  feed = λ not. refl;
+  door = λ not. refl;
+  wire = λ not. refl;
+}
+
+pub returns-in-Cut-clause-flawless : goal.returns-in-Cut-clause-flawless
+returns-in-Cut-clause-flawless g c = λ hidden none.
+    let disks = c.cut.ensures.disks_steady (λ e. quiet _ Status.Disk refl none (c.from-in-Cut.ensures ∙ ap status_of_run e)) in
+    let out = c.cut.ensures.out_steady (λ e. quiet _ Status.WriteFault refl none (c.from-in-Cut.ensures ∙ ap status_of_run e)) in
+    ((λ i. faults (disks.0 i) (disks.1 i) (g.R.Repos.faults c.args.repos.now) (g.C.Clock.faults c.args.clock.now) (g.I.Source.faults c.args.input.now) (out i) (g.F.Feed.faults c.args.feed.now) (g.G.Door.faults c.args.door.now) (g.W.Wire.faults c.args.wire.now)), λ not name s. s)
+
+pub returns-in-Ingest-clause-told : goal.returns-in-Ingest-clause-told
+returns-in-Ingest-clause-told g c = record {
+  disks = λ not. c.ingest.ensures.disks_steady (λ e. not (c.from.ensures ∙ ap status_of_tape e));
+  feed = λ not. refl;
+  door = λ not. refl;
+  wire = λ not. refl;
+}
+
+pub returns-in-Ingest-clause-flawless : goal.returns-in-Ingest-clause-flawless
+returns-in-Ingest-clause-flawless g c = λ hidden none.
+    let spoken = of_end speaks_of_part _ _ c.from.ensures none in
+    let hides = of_command _ Command.Ingest _ _ c.in-Ingest.is c.from.ensures hidden in
+    let untold = tape_hides_none c.ingest.result spoken hides in
+    let disks = c.ingest.ensures.disks_steady (λ e. quiet _ Status.Disk refl none (c.from.ensures ∙ ap status_of_tape e)) in
+    let out = c.ingest.ensures.out_steady (λ e. quiet _ Status.WriteFault refl none (c.from.ensures ∙ ap status_of_tape e)) in
+    let clock = c.ingest.ensures.clock_steady untold (λ e. quiet _ Status.Clock refl none (c.from.ensures ∙ ap status_of_tape e)) in
+    let repos = c.ingest.ensures.repos_steady untold (λ e. quiet _ Status.Repos refl none (c.from.ensures ∙ ap status_of_tape e)) in
+    let input = c.ingest.ensures.input_steady (ends_by_tape c.ingest.result spoken hides) in
+    ((λ i. faults (disks.0 i) (disks.1 i) (repos i) (clock i) (input i) (out i) (g.F.Feed.faults c.args.feed.now) (g.G.Door.faults c.args.door.now) (g.W.Wire.faults c.args.wire.now)), λ not. c.ingest.ensures.unspent untold (λ e. not (c.from.ensures ∙ ap status_of_tape e)))
+
+pub returns-in-Follow-clause-told : goal.returns-in-Follow-clause-told
+returns-in-Follow-clause-told g c = record {
+  disks = λ not. c.follow.ensures.disks_steady (λ e. not (c.from-in-Follow.ensures ∙ ap status_of_feed e));
+  feed = λ not. c.follow.ensures.steady (λ e. not (c.from-in-Follow.ensures ∙ ap status_of_feed e));
+  door = λ not. refl;
+  wire = λ not. refl;
+}
+
+pub returns-in-Follow-clause-flawless : goal.returns-in-Follow-clause-flawless
+returns-in-Follow-clause-flawless g c = λ hidden none.
+    let untold = feed_quiet _ _ _ _ c.follow.result c.in-Follow.is c.from-in-Follow.ensures none hidden in
+    let disks = c.follow.ensures.disks_steady (λ e. quiet _ Status.Disk refl none (c.from-in-Follow.ensures ∙ ap status_of_feed e)) in
+    let out = c.follow.ensures.out_steady (λ e. quiet _ Status.WriteFault refl none (c.from-in-Follow.ensures ∙ ap status_of_feed e)) in
+    let clock = c.follow.ensures.clock_steady untold (λ e. quiet _ Status.Clock refl none (c.from-in-Follow.ensures ∙ ap status_of_feed e)) in
+    let repos = c.follow.ensures.repos_steady untold (λ e. quiet _ Status.Repos refl none (c.from-in-Follow.ensures ∙ ap status_of_feed e)) in
+    let feed = c.follow.ensures.steady (λ e. quiet _ Status.Feed refl none (c.from-in-Follow.ensures ∙ ap status_of_feed e)) in
+    ((λ i. faults (disks.0 i) (disks.1 i) (repos i) (clock i) (g.I.Source.faults c.args.input.now) (out i) (feed i) (g.G.Door.faults c.args.door.now) (g.W.Wire.faults c.args.wire.now)), λ not. c.follow.ensures.unspent untold (λ e. not (c.from-in-Follow.ensures ∙ ap status_of_feed e)))
+
+pub returns-in-Replay-clause-told : goal.returns-in-Replay-clause-told
+returns-in-Replay-clause-told g c = record {
+  disks = λ not. c.replay.ensures.disks_steady (λ e. not (c.from-in-Replay.ensures ∙ ap status_of_serving e));
+  feed = λ not. refl;
+  door = λ not. refl;
+  wire = λ not. refl;
+}
+
+pub returns-in-Replay-clause-flawless : goal.returns-in-Replay-clause-flawless
+returns-in-Replay-clause-flawless g c = λ hidden none.
+    let disks = c.replay.ensures.disks_steady (λ e. quiet _ Status.Disk refl none (c.from-in-Replay.ensures ∙ ap status_of_serving e)) in
+    let done = replay_quiet _ _ _ c.replay.result c.in-Replay.is c.from-in-Replay.ensures none hidden in
+    let out = c.replay.ensures.out_steady done in
+    ((λ i. faults (disks.0 i) (disks.1 i) (g.R.Repos.faults c.args.repos.now) (g.C.Clock.faults c.args.clock.now) (g.I.Source.faults c.args.input.now) (out i) (g.F.Feed.faults c.args.feed.now) (g.G.Door.faults c.args.door.now) (g.W.Wire.faults c.args.wire.now)), λ not name s. s)
+
+pub returns-in-Serve-clause-told : goal.returns-in-Serve-clause-told
+returns-in-Serve-clause-told g c = record {
+  disks = λ not. c.serve.ensures.disks_steady (λ e. not (c.from-in-Serve.ensures ∙ ap status_of_serving e));
+  feed = λ not. refl;
+  door = λ not. c.serve.ensures.door_steady (λ e. not (c.from-in-Serve.ensures ∙ ap status_of_serving e));
+  wire = λ not. refl;
+}
+
+pub returns-in-Serve-clause-flawless : goal.returns-in-Serve-clause-flawless
+returns-in-Serve-clause-flawless g c = λ hidden none.
+    let disks = c.serve.ensures.disks_steady (λ e. quiet _ Status.Disk refl none (c.from-in-Serve.ensures ∙ ap status_of_serving e)) in
+    let out = c.serve.ensures.out_steady (λ e. quiet _ Status.WriteFault refl none (c.from-in-Serve.ensures ∙ ap status_of_serving e)) in
+    let door = c.serve.ensures.door_steady (λ e. quiet _ Status.Door refl none (c.from-in-Serve.ensures ∙ ap status_of_serving e)) in
+    ((λ i. faults (disks.0 i) (disks.1 i) (g.R.Repos.faults c.args.repos.now) (g.C.Clock.faults c.args.clock.now) (g.I.Source.faults c.args.input.now) (out i) (g.F.Feed.faults c.args.feed.now) (door i) (g.W.Wire.faults c.args.wire.now)), λ not name s. s)
+
+pub returns-in-Trial-clause-told : goal.returns-in-Trial-clause-told
+returns-in-Trial-clause-told g c = record {
+  disks = λ not. (refl, refl);
+  feed = λ not. refl;
+  door = λ not. refl;
+  wire = λ not. refl;
+}
+
+pub returns-in-Trial-clause-flawless : goal.returns-in-Trial-clause-flawless
+returns-in-Trial-clause-flawless g c = λ hidden none.
+    let out = c.trial.ensures.out_steady (λ e. quiet _ Status.WriteFault refl none (c.from-in-Trial.ensures ∙ ap status_of_trial e)) in
+    ((λ i. faults ((g.D.Disk.view c.args.disk.now).faults) ((g.D.Disk.view c.args.other.now).faults) (g.R.Repos.faults c.args.repos.now) (g.C.Clock.faults c.args.clock.now) (g.I.Source.faults c.args.input.now) (out i) (g.F.Feed.faults c.args.feed.now) (g.G.Door.faults c.args.door.now) (g.W.Wire.faults c.args.wire.now)), λ not name s. s)
+
+pub returns-in-Mirror-clause-told : goal.returns-in-Mirror-clause-told
+returns-in-Mirror-clause-told g c = record {
+  disks = λ not. (refl, refl);
+  feed = λ not. refl;
+  door = λ not. refl;
+  wire = λ not. refl;
+}
+
+pub returns-in-Mirror-clause-flawless : goal.returns-in-Mirror-clause-flawless
+returns-in-Mirror-clause-flawless g c = λ hidden none.
+    let input = c.mirror.ensures.input_steady (λ e. quiet _ Status.ReadFault refl none (c.from-in-Mirror.ensures ∙ ap status_of_mirror e)) in
+    let out = c.mirror.ensures.out_steady (λ e. quiet _ Status.WriteFault refl none (c.from-in-Mirror.ensures ∙ ap status_of_mirror e)) in
+    let repos = c.mirror.ensures.repos_steady (λ e. quiet _ Status.Repos refl none (c.from-in-Mirror.ensures ∙ ap status_of_mirror e)) in
+    ((λ i. faults ((g.D.Disk.view c.args.disk.now).faults) ((g.D.Disk.view c.args.other.now).faults) (repos i) (g.C.Clock.faults c.args.clock.now) (input i) (out i) (g.F.Feed.faults c.args.feed.now) (g.G.Door.faults c.args.door.now) (g.W.Wire.faults c.args.wire.now)), λ not name s. s)
+
+pub returns-in-Query-clause-told : goal.returns-in-Query-clause-told
+returns-in-Query-clause-told g c = record {
+  disks = λ not. c.query.ensures.disks_steady (λ e. not (c.from-in-Query.ensures ∙ ap status_of_query e));
+  feed = λ not. refl;
+  door = λ not. refl;
+  wire = λ not. c.query.ensures.wire_steady (λ e. not (c.from-in-Query.ensures ∙ ap status_of_query e));
+}
+
+pub returns-in-Query-clause-flawless : goal.returns-in-Query-clause-flawless
+returns-in-Query-clause-flawless g c = λ hidden none.
+    let disks = c.query.ensures.disks_steady (λ e. quiet _ Status.Disk refl none (c.from-in-Query.ensures ∙ ap status_of_query e)) in
+    let out = c.query.ensures.out_steady (λ e. quiet _ Status.WriteFault refl none (c.from-in-Query.ensures ∙ ap status_of_query e)) in
+    let wire = c.query.ensures.wire_steady (λ e. quiet _ Status.Wire refl none (c.from-in-Query.ensures ∙ ap status_of_query e)) in
+    ((λ i. faults (disks.0 i) (disks.1 i) (g.R.Repos.faults c.args.repos.now) (g.C.Clock.faults c.args.clock.now) (g.I.Source.faults c.args.input.now) (out i) (g.F.Feed.faults c.args.feed.now) (g.G.Door.faults c.args.door.now) (wire i)), λ not name s. s)
+
+pub returns-in-Lines-clause-told : goal.returns-in-Lines-clause-told
+returns-in-Lines-clause-told g c = record {
+  disks = λ not. c.lines.ensures.disks_steady (λ e. not (c.from-in-Lines.ensures ∙ ap status_of_serving e));
+  feed = λ not. refl;
+  door = λ not. refl;
+  wire = λ not. refl;
+}
+
+pub returns-in-Lines-clause-flawless : goal.returns-in-Lines-clause-flawless
+returns-in-Lines-clause-flawless g c = λ hidden none.
+    let disks = c.lines.ensures.disks_steady (λ e. quiet _ Status.Disk refl none (c.from-in-Lines.ensures ∙ ap status_of_serving e)) in
+    let out = c.lines.ensures.out_steady (λ e. quiet _ Status.WriteFault refl none (c.from-in-Lines.ensures ∙ ap status_of_serving e)) in
+    ((λ i. faults (disks.0 i) (disks.1 i) (g.R.Repos.faults c.args.repos.now) (g.C.Clock.faults c.args.clock.now) (g.I.Source.faults c.args.input.now) (out i) (g.F.Feed.faults c.args.feed.now) (g.G.Door.faults c.args.door.now) (g.W.Wire.faults c.args.wire.now)), λ not name s. s)
+
+pub returns-in-Check-clause-told : goal.returns-in-Check-clause-told
+returns-in-Check-clause-told g c = record {
+  disks = λ not. (refl, refl);
+  feed = λ not. refl;
+  door = λ not. refl;
+  wire = λ not. refl;
+}
+
+pub returns-in-Check-clause-flawless : goal.returns-in-Check-clause-flawless
+returns-in-Check-clause-flawless g c = λ hidden none.
+    let input = c.check.ensures.input_steady (λ e. quiet _ Status.ReadFault refl none (e)) in
+    let out = c.check.ensures.out_steady (λ e. quiet _ Status.WriteFault refl none (e)) in
+    ((λ i. faults ((g.D.Disk.view c.args.disk.now).faults) ((g.D.Disk.view c.args.other.now).faults) (g.R.Repos.faults c.args.repos.now) (g.C.Clock.faults c.args.clock.now) (input i) (out i) (g.F.Feed.faults c.args.feed.now) (g.G.Door.faults c.args.door.now) (g.W.Wire.faults c.args.wire.now)), λ not name s. s)

@@ -1,5 +1,5 @@
 use Rattle.std.proofs.Common.{◌≡◌, ◌∙◌, Err, false, sym, ap}
-use Rattle.serve_run.proofs.SessionsServed.{came_counted, served_fault, served_whole, serving_bad, serving_counts, serving_over}
+use Rattle.serve_run.proofs.SessionsServed.{came_counted, served_fault, served_whole, serving_bad, serving_counts, serving_disk, serving_over}
 use Rattle.serve_run.proofs.accepting.serve_events.Goals as goal
 
 pub returns-in-Ok-clause-session_served : goal.returns-in-Ok-clause-session_served
@@ -28,3 +28,6 @@ returns-in-Err-clause-counted g c =
 pub returns-in-Err-clause-closed : goal.returns-in-Err-clause-closed
 returns-in-Err-clause-closed g c =
     serving_over c.in-Err.fault (g.G.Door.waits c.serve.new.door ≡ false) c.session_after.result c.session_after.ensures (λ n is. c.in-Err.ensures.over n (ap Err is))
+
+pub returns-in-Err-clause-event_steady : goal.returns-in-Err-clause-event_steady
+returns-in-Err-clause-event_steady g c = λ no. c.in-Err.ensures.event_steady (λ is. no (c.session_after.ensures ∙ serving_disk c.in-Err.fault is))

@@ -2,7 +2,7 @@ use Rattle.std.proofs.Common.{◌∙◌, Err, sym, ap}
 use Rattle.std.specs.Prelude.{Some}
 use Rattle.backfill.specs.Served.{served}
 use Rattle.backfill.specs.Writing.{with_length}
-use Rattle.serve_run.proofs.Ending.{fault_unbroken, fault_written, replay_bad}
+use Rattle.serve_run.proofs.Ending.{fault_unbroken, fault_written, replay_bad, replay_disk, replay_undone}
 use Rattle.serve_run.proofs.replaying.replay_events.Goals as goal
 
 pub returns-in-Ok-clause-written : goal.returns-in-Ok-clause-written
@@ -19,3 +19,9 @@ returns-in-Err-clause-no_bad_log g c = λ place is.
 pub returns-in-Err-clause-unbroken : goal.returns-in-Err-clause-unbroken
 returns-in-Err-clause-unbroken g c = λ told held holds out.
     fault_unbroken c.in-Err.fault c.of_replay.result _ (served held (Some c.args.cursor)) _ _ c.of_replay.ensures (λ of. c.in-Err.ensures.unbroken of told held holds out)
+
+pub returns-in-Err-clause-event_steady : goal.returns-in-Err-clause-event_steady
+returns-in-Err-clause-event_steady g c = λ no. c.in-Err.ensures.event_steady (λ is. no (c.of_replay.ensures ∙ replay_disk c.in-Err.fault is))
+
+pub returns-in-Err-clause-out_steady : goal.returns-in-Err-clause-out_steady
+returns-in-Err-clause-out_steady g c = λ is. absurd (replay_undone c.in-Err.fault (sym c.of_replay.ensures ∙ is))

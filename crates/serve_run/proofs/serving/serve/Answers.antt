@@ -1,11 +1,12 @@
-use Rattle.std.proofs.Common.{Err, sym, ap, subst, refl}
+use Rattle.std.proofs.Common.{◌∙◌, Err, sym, ap, subst, refl}
 use Rattle.relay_store.specs.Shown.{held_by}
 use Rattle.relay_run.proofs.Beside.{opened_keeps}
 use Rattle.serve_run.specs.AtDoor.{at_door}
 use Rattle.serve_run.specs.Ends.{ServeOpened, ServeEndShows}
+use Rattle.serve_run.specs.Guests.{end_in}
 use Rattle.serve_run.specs.declared.end.ServeEnd.{ServeEnd}
-use Rattle.serve_run.proofs.Counting.{opening_door, served_unopened}
-use Rattle.serve_run.proofs.Ending.{image_shows, opening_shows, opening_read}
+use Rattle.serve_run.proofs.Counting.{door_same, opening_door, served_unopened}
+use Rattle.serve_run.proofs.Ending.{image_shows, opening_read, opening_shows, opening_steady}
 use Rattle.serve_run.proofs.Reading.{read_opened, read_unopened}
 use Rattle.serve_run.proofs.serving.serve.Goals as goal
 
@@ -55,3 +56,24 @@ returns-in-Err-clause-unopened g c = λ place is told. (
 
 pub returns-clause-unopened : goal.returns-clause-unopened
 returns-clause-unopened g c = λ place is told. absurd (c.in-Err-serve_guests.ensures.no_bad_log place is told)
+
+pub returns-in-Err-clause-disks_steady : goal.returns-in-Err-clause-disks_steady
+returns-in-Err-clause-disks_steady g c = opening_steady c.in-Err.fault c.of_opening.result _ c.of_opening.ensures c.in-Err.ensures.steady
+
+pub returns-in-Ok-serve_guests-clause-disks_steady : goal.returns-in-Ok-serve_guests-clause-disks_steady
+returns-in-Ok-serve_guests-clause-disks_steady g c = λ no.
+    let opened = c.in-Ok.ensures.steady (λ is. absurd cc) in
+    let served = c.in-Ok-serve_guests.ensures.disks_steady (λ is. absurd cc) in
+    (served.0 ∙ opened.0, served.1 ∙ opened.1)
+
+pub returns-clause-disks_steady : goal.returns-clause-disks_steady
+returns-clause-disks_steady g c = λ no.
+    let opened = c.in-Ok.ensures.steady (λ is. absurd cc) in
+    let served = c.in-Err-serve_guests.ensures.disks_steady (λ is. no (ap end_in is)) in
+    (served.0 ∙ opened.0, served.1 ∙ opened.1)
+
+pub returns-clause-out_steady : goal.returns-clause-out_steady
+returns-clause-out_steady g c = λ no. c.in-Err-serve_guests.ensures.out_steady (λ is. no (ap end_in is))
+
+pub returns-clause-door_steady : goal.returns-clause-door_steady
+returns-clause-door_steady g c = door_same c.in-Err-serve_guests.end _ _ c.in-Err-serve_guests.ensures.door_count

@@ -50,6 +50,9 @@ guests-preserved g c = record {
   steady = c.in_ok-session.ensures.steady ∙ c.guests.invariant.steady;
   session_counts = omega (arith, c.guests.invariant.session_counts, c.in_ok-session.ensures.session_counts);
   out_counts = omega (arith, c.guests.invariant.out_counts, c.in_ok-write_session.ensures.counts);
+  disk_steady = (c.in_ok-session.ensures.disks_steady (λ is. absurd cc)).0 ∙ c.guests.invariant.disk_steady;
+  other_steady = (c.in_ok-session.ensures.disks_steady (λ is. absurd cc)).1 ∙ c.guests.invariant.other_steady;
+  out_steady = c.in_ok-write_session.ensures.steady (λ is. absurd cc) ∙ c.guests.invariant.out_steady;
 }
 
 pub returns-in_err-write_session-clause-served : goal.returns-in_err-write_session-clause-served

@@ -21,6 +21,9 @@ invariant-guests g l =
       steady : g.G.Door.faults l.door ≡ g.G.Door.faults l.fn.door;
       session_counts : g.G.Door.session_faults l.fn.door ≤ g.G.Door.session_faults l.door;
       out_counts : g.O.Sink.faults l.fn.out ≤ g.O.Sink.faults l.out;
+      disk_steady : (g.D.Disk.view l.disk).faults ≡ (g.D.Disk.view l.fn.disk).faults;
+      other_steady : (g.D.Disk.view l.other).faults ≡ (g.D.Disk.view l.fn.other).faults;
+      out_steady : g.O.Sink.faults l.out ≡ g.O.Sink.faults l.fn.out;
     }
 
 abbrev pub decreases-guests : goal.decreases-guests

@@ -11,6 +11,7 @@ invariant-pieces g l =
       place : l.self.place ≡ l.fn.self.place;
       most : l.self.most ≡ l.fn.self.most;
       counts : faults l.fn.source ≤ faults l.source;
+      steady : faults l.source ≡ faults l.fn.source;
     }
 
 abbrev pub decreases-pieces : goal.decreases-pieces
