@@ -23,8 +23,8 @@ abbrev pub accounts : List Row → List (List ℕ × State)
 accounts rows = map (λ did. (did, account did rows)) (dids rows)
 
 -- the account of a DID, where a row names it
-abbrev pub account_of : List Row → List ℕ → Option State
-account_of rows did = if is_named did rows then Some (account did rows) else None
+abbrev pub named_account : List Row → List ℕ → Option State
+named_account rows did = if is_named did rows then Some (account did rows) else None
 
 -- ascending DIDs behind one
 abbrev pub AreBehind : List ℕ → List (List ℕ) → Type 0

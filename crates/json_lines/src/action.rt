@@ -3,7 +3,7 @@
 ghost use Rattle.std.specs.Prelude.{◌≡◌, codes, option_map, option_and_then};
 ghost use Rattle.at_cbor.specs.Kinds.{field_of};
 ghost use Rattle.at_cbor.specs.View.{item_of};
-ghost use Rattle.json_lines.specs.Lines.{action_at, action_text, item_at, text_of_item};
+ghost use Rattle.json_lines.specs.Lines.{action_at, action_text, list_item, text_of_item};
 
 use at_cbor::{Value, field};
 use at_event::{Action, Event};
@@ -21,7 +21,7 @@ fn ops_in(event: &Event) -> Option<&Value>
 #[tactic(auto, using(at_cbor::proofs::Parts::items_same))]
 fn item_at(list: Option<&Value>, place: usize) -> Option<&Value>
     ensures { option_map (λ value. item_of value.now) result
-        ≡ item_at (option_map (λ value. item_of value.now) list.entry) place }
+        ≡ list_item (option_map (λ value. item_of value.now) list.entry) place }
 {
     match list {
         Some(Value::List(items)) => items.get(place),

@@ -3,7 +3,7 @@
 ghost use Rattle.std.specs.Prelude.{◌≡◌, IfOk, OnOk, option_map};
 ghost use Rattle.serde_json.specs.View.{members_view, view};
 ghost use Rattle.json_text.specs.Values.{put_some};
-ghost use Rattle.json_lines.specs.Lines.{line_of, link_value, op_value};
+ghost use Rattle.json_lines.specs.Lines.{op_line, link_value, op_value};
 
 use at_cid::{Cid, Memory, Octets, TEXT_LEN, link_text};
 use at_event::EventOp;
@@ -71,7 +71,7 @@ pub(crate) fn line_of(
     action: &str,
     op: &EventOp,
 ) -> Result<Octets, Memory>
-    ensures { IfOk result (λ line. line ≡ line_of seq did.now rev action.now op.now) }
+    ensures { IfOk result (λ line. line ≡ op_line seq did.now rev action.now op.now) }
 {
     let value = op_value(alloc, seq, did, rev, action, op)?;
     let mut line = bytes_of(alloc, &value)?;

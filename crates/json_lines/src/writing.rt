@@ -1,7 +1,7 @@
 //! The lines of an event.
 
 ghost use Rattle.std.specs.Prelude.{◌≡◌, ◌++◌, IfOk, OnOk, OnErr, option_map};
-ghost use Rattle.json_lines.specs.Lines.{is_in, lines_from, lines_of};
+ghost use Rattle.json_lines.specs.Lines.{is_in, lines_from, lines_of_event};
 
 use crate::action::action_text;
 use crate::line::line_of;
@@ -60,7 +60,7 @@ pub fn lines(
     out: &mut Octets,
 ) -> Result<(), Memory>
     ensures added { OnOk result (out.new
-        ≡ out.old ++ lines_of (option_map (λ text. text.now) collection.entry) event.now) }
+        ≡ out.old ++ lines_of_event (option_map (λ text. text.now) collection.entry) event.now) }
     ensures kept { OnErr result (out.new ≡ out.old) }
 {
     let Body::Commit(commit) = &event.body else {

@@ -4,16 +4,16 @@ use Rattle.serde_json.specs.Data.{Data, array, object, Members, no_members, memb
 use Rattle.serde_json.specs.View.{items_of}
 
 -- a member of an object: its name and its value
-abbrev pub Named : Type 0
-Named = List ℕ × Data
+abbrev pub Member : Type 0
+Member = List ℕ × Data
 
-abbrev pub members_by : List Named → Members
+abbrev pub members_by : List Member → Members
 members_by [] = no_members
 members_by (m ∷ ms) = member m.0 m.1 (members_by ms)
 
 -- the object of these members
-abbrev pub object_of : List Named → Data
-object_of ms = object (members_by ms)
+abbrev pub object_with : List Member → Data
+object_with ms = object (members_by ms)
 
 -- the array of these values
 abbrev pub array_of : List Data → Data

@@ -17,7 +17,7 @@ pub record LinesWritten (output_tells : Bool) (J : List Row) (collection : Optio
   pub read : OnlyRead J (ServeOpened end) old.one old.two new.one new.two
 
 -- the ends that no failure brings: all was done, or memory ran out
-abbrev pub MayEnd : ServeEnd → Type 0
-MayEnd ServeEnd.Done = ⊤
-MayEnd ServeEnd.Memory = ⊤
-MayEnd end = ⊥
+abbrev pub LinesMayEnd : ServeEnd → Type 0
+LinesMayEnd ServeEnd.Done = ⊤
+LinesMayEnd ServeEnd.Memory = ⊤
+LinesMayEnd end = ⊥

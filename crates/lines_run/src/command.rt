@@ -16,7 +16,7 @@ ghost use Rattle.serve_run.specs.Ends.{IsCausedBy, ServeEndShows};
 ghost use Rattle.serve_run.specs.Replayed.{IsReplayed};
 ghost use Rattle.serve_run.specs.declared.end.ServeEnd.{ServeEnd};
 ghost use Rattle.lines_run.specs.Lines.{lines_above};
-ghost use Rattle.lines_run.specs.OfDisks.{LinesWritten, MayEnd};
+ghost use Rattle.lines_run.specs.OfDisks.{LinesWritten, LinesMayEnd};
 
 use crate::writing::write_lines;
 use event_window::Events;
@@ -155,7 +155,7 @@ pub fn lines<D: Disk, O: Sink>(
         → IsPairImageOf J (D.view disk.old).content (D.view other.old).content
         → (Rose (D.view disk.old).faults (D.view disk.new).faults
         ⊎ Rose (D.view other.old).faults (D.view other.new).faults → ⊥)
-        → (Rose (O.faults out.old) (O.faults out.new) → ⊥) → MayEnd result }
+        → (Rose (O.faults out.old) (O.faults out.new) → ⊥) → LinesMayEnd result }
     ensures disks_steady { result ≢ ServeEnd.Disk → ((D.view disk.new).faults ≡ (D.view disk.old).faults)
         × ((D.view other.new).faults ≡ (D.view other.old).faults) }
     ensures out_steady { result ≢ ServeEnd.WriteFault → O.faults out.new ≡ O.faults out.old }

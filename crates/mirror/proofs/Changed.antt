@@ -5,7 +5,7 @@ use Rattle.std.specs.BTreeMap.{get_by_text}
 use Rattle.std.specs.Option.{is_some, unwrap_or}
 use Rattle.std.specs.Str.{bytes_eq}
 use Rattle.std.proofs.lemmas.Slice.Eq.{bytes_eq-Decides}
-use Rattle.mirror.specs.Held.{Where}
+use Rattle.mirror.specs.Held.{WhereElse}
 use Rattle.mirror.specs.State.{at_start, held_by, is_known}
 use Rattle.mirror.specs.Taken.{IsChanged, IsSame, step_of}
 use Rattle.mirror.specs.declared.holding.Holding.{Holding}
@@ -57,7 +57,7 @@ module _ (did : List ℕ) (old new : Mirror) (held now : Holding) (was : get_by_
     came = came ∙ ap step_of (sym held_now);
   }
     where
-      held_of : (name : List ℕ) (b : Bool) → bytes_eq name did ≡ b → Where b (change (held_by old name) (held_by new name)) (held_by new name ≡ held_by old name)
+      held_of : (name : List ℕ) (b : Bool) → bytes_eq name did ≡ b → WhereElse b (change (held_by old name) (held_by new name)) (held_by new name ≡ held_by old name)
       held_of name true same =
           subst (λ (n : List ℕ). change (held_by old n) (held_by new n)) (sym ((bytes_eq-Decides name did).0 same))
           (subst (λ (h : Holding). change h (held_by new did)) (sym held_was) (subst (λ (h : Holding). change held h) (sym held_now) changes))

@@ -53,14 +53,14 @@ IsAfterBody repositories (Body.Sync sync) old new = IsAfterSync repositories syn
 IsAfterBody repositories Body.Identity old new = new ≡ old
 IsAfterBody repositories (Body.Account a) old new = new ≡ old
 
-abbrev pub Where : Bool → Type 0 → Type 0 → Type 0
-Where true here there = here
-Where false here there = there
+abbrev pub WhereElse : Bool → Type 0 → Type 0 → Type 0
+WhereElse true here there = here
+WhereElse false here there = there
 
 -- and so do events of other accounts
 abbrev pub IsAfterEvent : Repositories → List ℕ → Seen → Holding → Holding → Type 0
 IsAfterEvent repositories did e old new =
-    Where (bytes_eq did e.did) (IsAfterBody repositories e.body old new) (new ≡ old)
+    WhereElse (bytes_eq did e.did) (IsAfterBody repositories e.body old new) (new ≡ old)
 
 -- and messages that are no events
 abbrev pub IsAfterFrame : Repositories → List ℕ → Result Frame FrameFault → Holding → Holding → Type 0

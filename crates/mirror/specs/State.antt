@@ -19,7 +19,7 @@ abbrev pub is_known : Mirror → List ℕ → Bool
 is_known m did = is_some (get_by_text m.accounts did)
 
 -- the map that is held, with the revision that gave it
-abbrev pub map_in : Holding → Option (ℕ × List Item)
-map_in (Holding.Mapped (Some rev) map) = Some (rev, map)
-map_in (Holding.Mapped None map) = None
-map_in Holding.Waiting = None
+abbrev pub map_held : Holding → Option (ℕ × List Item)
+map_held (Holding.Mapped (Some rev) map) = Some (rev, map)
+map_held (Holding.Mapped None map) = None
+map_held Holding.Waiting = None

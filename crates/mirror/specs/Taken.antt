@@ -6,7 +6,7 @@ use Rattle.at_event.specs.Seen.{Seen}
 use Rattle.at_event.specs.declared.event.Body.{Body}
 use Rattle.at_event.specs.declared.frame.Frame.{Frame}
 use Rattle.at_event.specs.declared.frame.FrameFault.{FrameFault}
-use Rattle.mirror.specs.Held.{IsAfter, IsAfterEvent, Where}
+use Rattle.mirror.specs.Held.{IsAfter, IsAfterEvent, WhereElse}
 use Rattle.mirror.specs.Repository.{Repositories}
 use Rattle.mirror.specs.State.{held_by, is_known}
 use Rattle.mirror.specs.declared.holding.Holding.{Holding}
@@ -32,11 +32,11 @@ last_behind last (Ok Frame.Unknown) = last
 last_behind last (Err fault) = last
 
 -- a commit or a `#sync`
-abbrev pub is_of_repo : Body → Bool
-is_of_repo (Body.Commit c) = true
-is_of_repo (Body.Sync sync) = true
-is_of_repo Body.Identity = false
-is_of_repo (Body.Account a) = false
+abbrev pub is_repo_body : Body → Bool
+is_repo_body (Body.Commit c) = true
+is_repo_body (Body.Sync sync) = true
+is_repo_body Body.Identity = false
+is_repo_body (Body.Account a) = false
 
 abbrev pub is_sync : Body → Bool
 is_sync (Body.Commit c) = false
@@ -45,13 +45,13 @@ is_sync Body.Identity = false
 is_sync (Body.Account a) = false
 
 -- the message is an event of the DID with such a body
-abbrev pub is_about : (Body → Bool) → List ℕ → Result Frame FrameFault → Bool
-is_about such did (Ok (Frame.Event e)) = such e.body && bytes_eq did e.did
-is_about such did (Ok (Frame.Faulty seq)) = false
-is_about such did (Ok Frame.Info) = false
-is_about such did (Ok Frame.Error) = false
-is_about such did (Ok Frame.Unknown) = false
-is_about such did (Err fault) = false
+abbrev pub is_such_event_of : (Body → Bool) → List ℕ → Result Frame FrameFault → Bool
+is_such_event_of such did (Ok (Frame.Event e)) = such e.body && bytes_eq did e.did
+is_such_event_of such did (Ok (Frame.Faulty seq)) = false
+is_such_event_of such did (Ok Frame.Info) = false
+is_such_event_of such did (Ok Frame.Error) = false
+is_such_event_of such did (Ok Frame.Unknown) = false
+is_such_event_of such did (Err fault) = false
 
 -- what a message came to, by what is held behind it
 abbrev pub step_of : Holding → Step
@@ -63,7 +63,7 @@ step_by true held = step_of held
 step_by false held = Step.Passed
 
 abbrev pub IsStep : Mirror → Result Frame FrameFault → Step → Type 0
-IsStep m (Ok (Frame.Event e)) step = step ≡ step_by (is_of_repo e.body) (held_by m e.did)
+IsStep m (Ok (Frame.Event e)) step = step ≡ step_by (is_repo_body e.body) (held_by m e.did)
 IsStep m other step = step ≡ Step.Passed
 
 -- A message was taken: of each account what it makes is held, and the last number is its own. Only a `#sync` of the account
@@ -72,10 +72,10 @@ pub record IsTaken (tells : Bool) (repositories : Repositories) (old new : Mirro
     : Type 0 where
   pub good : is_bad old.last (frame_of message) ≡ false
   pub last : new.last ≡ last_behind old.last (frame_of message)
-  pub held : (did : List ℕ) → (IsTrue (is_about is_sync did (frame_of message)) → IsTrue tells)
+  pub held : (did : List ℕ) → (IsTrue (is_such_event_of is_sync did (frame_of message)) → IsTrue tells)
       → IsAfter repositories did message (held_by old did) (held_by new did)
   pub known : (did : List ℕ)
-      → is_known new did ≡ (is_known old did || is_about is_of_repo did (frame_of message))
+      → is_known new did ≡ (is_known old did || is_such_event_of is_repo_body did (frame_of message))
   pub came : IsStep new (frame_of message) step
 
 -- The same of an event.
@@ -85,14 +85,14 @@ pub record IsTakenEvent (tells : Bool) (repositories : Repositories) (old new : 
   pub held : (did : List ℕ) → (IsTrue (is_sync e.body && bytes_eq did e.did) → IsTrue tells)
       → IsAfterEvent repositories did e (held_by old did) (held_by new did)
   pub known : (did : List ℕ)
-      → is_known new did ≡ (is_known old did || (is_of_repo e.body && bytes_eq did e.did))
-  pub came : step ≡ step_by (is_of_repo e.body) (held_by new e.did)
+      → is_known new did ≡ (is_known old did || (is_repo_body e.body && bytes_eq did e.did))
+  pub came : step ≡ step_by (is_repo_body e.body) (held_by new e.did)
 
 -- Of the account of a DID something else is held, and of no other.
 pub record IsChanged (did : List ℕ) (change : Holding → Holding → Type 0) (old new : Mirror) (step : Step)
     : Type 0 where
   pub held : (name : List ℕ)
-      → Where (bytes_eq name did) (change (held_by old name) (held_by new name)) (held_by new name ≡ held_by old name)
+      → WhereElse (bytes_eq name did) (change (held_by old name) (held_by new name)) (held_by new name ≡ held_by old name)
   pub known : (name : List ℕ) → is_known new name ≡ (is_known old name || bytes_eq name did)
   pub came : step ≡ step_of (held_by new did)
 

@@ -9,7 +9,7 @@ ghost use Rattle.at_cid.specs.Order.{key_cmp};
 ghost use Rattle.at_event.specs.Frames.{frame_of};
 ghost use Rattle.mirror.specs.Held.{IsAfterCommit, IsAfterSync};
 ghost use Rattle.mirror.specs.Playing.{IsPlayableAs};
-ghost use Rattle.mirror.specs.State.{at_start, held_by, is_known, map_in};
+ghost use Rattle.mirror.specs.State.{at_start, held_by, is_known, map_held};
 ghost use Rattle.mirror.specs.Taken.{IsChanged, IsSame, IsTaken, IsTakenEvent, is_bad, step_of};
 ghost use Rattle.mirror.specs.declared.fault.MirrorFault as fault;
 
@@ -210,7 +210,7 @@ impl Mirror {
     /// The map of an account, with the revision that gave it. None where the account waits, or no commit or `#sync` gave it
     /// a revision.
     pub fn map(&self, did: &str) -> Option<(Tid, &ItemList)>
-        ensures { option_map (λ x. (x.0, x.1.now)) result ≡ map_in (held_by self.now did.now) }
+        ensures { option_map (λ x. (x.0, x.1.now)) result ≡ map_held (held_by self.now did.now) }
     {
         match self.accounts.get(did) {
             Some(Holding::Mapped(Some(rev), map)) => Some((*rev, map.as_list())),

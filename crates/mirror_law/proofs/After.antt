@@ -7,7 +7,7 @@ use Rattle.at_event.specs.Seen.{Seen}
 use Rattle.at_event.specs.declared.event.Body.{Body}
 use Rattle.at_event.specs.declared.frame.Frame.{Frame}
 use Rattle.at_event.specs.declared.frame.FrameFault.{FrameFault}
-use Rattle.mirror.specs.Held.{IsAfter, IsAfterBody, IsAfterEvent, IsAfterFrame, IsHeldFrom, Where}
+use Rattle.mirror.specs.Held.{IsAfter, IsAfterBody, IsAfterEvent, IsAfterFrame, IsHeldFrom, WhereElse}
 use Rattle.mirror.specs.Repository.{Repositories}
 use Rattle.mirror.specs.declared.holding.Holding.{Holding}
 
@@ -23,7 +23,7 @@ after_event repositories did m e old new reads h = let P : Result Frame FrameFau
 pub after_own : (repositories : Repositories) (did m : List ℕ) (e : Seen) (body : Body) (old new : Holding) → frame_of m ≡ Ok (Frame.Event e) → e.did ≡ did → e.body ≡ body → IsHeldFrom repositories did old (m ∷ []) new
     → IsAfterBody repositories body old new
 after_own repositories did m e body old new reads own says (middle, after, last) =
-    let P : Bool → Type 0 = λ b. Where b (IsAfterBody repositories e.body old middle) (middle ≡ old) in
+    let P : Bool → Type 0 = λ b. WhereElse b (IsAfterBody repositories e.body old middle) (middle ≡ old) in
     let Q : Body → Type 0 = λ b. IsAfterBody repositories b old middle in
     let R : Holding → Type 0 = λ x. IsAfterBody repositories body old x in
     let there = subst P ((bytes_eq-Decides did e.did).1 (sym own)) (after_event repositories did m e old middle reads after) in
@@ -32,5 +32,5 @@ after_own repositories did m e body old new reads own says (middle, after, last)
 -- one that is an event of another account
 pub after_other : (repositories : Repositories) (did m : List ℕ) (e : Seen) (old new : Holding) → frame_of m ≡ Ok (Frame.Event e) → bytes_eq did e.did ≡ false → IsHeldFrom repositories did old (m ∷ []) new → new ≡ old
 after_other repositories did m e old new reads other (middle, after, last) =
-    let P : Bool → Type 0 = λ b. Where b (IsAfterBody repositories e.body old middle) (middle ≡ old) in
+    let P : Bool → Type 0 = λ b. WhereElse b (IsAfterBody repositories e.body old middle) (middle ≡ old) in
     last ∙ subst P other (after_event repositories did m e old middle reads after)

@@ -38,8 +38,8 @@ use Rattle.mirror.specs.Repository.{Repositories}
 use Rattle.mirror.specs.declared.holding.Holding.{Holding}
 use Rattle.relay_law.specs.Heads.{GiveHeads}
 use Rattle.mirror_law.specs.Laws.{MirrorsHoldChains}
-use Rattle.mirror_law.specs.Mirrored.{BeginsWith, NoneWithheld, sent}
-use Rattle.mirror_law.specs.Open.{Beginning, empty, base, OpenChain, first_chain, open_chain, opened_after, opened_by, root_of}
+use Rattle.mirror_law.specs.Mirrored.{IsFirstMap, NoneWithheld, sent}
+use Rattle.mirror_law.specs.Open.{Beginning, empty, base, OpenChain, first_chain, open_chain, opened_after, opened_by, beginning_root}
 use Rattle.relay_store.specs.Shown.{is_shown, shown_of}
 use Rattle.mirror_law.proofs.After.{after_other, held_split}
 use Rattle.mirror_law.proofs.Followed.{row_goes}
@@ -180,7 +180,7 @@ followed repositories J before (row ∷ front) others did chain held next journa
 
 -- ---- the law
 
-begins_map : (repositories : Repositories) (began : Beginning) (s : List Item) → BeginsWith repositories began s → IsMap s × (root s ≡ root_of began)
+begins_map : (repositories : Repositories) (began : Beginning) (s : List Item) → IsFirstMap repositories began s → IsMap s × (root s ≡ beginning_root began)
 begins_map repositories empty s h = (subst (λ (x : List Item). IsMap x) (sym h) (record { formed = tt; ascends = tt; keys_only = tt }), ap (λ (x : List Item). root x) h)
 begins_map repositories (base r []) s h = absurd h
 begins_map repositories (base r (m ∷ [])) s h = (answer_map repositories h.sync s h.answers, h.rooted)
@@ -203,7 +203,7 @@ mirrors_hold J front did repositories s may =
     let chain = open_chain did front in
     let linked = last_linked did first_chain front (fronts_sound front others (subst P whole is.sound) did) in
     let start = begins_map repositories chain.began s may.begins in
-    let went = replays (root_of chain.began) chain.commits linked s start.0 start.1 may.apart in
+    let went = replays (beginning_root chain.began) chain.commits linked s start.0 start.1 may.apart in
     record {
       map = went.0;
       replayed = went.1;

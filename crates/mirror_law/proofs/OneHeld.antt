@@ -9,7 +9,7 @@ use Rattle.at_event.specs.declared.frame.Frame.{Frame}
 use Rattle.at_event.specs.declared.frame.FrameFault.{FrameFault}
 use Rattle.commit_check.specs.Step.{edits_of}
 use Rattle.mst_list.specs.declared.item.Item.{Item}
-use Rattle.mirror.specs.Held.{IsAfterBody, IsAfterCommit, IsAfterFrame, IsAfterSync, IsHeldFrom, Where}
+use Rattle.mirror.specs.Held.{IsAfterBody, IsAfterCommit, IsAfterFrame, IsAfterSync, IsHeldFrom, WhereElse}
 use Rattle.mirror.specs.Repository.{Repositories}
 use Rattle.mirror.specs.declared.holding.Holding.{Holding}
 use Rattle.mirror_law.specs.Laws.{OneIsHeld}
@@ -37,7 +37,7 @@ one_body repositories (Body.Sync y) old one other h k = one_sync repositories y 
 one_body repositories Body.Identity old one other h k = h ∙ sym k
 one_body repositories (Body.Account a) old one other h k = h ∙ sym k
 
-one_where : (repositories : Repositories) (body : Body) (old one other : Holding) (b : Bool) → Where b (IsAfterBody repositories body old one) (one ≡ old) → Where b (IsAfterBody repositories body old other) (other ≡ old) → one ≡ other
+one_where : (repositories : Repositories) (body : Body) (old one other : Holding) (b : Bool) → WhereElse b (IsAfterBody repositories body old one) (one ≡ old) → WhereElse b (IsAfterBody repositories body old other) (other ≡ old) → one ≡ other
 one_where repositories body old one other true h k = one_body repositories body old one other h k
 one_where repositories body old one other false h k = h ∙ sym k
 

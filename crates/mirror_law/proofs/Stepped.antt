@@ -29,7 +29,7 @@ use Rattle.mirror.specs.Held.{Continues, IsAfterCommit, IsAfterSync, is_edit, st
 use Rattle.mirror.specs.Repository.{Repositories, Answers}
 use Rattle.mirror.specs.declared.holding.Holding.{Holding}
 use Rattle.relay_law.specs.Heads.{CommitGives}
-use Rattle.mirror_law.specs.Mirrored.{BeginsWith, IsSync, Replay}
+use Rattle.mirror_law.specs.Mirrored.{IsFirstMap, IsSync, Replay}
 use Rattle.mirror_law.specs.Open.{OpenChain, base}
 use Rattle.mirror_law.proofs.Once.{answers_once, plays_once}
 use Rattle.mirror_law.proofs.Replayed.{replay_more}
@@ -42,7 +42,7 @@ IsRevOf (Repo.Lost last) rev = Unit {0}
 
 -- what is held is the map to which the open chain replays, whichever map it began with
 abbrev pub HoldsChain : Repositories → Repo → OpenChain → Holding → Type 0
-HoldsChain repositories repo chain held = (s t : List Item) → BeginsWith repositories chain.began s → Replay s chain.commits t → (rev : Option ℕ) × (held ≡ Holding.Mapped rev t) × IsRevOf repo rev
+HoldsChain repositories repo chain held = (s t : List Item) → IsFirstMap repositories chain.began s → Replay s chain.commits t → (rev : Option ℕ) × (held ≡ Holding.Mapped rev t) × IsRevOf repo rev
 
 -- ---- a message is read once
 

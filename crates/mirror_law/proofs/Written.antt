@@ -4,7 +4,7 @@ use Rattle.std.proofs.lemmas.Bool.Decides.{nat_tests}
 use Rattle.std.proofs.lemmas.Nat.{from_be_bytes-to_be_bytes_4}
 use Rattle.std.proofs.Math.Seq.{take-append_seam, drop-append_seam}
 use Rattle.std.specs.Int.{from_be_bytes, w32}
-use Rattle.backfill.specs.Writing.{stream_frame, with_length, has_long, is_long}
+use Rattle.backfill.specs.Writing.{stream_frame, with_length, has_long, is_too_long_to_frame}
 use Rattle.mirror_law.specs.Laws.{WrittenAreMirrored}
 use Rattle.mirror_law.specs.Mirrored.{IsMirrored, sent}
 use Rattle.mirror_law.specs.Open.{open_chain}
@@ -26,7 +26,7 @@ or_parts : (a b : Bool) → a || b ≡ false → (a ≡ false) × (b ≡ false)
 or_parts true b h = absurd cc
 or_parts false b h = (refl, h)
 
-short : (m : List ℕ) → is_long m ≡ false → length m < 2 ^ 32
+short : (m : List ℕ) → is_too_long_to_frame m ≡ false → length m < 2 ^ 32
 short m h = grind (arith, nat_tests)
 
 with_length_once : (xs ys : List (List ℕ)) → has_long xs ≡ false → has_long ys ≡ false → with_length xs ≡ with_length ys → xs ≡ ys
@@ -34,8 +34,8 @@ with_length_once [] [] sx sy is = refl
 with_length_once [] (y ∷ ys) sx sy is = absurd (none_framed y (with_length ys) is)
 with_length_once (x ∷ xs) [] sx sy is = absurd (none_framed x (with_length xs) (sym is))
 with_length_once (x ∷ xs) (y ∷ ys) sx sy is =
-    let px = or_parts (is_long x) (has_long xs) sx in
-    let py = or_parts (is_long y) (has_long ys) sy in
+    let px = or_parts (is_too_long_to_frame x) (has_long xs) sx in
+    let py = or_parts (is_too_long_to_frame y) (has_long ys) sy in
     let both = heads x y (with_length xs) (with_length ys) (short x px.0) (short y py.0) is in
     ap (λ (l : List ℕ). l ∷ xs) both.0 ∙ ap (λ (l : List (List ℕ)). y ∷ l) (with_length_once xs ys px.1 py.1 both.1)
 

@@ -12,8 +12,8 @@ use Rattle.relay_store.specs.Shown.{held_by}
 use Rattle.mirror.specs.Held.{IsHeld}
 use Rattle.mirror.specs.Repository.{Repositories}
 use Rattle.mirror.specs.declared.holding.Holding.{Holding}
-use Rattle.mirror_law.specs.Mirrored.{BeginsWith, IsMirrored, NoneWithheld, StayApart, sent}
-use Rattle.mirror_law.specs.Open.{open_chain, root_of}
+use Rattle.mirror_law.specs.Mirrored.{IsFirstMap, IsMirrored, NoneWithheld, StayApart, sent}
+use Rattle.mirror_law.specs.Open.{open_chain, beginning_root}
 
 -- What a mirror wants: the journal J, of which this is a front, is faithful; nothing of the account is
 -- withheld; and its chain that is open behind the front began with the map s, from which on different
@@ -25,7 +25,7 @@ pub record MayBeMirrored (J front : List Row) (did : List ℕ) (repositories : R
   pub journal : IsFaithfulJournal J
   pub is_did : IsTrue (is_did did)
   pub shown : NoneWithheld J did J
-  pub begins : BeginsWith repositories (open_chain did front).began s
+  pub begins : IsFirstMap repositories (open_chain did front).began s
   pub apart : StayApart s (open_chain did front).commits
 
 -- Behind each front of a journal, so behind each commit, a mirror that reads what was sent of it holds
@@ -53,7 +53,7 @@ StreamsAreSent = (J front others : List Row) → J ≡ front ++ others → IsJou
 -- The last chain of a journal's rows is the one that is open behind them.
 abbrev pub ChainsEndOpen : Type 0
 ChainsEndOpen = (J : List Row) (did : List ℕ) → (closed : List Chain)
-    × (chains did J ≡ closed ++ (root_of (open_chain did J).began, (open_chain did J).commits) ∷ [])
+    × (chains did J ≡ closed ++ (beginning_root (open_chain did J).began, (open_chain did J).commits) ∷ [])
 
 -- At most one thing is held behind messages.
 abbrev pub OneIsHeld : Type 0

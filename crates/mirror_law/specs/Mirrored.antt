@@ -14,12 +14,12 @@ use Rattle.mst_node.specs.Trees.{root}
 use Rattle.relay_row.specs.Folds.{did_of_row, names}
 use Rattle.relay_row.specs.declared.row.Row.{Row}
 use Rattle.commit_check.specs.Step.{edits_of}
-use Rattle.relay_law.specs.Sound.{AreApart, GoesTo, HasBlocks, IsCommit}
+use Rattle.relay_law.specs.Sound.{BlocksAreApart, GoesTo, HasBlocks, IsCommit}
 use Rattle.relay_store.specs.Shown.{is_shown, shown_of}
 use Rattle.mirror.specs.Held.{IsHeld}
 use Rattle.mirror.specs.Repository.{Repositories, Answers}
 use Rattle.mirror.specs.declared.holding.Holding.{Holding}
-use Rattle.mirror_law.specs.Open.{Beginning, empty, base, OpenChain, root_of, root_behind}
+use Rattle.mirror_law.specs.Open.{Beginning, empty, base, OpenChain, beginning_root, root_behind}
 
 -- what the rows send to a stream, as the journal J stands
 abbrev pub sent : List Row → List Row → List (List ℕ)
@@ -47,17 +47,17 @@ pub record IsBase (repositories : Repositories) (r message : List ℕ) (s : List
 
 -- A chain begins with this map: the empty one where it began empty, else the one that answers its
 -- base. A base that was carried over sent nothing out, so that no mirror begins with it.
-abbrev pub BeginsWith : Repositories → Beginning → List Item → Type 0
-BeginsWith repositories empty s = s ≡ []
-BeginsWith repositories (base r (message ∷ [])) s = IsBase repositories r message s
-BeginsWith repositories (base r messages) s = ⊥
+abbrev pub IsFirstMap : Repositories → Beginning → List Item → Type 0
+IsFirstMap repositories empty s = s ≡ []
+IsFirstMap repositories (base r (message ∷ [])) s = IsBase repositories r message s
+IsFirstMap repositories (base r messages) s = ⊥
 
 -- commit by commit, from the first map on, different blocks of the map's tree and of those that the
 -- step names don't share a digest
 abbrev pub StayApart : List Item → List (List ℕ × List ℕ) → Type 0
 StayApart s [] = Unit {0}
 StayApart s (k ∷ ks) = (c : CommitEvent) (blocks : BlockMap) → IsCommit k.0 c → HasBlocks c blocks
-    → AreApart s c blocks k.1 × ((t : List Item) → Plays s (edits_of c) t → StayApart t ks)
+    → BlocksAreApart s c blocks k.1 × ((t : List Item) → Plays s (edits_of c) t → StayApart t ks)
 
 -- commit by commit, the operations play from the one map to the other, and each map's tree has its
 -- commit's `data` as root
@@ -73,6 +73,6 @@ pub record IsMirrored (repositories : Repositories) (did : List ℕ) (messages :
     (chain : OpenChain) (s : List Item) : Type 0 where
   pub map : List Item
   pub replayed : Replay s chain.commits map
-  pub rooted : root map ≡ root_behind (root_of chain.began) chain.commits
+  pub rooted : root map ≡ root_behind (beginning_root chain.began) chain.commits
   pub held : (holding : Holding) → IsHeld repositories did messages holding
       → (rev : Option ℕ) × (holding ≡ Holding.Mapped rev map)

@@ -12,9 +12,9 @@ pub data Beginning : Type 0 where
   base : List ℕ → List (List ℕ) → Beginning
 
 -- the root of the map with which it began
-abbrev pub root_of : Beginning → List ℕ
-root_of empty = empty_root
-root_of (base root sent) = root
+abbrev pub beginning_root : Beginning → List ℕ
+beginning_root empty = empty_root
+beginning_root (base root sent) = root
 
 -- how it began, and its commits, each with its message and its `data`
 pub record OpenChain : Type 0 where

@@ -8,12 +8,12 @@ use Rattle.mirror.specs.State.{held_by}
 use Rattle.mirror.specs.Taken.{is_bad, last_behind}
 use Rattle.mirror.specs.declared.fault.MirrorFault.{MirrorFault}
 use Rattle.mirror.specs.declared.keeping.Mirror.{Mirror}
-use Rattle.mirror_run.specs.Ends.{IsCausedBy, MayEnd, NoneOf}
-use Rattle.mirror_run.specs.Lines.{end_line}
-use Rattle.mirror_run.specs.Mirrored.{AreLines, IsLeft, IsText, IsWritten, Mirrored}
+use Rattle.mirror_run.specs.Ends.{IsCausedBy, MirrorMayEnd, NoMirrorCause}
+use Rattle.mirror_run.specs.Lines.{mirror_end_line}
+use Rattle.mirror_run.specs.Mirrored.{AreLines, IsRestLeft, IsMirrorText, IsMirrorWritten, Mirrored}
 use Rattle.mirror_run.specs.Printing.{AreKnown, IsLate, IsTextWritten, lines_in}
 use Rattle.mirror_run.specs.Reading.{HasNoMessage, IsNext, IsSpent, coming}
-use Rattle.mirror_run.specs.Stream.{AreGood, BeginWith, IsBadBehind, IsBadFrom, last_of}
+use Rattle.mirror_run.specs.Stream.{AreGood, BeginWith, IsBadBehind, IsBadFrom, last_seq_behind}
 use Rattle.mirror_run.specs.Taking.{HasStopped, HasTaken, IsEarly, end_of_mirror, end_of_stream}
 use Rattle.mirror_run.specs.declared.end.MirrorEnd.{MirrorEnd}
 use Rattle.mirror_run.specs.declared.reader.MessageReader.{MessageReader}
@@ -24,7 +24,7 @@ use Rattle.mirror_run.proofs.Ordered.{dids_ascend, dids_of, dids_told}
 
 -- behind these messages nothing is left, or what can't be taken
 abbrev pub Stops : ℕ → List (List ℕ) → List ℕ → Type 0
-Stops last messages rest = (rest ≡ []) ⊎ IsBadFrom (last_of last messages) rest
+Stops last messages rest = (rest ≡ []) ⊎ IsBadFrom (last_seq_behind last messages) rest
 
 not_both : (b : Bool) → b ≡ true → b ≡ false → ⊥
 not_both b h k = let e : true ≡ false = sym h ∙ k in absurd cc
@@ -53,7 +53,7 @@ one_way last (m ∷ ms) (n ∷ ns) rest more g h is s t =
 
 -- how it stops behind what was taken
 module _ (input_tells tell : Bool) (repositories : Repositories) (limit : ℕ) (input left : List ℕ) (place : ℕ) (mirror : Mirror) (events : ℕ) (t : HasTaken input_tells tell repositories input left place mirror events) where
-  stopped : (end : MirrorEnd) → (IsTrue input_tells → IsLeft limit end t.messages left) → HasStopped input_tells limit input end
+  stopped : (end : MirrorEnd) → (IsTrue input_tells → IsRestLeft limit end t.messages left) → HasStopped input_tells limit input end
   stopped end is = record { messages = t.messages; rest = left; good = t.good; split = t.split; left = is }
 
   no_message_bad : HasNoMessage left → IsBadBehind t.messages left
@@ -81,7 +81,7 @@ module _ (input_tells tell : Bool) (repositories : Repositories) (limit : ℕ) (
     some = λ none. some_frame m after (sym is ∙ none);
     none = λ n more other short_n.
         let one = one_message n m more after short_n short (sym other ∙ is) in
-        subst (λ (x : List ℕ). is_bad (last_of 0 t.messages) (frame_of x) ≡ true) (sym one.0) (ap (λ l. is_bad l (frame_of m)) (sym t.last) ∙ bad);
+        subst (λ (x : List ℕ). is_bad (last_seq_behind 0 t.messages) (frame_of x) ≡ true) (sym one.0) (ap (λ l. is_bad l (frame_of m)) (sym t.last) ∙ bad);
   }
 
   pub message_stopped : (m after : List ℕ) → length m ≤ LONGEST_FEED_MESSAGE → (IsTrue input_tells → left ≡ stream_frame m ++ after) → is_bad mirror.last (frame_of m) ≡ true
@@ -141,19 +141,19 @@ module _ (input_tells tell : Bool) (repositories : Repositories) (input : List �
   dids_known = record { ascend = dids_ascend t.messages; known = λ did. dids_told t.messages did ∙ sym (t.known did) }
 
   abbrev pub whole_text : List ℕ
-  whole_text = lines_in mirror (dids_of t.messages) ++ end_line events
+  whole_text = lines_in mirror (dids_of t.messages) ++ mirror_end_line events
 
-  pub is_text : IsText tell repositories t.messages whole_text
+  pub is_text : IsMirrorText tell repositories t.messages whole_text
   is_text = record {
     dids = dids_of t.messages;
     lines = lines_in mirror (dids_of t.messages);
     ascend = dids_ascend t.messages;
     told = dids_told t.messages;
     are = lines_are (dids_of t.messages);
-    whole = ap (λ n. lines_in mirror (dids_of t.messages) ++ end_line n) t.count;
+    whole = ap (λ n. lines_in mirror (dids_of t.messages) ++ mirror_end_line n) t.count;
   }
 
-  written : (end : MirrorEnd) (old new : List ℕ) → IsLate end → IsTextWritten end whole_text old new → IsWritten tell repositories end t.messages old new
+  written : (end : MirrorEnd) (old new : List ℕ) → IsLate end → IsTextWritten end whole_text old new → IsMirrorWritten tell repositories end t.messages old new
   written MirrorEnd.Done old new late h = (whole_text, is_text, h)
   written MirrorEnd.WriteFault old new late h = (whole_text, is_text, h)
   written MirrorEnd.Memory old new late h = inr (whole_text, is_text, h)
@@ -162,7 +162,7 @@ module _ (input_tells tell : Bool) (repositories : Repositories) (input : List �
   written MirrorEnd.Repos old new late h = absurd late
   written MirrorEnd.TooLong old new late h = absurd late
 
-  left_late : (limit : ℕ) (end : MirrorEnd) → IsLate end → IsLeft limit end t.messages []
+  left_late : (limit : ℕ) (end : MirrorEnd) → IsLate end → IsRestLeft limit end t.messages []
   left_late limit MirrorEnd.Done late = refl
   left_late limit MirrorEnd.WriteFault late = refl
   left_late limit MirrorEnd.Memory late = tt
@@ -172,7 +172,7 @@ module _ (input_tells tell : Bool) (repositories : Repositories) (input : List �
   left_late limit MirrorEnd.TooLong late = absurd late
 
   pub mirrored_all : (output_tells : Bool) (limit : ℕ) (end : MirrorEnd) (old new : List ℕ) → IsLate end
-      → (IsTrue output_tells → (dids : List (List ℕ)) → AreKnown mirror dids → IsTextWritten end (lines_in mirror dids ++ end_line events) old new)
+      → (IsTrue output_tells → (dids : List (List ℕ)) → AreKnown mirror dids → IsTextWritten end (lines_in mirror dids ++ mirror_end_line events) old new)
       → Mirrored input_tells output_tells tell limit repositories input old new end
   mirrored_all output_tells limit end old new late h = record {
     messages = t.messages;
@@ -194,7 +194,7 @@ late_caused read write repos MirrorEnd.Repos late h = absurd late
 late_caused read write repos MirrorEnd.TooLong late h = absurd late
 
 -- where it stopped nothing was written
-unwritten : (tell : Bool) (repositories : Repositories) (end : MirrorEnd) (messages : List (List ℕ)) (old : List ℕ) → IsEarly end → IsWritten tell repositories end messages old old
+unwritten : (tell : Bool) (repositories : Repositories) (end : MirrorEnd) (messages : List (List ℕ)) (old : List ℕ) → IsEarly end → IsMirrorWritten tell repositories end messages old old
 unwritten tell repositories MirrorEnd.Done messages old early = absurd early
 unwritten tell repositories MirrorEnd.WriteFault messages old early = absurd early
 unwritten tell repositories MirrorEnd.Memory messages old early = inl refl
@@ -229,11 +229,11 @@ module _ (limit : ℕ) (input : List ℕ) (messages ms : List (List ℕ)) (rest 
   same : Stops 0 ms left → Stops 0 messages rest → (ms ≡ messages) × (left ≡ rest)
   same s t = one_way 0 ms messages left rest good begin.good (sym split ∙ begin.split) s t
 
-  not_spent : IsLeft limit MirrorEnd.TooLong ms left → ⊥
+  not_spent : IsRestLeft limit MirrorEnd.TooLong ms left → ⊥
   not_spent h =
       absurd (omega (arith, short, ap length split, length-append (with_length ms) left, ap length h.2, length-append h.0 h.1, h.4))
 
-  pub may_end : (read write repos : Type 0) → NoneOf read write repos → (end : MirrorEnd) → IsCausedBy read write repos end → IsLeft limit end ms left → rest ≡ [] → MayEnd end
+  pub may_end : (read write repos : Type 0) → NoMirrorCause read write repos → (end : MirrorEnd) → IsCausedBy read write repos end → IsRestLeft limit end ms left → rest ≡ [] → MirrorMayEnd end
   may_end read write repos none MirrorEnd.Done cause is whole = tt
   may_end read write repos none MirrorEnd.Memory cause is whole = tt
   may_end read write repos none (MirrorEnd.BadStream p) cause is whole = absurd (is.1.some ((same (inr is.1) (inl whole)).1 ∙ whole))
@@ -242,7 +242,7 @@ module _ (limit : ℕ) (input : List ℕ) (messages ms : List (List ℕ)) (rest 
   may_end read write repos none MirrorEnd.Repos cause is whole = absurd (none.no_repos cause)
   may_end read write repos none MirrorEnd.TooLong cause is whole = absurd (not_spent is)
 
-  pub ends_bad : (read write repos : Type 0) → NoneOf read write repos → (end : MirrorEnd) → IsCausedBy read write repos end → IsLeft limit end ms left → IsBadBehind messages rest
+  pub ends_bad : (read write repos : Type 0) → NoMirrorCause read write repos → (end : MirrorEnd) → IsCausedBy read write repos end → IsRestLeft limit end ms left → IsBadBehind messages rest
       → (end ≡ MirrorEnd.BadStream (length (with_length messages))) ⊎ (end ≡ MirrorEnd.Memory)
   ends_bad read write repos none MirrorEnd.Done cause is bad = absurd (bad.some (sym (same (inl is) (inr bad)).1 ∙ is))
   ends_bad read write repos none MirrorEnd.Memory cause is bad = inr refl
@@ -255,12 +255,12 @@ module _ (limit : ℕ) (input : List ℕ) (messages ms : List (List ℕ)) (rest 
 
 -- of what was mirrored
 pub complete_of : (input_tells output_tells tell : Bool) (limit : ℕ) (repositories : Repositories) (input old new : List ℕ) (end : MirrorEnd) → Mirrored input_tells output_tells tell limit repositories input old new end
-    → IsTrue input_tells → length input < limit → (read write repos : Type 0) → NoneOf read write repos → IsCausedBy read write repos end → (messages : List (List ℕ)) → BeginWith input messages [] → MayEnd end
+    → IsTrue input_tells → length input < limit → (read write repos : Type 0) → NoMirrorCause read write repos → IsCausedBy read write repos end → (messages : List (List ℕ)) → BeginWith input messages [] → MirrorMayEnd end
 complete_of input_tells output_tells tell limit repositories input old new end m told short read write repos none cause messages begin =
     may_end limit input messages m.messages [] m.rest begin m.good (m.split told) short read write repos none end cause (m.left told) refl
 
 pub bad_of : (input_tells output_tells tell : Bool) (limit : ℕ) (repositories : Repositories) (input old new : List ℕ) (end : MirrorEnd) → Mirrored input_tells output_tells tell limit repositories input old new end
-    → IsTrue input_tells → length input < limit → (read write repos : Type 0) → NoneOf read write repos → IsCausedBy read write repos end → (messages : List (List ℕ)) (rest : List ℕ) → BeginWith input messages rest → IsBadBehind messages rest
+    → IsTrue input_tells → length input < limit → (read write repos : Type 0) → NoMirrorCause read write repos → IsCausedBy read write repos end → (messages : List (List ℕ)) (rest : List ℕ) → BeginWith input messages rest → IsBadBehind messages rest
     → (end ≡ MirrorEnd.BadStream (length (with_length messages))) ⊎ (end ≡ MirrorEnd.Memory)
 bad_of input_tells output_tells tell limit repositories input old new end m told short read write repos none cause messages rest begin bad =
     ends_bad limit input messages m.messages rest m.rest begin m.good (m.split told) short read write repos none end cause (m.left told) bad

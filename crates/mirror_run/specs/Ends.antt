@@ -3,14 +3,14 @@ use Rattle.std.specs.Prelude.{⊤}
 use Rattle.mirror_run.specs.declared.end.MirrorEnd.{MirrorEnd}
 
 -- the ends that a good stream comes to where nothing fails
-abbrev pub MayEnd : MirrorEnd → Type 0
-MayEnd MirrorEnd.Done = ⊤
-MayEnd MirrorEnd.Memory = ⊤
-MayEnd (MirrorEnd.BadStream place) = ⊥
-MayEnd MirrorEnd.ReadFault = ⊥
-MayEnd MirrorEnd.WriteFault = ⊥
-MayEnd MirrorEnd.Repos = ⊥
-MayEnd MirrorEnd.TooLong = ⊥
+abbrev pub MirrorMayEnd : MirrorEnd → Type 0
+MirrorMayEnd MirrorEnd.Done = ⊤
+MirrorMayEnd MirrorEnd.Memory = ⊤
+MirrorMayEnd (MirrorEnd.BadStream place) = ⊥
+MirrorMayEnd MirrorEnd.ReadFault = ⊥
+MirrorMayEnd MirrorEnd.WriteFault = ⊥
+MirrorMayEnd MirrorEnd.Repos = ⊥
+MirrorMayEnd MirrorEnd.TooLong = ⊥
 
 -- the cause of an end that speaks of a failure
 abbrev pub IsCausedBy : Type 0 → Type 0 → Type 0 → MirrorEnd → Type 0
@@ -23,7 +23,7 @@ IsCausedBy read write repos MirrorEnd.TooLong = ⊤
 IsCausedBy read write repos MirrorEnd.Memory = ⊤
 
 -- none of these has happened
-pub record NoneOf (read write repos : Type 0) : Type 0 where
+pub record NoMirrorCause (read write repos : Type 0) : Type 0 where
   pub no_read : read → ⊥
   pub no_write : write → ⊥
   pub no_repos : repos → ⊥

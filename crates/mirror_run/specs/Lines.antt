@@ -4,7 +4,7 @@ use Rattle.at_cid.specs.Text.{text_of}
 use Rattle.at_syntax.specs.Tid.{digits_of}
 use Rattle.mst_list.specs.declared.item.Item.{Item}
 use Rattle.mst_node.specs.Trees.{root}
-use Rattle.mirror.specs.State.{map_in}
+use Rattle.mirror.specs.State.{map_held}
 use Rattle.mirror.specs.declared.holding.Holding.{Holding}
 
 -- how many records there are
@@ -27,9 +27,9 @@ abbrev pub line_with : List ℕ → Option (ℕ × List Item) → List ℕ
 line_with did map = did ++ (codes " " ++ (held_words map ++ 10 ∷ []))
 
 -- the line of an account: what is said of its map, or that it waits
-abbrev pub line_of : List ℕ → Holding → List ℕ
-line_of did held = line_with did (map_in held)
+abbrev pub mirror_line : List ℕ → Holding → List ℕ
+mirror_line did held = line_with did (map_held held)
 
 -- the last line, with the number of events
-abbrev pub end_line : ℕ → List ℕ
-end_line n = codes "end " ++ (decimal n ++ 10 ∷ [])
+abbrev pub mirror_end_line : ℕ → List ℕ
+mirror_end_line n = codes "end " ++ (decimal n ++ 10 ∷ [])

@@ -10,7 +10,7 @@ use Rattle.mirror.specs.Held.{IsHeld}
 use Rattle.mirror.specs.Repository.{Repositories}
 use Rattle.mirror.specs.declared.holding.Holding.{Holding}
 use Rattle.mirror_run.specs.Chains.{HoldsChains}
-use Rattle.mirror_run.specs.Lines.{end_line, line_of}
+use Rattle.mirror_run.specs.Lines.{mirror_end_line, mirror_line}
 use Rattle.mirror_run.specs.Stream.{AreGood, EndsInMessage, IsBadBehind, event_count, tell_of}
 use Rattle.mirror_run.specs.declared.end.MirrorEnd.{MirrorEnd}
 
@@ -33,45 +33,45 @@ abbrev pub AreLines : Bool → Repositories → List (List ℕ) → List (List �
 AreLines tell repositories messages [] text = text ≡ []
 AreLines tell repositories messages (did ∷ dids) text =
     (held : Holding) × (rest : List ℕ) × (IsTrue tell → IsHeld repositories did messages held)
-    × (text ≡ line_of did held ++ rest) × AreLines tell repositories messages dids rest
+    × (text ≡ mirror_line did held ++ rest) × AreLines tell repositories messages dids rest
 
 -- The text has a line for each DID of which the messages have a commit or a `#sync`, in ascending order, and then the number
 -- of events.
-pub record IsText (tell : Bool) (repositories : Repositories) (messages : List (List ℕ)) (text : List ℕ) : Type 0 where
+pub record IsMirrorText (tell : Bool) (repositories : Repositories) (messages : List (List ℕ)) (text : List ℕ) : Type 0 where
   pub dids : List (List ℕ)
   pub lines : List ℕ
   pub ascend : Ascend dids
   pub told : (did : List ℕ) → is_among dids did ≡ tell_of did messages
   pub are : AreLines tell repositories messages dids lines
-  pub whole : text ≡ lines ++ end_line (event_count messages)
+  pub whole : text ≡ lines ++ mirror_end_line (event_count messages)
 
 -- The whole text was written where all was done, and a front of it where writing failed. Where memory ran out nothing was
 -- written, or a front of it. At every other end nothing was.
-abbrev pub IsWritten : Bool → Repositories → MirrorEnd → List (List ℕ) → List ℕ → List ℕ → Type 0
-IsWritten tell repositories MirrorEnd.Done messages old new =
-    (text : List ℕ) × IsText tell repositories messages text × (new ≡ old ++ text)
-IsWritten tell repositories MirrorEnd.WriteFault messages old new =
-    (text : List ℕ) × IsText tell repositories messages text × AddsFront old new text
-IsWritten tell repositories MirrorEnd.Memory messages old new =
-    (new ≡ old) ⊎ ((text : List ℕ) × IsText tell repositories messages text × AddsFront old new text)
-IsWritten tell repositories (MirrorEnd.BadStream place) messages old new = new ≡ old
-IsWritten tell repositories MirrorEnd.ReadFault messages old new = new ≡ old
-IsWritten tell repositories MirrorEnd.Repos messages old new = new ≡ old
-IsWritten tell repositories MirrorEnd.TooLong messages old new = new ≡ old
+abbrev pub IsMirrorWritten : Bool → Repositories → MirrorEnd → List (List ℕ) → List ℕ → List ℕ → Type 0
+IsMirrorWritten tell repositories MirrorEnd.Done messages old new =
+    (text : List ℕ) × IsMirrorText tell repositories messages text × (new ≡ old ++ text)
+IsMirrorWritten tell repositories MirrorEnd.WriteFault messages old new =
+    (text : List ℕ) × IsMirrorText tell repositories messages text × AddsFront old new text
+IsMirrorWritten tell repositories MirrorEnd.Memory messages old new =
+    (new ≡ old) ⊎ ((text : List ℕ) × IsMirrorText tell repositories messages text × AddsFront old new text)
+IsMirrorWritten tell repositories (MirrorEnd.BadStream place) messages old new = new ≡ old
+IsMirrorWritten tell repositories MirrorEnd.ReadFault messages old new = new ≡ old
+IsMirrorWritten tell repositories MirrorEnd.Repos messages old new = new ≡ old
+IsMirrorWritten tell repositories MirrorEnd.TooLong messages old new = new ≡ old
 
 -- What stands in the input behind the messages that were taken, by how it ended: nothing; what can't be taken, at its place;
 -- or more than may be taken, of which a front of a message was.
-abbrev pub IsLeft : ℕ → MirrorEnd → List (List ℕ) → List ℕ → Type 0
-IsLeft limit MirrorEnd.Done messages rest = rest ≡ []
-IsLeft limit MirrorEnd.WriteFault messages rest = rest ≡ []
-IsLeft limit (MirrorEnd.BadStream place) messages rest =
+abbrev pub IsRestLeft : ℕ → MirrorEnd → List (List ℕ) → List ℕ → Type 0
+IsRestLeft limit MirrorEnd.Done messages rest = rest ≡ []
+IsRestLeft limit MirrorEnd.WriteFault messages rest = rest ≡ []
+IsRestLeft limit (MirrorEnd.BadStream place) messages rest =
     (place ≡ length (with_length messages)) × IsBadBehind messages rest
-IsLeft limit MirrorEnd.TooLong messages rest =
+IsRestLeft limit MirrorEnd.TooLong messages rest =
     (part : List ℕ) × (after : List ℕ) × (rest ≡ part ++ after) × EndsInMessage part
     × (length (with_length messages) + length part ≡ limit)
-IsLeft limit MirrorEnd.ReadFault messages rest = ⊤
-IsLeft limit MirrorEnd.Repos messages rest = ⊤
-IsLeft limit MirrorEnd.Memory messages rest = ⊤
+IsRestLeft limit MirrorEnd.ReadFault messages rest = ⊤
+IsRestLeft limit MirrorEnd.Repos messages rest = ⊤
+IsRestLeft limit MirrorEnd.Memory messages rest = ⊤
 
 -- A stream was mirrored, of which at most so many bytes may be taken: these messages at its front were taken, and their text
 -- was written.
@@ -81,6 +81,6 @@ pub record Mirrored (input_tells output_tells repositories_tell : Bool) (limit :
   pub rest : List ℕ
   pub good : AreGood 0 messages
   pub split : IsTrue input_tells → input ≡ with_length messages ++ rest
-  pub left : IsTrue input_tells → IsLeft limit end messages rest
-  pub written : IsTrue output_tells → IsWritten repositories_tell repositories end messages old new
+  pub left : IsTrue input_tells → IsRestLeft limit end messages rest
+  pub written : IsTrue output_tells → IsMirrorWritten repositories_tell repositories end messages old new
   pub chains : IsTrue input_tells → end ≡ MirrorEnd.Done → HoldsChains repositories input messages

@@ -4,13 +4,13 @@ use Rattle.std.specs.List.{flat_map}
 use Rattle.relay_io.specs.Streams.{AddsFront}
 use Rattle.mirror.specs.State.{held_by, is_known}
 use Rattle.mirror.specs.declared.keeping.Mirror.{Mirror}
-use Rattle.mirror_run.specs.Lines.{line_of}
+use Rattle.mirror_run.specs.Lines.{mirror_line}
 use Rattle.mirror_run.specs.Mirrored.{Ascend, is_among}
 use Rattle.mirror_run.specs.declared.end.MirrorEnd.{MirrorEnd}
 
 -- the line of a DID, by what a mirror holds
 abbrev pub line_in : Mirror → List ℕ → List ℕ
-line_in mirror did = line_of did (held_by mirror did)
+line_in mirror did = mirror_line did (held_by mirror did)
 
 abbrev pub lines_in : Mirror → List (List ℕ) → List ℕ
 lines_in mirror dids = flat_map (line_in mirror) dids

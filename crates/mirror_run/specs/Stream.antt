@@ -7,7 +7,7 @@ use Rattle.at_event.specs.declared.frame.Frame.{Frame}
 use Rattle.at_event.specs.declared.frame.FrameFault.{FrameFault}
 use Rattle.backfill.specs.Writing.{stream_frame, with_length}
 use Rattle.relay_io.specs.declared.feed.TheConstants.{LONGEST_FEED_MESSAGE}
-use Rattle.mirror.specs.Taken.{is_about, is_bad, is_of_repo, last_behind}
+use Rattle.mirror.specs.Taken.{is_such_event_of, is_bad, is_repo_body, last_behind}
 
 -- each message is short, and none is bad behind those before it
 abbrev pub AreGood : ℕ → List (List ℕ) → Type 0
@@ -17,9 +17,9 @@ AreGood last (m ∷ messages) =
     × AreGood (last_behind last (frame_of m)) messages
 
 -- the last number behind messages
-abbrev pub last_of : ℕ → List (List ℕ) → ℕ
-last_of last [] = last
-last_of last (m ∷ messages) = last_of (last_behind last (frame_of m)) messages
+abbrev pub last_seq_behind : ℕ → List (List ℕ) → ℕ
+last_seq_behind last [] = last
+last_seq_behind last (m ∷ messages) = last_seq_behind (last_behind last (frame_of m)) messages
 
 -- The bytes begin with these messages, each of which can be taken behind those before it.
 pub record BeginWith (bytes : List ℕ) (messages : List (List ℕ)) (rest : List ℕ) : Type 0 where
@@ -34,7 +34,7 @@ pub record IsBadFrom (last : ℕ) (rest : List ℕ) : Type 0 where
 
 -- the same behind messages
 abbrev pub IsBadBehind : List (List ℕ) → List ℕ → Type 0
-IsBadBehind messages rest = IsBadFrom (last_of 0 messages) rest
+IsBadBehind messages rest = IsBadFrom (last_seq_behind 0 messages) rest
 
 -- bytes end inside a message, or before it: in its length, or in what stands behind that
 pub data EndsInMessage (bytes : List ℕ) : Type 0 where
@@ -57,4 +57,4 @@ event_count messages = length (filter (λ m. is_event (frame_of m)) messages)
 
 -- a commit or a `#sync` of the DID is among them
 abbrev pub tell_of : List ℕ → List (List ℕ) → Bool
-tell_of did messages = list_any (λ m. is_about is_of_repo did (frame_of m)) messages
+tell_of did messages = list_any (λ m. is_such_event_of is_repo_body did (frame_of m)) messages

@@ -5,8 +5,8 @@ use Rattle.mirror.specs.Held.{IsHeld}
 use Rattle.mirror.specs.Repository.{Repositories}
 use Rattle.mirror.specs.State.{held_by, is_known}
 use Rattle.mirror.specs.declared.keeping.Mirror.{Mirror}
-use Rattle.mirror_run.specs.Mirrored.{IsLeft}
-use Rattle.mirror_run.specs.Stream.{AreGood, event_count, last_of, tell_of}
+use Rattle.mirror_run.specs.Mirrored.{IsRestLeft}
+use Rattle.mirror_run.specs.Stream.{AreGood, event_count, last_seq_behind, tell_of}
 use Rattle.mirror_run.specs.declared.end.MirrorEnd.{MirrorEnd}
 use Rattle.mirror_run.specs.declared.reader.StreamFault.{StreamFault}
 use Rattle.mirror.specs.declared.fault.MirrorFault.{MirrorFault}
@@ -18,7 +18,7 @@ pub record HasTaken (input_tells repositories_tell : Bool) (repositories : Repos
   pub good : AreGood 0 messages
   pub split : IsTrue input_tells → input ≡ with_length messages ++ left
   pub place_is : place ≡ length (with_length messages)
-  pub last : mirror.last ≡ last_of 0 messages
+  pub last : mirror.last ≡ last_seq_behind 0 messages
   pub held : IsTrue repositories_tell → (did : List ℕ) → IsHeld repositories did messages (held_by mirror did)
   pub known : (did : List ℕ) → is_known mirror did ≡ tell_of did messages
   pub named : tell_of [] messages ≡ false
@@ -35,7 +35,7 @@ pub record HasStopped (input_tells : Bool) (limit : ℕ) (input : List ℕ) (end
   pub rest : List ℕ
   pub good : AreGood 0 messages
   pub split : IsTrue input_tells → input ≡ with_length messages ++ rest
-  pub left : IsTrue input_tells → IsLeft limit end messages rest
+  pub left : IsTrue input_tells → IsRestLeft limit end messages rest
 
 -- the ends before anything is written
 abbrev pub IsEarly : MirrorEnd → Type 0

@@ -2,7 +2,7 @@
 
 ghost use Rattle.std.specs.Prelude.{◌≡◌, ◌++◌, IfOk, OnOk, Some, None};
 ghost use Rattle.at_syntax.specs.Tid.{digits_of};
-ghost use Rattle.mirror_run.specs.Lines.{end_line, line_with, records_words, root_words};
+ghost use Rattle.mirror_run.specs.Lines.{mirror_end_line, line_with, records_words, root_words};
 
 use at_cid::{Cid, Memory, Octets};
 use at_syntax::{TID_LEN, Tid};
@@ -70,7 +70,7 @@ pub(crate) fn waiting_line(alloc: Global, did: &str) -> Result<Octets, Memory>
 
 /// The last line, with the number of events.
 pub(crate) fn end_line(alloc: Global, events: u64) -> Result<Octets, Memory>
-    ensures { IfOk result (λ line. line ≡ end_line events) }
+    ensures { IfOk result (λ line. line ≡ mirror_end_line events) }
 {
     let mut line = Octets::new(alloc);
     line.extend(b"end ")?;

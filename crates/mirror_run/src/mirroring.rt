@@ -3,7 +3,7 @@
 ghost use Rattle.std.specs.Prelude.{◌≡◌, ◌≢◌, ◌≤◌, ◌<◌, ◌^◌, ◌⊎◌, ℕ, List, [], length, IsTrue};
 ghost use Rattle.at_cid.specs.Counts.{Rose};
 ghost use Rattle.backfill.specs.Writing.{with_length};
-ghost use Rattle.mirror_run.specs.Ends.{IsCausedBy, MayEnd, NoneOf};
+ghost use Rattle.mirror_run.specs.Ends.{IsCausedBy, MirrorMayEnd, NoMirrorCause};
 ghost use Rattle.mirror_run.specs.Mirrored.{Mirrored};
 ghost use Rattle.mirror_run.specs.Stream.{BeginWith, IsBadBehind};
 
@@ -33,14 +33,14 @@ pub fn mirror<I: Source, R: Repos, O: Sink>(
 
     // A whole stream is mirrored, unless memory runs out.
     ensures complete { IsTrue I.tells → length (I.left input.old) < limit
-        → NoneOf (Rose (I.faults input.old) (I.faults input.new))
+        → NoMirrorCause (Rose (I.faults input.old) (I.faults input.new))
         (Rose (O.faults out.old) (O.faults out.new))
         (Rose (R.faults repos.old) (R.faults repos.new))
-        → (messages : List (List ℕ)) → BeginWith (I.left input.old) messages [] → MayEnd result }
+        → (messages : List (List ℕ)) → BeginWith (I.left input.old) messages [] → MirrorMayEnd result }
 
     // And at another the place is told from which on it can't be taken.
     ensures bad { IsTrue I.tells → length (I.left input.old) < limit
-        → NoneOf (Rose (I.faults input.old) (I.faults input.new))
+        → NoMirrorCause (Rose (I.faults input.old) (I.faults input.new))
         (Rose (O.faults out.old) (O.faults out.new))
         (Rose (R.faults repos.old) (R.faults repos.new))
         → (messages : List (List ℕ)) → (rest : List ℕ)

@@ -4,7 +4,7 @@ ghost use Rattle.std.specs.Prelude.{◌≡◌, ◌≢◌, ◌≤◌, ◌++◌, �
 ghost use Rattle.at_cid.specs.Counts.{Rose};
 ghost use Rattle.relay_io.specs.Streams.{AddsFront};
 ghost use Rattle.mirror.specs.State.{is_known};
-ghost use Rattle.mirror_run.specs.Lines.{end_line};
+ghost use Rattle.mirror_run.specs.Lines.{mirror_end_line};
 ghost use Rattle.mirror_run.specs.Printing.{AreKnown, IsLate, IsTextWritten, IsUnwritten, Moves, line_in, lines_in};
 
 use crate::end::MirrorEnd;
@@ -97,7 +97,7 @@ fn write_accounts<O: Sink>(
 
 // Writes what waits, and behind it the last line.
 fn write_end<O: Sink>(alloc: Global, events: u64, out: &mut O, text: &mut Octets) -> MirrorEnd
-    ensures written { IsTrue O.tells → IsTextWritten result (text.old ++ end_line events)
+    ensures written { IsTrue O.tells → IsTextWritten result (text.old ++ mirror_end_line events)
         (O.written out.old) (O.written out.new) }
     ensures wrote { IsLate result }
     ensures counts { O.faults out.old ≤ O.faults out.new }
@@ -128,7 +128,7 @@ pub(crate) fn write_text<O: Sink>(
 ) -> MirrorEnd
     requires named { is_known mirror.now [] ≡ false }
     ensures written { IsTrue O.tells → (dids : List (List ℕ)) → AreKnown mirror.now dids
-        → IsTextWritten result (lines_in mirror.now dids ++ end_line events)
+        → IsTextWritten result (lines_in mirror.now dids ++ mirror_end_line events)
         (O.written out.old) (O.written out.new) }
     ensures wrote { IsLate result }
     ensures counts { O.faults out.old ≤ O.faults out.new }

@@ -11,9 +11,9 @@ use Rattle.relay_store.proofs.Opened.{bad_read}
 use Rattle.relay_run.proofs.Beside.{leaves_stand, opened_leaves}
 use Rattle.serve_run.specs.Replayed.{OnlyRead}
 use Rattle.query_run.specs.AtWire.{AtWire}
-use Rattle.query_run.specs.Ends.{IsCausedBy, IsOfAnswering, IsOfDisks, MayEnd, QueryEndShows, QueryOpened, end_of_opening}
-use Rattle.query_run.specs.Queried.{AreLinesWritten, AreTaken, Queried}
-use Rattle.query_run.specs.Rounds.{end_line}
+use Rattle.query_run.specs.Ends.{IsCausedBy, IsOfAnswering, IsOfDisks, QueryMayEnd, QueryEndShows, QueryOpened, end_of_opening}
+use Rattle.query_run.specs.Queried.{AreRequestsWritten, RequestsAreTaken, Queried}
+use Rattle.query_run.specs.Rounds.{queries_end_line}
 use Rattle.query_run.specs.declared.end.QueryEnd.{QueryEnd}
 
 -- ---- disks that weren't opened
@@ -62,7 +62,7 @@ opening_bad StoreFault.Clock place is = let no : ⊥ = cc in absurd no
 pub opening_read : (tells : Bool) (one two one_now two_now : View) (fault : StoreFault) (end : QueryEnd) (place : ℕ) → Opened tells one two one_now two_now (Err fault) → end ≡ end_of_opening fault → end ≡ QueryEnd.BadLog place → IsTrue tells → BothOnlyRead one two one_now two_now
 opening_read tells one two one_now two_now fault end place opened of is told = bad_read tells one two one_now two_now fault place opened (opening_bad fault place (sym of ∙ is)) told
 
-opening_may : (disk : Type 0) (fault : StoreFault) → (fault ≡ StoreFault.Disk → disk) → ((p : ℕ) → fault ≡ StoreFault.BadLog p → ⊥) → (disk → ⊥) → MayEnd (end_of_opening fault)
+opening_may : (disk : Type 0) (fault : StoreFault) → (fault ≡ StoreFault.Disk → disk) → ((p : ℕ) → fault ≡ StoreFault.BadLog p → ⊥) → (disk → ⊥) → QueryMayEnd (end_of_opening fault)
 opening_may disk StoreFault.Disk failed no_bad no_disk = absurd (no_disk (failed refl))
 opening_may disk (StoreFault.BadLog p) failed no_bad no_disk = absurd (no_bad p refl)
 opening_may disk (StoreFault.Full e) failed no_bad no_disk = tt
@@ -72,10 +72,10 @@ opening_may disk StoreFault.Repos failed no_bad no_disk = tt
 opening_may disk StoreFault.Memory failed no_bad no_disk = tt
 opening_may disk StoreFault.Clock failed no_bad no_disk = tt
 
-pub unopened_may : (disk : Type 0) (fault : StoreFault) (end : QueryEnd) → end ≡ end_of_opening fault → (fault ≡ StoreFault.Disk → disk) → ((p : ℕ) → fault ≡ StoreFault.BadLog p → ⊥) → (disk → ⊥) → MayEnd end
-unopened_may disk fault end is failed no_bad no_disk = subst MayEnd (sym is) (opening_may disk fault failed no_bad no_disk)
+pub unopened_may : (disk : Type 0) (fault : StoreFault) (end : QueryEnd) → end ≡ end_of_opening fault → (fault ≡ StoreFault.Disk → disk) → ((p : ℕ) → fault ≡ StoreFault.BadLog p → ⊥) → (disk → ⊥) → QueryMayEnd end
+unopened_may disk fault end is failed no_bad no_disk = subst QueryMayEnd (sym is) (opening_may disk fault failed no_bad no_disk)
 
-none_written : (fault : StoreFault) (old : List ℕ) → AreLinesWritten (end_of_opening fault) [] (end_line 0) old old
+none_written : (fault : StoreFault) (old : List ℕ) → AreRequestsWritten (end_of_opening fault) [] (queries_end_line 0) old old
 none_written StoreFault.Disk old = sym (append-nil old)
 none_written (StoreFault.BadLog p) old = sym (append-nil old)
 none_written (StoreFault.Full e) old = (0, omega arith, sym (append-nil old))
@@ -85,7 +85,7 @@ none_written StoreFault.Repos old = (0, omega arith, sym (append-nil old))
 none_written StoreFault.Memory old = (0, omega arith, sym (append-nil old))
 none_written StoreFault.Clock old = (0, omega arith, sym (append-nil old))
 
-none_taken : (tells : Bool) (count : ℕ) (fault : StoreFault) (left : List (List ℕ)) → AreTaken tells (end_of_opening fault) count [] [] left
+none_taken : (tells : Bool) (count : ℕ) (fault : StoreFault) (left : List (List ℕ)) → RequestsAreTaken tells (end_of_opening fault) count [] [] left
 none_taken tells count StoreFault.Disk left = (refl, refl)
 none_taken tells count (StoreFault.BadLog p) left = (refl, refl)
 none_taken tells count (StoreFault.Full e) left = omega arith
@@ -138,7 +138,7 @@ answering_causes disk write wire QueryEnd.Disk of unwritten failed = absurd of
 answering_causes disk write wire (QueryEnd.BadLog p) of unwritten failed = tt
 answering_causes disk write wire QueryEnd.Memory of unwritten failed = tt
 
-pub answering_may : (write wire : Type 0) (end : QueryEnd) → IsOfAnswering end → (end ≡ QueryEnd.WriteFault → write) → (end ≡ QueryEnd.Wire → wire) → (write → ⊥) → (wire → ⊥) → MayEnd end
+pub answering_may : (write wire : Type 0) (end : QueryEnd) → IsOfAnswering end → (end ≡ QueryEnd.WriteFault → write) → (end ≡ QueryEnd.Wire → wire) → (write → ⊥) → (wire → ⊥) → QueryMayEnd end
 answering_may write wire QueryEnd.Done of unwritten failed no_write no_wire = tt
 answering_may write wire QueryEnd.WriteFault of unwritten failed no_write no_wire = absurd (no_write (unwritten refl))
 answering_may write wire QueryEnd.Wire of unwritten failed no_write no_wire = absurd (no_wire (failed refl))

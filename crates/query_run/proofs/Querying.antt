@@ -7,12 +7,12 @@ use Rattle.std.proofs.lemmas.List.{append-nil, map-append}
 use Rattle.relay_io.specs.Streams.{AddsFront}
 use Rattle.relay_io.specs.declared.wire.Exchange.{Exchange}
 use Rattle.relay_row.specs.declared.row.Row.{Row}
-use Rattle.relay_query.specs.Replies.{IsAnswer}
+use Rattle.relay_query.specs.Replies.{IsReplyTo}
 use Rattle.backfill.proofs.Framing.{front_of_first, front_of_second, front_whole}
 use Rattle.query_run.specs.AtWire.{AtWire}
 use Rattle.query_run.specs.Ends.{IsOfWire, IsUnwritten, end_in}
-use Rattle.query_run.specs.Queried.{Answered, AreLinesWritten, AreTaken, Comes, IsStill, IsUnreplied, Queried, Replied}
-use Rattle.query_run.specs.Rounds.{AreCounted, AreReplies, IsCounted, Round, end_line, exchanges_of, lines_behind, request_line, requests_of, sent_of, told_of}
+use Rattle.query_run.specs.Queried.{Answered, AreRequestsWritten, RequestsAreTaken, Comes, IsStill, IsUnreplied, Queried, Replied}
+use Rattle.query_run.specs.Rounds.{RoundsAreCounted, AreReplies, IsSendCounted, Round, queries_end_line, exchanges_of, round_lines, request_line, requests_of, sent_of, told_of}
 use Rattle.query_run.specs.declared.end.QueryEnd.{QueryEnd}
 
 -- so many requests were answered, and a line was written for each
@@ -23,8 +23,8 @@ pub record IsQuerying (tells told : Bool) (J : List Row) (most n : ℕ) (first n
   pub replies : AreReplies J rounds
   pub requests : IsTrue tells → first.requests ≡ requests_of rounds ++ now.requests
   pub exchanges : IsTrue tells → now.exchanges ≡ first.exchanges ++ exchanges_of rounds
-  pub counted : AreCounted first.faults rounds now.faults
-  pub written : IsTrue told → after ≡ before ++ lines_behind 0 rounds
+  pub counted : RoundsAreCounted first.faults rounds now.faults
+  pub written : IsTrue told → after ≡ before ++ round_lines 0 rounds
 
 pub querying_none : (tells told : Bool) (J : List Row) (most : ℕ) (first : AtWire) (before : List ℕ) → IsQuerying tells told J most 0 first first before before
 querying_none tells told J most first before = record {
@@ -40,25 +40,25 @@ querying_none tells told J most first before = record {
 
 -- ---- one more round
 
-replies_more : (J : List Row) (rounds : List Round) (r : Round) → AreReplies J rounds → IsAnswer J r.request r.reply → AreReplies J (rounds ++ r ∷ [])
+replies_more : (J : List Row) (rounds : List Round) (r : Round) → AreReplies J rounds → IsReplyTo J r.request r.reply → AreReplies J (rounds ++ r ∷ [])
 replies_more J [] r are is = (is, tt)
 replies_more J (q ∷ rounds) r are is = (are.0, replies_more J rounds r are.1 is)
 
-counted_more : (rounds : List Round) (r : Round) (before mid : ℕ) → AreCounted before rounds mid → IsCounted r.sent mid r.faults → AreCounted before (rounds ++ r ∷ []) r.faults
-counted_more [] r before mid same is = (subst (λ (n : ℕ). IsCounted r.sent n r.faults) same is, refl)
+counted_more : (rounds : List Round) (r : Round) (before mid : ℕ) → RoundsAreCounted before rounds mid → IsSendCounted r.sent mid r.faults → RoundsAreCounted before (rounds ++ r ∷ []) r.faults
+counted_more [] r before mid same is = (subst (λ (n : ℕ). IsSendCounted r.sent n r.faults) same is, refl)
 counted_more (q ∷ rounds) r before mid each is = (each.0, counted_more rounds r q.faults mid each.1 is)
 
-lines_more : (n : ℕ) (rounds : List Round) (r : Round) → lines_behind n (rounds ++ r ∷ []) ≡ lines_behind n rounds ++ request_line (n + length rounds + 1) (told_of r.sent r.reply)
+lines_more : (n : ℕ) (rounds : List Round) (r : Round) → round_lines n (rounds ++ r ∷ []) ≡ round_lines n rounds ++ request_line (n + length rounds + 1) (told_of r.sent r.reply)
 lines_more n [] r = append-nil (request_line (n + 1) (told_of r.sent r.reply)) ∙ ap (λ (k : ℕ). request_line k (told_of r.sent r.reply)) (omega arith)
 lines_more n (q ∷ rounds) r =
     let line = request_line (n + 1) (told_of q.sent q.reply) in
     ap (λ (l : List ℕ). line ++ l) (lines_more (n + 1) rounds r)
-    ∙ ap (λ (k : ℕ). line ++ (lines_behind (n + 1) rounds ++ request_line k (told_of r.sent r.reply))) (omega arith)
-    ∙ sym (append_assoc line (lines_behind (n + 1) rounds) (request_line (n + length (q ∷ rounds) + 1) (told_of r.sent r.reply)))
+    ∙ ap (λ (k : ℕ). line ++ (round_lines (n + 1) rounds ++ request_line k (told_of r.sent r.reply))) (omega arith)
+    ∙ sym (append_assoc line (round_lines (n + 1) rounds) (request_line (n + length (q ∷ rounds) + 1) (told_of r.sent r.reply)))
 
 -- ---- how lines that aren't written end
 
-unwritten_by : (end : QueryEnd) → IsUnwritten end → (lines last before after : List ℕ) → AddsFront before after (lines ++ last) → AreLinesWritten end lines last before after
+unwritten_by : (end : QueryEnd) → IsUnwritten end → (lines last before after : List ℕ) → AddsFront before after (lines ++ last) → AreRequestsWritten end lines last before after
 unwritten_by QueryEnd.Done of lines last before after front = absurd of
 unwritten_by QueryEnd.WriteFault of lines last before after front = front
 unwritten_by QueryEnd.Wire of lines last before after front = absurd of
@@ -66,7 +66,7 @@ unwritten_by QueryEnd.Disk of lines last before after front = absurd of
 unwritten_by (QueryEnd.BadLog place) of lines last before after front = absurd of
 unwritten_by QueryEnd.Memory of lines last before after front = front
 
-unwritten_taken : (tells : Bool) (end : QueryEnd) → IsUnwritten end → (most : ℕ) (rounds : List Round) (left : List (List ℕ)) → AreTaken tells end most rounds [] left
+unwritten_taken : (tells : Bool) (end : QueryEnd) → IsUnwritten end → (most : ℕ) (rounds : List Round) (left : List (List ℕ)) → RequestsAreTaken tells end most rounds [] left
 unwritten_taken tells QueryEnd.Done of most rounds left = absurd of
 unwritten_taken tells QueryEnd.WriteFault of most rounds left = refl
 unwritten_taken tells QueryEnd.Wire of most rounds left = absurd of
@@ -77,15 +77,15 @@ unwritten_taken tells QueryEnd.Memory of most rounds left = omega arith
 module _ (tells told : Bool) (J : List Row) (most n : ℕ) (first now : AtWire) (before after : List ℕ) (is : IsQuerying tells told J most n first now before after) where
   -- ---- no more come
 
-  wire_written : (end : QueryEnd) → IsOfWire end → after ≡ before ++ lines_behind 0 is.rounds → AreLinesWritten end (lines_behind 0 is.rounds) (end_line (length is.rounds)) before after
+  wire_written : (end : QueryEnd) → IsOfWire end → after ≡ before ++ round_lines 0 is.rounds → AreRequestsWritten end (round_lines 0 is.rounds) (queries_end_line (length is.rounds)) before after
   wire_written QueryEnd.Done of written = absurd of
   wire_written QueryEnd.WriteFault of written = absurd of
   wire_written QueryEnd.Wire of written = written
   wire_written QueryEnd.Disk of written = absurd of
   wire_written (QueryEnd.BadLog place) of written = absurd of
-  wire_written QueryEnd.Memory of written = front_of_first before after (lines_behind 0 is.rounds) (end_line (length is.rounds)) (front_whole before after (lines_behind 0 is.rounds) written)
+  wire_written QueryEnd.Memory of written = front_of_first before after (round_lines 0 is.rounds) (queries_end_line (length is.rounds)) (front_whole before after (round_lines 0 is.rounds) written)
 
-  wire_taken : (end : QueryEnd) → IsOfWire end → (left : List (List ℕ)) → AreTaken tells end most is.rounds [] left
+  wire_taken : (end : QueryEnd) → IsOfWire end → (left : List (List ℕ)) → RequestsAreTaken tells end most is.rounds [] left
   wire_taken QueryEnd.Done of left = absurd of
   wire_taken QueryEnd.WriteFault of left = absurd of
   wire_taken QueryEnd.Wire of left = refl
@@ -99,8 +99,8 @@ module _ (tells told : Bool) (J : List Row) (most n : ℕ) (first now : AtWire) 
   exchanges_still : (new : AtWire) → IsStill tells now new → IsTrue tells → new.exchanges ≡ first.exchanges ++ (exchanges_of is.rounds ++ [])
   exchanges_still new still t = (still t).1 ∙ is.exchanges t ∙ ap (λ (l : List Exchange). first.exchanges ++ l) (sym (append-nil (exchanges_of is.rounds)))
 
-  counted_still : (new : AtWire) → new.faults ≡ now.faults → AreCounted first.faults is.rounds new.faults
-  counted_still new same = subst (λ (k : ℕ). AreCounted first.faults is.rounds k) (sym same) is.counted
+  counted_still : (new : AtWire) → new.faults ≡ now.faults → RoundsAreCounted first.faults is.rounds new.faults
+  counted_still new same = subst (λ (k : ℕ). RoundsAreCounted first.faults is.rounds k) (sym same) is.counted
 
   pub stopped_wire : (new : AtWire) (end : QueryEnd) → IsOfWire end → IsStill tells now new → new.faults ≡ now.faults → Queried tells told most J first new before after end
   stopped_wire new end of still same = record {
@@ -120,7 +120,7 @@ module _ (tells told : Bool) (J : List Row) (most n : ℕ) (first now : AtWire) 
   all_taken : (left : List (List ℕ)) → ((most - n ≡ 0) ⊎ (IsTrue tells → left ≡ [])) → (length is.rounds ≡ most) ⊎ (IsTrue tells → left ≡ [])
   all_taken left over = elim over [ inl none ↦ inl (omega (arith, none, is.few, is.count)) | inr all ↦ inr all ]
 
-  all_done : (new : AtWire) (room last : List ℕ) → Comes tells (most - n) room now new (Ok false) → new.faults ≡ now.faults → (IsTrue told → last ≡ after ++ end_line n)
+  all_done : (new : AtWire) (room last : List ℕ) → Comes tells (most - n) room now new (Ok false) → new.faults ≡ now.faults → (IsTrue told → last ≡ after ++ queries_end_line n)
       → Queried tells told most J first new before last QueryEnd.Done
   all_done new room last comes same ends = record {
     rounds = is.rounds;
@@ -130,12 +130,12 @@ module _ (tells told : Bool) (J : List Row) (most n : ℕ) (first now : AtWire) 
     requests = requests_still new comes.1;
     exchanges = exchanges_still new comes.1;
     counted = counted_still new same;
-    written = λ t. ends t ∙ ap (λ (k : ℕ). after ++ end_line k) (sym is.count) ∙ ap (λ (l : List ℕ). l ++ end_line (length is.rounds)) (is.written t)
-        ∙ append_assoc before (lines_behind 0 is.rounds) (end_line (length is.rounds));
+    written = λ t. ends t ∙ ap (λ (k : ℕ). after ++ queries_end_line k) (sym is.count) ∙ ap (λ (l : List ℕ). l ++ queries_end_line (length is.rounds)) (is.written t)
+        ∙ append_assoc before (round_lines 0 is.rounds) (queries_end_line (length is.rounds));
     taken = (refl, all_taken new.requests comes.0);
   }
 
-  end_broken : (new : AtWire) (room last : List ℕ) (end : QueryEnd) → IsUnwritten end → Comes tells (most - n) room now new (Ok false) → new.faults ≡ now.faults → (IsTrue told → AddsFront after last (end_line n))
+  end_broken : (new : AtWire) (room last : List ℕ) (end : QueryEnd) → IsUnwritten end → Comes tells (most - n) room now new (Ok false) → new.faults ≡ now.faults → (IsTrue told → AddsFront after last (queries_end_line n))
       → Queried tells told most J first new before last end
   end_broken new room last end of comes same ends = record {
     rounds = is.rounds;
@@ -145,14 +145,14 @@ module _ (tells told : Bool) (J : List Row) (most n : ℕ) (first now : AtWire) 
     requests = requests_still new comes.1;
     exchanges = exchanges_still new comes.1;
     counted = counted_still new same;
-    written = λ t. unwritten_by end of (lines_behind 0 is.rounds) (end_line (length is.rounds)) before last
-        (front_of_second before after last (lines_behind 0 is.rounds) (end_line (length is.rounds)) (is.written t) (subst (λ (k : ℕ). AddsFront after last (end_line k)) (sym is.count) (ends t)));
+    written = λ t. unwritten_by end of (round_lines 0 is.rounds) (queries_end_line (length is.rounds)) before last
+        (front_of_second before after last (round_lines 0 is.rounds) (queries_end_line (length is.rounds)) (is.written t) (subst (λ (k : ℕ). AddsFront after last (queries_end_line k)) (sym is.count) (ends t)));
     taken = unwritten_taken tells end of most is.rounds new.requests;
   }
 
   -- the last line was written, or not
   pub over : (new : AtWire) (room last : List ℕ) (result : Result (Unit {0}) QueryEnd) → Comes tells (most - n) room now new (Ok false) → new.faults ≡ now.faults
-      → OnOk result (IsTrue told → last ≡ after ++ end_line n) → IfErr result (λ end. IsUnwritten end × (IsTrue told → AddsFront after last (end_line n)))
+      → OnOk result (IsTrue told → last ≡ after ++ queries_end_line n) → IfErr result (λ end. IsUnwritten end × (IsTrue told → AddsFront after last (queries_end_line n)))
       → Queried tells told most J first new before last (end_in result)
   over new room last (Ok done) comes same written front = all_done new room last comes same written
   over new room last (Err end) comes same written front = end_broken new room last end front.0 comes same front.1
@@ -179,14 +179,14 @@ module _ (tells told : Bool) (J : List Row) (most n : ℕ) (first now : AtWire) 
         ∙ ap (λ (l : List Exchange). first.exchanges ++ (exchanges_of is.rounds ++ l)) (sym (append-nil (Exchange.Came room ∷ sent_of sent reply)))
         ∙ ap (λ (l : List Exchange). first.exchanges ++ l) (sym (flat_map-append (λ (r : Round). Exchange.Came r.request ∷ sent_of r.sent r.reply) is.rounds (round_of reply sent new ∷ [])))
 
-    counted_now : (reply : List ℕ) (sent : Bool) (new : AtWire) → Replied tells J room reply sent mid new → AreCounted first.faults (is.rounds ++ round_of reply sent new ∷ []) new.faults
+    counted_now : (reply : List ℕ) (sent : Bool) (new : AtWire) → Replied tells J room reply sent mid new → RoundsAreCounted first.faults (is.rounds ++ round_of reply sent new ∷ []) new.faults
     counted_now reply sent new replied =
-        counted_more is.rounds (round_of reply sent new) first.faults now.faults is.counted (subst (λ (k : ℕ). IsCounted sent k new.faults) held replied.counted)
+        counted_more is.rounds (round_of reply sent new) first.faults now.faults is.counted (subst (λ (k : ℕ). IsSendCounted sent k new.faults) held replied.counted)
 
-    lines_now : (reply : List ℕ) (sent : Bool) (new : AtWire) → lines_behind 0 (is.rounds ++ round_of reply sent new ∷ []) ≡ lines_behind 0 is.rounds ++ request_line (n + 1) (told_of sent reply)
+    lines_now : (reply : List ℕ) (sent : Bool) (new : AtWire) → round_lines 0 (is.rounds ++ round_of reply sent new ∷ []) ≡ round_lines 0 is.rounds ++ request_line (n + 1) (told_of sent reply)
     lines_now reply sent new =
         lines_more 0 is.rounds (round_of reply sent new)
-        ∙ ap (λ (k : ℕ). lines_behind 0 is.rounds ++ request_line k (told_of sent reply)) (omega (arith, is.count))
+        ∙ ap (λ (k : ℕ). round_lines 0 is.rounds ++ request_line k (told_of sent reply)) (omega (arith, is.count))
 
     pub querying_more : (new : AtWire) (last : List ℕ) (done : Unit {0}) → Answered tells told J (n + 1) room mid new after last (Ok done) → IsQuerying tells told J most (n + 1) first new before last
     querying_more new last done (reply, sent, replied, written) = record {
@@ -198,7 +198,7 @@ module _ (tells told : Bool) (J : List Row) (most n : ℕ) (first now : AtWire) 
       exchanges = exchanges_now reply sent new replied;
       counted = counted_now reply sent new replied;
       written = λ t. written t ∙ ap (λ (l : List ℕ). l ++ request_line (n + 1) (told_of sent reply)) (is.written t)
-          ∙ append_assoc before (lines_behind 0 is.rounds) (request_line (n + 1) (told_of sent reply))
+          ∙ append_assoc before (round_lines 0 is.rounds) (request_line (n + 1) (told_of sent reply))
           ∙ ap (λ (l : List ℕ). before ++ l) (sym (lines_now reply sent new));
     }
 
@@ -214,9 +214,9 @@ module _ (tells told : Bool) (J : List Row) (most n : ℕ) (first now : AtWire) 
       exchanges = λ t. exchanges_now reply sent new replied t ∙ ap (λ (l : List Exchange). first.exchanges ++ l) (sym (append-nil (exchanges_of (is.rounds ++ round_of reply sent new ∷ []))));
       counted = counted_now reply sent new replied;
       written = λ t. unwritten_by end of _ _ before last
-          (front_of_first before last (lines_behind 0 (is.rounds ++ round_of reply sent new ∷ [])) _
+          (front_of_first before last (round_lines 0 (is.rounds ++ round_of reply sent new ∷ [])) _
           (subst (λ (l : List ℕ). AddsFront before last l) (sym (lines_now reply sent new))
-          (front_of_second before after last (lines_behind 0 is.rounds) (request_line (n + 1) (told_of sent reply)) (is.written t) (front t))));
+          (front_of_second before after last (round_lines 0 is.rounds) (request_line (n + 1) (told_of sent reply)) (is.written t) (front t))));
       taken = unwritten_taken tells end of most _ new.requests;
     }
 
@@ -233,9 +233,9 @@ module _ (tells told : Bool) (J : List Row) (most n : ℕ) (first now : AtWire) 
           requests = λ t. is.requests t ∙ ap (λ (l : List (List ℕ)). requests_of is.rounds ++ l) ((comes t).0 ∙ ap (λ (l : List (List ℕ)). room ∷ l) (sym left));
           exchanges = λ t. sent ∙ (comes t).1 ∙ ap (λ (l : List Exchange). l ++ Exchange.Came room ∷ []) (is.exchanges t) ∙ append_assoc first.exchanges (exchanges_of is.rounds) (Exchange.Came room ∷ []);
           counted = counted_still new failed;
-          written = λ t. subst (λ (e : QueryEnd). AreLinesWritten e (lines_behind 0 is.rounds) (end_line (length is.rounds)) before last) (sym none.0)
-              (front_of_first before last (lines_behind 0 is.rounds) (end_line (length is.rounds)) (front_whole before last (lines_behind 0 is.rounds) (none.1.1 ∙ is.written t)));
-          taken = subst (λ (e : QueryEnd). AreTaken tells e most is.rounds (room ∷ []) new.requests) (sym none.0) (omega arith);
+          written = λ t. subst (λ (e : QueryEnd). AreRequestsWritten e (round_lines 0 is.rounds) (queries_end_line (length is.rounds)) before last) (sym none.0)
+              (front_of_first before last (round_lines 0 is.rounds) (queries_end_line (length is.rounds)) (front_whole before last (round_lines 0 is.rounds) (none.1.1 ∙ is.written t)));
+          taken = subst (λ (e : QueryEnd). RequestsAreTaken tells e most is.rounds (room ∷ []) new.requests) (sym none.0) (omega arith);
         }
 
     pub stopped_answering : (new : AtWire) (last : List ℕ) (end : QueryEnd) → IsUnwritten end → Answered tells told J (n + 1) room mid new after last (Err end) → Queried tells told most J first new before last end

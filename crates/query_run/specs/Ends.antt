@@ -66,7 +66,7 @@ IsCausedBy disk write wire QueryEnd.Disk = disk
 IsCausedBy disk write wire end = ⊤
 
 -- the ends that no failure brings: all was done, or memory ran out
-abbrev pub MayEnd : QueryEnd → Type 0
-MayEnd QueryEnd.Done = ⊤
-MayEnd QueryEnd.Memory = ⊤
-MayEnd end = ⊥
+abbrev pub QueryMayEnd : QueryEnd → Type 0
+QueryMayEnd QueryEnd.Done = ⊤
+QueryMayEnd QueryEnd.Memory = ⊤
+QueryMayEnd end = ⊥

@@ -3,29 +3,29 @@ use Rattle.std.specs.Prelude.{◌≡◌, ◌⊎◌, ℕ, ◌≤◌, Bool, true, 
 use Rattle.relay_io.specs.Streams.{AddsFront}
 use Rattle.relay_io.specs.declared.wire.Exchange.{Exchange}
 use Rattle.relay_row.specs.declared.row.Row.{Row}
-use Rattle.relay_query.specs.Replies.{IsAnswer}
+use Rattle.relay_query.specs.Replies.{IsReplyTo}
 use Rattle.query_run.specs.AtWire.{AtWire}
-use Rattle.query_run.specs.Rounds.{AreCounted, AreReplies, IsCounted, Round, end_line, exchanges_of, lines_behind, request_line, requests_of, sent_of, told_of}
+use Rattle.query_run.specs.Rounds.{RoundsAreCounted, AreReplies, IsSendCounted, Round, queries_end_line, exchanges_of, round_lines, request_line, requests_of, sent_of, told_of}
 use Rattle.query_run.specs.declared.end.QueryEnd.{QueryEnd}
 
 -- The lines of the requests and the last line: whole where all was done, a front of them where they
 -- couldn't be written or memory ran out, and else all but the last.
-abbrev pub AreLinesWritten : QueryEnd → List ℕ → List ℕ → List ℕ → List ℕ → Type 0
-AreLinesWritten QueryEnd.Done lines last old new = new ≡ old ++ (lines ++ last)
-AreLinesWritten QueryEnd.WriteFault lines last old new = AddsFront old new (lines ++ last)
-AreLinesWritten QueryEnd.Memory lines last old new = AddsFront old new (lines ++ last)
-AreLinesWritten end lines last old new = new ≡ old ++ lines
+abbrev pub AreRequestsWritten : QueryEnd → List ℕ → List ℕ → List ℕ → List ℕ → Type 0
+AreRequestsWritten QueryEnd.Done lines last old new = new ≡ old ++ (lines ++ last)
+AreRequestsWritten QueryEnd.WriteFault lines last old new = AddsFront old new (lines ++ last)
+AreRequestsWritten QueryEnd.Memory lines last old new = AddsFront old new (lines ++ last)
+AreRequestsWritten end lines last old new = new ≡ old ++ lines
 
 -- Which requests were taken: where all was done so many, or all that came; none where the disks
 -- weren't opened. One came that wasn't answered only where memory ran out.
-abbrev pub AreTaken : Bool → QueryEnd → ℕ → List Round → List (List ℕ) → List (List ℕ)
+abbrev pub RequestsAreTaken : Bool → QueryEnd → ℕ → List Round → List (List ℕ) → List (List ℕ)
     → Type 0
-AreTaken tells QueryEnd.Done count rounds cut left =
+RequestsAreTaken tells QueryEnd.Done count rounds cut left =
     (cut ≡ []) × ((length rounds ≡ count) ⊎ (IsTrue tells → left ≡ []))
-AreTaken tells QueryEnd.WriteFault count rounds cut left = cut ≡ []
-AreTaken tells QueryEnd.Wire count rounds cut left = cut ≡ []
-AreTaken tells QueryEnd.Memory count rounds cut left = length cut ≤ 1
-AreTaken tells end count rounds cut left = (cut ≡ []) × (rounds ≡ [])
+RequestsAreTaken tells QueryEnd.WriteFault count rounds cut left = cut ≡ []
+RequestsAreTaken tells QueryEnd.Wire count rounds cut left = cut ≡ []
+RequestsAreTaken tells QueryEnd.Memory count rounds cut left = length cut ≤ 1
+RequestsAreTaken tells end count rounds cut left = (cut ≡ []) × (rounds ≡ [])
 
 -- Requests were answered by the rows of the journal J, in the order of the wire and at most so many,
 -- and their lines were written.
@@ -40,10 +40,10 @@ pub record Queried (wire_tells output_tells : Bool) (count : ℕ) (J : List Row)
       → wire.requests ≡ requests_of rounds ++ (cut ++ wire_now.requests)
   pub exchanges : IsTrue wire_tells
       → wire_now.exchanges ≡ wire.exchanges ++ (exchanges_of rounds ++ map Exchange.Came cut)
-  pub counted : AreCounted wire.faults rounds wire_now.faults
+  pub counted : RoundsAreCounted wire.faults rounds wire_now.faults
   pub written : IsTrue output_tells
-      → AreLinesWritten end (lines_behind 0 rounds) (end_line (length rounds)) old new
-  pub taken : AreTaken wire_tells end count rounds cut wire_now.requests
+      → AreRequestsWritten end (round_lines 0 rounds) (queries_end_line (length rounds)) old new
+  pub taken : RequestsAreTaken wire_tells end count rounds cut wire_now.requests
 
 -- ---- one of them
 
@@ -65,10 +65,10 @@ Comes tells most room old new (Err end) = IsStill tells old new
 -- A reply was made to the request by the rows of a journal, and sent, or its sending failed.
 pub record Replied (tells : Bool) (J : List Row) (request reply : List ℕ) (sent : Bool)
     (old new : AtWire) : Type 0 where
-  pub is : IsAnswer J request reply
+  pub is : IsReplyTo J request reply
   pub requests : IsTrue tells → new.requests ≡ old.requests
   pub exchanges : IsTrue tells → new.exchanges ≡ old.exchanges ++ sent_of sent reply
-  pub counted : IsCounted sent old.faults new.faults
+  pub counted : IsSendCounted sent old.faults new.faults
 
 -- none was made, for want of memory
 abbrev pub IsUnreplied : AtWire → AtWire → List ℕ → List ℕ → QueryEnd → Type 0

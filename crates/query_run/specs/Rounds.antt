@@ -5,7 +5,7 @@ use Rattle.std.specs.List.{flat_map}
 use Rattle.at_cid.specs.Counts.{Rose}
 use Rattle.relay_io.specs.declared.wire.Exchange.{Exchange}
 use Rattle.relay_row.specs.declared.row.Row.{Row}
-use Rattle.relay_query.specs.Replies.{IsAnswer}
+use Rattle.relay_query.specs.Replies.{IsReplyTo}
 
 -- A request that was answered: the reply that was made to it, whether that was sent, and the wire's
 -- count of failed sendings behind it.
@@ -18,7 +18,7 @@ pub record Round : Type 0 where
 -- each reply is that to its request, by the rows of a journal
 abbrev pub AreReplies : List Row → List Round → Type 0
 AreReplies J [] = Unit {0}
-AreReplies J (r ∷ rounds) = IsAnswer J r.request r.reply × AreReplies J rounds
+AreReplies J (r ∷ rounds) = IsReplyTo J r.request r.reply × AreReplies J rounds
 
 abbrev pub requests_of : List Round → List (List ℕ)
 requests_of rounds = map (λ r. r.request) rounds
@@ -32,25 +32,25 @@ abbrev pub exchanges_of : List Round → List Exchange
 exchanges_of rounds = flat_map (λ r. Exchange.Came r.request ∷ sent_of r.sent r.reply) rounds
 
 -- the count of failed sendings: it rose where the reply wasn't sent, and else it is as before
-abbrev pub IsCounted : Bool → ℕ → ℕ → Type 0
-IsCounted true before now = now ≡ before
-IsCounted false before now = Rose before now
+abbrev pub IsSendCounted : Bool → ℕ → ℕ → Type 0
+IsSendCounted true before now = now ≡ before
+IsSendCounted false before now = Rose before now
 
 -- it is in each of these rounds, from one to the next
-abbrev pub AreCounted : ℕ → List Round → ℕ → Type 0
-AreCounted before [] now = now ≡ before
-AreCounted before (r ∷ rounds) now =
-    IsCounted r.sent before r.faults × AreCounted r.faults rounds now
+abbrev pub RoundsAreCounted : ℕ → List Round → ℕ → Type 0
+RoundsAreCounted before [] now = now ≡ before
+RoundsAreCounted before (r ∷ rounds) now =
+    IsSendCounted r.sent before r.faults × RoundsAreCounted r.faults rounds now
 
 -- ---- their lines
 
 -- the three digits of the code in the status line of a reply
-abbrev pub code_of : List ℕ → List ℕ
-code_of reply = drop 9 (take 12 reply)
+abbrev pub status_code_in : List ℕ → List ℕ
+status_code_in reply = drop 9 (take 12 reply)
 
 -- what is told of a request: the code of its reply, or that it wasn't sent
 abbrev pub told_of : Bool → List ℕ → List ℕ
-told_of sent reply = if sent then code_of reply else codes "failed"
+told_of sent reply = if sent then status_code_in reply else codes "failed"
 
 -- the line of the request of this number
 abbrev pub request_line : ℕ → List ℕ → List ℕ
@@ -58,11 +58,11 @@ request_line number told =
     codes "query " ++ (decimal number ++ (codes " " ++ (told ++ codes "\n")))
 
 -- the lines of requests, numbered from the one behind n
-abbrev pub lines_behind : ℕ → List Round → List ℕ
-lines_behind n [] = []
-lines_behind n (r ∷ rounds) =
-    request_line (n + 1) (told_of r.sent r.reply) ++ lines_behind (n + 1) rounds
+abbrev pub round_lines : ℕ → List Round → List ℕ
+round_lines n [] = []
+round_lines n (r ∷ rounds) =
+    request_line (n + 1) (told_of r.sent r.reply) ++ round_lines (n + 1) rounds
 
 -- the last line
-abbrev pub end_line : ℕ → List ℕ
-end_line count = codes "end " ++ (decimal count ++ codes "\n")
+abbrev pub queries_end_line : ℕ → List ℕ
+queries_end_line count = codes "end " ++ (decimal count ++ codes "\n")

@@ -8,7 +8,7 @@ ghost use Rattle.relay_store.specs.Journals.{IsPairImageOf};
 ghost use Rattle.relay_store.specs.Opening.{BothOnlyRead};
 ghost use Rattle.relay_run.specs.Pairs.{pair_view};
 ghost use Rattle.query_run.specs.AtWire.{at_wire};
-ghost use Rattle.query_run.specs.Ends.{IsCausedBy, IsOfDisks, MayEnd, QueryEndShows};
+ghost use Rattle.query_run.specs.Ends.{IsCausedBy, IsOfDisks, QueryMayEnd, QueryEndShows};
 ghost use Rattle.query_run.specs.OfDisks.{AnsweredBy};
 
 use crate::answering::answer_all;
@@ -53,7 +53,7 @@ pub fn query<D: Disk, W: Wire, O: Sink>(
         → (Rose (D.view disk.old).faults (D.view disk.new).faults
         ⊎ Rose (D.view other.old).faults (D.view other.new).faults → ⊥)
         → (Rose (O.faults out.old) (O.faults out.new) → ⊥)
-        → (Rose (W.faults wire.old) (W.faults wire.new) → ⊥) → MayEnd result }
+        → (Rose (W.faults wire.old) (W.faults wire.new) → ⊥) → QueryMayEnd result }
     ensures disks_steady { result ≢ QueryEnd.Disk → ((D.view disk.new).faults ≡ (D.view disk.old).faults)
         × ((D.view other.new).faults ≡ (D.view other.old).faults) }
     ensures out_steady { result ≢ QueryEnd.WriteFault → O.faults out.new ≡ O.faults out.old }

@@ -4,7 +4,7 @@ ghost use Rattle.std.specs.Prelude.{◌≡◌, ◌≤◌, ◌++◌, IfErr, OnOk,
 ghost use Rattle.at_cid.specs.Counts.{Rose};
 ghost use Rattle.relay_io.specs.Streams.{AddsFront};
 ghost use Rattle.query_run.specs.Ends.{IsUnwritten};
-ghost use Rattle.query_run.specs.Rounds.{end_line, request_line};
+ghost use Rattle.query_run.specs.Rounds.{queries_end_line, request_line};
 
 use crate::end::QueryEnd;
 use at_cid::{Memory, Octets};
@@ -27,7 +27,7 @@ fn line_of(alloc: Global, number: u64, told: &[u8]) -> Result<Octets, Memory>
 
 // The last line.
 fn last_line(alloc: Global, count: u64) -> Result<Octets, Memory>
-    ensures { IfOk result (λ line. line ≡ end_line count) }
+    ensures { IfOk result (λ line. line ≡ queries_end_line count) }
 {
     let mut line = Octets::new(alloc);
     line.extend(b"end ")?;
@@ -82,9 +82,9 @@ pub(crate) fn write_request<O: Sink>(
 /// Writes the last line, behind so many requests.
 pub(crate) fn write_end<O: Sink>(alloc: Global, count: u64, out: &mut O) -> Result<(), QueryEnd>
     ensures written { OnOk result (IsTrue O.tells
-        → O.written out.new ≡ O.written out.old ++ end_line count) }
+        → O.written out.new ≡ O.written out.old ++ queries_end_line count) }
     ensures front { IfErr result (λ end. IsUnwritten end × (IsTrue O.tells
-        → AddsFront (O.written out.old) (O.written out.new) (end_line count))) }
+        → AddsFront (O.written out.old) (O.written out.new) (queries_end_line count))) }
     ensures failed { IfErr result (λ end. end ≡ QueryEnd.WriteFault
         → Rose (O.faults out.old) (O.faults out.new)) }
     ensures steady { OnOk result (O.faults out.new ≡ O.faults out.old) }

@@ -7,7 +7,7 @@ ghost use Rattle.relay_core.specs.Entries.{Holds};
 ghost use Rattle.query_run.specs.AtWire.{at_wire};
 ghost use Rattle.query_run.specs.Ends.{IsUnwritten};
 ghost use Rattle.query_run.specs.Queried.{Answered};
-ghost use Rattle.query_run.specs.Rounds.{code_of};
+ghost use Rattle.query_run.specs.Rounds.{status_code_in};
 
 use crate::end::QueryEnd;
 use crate::line::write_request;
@@ -18,7 +18,7 @@ use std::alloc::Global;
 
 // The three digits of the code of a reply.
 fn code_of(reply: &[u8]) -> &[u8]
-    ensures { result.now ≡ code_of reply.now }
+    ensures { result.now ≡ status_code_in reply.now }
 {
     let front = &reply[..reply.len().min(12)];
     &front[front.len().min(9)..]

@@ -13,13 +13,13 @@ use Rattle.relay_io.specs.Streams.{AddsFront}
 use Rattle.relay_io.specs.declared.feed.TheConstants.{LONGEST_FEED_MESSAGE}
 use Rattle.relay_row.specs.declared.row.Row.{Row}
 use Rattle.backfill.specs.Writing.{with_length}
-use Rattle.lines_run.specs.OfDisks.{LinesWritten, MayEnd as MayEndLines}
-use Rattle.mirror_run.specs.Ends.{MayEnd as MayEndMirror, NoneOf as NoneOfMirror}
+use Rattle.lines_run.specs.OfDisks.{LinesWritten, LinesMayEnd}
+use Rattle.mirror_run.specs.Ends.{MirrorMayEnd, NoMirrorCause}
 use Rattle.mirror_run.specs.Mirrored.{Mirrored}
 use Rattle.mirror_run.specs.Stream.{BeginWith, IsBadBehind}
 use Rattle.mirror_run.specs.declared.end.MirrorEnd.{MirrorEnd}
 use Rattle.query_run.specs.AtWire.{AtWire}
-use Rattle.query_run.specs.Ends.{IsOfDisks, MayEnd as MayEndQuery, QueryEndShows as QueryHadJournal}
+use Rattle.query_run.specs.Ends.{IsOfDisks, QueryMayEnd, QueryEndShows as QueryHadJournal}
 use Rattle.query_run.specs.OfDisks.{AnsweredBy}
 use Rattle.query_run.specs.declared.end.QueryEnd.{QueryEnd}
 use Rattle.relay_run.specs.Cutting.{IsOfCutting, WasCut}
@@ -49,7 +49,7 @@ use Rattle.relay_store.specs.declared.limits.TheConstants.{LONGEST}
 use Rattle.relay_cli.specs.declared.status.Status.{Status}
 use Rattle.relay_cli.specs.declared.verdict.CheckVerdict.{CheckVerdict}
 use Rattle.relay_cli.specs.Statuses.{status_of, status_of_feed, status_of_mirror, status_of_query, status_of_run, status_of_serving, status_of_tape, status_of_trial}
-use Rattle.relay_cli.specs.Report.{line_of}
+use Rattle.relay_cli.specs.Report.{check_line}
 use Rattle.relay_cli.specs.Verdicts.{IsVerdict}
 
 -- what the input has left and the output has taken, where they tell it, and their counts of faults
@@ -70,21 +70,21 @@ abbrev pub WroteNothing : Streams → Streams → Type 0
 WroteNothing old new = IsTrue old.output_told → new.written ≡ old.written
 
 -- The whole input was read, it is at most so long, and the verdict on it as one message is this.
-pub record IsJudged (limit : ℕ) (old new : Streams) (verdict : CheckVerdict) : Type 0 where
+pub record IsChecked (limit : ℕ) (old new : Streams) (verdict : CheckVerdict) : Type 0 where
   pub short : length old.left ≤ limit
   pub read : new.left ≡ []
   pub verdict_is : IsVerdict old.left verdict
 
 -- The run came to a verdict: the status is its status, and its line was written.
 pub record CameTo (limit : ℕ) (old new : Streams) (status : Status) (verdict : CheckVerdict) : Type 0 where
-  pub judged : IsTrue old.input_told → IsJudged limit old new verdict
+  pub judged : IsTrue old.input_told → IsChecked limit old new verdict
   pub status_is : status ≡ status_of verdict
-  pub line : IsTrue old.output_told → new.written ≡ old.written ++ line_of verdict
+  pub line : IsTrue old.output_told → new.written ≡ old.written ++ check_line verdict
 
 -- The run came to a verdict, and a call of the output failed: a front of the line was written.
 pub record StoppedAt (limit : ℕ) (old new : Streams) (verdict : CheckVerdict) : Type 0 where
-  pub judged : IsTrue old.input_told → IsJudged limit old new verdict
-  pub line : IsTrue old.output_told → AddsFront old.written new.written (line_of verdict)
+  pub judged : IsTrue old.input_told → IsChecked limit old new verdict
+  pub line : IsTrue old.output_told → AddsFront old.written new.written (check_line verdict)
   pub cause : Rose old.write_faults new.write_faults
 
 -- The input has a byte past the limit, which was the last one read.
@@ -281,7 +281,7 @@ IsFlawlessText old new = (Rose old.disk new.disk ⊎ Rose old.other new.other �
 -- the lines of operations are written, and all of them where no count rose, unless memory runs out
 abbrev pub AreLinesGiven : ℕ → Option (List ℕ) → OutsideTells → Place → Place → Faults → Faults → Status → Type 0
 AreLinesGiven cursor collection t old new failed failed_now status = IsGivenOut t old new status (λ end. OnJournal t old (λ J.
-    LinesWritten t.output J collection cursor (disks old) (disks new) end × (IsFlawlessText failed failed_now → MayEndLines end)))
+    LinesWritten t.output J collection cursor (disks old) (disks new) end × (IsFlawlessText failed failed_now → LinesMayEnd end)))
 
 -- Requests were to be answered by the journal, and nothing else was asked or read. The end tells what the disks were; where they failed or have no journal no request was taken and nothing was written.
 pub record IsQueried (count : ℕ) (t : OutsideTells) (old new : Place) (failed failed_now : Faults) (status : Status) : Type 0 where
@@ -293,11 +293,11 @@ pub record IsQueried (count : ℕ) (t : OutsideTells) (old new : Place) (failed 
   pub unread : new.left ≡ old.left
   pub does : OnJournal t old (λ J. AnsweredBy J t.wire t.output count old.wire new.wire (disks old) (disks new) end)
   -- all is done where no count rose, unless memory runs out
-  pub complete : OnJournal t old (λ J. IsFlawlessText failed failed_now → (Rose failed.wire failed_now.wire → ⊥) → MayEndQuery end)
+  pub complete : OnJournal t old (λ J. IsFlawlessText failed failed_now → (Rose failed.wire failed_now.wire → ⊥) → QueryMayEnd end)
 
 -- no count rose of what a mirror uses
 abbrev pub IsFlawlessMirror : Faults → Faults → Type 0
-IsFlawlessMirror old new = NoneOfMirror (Rose old.input new.input) (Rose old.output new.output) (Rose old.repos new.repos)
+IsFlawlessMirror old new = NoMirrorCause (Rose old.input new.input) (Rose old.output new.output) (Rose old.repos new.repos)
 
 -- The stream on the input was to be mirrored, and ended so.
 pub record IsMirroredFrom (t : OutsideTells) (old new : Place) (failed failed_now : Faults) (status : Status) : Type 0 where
@@ -306,7 +306,7 @@ pub record IsMirroredFrom (t : OutsideTells) (old new : Place) (failed failed_no
   pub does : Mirrored t.input t.output t.repos LONGEST old.around.repository old.left old.written new.written end
   -- a whole stream is mirrored where nothing fails, unless memory runs out; of another the place is told
   pub complete : IsTrue t.input → length old.left < LONGEST → IsFlawlessMirror failed failed_now
-      → (messages : List (List ℕ)) → BeginWith old.left messages [] → MayEndMirror end
+      → (messages : List (List ℕ)) → BeginWith old.left messages [] → MirrorMayEnd end
   pub bad : IsTrue t.input → length old.left < LONGEST → IsFlawlessMirror failed failed_now
       → (messages : List (List ℕ)) → (rest : List ℕ) → BeginWith old.left messages rest → IsBadBehind messages rest
       → (end ≡ MirrorEnd.BadStream (length (with_length messages))) ⊎ (end ≡ MirrorEnd.Memory)

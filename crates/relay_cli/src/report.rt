@@ -1,6 +1,6 @@
 //! The lines that are written.
 ghost use Rattle.std.specs.Prelude.{◌≡◌, IfOk};
-ghost use Rattle.relay_cli.specs.Report.{line_of};
+ghost use Rattle.relay_cli.specs.Report.{check_line};
 
 use crate::verdict::CheckVerdict;
 use at_cid::{Memory, Octets};
@@ -13,7 +13,7 @@ const LINE_ROOM: usize = 144;
 
 /// The line of a message that was checked, with its line feed.
 pub fn report(alloc: Global, verdict: &CheckVerdict) -> Result<Octets, Memory>
-    ensures { IfOk result (λ line. line ≡ line_of verdict.now) }
+    ensures { IfOk result (λ line. line ≡ check_line verdict.now) }
 {
     let mut line = Octets::from_vec(Vec::with_capacity(alloc, LINE_ROOM)?);
     match verdict {

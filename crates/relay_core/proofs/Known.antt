@@ -5,7 +5,7 @@ use Rattle.std.specs.Prelude.{if◌then◌else◌}
 use Rattle.std.proofs.lemmas.Bool.{true≢false}
 use Rattle.relay_row.specs.Folds.{is_named}
 use Rattle.relay_row.specs.declared.row.Row.{Row}
-use Rattle.account_state.specs.Dids.{account_of}
+use Rattle.account_state.specs.Dids.{named_account}
 use Rattle.account_state.specs.Entries.{entry}
 use Rattle.account_state.specs.Folds.{account, fresh}
 use Rattle.account_state.specs.State.{State}
@@ -18,5 +18,5 @@ by_entry None false a some is = refl
 by_entry (Some s) true a some is = ap (λ (x : State). Some x) is
 by_entry (Some s) false a some is = absurd (true≢false some)
 
-pub entry_is : (core : Core) (rows : List Row) → Holds core rows → (did : List ℕ) → entry core.accounts did ≡ account_of rows did
+pub entry_is : (core : Core) (rows : List Row) → Holds core rows → (did : List ℕ) → entry core.accounts did ≡ named_account rows did
 entry_is core rows holds did = by_entry (entry core.accounts did) (is_named did rows) (account did rows) (holds.named did) (holds.accounts did)

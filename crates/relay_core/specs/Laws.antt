@@ -6,7 +6,7 @@ use Rattle.at_event.specs.declared.frame.Frame.{Frame}
 use Rattle.at_event.specs.declared.head.Head.{Head}
 use Rattle.at_event.specs.declared.refusal.Refusal.{Refusal}
 use Rattle.relay_row.specs.declared.row.Row.{Row}
-use Rattle.account_state.specs.Dids.{account_of}
+use Rattle.account_state.specs.Dids.{named_account}
 use Rattle.account_state.specs.Entries.{entry}
 use Rattle.account_state.specs.Folds.{account}
 use Rattle.account_state.specs.State.{State}
@@ -35,7 +35,7 @@ is_open Question.Fetch x = not (is_some x.fetched)
 
 -- Where the state stands for a journal, the entry of a DID is its account, where a row names it.
 abbrev pub EntriesAreAccounts : Type 0
-EntriesAreAccounts = (core : Core) (rows : List Row) → Holds core rows → (did : List ℕ) → entry core.accounts did ≡ account_of rows did
+EntriesAreAccounts = (core : Core) (rows : List Row) → Holds core rows → (did : List ℕ) → entry core.accounts did ≡ named_account rows did
 
 -- No question is asked that has an answer, so there are seven at most.
 abbrev pub AsksOnce : Type 0

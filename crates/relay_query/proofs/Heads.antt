@@ -4,7 +4,7 @@ use Rattle.httparse.specs.Grammar.{RequestHead}
 use Rattle.httparse.proofs.GrammarLemmas.{request_unique}
 use Rattle.web_request.specs.Requests.{BeginsWith, BeginsWithNone}
 use Rattle.relay_row.specs.declared.row.Row.{Row}
-use Rattle.relay_query.specs.Replies.{IsAnswer, Reply, about, invalid_request, reply_text, reply_to}
+use Rattle.relay_query.specs.Replies.{IsReplyTo, Reply, about, invalid_request, reply_text, reply_to}
 
 -- a request begins with one head at most
 pub same_head : (most : ℕ) (request : List ℕ) (one other : RequestHead) → BeginsWith most request one → BeginsWith most request other → one ≡ other
@@ -16,7 +16,7 @@ about_same f g (Some did) same = same did
 
 -- the reply to the head that a request begins with
 pub answer_of : (rows : List Row) (request : List ℕ) (head : RequestHead) (method target : List ℕ) (reply : Reply) → BeginsWith 64 request head → method ≡ head.method → target ≡ head.target
-    → reply ≡ reply_to rows method target → IsAnswer rows request (reply_text reply)
+    → reply ≡ reply_to rows method target → IsReplyTo rows request (reply_text reply)
 answer_of rows request head method target reply begins m t is = record {
   read = λ other also.
       let same : head ≡ other = same_head 64 request head other begins also in
@@ -25,7 +25,7 @@ answer_of rows request head method target reply begins m t is = record {
 }
 
 -- the reply to one that begins with none
-pub answer_none : (rows : List Row) (request : List ℕ) (reply : Reply) → BeginsWithNone 64 request → reply ≡ invalid_request → IsAnswer rows request (reply_text reply)
+pub answer_none : (rows : List Row) (request : List ℕ) (reply : Reply) → BeginsWithNone 64 request → reply ≡ invalid_request → IsReplyTo rows request (reply_text reply)
 answer_none rows request reply none is = record {
   read = λ head begins. absurd (none head begins);
   unread = λ same. ap reply_text is;

@@ -10,7 +10,7 @@ use Rattle.std.proofs.lemmas.Bool.Decides.{nat_tests}
 use Rattle.std.proofs.lemmas.List.{append-nil, length-map, take-append-le, map-append}
 use Rattle.serde_json.specs.Data.{Data, array}
 use Rattle.serde_json.specs.Written.{items_have_float}
-use Rattle.json_text.specs.Values.{array_of, object_of}
+use Rattle.json_text.specs.Values.{array_of, object_with}
 use Rattle.serde_json.specs.View.{view, items_of, items_view}
 use Rattle.serde_json.specs.declared.value.Value.{Value}
 use Rattle.relay_row.specs.Folds.{names}
@@ -25,7 +25,7 @@ use Rattle.relay_core.specs.Entries.{Holds}
 use Rattle.relay_core.specs.declared.journal_state.Core.{Core}
 use Rattle.relay_query.specs.Replies.{listed}
 use Rattle.relay_query.specs.Seen.{has_good}
-use Rattle.relay_query.specs.Accounts.{Named, is_good}
+use Rattle.relay_query.specs.Accounts.{Named, is_repo_good}
 use Rattle.relay_query.specs.Bodies.{last_did, page_value, repo_value, text_member}
 use Rattle.relay_query.proofs.NoFloats.{plain_items}
 use Rattle.relay_query.proofs.Known.{account_is, good_is, named_is}
@@ -36,7 +36,7 @@ module _ (state : List ℕ → State) where
   with_states ds = map (λ did. (did, state did)) ds
 
   abbrev good : List ℕ → Bool
-  good did = is_good (state did).repo
+  good did = is_repo_good (state did).repo
 
   -- the first of them is listed or not
   step : (did e : List ℕ) (es : List (List ℕ)) (t : Bool) → good e && is_before did e ≡ t
@@ -111,7 +111,7 @@ module _ (state : List ℕ → State) where
 
 module _ (core : Core) (rows : List Row) (holds : Holds core rows) where
   -- the next one that the state tells
-  pub next_in : (did x : List ℕ) (a : State) → entry core.accounts x ≡ Some a → is_good a.repo ≡ true → is_before did x ≡ true
+  pub next_in : (did x : List ℕ) (a : State) → entry core.accounts x ≡ Some a → is_repo_good a.repo ≡ true → is_before did x ≡ true
       → ((name : List ℕ) → is_before did name ≡ true → is_before name x ≡ true → has_good core name ≡ false)
       → listed did (accounts rows) ≡ (x, a) ∷ listed x (accounts rows)
   next_in did x a found on above least =
@@ -119,7 +119,7 @@ module _ (core : Core) (rows : List Row) (holds : Holds core rows) where
       next_listed (λ name. account name rows) [] did x (dids rows) (dids_behind rows) (record {
         above = above;
         there = dids_named x rows ∙ named_is core rows holds x a found;
-        known = ap (λ (s : State). is_good s.repo) is ∙ on;
+        known = ap (λ (s : State). is_repo_good s.repo) is ∙ on;
         first = λ name less below. sym (good_is core rows holds name) ∙ least name less below;
       })
       ∙ ap (λ (s : State). (x, s) ∷ listed x (accounts rows)) is
@@ -165,13 +165,13 @@ last_of_some cursor (x ∷ xs) some = last_there cursor x xs
 
 -- a page of these accounts with this last DID
 page_by : (limit : ℕ) (all some : List Named) (last : Option (List ℕ)) → take limit all ≡ some → (if nat_lt limit (length all) then last_did some else None) ≡ last
-    → page_value limit all ≡ object_of (text_member (codes "cursor") last ++ (codes "repos", array_of (map repo_value some)) ∷ [])
+    → page_value limit all ≡ object_with (text_member (codes "cursor") last ++ (codes "repos", array_of (map repo_value some)) ∷ [])
 page_by limit all some last front is =
-    ap (λ (l : List Named). object_of (text_member (codes "cursor") (if nat_lt limit (length all) then last_did l else None) ++ (codes "repos", array_of (map repo_value l)) ∷ [])) front
-    ∙ ap (λ (o : Option (List ℕ)). object_of (text_member (codes "cursor") o ++ (codes "repos", array_of (map repo_value some)) ∷ [])) is
+    ap (λ (l : List Named). object_with (text_member (codes "cursor") (if nat_lt limit (length all) then last_did l else None) ++ (codes "repos", array_of (map repo_value l)) ∷ [])) front
+    ∙ ap (λ (o : Option (List ℕ)). object_with (text_member (codes "cursor") o ++ (codes "repos", array_of (map repo_value some)) ∷ [])) is
 
 module _ (core : Core) (limit : ℕ) (cursor last : List ℕ) (repos : List Value) (is : IsListing core limit cursor last repos) where
-  pub listing_more : (x : List ℕ) (a : State) (v : Value) → length repos < limit → entry core.accounts x ≡ Some a → is_good a.repo ≡ true → is_before last x ≡ true
+  pub listing_more : (x : List ℕ) (a : State) (v : Value) → length repos < limit → entry core.accounts x ≡ Some a → is_repo_good a.repo ≡ true → is_before last x ≡ true
       → ((name : List ℕ) → is_before last name ≡ true → is_before name x ≡ true → has_good core name ≡ false)
       → view v ≡ repo_value (x, a) → IsListing core limit cursor x (repos ++ v ∷ [])
   listing_more x a v room found on above least value = record {
@@ -188,15 +188,15 @@ module _ (core : Core) (limit : ℕ) (cursor last : List ℕ) (repos : List Valu
   repos_are = ap (λ (l : List Data). array (items_of l)) (sym is.items)
 
   page_is : (rows : List Row) → (last : Option (List ℕ)) (all : List Named) → listed cursor (accounts rows) ≡ all → take limit all ≡ is.so_far → (if nat_lt limit (length all) then last_did is.so_far else None) ≡ last
-      → page_value limit (listed cursor (accounts rows)) ≡ object_of (text_member (codes "cursor") last ++ (codes "repos", array (items_view repos)) ∷ [])
+      → page_value limit (listed cursor (accounts rows)) ≡ object_with (text_member (codes "cursor") last ++ (codes "repos", array (items_view repos)) ∷ [])
   page_is rows last all these front more =
       ap (page_value limit) these ∙ page_by limit all is.so_far last front more
-      ∙ ap (λ (d : Data). object_of (text_member (codes "cursor") last ++ (codes "repos", d) ∷ [])) repos_are
+      ∙ ap (λ (d : Data). object_with (text_member (codes "cursor") last ++ (codes "repos", d) ∷ [])) repos_are
 
-  pub listing_full : (x : List ℕ) (a : State) → limit ≤ length repos → 0 < limit → entry core.accounts x ≡ Some a → is_good a.repo ≡ true → is_before last x ≡ true
+  pub listing_full : (x : List ℕ) (a : State) → limit ≤ length repos → 0 < limit → entry core.accounts x ≡ Some a → is_repo_good a.repo ≡ true → is_before last x ≡ true
       → ((name : List ℕ) → is_before last name ≡ true → is_before name x ≡ true → has_good core name ≡ false)
       → (rows : List Row) → Holds core rows
-      → page_value limit (listed cursor (accounts rows)) ≡ object_of (text_member (codes "cursor") (Some last) ++ (codes "repos", array (items_view repos)) ∷ [])
+      → page_value limit (listed cursor (accounts rows)) ≡ object_with (text_member (codes "cursor") (Some last) ++ (codes "repos", array (items_view repos)) ∷ [])
   listing_full x a full some found on above least rows holds =
       let count = as_many view repo_value repos is.so_far is.items in
       let size : limit ≡ length is.so_far = omega (arith, full, is.few, count) in
@@ -209,7 +209,7 @@ module _ (core : Core) (limit : ℕ) (cursor last : List ℕ) (repos : List Valu
       (ap (λ (b : Bool). if b then last_did is.so_far else None) more ∙ last_of_some cursor is.so_far (omega (arith, some, size)) ∙ ap (λ (d : List ℕ). Some d) is.last_is)
 
   pub listing_done : ((name : List ℕ) → is_before last name ≡ true → has_good core name ≡ false) → (rows : List Row) → Holds core rows
-      → page_value limit (listed cursor (accounts rows)) ≡ object_of (text_member (codes "cursor") None ++ (codes "repos", array (items_view repos)) ∷ [])
+      → page_value limit (listed cursor (accounts rows)) ≡ object_with (text_member (codes "cursor") None ++ (codes "repos", array (items_view repos)) ∷ [])
   listing_done none rows holds =
       let all : listed cursor (accounts rows) ≡ is.so_far =
       is.rest rows holds ∙ ap (λ (l : List Named). is.so_far ++ l) (none_in core rows holds last none) ∙ append-nil is.so_far in

@@ -6,7 +6,7 @@ use Rattle.account_state.specs.Entries.{entry, is_before}
 use Rattle.account_state.specs.State.{State}
 use Rattle.account_state.proofs.Order.{before_total, before_trans, same_text}
 use Rattle.relay_core.specs.declared.journal_state.Core.{Core}
-use Rattle.relay_query.specs.Accounts.{is_good}
+use Rattle.relay_query.specs.Accounts.{is_repo_good}
 use Rattle.relay_query.specs.Seen.{has_good, is_listed}
 
 -- of those behind a DID none up to this place has a repository that is known
@@ -40,7 +40,7 @@ module _ (core : Core) (behind place : List ℕ) (so_far : IsSeeking core behind
         | false ↦ λ not. so_far.passed name less not
       ] refl
 
-  pub seeking_more : (x : List ℕ) (a : State) → entry core.accounts x ≡ Some a → is_good a.repo ≡ false → is_before place x ≡ true
+  pub seeking_more : (x : List ℕ) (a : State) → entry core.accounts x ≡ Some a → is_repo_good a.repo ≡ false → is_before place x ≡ true
       → ((name : List ℕ) → is_before place name ≡ true → is_before name x ≡ true → entry core.accounts name ≡ None) → IsSeeking core behind x
   seeking_more x a found off above least = record {
     not_back = λ name less. so_far.not_back name (before_trans place x name above less);

@@ -14,15 +14,15 @@ abbrev pub is_available : State → Bool
 is_available a = a.active && not a.down
 
 -- `status`: why it isn't, where that is known
-abbrev pub status_of : State → Option (List ℕ)
-status_of a =
+abbrev pub status_name : State → Option (List ℕ)
+status_name a =
     if a.down then Some (codes "takendown") else (if a.active then None else a.status)
 
 -- its repository is known
-abbrev pub is_good : Repo → Bool
-is_good Repo.Missing = false
-is_good (Repo.Good head) = true
-is_good (Repo.Lost rev) = false
+abbrev pub is_repo_good : Repo → Bool
+is_repo_good Repo.Missing = false
+is_repo_good (Repo.Good head) = true
+is_repo_good (Repo.Lost rev) = false
 
 -- `head`: the text of the newest commit's link, where the repository is known
 abbrev pub link_of : Repo → Option (List ℕ)

@@ -6,15 +6,15 @@ use Rattle.serde_json.specs.Data.{Data, string}
 use Rattle.httparse.specs.Grammar.{RequestHead}
 use Rattle.form_urlencoded.specs.Form.{raw_pairs}
 use Rattle.json_text.specs.Texts.{json_text}
-use Rattle.json_text.specs.Values.{object_of}
+use Rattle.json_text.specs.Values.{object_with}
 use Rattle.web_request.specs.Requests.{BeginsWith, BeginsWithNone, first_named, decimal_in, path_of, query_of}
 use Rattle.at_syntax.specs.Did.{is_did}
 use Rattle.relay_row.specs.declared.row.Row.{Row}
-use Rattle.account_state.specs.Dids.{account_of, accounts}
+use Rattle.account_state.specs.Dids.{named_account, accounts}
 use Rattle.account_state.specs.Entries.{is_before}
 use Rattle.account_state.specs.State.{State}
 use Rattle.account_state.specs.declared.repo.Repo.{Repo}
-use Rattle.relay_query.specs.Accounts.{Named, is_available, is_good, status_of}
+use Rattle.relay_query.specs.Accounts.{Named, is_available, is_repo_good, status_name}
 use Rattle.relay_query.specs.Bodies.{commit_value, page_value, status_value}
 
 -- a reply: its status code with the reason phrase, and its body
@@ -25,7 +25,7 @@ abbrev pub ok : Data → Reply
 ok value = (codes "200 OK", value)
 
 abbrev pub error_value : List ℕ → Data
-error_value name = object_of ((codes "error", string name) ∷ [])
+error_value name = object_with ((codes "error", string name) ∷ [])
 
 -- an error of this name
 abbrev pub bad_request : List ℕ → Reply
@@ -58,13 +58,13 @@ limit_in (Some text) = limit_of (decimal_in 4 text)
 
 -- the DID behind which a page begins: the empty text, which stands before each DID, where the
 -- parameter is absent
-abbrev pub cursor_in : Option (List ℕ) → Option (List ℕ)
-cursor_in None = Some []
-cursor_in (Some text) = if is_did text then Some text else None
+abbrev pub cursor_param : Option (List ℕ) → Option (List ℕ)
+cursor_param None = Some []
+cursor_param (Some text) = if is_did text then Some text else None
 
 -- the accounts behind a DID whose repository is known
 abbrev pub listed : List ℕ → List Named → List Named
-listed cursor accounts = filter (λ a. is_good a.1.repo && is_before cursor a.0) accounts
+listed cursor accounts = filter (λ a. is_repo_good a.1.repo && is_before cursor a.0) accounts
 
 abbrev pub page_reply : List Named → Option ℕ → Option (List ℕ) → Reply
 page_reply accounts None cursor = invalid_request
@@ -86,20 +86,20 @@ error_of (Some status) =
     else (if bytes_eq status (codes "deactivated") then codes "RepoDeactivated"
     else codes "RepoNotFound"))
 
-abbrev pub commit_of : Repo → Reply
-commit_of Repo.Missing = repo_not_found
-commit_of (Repo.Good head) = ok (commit_value head)
-commit_of (Repo.Lost rev) = repo_not_found
+abbrev pub latest_commit_reply : Repo → Reply
+latest_commit_reply Repo.Missing = repo_not_found
+latest_commit_reply (Repo.Good head) = ok (commit_value head)
+latest_commit_reply (Repo.Lost rev) = repo_not_found
 
 abbrev pub commit_reply : Option State → Reply
 commit_reply None = repo_not_found
 commit_reply (Some a) =
-    if is_available a then commit_of a.repo else bad_request (error_of (status_of a))
+    if is_available a then latest_commit_reply a.repo else bad_request (error_of (status_name a))
 
 -- the DID of the parameter, where it is one
-abbrev pub did_in : Option (List ℕ) → Option (List ℕ)
-did_in None = None
-did_in (Some text) = if is_did text then Some text else None
+abbrev pub did_param : Option (List ℕ) → Option (List ℕ)
+did_param None = None
+did_param (Some text) = if is_did text then Some text else None
 
 abbrev pub about : (List ℕ → Reply) → Option (List ℕ) → Reply
 about reply None = invalid_request
@@ -113,13 +113,13 @@ reply_at rows path pairs =
     if bytes_eq path (codes "/xrpc/com.atproto.sync.listRepos")
     then page_reply (accounts rows)
     (limit_in (first_named (codes "limit") pairs))
-    (cursor_in (first_named (codes "cursor") pairs))
+    (cursor_param (first_named (codes "cursor") pairs))
     else (if bytes_eq path (codes "/xrpc/com.atproto.sync.getRepoStatus")
-    then about (λ did. status_reply did (account_of rows did))
-    (did_in (first_named (codes "did") pairs))
+    then about (λ did. status_reply did (named_account rows did))
+    (did_param (first_named (codes "did") pairs))
     else (if bytes_eq path (codes "/xrpc/com.atproto.sync.getLatestCommit")
-    then about (λ did. commit_reply (account_of rows did))
-    (did_in (first_named (codes "did") pairs))
+    then about (λ did. commit_reply (named_account rows did))
+    (did_param (first_named (codes "did") pairs))
     else not_found))
 
 -- the reply to a method and a target
@@ -141,7 +141,7 @@ reply_text (code, body) = head_text code (length (json_text body)) ++ json_text 
 
 -- The reply to a request: by the head that it begins with, of at most 64 header fields, or that of
 -- a request that begins with none.
-pub record IsAnswer (rows : List Row) (request reply : List ℕ) : Type 0 where
+pub record IsReplyTo (rows : List Row) (request reply : List ℕ) : Type 0 where
   pub read : (head : RequestHead) → BeginsWith 64 request head
       → reply ≡ reply_text (reply_to rows head.method head.target)
   pub unread : BeginsWithNone 64 request → reply ≡ reply_text invalid_request

@@ -4,7 +4,7 @@ use Rattle.serde_json.specs.View.{view}
 use Rattle.account_state.specs.Entries.{entry}
 use Rattle.account_state.specs.State.{State}
 use Rattle.relay_core.specs.declared.journal_state.Core.{Core}
-use Rattle.relay_query.specs.Accounts.{is_good}
+use Rattle.relay_query.specs.Accounts.{is_repo_good}
 use Rattle.relay_query.specs.Replies as replies
 use Rattle.relay_query.specs.declared.reply.Reply.{Reply}
 
@@ -13,7 +13,7 @@ seen reply = (reply.code.now, view reply.body)
 
 abbrev pub is_listed : Option State → Bool
 is_listed None = false
-is_listed (Some a) = is_good a.repo
+is_listed (Some a) = is_repo_good a.repo
 
 -- the repository of a DID is known
 abbrev pub has_good : Core → List ℕ → Bool

@@ -4,7 +4,7 @@ ghost use Rattle.std.specs.Prelude.{◌≡◌, IfOk, Some, option_map};
 ghost use Rattle.serde_json.specs.View.{view};
 ghost use Rattle.account_state.specs.State.{state_of};
 ghost use Rattle.account_state.specs.declared.repo.Repo.{Repo as TheRepo};
-ghost use Rattle.relay_query.specs.Accounts.{is_available, rev_of, status_of};
+ghost use Rattle.relay_query.specs.Accounts.{is_available, rev_of, status_name};
 ghost use Rattle.relay_query.specs.Bodies.{commit_value, repo_value, status_value};
 ghost use Rattle.relay_query.specs.Replies.{error_of};
 
@@ -25,7 +25,7 @@ pub(crate) fn is_available(account: &Account) -> bool
 
 /// Why it isn't, where that is known.
 pub(crate) fn status_of(account: &Account) -> Option<&str>
-    ensures { option_map (λ text. text.now) result ≡ status_of (state_of account.now) }
+    ensures { option_map (λ text. text.now) result ≡ status_name (state_of account.now) }
 {
     if account.is_down() {
         Some("takendown")

@@ -8,7 +8,7 @@ ghost use Rattle.account_state.specs.Dids.{accounts};
 ghost use Rattle.account_state.specs.Entries.{entry};
 ghost use Rattle.account_state.specs.State.{state_of};
 ghost use Rattle.relay_core.specs.Entries.{Holds};
-ghost use Rattle.relay_query.specs.Replies.{IsAnswer, about, commit_of, commit_reply, cursor_in, did_in, limit_in, page_reply, reply_at, reply_text, reply_to, status_reply};
+ghost use Rattle.relay_query.specs.Replies.{IsReplyTo, about, latest_commit_reply, commit_reply, cursor_param, did_param, limit_in, page_reply, reply_at, reply_text, reply_to, status_reply};
 ghost use Rattle.relay_query.specs.Seen.{seen};
 
 use crate::account::{commit_value, error_of, is_available, status_of, status_value};
@@ -33,7 +33,7 @@ fn page_reply(alloc: Global, core: &Core, query: &[u8]) -> Result<Reply, Memory>
     ensures { IfOk result (λ reply. (rows : List TheRow) → Holds core.now rows
         → seen reply ≡ page_reply (accounts rows)
         (limit_in (first_named (codes "limit") (pairs_in query.now)))
-        (cursor_in (first_named (codes "cursor") (pairs_in query.now)))) }
+        (cursor_param (first_named (codes "cursor") (pairs_in query.now)))) }
 {
     let limit = value_of(alloc, query, "limit")?;
     let cursor = value_of(alloc, query, "cursor")?;
@@ -74,7 +74,7 @@ fn commit_reply(alloc: Global, core: &Core, did: &str) -> Result<Reply, Memory>
 
 // The newest commit of an account's repository.
 fn newest_commit(alloc: Global, account: &Account) -> Result<Reply, Memory>
-    ensures { IfOk result (λ reply. seen reply ≡ commit_of (state_of account.now).repo) }
+    ensures { IfOk result (λ reply. seen reply ≡ latest_commit_reply (state_of account.now).repo) }
 {
     match account.repo() {
         Repo::Good(head) => {
@@ -89,7 +89,7 @@ fn newest_commit(alloc: Global, account: &Account) -> Result<Reply, Memory>
 fn status_of_query(alloc: Global, core: &Core, query: &[u8]) -> Result<Reply, Memory>
     ensures { IfOk result (λ reply. seen reply
         ≡ about (λ did. status_reply did (entry core.now.accounts did))
-        (did_in (first_named (codes "did") (pairs_in query.now)))) }
+        (did_param (first_named (codes "did") (pairs_in query.now)))) }
 {
     let value = value_of(alloc, query, "did")?;
     match did_in(&value) {
@@ -102,7 +102,7 @@ fn status_of_query(alloc: Global, core: &Core, query: &[u8]) -> Result<Reply, Me
 fn commit_of_query(alloc: Global, core: &Core, query: &[u8]) -> Result<Reply, Memory>
     ensures { IfOk result (λ reply. seen reply
         ≡ about (λ did. commit_reply (entry core.now.accounts did))
-        (did_in (first_named (codes "did") (pairs_in query.now)))) }
+        (did_param (first_named (codes "did") (pairs_in query.now)))) }
 {
     let value = value_of(alloc, query, "did")?;
     match did_in(&value) {
@@ -142,7 +142,7 @@ fn reply_to(alloc: Global, core: &Core, method: &[u8], target: &[u8]) -> Result<
 // The reply to a request.
 fn reply_of(alloc: Global, core: &Core, request: &[u8]) -> Result<Reply, Memory>
     ensures { IfOk result (λ reply. (rows : List TheRow) → Holds core.now rows
-        → IsAnswer rows request.now (reply_text (seen reply))) }
+        → IsReplyTo rows request.now (reply_text (seen reply))) }
 {
     match request_line(request) {
         Some(line) => reply_to(alloc, core, line.method, line.target),
@@ -162,7 +162,7 @@ fn reply_of(alloc: Global, core: &Core, request: &[u8]) -> Result<Reply, Memory>
 /// nothing else does.
 pub fn answer(alloc: Global, core: &Core, request: &[u8]) -> Result<Octets, Memory>
     ensures { IfOk result (λ reply. (rows : List TheRow) → Holds core.now rows
-        → IsAnswer rows request.now reply) }
+        → IsReplyTo rows request.now reply) }
 {
     let reply = reply_of(alloc, core, request)?;
     reply_text(alloc, &reply)

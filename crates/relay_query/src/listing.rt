@@ -4,13 +4,13 @@ ghost use Rattle.std.specs.Prelude.{◌≡◌, ◌<◌, ◌++◌, ◌∷◌, Lis
 ghost use Rattle.serde_json.specs.View.{view, items_view};
 ghost use Rattle.serde_json.specs.Written.{has_float};
 ghost use Rattle.serde_json.specs.Data.{array};
-ghost use Rattle.json_text.specs.Values.{object_of};
+ghost use Rattle.json_text.specs.Values.{object_with};
 ghost use Rattle.relay_row.specs.declared.row.Row.{Row as TheRow};
 ghost use Rattle.account_state.specs.Dids.{accounts};
 ghost use Rattle.account_state.specs.Entries.{entry, is_before};
 ghost use Rattle.account_state.specs.State.{state_of};
 ghost use Rattle.relay_core.specs.Entries.{Holds};
-ghost use Rattle.relay_query.specs.Accounts.{is_good};
+ghost use Rattle.relay_query.specs.Accounts.{is_repo_good};
 ghost use Rattle.relay_query.specs.Bodies.{page_value, text_member};
 ghost use Rattle.relay_query.specs.Replies.{listed};
 ghost use Rattle.relay_query.specs.Seen.{has_good};
@@ -25,7 +25,7 @@ use std::alloc::Global;
 
 // Whether the repository of an account is known.
 fn is_good(account: &Account) -> bool
-    ensures { result ≡ is_good (state_of account.now).repo }
+    ensures { result ≡ is_repo_good (state_of account.now).repo }
 {
     matches!(account.repo(), Repo::Good(_))
 }
@@ -35,7 +35,7 @@ fn is_good(account: &Account) -> bool
 fn next_good<'a>(core: &'a Core, behind: &str) -> Option<(&'a str, &'a Account)>
     ensures found { IfSome result (λ x.
         entry core.now.accounts x.0.now ≡ Some (state_of x.1.now)) }
-    ensures good { IfSome result (λ x. is_good (state_of x.1.now).repo ≡ true) }
+    ensures good { IfSome result (λ x. is_repo_good (state_of x.1.now).repo ≡ true) }
     ensures above { IfSome result (λ x. is_before behind.now x.0.now ≡ true) }
     ensures least { IfSome result (λ x. (name : List ℕ)
         → is_before behind.now name ≡ true → is_before name x.0.now ≡ true
@@ -55,7 +55,7 @@ fn next_good<'a>(core: &'a Core, behind: &str) -> Option<(&'a str, &'a Account)>
 
 // A page of these accounts, with the last DID as cursor where more follow.
 fn page_of(alloc: Global, last: Option<&str>, repos: Vec<Value>) -> Result<Value, Memory>
-    ensures { IfOk result (λ value. view value ≡ object_of (
+    ensures { IfOk result (λ value. view value ≡ object_with (
         text_member (codes "cursor") (option_map (λ text. text.now) last.entry)
         ++ (codes "repos", array (items_view repos.items)) ∷ [])) }
 {

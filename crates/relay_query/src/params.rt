@@ -3,7 +3,7 @@
 ghost use Rattle.std.specs.Prelude.{◌≡◌, ◌<◌, Some, None, IfSome, option_map, if◌then◌else◌};
 ghost use Rattle.std.specs.Cow.{cow_str_bytes};
 ghost use Rattle.at_syntax.specs.Did.{is_did};
-ghost use Rattle.relay_query.specs.Replies.{cursor_in, did_in, limit_in};
+ghost use Rattle.relay_query.specs.Replies.{cursor_param, did_param, limit_in};
 
 use at_syntax::did_ok;
 use std::borrow::CowStr;
@@ -36,7 +36,7 @@ pub(crate) fn limit_in(value: &Option<CowStr<'_>>) -> Option<usize>
 /// absent.
 pub(crate) fn cursor_in<'a>(value: &'a Option<CowStr<'a>>) -> Option<&'a str>
     ensures { option_map (λ text. text.now) result
-        ≡ cursor_in (option_map cow_str_bytes value.now) }
+        ≡ cursor_param (option_map cow_str_bytes value.now) }
 {
     match value {
         None => Some(""),
@@ -46,7 +46,7 @@ pub(crate) fn cursor_in<'a>(value: &'a Option<CowStr<'a>>) -> Option<&'a str>
 
 /// The DID of the parameter `did`.
 pub(crate) fn did_in<'a>(value: &'a Option<CowStr<'a>>) -> Option<&'a str>
-    ensures { option_map (λ text. text.now) result ≡ did_in (option_map cow_str_bytes value.now) }
+    ensures { option_map (λ text. text.now) result ≡ did_param (option_map cow_str_bytes value.now) }
 {
     match value {
         None => None,

@@ -15,7 +15,7 @@ use Rattle.relay_row.specs.declared.row.Row.{Row}
 use Rattle.relay_store.specs.Journals.{IsPairImageOf, bytes_of, joined}
 use Rattle.relay_store.specs.Shown.{held_by, is_shown, shown_of}
 use Rattle.backfill.specs.Served.{following, messages_of, rising_above, served_events, standing_of}
-use Rattle.backfill.specs.Writing.{has_long, is_long}
+use Rattle.backfill.specs.Writing.{has_long, is_too_long_to_frame}
 use Rattle.backfill.specs.declared.standing.Standing.{Standing}
 
 -- four bytes say the length of each
@@ -139,7 +139,7 @@ rising_short seq (e ∷ events) short = rising_either (nat_le e.0 seq) e (rising
 none_long : (events : List Event) → AllShort events → has_long (messages_of events) ≡ false
 none_long [] short = refl
 none_long (e ∷ events) short =
-    let test : is_long e.1 ≡ false = let low : length e.1 < 2 ^ 32 = short.0 in grind (arith, nat_tests) in
+    let test : is_too_long_to_frame e.1 ≡ false = let low : length e.1 < 2 ^ 32 = short.0 in grind (arith, nat_tests) in
     rw test (none_long events short.1)
 
 following_short : (standing : Standing) (events : List Event) (cursor : ℕ) → AllShort events → has_long (following standing events cursor) ≡ false
