@@ -11,12 +11,14 @@ use Rattle.account_state.specs.State.{State}
 -- a DID among others in ascending order, once
 abbrev pub put_did : List ℕ → List (List ℕ) → List (List ℕ)
 put_did did [] = did ∷ []
-put_did did (first ∷ others) = if is_before did first then did ∷ first ∷ others else (if bytes_eq did first then first ∷ others else first ∷ put_did did others)
+put_did did (first ∷ others) = if is_before did first then did ∷ first ∷ others
+    else (if bytes_eq did first then first ∷ others else first ∷ put_did did others)
 
 -- the DIDs that rows name, in ascending order. The empty text names nothing
 abbrev pub dids : List Row → List (List ℕ)
 dids [] = []
-dids (row ∷ rows) = if bytes_eq (did_of_row row) [] then dids rows else put_did (did_of_row row) (dids rows)
+dids (row ∷ rows) = if bytes_eq (did_of_row row) [] then dids rows
+    else put_did (did_of_row row) (dids rows)
 
 -- the accounts that rows name, each with its DID, in ascending order of these
 abbrev pub accounts : List Row → List (List ℕ × State)
@@ -34,4 +36,5 @@ AreBehind did (first ∷ others) = (is_before did first ≡ true) × AreBehind f
 -- The DIDs of a journal ascend, so that each is there once, and they are those that its rows name.
 pub record DidsAreNamed : Type 0 where
   pub ascend : (rows : List Row) → AreBehind [] (dids rows)
-  pub named : (did : List ℕ) (rows : List Row) → list_any (names did) (dids rows) ≡ is_named did rows
+  pub named : (did : List ℕ) (rows : List Row)
+      → list_any (names did) (dids rows) ≡ is_named did rows

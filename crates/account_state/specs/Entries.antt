@@ -32,7 +32,8 @@ has_room es did = is_some (found_entry did es)
 
 -- what a row makes of the entry of a DID
 abbrev pub entry_after : List ℕ → Option State → Row → Option State
-entry_after did o row = if names did (did_of_row row) then Some (moved (unwrap_or o fresh) row) else o
+entry_after did o row = if names did (did_of_row row) then Some (moved (unwrap_or o fresh) row)
+    else o
 
 -- a name stands before another, in the order of bytes
 abbrev pub is_before : List ℕ → List ℕ → Bool

@@ -35,7 +35,8 @@ pub record AreSides (at : ℕ) (left right : Shape) : Type 0 where
 
 -- a tree takes one entry more: it keeps its level, or two of its nodes stood on that level and now one stands above it
 abbrev pub IsRaised : ℕ → ℕ → Shape → Type 0
-IsRaised level right_level new = (right_level ≡ level) × (new.level ≡ level + 1) × (new.right_level ≡ level)
+IsRaised level right_level new = (right_level ≡ level) × (new.level ≡ level + 1)
+    × (new.right_level ≡ level)
 
 abbrev pub Settles : ℕ → ℕ → Shape → Type 0
 Settles level right_level new = (new.level ≡ level) ⊎ IsRaised level right_level new

@@ -115,7 +115,8 @@ impl Account {
     }
 
     fn set_status(&mut self, active: bool, status: Option<Words>)
-        ensures state { state_of self.new ≡ record (state_of self.old) { active = active; status = status } }
+        ensures state { state_of self.new
+            ≡ record (state_of self.old) { active = active; status = status } }
         ensures named { self.new.named ≡ self.old.named }
     {
         self.active = active;
@@ -130,7 +131,8 @@ impl Account {
 
     // Commits were lost behind the last revision.
     fn lose(&mut self)
-        ensures state { state_of self.new ≡ record (state_of self.old) { repo = Repo.Lost (last_rev (state_of self.old).repo) } }
+        ensures state { state_of self.new
+            ≡ record (state_of self.old) { repo = Repo.Lost (last_rev (state_of self.old).repo) } }
         ensures named { self.new.named ≡ self.old.named }
     {
         self.links = match self.links {
@@ -181,7 +183,8 @@ impl Account {
     }
 
     fn carry_repo(&mut self, repo: &CarriedRepo)
-        ensures state { state_of self.new ≡ record (state_of self.old) { repo = repo_carried repo.now } }
+        ensures state { state_of self.new
+            ≡ record (state_of self.old) { repo = repo_carried repo.now } }
         ensures named { self.new.named ≡ self.old.named }
     {
         match repo {

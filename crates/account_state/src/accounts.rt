@@ -60,7 +60,8 @@ impl Accounts {
     pub fn touch(&mut self, did: &str) -> Result<(), Memory>
         ensures entries { (name : List ℕ) → entry self.new name ≡ entry self.old name }
         ensures room { OnOk result (has_room self.new did.now ≡ true) }
-        ensures kept { (name : List ℕ) → has_room self.old name ≡ true → has_room self.new name ≡ true }
+        ensures kept { (name : List ℕ) → has_room self.old name ≡ true
+            → has_room self.new name ≡ true }
     {
         if self.tree.get(did.as_bytes()).is_some() {
             return Ok(());
@@ -77,7 +78,8 @@ impl Accounts {
     /// The accounts after one more row, whose DID was touched, where it names one. Takes no memory.
     pub fn apply(&mut self, mut row: Row)
         requires { did_of_row row ≢ [] → has_room self.old (did_of_row row) ≡ true }
-        ensures entries { (name : List ℕ) → entry self.new name ≡ entry_after name (entry self.old name) row }
+        ensures entries { (name : List ℕ)
+            → entry self.new name ≡ entry_after name (entry self.old name) row }
         ensures room { (name : List ℕ) → has_room self.new name ≡ has_room self.old name }
     {
         let did = take_did(self.alloc, &mut row);
@@ -91,8 +93,10 @@ impl Accounts {
     pub fn next_after(&self, did: &str) -> Option<(&str, &Account)>
         ensures found { IfSome result (λ x. entry self.now x.0.now ≡ Some (state_of x.1.now)) }
         ensures above { IfSome result (λ x. is_before did.now x.0.now ≡ true) }
-        ensures least { IfSome result (λ x. (name : List ℕ) → is_before did.now name ≡ true → is_before name x.0.now ≡ true → entry self.now name ≡ None) }
-        ensures none { result ≡ None → (name : List ℕ) → is_before did.now name ≡ true → entry self.now name ≡ None }
+        ensures least { IfSome result (λ x. (name : List ℕ) → is_before did.now name ≡ true
+            → is_before name x.0.now ≡ true → entry self.now name ≡ None) }
+        ensures none { result ≡ None → (name : List ℕ) → is_before did.now name ≡ true
+            → entry self.now name ≡ None }
     {
         self.tree.next_after(did.as_bytes())
     }

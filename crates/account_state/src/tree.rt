@@ -136,7 +136,8 @@ impl Tree {
     /// The account of a DID.
     pub(crate) fn get(&self, did: &[u8]) -> Option<&Account>
         requires { IsSorted self.now.entries }
-        ensures { option_map (λ account. account.now) result ≡ found_entry did.now self.now.entries }
+        ensures { option_map (λ account. account.now) result
+            ≡ found_entry did.now self.now.entries }
     {
         match &self.link {
             Link::Empty => None,
@@ -195,7 +196,8 @@ impl Tree {
         requires before { new.value.left ≡ no_entries }
         requires behind { new.value.right ≡ no_entries }
         requires level { self.old.level < 255 }
-        ensures entries { self.new.entries ≡ put (new.value.name, new.value.account) self.old.entries }
+        ensures entries { self.new.entries
+            ≡ put (new.value.name, new.value.account) self.old.entries }
         ensures low { IsLow self.new }
         ensures level { Settles self.old.level self.old.right_level self.new }
     {

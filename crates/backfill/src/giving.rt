@@ -33,14 +33,18 @@ fn give_above<E: Events>(
 ) -> Result<bool, EventsFault>
     requires known { IsTrue E.tells → (held : Held) × E.holds events.old held }
     ensures given { IfOk result (λ more. IsTrue E.tells → (held : Held) → E.holds events.old held
-        → Gives more room.new (messages_of (rising_above seq held.shown)) (left_of held place.new)) }
+        → Gives more room.new (messages_of (rising_above seq held.shown))
+        (left_of held place.new)) }
     ensures kept { OnErr result (place.new ≡ place.old) }
     ensures known { IsTrue E.tells → (held : Held) × E.holds events.new held }
-    ensures same { IsTrue E.tells → (held : Held) → E.holds events.old held → E.holds events.new held }
+    ensures same { IsTrue E.tells → (held : Held) → E.holds events.old held
+        → E.holds events.new held }
     ensures later { E.later events.old events.new }
-    ensures disk { result ≡ Err EventsFault.Disk → Rose (E.faults events.old) (E.faults events.new) }
+    ensures disk { result ≡ Err EventsFault.Disk
+        → Rose (E.faults events.old) (E.faults events.new) }
     ensures counts { E.faults events.old ≤ E.faults events.new }
-    ensures no_bad_log { (at : ℕ) → result ≡ Err (EventsFault.BadLog at) → IsTrue E.tells → (held : Held) → E.holds events.old held → ⊥ }
+    ensures no_bad_log { (at : ℕ) → result ≡ Err (EventsFault.BadLog at) → IsTrue E.tells
+        → (held : Held) → E.holds events.old held → ⊥ }
 {
     match next_above(events, seq, room)? {
         Some(number) => {
@@ -66,11 +70,14 @@ fn give_first<E: Events>(
         → Gives more room.new (left_of held (ThePlace.Start cursor)) (left_of held place.new)) }
     ensures kept { OnErr result (place.new ≡ place.old) }
     ensures known { IsTrue E.tells → (held : Held) × E.holds events.new held }
-    ensures same { IsTrue E.tells → (held : Held) → E.holds events.old held → E.holds events.new held }
+    ensures same { IsTrue E.tells → (held : Held) → E.holds events.old held
+        → E.holds events.new held }
     ensures later { E.later events.old events.new }
-    ensures disk { result ≡ Err EventsFault.Disk → Rose (E.faults events.old) (E.faults events.new) }
+    ensures disk { result ≡ Err EventsFault.Disk
+        → Rose (E.faults events.old) (E.faults events.new) }
     ensures counts { E.faults events.old ≤ E.faults events.new }
-    ensures no_bad_log { (at : ℕ) → result ≡ Err (EventsFault.BadLog at) → IsTrue E.tells → (held : Held) → E.holds events.old held → ⊥ }
+    ensures no_bad_log { (at : ℕ) → result ≡ Err (EventsFault.BadLog at) → IsTrue E.tells
+        → (held : Held) → E.holds events.old held → ⊥ }
 {
     match standing_of(events, cursor) {
         Standing::Future => {
@@ -99,11 +106,14 @@ pub fn give_next<E: Events>(
         → Gives more room.new (left_of held place.old) (left_of held place.new)) }
     ensures kept { OnErr result (place.new ≡ place.old) }
     ensures known { IsTrue E.tells → (held : Held) × E.holds events.new held }
-    ensures same { IsTrue E.tells → (held : Held) → E.holds events.old held → E.holds events.new held }
+    ensures same { IsTrue E.tells → (held : Held) → E.holds events.old held
+        → E.holds events.new held }
     ensures later { E.later events.old events.new }
-    ensures disk { result ≡ Err EventsFault.Disk → Rose (E.faults events.old) (E.faults events.new) }
+    ensures disk { result ≡ Err EventsFault.Disk
+        → Rose (E.faults events.old) (E.faults events.new) }
     ensures counts { E.faults events.old ≤ E.faults events.new }
-    ensures no_bad_log { (at : ℕ) → result ≡ Err (EventsFault.BadLog at) → IsTrue E.tells → (held : Held) → E.holds events.old held → ⊥ }
+    ensures no_bad_log { (at : ℕ) → result ≡ Err (EventsFault.BadLog at) → IsTrue E.tells
+        → (held : Held) → E.holds events.old held → ⊥ }
 {
     match *place {
         StreamPlace::Start(cursor) => give_first(events, cursor, place, room),

@@ -18,7 +18,8 @@ use Rattle.relay_core.specs.Runs.{Message}
 -- the events of those rows that are shown
 abbrev pub events_shown : (Row → Bool) → List Row → List (ℕ × List ℕ)
 events_shown shows [] = []
-events_shown shows (row ∷ rows) = (if shows row then events_in row else []) ++ events_shown shows rows
+events_shown shows (row ∷ rows) = (if shows row then events_in row else [])
+    ++ events_shown shows rows
 
 abbrev pub has_no_event : List (ℕ × List ℕ) → Bool
 has_no_event [] = true
@@ -68,7 +69,8 @@ raises last row = true
 -- Behind the journal J, each row that names the DID and takes a repository over raises its revision.
 abbrev pub AllRaise : List ℕ → List Row → List Row → Type 0
 AllRaise did J [] = ⊤
-AllRaise did J (row ∷ rows) = (names did (did_of_row row) ≡ true → raises (last_rev (account did J).repo) row ≡ true) × AllRaise did (J ++ row ∷ []) rows
+AllRaise did J (row ∷ rows) = (names did (did_of_row row) ≡ true
+    → raises (last_rev (account did J).repo) row ≡ true) × AllRaise did (J ++ row ∷ []) rows
 
 -- What a DID has in both journals: in the one its whole history, all of it shown, with rising revisions; in the other nothing, before these rows, none of which is refused for a revision far ahead of the clock.
 pub record CanFollow (did : List ℕ) (shows : Row → Bool) (one two rows : List Row) : Type 0 where
@@ -99,7 +101,8 @@ AcceptAll (event ∷ others) (row ∷ rows) = AcceptsEvent event row × AcceptAl
 -- What comes of it: the rows that name the DID accept its events, one each, all of them and in order; and unless its repository was lost, both journals know the same of it.
 pub record FollowsAll (did : List ℕ) (one two rows : List Row) : Type 0 where
   pub accepted : AcceptAll (events (rows_about did one)) (rows_about did rows)
-  pub repo : ((rev : Option ℕ) → (account did one).repo ≢ Repo.Lost rev) → (account did (two ++ rows)).repo ≡ (account did one).repo
+  pub repo : ((rev : Option ℕ) → (account did one).repo ≢ Repo.Lost rev)
+      → (account did (two ++ rows)).repo ≡ (account did one).repo
 
 -- an event is read as one, under its number
 pub record IsReadEvent (event : ℕ × List ℕ) : Type 0 where

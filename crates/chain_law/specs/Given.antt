@@ -32,10 +32,12 @@ refusal_at checks a e o moment = first_refusal (event_lines a e (answers_at chec
 -- the row of an event that is decided at the moment
 abbrev pub event_taken_at : Checks → ℕ → State → List ℕ → Seen → Outside → Option ℕ → Taken
 event_taken_at checks last a host e o moment =
-    event_taken last host e (decision_for a e.body o.fetched (refusal_at checks a e o moment)) (answers_at checks last a e o moment)
+    event_taken last host e (decision_for a e.body o.fetched (refusal_at checks a e o moment))
+    (answers_at checks last a e o moment)
 
 -- The bytes of some repository of the DID, not below the least revision, come to this head, and to this block of its commit.
-pub record IsOfRepository (did : List ℕ) (least : Option ℕ) (head : Head) (block : List ℕ) : Type 0 where
+pub record IsOfRepository (did : List ℕ) (least : Option ℕ) (head : Head)
+    (block : List ℕ) : Type 0 where
   pub bytes : List ℕ
   pub are : IsBytes bytes
   pub checked : Checked

@@ -37,7 +37,8 @@ abbrev pub HoldsPremise : Checks → Case → Premise → Type 0
 HoldsPremise checks c wants_journal = IsJournal c.one
 HoldsPremise checks c wants_given = AreGiven checks [] c.one
 HoldsPremise checks c wants_cursor = cursor c.host c.two ≡ 0
-HoldsPremise checks c wants_run = Run checks c.two (sent_by c.host (events_shown c.shows c.one)) c.rows
+HoldsPremise checks c wants_run = Run checks c.two
+    (sent_by c.host (events_shown c.shows c.one)) c.rows
 HoldsPremise checks c wants_yes = list_all says_yes c.rows ≡ true
 HoldsPremise checks c wants_uncut = all_about c.did (λ row. not (is_carried_row row)) c.one ≡ true
 HoldsPremise checks c wants_shown = all_about c.did (withholds_nothing c.shows) c.one ≡ true

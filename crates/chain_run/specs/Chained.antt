@@ -29,22 +29,29 @@ use Rattle.chain_run.specs.declared.taking.TheConstants.{MOST_SERVED}
 -- Of a journal that a relay made, served to another one in which the host is new: the accounts whose whole history the one shows, and that the other didn't know, follow.
 abbrev pub AccountsFollow : List ℕ → List Row → List Row → List Row → Type 0
 AccountsFollow host one two rows =
-    (checks : Checks) → OpensRight checks → LinksRight checks → AreGiven checks [] one → cursor host two ≡ 0 → (did : List ℕ) → CanFollow did (is_shown one) one two rows → FollowsAll did one two rows
+    (checks : Checks) → OpensRight checks → LinksRight checks → AreGiven checks [] one
+    → cursor host two ≡ 0 → (did : List ℕ) → CanFollow did (is_shown one) one two rows
+    → FollowsAll did one two rows
 
 -- the messages of the steps are all that is given, or all up to the one that ended the host
 abbrev pub AllTaken : List ℕ → List (List ℕ) → List Step → Type 0
 AllTaken host given steps = (given ≡ bytes_of_messages (messages_sent steps))
-    ⊎ ((rest : List (List ℕ)) × (given ≡ bytes_of_messages (messages_sent steps) ++ rest) × (has_ended (ended_by_all steps []) host ≡ true))
+    ⊎ ((rest : List (List ℕ)) × (given ≡ bytes_of_messages (messages_sent steps) ++ rest)
+    × (has_ended (ended_by_all steps []) host ≡ true))
 
 -- What the journal `one` serves behind the host's cursor was taken into the journal `two` of two disks, and ended so.
-pub record Chained (t : Tells) (host : List ℕ) (most : ℕ) (one two : List Row) (old new : PairScene) (end : FeedEnd) : Type 0 where
+pub record Chained (t : Tells) (host : List ℕ) (most : ℕ) (one two : List Row) (old new : PairScene)
+    (end : FeedEnd) : Type 0 where
   pub left : List (List ℕ)
   -- the messages were taken as those of a feed that gives what is served
-  pub followed : Followed t true host most MOST_SERVED (λ n. served (held_by one) (Some n)) left two old new end
+  pub followed : Followed t true host most MOST_SERVED
+      (λ n. served (held_by one) (Some n)) left two old new end
   -- the rows behind the journal `two` are those of a run over them
-  pub run : (checks : Checks) → OpensRight checks → LinksRight checks → Run checks two (messages followed.taken.steps) (rows followed.taken.steps)
+  pub run : (checks : Checks) → OpensRight checks → LinksRight checks
+      → Run checks two (messages followed.taken.steps) (rows followed.taken.steps)
   -- where it is done they are all that is served, or all up to the host's end
-  pub all : end ≡ FeedEnd.Done → AllTaken host (served (held_by one) (Some (cursor host two))) followed.taken.steps
+  pub all : end ≡ FeedEnd.Done → AllTaken host
+      (served (held_by one) (Some (cursor host two))) followed.taken.steps
   -- what the rows send out is read as that
   pub faithful : AreFaithful two → AreFaithful (two ++ rows followed.taken.steps)
   -- and the accounts follow
@@ -54,18 +61,25 @@ pub record Chained (t : Tells) (host : List ℕ) (most : ℕ) (one two : List Ro
 abbrev pub IsChained : Tells → List ℕ → ℕ → List Row → Place → Place → ChainEnd → Type 0
 IsChained t host most two old new end =
     ((e : TapeEnd) × (end ≡ end_of_taking e) × Unopened two (second_scene old) (second_scene new) e)
-    ⊎ ((one : List Row) × IsPairImageOf one old.first.content old.first_other.content × (e : FeedEnd) × (end ≡ end_of_feed e) × Chained t host most one two (second_scene old) (second_scene new) e)
+    ⊎ ((one : List Row) × IsPairImageOf one old.first.content old.first_other.content
+    × (e : FeedEnd) × (end ≡ end_of_feed e)
+    × Chained t host most one two (second_scene old) (second_scene new) e)
 
 -- A relay behind a relay ran, and ended so.
-pub record ChainRan (t : Tells) (host : List ℕ) (most : ℕ) (old new : Place) (end : ChainEnd) : Type 0 where
+pub record ChainRan (t : Tells) (host : List ℕ) (most : ℕ) (old new : Place)
+    (end : ChainEnd) : Type 0 where
   -- the second journal has the rows of what was taken
-  pub chained : IsTrue t.disk → (two : List Row) → IsPairImageOf two old.second.content old.second_other.content → IsChained t host most two old new end
+  pub chained : IsTrue t.disk → (two : List Row)
+      → IsPairImageOf two old.second.content old.second_other.content
+      → IsChained t host most two old new end
   -- the disks of the first were only read
-  pub first : IsTrue t.disk → (one : List Row) → IsPairImageOf one old.first.content old.first_other.content
+  pub first : IsTrue t.disk → (one : List Row)
+      → IsPairImageOf one old.first.content old.first_other.content
       → OnlyRead one (BothOpened end) old.first old.first_other new.first new.first_other
   -- the end tells what the disks were, and which count rose; and no count fell
   pub shows : IsTrue t.disk → ChainEndShows end old
   pub caused : ChainCaused old new end
   pub counts : CountsKept old new
   -- it is done, unless a count rose, memory ran out, the log is full, or the numbers have ended
-  pub complete : IsTrue t.disk → HoldsJournal old.first old.first_other → HoldsJournal old.second old.second_other → IsFlawless old new → MayEnd end
+  pub complete : IsTrue t.disk → HoldsJournal old.first old.first_other
+      → HoldsJournal old.second old.second_other → IsFlawless old new → MayEnd end

@@ -19,8 +19,12 @@ use Rattle.chain_law.specs.Chained.{CanFollow, FollowsAll}
 
 -- Where a host that is new to a journal sent all that a relay serves of another one, or up to its end, and the rows show that whoever was asked said yes, the accounts follow as the law of a relay behind a relay has it.
 abbrev pub ServedFollow : Type 0
-ServedFollow = (checks : Checks) → OpensRight checks → LinksRight checks → (one two : List Row) (host did : List ℕ) (steps : List Step) (rest : List (List ℕ))
+ServedFollow = (checks : Checks) → OpensRight checks → LinksRight checks
+    → (one two : List Row) (host did : List ℕ) (steps : List Step) (rest : List (List ℕ))
     → IsJournal one → AreGiven checks [] one → cursor host two ≡ 0
-    → AreSteps checks two [] steps → AreOf host (messages_sent steps) → served (held_by one) (Some (cursor host two)) ≡ bytes_of_messages (messages_sent steps) ++ rest
-    → (rest ≡ []) ⊎ (has_ended (ended_by_all steps []) host ≡ true) → list_all says_yes (rows steps) ≡ true
+    → AreSteps checks two [] steps → AreOf host (messages_sent steps)
+    → served (held_by one) (Some (cursor host two)) ≡ bytes_of_messages (messages_sent steps)
+    ++ rest
+    → (rest ≡ []) ⊎ (has_ended (ended_by_all steps []) host ≡ true)
+    → list_all says_yes (rows steps) ≡ true
     → CanFollow did (is_shown one) one two (rows steps) → FollowsAll did one two (rows steps)

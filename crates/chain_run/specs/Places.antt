@@ -31,13 +31,15 @@ pub record Place : Type 1 where
   pub written : List ℕ
   pub failed : Failures
 
-abbrev pub place : View → View → View → View → List ℕ → (List ℕ → Option (List ℕ)) → List ℕ → Failures → Place
+abbrev pub place : View → View → View → View → List ℕ → (List ℕ → Option (List ℕ)) → List ℕ
+    → Failures → Place
 place first first_other second second_other moments repository written failed =
     record { first = first; first_other = first_other; second = second; second_other = second_other; moments = moments; repository = repository; written = written; failed = failed }
 
 -- what the second relay takes its messages with: its disks, judges that say yes to everything, the clock, the repositories and the output
 abbrev pub second_scene : Place → PairScene
-second_scene p = pair_scene p.second p.second_other (around (λ name. trusting) p.moments p.repository) [] p.written
+second_scene p = pair_scene p.second p.second_other
+    (around (λ name. trusting) p.moments p.repository) [] p.written
 
 -- two disks are an image of some journal
 abbrev pub HoldsJournal : View → View → Type 0
@@ -47,9 +49,12 @@ HoldsJournal one two = (J : List Row) × IsPairImageOf J one.content two.content
 abbrev pub ChainEndShows : ChainEnd → Place → Type 0
 ChainEndShows ChainEnd.Disk old = ⊤
 ChainEndShows ChainEnd.Memory old = ⊤
-ChainEndShows (ChainEnd.BadLog at) old = IsBadPairJournalAt at old.first.content old.first_other.content
-    ⊎ (HoldsJournal old.first old.first_other × IsBadPairJournalAt at old.second.content old.second_other.content)
-ChainEndShows end old = HoldsJournal old.first old.first_other × HoldsJournal old.second old.second_other
+ChainEndShows (ChainEnd.BadLog at) old =
+    IsBadPairJournalAt at old.first.content old.first_other.content
+    ⊎ (HoldsJournal old.first old.first_other
+    × IsBadPairJournalAt at old.second.content old.second_other.content)
+ChainEndShows end old = HoldsJournal old.first old.first_other
+    × HoldsJournal old.second old.second_other
 
 -- a disk of a pair failed
 abbrev pub PairFailed : View → View → View → View → Type 0
@@ -57,16 +62,19 @@ PairFailed one two one_now two_now = Rose one.faults one_now.faults ⊎ Rose two
 
 -- a disk of either pair did
 abbrev pub DiskFailed : Place → Place → Type 0
-DiskFailed old new = PairFailed old.first old.first_other new.first new.first_other ⊎ PairFailed old.second old.second_other new.second new.second_other
+DiskFailed old new = PairFailed old.first old.first_other new.first new.first_other
+    ⊎ PairFailed old.second old.second_other new.second new.second_other
 
 -- an end that speaks of a failure comes only where its count rose
 abbrev pub ChainCaused : Place → Place → ChainEnd → Type 0
 ChainCaused old new end =
-    IsCausedBy (DiskFailed old new) (Rose old.failed.output new.failed.output) (Rose old.failed.repos new.failed.repos) (Rose old.failed.clock new.failed.clock) end
+    IsCausedBy (DiskFailed old new) (Rose old.failed.output new.failed.output)
+    (Rose old.failed.repos new.failed.repos) (Rose old.failed.clock new.failed.clock) end
 
 -- no count rose
 abbrev pub IsFlawless : Place → Place → Type 0
-IsFlawless old new = NoneOf (DiskFailed old new) ⊥ (Rose old.failed.output new.failed.output) (Rose old.failed.repos new.failed.repos) (Rose old.failed.clock new.failed.clock)
+IsFlawless old new = NoneOf (DiskFailed old new) ⊥ (Rose old.failed.output new.failed.output)
+    (Rose old.failed.repos new.failed.repos) (Rose old.failed.clock new.failed.clock)
 
 -- no count fell
 pub record CountsKept (old new : Place) : Type 0 where

@@ -8,6 +8,7 @@ use Rattle.tape_run.specs.Tells.{Tells}
 use Rattle.tape_run.specs.declared.end.TapeEnd.{TapeEnd}
 
 -- Messages were taken that are those in front of these, as those of a feed are.
-pub record TakenOfEvents {D : Type 0} (view : D → View) (t : Tells) (host : List ℕ) (most : ℕ) (given : List (List ℕ)) (J : List Row) (old new : Scene D) (end : TapeEnd) : Type 0 where
+pub record TakenOfEvents {D : Type 0} (view : D → View) (t : Tells) (host : List ℕ) (most : ℕ)
+    (given : List (List ℕ)) (J : List Row) (old new : Scene D) (end : TapeEnd) : Type 0 where
   pub left : List (List ℕ)
   pub taken : TakenOfFeed view t true host most given left J old new end

@@ -29,4 +29,5 @@ IsStopBy ops blocks former later = Tells (StopsAt ops blocks former later)
 
 -- why the commit isn't linked to what is expected: the first refusal that applies
 abbrev pub IsUnlinked : CommitEvent → Opened → Expect → CheckFault → Type 0
-IsUnlinked e o expect = Tells (StopsPast (is_gap e expect) e o.car.blocks (root_before expect) o.head.data_root)
+IsUnlinked e o expect =
+    Tells (StopsPast (is_gap e expect) e o.car.blocks (root_before expect) o.head.data_root)

@@ -27,13 +27,15 @@ pub record HoldsCommit (e : CommitEvent) : Type 0 where
   pub object : object_in (car_in e) ≡ Some commit
 
 -- nothing that the message shows applies, and this does
-pub record IsStopped (e : CommitEvent) (last : Option ℕ) (gap : Bool) (former : List ℕ) (refusal : Refusal) : Type 0 where
+pub record IsStopped (e : CommitEvent) (last : Option ℕ) (gap : Bool) (former : List ℕ)
+    (refusal : Refusal) : Type 0 where
   pub shown : first_of (open_lines e last) ≡ None
   pub holds : HoldsCommit e
   pub stops : StopsPast gap e holds.blocks former holds.commit.data_root refusal
 
 -- no refusal applies
-pub record IsPassed (e : CommitEvent) (last : Option ℕ) (gap : Bool) (former : List ℕ) : Type 0 where
+pub record IsPassed (e : CommitEvent) (last : Option ℕ) (gap : Bool)
+    (former : List ℕ) : Type 0 where
   pub shown : first_of (open_lines e last) ≡ None
   pub no_gap : gap ≡ false
   pub holds : HoldsCommit e
@@ -41,4 +43,5 @@ pub record IsPassed (e : CommitEvent) (last : Option ℕ) (gap : Bool) (former :
 
 -- the first refusal that applies: to an event behind the last revision, with a gap before it or not, whose operations start from the former root
 abbrev pub IsFirstRefusal : CommitEvent → Option ℕ → Bool → List ℕ → Refusal → Type 0
-IsFirstRefusal e last gap former refusal = (first_of (open_lines e last) ≡ Some refusal) ⊎ IsStopped e last gap former refusal
+IsFirstRefusal e last gap former refusal = (first_of (open_lines e last) ≡ Some refusal)
+    ⊎ IsStopped e last gap former refusal

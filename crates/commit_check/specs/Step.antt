@@ -50,7 +50,8 @@ is_data (Some prev) later = bytes_eq prev later
 
 -- the event doesn't follow on what is expected: an account that is lost, another revision or `data` than the last ones, or any where there was none
 abbrev pub strays : CommitEvent → Expect → Bool
-strays e Expect.Start = is_some e.since || (is_some e.prev_data && not (is_data e.prev_data empty_root))
+strays e Expect.Start = is_some e.since
+    || (is_some e.prev_data && not (is_data e.prev_data empty_root))
 strays e (Expect.After head) = not (is_since e.since head.rev && is_data e.prev_data head.data_root)
 strays e Expect.Lost = true
 
@@ -74,21 +75,27 @@ Leads e blocks former later = LeadsBy (edits_of e) blocks former later
 
 -- the block of `data` is missing, or the link is that of the first block at fault
 abbrev pub IsBadTree : BlockMap → List ℕ → List ℕ → Type 0
-IsBadTree blocks later link = ((link ≡ later) × (finite.get blocks later ≡ None)) ⊎ IsAtFault blocks later link
+IsBadTree blocks later link = ((link ≡ later) × (finite.get blocks later ≡ None))
+    ⊎ IsAtFault blocks later link
 
 -- undoing the operations on the blocks' view leads back to this root
-pub record LeadsBack (blocks : BlockMap) (later : List ℕ) (ops : List Op) (former : List ℕ) : Type 0 where
+pub record LeadsBack (blocks : BlockMap) (later : List ℕ) (ops : List Op)
+    (former : List ℕ) : Type 0 where
   pub list : List Item
   pub step : IsStep blocks former later ops list
 
 -- why operations don't lead from the former root to `data`: the first of these that applies
 abbrev pub StopsAt : List Op → BlockMap → List ℕ → List ℕ → Refusal → Type 0
-StopsAt [] blocks former later (Refusal.OtherData want got) = (want ≡ former) × (got ≡ later) × (later ≢ former)
+StopsAt [] blocks former later (Refusal.OtherData want got) = (want ≡ former) × (got ≡ later)
+    × (later ≢ former)
 StopsAt [] blocks former later refusal = ⊥
 StopsAt (op ∷ ops) blocks former later (Refusal.BadNode link) = IsBadTree blocks later link
-StopsAt (op ∷ ops) blocks former later (Refusal.OtherOp i) = (F : List Item) × IsView blocks later F × IsFirst Disagrees F (op ∷ ops) i
-StopsAt (op ∷ ops) blocks former later (Refusal.NotCovered i) = (F : List Item) × IsView blocks later F × IsFirst IsUncovered F (op ∷ ops) i
-StopsAt (op ∷ ops) blocks former later (Refusal.OtherData want got) = (want ≡ former) × LeadsBack blocks later (op ∷ ops) got × (got ≢ former)
+StopsAt (op ∷ ops) blocks former later (Refusal.OtherOp i) = (F : List Item) × IsView blocks later F
+    × IsFirst Disagrees F (op ∷ ops) i
+StopsAt (op ∷ ops) blocks former later (Refusal.NotCovered i) = (F : List Item)
+    × IsView blocks later F × IsFirst IsUncovered F (op ∷ ops) i
+StopsAt (op ∷ ops) blocks former later (Refusal.OtherData want got) = (want ≡ former)
+    × LeadsBack blocks later (op ∷ ops) got × (got ≢ former)
 StopsAt (op ∷ ops) blocks former later refusal = ⊥
 
 abbrev pub Stops : CommitEvent → BlockMap → List ℕ → List ℕ → Refusal → Type 0

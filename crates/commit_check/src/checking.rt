@@ -43,7 +43,8 @@ pub fn check(alloc: Global, event: &CommitEvent) -> Result<Checked, CheckFault>
     ensures accepted { IfOk result (λ checked. IsAccepted event.now checked.from checked.to) }
     ensures counted { IfOk result (λ checked. checked.ops ≡ length event.now.ops) }
     ensures refused { IfErr result (IsRefused event.now) }
-    ensures exact { (refusal : Refusal) → IsRefusedWith event.now refusal → RefusesWith refusal result }
+    ensures exact { (refusal : Refusal) → IsRefusedWith event.now refusal
+        → RefusesWith refusal result }
     ensures only { (from to : List ℕ) → IsAccepted event.now from to → IfErr result IsMemory }
     ensures replays { IfOk result (λ checked. Replays event.now checked.from checked.to) }
     ensures covered { IsCoveredAlone event.now → IfErr result IsMemory }

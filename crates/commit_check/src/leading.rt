@@ -42,8 +42,10 @@ fn root_before_ops(
     ops: &OpList,
 ) -> Result<Cid, CheckFault>
     requires apart { AreApart ops.now }
-    ensures back { IfOk result (λ before. (blocks : BlockMap) → IsAtHand blocks root.now ops.now tree → IsRootBefore blocks root.now ops.now before) }
-    ensures stops { (blocks : BlockMap) (former : List ℕ) → IsAtHand blocks root.now ops.now tree → IfErr result (IsStopBy ops.now blocks former root.now) }
+    ensures back { IfOk result (λ before. (blocks : BlockMap)
+        → IsAtHand blocks root.now ops.now tree → IsRootBefore blocks root.now ops.now before) }
+    ensures stops { (blocks : BlockMap) (former : List ℕ) → IsAtHand blocks root.now ops.now tree
+        → IfErr result (IsStopBy ops.now blocks former root.now) }
 {
     let Some(tree) = tree else {
         return Ok(*root);
@@ -62,8 +64,10 @@ pub(crate) fn lead_from(
     ops: &OpList,
 ) -> Result<(), CheckFault>
     requires apart { AreApart ops.now }
-    ensures leads { (blocks : BlockMap) → IsAtHand blocks root.now ops.now tree → OnOk result (LeadsBy ops.now blocks former.now root.now) }
-    ensures stops { (blocks : BlockMap) → IsAtHand blocks root.now ops.now tree → IfErr result (IsStopBy ops.now blocks former.now root.now) }
+    ensures leads { (blocks : BlockMap) → IsAtHand blocks root.now ops.now tree
+        → OnOk result (LeadsBy ops.now blocks former.now root.now) }
+    ensures stops { (blocks : BlockMap) → IsAtHand blocks root.now ops.now tree
+        → IfErr result (IsStopBy ops.now blocks former.now root.now) }
 {
     let before = root_before_ops(alloc, tree, root, ops)?;
     if before == *former {

@@ -96,14 +96,22 @@ pub fn link(
     requires shown { first_of (field_lines event.now) ≡ None }
     requires opened { IsOpened event.now opened.now }
     ensures follows { OnOk result (is_gap event.now expect.now ≡ false) }
-    ensures leads { OnOk result (Leads event.now opened.now.car.blocks (root_before expect.now) opened.now.head.data_root) }
+    ensures leads { OnOk result (Leads event.now opened.now.car.blocks
+        (root_before expect.now) opened.now.head.data_root) }
     ensures refused { IfErr result (IsUnlinked event.now opened.now expect.now) }
-    ensures only { is_gap event.now expect.now ≡ false → Leads event.now opened.now.car.blocks (root_before expect.now) opened.now.head.data_root → IfErr result IsMemory }
-    ensures exact { (refusal : Refusal) → IsUnlinked event.now opened.now expect.now (CheckFault.Refused refusal) → RefusesWith refusal result }
+    ensures only { is_gap event.now expect.now ≡ false
+        → Leads event.now opened.now.car.blocks (root_before expect.now) opened.now.head.data_root
+        → IfErr result IsMemory }
+    ensures exact { (refusal : Refusal)
+        → IsUnlinked event.now opened.now expect.now (CheckFault.Refused refusal)
+        → RefusesWith refusal result }
     ensures known { OnOk result (expect.now ≢ Expect.Lost) }
     ensures unjudged { IfErr result IsUnjudged }
-    ensures replays { OnOk result (ReplaysBy (edits_of event.now) opened.now.car.blocks (root_before expect.now) opened.now.head.data_root) }
-    ensures covered { is_gap event.now expect.now ≡ false → IsCoveredBy (edits_of event.now) opened.now.car.blocks (root_before expect.now) opened.now.head.data_root → IfErr result IsMemory }
+    ensures replays { OnOk result (ReplaysBy (edits_of event.now) opened.now.car.blocks
+        (root_before expect.now) opened.now.head.data_root) }
+    ensures covered { is_gap event.now expect.now ≡ false
+        → IsCoveredBy (edits_of event.now) opened.now.car.blocks
+        (root_before expect.now) opened.now.head.data_root → IfErr result IsMemory }
 {
     if strays(event, expect) || some_lacks_prev(event.ops.as_slice()) {
         return Err(CheckFault::Refused(Refusal::Gap));

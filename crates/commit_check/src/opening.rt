@@ -24,7 +24,8 @@ fn refused<T>(refusal: Refusal) -> Result<T, CheckFault>
 /// Refuses what the fields of an event show, and then what is stale.
 #[tactic(auto, using(crate::proofs::Unjudged::by_lines))]
 fn test_fields(alloc: Global, event: &CommitEvent, last: Option<Tid>) -> Result<(), CheckFault>
-    ensures passed { OnOk result ((first_of (field_lines event.now) ≡ None) × (is_stale last event.now.rev ≡ false)) }
+    ensures passed { OnOk result ((first_of (field_lines event.now) ≡ None)
+        × (is_stale last event.now.rev ≡ false)) }
     ensures refused { IfErr result (IsShown (first_of (open_lines event.now last))) }
     ensures unjudged { IfErr result IsUnjudged }
 {

@@ -27,12 +27,14 @@ carried_front c (row ∷ rows) = if have_old c (row ∷ rows) then row ∷ carri
 -- the rows behind the front
 abbrev pub rows_behind_front : ℕ → List Row → List Row
 rows_behind_front c [] = []
-rows_behind_front c (row ∷ rows) = if have_old c (row ∷ rows) then rows_behind_front c rows else row ∷ rows
+rows_behind_front c (row ∷ rows) = if have_old c (row ∷ rows) then rows_behind_front c rows else row
+    ∷ rows
 
 -- a row for each of these hosts whose cursor is positive
 abbrev pub host_rows : List (List ℕ × ℕ) → List Row
 host_rows [] = []
-host_rows (host ∷ others) = if host.1 == 0 then host_rows others else Row.Carried (Carried.Host host.0 host.1) ∷ host_rows others
+host_rows (host ∷ others) = if host.1 == 0 then host_rows others
+    else Row.Carried (Carried.Host host.0 host.1) ∷ host_rows others
 
 abbrev pub repo_over : Repo → CarriedRepo
 repo_over Repo.Missing = CarriedRepo.Missing
@@ -49,7 +51,8 @@ account_rows rows names = map (λ did. account_row did (account did rows)) names
 
 -- what carries rows over: their last number, then their hosts in the order of their first rows, then their accounts
 unfoldable pub carried : List Row → List Row
-carried rows = Row.Carried (Carried.Last (last_seq rows)) ∷ (host_rows (hosts rows) ++ account_rows rows (dids rows))
+carried rows = Row.Carried (Carried.Last (last_seq rows))
+    ∷ (host_rows (hosts rows) ++ account_rows rows (dids rows))
 
 -- the cut of a journal at a number: what carries its front over, and the rows behind the front
 unfoldable pub cut : List Row → ℕ → List Row

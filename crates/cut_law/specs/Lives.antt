@@ -5,9 +5,11 @@ use Rattle.relay_row.specs.declared.row.Row.{Row}
 use Rattle.relay_law.specs.Histories.{Change, adds, cuts, AreChanged}
 
 -- each of the journals from J to K is one
-abbrev pub AreJournals : (J : List Row) (changes : List Change) (K : List Row) → AreChanged J changes K → Type 0
+abbrev pub AreJournals : (J : List Row) (changes : List Change) (K : List Row)
+    → AreChanged J changes K → Type 0
 AreJournals J [] K came = IsJournal J
-AreJournals J (change ∷ changes) K (middle, is, came) = IsJournal J × AreJournals middle changes K came
+AreJournals J (change ∷ changes) K (middle, is, came) = IsJournal J
+    × AreJournals middle changes K came
 
 -- all cuts are at numbers that pass
 abbrev pub AllCuts : (ℕ → Bool) → List Change → Type 0
@@ -23,7 +25,9 @@ pub record ComesFrom (passes : ℕ → Bool) (J K : List Row) : Type 0 where
   pub numbers : AllCuts passes changes
 
 -- a row is of the front that one of the cuts took
-abbrev pub WasCut : Row → (J : List Row) (changes : List Change) (K : List Row) → AreChanged J changes K → Type 0
+abbrev pub WasCut : Row → (J : List Row) (changes : List Change) (K : List Row)
+    → AreChanged J changes K → Type 0
 WasCut row J [] K came = ⊥
 WasCut row J (adds rows ∷ changes) K (middle, is, came) = WasCut row middle changes K came
-WasCut row J (cuts number ∷ changes) K (middle, is, came) = Contains is.front row ⊎ WasCut row middle changes K came
+WasCut row J (cuts number ∷ changes) K (middle, is, came) = Contains is.front row
+    ⊎ WasCut row middle changes K came

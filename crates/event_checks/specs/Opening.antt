@@ -67,7 +67,8 @@ is_commit_of did rev (Some commit) = is_of did rev commit
 
 -- what a CAR shows of its form
 abbrev pub form_lines : CarResult → List RefusalLine
-form_lines car = (Refusal.BadCar, is_malformed car) ∷ (Refusal.WrongDigest, has_wrong_digest car) ∷ []
+form_lines car = (Refusal.BadCar, is_malformed car) ∷ (Refusal.WrongDigest, has_wrong_digest car)
+    ∷ []
 
 -- what it shows of its commit, whose link may be stated, and whose account and revision are
 abbrev pub object_lines : CarResult → Option (List ℕ) → List ℕ → ℕ → List RefusalLine

@@ -56,9 +56,13 @@ fn is_stated(stated: Option<Cid>, root: Cid) -> bool
 
 /// The first root of a CAR, and the block under it.
 fn find_block(car: &Car, stated: Option<Cid>) -> Result<(Cid, &[u8]), OpenFault>
-    ensures rooted { IfOk result (λ x. (root_of car.now.roots ≡ Some x.0) × (is_stated stated x.0 ≡ true)) }
-    ensures found { IfOk result (λ x. block_in (Ok (car.now.roots, car.now.blocks)) ≡ Some x.1.now) }
-    ensures refused { (did : List ℕ) (rev : ℕ) → IfErr result (IsShown (first_of (object_lines (Ok (car.now.roots, car.now.blocks)) stated did rev))) }
+    ensures rooted { IfOk result (λ x. (root_of car.now.roots ≡ Some x.0)
+        × (is_stated stated x.0 ≡ true)) }
+    ensures found { IfOk result (λ x. block_in (Ok (car.now.roots, car.now.blocks))
+        ≡ Some x.1.now) }
+    ensures refused { (did : List ℕ) (rev : ℕ)
+        → IfErr result
+        (IsShown (first_of (object_lines (Ok (car.now.roots, car.now.blocks)) stated did rev))) }
 {
     let Some(link) = first_root(&car.roots) else {
         return refused(Refusal::WrongRoot);
@@ -85,9 +89,15 @@ pub fn find_commit<'a>(
     did: &Words,
     rev: Tid,
 ) -> Result<CommitBlock<'a>, OpenFault>
-    ensures shown { OnOk result (first_of (object_lines (Ok (car.entry.now.roots, car.entry.now.blocks)) stated did.now rev) ≡ None) }
-    ensures found { IfOk result (λ found. IsFound (Ok (car.entry.now.roots, car.entry.now.blocks)) found.link found.block.now found.commit) }
-    ensures refused { IfErr result (IsShown (first_of (object_lines (Ok (car.entry.now.roots, car.entry.now.blocks)) stated did.now rev))) }
+    ensures shown { OnOk result
+        (first_of (object_lines (Ok (car.entry.now.roots, car.entry.now.blocks)) stated did.now rev)
+        ≡ None) }
+    ensures found { IfOk result (λ found.
+        IsFound (Ok (car.entry.now.roots, car.entry.now.blocks)) found.link found.block.now
+        found.commit) }
+    ensures refused { IfErr result
+        (IsShown (first_of (object_lines
+        (Ok (car.entry.now.roots, car.entry.now.blocks)) stated did.now rev))) }
 {
     let (link, block) = match find_block(car, stated) {
         Ok(found) => found,
@@ -112,9 +122,12 @@ pub fn find_data(
     did: &Words,
     rev: Tid,
 ) -> Result<Cid, OpenFault>
-    ensures shown { OnOk result (first_of (object_lines (Ok (car.now.roots, car.now.blocks)) stated did.now rev) ≡ None) }
-    ensures found { IfOk result (λ root. data_in (object_in (Ok (car.now.roots, car.now.blocks))) ≡ Some root) }
-    ensures refused { IfErr result (IsShown (first_of (object_lines (Ok (car.now.roots, car.now.blocks)) stated did.now rev))) }
+    ensures shown { OnOk result
+        (first_of (object_lines (Ok (car.now.roots, car.now.blocks)) stated did.now rev) ≡ None) }
+    ensures found { IfOk result (λ root. data_in (object_in (Ok (car.now.roots, car.now.blocks)))
+        ≡ Some root) }
+    ensures refused { IfErr result
+        (IsShown (first_of (object_lines (Ok (car.now.roots, car.now.blocks)) stated did.now rev))) }
 {
     let (_, block) = match find_block(car, stated) {
         Ok(found) => found,

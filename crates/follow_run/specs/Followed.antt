@@ -10,8 +10,12 @@ use Rattle.follow_run.specs.Ends.{tape_end}
 use Rattle.follow_run.specs.declared.end.FeedEnd.{FeedEnd}
 
 -- Messages of a host's feed were taken into the journal J of two disks, `count` at most, and ended so.
-pub record Followed (t : Tells) (feed_tells : Bool) (host : List ℕ) (most count : ℕ) (given : ℕ → List (List ℕ)) (left : List (List ℕ)) (J : List Row) (old new : PairScene) (end : FeedEnd) : Type 0 where
+pub record Followed (t : Tells) (feed_tells : Bool) (host : List ℕ) (most count : ℕ)
+    (given : ℕ → List (List ℕ)) (left : List (List ℕ)) (J : List Row) (old new : PairScene)
+    (end : FeedEnd) : Type 0 where
   -- they were taken as those of a tape are, of whose bytes nothing is told
   pub taken : Ingested t false most 0 J old new (tape_end end)
   -- they are those in front of what the feed gives of the host behind its cursor
-  pub feed : IsOnFeed feed_tells host count (given (cursor host J)) left (taken.steps ++ (taken.under ++ taken.extra)) (messages_sent (taken.steps ++ (taken.under ++ taken.extra)) ++ taken.behind) (tape_end end)
+  pub feed : IsOnFeed feed_tells host count (given (cursor host J)) left
+      (taken.steps ++ (taken.under ++ taken.extra))
+      (messages_sent (taken.steps ++ (taken.under ++ taken.extra)) ++ taken.behind) (tape_end end)

@@ -49,19 +49,34 @@ fn take_on<D: Disk, P: Judges, R: Repos, C: Clock, F: Feed, O: Sink>(
     out: &mut O,
 ) -> TapeEnd
     requires open { IsTrue (seen_in store.old).log.is_open }
-    requires on { IsTrue D.tells → IsKept (seen_in store.old) (view_of_side (seen_in store.old).side (D.view disk.old) (D.view other.old)) }
+    requires on { IsTrue D.tells → IsKept (seen_in store.old)
+        (view_of_side (seen_in store.old).side (D.view disk.old) (D.view other.old)) }
     requires host { is_host host.now ≡ true }
     requires count { count < 2 ^ 63 }
-    ensures taken { (J : List TheRow) → IsOf J (seen_in store.old).core → TakenOfFeed D.view (tells D.tells C.tells R.tells O.tells) F.tells host.now count (F.behind feed.old host.now (cursor host.now J)) (F.left feed.new) J
-        (scene (seen_in store.old) (of_pair (seen_in store.old).side disk.old other.old) (around (P.panel judges.old) (C.moments clock.old) (R.repository repos.old)) [] (O.written out.old))
-        (scene (seen_in store.new) (of_pair (seen_in store.old).side disk.new other.new) (around (P.panel judges.new) (C.moments clock.new) (R.repository repos.new)) [] (O.written out.new)) result }
-    ensures beside { of_pair (other_side (seen_in store.old).side) disk.new other.new ≡ of_pair (other_side (seen_in store.old).side) disk.old other.old }
-    ensures caused { IsCausedBy (Rose (D.view disk.old).faults (D.view disk.new).faults ⊎ Rose (D.view other.old).faults (D.view other.new).faults) (Rose (F.faults feed.old) (F.faults feed.new)) (Rose (O.faults out.old) (O.faults out.new)) (Rose (R.faults repos.old) (R.faults repos.new)) (Rose (C.faults clock.old) (C.faults clock.new)) result }
-    ensures disks_steady { result ≢ TheEnd.Store StoreFault.Disk → ((D.view disk.new).faults ≡ (D.view disk.old).faults)
+    ensures taken { (J : List TheRow) → IsOf J (seen_in store.old).core
+        → TakenOfFeed D.view (tells D.tells C.tells R.tells O.tells) F.tells host.now count
+        (F.behind feed.old host.now (cursor host.now J)) (F.left feed.new) J
+        (scene (seen_in store.old) (of_pair (seen_in store.old).side disk.old other.old)
+        (around (P.panel judges.old) (C.moments clock.old) (R.repository repos.old)) []
+        (O.written out.old))
+        (scene (seen_in store.new) (of_pair (seen_in store.old).side disk.new other.new)
+        (around (P.panel judges.new) (C.moments clock.new) (R.repository repos.new)) []
+        (O.written out.new)) result }
+    ensures beside { of_pair (other_side (seen_in store.old).side) disk.new other.new
+        ≡ of_pair (other_side (seen_in store.old).side) disk.old other.old }
+    ensures caused { IsCausedBy (Rose (D.view disk.old).faults (D.view disk.new).faults
+        ⊎ Rose (D.view other.old).faults (D.view other.new).faults)
+        (Rose (F.faults feed.old) (F.faults feed.new)) (Rose (O.faults out.old) (O.faults out.new))
+        (Rose (R.faults repos.old) (R.faults repos.new))
+        (Rose (C.faults clock.old) (C.faults clock.new)) result }
+    ensures disks_steady { result ≢ TheEnd.Store StoreFault.Disk
+        → ((D.view disk.new).faults ≡ (D.view disk.old).faults)
         × ((D.view other.new).faults ≡ (D.view other.old).faults) }
     ensures out_steady { result ≢ TheEnd.WriteFault → O.faults out.new ≡ O.faults out.old }
-    ensures repos_steady { HidesNone result → result ≢ TheEnd.Store StoreFault.Repos → R.faults repos.new ≡ R.faults repos.old }
-    ensures clock_steady { HidesNone result → result ≢ TheEnd.Store StoreFault.Clock → C.faults clock.new ≡ C.faults clock.old }
+    ensures repos_steady { HidesNone result → result ≢ TheEnd.Store StoreFault.Repos
+        → R.faults repos.new ≡ R.faults repos.old }
+    ensures clock_steady { HidesNone result → result ≢ TheEnd.Store StoreFault.Clock
+        → C.faults clock.new ≡ C.faults clock.old }
     ensures unspent { HidesNone result → result ≢ TheEnd.Store StoreFault.Authority
         → SpendsNone (P.panel judges.old) (P.panel judges.new) }
     ensures steady { result ≢ TheEnd.ReadFault → F.faults feed.new ≡ F.faults feed.old }
@@ -101,28 +116,53 @@ pub fn follow<D: Disk, P: Judges, R: Repos, C: Clock, F: Feed, O: Sink>(
     requires most { most ≤ LAST_END }
     requires host { is_host host.now ≡ true }
     requires count { count < 2 ^ 63 }
-    ensures followed { IsTrue D.tells → (J : List TheRow) → IsPairImageOf J (D.view disk.old).content (D.view other.old).content
-        → (Unopened J (pair_scene (D.view disk.old) (D.view other.old) (around (P.panel judges.old) (C.moments clock.old) (R.repository repos.old)) [] (O.written out.old)) (pair_scene (D.view disk.new) (D.view other.new) (around (P.panel judges.new) (C.moments clock.new) (R.repository repos.new)) [] (O.written out.new)) (tape_end result) × (F.left feed.new ≡ F.left feed.old))
-        ⊎ Followed (tells D.tells C.tells R.tells O.tells) F.tells host.now most count (λ n. F.behind feed.old host.now n) (F.left feed.new) J (pair_scene (D.view disk.old) (D.view other.old) (around (P.panel judges.old) (C.moments clock.old) (R.repository repos.old)) [] (O.written out.old)) (pair_scene (D.view disk.new) (D.view other.new) (around (P.panel judges.new) (C.moments clock.new) (R.repository repos.new)) [] (O.written out.new)) result }
-    ensures shows { IsTrue D.tells → TapeEndShows (tape_end result) (D.view disk.old).content (D.view other.old).content }
+    ensures followed { IsTrue D.tells → (J : List TheRow)
+        → IsPairImageOf J (D.view disk.old).content (D.view other.old).content
+        → (Unopened J (pair_scene (D.view disk.old) (D.view other.old)
+        (around (P.panel judges.old) (C.moments clock.old) (R.repository repos.old)) []
+        (O.written out.old)) (pair_scene (D.view disk.new) (D.view other.new)
+        (around (P.panel judges.new) (C.moments clock.new) (R.repository repos.new)) []
+        (O.written out.new)) (tape_end result) × (F.left feed.new ≡ F.left feed.old))
+        ⊎ Followed (tells D.tells C.tells R.tells O.tells) F.tells host.now most count
+        (λ n. F.behind feed.old host.now n) (F.left feed.new) J
+        (pair_scene (D.view disk.old) (D.view other.old)
+        (around (P.panel judges.old) (C.moments clock.old) (R.repository repos.old)) []
+        (O.written out.old)) (pair_scene (D.view disk.new) (D.view other.new)
+        (around (P.panel judges.new) (C.moments clock.new) (R.repository repos.new)) []
+        (O.written out.new)) result }
+    ensures shows { IsTrue D.tells → TapeEndShows (tape_end result) (D.view disk.old).content
+        (D.view other.old).content }
     // A damaged log is only read, and nothing else is done.
-    ensures unopened { (place : ℕ) → result ≡ FeedEnd.Store (StoreFault.BadLog place) → IsTrue D.tells
+    ensures unopened { (place : ℕ) → result ≡ FeedEnd.Store (StoreFault.BadLog place)
+        → IsTrue D.tells
         → BothOnlyRead (D.view disk.old) (D.view other.old) (D.view disk.new) (D.view other.new)
         × (judges.new ≡ judges.old) × (repos.new ≡ repos.old) × (clock.new ≡ clock.old)
         × (feed.new ≡ feed.old) × (out.new ≡ out.old) }
-    ensures caused { IsCausedBy (Rose (D.view disk.old).faults (D.view disk.new).faults ⊎ Rose (D.view other.old).faults (D.view other.new).faults) (Rose (F.faults feed.old) (F.faults feed.new)) (Rose (O.faults out.old) (O.faults out.new)) (Rose (R.faults repos.old) (R.faults repos.new)) (Rose (C.faults clock.old) (C.faults clock.new)) (tape_end result) }
-    ensures disks_steady { result ≢ TheFeedEnd.Store StoreFault.Disk → ((D.view disk.new).faults ≡ (D.view disk.old).faults)
+    ensures caused { IsCausedBy (Rose (D.view disk.old).faults (D.view disk.new).faults
+        ⊎ Rose (D.view other.old).faults (D.view other.new).faults)
+        (Rose (F.faults feed.old) (F.faults feed.new)) (Rose (O.faults out.old) (O.faults out.new))
+        (Rose (R.faults repos.old) (R.faults repos.new))
+        (Rose (C.faults clock.old) (C.faults clock.new)) (tape_end result) }
+    ensures disks_steady { result ≢ TheFeedEnd.Store StoreFault.Disk
+        → ((D.view disk.new).faults ≡ (D.view disk.old).faults)
         × ((D.view other.new).faults ≡ (D.view other.old).faults) }
     ensures out_steady { result ≢ TheFeedEnd.WriteFault → O.faults out.new ≡ O.faults out.old }
-    ensures repos_steady { HidesNone (tape_end result) → result ≢ TheFeedEnd.Store StoreFault.Repos → R.faults repos.new ≡ R.faults repos.old }
-    ensures clock_steady { HidesNone (tape_end result) → result ≢ TheFeedEnd.Store StoreFault.Clock → C.faults clock.new ≡ C.faults clock.old }
+    ensures repos_steady { HidesNone (tape_end result) → result ≢ TheFeedEnd.Store StoreFault.Repos
+        → R.faults repos.new ≡ R.faults repos.old }
+    ensures clock_steady { HidesNone (tape_end result) → result ≢ TheFeedEnd.Store StoreFault.Clock
+        → C.faults clock.new ≡ C.faults clock.old }
     ensures unspent { HidesNone (tape_end result) → result ≢ TheFeedEnd.Store StoreFault.Authority
         → SpendsNone (P.panel judges.old) (P.panel judges.new) }
     ensures steady { result ≢ TheFeedEnd.Feed → F.faults feed.new ≡ F.faults feed.old }
 
     // It is done, unless memory runs out, the log is full, or the numbers or the authorities end.
-    ensures complete { IsTrue D.tells → (J : List TheRow) → IsPairImageOf J (D.view disk.old).content (D.view other.old).content
-        → NoneOf (Rose (D.view disk.old).faults (D.view disk.new).faults ⊎ Rose (D.view other.old).faults (D.view other.new).faults) (Rose (F.faults feed.old) (F.faults feed.new)) (Rose (O.faults out.old) (O.faults out.new)) (Rose (R.faults repos.old) (R.faults repos.new)) (Rose (C.faults clock.old) (C.faults clock.new)) → MayEnd (tape_end result) }
+    ensures complete { IsTrue D.tells → (J : List TheRow)
+        → IsPairImageOf J (D.view disk.old).content (D.view other.old).content
+        → NoneOf (Rose (D.view disk.old).faults (D.view disk.new).faults
+        ⊎ Rose (D.view other.old).faults (D.view other.new).faults)
+        (Rose (F.faults feed.old) (F.faults feed.new)) (Rose (O.faults out.old) (O.faults out.new))
+        (Rose (R.faults repos.old) (R.faults repos.new))
+        (Rose (C.faults clock.old) (C.faults clock.new)) → MayEnd (tape_end result) }
     ensures disk_counts { (D.view disk.old).faults ≤ (D.view disk.new).faults }
     ensures other_counts { (D.view other.old).faults ≤ (D.view other.new).faults }
     ensures repos_count { R.faults repos.old ≤ R.faults repos.new }

@@ -68,9 +68,11 @@ pub record SyncsAccount (J K : List Row) : Type 0 where
 
 -- The journal K comes from J by a command: messages that are taken, an operator's word on an account, or a cut.
 abbrev pub ComesByCommand : Checks → List Row → List Row → Type 0
-ComesByCommand checks J K = TakesMessages checks J K ⊎ (ChangesAccount J K ⊎ (SyncsAccount J K ⊎ ((number : ℕ) × IsCut J number K)))
+ComesByCommand checks J K = TakesMessages checks J K
+    ⊎ (ChangesAccount J K ⊎ (SyncsAccount J K ⊎ ((number : ℕ) × IsCut J number K)))
 
 -- each of these journals comes from the one before it, and the first from J
 abbrev pub ComeByCommands : Checks → List Row → List (List Row) → Type 0
 ComeByCommands checks J [] = ⊤
-ComeByCommands checks J (K ∷ journals) = ComesByCommand checks J K × ComeByCommands checks K journals
+ComeByCommands checks J (K ∷ journals) = ComesByCommand checks J K
+    × ComeByCommands checks K journals

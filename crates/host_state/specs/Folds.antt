@@ -11,7 +11,8 @@ set_cursor (h ∷ hs) host n = if bytes_eq host h.0 then (h.0, n) ∷ hs else h 
 
 -- the hosts after one more row. The empty text names no host
 abbrev pub hosts_after : List (List ℕ × ℕ) → Row → List (List ℕ × ℕ)
-hosts_after hs row = if bytes_eq (host_in row) [] then hs else set_cursor hs (host_in row) (host_seq_in row)
+hosts_after hs row = if bytes_eq (host_in row) [] then hs
+    else set_cursor hs (host_in row) (host_seq_in row)
 
 -- the hosts that the rows of a journal name, in the order of their first rows, each with its cursor
 unfoldable pub hosts : List Row → List (List ℕ × ℕ)

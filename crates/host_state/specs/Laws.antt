@@ -6,7 +6,8 @@ use Rattle.host_state.specs.Folds.{hosts_after, hosts, cursor_of}
 
 -- The list of hosts tells the cursor of each.
 abbrev pub HostsTellCursors : Type 0
-HostsTellCursors = (host : List ℕ) (rows : List Row) → cursor_of (hosts rows) host ≡ cursor host rows
+HostsTellCursors = (host : List ℕ) (rows : List Row)
+    → cursor_of (hosts rows) host ≡ cursor host rows
 
 -- The hosts behind a journal in two halves are those of the second half behind the hosts of the first.
 abbrev pub HostsJoin : Type 0

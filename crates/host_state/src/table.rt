@@ -61,7 +61,8 @@ impl Hosts {
     pub fn touch(&mut self, host: &str) -> Result<(), Memory>
         ensures listed { listed self.new ≡ listed self.old }
         ensures room { OnOk result (has_room self.new host.now ≡ true) }
-        ensures kept { (name : List ℕ) → has_room self.old name ≡ true → has_room self.new name ≡ true }
+        ensures kept { (name : List ℕ) → has_room self.old name ≡ true
+            → has_room self.new name ≡ true }
     {
         if self.map.contains_key(host) || self.ready.contains_key(host) {
             return Ok(());

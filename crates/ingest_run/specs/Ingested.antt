@@ -58,10 +58,12 @@ pub record Unopened (J : List Row) (old new : PairScene) (end : TapeEnd) : Type 
   pub left : new.left ≡ old.left
   pub written : new.written ≡ old.written
   pub stands : StandsFor J old.one old.two → StandsFor J new.one new.two
-  pub crashes : StandsFor J old.one old.two → PairLeavesOnly (IsPairImageOf J) old.one new.one old.two new.two
+  pub crashes : StandsFor J old.one old.two
+      → PairLeavesOnly (IsPairImageOf J) old.one new.one old.two new.two
 
 -- A tape, of which at most `limit` bytes may be taken, was taken into the journal J of two disks, and ended so.
-pub record Ingested (t : Tells) (input_tells : Bool) (most limit : ℕ) (J : List Row) (old new : PairScene) (end : TapeEnd) : Type 0 where
+pub record Ingested (t : Tells) (input_tells : Bool) (most limit : ℕ) (J : List Row)
+    (old new : PairScene) (end : TapeEnd) : Type 0 where
   -- the steps that are answered, those of a body that was under way when a disk failed, and one whose row found no room or no memory
   pub steps : List Step
   pub under : List Step
@@ -69,30 +71,38 @@ pub record Ingested (t : Tells) (input_tells : Bool) (most limit : ℕ) (J : Lis
   pub which_under : AreUnder end under
   pub which_extra : AreExtraAt end extra
   -- each is what comes of its message behind the rows before it
-  pub are : (checks : Checks) → OpensRight checks → LinksRight checks → AreSteps checks J [] (steps ++ (under ++ extra))
+  pub are : (checks : Checks) → OpensRight checks → LinksRight checks
+      → AreSteps checks J [] (steps ++ (under ++ extra))
   pub journal : IsJournal (J ++ rows (steps ++ (under ++ extra)))
   -- their messages, and behind them those that were read and not taken, are the records at the front of the input
   pub behind : List Message
   pub all : AreTaken end behind
   pub records : AreRecords (messages_sent (steps ++ (under ++ extra)) ++ behind)
-  pub from : IsTrue input_tells → IsOnTape limit old.left new.left (messages_sent (steps ++ (under ++ extra)) ++ behind) end
+  pub from : IsTrue input_tells → IsOnTape limit old.left new.left
+      (messages_sent (steps ++ (under ++ extra)) ++ behind) end
   -- unless a disk failed, the two stand for the journal with the rows of the steps
   pub stands : end ≢ disk_failed → StandsFor (J ++ rows steps) new.one new.two
   -- Whatever moments a crash strikes the two at, it leaves the journal with some of the rows, or all and those of the body under way, and at the end with all.
-  pub crashes : StandsFor J old.one old.two → PairLeavesOnly (IsPairOnTheWay J (rows steps) (rows under)) old.one new.one old.two new.two
-  pub left : (c d : List ℕ) → new.one.may_leave c → new.two.may_leave d → IsOneOfPair (J ++ rows steps) (rows under) c d
+  pub crashes : StandsFor J old.one old.two
+      → PairLeavesOnly (IsPairOnTheWay J (rows steps) (rows under)) old.one new.one old.two new.two
+  pub left : (c d : List ℕ) → new.one.may_leave c → new.two.may_leave d
+      → IsOneOfPair (J ++ rows steps) (rows under) c d
   -- the log that is picked had room for all rows that were added, and is full only where it has none for the row of the step left over
-  pub room : end ≢ disk_failed → (rows steps ≡ []) ⊎ PairHasRoom most (J ++ rows steps) new.one.content new.two.content
-  pub full : FullOnly (λ row e. PairHasNoRoom most (J ++ rows steps) row e new.one.content new.two.content) (rows extra) end
+  pub room : end ≢ disk_failed → (rows steps ≡ [])
+      ⊎ PairHasRoom most (J ++ rows steps) new.one.content new.two.content
+  pub full : FullOnly (λ row e. PairHasNoRoom most
+      (J ++ rows steps) row e new.one.content new.two.content) (rows extra) end
   -- what is written is the report of the steps
-  pub written : IsTrue t.output → IsReportWritten end (lines_of steps) (end_line J (messages steps) (rows steps)) old.written new.written
+  pub written : IsTrue t.output → IsReportWritten end (lines_of steps)
+      (end_line J (messages steps) (rows steps)) old.written new.written
   -- what was asked: of each step what it shows, and for one more message, where no step is left over, what came to nothing
   pub mid : Around
   pub asked : AllAsked t.clock t.repos J old.around (steps ++ (under ++ extra)) mid
   pub stops : StopsAsking t.clock t.repos end extra behind mid new.around
   pub next : IsNextEnd t (J ++ rows steps) behind mid new.around end
   -- with the rows of any of the steps in front a sound journal stays sound, and a faithful one faithful; and a covered commit gets through
-  pub sound : (front others : List Step) → steps ++ (under ++ extra) ≡ front ++ others → IsSound J → IsSound (J ++ rows front)
+  pub sound : (front others : List Step) → steps ++ (under ++ extra) ≡ front ++ others → IsSound J
+      → IsSound (J ++ rows front)
   pub faithful : (front others : List Step) → steps ++ (under ++ extra) ≡ front ++ others
       → IsFaithfulJournal J → IsFaithfulJournal (J ++ rows front)
   pub covered : CoveredGetThrough J (steps ++ (under ++ extra))

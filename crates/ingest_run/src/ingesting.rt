@@ -42,19 +42,34 @@ fn take_on<D: Disk, P: Judges, R: Repos, C: Clock, I: Source, O: Sink>(
     out: &mut O,
 ) -> TapeEnd
     requires open { IsTrue (seen_in store.old).log.is_open }
-    requires on { IsTrue D.tells → IsKept (seen_in store.old) (view_of_side (seen_in store.old).side (D.view disk.old) (D.view other.old)) }
+    requires on { IsTrue D.tells → IsKept (seen_in store.old)
+        (view_of_side (seen_in store.old).side (D.view disk.old) (D.view other.old)) }
     requires limit { limit < 2 ^ 63 }
-    ensures taken { (J : List TheRow) → IsOf J (seen_in store.old).core → Taken D.view (tells D.tells C.tells R.tells O.tells) I.tells limit J
-        (scene (seen_in store.old) (of_pair (seen_in store.old).side disk.old other.old) (around (P.panel judges.old) (C.moments clock.old) (R.repository repos.old)) (I.left input.old) (O.written out.old))
-        (scene (seen_in store.new) (of_pair (seen_in store.old).side disk.new other.new) (around (P.panel judges.new) (C.moments clock.new) (R.repository repos.new)) (I.left input.new) (O.written out.new)) result }
-    ensures beside { of_pair (other_side (seen_in store.old).side) disk.new other.new ≡ of_pair (other_side (seen_in store.old).side) disk.old other.old }
-    ensures caused { IsCausedBy (Rose (D.view disk.old).faults (D.view disk.new).faults ⊎ Rose (D.view other.old).faults (D.view other.new).faults) (Rose (I.faults input.old) (I.faults input.new)) (Rose (O.faults out.old) (O.faults out.new)) (Rose (R.faults repos.old) (R.faults repos.new)) (Rose (C.faults clock.old) (C.faults clock.new)) result }
-    ensures disks_steady { result ≢ TapeEnd.Store StoreFault.Disk → ((D.view disk.new).faults ≡ (D.view disk.old).faults)
+    ensures taken { (J : List TheRow) → IsOf J (seen_in store.old).core
+        → Taken D.view (tells D.tells C.tells R.tells O.tells) I.tells limit J
+        (scene (seen_in store.old) (of_pair (seen_in store.old).side disk.old other.old)
+        (around (P.panel judges.old) (C.moments clock.old) (R.repository repos.old))
+        (I.left input.old) (O.written out.old))
+        (scene (seen_in store.new) (of_pair (seen_in store.old).side disk.new other.new)
+        (around (P.panel judges.new) (C.moments clock.new) (R.repository repos.new))
+        (I.left input.new) (O.written out.new)) result }
+    ensures beside { of_pair (other_side (seen_in store.old).side) disk.new other.new
+        ≡ of_pair (other_side (seen_in store.old).side) disk.old other.old }
+    ensures caused { IsCausedBy (Rose (D.view disk.old).faults (D.view disk.new).faults
+        ⊎ Rose (D.view other.old).faults (D.view other.new).faults)
+        (Rose (I.faults input.old) (I.faults input.new))
+        (Rose (O.faults out.old) (O.faults out.new))
+        (Rose (R.faults repos.old) (R.faults repos.new))
+        (Rose (C.faults clock.old) (C.faults clock.new)) result }
+    ensures disks_steady { result ≢ TapeEnd.Store StoreFault.Disk
+        → ((D.view disk.new).faults ≡ (D.view disk.old).faults)
         × ((D.view other.new).faults ≡ (D.view other.old).faults) }
     ensures input_steady { EndsByTape result → I.faults input.new ≡ I.faults input.old }
     ensures out_steady { result ≢ TapeEnd.WriteFault → O.faults out.new ≡ O.faults out.old }
-    ensures repos_steady { HidesNone result → result ≢ TapeEnd.Store StoreFault.Repos → R.faults repos.new ≡ R.faults repos.old }
-    ensures clock_steady { HidesNone result → result ≢ TapeEnd.Store StoreFault.Clock → C.faults clock.new ≡ C.faults clock.old }
+    ensures repos_steady { HidesNone result → result ≢ TapeEnd.Store StoreFault.Repos
+        → R.faults repos.new ≡ R.faults repos.old }
+    ensures clock_steady { HidesNone result → result ≢ TapeEnd.Store StoreFault.Clock
+        → C.faults clock.new ≡ C.faults clock.old }
     ensures unspent { HidesNone result → result ≢ TapeEnd.Store StoreFault.Authority
         → SpendsNone (P.panel judges.old) (P.panel judges.new) }
     ensures disk_counts { (D.view disk.old).faults ≤ (D.view disk.new).faults }
@@ -87,29 +102,58 @@ pub fn ingest<D: Disk, P: Judges, R: Repos, C: Clock, I: Source, O: Sink>(
 ) -> TapeEnd
     requires most { most ≤ LAST_END }
     requires limit { limit < 2 ^ 63 }
-    ensures ingested { IsTrue D.tells → (J : List TheRow) → IsPairImageOf J (D.view disk.old).content (D.view other.old).content
-        → Unopened J (pair_scene (D.view disk.old) (D.view other.old) (around (P.panel judges.old) (C.moments clock.old) (R.repository repos.old)) (I.left input.old) (O.written out.old)) (pair_scene (D.view disk.new) (D.view other.new) (around (P.panel judges.new) (C.moments clock.new) (R.repository repos.new)) (I.left input.new) (O.written out.new)) result
-        ⊎ Ingested (tells D.tells C.tells R.tells O.tells) I.tells most limit J (pair_scene (D.view disk.old) (D.view other.old) (around (P.panel judges.old) (C.moments clock.old) (R.repository repos.old)) (I.left input.old) (O.written out.old)) (pair_scene (D.view disk.new) (D.view other.new) (around (P.panel judges.new) (C.moments clock.new) (R.repository repos.new)) (I.left input.new) (O.written out.new)) result }
-    ensures shows { IsTrue D.tells → TapeEndShows result (D.view disk.old).content (D.view other.old).content }
+    ensures ingested { IsTrue D.tells → (J : List TheRow)
+        → IsPairImageOf J (D.view disk.old).content (D.view other.old).content
+        → Unopened J (pair_scene (D.view disk.old) (D.view other.old)
+        (around (P.panel judges.old) (C.moments clock.old) (R.repository repos.old))
+        (I.left input.old) (O.written out.old))
+        (pair_scene (D.view disk.new) (D.view other.new)
+        (around (P.panel judges.new) (C.moments clock.new) (R.repository repos.new))
+        (I.left input.new) (O.written out.new)) result
+        ⊎ Ingested (tells D.tells C.tells R.tells O.tells) I.tells most limit J
+        (pair_scene (D.view disk.old) (D.view other.old)
+        (around (P.panel judges.old) (C.moments clock.old) (R.repository repos.old))
+        (I.left input.old) (O.written out.old))
+        (pair_scene (D.view disk.new) (D.view other.new)
+        (around (P.panel judges.new) (C.moments clock.new) (R.repository repos.new))
+        (I.left input.new) (O.written out.new)) result }
+    ensures shows { IsTrue D.tells → TapeEndShows result (D.view disk.old).content
+        (D.view other.old).content }
     // A damaged log is only read, and nothing else is done.
-    ensures unopened { (place : ℕ) → result ≡ TapeEnd.Store (StoreFault.BadLog place) → IsTrue D.tells
+    ensures unopened { (place : ℕ) → result ≡ TapeEnd.Store (StoreFault.BadLog place)
+        → IsTrue D.tells
         → BothOnlyRead (D.view disk.old) (D.view other.old) (D.view disk.new) (D.view other.new)
         × (judges.new ≡ judges.old) × (repos.new ≡ repos.old) × (clock.new ≡ clock.old)
         × (input.new ≡ input.old) × (out.new ≡ out.old) }
-    ensures caused { IsCausedBy (Rose (D.view disk.old).faults (D.view disk.new).faults ⊎ Rose (D.view other.old).faults (D.view other.new).faults) (Rose (I.faults input.old) (I.faults input.new)) (Rose (O.faults out.old) (O.faults out.new)) (Rose (R.faults repos.old) (R.faults repos.new)) (Rose (C.faults clock.old) (C.faults clock.new)) result }
-    ensures disks_steady { result ≢ TapeEnd.Store StoreFault.Disk → ((D.view disk.new).faults ≡ (D.view disk.old).faults)
+    ensures caused { IsCausedBy (Rose (D.view disk.old).faults (D.view disk.new).faults
+        ⊎ Rose (D.view other.old).faults (D.view other.new).faults)
+        (Rose (I.faults input.old) (I.faults input.new))
+        (Rose (O.faults out.old) (O.faults out.new))
+        (Rose (R.faults repos.old) (R.faults repos.new))
+        (Rose (C.faults clock.old) (C.faults clock.new)) result }
+    ensures disks_steady { result ≢ TapeEnd.Store StoreFault.Disk
+        → ((D.view disk.new).faults ≡ (D.view disk.old).faults)
         × ((D.view other.new).faults ≡ (D.view other.old).faults) }
     ensures input_steady { EndsByTape result → I.faults input.new ≡ I.faults input.old }
     ensures out_steady { result ≢ TapeEnd.WriteFault → O.faults out.new ≡ O.faults out.old }
-    ensures repos_steady { HidesNone result → result ≢ TapeEnd.Store StoreFault.Repos → R.faults repos.new ≡ R.faults repos.old }
-    ensures clock_steady { HidesNone result → result ≢ TapeEnd.Store StoreFault.Clock → C.faults clock.new ≡ C.faults clock.old }
+    ensures repos_steady { HidesNone result → result ≢ TapeEnd.Store StoreFault.Repos
+        → R.faults repos.new ≡ R.faults repos.old }
+    ensures clock_steady { HidesNone result → result ≢ TapeEnd.Store StoreFault.Clock
+        → C.faults clock.new ≡ C.faults clock.old }
     ensures unspent { HidesNone result → result ≢ TapeEnd.Store StoreFault.Authority
         → SpendsNone (P.panel judges.old) (P.panel judges.new) }
 
     // A whole tape is taken, unless memory runs out, the log is full, or the numbers or the authorities end.
-    ensures complete { IsTrue D.tells → IsTrue I.tells → (J : List TheRow) → IsPairImageOf J (D.view disk.old).content (D.view other.old).content
-        → (messages : List TheMessage) → AreRecords messages → I.left input.old ≡ encoded_records messages → length (encoded_records messages) < limit
-        → NoneOf (Rose (D.view disk.old).faults (D.view disk.new).faults ⊎ Rose (D.view other.old).faults (D.view other.new).faults) (Rose (I.faults input.old) (I.faults input.new)) (Rose (O.faults out.old) (O.faults out.new)) (Rose (R.faults repos.old) (R.faults repos.new)) (Rose (C.faults clock.old) (C.faults clock.new)) → MayEnd result }
+    ensures complete { IsTrue D.tells → IsTrue I.tells → (J : List TheRow)
+        → IsPairImageOf J (D.view disk.old).content (D.view other.old).content
+        → (messages : List TheMessage) → AreRecords messages
+        → I.left input.old ≡ encoded_records messages → length (encoded_records messages) < limit
+        → NoneOf (Rose (D.view disk.old).faults (D.view disk.new).faults
+        ⊎ Rose (D.view other.old).faults (D.view other.new).faults)
+        (Rose (I.faults input.old) (I.faults input.new))
+        (Rose (O.faults out.old) (O.faults out.new))
+        (Rose (R.faults repos.old) (R.faults repos.new))
+        (Rose (C.faults clock.old) (C.faults clock.new)) → MayEnd result }
     ensures disk_counts { (D.view disk.old).faults ≤ (D.view disk.new).faults }
     ensures other_counts { (D.view other.old).faults ≤ (D.view other.new).faults }
     ensures repos_count { R.faults repos.old ≤ R.faults repos.new }

@@ -27,17 +27,33 @@ pub record ChecksMaySayOtherwise : Type 0 where
 
 -- a row is refused for its home or its signature alone
 abbrev pub IsJudged : Outside → Taken → Type 0
-IsJudged o t = t.refusal ≡ (if o.home then (if o.verdict then None else Some Refusal.BadSignature) else Some Refusal.NotHome)
+IsJudged o t =
+    t.refusal ≡ (if o.home then (if o.verdict then None else Some Refusal.BadSignature)
+    else Some Refusal.NotHome)
 
 -- A commit may be refused, or pass, otherwise than for its home and its signature alone ..
 pub record CoveredMayBeRefused : Type 0 where
   -- where the checks don't open rightly
-  pub opens : ((checks : Checks) → LinksRight checks → (J : List Row) (host : List ℕ) (e : Seen) (o : Outside) (t : Taken) → IsEvent e → IsCovered J host e o.moment → decided checks (last_seq J) (account e.did J) host (Frame.Event e) o ≡ Some t → IsJudged o t) → ⊥
+  pub opens : ((checks : Checks) → LinksRight checks
+      → (J : List Row) (host : List ℕ) (e : Seen) (o : Outside) (t : Taken) → IsEvent e
+      → IsCovered J host e o.moment → decided checks (last_seq J) (account e.did J) host
+      (Frame.Event e) o ≡ Some t → IsJudged o t) → ⊥
   -- where they don't link rightly
-  pub links : ((checks : Checks) → OpensRight checks → (J : List Row) (host : List ℕ) (e : Seen) (o : Outside) (t : Taken) → IsEvent e → IsCovered J host e o.moment → decided checks (last_seq J) (account e.did J) host (Frame.Event e) o ≡ Some t → IsJudged o t) → ⊥
+  pub links : ((checks : Checks) → OpensRight checks
+      → (J : List Row) (host : List ℕ) (e : Seen) (o : Outside) (t : Taken) → IsEvent e
+      → IsCovered J host e o.moment → decided checks (last_seq J) (account e.did J) host
+      (Frame.Event e) o ≡ Some t → IsJudged o t) → ⊥
   -- where it isn't read from its payload
-  pub event : ((checks : Checks) → OpensRight checks → LinksRight checks → (J : List Row) (host : List ℕ) (e : Seen) (o : Outside) (t : Taken) → IsCovered J host e o.moment → decided checks (last_seq J) (account e.did J) host (Frame.Event e) o ≡ Some t → IsJudged o t) → ⊥
+  pub event : ((checks : Checks) → OpensRight checks → LinksRight checks
+      → (J : List Row) (host : List ℕ) (e : Seen) (o : Outside) (t : Taken)
+      → IsCovered J host e o.moment → decided checks (last_seq J) (account e.did J) host
+      (Frame.Event e) o ≡ Some t → IsJudged o t) → ⊥
   -- where it isn't covered
-  pub covered : ((checks : Checks) → OpensRight checks → LinksRight checks → (J : List Row) (host : List ℕ) (e : Seen) (o : Outside) (t : Taken) → IsEvent e → decided checks (last_seq J) (account e.did J) host (Frame.Event e) o ≡ Some t → IsJudged o t) → ⊥
+  pub covered : ((checks : Checks) → OpensRight checks → LinksRight checks
+      → (J : List Row) (host : List ℕ) (e : Seen) (o : Outside) (t : Taken) → IsEvent e
+      → decided checks (last_seq J) (account e.did J) host (Frame.Event e) o ≡ Some t
+      → IsJudged o t) → ⊥
   -- where the row isn't what is decided of it
-  pub decided : ((checks : Checks) → OpensRight checks → LinksRight checks → (J : List Row) (host : List ℕ) (e : Seen) (o : Outside) (t : Taken) → IsEvent e → IsCovered J host e o.moment → IsJudged o t) → ⊥
+  pub decided : ((checks : Checks) → OpensRight checks → LinksRight checks
+      → (J : List Row) (host : List ℕ) (e : Seen) (o : Outside) (t : Taken) → IsEvent e
+      → IsCovered J host e o.moment → IsJudged o t) → ⊥

@@ -4,18 +4,22 @@ use Rattle.relay_row.specs.declared.row.Row.{Row}
 use Rattle.relay_law.specs.Histories.{Change, IsChanged, Point, IsIn, Stands, Calls, Opens, NextOf, LivesFrom, AllCome}
 
 -- a point follows another by a call, or by an opening where no store is open, that are these
-abbrev pub NextBy : (List Row → Point → Type 0) → (Point → Point → Type 0) → Option (List Row) → Point → Point → Type 0
+abbrev pub NextBy : (List Row → Point → Type 0) → (Point → Point → Type 0) → Option (List Row)
+    → Point → Point → Type 0
 NextBy calls opens None p next = opens p next
 NextBy calls opens (Some J) p next = calls J next
 
 -- a list of points, each of which follows the one before it by one of these
-abbrev pub LivesBy : (List Row → Point → Type 0) → (Point → Point → Type 0) → Point → List Point → Type 0
+abbrev pub LivesBy : (List Row → Point → Type 0) → (Point → Point → Type 0) → Point → List Point
+    → Type 0
 LivesBy calls opens p [] = Stands p
-LivesBy calls opens p (next ∷ points) = Stands p × NextBy calls opens p.serves p next × LivesBy calls opens next points
+LivesBy calls opens p (next ∷ points) = Stands p × NextBy calls opens p.serves p next
+    × LivesBy calls opens next points
 
 -- over these histories, each journal comes from the one that is open now
 abbrev pub JournalsComeBy : (List Row → Point → Type 0) → (Point → Point → Type 0) → Type 0
-JournalsComeBy calls opens = (p : Point) (points : List Point) (J : List Row) → LivesBy calls opens p points → p.serves ≡ Some J → AllCome J points
+JournalsComeBy calls opens = (p : Point) (points : List Point) (J : List Row)
+    → LivesBy calls opens p points → p.serves ≡ Some J → AllCome J points
 
 -- a call that ends with any journal open, or none
 pub record CallsToAny (J : List Row) (next : Point) : Type 0 where
@@ -52,7 +56,8 @@ LivesUnfounded p (next ∷ points) = NextOf p.serves p next × LivesUnfounded ne
 
 -- What the disks of an open store stand for is no premise that is wanted: calls say what they leave, whatever was there.
 abbrev pub UnfoundedComeOn : Type 0
-UnfoundedComeOn = (p : Point) (points : List Point) (J : List Row) → LivesUnfounded p points → p.serves ≡ Some J → AllCome J points
+UnfoundedComeOn = (p : Point) (points : List Point) (J : List Row) → LivesUnfounded p points
+    → p.serves ≡ Some J → AllCome J points
 
 -- A journal may be of other rows than those before it ..
 pub record JournalsMayBeOthers : Type 0 where
@@ -67,4 +72,5 @@ pub record JournalsMayBeOthers : Type 0 where
   -- where it leaves something else on them
   pub opens_leave : JournalsComeBy Calls OpensLeavingAny → ⊥
   -- where it isn't the one that is open now
-  pub serves : ((p : Point) (points : List Point) (J : List Row) → LivesFrom p points → AllCome J points) → ⊥
+  pub serves : ((p : Point) (points : List Point) (J : List Row) → LivesFrom p points
+      → AllCome J points) → ⊥

@@ -34,7 +34,8 @@ fn next_above<E: Events>(
     ensures few { IfErr result (λ f. IsOfEvents f) }
     ensures disk { result ≡ Err ReplayFault.Disk
         → Rose (E.faults events.old) (E.faults events.new) }
-    ensures event_steady { result ≢ Err ReplayFault.Disk → E.faults events.new ≡ E.faults events.old }
+    ensures event_steady { result ≢ Err ReplayFault.Disk
+        → E.faults events.new ≡ E.faults events.old }
     ensures counts { E.faults events.old ≤ E.faults events.new }
     ensures no_bad_log { (place : ℕ) → result ≡ Err (ReplayFault.BadLog place)
         → IsTrue E.tells → (held : Held) → E.holds events.old held → ⊥ }
@@ -99,7 +100,8 @@ pub fn write_lines<E: Events, O: Sink>(
     ensures later { E.later events.old events.new }
     ensures disk { result ≡ Err ReplayFault.Disk
         → Rose (E.faults events.old) (E.faults events.new) }
-    ensures event_steady { result ≢ Err ReplayFault.Disk → E.faults events.new ≡ E.faults events.old }
+    ensures event_steady { result ≢ Err ReplayFault.Disk
+        → E.faults events.new ≡ E.faults events.old }
     ensures failed { result ≡ Err ReplayFault.Output
         → Rose (O.faults out.old) (O.faults out.new) }
     ensures no_fault { (result ≡ Err ReplayFault.Output → ⊥)

@@ -37,13 +37,15 @@ pub record Continues (c : CommitEvent) (rev : Option ℕ) (s t : List Item) : Ty
 
 -- what a commit makes of what is held: the map that it continues to, and nothing where it continues to none
 abbrev pub IsAfterCommit : CommitEvent → Holding → Holding → Type 0
-IsAfterCommit c (Holding.Mapped rev s) (Holding.Mapped now t) = (now ≡ Some c.rev) × Continues c rev s t
+IsAfterCommit c (Holding.Mapped rev s) (Holding.Mapped now t) = (now ≡ Some c.rev)
+    × Continues c rev s t
 IsAfterCommit c (Holding.Mapped rev s) Holding.Waiting = (t : List Item) → Continues c rev s t → ⊥
 IsAfterCommit c Holding.Waiting now = now ≡ Holding.Waiting
 
 -- what a `#sync` makes of it, whatever was held: the map of the account's repository, and nothing where that has none
 abbrev pub IsAfterSync : Repositories → SyncEvent → Holding → Type 0
-IsAfterSync repositories sync (Holding.Mapped now t) = (now ≡ Some sync.rev) × Answers repositories sync t
+IsAfterSync repositories sync (Holding.Mapped now t) = (now ≡ Some sync.rev)
+    × Answers repositories sync t
 IsAfterSync repositories sync Holding.Waiting = (t : List Item) → Answers repositories sync t → ⊥
 
 -- other events leave it as it is
@@ -63,7 +65,8 @@ IsAfterEvent repositories did e old new =
     WhereElse (bytes_eq did e.did) (IsAfterBody repositories e.body old new) (new ≡ old)
 
 -- and messages that are no events
-abbrev pub IsAfterFrame : Repositories → List ℕ → Result Frame FrameFault → Holding → Holding → Type 0
+abbrev pub IsAfterFrame : Repositories → List ℕ → Result Frame FrameFault → Holding → Holding
+    → Type 0
 IsAfterFrame repositories did (Ok (Frame.Event e)) old new = IsAfterEvent repositories did e old new
 IsAfterFrame repositories did (Ok (Frame.Faulty seq)) old new = new ≡ old
 IsAfterFrame repositories did (Ok Frame.Info) old new = new ≡ old
@@ -79,8 +82,10 @@ IsAfter repositories did message old new = IsAfterFrame repositories did (frame_
 abbrev pub IsHeldFrom : Repositories → List ℕ → Holding → List (List ℕ) → Holding → Type 0
 IsHeldFrom repositories did old [] new = new ≡ old
 IsHeldFrom repositories did old (message ∷ messages) new =
-    (middle : Holding) × IsAfter repositories did message old middle × IsHeldFrom repositories did middle messages new
+    (middle : Holding) × IsAfter repositories did message old middle
+    × IsHeldFrom repositories did middle messages new
 
 -- what is held behind a stream of messages: at its start the empty map, without a revision
 abbrev pub IsHeld : Repositories → List ℕ → List (List ℕ) → Holding → Type 0
-IsHeld repositories did messages holding = IsHeldFrom repositories did (Holding.Mapped None []) messages holding
+IsHeld repositories did messages holding =
+    IsHeldFrom repositories did (Holding.Mapped None []) messages holding

@@ -68,18 +68,22 @@ IsStep m other step = step ≡ Step.Passed
 
 -- A message was taken: of each account what it makes is held, and the last number is its own. Only a `#sync` of the account
 -- asks for its repository, so that of all others this holds also where the repositories aren't known.
-pub record IsTaken (tells : Bool) (repositories : Repositories) (old new : Mirror) (message : List ℕ) (step : Step)
+pub record IsTaken (tells : Bool) (repositories : Repositories) (old new : Mirror)
+    (message : List ℕ) (step : Step)
     : Type 0 where
   pub good : is_bad old.last (frame_of message) ≡ false
   pub last : new.last ≡ last_behind old.last (frame_of message)
-  pub held : (did : List ℕ) → (IsTrue (is_such_event_of is_sync did (frame_of message)) → IsTrue tells)
+  pub held : (did : List ℕ) → (IsTrue (is_such_event_of is_sync did (frame_of message))
+      → IsTrue tells)
       → IsAfter repositories did message (held_by old did) (held_by new did)
   pub known : (did : List ℕ)
-      → is_known new did ≡ (is_known old did || is_such_event_of is_repo_body did (frame_of message))
+      → is_known new did ≡ (is_known old did
+      || is_such_event_of is_repo_body did (frame_of message))
   pub came : IsStep new (frame_of message) step
 
 -- The same of an event.
-pub record IsTakenEvent (tells : Bool) (repositories : Repositories) (old new : Mirror) (e : Seen) (step : Step) : Type 0 where
+pub record IsTakenEvent (tells : Bool) (repositories : Repositories) (old new : Mirror) (e : Seen)
+    (step : Step) : Type 0 where
   pub above : nat_lt old.last e.seq ≡ true
   pub last : new.last ≡ e.seq
   pub held : (did : List ℕ) → (IsTrue (is_sync e.body && bytes_eq did e.did) → IsTrue tells)
@@ -89,10 +93,12 @@ pub record IsTakenEvent (tells : Bool) (repositories : Repositories) (old new : 
   pub came : step ≡ step_by (is_repo_body e.body) (held_by new e.did)
 
 -- Of the account of a DID something else is held, and of no other.
-pub record IsChanged (did : List ℕ) (change : Holding → Holding → Type 0) (old new : Mirror) (step : Step)
+pub record IsChanged (did : List ℕ) (change : Holding → Holding → Type 0) (old new : Mirror)
+    (step : Step)
     : Type 0 where
   pub held : (name : List ℕ)
-      → WhereElse (bytes_eq name did) (change (held_by old name) (held_by new name)) (held_by new name ≡ held_by old name)
+      → WhereElse (bytes_eq name did) (change (held_by old name) (held_by new name))
+      (held_by new name ≡ held_by old name)
   pub known : (name : List ℕ) → is_known new name ≡ (is_known old name || bytes_eq name did)
   pub came : step ≡ step_of (held_by new did)
 

@@ -136,7 +136,8 @@ impl Mirror {
         ensures repositories { IsTrue R.tells → (did : List ℕ)
             → R.repository repos.new did ≡ R.repository repos.old did }
         ensures counts { R.faults repos.old ≤ R.faults repos.new }
-        ensures steady { result ≢ Err fault.MirrorFault.Repos → R.faults repos.new ≡ R.faults repos.old }
+        ensures steady { result ≢ Err fault.MirrorFault.Repos
+            → R.faults repos.new ≡ R.faults repos.old }
     {
         let held = after_sync(self.alloc, sync, repos)?;
         let step = step_of(&held);
@@ -156,7 +157,8 @@ impl Mirror {
         ensures repositories { IsTrue R.tells → (did : List ℕ)
             → R.repository repos.new did ≡ R.repository repos.old did }
         ensures counts { R.faults repos.old ≤ R.faults repos.new }
-        ensures steady { result ≢ Err fault.MirrorFault.Repos → R.faults repos.new ≡ R.faults repos.old }
+        ensures steady { result ≢ Err fault.MirrorFault.Repos
+            → R.faults repos.new ≡ R.faults repos.old }
     {
         if event.seq <= self.last {
             return Err(MirrorFault::BadMessage);
@@ -186,7 +188,8 @@ impl Mirror {
         ensures repositories { IsTrue R.tells → (did : List ℕ)
             → R.repository repos.new did ≡ R.repository repos.old did }
         ensures counts { R.faults repos.old ≤ R.faults repos.new }
-        ensures steady { result ≢ Err fault.MirrorFault.Repos → R.faults repos.new ≡ R.faults repos.old }
+        ensures steady { result ≢ Err fault.MirrorFault.Repos
+            → R.faults repos.new ≡ R.faults repos.old }
     {
         let frame = match read_frame(self.alloc, message) {
             Ok(frame) => frame,

@@ -53,7 +53,10 @@ StreamsAreSent = (J front others : List Row) → J ≡ front ++ others → IsJou
 -- The last chain of a journal's rows is the one that is open behind them.
 abbrev pub ChainsEndOpen : Type 0
 ChainsEndOpen = (J : List Row) (did : List ℕ) → (closed : List Chain)
-    × (chains did J ≡ closed ++ (beginning_root (open_chain did J).began, (open_chain did J).commits) ∷ [])
+    × (chains did J ≡ closed ++ (
+      beginning_root (open_chain did J).began,
+      (open_chain did J).commits,
+    ) ∷ [])
 
 -- At most one thing is held behind messages.
 abbrev pub OneIsHeld : Type 0

@@ -22,7 +22,8 @@ pub record HasLongMessage (bytes : List ℕ) : Type 0 where
   pub fits : size < 2 ^ 32
 
 abbrev pub Shows : List ℕ → Shown → Type 0
-Shows bytes (found message rest) = (length message ≤ LONGEST_FEED_MESSAGE) × (bytes ≡ stream_frame message ++ rest)
+Shows bytes (found message rest) = (length message ≤ LONGEST_FEED_MESSAGE)
+    × (bytes ≡ stream_frame message ++ rest)
 Shows bytes too_long = HasLongMessage bytes
 Shows bytes cut = EndsInMessage bytes
 
@@ -33,7 +34,8 @@ message_of size bytes =
     else (if nat_lt (length bytes) size then cut else found (take size bytes) (drop size bytes))
 
 abbrev pub front_of : List ℕ → Shown
-front_of bytes = if nat_lt (length bytes) 4 then cut else message_of (from_be_bytes w32 (take 4 bytes)) (drop 4 bytes)
+front_of bytes = if nat_lt (length bytes) 4 then cut
+    else message_of (from_be_bytes w32 (take 4 bytes)) (drop 4 bytes)
 
 -- what stands behind a message
 abbrev pub rest_of : Shown → List ℕ

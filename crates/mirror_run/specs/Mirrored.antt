@@ -37,7 +37,8 @@ AreLines tell repositories messages (did ∷ dids) text =
 
 -- The text has a line for each DID of which the messages have a commit or a `#sync`, in ascending order, and then the number
 -- of events.
-pub record IsMirrorText (tell : Bool) (repositories : Repositories) (messages : List (List ℕ)) (text : List ℕ) : Type 0 where
+pub record IsMirrorText (tell : Bool) (repositories : Repositories) (messages : List (List ℕ))
+    (text : List ℕ) : Type 0 where
   pub dids : List (List ℕ)
   pub lines : List ℕ
   pub ascend : Ascend dids
@@ -47,13 +48,15 @@ pub record IsMirrorText (tell : Bool) (repositories : Repositories) (messages : 
 
 -- The whole text was written where all was done, and a front of it where writing failed. Where memory ran out nothing was
 -- written, or a front of it. At every other end nothing was.
-abbrev pub IsMirrorWritten : Bool → Repositories → MirrorEnd → List (List ℕ) → List ℕ → List ℕ → Type 0
+abbrev pub IsMirrorWritten : Bool → Repositories → MirrorEnd → List (List ℕ) → List ℕ → List ℕ
+    → Type 0
 IsMirrorWritten tell repositories MirrorEnd.Done messages old new =
     (text : List ℕ) × IsMirrorText tell repositories messages text × (new ≡ old ++ text)
 IsMirrorWritten tell repositories MirrorEnd.WriteFault messages old new =
     (text : List ℕ) × IsMirrorText tell repositories messages text × AddsFront old new text
 IsMirrorWritten tell repositories MirrorEnd.Memory messages old new =
-    (new ≡ old) ⊎ ((text : List ℕ) × IsMirrorText tell repositories messages text × AddsFront old new text)
+    (new ≡ old) ⊎ ((text : List ℕ) × IsMirrorText tell repositories messages text
+    × AddsFront old new text)
 IsMirrorWritten tell repositories (MirrorEnd.BadStream place) messages old new = new ≡ old
 IsMirrorWritten tell repositories MirrorEnd.ReadFault messages old new = new ≡ old
 IsMirrorWritten tell repositories MirrorEnd.Repos messages old new = new ≡ old
@@ -75,12 +78,14 @@ IsRestLeft limit MirrorEnd.Memory messages rest = ⊤
 
 -- A stream was mirrored, of which at most so many bytes may be taken: these messages at its front were taken, and their text
 -- was written.
-pub record Mirrored (input_tells output_tells repositories_tell : Bool) (limit : ℕ) (repositories : Repositories)
+pub record Mirrored (input_tells output_tells repositories_tell : Bool) (limit : ℕ)
+    (repositories : Repositories)
     (input old new : List ℕ) (end : MirrorEnd) : Type 0 where
   pub messages : List (List ℕ)
   pub rest : List ℕ
   pub good : AreGood 0 messages
   pub split : IsTrue input_tells → input ≡ with_length messages ++ rest
   pub left : IsTrue input_tells → IsRestLeft limit end messages rest
-  pub written : IsTrue output_tells → IsMirrorWritten repositories_tell repositories end messages old new
+  pub written : IsTrue output_tells
+      → IsMirrorWritten repositories_tell repositories end messages old new
   pub chains : IsTrue input_tells → end ≡ MirrorEnd.Done → HoldsChains repositories input messages

@@ -39,7 +39,8 @@ IsBadBehind messages rest = IsBadFrom (last_seq_behind 0 messages) rest
 -- bytes end inside a message, or before it: in its length, or in what stands behind that
 pub data EndsInMessage (bytes : List ℕ) : Type 0 where
   in_length : length bytes < 4 → EndsInMessage bytes
-  in_message : (size : ℕ) (front : List ℕ) → size ≤ LONGEST_FEED_MESSAGE → bytes ≡ to_be_bytes w32 size ++ front
+  in_message : (size : ℕ) (front : List ℕ) → size ≤ LONGEST_FEED_MESSAGE
+      → bytes ≡ to_be_bytes w32 size ++ front
       → length front < size → EndsInMessage bytes
 
 -- the message is an event

@@ -12,14 +12,16 @@ use Rattle.mirror_run.specs.declared.reader.StreamFault.{StreamFault}
 use Rattle.mirror.specs.declared.fault.MirrorFault.{MirrorFault}
 
 -- The messages at the front of the input were taken up to a place, with so many events, and this is left.
-pub record HasTaken (input_tells repositories_tell : Bool) (repositories : Repositories) (input left : List ℕ) (place : ℕ)
+pub record HasTaken (input_tells repositories_tell : Bool) (repositories : Repositories)
+    (input left : List ℕ) (place : ℕ)
     (mirror : Mirror) (events : ℕ) : Type 0 where
   pub messages : List (List ℕ)
   pub good : AreGood 0 messages
   pub split : IsTrue input_tells → input ≡ with_length messages ++ left
   pub place_is : place ≡ length (with_length messages)
   pub last : mirror.last ≡ last_seq_behind 0 messages
-  pub held : IsTrue repositories_tell → (did : List ℕ) → IsHeld repositories did messages (held_by mirror did)
+  pub held : IsTrue repositories_tell → (did : List ℕ)
+      → IsHeld repositories did messages (held_by mirror did)
   pub known : (did : List ℕ) → is_known mirror did ≡ tell_of did messages
   pub named : tell_of [] messages ≡ false
   pub count : events ≡ event_count messages
@@ -30,7 +32,8 @@ HasTakenAll input_tells repositories_tell repositories input mirror events =
     (place : ℕ) × HasTaken input_tells repositories_tell repositories input [] place mirror events
 
 -- Messages at the front of the input were taken, and then it ended so.
-pub record HasStopped (input_tells : Bool) (limit : ℕ) (input : List ℕ) (end : MirrorEnd) : Type 0 where
+pub record HasStopped (input_tells : Bool) (limit : ℕ) (input : List ℕ)
+    (end : MirrorEnd) : Type 0 where
   pub messages : List (List ℕ)
   pub rest : List ℕ
   pub good : AreGood 0 messages

@@ -36,7 +36,8 @@ pub fn mirror<I: Source, R: Repos, O: Sink>(
         → NoMirrorCause (Rose (I.faults input.old) (I.faults input.new))
         (Rose (O.faults out.old) (O.faults out.new))
         (Rose (R.faults repos.old) (R.faults repos.new))
-        → (messages : List (List ℕ)) → BeginWith (I.left input.old) messages [] → MirrorMayEnd result }
+        → (messages : List (List ℕ)) → BeginWith (I.left input.old) messages []
+        → MirrorMayEnd result }
 
     // And at another the place is told from which on it can't be taken.
     ensures bad { IsTrue I.tells → length (I.left input.old) < limit

@@ -99,7 +99,8 @@ impl MessageReader {
         ensures counts { I.faults source.old ≤ I.faults source.new }
         ensures failed { IsErrOf result StreamFault.Failed
             → Rose (I.faults source.old) (I.faults source.new) }
-        ensures steady { result ≢ Err StreamFault.Failed → I.faults source.new ≡ I.faults source.old }
+        ensures steady { result ≢ Err StreamFault.Failed
+            → I.faults source.new ≡ I.faults source.old }
     {
         'pieces: loop {
             let total = match self.front()? {
@@ -155,7 +156,8 @@ impl MessageReader {
         ensures counts { I.faults source.old ≤ I.faults source.new }
         ensures failed { IsErrOf result StreamFault.Failed
             → Rose (I.faults source.old) (I.faults source.new) }
-        ensures steady { result ≢ Err StreamFault.Failed → I.faults source.new ≡ I.faults source.old }
+        ensures steady { result ≢ Err StreamFault.Failed
+            → I.faults source.new ≡ I.faults source.old }
     {
         let left = self.most - self.place - self.window.len() as u64;
         if left == 0 {

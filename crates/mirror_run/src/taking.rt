@@ -37,7 +37,8 @@ pub(crate) fn take_stream<I: Source, R: Repos>(
         → R.repository repos.new did ≡ R.repository repos.old did }
     ensures input_counts { I.faults input.old ≤ I.faults input.new }
     ensures repos_count { R.faults repos.old ≤ R.faults repos.new }
-    ensures input_steady { result ≢ Err MirrorEnd.ReadFault → I.faults input.new ≡ I.faults input.old }
+    ensures input_steady { result ≢ Err MirrorEnd.ReadFault
+        → I.faults input.new ≡ I.faults input.old }
     ensures repos_steady { result ≢ Err MirrorEnd.Repos → R.faults repos.new ≡ R.faults repos.old }
 {
     let mut reader = MessageReader::new(alloc, limit);

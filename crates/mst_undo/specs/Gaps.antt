@@ -34,7 +34,8 @@ parts_with (suc n) x [] = []
 parts_with (suc n) x (p ∷ parts) = record { key = p.key; value = p.value; below = first_with n x p.below } ∷ parts_with n x parts
 
 -- f' and ps' are f and ps with x in a gap
-pub record IsFilled (n : ℕ) (x f : Below) (ps : List Part) (f' : Below) (ps' : List Part) : Type 0 where
+pub record IsFilled (n : ℕ) (x f : Below) (ps : List Part) (f' : Below)
+    (ps' : List Part) : Type 0 where
   pub first : f' ≡ first_with n x f
   pub rest : ps' ≡ parts_with n x ps
 

@@ -13,7 +13,8 @@ use std::mem;
 pub(crate) fn place(parts: &[Part], key: &[u8]) -> Result<usize, usize>
     requires { AreRising parts.now }
     ensures is { IsPlace key.now parts.now result }
-    ensures in_range { MatchResult result (λ at. at < length parts.now) (λ at. at ≤ length parts.now) }
+    ensures in_range { MatchResult result (λ at. at < length parts.now)
+        (λ at. at ≤ length parts.now) }
 {
     parts.binary_search_by(
         |part: &Part| -> Ordering

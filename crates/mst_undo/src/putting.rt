@@ -20,7 +20,8 @@ use std::alloc::Global;
 
 /// The value of a key that undoing an operation puts into a node of a layer, where that is the key's height.
 fn new_at(op: &Op, high: u8, layer: u8) -> Option<Cid>
-    ensures { MatchOption result (PutsKey op.entry.now → high ≢ layer) (λ v. PutsKey op.entry.now × (op.entry.now.was ≡ Some v) × (high ≡ layer)) }
+    ensures { MatchOption result (PutsKey op.entry.now → high ≢ layer) (λ v. PutsKey op.entry.now
+        × (op.entry.now.was ≡ Some v) × (high ≡ layer)) }
 {
     if op.now.is_none() && high == layer {
         op.was
@@ -44,7 +45,8 @@ fn insert_key(
     requires gap { IsGapOf key.now at rest.old.items }
     requires high { height key.now ≡ layer }
     ensures node { AreNode layer first.new rest.new.items }
-    ensures items { OnOk result (node_items layer first.new rest.new.items ≡ put key.now (Some value) (node_items layer first.old rest.old.items)) }
+    ensures items { OnOk result (node_items layer first.new rest.new.items
+        ≡ put key.now (Some value) (node_items layer first.old rest.old.items)) }
 {
     let below = replace_gap(first, rest, at, Below::Empty);
     let (before, behind) = split_below(alloc, layer, below, key.as_slice())?;
@@ -74,7 +76,8 @@ fn undo_at(
     requires safe { IsSafe (node_items layer first.old rest.old.items) op.now }
     requires key { IsKeyAt op.now.key at rest.old.items }
     ensures node { AreNode layer first.new rest.new.items }
-    ensures items { OnOk result (node_items layer first.new rest.new.items ≡ put op.entry.now.key op.entry.now.was (node_items layer first.old rest.old.items)) }
+    ensures items { OnOk result (node_items layer first.new rest.new.items
+        ≡ put op.entry.now.key op.entry.now.was (node_items layer first.old rest.old.items)) }
 {
     match op.was {
         Some(value) => {
@@ -104,7 +107,8 @@ pub(crate) fn undo_below(
     requires lies { LiesBelow layer below }
     requires safe { IsSafe (below_items layer below) op.now }
     requires room { HasRoom layer high op.now }
-    ensures { IfOk result (IsBelow layer (put op.entry.now.key op.entry.now.was (below_items layer below))) }
+    ensures { IfOk result (IsBelow layer
+        (put op.entry.now.key op.entry.now.was (below_items layer below))) }
 {
     match below {
         Below::Empty => single(alloc, &op.key, op.was, high, layer),
@@ -124,7 +128,8 @@ fn undo_node(alloc: Global, branch: &mut Branch, op: &Op, high: u8) -> Result<()
     requires safe { IsSafe branch.old.items op.now }
     requires room { HasRoom (branch.old.layer + 1) high op.now }
     ensures layer { branch.new.layer ≡ branch.old.layer }
-    ensures items { OnOk result (branch.new.items ≡ put op.entry.now.key op.entry.now.was branch.old.items) }
+    ensures items { OnOk result (branch.new.items
+        ≡ put op.entry.now.key op.entry.now.was branch.old.items) }
 {
     branch.link = None;
     undo_parts(
@@ -151,7 +156,8 @@ fn undo_parts(
     requires safe { IsSafe (node_items layer first.old rest.old.items) op.now }
     requires room { HasRoom (layer + 1) high op.now }
     ensures node { AreNode layer first.new rest.new.items }
-    ensures items { OnOk result (node_items layer first.new rest.new.items ≡ put op.entry.now.key op.entry.now.was (node_items layer first.old rest.old.items)) }
+    ensures items { OnOk result (node_items layer first.new rest.new.items
+        ≡ put op.entry.now.key op.entry.now.was (node_items layer first.old rest.old.items)) }
 {
     match place(rest.as_slice(), op.key.as_slice()) {
         Ok(at) => undo_at(alloc, layer, first, rest, at, op),

@@ -54,7 +54,8 @@ pub fn query<D: Disk, W: Wire, O: Sink>(
         ⊎ Rose (D.view other.old).faults (D.view other.new).faults → ⊥)
         → (Rose (O.faults out.old) (O.faults out.new) → ⊥)
         → (Rose (W.faults wire.old) (W.faults wire.new) → ⊥) → QueryMayEnd result }
-    ensures disks_steady { result ≢ QueryEnd.Disk → ((D.view disk.new).faults ≡ (D.view disk.old).faults)
+    ensures disks_steady { result ≢ QueryEnd.Disk
+        → ((D.view disk.new).faults ≡ (D.view disk.old).faults)
         × ((D.view other.new).faults ≡ (D.view other.old).faults) }
     ensures out_steady { result ≢ QueryEnd.WriteFault → O.faults out.new ≡ O.faults out.old }
     ensures wire_steady { result ≢ QueryEnd.Wire → W.faults wire.new ≡ W.faults wire.old }

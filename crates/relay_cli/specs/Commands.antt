@@ -97,7 +97,8 @@ IsInForm (Command.Cut seq) = IsNumber 0 (NUMBERS - 1) seq
 IsInForm (Command.Trial start count) = IsNumber 0 (NUMBERS - 1) start × IsNumber 1 MOST_TRIED count
 IsInForm Command.Mirror = ⊤
 IsInForm (Command.Query count) = IsNumber 1 MOST count
-IsInForm (Command.Lines cursor collection) = IsNumber 0 (NUMBERS - 1) cursor × IsCollection collection
+IsInForm (Command.Lines cursor collection) = IsNumber 0 (NUMBERS - 1) cursor
+    × IsCollection collection
 
 -- the command has this first word and these words behind it
 pub record IsOf (verb : Verb) (rest : List (List ℕ)) (command : Command) : Type 0 where

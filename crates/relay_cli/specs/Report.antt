@@ -6,5 +6,8 @@ use Rattle.relay_cli.specs.declared.verdict.CheckVerdict.{CheckVerdict}
 
 -- the line of a message that was checked
 abbrev pub check_line : CheckVerdict → List ℕ
-check_line (CheckVerdict.Accepted from to ops) = codes "from " ++ (text_of from ++ (codes " to " ++ (text_of to ++ (codes " ops " ++ (decimal ops ++ 10 ∷ [])))))
+check_line (CheckVerdict.Accepted from to ops) =
+    codes "from "
+    ++ (text_of from ++ (codes " to " ++
+    (text_of to ++ (codes " ops " ++ (decimal ops ++ 10 ∷ [])))))
 check_line (CheckVerdict.Refused refusal) = refused_of refusal ++ 10 ∷ []

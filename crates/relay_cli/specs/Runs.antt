@@ -76,7 +76,8 @@ pub record IsChecked (limit : ℕ) (old new : Streams) (verdict : CheckVerdict) 
   pub verdict_is : IsVerdict old.left verdict
 
 -- The run came to a verdict: the status is its status, and its line was written.
-pub record CameTo (limit : ℕ) (old new : Streams) (status : Status) (verdict : CheckVerdict) : Type 0 where
+pub record CameTo (limit : ℕ) (old new : Streams) (status : Status)
+    (verdict : CheckVerdict) : Type 0 where
   pub judged : IsTrue old.input_told → IsChecked limit old new verdict
   pub status_is : status ≡ status_of verdict
   pub line : IsTrue old.output_told → new.written ≡ old.written ++ check_line verdict
@@ -167,7 +168,8 @@ pub record Place : Type 1 where
   pub door : AtDoor
   pub wire : AtWire
 
-abbrev pub place : View → View → Around → List ℕ → List ℕ → (List ℕ → ℕ → List (List ℕ)) → List (List ℕ) → AtDoor → AtWire → Place
+abbrev pub place : View → View → Around → List ℕ → List ℕ → (List ℕ → ℕ → List (List ℕ))
+    → List (List ℕ) → AtDoor → AtWire → Place
 place one two around left written given coming door wire =
     record { one = one; two = two; around = around; left = left; written = written; given = given; coming = coming; door = door; wire = wire }
 
@@ -192,10 +194,12 @@ pub record OnlyDisksRead (old new : Place) : Type 0 where
 
 -- what a command does with the journal of the two disks, where they tell it
 abbrev pub OnJournal : OutsideTells → Place → (List Row → Type 0) → Type 0
-OnJournal t p Does = IsTrue t.disk → (J : List Row) → IsPairImageOf J p.one.content p.two.content → Does J
+OnJournal t p Does = IsTrue t.disk → (J : List Row) → IsPairImageOf J p.one.content p.two.content
+    → Does J
 
 -- A command on the journal ended so. The status is that of its end; the end tells what the disks were, and after a fault of the store nothing was written.
-pub record Ended (t : OutsideTells) (old new : Place) (status : Status) (Does : RunEnd → Type 0) : Type 0 where
+pub record Ended (t : OutsideTells) (old new : Place) (status : Status)
+    (Does : RunEnd → Type 0) : Type 0 where
   pub end : RunEnd
   pub status_is : status ≡ status_of_run end
   pub had : IsTrue t.disk → HadJournal end old.one.content old.two.content
@@ -204,13 +208,16 @@ pub record Ended (t : OutsideTells) (old new : Place) (status : Status) (Does : 
 
 -- a text of the journal is shown, and nothing else is asked or read
 abbrev pub IsShown : (List Row → List ℕ) → OutsideTells → Place → Place → Status → Type 0
-IsShown text t old new status = Ended t old new status (λ end. IsOfShowing end × ((new.around ≡ old.around) × ((new.left ≡ old.left) × OnJournal t old (λ J. TextShown t.output J (text J) (disks old) (disks new) end))))
+IsShown text t old new status = Ended t old new status (λ end. IsOfShowing end
+    × ((new.around ≡ old.around) × ((new.left ≡ old.left)
+    × OnJournal t old (λ J. TextShown t.output J (text J) (disks old) (disks new) end))))
 
 -- an account is taken down or restored at a time, of which the clock is asked; no authority is asked, so none is missing
 abbrev pub RanOperated : List ℕ → Bool → List ℕ → OutsideTells → Place → Place → Status → Type 0
 RanOperated did down time t old new status = Ended t old new status (λ end.
     (end ≢ RunEnd.Fault StoreFault.Authority) × (new.around.panel ≡ old.around.panel)
-    × ((new.left ≡ old.left) × OnJournal t old (λ J. WasOperated t.output t.clock LONGEST J did down time
+    × ((new.left ≡ old.left) × OnJournal t old
+    (λ J. WasOperated t.output t.clock LONGEST J did down time
     old.around.moments new.around.moments (disks old) (disks new) end)))
 
 -- an account's repository is fetched and taken over at a time, of which judges, clock and repositories are asked
@@ -221,20 +228,29 @@ IsSynced did time t old new status = Ended t old new status (λ end. (new.left �
 
 -- the journal is cut at a number, and nothing else is asked or read
 abbrev pub RanCut : {D : Type 0} → (D → View) → ℕ → OutsideTells → Place → Place → Status → Type 0
-RanCut view seq t old new status = Ended t old new status (λ end. IsOfCutting end × ((new.around ≡ old.around) × ((new.left ≡ old.left) × OnJournal t old (λ J. WasCut view t.output LONGEST J seq (disks old) (disks new) end))))
+RanCut view seq t old new status = Ended t old new status (λ end. IsOfCutting end
+    × ((new.around ≡ old.around) × ((new.left ≡ old.left)
+    × OnJournal t old (λ J. WasCut view t.output LONGEST J seq (disks old) (disks new) end))))
 
 -- no count rose
 abbrev pub IsFlawless : Faults → Faults → Type 0
-IsFlawless old new = NoneOf (Rose old.disk new.disk ⊎ Rose old.other new.other) (Rose old.input new.input) (Rose old.output new.output) (Rose old.repos new.repos) (Rose old.clock new.clock)
+IsFlawless old new = NoneOf (Rose old.disk new.disk
+    ⊎ Rose old.other new.other) (Rose old.input new.input) (Rose old.output new.output)
+    (Rose old.repos new.repos) (Rose old.clock new.clock)
 
 -- A tape was to be taken into the journal. The disks weren't opened, or it was taken and ended so; and the end tells what the disks were.
-pub record IsIngested (t : OutsideTells) (old new : Place) (failed failed_now : Faults) (status : Status) : Type 0 where
+pub record IsIngested (t : OutsideTells) (old new : Place) (failed failed_now : Faults)
+    (status : Status) : Type 0 where
   pub end : TapeEnd
   pub status_is : status ≡ status_of_tape end
   pub had : IsTrue t.disk → TapeHadJournal end old.one.content old.two.content
-  pub does : OnJournal t old (λ J. Unopened J (whole_input old) (whole_input new) end ⊎ Ingested (tape_tells t.disk t.clock t.repos t.output) t.input LONGEST LONGEST J (whole_input old) (whole_input new) end)
+  pub does : OnJournal t old (λ J. Unopened J (whole_input old) (whole_input new) end
+      ⊎ Ingested (tape_tells t.disk t.clock t.repos t.output) t.input LONGEST LONGEST J
+      (whole_input old) (whole_input new) end)
   -- a whole tape is taken where nothing fails, unless memory runs out, the log is full, or the numbers or the authorities end
-  pub complete : OnJournal t old (λ J. IsTrue t.input → (messages : List Message) → AreRecords messages → old.left ≡ encoded_records messages → length (encoded_records messages) < LONGEST → IsFlawless failed failed_now → MayEnd end)
+  pub complete : OnJournal t old (λ J. IsTrue t.input → (messages : List Message)
+      → AreRecords messages → old.left ≡ encoded_records messages
+      → length (encoded_records messages) < LONGEST → IsFlawless failed failed_now → MayEnd end)
 
 -- all that following a host moves but the feed
 abbrev pub all_but_feed : Place → PairScene
@@ -242,23 +258,29 @@ all_but_feed p = pair_scene p.one p.two p.around [] p.written
 
 -- no count rose, with the feed's in the place of the input's
 abbrev pub IsFlawlessFeed : Faults → Faults → Type 0
-IsFlawlessFeed old new = NoneOf (Rose old.disk new.disk ⊎ Rose old.other new.other) (Rose old.feed new.feed) (Rose old.output new.output) (Rose old.repos new.repos) (Rose old.clock new.clock)
+IsFlawlessFeed old new = NoneOf (Rose old.disk new.disk
+    ⊎ Rose old.other new.other) (Rose old.feed new.feed) (Rose old.output new.output)
+    (Rose old.repos new.repos) (Rose old.clock new.clock)
 
 -- A host was to be followed. The disks weren't opened, or messages of its feed were taken into the journal, and it ended so.
-pub record IsFollowed (host : List ℕ) (count : ℕ) (t : OutsideTells) (old new : Place) (failed failed_now : Faults) (status : Status) : Type 0 where
+pub record IsFollowed (host : List ℕ) (count : ℕ) (t : OutsideTells) (old new : Place)
+    (failed failed_now : Faults) (status : Status) : Type 0 where
   pub end : FeedEnd
   pub status_is : status ≡ status_of_feed end
   pub had : IsTrue t.disk → TapeHadJournal (tape_end end) old.one.content old.two.content
   pub unread : new.left ≡ old.left
-  pub does : OnJournal t old (λ J. (Unopened J (all_but_feed old) (all_but_feed new) (tape_end end) × (new.coming ≡ old.coming))
-      ⊎ Followed (tape_tells t.disk t.clock t.repos t.output) t.feed host LONGEST count (old.given host) new.coming J (all_but_feed old) (all_but_feed new) end)
+  pub does : OnJournal t old (λ J. (Unopened J (all_but_feed old) (all_but_feed new) (tape_end end)
+      × (new.coming ≡ old.coming))
+      ⊎ Followed (tape_tells t.disk t.clock t.repos t.output) t.feed host LONGEST count
+      (old.given host) new.coming J (all_but_feed old) (all_but_feed new) end)
   -- it is done where nothing fails, unless memory runs out, the log is full, or the numbers or the authorities end
   pub complete : OnJournal t old (λ J. IsFlawlessFeed failed failed_now → MayEnd (tape_end end))
   -- and where a call of the feed failed, that is told
   pub steady : end ≢ FeedEnd.Feed → failed_now.feed ≡ failed.feed
 
 -- Events were to be given out, and nothing else was asked or read. The end tells what the disks were.
-pub record IsGivenOut (t : OutsideTells) (old new : Place) (status : Status) (Does : ServeEnd → Type 0) : Type 0 where
+pub record IsGivenOut (t : OutsideTells) (old new : Place) (status : Status)
+    (Does : ServeEnd → Type 0) : Type 0 where
   pub end : ServeEnd
   pub status_is : status ≡ status_of_serving end
   pub had : IsTrue t.disk → ServeHadJournal end old.one.content old.two.content
@@ -267,7 +289,8 @@ pub record IsGivenOut (t : OutsideTells) (old new : Place) (status : Status) (Do
   pub does : Does end
 
 -- A trial was run on two disks of its own, which hold these bytes in the end; of what was handed in it has the output alone.
-pub record IsTried (start count : ℕ) (t : OutsideTells) (old new : Place) (status : Status) : Type 0 where
+pub record IsTried (start count : ℕ) (t : OutsideTells) (old new : Place)
+    (status : Status) : Type 0 where
   pub end : TrialEnd
   pub status_is : status ≡ status_of_trial end
   pub first : List ℕ
@@ -276,39 +299,50 @@ pub record IsTried (start count : ℕ) (t : OutsideTells) (old new : Place) (sta
 
 -- no count rose of the disks and of the output
 abbrev pub IsFlawlessText : Faults → Faults → Type 0
-IsFlawlessText old new = (Rose old.disk new.disk ⊎ Rose old.other new.other → ⊥) × (Rose old.output new.output → ⊥)
+IsFlawlessText old new = (Rose old.disk new.disk ⊎ Rose old.other new.other → ⊥)
+    × (Rose old.output new.output → ⊥)
 
 -- the lines of operations are written, and all of them where no count rose, unless memory runs out
-abbrev pub AreLinesGiven : ℕ → Option (List ℕ) → OutsideTells → Place → Place → Faults → Faults → Status → Type 0
-AreLinesGiven cursor collection t old new failed failed_now status = IsGivenOut t old new status (λ end. OnJournal t old (λ J.
-    LinesWritten t.output J collection cursor (disks old) (disks new) end × (IsFlawlessText failed failed_now → LinesMayEnd end)))
+abbrev pub AreLinesGiven : ℕ → Option (List ℕ) → OutsideTells → Place → Place → Faults → Faults
+    → Status → Type 0
+AreLinesGiven cursor collection t old new failed failed_now status =
+    IsGivenOut t old new status (λ end. OnJournal t old (λ J.
+    LinesWritten t.output J collection cursor (disks old) (disks new) end
+    × (IsFlawlessText failed failed_now → LinesMayEnd end)))
 
 -- Requests were to be answered by the journal, and nothing else was asked or read. The end tells what the disks were; where they failed or have no journal no request was taken and nothing was written.
-pub record IsQueried (count : ℕ) (t : OutsideTells) (old new : Place) (failed failed_now : Faults) (status : Status) : Type 0 where
+pub record IsQueried (count : ℕ) (t : OutsideTells) (old new : Place) (failed failed_now : Faults)
+    (status : Status) : Type 0 where
   pub end : QueryEnd
   pub status_is : status ≡ status_of_query end
   pub had : IsTrue t.disk → QueryHadJournal end old.one.content old.two.content
   pub quiet : IsOfDisks end → (new.wire ≡ old.wire) × (new.written ≡ old.written)
   pub unasked : new.around ≡ old.around
   pub unread : new.left ≡ old.left
-  pub does : OnJournal t old (λ J. AnsweredBy J t.wire t.output count old.wire new.wire (disks old) (disks new) end)
+  pub does : OnJournal t old (λ J. AnsweredBy J t.wire t.output count old.wire new.wire (disks old)
+      (disks new) end)
   -- all is done where no count rose, unless memory runs out
-  pub complete : OnJournal t old (λ J. IsFlawlessText failed failed_now → (Rose failed.wire failed_now.wire → ⊥) → QueryMayEnd end)
+  pub complete : OnJournal t old (λ J. IsFlawlessText failed failed_now
+      → (Rose failed.wire failed_now.wire → ⊥) → QueryMayEnd end)
 
 -- no count rose of what a mirror uses
 abbrev pub IsFlawlessMirror : Faults → Faults → Type 0
-IsFlawlessMirror old new = NoMirrorCause (Rose old.input new.input) (Rose old.output new.output) (Rose old.repos new.repos)
+IsFlawlessMirror old new = NoMirrorCause (Rose old.input new.input) (Rose old.output new.output)
+    (Rose old.repos new.repos)
 
 -- The stream on the input was to be mirrored, and ended so.
-pub record IsMirroredFrom (t : OutsideTells) (old new : Place) (failed failed_now : Faults) (status : Status) : Type 0 where
+pub record IsMirroredFrom (t : OutsideTells) (old new : Place) (failed failed_now : Faults)
+    (status : Status) : Type 0 where
   pub end : MirrorEnd
   pub status_is : status ≡ status_of_mirror end
-  pub does : Mirrored t.input t.output t.repos LONGEST old.around.repository old.left old.written new.written end
+  pub does : Mirrored t.input t.output t.repos LONGEST old.around.repository old.left old.written
+      new.written end
   -- a whole stream is mirrored where nothing fails, unless memory runs out; of another the place is told
   pub complete : IsTrue t.input → length old.left < LONGEST → IsFlawlessMirror failed failed_now
       → (messages : List (List ℕ)) → BeginWith old.left messages [] → MirrorMayEnd end
   pub bad : IsTrue t.input → length old.left < LONGEST → IsFlawlessMirror failed failed_now
-      → (messages : List (List ℕ)) → (rest : List ℕ) → BeginWith old.left messages rest → IsBadBehind messages rest
+      → (messages : List (List ℕ)) → (rest : List ℕ) → BeginWith old.left messages rest
+      → IsBadBehind messages rest
       → (end ≡ MirrorEnd.BadStream (length (with_length messages))) ⊎ (end ≡ MirrorEnd.Memory)
 
 -- whether a command works on the journal
@@ -345,17 +379,27 @@ uses_wire (Command.Query count) = true
 uses_wire command = false
 
 -- What a run of each command does, on disks that are seen so.
-abbrev pub Ran : {D : Type 0} → (D → View) → OutsideTells → Place → Place → Faults → Faults → Status → Command → Type 0
+abbrev pub Ran : {D : Type 0} → (D → View) → OutsideTells → Place → Place → Faults → Faults → Status
+    → Command → Type 0
 Ran view t old new failed failed_now status Command.Check =
-    Checked LONGEST_FEED_MESSAGE (streams t.input old.left failed.input t.output old.written failed.output) (streams t.input new.left failed_now.input t.output new.written failed_now.output) status
-Ran view t old new failed failed_now status Command.Ingest = IsIngested t old new failed failed_now status
-Ran view t old new failed failed_now status (Command.Account did) = IsShown (λ J. account_text did (account did J)) t old new status
-Ran view t old new failed failed_now status Command.Hosts = IsShown (λ J. hosts_text (hosts J)) t old new status
-Ran view t old new failed failed_now status (Command.Takedown did time) = RanOperated did true time t old new status
-Ran view t old new failed failed_now status (Command.Restore did time) = RanOperated did false time t old new status
-Ran view t old new failed failed_now status (Command.Sync did time) = IsSynced did time t old new status
+    Checked LONGEST_FEED_MESSAGE
+    (streams t.input old.left failed.input t.output old.written failed.output)
+    (streams t.input new.left failed_now.input t.output new.written failed_now.output) status
+Ran view t old new failed failed_now status Command.Ingest =
+    IsIngested t old new failed failed_now status
+Ran view t old new failed failed_now status (Command.Account did) =
+    IsShown (λ J. account_text did (account did J)) t old new status
+Ran view t old new failed failed_now status Command.Hosts =
+    IsShown (λ J. hosts_text (hosts J)) t old new status
+Ran view t old new failed failed_now status (Command.Takedown did time) =
+    RanOperated did true time t old new status
+Ran view t old new failed failed_now status (Command.Restore did time) =
+    RanOperated did false time t old new status
+Ran view t old new failed failed_now status (Command.Sync did time) =
+    IsSynced did time t old new status
 Ran view t old new failed failed_now status (Command.Cut seq) = RanCut view seq t old new status
-Ran view t old new failed failed_now status (Command.Follow host count) = IsFollowed host count t old new failed failed_now status
+Ran view t old new failed failed_now status (Command.Follow host count) =
+    IsFollowed host count t old new failed failed_now status
 Ran view t old new failed failed_now status (Command.Replay cursor) =
     IsGivenOut t old new status (λ end. OnJournal t old (λ J. Replayed t.output
     (Rose failed.output failed_now.output) J cursor (disks old) (disks new) end))
@@ -363,7 +407,11 @@ Ran view t old new failed failed_now status (Command.Serve count) =
     IsGivenOut t old new status (λ end. IsDoorCount failed.door failed_now.door end
     × OnJournal t old (λ J. ServedAt t.door t.output count J old.door new.door
     (disks old) (disks new) end))
-Ran view t old new failed failed_now status (Command.Trial start count) = IsTried start count t old new status
-Ran view t old new failed failed_now status Command.Mirror = IsMirroredFrom t old new failed failed_now status
-Ran view t old new failed failed_now status (Command.Query count) = IsQueried count t old new failed failed_now status
-Ran view t old new failed failed_now status (Command.Lines cursor collection) = AreLinesGiven cursor collection t old new failed failed_now status
+Ran view t old new failed failed_now status (Command.Trial start count) =
+    IsTried start count t old new status
+Ran view t old new failed failed_now status Command.Mirror =
+    IsMirroredFrom t old new failed failed_now status
+Ran view t old new failed failed_now status (Command.Query count) =
+    IsQueried count t old new failed failed_now status
+Ran view t old new failed failed_now status (Command.Lines cursor collection) =
+    AreLinesGiven cursor collection t old new failed failed_now status

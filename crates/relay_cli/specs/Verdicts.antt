@@ -16,8 +16,11 @@ use Rattle.relay_cli.specs.declared.verdict.CheckVerdict.{CheckVerdict}
 -- It is refused with the first refusal that applies, and with no other; a commit to which none applies isn't, nor one whose
 -- operations play and whose blocks cover them.
 abbrev pub JudgesCommit : CommitEvent → CheckVerdict → Type 0
-JudgesCommit e (CheckVerdict.Accepted from to ops) = IsAccepted e from to × Replays e from to × (ops ≡ length e.ops) × ((refusal : Refusal) → IsRefusedWith e refusal → ⊥)
-JudgesCommit e (CheckVerdict.Refused refusal) = IsRefusedWith e refusal × ((other : Refusal) → IsRefusedWith e other → other ≡ refusal) × ((from to : List ℕ) → IsAccepted e from to → ⊥) × (IsCoveredAlone e → ⊥)
+JudgesCommit e (CheckVerdict.Accepted from to ops) = IsAccepted e from to × Replays e from to
+    × (ops ≡ length e.ops) × ((refusal : Refusal) → IsRefusedWith e refusal → ⊥)
+JudgesCommit e (CheckVerdict.Refused refusal) = IsRefusedWith e refusal
+    × ((other : Refusal) → IsRefusedWith e other → other ≡ refusal)
+    × ((from to : List ℕ) → IsAccepted e from to → ⊥) × (IsCoveredAlone e → ⊥)
 
 -- no frame of the event's has room in the stream, the number taking nine bytes (own)
 abbrev pub is_too_long : Seen → Bool

@@ -15,7 +15,8 @@ use std::alloc::Global;
 /// The number that a word is: in decimal digits alone, with no zero in front.
 pub fn number_from(word: &str, least: u64, most: u64) -> Result<u64, WordsFault>
     ensures number { IfOk result (λ n. IsNumber least most n × (word.now ≡ decimal n)) }
-    ensures none { IsErrOf result WordsFault.NoCommand → (n : ℕ) → IsNumber least most n → word.now ≢ decimal n }
+    ensures none { IsErrOf result WordsFault.NoCommand → (n : ℕ) → IsNumber least most n
+        → word.now ≢ decimal n }
     ensures no_memory { result ≢ Err WordsFault.Memory }
 {
     match word.parse::<u64>() {

@@ -10,7 +10,10 @@ use std::alloc::Global;
 
 /// Reads the whole input as one message of at most `limit` bytes, and writes what it comes to.
 pub fn check<I: Source, O: Sink>(alloc: Global, limit: usize, input: &mut I, out: &mut O) -> Status
-    ensures checked { Checked limit (streams I.tells (I.left input.old) (I.faults input.old) O.tells (O.written out.old) (O.faults out.old)) (streams I.tells (I.left input.new) (I.faults input.new) O.tells (O.written out.new) (O.faults out.new)) result }
+    ensures checked { Checked limit (streams I.tells (I.left input.old) (I.faults input.old) O.tells
+        (O.written out.old) (O.faults out.old))
+        (streams I.tells (I.left input.new) (I.faults input.new) O.tells (O.written out.new)
+        (O.faults out.new)) result }
     ensures in_counts { I.faults input.old ≤ I.faults input.new }
     ensures out_counts { O.faults out.old ≤ O.faults out.new }
     ensures input_steady { result ≢ Status.ReadFault → I.faults input.new ≡ I.faults input.old }

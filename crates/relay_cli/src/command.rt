@@ -53,7 +53,8 @@ pub enum Command {
 /// The command that the words are.
 pub fn command_from(alloc: Global, words: &[String]) -> Result<Command, WordsFault>
     ensures encoded { IfOk result (λ command. IsEncoded (map string_bytes words.now) command) }
-    ensures none { IsErrOf result WordsFault.NoCommand → (command : Command) → IsEncoded (map string_bytes words.now) command → ⊥ }
+    ensures none { IsErrOf result WordsFault.NoCommand → (command : Command)
+        → IsEncoded (map string_bytes words.now) command → ⊥ }
 {
     match words {
         [first] => match verb_from(first.as_str()) {
@@ -75,7 +76,8 @@ pub fn command_from(alloc: Global, words: &[String]) -> Result<Command, WordsFau
 // A command of one word.
 fn alone(verb: Verb) -> Result<Command, WordsFault>
     ensures made { IfOk result (λ command. IsOf verb [] command) }
-    ensures none { IsErrOf result WordsFault.NoCommand → (command : Command) → IsOf verb [] command → ⊥ }
+    ensures none { IsErrOf result WordsFault.NoCommand → (command : Command) → IsOf verb [] command
+        → ⊥ }
 {
     match verb {
         Verb::Check => Ok(Command::Check),
@@ -89,7 +91,8 @@ fn alone(verb: Verb) -> Result<Command, WordsFault>
 // A command with one argument.
 fn with_one(alloc: Global, verb: Verb, one: &str) -> Result<Command, WordsFault>
     ensures made { IfOk result (λ command. IsOf verb (one.now ∷ []) command) }
-    ensures none { IsErrOf result WordsFault.NoCommand → (command : Command) → IsOf verb (one.now ∷ []) command → ⊥ }
+    ensures none { IsErrOf result WordsFault.NoCommand → (command : Command)
+        → IsOf verb (one.now ∷ []) command → ⊥ }
 {
     match verb {
         Verb::Replay => Ok(Command::Replay(number_from(one, 0, NUMBERS - 1)?)),
@@ -104,7 +107,8 @@ fn with_one(alloc: Global, verb: Verb, one: &str) -> Result<Command, WordsFault>
 // A command with two arguments.
 fn with_two(alloc: Global, verb: Verb, one: &str, other: &str) -> Result<Command, WordsFault>
     ensures made { IfOk result (λ command. IsOf verb (one.now ∷ other.now ∷ []) command) }
-    ensures none { IsErrOf result WordsFault.NoCommand → (command : Command) → IsOf verb (one.now ∷ other.now ∷ []) command → ⊥ }
+    ensures none { IsErrOf result WordsFault.NoCommand → (command : Command)
+        → IsOf verb (one.now ∷ other.now ∷ []) command → ⊥ }
 {
     match verb {
         Verb::Follow => {

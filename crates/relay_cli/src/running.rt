@@ -43,7 +43,8 @@ pub fn relay<P: Judges, F: Feed, R: Repos, D: Disk, I: Source, O: Sink, G: Door,
     wire: &mut W,
 ) -> Status
     // What the words say is done, unless memory runs out for the words.
-    ensures ran { let tells = outside_tells D.tells C.tells R.tells I.tells O.tells F.tells G.tells W.tells in
+    ensures ran { let tells =
+        outside_tells D.tells C.tells R.tells I.tells O.tells F.tells G.tells W.tells in
         let before = place (D.view disk.old) (D.view other.old)
         (around (P.panel panel.old) (C.moments clock.old) (R.repository repos.old))
         (I.left input.old) (O.written out.old) (F.behind feed.old) (F.left feed.old)
@@ -173,7 +174,8 @@ fn run<P: Judges, F: Feed, R: Repos, D: Disk, I: Source, O: Sink, G: Door, C: Cl
     wire: &mut W,
 ) -> Status
     requires form { IsInForm command.now }
-    ensures ran { let tells = outside_tells D.tells C.tells R.tells I.tells O.tells F.tells G.tells W.tells in
+    ensures ran { let tells =
+        outside_tells D.tells C.tells R.tells I.tells O.tells F.tells G.tells W.tells in
         let before = place (D.view disk.old) (D.view other.old)
         (around (P.panel panel.old) (C.moments clock.old) (R.repository repos.old))
         (I.left input.old) (O.written out.old) (F.behind feed.old) (F.left feed.old)

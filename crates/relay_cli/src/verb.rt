@@ -24,7 +24,8 @@ pub enum Verb {
 
 /// The command that a first word is of.
 pub fn verb_from(word: &str) -> Option<Verb>
-    ensures { MatchOption result ((verb : Verb) → word.now ≢ verb_name verb) (λ verb. word.now ≡ verb_name verb) }
+    ensures { MatchOption result ((verb : Verb)
+        → word.now ≢ verb_name verb) (λ verb. word.now ≡ verb_name verb) }
 {
     if word == "check" {
         Some(Verb::Check)

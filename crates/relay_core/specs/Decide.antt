@@ -53,11 +53,14 @@ commit_car head block = written head.commit (commit_blocks head block)
 
 -- A repository whose blocks were found in order: its revision is far ahead of the moment, which is told first, or its signature is bad, or it is taken over.
 abbrev pub judged : ℕ → Bool → Head → ℕ → List ℕ → Found
-judged moment good head records block = if is_ahead head.rev (Some moment) then unfit FETCHED_AHEAD else (if good then found head records block else unfit FETCHED_UNSIGNED)
+judged moment good head records block =
+    if is_ahead head.rev (Some moment) then unfit FETCHED_AHEAD
+    else (if good then found head records block else unfit FETCHED_UNSIGNED)
 
 -- the relay's own `#sync` of a commit, under a number
 unfoldable pub sync_message : List ℕ → List ℕ → Head → List ℕ → ℕ → List ℕ
-sync_message did time head block n = event_message EventKind.Sync (sync_payload did head.rev (commit_car head block) time n)
+sync_message did time head block n = event_message EventKind.Sync
+    (sync_payload did head.rev (commit_car head block) time n)
 
 -- a repository that is taken over, under a number
 abbrev pub whole_under : List ℕ → List ℕ → Head → ℕ → List ℕ → ℕ → Whole
@@ -67,7 +70,8 @@ whole_under did time head records block n = record { seq = n; head = head; recor
 abbrev pub fetched_as : ℕ → Seen → Found → Fetched
 fetched_as last e absent = Fetched.Absent
 fetched_as last e (unfit n) = Fetched.Refused n
-fetched_as last e (found head records block) = Fetched.Whole (whole_under e.did e.time head records block (last + 1))
+fetched_as last e (found head records block) =
+    Fetched.Whole (whole_under e.did e.time head records block (last + 1))
 
 abbrev pub as_result : Option Refusal → Result (Unit {0}) Refusal
 as_result None = Ok tt
@@ -116,7 +120,9 @@ decision_for a body f (Some r) = record { refusal = Some r; held = false; gives 
 
 -- the row of an event that stands above the cursor
 abbrev pub decided_event : Checks → ℕ → State → List ℕ → Seen → Outside → Taken
-decided_event checks last a host e o = event_taken last host e (decision_for a e.body o.fetched (refusal_of checks a e o)) (answers checks last a e o)
+decided_event checks last a host e o =
+    event_taken last host e (decision_for a e.body o.fetched (refusal_of checks a e o))
+    (answers checks last a e o)
 
 abbrev pub old_if : Bool → Option Pass
 old_if true = Some Pass.Old

@@ -35,9 +35,11 @@ pub record Holds (c : Core) (rows : List Row) : Type 0 where
 
 -- by the state, a row keeps the order
 abbrev pub is_next_in : Core → Row → Bool
-is_next_in c (Row.Taken t) = nat_lt (cursor_in c t.host) t.host_seq && rises_above c.last (seq_in (Row.Taken t))
+is_next_in c (Row.Taken t) = nat_lt (cursor_in c t.host) t.host_seq
+    && rises_above c.last (seq_in (Row.Taken t))
 is_next_in c (Row.Synced did whole moment) = rises_above c.last whole.seq
 is_next_in c (Row.Operated o) = rises_above c.last o.seq
 is_next_in c (Row.Carried (Carried.Last seq)) = is_start c.stage
 is_next_in c (Row.Carried (Carried.Host host n)) = takes_hosts c.stage && cursor_in c host == 0
-is_next_in c (Row.Carried (Carried.Account a)) = takes_accounts c.stage && not (is_some (entry c.accounts a.did))
+is_next_in c (Row.Carried (Carried.Account a)) =
+    takes_accounts c.stage && not (is_some (entry c.accounts a.did))

@@ -35,31 +35,42 @@ is_open Question.Fetch x = not (is_some x.fetched)
 
 -- Where the state stands for a journal, the entry of a DID is its account, where a row names it.
 abbrev pub EntriesAreAccounts : Type 0
-EntriesAreAccounts = (core : Core) (rows : List Row) → Holds core rows → (did : List ℕ) → entry core.accounts did ≡ named_account rows did
+EntriesAreAccounts = (core : Core) (rows : List Row) → Holds core rows → (did : List ℕ)
+    → entry core.accounts did ≡ named_account rows did
 
 -- No question is asked that has an answer, so there are seven at most.
 abbrev pub AsksOnce : Type 0
-AsksOnce = (cursor : ℕ) (a : State) (frame : Frame) (x : Answers) (q : Question) → next_of cursor a frame x ≡ Next.Ask q → is_open q x ≡ true
+AsksOnce = (cursor : ℕ) (a : State) (frame : Frame) (x : Answers) (q : Question)
+    → next_of cursor a frame x ≡ Next.Ask q → is_open q x ≡ true
 
 -- With all answers, an event above its host's cursor is decided by the first refusal of the table that applies.
 abbrev pub NextDecides : Type 0
-NextDecides = (checks : Checks) (last cursor : ℕ) (a : State) (e : Seen) (o : Outside) → nat_le e.seq cursor ≡ false
-    → next_of cursor a (Frame.Event e) (answers checks last a e o) ≡ Next.Done (decision_for a e.body o.fetched (refusal_of checks a e o))
+NextDecides = (checks : Checks) (last cursor : ℕ) (a : State) (e : Seen) (o : Outside)
+    → nat_le e.seq cursor ≡ false
+    → next_of cursor a (Frame.Event e) (answers checks last a e o)
+    ≡ Next.Done (decision_for a e.body o.fetched (refusal_of checks a e o))
 
 -- The block of a commit is read back from the relay's own message of it.
 abbrev pub BlocksReturn : Type 0
-BlocksReturn = (last : ℕ) (e : Seen) (head : Head) (block : List ℕ) → CanBeSent last e head block → commit_block_in (sync_message e.did e.time head block (last + 1)) head.commit ≡ block
+BlocksReturn = (last : ℕ) (e : Seen) (head : Head) (block : List ℕ) → CanBeSent last e head block
+    → commit_block_in (sync_message e.did e.time head block (last + 1)) head.commit ≡ block
 
 -- The answers that a row shows make that row.
 abbrev pub RowsShow : Type 0
-RowsShow = (checks : Checks) (last : ℕ) (a : State) (host : List ℕ) (e : Seen) (o : Outside) → IsSendable last e o.fetched
-    → decided_event checks last a host e (shown (decided_event checks last a host e o)) ≡ decided_event checks last a host e o
+RowsShow = (checks : Checks) (last : ℕ) (a : State) (host : List ℕ) (e : Seen) (o : Outside)
+    → IsSendable last e o.fetched
+    → decided_event checks last a host e (shown (decided_event checks last a host e o))
+    ≡ decided_event checks last a host e o
 
 -- A run in a world is a run for the answers that its rows show.
 abbrev pub WorldsRun : Type 0
-WorldsRun = (checks : Checks) (w : World) (J : List Row) (messages : List Message) (rows : List Row) → RunIn checks w J messages rows → Run checks J messages rows
+WorldsRun = (checks : Checks) (w : World) (J : List Row) (messages : List Message) (rows : List Row)
+    → RunIn checks w J messages rows → Run checks J messages rows
 
 -- A ready commit whose home and signature are good is accepted, under the next number; else one of the two is told.
 abbrev pub ReadyDecides : Type 0
-ReadyDecides = (checks : Checks) (J : List Row) (host : List ℕ) (e : Seen) (o : Outside) → IsReady checks J host e o.moment
-    → refusal_of checks (account e.did J) e o ≡ (if o.home then (if o.verdict then None else Some Refusal.BadSignature) else Some Refusal.NotHome)
+ReadyDecides = (checks : Checks) (J : List Row) (host : List ℕ) (e : Seen) (o : Outside)
+    → IsReady checks J host e o.moment
+    → refusal_of checks (account e.did J) e o
+    ≡ (if o.home then (if o.verdict then None else Some Refusal.BadSignature)
+    else Some Refusal.NotHome)

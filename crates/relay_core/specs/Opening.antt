@@ -35,5 +35,7 @@ IsHeadOf (Body.Account a) head = Unit {0}
 
 -- Opening says what is right.
 pub record OpensRight (checks : Checks) : Type 0 where
-  pub refusal : (e : Seen) (last : Option ℕ) → refusal_in (checks.opens e last) ≡ shown_alone e.body last
-  pub head : (e : Seen) (last : Option ℕ) (head : Head) → checks.opens e last ≡ Ok head → IsHeadOf e.body head
+  pub refusal : (e : Seen) (last : Option ℕ)
+      → refusal_in (checks.opens e last) ≡ shown_alone e.body last
+  pub head : (e : Seen) (last : Option ℕ) (head : Head) → checks.opens e last ≡ Ok head
+      → IsHeadOf e.body head

@@ -15,8 +15,10 @@ operate_refusal a false = when (not a.down) Refusal.NotDown
 
 -- what goes out of an account that is taken down, and of one that is restored
 abbrev pub operated_message : State → Bool → List ℕ → List ℕ → ℕ → List ℕ
-operated_message a true did time n = event_message EventKind.Account (account_payload did false (Some (codes "takendown")) time n)
-operated_message a false did time n = event_message EventKind.Account (account_payload did a.active a.status time n)
+operated_message a true did time n = event_message EventKind.Account
+    (account_payload did false (Some (codes "takendown")) time n)
+operated_message a false did time n = event_message EventKind.Account
+    (account_payload did a.active a.status time n)
 
 abbrev pub operated_as : ℕ → State → List ℕ → Bool → List ℕ → Option ℕ → Operated
 operated_as last a did down time moment = record { did = did; down = down; seq = last + 1; message = operated_message a down did time (last + 1); moment = moment }

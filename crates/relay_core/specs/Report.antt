@@ -19,20 +19,23 @@ abbrev pub detail_of : Refusal → List ℕ
 detail_of (Refusal.BadNode link) = codes " at " ++ text_of link
 detail_of (Refusal.OtherOp i) = codes " op " ++ decimal i
 detail_of (Refusal.NotCovered i) = codes " op " ++ decimal i
-detail_of (Refusal.OtherData want got) = codes " want " ++ (text_of want ++ (codes " got " ++ text_of got))
+detail_of (Refusal.OtherData want got) =
+    codes " want " ++ (text_of want ++ (codes " got " ++ text_of got))
 detail_of (Refusal.RepositoryRefused number) = codes " " ++ decimal number
 detail_of other = []
 
 -- a refusal, as it stands in every report
 abbrev pub refused_of : Refusal → List ℕ
-refused_of r = codes "refused " ++ (decimal (code_of r) ++ (codes " " ++ (refusal_name r ++ detail_of r)))
+refused_of r =
+    codes "refused " ++ (decimal (code_of r) ++ (codes " " ++ (refusal_name r ++ detail_of r)))
 
 -- and what became of the fetch that followed
 abbrev pub fetch_of : Fetched → List ℕ
 fetch_of Fetched.NotAsked = []
 fetch_of Fetched.Absent = codes " absent"
 fetch_of (Fetched.Refused n) = codes " repository " ++ decimal n
-fetch_of (Fetched.Whole w) = codes " synced " ++ (decimal w.seq ++ (codes " records " ++ decimal w.records))
+fetch_of (Fetched.Whole w) = codes " synced "
+    ++ (decimal w.seq ++ (codes " records " ++ decimal w.records))
 
 abbrev pub outcome_of : Option Refusal → Taken → List ℕ
 outcome_of None t = if t.seq == 0 then codes " held" else codes " event " ++ decimal t.seq
@@ -94,7 +97,8 @@ lines_from J ended [] rows = []
 lines_from J ended (m ∷ messages) rows = turn (has_ended ended m.0) (skipped_by J m)
     (over_line m.0 ++ lines_from J ended messages rows)
     (λ pass. skipped_line m ++ lines_from J (ended_by pass m.0 ended) messages rows)
-    (on_row rows [] (λ row others. row_line row ++ lines_from (J ++ row ∷ []) ended messages others))
+    (on_row rows [] (λ row others. row_line row
+    ++ lines_from (J ++ row ∷ []) ended messages others))
 
 abbrev pub is_row_refused : Row → Bool
 is_row_refused (Row.Taken t) = is_some t.refusal
@@ -105,7 +109,9 @@ is_row_refused (Row.Carried c) = false
 -- the last line: how many messages there were, how many numbers were given, how many messages were refused, and the last number
 abbrev pub end_line : List Row → List Message → List Row → List ℕ
 end_line J messages rows =
-    codes "end " ++ (decimal (length messages) ++ (codes " events " ++ (decimal (length (events rows)) ++ (codes " refused " ++ (decimal (length (filter is_row_refused rows))
+    codes "end " ++ (decimal (length messages)
+    ++ (codes " events " ++ (decimal (length (events rows))
+    ++ (codes " refused " ++ (decimal (length (filter is_row_refused rows))
     ++ (codes " last " ++ (decimal (last_seq (J ++ rows)) ++ 10 ∷ [])))))))
 
 -- what is said of messages that make these rows behind a journal

@@ -23,7 +23,8 @@ skipped_by J (host, Ok frame) = passed (cursor host J) frame
 
 -- a row that a message makes behind a journal, for the answers that it shows
 abbrev pub IsMadeBy : Checks → List Row → Message → Row → Type 0
-IsMadeBy checks J (host, Ok frame) (Row.Taken t) = decided checks (last_seq J) (account (did_of frame) J) host frame (shown t) ≡ Some t
+IsMadeBy checks J (host, Ok frame) (Row.Taken t) =
+    decided checks (last_seq J) (account (did_of frame) J) host frame (shown t) ≡ Some t
 IsMadeBy checks J message row = ⊥
 
 -- one turn, at a host that ended before or not: what holds where it ends now, where nothing is made, and where a row is
@@ -44,7 +45,8 @@ RunFrom checks J ended [] rows = rows ≡ []
 RunFrom checks J ended (m ∷ messages) rows = Turn (has_ended ended m.0) (skipped_by J m)
     (RunFrom checks J (m.0 ∷ ended) messages rows)
     (RunFrom checks J ended messages rows)
-    ((row : Row) × (others : List Row) × (rows ≡ row ∷ others) × IsMadeBy checks J m row × RunFrom checks (J ++ row ∷ []) ended messages others)
+    ((row : Row) × (others : List Row) × (rows ≡ row ∷ others) × IsMadeBy checks J m row
+    × RunFrom checks (J ++ row ∷ []) ended messages others)
 
 -- Behind the journal J the messages make the rows: each that isn't skipped makes the row that is decided for the answers that the row shows, and no message of a host that ended before makes any.
 abbrev pub Run : Checks → List Row → List Message → List Row → Type 0

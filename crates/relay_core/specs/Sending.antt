@@ -22,4 +22,5 @@ pub record CanBeSent (last : ℕ) (e : Seen) (head : Head) (block : List ℕ) : 
 
 -- the same of what a fetch found, where it found a commit
 abbrev pub IsSendable : ℕ → Seen → Found → Type 0
-IsSendable last e f = (head : Head) (records : ℕ) (block : List ℕ) → f ≡ found head records block → CanBeSent last e head block
+IsSendable last e f = (head : Head) (records : ℕ) (block : List ℕ) → f ≡ found head records block
+    → CanBeSent last e head block

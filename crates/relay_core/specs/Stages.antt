@@ -8,7 +8,9 @@ use Rattle.relay_core.specs.declared.stage.Stage.{Stage}
 
 -- the stage behind these rows
 abbrev pub stage_of : List Row → Stage
-stage_of rows = if are_none rows then Stage.Start else (if list_all is_last_or_host rows then Stage.Hosts else (if list_all is_carried_row rows then Stage.Accounts else Stage.Events))
+stage_of rows = if are_none rows then Stage.Start
+    else (if list_all is_last_or_host rows then Stage.Hosts
+    else (if list_all is_carried_row rows then Stage.Accounts else Stage.Events))
 
 abbrev pub is_start : Stage → Bool
 is_start Stage.Start = true

@@ -49,7 +49,8 @@ abbrev pub open_line : Answers → TableLine
 open_line x = asked Question.Open (option_map refusal_in x.opened)
 
 abbrev pub verdict_line : Answers → TableLine
-verdict_line x = asked Question.Verdict (option_map (λ good. when (not good) Refusal.BadSignature) x.verdict)
+verdict_line x = asked Question.Verdict
+    (option_map (λ good. when (not good) Refusal.BadSignature) x.verdict)
 
 abbrev pub link_line : Answers → TableLine
 link_line x = asked Question.Link (option_map refusal_in x.linked)
@@ -57,19 +58,22 @@ link_line x = asked Question.Link (option_map refusal_in x.linked)
 -- the lines of a commit and of a sync, and those that follow
 abbrev pub repo_lines : State → ℕ → Answers → List TableLine → List TableLine
 repo_lines a rev x others =
-    home_line x ∷ told (when (not a.active) Refusal.Inactive) ∷ told (when a.down Refusal.TakenDown) ∷ open_line x
+    home_line x ∷ told (when (not a.active) Refusal.Inactive) ∷ told (when a.down Refusal.TakenDown)
+    ∷ open_line x
     ∷ told (when (is_ahead rev x.moment) Refusal.FutureRev) ∷ verdict_line x ∷ others
 
 -- the lines of an event's kind
 abbrev pub body_lines : State → Body → Answers → List TableLine
 body_lines a (Body.Commit c) x = repo_lines a c.rev x (link_line x ∷ [])
 body_lines a (Body.Sync s) x = repo_lines a s.rev x []
-body_lines a Body.Identity x = refresh_line x ∷ home_line x ∷ told (when a.down Refusal.TakenDown) ∷ []
+body_lines a Body.Identity x = refresh_line x ∷ home_line x ∷ told (when a.down Refusal.TakenDown)
+    ∷ []
 body_lines a (Body.Account b) x = home_line x ∷ []
 
 -- the table of an event
 abbrev pub event_lines : State → Seen → Answers → List TableLine
-event_lines a e x = moment_line x ∷ told (when (nat_lt LONGEST_MESSAGE (out_length e)) Refusal.TooLong) ∷ body_lines a e.body x
+event_lines a e x = moment_line x ∷ told
+    (when (nat_lt LONGEST_MESSAGE (out_length e)) Refusal.TooLong) ∷ body_lines a e.body x
 
 -- the table of an event with a bad field
 abbrev pub faulty_lines : Answers → List TableLine
@@ -123,8 +127,11 @@ next_at passes a body fetched = accepted a body
 
 -- what comes next for a message, at its host's cursor and the account of its DID
 abbrev pub next_of : ℕ → State → Frame → Answers → Next
-next_of cursor a (Frame.Event e) x = if nat_le e.seq cursor then Next.Pass Pass.Old else next_at (walk (event_lines a e x)) a e.body x.fetched
-next_of cursor a (Frame.Faulty seq) x = if nat_le seq cursor then Next.Pass Pass.Old else next_at (walk (faulty_lines x)) a Body.Identity x.fetched
+next_of cursor a (Frame.Event e) x = if nat_le e.seq cursor then Next.Pass Pass.Old
+    else next_at (walk (event_lines a e x)) a e.body x.fetched
+next_of cursor a (Frame.Faulty seq) x =
+    if nat_le seq cursor then Next.Pass Pass.Old
+    else next_at (walk (faulty_lines x)) a Body.Identity x.fetched
 next_of cursor a Frame.Info x = Next.Pass Pass.Info
 next_of cursor a Frame.Error x = Next.Pass Pass.Ended
 next_of cursor a Frame.Unknown x = Next.Pass Pass.Unknown

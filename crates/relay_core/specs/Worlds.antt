@@ -37,13 +37,16 @@ outside_of w host a Frame.Unknown = record { moment = 0; home = true; verdict = 
 
 -- what a fetch finds for a message can be sent
 abbrev pub CanSendFor : World → List Row → List ℕ → Frame → Type 0
-CanSendFor w J host (Frame.Event e) = IsSendable (last_seq J) e (outside w host (account e.did J) e).fetched
+CanSendFor w J host (Frame.Event e) = IsSendable (last_seq J) e
+    (outside w host (account e.did J) e).fetched
 CanSendFor w J host other = Unit {0}
 
 -- the row that a message makes in a world behind a journal
 abbrev pub IsMadeIn : Checks → World → List Row → Message → Row → Type 0
 IsMadeIn checks w J (host, Ok frame) (Row.Taken t) =
-    CanSendFor w J host frame × (decided checks (last_seq J) (account (did_of frame) J) host frame (outside_of w host (account (did_of frame) J) frame) ≡ Some t)
+    CanSendFor w J host frame
+    × (decided checks (last_seq J) (account (did_of frame) J) host frame
+    (outside_of w host (account (did_of frame) J) frame) ≡ Some t)
 IsMadeIn checks w J message row = ⊥
 
 -- In a world, behind the journal J, with these hosts ended, the messages make the rows.
@@ -52,7 +55,8 @@ RunsIn checks w J ended [] rows = rows ≡ []
 RunsIn checks w J ended (m ∷ messages) rows = Turn (has_ended ended m.0) (skipped_by J m)
     (RunsIn checks w J (m.0 ∷ ended) messages rows)
     (RunsIn checks w J ended messages rows)
-    ((row : Row) × (others : List Row) × (rows ≡ row ∷ others) × IsMadeIn checks w J m row × RunsIn checks w (J ++ row ∷ []) ended messages others)
+    ((row : Row) × (others : List Row) × (rows ≡ row ∷ others) × IsMadeIn checks w J m row
+    × RunsIn checks w (J ++ row ∷ []) ended messages others)
 
 -- In a world, behind the journal J, the messages make the rows.
 abbrev pub RunIn : Checks → World → List Row → List Message → List Row → Type 0

@@ -70,7 +70,10 @@ fn next_of_repo(
     is_commit: bool,
     answers: &Answers,
 ) -> Next
-    ensures { result ≡ next_at (walk (repo_lines (state_in account.entry) rev answers.now (if is_commit then link_line answers.now ∷ [] else []))) (state_in account.entry) body.now answers.now.fetched }
+    ensures { result
+        ≡ next_at (walk (repo_lines (state_in account.entry) rev answers.now
+        (if is_commit then link_line answers.now ∷ [] else [])))
+        (state_in account.entry) body.now answers.now.fetched }
 {
     match answers.home {
         None => return Next::Ask(Question::Home),
@@ -107,7 +110,9 @@ fn next_of_repo(
 }
 
 fn next_of_identity(account: Option<&Account>, answers: &Answers) -> Next
-    ensures { result ≡ next_at (walk (body_lines (state_in account.entry) Body.Identity answers.now)) (state_in account.entry) Body.Identity answers.now.fetched }
+    ensures { result
+        ≡ next_at (walk (body_lines (state_in account.entry) Body.Identity answers.now))
+        (state_in account.entry) Body.Identity answers.now.fetched }
 {
     if !answers.refreshed {
         return Next::Ask(Question::Refresh);
@@ -124,7 +129,8 @@ fn next_of_identity(account: Option<&Account>, answers: &Answers) -> Next
 }
 
 fn next_of_account(account: Option<&Account>, body: &Body, answers: &Answers) -> Next
-    ensures { result ≡ next_at (walk (home_line answers.now ∷ [])) (state_in account.entry) body.now answers.now.fetched }
+    ensures { result ≡ next_at (walk (home_line answers.now ∷ []))
+        (state_in account.entry) body.now answers.now.fetched }
 {
     match answers.home {
         None => Next::Ask(Question::Home),
@@ -135,7 +141,8 @@ fn next_of_account(account: Option<&Account>, body: &Body, answers: &Answers) ->
 
 fn next_of_event(account: Option<&Account>, event: &Event, len: u64, answers: &Answers) -> Next
     requires { len ≡ out_length event.now }
-    ensures { result ≡ next_at (walk (event_lines (state_in account.entry) event.now answers.now)) (state_in account.entry) event.now.body answers.now.fetched }
+    ensures { result ≡ next_at (walk (event_lines (state_in account.entry) event.now answers.now))
+        (state_in account.entry) event.now.body answers.now.fetched }
 {
     if answers.moment.is_none() {
         return Next::Ask(Question::Moment);
@@ -152,7 +159,8 @@ fn next_of_event(account: Option<&Account>, event: &Event, len: u64, answers: &A
 }
 
 fn next_of_faulty(answers: &Answers) -> Next
-    ensures { (a : State) → result ≡ next_at (walk (faulty_lines answers.now)) a Body.Identity answers.now.fetched }
+    ensures { (a : State) → result ≡ next_at
+        (walk (faulty_lines answers.now)) a Body.Identity answers.now.fetched }
 {
     if answers.moment.is_none() {
         return Next::Ask(Question::Moment);
@@ -170,7 +178,8 @@ pub fn next_for_event_of_len(
     answers: &Answers,
 ) -> Next
     requires { len ≡ out_length event.now }
-    ensures { result ≡ next_of cursor (state_in account.entry) (TheFrame.Event event.now) answers.now }
+    ensures { result ≡ next_of cursor (state_in account.entry)
+        (TheFrame.Event event.now) answers.now }
 {
     if event.seq <= cursor {
         return Next::Pass(Pass::Old);
@@ -185,7 +194,8 @@ pub fn next_for_event(
     event: &Event,
     answers: &Answers,
 ) -> Next
-    ensures { result ≡ next_of cursor (state_in account.entry) (TheFrame.Event event.now) answers.now }
+    ensures { result ≡ next_of cursor (state_in account.entry)
+        (TheFrame.Event event.now) answers.now }
 {
     next_for_event_of_len(cursor, account, event, out_len(event), answers)
 }

@@ -151,8 +151,10 @@ impl Core {
         decision: &Decision,
         answers: Answers,
     ) -> Result<NewRow, Memory>
-        requires { goes_out decision.now.refusal decision.now.held ≡ true → self.now.last + 1 < NUMBERS }
-        ensures { IfOk result (λ taken. taken ≡ event_taken self.now.last host.now event decision.now answers) }
+        requires { goes_out decision.now.refusal decision.now.held ≡ true
+            → self.now.last + 1 < NUMBERS }
+        ensures { IfOk result (λ taken. taken
+            ≡ event_taken self.now.last host.now event decision.now answers) }
     {
         take_event(alloc, self.last, host, event, decision, answers)
     }
@@ -167,8 +169,10 @@ impl Core {
         decision: &Decision,
         answers: Answers,
     ) -> Result<Option<NewRow>, Memory>
-        requires { goes_out decision.now.refusal decision.now.held ≡ true → self.now.last + 1 < NUMBERS }
-        ensures { IfOk result (λ row. option_map Row.Taken row ≡ row_of self.now.last host.now frame decision.now answers) }
+        requires { goes_out decision.now.refusal decision.now.held ≡ true
+            → self.now.last + 1 < NUMBERS }
+        ensures { IfOk result (λ row. option_map Row.Taken row
+            ≡ row_of self.now.last host.now frame decision.now answers) }
     {
         match frame {
             Frame::Event(event) => {

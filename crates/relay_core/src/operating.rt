@@ -33,7 +33,8 @@ fn message(
     seq: u64,
 ) -> Result<Octets, Memory>
     requires { seq < NUMBERS }
-    ensures { IfOk result (λ made. made ≡ operated_message (state_in account.entry) down did.now time.now seq) }
+    ensures { IfOk result (λ made. made
+        ≡ operated_message (state_in account.entry) down did.now time.now seq) }
 {
     if down {
         return account_frame(alloc, did, false, Some("takendown"), time, seq);
@@ -70,7 +71,9 @@ impl Core {
         moment: Option<u64>,
     ) -> Result<Operated, Memory>
         requires { self.now.last + 1 < NUMBERS }
-        ensures { IfOk result (λ made. made ≡ operated_as self.now.last (account_in self.now did.now) did.now down time.now moment) }
+        ensures { IfOk result (λ made. made
+            ≡ operated_as self.now.last
+            (account_in self.now did.now) did.now down time.now moment) }
     {
         let seq = self.last + 1;
         let message = message(alloc, self.account(did), did, down, time, seq)?;

@@ -41,17 +41,21 @@ impl Core {
 
     /// The account of a DID, where a row names it.
     pub fn account(&self, did: &str) -> Option<&Account>
-        ensures { option_map (λ account. state_of account.now) result ≡ entry self.now.accounts did.now }
+        ensures { option_map (λ account. state_of account.now) result
+            ≡ entry self.now.accounts did.now }
     {
         self.accounts.get(did)
     }
 
     /// The next DID that a row names, in the order of bytes, with its account.
     pub fn next_after(&self, did: &str) -> Option<(&str, &Account)>
-        ensures found { IfSome result (λ x. entry self.now.accounts x.0.now ≡ Some (state_of x.1.now)) }
+        ensures found { IfSome result (λ x. entry self.now.accounts x.0.now
+            ≡ Some (state_of x.1.now)) }
         ensures above { IfSome result (λ x. is_before did.now x.0.now ≡ true) }
-        ensures least { IfSome result (λ x. (name : List ℕ) → is_before did.now name ≡ true → is_before name x.0.now ≡ true → entry self.now.accounts name ≡ None) }
-        ensures none { result ≡ None → (name : List ℕ) → is_before did.now name ≡ true → entry self.now.accounts name ≡ None }
+        ensures least { IfSome result (λ x. (name : List ℕ) → is_before did.now name ≡ true
+            → is_before name x.0.now ≡ true → entry self.now.accounts name ≡ None) }
+        ensures none { result ≡ None → (name : List ℕ) → is_before did.now name ≡ true
+            → entry self.now.accounts name ≡ None }
     {
         self.accounts.next_after(did)
     }
@@ -82,9 +86,12 @@ impl Core {
     pub fn touch(&mut self, host: &str, did: &str) -> Result<(), Memory>
         ensures holds { (rows : List Row) → Holds self.old rows → Holds self.new rows }
         ensures host { OnOk result (host.now ≢ [] → has_host self.new.hosts host.now ≡ true) }
-        ensures account { OnOk result (did.now ≢ [] → has_account self.new.accounts did.now ≡ true) }
-        ensures hosts { (name : List ℕ) → has_host self.old.hosts name ≡ true → has_host self.new.hosts name ≡ true }
-        ensures accounts { (name : List ℕ) → has_account self.old.accounts name ≡ true → has_account self.new.accounts name ≡ true }
+        ensures account { OnOk result (did.now ≢ []
+            → has_account self.new.accounts did.now ≡ true) }
+        ensures hosts { (name : List ℕ) → has_host self.old.hosts name ≡ true
+            → has_host self.new.hosts name ≡ true }
+        ensures accounts { (name : List ℕ) → has_account self.old.accounts name ≡ true
+            → has_account self.new.accounts name ≡ true }
     {
         if !host.is_empty() {
             self.hosts.touch(host)?;
@@ -97,7 +104,8 @@ impl Core {
 
     /// What comes next for an event of a host, by the answers so far.
     pub fn next_for_event(&self, host: &str, event: &Event, answers: &Answers) -> Next
-        ensures { result ≡ next_of (cursor_in self.now host.now) (account_in self.now event.now.did) (TheFrame.Event event.now) answers.now }
+        ensures { result ≡ next_of (cursor_in self.now host.now) (account_in self.now event.now.did)
+            (TheFrame.Event event.now) answers.now }
     {
         let cursor = self.cursor(host);
         next_for_event(cursor, self.account(event.did.as_str()), event, answers)
@@ -105,7 +113,8 @@ impl Core {
 
     /// What comes next for a message of a host, by the answers so far.
     pub fn next(&self, host: &str, frame: &Frame, answers: &Answers) -> Next
-        ensures { result ≡ next_of (cursor_in self.now host.now) (account_in self.now (did_of frame.now)) frame.now answers.now }
+        ensures { result ≡ next_of (cursor_in self.now host.now)
+            (account_in self.now (did_of frame.now)) frame.now answers.now }
     {
         match frame {
             Frame::Event(event) => self.next_for_event(host, event, answers),
@@ -150,10 +159,14 @@ impl Core {
     /// The state after one more row, whose names were touched. Takes no memory.
     pub fn apply(&mut self, row: Row)
         requires host { host_in row ≢ [] → has_host self.old.hosts (host_in row) ≡ true }
-        requires account { did_of_row row ≢ [] → has_account self.old.accounts (did_of_row row) ≡ true }
-        ensures holds { (rows : List Row) → Holds self.old rows → Holds self.new (rows ++ row ∷ []) }
-        ensures hosts { (name : List ℕ) → has_host self.new.hosts name ≡ has_host self.old.hosts name }
-        ensures accounts { (name : List ℕ) → has_account self.new.accounts name ≡ has_account self.old.accounts name }
+        requires account { did_of_row row ≢ []
+            → has_account self.old.accounts (did_of_row row) ≡ true }
+        ensures holds { (rows : List Row) → Holds self.old rows
+            → Holds self.new (rows ++ row ∷ []) }
+        ensures hosts { (name : List ℕ)
+            → has_host self.new.hosts name ≡ has_host self.old.hosts name }
+        ensures accounts { (name : List ℕ)
+            → has_account self.new.accounts name ≡ has_account self.old.accounts name }
     {
         self.stage = stage_after(self.stage, &row);
         self.last = last_after(self.last, &row);

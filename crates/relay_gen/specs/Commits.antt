@@ -29,7 +29,8 @@ last_of a (c ∷ commits) = if c.account == a then Some c else last_of a commits
 -- the last number of a host's stream
 abbrev pub last_generated : ℕ → List Commit → ℕ
 last_generated host [] = 0
-last_generated host (c ∷ commits) = if c.account % 4 == host then c.seq else last_generated host commits
+last_generated host (c ∷ commits) = if c.account % 4 == host then c.seq
+    else last_generated host commits
 
 abbrev pub generated_map : Option Commit → List Item
 generated_map None = []
@@ -63,4 +64,5 @@ commits_from start (suc i) = with_commit (suc i) (commits_from start i)
 -- how many keys the last maps of accounts have: of so many, from one on
 abbrev pub keys_from : ℕ → ℕ → List Commit → ℕ
 keys_from a zero commits = 0
-keys_from a (suc left) commits = length (generated_map (last_of a commits)) + keys_from (suc a) left commits
+keys_from a (suc left) commits = length (generated_map (last_of a commits)) + keys_from
+    (suc a) left commits

@@ -46,11 +46,13 @@ generated_action (Some was) None = codes "delete"
 -- the link before, where there is one, and the action
 abbrev pub ends_of : Option (List ℕ) → Option (List ℕ) → List (List ℕ × Item)
 ends_of None now = (codes "action", Item.text (generated_action None now)) ∷ []
-ends_of (Some was) now = (codes "prev", Item.link was) ∷ (codes "action", Item.text (generated_action (Some was) now)) ∷ []
+ends_of (Some was) now = (codes "prev", Item.link was)
+    ∷ (codes "action", Item.text (generated_action (Some was) now)) ∷ []
 
 -- an operation, as a message states it
 unfoldable pub op_item : Op → Item
-op_item op = Item.map (fields_of ((codes "cid", link_item op.now) ∷ (codes "path", Item.text op.key) ∷ ends_of op.was op.now))
+op_item op = Item.map (fields_of ((codes "cid", link_item op.now) ∷ (codes "path", Item.text op.key)
+    ∷ ends_of op.was op.now))
 
 abbrev pub since_item : Option Past → Item
 since_item None = Item.null
@@ -86,7 +88,9 @@ back_fields past commit =
 
 -- the payload of a `#commit`
 unfoldable pub payload_of : List ℕ → ℕ → ℕ → Option Past → List Op → List ℕ → List ℕ → Item
-payload_of did seq rev past ops commit blocks = Item.map (fields_of (front_fields ops rev seq did ++ (middle_fields past blocks ++ back_fields past commit)))
+payload_of did seq rev past ops commit blocks =
+    Item.map (fields_of (front_fields ops rev seq did
+    ++ (middle_fields past blocks ++ back_fields past commit)))
 
 -- the commit object of a commit
 abbrev pub object : Commit → List ℕ
@@ -94,4 +98,6 @@ object c = generated_object (generated_did c.account) c.rev (root c.map)
 
 -- the message of a commit, with the commit object and the blocks that are given
 unfoldable pub message : Commit → List ℕ
-message c = event_message EventKind.Commit (payload_of (generated_did c.account) c.seq c.rev c.past c.ops (cid (object c)) (car_with (object c) (blocks_given c.map c.ops)))
+message c = event_message EventKind.Commit
+    (payload_of (generated_did c.account) c.seq c.rev c.past c.ops (cid (object c))
+    (car_with (object c) (blocks_given c.map c.ops)))

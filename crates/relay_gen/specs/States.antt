@@ -45,14 +45,17 @@ AreOlder n (Hole l c ∷ s) = ⊥
 -- the commits are from before commit i
 abbrev pub AreBefore : ℕ → List Commit → Type 0
 AreBefore i [] = Unit {0}
-AreBefore i (c ∷ commits) = IsMap c.map × AreOlder (i * 4) c.map × (length c.map ≤ i * 4) × (c.seq < i) × AreBefore i commits
+AreBefore i (c ∷ commits) = IsMap c.map × AreOlder (i * 4) c.map × (length c.map ≤ i * 4)
+    × (c.seq < i) × AreBefore i commits
 
 -- what a making holds behind commits: the state of the draws, each account's repository, and the last number of each host
-pub record IsBehind (d : Drawn) (state : ℕ) (accounts : List Repository) (seqs : List ℕ) : Type 0 where
+pub record IsBehind (d : Drawn) (state : ℕ) (accounts : List Repository)
+    (seqs : List ℕ) : Type 0 where
   pub draws : state ≡ d.state
   pub count : length accounts ≡ 16
   pub hosts : length seqs ≡ 4
-  pub repositories : (a : ℕ) → a < 16 → slice_get accounts a ≡ Some (repository_of (last_of a d.commits))
+  pub repositories : (a : ℕ) → a < 16 → slice_get accounts a
+      ≡ Some (repository_of (last_of a d.commits))
   pub numbers : (host : ℕ) → host < 4 → slice_index seqs host ≡ last_generated host d.commits
 
 -- the operations that undo these: the last one first, each turned round
@@ -68,7 +71,8 @@ after_commit rev s ops = record { map = played s ops; past = Some (record { rev 
 abbrev pub commit_message : List ℕ → ℕ → ℕ → Option Past → List Op → List Item → List ℕ
 commit_message did seq rev past ops t =
     let object = generated_object did rev (root t) in
-    event_message EventKind.Commit (payload_of did seq rev past ops (cid object) (car_with object (blocks_given t ops)))
+    event_message EventKind.Commit (payload_of did seq rev past ops (cid object)
+    (car_with object (blocks_given t ops)))
 
 -- the first of some commits is of this account, and has this message
 abbrev pub IsLast : List Commit → ℕ → List ℕ → Type 0

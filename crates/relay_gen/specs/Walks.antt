@@ -12,7 +12,8 @@ use Rattle.relay_gen.specs.Covers.{on_ways}
 abbrev pub node_encoded : ℕ → Option (List ℕ) → Option (List ℕ) → List Item → List Encoded
 node_encoded h low high F =
     record { low = low; high = high; block = encode_layer h F }
-    ∷ (part_encoded h low (bound_at h high F) (first_part h F) ++ right_encoded (part_encoded h) h high F)
+    ∷ (part_encoded h low (bound_at h high F) (first_part h F)
+    ++ right_encoded (part_encoded h) h high F)
 
 -- the keys lie between two bounds
 abbrev pub AreBetween : Option (List ℕ) → Option (List ℕ) → List Item → Type 0

@@ -88,7 +88,8 @@ fn car(
 ) -> Result<(StubTree, Octets), Memory>
     requires { tree ≡ map item_of records.now }
     ensures tree { IfOk result (λ p. p.0 ≡ tree) }
-    ensures car { IfOk result (λ p. p.1 ≡ car_with object.now (blocks_given tree (map op_of changes.now))) }
+    ensures car { IfOk result (λ p. p.1
+        ≡ car_with object.now (blocks_given tree (map op_of changes.now))) }
 {
     let commit = cid_of(object);
     let mut blocks = Blocks::new(alloc);
@@ -137,8 +138,11 @@ impl Account {
     ) -> Result<Octets, Memory>
         requires can { CanPlay self.old.map (map op_of changes.now) }
         requires seq { seq < 2 ^ 63 }
-        ensures repository { OnOk result (self.new ≡ after_commit rev self.old.map (map op_of changes.now)) }
-        ensures message { IfOk result (λ message. message ≡ commit_message did.now seq rev self.old.past (map op_of changes.now) (played self.old.map (map op_of changes.now))) }
+        ensures repository { OnOk result
+            (self.new ≡ after_commit rev self.old.map (map op_of changes.now)) }
+        ensures message { IfOk result (λ message. message
+            ≡ commit_message did.now seq rev self.old.past (map op_of changes.now)
+            (played self.old.map (map op_of changes.now))) }
     {
         let tree = mem::replace(&mut self.tree, StubTree::from_top(None));
         let records = mem::replace(&mut self.records, Vec::new(alloc));
@@ -172,7 +176,8 @@ fn play(
 ) -> Result<(Vec<Record>, StubTree), Memory>
     requires same { tree ≡ map item_of records.items }
     requires can { CanPlay tree (map op_of changes.now) }
-    ensures records { IfOk result (λ p. map item_of p.0.items ≡ played tree (map op_of changes.now)) }
+    ensures records { IfOk result (λ p. map item_of p.0.items
+        ≡ played tree (map op_of changes.now)) }
     ensures tree { IfOk result (λ p. p.1 ≡ played tree (map op_of changes.now)) }
 {
     let tree = changed(alloc, tree, changes)?;

@@ -22,7 +22,8 @@ use std::alloc::Global;
 
 /// Whether a path lies between two bounds, of which none is an end.
 fn lies_between(low: Option<&[u8]>, path: &[u8], high: Option<&[u8]>) -> bool
-    ensures { result ≡ (is_over (option_map (λ k. k.now) low.entry) path.now && is_under path.now (option_map (λ k. k.now) high.entry)) }
+    ensures { result ≡ (is_over (option_map (λ k. k.now) low.entry) path.now
+        && is_under path.now (option_map (λ k. k.now) high.entry)) }
 {
     let over = match low {
         Some(low) => compare(low, path).is_lt(),
@@ -37,11 +38,13 @@ fn lies_between(low: Option<&[u8]>, path: &[u8], high: Option<&[u8]>) -> bool
 
 /// Whether one of the paths lies between two bounds.
 fn one_lies_between(low: Option<&[u8]>, paths: &[Words], high: Option<&[u8]>) -> bool
-    ensures { result ≡ one_between (option_map (λ k. k.now) low.entry) (option_map (λ k. k.now) high.entry) paths.now }
+    ensures { result ≡ one_between (option_map (λ k. k.now) low.entry)
+        (option_map (λ k. k.now) high.entry) paths.now }
 {
     paths.iter().any(
         |path: &Words| -> bool
-            ensures { result ≡ (is_over (option_map (λ k. k.now) low.entry) path.now && is_under path.now (option_map (λ k. k.now) high.entry)) }
+            ensures { result ≡ (is_over (option_map (λ k. k.now) low.entry) path.now
+                && is_under path.now (option_map (λ k. k.now) high.entry)) }
         { lies_between(low, path.as_bytes(), high) },
     )
 }
@@ -58,8 +61,11 @@ fn cover_below(
     blocks: &mut Blocks,
 ) -> Result<(), Memory>
     requires lies { LiesBelow layer below.now }
-    requires range { IsRange (option_map (λ k. k.now) low) (option_map (λ k. k.now) high) (below_items layer below.now) }
-    ensures { OnOk result (blocks.new ≡ with_blocks blocks.old (on_ways paths.now (part_encoded layer (option_map (λ k. k.now) low.entry) (option_map (λ k. k.now) high.entry) (below_items layer below.now)))) }
+    requires range { IsRange (option_map (λ k. k.now) low) (option_map (λ k. k.now) high)
+        (below_items layer below.now) }
+    ensures { OnOk result (blocks.new ≡ with_blocks blocks.old
+        (on_ways paths.now (part_encoded layer (option_map (λ k. k.now) low.entry)
+        (option_map (λ k. k.now) high.entry) (below_items layer below.now)))) }
 {
     match below {
         Below::Empty | Below::Hole(_) => Ok(()),
@@ -77,8 +83,11 @@ fn cover_branch(
     paths: &[Words],
     blocks: &mut Blocks,
 ) -> Result<(), Memory>
-    requires { IsRange (option_map (λ k. k.now) low) (option_map (λ k. k.now) high) branch.now.items }
-    ensures { OnOk result (blocks.new ≡ with_blocks blocks.old (on_ways paths.now (node_encoded branch.now.layer (option_map (λ k. k.now) low.entry) (option_map (λ k. k.now) high.entry) branch.now.items))) }
+    requires { IsRange (option_map (λ k. k.now) low)
+        (option_map (λ k. k.now) high) branch.now.items }
+    ensures { OnOk result (blocks.new ≡ with_blocks blocks.old
+        (on_ways paths.now (node_encoded branch.now.layer (option_map (λ k. k.now) low.entry)
+        (option_map (λ k. k.now) high.entry) branch.now.items))) }
 {
     if !one_lies_between(low, paths, high) {
         return Ok(());
@@ -102,7 +111,8 @@ fn cover_branch(
 
 /// The key of the first part, or else the bound behind the parts.
 fn bound_before<'a>(parts: &'a [Part], high: Option<&'a [u8]>) -> Option<&'a [u8]>
-    ensures { option_map (λ k. k.now) result ≡ part_bound (option_map (λ k. k.now) high.entry) parts.now }
+    ensures { option_map (λ k. k.now) result
+        ≡ part_bound (option_map (λ k. k.now) high.entry) parts.now }
 {
     match parts.first() {
         Some(part) => Some(part.key.as_slice()),
@@ -122,7 +132,9 @@ fn cover_parts(
 ) -> Result<(), Memory>
     requires at { AllAt layer parts.now }
     requires range { IsRange None (option_map (λ k. k.now) high) (rest_items layer parts.now) }
-    ensures { OnOk result (blocks.new ≡ with_blocks blocks.old (on_ways paths.now (right_encoded (part_encoded layer) layer (option_map (λ k. k.now) high.entry) (rest_items layer parts.now)))) }
+    ensures { OnOk result (blocks.new ≡ with_blocks blocks.old
+        (on_ways paths.now (right_encoded (part_encoded layer) layer
+        (option_map (λ k. k.now) high.entry) (rest_items layer parts.now)))) }
 {
     let mut rest = parts;
     'parts: loop {
@@ -143,7 +155,8 @@ pub(crate) fn covered_paths(
     changes: &[Change],
 ) -> Result<Vec<Words>, Memory>
     requires { Ascends (map item_of records.now) }
-    ensures { IfOk result (λ paths. paths.items ≡ covered_keys (map item_of records.now) (map op_of changes.now)) }
+    ensures { IfOk result (λ paths. paths.items
+        ≡ covered_keys (map item_of records.now) (map op_of changes.now)) }
 {
     let mut paths = Vec::new(alloc);
     for change in changes {
@@ -158,7 +171,8 @@ pub(crate) fn covered_paths(
 /// Adds the paths beside a path.
 fn add_neighbours(records: &[Record], path: &Words, paths: &mut Vec<Words>) -> Result<(), Memory>
     requires { Ascends (map item_of records.now) }
-    ensures { OnOk result (paths.new.items ≡ paths.old.items ++ neighbours (map item_of records.now) path.now None) }
+    ensures { OnOk result (paths.new.items ≡ paths.old.items
+        ++ neighbours (map item_of records.now) path.now None) }
 {
     let at = place_of(records, path);
     let next = behind(records, at, path);
@@ -177,7 +191,8 @@ fn behind(records: &[Record], at: usize, path: &Words) -> usize
 
 /// Adds the path of the record at a place, where there is one.
 fn add_at(records: &[Record], at: usize, paths: &mut Vec<Words>) -> Result<(), Memory>
-    ensures { OnOk result (paths.new.items ≡ paths.old.items ++ path_or_none (slice_get records.now at)) }
+    ensures { OnOk result (paths.new.items ≡ paths.old.items
+        ++ path_or_none (slice_get records.now at)) }
 {
     match records.get(at) {
         Some(record) => {
@@ -209,7 +224,8 @@ pub(crate) fn cover(
 ) -> Result<(), Memory>
     requires top { IsTop top.now }
     requires items { top_items top.now ≡ map item_of records.now }
-    ensures { OnOk result (blocks.new ≡ with_blocks blocks.old (given_for (map item_of records.now) paths.now)) }
+    ensures { OnOk result (blocks.new ≡ with_blocks blocks.old
+        (given_for (map item_of records.now) paths.now)) }
 {
     if records.is_empty() {
         return blocks.put(cid_of(&EMPTY_NODE), &EMPTY_NODE);

@@ -46,7 +46,8 @@ fn is_changed(changes: &[Change], path: &Words) -> bool
 
 /// Adds a change, unless the record is changed already.
 fn add(changes: &mut Vec<Change>, change: Change) -> Result<(), Memory>
-    ensures { OnOk result (map op_of changes.new.items ≡ with_op (map op_of changes.old.items) (op_of change)) }
+    ensures { OnOk result (map op_of changes.new.items
+        ≡ with_op (map op_of changes.old.items) (op_of change)) }
 {
     if is_changed(changes.as_slice(), &change.path) {
         return Ok(());
@@ -66,7 +67,9 @@ fn draft_one(
 ) -> Result<(), Memory>
     requires number { number ≤ MOST_MESSAGES }
     requires place { place < 4 }
-    ensures { OnOk result (record { ops = map op_of changes.new.items; state = draws.new } ≡ with_drawn (map item_of records.now) number place (record { ops = map op_of changes.old.items; state = draws.old })) }
+    ensures { OnOk result (record { ops = map op_of changes.new.items; state = draws.new }
+        ≡ with_drawn (map item_of records.now) number place
+        (record { ops = map op_of changes.old.items; state = draws.old })) }
 {
     let kind = draws.draw(8);
     let value = value_of(alloc, number * 8 + place)?;
@@ -97,7 +100,8 @@ pub(crate) fn draft(
     number: u32,
 ) -> Result<Vec<Change>, Memory>
     requires { number ≤ MOST_MESSAGES }
-    ensures { IfOk result (λ changes. record { ops = map op_of changes.items; state = draws.new } ≡ drafted (map item_of records.now) number draws.old) }
+    ensures { IfOk result (λ changes. record { ops = map op_of changes.items; state = draws.new }
+        ≡ drafted (map item_of records.now) number draws.old) }
 {
     let count = 1 + draws.draw(4) as u32;
     let mut changes = Vec::new(alloc);

@@ -87,7 +87,11 @@ impl Model for History {
 
     ghost Value = { histories.History };
 
-    ghost view = { λ a. record { messages = map (λ (s : Sent). (host_of s.account, s.message)) a.sent.items; keys = a.keys } };
+    ghost view = { λ a. record {
+      messages =
+          map (λ (s : Sent). (host_of s.account, s.message)) a.sent.items;
+      keys = a.keys;
+    } };
 }
 
 /// The state of a making.
@@ -106,7 +110,9 @@ fn changes_of(
     number: u32,
 ) -> Result<Vec<Change>, Memory>
     requires { number ≤ MOST_MESSAGES }
-    ensures { (o : Option Commit) → account.now ≡ repository_of o → IfOk result (λ changes. record { ops = map op_of changes.items; state = draws.new } ≡ generated_ops o number draws.old) }
+    ensures { (o : Option Commit) → account.now ≡ repository_of o
+        → IfOk result (λ changes. record { ops = map op_of changes.items; state = draws.new }
+        ≡ generated_ops o number draws.old) }
 {
     if account.has_commit() {
         draft(alloc, draws, account.records(), number)
@@ -117,7 +123,12 @@ fn changes_of(
 
 impl Maker {
     fn new(alloc: Global, start: u64) -> Result<Maker, Memory>
-        ensures { IfOk result (λ maker. IsBehind (record { commits = []; state = start }) maker.draws maker.accounts.items maker.seqs) }
+        ensures { IfOk result (λ maker.
+            IsBehind (record {
+              commits = [];
+              state =
+                  start;
+            }) maker.draws maker.accounts.items maker.seqs) }
     {
         let mut accounts = Vec::with_capacity(alloc, ACCOUNTS)?;
         'accounts: for _ in 0..ACCOUNTS {
@@ -134,9 +145,16 @@ impl Maker {
     fn next(&mut self, alloc: Global, number: u32) -> Result<Sent, Memory>
         requires least { 1 ≤ number }
         requires most { number ≤ MOST_MESSAGES }
-        requires before { (d : Drawn) × IsBehind d self.old.draws self.old.accounts.items self.old.seqs × AreBefore number d.commits }
-        ensures behind { (d : Drawn) → IsBehind d self.old.draws self.old.accounts.items self.old.seqs → OnOk result (IsBehind (with_commit number d) self.new.draws self.new.accounts.items self.new.seqs) }
-        ensures sent { (d : Drawn) → IsBehind d self.old.draws self.old.accounts.items self.old.seqs → IfOk result (λ sent. IsLast (with_commit number d).commits sent.account sent.message) }
+        requires before { (d : Drawn)
+            × IsBehind d self.old.draws self.old.accounts.items self.old.seqs
+            × AreBefore number d.commits }
+        ensures behind { (d : Drawn)
+            → IsBehind d self.old.draws self.old.accounts.items self.old.seqs
+            → OnOk result
+            (IsBehind (with_commit number d) self.new.draws self.new.accounts.items self.new.seqs) }
+        ensures sent { (d : Drawn) → IsBehind d self.old.draws self.old.accounts.items self.old.seqs
+            → IfOk result (λ sent. IsLast
+            (with_commit number d).commits sent.account sent.message) }
     {
         let at = self.draws.draw(ACCOUNTS as u64) as u8;
         let account = &mut self.accounts[at as usize];
@@ -153,8 +171,10 @@ impl Maker {
 
     /// How many records there are.
     fn keys(&self) -> u64
-        requires { (d : Drawn) × IsBehind d self.now.draws self.now.accounts.items self.now.seqs × AreBefore (MOST_MESSAGES + 1) d.commits }
-        ensures { (d : Drawn) → IsBehind d self.now.draws self.now.accounts.items self.now.seqs → result ≡ keys_from 0 16 d.commits }
+        requires { (d : Drawn) × IsBehind d self.now.draws self.now.accounts.items self.now.seqs
+            × AreBefore (MOST_MESSAGES + 1) d.commits }
+        ensures { (d : Drawn) → IsBehind d self.now.draws self.now.accounts.items self.now.seqs
+            → result ≡ keys_from 0 16 d.commits }
     {
         let mut keys = 0;
         'accounts: for account in self.accounts.as_slice() {

@@ -91,7 +91,8 @@ fn action(change: &Change) -> &'static str
 
 /// Adds the link before, where there is one, and the action.
 fn write_ends(out: &mut Octets, change: &Change) -> Result<(), Memory>
-    ensures { OnOk result (out.new ≡ out.old ++ fields_encoding (fields_of (ends_of change.entry.now.was change.entry.now.now))) }
+    ensures { OnOk result (out.new ≡ out.old
+        ++ fields_encoding (fields_of (ends_of change.entry.now.was change.entry.now.now))) }
 {
     if let Some(was) = &change.was {
         write_link_field(out, "prev", was)?;
@@ -112,7 +113,8 @@ fn write_op(out: &mut Octets, change: &Change) -> Result<(), Memory>
 
 /// Adds operations, one behind the other.
 fn write_each(out: &mut Octets, changes: &[Change]) -> Result<(), Memory>
-    ensures { OnOk result (out.new ≡ out.old ++ items_encoding (items_of (map op_item (map op_of changes.now)))) }
+    ensures { OnOk result (out.new ≡ out.old
+        ++ items_encoding (items_of (map op_item (map op_of changes.now)))) }
 {
     for change in changes {
         write_op(out, change)?;
@@ -122,7 +124,9 @@ fn write_each(out: &mut Octets, changes: &[Change]) -> Result<(), Memory>
 
 /// Adds the field of the operations.
 fn write_ops(out: &mut Octets, changes: &[Change]) -> Result<(), Memory>
-    ensures { OnOk result (out.new ≡ out.old ++ field_encoding (codes "ops") (Item.list (items_of (map op_item (map op_of changes.now))))) }
+    ensures { OnOk result (out.new ≡ out.old
+        ++ field_encoding (codes "ops")
+        (Item.list (items_of (map op_item (map op_of changes.now))))) }
 {
     write_text(out, "ops")?;
     write_list_front(out, changes.len())?;
@@ -132,7 +136,8 @@ fn write_ops(out: &mut Octets, changes: &[Change]) -> Result<(), Memory>
 /// Adds the field of blobs, of which there are none.
 #[tactic(auto, unfolding(at_cbor::specs::Encoding::info_of, at_cbor::specs::Encoding::tail_of))]
 fn write_blobs(out: &mut Octets) -> Result<(), Memory>
-    ensures { OnOk result (out.new ≡ out.old ++ field_encoding (codes "blobs") (Item.list no_items)) }
+    ensures { OnOk result (out.new ≡ out.old
+        ++ field_encoding (codes "blobs") (Item.list no_items)) }
 {
     write_text(out, "blobs")?;
     write_list_front(out, 0)
@@ -140,7 +145,8 @@ fn write_blobs(out: &mut Octets) -> Result<(), Memory>
 
 /// Adds the revision of the commit before, or null.
 fn write_since(out: &mut Octets, past: &Option<Past>) -> Result<(), Memory>
-    ensures { OnOk result (out.new ≡ out.old ++ field_encoding (codes "since") (since_item past.now)) }
+    ensures { OnOk result (out.new ≡ out.old
+        ++ field_encoding (codes "since") (since_item past.now)) }
 {
     match past {
         Some(past) => write_tid_field(out, "since", past.rev),
@@ -174,7 +180,10 @@ pub(crate) struct Stated<'a> {
 /// Adds the fields up to the DID.
 fn write_front(out: &mut Octets, stated: &Stated) -> Result<(), Memory>
     requires { stated.now.seq < 2 ^ 63 }
-    ensures { OnOk result (out.new ≡ out.old ++ fields_encoding (fields_of (front_fields (map op_of stated.now.changes.now) stated.now.rev stated.now.seq stated.now.did.now))) }
+    ensures { OnOk result (out.new ≡ out.old
+        ++ fields_encoding
+        (fields_of (front_fields (map op_of stated.now.changes.now) stated.now.rev stated.now.seq
+        stated.now.did.now))) }
 {
     write_ops(out, stated.changes)?;
     write_tid_field(out, "rev", stated.rev)?;
@@ -184,7 +193,8 @@ fn write_front(out: &mut Octets, stated: &Stated) -> Result<(), Memory>
 
 /// Adds the fields from the time to the blocks.
 fn write_middle(out: &mut Octets, stated: &Stated) -> Result<(), Memory>
-    ensures { OnOk result (out.new ≡ out.old ++ fields_encoding (fields_of (middle_fields stated.now.past stated.now.blocks.now))) }
+    ensures { OnOk result (out.new ≡ out.old
+        ++ fields_encoding (fields_of (middle_fields stated.now.past stated.now.blocks.now))) }
 {
     write_text_field(out, "time", TIME)?;
     write_blobs(out)?;
@@ -194,7 +204,8 @@ fn write_middle(out: &mut Octets, stated: &Stated) -> Result<(), Memory>
 
 /// Adds the fields behind the blocks.
 fn write_back(out: &mut Octets, stated: &Stated) -> Result<(), Memory>
-    ensures { OnOk result (out.new ≡ out.old ++ fields_encoding (fields_of (back_fields stated.now.past stated.now.commit))) }
+    ensures { OnOk result (out.new ≡ out.old
+        ++ fields_encoding (fields_of (back_fields stated.now.past stated.now.commit))) }
 {
     write_link_field(out, "commit", &stated.commit)?;
     write_bool_field(out, "rebase", false)?;
@@ -204,7 +215,8 @@ fn write_back(out: &mut Octets, stated: &Stated) -> Result<(), Memory>
 
 /// Adds the front of the payload: how many fields follow.
 fn write_count(out: &mut Octets, past: &Option<Past>) -> Result<(), Memory>
-    ensures { OnOk result (out.new ≡ out.old ++ front_of Major.Map (11 + fields_count (fields_of (prev_data past.now)))) }
+    ensures { OnOk result (out.new ≡ out.old
+        ++ front_of Major.Map (11 + fields_count (fields_of (prev_data past.now)))) }
 {
     match past {
         Some(_) => write_map_front(out, 12),
@@ -224,7 +236,10 @@ fn write_header(out: &mut Octets) -> Result<(), Memory>
 /// The message of a commit.
 pub(crate) fn message(alloc: Global, stated: &Stated) -> Result<Octets, Memory>
     requires { stated.now.seq < 2 ^ 63 }
-    ensures { IfOk result (λ message. message ≡ event_message EventKind.Commit (payload_of stated.now.did.now stated.now.seq stated.now.rev stated.now.past (map op_of stated.now.changes.now) stated.now.commit stated.now.blocks.now)) }
+    ensures { IfOk result (λ message. message
+        ≡ event_message EventKind.Commit
+        (payload_of stated.now.did.now stated.now.seq stated.now.rev stated.now.past
+        (map op_of stated.now.changes.now) stated.now.commit stated.now.blocks.now)) }
 {
     let mut out = Octets::new(alloc);
     write_header(&mut out)?;

@@ -50,7 +50,8 @@ pub(crate) fn is_at(records: &[Record], at: usize, path: &Words) -> bool
 /// Gives a path the value, or takes its record out.
 pub(crate) fn put(records: &mut Vec<Record>, path: &Words, value: Option<Cid>) -> Result<(), Memory>
     requires { Ascends (map item_of records.old.items) }
-    ensures { OnOk result (map item_of records.new.items ≡ put path.now value (map item_of records.old.items)) }
+    ensures { OnOk result (map item_of records.new.items
+        ≡ put path.now value (map item_of records.old.items)) }
 {
     let at = place_of(records.as_slice(), path);
     let visible = is_at(records.as_slice(), at, path);
@@ -78,7 +79,8 @@ pub(crate) fn put(records: &mut Vec<Record>, path: &Words, value: Option<Cid>) -
 /// Makes the changes, one after another.
 pub(crate) fn put_all(records: &mut Vec<Record>, changes: &[Change]) -> Result<(), Memory>
     requires { Ascends (map item_of records.old.items) }
-    ensures { OnOk result (map item_of records.new.items ≡ played (map item_of records.old.items) (map op_of changes.now)) }
+    ensures { OnOk result (map item_of records.new.items
+        ≡ played (map item_of records.old.items) (map op_of changes.now)) }
 {
     for change in changes {
         put(records, &change.path, change.now)?;

@@ -38,7 +38,8 @@ fn entries_of(alloc: Global, parts: &[Part]) -> Result<Vec<Entry>, Memory>
 
 /// The block of a node.
 pub(crate) fn block_of(alloc: Global, first: &Below, rest: &[Part]) -> Result<Octets, Memory>
-    ensures { IfOk result (λ block. block ≡ node_bytes (below_link first.now) (entries_of rest.now)) }
+    ensures { IfOk result (λ block. block
+        ≡ node_bytes (below_link first.now) (entries_of rest.now)) }
 {
     let left = link_below(alloc, first)?;
     let entries = entries_of(alloc, rest)?;
@@ -69,7 +70,8 @@ fn settle_below(alloc: Global, layer: u8, below: Below) -> Result<Below, Memory>
 fn settle_rest(alloc: Global, layer: u8, rest: Rest) -> Result<Rest, Memory>
     requires { AllAt layer rest.items }
     ensures at { IfOk result (λ settled. AllAt layer settled.items) }
-    ensures items { IfOk result (λ settled. rest_items layer settled.items ≡ rest_items layer rest.items) }
+    ensures items { IfOk result (λ settled. rest_items layer settled.items
+        ≡ rest_items layer rest.items) }
 {
     let mut settled = Vec::with_capacity(alloc, rest.len())?;
     let mut left = VecDeque::from_vec(rest);

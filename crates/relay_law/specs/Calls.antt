@@ -30,8 +30,10 @@ IsOpenAnswer c last (Err refusal) = first_of (open_lines c last) ≡ Some refusa
 
 -- what `link` answers of a commit that was opened, beside what is expected of it
 abbrev pub IsLinkAnswer : CommitEvent → Opened → Expect → Option Refusal → Type 0
-IsLinkAnswer c opened expect None = (is_gap c expect ≡ false) × Leads c opened.car.blocks (root_before expect) opened.head.data_root
-IsLinkAnswer c opened expect (Some refusal) = IsUnlinked c opened expect (CheckFault.Refused refusal)
+IsLinkAnswer c opened expect None = (is_gap c expect ≡ false)
+    × Leads c opened.car.blocks (root_before expect) opened.head.data_root
+IsLinkAnswer c opened expect (Some refusal) =
+    IsUnlinked c opened expect (CheckFault.Refused refusal)
 
 abbrev pub opened_head : Result Opened Refusal → Result Head Refusal
 opened_head (Ok opened) = Ok opened.head
@@ -43,9 +45,14 @@ found_head (Err refusal) = Err refusal
 
 -- Of each event the checks say what the calls answer: `open_commit` and `link` of a commit, `check_sync` of a `#sync`.
 pub record SayWhatCallsAnswer (checks : Checks) : Type 0 where
-  pub opens : (e : Seen) (c : CommitEvent) (last : Option ℕ) (answer : Result Opened Refusal) → e.body ≡ Body.Commit c → IsOpenAnswer c last answer → checks.opens e last ≡ opened_head answer
-  pub syncs : (e : Seen) (s : SyncEvent) (last : Option ℕ) (answer : Result Found Refusal) → e.body ≡ Body.Sync s → IsSyncAnswer s last answer → checks.opens e last ≡ found_head answer
-  pub links : (e : Seen) (c : CommitEvent) (opened : Opened) (repo : Repo) (answer : Option Refusal) → IsEvent e → e.body ≡ Body.Commit c → IsOpened c opened → IsLinkAnswer c opened (expect_of repo) answer
+  pub opens : (e : Seen) (c : CommitEvent) (last : Option ℕ) (answer : Result Opened Refusal)
+      → e.body ≡ Body.Commit c → IsOpenAnswer c last answer
+      → checks.opens e last ≡ opened_head answer
+  pub syncs : (e : Seen) (s : SyncEvent) (last : Option ℕ) (answer : Result Found Refusal)
+      → e.body ≡ Body.Sync s → IsSyncAnswer s last answer → checks.opens e last ≡ found_head answer
+  pub links : (e : Seen) (c : CommitEvent) (opened : Opened) (repo : Repo) (answer : Option Refusal)
+      → IsEvent e → e.body ≡ Body.Commit c → IsOpened c opened
+      → IsLinkAnswer c opened (expect_of repo) answer
       → checks.links e repo ≡ answer
 
 -- what hosts sent, each message with its host, as it is read

@@ -9,7 +9,8 @@ use Rattle.relay_law.specs.Chains.{commits, part_of}
 
 -- the commit that a row accepts, where it does, is of an account that wasn't lost
 abbrev pub IsOfKnown : List Row → Row → Type 0
-IsOfKnown before row = (did message data_root : List ℕ) (rev : Option ℕ) → part_of did row ≡ commits message data_root → (account did before).repo ≢ Repo.Lost rev
+IsOfKnown before row = (did message data_root : List ℕ) (rev : Option ℕ)
+    → part_of did row ≡ commits message data_root → (account did before).repo ≢ Repo.Lost rev
 
 -- Behind the journal J, no commit that these rows accept is of an account that was lost.
 abbrev pub AreOfKnown : List Row → List Row → Type 0

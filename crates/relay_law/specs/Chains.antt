@@ -19,7 +19,8 @@ pub data Part : Type 0 where
 abbrev pub effect_part : ℕ → List ℕ → Effect → Part
 effect_part kind message Effect.Nothing = nothing
 effect_part kind message (Effect.Account active status) = nothing
-effect_part kind message (Effect.Repo head) = if kind == 1 then commits message head.data_root else rests head.data_root
+effect_part kind message (Effect.Repo head) =
+    if kind == 1 then commits message head.data_root else rests head.data_root
 
 -- a whole repository that was fetched is a base
 abbrev pub taken_part : Taken → Fetched → Part

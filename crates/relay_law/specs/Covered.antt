@@ -27,4 +27,5 @@ pub record IsCovered (J : List Row) (host : List ℕ) (e : Seen) (moment : ℕ) 
   pub near : is_ahead commit.rev (Some moment) ≡ false
   pub no_gap : is_gap commit (expect_of (account e.did J).repo) ≡ false
   pub holds : HoldsCommit commit
-  pub covered : IsCoveredBy (edits_of commit) holds.blocks (root_before (expect_of (account e.did J).repo)) holds.commit.data_root
+  pub covered : IsCoveredBy (edits_of commit) holds.blocks
+      (root_before (expect_of (account e.did J).repo)) holds.commit.data_root

@@ -27,7 +27,8 @@ IsSyncAt w body = (sync : SyncEvent) × (body ≡ Body.Sync sync) × (sync.rev �
 
 -- an `#account`, not active where the account is taken down
 abbrev pub IsCommandOf : Operated → Body → Type 0
-IsCommandOf o body = (account : AccountEvent) × (body ≡ Body.Account account) × (IsTrue o.down → account.active ≡ false)
+IsCommandOf o body = (account : AccountEvent) × (body ≡ Body.Account account)
+    × (IsTrue o.down → account.active ≡ false)
 
 -- an event of the row's kind, where the row gives its own message a number
 abbrev pub IsFaithfulEvent : Taken → Type 0

@@ -50,8 +50,11 @@ IsOpenedAs body last (Err r) = shown_alone body last ≡ Some r
 -- The answers to an event so far, of its account and behind the last number: the moment is a number; opening and linking say what is right; and a fetch came to what a row may keep.
 pub record AreAnswersTo (last : ℕ) (a : State) (e : Seen) (x : Answers) : Type 0 where
   pub moment : (m : ℕ) → x.moment ≡ Some m → m < NUMBERS
-  pub opened : (answer : Result Head Refusal) → x.opened ≡ Some answer → IsOpenedAs e.body (last_rev a.repo) answer
-  pub linked : (c : CommitEvent) (h : HoldsCommit c) (r : Refusal) → e.body ≡ Body.Commit c → x.linked ≡ Some (Err r) → StopsPast (is_gap c (expect_of a.repo)) c h.blocks (root_before (expect_of a.repo)) h.commit.data_root r
+  pub opened : (answer : Result Head Refusal) → x.opened ≡ Some answer
+      → IsOpenedAs e.body (last_rev a.repo) answer
+  pub linked : (c : CommitEvent) (h : HoldsCommit c) (r : Refusal) → e.body ≡ Body.Commit c
+      → x.linked ≡ Some (Err r) → StopsPast (is_gap c (expect_of a.repo)) c h.blocks
+      (root_before (expect_of a.repo)) h.commit.data_root r
   pub fetched : (f : Fetched) → x.fetched ≡ Some f → IsFetchedBehind last f
 
 -- The same of the answers to a message. Of a bad event, the moment alone is asked.
@@ -66,9 +69,11 @@ AreAnswersFor last a Frame.Unknown x = ⊤
 abbrev pub IsFormedFound : ℕ → List ℕ → List ℕ → Found → Type 0
 IsFormedFound last did time absent = ⊤
 IsFormedFound last did time (unfit n) = is_repo_number true n ≡ true
-IsFormedFound last did time (found head records block) = (is_head head ≡ true) × (records < NUMBERS) × (is_message (sync_message did time head block (last + 1)) ≡ true)
+IsFormedFound last did time (found head records block) = (is_head head ≡ true) × (records < NUMBERS)
+    × (is_message (sync_message did time head block (last + 1)) ≡ true)
 
 -- the answers from outside to a message: the moment is a number, and a fetch for an event finds what a row may keep
 abbrev pub AreFormedFor : ℕ → Frame → Outside → Type 0
-AreFormedFor last (Frame.Event e) o = (o.moment < NUMBERS) × IsFormedFound last e.did e.time o.fetched
+AreFormedFor last (Frame.Event e) o = (o.moment < NUMBERS)
+    × IsFormedFound last e.did e.time o.fetched
 AreFormedFor last other o = o.moment < NUMBERS

@@ -41,11 +41,13 @@ GivesHead before head (Body.Account a) = ⊥
 abbrev pub EffectGives : Repo → Taken → Effect → Type 0
 EffectGives before t Effect.Nothing = Unit {0}
 EffectGives before t (Effect.Account active status) = Unit {0}
-EffectGives before t (Effect.Repo head) = ReadsAs t.message t.did t.seq (λ body. (kind_number body ≡ t.kind) × GivesHead before head body)
+EffectGives before t (Effect.Repo head) =
+    ReadsAs t.message t.did t.seq (λ body. (kind_number body ≡ t.kind) × GivesHead before head body)
 
 -- the relay's own `#sync` gives the head of the repository that was taken over: that of the commit object in its blocks
 abbrev pub WholeGives : List ℕ → Whole → Type 0
-WholeGives did w = ReadsAs w.message did w.seq (λ body. (kind_number body ≡ 2) × IsHeadOf body w.head)
+WholeGives did w = ReadsAs w.message did w.seq (λ body. (kind_number body ≡ 2)
+    × IsHeadOf body w.head)
 
 abbrev pub FetchGives : List ℕ → Fetched → Type 0
 FetchGives did Fetched.NotAsked = Unit {0}
@@ -56,7 +58,8 @@ FetchGives did (Fetched.Whole w) = WholeGives did w
 -- Behind the journal J, the message of an accepted commit or `#sync` gives the head that its row keeps, and
 -- so does the relay's own `#sync` of a repository that the row takes over.
 abbrev pub GivesItsHead : List Row → Row → Type 0
-GivesItsHead J (Row.Taken t) = EffectGives (account t.did J).repo t t.effect × FetchGives t.did t.fetched
+GivesItsHead J (Row.Taken t) = EffectGives (account t.did J).repo t t.effect
+    × FetchGives t.did t.fetched
 GivesItsHead J (Row.Synced did whole moment) = WholeGives did whole
 GivesItsHead J (Row.Operated o) = Unit {0}
 GivesItsHead J (Row.Carried c) = Unit {0}

@@ -32,7 +32,8 @@ IsChanged J (cuts number) K = IsCut J number K
 -- by these changes, one after another, a journal comes from another
 abbrev pub AreChanged : List Row → List Change → List Row → Type 0
 AreChanged J [] K = K ≡ J
-AreChanged J (change ∷ changes) K = (middle : List Row) × IsChanged J change middle × AreChanged middle changes K
+AreChanged J (change ∷ changes) K = (middle : List Row) × IsChanged J change middle
+    × AreChanged middle changes K
 
 abbrev pub Comes : List Row → List Row → Type 0
 Comes J K = (changes : List Change) × AreChanged J changes K

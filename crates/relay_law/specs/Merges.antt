@@ -39,7 +39,8 @@ Names (m ∷ messages) host did = ((m.0 ≡ host) × TellsOf m did) ⊎ Names me
 
 -- No two hosts that tell of an account are both its home.
 abbrev pub OneHome : World → List Message → Type 0
-OneHome w messages = (did one other : List ℕ) → Names messages one did → Names messages other did → w.home did one ≡ true → w.home did other ≡ true → one ≡ other
+OneHome w messages = (did one other : List ℕ) → Names messages one did → Names messages other did
+    → w.home did one ≡ true → w.home did other ≡ true → one ≡ other
 
 -- Both are what is decided of one message of a host, for one account and the same answers, each behind a last number of its own: they differ in the numbers that were given alone, also inside the messages that go out.
 pub record DifferInNumbers (checks : Checks) (one other : Taken) : Type 0 where
@@ -61,7 +62,8 @@ abbrev pub AllAlike : Checks → List Row → List Row → Type 0
 AllAlike checks [] [] = Unit {0}
 AllAlike checks [] (other ∷ others) = ⊥
 AllAlike checks (one ∷ ones) [] = ⊥
-AllAlike checks (one ∷ ones) (other ∷ others) = AreAlike checks one other × AllAlike checks ones others
+AllAlike checks (one ∷ ones) (other ∷ others) = AreAlike checks one other
+    × AllAlike checks ones others
 
 -- the rows of a host
 abbrev pub rows_of : List ℕ → List Row → List Row

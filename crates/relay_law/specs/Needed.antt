@@ -18,8 +18,10 @@ pub record PremisesAreNeeded : Type 0 where
   pub fronts : ((xs ys : List Row) → IsSound xs) → ⊥
   -- behind an operator's command a journal is sound, sound before or not
   pub operated : ((rows : List Row) (o : Operated) → IsSound (rows ++ Row.Operated o ∷ [])) → ⊥
-  pub synced : ((rows : List Row) (did : List ℕ) (whole : Whole) (moment : Option ℕ) → IsSound (rows ++ Row.Synced did whole moment ∷ [])) → ⊥
+  pub synced : ((rows : List Row) (did : List ℕ) (whole : Whole) (moment : Option ℕ)
+      → IsSound (rows ++ Row.Synced did whole moment ∷ [])) → ⊥
   -- checks that open rightly are right, however they link
   pub links : ((checks : Checks) → OpensRight checks → AreRight checks) → ⊥
   -- runs accept no commit of a lost account, whatever the checks
-  pub known : ((checks : Checks) (J : List Row) (messages : List Message) (rows : List Row) → Run checks J messages rows → AreOfKnown J rows) → ⊥
+  pub known : ((checks : Checks) (J : List Row) (messages : List Message) (rows : List Row)
+      → Run checks J messages rows → AreOfKnown J rows) → ⊥

@@ -53,10 +53,12 @@ IsSound rows = (did : List ℕ) → AreLinked (chains did rows)
 
 -- different blocks of a map's tree and of those that a commit's step names don't share a digest
 abbrev pub BlocksAreApart : List Item → CommitEvent → BlockMap → List ℕ → Type 0
-BlocksAreApart s c blocks data_root = (F : List Item) → IsView blocks data_root F → Distinct (nodes s ++ blocks_named (edits_of c) F)
+BlocksAreApart s c blocks data_root = (F : List Item) → IsView blocks data_root F
+    → Distinct (nodes s ++ blocks_named (edits_of c) F)
 
 -- a map goes by a commit to this map, whose tree has the commit's `data` as root
-pub record GoesTo (s : List Item) (c : CommitEvent) (data_root : List ℕ) (t : List Item) : Type 0 where
+pub record GoesTo (s : List Item) (c : CommitEvent) (data_root : List ℕ)
+    (t : List Item) : Type 0 where
   pub is_map : IsMap t
   pub plays : Plays s (edits_of c) t
   pub rooted : root t ≡ data_root
@@ -64,9 +66,12 @@ pub record GoesTo (s : List Item) (c : CommitEvent) (data_root : List ℕ) (t : 
 -- from this map, commit by commit, a chain replays, for as long as different blocks don't share a digest
 abbrev pub Replays : List Item → List (List ℕ × List ℕ) → Type 0
 Replays s [] = Unit {0}
-Replays s (k ∷ ks) = (c : CommitEvent) × IsCommit k.0 c × ((blocks : BlockMap) → HasBlocks c blocks → BlocksAreApart s c blocks k.1 → (t : List Item) × GoesTo s c k.1 t × Replays t ks)
+Replays s (k ∷ ks) = (c : CommitEvent) × IsCommit k.0 c
+    × ((blocks : BlockMap) → HasBlocks c blocks → BlocksAreApart s c blocks k.1 → (t : List Item)
+    × GoesTo s c k.1 t × Replays t ks)
 
 -- each chain replays from every map whose tree has the root of its base
 abbrev pub AllReplay : List Chain → Type 0
 AllReplay [] = Unit {0}
-AllReplay (chain ∷ others) = ((s : List Item) → IsMap s → root s ≡ chain.0 → Replays s chain.1) × AllReplay others
+AllReplay (chain ∷ others) = ((s : List Item) → IsMap s → root s ≡ chain.0 → Replays s chain.1)
+    × AllReplay others

@@ -46,7 +46,8 @@ pub(crate) fn cursor_in<'a>(value: &'a Option<CowStr<'a>>) -> Option<&'a str>
 
 /// The DID of the parameter `did`.
 pub(crate) fn did_in<'a>(value: &'a Option<CowStr<'a>>) -> Option<&'a str>
-    ensures { option_map (λ text. text.now) result ≡ did_param (option_map cow_str_bytes value.now) }
+    ensures { option_map (λ text. text.now) result
+        ≡ did_param (option_map cow_str_bytes value.now) }
 {
     match value {
         None => None,

@@ -32,7 +32,8 @@ pub record OperatedBehind (clock_tells : Bool) (J : List Row) (did : List ℕ) (
 
 -- The numbers end behind the journal J: the one behind the last is none, and the command isn't refused.
 abbrev pub NumbersEndBehind : List Row → List ℕ → Bool → Type 0
-NumbersEndBehind J did down = (operate_refusal (account did J) down ≡ None) × (NUMBERS ≤ last_seq J + 1)
+NumbersEndBehind J did down = (operate_refusal (account did J) down ≡ None)
+    × (NUMBERS ≤ last_seq J + 1)
 
 -- An account of the journal J of two disks was to be taken down, or restored.
 abbrev pub WasOperated : Bool → Bool → ℕ → List Row → List ℕ → Bool → List ℕ → List ℕ → List ℕ

@@ -37,10 +37,14 @@ EndsCommand no_room command (RunEnd.Fault StoreFault.Memory) = ⊤
 EndsCommand no_room command (RunEnd.Fault fault) = ⊥
 
 -- what came of it, and how it may end by that
-abbrev pub IsCome : Type 0 → (StoreFault → Type 0) → (CommandAnswer → Type 0) → (Row → ℕ → Type 0) → RunEnd → Came → Type 0
-IsCome nothing vain is_command no_room end unopened = (fault : StoreFault) × (end ≡ RunEnd.Fault fault) × IsOfReading fault × nothing
-IsCome nothing vain is_command no_room end in_vain = (fault : StoreFault) × (end ≡ RunEnd.Fault fault) × ComesOfAsking fault × vain fault
-IsCome nothing vain is_command no_room end (said command) = is_command command × EndsCommand no_room command end
+abbrev pub IsCome : Type 0 → (StoreFault → Type 0) → (CommandAnswer → Type 0) → (Row → ℕ → Type 0)
+    → RunEnd → Came → Type 0
+IsCome nothing vain is_command no_room end unopened = (fault : StoreFault)
+    × (end ≡ RunEnd.Fault fault) × IsOfReading fault × nothing
+IsCome nothing vain is_command no_room end in_vain = (fault : StoreFault)
+    × (end ≡ RunEnd.Fault fault) × ComesOfAsking fault × vain fault
+IsCome nothing vain is_command no_room end (said command) = is_command command
+    × EndsCommand no_room command end
 
 -- the rows of the word
 abbrev pub rows_come : Came → List Row
@@ -64,17 +68,23 @@ WasOpened unopened = ⊥
 WasOpened came = ⊤
 
 -- An operator's command came to two disks that have the journal J.
-pub record CommandRan (output_tells : Bool) (most : ℕ) (J : List Row) (nothing : Type 0) (vain : StoreFault → Type 0) (is_command : CommandAnswer → Type 0) (old new : PairView) (end : RunEnd) : Type 0 where
+pub record CommandRan (output_tells : Bool) (most : ℕ) (J : List Row) (nothing : Type 0)
+    (vain : StoreFault → Type 0) (is_command : CommandAnswer → Type 0) (old new : PairView)
+    (end : RunEnd) : Type 0 where
   pub came : Came
-  pub is : IsCome nothing vain is_command (λ row e. PairHasNoRoom most J row e new.one.content new.two.content) end came
+  pub is : IsCome nothing vain is_command
+      (λ row e. PairHasNoRoom most J row e new.one.content new.two.content) end came
   -- its row, if it made one, keeps the journal's order, and leaves a sound journal sound and a faithful one faithful
   pub journal : IsJournal (J ++ rows_come came)
   pub sound : IsSound J → IsSound (J ++ rows_come came)
   pub faithful : IsFaithfulJournal J → IsFaithfulJournal (J ++ rows_come came)
   pub written : IsTrue output_tells → IsWritten end (text_come came) old.written new.written
   -- the log that is picked had room for the row that was added
-  pub room : (rows_kept end came ≡ []) ⊎ PairHasRoom most (J ++ rows_kept end came) new.one.content new.two.content
+  pub room : (rows_kept end came ≡ [])
+      ⊎ PairHasRoom most (J ++ rows_kept end came) new.one.content new.two.content
   -- Unless the disk failed, the two stand for the journal with the row that was added: once they were opened, and where they stood for the journal before.
-  pub stands : end ≢ RunEnd.Fault StoreFault.Disk → WasOpened came ⊎ StandsFor J old.one old.two → StandsFor (J ++ rows_kept end came) new.one new.two
+  pub stands : end ≢ RunEnd.Fault StoreFault.Disk → WasOpened came ⊎ StandsFor J old.one old.two
+      → StandsFor (J ++ rows_kept end came) new.one new.two
   -- And then, whatever moments a crash strikes the two at, it leaves the journal, with the row or without.
-  pub crashes : StandsFor J old.one old.two → PairLeavesOnly (IsOneOfPair J (rows_come came)) old.one new.one old.two new.two
+  pub crashes : StandsFor J old.one old.two
+      → PairLeavesOnly (IsOneOfPair J (rows_come came)) old.one new.one old.two new.two

@@ -13,7 +13,8 @@ numbered command n = command ++ decimal n
 -- under which number it goes out, with how many records of a repository that was taken over; or that it is refused
 abbrev pub done_text : Done → List ℕ
 done_text (Done.Event seq) = numbered (codes "event ") seq ++ 10 ∷ []
-done_text (Done.Synced seq records) = numbered (codes "synced ") seq ++ (numbered (codes " records ") records ++ 10 ∷ [])
+done_text (Done.Synced seq records) = numbered (codes "synced ") seq
+    ++ (numbered (codes " records ") records ++ 10 ∷ [])
 done_text (Done.Refused refusal) = refused_of refusal ++ 10 ∷ []
 
 -- how a command may end by what was answered: memory runs out for a refusal alone

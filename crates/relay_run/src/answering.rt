@@ -17,8 +17,10 @@ use std::alloc::Global;
 
 // A word and a number.
 pub(crate) fn write_number<O: Sink>(out: &mut O, command: &[u8], number: u64) -> Result<(), Failed>
-    ensures written { OnOk result (IsTrue O.tells → O.written out.new ≡ O.written out.old ++ numbered command.now number) }
-    ensures front { IsTrue O.tells → AddsFront (O.written out.old) (O.written out.new) (numbered command.now number) }
+    ensures written { OnOk result (IsTrue O.tells
+        → O.written out.new ≡ O.written out.old ++ numbered command.now number) }
+    ensures front { IsTrue O.tells → AddsFront (O.written out.old) (O.written out.new)
+        (numbered command.now number) }
     ensures counts { O.faults out.old ≤ O.faults out.new }
     ensures steady { OnOk result (O.faults out.new ≡ O.faults out.old) }
     ensures failed { OnErr result (Rose (O.faults out.old) (O.faults out.new)) }
@@ -29,8 +31,10 @@ pub(crate) fn write_number<O: Sink>(out: &mut O, command: &[u8], number: u64) ->
 
 // A word and a number at the end of a line.
 pub(crate) fn write_last<O: Sink>(out: &mut O, command: &[u8], number: u64) -> Result<(), Failed>
-    ensures written { OnOk result (IsTrue O.tells → O.written out.new ≡ O.written out.old ++ (numbered command.now number ++ 10 ∷ [])) }
-    ensures front { IsTrue O.tells → AddsFront (O.written out.old) (O.written out.new) (numbered command.now number ++ 10 ∷ []) }
+    ensures written { OnOk result (IsTrue O.tells
+        → O.written out.new ≡ O.written out.old ++ (numbered command.now number ++ 10 ∷ [])) }
+    ensures front { IsTrue O.tells → AddsFront (O.written out.old) (O.written out.new)
+        (numbered command.now number ++ 10 ∷ []) }
     ensures counts { O.faults out.old ≤ O.faults out.new }
     ensures steady { OnOk result (O.faults out.new ≡ O.faults out.old) }
     ensures failed { OnErr result (Rose (O.faults out.old) (O.faults out.new)) }
@@ -40,8 +44,10 @@ pub(crate) fn write_last<O: Sink>(out: &mut O, command: &[u8], number: u64) -> R
 }
 
 fn write_synced<O: Sink>(out: &mut O, seq: u64, records: u64) -> Result<(), Failed>
-    ensures written { OnOk result (IsTrue O.tells → O.written out.new ≡ O.written out.old ++ done_text (Done.Synced seq records)) }
-    ensures front { IsTrue O.tells → AddsFront (O.written out.old) (O.written out.new) (done_text (Done.Synced seq records)) }
+    ensures written { OnOk result (IsTrue O.tells
+        → O.written out.new ≡ O.written out.old ++ done_text (Done.Synced seq records)) }
+    ensures front { IsTrue O.tells → AddsFront (O.written out.old) (O.written out.new)
+        (done_text (Done.Synced seq records)) }
     ensures counts { O.faults out.old ≤ O.faults out.new }
     ensures steady { OnOk result (O.faults out.new ≡ O.faults out.old) }
     ensures failed { OnErr result (Rose (O.faults out.old) (O.faults out.new)) }
@@ -62,7 +68,8 @@ fn refused_line(alloc: Global, refusal: &Refusal) -> Result<Octets, Memory>
 // The line of a refusal, for which memory is taken.
 pub(crate) fn answer_refused<O: Sink>(alloc: Global, refusal: &Refusal, out: &mut O) -> RunEnd
     ensures ends { IsEndOf (Done.Refused refusal.now) result }
-    ensures written { IsTrue O.tells → IsWritten result (done_text (Done.Refused refusal.now)) (O.written out.old) (O.written out.new) }
+    ensures written { IsTrue O.tells → IsWritten result (done_text (Done.Refused refusal.now))
+        (O.written out.old) (O.written out.new) }
     ensures failed { result ≡ RunEnd.WriteFault → Rose (O.faults out.old) (O.faults out.new) }
     ensures counts { O.faults out.old ≤ O.faults out.new }
     ensures steady { result ≢ RunEnd.WriteFault → O.faults out.new ≡ O.faults out.old }
@@ -80,7 +87,8 @@ pub(crate) fn answer_refused<O: Sink>(alloc: Global, refusal: &Refusal, out: &mu
 // Memory is taken for a refusal alone: behind a row that was added nothing fails but the output.
 pub(crate) fn answer<O: Sink>(alloc: Global, done: &Done, out: &mut O) -> RunEnd
     ensures ends { IsEndOf done.now result }
-    ensures written { IsTrue O.tells → IsWritten result (done_text done.now) (O.written out.old) (O.written out.new) }
+    ensures written { IsTrue O.tells → IsWritten result (done_text done.now) (O.written out.old)
+        (O.written out.new) }
     ensures failed { result ≡ RunEnd.WriteFault → Rose (O.faults out.old) (O.faults out.new) }
     ensures counts { O.faults out.old ≤ O.faults out.new }
     ensures steady { result ≢ RunEnd.WriteFault → O.faults out.new ≡ O.faults out.old }

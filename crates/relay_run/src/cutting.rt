@@ -31,8 +31,11 @@ use relay_store::{CutDone, Store, StoreFault};
 use std::alloc::Global;
 
 fn write_bounds<O: Sink>(out: &mut O, oldest: u64, last: u64) -> Result<(), Failed>
-    ensures written { OnOk result (IsTrue O.tells → O.written out.new ≡ O.written out.old ++ (numbered (codes " oldest ") oldest ++ (numbered (codes " last ") last ++ 10 ∷ []))) }
-    ensures front { IsTrue O.tells → AddsFront (O.written out.old) (O.written out.new) (numbered (codes " oldest ") oldest ++ (numbered (codes " last ") last ++ 10 ∷ [])) }
+    ensures written { OnOk result (IsTrue O.tells
+        → O.written out.new ≡ O.written out.old
+        ++ (numbered (codes " oldest ") oldest ++ (numbered (codes " last ") last ++ 10 ∷ []))) }
+    ensures front { IsTrue O.tells → AddsFront (O.written out.old) (O.written out.new)
+        (numbered (codes " oldest ") oldest ++ (numbered (codes " last ") last ++ 10 ∷ [])) }
     ensures counts { O.faults out.old ≤ O.faults out.new }
     ensures steady { OnOk result (O.faults out.new ≡ O.faults out.old) }
     ensures failed { OnErr result (Rose (O.faults out.old) (O.faults out.new)) }
@@ -42,8 +45,10 @@ fn write_bounds<O: Sink>(out: &mut O, oldest: u64, last: u64) -> Result<(), Fail
 }
 
 fn write_cut<O: Sink>(out: &mut O, seq: u64, oldest: u64, last: u64) -> Result<(), Failed>
-    ensures written { OnOk result (IsTrue O.tells → O.written out.new ≡ O.written out.old ++ cut_text seq (CutDone.Cut oldest last)) }
-    ensures front { IsTrue O.tells → AddsFront (O.written out.old) (O.written out.new) (cut_text seq (CutDone.Cut oldest last)) }
+    ensures written { OnOk result (IsTrue O.tells
+        → O.written out.new ≡ O.written out.old ++ cut_text seq (CutDone.Cut oldest last)) }
+    ensures front { IsTrue O.tells → AddsFront (O.written out.old) (O.written out.new)
+        (cut_text seq (CutDone.Cut oldest last)) }
     ensures counts { O.faults out.old ≤ O.faults out.new }
     ensures steady { OnOk result (O.faults out.new ≡ O.faults out.old) }
     ensures failed { OnErr result (Rose (O.faults out.old) (O.faults out.new)) }
@@ -55,7 +60,8 @@ fn write_cut<O: Sink>(out: &mut O, seq: u64, oldest: u64, last: u64) -> Result<(
 // Memory is taken for a refusal alone: behind a log that was written nothing fails but the output.
 fn answer<O: Sink>(alloc: Global, seq: u64, done: &CutDone, out: &mut O) -> RunEnd
     ensures ends { EndsCut done.now result }
-    ensures written { IsTrue O.tells → IsWritten result (cut_text seq done.now) (O.written out.old) (O.written out.new) }
+    ensures written { IsTrue O.tells → IsWritten result (cut_text seq done.now) (O.written out.old)
+        (O.written out.new) }
     ensures failed { result ≡ RunEnd.WriteFault → Rose (O.faults out.old) (O.faults out.new) }
     ensures counts { O.faults out.old ≤ O.faults out.new }
     ensures steady { result ≢ RunEnd.WriteFault → O.faults out.new ≡ O.faults out.old }
@@ -78,31 +84,53 @@ fn cut_on<D: Disk>(
     seq: u64,
 ) -> Result<CutDone, StoreFault>
     requires open { IsTrue (seen_in store.old).log.is_open }
-    requires on { IsTrue D.tells → IsKept (seen_in store.old) (view_of_side (seen_in store.old).side (D.view disk.old) (D.view other.old)) }
-    requires side { IsTrue D.tells → LeavesSide (seen_in store.old).side (D.view disk.old) (D.view other.old) }
-    ensures untouched { (why : TheRefusal) → result ≡ Ok (CutDone.Refused why) → (disk.new ≡ disk.old) × (other.new ≡ other.old) }
-    ensures refused { (why : TheRefusal) → result ≡ Ok (CutDone.Refused why) → IsTrue D.tells → (J : List TheRow)
-        → Keeps J (seen_in store.old) (view_of_side (seen_in store.old).side (D.view disk.old) (D.view other.old)) → IsUncut J (seen_in store.old).log.format seq why }
-    ensures cut { (oldest last : ℕ) → result ≡ Ok (CutDone.Cut oldest last) → IsTrue D.tells → (J : List TheRow)
-        → Keeps J (seen_in store.old) (view_of_side (seen_in store.old).side (D.view disk.old) (D.view other.old))
-        → IsAnswerOf (seen_in store.old).log.most J seq (D.view disk.new).content (D.view other.new).content (CutDone.Cut oldest last)
+    requires on { IsTrue D.tells → IsKept (seen_in store.old)
+        (view_of_side (seen_in store.old).side (D.view disk.old) (D.view other.old)) }
+    requires side { IsTrue D.tells → LeavesSide (seen_in store.old).side (D.view disk.old)
+        (D.view other.old) }
+    ensures untouched { (why : TheRefusal) → result ≡ Ok (CutDone.Refused why)
+        → (disk.new ≡ disk.old) × (other.new ≡ other.old) }
+    ensures refused { (why : TheRefusal) → result ≡ Ok (CutDone.Refused why) → IsTrue D.tells
+        → (J : List TheRow)
+        → Keeps J (seen_in store.old) (view_of_side (seen_in store.old).side (D.view disk.old)
+        (D.view other.old)) → IsUncut J (seen_in store.old).log.format seq why }
+    ensures cut { (oldest last : ℕ) → result ≡ Ok (CutDone.Cut oldest last) → IsTrue D.tells
+        → (J : List TheRow)
+        → Keeps J (seen_in store.old) (view_of_side (seen_in store.old).side (D.view disk.old)
+        (D.view other.old))
+        → IsAnswerOf (seen_in store.old).log.most J seq (D.view disk.new).content
+        (D.view other.new).content (CutDone.Cut oldest last)
         × StandsFor (cut_of J seq) (D.view disk.new) (D.view other.new) }
     ensures failed { (f : TheFault) → result ≡ Err f → IsTrue D.tells → (J : List TheRow)
-        → Keeps J (seen_in store.old) (view_of_side (seen_in store.old).side (D.view disk.old) (D.view other.old))
-        → MayCut J seq × (f ≢ StoreFault.Disk → Keeps J (seen_in store.old) (view_of_side (seen_in store.old).side (D.view disk.new) (D.view other.new))
+        → Keeps J (seen_in store.old) (view_of_side (seen_in store.old).side (D.view disk.old)
+        (D.view other.old))
+        → MayCut J seq × (f ≢ StoreFault.Disk
+        → Keeps J (seen_in store.old) (view_of_side (seen_in store.old).side (D.view disk.new)
+        (D.view other.new))
         × LeavesSide (seen_in store.old).side (D.view disk.new) (D.view other.new)) }
     ensures full { (e : ℕ) → result ≡ Err (StoreFault.Full e) → IsTrue D.tells → (J : List TheRow)
-        → Keeps J (seen_in store.old) (view_of_side (seen_in store.old).side (D.view disk.old) (D.view other.old))
-        → RewriteHasNoRoom (length (front (TheFormat.Two (generation (seen_in store.old).log.format + 1)))) (seen_in store.old).log.most (cut_of J seq) e }
+        → Keeps J (seen_in store.old) (view_of_side (seen_in store.old).side (D.view disk.old)
+        (D.view other.old))
+        → RewriteHasNoRoom
+        (length (front (TheFormat.Two (generation (seen_in store.old).log.format + 1))))
+        (seen_in store.old).log.most (cut_of J seq) e }
     ensures no_bad_log { (p : ℕ) → result ≡ Err (StoreFault.BadLog p) → IsTrue D.tells → ⊥ }
-    ensures moments { IsTrue D.tells → (J : List TheRow) → Keeps J (seen_in store.old) (view_of_side (seen_in store.old).side (D.view disk.old) (D.view other.old))
-        → PairLeavesOnly (λ c d. IsPairImageOf J c d ⊎ IsPairImageOf (cut_of J seq) c d) (D.view disk.old) (D.view disk.new) (D.view other.old) (D.view other.new) }
-    ensures time { IsTrue D.tells → TimeGoesOn (D.view disk.old) (D.view disk.new) × TimeGoesOn (D.view other.old) (D.view other.new) }
-    ensures disk { result ≡ Err StoreFault.Disk → Rose (D.view disk.old).faults (D.view disk.new).faults ⊎ Rose (D.view other.old).faults (D.view other.new).faults }
+    ensures moments { IsTrue D.tells → (J : List TheRow)
+        → Keeps J (seen_in store.old) (view_of_side (seen_in store.old).side (D.view disk.old)
+        (D.view other.old))
+        → PairLeavesOnly (λ c d. IsPairImageOf J c d
+        ⊎ IsPairImageOf (cut_of J seq) c d) (D.view disk.old) (D.view disk.new) (D.view other.old)
+        (D.view other.new) }
+    ensures time { IsTrue D.tells → TimeGoesOn (D.view disk.old) (D.view disk.new)
+        × TimeGoesOn (D.view other.old) (D.view other.new) }
+    ensures disk { result ≡ Err StoreFault.Disk
+        → Rose (D.view disk.old).faults (D.view disk.new).faults
+        ⊎ Rose (D.view other.old).faults (D.view other.new).faults }
     ensures few { (f : TheFault) → result ≡ Err f → IsOfRewriting f }
     ensures disk_counts { (D.view disk.old).faults ≤ (D.view disk.new).faults }
     ensures other_counts { (D.view other.old).faults ≤ (D.view other.new).faults }
-    ensures disks_steady { result ≢ Err StoreFault.Disk → ((D.view disk.new).faults ≡ (D.view disk.old).faults)
+    ensures disks_steady { result ≢ Err StoreFault.Disk
+        → ((D.view disk.new).faults ≡ (D.view disk.old).faults)
         × ((D.view other.new).faults ≡ (D.view other.old).faults) }
 {
     match store.side() {
@@ -123,20 +151,28 @@ pub fn cut<D: Disk, O: Sink>(
     out: &mut O,
 ) -> RunEnd
     requires { most ≤ LAST_END }
-    ensures cut { IsTrue D.tells → (J : List TheRow) → IsPairImageOf J (D.view disk.old).content (D.view other.old).content
-        → WasCut D.view O.tells most J seq (pair_view (D.view disk.old) (D.view other.old) (O.written out.old)) (pair_view (D.view disk.new) (D.view other.new) (O.written out.new)) result }
-    ensures shows { IsTrue D.tells → RunEndShows result (D.view disk.old).content (D.view other.old).content }
+    ensures cut { IsTrue D.tells → (J : List TheRow)
+        → IsPairImageOf J (D.view disk.old).content (D.view other.old).content
+        → WasCut D.view O.tells most J seq
+        (pair_view (D.view disk.old) (D.view other.old) (O.written out.old))
+        (pair_view (D.view disk.new) (D.view other.new) (O.written out.new)) result }
+    ensures shows { IsTrue D.tells → RunEndShows result (D.view disk.old).content
+        (D.view other.old).content }
     ensures quiet { IsTrue O.tells → IsQuiet result (O.written out.old) (O.written out.new) }
     // A damaged log is only read, and nothing else is done.
-    ensures unopened { (place : ℕ) → result ≡ RunEnd.Fault (StoreFault.BadLog place) → IsTrue D.tells
+    ensures unopened { (place : ℕ) → result ≡ RunEnd.Fault (StoreFault.BadLog place)
+        → IsTrue D.tells
         → BothOnlyRead (D.view disk.old) (D.view other.old) (D.view disk.new) (D.view other.new)
         × (out.new ≡ out.old) }
     ensures few { IsOfCutting result }
-    ensures caused { IsCausedBy (Rose (D.view disk.old).faults (D.view disk.new).faults ⊎ Rose (D.view other.old).faults (D.view other.new).faults) (Rose (O.faults out.old) (O.faults out.new)) ⊥ ⊥ ⊥ result }
+    ensures caused { IsCausedBy (Rose (D.view disk.old).faults (D.view disk.new).faults
+        ⊎ Rose (D.view other.old).faults (D.view other.new).faults)
+        (Rose (O.faults out.old) (O.faults out.new)) ⊥ ⊥ ⊥ result }
     ensures disk_counts { (D.view disk.old).faults ≤ (D.view disk.new).faults }
     ensures other_counts { (D.view other.old).faults ≤ (D.view other.new).faults }
     ensures out_counts { O.faults out.old ≤ O.faults out.new }
-    ensures disks_steady { result ≢ RunEnd.Fault StoreFault.Disk → ((D.view disk.new).faults ≡ (D.view disk.old).faults)
+    ensures disks_steady { result ≢ RunEnd.Fault StoreFault.Disk
+        → ((D.view disk.new).faults ≡ (D.view disk.old).faults)
         × ((D.view other.new).faults ≡ (D.view other.old).faults) }
     ensures out_steady { result ≢ RunEnd.WriteFault → O.faults out.new ≡ O.faults out.old }
 {

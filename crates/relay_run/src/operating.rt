@@ -39,21 +39,32 @@ fn operate_on<D: Disk, C: Clock>(
     clock: &mut C,
 ) -> Result<Done, StoreFault>
     requires open { IsTrue (seen_in store.old).log.is_open }
-    requires on { IsTrue D.tells → IsKept (seen_in store.old) (view_of_side (seen_in store.old).side (D.view disk.old) (D.view other.old)) }
+    requires on { IsTrue D.tells → IsKept (seen_in store.old)
+        (view_of_side (seen_in store.old).side (D.view disk.old) (D.view other.old)) }
     requires did { IsTrue (is_did did.now) }
     requires time { length time.now ≤ LONGEST_SHORT_TEXT }
-    ensures commanded { (J : List TheRow) → IsOf J (seen_in store.old).core → CommandDone D.view D.tells J (λ command. OperatedAt C.tells (seen_in store.old).core did.now down time.now (C.moments clock.old) command (C.moments clock.new))
-        (IsTrue C.tells → OneTaken (C.moments clock.old) (C.moments clock.new)) (seen_in store.old) (seen_in store.new)
-        (of_pair (seen_in store.old).side disk.old other.old) (of_pair (seen_in store.old).side disk.new other.new) result }
-    ensures beside { of_pair (other_side (seen_in store.old).side) disk.new other.new ≡ of_pair (other_side (seen_in store.old).side) disk.old other.old }
-    ensures disk { result ≡ Err StoreFault.Disk → Rose (D.view disk.old).faults (D.view disk.new).faults ⊎ Rose (D.view other.old).faults (D.view other.new).faults }
+    ensures commanded { (J : List TheRow) → IsOf J (seen_in store.old).core
+        → CommandDone D.view D.tells J
+        (λ command. OperatedAt C.tells (seen_in store.old).core did.now down time.now
+        (C.moments clock.old) command (C.moments clock.new))
+        (IsTrue C.tells → OneTaken (C.moments clock.old) (C.moments clock.new)) (seen_in store.old)
+        (seen_in store.new)
+        (of_pair (seen_in store.old).side disk.old other.old)
+        (of_pair (seen_in store.old).side disk.new other.new) result }
+    ensures beside { of_pair (other_side (seen_in store.old).side) disk.new other.new
+        ≡ of_pair (other_side (seen_in store.old).side) disk.old other.old }
+    ensures disk { result ≡ Err StoreFault.Disk
+        → Rose (D.view disk.old).faults (D.view disk.new).faults
+        ⊎ Rose (D.view other.old).faults (D.view other.new).faults }
     ensures clock { result ≡ Err StoreFault.Clock → Rose (C.faults clock.old) (C.faults clock.new) }
     ensures few { (f : TheFault) → result ≡ Err f → IsOfOperating f }
-    ensures seq_end { result ≡ Err StoreFault.SeqEnd → EndsBehind (seen_in store.old).core did.now down }
+    ensures seq_end { result ≡ Err StoreFault.SeqEnd
+        → EndsBehind (seen_in store.old).core did.now down }
     ensures disk_counts { (D.view disk.old).faults ≤ (D.view disk.new).faults }
     ensures other_counts { (D.view other.old).faults ≤ (D.view other.new).faults }
     ensures clock_counts { C.faults clock.old ≤ C.faults clock.new }
-    ensures disks_steady { result ≢ Err StoreFault.Disk → ((D.view disk.new).faults ≡ (D.view disk.old).faults)
+    ensures disks_steady { result ≢ Err StoreFault.Disk
+        → ((D.view disk.new).faults ≡ (D.view disk.old).faults)
         × ((D.view other.new).faults ≡ (D.view other.old).faults) }
     ensures clock_steady { result ≢ Err StoreFault.Clock → C.faults clock.new ≡ C.faults clock.old }
 {
@@ -79,26 +90,34 @@ pub fn operate<D: Disk, C: Clock, O: Sink>(
     requires most { most ≤ LAST_END }
     requires did { IsTrue (is_did did.now) }
     requires time { length time.now ≤ LONGEST_SHORT_TEXT }
-    ensures ran { IsTrue D.tells → (J : List TheRow) → IsPairImageOf J (D.view disk.old).content (D.view other.old).content
+    ensures ran { IsTrue D.tells → (J : List TheRow)
+        → IsPairImageOf J (D.view disk.old).content (D.view other.old).content
         → WasOperated O.tells C.tells most J did.now down time.now
         (C.moments clock.old) (C.moments clock.new)
         (pair_view (D.view disk.old) (D.view other.old) (O.written out.old))
         (pair_view (D.view disk.new) (D.view other.new) (O.written out.new)) result }
-    ensures shows { IsTrue D.tells → RunEndShows result (D.view disk.old).content (D.view other.old).content }
+    ensures shows { IsTrue D.tells → RunEndShows result (D.view disk.old).content
+        (D.view other.old).content }
     ensures quiet { IsTrue O.tells → IsQuiet result (O.written out.old) (O.written out.new) }
     // A damaged log is only read, and nothing else is done.
-    ensures unopened { (place : ℕ) → result ≡ RunEnd.Fault (StoreFault.BadLog place) → IsTrue D.tells
+    ensures unopened { (place : ℕ) → result ≡ RunEnd.Fault (StoreFault.BadLog place)
+        → IsTrue D.tells
         → BothOnlyRead (D.view disk.old) (D.view other.old) (D.view disk.new) (D.view other.new)
         × (clock.new ≡ clock.old) × (out.new ≡ out.old) }
-    ensures caused { IsCausedBy (Rose (D.view disk.old).faults (D.view disk.new).faults ⊎ Rose (D.view other.old).faults (D.view other.new).faults) (Rose (O.faults out.old) (O.faults out.new)) ⊥ ⊥ (Rose (C.faults clock.old) (C.faults clock.new)) result }
+    ensures caused { IsCausedBy (Rose (D.view disk.old).faults (D.view disk.new).faults
+        ⊎ Rose (D.view other.old).faults (D.view other.new).faults)
+        (Rose (O.faults out.old) (O.faults out.new)) ⊥ ⊥
+        (Rose (C.faults clock.old) (C.faults clock.new)) result }
     ensures disk_counts { (D.view disk.old).faults ≤ (D.view disk.new).faults }
     ensures other_counts { (D.view other.old).faults ≤ (D.view other.new).faults }
     ensures clock_counts { C.faults clock.old ≤ C.faults clock.new }
     ensures out_counts { O.faults out.old ≤ O.faults out.new }
-    ensures disks_steady { result ≢ RunEnd.Fault StoreFault.Disk → ((D.view disk.new).faults ≡ (D.view disk.old).faults)
+    ensures disks_steady { result ≢ RunEnd.Fault StoreFault.Disk
+        → ((D.view disk.new).faults ≡ (D.view disk.old).faults)
         × ((D.view other.new).faults ≡ (D.view other.old).faults) }
     ensures out_steady { result ≢ RunEnd.WriteFault → O.faults out.new ≡ O.faults out.old }
-    ensures clock_steady { result ≢ RunEnd.Fault StoreFault.Clock → C.faults clock.new ≡ C.faults clock.old }
+    ensures clock_steady { result ≢ RunEnd.Fault StoreFault.Clock
+        → C.faults clock.new ≡ C.faults clock.old }
 {
     ghost_text(time);
     let mut store = match Store::open(alloc, disk, other, most) {

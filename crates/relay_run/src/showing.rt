@@ -23,7 +23,8 @@ use std::alloc::Global;
 // Writes a text.
 fn show<O: Sink>(text: &[u8], out: &mut O) -> RunEnd
     ensures ends { (result ≡ RunEnd.Done) ⊎ (result ≡ RunEnd.WriteFault) }
-    ensures written { IsTrue O.tells → IsWritten result text.now (O.written out.old) (O.written out.new) }
+    ensures written { IsTrue O.tells → IsWritten result text.now (O.written out.old)
+        (O.written out.new) }
     ensures failed { result ≡ RunEnd.WriteFault → Rose (O.faults out.old) (O.faults out.new) }
     ensures counts { O.faults out.old ≤ O.faults out.new }
     ensures steady { result ≢ RunEnd.WriteFault → O.faults out.new ≡ O.faults out.old }
@@ -44,20 +45,28 @@ pub fn account<D: Disk, O: Sink>(
     out: &mut O,
 ) -> RunEnd
     requires { most ≤ LAST_END }
-    ensures shown { IsTrue D.tells → (J : List TheRow) → IsPairImageOf J (D.view disk.old).content (D.view other.old).content
-        → TextShown O.tells J (account_text did.now (account_of did.now J)) (pair_view (D.view disk.old) (D.view other.old) (O.written out.old)) (pair_view (D.view disk.new) (D.view other.new) (O.written out.new)) result }
-    ensures shows { IsTrue D.tells → RunEndShows result (D.view disk.old).content (D.view other.old).content }
+    ensures shown { IsTrue D.tells → (J : List TheRow)
+        → IsPairImageOf J (D.view disk.old).content (D.view other.old).content
+        → TextShown O.tells J (account_text did.now (account_of did.now J))
+        (pair_view (D.view disk.old) (D.view other.old) (O.written out.old))
+        (pair_view (D.view disk.new) (D.view other.new) (O.written out.new)) result }
+    ensures shows { IsTrue D.tells → RunEndShows result (D.view disk.old).content
+        (D.view other.old).content }
     ensures quiet { IsTrue O.tells → IsQuiet result (O.written out.old) (O.written out.new) }
     // A damaged log is only read, and nothing else is done.
-    ensures unopened { (place : ℕ) → result ≡ RunEnd.Fault (StoreFault.BadLog place) → IsTrue D.tells
+    ensures unopened { (place : ℕ) → result ≡ RunEnd.Fault (StoreFault.BadLog place)
+        → IsTrue D.tells
         → BothOnlyRead (D.view disk.old) (D.view other.old) (D.view disk.new) (D.view other.new)
         × (out.new ≡ out.old) }
     ensures few { IsOfShowing result }
-    ensures caused { IsCausedBy (Rose (D.view disk.old).faults (D.view disk.new).faults ⊎ Rose (D.view other.old).faults (D.view other.new).faults) (Rose (O.faults out.old) (O.faults out.new)) ⊤ ⊤ ⊤ result }
+    ensures caused { IsCausedBy (Rose (D.view disk.old).faults (D.view disk.new).faults
+        ⊎ Rose (D.view other.old).faults (D.view other.new).faults)
+        (Rose (O.faults out.old) (O.faults out.new)) ⊤ ⊤ ⊤ result }
     ensures disk_counts { (D.view disk.old).faults ≤ (D.view disk.new).faults }
     ensures other_counts { (D.view other.old).faults ≤ (D.view other.new).faults }
     ensures out_counts { O.faults out.old ≤ O.faults out.new }
-    ensures disks_steady { result ≢ RunEnd.Fault StoreFault.Disk → ((D.view disk.new).faults ≡ (D.view disk.old).faults)
+    ensures disks_steady { result ≢ RunEnd.Fault StoreFault.Disk
+        → ((D.view disk.new).faults ≡ (D.view disk.old).faults)
         × ((D.view other.new).faults ≡ (D.view other.old).faults) }
     ensures out_steady { result ≢ RunEnd.WriteFault → O.faults out.new ≡ O.faults out.old }
 {
@@ -80,20 +89,28 @@ pub fn hosts<D: Disk, O: Sink>(
     out: &mut O,
 ) -> RunEnd
     requires { most ≤ LAST_END }
-    ensures shown { IsTrue D.tells → (J : List TheRow) → IsPairImageOf J (D.view disk.old).content (D.view other.old).content
-        → TextShown O.tells J (hosts_text (hosts_of J)) (pair_view (D.view disk.old) (D.view other.old) (O.written out.old)) (pair_view (D.view disk.new) (D.view other.new) (O.written out.new)) result }
-    ensures shows { IsTrue D.tells → RunEndShows result (D.view disk.old).content (D.view other.old).content }
+    ensures shown { IsTrue D.tells → (J : List TheRow)
+        → IsPairImageOf J (D.view disk.old).content (D.view other.old).content
+        → TextShown O.tells J (hosts_text (hosts_of J))
+        (pair_view (D.view disk.old) (D.view other.old) (O.written out.old))
+        (pair_view (D.view disk.new) (D.view other.new) (O.written out.new)) result }
+    ensures shows { IsTrue D.tells → RunEndShows result (D.view disk.old).content
+        (D.view other.old).content }
     ensures quiet { IsTrue O.tells → IsQuiet result (O.written out.old) (O.written out.new) }
     // A damaged log is only read, and nothing else is done.
-    ensures unopened { (place : ℕ) → result ≡ RunEnd.Fault (StoreFault.BadLog place) → IsTrue D.tells
+    ensures unopened { (place : ℕ) → result ≡ RunEnd.Fault (StoreFault.BadLog place)
+        → IsTrue D.tells
         → BothOnlyRead (D.view disk.old) (D.view other.old) (D.view disk.new) (D.view other.new)
         × (out.new ≡ out.old) }
     ensures few { IsOfShowing result }
-    ensures caused { IsCausedBy (Rose (D.view disk.old).faults (D.view disk.new).faults ⊎ Rose (D.view other.old).faults (D.view other.new).faults) (Rose (O.faults out.old) (O.faults out.new)) ⊤ ⊤ ⊤ result }
+    ensures caused { IsCausedBy (Rose (D.view disk.old).faults (D.view disk.new).faults
+        ⊎ Rose (D.view other.old).faults (D.view other.new).faults)
+        (Rose (O.faults out.old) (O.faults out.new)) ⊤ ⊤ ⊤ result }
     ensures disk_counts { (D.view disk.old).faults ≤ (D.view disk.new).faults }
     ensures other_counts { (D.view other.old).faults ≤ (D.view other.new).faults }
     ensures out_counts { O.faults out.old ≤ O.faults out.new }
-    ensures disks_steady { result ≢ RunEnd.Fault StoreFault.Disk → ((D.view disk.new).faults ≡ (D.view disk.old).faults)
+    ensures disks_steady { result ≢ RunEnd.Fault StoreFault.Disk
+        → ((D.view disk.new).faults ≡ (D.view disk.old).faults)
         × ((D.view other.new).faults ≡ (D.view other.old).faults) }
     ensures out_steady { result ≢ RunEnd.WriteFault → O.faults out.new ≡ O.faults out.old }
 {

@@ -24,13 +24,15 @@ around panel moments repository = record { panel = panel; moments = moments; rep
 abbrev pub IsTimed : List ℕ → Decided → List ℕ → Type 0
 IsTimed moments after_end left = left ≡ moments
 IsTimed moments (skipped pass) left = left ≡ moments
-IsTimed moments (recorded t) left = (t.moment ≡ Some (first_moment moments)) × (left ≡ later_moments moments)
+IsTimed moments (recorded t) left = (t.moment ≡ Some (first_moment moments))
+    × (left ≡ later_moments moments)
 
 abbrev pub SameRepositories : (List ℕ → Option (List ℕ)) → (List ℕ → Option (List ℕ)) → Type 0
 SameRepositories old new = (did : List ℕ) → new did ≡ old did
 
 -- What a host's message, as it reads, asked behind the journal J where this came of it: of the judges, of the clock where it tells, and of the repositories.
-pub record AskedOf (clock_tells repos_tell : Bool) (J : List Row) (old : Around) (host : List ℕ) (frame : Result Frame FrameFault) (told : Decided) (new : Around) : Type 0 where
+pub record AskedOf (clock_tells repos_tell : Bool) (J : List Row) (old : Around) (host : List ℕ)
+    (frame : Result Frame FrameFault) (told : Decided) (new : Around) : Type 0 where
   -- the calls of the judges for its fetch, and what that found
   pub fetch : List Call
   pub fetched : IsFetchedTold repos_tell old.repository J told fetch
@@ -40,7 +42,8 @@ pub record AskedOf (clock_tells repos_tell : Bool) (J : List Row) (old : Around)
 
 -- What one step behind the journal J asked, and was told.
 abbrev pub Asked : Bool → Bool → List Row → Around → Step → Around → Type 0
-Asked clock_tells repos_tell J old s new = AskedOf clock_tells repos_tell J old s.host (frame_of s.bytes) s.decided new
+Asked clock_tells repos_tell J old s new =
+    AskedOf clock_tells repos_tell J old s.host (frame_of s.bytes) s.decided new
 
 -- nothing was asked
 pub record AskedNothing (clock_tells repos_tell : Bool) (old new : Around) : Type 0 where
@@ -52,4 +55,5 @@ pub record AskedNothing (clock_tells repos_tell : Bool) (old new : Around) : Typ
 abbrev pub AllAsked : Bool → Bool → List Row → Around → List Step → Around → Type 0
 AllAsked clock_tells repos_tell J old [] new = AskedNothing clock_tells repos_tell old new
 AllAsked clock_tells repos_tell J old (s ∷ steps) new =
-    (mid : Around) × Asked clock_tells repos_tell J old s mid × AllAsked clock_tells repos_tell (J ++ rows_decided s.decided) mid steps new
+    (mid : Around) × Asked clock_tells repos_tell J old s mid
+    × AllAsked clock_tells repos_tell (J ++ rows_decided s.decided) mid steps new

@@ -42,14 +42,16 @@ refresh_calls e Body.Identity = refreshes e.did ∷ []
 refresh_calls e other = []
 
 abbrev pub home_calls : List ℕ → Seen → Option Refusal → List Call
-home_calls host e r = if asks_for_home r then refresh_calls e e.body ++ answers (asks_home e.did host) (shows_home r) ∷ [] else []
+home_calls host e r = if asks_for_home r then refresh_calls e e.body
+    ++ answers (asks_home e.did host) (shows_home r) ∷ [] else []
 
 abbrev pub verdict_call : List ℕ → Option (List ℕ × List ℕ) → Bool → List Call
 verdict_call did None good = []
 verdict_call did (Some signed) good = answers (asks_verdict did signed.0 signed.1) good ∷ []
 
 abbrev pub verdict_calls : Seen → Option Refusal → List Call
-verdict_calls e r = if asks_for_verdict r then verdict_call e.did (signed_by e.body) (shows_verdict r) else []
+verdict_calls e r = if asks_for_verdict r
+    then verdict_call e.did (signed_by e.body) (shows_verdict r) else []
 
 -- the calls about an event to which a refusal applies, or none: behind those of its own table, those of its fetch
 abbrev pub event_calls : List ℕ → Seen → Option Refusal → List Call → List Call

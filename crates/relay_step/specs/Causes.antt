@@ -49,7 +49,8 @@ abbrev pub OneTaken : List ℕ → List ℕ → Type 0
 OneTaken old new = (new ≡ old) ⊎ (new ≡ later_moments old)
 
 -- What was asked around for nothing: of the judges this, of the clock a moment at most, and the repositories are the same.
-pub record CameToNothing (clock_tells repos_tell : Bool) (judged : Type 0) (old new : Around) : Type 0 where
+pub record CameToNothing (clock_tells repos_tell : Bool) (judged : Type 0)
+    (old new : Around) : Type 0 where
   pub judges : judged
   pub moments : IsTrue clock_tells → OneTaken old.moments new.moments
   pub same : IsTrue repos_tell → SameRepositories old.repository new.repository

@@ -29,7 +29,8 @@ pub record IsNow (moments : List ℕ) (moment : ℕ) (left : List ℕ) : Type 0 
   pub gone : left ≡ later_moments moments
 
 -- An account was taken down or restored at a moment of the clock, or the word was refused.
-pub record OperatedAt (clock_tells : Bool) (c : Core) (did : List ℕ) (down : Bool) (time moments : List ℕ) (command : CommandAnswer) (left : List ℕ) : Type 0 where
+pub record OperatedAt (clock_tells : Bool) (c : Core) (did : List ℕ) (down : Bool)
+    (time moments : List ℕ) (command : CommandAnswer) (left : List ℕ) : Type 0 where
   pub moment : ℕ
   pub now : IsTrue clock_tells → IsNow moments moment left
   pub operated : (J : List Row) → Holds c J → IsOperated J did down time moment command
@@ -70,8 +71,11 @@ pub record SpentFetching (clock_tells repos_tell : Bool) (c : Core) (did : List 
   pub spent : IsSpent (new.panel (method_of did))
 
 -- An account was synchronized at a moment of the clock with what its repository came to, or the word was refused.
-pub record SyncedAt (clock_tells repos_tell : Bool) (c : Core) (did time : List ℕ) (old : Around) (command : CommandAnswer) (new : Around) : Type 0 where
+pub record SyncedAt (clock_tells repos_tell : Bool) (c : Core) (did time : List ℕ) (old : Around)
+    (command : CommandAnswer) (new : Around) : Type 0 where
   pub moment : ℕ
   pub now : IsTrue clock_tells → IsNow old.moments moment new.moments
-  pub synced : (J : List Row) → Holds c J → IsSyncedNow old.panel J did time moment (told_where repos_tell (old.repository did)) command new.panel
+  pub synced : (J : List Row) → Holds c J
+      → IsSyncedNow old.panel J did time moment
+      (told_where repos_tell (old.repository did)) command new.panel
   pub same : IsTrue repos_tell → SameRepositories old.repository new.repository

@@ -44,7 +44,8 @@ pub record IsOfBytes (did : List ℕ) (least : Option ℕ) (checked : Checked) :
 abbrev pub MayBeKept : Found → Type 0
 MayBeKept absent = ⊤
 MayBeKept (unfit n) = is_repo_number true n ≡ true
-MayBeKept (found head records block) = (is_head head ≡ true) × (records < NUMBERS) × IsLinkOf head.commit block
+MayBeKept (found head records block) = (is_head head ≡ true) × (records < NUMBERS)
+    × IsLinkOf head.commit block
 
 -- the relay's own event of a commit can be read back: what types say of its parts
 pub record IsTyped (did time : List ℕ) (head : Head) (block : List ℕ) : Type 0 where
@@ -65,10 +66,12 @@ pub record AskedPlain (old : Panel) (did : List ℕ) (new : Panel) : Type 0 wher
 abbrev pub made_of : ℕ → List ℕ → List ℕ → Found → Fetched
 made_of last did time absent = Fetched.Absent
 made_of last did time (unfit n) = Fetched.Refused n
-made_of last did time (found head records block) = Fetched.Whole (whole_under did time head records block (last + 1))
+made_of last did time (found head records block) =
+    Fetched.Whole (whole_under did time head records block (last + 1))
 
 -- where it takes a number there is one, and what types say of the event by which it goes out
 abbrev pub IsSent : ℕ → List ℕ → List ℕ → Found → Type 0
 IsSent last did time absent = ⊤
 IsSent last did time (unfit n) = ⊤
-IsSent last did time (found head records block) = (last + 1 < NUMBERS) × IsTyped did time head block × (is_message (sync_message did time head block (last + 1)) ≡ true)
+IsSent last did time (found head records block) = (last + 1 < NUMBERS) × IsTyped did time head block
+    × (is_message (sync_message did time head block (last + 1)) ≡ true)

@@ -56,15 +56,19 @@ IsSkippedAs frame (Outcome.Recorded t) = Unit {0}
 
 -- This is what comes of a host's message, by all checks that open and link rightly.
 abbrev pub IsDecided : Core → List ℕ → Result Frame FrameFault → Decided → Type 0
-IsDecided c host frame t = (checks : Checks) (J : List Row) → OpensRight checks → LinksRight checks → Holds c J → IsDecidedAs checks J [] (host, frame) t
+IsDecided c host frame t = (checks : Checks) (J : List Row) → OpensRight checks → LinksRight checks
+    → Holds c J → IsDecidedAs checks J [] (host, frame) t
 
 -- This was asked around of a message, as it reads, where this came of it.
-abbrev pub IsAskedOf : Bool → Bool → Core → Around → List ℕ → Result Frame FrameFault → Decided → Around → Type 0
-IsAskedOf clock_tells repos_tell c old host frame t new = (J : List Row) → Holds c J → AskedOf clock_tells repos_tell J old host frame t new
+abbrev pub IsAskedOf : Bool → Bool → Core → Around → List ℕ → Result Frame FrameFault → Decided
+    → Around → Type 0
+IsAskedOf clock_tells repos_tell c old host frame t new = (J : List Row) → Holds c J
+    → AskedOf clock_tells repos_tell J old host frame t new
 
 -- This was asked around in a step.
 abbrev pub IsAsked : Bool → Bool → Core → Around → Step → Around → Type 0
-IsAsked clock_tells repos_tell c old s new = (J : List Row) → Holds c J → Asked clock_tells repos_tell J old s new
+IsAsked clock_tells repos_tell c old s new = (J : List Row) → Holds c J
+    → Asked clock_tells repos_tell J old s new
 
 -- With these rows a journal is one still.
 abbrev pub KeepsJournal : Core → List Row → Type 0
@@ -74,7 +78,8 @@ KeepsJournal c rows = (J : List Row) → Holds c J → IsJournal J → IsJournal
 pub record AskedFor (clock_tells repos_tell : Bool) (J : List Row) (old : Around) (host : List ℕ)
     (e : Seen) (refusal : Option Refusal) (outside : Outside) (new : Around) : Type 0 where
   pub fetch : List Call
-  pub fetched : IsFetched repos_tell old.repository J e.did refusal outside.moment outside.fetched fetch
+  pub fetched : IsFetched repos_tell old.repository J e.did refusal outside.moment outside.fetched
+      fetch
   pub made : AreCalls old.panel (event_calls host e refusal fetch) new.panel
   pub now : IsTrue clock_tells → IsNow old.moments outside.moment new.moments
   pub same : IsTrue repos_tell → SameRepositories old.repository new.repository

@@ -45,7 +45,8 @@ verdict_told e (Some good) = verdict_call e.did (signed_by e.body) good
 
 -- the calls of the judges, in the order in which they were made
 abbrev pub calls_told : List ℕ → Seen → Answers → List Call
-calls_told host e x = refresh_told e.did x.refreshed ++ (home_told e.did host x.home ++ verdict_told e x.verdict)
+calls_told host e x = refresh_told e.did x.refreshed
+    ++ (home_told e.did host x.home ++ verdict_told e x.verdict)
 
 -- a moment was taken of the clock, or none
 abbrev pub IsTimedSo : List ℕ → Option ℕ → List ℕ → Type 0
@@ -100,8 +101,10 @@ is_unlinked r = nat_le 19 (code_of r) && nat_le (code_of r) 23
 pub record IsLinkAnswer (repo : Repo) (e : Seen) (answer : Result (Unit {0}) Refusal) : Type 0 where
   pub right : (checks : Checks) → LinksRight checks → answer ≡ as_result (checks.links e repo)
   pub unlinked : (r : Refusal) → answer ≡ Err r → is_unlinked r ≡ true
-  pub stops : (c : CommitEvent) (h : HoldsCommit c) (r : Refusal) → e.body ≡ Body.Commit c → answer ≡ Err r
-      → StopsPast (is_gap c (expect_of repo)) c h.blocks (root_before (expect_of repo)) h.commit.data_root r
+  pub stops : (c : CommitEvent) (h : HoldsCommit c) (r : Refusal) → e.body ≡ Body.Commit c
+      → answer ≡ Err r
+      → StopsPast (is_gap c (expect_of repo)) c h.blocks
+      (root_before (expect_of repo)) h.commit.data_root r
 
 abbrev pub is_commit : Body → Bool
 is_commit (Body.Commit c) = true
@@ -117,7 +120,8 @@ has_blocks (Body.Account b) = false
 
 -- what was read of an event's blocks
 abbrev pub IsReadOf : Body → Read → Type 0
-IsReadOf (Body.Commit c) (Read.Commit opened) = IsOpened c opened × (first_of (field_lines c) ≡ None)
+IsReadOf (Body.Commit c) (Read.Commit opened) = IsOpened c opened
+    × (first_of (field_lines c) ≡ None)
 IsReadOf (Body.Sync s) (Read.Sync found) = (last : Option ℕ) × IsSynced s last found
 IsReadOf body read = ⊥
 
@@ -127,12 +131,14 @@ IsReadFor body (Some (Ok head)) read = IsReadOf body read
 IsReadFor body other read = Unit {0}
 
 -- What was asked about an event: of the judges and the clock this, and all answers are right.
-pub record AreAsked (clock_tells : Bool) (last cursor : ℕ) (a : State) (host : List ℕ) (e : Seen) (x : Answers) (old : Panel) (moments : List ℕ) (new : Panel) (left : List ℕ) : Type 0 where
+pub record AreAsked (clock_tells : Bool) (last cursor : ℕ) (a : State) (host : List ℕ) (e : Seen)
+    (x : Answers) (old : Panel) (moments : List ℕ) (new : Panel) (left : List ℕ) : Type 0 where
   pub calls : AreCalls old (calls_told host e x) new
   pub timed : IsTrue clock_tells → IsTimedSo moments x.moment left
   pub tidy : IsTidy a e x
   pub right : AreAnswersTo last a e x
-  pub linked : (answer : Result (Unit {0}) Refusal) → x.linked ≡ Some answer → IsLinkAnswer a.repo e answer
+  pub linked : (answer : Result (Unit {0}) Refusal) → x.linked ≡ Some answer
+      → IsLinkAnswer a.repo e answer
   pub unfetched : x.fetched ≡ None
   pub above : (moment : ℕ) → x.moment ≡ Some moment → nat_le e.seq cursor ≡ false
 
@@ -152,5 +158,8 @@ one_if false = 0
 
 -- how many questions have no answer yet
 abbrev pub open_count : Answers → ℕ
-open_count x = one_if (is_open Question.Moment x) + (one_if (is_open Question.Refresh x) + (one_if (is_open Question.Home x) + (one_if (is_open Question.Open x)
-    + (one_if (is_open Question.Verdict x) + (one_if (is_open Question.Link x) + one_if (is_open Question.Fetch x))))))
+open_count x = one_if (is_open Question.Moment x) +
+    (one_if (is_open Question.Refresh x) +
+    (one_if (is_open Question.Home x) + (one_if (is_open Question.Open x)
+    + (one_if (is_open Question.Verdict x) +
+    (one_if (is_open Question.Link x) + one_if (is_open Question.Fetch x))))))

@@ -53,10 +53,13 @@ ended_by_all (s ∷ steps) ended = ended_by_all steps (ended_decided s.decided s
 -- Behind the journal J, with these hosts ended, this is what comes of a message.
 abbrev pub IsDecidedAs : Checks → List Row → List (List ℕ) → Message → Decided → Type 0
 IsDecidedAs checks J ended m after_end = has_ended ended m.0 ≡ true
-IsDecidedAs checks J ended m (skipped pass) = (has_ended ended m.0 ≡ false) × (skipped_by J m ≡ Some pass)
-IsDecidedAs checks J ended m (recorded t) = (has_ended ended m.0 ≡ false) × (skipped_by J m ≡ None) × IsMadeBy checks J m (Row.Taken t)
+IsDecidedAs checks J ended m (skipped pass) = (has_ended ended m.0 ≡ false)
+    × (skipped_by J m ≡ Some pass)
+IsDecidedAs checks J ended m (recorded t) = (has_ended ended m.0 ≡ false) × (skipped_by J m ≡ None)
+    × IsMadeBy checks J m (Row.Taken t)
 
 -- Behind the journal J, with these hosts ended, the steps come one after another.
 abbrev pub AreSteps : Checks → List Row → List (List ℕ) → List Step → Type 0
 AreSteps checks J ended [] = Unit {0}
-AreSteps checks J ended (s ∷ steps) = IsDecidedAs checks J ended (message_of s) s.decided × AreSteps checks (J ++ rows_decided s.decided) (ended_decided s.decided s.host ended) steps
+AreSteps checks J ended (s ∷ steps) = IsDecidedAs checks J ended (message_of s) s.decided
+    × AreSteps checks (J ++ rows_decided s.decided) (ended_decided s.decided s.host ended) steps

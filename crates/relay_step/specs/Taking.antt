@@ -39,7 +39,8 @@ pub record IsFetchOf (repos_tell : Bool) (last : ℕ) (a : State) (e : Seen)
   pub refused : refusal ≡ Some lost
   pub due : loses (code_of lost) ≡ true
   pub is : fetched ≡ fetched_as last e what
-  pub told : IsFetchedAs (told_where repos_tell (repository e.did)) e.did (last_rev a.repo) moment what fetch
+  pub told : IsFetchedAs (told_where repos_tell (repository e.did)) e.did
+      (last_rev a.repo) moment what fetch
 
 abbrev pub IsFetchedSo : Bool → ℕ → State → Seen → (List ℕ → Option (List ℕ)) → ℕ → Option Refusal
     → Option Fetched → Found → List Call → Type 0
@@ -53,12 +54,14 @@ pub record EventAnswered (clock_tells repos_tell : Bool) (c : Core) (host : List
     (x : Answers) (d : Decision) (what : Found) (old new : Around) : Type 0 where
   pub fetch : List Call
   pub done : next_of (cursor_in c host) (account_in c e.did) (Frame.Event e) x ≡ Next.Done d
-  pub fetched : IsFetchedSo repos_tell c.last (account_in c e.did) e old.repository (or_zero x.moment) d.refusal x.fetched what fetch
+  pub fetched : IsFetchedSo repos_tell c.last (account_in c e.did) e old.repository
+      (or_zero x.moment) d.refusal x.fetched what fetch
   pub calls : AreCalls old.panel (calls_told host e x ++ fetch) new.panel
   pub tidy : IsTidy (account_in c e.did) e x
   pub opened : (answer : Result Head Refusal) → x.opened ≡ Some answer
       → IsOpenedAs e.body (last_rev (account_in c e.did).repo) answer
-  pub linked : (answer : Result (Unit {0}) Refusal) → x.linked ≡ Some answer → IsLinkAnswer (account_in c e.did).repo e answer
+  pub linked : (answer : Result (Unit {0}) Refusal) → x.linked ≡ Some answer
+      → IsLinkAnswer (account_in c e.did).repo e answer
   pub timed : IsTrue clock_tells → IsTimedSo old.moments x.moment new.moments
   pub same : IsTrue repos_tell → SameRepositories old.repository new.repository
 
@@ -75,20 +78,28 @@ pub record EventRecorded (clock_tells repos_tell : Bool) (c : Core) (host : List
   pub right : AreAnswersTo c.last (account_in c e.did) e x
 
 abbrev pub EventDecided : Bool → Bool → Core → List ℕ → Seen → Outcome → Around → Around → Type 0
-EventDecided clock_tells repos_tell c host e (Outcome.Skipped why) old new = (why ≡ skipped_as (Ok (Frame.Event e))) × (passed (cursor_in c host) (Frame.Event e) ≡ Some (pass_of why)) × AskedNothing clock_tells repos_tell old new
-EventDecided clock_tells repos_tell c host e (Outcome.Recorded t) old new = EventRecorded clock_tells repos_tell c host e t old new
+EventDecided clock_tells repos_tell c host e (Outcome.Skipped why) old new =
+    (why ≡ skipped_as (Ok (Frame.Event e)))
+    × (passed (cursor_in c host) (Frame.Event e) ≡ Some (pass_of why))
+    × AskedNothing clock_tells repos_tell old new
+EventDecided clock_tells repos_tell c host e (Outcome.Recorded t) old new =
+    EventRecorded clock_tells repos_tell c host e t old new
 
 -- what came of an account's fetch, and of the event that was to wait for it
-pub record LostRecorded (repos_tell : Bool) (c : Core) (host : List ℕ) (e : Seen) (x : Answers) (told : Outcome) (old : Panel) (repository : List ℕ → Option (List ℕ)) (new : Panel) : Type 0 where
+pub record LostRecorded (repos_tell : Bool) (c : Core) (host : List ℕ) (e : Seen) (x : Answers)
+    (told : Outcome) (old : Panel) (repository : List ℕ → Option (List ℕ))
+    (new : Panel) : Type 0 where
   pub f : Fetched
   pub d : Decision
   pub what : Found
   pub fetch : List Call
-  pub done : next_of (cursor_in c host) (account_in c e.did) (Frame.Event e) (record x { fetched = Some f }) ≡ Next.Done d
+  pub done : next_of (cursor_in c host) (account_in c e.did) (Frame.Event e)
+      (record x { fetched = Some f }) ≡ Next.Done d
   pub taken : told ≡ Outcome.Recorded (event_taken c.last host e d (record x { fetched = Some f }))
   pub number : goes_out d.refusal d.held ≡ true → c.last + 1 < NUMBERS
   pub sendable : IsSendable c.last e what
-  pub fetched : IsFetchOf repos_tell c.last (account_in c e.did) e repository (or_zero x.moment) d.refusal f what fetch
+  pub fetched : IsFetchOf repos_tell c.last (account_in c e.did) e repository
+      (or_zero x.moment) d.refusal f what fetch
   pub behind : IsFetchedBehind c.last f
   pub calls : AreCalls old fetch new
 
@@ -97,11 +108,13 @@ pub record LostEnds (repos_tell : Bool) (c : Core) (e : Seen) (x : Answers) (old
     (repository : List ℕ → Option (List ℕ)) (new : Panel) : Type 0 where
   pub what : Found
   pub whole : is_found what ≡ true
-  pub fetch : AnsweredFetch (told_where repos_tell (repository e.did)) e.did (last_rev (account_in c e.did).repo) (or_zero x.moment) old what new
+  pub fetch : AnsweredFetch (told_where repos_tell (repository e.did)) e.did
+      (last_rev (account_in c e.did).repo) (or_zero x.moment) old what new
   pub ends : NUMBERS ≤ c.last + 1
 
 -- an event with a bad field
-pub record FaultyRecorded (clock_tells : Bool) (c : Core) (host : List ℕ) (frame : Frame) (t : Taken) (moments left : List ℕ) : Type 0 where
+pub record FaultyRecorded (clock_tells : Bool) (c : Core) (host : List ℕ) (frame : Frame)
+    (t : Taken) (moments left : List ℕ) : Type 0 where
   pub seq : ℕ
   pub moment : ℕ
   pub is : frame ≡ Frame.Faulty seq
@@ -112,8 +125,11 @@ pub record FaultyRecorded (clock_tells : Bool) (c : Core) (host : List ℕ) (fra
 
 -- what came of a message that is no event
 abbrev pub OtherDecided : Bool → Core → List ℕ → Frame → Outcome → List ℕ → List ℕ → Type 0
-OtherDecided clock_tells c host frame (Outcome.Skipped why) moments left = (why ≡ skipped_as (Ok frame)) × (passed (cursor_in c host) frame ≡ Some (pass_of why)) × (IsTrue clock_tells → left ≡ moments)
-OtherDecided clock_tells c host frame (Outcome.Recorded t) moments left = FaultyRecorded clock_tells c host frame t moments left
+OtherDecided clock_tells c host frame (Outcome.Skipped why) moments left =
+    (why ≡ skipped_as (Ok frame)) × (passed (cursor_in c host) frame ≡ Some (pass_of why))
+    × (IsTrue clock_tells → left ≡ moments)
+OtherDecided clock_tells c host frame (Outcome.Recorded t) moments left =
+    FaultyRecorded clock_tells c host frame t moments left
 
 abbrev pub is_event : Frame → Bool
 is_event (Frame.Event e) = true

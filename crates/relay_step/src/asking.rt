@@ -61,19 +61,26 @@ fn ask_one<P: Judges, C: Clock>(
     judges: &mut P,
     clock: &mut C,
 ) -> Result<(), StepFault>
-    requires asks { next_of (cursor_in core.now host.now) (account_in core.now event.now.did) (AFrame.Event event.now) answers.old ≡ ANext.Ask question }
+    requires asks { next_of (cursor_in core.now host.now) (account_in core.now event.now.did)
+        (AFrame.Event event.now) answers.old ≡ ANext.Ask question }
     requires repo { repo.now ≡ (account_in core.now event.now.did).repo }
     requires other { is_fetch question ≡ false }
     requires read { IsReadFor event.now.body answers.old.opened read.old }
     requires did { IsTrue (is_did event.now.did) }
     ensures asked { OnOk result ((old : Panel) (moments : List ℕ)
-        → AreAsked C.tells core.now.last (cursor_in core.now host.now) (account_in core.now event.now.did) host.now event.now answers.old old moments (P.panel judges.old) (C.moments clock.old)
-        → AreAsked C.tells core.now.last (cursor_in core.now host.now) (account_in core.now event.now.did) host.now event.now answers.new old moments (P.panel judges.new) (C.moments clock.new)) }
+        → AreAsked C.tells core.now.last (cursor_in core.now host.now)
+        (account_in core.now event.now.did) host.now event.now answers.old old moments
+        (P.panel judges.old) (C.moments clock.old)
+        → AreAsked C.tells core.now.last (cursor_in core.now host.now)
+        (account_in core.now event.now.did) host.now event.now answers.new old moments
+        (P.panel judges.new) (C.moments clock.new)) }
     ensures read { OnOk result (IsReadFor event.now.body answers.new.opened read.new) }
     ensures fewer { OnOk result (open_count answers.new < open_count answers.old) }
     ensures in_vain { OnErr result (AskedPlain (P.panel judges.old) event.now.did (P.panel judges.new)) }
     ensures kept { OnErr result (IsTrue C.tells → C.moments clock.new ≡ C.moments clock.old) }
-    ensures caused { IfErr result (IsCause ⊥ (IsSpentFor core.now host.now (Ok (AFrame.Event event.now)) (P.panel judges.new)) ⊥ (Rose (C.faults clock.old) (C.faults clock.new))) }
+    ensures caused { IfErr result
+        (IsCause ⊥ (IsSpentFor core.now host.now (Ok (AFrame.Event event.now))
+        (P.panel judges.new)) ⊥ (Rose (C.faults clock.old) (C.faults clock.new))) }
     ensures counts { C.faults clock.old ≤ C.faults clock.new }
     ensures unspent { result ≢ Err StepFault.Authority
         → SpendsNone (P.panel judges.old) (P.panel judges.new) }
@@ -130,12 +137,19 @@ fn ask_known<P: Judges, C: Clock>(
     requires repo { repo.now ≡ (account_in core.now event.now.did).repo }
     requires len { len ≡ out_length event.now }
     requires did { IsTrue (is_did event.now.did) }
-    ensures asked { IfOk result (λ x. AreAsked C.tells core.now.last (cursor_in core.now host.now) (account_in core.now event.now.did) host.now event.now x.1 (P.panel judges.old) (C.moments clock.old) (P.panel judges.new) (C.moments clock.new)) }
-    ensures next { IfOk result (λ x. x.0 ≡ next_of (cursor_in core.now host.now) (account_in core.now event.now.did) (AFrame.Event event.now) x.1) }
+    ensures asked { IfOk result (λ x. AreAsked C.tells core.now.last (cursor_in core.now host.now)
+        (account_in core.now event.now.did) host.now event.now x.1 (P.panel judges.old)
+        (C.moments clock.old) (P.panel judges.new) (C.moments clock.new)) }
+    ensures next { IfOk result (λ x. x.0
+        ≡ next_of (cursor_in core.now host.now) (account_in core.now event.now.did)
+        (AFrame.Event event.now) x.1) }
     ensures last { IfOk result (λ x. is_last x.0 ≡ true) }
     ensures in_vain { OnErr result (AskedInVain (P.panel judges.old) event.now.did (P.panel judges.new)) }
-    ensures moments { OnErr result (IsTrue C.tells → OneTaken (C.moments clock.old) (C.moments clock.new)) }
-    ensures caused { IfErr result (IsCause ⊥ (IsSpentFor core.now host.now (Ok (AFrame.Event event.now)) (P.panel judges.new)) ⊥ (Rose (C.faults clock.old) (C.faults clock.new))) }
+    ensures moments { OnErr result (IsTrue C.tells
+        → OneTaken (C.moments clock.old) (C.moments clock.new)) }
+    ensures caused { IfErr result
+        (IsCause ⊥ (IsSpentFor core.now host.now (Ok (AFrame.Event event.now))
+        (P.panel judges.new)) ⊥ (Rose (C.faults clock.old) (C.faults clock.new))) }
     ensures counts { C.faults clock.old ≤ C.faults clock.new }
     ensures unspent { result ≢ Err StepFault.Authority
         → SpendsNone (P.panel judges.old) (P.panel judges.new) }
@@ -180,12 +194,19 @@ pub(crate) fn ask_all<P: Judges, C: Clock>(
     clock: &mut C,
 ) -> Result<(Next, Answers), StepFault>
     requires did { IsTrue (is_did event.now.did) }
-    ensures asked { IfOk result (λ x. AreAsked C.tells core.now.last (cursor_in core.now host.now) (account_in core.now event.now.did) host.now event.now x.1 (P.panel judges.old) (C.moments clock.old) (P.panel judges.new) (C.moments clock.new)) }
-    ensures next { IfOk result (λ x. x.0 ≡ next_of (cursor_in core.now host.now) (account_in core.now event.now.did) (AFrame.Event event.now) x.1) }
+    ensures asked { IfOk result (λ x. AreAsked C.tells core.now.last (cursor_in core.now host.now)
+        (account_in core.now event.now.did) host.now event.now x.1 (P.panel judges.old)
+        (C.moments clock.old) (P.panel judges.new) (C.moments clock.new)) }
+    ensures next { IfOk result (λ x. x.0
+        ≡ next_of (cursor_in core.now host.now) (account_in core.now event.now.did)
+        (AFrame.Event event.now) x.1) }
     ensures last { IfOk result (λ x. is_last x.0 ≡ true) }
     ensures in_vain { OnErr result (AskedInVain (P.panel judges.old) event.now.did (P.panel judges.new)) }
-    ensures moments { OnErr result (IsTrue C.tells → OneTaken (C.moments clock.old) (C.moments clock.new)) }
-    ensures caused { IfErr result (IsCause ⊥ (IsSpentFor core.now host.now (Ok (AFrame.Event event.now)) (P.panel judges.new)) ⊥ (Rose (C.faults clock.old) (C.faults clock.new))) }
+    ensures moments { OnErr result (IsTrue C.tells
+        → OneTaken (C.moments clock.old) (C.moments clock.new)) }
+    ensures caused { IfErr result
+        (IsCause ⊥ (IsSpentFor core.now host.now (Ok (AFrame.Event event.now))
+        (P.panel judges.new)) ⊥ (Rose (C.faults clock.old) (C.faults clock.new))) }
     ensures counts { C.faults clock.old ≤ C.faults clock.new }
     ensures unspent { result ≢ Err StepFault.Authority
         → SpendsNone (P.panel judges.old) (P.panel judges.new) }

@@ -37,12 +37,22 @@ fn decide_event<P: Judges, R: Repos, C: Clock>(
     repos: &mut R,
     clock: &mut C,
 ) -> Result<Decided, StepFault>
-    ensures told { IfOk result (λ told. EventDecided C.tells R.tells core.now host.now event told (around (P.panel judges.old) (C.moments clock.old) (R.repository repos.old)) (around (P.panel judges.new) (C.moments clock.new) (R.repository repos.new))) }
-    ensures in_vain { OnErr result (CameToNothing C.tells R.tells (AskedInVain (P.panel judges.old) event.did (P.panel judges.new))
-        (around (P.panel judges.old) (C.moments clock.old) (R.repository repos.old)) (around (P.panel judges.new) (C.moments clock.new) (R.repository repos.new))) }
-    ensures caused { IfErr result (IsCause (EndsNumbers C.tells R.tells core.now (around (P.panel judges.old) (C.moments clock.old) (R.repository repos.old)) host.now (Ok (AFrame.Event event)) (around (P.panel judges.new) (C.moments clock.new) (R.repository repos.new)))
+    ensures told { IfOk result (λ told.
+        EventDecided C.tells R.tells core.now host.now event told
+        (around (P.panel judges.old) (C.moments clock.old) (R.repository repos.old))
+        (around (P.panel judges.new) (C.moments clock.new) (R.repository repos.new))) }
+    ensures in_vain { OnErr result (CameToNothing C.tells R.tells
+        (AskedInVain (P.panel judges.old) event.did (P.panel judges.new))
+        (around (P.panel judges.old) (C.moments clock.old) (R.repository repos.old))
+        (around (P.panel judges.new) (C.moments clock.new) (R.repository repos.new))) }
+    ensures caused { IfErr result
+        (IsCause (EndsNumbers C.tells R.tells core.now
+        (around (P.panel judges.old) (C.moments clock.old) (R.repository repos.old)) host.now
+        (Ok (AFrame.Event event)) (around (P.panel judges.new) (C.moments clock.new)
+        (R.repository repos.new)))
         (IsSpentFor core.now host.now (Ok (AFrame.Event event)) (P.panel judges.new))
-        (Rose (R.faults repos.old) (R.faults repos.new)) (Rose (C.faults clock.old) (C.faults clock.new))) }
+        (Rose (R.faults repos.old) (R.faults repos.new))
+        (Rose (C.faults clock.old) (C.faults clock.new))) }
     ensures clock_counts { C.faults clock.old ≤ C.faults clock.new }
     ensures repos_count { R.faults repos.old ≤ R.faults repos.new }
     ensures unspent { result ≢ Err StepFault.Authority
@@ -68,8 +78,11 @@ fn decide_other<C: Clock>(
     clock: &mut C,
 ) -> Result<Decided, StepFault>
     requires other { is_event frame ≡ false }
-    ensures told { IfOk result (λ told. OtherDecided C.tells core.now host.now frame told (C.moments clock.old) (C.moments clock.new)) }
-    ensures in_vain { OnErr result (IsTrue C.tells → OneTaken (C.moments clock.old) (C.moments clock.new)) }
+    ensures told { IfOk result (λ told.
+        OtherDecided C.tells core.now host.now frame told (C.moments clock.old)
+        (C.moments clock.new)) }
+    ensures in_vain { OnErr result (IsTrue C.tells
+        → OneTaken (C.moments clock.old) (C.moments clock.new)) }
     ensures caused { IfErr result (IsCause ⊥ ⊥ ⊥ (Rose (C.faults clock.old) (C.faults clock.new))) }
     ensures counts { C.faults clock.old ≤ C.faults clock.new }
     ensures steady { result ≢ Err StepFault.Clock → C.faults clock.new ≡ C.faults clock.old }
@@ -103,14 +116,23 @@ fn decide_frame<P: Judges, R: Repos, C: Clock>(
     requires frame { IsFormedFrame frame }
     ensures told { IfOk result (λ told. IsDecided core.now host.now (Ok frame) (told_as told)) }
     ensures passed { IfOk result (IsSkippedAs (Ok frame)) }
-    ensures asked { IfOk result (λ told. IsAskedOf C.tells R.tells core.now (around (P.panel judges.old) (C.moments clock.old) (R.repository repos.old)) host.now (Ok frame) (told_as told)
+    ensures asked { IfOk result (λ told.
+        IsAskedOf C.tells R.tells core.now
+        (around (P.panel judges.old) (C.moments clock.old) (R.repository repos.old)) host.now
+        (Ok frame) (told_as told)
         (around (P.panel judges.new) (C.moments clock.new) (R.repository repos.new))) }
     ensures formed { IfOk result (λ told. KeepsJournal core.now (rows_decided (told_as told))) }
-    ensures in_vain { OnErr result (CameToNothing C.tells R.tells (AskedInVainOf (P.panel judges.old) (Ok frame) (P.panel judges.new))
-        (around (P.panel judges.old) (C.moments clock.old) (R.repository repos.old)) (around (P.panel judges.new) (C.moments clock.new) (R.repository repos.new))) }
-    ensures caused { IfErr result (IsCause (EndsNumbers C.tells R.tells core.now (around (P.panel judges.old) (C.moments clock.old) (R.repository repos.old)) host.now (Ok frame) (around (P.panel judges.new) (C.moments clock.new) (R.repository repos.new)))
+    ensures in_vain { OnErr result (CameToNothing C.tells R.tells
+        (AskedInVainOf (P.panel judges.old) (Ok frame) (P.panel judges.new))
+        (around (P.panel judges.old) (C.moments clock.old) (R.repository repos.old))
+        (around (P.panel judges.new) (C.moments clock.new) (R.repository repos.new))) }
+    ensures caused { IfErr result
+        (IsCause (EndsNumbers C.tells R.tells core.now
+        (around (P.panel judges.old) (C.moments clock.old) (R.repository repos.old)) host.now
+        (Ok frame) (around (P.panel judges.new) (C.moments clock.new) (R.repository repos.new)))
         (IsSpentFor core.now host.now (Ok frame) (P.panel judges.new))
-        (Rose (R.faults repos.old) (R.faults repos.new)) (Rose (C.faults clock.old) (C.faults clock.new))) }
+        (Rose (R.faults repos.old) (R.faults repos.new))
+        (Rose (C.faults clock.old) (C.faults clock.new))) }
     ensures clock_counts { C.faults clock.old ≤ C.faults clock.new }
     ensures repos_count { R.faults repos.old ≤ R.faults repos.new }
     ensures unspent { result ≢ Err StepFault.Authority
@@ -144,20 +166,31 @@ pub fn decide_message<P: Judges, R: Repos, C: Clock>(
 ) -> Result<Decided, StepFault>
     requires host { IsTrue (is_host host.now) }
     // Behind each journal for which the state stands, this is what comes of the message.
-    ensures told { IfOk result (λ told. IsDecided core.now host.now (frame_of message.now) (told_as told)) }
+    ensures told { IfOk result (λ told.
+        IsDecided core.now host.now (frame_of message.now) (told_as told)) }
     // Where it makes no row, it says why, as the message reads.
     ensures passed { IfOk result (IsSkippedAs (frame_of message.now)) }
     // This was asked around, and nothing else.
-    ensures asked { IfOk result (λ told. IsAsked C.tells R.tells core.now (around (P.panel judges.old) (C.moments clock.old) (R.repository repos.old))
-        (step_of host.now message.now (told_as told)) (around (P.panel judges.new) (C.moments clock.new) (R.repository repos.new))) }
+    ensures asked { IfOk result (λ told.
+        IsAsked C.tells R.tells core.now
+        (around (P.panel judges.old) (C.moments clock.old) (R.repository repos.old))
+        (step_of host.now message.now (told_as told))
+        (around (P.panel judges.new) (C.moments clock.new) (R.repository repos.new))) }
     // With its row, a journal is one still.
     ensures formed { IfOk result (λ told. KeepsJournal core.now (rows_decided (told_as told))) }
     // Where it fails.
-    ensures in_vain { OnErr result (CameToNothing C.tells R.tells (AskedInVainOf (P.panel judges.old) (frame_of message.now) (P.panel judges.new))
-        (around (P.panel judges.old) (C.moments clock.old) (R.repository repos.old)) (around (P.panel judges.new) (C.moments clock.new) (R.repository repos.new))) }
-    ensures caused { IfErr result (IsCause (EndsNumbers C.tells R.tells core.now (around (P.panel judges.old) (C.moments clock.old) (R.repository repos.old)) host.now (frame_of message.now) (around (P.panel judges.new) (C.moments clock.new) (R.repository repos.new)))
+    ensures in_vain { OnErr result (CameToNothing C.tells R.tells
+        (AskedInVainOf (P.panel judges.old) (frame_of message.now) (P.panel judges.new))
+        (around (P.panel judges.old) (C.moments clock.old) (R.repository repos.old))
+        (around (P.panel judges.new) (C.moments clock.new) (R.repository repos.new))) }
+    ensures caused { IfErr result
+        (IsCause (EndsNumbers C.tells R.tells core.now
+        (around (P.panel judges.old) (C.moments clock.old) (R.repository repos.old)) host.now
+        (frame_of message.now) (around (P.panel judges.new) (C.moments clock.new)
+        (R.repository repos.new)))
         (IsSpentFor core.now host.now (frame_of message.now) (P.panel judges.new))
-        (Rose (R.faults repos.old) (R.faults repos.new)) (Rose (C.faults clock.old) (C.faults clock.new))) }
+        (Rose (R.faults repos.old) (R.faults repos.new))
+        (Rose (C.faults clock.old) (C.faults clock.new))) }
     ensures clock_counts { C.faults clock.old ≤ C.faults clock.new }
     ensures repos_count { R.faults repos.old ≤ R.faults repos.new }
     ensures unspent { result ≢ Err StepFault.Authority

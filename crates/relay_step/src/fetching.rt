@@ -53,11 +53,15 @@ fn judge_found<P: Judges>(
     requires did { IsTrue (is_did did.now) }
     requires whole { (least : Option ℕ) × IsOfBytes did.now least found.now }
     requires records { found.now.records < NUMBERS }
-    ensures asked { IfOk result (λ number. AreCalls (P.panel judges.old) (verdict_on did.now moment (is_good (judged_as found.now number)) (Ok found.now)) (P.panel judges.new)) }
-    ensures judged { IfOk result (λ number. judged_as found.now number ≡ found_by moment (is_good (judged_as found.now number)) (Ok found.now)) }
+    ensures asked { IfOk result (λ number.
+        AreCalls (P.panel judges.old) (verdict_on did.now moment
+        (is_good (judged_as found.now number)) (Ok found.now)) (P.panel judges.new)) }
+    ensures judged { IfOk result (λ number. judged_as found.now number
+        ≡ found_by moment (is_good (judged_as found.now number)) (Ok found.now)) }
     ensures may { IfOk result (λ number. MayBeKept (judged_as found.now number)) }
     ensures in_vain { OnErr result (AskedPlain (P.panel judges.old) did.now (P.panel judges.new)) }
-    ensures caused { IfErr result (IsCause ⊥ ((is_ahead found.now.head.rev (Some moment) ≡ false) × IsSpent (P.panel judges.new (method_of did.now))) ⊥ ⊥) }
+    ensures caused { IfErr result (IsCause ⊥ ((is_ahead found.now.head.rev (Some moment) ≡ false)
+        × IsSpent (P.panel judges.new (method_of did.now))) ⊥ ⊥) }
     ensures unspent { result ≢ Err StepFault.Authority
         → SpendsNone (P.panel judges.old) (P.panel judges.new) }
 {
@@ -100,12 +104,18 @@ pub(crate) fn fetch<P: Judges, R: Repos>(
     repos: &mut R,
 ) -> Result<FoundRepo, StepFault>
     requires did { IsTrue (is_did did.now) }
-    ensures fetched { IfOk result (λ fetch. AnsweredFetch (told_where R.tells (R.repository repos.old did.now)) did.now least moment (P.panel judges.old) (found_as fetch) (P.panel judges.new)) }
+    ensures fetched { IfOk result (λ fetch.
+        AnsweredFetch (told_where R.tells (R.repository repos.old did.now)) did.now least moment
+        (P.panel judges.old) (found_as fetch) (P.panel judges.new)) }
     ensures may { IfOk result (λ fetch. MayBeKept (found_as fetch)) }
-    ensures same { IsTrue R.tells → SameRepositories (R.repository repos.old) (R.repository repos.new) }
+    ensures same { IsTrue R.tells → SameRepositories (R.repository repos.old)
+        (R.repository repos.new) }
     ensures in_vain { OnErr result (AskedPlain (P.panel judges.old) did.now (P.panel judges.new)) }
     // No authority is left only where one is asked.
-    ensures caused { IfErr result (IsCause ⊥ ((IsTrue R.tells → IsJudged (R.repository repos.old did.now) did.now least moment) × IsSpent (P.panel judges.new (method_of did.now)))
+    ensures caused { IfErr result
+        (IsCause ⊥ ((IsTrue R.tells → IsJudged
+        (R.repository repos.old did.now) did.now least moment)
+        × IsSpent (P.panel judges.new (method_of did.now)))
         (Rose (R.faults repos.old) (R.faults repos.new)) ⊥) }
     ensures counts { R.faults repos.old ≤ R.faults repos.new }
     ensures unspent { result ≢ Err StepFault.Authority
@@ -143,7 +153,9 @@ fn take_over(
 ) -> Result<Whole, StepFault>
     requires number { last + 1 < NUMBERS }
     requires linked { IsLinkOf found.now.head.commit found.now.block }
-    ensures whole { IfOk result (λ whole. whole ≡ whole_under did.now time.now found.now.head found.now.records found.now.block (last + 1)) }
+    ensures whole { IfOk result (λ whole. whole
+        ≡ whole_under did.now time.now found.now.head found.now.records found.now.block
+        (last + 1)) }
     ensures typed { OnOk result (IsTyped did.now time.now found.now.head found.now.block) }
     ensures message { IfOk result (λ whole. is_message whole.message ≡ true) }
     ensures memory { IfErr result (λ fault. fault ≡ Fault.Memory) }
@@ -175,9 +187,11 @@ pub(crate) fn make(
     found: FoundRepo,
 ) -> Result<Fetched, StepFault>
     requires may { MayBeKept (found_as found) }
-    ensures made { IfOk result (λ fetched. fetched ≡ made_of core.now.last did.now time.now (found_as found)) }
+    ensures made { IfOk result (λ fetched. fetched
+        ≡ made_of core.now.last did.now time.now (found_as found)) }
     ensures sent { OnOk result (IsSent core.now.last did.now time.now (found_as found)) }
-    ensures caused { IfErr result (IsCause ((NUMBERS ≤ core.now.last + 1) × (is_found (found_as found) ≡ true)) ⊥ ⊥ ⊥) }
+    ensures caused { IfErr result (IsCause ((NUMBERS ≤ core.now.last + 1)
+        × (is_found (found_as found) ≡ true)) ⊥ ⊥ ⊥) }
 {
     match found {
         FoundRepo::Absent => Ok(Fetched::Absent),

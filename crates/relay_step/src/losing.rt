@@ -39,11 +39,19 @@ pub(crate) fn take_lost<P: Judges, R: Repos>(
 ) -> Result<Decided, StepFault>
     requires did { IsTrue (is_did event.did) }
     requires time { length event.time ≤ LONGEST_SHORT_TEXT }
-    requires asks { next_of (cursor_in core.now host.now) (account_in core.now event.did) (AFrame.Event event) answers ≡ ANext.Ask AQuestion.Fetch }
-    ensures recorded { IfOk result (λ told. LostRecorded R.tells core.now host.now event answers told (P.panel judges.old) (R.repository repos.old) (P.panel judges.new)) }
-    ensures same { IsTrue R.tells → SameRepositories (R.repository repos.old) (R.repository repos.new) }
+    requires asks { next_of (cursor_in core.now host.now) (account_in core.now event.did)
+        (AFrame.Event event) answers ≡ ANext.Ask AQuestion.Fetch }
+    ensures recorded { IfOk result (λ told.
+        LostRecorded R.tells core.now host.now event answers told (P.panel judges.old)
+        (R.repository repos.old) (P.panel judges.new)) }
+    ensures same { IsTrue R.tells → SameRepositories (R.repository repos.old)
+        (R.repository repos.new) }
     ensures in_vain { OnErr result (AskedPlain (P.panel judges.old) event.did (P.panel judges.new)) }
-    ensures caused { IfErr result (IsCause (LostEnds R.tells core.now event answers (P.panel judges.old) (R.repository repos.old) (P.panel judges.new)) (IsSpent (P.panel judges.new (method_of event.did))) (Rose (R.faults repos.old) (R.faults repos.new)) ⊥) }
+    ensures caused { IfErr result
+        (IsCause (LostEnds R.tells core.now event answers (P.panel judges.old)
+        (R.repository repos.old) (P.panel judges.new))
+        (IsSpent (P.panel judges.new (method_of event.did)))
+        (Rose (R.faults repos.old) (R.faults repos.new)) ⊥) }
     ensures counts { R.faults repos.old ≤ R.faults repos.new }
     ensures unspent { result ≢ Err StepFault.Authority
         → SpendsNone (P.panel judges.old) (P.panel judges.new) }

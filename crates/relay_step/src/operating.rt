@@ -30,10 +30,14 @@ pub fn operate<C: Clock>(
 ) -> Result<CommandAnswer, StepFault>
     requires did { IsTrue (is_did did.now) }
     requires time { length time.now ≤ LONGEST_SHORT_TEXT }
-    ensures operated { IfOk result (λ command. OperatedAt C.tells core.now did.now down time.now (C.moments clock.old) command (C.moments clock.new)) }
+    ensures operated { IfOk result (λ command.
+        OperatedAt C.tells core.now did.now down time.now (C.moments clock.old) command
+        (C.moments clock.new)) }
     ensures formed { IfOk result (λ command. KeepsJournal core.now (rows_commanded command)) }
-    ensures in_vain { OnErr result (IsTrue C.tells → OneTaken (C.moments clock.old) (C.moments clock.new)) }
-    ensures caused { IfErr result (IsCause (EndsBehind core.now did.now down) ⊥ ⊥ (Rose (C.faults clock.old) (C.faults clock.new))) }
+    ensures in_vain { OnErr result (IsTrue C.tells
+        → OneTaken (C.moments clock.old) (C.moments clock.new)) }
+    ensures caused { IfErr result (IsCause (EndsBehind core.now did.now down) ⊥ ⊥
+        (Rose (C.faults clock.old) (C.faults clock.new))) }
     ensures counts { C.faults clock.old ≤ C.faults clock.new }
     ensures steady { result ≢ Err StepFault.Clock → C.faults clock.new ≡ C.faults clock.old }
 {

@@ -17,7 +17,8 @@ use relay_io::Clock;
 /// Whether a host is the home of an account.
 pub(crate) fn ask_home<P: Judges>(judges: &mut P, did: &str, host: &str) -> Result<bool, StepFault>
     requires { IsTrue (is_did did.now) }
-    ensures call { IsCall (called did.now (answers (asks_home did.now host.now)) result) (P.panel judges.old) (P.panel judges.new) }
+    ensures call { IsCall (called did.now (answers (asks_home did.now host.now)) result)
+        (P.panel judges.old) (P.panel judges.new) }
     ensures caused { IfErr result (IsCause ⊥ (IsSpent (P.panel judges.new (method_of did.now))) ⊥ ⊥) }
     ensures unspent { result ≢ Err StepFault.Authority
         → SpendsNone (P.panel judges.old) (P.panel judges.new) }
@@ -37,7 +38,9 @@ pub(crate) fn ask_verdict<P: Judges>(
     sig: &[u8],
 ) -> Result<bool, StepFault>
     requires { IsTrue (is_did did.now) }
-    ensures call { IsCall (called did.now (answers (asks_verdict did.now digest.now sig.now)) result) (P.panel judges.old) (P.panel judges.new) }
+    ensures call { IsCall (called did.now
+        (answers (asks_verdict did.now digest.now sig.now)) result) (P.panel judges.old)
+        (P.panel judges.new) }
     ensures caused { IfErr result (IsCause ⊥ (IsSpent (P.panel judges.new (method_of did.now))) ⊥ ⊥) }
     ensures unspent { result ≢ Err StepFault.Authority
         → SpendsNone (P.panel judges.old) (P.panel judges.new) }
@@ -52,7 +55,8 @@ pub(crate) fn ask_verdict<P: Judges>(
 /// Has an account looked up anew.
 pub(crate) fn ask_refresh<P: Judges>(judges: &mut P, did: &str) -> Result<(), StepFault>
     requires { IsTrue (is_did did.now) }
-    ensures call { IsCall (called did.now (λ _. refreshes did.now) result) (P.panel judges.old) (P.panel judges.new) }
+    ensures call { IsCall (called did.now (λ _. refreshes did.now) result) (P.panel judges.old)
+        (P.panel judges.new) }
     ensures caused { IfErr result (IsCause ⊥ (IsSpent (P.panel judges.new (method_of did.now))) ⊥ ⊥) }
     ensures unspent { result ≢ Err StepFault.Authority
         → SpendsNone (P.panel judges.old) (P.panel judges.new) }
@@ -67,7 +71,8 @@ pub(crate) fn ask_refresh<P: Judges>(judges: &mut P, did: &str) -> Result<(), St
 /// The clock's moment.
 pub(crate) fn ask_moment<C: Clock>(clock: &mut C) -> Result<u64, StepFault>
     ensures number { IfOk result (λ moment. moment < NUMBERS) }
-    ensures now { IfOk result (λ moment. IsTrue C.tells → IsNow (C.moments clock.old) moment (C.moments clock.new)) }
+    ensures now { IfOk result (λ moment. IsTrue C.tells
+        → IsNow (C.moments clock.old) moment (C.moments clock.new)) }
     ensures kept { OnErr result (IsTrue C.tells → C.moments clock.new ≡ C.moments clock.old) }
     ensures caused { IfErr result (IsCause ⊥ ⊥ ⊥ (Rose (C.faults clock.old) (C.faults clock.new))) }
     ensures counts { C.faults clock.old ≤ C.faults clock.new }

@@ -37,15 +37,24 @@ pub fn sync_now<P: Judges, R: Repos, C: Clock>(
 ) -> Result<CommandAnswer, StepFault>
     requires did { IsTrue (is_did did.now) }
     requires time { length time.now ≤ LONGEST_SHORT_TEXT }
-    ensures synced { IfOk result (λ command. SyncedAt C.tells R.tells core.now did.now time.now (around (P.panel judges.old) (C.moments clock.old) (R.repository repos.old))
+    ensures synced { IfOk result (λ command.
+        SyncedAt C.tells R.tells core.now did.now time.now
+        (around (P.panel judges.old) (C.moments clock.old) (R.repository repos.old))
         command (around (P.panel judges.new) (C.moments clock.new) (R.repository repos.new))) }
     ensures formed { IfOk result (λ command. KeepsJournal core.now (rows_commanded command)) }
-    ensures in_vain { OnErr result (CameToNothing C.tells R.tells (AskedInVain (P.panel judges.old) did.now (P.panel judges.new))
-        (around (P.panel judges.old) (C.moments clock.old) (R.repository repos.old)) (around (P.panel judges.new) (C.moments clock.new) (R.repository repos.new))) }
+    ensures in_vain { OnErr result (CameToNothing C.tells R.tells
+        (AskedInVain (P.panel judges.old) did.now (P.panel judges.new))
+        (around (P.panel judges.old) (C.moments clock.old) (R.repository repos.old))
+        (around (P.panel judges.new) (C.moments clock.new) (R.repository repos.new))) }
     ensures caused { IfErr result (IsCause
-        (EndsFetched C.tells R.tells core.now did.now (around (P.panel judges.old) (C.moments clock.old) (R.repository repos.old)) (around (P.panel judges.new) (C.moments clock.new) (R.repository repos.new)))
-        (SpentFetching C.tells R.tells core.now did.now (around (P.panel judges.old) (C.moments clock.old) (R.repository repos.old)) (around (P.panel judges.new) (C.moments clock.new) (R.repository repos.new)))
-        (Rose (R.faults repos.old) (R.faults repos.new)) (Rose (C.faults clock.old) (C.faults clock.new))) }
+        (EndsFetched C.tells R.tells core.now did.now
+        (around (P.panel judges.old) (C.moments clock.old) (R.repository repos.old))
+        (around (P.panel judges.new) (C.moments clock.new) (R.repository repos.new)))
+        (SpentFetching C.tells R.tells core.now did.now
+        (around (P.panel judges.old) (C.moments clock.old) (R.repository repos.old))
+        (around (P.panel judges.new) (C.moments clock.new) (R.repository repos.new)))
+        (Rose (R.faults repos.old) (R.faults repos.new))
+        (Rose (C.faults clock.old) (C.faults clock.new))) }
     ensures clock_counts { C.faults clock.old ≤ C.faults clock.new }
     ensures repos_count { R.faults repos.old ≤ R.faults repos.new }
     ensures unspent { result ≢ Err StepFault.Authority

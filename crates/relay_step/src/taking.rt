@@ -30,9 +30,12 @@ pub(crate) fn take(
     decision: &Decision,
     answers: Answers,
 ) -> Result<Decided, StepFault>
-    ensures recorded { IfOk result (λ told. told ≡ Outcome.Recorded (event_taken core.now.last host.now event decision.now answers)) }
-    ensures number { OnOk result (goes_out decision.now.refusal decision.now.held ≡ true → core.now.last + 1 < NUMBERS) }
-    ensures caused { IfErr result (IsCause ((NUMBERS ≤ core.now.last + 1) × (goes_out decision.now.refusal decision.now.held ≡ true)) ⊥ ⊥ ⊥) }
+    ensures recorded { IfOk result (λ told. told
+        ≡ Outcome.Recorded (event_taken core.now.last host.now event decision.now answers)) }
+    ensures number { OnOk result (goes_out decision.now.refusal decision.now.held ≡ true
+        → core.now.last + 1 < NUMBERS) }
+    ensures caused { IfErr result (IsCause ((NUMBERS ≤ core.now.last + 1)
+        × (goes_out decision.now.refusal decision.now.held ≡ true)) ⊥ ⊥ ⊥) }
 {
     if goes_out(decision) && is_full(core) {
         return Err(StepFault::SeqEnd);

@@ -53,7 +53,8 @@ NoneEnds (o ∷ outcomes) = (is_end o ≡ false) × NoneEnds outcomes
 
 -- a host ended with the last of them
 abbrev pub HasEnd : List Outcome → Type 0
-HasEnd outcomes = (front : List Outcome) × (o : Outcome) × (outcomes ≡ front ++ o ∷ []) × (is_end o ≡ true)
+HasEnd outcomes = (front : List Outcome) × (o : Outcome) × (outcomes ≡ front ++ o ∷ [])
+    × (is_end o ≡ true)
 
 -- what was asked of the judges for the next message, in vain
 abbrev pub InVain : List Message → Panel → Panel → Type 0
@@ -64,15 +65,20 @@ InVain (m ∷ behind) old new = AskedInVainOf old (frame_of m.bytes) new
 abbrev pub AsksBehind : Bool → Bool → List Step → List Message → Around → Around → Type 0
 AsksBehind clock_tells repos_tell [] behind old new =
     CameToNothing clock_tells repos_tell (InVain behind old.panel new.panel) old new
-AsksBehind clock_tells repos_tell (s ∷ extra) behind old new = AskedNothing clock_tells repos_tell old new
+AsksBehind clock_tells repos_tell (s ∷ extra) behind old new =
+    AskedNothing clock_tells repos_tell old new
 
 -- what was asked behind the steps: nothing, unless a fault came
-abbrev pub StopsAsking : Bool → Bool → Option StoreFault → List Step → List Message → Around → Around → Type 0
-StopsAsking clock_tells repos_tell None extra behind old new = AskedNothing clock_tells repos_tell old new
-StopsAsking clock_tells repos_tell (Some fault) extra behind old new = AsksBehind clock_tells repos_tell extra behind old new
+abbrev pub StopsAsking : Bool → Bool → Option StoreFault → List Step → List Message → Around
+    → Around → Type 0
+StopsAsking clock_tells repos_tell None extra behind old new =
+    AskedNothing clock_tells repos_tell old new
+StopsAsking clock_tells repos_tell (Some fault) extra behind old new =
+    AsksBehind clock_tells repos_tell extra behind old new
 
 -- what the steps and the next message asked
-pub record AskedInTurn (clock_tells repos_tell : Bool) (J : List Row) (old : Around) (steps extra : List Step)
+pub record AskedInTurn (clock_tells repos_tell : Bool) (J : List Row) (old : Around)
+    (steps extra : List Step)
     (fault : Option StoreFault) (behind : List Message) (new : Around) : Type 0 where
   pub mid : Around
   pub turns : AllAsked clock_tells repos_tell J old (steps ++ extra) mid
@@ -80,7 +86,8 @@ pub record AskedInTurn (clock_tells repos_tell : Bool) (J : List Row) (old : Aro
 
 -- the log had no room for the row of the step behind those in the body
 abbrev pub EndsFull : LogState → List Step → List Step → Option StoreFault → Type 0
-EndsFull log steps extra (Some (StoreFault.Full e)) = (row : Row) × (rows extra ≡ row ∷ []) × IsFull log (rows steps) row e
+EndsFull log steps extra (Some (StoreFault.Full e)) = (row : Row) × (rows extra ≡ row ∷ [])
+    × IsFull log (rows steps) row e
 EndsFull log steps extra fault = Unit {0}
 
 -- what is answered to steps: after a failure of the disk nothing
@@ -109,12 +116,15 @@ abbrev pub scene : {D : Type 0} → StoreState → D → Around → Scene D
 scene store disk around = record { store = store; disk = disk; around = around }
 
 -- Messages of hosts were taken behind the journal J, and this was answered.
-pub record Batched {D : Type 0} (view : D → View) (tells clock_tells repos_tell : Bool) (J : List Row) (group : List Message) (old new : Scene D) (outcomes : List Outcome) (fault : Option StoreFault) : Type 0 where
+pub record Batched {D : Type 0} (view : D → View) (tells clock_tells repos_tell : Bool)
+    (J : List Row) (group : List Message) (old new : Scene D) (outcomes : List Outcome)
+    (fault : Option StoreFault) : Type 0 where
   -- the steps whose rows are in the body under way, and one behind them whose row isn't: each is what comes of its message behind the rows before it
   pub steps : List Step
   pub extra : List Step
   pub which : AreExtra fault extra
-  pub are : (checks : Checks) → OpensRight checks → LinksRight checks → AreSteps checks J [] (steps ++ extra)
+  pub are : (checks : Checks) → OpensRight checks → LinksRight checks
+      → AreSteps checks J [] (steps ++ extra)
   pub journal : IsJournal (J ++ rows (steps ++ extra))
   -- they are of the messages in front of the group: of all, unless a fault came or a host ended, which none but the last did
   pub behind : List Message
@@ -132,14 +142,18 @@ pub record Batched {D : Type 0} (view : D → View) (tells clock_tells repos_tel
   pub format : new.store.log.format ≡ old.store.log.format
   pub most : new.store.log.most ≡ old.store.log.most
   -- the next body goes behind the one of the rows
-  pub end : fault ≢ Some StoreFault.Disk → new.store.log.end ≡ pending_end old.store.log.end (rows steps)
+  pub end : fault ≢ Some StoreFault.Disk
+      → new.store.log.end ≡ pending_end old.store.log.end (rows steps)
   -- after every fault but the disk's the rows of the steps are known, and the disk holds them
   pub known : fault ≢ Some StoreFault.Disk → Holds new.store.core (J ++ rows steps)
-  pub keeps : fault ≢ Some StoreFault.Disk → IsTrue tells → Keeps J old.store (view old.disk) → Keeps (J ++ rows steps) new.store (view new.disk)
+  pub keeps : fault ≢ Some StoreFault.Disk → IsTrue tells → Keeps J old.store (view old.disk)
+      → Keeps (J ++ rows steps) new.store (view new.disk)
   -- where there are none, the disk is as it was, and so is all that is known
-  pub untouched : rows steps ≡ [] → (new.store.log ≡ old.store.log) × ((new.store.window ≡ old.store.window) × (new.disk ≡ old.disk))
+  pub untouched : rows steps ≡ [] → (new.store.log ≡ old.store.log)
+      × ((new.store.window ≡ old.store.window) × (new.disk ≡ old.disk))
   -- a crash at any moment leaves the journal, with all rows of the body under way or without
-  pub moments : IsTrue tells → Keeps J old.store (view old.disk) → LeavesOnly (IsOneOf old.store.log.format J (rows steps)) (view old.disk) (view new.disk)
+  pub moments : IsTrue tells → Keeps J old.store (view old.disk)
+      → LeavesOnly (IsOneOf old.store.log.format J (rows steps)) (view old.disk) (view new.disk)
 
 abbrev pub message_from : List ℕ → List ℕ → Message
 message_from host bytes = record { host = host; bytes = bytes }

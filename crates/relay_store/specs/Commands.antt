@@ -30,7 +30,8 @@ done_of (CommandAnswer.Made row) = done_row row
 
 -- a fault that comes behind a word: its row had no room, or memory ran out
 abbrev pub IsLate : LogState → Pending → List Row → StoreFault → Type 0
-IsLate log d rows (StoreFault.Full e) = (row : Row) × (rows ≡ row ∷ []) × ((before : List Row) → HasRows before d → IsFull log before row e)
+IsLate log d rows (StoreFault.Full e) = (row : Row) × (rows ≡ row ∷ [])
+    × ((before : List Row) → HasRows before d → IsFull log before row e)
 IsLate log d rows StoreFault.Memory = Unit {0}
 IsLate log d rows StoreFault.Disk = ⊥
 IsLate log d rows (StoreFault.BadLog place) = ⊥
@@ -65,7 +66,8 @@ added (Err fault) rows = []
 -- what is answered: what the word comes to, or that the disk failed, that memory ran out, or that the log has no room for its row
 abbrev pub IsAnswer : LogState → CommandAnswer → Result Done StoreFault → Type 0
 IsAnswer log command (Ok done) = done ≡ done_of command
-IsAnswer log command (Err (StoreFault.Full e)) = (row : Row) × (rows_commanded command ≡ row ∷ []) × IsFull log [] row e
+IsAnswer log command (Err (StoreFault.Full e)) = (row : Row) × (rows_commanded command ≡ row ∷ [])
+    × IsFull log [] row e
 IsAnswer log command (Err StoreFault.Disk) = Unit {0}
 IsAnswer log command (Err StoreFault.Memory) = Unit {0}
 IsAnswer log command (Err (StoreFault.BadLog place)) = ⊥
@@ -75,24 +77,33 @@ IsAnswer log command (Err StoreFault.Repos) = ⊥
 IsAnswer log command (Err StoreFault.Clock) = ⊥
 
 -- A word was taken behind the journal J, and this was answered.
-pub record Commanded {D : Type 0} (view : D → View) (tells : Bool) (J : List Row) (command : CommandAnswer) (old new : StoreState) (disk disk_now : D) (result : Result Done StoreFault) : Type 0 where
+pub record Commanded {D : Type 0} (view : D → View) (tells : Bool) (J : List Row)
+    (command : CommandAnswer) (old new : StoreState) (disk disk_now : D)
+    (result : Result Done StoreFault) : Type 0 where
   pub answer : IsAnswer old.log command result
   -- a row that was added had room
-  pub room : (added result (rows_commanded command) ≡ []) ⊎ (end_of old.log.end (rows_commanded command) ≤ old.log.most)
+  pub room : (added result (rows_commanded command) ≡ [])
+      ⊎ (end_of old.log.end (rows_commanded command) ≤ old.log.most)
   -- the log is of the format that it had, and may go as far
   pub format : new.log.format ≡ old.log.format
   pub most : new.log.most ≡ old.log.most
   -- the next body goes behind the one of the row
-  pub end : result ≢ Err StoreFault.Disk → new.log.end ≡ pending_end old.log.end (added result (rows_commanded command))
+  pub end : result ≢ Err StoreFault.Disk
+      → new.log.end ≡ pending_end old.log.end (added result (rows_commanded command))
   -- after every fault but the disk's the row is known, if one was added, and the disk holds it
-  pub known : result ≢ Err StoreFault.Disk → Holds new.core (J ++ added result (rows_commanded command))
-  pub keeps : result ≢ Err StoreFault.Disk → IsTrue tells → Keeps J old (view disk) → Keeps (J ++ added result (rows_commanded command)) new (view disk_now)
-  pub untouched : result ≢ Err StoreFault.Disk → added result (rows_commanded command) ≡ [] → (new.log ≡ old.log) × ((new.window ≡ old.window) × (disk_now ≡ disk))
+  pub known : result ≢ Err StoreFault.Disk
+      → Holds new.core (J ++ added result (rows_commanded command))
+  pub keeps : result ≢ Err StoreFault.Disk → IsTrue tells → Keeps J old (view disk)
+      → Keeps (J ++ added result (rows_commanded command)) new (view disk_now)
+  pub untouched : result ≢ Err StoreFault.Disk → added result (rows_commanded command) ≡ []
+      → (new.log ≡ old.log) × ((new.window ≡ old.window) × (disk_now ≡ disk))
   -- a crash at any moment leaves the journal, with the row or without
-  pub moments : IsTrue tells → Keeps J old (view disk) → LeavesOnly (IsOneOf old.log.format J (rows_commanded command)) (view disk) (view disk_now)
+  pub moments : IsTrue tells → Keeps J old (view disk)
+      → LeavesOnly (IsOneOf old.log.format J (rows_commanded command)) (view disk) (view disk_now)
 
 -- No word came of it.
-pub record Unsaid {D : Type 0} (failed : Type 0) (old new : StoreState) (disk disk_now : D) (result : Result Done StoreFault) : Type 0 where
+pub record Unsaid {D : Type 0} (failed : Type 0) (old new : StoreState) (disk disk_now : D)
+    (result : Result Done StoreFault) : Type 0 where
   pub fault : StoreFault
   pub is : result ≡ Err fault
   pub of_asking : ComesOfAsking fault
@@ -101,6 +112,9 @@ pub record Unsaid {D : Type 0} (failed : Type 0) (old new : StoreState) (disk di
   pub disk_same : disk_now ≡ disk
 
 -- An operator's command was taken behind the journal J: it is what it has to be, and this was answered; or none came of it.
-abbrev pub CommandDone : {D : Type 0} → (D → View) → Bool → List Row → (CommandAnswer → Type 0) → Type 0 → StoreState → StoreState → D → D → Result Done StoreFault → Type 0
+abbrev pub CommandDone : {D : Type 0} → (D → View) → Bool → List Row → (CommandAnswer → Type 0)
+    → Type 0 → StoreState → StoreState → D → D → Result Done StoreFault → Type 0
 CommandDone view tells J is_command failed old new disk disk_now result =
-    ((command : CommandAnswer) × is_command command × IsJournal (J ++ rows_commanded command) × Commanded view tells J command old new disk disk_now result) ⊎ Unsaid failed old new disk disk_now result
+    ((command : CommandAnswer) × is_command command × IsJournal (J ++ rows_commanded command)
+    × Commanded view tells J command old new disk disk_now result)
+    ⊎ Unsaid failed old new disk disk_now result

@@ -19,7 +19,8 @@ IsImageBeside Two J live other = IsPairImageOf J other live
 
 -- of this journal or of that one
 abbrev pub IsEitherBeside : Side → List Row → List Row → List ℕ → List ℕ → Type 0
-IsEitherBeside side J K live other = IsImageBeside side J live other ⊎ IsImageBeside side K live other
+IsEitherBeside side J K live other = IsImageBeside side J live other
+    ⊎ IsImageBeside side K live other
 
 -- Why a journal isn't cut at a number: it is above the last number; or no event has a number up to it; or the log has the last generation.
 abbrev pub IsUncut : List Row → Format → ℕ → Refusal → Type 0
@@ -31,4 +32,5 @@ IsUncut J format c refusal = ⊥
 -- the numbers of places that are above a number, in order
 abbrev pub kept_above : ℕ → List Place → List ℕ
 kept_above seq [] = []
-kept_above seq (p ∷ places) = if nat_lt seq p.seq then p.seq ∷ kept_above seq places else kept_above seq places
+kept_above seq (p ∷ places) = if nat_lt seq p.seq then p.seq ∷ kept_above seq places
+    else kept_above seq places

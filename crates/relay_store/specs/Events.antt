@@ -27,12 +27,15 @@ pub record BufferState : Type 0 where
 
 -- Where one of these bodies stands at the place, the bytes are those of its rows from the index on.
 abbrev pub IsBufferOf : Format → List (List Row) → BufferState → Type 0
-IsBufferOf format bodies buffer = (before : List (List Row)) (there : List Row) (after : List (List Row))
-    → bodies ≡ before ++ there ∷ after → buffer.place ≡ length (made format (bytes_of before)) → buffer.left ≡ encoded_rows (drop buffer.index there)
+IsBufferOf format bodies buffer = (before : List (List Row)) (there : List Row)
+    (after : List (List Row))
+    → bodies ≡ before ++ there ∷ after → buffer.place ≡ length (made format (bytes_of before))
+    → buffer.left ≡ encoded_rows (drop buffer.index there)
 
 -- The disk is the one that the store is open on, these are the events of its journal, and the buffer is one of its bodies.
 abbrev pub HasEvents : StoreState → View → BufferState → Held → Type 0
-HasEvents s v buffer held = (J : List Row) × (keeps : Keeps J s v) × (held ≡ held_by J) × IsBufferOf s.log.format keeps.bodies buffer
+HasEvents s v buffer held = (J : List Row) × (keeps : Keeps J s v) × (held ≡ held_by J)
+    × IsBufferOf s.log.format keeps.bodies buffer
 
 -- the message of the first of events, if there is one
 abbrev pub message_of : List Event → List ℕ
@@ -40,7 +43,8 @@ message_of [] = []
 message_of (event ∷ others) = event.1
 
 -- A row stands at a place: at its index of the body there. It sends out the event of that number.
-pub record StandsAt (format : Format) (bodies : List (List Row)) (p : Place) (row : Row) : Type 0 where
+pub record StandsAt (format : Format) (bodies : List (List Row)) (p : Place)
+    (row : Row) : Type 0 where
   pub before : List (List Row)
   pub rows : List Row
   pub after : List (List Row)
@@ -53,7 +57,8 @@ pub record StandsAt (format : Format) (bodies : List (List Row)) (p : Place) (ro
 abbrev pub AllStand : Format → List (List Row) → List Place → List Row → Type 0
 AllStand format bodies [] rows = rows ≡ []
 AllStand format bodies (p ∷ places) [] = ⊥
-AllStand format bodies (p ∷ places) (row ∷ rows) = StandsAt format bodies p row × AllStand format bodies places rows
+AllStand format bodies (p ∷ places) (row ∷ rows) = StandsAt format bodies p row
+    × AllStand format bodies places rows
 
 -- What is told of a row's event as the journal J stands: whether it is shown, and where it is, its message is in the room.
 pub record IsToldOf (J : List Row) (row : Row) (shown : Bool) (room : List ℕ) : Type 0 where
@@ -69,7 +74,8 @@ pub record IsReadAs (left : List ℕ) (seq : ℕ) (shown : Bool) (room : List �
 
 -- At the front of these bytes an event is seen that has this message, and a number that is kept at one of these places.
 abbrev pub IsReadOf : List Place → List ℕ → ℕ → List ℕ → Type 0
-IsReadOf places left n message = (p : Place) × Contains places p × (p.seq ≡ n) × IsReadAs left n true message
+IsReadOf places left n message = (p : Place) × Contains places p × (p.seq ≡ n)
+    × IsReadAs left n true message
 
 -- This is the first of events, and its message is in the room.
 abbrev pub IsFirst : List Event → Option ℕ → List ℕ → Type 0
@@ -77,17 +83,24 @@ IsFirst events None room = events ≡ []
 IsFirst events (Some n) room = (others : List Event) × (events ≡ (n, room) ∷ others)
 
 -- The rows at the places that are left come behind others of which none is shown.
-pub record IsRest (tells : Bool) (log : LogState) (core : Core) (v : View) (bodies : List (List Row)) (left : List Place) (rows : List Row) : Type 0 where
+pub record IsRest (tells : Bool) (log : LogState) (core : Core) (v : View)
+    (bodies : List (List Row)) (left : List Place) (rows : List Row) : Type 0 where
   pub rest : List Row
   pub stand : AllStand log.format bodies left rest
-  pub same : IsTrue tells → (J : List Row) → AllBodies bodies → HasBodies (bytes_of bodies) log v → Holds core J → shown_of J rows ≡ shown_of J rest
+  pub same : IsTrue tells → (J : List Row) → AllBodies bodies → HasBodies (bytes_of bodies) log v
+      → Holds core J → shown_of J rows ≡ shown_of J rest
 
 -- while the first event that is shown is searched for, from a buffer on
-pub record IsSearching (tells : Bool) (log : LogState) (core : Core) (old now : View) (buffer buffer_now : BufferState) (places left : List Place) : Type 0 where
+pub record IsSearching (tells : Bool) (log : LogState) (core : Core) (old now : View)
+    (buffer buffer_now : BufferState) (places left : List Place) : Type 0 where
   pub goes : Goes Same old now
   pub steady : now.faults ≡ old.faults
-  pub holds : IsTrue tells → (bodies : List (List ℕ)) → HasBodies bodies log old → HasBodies bodies log now
+  pub holds : IsTrue tells → (bodies : List (List ℕ)) → HasBodies bodies log old
+      → HasBodies bodies log now
   pub on : IsTrue tells → IsOn now log
-  pub fits : IsTrue tells → (bodies : List (List Row)) → AllBodies bodies → HasBodies (bytes_of bodies) log old → IsBufferOf log.format bodies buffer → IsBufferOf log.format bodies buffer_now
+  pub fits : IsTrue tells → (bodies : List (List Row)) → AllBodies bodies
+      → HasBodies (bytes_of bodies) log old → IsBufferOf log.format bodies buffer
+      → IsBufferOf log.format bodies buffer_now
   pub within : (p : Place) → Contains left p → Contains places p
-  pub rest : (bodies : List (List Row)) (rows : List Row) → IsBufferOf log.format bodies buffer → AllStand log.format bodies places rows → IsRest tells log core old bodies left rows
+  pub rest : (bodies : List (List Row)) (rows : List Row) → IsBufferOf log.format bodies buffer
+      → AllStand log.format bodies places rows → IsRest tells log core old bodies left rows

@@ -48,11 +48,13 @@ IsOneOf format J rows c = IsLogOf format J c ⊎ IsLogOf format (J ++ rows) c
 
 -- All pairs that a crash may leave are images of journals.
 abbrev pub LeavesPairJournals : View → View → Type 0
-LeavesPairJournals one two = (c d : List ℕ) → one.may_leave c → two.may_leave d → (J : List Row) × IsPairImageOf J c d
+LeavesPairJournals one two = (c d : List ℕ) → one.may_leave c → two.may_leave d → (J : List Row)
+    × IsPairImageOf J c d
 
 -- A crash may leave a pair of images of this journal.
 abbrev pub MayBePairJournal : View → View → List Row → Type 0
-MayBePairJournal one two J = (c : List ℕ) × (d : List ℕ) × one.may_leave c × two.may_leave d × IsPairImageOf J c d
+MayBePairJournal one two J = (c : List ℕ) × (d : List ℕ) × one.may_leave c × two.may_leave d
+    × IsPairImageOf J c d
 
 -- an image of one of the journals that a crash might have left before
 abbrev pub IsPairJournalOfOne : View → View → List ℕ → List ℕ → Type 0
@@ -72,4 +74,5 @@ pub record IsBadBodyAt (place : ℕ) (bytes : List ℕ) : Type 0 where
 
 -- The bytes of two disks are no image of a journal, and this is the place where they show it: where the log shows it, and where that is none, the place of the first body that is bad.
 abbrev pub IsBadPairJournalAt : ℕ → List ℕ → List ℕ → Type 0
-IsBadPairJournalAt place one two = IsBadPairAt place one two ⊎ ((side : Side) × IsPicked one two side × IsBadBodyAt place (of_side side one two))
+IsBadPairJournalAt place one two = IsBadPairAt place one two
+    ⊎ ((side : Side) × IsPicked one two side × IsBadBodyAt place (of_side side one two))

@@ -16,7 +16,8 @@ abbrev pub fetch_word : Fetch → List ℕ
 fetch_word Fetch.NotAsked = []
 fetch_word Fetch.Absent = codes " absent"
 fetch_word (Fetch.Refused n) = codes " repository " ++ decimal n
-fetch_word (Fetch.Whole seq records) = codes " synced " ++ (decimal seq ++ (codes " records " ++ decimal records))
+fetch_word (Fetch.Whole seq records) =
+    codes " synced " ++ (decimal seq ++ (codes " records " ++ decimal records))
 
 abbrev pub end_word : End → List ℕ
 end_word End.BadFrame = codes " ended frame"
@@ -26,7 +27,8 @@ end_word End.Error = codes " ended error"
 abbrev pub outcome_word : Outcome → List ℕ
 outcome_word (Outcome.Event n seq) = codes " " ++ (decimal n ++ (codes " event " ++ decimal seq))
 outcome_word (Outcome.Held n) = codes " " ++ (decimal n ++ codes " held")
-outcome_word (Outcome.Refused n r f) = codes " " ++ (decimal n ++ (codes " " ++ (refused_of r ++ fetch_word f)))
+outcome_word (Outcome.Refused n r f) =
+    codes " " ++ (decimal n ++ (codes " " ++ (refused_of r ++ fetch_word f)))
 outcome_word (Outcome.Old n) = codes " " ++ (decimal n ++ codes " old")
 outcome_word Outcome.Unknown = codes " unknown"
 outcome_word Outcome.Info = codes " info"
@@ -39,10 +41,15 @@ line_of host o = host ++ (outcome_word o ++ 10 ∷ [])
 -- the last line: how many messages there were, how many numbers were given, how many messages were refused, and the last number
 abbrev pub end_line_of : ℕ → ℕ → ℕ → ℕ → List ℕ
 end_line_of messages events refused last =
-    codes "end " ++ (decimal messages ++ (codes " events " ++ (decimal events ++ (codes " refused " ++ (decimal refused ++ (codes " last " ++ (decimal last ++ 10 ∷ [])))))))
+    codes "end " ++ (decimal messages ++
+    (codes " events " ++ (decimal events
+    ++ (codes " refused " ++ (decimal refused ++ (codes " last " ++ (decimal last ++ 10 ∷ [])))))))
 
 -- They are the lines of the report.
 pub record LinesReport : Type 0 where
   pub taken : (t : Taken) → line_of t.host (taken_outcome t) ≡ taken_line t
-  pub passed : (m : Message) → m.1 ≢ Err FrameFault.Memory → line_of m.0 (skipped_outcome m.1) ≡ skipped_line m
-  pub end : (J : List Row) (messages : List Message) (rows : List Row) → end_line_of (length messages) (length (events rows)) (length (filter is_row_refused rows)) (last_seq (J ++ rows)) ≡ end_line J messages rows
+  pub passed : (m : Message) → m.1 ≢ Err FrameFault.Memory
+      → line_of m.0 (skipped_outcome m.1) ≡ skipped_line m
+  pub end : (J : List Row) (messages : List Message) (rows : List Row)
+      → end_line_of (length messages) (length (events rows)) (length (filter is_row_refused rows))
+      (last_seq (J ++ rows)) ≡ end_line J messages rows

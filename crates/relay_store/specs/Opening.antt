@@ -26,19 +26,26 @@ pub record BothOnlyRead (one two one_now two_now : View) : Type 0 where
   pub second : Goes Same two two_now
 
 -- An opening of the store of two disks, whatever it answers.
-pub record Opened (tells : Bool) (one two one_now two_now : View) (result : Result Store StoreFault) : Type 0 where
+pub record Opened (tells : Bool) (one two one_now two_now : View)
+    (result : Result Store StoreFault) : Type 0 where
   -- the store's journal is the one of which the pair is an image
-  pub keeps : IfOk result (λ s. IsTrue tells → (J : List Row) × IsPairImageOf J one.content two.content × Keeps J (seen_in s) (view_of_side s.side one_now two_now))
+  pub keeps : IfOk result (λ s. IsTrue tells → (J : List Row)
+      × IsPairImageOf J one.content two.content
+      × Keeps J (seen_in s) (view_of_side s.side one_now two_now))
   -- its side is picked of all that a crash now may leave, and the other side was only read
   pub side : IfOk result (λ s. IsTrue tells → LeavesSide s.side one_now two_now)
-  pub beside : IfOk result (λ s. Goes Same (view_of_side (other_side s.side) one two) (view_of_side (other_side s.side) one_now two_now))
+  pub beside : IfOk result (λ s. Goes Same (view_of_side (other_side s.side) one two)
+      (view_of_side (other_side s.side) one_now two_now))
   -- whatever moments a crash strikes the two at, it leaves an image of one of the journals that one before could leave
-  pub moments : IsTrue tells → LeavesPairJournals one two → PairLeavesOnly (IsPairJournalOfOne one two) one one_now two two_now
+  pub moments : IsTrue tells → LeavesPairJournals one two
+      → PairLeavesOnly (IsPairJournalOfOne one two) one one_now two two_now
   -- where it comes to no store, and no call of a disk failed, both were only read: a damaged log stays as it is
-  pub read : (fault : StoreFault) → result ≡ Err fault → fault ≢ StoreFault.Disk → IsTrue tells → BothOnlyRead one two one_now two_now
+  pub read : (fault : StoreFault) → result ≡ Err fault → fault ≢ StoreFault.Disk → IsTrue tells
+      → BothOnlyRead one two one_now two_now
 
 -- The rows of the body at this place are applied, behind the journal J.
-pub record IsApplied (place : ℕ) (body : List ℕ) (J : List Row) (state : Core) (places places_now : List Place) : Type 0 where
+pub record IsApplied (place : ℕ) (body : List ℕ) (J : List Row) (state : Core)
+    (places places_now : List Place) : Type 0 where
   pub rows : List Row
   pub is : IsBody rows body
   pub journal : IsJournal (J ++ rows)
@@ -46,13 +53,15 @@ pub record IsApplied (place : ℕ) (body : List ℕ) (J : List Row) (state : Cor
   pub window : places_now ≡ places ++ places_in place 0 rows
 
 -- These rows of the body at this place were applied, behind every journal that was known, and they keep its order.
-pub record AreApplied (place : ℕ) (rows : List Row) (state state_now : Core) (places places_now : List Place) : Type 0 where
+pub record AreApplied (place : ℕ) (rows : List Row) (state state_now : Core)
+    (places places_now : List Place) : Type 0 where
   pub core : (J : List Row) → Holds state J → Holds state_now (J ++ rows)
   pub journal : (J : List Row) → Holds state J → IsJournal J → IsJournal (J ++ rows)
   pub window : places_now ≡ places ++ places_in place 0 rows
 
 -- while the rows of the body at this place are applied: so many are, and that is left
-pub record IsApplying (place index : ℕ) (was left : RowsLeft) (state state_now : Core) (places places_now : List Place) : Type 0 where
+pub record IsApplying (place index : ℕ) (was left : RowsLeft) (state state_now : Core)
+    (places places_now : List Place) : Type 0 where
   pub done : List Row
   pub read : AreInFront done was left
   pub count : index ≡ length done
@@ -63,7 +72,8 @@ abbrev pub IsBadBody : List Row → List ℕ → Type 0
 IsBadBody J body = (rows : List Row) → IsBody rows body → IsJournal (J ++ rows) → ⊥
 
 -- bodies of a journal, all of which is known
-pub record IsLoaded (format : Format) (bodies : List (List ℕ)) (state : Core) (places : List Place) : Type 0 where
+pub record IsLoaded (format : Format) (bodies : List (List ℕ)) (state : Core)
+    (places : List Place) : Type 0 where
   pub found : List (List Row)
   pub bytes_are : bytes_of found ≡ bodies
   pub each : AllBodies found
@@ -83,7 +93,8 @@ pub record IsBadAmong (place : ℕ) (format : Format) (bodies : List (List ℕ))
   pub bad : IsBadBody (joined before) body
 
 -- the bodies up to this place are known
-pub record IsFrontOf (format : Format) (bodies : List (List ℕ)) (place : ℕ) (state : Core) (places : List Place) : Type 0 where
+pub record IsFrontOf (format : Format) (bodies : List (List ℕ)) (place : ℕ) (state : Core)
+    (places : List Place) : Type 0 where
   pub before : List (List Row)
   pub rest : List (List ℕ)
   pub split : bodies ≡ bytes_of before ++ rest
@@ -94,10 +105,13 @@ pub record IsFrontOf (format : Format) (bodies : List (List ℕ)) (place : ℕ) 
   pub window : places ≡ places_of format before
 
 -- while bodies are read back
-pub record IsLoading (tells : Bool) (log : LogState) (old now : View) (place : ℕ) (core : Core) (window : List Place) : Type 0 where
+pub record IsLoading (tells : Bool) (log : LogState) (old now : View) (place : ℕ) (core : Core)
+    (window : List Place) : Type 0 where
   pub goes : Goes Same old now
-  pub holds : IsTrue tells → (bodies : List (List ℕ)) → HasBodies bodies log old → HasBodies bodies log now
-  pub so_far : IsTrue tells → (bodies : List (List ℕ)) → HasBodies bodies log old → IsFrontOf log.format bodies place core window
+  pub holds : IsTrue tells → (bodies : List (List ℕ)) → HasBodies bodies log old
+      → HasBodies bodies log now
+  pub so_far : IsTrue tells → (bodies : List (List ℕ)) → HasBodies bodies log old
+      → IsFrontOf log.format bodies place core window
   pub steady : now.faults ≡ old.faults
 
 -- what reading may answer

@@ -30,7 +30,8 @@ pub record HasRows (rows : List Row) (d : Pending) : Type 0 where
 
 -- there is room in the log for the pending batch, if it has rows
 abbrev pub Fits : LogState → Pending → Type 0
-Fits log d = (d.count ≡ 0) ⊎ ((log.end + AROUND_BODY + length (pending_body d) ≤ log.most) × (length (pending_body d) < BODY_LENGTHS))
+Fits log d = (d.count ≡ 0) ⊎ ((log.end + AROUND_BODY + length (pending_body d) ≤ log.most)
+    × (length (pending_body d) < BODY_LENGTHS))
 
 -- where a body of rows ends, with the closed gate behind it
 abbrev pub end_of : ℕ → List Row → ℕ
@@ -47,21 +48,24 @@ pub record IsFull (log : LogState) (rows : List Row) (row : Row) (e : ℕ) : Typ
   pub past : log.most < end_of log.end (rows ++ row ∷ [])
 
 -- A row is applied, and stands in the pending batch.
-pub record IsAdded (end : ℕ) (row : Row) (state state_now : Core) (places places_now : List Place) (d d_now : Pending) : Type 0 where
+pub record IsAdded (end : ℕ) (row : Row) (state state_now : Core) (places places_now : List Place)
+    (d d_now : Pending) : Type 0 where
   pub core : (J : List Row) → Holds state J → Holds state_now (J ++ row ∷ [])
   pub window : places_now ≡ places ++ place_of end d.count row
   pub body : d_now.body ≡ d.body ++ row_encoding row
   pub count : d_now.count ≡ d.count + 1
 
 -- A row that stands in the pending batch already is applied.
-pub record IsApplied (end : ℕ) (row : Row) (state state_now : Core) (places places_now : List Place) (d d_now : Pending) : Type 0 where
+pub record IsApplied (end : ℕ) (row : Row) (state state_now : Core) (places places_now : List Place)
+    (d d_now : Pending) : Type 0 where
   pub core : (J : List Row) → Holds state J → Holds state_now (J ++ row ∷ [])
   pub window : places_now ≡ places ++ place_of end d.count row
   pub body : d_now.body ≡ d.body
   pub count : d_now.count ≡ d.count + 1
 
 -- Nothing is applied, and the pending batch is as it was.
-pub record IsUnchanged (state state_now : Core) (places places_now : List Place) (d d_now : Pending) : Type 0 where
+pub record IsUnchanged (state state_now : Core) (places places_now : List Place)
+    (d d_now : Pending) : Type 0 where
   pub core : (J : List Row) → Holds state J → Holds state_now J
   pub window : places_now ≡ places
   pub body : d_now.body ≡ d.body
@@ -86,11 +90,13 @@ behind_pending end d = if d.count == 0 then end else end + BEFORE_BODY + length 
 
 -- there is none, and it begins at this place
 pub record IsFullWith (log : LogState) (start : ℕ) (d : Pending) (e : ℕ) : Type 0 where
-  pub there : e ≡ behind_pending log.end (cut_to start d) + AROUND_BODY + (1 + length (drop start d.body))
+  pub there : e ≡ behind_pending log.end (cut_to start d) + AROUND_BODY +
+      (1 + length (drop start d.body))
   pub past : log.most < log.end + AROUND_BODY + length_with d
 
 -- The disk holds the journal J, and what is known is of J followed by these rows.
-pub record IsAhead (J more : List Row) (log : LogState) (state : Core) (places : List Place) (v : View) : Type 0 where
+pub record IsAhead (J more : List Row) (log : LogState) (state : Core) (places : List Place)
+    (v : View) : Type 0 where
   pub bodies : List (List Row)
   pub are : AreBodiesOf J bodies
   pub journal : IsJournal (J ++ more)

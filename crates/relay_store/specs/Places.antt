@@ -23,7 +23,9 @@ places_in place index (row ∷ rows) = place_of place index row ++ places_in pla
 -- those of bodies that stand behind others in a log
 abbrev pub places_behind : Format → List (List Row) → List (List Row) → List Place
 places_behind format before [] = []
-places_behind format before (rows ∷ bodies) = places_in (length (made format (bytes_of before))) 0 rows ++ places_behind format (before ++ rows ∷ []) bodies
+places_behind format before (rows ∷ bodies) =
+    places_in (length (made format (bytes_of before))) 0 rows
+    ++ places_behind format (before ++ rows ∷ []) bodies
 
 abbrev pub places_of : Format → List (List Row) → List Place
 places_of format bodies = places_behind format [] bodies

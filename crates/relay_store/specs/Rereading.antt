@@ -19,11 +19,13 @@ pub record IsReread (tells : Bool) (s : StoreState) (v w : View) : Type 0 where
 
 -- These rows come behind every journal that the state is of: with them it is a journal.
 abbrev pub GrowsInOrder : List Row → Core → Type 0
-GrowsInOrder rows state = (J : List Row) → Holds state J → IsJournal J → list_all is_row rows ≡ true → IsJournal (J ++ rows)
+GrowsInOrder rows state = (J : List Row) → Holds state J → IsJournal J → list_all is_row rows ≡ true
+    → IsJournal (J ++ rows)
 
 -- They don't, whatever comes behind them.
 abbrev pub BreaksOrder : List Row → Core → Type 0
-BreaksOrder rows state = (J behind : List Row) → Holds state J → IsJournal (J ++ (rows ++ behind)) → ⊥
+BreaksOrder rows state = (J behind : List Row) → Holds state J → IsJournal (J ++ (rows ++ behind))
+    → ⊥
 
 -- The state is of some journal.
 abbrev pub IsOfSome : Core → Type 0
@@ -38,9 +40,12 @@ pub reread_here : (tells : Bool) (s : StoreState) (v : View) → IsReread tells 
 reread_here tells s v = record { goes = still_here v; keeps = λ told J keeps. keeps }
 
 -- more was read
-pub reread_again : (tells : Bool) (s t : StoreState) (u v w : View) → IsDisk u → t ≡ s → IsReread tells s u v → IsReread tells t v w → IsReread tells s u w
+pub reread_again : (tells : Bool) (s t : StoreState) (u v w : View) → IsDisk u → t ≡ s
+    → IsReread tells s u v → IsReread tells t v w → IsReread tells s u w
 reread_again tells s t u v w disk same first second = record {
   goes = still_again u v w disk first.goes second.goes;
   keeps = λ told J keeps.
-      subst (λ (x : StoreState). Keeps J x w) same (second.keeps told J (subst (λ (x : StoreState). Keeps J x v) (sym same) (first.keeps told J keeps)));
+      subst (λ (x : StoreState). Keeps J x w) same
+      (second.keeps told J (subst (λ (x : StoreState). Keeps J x v) (sym same)
+      (first.keeps told J keeps)));
 }

@@ -28,10 +28,13 @@ pub record IsCopied (tells : Bool) (rows : List Row) (old new : Rewrite) (v w : 
   pub end : new.build.end ≡ end_behind old.build.end rows
   pub fits : (rows ≡ []) ⊎ (new.build.end < old.build.most)
   pub on : IsTrue tells → IsBuiltOn w new.build
-  pub added : IsTrue tells → (bodies : List (List ℕ)) → HasBuilt bodies old.build v → HasBuilt (bodies ++ bytes_of (singles rows)) new.build w
+  pub added : IsTrue tells → (bodies : List (List ℕ)) → HasBuilt bodies old.build v
+      → HasBuilt (bodies ++ bytes_of (singles rows)) new.build w
   pub core : (J : List Row) → Holds old.core J → Holds new.core (J ++ rows)
-  pub window : (before : List (List Row)) → old.build.end ≡ length (made old.build.format (bytes_of before))
-      → new.window.places ≡ old.window.places ++ places_behind old.build.format before (singles rows)
+  pub window : (before : List (List Row))
+      → old.build.end ≡ length (made old.build.format (bytes_of before))
+      → new.window.places ≡ old.window.places
+      ++ places_behind old.build.format before (singles rows)
   -- a crash on the way leaves the gate closed
   pub run : IsTrue tells → LeavesOnly IsClosed v w
   pub steady : w.faults ≡ v.faults

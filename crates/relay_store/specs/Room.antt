@@ -27,8 +27,10 @@ pub record HasRoom (most : ℕ) (J : List Row) (bytes : List ℕ) : Type 0 where
 
 -- the one that is picked of two disks has no room for a row
 abbrev pub PairHasNoRoom : ℕ → List Row → Row → ℕ → List ℕ → List ℕ → Type 0
-PairHasNoRoom most J row e one two = (side : Side) × IsPicked one two side × HasNoRoom most J row e (of_side side one two)
+PairHasNoRoom most J row e one two = (side : Side) × IsPicked one two side
+    × HasNoRoom most J row e (of_side side one two)
 
 -- the one that is picked of two disks had room for the journal
 abbrev pub PairHasRoom : ℕ → List Row → List ℕ → List ℕ → Type 0
-PairHasRoom most J one two = (side : Side) × IsPicked one two side × HasRoom most J (of_side side one two)
+PairHasRoom most J one two = (side : Side) × IsPicked one two side
+    × HasRoom most J (of_side side one two)

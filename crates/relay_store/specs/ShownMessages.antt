@@ -13,7 +13,8 @@ use Rattle.relay_store.specs.Shown.{is_hidden, shown_of}
 
 -- a commit or a sync isn't shown where its account, as the journal J stands, is hidden
 abbrev pub is_frame_shown : List Row → Result Frame FrameFault → Bool
-is_frame_shown J (Ok (Frame.Event e)) = not (nat_le (kind_number e.body) 2 && is_hidden (account e.did J))
+is_frame_shown J (Ok (Frame.Event e)) =
+    not (nat_le (kind_number e.body) 2 && is_hidden (account e.did J))
 is_frame_shown J (Ok (Frame.Faulty seq)) = true
 is_frame_shown J (Ok Frame.Info) = true
 is_frame_shown J (Ok Frame.Error) = true
@@ -25,4 +26,5 @@ is_message_shown J message = is_frame_shown J (frame_of message)
 
 -- The events of a faithful journal that are shown are those whose messages are, read by themselves.
 abbrev pub ShownAsRead : Type 0
-ShownAsRead = (J : List Row) → IsFaithfulJournal J → shown_of J J ≡ filter (λ event. is_message_shown J event.1) (events J)
+ShownAsRead = (J : List Row) → IsFaithfulJournal J
+    → shown_of J J ≡ filter (λ event. is_message_shown J event.1) (events J)

@@ -27,7 +27,8 @@ fn own_end(log: &Log, pending: &Pending, start: usize) -> u64
     requires begun { AHEAD ≤ start }
     requires within { start ≤ length pending.now.body }
     requires short { length_with pending.now < BODY_LENGTHS }
-    ensures { result ≡ behind_pending log.now.end (cut_to start pending.now) + AROUND_BODY + (1 + length (drop start pending.now.body)) }
+    ensures { result ≡ behind_pending log.now.end (cut_to start pending.now) + AROUND_BODY +
+        (1 + length (drop start pending.now.body)) }
 {
     let own = (AROUND_BODY + 1 + (pending.body.len() - start)) as u64;
     if pending.count == 0 {
@@ -43,8 +44,10 @@ fn fit_row(log: &Log, pending: &Pending, start: usize) -> Result<(), StoreFault>
     requires begun { AHEAD ≤ start }
     requires within { start ≤ length pending.now.body }
     ensures fits { OnOk result (FitsWith log.now pending.now) }
-    ensures full { (e : ℕ) → result ≡ Err (StoreFault.Full e) → IsFullWith log.now start pending.now e }
-    ensures cause { IfErr result (λ f. (f ≡ StoreFault.Memory) ⊎ ((e : ℕ) × (f ≡ StoreFault.Full e))) }
+    ensures full { (e : ℕ) → result ≡ Err (StoreFault.Full e)
+        → IsFullWith log.now start pending.now e }
+    ensures cause { IfErr result (λ f. (f ≡ StoreFault.Memory)
+        ⊎ ((e : ℕ) × (f ≡ StoreFault.Full e))) }
 {
     let rows = pending.body.len() - AHEAD;
     let len = rows.saturating_add(list_front_len(pending.count + 1));
@@ -70,13 +73,17 @@ fn find_room(
     requires begun { AHEAD ≤ start }
     requires within { start ≤ length pending.now.body }
     ensures fits { OnOk result (FitsWith log.now pending.now) }
-    ensures host { OnOk result (host_in row.now ≢ [] → has_host core.new.hosts (host_in row.now) ≡ true) }
-    ensures account { OnOk result (did_of_row row.now ≢ [] → has_account core.new.accounts (did_of_row row.now) ≡ true) }
+    ensures host { OnOk result (host_in row.now ≢ []
+        → has_host core.new.hosts (host_in row.now) ≡ true) }
+    ensures account { OnOk result (did_of_row row.now ≢ []
+        → has_account core.new.accounts (did_of_row row.now) ≡ true) }
     ensures spare { OnOk result (0 < window.new.spare) }
     ensures core { (J : List TheRow) → Holds core.old J → Holds core.new J }
     ensures window { window.new.places ≡ window.old.places }
-    ensures full { (e : ℕ) → result ≡ Err (StoreFault.Full e) → IsFullWith log.now start pending.now e }
-    ensures cause { IfErr result (λ f. (f ≡ StoreFault.Memory) ⊎ ((e : ℕ) × (f ≡ StoreFault.Full e))) }
+    ensures full { (e : ℕ) → result ≡ Err (StoreFault.Full e)
+        → IsFullWith log.now start pending.now e }
+    ensures cause { IfErr result (λ f. (f ≡ StoreFault.Memory)
+        ⊎ ((e : ℕ) × (f ≡ StoreFault.Full e))) }
 {
     fit_row(log, pending, start)?;
     make_room(core, window, row)?;
@@ -99,10 +106,15 @@ fn take_in(
     requires fits { Fits log.now (cut_to start pending.old) }
     ensures begun { AHEAD ≤ length pending.new.body }
     ensures fits { Fits log.now pending.new }
-    ensures ok { OnOk result (IsApplied log.now.end row core.old core.new window.old.places window.new.places pending.old pending.new) }
-    ensures as_before { OnErr result (IsUnchanged core.old core.new window.old.places window.new.places (cut_to start pending.old) pending.new) }
-    ensures full { (e : ℕ) → result ≡ Err (StoreFault.Full e) → IsFullWith log.now start pending.old e }
-    ensures cause { IfErr result (λ f. (f ≡ StoreFault.Memory) ⊎ ((e : ℕ) × (f ≡ StoreFault.Full e))) }
+    ensures ok { OnOk result
+        (IsApplied log.now.end row core.old core.new window.old.places window.new.places pending.old
+        pending.new) }
+    ensures as_before { OnErr result (IsUnchanged core.old core.new window.old.places window.new.places
+        (cut_to start pending.old) pending.new) }
+    ensures full { (e : ℕ) → result ≡ Err (StoreFault.Full e)
+        → IsFullWith log.now start pending.old e }
+    ensures cause { IfErr result (λ f. (f ≡ StoreFault.Memory)
+        ⊎ ((e : ℕ) × (f ≡ StoreFault.Full e))) }
 {
     match find_room(log, core, window, pending, start, &row) {
         Ok(()) => {
@@ -131,10 +143,15 @@ pub(crate) fn add_row(
     requires fits { Fits log.now pending.old }
     ensures begun { AHEAD ≤ length pending.new.body }
     ensures fits { Fits log.now pending.new }
-    ensures ok { OnOk result (IsAdded log.now.end row core.old core.new window.old.places window.new.places pending.old pending.new) }
-    ensures as_before { OnErr result (IsUnchanged core.old core.new window.old.places window.new.places pending.old pending.new) }
-    ensures full { (e : ℕ) → result ≡ Err (StoreFault.Full e) → (rows : List TheRow) → HasRows rows pending.old → IsFull log.now rows row e }
-    ensures cause { IfErr result (λ f. (f ≡ StoreFault.Memory) ⊎ ((e : ℕ) × (f ≡ StoreFault.Full e))) }
+    ensures ok { OnOk result
+        (IsAdded log.now.end row core.old core.new window.old.places window.new.places pending.old
+        pending.new) }
+    ensures as_before { OnErr result
+        (IsUnchanged core.old core.new window.old.places window.new.places pending.old pending.new) }
+    ensures full { (e : ℕ) → result ≡ Err (StoreFault.Full e) → (rows : List TheRow)
+        → HasRows rows pending.old → IsFull log.now rows row e }
+    ensures cause { IfErr result (λ f. (f ≡ StoreFault.Memory)
+        ⊎ ((e : ℕ) × (f ≡ StoreFault.Full e))) }
 {
     let start = pending.body.len();
     match write_row(&mut pending.body, &row) {
@@ -161,10 +178,15 @@ pub(crate) fn add_new_row(
     requires fits { Fits log.now pending.old }
     ensures begun { AHEAD ≤ length pending.new.body }
     ensures fits { Fits log.now pending.new }
-    ensures ok { OnOk result (IsAdded log.now.end (TheRow.Taken new_row) core.old core.new window.old.places window.new.places pending.old pending.new) }
-    ensures as_before { OnErr result (IsUnchanged core.old core.new window.old.places window.new.places pending.old pending.new) }
-    ensures full { (e : ℕ) → result ≡ Err (StoreFault.Full e) → (rows : List TheRow) → HasRows rows pending.old → IsFull log.now rows (TheRow.Taken new_row) e }
-    ensures cause { IfErr result (λ f. (f ≡ StoreFault.Memory) ⊎ ((e : ℕ) × (f ≡ StoreFault.Full e))) }
+    ensures ok { OnOk result (IsAdded log.now.end
+        (TheRow.Taken new_row) core.old core.new window.old.places window.new.places pending.old
+        pending.new) }
+    ensures as_before { OnErr result
+        (IsUnchanged core.old core.new window.old.places window.new.places pending.old pending.new) }
+    ensures full { (e : ℕ) → result ≡ Err (StoreFault.Full e) → (rows : List TheRow)
+        → HasRows rows pending.old → IsFull log.now rows (TheRow.Taken new_row) e }
+    ensures cause { IfErr result (λ f. (f ≡ StoreFault.Memory)
+        ⊎ ((e : ℕ) × (f ≡ StoreFault.Full e))) }
 {
     let start = pending.body.len();
     match write_new_row(&mut pending.body, &new_row) {

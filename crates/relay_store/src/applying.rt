@@ -27,8 +27,10 @@ fn number_in(row: &Row) -> u64
 
 /// Makes room for a row in what is known.
 pub(crate) fn make_room(core: &mut Core, window: &mut Window, row: &Row) -> Result<(), Memory>
-    ensures host { OnOk result (host_in row.now ≢ [] → has_host core.new.hosts (host_in row.now) ≡ true) }
-    ensures account { OnOk result (did_of_row row.now ≢ [] → has_account core.new.accounts (did_of_row row.now) ≡ true) }
+    ensures host { OnOk result (host_in row.now ≢ []
+        → has_host core.new.hosts (host_in row.now) ≡ true) }
+    ensures account { OnOk result (did_of_row row.now ≢ []
+        → has_account core.new.accounts (did_of_row row.now) ≡ true) }
     ensures spare { OnOk result (0 < window.new.spare) }
     ensures core { (J : List TheRow) → Holds core.old J → Holds core.new J }
     ensures window { window.new.places ≡ window.old.places }

@@ -24,8 +24,10 @@ pub(crate) fn read_body<D: Disk>(
     requires on { IsTrue D.tells → IsOn (D.view disk.old) log.now }
     ensures next { IfOk result (λ next. (place < next) × (next ≤ log.now.end)) }
     ensures short { OnOk result (length room.new.items < 2 ^ 32) }
-    ensures body { IfOk result (λ next. IsTrue D.tells → (before : List (List TheRow)) (there : List TheRow) (after : List (List TheRow))
-        → IsBody there (rows_body there) → HasBodies (bytes_of (before ++ there ∷ after)) log.now (D.view disk.old)
+    ensures body { IfOk result (λ next. IsTrue D.tells
+        → (before : List (List TheRow)) (there : List TheRow) (after : List (List TheRow))
+        → IsBody there (rows_body there)
+        → HasBodies (bytes_of (before ++ there ∷ after)) log.now (D.view disk.old)
         → place ≡ length (made log.now.format (bytes_of before))
         → IsBody there room.new.items × (next ≡ place + BEFORE_BODY + length (rows_body there))) }
     ensures no_bad_log { (p : ℕ) → result ≡ Err (LogFault.BadLog p) → IsTrue D.tells
@@ -34,11 +36,14 @@ pub(crate) fn read_body<D: Disk>(
         → place ≡ length (made log.now.format (bytes_of before)) → ⊥ }
     ensures no_full { (e : ℕ) → result ≡ Err (LogFault.Full e) → ⊥ }
     ensures goes { Goes Same (D.view disk.old) (D.view disk.new) }
-    ensures holds { IsTrue D.tells → (bodies : List (List ℕ)) → HasBodies bodies log.now (D.view disk.old) → HasBodies bodies log.now (D.view disk.new) }
+    ensures holds { IsTrue D.tells → (bodies : List (List ℕ))
+        → HasBodies bodies log.now (D.view disk.old) → HasBodies bodies log.now (D.view disk.new) }
     ensures on { IsTrue D.tells → IsOn (D.view disk.new) log.now }
     ensures steady { OnOk result ((D.view disk.new).faults ≡ (D.view disk.old).faults) }
-    ensures no_fault { OnErr result ((result ≡ Err LogFault.Disk → ⊥) → (D.view disk.new).faults ≡ (D.view disk.old).faults) }
-    ensures disk { result ≡ Err LogFault.Disk → Rose (D.view disk.old).faults (D.view disk.new).faults }
+    ensures no_fault { OnErr result ((result ≡ Err LogFault.Disk → ⊥)
+        → (D.view disk.new).faults ≡ (D.view disk.old).faults) }
+    ensures disk { result ≡ Err LogFault.Disk
+        → Rose (D.view disk.old).faults (D.view disk.new).faults }
 {
     if place >= log.end() {
         return Err(LogFault::BadLog(place));

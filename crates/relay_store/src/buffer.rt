@@ -42,7 +42,12 @@ impl Model for Buffer {
 
     ghost Value = { BufferState };
 
-    ghost view = { λ p. record { place = p.place; index = p.index; left = drop p.at p.body.items } };
+    ghost view = { λ p. record {
+      place = p.place;
+      index = p.index;
+      left =
+          drop p.at p.body.items;
+    } };
 
     // The body is shorter than its length can say.
     ghost invariant = { λ p. (p.at ≤ vec_len p.body) × (vec_len p.body < 2 ^ 32) };
@@ -51,7 +56,8 @@ impl Model for Buffer {
 // What a fault of reading a log at a place comes to.
 fn fault_of(fault: LogFault) -> EventsFault
     ensures disk { (result ≡ EventsFault.Disk) ↔ (fault ≡ LogFault.Disk) }
-    ensures bad_log { (p : ℕ) → result ≡ EventsFault.BadLog p → (fault ≡ LogFault.BadLog p) ⊎ (fault ≡ LogFault.Full p) }
+    ensures bad_log { (p : ℕ) → result ≡ EventsFault.BadLog p → (fault ≡ LogFault.BadLog p)
+        ⊎ (fault ≡ LogFault.Full p) }
 {
     match fault {
         LogFault::Disk => EventsFault::Disk,
@@ -73,7 +79,8 @@ fn start_of(bytes: &[u8], end: &[u8]) -> Option<usize>
 
 // Where the rows of a body begin.
 fn first_row(body: &[u8]) -> Option<usize>
-    ensures first { IfSome result (λ at. (rows : List TheRow) → IsBody rows body.now → drop at body.now ≡ encoded_rows rows) }
+    ensures first { IfSome result (λ at. (rows : List TheRow) → IsBody rows body.now
+        → drop at body.now ≡ encoded_rows rows) }
     ensures none { result ≡ None → (rows : List TheRow) → IsBody rows body.now → ⊥ }
     ensures within { IfSome result (λ at. at ≤ length body.now) }
 {
@@ -86,9 +93,11 @@ fn first_row(body: &[u8]) -> Option<usize>
 // Where the rows begin behind the one at a place.
 fn next_row(body: &[u8], at: usize) -> Option<usize>
     requires { at ≤ length body.now }
-    ensures next { IfSome result (λ next. (rows : List TheRow) → list_all is_row rows ≡ true → drop at body.now ≡ encoded_rows rows
+    ensures next { IfSome result (λ next. (rows : List TheRow) → list_all is_row rows ≡ true
+        → drop at body.now ≡ encoded_rows rows
         → drop next body.now ≡ encoded_rows (drop 1 rows)) }
-    ensures none { result ≡ None → (rows : List TheRow) → list_all is_row rows ≡ true → drop at body.now ≡ encoded_rows rows → rows ≡ [] }
+    ensures none { result ≡ None → (rows : List TheRow) → list_all is_row rows ≡ true
+        → drop at body.now ≡ encoded_rows rows → rows ≡ [] }
     ensures within { IfSome result (λ next. next ≤ length body.now) }
 {
     let (_, left) = body.split_at(at);
@@ -109,21 +118,28 @@ fn rows_at<D: Disk>(
     room: &mut Vec<u8>,
 ) -> Result<usize, EventsFault>
     requires on { IsTrue D.tells → IsOn (D.view disk.old) log.now }
-    ensures rows { IfOk result (λ at. IsTrue D.tells → (before : List (List TheRow)) (there : List TheRow) (after : List (List TheRow))
-        → IsBody there (rows_body there) → HasBodies (bytes_of (before ++ there ∷ after)) log.now (D.view disk.old)
-        → place ≡ length (made log.now.format (bytes_of before)) → drop at room.new.items ≡ encoded_rows there) }
+    ensures rows { IfOk result (λ at. IsTrue D.tells
+        → (before : List (List TheRow)) (there : List TheRow) (after : List (List TheRow))
+        → IsBody there (rows_body there)
+        → HasBodies (bytes_of (before ++ there ∷ after)) log.now (D.view disk.old)
+        → place ≡ length (made log.now.format (bytes_of before))
+        → drop at room.new.items ≡ encoded_rows there) }
     ensures within { IfOk result (λ at. at ≤ length room.new.items) }
     ensures short { length room.new.items < 2 ^ 32 }
     ensures no_bad_log { (p : ℕ) → result ≡ Err (EventsFault.BadLog p) → IsTrue D.tells
         → (before : List (List TheRow)) (there : List TheRow) (after : List (List TheRow))
-        → IsBody there (rows_body there) → HasBodies (bytes_of (before ++ there ∷ after)) log.now (D.view disk.old)
+        → IsBody there (rows_body there)
+        → HasBodies (bytes_of (before ++ there ∷ after)) log.now (D.view disk.old)
         → place ≡ length (made log.now.format (bytes_of before)) → ⊥ }
     ensures goes { Goes Same (D.view disk.old) (D.view disk.new) }
-    ensures holds { IsTrue D.tells → (bodies : List (List ℕ)) → HasBodies bodies log.now (D.view disk.old) → HasBodies bodies log.now (D.view disk.new) }
+    ensures holds { IsTrue D.tells → (bodies : List (List ℕ))
+        → HasBodies bodies log.now (D.view disk.old) → HasBodies bodies log.now (D.view disk.new) }
     ensures on { IsTrue D.tells → IsOn (D.view disk.new) log.now }
     ensures steady { OnOk result ((D.view disk.new).faults ≡ (D.view disk.old).faults) }
-    ensures no_fault { OnErr result ((result ≡ Err EventsFault.Disk → ⊥) → (D.view disk.new).faults ≡ (D.view disk.old).faults) }
-    ensures disk { result ≡ Err EventsFault.Disk → Rose (D.view disk.old).faults (D.view disk.new).faults }
+    ensures no_fault { OnErr result ((result ≡ Err EventsFault.Disk → ⊥)
+        → (D.view disk.new).faults ≡ (D.view disk.old).faults) }
+    ensures disk { result ≡ Err EventsFault.Disk
+        → Rose (D.view disk.old).faults (D.view disk.new).faults }
 {
     match read_body(log, disk, place, room) {
         Ok(_) => {}
@@ -167,18 +183,24 @@ impl Buffer {
     ) -> Result<(), EventsFault>
         requires on { IsTrue D.tells → IsOn (D.view disk.old) log.now }
         ensures there { OnOk result ((self.new.place ≡ place) × (self.new.index ≡ 0)) }
-        ensures fits { IsTrue D.tells → (bodies : List (List TheRow)) → AllBodies bodies → HasBodies (bytes_of bodies) log.now (D.view disk.old)
+        ensures fits { IsTrue D.tells → (bodies : List (List TheRow)) → AllBodies bodies
+            → HasBodies (bytes_of bodies) log.now (D.view disk.old)
             → IsBufferOf log.now.format bodies self.new }
         ensures no_bad_log { (p : ℕ) → result ≡ Err (EventsFault.BadLog p) → IsTrue D.tells
             → (before : List (List TheRow)) (there : List TheRow) (after : List (List TheRow))
-            → IsBody there (rows_body there) → HasBodies (bytes_of (before ++ there ∷ after)) log.now (D.view disk.old)
+            → IsBody there (rows_body there)
+            → HasBodies (bytes_of (before ++ there ∷ after)) log.now (D.view disk.old)
             → place ≡ length (made log.now.format (bytes_of before)) → ⊥ }
         ensures goes { Goes Same (D.view disk.old) (D.view disk.new) }
-        ensures holds { IsTrue D.tells → (bodies : List (List ℕ)) → HasBodies bodies log.now (D.view disk.old) → HasBodies bodies log.now (D.view disk.new) }
+        ensures holds { IsTrue D.tells → (bodies : List (List ℕ))
+            → HasBodies bodies log.now (D.view disk.old)
+            → HasBodies bodies log.now (D.view disk.new) }
         ensures on { IsTrue D.tells → IsOn (D.view disk.new) log.now }
         ensures steady { OnOk result ((D.view disk.new).faults ≡ (D.view disk.old).faults) }
-        ensures no_fault { OnErr result ((result ≡ Err EventsFault.Disk → ⊥) → (D.view disk.new).faults ≡ (D.view disk.old).faults) }
-        ensures disk { result ≡ Err EventsFault.Disk → Rose (D.view disk.old).faults (D.view disk.new).faults }
+        ensures no_fault { OnErr result ((result ≡ Err EventsFault.Disk → ⊥)
+            → (D.view disk.new).faults ≡ (D.view disk.old).faults) }
+        ensures disk { result ≡ Err EventsFault.Disk
+            → Rose (D.view disk.old).faults (D.view disk.new).faults }
     {
         self.place = 0;
         self.index = 0;
@@ -194,8 +216,10 @@ impl Buffer {
         ensures place { self.new.place ≡ self.old.place }
         ensures next { result ≡ true → self.new.index ≡ self.old.index + 1 }
         ensures same { result ≡ false → self.new ≡ self.old }
-        ensures rows { (rows : List TheRow) → list_all is_row rows ≡ true → self.old.left ≡ encoded_rows rows
-            → (result ≡ true → self.new.left ≡ encoded_rows (drop 1 rows)) × (result ≡ false → rows ≡ []) }
+        ensures rows { (rows : List TheRow) → list_all is_row rows ≡ true
+            → self.old.left ≡ encoded_rows rows
+            → (result ≡ true → self.new.left ≡ encoded_rows (drop 1 rows))
+            × (result ≡ false → rows ≡ []) }
     {
         match next_row(self.body.as_slice(), self.at) {
             Some(at) => {
@@ -212,8 +236,10 @@ impl Buffer {
         requires { self.old.index ≤ index }
         ensures place { self.new.place ≡ self.old.place }
         ensures there { result ≡ true → self.new.index ≡ index }
-        ensures rows { (rows : List TheRow) → list_all is_row rows ≡ true → self.old.left ≡ encoded_rows (drop self.old.index rows)
-            → (self.new.left ≡ encoded_rows (drop self.new.index rows)) × (result ≡ false → length rows ≤ index) }
+        ensures rows { (rows : List TheRow) → list_all is_row rows ≡ true
+            → self.old.left ≡ encoded_rows (drop self.old.index rows)
+            → (self.new.left ≡ encoded_rows (drop self.new.index rows))
+            × (result ≡ false → length rows ≤ index) }
     {
         'rows: while self.index < index {
             if !self.step() {
@@ -226,7 +252,8 @@ impl Buffer {
     /// Whether the row before which it is ends as one of a body does.
     pub(crate) fn ends_row(&self) -> bool
         ensures found { result ≡ ends_row self.now.left }
-        ensures row { (row : TheRow) (more : List TheRow) → is_row row ≡ true → self.now.left ≡ row_encoding row ++ encoded_rows more → result ≡ true }
+        ensures row { (row : TheRow) (more : List TheRow) → is_row row ≡ true
+            → self.now.left ≡ row_encoding row ++ encoded_rows more → result ≡ true }
     {
         let (_, left) = self.body.as_slice().split_at(self.at);
         ends_row(left)
@@ -235,7 +262,8 @@ impl Buffer {
     /// What is seen of the row before which it is.
     pub(crate) fn peeked(&self) -> Option<Peeked<'_>>
         ensures found { option_map seen result ≡ peeked_at self.now.left }
-        ensures sees { (row : TheRow) (rest : List ℕ) → is_row row ≡ true → self.now.left ≡ row_encoding row ++ rest → Sees row result }
+        ensures sees { (row : TheRow) (rest : List ℕ) → is_row row ≡ true
+            → self.now.left ≡ row_encoding row ++ rest → Sees row result }
         ensures short { IfSome result (λ seen. length seen.message.now < 2 ^ 32) }
     {
         let (_, left) = self.body.as_slice().split_at(self.at);

@@ -59,13 +59,18 @@ fn carry_host<D: Disk>(
     other: &mut D,
 ) -> Result<(), StoreFault>
     requires { IsTrue D.tells → IsBuiltOn (D.view other.old) rewrite.old.build }
-    ensures copied { OnOk result (IsCopied D.tells (host_rows ((name.now, cursor) ∷ [])) rewrite.old rewrite.new (D.view other.old) (D.view other.new)) }
+    ensures copied { OnOk result (IsCopied D.tells
+        (host_rows ((name.now, cursor) ∷ [])) rewrite.old rewrite.new (D.view other.old)
+        (D.view other.new)) }
     ensures run { IsTrue D.tells → LeavesOnly IsClosed (D.view other.old) (D.view other.new) }
-    ensures disk { result ≡ Err StoreFault.Disk → Rose (D.view other.old).faults (D.view other.new).faults }
-    ensures no_fault { OnErr result (result ≢ Err StoreFault.Disk → (D.view other.new).faults ≡ (D.view other.old).faults) }
+    ensures disk { result ≡ Err StoreFault.Disk
+        → Rose (D.view other.old).faults (D.view other.new).faults }
+    ensures no_fault { OnErr result (result ≢ Err StoreFault.Disk
+        → (D.view other.new).faults ≡ (D.view other.old).faults) }
     ensures counts { (D.view other.old).faults ≤ (D.view other.new).faults }
     ensures full { (e : ℕ) → result ≡ Err (StoreFault.Full e)
-        → RewriteHasNoRoom rewrite.old.build.end rewrite.old.build.most (host_rows ((name.now, cursor) ∷ [])) e }
+        → RewriteHasNoRoom rewrite.old.build.end rewrite.old.build.most
+        (host_rows ((name.now, cursor) ∷ [])) e }
     ensures few { (f : TheFault) → result ≡ Err f → IsOfAdding f }
 {
     if cursor == 0 {
@@ -83,13 +88,17 @@ fn carry_hosts<D: Disk>(
     other: &mut D,
 ) -> Result<(), StoreFault>
     requires { IsTrue D.tells → IsBuiltOn (D.view other.old) rewrite.old.build }
-    ensures copied { OnOk result (IsCopied D.tells (host_rows (listed hosts.now)) rewrite.old rewrite.new (D.view other.old) (D.view other.new)) }
+    ensures copied { OnOk result (IsCopied D.tells (host_rows (listed hosts.now)) rewrite.old rewrite.new
+        (D.view other.old) (D.view other.new)) }
     ensures run { IsTrue D.tells → LeavesOnly IsClosed (D.view other.old) (D.view other.new) }
-    ensures disk { result ≡ Err StoreFault.Disk → Rose (D.view other.old).faults (D.view other.new).faults }
-    ensures no_fault { OnErr result (result ≢ Err StoreFault.Disk → (D.view other.new).faults ≡ (D.view other.old).faults) }
+    ensures disk { result ≡ Err StoreFault.Disk
+        → Rose (D.view other.old).faults (D.view other.new).faults }
+    ensures no_fault { OnErr result (result ≢ Err StoreFault.Disk
+        → (D.view other.new).faults ≡ (D.view other.old).faults) }
     ensures counts { (D.view other.old).faults ≤ (D.view other.new).faults }
     ensures full { (e : ℕ) → result ≡ Err (StoreFault.Full e)
-        → RewriteHasNoRoom rewrite.old.build.end rewrite.old.build.most (host_rows (listed hosts.now)) e }
+        → RewriteHasNoRoom rewrite.old.build.end rewrite.old.build.most
+        (host_rows (listed hosts.now)) e }
     ensures few { (f : TheFault) → result ≡ Err f → IsOfAdding f }
 {
     'each: for place in 0..hosts.len() {
@@ -109,14 +118,18 @@ fn carry_accounts<D: Disk>(
     other: &mut D,
 ) -> Result<(), StoreFault>
     requires { IsTrue D.tells → IsBuiltOn (D.view other.old) rewrite.old.build }
-    ensures copied { OnOk result (CopiedAs D.tells (λ rows. (A : List TheRow) → Holds core.now A → rows ≡ account_rows A (dids A))
+    ensures copied { OnOk result (CopiedAs D.tells (λ rows. (A : List TheRow) → Holds core.now A
+        → rows ≡ account_rows A (dids A))
         rewrite.old rewrite.new (D.view other.old) (D.view other.new)) }
     ensures run { IsTrue D.tells → LeavesOnly IsClosed (D.view other.old) (D.view other.new) }
-    ensures disk { result ≡ Err StoreFault.Disk → Rose (D.view other.old).faults (D.view other.new).faults }
-    ensures no_fault { OnErr result (result ≢ Err StoreFault.Disk → (D.view other.new).faults ≡ (D.view other.old).faults) }
+    ensures disk { result ≡ Err StoreFault.Disk
+        → Rose (D.view other.old).faults (D.view other.new).faults }
+    ensures no_fault { OnErr result (result ≢ Err StoreFault.Disk
+        → (D.view other.new).faults ≡ (D.view other.old).faults) }
     ensures counts { (D.view other.old).faults ≤ (D.view other.new).faults }
     ensures full { (e : ℕ) → result ≡ Err (StoreFault.Full e) → (A : List TheRow) → Holds core.now A
-        → RewriteHasNoRoom rewrite.old.build.end rewrite.old.build.most (account_rows A (dids A)) e }
+        → RewriteHasNoRoom rewrite.old.build.end rewrite.old.build.most
+        (account_rows A (dids A)) e }
     ensures few { (f : TheFault) → result ≡ Err f → IsOfAdding f }
 {
     let mut did = "";
@@ -136,11 +149,14 @@ pub(crate) fn carry<D: Disk>(
     other: &mut D,
 ) -> Result<(), StoreFault>
     requires { IsTrue D.tells → IsBuiltOn (D.view other.old) rewrite.old.build }
-    ensures copied { OnOk result (CopiedAs D.tells (λ rows. (A : List TheRow) → Holds core.now A → rows ≡ carried A)
+    ensures copied { OnOk result (CopiedAs D.tells (λ rows. (A : List TheRow) → Holds core.now A
+        → rows ≡ carried A)
         rewrite.old rewrite.new (D.view other.old) (D.view other.new)) }
     ensures run { IsTrue D.tells → LeavesOnly IsClosed (D.view other.old) (D.view other.new) }
-    ensures disk { result ≡ Err StoreFault.Disk → Rose (D.view other.old).faults (D.view other.new).faults }
-    ensures no_fault { OnErr result (result ≢ Err StoreFault.Disk → (D.view other.new).faults ≡ (D.view other.old).faults) }
+    ensures disk { result ≡ Err StoreFault.Disk
+        → Rose (D.view other.old).faults (D.view other.new).faults }
+    ensures no_fault { OnErr result (result ≢ Err StoreFault.Disk
+        → (D.view other.new).faults ≡ (D.view other.old).faults) }
     ensures counts { (D.view other.old).faults ≤ (D.view other.new).faults }
     ensures full { (e : ℕ) → result ≡ Err (StoreFault.Full e) → (A : List TheRow) → Holds core.now A
         → RewriteHasNoRoom rewrite.old.build.end rewrite.old.build.most (carried A) e }

@@ -58,8 +58,11 @@ fn take_command(
     requires fits { Fits log.now pending.old }
     ensures fits { Fits log.now pending.new }
     ensures ok { IfOk result (λ done. done ≡ done_of command) }
-    ensures added { OnOk result (AreAdded log.now.end (rows_commanded command) core.old core.new window.old.places window.new.places pending.old pending.new) }
-    ensures as_before { OnErr result (IsUnchanged core.old core.new window.old.places window.new.places pending.old pending.new) }
+    ensures added { OnOk result (AreAdded log.now.end
+        (rows_commanded command) core.old core.new window.old.places window.new.places pending.old
+        pending.new) }
+    ensures as_before { OnErr result
+        (IsUnchanged core.old core.new window.old.places window.new.places pending.old pending.new) }
     ensures late { IfErr result (IsLate log.now pending.old (rows_commanded command)) }
 {
     match command {
@@ -85,13 +88,18 @@ impl Store {
         requires open { IsTrue self.old.log.is_open }
         requires on { IsTrue D.tells → IsKept (seen_in self.old) (D.view disk.old) }
         requires rows { HasRows [] self.old.pending }
-        ensures commanded { (J : List TheRow) → IsOf J self.old.core → IsJournal (J ++ rows_commanded command) → Commanded D.view D.tells J command (seen_in self.old) (seen_in self.new) disk.old disk.new result }
+        ensures commanded { (J : List TheRow) → IsOf J self.old.core
+            → IsJournal (J ++ rows_commanded command)
+            → Commanded D.view D.tells J command (seen_in self.old)
+            (seen_in self.new) disk.old disk.new result }
         ensures open { result ≢ Err StoreFault.Disk → IsTrue self.new.log.is_open }
         ensures closed { result ≡ Err StoreFault.Disk → self.new.log.is_open ≡ false }
-        ensures disk { result ≡ Err StoreFault.Disk → Rose (D.view disk.old).faults (D.view disk.new).faults }
+        ensures disk { result ≡ Err StoreFault.Disk
+            → Rose (D.view disk.old).faults (D.view disk.new).faults }
         ensures disk_counts { (D.view disk.old).faults ≤ (D.view disk.new).faults }
         ensures few { (f : TheFault) → result ≡ Err f → IsOfCommand f }
-        ensures disk_steady { result ≢ Err StoreFault.Disk → (D.view disk.new).faults ≡ (D.view disk.old).faults }
+        ensures disk_steady { result ≢ Err StoreFault.Disk
+            → (D.view disk.new).faults ≡ (D.view disk.old).faults }
     {
         match take_command(
             alloc,
@@ -123,18 +131,26 @@ impl Store {
         requires on { IsTrue D.tells → IsKept (seen_in self.old) (D.view disk.old) }
         requires did { IsTrue (is_did did.now) }
         requires time { length time.now ≤ LONGEST_SHORT_TEXT }
-        ensures commanded { (J : List TheRow) → IsOf J self.old.core → CommandDone D.view D.tells J (λ command. OperatedAt C.tells self.old.core did.now down time.now (C.moments clock.old) command (C.moments clock.new))
-            (IsTrue C.tells → OneTaken (C.moments clock.old) (C.moments clock.new)) (seen_in self.old) (seen_in self.new) disk.old disk.new result }
+        ensures commanded { (J : List TheRow) → IsOf J self.old.core
+            → CommandDone D.view D.tells J
+            (λ command. OperatedAt C.tells self.old.core did.now down time.now
+            (C.moments clock.old) command (C.moments clock.new))
+            (IsTrue C.tells → OneTaken (C.moments clock.old) (C.moments clock.new))
+            (seen_in self.old) (seen_in self.new) disk.old disk.new result }
         ensures open { result ≢ Err StoreFault.Disk → IsTrue self.new.log.is_open }
         ensures closed { result ≡ Err StoreFault.Disk → self.new.log.is_open ≡ false }
-        ensures disk { result ≡ Err StoreFault.Disk → Rose (D.view disk.old).faults (D.view disk.new).faults }
-        ensures clock { result ≡ Err StoreFault.Clock → Rose (C.faults clock.old) (C.faults clock.new) }
+        ensures disk { result ≡ Err StoreFault.Disk
+            → Rose (D.view disk.old).faults (D.view disk.new).faults }
+        ensures clock { result ≡ Err StoreFault.Clock
+            → Rose (C.faults clock.old) (C.faults clock.new) }
         ensures seq_end { result ≡ Err StoreFault.SeqEnd → EndsBehind self.old.core did.now down }
         ensures few { (f : TheFault) → result ≡ Err f → IsOfOperating f }
         ensures disk_counts { (D.view disk.old).faults ≤ (D.view disk.new).faults }
         ensures clock_counts { C.faults clock.old ≤ C.faults clock.new }
-        ensures disk_steady { result ≢ Err StoreFault.Disk → (D.view disk.new).faults ≡ (D.view disk.old).faults }
-        ensures clock_steady { result ≢ Err StoreFault.Clock → C.faults clock.new ≡ C.faults clock.old }
+        ensures disk_steady { result ≢ Err StoreFault.Disk
+            → (D.view disk.new).faults ≡ (D.view disk.old).faults }
+        ensures clock_steady { result ≢ Err StoreFault.Clock
+            → C.faults clock.new ≡ C.faults clock.old }
     {
         match self.pending.start() {
             Ok(()) => {}
@@ -162,25 +178,41 @@ impl Store {
         requires did { IsTrue (is_did did.now) }
         requires time { length time.now ≤ LONGEST_SHORT_TEXT }
         ensures commanded { (J : List TheRow) → IsOf J self.old.core → CommandDone D.view D.tells J
-            (λ command. SyncedAt C.tells R.tells self.old.core did.now time.now (around (P.panel judges.old) (C.moments clock.old) (R.repository repos.old)) command (around (P.panel judges.new) (C.moments clock.new) (R.repository repos.new)))
-            (CameToNothing C.tells R.tells (AskedInVain (P.panel judges.old) did.now (P.panel judges.new)) (around (P.panel judges.old) (C.moments clock.old) (R.repository repos.old)) (around (P.panel judges.new) (C.moments clock.new) (R.repository repos.new)))
+            (λ command. SyncedAt C.tells R.tells self.old.core did.now time.now
+            (around (P.panel judges.old) (C.moments clock.old) (R.repository repos.old)) command
+            (around (P.panel judges.new) (C.moments clock.new) (R.repository repos.new)))
+            (CameToNothing C.tells R.tells
+            (AskedInVain (P.panel judges.old) did.now (P.panel judges.new))
+            (around (P.panel judges.old) (C.moments clock.old) (R.repository repos.old))
+            (around (P.panel judges.new) (C.moments clock.new) (R.repository repos.new)))
             (seen_in self.old) (seen_in self.new) disk.old disk.new result }
         ensures open { result ≢ Err StoreFault.Disk → IsTrue self.new.log.is_open }
         ensures closed { result ≡ Err StoreFault.Disk → self.new.log.is_open ≡ false }
-        ensures disk { result ≡ Err StoreFault.Disk → Rose (D.view disk.old).faults (D.view disk.new).faults }
-        ensures clock { result ≡ Err StoreFault.Clock → Rose (C.faults clock.old) (C.faults clock.new) }
-        ensures repos { result ≡ Err StoreFault.Repos → Rose (R.faults repos.old) (R.faults repos.new) }
-        ensures spent { result ≡ Err StoreFault.Authority → SpentFetching C.tells R.tells self.old.core did.now (around (P.panel judges.old) (C.moments clock.old) (R.repository repos.old))
+        ensures disk { result ≡ Err StoreFault.Disk
+            → Rose (D.view disk.old).faults (D.view disk.new).faults }
+        ensures clock { result ≡ Err StoreFault.Clock
+            → Rose (C.faults clock.old) (C.faults clock.new) }
+        ensures repos { result ≡ Err StoreFault.Repos
+            → Rose (R.faults repos.old) (R.faults repos.new) }
+        ensures spent { result ≡ Err StoreFault.Authority
+            → SpentFetching C.tells R.tells self.old.core did.now
+            (around (P.panel judges.old) (C.moments clock.old) (R.repository repos.old))
             (around (P.panel judges.new) (C.moments clock.new) (R.repository repos.new)) }
-        ensures seq_end { result ≡ Err StoreFault.SeqEnd → EndsFetched C.tells R.tells self.old.core did.now (around (P.panel judges.old) (C.moments clock.old) (R.repository repos.old))
+        ensures seq_end { result ≡ Err StoreFault.SeqEnd
+            → EndsFetched C.tells R.tells self.old.core did.now
+            (around (P.panel judges.old) (C.moments clock.old) (R.repository repos.old))
             (around (P.panel judges.new) (C.moments clock.new) (R.repository repos.new)) }
         ensures disk_counts { (D.view disk.old).faults ≤ (D.view disk.new).faults }
         ensures clock_counts { C.faults clock.old ≤ C.faults clock.new }
         ensures repos_count { R.faults repos.old ≤ R.faults repos.new }
-        ensures disk_steady { result ≢ Err StoreFault.Disk → (D.view disk.new).faults ≡ (D.view disk.old).faults }
-        ensures clock_steady { result ≢ Err StoreFault.Clock → C.faults clock.new ≡ C.faults clock.old }
-        ensures repos_steady { result ≢ Err StoreFault.Repos → R.faults repos.new ≡ R.faults repos.old }
-        ensures unspent { result ≢ Err StoreFault.Authority → SpendsNone (P.panel judges.old) (P.panel judges.new) }
+        ensures disk_steady { result ≢ Err StoreFault.Disk
+            → (D.view disk.new).faults ≡ (D.view disk.old).faults }
+        ensures clock_steady { result ≢ Err StoreFault.Clock
+            → C.faults clock.new ≡ C.faults clock.old }
+        ensures repos_steady { result ≢ Err StoreFault.Repos
+            → R.faults repos.new ≡ R.faults repos.old }
+        ensures unspent { result ≢ Err StoreFault.Authority
+            → SpendsNone (P.panel judges.old) (P.panel judges.new) }
     {
         match self.pending.start() {
             Ok(()) => {}

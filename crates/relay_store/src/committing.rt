@@ -30,15 +30,21 @@ pub(crate) fn commit<D: Disk>(
     requires fits { Fits log.old pending.old }
 
     // The disk holds the rows more that were known ahead of it.
-    ensures added { OnOk result (IsTrue D.tells → (J rows : List TheRow) (core : TheCore) (window : List ThePlace) → HasRows rows pending.old
-        → IsAhead J rows log.old core window (D.view disk.old) → IsAhead (J ++ rows) [] log.new core window (D.view disk.new)) }
-    ensures moments { IsTrue D.tells → (J rows : List TheRow) (core : TheCore) (window : List ThePlace) → HasRows rows pending.old
-        → IsAhead J rows log.old core window (D.view disk.old) → LeavesOnly (IsOneOf log.old.format J rows) (D.view disk.old) (D.view disk.new) }
+    ensures added { OnOk result (IsTrue D.tells
+        → (J rows : List TheRow) (core : TheCore) (window : List ThePlace)
+        → HasRows rows pending.old
+        → IsAhead J rows log.old core window (D.view disk.old)
+        → IsAhead (J ++ rows) [] log.new core window (D.view disk.new)) }
+    ensures moments { IsTrue D.tells → (J rows : List TheRow) (core : TheCore)
+        (window : List ThePlace) → HasRows rows pending.old
+        → IsAhead J rows log.old core window (D.view disk.old)
+        → LeavesOnly (IsOneOf log.old.format J rows) (D.view disk.old) (D.view disk.new) }
     ensures end { OnOk result (log.new.end ≡ behind_pending log.old.end pending.old) }
     ensures format { (log.new.format ≡ log.old.format) × (log.new.most ≡ log.old.most) }
     ensures untouched { pending.old.count ≡ 0 → (log.new ≡ log.old) × (disk.new ≡ disk.old) }
     ensures open { OnOk result (IsTrue log.new.is_open) }
-    ensures disk { OnErr result ((result ≡ Err StoreFault.Disk) × ((log.new.is_open ≡ false) × Rose (D.view disk.old).faults (D.view disk.new).faults)) }
+    ensures disk { OnErr result ((result ≡ Err StoreFault.Disk)
+        × ((log.new.is_open ≡ false) × Rose (D.view disk.old).faults (D.view disk.new).faults)) }
     ensures counts { (D.view disk.old).faults ≤ (D.view disk.new).faults }
     ensures steady { OnOk result ((D.view disk.new).faults ≡ (D.view disk.old).faults) }
 {

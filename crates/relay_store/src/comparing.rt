@@ -9,7 +9,8 @@ use event_window::Place;
 
 /// Whether the numbers of places are those of kept ones that are above a number.
 pub(crate) fn have_kept(places: &[Place], seq: u64, kept: &[Place]) -> bool
-    ensures { result ≡ bytes_eq (map (λ (p : ThePlace). p.seq) places.now) (kept_above seq kept.now) }
+    ensures { result ≡ bytes_eq (map (λ (p : ThePlace). p.seq) places.now)
+        (kept_above seq kept.now) }
 {
     let mut left = places;
     let mut others = kept;

@@ -35,24 +35,34 @@ fn copy_bodies<D: Disk>(
 ) -> Result<(), StoreFault>
     requires log { IsTrue D.tells → IsOn (D.view disk.old) log.now }
     requires build { IsTrue D.tells → IsBuiltOn (D.view other.old) rewrite.old.build }
-    ensures copied { OnOk result (CopiedAs D.tells (λ rows. IsTrue D.tells → (before after : List (List TheRow)) → AllBodies (before ++ after)
-        → HasBodies (bytes_of (before ++ after)) log.now (D.view disk.old) → from ≡ length (made log.now.format (bytes_of before)) → rows ≡ joined after)
+    ensures copied { OnOk result (CopiedAs D.tells (λ rows. IsTrue D.tells
+        → (before after : List (List TheRow)) → AllBodies (before ++ after)
+        → HasBodies (bytes_of (before ++ after)) log.now (D.view disk.old)
+        → from ≡ length (made log.now.format (bytes_of before)) → rows ≡ joined after)
         rewrite.old rewrite.new (D.view other.old) (D.view other.new)) }
     ensures known { OnOk result (IsOfSome rewrite.old.core → IsOfSome rewrite.new.core) }
-    ensures full { (e : ℕ) → result ≡ Err (StoreFault.Full e) → IsTrue D.tells → (before after : List (List TheRow)) → AllBodies (before ++ after)
-        → HasBodies (bytes_of (before ++ after)) log.now (D.view disk.old) → from ≡ length (made log.now.format (bytes_of before))
+    ensures full { (e : ℕ) → result ≡ Err (StoreFault.Full e) → IsTrue D.tells
+        → (before after : List (List TheRow)) → AllBodies (before ++ after)
+        → HasBodies (bytes_of (before ++ after)) log.now (D.view disk.old)
+        → from ≡ length (made log.now.format (bytes_of before))
         → RewriteHasNoRoom rewrite.old.build.end rewrite.old.build.most (joined after) e }
-    ensures no_bad_log { (p : ℕ) → result ≡ Err (StoreFault.BadLog p) → IsTrue D.tells → (before after : List (List TheRow)) → AllBodies (before ++ after)
-        → HasBodies (bytes_of (before ++ after)) log.now (D.view disk.old) → from ≡ length (made log.now.format (bytes_of before))
+    ensures no_bad_log { (p : ℕ) → result ≡ Err (StoreFault.BadLog p) → IsTrue D.tells
+        → (before after : List (List TheRow)) → AllBodies (before ++ after)
+        → HasBodies (bytes_of (before ++ after)) log.now (D.view disk.old)
+        → from ≡ length (made log.now.format (bytes_of before))
         → (J : List TheRow) → Holds rewrite.old.core J → IsJournal (J ++ joined after) → ⊥ }
     ensures run { IsTrue D.tells → LeavesOnly IsClosed (D.view other.old) (D.view other.new) }
     ensures goes { Goes Same (D.view disk.old) (D.view disk.new) }
-    ensures holds { IsTrue D.tells → (bodies : List (List ℕ)) → HasBodies bodies log.now (D.view disk.old) → HasBodies bodies log.now (D.view disk.new) }
-    ensures disk { result ≡ Err StoreFault.Disk → Rose (D.view disk.old).faults (D.view disk.new).faults
+    ensures holds { IsTrue D.tells → (bodies : List (List ℕ))
+        → HasBodies bodies log.now (D.view disk.old) → HasBodies bodies log.now (D.view disk.new) }
+    ensures disk { result ≡ Err StoreFault.Disk
+        → Rose (D.view disk.old).faults (D.view disk.new).faults
         ⊎ Rose (D.view other.old).faults (D.view other.new).faults }
-    ensures steady { OnOk result (((D.view disk.new).faults ≡ (D.view disk.old).faults) × ((D.view other.new).faults ≡ (D.view other.old).faults)) }
+    ensures steady { OnOk result (((D.view disk.new).faults ≡ (D.view disk.old).faults)
+        × ((D.view other.new).faults ≡ (D.view other.old).faults)) }
     ensures no_fault { OnErr result (result ≢ Err StoreFault.Disk
-        → ((D.view disk.new).faults ≡ (D.view disk.old).faults) × ((D.view other.new).faults ≡ (D.view other.old).faults)) }
+        → ((D.view disk.new).faults ≡ (D.view disk.old).faults)
+        × ((D.view other.new).faults ≡ (D.view other.old).faults)) }
     ensures counts { (D.view other.old).faults ≤ (D.view other.new).faults }
     ensures few { (f : TheFault) → result ≡ Err f → IsOfRewriting f }
 {
@@ -76,27 +86,40 @@ pub(crate) fn copy_behind<D: Disk>(
 ) -> Result<(), StoreFault>
     requires log { IsTrue D.tells → IsOn (D.view disk.old) log.now }
     requires build { IsTrue D.tells → IsBuiltOn (D.view other.old) rewrite.old.build }
-    ensures copied { OnOk result (CopiedAs D.tells (λ rows. IsTrue D.tells → (before : List (List TheRow)) (there : List TheRow) (after : List (List TheRow)) → AllBodies (before ++ there ∷ after)
-        → HasBodies (bytes_of (before ++ there ∷ after)) log.now (D.view disk.old) → last.place ≡ length (made log.now.format (bytes_of before))
+    ensures copied { OnOk result (CopiedAs D.tells (λ rows. IsTrue D.tells
+        → (before : List (List TheRow)) (there : List TheRow) (after : List (List TheRow))
+        → AllBodies (before ++ there ∷ after)
+        → HasBodies (bytes_of (before ++ there ∷ after)) log.now (D.view disk.old)
+        → last.place ≡ length (made log.now.format (bytes_of before))
         → rows ≡ drop (last.index + 1) there ++ joined after)
         rewrite.old rewrite.new (D.view other.old) (D.view other.new)) }
     ensures known { OnOk result (IsOfSome rewrite.old.core → IsOfSome rewrite.new.core) }
     ensures full { (e : ℕ) → result ≡ Err (StoreFault.Full e) → IsTrue D.tells
-        → (before : List (List TheRow)) (there : List TheRow) (after : List (List TheRow)) → AllBodies (before ++ there ∷ after)
-        → HasBodies (bytes_of (before ++ there ∷ after)) log.now (D.view disk.old) → last.place ≡ length (made log.now.format (bytes_of before))
-        → RewriteHasNoRoom rewrite.old.build.end rewrite.old.build.most (drop (last.index + 1) there ++ joined after) e }
+        → (before : List (List TheRow)) (there : List TheRow) (after : List (List TheRow))
+        → AllBodies (before ++ there ∷ after)
+        → HasBodies (bytes_of (before ++ there ∷ after)) log.now (D.view disk.old)
+        → last.place ≡ length (made log.now.format (bytes_of before))
+        → RewriteHasNoRoom rewrite.old.build.end rewrite.old.build.most
+        (drop (last.index + 1) there ++ joined after) e }
     ensures no_bad_log { (p : ℕ) → result ≡ Err (StoreFault.BadLog p) → IsTrue D.tells
-        → (before : List (List TheRow)) (there : List TheRow) (after : List (List TheRow)) → AllBodies (before ++ there ∷ after)
-        → HasBodies (bytes_of (before ++ there ∷ after)) log.now (D.view disk.old) → last.place ≡ length (made log.now.format (bytes_of before))
-        → (J : List TheRow) → Holds rewrite.old.core J → IsJournal (J ++ (drop (last.index + 1) there ++ joined after)) → ⊥ }
+        → (before : List (List TheRow)) (there : List TheRow) (after : List (List TheRow))
+        → AllBodies (before ++ there ∷ after)
+        → HasBodies (bytes_of (before ++ there ∷ after)) log.now (D.view disk.old)
+        → last.place ≡ length (made log.now.format (bytes_of before))
+        → (J : List TheRow) → Holds rewrite.old.core J
+        → IsJournal (J ++ (drop (last.index + 1) there ++ joined after)) → ⊥ }
     ensures run { IsTrue D.tells → LeavesOnly IsClosed (D.view other.old) (D.view other.new) }
     ensures goes { Goes Same (D.view disk.old) (D.view disk.new) }
-    ensures holds { IsTrue D.tells → (bodies : List (List ℕ)) → HasBodies bodies log.now (D.view disk.old) → HasBodies bodies log.now (D.view disk.new) }
-    ensures disk { result ≡ Err StoreFault.Disk → Rose (D.view disk.old).faults (D.view disk.new).faults
+    ensures holds { IsTrue D.tells → (bodies : List (List ℕ))
+        → HasBodies bodies log.now (D.view disk.old) → HasBodies bodies log.now (D.view disk.new) }
+    ensures disk { result ≡ Err StoreFault.Disk
+        → Rose (D.view disk.old).faults (D.view disk.new).faults
         ⊎ Rose (D.view other.old).faults (D.view other.new).faults }
-    ensures steady { OnOk result (((D.view disk.new).faults ≡ (D.view disk.old).faults) × ((D.view other.new).faults ≡ (D.view other.old).faults)) }
+    ensures steady { OnOk result (((D.view disk.new).faults ≡ (D.view disk.old).faults)
+        × ((D.view other.new).faults ≡ (D.view other.old).faults)) }
     ensures no_fault { OnErr result (result ≢ Err StoreFault.Disk
-        → ((D.view disk.new).faults ≡ (D.view disk.old).faults) × ((D.view other.new).faults ≡ (D.view other.old).faults)) }
+        → ((D.view disk.new).faults ≡ (D.view disk.old).faults)
+        × ((D.view other.new).faults ≡ (D.view other.old).faults)) }
     ensures counts { (D.view other.old).faults ≤ (D.view other.new).faults }
     ensures few { (f : TheFault) → result ≡ Err f → IsOfRewriting f }
 {

@@ -68,16 +68,21 @@ fn begin<D: Disk>(alloc: Global, log: &Log, other: &mut D) -> Result<Rewrite, St
       most = log.now.most;
       waiting = [];
     }) }
-    ensures begun { IfOk result (λ rewrite. IsTrue D.tells → HasBuilt [] rewrite.build (D.view other.new)) }
+    ensures begun { IfOk result (λ rewrite. IsTrue D.tells
+        → HasBuilt [] rewrite.build (D.view other.new)) }
     ensures core { IfOk result (λ rewrite. Holds rewrite.core []) }
     ensures window { IfOk result (λ rewrite. rewrite.window.places ≡ []) }
-    ensures moments { IsTrue D.tells → LeavesOnly (IsFormerOrIdle (D.view other.old)) (D.view other.old) (D.view other.new) }
-    ensures disk { result ≡ Err StoreFault.Disk → Rose (D.view other.old).faults (D.view other.new).faults }
+    ensures moments { IsTrue D.tells → LeavesOnly (IsFormerOrIdle (D.view other.old))
+        (D.view other.old) (D.view other.new) }
+    ensures disk { result ≡ Err StoreFault.Disk
+        → Rose (D.view other.old).faults (D.view other.new).faults }
     ensures steady { OnOk result ((D.view other.new).faults ≡ (D.view other.old).faults) }
-    ensures no_fault { OnErr result (result ≢ Err StoreFault.Disk → (D.view other.new).faults ≡ (D.view other.old).faults) }
+    ensures no_fault { OnErr result (result ≢ Err StoreFault.Disk
+        → (D.view other.new).faults ≡ (D.view other.old).faults) }
     ensures counts { (D.view other.old).faults ≤ (D.view other.new).faults }
     ensures memory { result ≡ Err StoreFault.Memory → other.new ≡ other.old }
-    ensures few { (f : TheFault) → result ≡ Err f → (f ≡ StoreFault.Disk) ⊎ (f ≡ StoreFault.Memory) }
+    ensures few { (f : TheFault) → result ≡ Err f → (f ≡ StoreFault.Disk)
+        ⊎ (f ≡ StoreFault.Memory) }
 {
     let build = match Build::begin(alloc, other, log.generation() + 1, log.most()) {
         Ok(build) => build,
@@ -112,22 +117,33 @@ impl Store {
     ) -> Result<(), StoreFault>
         requires on { IsTrue D.tells → IsOn (D.view disk.old) self.now.log }
         requires build { IsTrue D.tells → IsBuiltOn (D.view other.old) rewrite.old.build }
-        ensures copied { OnOk result (CopiedAs D.tells (λ rows. IsTrue D.tells → (J : List TheRow) (c : ℕ) → Keeps J (seen_in self.now) (D.view disk.old)
-            → IsLastUpto c last self.now.window.places → rows ≡ cut J c) rewrite.old rewrite.new (D.view other.old) (D.view other.new)) }
+        ensures copied { OnOk result (CopiedAs D.tells (λ rows. IsTrue D.tells → (J : List TheRow) (c : ℕ)
+            → Keeps J (seen_in self.now) (D.view disk.old)
+            → IsLastUpto c last self.now.window.places
+            → rows ≡ cut J c) rewrite.old rewrite.new (D.view other.old) (D.view other.new)) }
         ensures known { OnOk result (Holds rewrite.old.core [] → IsOfSomeCut rewrite.new.core) }
-        ensures full { (e : ℕ) → result ≡ Err (StoreFault.Full e) → IsTrue D.tells → (J : List TheRow) (c : ℕ) → Keeps J (seen_in self.now) (D.view disk.old)
-            → IsLastUpto c last self.now.window.places → RewriteHasNoRoom rewrite.old.build.end rewrite.old.build.most (cut J c) e }
-        ensures no_bad_log { (p : ℕ) → result ≡ Err (StoreFault.BadLog p) → IsTrue D.tells → (J : List TheRow) (c : ℕ)
-            → Keeps J (seen_in self.now) (D.view disk.old) → IsLastUpto c last self.now.window.places → c ≤ last_seq J
+        ensures full { (e : ℕ) → result ≡ Err (StoreFault.Full e) → IsTrue D.tells
+            → (J : List TheRow) (c : ℕ) → Keeps J (seen_in self.now) (D.view disk.old)
+            → IsLastUpto c last self.now.window.places
+            → RewriteHasNoRoom rewrite.old.build.end rewrite.old.build.most (cut J c) e }
+        ensures no_bad_log { (p : ℕ) → result ≡ Err (StoreFault.BadLog p) → IsTrue D.tells
+            → (J : List TheRow) (c : ℕ)
+            → Keeps J (seen_in self.now) (D.view disk.old)
+            → IsLastUpto c last self.now.window.places → c ≤ last_seq J
             → Holds rewrite.old.core [] → ⊥ }
         ensures run { IsTrue D.tells → LeavesOnly IsClosed (D.view other.old) (D.view other.new) }
         ensures goes { Goes Same (D.view disk.old) (D.view disk.new) }
-        ensures holds { IsTrue D.tells → (bodies : List (List ℕ)) → HasBodies bodies self.now.log (D.view disk.old) → HasBodies bodies self.now.log (D.view disk.new) }
-        ensures disk { result ≡ Err StoreFault.Disk → Rose (D.view disk.old).faults (D.view disk.new).faults
+        ensures holds { IsTrue D.tells → (bodies : List (List ℕ))
+            → HasBodies bodies self.now.log (D.view disk.old)
+            → HasBodies bodies self.now.log (D.view disk.new) }
+        ensures disk { result ≡ Err StoreFault.Disk
+            → Rose (D.view disk.old).faults (D.view disk.new).faults
             ⊎ Rose (D.view other.old).faults (D.view other.new).faults }
-        ensures steady { OnOk result (((D.view disk.new).faults ≡ (D.view disk.old).faults) × ((D.view other.new).faults ≡ (D.view other.old).faults)) }
+        ensures steady { OnOk result (((D.view disk.new).faults ≡ (D.view disk.old).faults)
+            × ((D.view other.new).faults ≡ (D.view other.old).faults)) }
         ensures no_fault { OnErr result (result ≢ Err StoreFault.Disk
-            → ((D.view disk.new).faults ≡ (D.view disk.old).faults) × ((D.view other.new).faults ≡ (D.view other.old).faults)) }
+            → ((D.view disk.new).faults ≡ (D.view disk.old).faults)
+            × ((D.view other.new).faults ≡ (D.view other.old).faults)) }
         ensures counts { (D.view other.old).faults ≤ (D.view other.new).faults }
         ensures few { (f : TheFault) → result ≡ Err f → IsOfRewriting f }
     {
@@ -138,9 +154,13 @@ impl Store {
 
     // Whether what was written anew has the last number that was kept, and of the events' those that are above a number.
     fn has_kept(&self, seq: u64, rewrite: &Rewrite) -> bool
-        ensures kept { result ≡ true → (map (λ (p : ThePlace). p.seq) rewrite.now.window.places ≡ kept_above seq self.now.window.places)
+        ensures kept { result ≡ true →
+            (map (λ (p : ThePlace). p.seq) rewrite.now.window.places
+            ≡ kept_above seq self.now.window.places)
             × (rewrite.now.core.last ≡ self.now.core.last) }
-        ensures lost { result ≡ false → (map (λ (p : ThePlace). p.seq) rewrite.now.window.places ≡ kept_above seq self.now.window.places)
+        ensures lost { result ≡ false →
+            (map (λ (p : ThePlace). p.seq) rewrite.now.window.places
+            ≡ kept_above seq self.now.window.places)
             × (rewrite.now.core.last ≡ self.now.core.last) → ⊥ }
     {
         rewrite.core.last_seq() == self.core.last_seq()
@@ -158,36 +178,62 @@ impl Store {
     ) -> Result<Anew, StoreFault>
         requires on { IsTrue D.tells → IsOn (D.view disk.old) self.now.log }
         requires generation { generation self.now.log.format + 1 < NUMBERS }
-        ensures log { IfOk result (λ anew. (anew.log.format ≡ Format.Two (generation self.now.log.format + 1)) × (anew.log.most ≡ self.now.log.most)
+        ensures log { IfOk result (λ anew.
+            (anew.log.format ≡ Format.Two (generation self.now.log.format + 1))
+            × (anew.log.most ≡ self.now.log.most)
             × IsTrue anew.log.is_open) }
-        ensures room { IfOk result (λ anew. IsTrue D.tells → (J : List TheRow) (c : ℕ) → Keeps J (seen_in self.now) (D.view disk.old)
+        ensures room { IfOk result (λ anew. IsTrue D.tells → (J : List TheRow) (c : ℕ)
+            → Keeps J (seen_in self.now) (D.view disk.old)
             → IsLastUpto c last self.now.window.places → anew.log.end < anew.log.most) }
-        ensures bodies { IfOk result (λ anew. IsTrue D.tells → (J : List TheRow) (c : ℕ) → Keeps J (seen_in self.now) (D.view disk.old)
-            → IsLastUpto c last self.now.window.places → HasBodies (bytes_of (singles (cut J c))) anew.log (D.view other.new)) }
-        ensures known { IfOk result (λ anew. IsOfSomeCut anew.core) }
-        ensures numbers { IfOk result (λ anew. (map (λ (p : ThePlace). p.seq) anew.window.places ≡ kept_above seq self.now.window.places)
-            × (anew.core.last ≡ self.now.core.last)) }
-        ensures keeps { IfOk result (λ anew. IsTrue D.tells → (J : List TheRow) (c : ℕ) → Keeps J (seen_in self.now) (D.view disk.old)
-            → IsLastUpto c last self.now.window.places → c ≤ last_seq J → (side : Side) → Keeps (cut J c) (seen anew.log side anew.core anew.window.places) (D.view other.new)) }
-        ensures moments { IsTrue D.tells → (J : List TheRow) (c : ℕ) → Keeps J (seen_in self.now) (D.view disk.old)
-            → IsLastUpto c last self.now.window.places → c ≤ last_seq J → (side : Side) → LeavesLive side (D.view disk.old) (D.view other.old)
-            → PairLeavesOnly (IsEitherBeside side J (cut J c)) (D.view disk.old) (D.view disk.new) (D.view other.old) (D.view other.new) }
-        ensures time { IsTrue D.tells → TimeGoesOn (D.view other.old) (D.view other.new) }
-        ensures live { OnOk result (IsTrue D.tells → (side : Side) → LeavesLive (other_side side) (D.view other.new) (D.view disk.new)) }
-        ensures as_before { OnErr result (result ≢ Err StoreFault.Disk → IsTrue D.tells → (side : Side)
-            → LeavesLive side (D.view disk.old) (D.view other.old) → LeavesLive side (D.view disk.new) (D.view other.new)) }
-        ensures goes { Goes Same (D.view disk.old) (D.view disk.new) }
-        ensures holds { IsTrue D.tells → (bodies : List (List ℕ)) → HasBodies bodies self.now.log (D.view disk.old) → HasBodies bodies self.now.log (D.view disk.new) }
-        ensures full { (e : ℕ) → result ≡ Err (StoreFault.Full e) → IsTrue D.tells → (J : List TheRow) (c : ℕ) → Keeps J (seen_in self.now) (D.view disk.old)
+        ensures bodies { IfOk result (λ anew. IsTrue D.tells → (J : List TheRow) (c : ℕ)
+            → Keeps J (seen_in self.now) (D.view disk.old)
             → IsLastUpto c last self.now.window.places
-            → RewriteHasNoRoom (length (front (Format.Two (generation self.now.log.format + 1)))) self.now.log.most (cut J c) e }
-        ensures no_bad_log { (p : ℕ) → result ≡ Err (StoreFault.BadLog p) → IsTrue D.tells → (J : List TheRow)
-            → Keeps J (seen_in self.now) (D.view disk.old) → IsLastUpto seq last self.now.window.places → seq ≤ last_seq J → ⊥ }
-        ensures disk { result ≡ Err StoreFault.Disk → Rose (D.view disk.old).faults (D.view disk.new).faults
+            → HasBodies (bytes_of (singles (cut J c))) anew.log (D.view other.new)) }
+        ensures known { IfOk result (λ anew. IsOfSomeCut anew.core) }
+        ensures numbers { IfOk result (λ anew.
+            (map (λ (p : ThePlace). p.seq) anew.window.places
+            ≡ kept_above seq self.now.window.places)
+            × (anew.core.last ≡ self.now.core.last)) }
+        ensures keeps { IfOk result (λ anew. IsTrue D.tells → (J : List TheRow) (c : ℕ)
+            → Keeps J (seen_in self.now) (D.view disk.old)
+            → IsLastUpto c last self.now.window.places → c ≤ last_seq J → (side : Side)
+            → Keeps (cut J c) (seen anew.log side anew.core anew.window.places)
+            (D.view other.new)) }
+        ensures moments { IsTrue D.tells → (J : List TheRow) (c : ℕ)
+            → Keeps J (seen_in self.now) (D.view disk.old)
+            → IsLastUpto c last self.now.window.places → c ≤ last_seq J → (side : Side)
+            → LeavesLive side (D.view disk.old) (D.view other.old)
+            → PairLeavesOnly (IsEitherBeside side J (cut J c)) (D.view disk.old) (D.view disk.new)
+            (D.view other.old) (D.view other.new) }
+        ensures time { IsTrue D.tells → TimeGoesOn (D.view other.old) (D.view other.new) }
+        ensures live { OnOk result (IsTrue D.tells → (side : Side)
+            → LeavesLive (other_side side) (D.view other.new) (D.view disk.new)) }
+        ensures as_before { OnErr result (result ≢ Err StoreFault.Disk → IsTrue D.tells
+            → (side : Side)
+            → LeavesLive side (D.view disk.old) (D.view other.old)
+            → LeavesLive side (D.view disk.new) (D.view other.new)) }
+        ensures goes { Goes Same (D.view disk.old) (D.view disk.new) }
+        ensures holds { IsTrue D.tells → (bodies : List (List ℕ))
+            → HasBodies bodies self.now.log (D.view disk.old)
+            → HasBodies bodies self.now.log (D.view disk.new) }
+        ensures full { (e : ℕ) → result ≡ Err (StoreFault.Full e) → IsTrue D.tells
+            → (J : List TheRow) (c : ℕ) → Keeps J (seen_in self.now) (D.view disk.old)
+            → IsLastUpto c last self.now.window.places
+            → RewriteHasNoRoom (length
+            (front (Format.Two (generation self.now.log.format + 1)))) self.now.log.most
+            (cut J c) e }
+        ensures no_bad_log { (p : ℕ) → result ≡ Err (StoreFault.BadLog p) → IsTrue D.tells
+            → (J : List TheRow)
+            → Keeps J (seen_in self.now) (D.view disk.old)
+            → IsLastUpto seq last self.now.window.places → seq ≤ last_seq J → ⊥ }
+        ensures disk { result ≡ Err StoreFault.Disk
+            → Rose (D.view disk.old).faults (D.view disk.new).faults
             ⊎ Rose (D.view other.old).faults (D.view other.new).faults }
-        ensures steady { OnOk result (((D.view disk.new).faults ≡ (D.view disk.old).faults) × ((D.view other.new).faults ≡ (D.view other.old).faults)) }
+        ensures steady { OnOk result (((D.view disk.new).faults ≡ (D.view disk.old).faults)
+            × ((D.view other.new).faults ≡ (D.view other.old).faults)) }
         ensures no_fault { OnErr result (result ≢ Err StoreFault.Disk
-            → ((D.view disk.new).faults ≡ (D.view disk.old).faults) × ((D.view other.new).faults ≡ (D.view other.old).faults)) }
+            → ((D.view disk.new).faults ≡ (D.view disk.old).faults)
+            × ((D.view other.new).faults ≡ (D.view other.old).faults)) }
         ensures counts { (D.view other.old).faults ≤ (D.view other.new).faults }
         ensures few { (f : TheFault) → result ≡ Err f → IsOfRewriting f }
     {
@@ -226,55 +272,80 @@ impl Store {
     ) -> Result<CutDone, StoreFault>
         requires open { IsTrue self.old.log.is_open }
         requires on { IsTrue D.tells → IsKept (seen_in self.old) (D.view disk.old) }
-        requires live { IsTrue D.tells → LeavesLive self.old.side (D.view disk.old) (D.view other.old) }
+        requires live { IsTrue D.tells
+            → LeavesLive self.old.side (D.view disk.old) (D.view other.old) }
 
         // Nothing is touched where it is refused, and there is the cause, and none that comes before.
-        ensures untouched { (why : TheRefusal) → result ≡ Ok (CutDone.Refused why) → (self.new ≡ self.old) × (disk.new ≡ disk.old) × (other.new ≡ other.old) }
-        ensures refused { (why : TheRefusal) → result ≡ Ok (CutDone.Refused why) → IsTrue D.tells → (J : List TheRow)
+        ensures untouched { (why : TheRefusal) → result ≡ Ok (CutDone.Refused why)
+            → (self.new ≡ self.old) × (disk.new ≡ disk.old) × (other.new ≡ other.old) }
+        ensures refused { (why : TheRefusal) → result ≡ Ok (CutDone.Refused why) → IsTrue D.tells
+            → (J : List TheRow)
             → Keeps J (seen_in self.old) (D.view disk.old) → IsUncut J self.old.log.format seq why }
 
         // Else there is none, and the store has the cut journal, on the other disk. Its log is of the next generation, each row is a body
         // of its own, and all have room.
-        ensures may { ((why : TheRefusal) → result ≢ Ok (CutDone.Refused why)) → IsTrue D.tells → (J : List TheRow)
-            → Keeps J (seen_in self.old) (D.view disk.old) → MayCut J seq × (generation self.old.log.format + 1 < NUMBERS) }
-        ensures keeps { (oldest last : ℕ) → result ≡ Ok (CutDone.Cut oldest last) → IsTrue D.tells → (J : List TheRow)
-            → Keeps J (seen_in self.old) (D.view disk.old) → Keeps (cut J seq) (seen_in self.new) (D.view other.new) }
-        ensures bodies { (oldest last : ℕ) → result ≡ Ok (CutDone.Cut oldest last) → IsTrue D.tells → (J : List TheRow)
-            → Keeps J (seen_in self.old) (D.view disk.old) → HasBodies (bytes_of (singles (cut J seq))) self.new.log (D.view other.new) }
-        ensures told { (oldest last : ℕ) → result ≡ Ok (CutDone.Cut oldest last) → IsTrue D.tells → (J : List TheRow)
-            → Keeps J (seen_in self.old) (D.view disk.old) → (oldest ≡ oldest_of (held_by (cut J seq))) × (last ≡ last_seq (cut J seq)) }
+        ensures may { ((why : TheRefusal) → result ≢ Ok (CutDone.Refused why)) → IsTrue D.tells
+            → (J : List TheRow)
+            → Keeps J (seen_in self.old) (D.view disk.old) → MayCut J seq
+            × (generation self.old.log.format + 1 < NUMBERS) }
+        ensures keeps { (oldest last : ℕ) → result ≡ Ok (CutDone.Cut oldest last) → IsTrue D.tells
+            → (J : List TheRow)
+            → Keeps J (seen_in self.old) (D.view disk.old)
+            → Keeps (cut J seq) (seen_in self.new) (D.view other.new) }
+        ensures bodies { (oldest last : ℕ) → result ≡ Ok (CutDone.Cut oldest last) → IsTrue D.tells
+            → (J : List TheRow)
+            → Keeps J (seen_in self.old) (D.view disk.old)
+            → HasBodies (bytes_of (singles (cut J seq))) self.new.log (D.view other.new) }
+        ensures told { (oldest last : ℕ) → result ≡ Ok (CutDone.Cut oldest last) → IsTrue D.tells
+            → (J : List TheRow)
+            → Keeps J (seen_in self.old) (D.view disk.old)
+            → (oldest ≡ oldest_of (held_by (cut J seq))) × (last ≡ last_seq (cut J seq)) }
         // Of any disk: what was read again keeps the order of numbers, so that what was written is a journal.
-        ensures known { (oldest last : ℕ) → result ≡ Ok (CutDone.Cut oldest last) → IsOfSomeCut self.new.core }
+        ensures known { (oldest last : ℕ) → result ≡ Ok (CutDone.Cut oldest last)
+            → IsOfSomeCut self.new.core }
         // Of any disk: the events that are left have the numbers that were kept of them.
         ensures numbers { (oldest last : ℕ) → result ≡ Ok (CutDone.Cut oldest last)
-            → (map (λ (p : ThePlace). p.seq) self.new.window.places ≡ kept_above seq self.old.window.places)
+            → (map (λ (p : ThePlace). p.seq) self.new.window.places
+            ≡ kept_above seq self.old.window.places)
             × (self.new.core.last ≡ self.old.core.last) }
-        ensures anew { (oldest last : ℕ) → result ≡ Ok (CutDone.Cut oldest last) → (self.new.side ≡ other_side self.old.side)
-            × (self.new.log.format ≡ Format.Two (generation self.old.log.format + 1)) × (self.new.log.most ≡ self.old.log.most) }
-        ensures room { (oldest last : ℕ) → result ≡ Ok (CutDone.Cut oldest last) → IsTrue D.tells → self.new.log.end < self.new.log.most }
+        ensures anew { (oldest last : ℕ) → result ≡ Ok (CutDone.Cut oldest last)
+            → (self.new.side ≡ other_side self.old.side)
+            × (self.new.log.format ≡ Format.Two (generation self.old.log.format + 1))
+            × (self.new.log.most ≡ self.old.log.most) }
+        ensures room { (oldest last : ℕ) → result ≡ Ok (CutDone.Cut oldest last) → IsTrue D.tells
+            → self.new.log.end < self.new.log.most }
         ensures live { (oldest last : ℕ) → result ≡ Ok (CutDone.Cut oldest last) → IsTrue D.tells
             → LeavesLive self.new.side (D.view other.new) (D.view disk.new) }
 
         // Whatever moments of the call a crash strikes the two disks at, it leaves an image of the journal or of the cut one.
-        ensures moments { IsTrue D.tells → (J : List TheRow) → Keeps J (seen_in self.old) (D.view disk.old)
-            → PairLeavesOnly (IsEitherBeside self.old.side J (cut J seq)) (D.view disk.old) (D.view disk.new) (D.view other.old) (D.view other.new) }
+        ensures moments { IsTrue D.tells → (J : List TheRow)
+            → Keeps J (seen_in self.old) (D.view disk.old)
+            → PairLeavesOnly (IsEitherBeside self.old.side J (cut J seq)) (D.view disk.old)
+            (D.view disk.new) (D.view other.old) (D.view other.new) }
         ensures time { IsTrue D.tells → TimeGoesOn (D.view other.old) (D.view other.new) }
 
         // After every fault but the disk's the store is as before, on its disk.
         ensures as_before { OnErr result (result ≢ Err StoreFault.Disk → (self.new ≡ self.old)
             × (IsTrue D.tells → LeavesLive self.old.side (D.view disk.new) (D.view other.new))) }
-        ensures kept { IsTrue D.tells → (J : List TheRow) → Keeps J (seen_in self.old) (D.view disk.old) → Keeps J (seen_in self.old) (D.view disk.new) }
+        ensures kept { IsTrue D.tells → (J : List TheRow)
+            → Keeps J (seen_in self.old) (D.view disk.old)
+            → Keeps J (seen_in self.old) (D.view disk.new) }
         ensures goes { Goes Same (D.view disk.old) (D.view disk.new) }
 
         ensures open { result ≢ Err StoreFault.Disk → IsTrue self.new.log.is_open }
         ensures closed { result ≡ Err StoreFault.Disk → self.new.log.is_open ≡ false }
-        ensures disk { result ≡ Err StoreFault.Disk → Rose (D.view disk.old).faults (D.view disk.new).faults
+        ensures disk { result ≡ Err StoreFault.Disk
+            → Rose (D.view disk.old).faults (D.view disk.new).faults
             ⊎ Rose (D.view other.old).faults (D.view other.new).faults }
-        ensures steady { result ≢ Err StoreFault.Disk → ((D.view disk.new).faults ≡ (D.view disk.old).faults)
+        ensures steady { result ≢ Err StoreFault.Disk
+            → ((D.view disk.new).faults ≡ (D.view disk.old).faults)
             × ((D.view other.new).faults ≡ (D.view other.old).faults) }
         ensures counts { (D.view other.old).faults ≤ (D.view other.new).faults }
-        ensures full { (e : ℕ) → result ≡ Err (StoreFault.Full e) → IsTrue D.tells → (J : List TheRow) → Keeps J (seen_in self.old) (D.view disk.old)
-            → RewriteHasNoRoom (length (front (Format.Two (generation self.old.log.format + 1)))) self.old.log.most (cut J seq) e }
+        ensures full { (e : ℕ) → result ≡ Err (StoreFault.Full e) → IsTrue D.tells
+            → (J : List TheRow) → Keeps J (seen_in self.old) (D.view disk.old)
+            → RewriteHasNoRoom (length
+            (front (Format.Two (generation self.old.log.format + 1)))) self.old.log.most
+            (cut J seq) e }
         ensures no_bad_log { (p : ℕ) → result ≡ Err (StoreFault.BadLog p) → IsTrue D.tells → ⊥ }
         ensures few { (f : TheFault) → result ≡ Err f → IsOfRewriting f }
     {

@@ -47,8 +47,10 @@ impl<D, P: Drop> Drop for EventReader<'_, D, P> {
 impl Store {
     /// Its events, read back from the disk that it is on. Nothing is read yet.
     pub fn events<'a, D: Disk>(&'a self, alloc: Global, disk: &'a mut D) -> EventReader<'a, D>
-        ensures held { IsTrue D.tells → (J : List TheRow) → Keeps J (seen_in self.now) (D.view disk.old)
-            → HasEvents (seen_in result.store.now) (D.view result.disk.now) result.buffer (held_by J) }
+        ensures held { IsTrue D.tells → (J : List TheRow)
+            → Keeps J (seen_in self.now) (D.view disk.old)
+            → HasEvents (seen_in result.store.now) (D.view result.disk.now) result.buffer
+            (held_by J) }
         ensures store { result.store.now ≡ self.now }
         ensures disk { result.disk.now ≡ disk.old }
         ensures same_reference { result.disk.ghost_name ≡ disk.entry.ghost_name }
@@ -65,21 +67,30 @@ impl Store {
 impl<D: Disk> Events for EventReader<'_, D> {
     ghost tells = { D.tells };
 
-    ghost holds = { λ reader held. HasEvents (seen_in reader.store.now) (D.view reader.disk.now) reader.buffer held };
+    ghost holds = { λ reader held. HasEvents (seen_in reader.store.now)
+        (D.view reader.disk.now) reader.buffer held };
 
-    ghost is_read = { λ reader n message. IsReadOf reader.store.now.window.places reader.buffer.left n message };
+    ghost is_read = { λ reader n message.
+        IsReadOf reader.store.now.window.places reader.buffer.left n message };
 
     ghost faults = { λ reader. (D.view reader.disk.now).faults };
 
-    ghost later = { λ old new. (new.store.now ≡ old.store.now) × (new.disk.ghost_name ≡ old.disk.ghost_name)
+    ghost later = { λ old new. (new.store.now ≡ old.store.now)
+        × (new.disk.ghost_name ≡ old.disk.ghost_name)
         × IsReread D.tells (seen_in old.store.now) (D.view old.disk.now) (D.view new.disk.now) };
 
-    ghost later_here = { λ reader. (refl, refl, reread_here D.tells (seen_in reader.store.now) (D.view reader.disk.now)) };
+    ghost later_here = { λ reader. (
+      refl,
+      refl,
+      reread_here D.tells (seen_in reader.store.now)
+          (D.view reader.disk.now),
+    ) };
 
     ghost later_again = { λ one two three first second. (
       second.0 ∙ first.0,
       second.1 ∙ first.1,
-      reread_again D.tells (seen_in one.store.now) (seen_in two.store.now) (D.view one.disk.now) (D.view two.disk.now) (D.view three.disk.now)
+      reread_again D.tells (seen_in one.store.now) (seen_in two.store.now) (D.view one.disk.now)
+          (D.view two.disk.now) (D.view three.disk.now)
           (D.is_disk one.disk.now) (ap seen_in first.0) first.2 second.2,
     ) };
 

@@ -30,12 +30,15 @@ fn copy_shown(
     place: Place,
     room: &mut Octets,
 ) -> Result<bool, EventsFault>
-    ensures told { IfOk result (λ shown. (J : List TheRow) (row : TheRow) (rest : List ℕ) → Holds core.now J → is_row row ≡ true
+    ensures told { IfOk result (λ shown. (J : List TheRow) (row : TheRow) (rest : List ℕ)
+        → Holds core.now J → is_row row ≡ true
         → buffer.now.left ≡ row_encoding row ++ rest → IsToldOf J row shown room.new) }
     ensures kept { IfOk result (λ shown. IsReadAs buffer.now.left place.seq shown room.new) }
     ensures short { IfOk result (λ shown. shown ≡ true → length room.new < 2 ^ 32) }
-    ensures bad_log { (p : ℕ) → result ≡ Err (EventsFault.BadLog p) → (row : TheRow) (more : List TheRow) → is_row row ≡ true
-        → buffer.now.left ≡ row_encoding row ++ encoded_rows more → events_in row ≡ (place.seq, message_of (events_in row)) ∷ [] → ⊥ }
+    ensures bad_log { (p : ℕ) → result ≡ Err (EventsFault.BadLog p)
+        → (row : TheRow) (more : List TheRow) → is_row row ≡ true
+        → buffer.now.left ≡ row_encoding row ++ encoded_rows more
+        → events_in row ≡ (place.seq, message_of (events_in row)) ∷ [] → ⊥ }
     ensures no_disk { result ≡ Err EventsFault.Disk → ⊥ }
 {
     let Some(peeked) = buffer.peeked() else {
@@ -63,19 +66,26 @@ fn refill_body<D: Disk>(
     buffer: &mut Buffer,
 ) -> Result<(), EventsFault>
     requires on { IsTrue D.tells → IsOn (D.view disk.old) log.now }
-    ensures there { OnOk result ((buffer.new.place ≡ place.place) × (buffer.new.index ≤ place.index)) }
-    ensures fits { IsTrue D.tells → (bodies : List (List TheRow)) → AllBodies bodies → HasBodies (bytes_of bodies) log.now (D.view disk.old)
-        → IsBufferOf log.now.format bodies buffer.old → IsBufferOf log.now.format bodies buffer.new }
+    ensures there { OnOk result ((buffer.new.place ≡ place.place)
+        × (buffer.new.index ≤ place.index)) }
+    ensures fits { IsTrue D.tells → (bodies : List (List TheRow)) → AllBodies bodies
+        → HasBodies (bytes_of bodies) log.now (D.view disk.old)
+        → IsBufferOf log.now.format bodies buffer.old
+        → IsBufferOf log.now.format bodies buffer.new }
     ensures no_bad_log { (p : ℕ) → result ≡ Err (EventsFault.BadLog p) → IsTrue D.tells
         → (before : List (List TheRow)) (there : List TheRow) (after : List (List TheRow))
-        → IsBody there (rows_body there) → HasBodies (bytes_of (before ++ there ∷ after)) log.now (D.view disk.old)
+        → IsBody there (rows_body there)
+        → HasBodies (bytes_of (before ++ there ∷ after)) log.now (D.view disk.old)
         → place.place ≡ length (made log.now.format (bytes_of before)) → ⊥ }
     ensures goes { Goes Same (D.view disk.old) (D.view disk.new) }
-    ensures holds { IsTrue D.tells → (bodies : List (List ℕ)) → HasBodies bodies log.now (D.view disk.old) → HasBodies bodies log.now (D.view disk.new) }
+    ensures holds { IsTrue D.tells → (bodies : List (List ℕ))
+        → HasBodies bodies log.now (D.view disk.old) → HasBodies bodies log.now (D.view disk.new) }
     ensures on { IsTrue D.tells → IsOn (D.view disk.new) log.now }
     ensures steady { OnOk result ((D.view disk.new).faults ≡ (D.view disk.old).faults) }
-    ensures no_fault { OnErr result ((result ≡ Err EventsFault.Disk → ⊥) → (D.view disk.new).faults ≡ (D.view disk.old).faults) }
-    ensures disk { result ≡ Err EventsFault.Disk → Rose (D.view disk.old).faults (D.view disk.new).faults }
+    ensures no_fault { OnErr result ((result ≡ Err EventsFault.Disk → ⊥)
+        → (D.view disk.new).faults ≡ (D.view disk.old).faults) }
+    ensures disk { result ≡ Err EventsFault.Disk
+        → Rose (D.view disk.old).faults (D.view disk.new).faults }
 {
     if buffer.is_before(place) {
         return Ok(());
@@ -91,18 +101,26 @@ fn refill_to<D: Disk>(
     buffer: &mut Buffer,
 ) -> Result<(), EventsFault>
     requires on { IsTrue D.tells → IsOn (D.view disk.old) log.now }
-    ensures there { OnOk result ((buffer.new.place ≡ place.place) × (buffer.new.index ≡ place.index)) }
-    ensures fits { IsTrue D.tells → (bodies : List (List TheRow)) → AllBodies bodies → HasBodies (bytes_of bodies) log.now (D.view disk.old)
-        → IsBufferOf log.now.format bodies buffer.old → IsBufferOf log.now.format bodies buffer.new }
-    ensures no_bad_log { (p : ℕ) → result ≡ Err (EventsFault.BadLog p) → IsTrue D.tells → (bodies : List (List TheRow)) (row : TheRow)
-        → AllBodies bodies → HasBodies (bytes_of bodies) log.now (D.view disk.old) → IsBufferOf log.now.format bodies buffer.old
+    ensures there { OnOk result ((buffer.new.place ≡ place.place)
+        × (buffer.new.index ≡ place.index)) }
+    ensures fits { IsTrue D.tells → (bodies : List (List TheRow)) → AllBodies bodies
+        → HasBodies (bytes_of bodies) log.now (D.view disk.old)
+        → IsBufferOf log.now.format bodies buffer.old
+        → IsBufferOf log.now.format bodies buffer.new }
+    ensures no_bad_log { (p : ℕ) → result ≡ Err (EventsFault.BadLog p) → IsTrue D.tells
+        → (bodies : List (List TheRow)) (row : TheRow)
+        → AllBodies bodies → HasBodies (bytes_of bodies) log.now (D.view disk.old)
+        → IsBufferOf log.now.format bodies buffer.old
         → StandsAt log.now.format bodies place row → ⊥ }
     ensures goes { Goes Same (D.view disk.old) (D.view disk.new) }
-    ensures holds { IsTrue D.tells → (bodies : List (List ℕ)) → HasBodies bodies log.now (D.view disk.old) → HasBodies bodies log.now (D.view disk.new) }
+    ensures holds { IsTrue D.tells → (bodies : List (List ℕ))
+        → HasBodies bodies log.now (D.view disk.old) → HasBodies bodies log.now (D.view disk.new) }
     ensures on { IsTrue D.tells → IsOn (D.view disk.new) log.now }
     ensures steady { OnOk result ((D.view disk.new).faults ≡ (D.view disk.old).faults) }
-    ensures no_fault { OnErr result ((result ≡ Err EventsFault.Disk → ⊥) → (D.view disk.new).faults ≡ (D.view disk.old).faults) }
-    ensures disk { result ≡ Err EventsFault.Disk → Rose (D.view disk.old).faults (D.view disk.new).faults }
+    ensures no_fault { OnErr result ((result ≡ Err EventsFault.Disk → ⊥)
+        → (D.view disk.new).faults ≡ (D.view disk.old).faults) }
+    ensures disk { result ≡ Err EventsFault.Disk
+        → Rose (D.view disk.old).faults (D.view disk.new).faults }
 {
     refill_body(log, disk, place, buffer)?;
     if !buffer.go_on(place.index) {
@@ -121,22 +139,31 @@ fn copy_shown_at<D: Disk>(
     room: &mut Octets,
 ) -> Result<bool, EventsFault>
     requires on { IsTrue D.tells → IsOn (D.view disk.old) log.now }
-    ensures told { IfOk result (λ shown. IsTrue D.tells → (bodies : List (List TheRow)) (J : List TheRow) (row : TheRow) → AllBodies bodies
-        → HasBodies (bytes_of bodies) log.now (D.view disk.old) → Holds core.now J → IsBufferOf log.now.format bodies buffer.old
+    ensures told { IfOk result (λ shown. IsTrue D.tells
+        → (bodies : List (List TheRow)) (J : List TheRow) (row : TheRow) → AllBodies bodies
+        → HasBodies (bytes_of bodies) log.now (D.view disk.old) → Holds core.now J
+        → IsBufferOf log.now.format bodies buffer.old
         → StandsAt log.now.format bodies place row → IsToldOf J row shown room.new) }
     ensures kept { IfOk result (λ shown. IsReadAs buffer.new.left place.seq shown room.new) }
     ensures short { IfOk result (λ shown. shown ≡ true → length room.new < 2 ^ 32) }
-    ensures fits { IsTrue D.tells → (bodies : List (List TheRow)) → AllBodies bodies → HasBodies (bytes_of bodies) log.now (D.view disk.old)
-        → IsBufferOf log.now.format bodies buffer.old → IsBufferOf log.now.format bodies buffer.new }
-    ensures no_bad_log { (p : ℕ) → result ≡ Err (EventsFault.BadLog p) → IsTrue D.tells → (bodies : List (List TheRow)) (row : TheRow)
-        → AllBodies bodies → HasBodies (bytes_of bodies) log.now (D.view disk.old) → IsBufferOf log.now.format bodies buffer.old
+    ensures fits { IsTrue D.tells → (bodies : List (List TheRow)) → AllBodies bodies
+        → HasBodies (bytes_of bodies) log.now (D.view disk.old)
+        → IsBufferOf log.now.format bodies buffer.old
+        → IsBufferOf log.now.format bodies buffer.new }
+    ensures no_bad_log { (p : ℕ) → result ≡ Err (EventsFault.BadLog p) → IsTrue D.tells
+        → (bodies : List (List TheRow)) (row : TheRow)
+        → AllBodies bodies → HasBodies (bytes_of bodies) log.now (D.view disk.old)
+        → IsBufferOf log.now.format bodies buffer.old
         → StandsAt log.now.format bodies place row → ⊥ }
     ensures goes { Goes Same (D.view disk.old) (D.view disk.new) }
-    ensures holds { IsTrue D.tells → (bodies : List (List ℕ)) → HasBodies bodies log.now (D.view disk.old) → HasBodies bodies log.now (D.view disk.new) }
+    ensures holds { IsTrue D.tells → (bodies : List (List ℕ))
+        → HasBodies bodies log.now (D.view disk.old) → HasBodies bodies log.now (D.view disk.new) }
     ensures on { IsTrue D.tells → IsOn (D.view disk.new) log.now }
     ensures steady { OnOk result ((D.view disk.new).faults ≡ (D.view disk.old).faults) }
-    ensures no_fault { OnErr result ((result ≡ Err EventsFault.Disk → ⊥) → (D.view disk.new).faults ≡ (D.view disk.old).faults) }
-    ensures disk { result ≡ Err EventsFault.Disk → Rose (D.view disk.old).faults (D.view disk.new).faults }
+    ensures no_fault { OnErr result ((result ≡ Err EventsFault.Disk → ⊥)
+        → (D.view disk.new).faults ≡ (D.view disk.old).faults) }
+    ensures disk { result ≡ Err EventsFault.Disk
+        → Rose (D.view disk.old).faults (D.view disk.new).faults }
 {
     refill_to(log, disk, place, buffer)?;
     copy_shown(core, buffer, place, room)
@@ -152,21 +179,32 @@ pub(crate) fn find_shown<D: Disk>(
     room: &mut Octets,
 ) -> Result<Option<u64>, EventsFault>
     requires on { IsTrue D.tells → IsOn (D.view disk.old) log.now }
-    ensures first { IfOk result (λ found. IsTrue D.tells → (bodies : List (List TheRow)) (J rows : List TheRow) → AllBodies bodies
-        → HasBodies (bytes_of bodies) log.now (D.view disk.old) → Holds core.now J → IsBufferOf log.now.format bodies buffer.old
-        → AllStand log.now.format bodies places.now rows → IsFirst (shown_of J rows) found room.new) }
-    ensures kept { IfOk result (λ found. IfSome found (λ n. IsReadOf places.now buffer.new.left n room.new)) }
+    ensures first { IfOk result (λ found. IsTrue D.tells
+        → (bodies : List (List TheRow)) (J rows : List TheRow) → AllBodies bodies
+        → HasBodies (bytes_of bodies) log.now (D.view disk.old) → Holds core.now J
+        → IsBufferOf log.now.format bodies buffer.old
+        → AllStand log.now.format bodies places.now rows
+        → IsFirst (shown_of J rows) found room.new) }
+    ensures kept { IfOk result (λ found.
+        IfSome found (λ n. IsReadOf places.now buffer.new.left n room.new)) }
     ensures short { IfOk result (λ found. IfSome found (λ n. length room.new < 2 ^ 32)) }
-    ensures fits { IsTrue D.tells → (bodies : List (List TheRow)) → AllBodies bodies → HasBodies (bytes_of bodies) log.now (D.view disk.old)
-        → IsBufferOf log.now.format bodies buffer.old → IsBufferOf log.now.format bodies buffer.new }
-    ensures no_bad_log { (p : ℕ) → result ≡ Err (EventsFault.BadLog p) → IsTrue D.tells → (bodies : List (List TheRow)) (rows : List TheRow)
-        → AllBodies bodies → HasBodies (bytes_of bodies) log.now (D.view disk.old) → IsBufferOf log.now.format bodies buffer.old
+    ensures fits { IsTrue D.tells → (bodies : List (List TheRow)) → AllBodies bodies
+        → HasBodies (bytes_of bodies) log.now (D.view disk.old)
+        → IsBufferOf log.now.format bodies buffer.old
+        → IsBufferOf log.now.format bodies buffer.new }
+    ensures no_bad_log { (p : ℕ) → result ≡ Err (EventsFault.BadLog p) → IsTrue D.tells
+        → (bodies : List (List TheRow)) (rows : List TheRow)
+        → AllBodies bodies → HasBodies (bytes_of bodies) log.now (D.view disk.old)
+        → IsBufferOf log.now.format bodies buffer.old
         → AllStand log.now.format bodies places.now rows → ⊥ }
     ensures goes { Goes Same (D.view disk.old) (D.view disk.new) }
-    ensures holds { IsTrue D.tells → (bodies : List (List ℕ)) → HasBodies bodies log.now (D.view disk.old) → HasBodies bodies log.now (D.view disk.new) }
+    ensures holds { IsTrue D.tells → (bodies : List (List ℕ))
+        → HasBodies bodies log.now (D.view disk.old) → HasBodies bodies log.now (D.view disk.new) }
     ensures steady { OnOk result ((D.view disk.new).faults ≡ (D.view disk.old).faults) }
-    ensures no_fault { OnErr result ((result ≡ Err EventsFault.Disk → ⊥) → (D.view disk.new).faults ≡ (D.view disk.old).faults) }
-    ensures disk { result ≡ Err EventsFault.Disk → Rose (D.view disk.old).faults (D.view disk.new).faults }
+    ensures no_fault { OnErr result ((result ≡ Err EventsFault.Disk → ⊥)
+        → (D.view disk.new).faults ≡ (D.view disk.old).faults) }
+    ensures disk { result ≡ Err EventsFault.Disk
+        → Rose (D.view disk.old).faults (D.view disk.new).faults }
 {
     let mut left = places;
     'places: loop {

@@ -50,15 +50,22 @@ pub(crate) fn gather<P: Judges, R: Repos, C: Clock>(
     requires no_outcome { outcomes.old.items ≡ [] }
     requires few { length group.now ≤ MOST_ROWS }
     requires hosts { AreOfHosts group.now }
-    ensures stopped { Stopped C.tells R.tells log.now group.now core.old core.new window.old.places window.new.places pending.new
-        (around (P.panel judges.old) (C.moments clock.old) (R.repository repos.old)) (around (P.panel judges.new) (C.moments clock.new) (R.repository repos.new)) outcomes.new.items result }
-    ensures risen { IfSome result (IsRisen (Rose (R.faults repos.old) (R.faults repos.new)) (Rose (C.faults clock.old) (C.faults clock.new))) }
+    ensures stopped { Stopped C.tells R.tells log.now group.now core.old core.new window.old.places
+        window.new.places pending.new
+        (around (P.panel judges.old) (C.moments clock.old) (R.repository repos.old))
+        (around (P.panel judges.new) (C.moments clock.new)
+        (R.repository repos.new)) outcomes.new.items result }
+    ensures risen { IfSome result (IsRisen (Rose (R.faults repos.old) (R.faults repos.new))
+        (Rose (C.faults clock.old) (C.faults clock.new))) }
     ensures no_disk { result ≡ Some StoreFault.Disk → ⊥ }
     ensures clock_counts { C.faults clock.old ≤ C.faults clock.new }
     ensures repos_count { R.faults repos.old ≤ R.faults repos.new }
-    ensures clock_steady { result ≢ Some StoreFault.Clock → C.faults clock.new ≡ C.faults clock.old }
-    ensures repos_steady { result ≢ Some StoreFault.Repos → R.faults repos.new ≡ R.faults repos.old }
-    ensures unspent { result ≢ Some StoreFault.Authority → SpendsNone (P.panel judges.old) (P.panel judges.new) }
+    ensures clock_steady { result ≢ Some StoreFault.Clock
+        → C.faults clock.new ≡ C.faults clock.old }
+    ensures repos_steady { result ≢ Some StoreFault.Repos
+        → R.faults repos.new ≡ R.faults repos.old }
+    ensures unspent { result ≢ Some StoreFault.Authority
+        → SpendsNone (P.panel judges.old) (P.panel judges.new) }
 {
     'group: for message in group {
         if outcomes.reserve(1).is_err() {

@@ -33,8 +33,10 @@ fn apply_rows(
     rows: &mut BodyRows,
 ) -> Result<(), RowFault>
     requires few { rows.old.count ≤ MOST_ROWS }
-    ensures applied { OnOk result ((there : List TheRow) × AreLeft there rows.old × AreApplied place there core.old core.new window.old.places window.new.places) }
-    ensures bad { result ≡ Err RowFault.BadRow → (J : List TheRow) → Holds core.old J → (there : List TheRow) → AreLeft there rows.old → IsJournal (J ++ there) → ⊥ }
+    ensures applied { OnOk result ((there : List TheRow) × AreLeft there rows.old
+        × AreApplied place there core.old core.new window.old.places window.new.places) }
+    ensures bad { result ≡ Err RowFault.BadRow → (J : List TheRow) → Holds core.old J
+        → (there : List TheRow) → AreLeft there rows.old → IsJournal (J ++ there) → ⊥ }
 {
     let mut index = 0;
     'rows: while let Some(row) = rows.next()? {
@@ -56,8 +58,10 @@ fn apply_body(
     place: u64,
     body: &[u8],
 ) -> Result<(), RowFault>
-    ensures applied { OnOk result ((J : List TheRow) → Holds core.old J → IsJournal J → IsApplied place body.now J core.new window.old.places window.new.places) }
-    ensures bad { result ≡ Err RowFault.BadRow → (J : List TheRow) → Holds core.old J → IsBadBody J body.now }
+    ensures applied { OnOk result ((J : List TheRow) → Holds core.old J → IsJournal J
+        → IsApplied place body.now J core.new window.old.places window.new.places) }
+    ensures bad { result ≡ Err RowFault.BadRow → (J : List TheRow) → Holds core.old J
+        → IsBadBody J body.now }
 {
     let mut rows = BodyRows::of(alloc, body)?;
     apply_rows(core, window, place, &mut rows)
@@ -76,18 +80,26 @@ fn load_body<D: Disk>(
     requires on { IsTrue D.tells → IsOn (D.view disk.old) log.now }
     requires below { place < log.now.end }
     ensures next { IfOk result (λ next. (place < next) × (next ≤ log.now.end)) }
-    ensures applied { IfOk result (λ next. IsTrue D.tells → (before : List (List ℕ)) (body : List ℕ) (after : List (List ℕ)) (J : List TheRow)
-        → HasBodies (before ++ body ∷ after) log.now (D.view disk.old) → place ≡ length (made log.now.format before) → Holds core.old J → IsJournal J
-        → (next ≡ place + BEFORE_BODY + length body) × IsApplied place body J core.new window.old.places window.new.places) }
-    ensures bad_log { (p : ℕ) → result ≡ Err (StoreFault.BadLog p) → IsTrue D.tells → (before : List (List ℕ)) (body : List ℕ) (after : List (List ℕ)) (J : List TheRow)
-        → HasBodies (before ++ body ∷ after) log.now (D.view disk.old) → place ≡ length (made log.now.format before) → Holds core.old J
+    ensures applied { IfOk result (λ next. IsTrue D.tells
+        → (before : List (List ℕ)) (body : List ℕ) (after : List (List ℕ)) (J : List TheRow)
+        → HasBodies (before ++ body ∷ after) log.now (D.view disk.old)
+        → place ≡ length (made log.now.format before) → Holds core.old J → IsJournal J
+        → (next ≡ place + BEFORE_BODY + length body)
+        × IsApplied place body J core.new window.old.places window.new.places) }
+    ensures bad_log { (p : ℕ) → result ≡ Err (StoreFault.BadLog p) → IsTrue D.tells
+        → (before : List (List ℕ)) (body : List ℕ) (after : List (List ℕ)) (J : List TheRow)
+        → HasBodies (before ++ body ∷ after) log.now (D.view disk.old)
+        → place ≡ length (made log.now.format before) → Holds core.old J
         → (p ≡ place) × IsBadBody J body }
     ensures goes { Goes Same (D.view disk.old) (D.view disk.new) }
-    ensures holds { IsTrue D.tells → (bodies : List (List ℕ)) → HasBodies bodies log.now (D.view disk.old) → HasBodies bodies log.now (D.view disk.new) }
+    ensures holds { IsTrue D.tells → (bodies : List (List ℕ))
+        → HasBodies bodies log.now (D.view disk.old) → HasBodies bodies log.now (D.view disk.new) }
     ensures on { IsTrue D.tells → IsOn (D.view disk.new) log.now }
-    ensures disk { result ≡ Err StoreFault.Disk → Rose (D.view disk.old).faults (D.view disk.new).faults }
+    ensures disk { result ≡ Err StoreFault.Disk
+        → Rose (D.view disk.old).faults (D.view disk.new).faults }
     ensures few { (f : TheFault) → result ≡ Err f → IsOfReading f }
-    ensures steady { result ≢ Err StoreFault.Disk → (D.view disk.new).faults ≡ (D.view disk.old).faults }
+    ensures steady { result ≢ Err StoreFault.Disk
+        → (D.view disk.new).faults ≡ (D.view disk.old).faults }
 {
     let next = log.read_into(disk, place, room)?;
     match apply_body(alloc, core, window, place, room.as_slice()) {
@@ -108,18 +120,24 @@ pub(crate) fn load<D: Disk>(
     requires on { IsTrue D.tells → IsOn (D.view disk.old) log.now }
     requires core { Holds core.old [] }
     requires window { window.old.places ≡ [] }
-    ensures loaded { OnOk result (IsTrue D.tells → (bodies : List (List ℕ)) → HasBodies bodies log.now (D.view disk.old)
+    ensures loaded { OnOk result (IsTrue D.tells → (bodies : List (List ℕ))
+        → HasBodies bodies log.now (D.view disk.old)
         → IsLoaded log.now.format bodies core.new window.new.places) }
-    ensures bad_log { (p : ℕ) → result ≡ Err (StoreFault.BadLog p) → IsTrue D.tells → (bodies : List (List ℕ))
+    ensures bad_log { (p : ℕ) → result ≡ Err (StoreFault.BadLog p) → IsTrue D.tells
+        → (bodies : List (List ℕ))
         → HasBodies bodies log.now (D.view disk.old) → IsBadAmong p log.now.format bodies }
     ensures goes { Goes Same (D.view disk.old) (D.view disk.new) }
-    ensures holds { IsTrue D.tells → (bodies : List (List ℕ)) → HasBodies bodies log.now (D.view disk.old) → HasBodies bodies log.now (D.view disk.new) }
-    ensures disk { result ≡ Err StoreFault.Disk → Rose (D.view disk.old).faults (D.view disk.new).faults }
+    ensures holds { IsTrue D.tells → (bodies : List (List ℕ))
+        → HasBodies bodies log.now (D.view disk.old) → HasBodies bodies log.now (D.view disk.new) }
+    ensures disk { result ≡ Err StoreFault.Disk
+        → Rose (D.view disk.old).faults (D.view disk.new).faults }
     ensures few { (f : TheFault) → result ≡ Err f → IsOfReading f }
-    ensures steady { result ≢ Err StoreFault.Disk → (D.view disk.new).faults ≡ (D.view disk.old).faults }
+    ensures steady { result ≢ Err StoreFault.Disk
+        → (D.view disk.new).faults ≡ (D.view disk.old).faults }
 
     // A log without bodies is learned without a fault.
-    ensures some { (f : TheFault) → result ≡ Err f → IsTrue D.tells → HasBodies [] log.now (D.view disk.old) → ⊥ }
+    ensures some { (f : TheFault) → result ≡ Err f → IsTrue D.tells
+        → HasBodies [] log.now (D.view disk.old) → ⊥ }
 {
     let mut room = Vec::new(alloc);
     let mut place = log.first();

@@ -31,20 +31,28 @@ fn load_side<D: Disk>(
     core: &mut Core,
     window: &mut Window,
 ) -> Result<(), StoreFault>
-    requires on { IsTrue D.tells → IsOn (view_of_side side (D.view one.old) (D.view two.old)) log.now }
+    requires on { IsTrue D.tells → IsOn
+        (view_of_side side (D.view one.old) (D.view two.old)) log.now }
     requires core { Holds core.old [] }
     requires window { window.old.places ≡ [] }
-    ensures loaded { OnOk result (IsTrue D.tells → (bodies : List (List ℕ)) → HasBodies bodies log.now (view_of_side side (D.view one.old) (D.view two.old))
+    ensures loaded { OnOk result (IsTrue D.tells → (bodies : List (List ℕ))
+        → HasBodies bodies log.now (view_of_side side (D.view one.old) (D.view two.old))
         → IsLoaded log.now.format bodies core.new window.new.places) }
-    ensures bad_log { (p : ℕ) → result ≡ Err (StoreFault.BadLog p) → IsTrue D.tells → (bodies : List (List ℕ))
-        → HasBodies bodies log.now (view_of_side side (D.view one.old) (D.view two.old)) → IsBadAmong p log.now.format bodies }
+    ensures bad_log { (p : ℕ) → result ≡ Err (StoreFault.BadLog p) → IsTrue D.tells
+        → (bodies : List (List ℕ))
+        → HasBodies bodies log.now (view_of_side side (D.view one.old) (D.view two.old))
+        → IsBadAmong p log.now.format bodies }
     ensures one { Goes Same (D.view one.old) (D.view one.new) }
     ensures two { Goes Same (D.view two.old) (D.view two.new) }
-    ensures holds { IsTrue D.tells → (bodies : List (List ℕ)) → HasBodies bodies log.now (view_of_side side (D.view one.old) (D.view two.old))
+    ensures holds { IsTrue D.tells → (bodies : List (List ℕ))
+        → HasBodies bodies log.now (view_of_side side (D.view one.old) (D.view two.old))
         → HasBodies bodies log.now (view_of_side side (D.view one.new) (D.view two.new)) }
-    ensures disk { result ≡ Err StoreFault.Disk → Rose (D.view one.old).faults (D.view one.new).faults ⊎ Rose (D.view two.old).faults (D.view two.new).faults }
+    ensures disk { result ≡ Err StoreFault.Disk
+        → Rose (D.view one.old).faults (D.view one.new).faults
+        ⊎ Rose (D.view two.old).faults (D.view two.new).faults }
     ensures few { (f : TheFault) → result ≡ Err f → IsOfReading f }
-    ensures steady { result ≢ Err StoreFault.Disk → ((D.view one.new).faults ≡ (D.view one.old).faults)
+    ensures steady { result ≢ Err StoreFault.Disk
+        → ((D.view one.new).faults ≡ (D.view one.old).faults)
         × ((D.view two.new).faults ≡ (D.view two.old).faults) }
     ensures some { (f : TheFault) → result ≡ Err f → IsTrue D.tells
         → HasBodies [] log.now (view_of_side side (D.view one.old) (D.view two.old)) → ⊥ }
@@ -65,16 +73,21 @@ impl Store {
         most: u64,
     ) -> Result<Store, StoreFault>
         requires { most ≤ LAST_END }
-        ensures opened { Opened D.tells (D.view disk.old) (D.view other.old) (D.view disk.new) (D.view other.new) result }
+        ensures opened { Opened D.tells (D.view disk.old) (D.view other.old) (D.view disk.new)
+            (D.view other.new) result }
         ensures open { IfOk result (λ store. IsTrue store.log.is_open × (store.log.most ≡ most)) }
-        ensures synced { OnOk result (IsTrue D.tells → IsSynced (D.view disk.new) × IsSynced (D.view other.new)) }
+        ensures synced { OnOk result (IsTrue D.tells → IsSynced (D.view disk.new)
+            × IsSynced (D.view other.new)) }
         ensures bad_log { (p : ℕ) → result ≡ Err (StoreFault.BadLog p) → IsTrue D.tells
             → IsBadPairJournalAt p (D.view disk.old).content (D.view other.old).content }
-        ensures disk { result ≡ Err StoreFault.Disk → Rose (D.view disk.old).faults (D.view disk.new).faults
+        ensures disk { result ≡ Err StoreFault.Disk
+            → Rose (D.view disk.old).faults (D.view disk.new).faults
             ⊎ Rose (D.view other.old).faults (D.view other.new).faults }
-        ensures counts { ((D.view disk.old).faults ≤ (D.view disk.new).faults) × ((D.view other.old).faults ≤ (D.view other.new).faults) }
+        ensures counts { ((D.view disk.old).faults ≤ (D.view disk.new).faults)
+            × ((D.view other.old).faults ≤ (D.view other.new).faults) }
         ensures few { (f : TheFault) → result ≡ Err f → IsOfReading f }
-        ensures steady { result ≢ Err StoreFault.Disk → ((D.view disk.new).faults ≡ (D.view disk.old).faults)
+        ensures steady { result ≢ Err StoreFault.Disk
+            → ((D.view disk.new).faults ≡ (D.view disk.old).faults)
             × ((D.view other.new).faults ≡ (D.view other.old).faults) }
     {
         let mut core = Core::new(alloc);

@@ -80,9 +80,13 @@ fn take_decided(
     requires fits { Fits log.now pending.old }
     ensures begun { AHEAD ≤ length pending.new.body }
     ensures fits { Fits log.now pending.new }
-    ensures ok { IfOk result (λ o. (frame : Result TheFrame TheFrameFault) → IsSkippedAs frame told → outcome_decided frame (told_as told) ≡ Some o) }
-    ensures added { OnOk result (AreAdded log.now.end (rows_decided (told_as told)) core.old core.new window.old.places window.new.places pending.old pending.new) }
-    ensures as_before { OnErr result (IsUnchanged core.old core.new window.old.places window.new.places pending.old pending.new) }
+    ensures ok { IfOk result (λ o. (frame : Result TheFrame TheFrameFault) → IsSkippedAs frame told
+        → outcome_decided frame (told_as told) ≡ Some o) }
+    ensures added { OnOk result (AreAdded log.now.end
+        (rows_decided (told_as told)) core.old core.new window.old.places window.new.places
+        pending.old pending.new) }
+    ensures as_before { OnErr result
+        (IsUnchanged core.old core.new window.old.places window.new.places pending.old pending.new) }
     ensures late { IfErr result (IsTooLate log.now pending.old (told_as told)) }
 {
     match told {
@@ -116,14 +120,18 @@ pub(crate) fn prepare<P: Judges, R: Repos, C: Clock>(
     requires fits { Fits log.now pending.old }
     ensures begun { AHEAD ≤ length pending.new.body }
     ensures fits { Fits log.now pending.new }
-    ensures prepared { Prepared C.tells R.tells log.now host.now message.now core.old core.new window.old.places window.new.places pending.old pending.new
-        (around (P.panel judges.old) (C.moments clock.old) (R.repository repos.old)) (around (P.panel judges.new) (C.moments clock.new) (R.repository repos.new)) result }
-    ensures risen { IfErr result (IsRisen (Rose (R.faults repos.old) (R.faults repos.new)) (Rose (C.faults clock.old) (C.faults clock.new))) }
+    ensures prepared { Prepared C.tells R.tells log.now host.now message.now core.old core.new window.old.places
+        window.new.places pending.old pending.new
+        (around (P.panel judges.old) (C.moments clock.old) (R.repository repos.old))
+        (around (P.panel judges.new) (C.moments clock.new) (R.repository repos.new)) result }
+    ensures risen { IfErr result (IsRisen (Rose (R.faults repos.old) (R.faults repos.new))
+        (Rose (C.faults clock.old) (C.faults clock.new))) }
     ensures clock_counts { C.faults clock.old ≤ C.faults clock.new }
     ensures repos_count { R.faults repos.old ≤ R.faults repos.new }
     ensures clock_steady { result ≢ Err StoreFault.Clock → C.faults clock.new ≡ C.faults clock.old }
     ensures repos_steady { result ≢ Err StoreFault.Repos → R.faults repos.new ≡ R.faults repos.old }
-    ensures unspent { result ≢ Err StoreFault.Authority → SpendsNone (P.panel judges.old) (P.panel judges.new) }
+    ensures unspent { result ≢ Err StoreFault.Authority
+        → SpendsNone (P.panel judges.old) (P.panel judges.new) }
 {
     match decide_message(alloc, core, host, message, judges, repos, clock) {
         Ok(told) => take_decided(alloc, log, core, window, pending, told),

@@ -38,20 +38,26 @@ pub(crate) fn body_at<D: Disk>(
     requires on { IsTrue D.tells → IsOn (D.view disk.old) log.now }
     ensures next { IfOk result (λ found. (place < found.1) × (found.1 ≤ log.now.end)) }
     ensures formed { IfOk result (λ found. list_all is_row found.0.items ≡ true) }
-    ensures rows { IfOk result (λ found. IsTrue D.tells → (before : List (List TheRow)) (there : List TheRow) (after : List (List TheRow))
-        → IsBody there (rows_body there) → HasBodies (bytes_of (before ++ there ∷ after)) log.now (D.view disk.old)
+    ensures rows { IfOk result (λ found. IsTrue D.tells
+        → (before : List (List TheRow)) (there : List TheRow) (after : List (List TheRow))
+        → IsBody there (rows_body there)
+        → HasBodies (bytes_of (before ++ there ∷ after)) log.now (D.view disk.old)
         → place ≡ length (made log.now.format (bytes_of before))
         → (found.0.items ≡ there) × (found.1 ≡ place + BEFORE_BODY + length (rows_body there))) }
     ensures no_bad_log { (p : ℕ) → result ≡ Err (StoreFault.BadLog p) → IsTrue D.tells
         → (before : List (List TheRow)) (there : List TheRow) (after : List (List TheRow))
-        → IsBody there (rows_body there) → HasBodies (bytes_of (before ++ there ∷ after)) log.now (D.view disk.old)
+        → IsBody there (rows_body there)
+        → HasBodies (bytes_of (before ++ there ∷ after)) log.now (D.view disk.old)
         → place ≡ length (made log.now.format (bytes_of before)) → ⊥ }
     ensures goes { Goes Same (D.view disk.old) (D.view disk.new) }
-    ensures holds { IsTrue D.tells → (bodies : List (List ℕ)) → HasBodies bodies log.now (D.view disk.old) → HasBodies bodies log.now (D.view disk.new) }
+    ensures holds { IsTrue D.tells → (bodies : List (List ℕ))
+        → HasBodies bodies log.now (D.view disk.old) → HasBodies bodies log.now (D.view disk.new) }
     ensures on { IsTrue D.tells → IsOn (D.view disk.new) log.now }
-    ensures disk { result ≡ Err StoreFault.Disk → Rose (D.view disk.old).faults (D.view disk.new).faults }
+    ensures disk { result ≡ Err StoreFault.Disk
+        → Rose (D.view disk.old).faults (D.view disk.new).faults }
     ensures steady { OnOk result ((D.view disk.new).faults ≡ (D.view disk.old).faults) }
-    ensures no_fault { OnErr result (result ≢ Err StoreFault.Disk → (D.view disk.new).faults ≡ (D.view disk.old).faults) }
+    ensures no_fault { OnErr result (result ≢ Err StoreFault.Disk
+        → (D.view disk.new).faults ≡ (D.view disk.old).faults) }
     ensures few { (f : TheFault) → result ≡ Err f → IsOfReading f }
 {
     let next = match read_body(log, disk, place, room) {
@@ -67,9 +73,11 @@ pub(crate) fn body_at<D: Disk>(
 
 // Moves a state by rows that were read of the body at a place, as long as they keep the order.
 fn fold_rows(core: &mut Core, place: u64, rows: Vec<Row>) -> Result<(), StoreFault>
-    ensures moved { OnOk result ((J : List TheRow) → Holds core.old J → Holds core.new (J ++ rows.items)) }
+    ensures moved { OnOk result ((J : List TheRow) → Holds core.old J
+        → Holds core.new (J ++ rows.items)) }
     ensures ordered { OnOk result (GrowsInOrder rows.items core.old) }
-    ensures bad_log { (p : ℕ) → result ≡ Err (StoreFault.BadLog p) → BreaksOrder rows.items core.old }
+    ensures bad_log { (p : ℕ) → result ≡ Err (StoreFault.BadLog p)
+        → BreaksOrder rows.items core.old }
     ensures no_disk { result ≡ Err StoreFault.Disk → ⊥ }
     ensures few { (f : TheFault) → result ≡ Err f → IsOfReading f }
 {
@@ -96,18 +104,25 @@ fn fold_before<D: Disk>(
     requires on { IsTrue D.tells → IsOn (D.view disk.old) log.now }
     requires core { Holds core.old [] }
     ensures known { OnOk result (IsOfSome core.new) }
-    ensures core { OnOk result (IsTrue D.tells → (before after : List (List TheRow)) → AllBodies (before ++ after)
-        → HasBodies (bytes_of (before ++ after)) log.now (D.view disk.old) → upto ≡ length (made log.now.format (bytes_of before))
+    ensures core { OnOk result (IsTrue D.tells → (before after : List (List TheRow))
+        → AllBodies (before ++ after)
+        → HasBodies (bytes_of (before ++ after)) log.now (D.view disk.old)
+        → upto ≡ length (made log.now.format (bytes_of before))
         → Holds core.new (joined before)) }
-    ensures no_bad_log { (p : ℕ) → result ≡ Err (StoreFault.BadLog p) → IsTrue D.tells → (before after : List (List TheRow)) → AllBodies (before ++ after)
-        → HasBodies (bytes_of (before ++ after)) log.now (D.view disk.old) → upto ≡ length (made log.now.format (bytes_of before))
+    ensures no_bad_log { (p : ℕ) → result ≡ Err (StoreFault.BadLog p) → IsTrue D.tells
+        → (before after : List (List TheRow)) → AllBodies (before ++ after)
+        → HasBodies (bytes_of (before ++ after)) log.now (D.view disk.old)
+        → upto ≡ length (made log.now.format (bytes_of before))
         → IsJournal (joined (before ++ after)) → ⊥ }
     ensures goes { Goes Same (D.view disk.old) (D.view disk.new) }
-    ensures holds { IsTrue D.tells → (bodies : List (List ℕ)) → HasBodies bodies log.now (D.view disk.old) → HasBodies bodies log.now (D.view disk.new) }
+    ensures holds { IsTrue D.tells → (bodies : List (List ℕ))
+        → HasBodies bodies log.now (D.view disk.old) → HasBodies bodies log.now (D.view disk.new) }
     ensures on { IsTrue D.tells → IsOn (D.view disk.new) log.now }
-    ensures disk { result ≡ Err StoreFault.Disk → Rose (D.view disk.old).faults (D.view disk.new).faults }
+    ensures disk { result ≡ Err StoreFault.Disk
+        → Rose (D.view disk.old).faults (D.view disk.new).faults }
     ensures steady { OnOk result ((D.view disk.new).faults ≡ (D.view disk.old).faults) }
-    ensures no_fault { OnErr result (result ≢ Err StoreFault.Disk → (D.view disk.new).faults ≡ (D.view disk.old).faults) }
+    ensures no_fault { OnErr result (result ≢ Err StoreFault.Disk
+        → (D.view disk.new).faults ≡ (D.view disk.old).faults) }
     ensures few { (f : TheFault) → result ≡ Err f → IsOfReading f }
 {
     let mut place = log.first();
@@ -128,19 +143,27 @@ pub(crate) fn fold_upto<D: Disk>(
 ) -> Result<Core, StoreFault>
     requires on { IsTrue D.tells → IsOn (D.view disk.old) log.now }
     ensures known { IfOk result (λ core. IsOfSome core) }
-    ensures core { IfOk result (λ core. IsTrue D.tells → (before : List (List TheRow)) (there : List TheRow) (after : List (List TheRow))
-        → AllBodies (before ++ there ∷ after) → HasBodies (bytes_of (before ++ there ∷ after)) log.now (D.view disk.old)
-        → last.place ≡ length (made log.now.format (bytes_of before)) → Holds core (joined before ++ take (last.index + 1) there)) }
+    ensures core { IfOk result (λ core. IsTrue D.tells
+        → (before : List (List TheRow)) (there : List TheRow) (after : List (List TheRow))
+        → AllBodies (before ++ there ∷ after)
+        → HasBodies (bytes_of (before ++ there ∷ after)) log.now (D.view disk.old)
+        → last.place ≡ length (made log.now.format (bytes_of before))
+        → Holds core (joined before ++ take (last.index + 1) there)) }
     ensures no_bad_log { (p : ℕ) → result ≡ Err (StoreFault.BadLog p) → IsTrue D.tells
         → (before : List (List TheRow)) (there : List TheRow) (after : List (List TheRow))
-        → AllBodies (before ++ there ∷ after) → HasBodies (bytes_of (before ++ there ∷ after)) log.now (D.view disk.old)
-        → last.place ≡ length (made log.now.format (bytes_of before)) → IsJournal (joined (before ++ there ∷ after)) → ⊥ }
+        → AllBodies (before ++ there ∷ after)
+        → HasBodies (bytes_of (before ++ there ∷ after)) log.now (D.view disk.old)
+        → last.place ≡ length (made log.now.format (bytes_of before))
+        → IsJournal (joined (before ++ there ∷ after)) → ⊥ }
     ensures goes { Goes Same (D.view disk.old) (D.view disk.new) }
-    ensures holds { IsTrue D.tells → (bodies : List (List ℕ)) → HasBodies bodies log.now (D.view disk.old) → HasBodies bodies log.now (D.view disk.new) }
+    ensures holds { IsTrue D.tells → (bodies : List (List ℕ))
+        → HasBodies bodies log.now (D.view disk.old) → HasBodies bodies log.now (D.view disk.new) }
     ensures on { IsTrue D.tells → IsOn (D.view disk.new) log.now }
-    ensures disk { result ≡ Err StoreFault.Disk → Rose (D.view disk.old).faults (D.view disk.new).faults }
+    ensures disk { result ≡ Err StoreFault.Disk
+        → Rose (D.view disk.old).faults (D.view disk.new).faults }
     ensures steady { OnOk result ((D.view disk.new).faults ≡ (D.view disk.old).faults) }
-    ensures no_fault { OnErr result (result ≢ Err StoreFault.Disk → (D.view disk.new).faults ≡ (D.view disk.old).faults) }
+    ensures no_fault { OnErr result (result ≢ Err StoreFault.Disk
+        → (D.view disk.new).faults ≡ (D.view disk.old).faults) }
     ensures few { (f : TheFault) → result ≡ Err f → IsOfReading f }
 {
     let mut room = Vec::new(alloc);

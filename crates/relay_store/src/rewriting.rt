@@ -52,12 +52,16 @@ pub(crate) fn put_row<D: Disk>(
     row: Row,
 ) -> Result<(), StoreFault>
     requires on { IsTrue D.tells → IsBuiltOn (D.view other.old) rewrite.old.build }
-    ensures copied { OnOk result (IsCopied D.tells (row ∷ []) rewrite.old rewrite.new (D.view other.old) (D.view other.new)) }
+    ensures copied { OnOk result (IsCopied D.tells (row ∷ []) rewrite.old rewrite.new (D.view other.old)
+        (D.view other.new)) }
     ensures run { IsTrue D.tells → LeavesOnly IsClosed (D.view other.old) (D.view other.new) }
-    ensures disk { result ≡ Err StoreFault.Disk → Rose (D.view other.old).faults (D.view other.new).faults }
-    ensures no_fault { OnErr result (result ≢ Err StoreFault.Disk → (D.view other.new).faults ≡ (D.view other.old).faults) }
+    ensures disk { result ≡ Err StoreFault.Disk
+        → Rose (D.view other.old).faults (D.view other.new).faults }
+    ensures no_fault { OnErr result (result ≢ Err StoreFault.Disk
+        → (D.view other.new).faults ≡ (D.view other.old).faults) }
     ensures counts { (D.view other.old).faults ≤ (D.view other.new).faults }
-    ensures full { (e : ℕ) → result ≡ Err (StoreFault.Full e) → RewriteHasNoRoom rewrite.old.build.end rewrite.old.build.most (row ∷ []) e }
+    ensures full { (e : ℕ) → result ≡ Err (StoreFault.Full e)
+        → RewriteHasNoRoom rewrite.old.build.end rewrite.old.build.most (row ∷ []) e }
     ensures few { (f : TheFault) → result ≡ Err f → IsOfAdding f }
 {
     encode_body(&mut rewrite.body, &row)?;
@@ -79,13 +83,18 @@ pub(crate) fn put_rows<D: Disk>(
 ) -> Result<(), StoreFault>
     requires on { IsTrue D.tells → IsBuiltOn (D.view other.old) rewrite.old.build }
     ensures ordered { OnOk result (GrowsInOrder rows.items rewrite.old.core) }
-    ensures bad_log { (p : ℕ) → result ≡ Err (StoreFault.BadLog p) → BreaksOrder rows.items rewrite.old.core }
-    ensures copied { OnOk result (IsCopied D.tells rows.items rewrite.old rewrite.new (D.view other.old) (D.view other.new)) }
+    ensures bad_log { (p : ℕ) → result ≡ Err (StoreFault.BadLog p)
+        → BreaksOrder rows.items rewrite.old.core }
+    ensures copied { OnOk result (IsCopied D.tells rows.items rewrite.old rewrite.new (D.view other.old)
+        (D.view other.new)) }
     ensures run { IsTrue D.tells → LeavesOnly IsClosed (D.view other.old) (D.view other.new) }
-    ensures disk { result ≡ Err StoreFault.Disk → Rose (D.view other.old).faults (D.view other.new).faults }
-    ensures no_fault { OnErr result (result ≢ Err StoreFault.Disk → (D.view other.new).faults ≡ (D.view other.old).faults) }
+    ensures disk { result ≡ Err StoreFault.Disk
+        → Rose (D.view other.old).faults (D.view other.new).faults }
+    ensures no_fault { OnErr result (result ≢ Err StoreFault.Disk
+        → (D.view other.new).faults ≡ (D.view other.old).faults) }
     ensures counts { (D.view other.old).faults ≤ (D.view other.new).faults }
-    ensures full { (e : ℕ) → result ≡ Err (StoreFault.Full e) → RewriteHasNoRoom rewrite.old.build.end rewrite.old.build.most rows.items e }
+    ensures full { (e : ℕ) → result ≡ Err (StoreFault.Full e)
+        → RewriteHasNoRoom rewrite.old.build.end rewrite.old.build.most rows.items e }
     ensures few { (f : TheFault) → result ≡ Err f → IsOfRewriting f }
 {
     let mut left = VecDeque::from_vec(rows);

@@ -30,7 +30,8 @@ fn is_hidden(account: &Account) -> bool
 
 /// Whether the event of the row is shown of which this is seen.
 pub(crate) fn is_shown(core: &Core, peeked: &Peeked) -> bool
-    ensures { (J : List TheRow) (row : TheRow) → Holds core.now J → Sees row (Some peeked.now) → result ≡ is_shown J row }
+    ensures { (J : List TheRow) (row : TheRow) → Holds core.now J → Sees row (Some peeked.now)
+        → result ≡ is_shown J row }
 {
     if !peeked.of_repo {
         return true;

@@ -28,7 +28,8 @@ impl Store {
 
     /// The account of a DID, where a row names it.
     pub fn account(&self, did: &str) -> Option<&Account>
-        ensures { option_map (λ account. state_of account.now) result ≡ entry self.now.core.accounts did.now }
+        ensures { option_map (λ account. state_of account.now) result
+            ≡ entry self.now.core.accounts did.now }
     {
         self.core.account(did)
     }
@@ -56,7 +57,9 @@ impl Store {
 
     /// The least number that it holds, and where it holds none, the one behind the last.
     pub(crate) fn oldest(&self) -> u64
-        ensures { self.now.core.last < NUMBERS → result ≡ first_or (map (λ (p : ThePlace). p.seq) self.now.window.places) (self.now.core.last + 1) }
+        ensures { self.now.core.last < NUMBERS
+            → result ≡ first_or (map (λ (p : ThePlace). p.seq) self.now.window.places)
+            (self.now.core.last + 1) }
     {
         match self.window.first() {
             Some(place) => place.seq,

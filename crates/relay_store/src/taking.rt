@@ -51,28 +51,40 @@ impl Store {
         requires some { 1 ≤ length group.now }
         requires few { length group.now ≤ MOST_ROWS }
         requires hosts { AreOfHosts group.now }
-        ensures batched { (J : List TheRow) → IsOf J self.old.core → Batched D.view D.tells C.tells R.tells J group.now
-            (scene (seen_in self.old) disk.old (around (P.panel judges.old) (C.moments clock.old) (R.repository repos.old)))
-            (scene (seen_in self.new) disk.new (around (P.panel judges.new) (C.moments clock.new) (R.repository repos.new))) result.outcomes.items result.fault }
+        ensures batched { (J : List TheRow) → IsOf J self.old.core
+            → Batched D.view D.tells C.tells R.tells J group.now
+            (scene (seen_in self.old) disk.old
+            (around (P.panel judges.old) (C.moments clock.old) (R.repository repos.old)))
+            (scene (seen_in self.new) disk.new
+            (around (P.panel judges.new) (C.moments clock.new) (R.repository repos.new)))
+            result.outcomes.items result.fault }
         // Of any disk: no message has two outcomes, and unless a fault came each has one, or each up to the end of a host.
         ensures few { length result.outcomes.items ≤ length group.now }
-        ensures all { result.fault ≡ None → (length result.outcomes.items ≡ length group.now) ⊎ HasEnd result.outcomes.items }
-        ensures on { result.fault ≢ Some StoreFault.Disk → IsTrue D.tells → IsKept (seen_in self.new) (D.view disk.new) }
+        ensures all { result.fault ≡ None → (length result.outcomes.items ≡ length group.now)
+            ⊎ HasEnd result.outcomes.items }
+        ensures on { result.fault ≢ Some StoreFault.Disk → IsTrue D.tells
+            → IsKept (seen_in self.new) (D.view disk.new) }
         ensures open { result.fault ≢ Some StoreFault.Disk → IsTrue self.new.log.is_open }
         ensures closed { result.fault ≡ Some StoreFault.Disk → self.new.log.is_open ≡ false }
         ensures unanswered { result.fault ≡ Some StoreFault.Disk → result.outcomes.items ≡ [] }
         ensures side { self.new.side ≡ self.old.side }
-        ensures risen { IfSome result.fault (IsRisenOf (Rose (D.view disk.old).faults (D.view disk.new).faults)
-            (Rose (R.faults repos.old) (R.faults repos.new)) (Rose (C.faults clock.old) (C.faults clock.new))) }
+        ensures risen { IfSome result.fault
+            (IsRisenOf (Rose (D.view disk.old).faults (D.view disk.new).faults)
+            (Rose (R.faults repos.old) (R.faults repos.new))
+            (Rose (C.faults clock.old) (C.faults clock.new))) }
         ensures disk_counts { (D.view disk.old).faults ≤ (D.view disk.new).faults }
         ensures clock_counts { C.faults clock.old ≤ C.faults clock.new }
         ensures repos_count { R.faults repos.old ≤ R.faults repos.new }
-        ensures disk_steady { result.fault ≢ Some StoreFault.Disk → (D.view disk.new).faults ≡ (D.view disk.old).faults }
-        ensures clock_steady { result.fault ≢ Some StoreFault.Disk → result.fault ≢ Some StoreFault.Clock
+        ensures disk_steady { result.fault ≢ Some StoreFault.Disk
+            → (D.view disk.new).faults ≡ (D.view disk.old).faults }
+        ensures clock_steady { result.fault ≢ Some StoreFault.Disk
+            → result.fault ≢ Some StoreFault.Clock
             → C.faults clock.new ≡ C.faults clock.old }
-        ensures repos_steady { result.fault ≢ Some StoreFault.Disk → result.fault ≢ Some StoreFault.Repos
+        ensures repos_steady { result.fault ≢ Some StoreFault.Disk
+            → result.fault ≢ Some StoreFault.Repos
             → R.faults repos.new ≡ R.faults repos.old }
-        ensures unspent { result.fault ≢ Some StoreFault.Disk → result.fault ≢ Some StoreFault.Authority
+        ensures unspent { result.fault ≢ Some StoreFault.Disk
+            → result.fault ≢ Some StoreFault.Authority
             → SpendsNone (P.panel judges.old) (P.panel judges.new) }
     {
         let mut outcomes = Vec::new(alloc);
@@ -120,24 +132,35 @@ impl Store {
         requires open { IsTrue self.old.log.is_open }
         requires on { IsTrue D.tells → IsKept (seen_in self.old) (D.view disk.old) }
         requires host { IsTrue (is_host host.now) }
-        ensures batched { (J : List TheRow) → IsOf J self.old.core → Batched D.view D.tells C.tells R.tells J (message_from host.now message.now ∷ [])
-            (scene (seen_in self.old) disk.old (around (P.panel judges.old) (C.moments clock.old) (R.repository repos.old)))
-            (scene (seen_in self.new) disk.new (around (P.panel judges.new) (C.moments clock.new) (R.repository repos.new))) (outcomes_in result) (fault_in result) }
-        ensures on { fault_in result ≢ Some StoreFault.Disk → IsTrue D.tells → IsKept (seen_in self.new) (D.view disk.new) }
+        ensures batched { (J : List TheRow) → IsOf J self.old.core
+            → Batched D.view D.tells C.tells R.tells J (message_from host.now message.now ∷ [])
+            (scene (seen_in self.old) disk.old
+            (around (P.panel judges.old) (C.moments clock.old) (R.repository repos.old)))
+            (scene (seen_in self.new) disk.new
+            (around (P.panel judges.new) (C.moments clock.new) (R.repository repos.new)))
+            (outcomes_in result) (fault_in result) }
+        ensures on { fault_in result ≢ Some StoreFault.Disk → IsTrue D.tells
+            → IsKept (seen_in self.new) (D.view disk.new) }
         ensures open { fault_in result ≢ Some StoreFault.Disk → IsTrue self.new.log.is_open }
         ensures closed { fault_in result ≡ Some StoreFault.Disk → self.new.log.is_open ≡ false }
         ensures side { self.new.side ≡ self.old.side }
-        ensures risen { IfSome (fault_in result) (IsRisenOf (Rose (D.view disk.old).faults (D.view disk.new).faults)
-            (Rose (R.faults repos.old) (R.faults repos.new)) (Rose (C.faults clock.old) (C.faults clock.new))) }
+        ensures risen { IfSome (fault_in result)
+            (IsRisenOf (Rose (D.view disk.old).faults (D.view disk.new).faults)
+            (Rose (R.faults repos.old) (R.faults repos.new))
+            (Rose (C.faults clock.old) (C.faults clock.new))) }
         ensures disk_counts { (D.view disk.old).faults ≤ (D.view disk.new).faults }
         ensures clock_counts { C.faults clock.old ≤ C.faults clock.new }
         ensures repos_count { R.faults repos.old ≤ R.faults repos.new }
-        ensures disk_steady { fault_in result ≢ Some StoreFault.Disk → (D.view disk.new).faults ≡ (D.view disk.old).faults }
-        ensures clock_steady { fault_in result ≢ Some StoreFault.Disk → fault_in result ≢ Some StoreFault.Clock
+        ensures disk_steady { fault_in result ≢ Some StoreFault.Disk
+            → (D.view disk.new).faults ≡ (D.view disk.old).faults }
+        ensures clock_steady { fault_in result ≢ Some StoreFault.Disk
+            → fault_in result ≢ Some StoreFault.Clock
             → C.faults clock.new ≡ C.faults clock.old }
-        ensures repos_steady { fault_in result ≢ Some StoreFault.Disk → fault_in result ≢ Some StoreFault.Repos
+        ensures repos_steady { fault_in result ≢ Some StoreFault.Disk
+            → fault_in result ≢ Some StoreFault.Repos
             → R.faults repos.new ≡ R.faults repos.old }
-        ensures unspent { fault_in result ≢ Some StoreFault.Disk → fault_in result ≢ Some StoreFault.Authority
+        ensures unspent { fault_in result ≢ Some StoreFault.Disk
+            → fault_in result ≢ Some StoreFault.Authority
             → SpendsNone (P.panel judges.old) (P.panel judges.new) }
     {
         match self.pending.start() {

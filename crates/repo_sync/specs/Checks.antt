@@ -15,10 +15,12 @@ IsRefused did least bytes fault = IsAnswer did least bytes (Err fault)
 
 -- the result is what the bytes come to, whatever that is, unless memory ran out or a read failed
 abbrev pub ChecksExactly : List ℕ → Option ℕ → List ℕ → Result Found RepoFault → Type 0
-ChecksExactly did least bytes result = (answer : Result Found RepoFault) → IsAnswer did least bytes answer → Gives (λ (found : Found). found) cause_of result answer
+ChecksExactly did least bytes result = (answer : Result Found RepoFault)
+    → IsAnswer did least bytes answer → Gives (λ (found : Found). found) cause_of result answer
 
 -- there are bytes of which the result tells, also where it isn't told which are read
-pub record IsOfSome (did : List ℕ) (least : Option ℕ) (result : Result Found RepoFault) : Type 0 where
+pub record IsOfSome (did : List ℕ) (least : Option ℕ)
+    (result : Result Found RepoFault) : Type 0 where
   pub bytes : List ℕ
   pub are : IsBytes bytes
   pub whole : IfOk result (IsWhole did least bytes)

@@ -45,7 +45,11 @@ commit_lines did least block =
     (RepoFault.NoCommit, not (is_some block))
     ∷ (RepoFault.BadCommit, not (is_some (object_in_block block)))
     ∷ (RepoFault.OtherDid, not (is_of_account did (object_in_block block)))
-    ∷ (RepoFault.Lagging (rev_in (object_in_block block)), lags least (rev_in (object_in_block block)))
+    ∷ (
+      RepoFault.Lagging (rev_in (object_in_block block)),
+      lags least
+          (rev_in (object_in_block block)),
+    )
     ∷ []
 
 -- what the bytes show before the tree is looked at, in order
@@ -80,7 +84,8 @@ pub record IsWhole (did : List ℕ) (least : Option ℕ) (bytes : List ℕ) (fou
   pub tree : HasKeys holds.blocks holds.commit.data_root found.records
 
 -- the tree under the commit object alone is at fault, and this is its first fault
-pub record IsTorn (did : List ℕ) (least : Option ℕ) (bytes : List ℕ) (fault : WalkFault) : Type 0 where
+pub record IsTorn (did : List ℕ) (least : Option ℕ) (bytes : List ℕ)
+    (fault : WalkFault) : Type 0 where
   pub shown : first_of (lines did least bytes) ≡ None
   pub holds : HoldsRepository bytes
   pub tree : IsWalkFault holds.blocks holds.commit.data_root fault

@@ -25,7 +25,8 @@ IsQuiet fault = ⊥
 
 -- the bytes are a CAR of which this is kept, or none
 abbrev pub ScansAs : Result Kept RepoFault → List ℕ → Type 0
-ScansAs (Ok kept) bytes = (blocks : BlockMap) × (car_of bytes ≡ Ok (kept.roots, blocks)) × IsKeptOf is_node_block blocks kept
+ScansAs (Ok kept) bytes = (blocks : BlockMap) × (car_of bytes ≡ Ok (kept.roots, blocks))
+    × IsKeptOf is_node_block blocks kept
 ScansAs (Err RepoFault.BadCar) bytes = (fault : CarFault) × (car_of bytes ≡ Err fault)
 ScansAs (Err RepoFault.Memory) bytes = ⊤
 ScansAs result bytes = ⊥
@@ -33,7 +34,8 @@ ScansAs result bytes = ⊥
 -- the same of at most so many bytes
 abbrev pub Scans : Result Kept RepoFault → List ℕ → Type 0
 Scans (Ok kept) bytes = (length bytes ≤ MOST_REPOSITORY_BYTES) × ScansAs (Ok kept) bytes
-Scans (Err RepoFault.BadCar) bytes = (length bytes ≤ MOST_REPOSITORY_BYTES) × ScansAs (Err RepoFault.BadCar) bytes
+Scans (Err RepoFault.BadCar) bytes = (length bytes ≤ MOST_REPOSITORY_BYTES)
+    × ScansAs (Err RepoFault.BadCar) bytes
 Scans (Err RepoFault.TooLong) bytes = MOST_REPOSITORY_BYTES < length bytes
 Scans (Err RepoFault.Memory) bytes = ⊤
 Scans (Err RepoFault.Failed) bytes = ⊤
@@ -69,7 +71,12 @@ pub record HoldsKept (did : List ℕ) (least : Option ℕ) (kept : Kept) : Type 
 
 -- what is kept of these blocks shows
 abbrev pub JudgesAs : List ℕ → Option ℕ → BlockMap → Kept → Result Found RepoFault → Type 0
-JudgesAs did least blocks kept (Ok found) = (held : HoldsKept did least kept) × (found ≡ found_of held.link held.block held.commit found.records) × HasKeys blocks held.commit.data_root found.records
-JudgesAs did least blocks kept (Err (RepoFault.NotWhole c)) = (held : HoldsKept did least kept) × IsWalkFault blocks held.commit.data_root (WalkFault.NoBlock c)
-JudgesAs did least blocks kept (Err (RepoFault.BadNode c)) = (held : HoldsKept did least kept) × IsWalkFault blocks held.commit.data_root (WalkFault.BadNode c)
-JudgesAs did least blocks kept (Err fault) = IsShown (first_of (commit_lines did least kept.first)) fault
+JudgesAs did least blocks kept (Ok found) = (held : HoldsKept did least kept)
+    × (found ≡ found_of held.link held.block held.commit found.records)
+    × HasKeys blocks held.commit.data_root found.records
+JudgesAs did least blocks kept (Err (RepoFault.NotWhole c)) = (held : HoldsKept did least kept)
+    × IsWalkFault blocks held.commit.data_root (WalkFault.NoBlock c)
+JudgesAs did least blocks kept (Err (RepoFault.BadNode c)) = (held : HoldsKept did least kept)
+    × IsWalkFault blocks held.commit.data_root (WalkFault.BadNode c)
+JudgesAs did least blocks kept (Err fault) =
+    IsShown (first_of (commit_lines did least kept.first)) fault

@@ -34,7 +34,8 @@ IsSyncAnswer e last (Err refusal) = first_of (sync_lines e last) ≡ Some refusa
 
 -- the result is what the event comes to, whatever that is, unless memory ran out
 abbrev pub SyncsExactly : SyncEvent → Option ℕ → Result Found OpenFault → Type 0
-SyncsExactly e last result = (answer : Result Found Refusal) → IsSyncAnswer e last answer → Gives (λ (found : Found). found) refusal_of result answer
+SyncsExactly e last result = (answer : Result Found Refusal) → IsSyncAnswer e last answer
+    → Gives (λ (found : Found). found) refusal_of result answer
 
 -- no judge's refusal is told
 abbrev pub IsUnjudged : OpenFault → Type 0

@@ -68,8 +68,10 @@ fn find_commit(
 
 /// How many records the tree at a root has.
 fn count_records(alloc: Global, kept: &Kept, root: &Cid) -> Result<u64, RepoFault>
-    ensures whole { (blocks : BlockMap) → IsKeptOf is_node_block blocks kept.now → IsNodeLink root.now → IfOk result (HasKeys blocks root.now) }
-    ensures torn { (blocks : BlockMap) → IsKeptOf is_node_block blocks kept.now → IfErr result (IsTornAt blocks root.now) }
+    ensures whole { (blocks : BlockMap) → IsKeptOf is_node_block blocks kept.now
+        → IsNodeLink root.now → IfOk result (HasKeys blocks root.now) }
+    ensures torn { (blocks : BlockMap) → IsKeptOf is_node_block blocks kept.now
+        → IfErr result (IsTornAt blocks root.now) }
     ensures most { IfOk result (λ records. records < NUMBERS) }
     ensures unfailed { result ≢ Err RepoFault.Failed }
 {
@@ -86,7 +88,8 @@ pub(crate) fn judge(
     did: &str,
     least: Option<Tid>,
 ) -> Result<Found, RepoFault>
-    ensures judges { (blocks : BlockMap) → IsKeptOf is_node_block blocks kept.now → JudgesAs did.now least blocks kept.now result }
+    ensures judges { (blocks : BlockMap) → IsKeptOf is_node_block blocks kept.now
+        → JudgesAs did.now least blocks kept.now result }
     ensures records { IfOk result (λ found. found.records < NUMBERS) }
     ensures unfailed { result ≢ Err RepoFault.Failed }
 {

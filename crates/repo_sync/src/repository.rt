@@ -27,17 +27,21 @@ pub fn check_repo<R: Repos>(
     did: &str,
     least: Option<Tid>,
 ) -> Result<Found, RepoFault>
-    ensures whole { IfOk result (λ found. IsTrue R.tells → IsWhole did.now least (R.left repos.old) found) }
-    ensures refused { IfErr result (λ fault. IsTrue R.tells → IsRefused did.now least (R.left repos.old) fault) }
+    ensures whole { IfOk result (λ found. IsTrue R.tells
+        → IsWhole did.now least (R.left repos.old) found) }
+    ensures refused { IfErr result (λ fault. IsTrue R.tells
+        → IsRefused did.now least (R.left repos.old) fault) }
     ensures exact { IsTrue R.tells → ChecksExactly did.now least (R.left repos.old) result }
     // What is answered is true of some bytes also where nothing is told of them.
     ensures some { IsOfSome did.now least result }
-    ensures same { IsTrue R.tells → (did : List ℕ) → R.repository repos.new did ≡ R.repository repos.old did }
+    ensures same { IsTrue R.tells → (did : List ℕ)
+        → R.repository repos.new did ≡ R.repository repos.old did }
     ensures records { IfOk result (λ found. found.records < NUMBERS) }
     ensures counts { R.faults repos.old ≤ R.faults repos.new }
     // Where a read failed, that is the answer.
     ensures steady { result ≢ Err RepoFault.Failed → R.faults repos.new ≡ R.faults repos.old }
-    ensures failed { IsErrOf result RepoFault.Failed → Rose (R.faults repos.old) (R.faults repos.new) }
+    ensures failed { IsErrOf result RepoFault.Failed
+        → Rose (R.faults repos.old) (R.faults repos.new) }
 {
     let kept = scan_repo(alloc, repos)?;
     judge(alloc, &kept, did, least)

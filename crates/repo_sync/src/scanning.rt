@@ -20,14 +20,19 @@ const PIECE: usize = 4096;
 
 // Hands on what one call gives.
 fn take_piece<R: Repos>(repos: &mut R, scan: &mut Scan<NodeSieve>) -> Result<usize, RepoFault>
-    ensures moved { IfOk result (λ n. (piece : List ℕ) × (length piece ≡ n) × IsBytes piece × (IsTrue R.tells → R.left repos.old ≡ piece ++ R.left repos.new) × ((bytes : List ℕ) → StandsFor is_node_block scan.old.progress bytes → StandsFor is_node_block scan.new.progress (bytes ++ piece))) }
+    ensures moved { IfOk result (λ n. (piece : List ℕ) × (length piece ≡ n) × IsBytes piece
+        × (IsTrue R.tells → R.left repos.old ≡ piece ++ R.left repos.new)
+        × ((bytes : List ℕ) → StandsFor is_node_block scan.old.progress bytes
+        → StandsFor is_node_block scan.new.progress (bytes ++ piece))) }
     ensures within { IfOk result (λ n. n ≤ PIECE) }
     ensures end { IfOk result (λ n. IsTrue R.tells → n ≡ 0 → R.left repos.old ≡ []) }
     ensures counts { R.faults repos.old ≤ R.faults repos.new }
     ensures steady { result ≢ Err RepoFault.Failed → R.faults repos.new ≡ R.faults repos.old }
-    ensures failed { IsErrOf result RepoFault.Failed → Rose (R.faults repos.old) (R.faults repos.new) }
+    ensures failed { IsErrOf result RepoFault.Failed
+        → Rose (R.faults repos.old) (R.faults repos.new) }
     ensures quiet { IfErr result IsQuiet }
-    ensures same { IsTrue R.tells → (did : List ℕ) → R.repository repos.new did ≡ R.repository repos.old did }
+    ensures same { IsTrue R.tells → (did : List ℕ)
+        → R.repository repos.new did ≡ R.repository repos.old did }
 {
     let mut room = [0; PIECE];
     let count = repos.read(&mut room)?;
@@ -39,7 +44,8 @@ fn take_piece<R: Repos>(repos: &mut R, scan: &mut Scan<NodeSieve>) -> Result<usi
 
 // What is kept of the CAR whose bytes were pushed.
 fn finish(scan: Scan<NodeSieve>) -> Result<Kept, RepoFault>
-    ensures { (bytes : List ℕ) → StandsFor is_node_block scan.progress bytes → ScansAs result bytes }
+    ensures { (bytes : List ℕ) → StandsFor is_node_block scan.progress bytes
+        → ScansAs result bytes }
 {
     match scan.finish() {
         Ok(kept) => Ok(kept),
@@ -52,10 +58,12 @@ fn finish(scan: Scan<NodeSieve>) -> Result<Kept, RepoFault>
 pub fn scan_repo<R: Repos>(alloc: Global, repos: &mut R) -> Result<Kept, RepoFault>
     ensures scanned { IsTrue R.tells → Scans result (R.left repos.old) }
     ensures some { (bytes : List ℕ) × IsBytes bytes × Scans result bytes }
-    ensures same { IsTrue R.tells → (did : List ℕ) → R.repository repos.new did ≡ R.repository repos.old did }
+    ensures same { IsTrue R.tells → (did : List ℕ)
+        → R.repository repos.new did ≡ R.repository repos.old did }
     ensures counts { R.faults repos.old ≤ R.faults repos.new }
     ensures steady { result ≢ Err RepoFault.Failed → R.faults repos.new ≡ R.faults repos.old }
-    ensures failed { IsErrOf result RepoFault.Failed → Rose (R.faults repos.old) (R.faults repos.new) }
+    ensures failed { IsErrOf result RepoFault.Failed
+        → Rose (R.faults repos.old) (R.faults repos.new) }
 {
     let mut scan = Scan::new(alloc, NodeSieve::new(alloc));
     let mut given: u64 = 0;

@@ -17,9 +17,13 @@ use std::alloc::Global;
 
 /// What the CAR of an event shows of its commit.
 fn find_in(alloc: Global, event: &SyncEvent, car: &Car) -> Result<Found, OpenFault>
-    ensures shown { OnOk result (first_of (object_lines (Ok (car.entry.now.roots, car.entry.now.blocks)) None event.now.did event.now.rev) ≡ None) }
+    ensures shown { OnOk result
+        (first_of (object_lines (Ok (car.entry.now.roots, car.entry.now.blocks)) None event.now.did
+        event.now.rev) ≡ None) }
     ensures found { IfOk result (IsFoundIn (Ok (car.entry.now.roots, car.entry.now.blocks))) }
-    ensures refused { IfErr result (IsShown (first_of (object_lines (Ok (car.entry.now.roots, car.entry.now.blocks)) None event.now.did event.now.rev))) }
+    ensures refused { IfErr result
+        (IsShown (first_of (object_lines
+        (Ok (car.entry.now.roots, car.entry.now.blocks)) None event.now.did event.now.rev))) }
 {
     let held = find_commit(alloc, car, None, &event.did, event.rev)?;
     let Ok(block) = Octets::from_slice(alloc, held.block) else {

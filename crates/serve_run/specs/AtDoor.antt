@@ -23,22 +23,29 @@ at_door guests turns faults = record { guests = guests; turns = turns; faults = 
 
 -- The guest who waited was sent something, by what the target asks for, and the session ended: all of it, or a front of
 -- it where the session failed or was broken off.
-abbrev pub SessionServed : Bool → Held → Result (Option ℕ) TargetFault → List Turn → List Turn → Result Session ServeEnd → Type 0
+abbrev pub SessionServed : Bool → Held → Result (Option ℕ) TargetFault → List Turn → List Turn
+    → Result Session ServeEnd → Type 0
 SessionServed tells held asked old new (Ok session) =
-    (sent : List (List ℕ)) × (IsSentWhole held asked sent session ⊎ IsFailed held asked sent session)
+    (sent : List (List ℕ)) × (IsSentWhole held asked sent session
+    ⊎ IsFailed held asked sent session)
     × (IsTrue tells → new ≡ old ++ (sendings sent ++ ending_of session))
-SessionServed tells held asked old new (Err end) = (sent : List (List ℕ)) × IsSentInPart held asked sent × (IsTrue tells → new ≡ old ++ sendings sent)
+SessionServed tells held asked old new (Err end) = (sent : List (List ℕ))
+    × IsSentInPart held asked sent × (IsTrue tells → new ≡ old ++ sendings sent)
 
 -- Who came had a session, or is nobody, or waited and the session was broken off.
-abbrev pub Received : Bool → Held → Guest → List Turn → List Turn → Result (Option Session) ServeEnd → Type 0
+abbrev pub Received : Bool → Held → Guest → List Turn → List Turn → Result (Option Session) ServeEnd
+    → Type 0
 Received tells held guest old new (Ok (Some session)) =
     (sent : List (List ℕ)) × IsVisit held guest sent session
     × (IsTrue tells → new ≡ old ++ (sendings sent ++ ending_of session))
 Received tells held guest old new (Ok None) = (guest ≡ Guest.End) × (IsTrue tells → new ≡ old)
-Received tells held guest old new (Err end) = (target : List ℕ) × (guest ≡ Guest.Target target) × ((sent : List (List ℕ)) × IsSentInPart held (cursor_in target) sent × (IsTrue tells → new ≡ old ++ sendings sent))
+Received tells held guest old new (Err end) = (target : List ℕ) × (guest ≡ Guest.Target target)
+    × ((sent : List (List ℕ)) × IsSentInPart held (cursor_in target) sent
+    × (IsTrue tells → new ≡ old ++ sendings sent))
 
 -- These visits were made, one after another.
-pub record Visited (tells : Bool) (held : Held) (visits : List Visit) (old new : AtDoor) : Type 0 where
+pub record Visited (tells : Bool) (held : Held) (visits : List Visit)
+    (old new : AtDoor) : Type 0 where
   pub each : AllVisits held visits
   pub guests : IsTrue tells → old.guests ≡ guests_of visits ++ new.guests
   pub turns : IsTrue tells → new.turns ≡ old.turns ++ turns_of visits
@@ -62,7 +69,8 @@ pub record SessionIsBroken (tells : Bool) (held : Held) (old new : AtDoor) : Typ
   pub sent : List (List ℕ)
   pub cut : IsSentInPart held (cursor_in target) sent
   pub guests : IsTrue tells → old.guests ≡ Guest.Target target ∷ new.guests
-  pub turns : IsTrue tells → new.turns ≡ old.turns ++ Turn.Came (Guest.Target target) ∷ sendings sent
+  pub turns : IsTrue tells → new.turns ≡ old.turns ++ Turn.Came (Guest.Target target)
+      ∷ sendings sent
   pub counted : new.faults ≡ old.faults
 
 -- what a fault leaves behind the last session: nobody came where the door failed, and else nobody came or a session was broken off
@@ -71,7 +79,10 @@ IsStopped tells held ServeEnd.Door old new = IsStill tells old new
 IsStopped tells held end old new = IsStill tells old new ⊎ SessionIsBroken tells held old new
 
 -- One more guest was met, of so many: who came had a session, or nobody is to come any more, or it was stopped.
-abbrev pub GuestAccepted : Bool → Held → ℕ → AtDoor → AtDoor → Result (Option Session) ServeEnd → Type 0
-GuestAccepted tells held most old new (Ok (Some session)) = (v : Visit) × (v.session ≡ session) × Visited tells held (v ∷ []) old new
-GuestAccepted tells held most old new (Ok None) = ((most ≡ 0) × IsStill tells old new) ⊎ NobodyComes tells old new
+abbrev pub GuestAccepted : Bool → Held → ℕ → AtDoor → AtDoor → Result (Option Session) ServeEnd
+    → Type 0
+GuestAccepted tells held most old new (Ok (Some session)) = (v : Visit) × (v.session ≡ session)
+    × Visited tells held (v ∷ []) old new
+GuestAccepted tells held most old new (Ok None) = ((most ≡ 0) × IsStill tells old new)
+    ⊎ NobodyComes tells old new
 GuestAccepted tells held most old new (Err end) = IsStopped tells held end old new

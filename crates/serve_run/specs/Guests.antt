@@ -25,23 +25,30 @@ AreLinesWritten end lines last old new = new ≡ old ++ lines
 
 -- what happened behind the last session: all guests were served, or the door said that nobody comes any more, or nobody came, or a session was broken off
 abbrev pub IsBehind : Bool → Held → Type 0 → ServeEnd → AtDoor → AtDoor → Type 0
-IsBehind tells held all ServeEnd.Done old new = (all × IsStill tells old new) ⊎ NobodyComes tells old new
-IsBehind tells held all ServeEnd.WriteFault old new = IsStill tells old new ⊎ NobodyComes tells old new
+IsBehind tells held all ServeEnd.Done old new = (all × IsStill tells old new)
+    ⊎ NobodyComes tells old new
+IsBehind tells held all ServeEnd.WriteFault old new = IsStill tells old new
+    ⊎ NobodyComes tells old new
 IsBehind tells held all ServeEnd.Door old new = IsStill tells old new
-IsBehind tells held all ServeEnd.Memory old new = IsStill tells old new ⊎ (NobodyComes tells old new ⊎ SessionIsBroken tells held old new)
+IsBehind tells held all ServeEnd.Memory old new = IsStill tells old new
+    ⊎ (NobodyComes tells old new ⊎ SessionIsBroken tells held old new)
 IsBehind tells held all end old new = IsStill tells old new ⊎ SessionIsBroken tells held old new
 
 -- Guests were served in the order of the door, at most so many, and the lines of their sessions written.
-pub record GuestsServed (door_tells output_tells : Bool) (count : ℕ) (held : Held) (door door_now : AtDoor) (old new : List ℕ) (end : ServeEnd) : Type 0 where
+pub record GuestsServed (door_tells output_tells : Bool) (count : ℕ) (held : Held)
+    (door door_now : AtDoor) (old new : List ℕ) (end : ServeEnd) : Type 0 where
   pub visits : List Visit
   -- the door when the last session ended
   pub mid : AtDoor
   pub visited : Visited door_tells held visits door mid
   pub few : length visits ≤ count
   pub behind : IsBehind door_tells held (length visits ≡ count) end mid door_now
-  pub written : IsTrue output_tells → AreLinesWritten end (lines_behind 0 visits) (sessions_end_line (length visits)) old new
+  pub written : IsTrue output_tells → AreLinesWritten end (lines_behind 0 visits)
+      (sessions_end_line (length visits)) old new
 
 -- Guests were served the events of the journal J of two disks.
-pub record ServedAt (door_tells output_tells : Bool) (count : ℕ) (J : List Row) (door door_now : AtDoor) (old new : PairView) (end : ServeEnd) : Type 0 where
-  pub served : GuestsServed door_tells output_tells count (held_by J) door door_now old.written new.written end
+pub record ServedAt (door_tells output_tells : Bool) (count : ℕ) (J : List Row)
+    (door door_now : AtDoor) (old new : PairView) (end : ServeEnd) : Type 0 where
+  pub served : GuestsServed door_tells output_tells count
+      (held_by J) door door_now old.written new.written end
   pub read : OnlyRead J (ServeOpened end) old.one old.two new.one new.two

@@ -31,9 +31,11 @@ IsUnbroken (ServeEnd.BadLog place) failed messages old new = AddsMessages messag
 IsUnbroken end failed messages old new = ⊤
 
 -- The messages that a guest with this cursor is sent were written, each behind its length. The output may have failed.
-pub record Replayed (output_tells : Bool) (failed : Type 0) (J : List Row) (cursor : ℕ) (old new : PairView)
+pub record Replayed (output_tells : Bool) (failed : Type 0) (J : List Row) (cursor : ℕ)
+    (old new : PairView)
     (end : ServeEnd) : Type 0 where
-  pub written : IsTrue output_tells → IsReplayed end (with_length (served (held_by J) (Some cursor))) old.written new.written
+  pub written : IsTrue output_tells → IsReplayed end
+      (with_length (served (held_by J) (Some cursor))) old.written new.written
   pub unbroken : IsTrue output_tells
       → IsUnbroken end failed (served (held_by J) (Some cursor)) old.written new.written
   pub read : OnlyRead J (ServeOpened end) old.one old.two new.one new.two

@@ -15,7 +15,8 @@ use Rattle.serve_run.specs.declared.session.Session.{Session}
 
 -- what is told of a session
 abbrev pub told : Session → List ℕ
-told (Session.Sent cursor events) = numbered (codes " cursor ") cursor ++ numbered (codes " sent ") events
+told (Session.Sent cursor events) = numbered (codes " cursor ") cursor
+    ++ numbered (codes " sent ") events
 told (Session.Future cursor) = numbered (codes " future ") cursor
 told Session.BadTarget = codes " bad target"
 told Session.NoHandshake = codes " no handshake"
@@ -34,12 +35,14 @@ sessions_end_line count = numbered (codes "end ") count ++ codes " sessions\n"
 -- what comes of a guest who was sent all that is to be sent
 abbrev pub session_of : Held → Option ℕ → Session
 session_of held None = Session.Sent held.last 0
-session_of held (Some cursor) = if nat_lt held.last cursor then Session.Future cursor else Session.Sent cursor (length (served_events held (Some cursor)))
+session_of held (Some cursor) = if nat_lt held.last cursor then Session.Future cursor
+    else Session.Sent cursor (length (served_events held (Some cursor)))
 
 -- what comes of a guest who was sent so many events, or is told that the cursor is above the last number
 abbrev pub came_of : ℕ → Option ℕ → ℕ → Bool → Session
 came_of last None events future = Session.Sent last events
-came_of last (Some cursor) events future = if future then Session.Future cursor else Session.Sent cursor events
+came_of last (Some cursor) events future =
+    if future then Session.Future cursor else Session.Sent cursor events
 
 -- a front of what is to be sent, by what the target asks for: nothing where it is refused
 abbrev pub IsSentInPart : Held → Result (Option ℕ) TargetFault → List (List ℕ) → Type 0
@@ -53,12 +56,14 @@ events_sent held (Err fault) sent = 0
 
 -- all that is to be sent was sent, by what the target asks for: nothing where it is refused
 abbrev pub IsSentWhole : Held → Result (Option ℕ) TargetFault → List (List ℕ) → Session → Type 0
-IsSentWhole held (Ok cursor) sent session = (sent ≡ served held cursor) × (session ≡ session_of held cursor)
+IsSentWhole held (Ok cursor) sent session = (sent ≡ served held cursor)
+    × (session ≡ session_of held cursor)
 IsSentWhole held (Err fault) sent session = (sent ≡ []) × (session ≡ Session.BadTarget)
 
 -- the session failed, behind a front of it
 abbrev pub IsFailed : Held → Result (Option ℕ) TargetFault → List (List ℕ) → Session → Type 0
-IsFailed held asked sent session = IsSentInPart held asked sent × (session ≡ Session.Failed (events_sent held asked sent))
+IsFailed held asked sent session = IsSentInPart held asked sent
+    × (session ≡ Session.Failed (events_sent held asked sent))
 
 -- A guest who came: what was sent, what came of the session, and the count of failed sendings and endings behind it.
 pub record Visit : Type 0 where
@@ -69,7 +74,8 @@ pub record Visit : Type 0 where
 
 -- what a guest was sent, and what came of it
 abbrev pub IsVisit : Held → Guest → List (List ℕ) → Session → Type 0
-IsVisit held (Guest.Target target) sent session = IsSentWhole held (cursor_in target) sent session ⊎ IsFailed held (cursor_in target) sent session
+IsVisit held (Guest.Target target) sent session = IsSentWhole held (cursor_in target) sent session
+    ⊎ IsFailed held (cursor_in target) sent session
 IsVisit held Guest.NoHandshake sent session = (sent ≡ []) × (session ≡ Session.NoHandshake)
 IsVisit held Guest.End sent session = ⊥
 
@@ -92,7 +98,8 @@ IsCounted session before now = now ≡ before
 -- it did in each of these sessions, from one to the next
 abbrev pub AreCounted : ℕ → List Visit → ℕ → Type 0
 AreCounted before [] now = now ≡ before
-AreCounted before (v ∷ visits) now = IsCounted v.session before v.faults × AreCounted v.faults visits now
+AreCounted before (v ∷ visits) now = IsCounted v.session before v.faults
+    × AreCounted v.faults visits now
 
 -- their guests, in order
 abbrev pub guests_of : List Visit → List Guest
@@ -102,7 +109,8 @@ guests_of (v ∷ visits) = v.guest ∷ guests_of visits
 -- what happened at the door: each came, was sent this, and the session ended
 abbrev pub turns_of : List Visit → List Turn
 turns_of [] = []
-turns_of (v ∷ visits) = Turn.Came v.guest ∷ (sendings v.sent ++ (ending_of v.session ++ turns_of visits))
+turns_of (v ∷ visits) = Turn.Came v.guest
+    ∷ (sendings v.sent ++ (ending_of v.session ++ turns_of visits))
 
 -- their lines, numbered from the one behind n
 abbrev pub lines_behind : ℕ → List Visit → List ℕ

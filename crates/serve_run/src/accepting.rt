@@ -56,15 +56,18 @@ fn serve_events<E: Events, G: Door>(
 ) -> Result<Session, ServeEnd>
     requires known { IsTrue E.tells → (held : Held) × E.holds events.old held }
     requires waits { IsTrue (G.waits door.old) }
-    ensures session_served { IsTrue E.tells → (held : Held) → E.holds events.old held → SessionServed G.tells held (Ok cursor) (G.turns door.old) (G.turns door.new) result }
+    ensures session_served { IsTrue E.tells → (held : Held) → E.holds events.old held
+        → SessionServed G.tells held (Ok cursor) (G.turns door.old) (G.turns door.new) result }
     ensures guests { IsTrue G.tells → G.guests door.new ≡ G.guests door.old }
     ensures later { E.later events.old events.new }
-    ensures counted { IsSessionCount (G.session_faults door.old) (G.session_faults door.new) result }
+    ensures counted { IsSessionCount (G.session_faults door.old)
+        (G.session_faults door.new) result }
     ensures closed { OnOk result (G.waits door.new ≡ false) }
     ensures few { IfErr result (λ end. IsOfSession end) }
     ensures disk { result ≡ Err ServeEnd.Disk → Rose (E.faults events.old) (E.faults events.new) }
     ensures event_steady { result ≢ Err ServeEnd.Disk → E.faults events.new ≡ E.faults events.old }
-    ensures no_bad_log { (place : ℕ) → result ≡ Err (ServeEnd.BadLog place) → IsTrue E.tells → (held : Held) → E.holds events.old held → ⊥ }
+    ensures no_bad_log { (place : ℕ) → result ≡ Err (ServeEnd.BadLog place) → IsTrue E.tells
+        → (held : Held) → E.holds events.old held → ⊥ }
     ensures counts { G.faults door.new ≡ G.faults door.old }
     ensures session_counts { G.session_faults door.old ≤ G.session_faults door.new }
 {
@@ -85,15 +88,20 @@ fn serve_store<D: Disk, G: Door>(
 ) -> Result<Session, ServeEnd>
     requires on { IsTrue D.tells → IsKept (seen_in store.now) (D.view disk.old) }
     requires waits { IsTrue (G.waits door.old) }
-    ensures session_served { IsTrue D.tells → (J : List TheRow) → Keeps J (seen_in store.now) (D.view disk.old)
-        → SessionServed G.tells (held_by J) (Ok cursor) (G.turns door.old) (G.turns door.new) result }
+    ensures session_served { IsTrue D.tells → (J : List TheRow)
+        → Keeps J (seen_in store.now) (D.view disk.old)
+        → SessionServed G.tells (held_by J) (Ok cursor) (G.turns door.old)
+        (G.turns door.new) result }
     ensures guests { IsTrue G.tells → G.guests door.new ≡ G.guests door.old }
     ensures goes { Goes Same (D.view disk.old) (D.view disk.new) }
-    ensures counted { IsSessionCount (G.session_faults door.old) (G.session_faults door.new) result }
+    ensures counted { IsSessionCount (G.session_faults door.old)
+        (G.session_faults door.new) result }
     ensures closed { OnOk result (G.waits door.new ≡ false) }
     ensures few { IfErr result (λ end. IsOfSession end) }
-    ensures disk { result ≡ Err ServeEnd.Disk → Rose (D.view disk.old).faults (D.view disk.new).faults }
-    ensures disk_steady { result ≢ Err ServeEnd.Disk → (D.view disk.new).faults ≡ (D.view disk.old).faults }
+    ensures disk { result ≡ Err ServeEnd.Disk
+        → Rose (D.view disk.old).faults (D.view disk.new).faults }
+    ensures disk_steady { result ≢ Err ServeEnd.Disk
+        → (D.view disk.new).faults ≡ (D.view disk.old).faults }
     ensures no_bad_log { (place : ℕ) → result ≡ Err (ServeEnd.BadLog place) → IsTrue D.tells → ⊥ }
     ensures counts { G.faults door.new ≡ G.faults door.old }
     ensures session_counts { G.session_faults door.old ≤ G.session_faults door.new }
@@ -111,18 +119,26 @@ fn serve_side<D: Disk, G: Door>(
     cursor: Option<u64>,
     door: &mut G,
 ) -> Result<Session, ServeEnd>
-    requires on { IsTrue D.tells → IsKept (seen_in store.now) (view_of_side (seen_in store.now).side (D.view disk.old) (D.view other.old)) }
+    requires on { IsTrue D.tells → IsKept (seen_in store.now)
+        (view_of_side (seen_in store.now).side (D.view disk.old) (D.view other.old)) }
     requires waits { IsTrue (G.waits door.old) }
-    ensures session_served { IsTrue D.tells → (J : List TheRow) → Keeps J (seen_in store.now) (view_of_side (seen_in store.now).side (D.view disk.old) (D.view other.old))
-        → SessionServed G.tells (held_by J) (Ok cursor) (G.turns door.old) (G.turns door.new) result }
+    ensures session_served { IsTrue D.tells → (J : List TheRow)
+        → Keeps J (seen_in store.now) (view_of_side (seen_in store.now).side (D.view disk.old)
+        (D.view other.old))
+        → SessionServed G.tells (held_by J) (Ok cursor) (G.turns door.old)
+        (G.turns door.new) result }
     ensures guests { IsTrue G.tells → G.guests door.new ≡ G.guests door.old }
     ensures one { Goes Same (D.view disk.old) (D.view disk.new) }
     ensures two { Goes Same (D.view other.old) (D.view other.new) }
-    ensures counted { IsSessionCount (G.session_faults door.old) (G.session_faults door.new) result }
+    ensures counted { IsSessionCount (G.session_faults door.old)
+        (G.session_faults door.new) result }
     ensures closed { OnOk result (G.waits door.new ≡ false) }
     ensures few { IfErr result (λ end. IsOfSession end) }
-    ensures disk { result ≡ Err ServeEnd.Disk → Rose (D.view disk.old).faults (D.view disk.new).faults ⊎ Rose (D.view other.old).faults (D.view other.new).faults }
-    ensures disks_steady { result ≢ Err ServeEnd.Disk → ((D.view disk.new).faults ≡ (D.view disk.old).faults)
+    ensures disk { result ≡ Err ServeEnd.Disk
+        → Rose (D.view disk.old).faults (D.view disk.new).faults
+        ⊎ Rose (D.view other.old).faults (D.view other.new).faults }
+    ensures disks_steady { result ≢ Err ServeEnd.Disk
+        → ((D.view disk.new).faults ≡ (D.view disk.old).faults)
         × ((D.view other.new).faults ≡ (D.view other.old).faults) }
     ensures no_bad_log { (place : ℕ) → result ≡ Err (ServeEnd.BadLog place) → IsTrue D.tells → ⊥ }
     ensures counts { G.faults door.new ≡ G.faults door.old }
@@ -160,18 +176,26 @@ fn serve_session<D: Disk, G: Door>(
     target: &str,
     door: &mut G,
 ) -> Result<Session, ServeEnd>
-    requires on { IsTrue D.tells → IsKept (seen_in store.now) (view_of_side (seen_in store.now).side (D.view disk.old) (D.view other.old)) }
+    requires on { IsTrue D.tells → IsKept (seen_in store.now)
+        (view_of_side (seen_in store.now).side (D.view disk.old) (D.view other.old)) }
     requires waits { IsTrue (G.waits door.old) }
-    ensures session_served { IsTrue D.tells → (J : List TheRow) → Keeps J (seen_in store.now) (view_of_side (seen_in store.now).side (D.view disk.old) (D.view other.old))
-        → SessionServed G.tells (held_by J) (cursor_in target.now) (G.turns door.old) (G.turns door.new) result }
+    ensures session_served { IsTrue D.tells → (J : List TheRow)
+        → Keeps J (seen_in store.now) (view_of_side (seen_in store.now).side (D.view disk.old)
+        (D.view other.old))
+        → SessionServed G.tells (held_by J) (cursor_in target.now) (G.turns door.old)
+        (G.turns door.new) result }
     ensures guests { IsTrue G.tells → G.guests door.new ≡ G.guests door.old }
     ensures one { Goes Same (D.view disk.old) (D.view disk.new) }
     ensures two { Goes Same (D.view other.old) (D.view other.new) }
-    ensures counted { IsSessionCount (G.session_faults door.old) (G.session_faults door.new) result }
+    ensures counted { IsSessionCount (G.session_faults door.old)
+        (G.session_faults door.new) result }
     ensures closed { OnOk result (G.waits door.new ≡ false) }
     ensures few { IfErr result (λ end. IsOfSession end) }
-    ensures disk { result ≡ Err ServeEnd.Disk → Rose (D.view disk.old).faults (D.view disk.new).faults ⊎ Rose (D.view other.old).faults (D.view other.new).faults }
-    ensures disks_steady { result ≢ Err ServeEnd.Disk → ((D.view disk.new).faults ≡ (D.view disk.old).faults)
+    ensures disk { result ≡ Err ServeEnd.Disk
+        → Rose (D.view disk.old).faults (D.view disk.new).faults
+        ⊎ Rose (D.view other.old).faults (D.view other.new).faults }
+    ensures disks_steady { result ≢ Err ServeEnd.Disk
+        → ((D.view disk.new).faults ≡ (D.view disk.old).faults)
         × ((D.view other.new).faults ≡ (D.view other.old).faults) }
     ensures no_bad_log { (place : ℕ) → result ≡ Err (ServeEnd.BadLog place) → IsTrue D.tells → ⊥ }
     ensures counts { G.faults door.new ≡ G.faults door.old }
@@ -193,9 +217,12 @@ fn receive<D: Disk, G: Door>(
     other: &mut D,
     door: &mut G,
 ) -> Result<Option<Session>, ServeEnd>
-    requires on { IsTrue D.tells → IsKept (seen_in store.now) (view_of_side (seen_in store.now).side (D.view disk.old) (D.view other.old)) }
+    requires on { IsTrue D.tells → IsKept (seen_in store.now)
+        (view_of_side (seen_in store.now).side (D.view disk.old) (D.view other.old)) }
     requires waits { G.waits door.old ≡ does_wait guest.now }
-    ensures received { IsTrue D.tells → (J : List TheRow) → Keeps J (seen_in store.now) (view_of_side (seen_in store.now).side (D.view disk.old) (D.view other.old))
+    ensures received { IsTrue D.tells → (J : List TheRow)
+        → Keeps J (seen_in store.now) (view_of_side (seen_in store.now).side (D.view disk.old)
+        (D.view other.old))
         → Received G.tells (held_by J) guest.now (G.turns door.old) (G.turns door.new) result }
     ensures guests { IsTrue G.tells → G.guests door.new ≡ G.guests door.old }
     ensures one { Goes Same (D.view disk.old) (D.view disk.new) }
@@ -203,8 +230,11 @@ fn receive<D: Disk, G: Door>(
     ensures counted { IsGuestCount (G.session_faults door.old) (G.session_faults door.new) result }
     ensures closed { OnOk result (G.waits door.new ≡ false) }
     ensures few { IfErr result (λ end. IsOfSession end) }
-    ensures disk { result ≡ Err ServeEnd.Disk → Rose (D.view disk.old).faults (D.view disk.new).faults ⊎ Rose (D.view other.old).faults (D.view other.new).faults }
-    ensures disks_steady { result ≢ Err ServeEnd.Disk → ((D.view disk.new).faults ≡ (D.view disk.old).faults)
+    ensures disk { result ≡ Err ServeEnd.Disk
+        → Rose (D.view disk.old).faults (D.view disk.new).faults
+        ⊎ Rose (D.view other.old).faults (D.view other.new).faults }
+    ensures disks_steady { result ≢ Err ServeEnd.Disk
+        → ((D.view disk.new).faults ≡ (D.view disk.old).faults)
         × ((D.view other.new).faults ≡ (D.view other.old).faults) }
     ensures no_bad_log { (place : ℕ) → result ≡ Err (ServeEnd.BadLog place) → IsTrue D.tells → ⊥ }
     ensures counts { G.faults door.new ≡ G.faults door.old }
@@ -231,21 +261,30 @@ pub(crate) fn accept<D: Disk, G: Door>(
     other: &mut D,
     door: &mut G,
 ) -> Result<Option<Session>, ServeEnd>
-    requires on { IsTrue D.tells → IsKept (seen_in store.now) (view_of_side (seen_in store.now).side (D.view disk.old) (D.view other.old)) }
-    ensures accepted { IsTrue D.tells → (J : List TheRow) → Keeps J (seen_in store.now) (view_of_side (seen_in store.now).side (D.view disk.old) (D.view other.old))
-        → GuestAccepted G.tells (held_by J) most (at_door (G.guests door.old) (G.turns door.old) (G.session_faults door.old)) (at_door (G.guests door.new) (G.turns door.new) (G.session_faults door.new)) result }
+    requires on { IsTrue D.tells → IsKept (seen_in store.now)
+        (view_of_side (seen_in store.now).side (D.view disk.old) (D.view other.old)) }
+    ensures accepted { IsTrue D.tells → (J : List TheRow)
+        → Keeps J (seen_in store.now) (view_of_side (seen_in store.now).side (D.view disk.old)
+        (D.view other.old))
+        → GuestAccepted G.tells (held_by J) most
+        (at_door (G.guests door.old) (G.turns door.old) (G.session_faults door.old))
+        (at_door (G.guests door.new) (G.turns door.new) (G.session_faults door.new)) result }
     ensures some { IfOk result (λ found. IfSome found (λ _. 0 < most)) }
     ensures one { Goes Same (D.view disk.old) (D.view disk.new) }
     ensures two { Goes Same (D.view other.old) (D.view other.new) }
     ensures closed { IfOk result (λ found. IfSome found (λ _. G.waits door.new ≡ false)) }
     ensures few { IfErr result (λ end. IsOfAccepting end) }
-    ensures disk { result ≡ Err ServeEnd.Disk → Rose (D.view disk.old).faults (D.view disk.new).faults ⊎ Rose (D.view other.old).faults (D.view other.new).faults }
-    ensures disks_steady { result ≢ Err ServeEnd.Disk → ((D.view disk.new).faults ≡ (D.view disk.old).faults)
+    ensures disk { result ≡ Err ServeEnd.Disk
+        → Rose (D.view disk.old).faults (D.view disk.new).faults
+        ⊎ Rose (D.view other.old).faults (D.view other.new).faults }
+    ensures disks_steady { result ≢ Err ServeEnd.Disk
+        → ((D.view disk.new).faults ≡ (D.view disk.old).faults)
         × ((D.view other.new).faults ≡ (D.view other.old).faults) }
     ensures door { result ≡ Err ServeEnd.Door → Rose (G.faults door.old) (G.faults door.new) }
     ensures no_bad_log { (place : ℕ) → result ≡ Err (ServeEnd.BadLog place) → IsTrue D.tells → ⊥ }
     ensures steady { OnOk result (G.faults door.new ≡ G.faults door.old) }
-    ensures door_count { IfErr result (λ end. IsDoorCount (G.faults door.old) (G.faults door.new) end) }
+    ensures door_count { IfErr result (λ end.
+        IsDoorCount (G.faults door.old) (G.faults door.new) end) }
     ensures counts { G.faults door.old ≤ G.faults door.new }
     ensures session_counts { G.session_faults door.old ≤ G.session_faults door.new }
 {

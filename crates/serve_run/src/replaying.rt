@@ -34,7 +34,8 @@ fn replay_events<E: Events, O: Sink>(
 ) -> ServeEnd
     requires { IsTrue E.tells → (held : Held) × E.holds events.old held }
     ensures written { IsTrue E.tells → (held : Held) → E.holds events.old held
-        → IsTrue O.tells → IsReplayed result (with_length (served held (Some cursor))) (O.written out.old) (O.written out.new) }
+        → IsTrue O.tells → IsReplayed result (with_length (served held (Some cursor)))
+        (O.written out.old) (O.written out.new) }
     ensures unbroken { IsTrue E.tells → (held : Held) → E.holds events.old held → IsTrue O.tells
         → IsUnbroken result (Rose (O.faults out.old) (O.faults out.new)) (served held (Some cursor))
         (O.written out.old) (O.written out.new) }
@@ -42,7 +43,8 @@ fn replay_events<E: Events, O: Sink>(
     ensures disk { result ≡ ServeEnd.Disk → Rose (E.faults events.old) (E.faults events.new) }
     ensures failed { result ≡ ServeEnd.WriteFault → Rose (O.faults out.old) (O.faults out.new) }
     ensures no_door { result ≡ ServeEnd.Door → ⊥ }
-    ensures no_bad_log { (place : ℕ) → result ≡ ServeEnd.BadLog place → IsTrue E.tells → (held : Held) → E.holds events.old held → ⊥ }
+    ensures no_bad_log { (place : ℕ) → result ≡ ServeEnd.BadLog place → IsTrue E.tells
+        → (held : Held) → E.holds events.old held → ⊥ }
     ensures counts { O.faults out.old ≤ O.faults out.new }
     ensures event_steady { result ≢ ServeEnd.Disk → E.faults events.new ≡ E.faults events.old }
     ensures out_steady { result ≡ ServeEnd.Done → O.faults out.new ≡ O.faults out.old }
@@ -62,11 +64,15 @@ fn replay_from<D: Disk, O: Sink>(
     out: &mut O,
 ) -> ServeEnd
     requires { IsTrue D.tells → IsKept (seen_in store.now) (D.view disk.old) }
-    ensures written { IsTrue D.tells → (J : List TheRow) → Keeps J (seen_in store.now) (D.view disk.old)
-        → IsTrue O.tells → IsReplayed result (with_length (served (held_by J) (Some cursor))) (O.written out.old) (O.written out.new) }
-    ensures unbroken { IsTrue D.tells → (J : List TheRow) → Keeps J (seen_in store.now) (D.view disk.old)
+    ensures written { IsTrue D.tells → (J : List TheRow)
+        → Keeps J (seen_in store.now) (D.view disk.old)
+        → IsTrue O.tells → IsReplayed result (with_length (served (held_by J) (Some cursor)))
+        (O.written out.old) (O.written out.new) }
+    ensures unbroken { IsTrue D.tells → (J : List TheRow)
+        → Keeps J (seen_in store.now) (D.view disk.old)
         → IsTrue O.tells
-        → IsUnbroken result (Rose (O.faults out.old) (O.faults out.new)) (served (held_by J) (Some cursor))
+        → IsUnbroken result (Rose (O.faults out.old) (O.faults out.new))
+        (served (held_by J) (Some cursor))
         (O.written out.old) (O.written out.new) }
     ensures goes { Goes Same (D.view disk.old) (D.view disk.new) }
     ensures disk { result ≡ ServeEnd.Disk → Rose (D.view disk.old).faults (D.view disk.new).faults }
@@ -74,7 +80,8 @@ fn replay_from<D: Disk, O: Sink>(
     ensures no_door { result ≡ ServeEnd.Door → ⊥ }
     ensures no_bad_log { (place : ℕ) → result ≡ ServeEnd.BadLog place → IsTrue D.tells → ⊥ }
     ensures counts { O.faults out.old ≤ O.faults out.new }
-    ensures disk_steady { result ≢ ServeEnd.Disk → (D.view disk.new).faults ≡ (D.view disk.old).faults }
+    ensures disk_steady { result ≢ ServeEnd.Disk
+        → (D.view disk.new).faults ≡ (D.view disk.old).faults }
     ensures out_steady { result ≡ ServeEnd.Done → O.faults out.new ≡ O.faults out.old }
 {
     let mut events = store.events(alloc, disk);
@@ -90,23 +97,30 @@ fn replay_on<D: Disk, O: Sink>(
     cursor: u64,
     out: &mut O,
 ) -> ServeEnd
-    requires { IsTrue D.tells → IsKept (seen_in store.now) (view_of_side (seen_in store.now).side (D.view disk.old) (D.view other.old)) }
-    ensures written { IsTrue D.tells → (J : List TheRow) → Keeps J (seen_in store.now) (view_of_side (seen_in store.now).side (D.view disk.old) (D.view other.old))
-        → IsTrue O.tells → IsReplayed result (with_length (served (held_by J) (Some cursor))) (O.written out.old) (O.written out.new) }
+    requires { IsTrue D.tells → IsKept (seen_in store.now)
+        (view_of_side (seen_in store.now).side (D.view disk.old) (D.view other.old)) }
+    ensures written { IsTrue D.tells → (J : List TheRow)
+        → Keeps J (seen_in store.now) (view_of_side (seen_in store.now).side (D.view disk.old)
+        (D.view other.old))
+        → IsTrue O.tells → IsReplayed result (with_length (served (held_by J) (Some cursor)))
+        (O.written out.old) (O.written out.new) }
     ensures unbroken { IsTrue D.tells → (J : List TheRow)
         → Keeps J (seen_in store.now)
         (view_of_side (seen_in store.now).side (D.view disk.old) (D.view other.old))
         → IsTrue O.tells
-        → IsUnbroken result (Rose (O.faults out.old) (O.faults out.new)) (served (held_by J) (Some cursor))
+        → IsUnbroken result (Rose (O.faults out.old) (O.faults out.new))
+        (served (held_by J) (Some cursor))
         (O.written out.old) (O.written out.new) }
     ensures one { Goes Same (D.view disk.old) (D.view disk.new) }
     ensures two { Goes Same (D.view other.old) (D.view other.new) }
-    ensures disk { result ≡ ServeEnd.Disk → Rose (D.view disk.old).faults (D.view disk.new).faults ⊎ Rose (D.view other.old).faults (D.view other.new).faults }
+    ensures disk { result ≡ ServeEnd.Disk → Rose (D.view disk.old).faults (D.view disk.new).faults
+        ⊎ Rose (D.view other.old).faults (D.view other.new).faults }
     ensures failed { result ≡ ServeEnd.WriteFault → Rose (O.faults out.old) (O.faults out.new) }
     ensures no_door { result ≡ ServeEnd.Door → ⊥ }
     ensures no_bad_log { (place : ℕ) → result ≡ ServeEnd.BadLog place → IsTrue D.tells → ⊥ }
     ensures counts { O.faults out.old ≤ O.faults out.new }
-    ensures disks_steady { result ≢ ServeEnd.Disk → ((D.view disk.new).faults ≡ (D.view disk.old).faults)
+    ensures disks_steady { result ≢ ServeEnd.Disk
+        → ((D.view disk.new).faults ≡ (D.view disk.old).faults)
         × ((D.view other.new).faults ≡ (D.view other.old).faults) }
     ensures out_steady { result ≡ ServeEnd.Done → O.faults out.new ≡ O.faults out.old }
 {
@@ -127,25 +141,31 @@ pub fn replay<D: Disk, O: Sink>(
     out: &mut O,
 ) -> ServeEnd
     requires { most ≤ LAST_END }
-    ensures replayed { IsTrue D.tells → (J : List TheRow) → IsPairImageOf J (D.view disk.old).content (D.view other.old).content
+    ensures replayed { IsTrue D.tells → (J : List TheRow)
+        → IsPairImageOf J (D.view disk.old).content (D.view other.old).content
         → Replayed O.tells (Rose (O.faults out.old) (O.faults out.new)) J cursor
         (pair_view (D.view disk.old) (D.view other.old) (O.written out.old))
         (pair_view (D.view disk.new) (D.view other.new) (O.written out.new)) result }
-    ensures shows { IsTrue D.tells → ServeEndShows result (D.view disk.old).content (D.view other.old).content }
+    ensures shows { IsTrue D.tells → ServeEndShows result (D.view disk.old).content
+        (D.view other.old).content }
 
     // Four bytes say the length of each message.
-    ensures short { IsTrue D.tells → (J : List TheRow) → IsPairImageOf J (D.view disk.old).content (D.view other.old).content
+    ensures short { IsTrue D.tells → (J : List TheRow)
+        → IsPairImageOf J (D.view disk.old).content (D.view other.old).content
         → has_long (served_events (held_by J) (Some cursor)) ≡ false }
 
     // A damaged log is only read, and nothing else is done.
     ensures unopened { (place : ℕ) → result ≡ ServeEnd.BadLog place → IsTrue D.tells
         → BothOnlyRead (D.view disk.old) (D.view other.old) (D.view disk.new) (D.view other.new)
         × (out.new ≡ out.old) }
-    ensures caused { IsCausedBy (Rose (D.view disk.old).faults (D.view disk.new).faults ⊎ Rose (D.view other.old).faults (D.view other.new).faults) (Rose (O.faults out.old) (O.faults out.new)) ⊥ result }
+    ensures caused { IsCausedBy (Rose (D.view disk.old).faults (D.view disk.new).faults
+        ⊎ Rose (D.view other.old).faults (D.view other.new).faults)
+        (Rose (O.faults out.old) (O.faults out.new)) ⊥ result }
     ensures disk_counts { (D.view disk.old).faults ≤ (D.view disk.new).faults }
     ensures other_counts { (D.view other.old).faults ≤ (D.view other.new).faults }
     ensures out_counts { O.faults out.old ≤ O.faults out.new }
-    ensures disks_steady { result ≢ ServeEnd.Disk → ((D.view disk.new).faults ≡ (D.view disk.old).faults)
+    ensures disks_steady { result ≢ ServeEnd.Disk
+        → ((D.view disk.new).faults ≡ (D.view disk.old).faults)
         × ((D.view other.new).faults ≡ (D.view other.old).faults) }
     // Behind a fault of reading, the output may fail too.
     ensures out_steady { result ≡ ServeEnd.Done → O.faults out.new ≡ O.faults out.old }

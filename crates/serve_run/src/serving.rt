@@ -33,19 +33,28 @@ fn serve_guests<D: Disk, G: Door, O: Sink>(
     door: &mut G,
     out: &mut O,
 ) -> Result<(), ServeEnd>
-    requires on { IsTrue D.tells → IsKept (seen_in store.now) (view_of_side (seen_in store.now).side (D.view disk.old) (D.view other.old)) }
-    ensures served { IsTrue D.tells → (J : List TheRow) → Keeps J (seen_in store.now) (view_of_side (seen_in store.now).side (D.view disk.old) (D.view other.old))
-        → GuestsServed G.tells O.tells count (held_by J) (at_door (G.guests door.old) (G.turns door.old) (G.session_faults door.old)) (at_door (G.guests door.new) (G.turns door.new) (G.session_faults door.new))
+    requires on { IsTrue D.tells → IsKept (seen_in store.now)
+        (view_of_side (seen_in store.now).side (D.view disk.old) (D.view other.old)) }
+    ensures served { IsTrue D.tells → (J : List TheRow)
+        → Keeps J (seen_in store.now) (view_of_side (seen_in store.now).side (D.view disk.old)
+        (D.view other.old))
+        → GuestsServed G.tells O.tells count (held_by J)
+        (at_door (G.guests door.old) (G.turns door.old) (G.session_faults door.old))
+        (at_door (G.guests door.new) (G.turns door.new) (G.session_faults door.new))
         (O.written out.old) (O.written out.new) (end_in result) }
     ensures one { Goes Same (D.view disk.old) (D.view disk.new) }
     ensures two { Goes Same (D.view other.old) (D.view other.new) }
-    ensures caused { IsCausedBy (Rose (D.view disk.old).faults (D.view disk.new).faults ⊎ Rose (D.view other.old).faults (D.view other.new).faults) (Rose (O.faults out.old) (O.faults out.new)) (Rose (G.faults door.old) (G.faults door.new)) (end_in result) }
+    ensures caused { IsCausedBy (Rose (D.view disk.old).faults (D.view disk.new).faults
+        ⊎ Rose (D.view other.old).faults (D.view other.new).faults)
+        (Rose (O.faults out.old) (O.faults out.new)) (Rose (G.faults door.old) (G.faults door.new))
+        (end_in result) }
     ensures no_bad_log { (place : ℕ) → end_in result ≡ ServeEnd.BadLog place → IsTrue D.tells → ⊥ }
     ensures door_count { IsDoorCount (G.faults door.old) (G.faults door.new) (end_in result) }
     ensures door_counts { G.faults door.old ≤ G.faults door.new }
     ensures session_counts { G.session_faults door.old ≤ G.session_faults door.new }
     ensures out_counts { O.faults out.old ≤ O.faults out.new }
-    ensures disks_steady { result ≢ Err ServeEnd.Disk → ((D.view disk.new).faults ≡ (D.view disk.old).faults)
+    ensures disks_steady { result ≢ Err ServeEnd.Disk
+        → ((D.view disk.new).faults ≡ (D.view disk.old).faults)
         × ((D.view other.new).faults ≡ (D.view other.old).faults) }
     ensures out_steady { result ≢ Err ServeEnd.WriteFault → O.faults out.new ≡ O.faults out.old }
 {
@@ -70,23 +79,32 @@ pub fn serve<D: Disk, G: Door, O: Sink>(
     out: &mut O,
 ) -> ServeEnd
     requires { most ≤ LAST_END }
-    ensures served { IsTrue D.tells → (J : List TheRow) → IsPairImageOf J (D.view disk.old).content (D.view other.old).content
-        → ServedAt G.tells O.tells count J (at_door (G.guests door.old) (G.turns door.old) (G.session_faults door.old)) (at_door (G.guests door.new) (G.turns door.new) (G.session_faults door.new))
-        (pair_view (D.view disk.old) (D.view other.old) (O.written out.old)) (pair_view (D.view disk.new) (D.view other.new) (O.written out.new)) result }
-    ensures shows { IsTrue D.tells → ServeEndShows result (D.view disk.old).content (D.view other.old).content }
+    ensures served { IsTrue D.tells → (J : List TheRow)
+        → IsPairImageOf J (D.view disk.old).content (D.view other.old).content
+        → ServedAt G.tells O.tells count J
+        (at_door (G.guests door.old) (G.turns door.old) (G.session_faults door.old))
+        (at_door (G.guests door.new) (G.turns door.new) (G.session_faults door.new))
+        (pair_view (D.view disk.old) (D.view other.old) (O.written out.old))
+        (pair_view (D.view disk.new) (D.view other.new) (O.written out.new)) result }
+    ensures shows { IsTrue D.tells → ServeEndShows result (D.view disk.old).content
+        (D.view other.old).content }
 
     // A damaged log is only read, and nothing else is done.
     ensures unopened { (place : ℕ) → result ≡ ServeEnd.BadLog place → IsTrue D.tells
         → BothOnlyRead (D.view disk.old) (D.view other.old) (D.view disk.new) (D.view other.new)
         × (door.new ≡ door.old) × (out.new ≡ out.old) }
-    ensures caused { IsCausedBy (Rose (D.view disk.old).faults (D.view disk.new).faults ⊎ Rose (D.view other.old).faults (D.view other.new).faults) (Rose (O.faults out.old) (O.faults out.new)) (Rose (G.faults door.old) (G.faults door.new)) result }
+    ensures caused { IsCausedBy (Rose (D.view disk.old).faults (D.view disk.new).faults
+        ⊎ Rose (D.view other.old).faults (D.view other.new).faults)
+        (Rose (O.faults out.old) (O.faults out.new))
+        (Rose (G.faults door.old) (G.faults door.new)) result }
     ensures door_count { IsDoorCount (G.faults door.old) (G.faults door.new) result }
     ensures disk_counts { (D.view disk.old).faults ≤ (D.view disk.new).faults }
     ensures other_counts { (D.view other.old).faults ≤ (D.view other.new).faults }
     ensures door_counts { G.faults door.old ≤ G.faults door.new }
     ensures session_counts { G.session_faults door.old ≤ G.session_faults door.new }
     ensures out_counts { O.faults out.old ≤ O.faults out.new }
-    ensures disks_steady { result ≢ ServeEnd.Disk → ((D.view disk.new).faults ≡ (D.view disk.old).faults)
+    ensures disks_steady { result ≢ ServeEnd.Disk
+        → ((D.view disk.new).faults ≡ (D.view disk.old).faults)
         × ((D.view other.new).faults ≡ (D.view other.old).faults) }
     ensures out_steady { result ≢ ServeEnd.WriteFault → O.faults out.new ≡ O.faults out.old }
     ensures door_steady { result ≢ ServeEnd.Door → G.faults door.new ≡ G.faults door.old }

@@ -78,9 +78,12 @@ fn last_line(alloc: Global, count: u64) -> Result<Octets, Memory>
 
 // Writes a line.
 fn write_line<O: Sink>(out: &mut O, line: &Octets) -> Result<(), ServeEnd>
-    ensures written { OnOk result (IsTrue O.tells → O.written out.new ≡ O.written out.old ++ line.now) }
-    ensures front { IfErr result (λ end. IsUnwritten end × (IsTrue O.tells → AddsFront (O.written out.old) (O.written out.new) line.now)) }
-    ensures caused { IfErr result (λ end. end ≡ ServeEnd.WriteFault → Rose (O.faults out.old) (O.faults out.new)) }
+    ensures written { OnOk result (IsTrue O.tells
+        → O.written out.new ≡ O.written out.old ++ line.now) }
+    ensures front { IfErr result (λ end. IsUnwritten end
+        × (IsTrue O.tells → AddsFront (O.written out.old) (O.written out.new) line.now)) }
+    ensures caused { IfErr result (λ end. end ≡ ServeEnd.WriteFault
+        → Rose (O.faults out.old) (O.faults out.new)) }
     ensures counts { O.faults out.old ≤ O.faults out.new }
     ensures steady { result ≢ Err ServeEnd.WriteFault → O.faults out.new ≡ O.faults out.old }
 {
@@ -97,9 +100,13 @@ pub(crate) fn write_session<O: Sink>(
     session: Session,
     out: &mut O,
 ) -> Result<(), ServeEnd>
-    ensures written { OnOk result (IsTrue O.tells → O.written out.new ≡ O.written out.old ++ session_line number session) }
-    ensures front { IfErr result (λ end. IsUnwritten end × (IsTrue O.tells → AddsFront (O.written out.old) (O.written out.new) (session_line number session))) }
-    ensures caused { IfErr result (λ end. end ≡ ServeEnd.WriteFault → Rose (O.faults out.old) (O.faults out.new)) }
+    ensures written { OnOk result (IsTrue O.tells
+        → O.written out.new ≡ O.written out.old ++ session_line number session) }
+    ensures front { IfErr result (λ end. IsUnwritten end
+        × (IsTrue O.tells → AddsFront (O.written out.old) (O.written out.new)
+        (session_line number session))) }
+    ensures caused { IfErr result (λ end. end ≡ ServeEnd.WriteFault
+        → Rose (O.faults out.old) (O.faults out.new)) }
     ensures counts { O.faults out.old ≤ O.faults out.new }
     ensures steady { result ≢ Err ServeEnd.WriteFault → O.faults out.new ≡ O.faults out.old }
 {
@@ -111,9 +118,13 @@ pub(crate) fn write_session<O: Sink>(
 
 /// Writes the last line, behind so many sessions.
 pub(crate) fn write_end<O: Sink>(alloc: Global, count: u64, out: &mut O) -> Result<(), ServeEnd>
-    ensures written { OnOk result (IsTrue O.tells → O.written out.new ≡ O.written out.old ++ sessions_end_line count) }
-    ensures front { IfErr result (λ end. IsUnwritten end × (IsTrue O.tells → AddsFront (O.written out.old) (O.written out.new) (sessions_end_line count))) }
-    ensures caused { IfErr result (λ end. end ≡ ServeEnd.WriteFault → Rose (O.faults out.old) (O.faults out.new)) }
+    ensures written { OnOk result (IsTrue O.tells
+        → O.written out.new ≡ O.written out.old ++ sessions_end_line count) }
+    ensures front { IfErr result (λ end. IsUnwritten end
+        × (IsTrue O.tells → AddsFront (O.written out.old) (O.written out.new)
+        (sessions_end_line count))) }
+    ensures caused { IfErr result (λ end. end ≡ ServeEnd.WriteFault
+        → Rose (O.faults out.old) (O.faults out.new)) }
     ensures counts { O.faults out.old ≤ O.faults out.new }
     ensures steady { result ≢ Err ServeEnd.WriteFault → O.faults out.new ≡ O.faults out.old }
 {

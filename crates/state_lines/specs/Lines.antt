@@ -11,7 +11,8 @@ use Rattle.account_state.specs.declared.repo.Repo.{Repo}
 
 -- a byte of a status: a visible one of ASCII but `%` as it is, and each other one as `%` and its two upper-case hexadecimal digits
 abbrev pub shown_byte : ℕ → List ℕ
-shown_byte b = if is_ascii_graphic b && not (b == percent_sign) then b ∷ [] else percent_encode_byte b
+shown_byte b = if is_ascii_graphic b && not (b == percent_sign) then b ∷ []
+    else percent_encode_byte b
 
 -- what a host said of an account: `-` where it said nothing, and `%` where it said the empty text
 abbrev pub status_word : Option (List ℕ) → List ℕ
@@ -35,7 +36,8 @@ link_word link = codes " " ++ text_of link
 
 -- the newest commit that is known: its revision, the link of its tree's top node, and its own link
 abbrev pub good_words : Head → List ℕ
-good_words head = codes "good " ++ (digits_of head.rev ++ (link_word head.data_root ++ link_word head.commit))
+good_words head =
+    codes "good " ++ (digits_of head.rev ++ (link_word head.data_root ++ link_word head.commit))
 
 -- its repository: nothing, the newest commit, or the revision behind which commits were lost, `-` where there is none
 abbrev pub repo_words : Repo → List ℕ
@@ -46,7 +48,9 @@ repo_words (Repo.Lost (Some rev)) = codes "lost " ++ digits_of rev
 
 -- the line of an account
 abbrev pub account_text : List ℕ → State → List ℕ
-account_text did a = did ++ (active_word a.active ++ (status_word a.status ++ (down_word a.down ++ (repo_words a.repo ++ 10 ∷ []))))
+account_text did a =
+    did ++ (active_word a.active ++ (status_word a.status
+    ++ (down_word a.down ++ (repo_words a.repo ++ 10 ∷ []))))
 
 -- the line of a host and its cursor
 abbrev pub host_text : List ℕ × ℕ → List ℕ

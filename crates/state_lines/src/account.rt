@@ -38,7 +38,8 @@ fn add_bytes(line: &mut Octets, text: &[u8]) -> Result<(), Memory>
 }
 
 fn add_status(line: &mut Octets, status: Option<&str>) -> Result<(), Memory>
-    ensures { OnOk result (line.new ≡ line.old ++ status_word (option_map (λ text. text.now) status.entry)) }
+    ensures { OnOk result (line.new ≡ line.old
+        ++ status_word (option_map (λ text. text.now) status.entry)) }
 {
     match status {
         None => line.extend(b"-"),
@@ -87,7 +88,10 @@ fn add_repo(line: &mut Octets, repo: &Repo) -> Result<(), Memory>
 }
 
 fn add_account(line: &mut Octets, account: &Account) -> Result<(), Memory>
-    ensures { OnOk result (line.new ≡ line.old ++ (active_word (state_of account.now).active ++ (status_word (state_of account.now).status ++ (down_word (state_of account.now).down ++ repo_words (state_of account.now).repo)))) }
+    ensures { OnOk result (line.new ≡ line.old
+        ++ (active_word (state_of account.now).active
+        ++ (status_word (state_of account.now).status
+        ++ (down_word (state_of account.now).down ++ repo_words (state_of account.now).repo)))) }
 {
     line.extend(active_bytes(account.is_active()))?;
     add_status(line, account.status())?;
@@ -110,7 +114,8 @@ fn down_bytes(down: bool) -> &'static [u8]
 /// The line of an account, with its line feed. One that no row names is active, up and without a repository, and nothing was said
 /// of it.
 pub fn account_line(alloc: Global, did: &str, account: Option<&Account>) -> Result<Octets, Memory>
-    ensures { IfOk result (λ line. line ≡ account_text did.now (unwrap_or (option_map (λ a. state_of a.now) account.entry) fresh)) }
+    ensures { IfOk result (λ line. line
+        ≡ account_text did.now (unwrap_or (option_map (λ a. state_of a.now) account.entry) fresh)) }
 {
     let mut line = Octets::new(alloc);
     line.extend(did.as_bytes())?;

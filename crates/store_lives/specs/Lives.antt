@@ -69,10 +69,13 @@ module _ {D : Type 0} (view : D → View) (tells : Bool) where
     pub around_now : Around
     pub group : List Message
     pub outcomes : List Outcome
-    pub batched : (J : List Row) → IsOf J s.core → Batched view tells clock_tells repos_tell J group (scene s d around) (scene s_now d_now around_now) outcomes fault
+    pub batched : (J : List Row) → IsOf J s.core
+        → Batched view tells clock_tells repos_tell J group (scene s d around)
+        (scene s_now d_now around_now) outcomes fault
 
   -- An account was taken down or restored, as `operate` promises.
-  pub record Operates (s s_now : StoreState) (d d_now : D) (result : Result Done StoreFault) : Type 0 where
+  pub record Operates (s s_now : StoreState) (d d_now : D)
+      (result : Result Done StoreFault) : Type 0 where
     pub clock_tells : Bool
     pub moments : List ℕ
     pub moments_now : List ℕ
@@ -80,10 +83,13 @@ module _ {D : Type 0} (view : D → View) (tells : Bool) where
     pub down : Bool
     pub time : List ℕ
     pub commanded : (J : List Row) → IsOf J s.core
-        → CommandDone view tells J (λ command. OperatedAt clock_tells s.core did down time moments command moments_now) (IsTrue clock_tells → OneTaken moments moments_now) s s_now d d_now result
+        → CommandDone view tells J (λ command.
+        OperatedAt clock_tells s.core did down time moments command moments_now) (IsTrue clock_tells
+        → OneTaken moments moments_now) s s_now d d_now result
 
   -- A repository was fetched, as `sync_now` promises.
-  pub record Syncs (s s_now : StoreState) (d d_now : D) (result : Result Done StoreFault) : Type 0 where
+  pub record Syncs (s s_now : StoreState) (d d_now : D)
+      (result : Result Done StoreFault) : Type 0 where
     pub clock_tells : Bool
     pub repos_tell : Bool
     pub around : Around
@@ -91,7 +97,10 @@ module _ {D : Type 0} (view : D → View) (tells : Bool) where
     pub did : List ℕ
     pub time : List ℕ
     pub commanded : (J : List Row) → IsOf J s.core
-        → CommandDone view tells J (λ command. SyncedAt clock_tells repos_tell s.core did time around command around_now) (CameToNothing clock_tells repos_tell (AskedInVain around.panel did around_now.panel) around around_now) s s_now d d_now result
+        → CommandDone view tells J (λ command.
+        SyncedAt clock_tells repos_tell s.core did time around command around_now)
+        (CameToNothing clock_tells repos_tell
+        (AskedInVain around.panel did around_now.panel) around around_now) s s_now d d_now result
 
   -- an operator's command was taken, and this was answered
   abbrev pub Says : StoreState → StoreState → D → D → Result Done StoreFault → Type 0
@@ -99,18 +108,26 @@ module _ {D : Type 0} (view : D → View) (tells : Bool) where
 
   -- a call, and the fault that it answers, if it does
   abbrev pub IsCall : StoreState → StoreState → D → D → Option StoreFault → Type 0
-  IsCall s s_now d d_now fault = Takes s s_now d d_now fault ⊎ ((result : Result Done StoreFault) × (fault ≡ fault_said result) × Says s s_now d d_now result)
+  IsCall s s_now d d_now fault = Takes s s_now d d_now fault
+      ⊎ ((result : Result Done StoreFault) × (fault ≡ fault_said result)
+      × Says s s_now d d_now result)
 
   -- the rows that a word added
-  abbrev pub rows_of_command : (J : List Row) (is_command : CommandAnswer → Type 0) (failed : Type 0) (s s_now : StoreState) (d d_now : D) (result : Result Done StoreFault) → CommandDone view tells J is_command failed s s_now d d_now result → List Row
-  rows_of_command J is_command failed s s_now d d_now result (inl said) = added result (rows_commanded said.0)
+  abbrev pub rows_of_command : (J : List Row) (is_command : CommandAnswer → Type 0)
+      (failed : Type 0) (s s_now : StoreState) (d d_now : D) (result : Result Done StoreFault)
+      → CommandDone view tells J is_command failed s s_now d d_now result → List Row
+  rows_of_command J is_command failed s s_now d d_now result (inl said) =
+      added result (rows_commanded said.0)
   rows_of_command J is_command failed s s_now d d_now result (inr unsaid) = []
 
   -- the rows of all that a call behind the journal J answered
-  abbrev pub rows_answered : (J : List Row) (s s_now : StoreState) (d d_now : D) (fault : Option StoreFault) → IsOf J s.core → IsCall s s_now d d_now fault → List Row
+  abbrev pub rows_answered : (J : List Row) (s s_now : StoreState) (d d_now : D)
+      (fault : Option StoreFault) → IsOf J s.core → IsCall s s_now d d_now fault → List Row
   rows_answered J s s_now d d_now fault of (inl takes) = rows (takes.batched J of).steps
-  rows_answered J s s_now d d_now fault of (inr (result, is, inl operates)) = rows_of_command J _ _ s s_now d d_now result (operates.commanded J of)
-  rows_answered J s s_now d d_now fault of (inr (result, is, inr syncs)) = rows_of_command J _ _ s s_now d d_now result (syncs.commanded J of)
+  rows_answered J s s_now d d_now fault of (inr (result, is, inl operates)) =
+      rows_of_command J _ _ s s_now d d_now result (operates.commanded J of)
+  rows_answered J s s_now d d_now fault of (inr (result, is, inr syncs)) =
+      rows_of_command J _ _ s s_now d d_now result (syncs.commanded J of)
 
   -- A call of the open store: it has the disk of the store's side, and the other one is as it was.
   pub record Calls (s : StoreState) (old now : Machine D) : Type 0 where
@@ -150,13 +167,21 @@ fault_cut (Err fault) = Some fault
 
 module _ {D : Type 0} (view : D → View) (tells : Bool) where
   -- The journal was to be cut at a number, on the disk of the store's side and the other, as `cut` promises.
-  pub record CutAs (s s_now : StoreState) (number : ℕ) (disk other disk_now other_now : D) (result : Result CutDone StoreFault) : Type 0 where
-    pub may : ((why : Refusal) → result ≢ Ok (CutDone.Refused why)) → IsTrue tells → (J : List Row) → Keeps J s (view disk) → MayCut J number × (generation s.log.format + 1 < NUMBERS)
-    pub keeps : (oldest last : ℕ) → result ≡ Ok (CutDone.Cut oldest last) → IsTrue tells → (J : List Row) → Keeps J s (view disk) → Keeps (cut J number) s_now (view other_now)
-    pub side : (oldest last : ℕ) → result ≡ Ok (CutDone.Cut oldest last) → s_now.side ≡ other_side s.side
-    pub live : (oldest last : ℕ) → result ≡ Ok (CutDone.Cut oldest last) → IsTrue tells → LeavesLive s_now.side (view other_now) (view disk_now)
-    pub moments : IsTrue tells → (J : List Row) → Keeps J s (view disk) → PairLeavesOnly (IsEitherBeside s.side J (cut J number)) (view disk) (view disk_now) (view other) (view other_now)
-    pub as_before : OnErr result (result ≢ Err StoreFault.Disk → (s_now ≡ s) × (IsTrue tells → LeavesLive s.side (view disk_now) (view other_now)))
+  pub record CutAs (s s_now : StoreState) (number : ℕ) (disk other disk_now other_now : D)
+      (result : Result CutDone StoreFault) : Type 0 where
+    pub may : ((why : Refusal) → result ≢ Ok (CutDone.Refused why)) → IsTrue tells → (J : List Row)
+        → Keeps J s (view disk) → MayCut J number × (generation s.log.format + 1 < NUMBERS)
+    pub keeps : (oldest last : ℕ) → result ≡ Ok (CutDone.Cut oldest last) → IsTrue tells
+        → (J : List Row) → Keeps J s (view disk) → Keeps (cut J number) s_now (view other_now)
+    pub side : (oldest last : ℕ) → result ≡ Ok (CutDone.Cut oldest last)
+        → s_now.side ≡ other_side s.side
+    pub live : (oldest last : ℕ) → result ≡ Ok (CutDone.Cut oldest last) → IsTrue tells
+        → LeavesLive s_now.side (view other_now) (view disk_now)
+    pub moments : IsTrue tells → (J : List Row) → Keeps J s (view disk)
+        → PairLeavesOnly (IsEitherBeside s.side J (cut J number)) (view disk) (view disk_now)
+        (view other) (view other_now)
+    pub as_before : OnErr result (result ≢ Err StoreFault.Disk → (s_now ≡ s)
+        × (IsTrue tells → LeavesLive s.side (view disk_now) (view other_now)))
     pub kept : IsTrue tells → (J : List Row) → Keeps J s (view disk) → Keeps J s (view disk_now)
 
 -- Lives in which journals are cut at numbers that pass.
@@ -168,14 +193,17 @@ module _ {D : Type 0} (view : D → View) (tells : Bool) (passes : ℕ → Bool)
     pub at : passes number ≡ true
     pub result : Result CutDone StoreFault
     pub done : (why : Refusal) → result ≢ Ok (CutDone.Refused why)
-    pub cuts : IsTrue tells → LeavesLive s.side (view (disk_of s.side old)) (view (disk_of (other_side s.side) old))
-        → CutAs view tells s s_now number (disk_of s.side old) (disk_of (other_side s.side) old) (disk_of s.side now) (disk_of (other_side s.side) now) result
+    pub cuts : IsTrue tells → LeavesLive s.side (view (disk_of s.side old))
+        (view (disk_of (other_side s.side) old))
+        → CutAs view tells s s_now number (disk_of s.side old) (disk_of (other_side s.side) old)
+        (disk_of s.side now) (disk_of (other_side s.side) now) result
     pub store : now.store ≡ open_after (fault_cut result) s_now
 
   -- a call of the store that is open, or a cut, or a reading of its events, or an opening where none is
   abbrev pub GoesFrom : Option StoreState → Machine D → Machine D → Type 0
   GoesFrom None old now = Opens view tells old now
-  GoesFrom (Some s) old now = Calls view tells s old now ⊎ (Cuts s old now ⊎ Rereads view tells s old now)
+  GoesFrom (Some s) old now = Calls view tells s old now
+      ⊎ (Cuts s old now ⊎ Rereads view tells s old now)
 
   -- one of these, or the store is let go
   abbrev pub Goes : Machine D → Machine D → Type 0
@@ -183,7 +211,8 @@ module _ {D : Type 0} (view : D → View) (tells : Bool) (passes : ℕ → Bool)
 
   -- what begins comes to its end, or a crash cuts it short
   abbrev pub Steps : Machine D → Machine D → Type 0
-  Steps old next = (now : Machine D) × Goes old now × ((next ≡ now) ⊎ Crashes view tells old now next)
+  Steps old next = (now : Machine D) × Goes old now
+      × ((next ≡ now) ⊎ Crashes view tells old now next)
 
   -- machines, each of which follows the one before it by a step
   abbrev pub LivesFrom : Machine D → List (Machine D) → Type 0

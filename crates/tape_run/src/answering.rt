@@ -40,12 +40,15 @@ fn note_all(
 
 // Writes lines.
 fn write_lines<O: Sink>(out: &mut O, text: &Octets) -> Result<(), TapeEnd>
-    ensures written { OnOk result (IsTrue O.tells → O.written out.new ≡ O.written out.old ++ text.now) }
-    ensures front { IfErr result (λ end. (end ≡ TapeEnd.WriteFault) × (IsTrue O.tells → AddsFront (O.written out.old) (O.written out.new) text.now)) }
+    ensures written { OnOk result (IsTrue O.tells
+        → O.written out.new ≡ O.written out.old ++ text.now) }
+    ensures front { IfErr result (λ end. (end ≡ TapeEnd.WriteFault)
+        × (IsTrue O.tells → AddsFront (O.written out.old) (O.written out.new) text.now)) }
     ensures counts { O.faults out.old ≤ O.faults out.new }
     ensures failed { OnErr result (Rose (O.faults out.old) (O.faults out.new)) }
     ensures steady { OnOk result (O.faults out.new ≡ O.faults out.old) }
-    ensures no_fault { IfErr result (λ end. end ≢ TheEnd.WriteFault → O.faults out.new ≡ O.faults out.old) }
+    ensures no_fault { IfErr result (λ end. end ≢ TheEnd.WriteFault
+        → O.faults out.new ≡ O.faults out.old) }
 {
     match write_all(out, text.as_slice()) {
         Ok(()) => Ok(()),
@@ -64,13 +67,18 @@ pub(crate) fn answer<O: Sink>(
     requires few { length outcomes.now ≤ length group.now }
     requires room { tally.old.messages + length group.now ≤ 2 ^ 63 }
     ensures noted { OnOk result (IsNoted (answered group.now outcomes.now) tally.old tally.new) }
-    ensures written { OnOk result (IsTrue O.tells → O.written out.new ≡ O.written out.old ++ text_of (answered group.now outcomes.now)) }
+    ensures written { OnOk result (IsTrue O.tells
+        → O.written out.new ≡ O.written out.old ++ text_of (answered group.now outcomes.now)) }
     ensures some { OnErr result (0 < length outcomes.now) }
-    ensures front { IfErr result (λ end. IsUnwritten end × (IsTrue O.tells → AddsFront (O.written out.old) (O.written out.new) (text_of (answered group.now outcomes.now)))) }
+    ensures front { IfErr result (λ end. IsUnwritten end
+        × (IsTrue O.tells → AddsFront (O.written out.old) (O.written out.new)
+        (text_of (answered group.now outcomes.now)))) }
     ensures counts { O.faults out.old ≤ O.faults out.new }
-    ensures caused { IfErr result (λ end. end ≡ TapeEnd.WriteFault → Rose (O.faults out.old) (O.faults out.new)) }
+    ensures caused { IfErr result (λ end. end ≡ TapeEnd.WriteFault
+        → Rose (O.faults out.old) (O.faults out.new)) }
     ensures steady { OnOk result (O.faults out.new ≡ O.faults out.old) }
-    ensures no_fault { IfErr result (λ end. end ≢ TheEnd.WriteFault → O.faults out.new ≡ O.faults out.old) }
+    ensures no_fault { IfErr result (λ end. end ≢ TheEnd.WriteFault
+        → O.faults out.new ≡ O.faults out.old) }
 {
     if outcomes.is_empty() {
         return Ok(());
@@ -102,12 +110,16 @@ pub(crate) fn skip<O: Sink>(
 ) -> Result<(), TapeEnd>
     requires room { tally.old.messages < 2 ^ 63 }
     ensures noted { OnOk result (IsNoted ((host.now, None) ∷ []) tally.old tally.new) }
-    ensures written { OnOk result (IsTrue O.tells → O.written out.new ≡ O.written out.old ++ over_line host.now) }
-    ensures front { IfErr result (λ end. IsUnwritten end × (IsTrue O.tells → AddsFront (O.written out.old) (O.written out.new) (over_line host.now))) }
+    ensures written { OnOk result (IsTrue O.tells
+        → O.written out.new ≡ O.written out.old ++ over_line host.now) }
+    ensures front { IfErr result (λ end. IsUnwritten end
+        × (IsTrue O.tells → AddsFront (O.written out.old) (O.written out.new) (over_line host.now))) }
     ensures counts { O.faults out.old ≤ O.faults out.new }
-    ensures caused { IfErr result (λ end. end ≡ TapeEnd.WriteFault → Rose (O.faults out.old) (O.faults out.new)) }
+    ensures caused { IfErr result (λ end. end ≡ TapeEnd.WriteFault
+        → Rose (O.faults out.old) (O.faults out.new)) }
     ensures steady { OnOk result (O.faults out.new ≡ O.faults out.old) }
-    ensures no_fault { IfErr result (λ end. end ≢ TheEnd.WriteFault → O.faults out.new ≡ O.faults out.old) }
+    ensures no_fault { IfErr result (λ end. end ≢ TheEnd.WriteFault
+        → O.faults out.new ≡ O.faults out.old) }
 {
     let text = match line_over(alloc, host) {
         Ok(text) => text,
@@ -119,7 +131,9 @@ pub(crate) fn skip<O: Sink>(
 
 /// Writes the last line, beside the journal's last number, and says how that ended.
 pub fn finish<O: Sink>(alloc: Global, last: u64, tally: &Tally, out: &mut O) -> TapeEnd
-    ensures ends { Finished result (end_line_of tally.now.messages tally.now.events tally.now.refused last) O.tells (O.written out.old) (O.written out.new) }
+    ensures ends { Finished result
+        (end_line_of tally.now.messages tally.now.events tally.now.refused last) O.tells
+        (O.written out.old) (O.written out.new) }
     ensures counts { O.faults out.old ≤ O.faults out.new }
     ensures caused { result ≡ TapeEnd.WriteFault → Rose (O.faults out.old) (O.faults out.new) }
     ensures steady { result ≢ TheEnd.WriteFault → O.faults out.new ≡ O.faults out.old }

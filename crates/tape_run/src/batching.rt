@@ -25,7 +25,8 @@ use std::alloc::Global;
 fn live_front(group: &[Message], tally: &Tally) -> usize
     ensures within { result ≤ length group.now }
     ensures live { AreLive tally.now.ended.items (take result group.now) }
-    ensures ended { 0 < length group.now → result ≡ 0 → FirstHasEnded tally.now.ended.items group.now }
+    ensures ended { 0 < length group.now → result ≡ 0
+        → FirstHasEnded tally.now.ended.items group.now }
 {
     for (n, message) in group.iter().enumerate() {
         if tally.has_ended(message.host.as_str()) {
@@ -54,23 +55,44 @@ fn take_live<D: Disk, P: Judges, R: Repos, C: Clock, O: Sink>(
     requires hosts { AreOfHosts group.now }
     requires live { AreLive tally.old.ended.items group.now }
     requires room { tally.old.messages + length group.now ≤ 2 ^ 63 }
-    ensures recorded { IfOk result (λ n. (J : List TheRow) → IsOf J store.old.core → Going D.view (tells D.tells C.tells R.tells O.tells) J (take n group.now)
-        (point (seen_in store.old) tally.old disk.old (around (P.panel judges.old) (C.moments clock.old) (R.repository repos.old)) (O.written out.old))
-        (point (seen_in store.new) tally.new disk.new (around (P.panel judges.new) (C.moments clock.new) (R.repository repos.new)) (O.written out.new))) }
-    ensures stopped { IfErr result (λ end. (J : List TheRow) → IsOf J store.old.core → Stopped D.view (tells D.tells C.tells R.tells O.tells) J group.now
-        (point (seen_in store.old) tally.old disk.old (around (P.panel judges.old) (C.moments clock.old) (R.repository repos.old)) (O.written out.old))
-        (point (seen_in store.new) tally.new disk.new (around (P.panel judges.new) (C.moments clock.new) (R.repository repos.new)) (O.written out.new)) end) }
+    ensures recorded { IfOk result (λ n. (J : List TheRow) → IsOf J store.old.core
+        → Going D.view (tells D.tells C.tells R.tells O.tells) J (take n group.now)
+        (point (seen_in store.old) tally.old disk.old
+        (around (P.panel judges.old) (C.moments clock.old) (R.repository repos.old))
+        (O.written out.old))
+        (point (seen_in store.new) tally.new disk.new
+        (around (P.panel judges.new) (C.moments clock.new) (R.repository repos.new))
+        (O.written out.new))) }
+    ensures stopped { IfErr result (λ end. (J : List TheRow) → IsOf J store.old.core
+        → Stopped D.view (tells D.tells C.tells R.tells O.tells) J group.now
+        (point (seen_in store.old) tally.old disk.old
+        (around (P.panel judges.old) (C.moments clock.old) (R.repository repos.old))
+        (O.written out.old))
+        (point (seen_in store.new) tally.new disk.new
+        (around (P.panel judges.new) (C.moments clock.new) (R.repository repos.new))
+        (O.written out.new)) end) }
     ensures on { OnOk result (IsTrue D.tells → IsKept (seen_in store.new) (D.view disk.new)) }
     ensures open { OnOk result (IsTrue (seen_in store.new).log.is_open) }
     ensures some { IfOk result (λ n. 1 ≤ n) }
     ensures few { IfOk result (λ n. n ≤ length group.now) }
     ensures side { (seen_in store.new).side ≡ (seen_in store.old).side }
     ensures count { IfOk result (λ n. tally.new.messages ≤ tally.old.messages + n) }
-    ensures counts { Kept (faults (D.view disk.old).faults (R.faults repos.old) (C.faults clock.old) 0 (O.faults out.old)) (faults (D.view disk.new).faults (R.faults repos.new) (C.faults clock.new) 0 (O.faults out.new)) }
-    ensures caused { IfErr result (λ end. Caused end (faults (D.view disk.old).faults (R.faults repos.old) (C.faults clock.old) 0 (O.faults out.old)) (faults (D.view disk.new).faults (R.faults repos.new) (C.faults clock.new) 0 (O.faults out.new))) }
+    ensures counts { Kept (faults (D.view disk.old).faults (R.faults repos.old) (C.faults clock.old) 0
+        (O.faults out.old)) (faults (D.view disk.new).faults (R.faults repos.new)
+        (C.faults clock.new) 0 (O.faults out.new)) }
+    ensures caused { IfErr result (λ end.
+        Caused end (faults (D.view disk.old).faults (R.faults repos.old) (C.faults clock.old) 0
+        (O.faults out.old)) (faults (D.view disk.new).faults (R.faults repos.new)
+        (C.faults clock.new) 0 (O.faults out.new))) }
     ensures stop { IfErr result IsStop }
-    ensures unmoved { OnOk result (Unmoved (faults (D.view disk.old).faults (R.faults repos.old) (C.faults clock.old) 0 (O.faults out.old)) (faults (D.view disk.new).faults (R.faults repos.new) (C.faults clock.new) 0 (O.faults out.new)) (P.panel judges.old) (P.panel judges.new)) }
-    ensures told { IfErr result (λ end. Told end (faults (D.view disk.old).faults (R.faults repos.old) (C.faults clock.old) 0 (O.faults out.old)) (faults (D.view disk.new).faults (R.faults repos.new) (C.faults clock.new) 0 (O.faults out.new)) (P.panel judges.old) (P.panel judges.new)) }
+    ensures unmoved { OnOk result
+        (Unmoved (faults (D.view disk.old).faults (R.faults repos.old) (C.faults clock.old) 0
+        (O.faults out.old)) (faults (D.view disk.new).faults (R.faults repos.new)
+        (C.faults clock.new) 0 (O.faults out.new)) (P.panel judges.old) (P.panel judges.new)) }
+    ensures told { IfErr result (λ end.
+        Told end (faults (D.view disk.old).faults (R.faults repos.old) (C.faults clock.old) 0
+        (O.faults out.old)) (faults (D.view disk.new).faults (R.faults repos.new)
+        (C.faults clock.new) 0 (O.faults out.new)) (P.panel judges.old) (P.panel judges.new)) }
 {
     let batch = store.take_all(alloc, disk, group, judges, repos, clock);
     let outcomes = batch.outcomes.as_slice();
@@ -102,23 +124,44 @@ fn take_some<D: Disk, P: Judges, R: Repos, C: Clock, O: Sink>(
     requires few { length group.now ≤ MOST_ROWS }
     requires hosts { AreOfHosts group.now }
     requires room { tally.old.messages + length group.now ≤ 2 ^ 63 }
-    ensures recorded { IfOk result (λ n. (J : List TheRow) → IsOf J store.old.core → Going D.view (tells D.tells C.tells R.tells O.tells) J (take n group.now)
-        (point (seen_in store.old) tally.old disk.old (around (P.panel judges.old) (C.moments clock.old) (R.repository repos.old)) (O.written out.old))
-        (point (seen_in store.new) tally.new disk.new (around (P.panel judges.new) (C.moments clock.new) (R.repository repos.new)) (O.written out.new))) }
-    ensures stopped { IfErr result (λ end. (J : List TheRow) → IsOf J store.old.core → Stopped D.view (tells D.tells C.tells R.tells O.tells) J group.now
-        (point (seen_in store.old) tally.old disk.old (around (P.panel judges.old) (C.moments clock.old) (R.repository repos.old)) (O.written out.old))
-        (point (seen_in store.new) tally.new disk.new (around (P.panel judges.new) (C.moments clock.new) (R.repository repos.new)) (O.written out.new)) end) }
+    ensures recorded { IfOk result (λ n. (J : List TheRow) → IsOf J store.old.core
+        → Going D.view (tells D.tells C.tells R.tells O.tells) J (take n group.now)
+        (point (seen_in store.old) tally.old disk.old
+        (around (P.panel judges.old) (C.moments clock.old) (R.repository repos.old))
+        (O.written out.old))
+        (point (seen_in store.new) tally.new disk.new
+        (around (P.panel judges.new) (C.moments clock.new) (R.repository repos.new))
+        (O.written out.new))) }
+    ensures stopped { IfErr result (λ end. (J : List TheRow) → IsOf J store.old.core
+        → Stopped D.view (tells D.tells C.tells R.tells O.tells) J group.now
+        (point (seen_in store.old) tally.old disk.old
+        (around (P.panel judges.old) (C.moments clock.old) (R.repository repos.old))
+        (O.written out.old))
+        (point (seen_in store.new) tally.new disk.new
+        (around (P.panel judges.new) (C.moments clock.new) (R.repository repos.new))
+        (O.written out.new)) end) }
     ensures on { OnOk result (IsTrue D.tells → IsKept (seen_in store.new) (D.view disk.new)) }
     ensures open { OnOk result (IsTrue (seen_in store.new).log.is_open) }
     ensures some { IfOk result (λ n. 1 ≤ n) }
     ensures few { IfOk result (λ n. n ≤ length group.now) }
     ensures side { (seen_in store.new).side ≡ (seen_in store.old).side }
     ensures count { IfOk result (λ n. tally.new.messages ≤ tally.old.messages + n) }
-    ensures counts { Kept (faults (D.view disk.old).faults (R.faults repos.old) (C.faults clock.old) 0 (O.faults out.old)) (faults (D.view disk.new).faults (R.faults repos.new) (C.faults clock.new) 0 (O.faults out.new)) }
-    ensures caused { IfErr result (λ end. Caused end (faults (D.view disk.old).faults (R.faults repos.old) (C.faults clock.old) 0 (O.faults out.old)) (faults (D.view disk.new).faults (R.faults repos.new) (C.faults clock.new) 0 (O.faults out.new))) }
+    ensures counts { Kept (faults (D.view disk.old).faults (R.faults repos.old) (C.faults clock.old) 0
+        (O.faults out.old)) (faults (D.view disk.new).faults (R.faults repos.new)
+        (C.faults clock.new) 0 (O.faults out.new)) }
+    ensures caused { IfErr result (λ end.
+        Caused end (faults (D.view disk.old).faults (R.faults repos.old) (C.faults clock.old) 0
+        (O.faults out.old)) (faults (D.view disk.new).faults (R.faults repos.new)
+        (C.faults clock.new) 0 (O.faults out.new))) }
     ensures stop { IfErr result IsStop }
-    ensures unmoved { OnOk result (Unmoved (faults (D.view disk.old).faults (R.faults repos.old) (C.faults clock.old) 0 (O.faults out.old)) (faults (D.view disk.new).faults (R.faults repos.new) (C.faults clock.new) 0 (O.faults out.new)) (P.panel judges.old) (P.panel judges.new)) }
-    ensures told { IfErr result (λ end. Told end (faults (D.view disk.old).faults (R.faults repos.old) (C.faults clock.old) 0 (O.faults out.old)) (faults (D.view disk.new).faults (R.faults repos.new) (C.faults clock.new) 0 (O.faults out.new)) (P.panel judges.old) (P.panel judges.new)) }
+    ensures unmoved { OnOk result
+        (Unmoved (faults (D.view disk.old).faults (R.faults repos.old) (C.faults clock.old) 0
+        (O.faults out.old)) (faults (D.view disk.new).faults (R.faults repos.new)
+        (C.faults clock.new) 0 (O.faults out.new)) (P.panel judges.old) (P.panel judges.new)) }
+    ensures told { IfErr result (λ end.
+        Told end (faults (D.view disk.old).faults (R.faults repos.old) (C.faults clock.old) 0
+        (O.faults out.old)) (faults (D.view disk.new).faults (R.faults repos.new)
+        (C.faults clock.new) 0 (O.faults out.new)) (P.panel judges.old) (P.panel judges.new)) }
 {
     let live = live_front(group, tally);
     if live == 0 {
@@ -148,21 +191,42 @@ pub fn take_group<D: Disk, P: Judges, R: Repos, C: Clock, O: Sink>(
     requires few { length group.now ≤ MOST_ROWS }
     requires hosts { AreOfHosts group.now }
     requires room { tally.old.messages + length group.now ≤ 2 ^ 63 }
-    ensures recorded { OnOk result ((J : List TheRow) → IsOf J store.old.core → Going D.view (tells D.tells C.tells R.tells O.tells) J group.now
-        (point (seen_in store.old) tally.old disk.old (around (P.panel judges.old) (C.moments clock.old) (R.repository repos.old)) (O.written out.old))
-        (point (seen_in store.new) tally.new disk.new (around (P.panel judges.new) (C.moments clock.new) (R.repository repos.new)) (O.written out.new))) }
-    ensures stopped { IfErr result (λ end. (J : List TheRow) → IsOf J store.old.core → Stopped D.view (tells D.tells C.tells R.tells O.tells) J group.now
-        (point (seen_in store.old) tally.old disk.old (around (P.panel judges.old) (C.moments clock.old) (R.repository repos.old)) (O.written out.old))
-        (point (seen_in store.new) tally.new disk.new (around (P.panel judges.new) (C.moments clock.new) (R.repository repos.new)) (O.written out.new)) end) }
+    ensures recorded { OnOk result ((J : List TheRow) → IsOf J store.old.core
+        → Going D.view (tells D.tells C.tells R.tells O.tells) J group.now
+        (point (seen_in store.old) tally.old disk.old
+        (around (P.panel judges.old) (C.moments clock.old) (R.repository repos.old))
+        (O.written out.old))
+        (point (seen_in store.new) tally.new disk.new
+        (around (P.panel judges.new) (C.moments clock.new) (R.repository repos.new))
+        (O.written out.new))) }
+    ensures stopped { IfErr result (λ end. (J : List TheRow) → IsOf J store.old.core
+        → Stopped D.view (tells D.tells C.tells R.tells O.tells) J group.now
+        (point (seen_in store.old) tally.old disk.old
+        (around (P.panel judges.old) (C.moments clock.old) (R.repository repos.old))
+        (O.written out.old))
+        (point (seen_in store.new) tally.new disk.new
+        (around (P.panel judges.new) (C.moments clock.new) (R.repository repos.new))
+        (O.written out.new)) end) }
     ensures on { OnOk result (IsTrue D.tells → IsKept (seen_in store.new) (D.view disk.new)) }
     ensures open { OnOk result (IsTrue (seen_in store.new).log.is_open) }
     ensures side { (seen_in store.new).side ≡ (seen_in store.old).side }
     ensures count { OnOk result (tally.new.messages ≤ tally.old.messages + length group.now) }
-    ensures counts { Kept (faults (D.view disk.old).faults (R.faults repos.old) (C.faults clock.old) 0 (O.faults out.old)) (faults (D.view disk.new).faults (R.faults repos.new) (C.faults clock.new) 0 (O.faults out.new)) }
-    ensures caused { IfErr result (λ end. Caused end (faults (D.view disk.old).faults (R.faults repos.old) (C.faults clock.old) 0 (O.faults out.old)) (faults (D.view disk.new).faults (R.faults repos.new) (C.faults clock.new) 0 (O.faults out.new))) }
+    ensures counts { Kept (faults (D.view disk.old).faults (R.faults repos.old) (C.faults clock.old) 0
+        (O.faults out.old)) (faults (D.view disk.new).faults (R.faults repos.new)
+        (C.faults clock.new) 0 (O.faults out.new)) }
+    ensures caused { IfErr result (λ end.
+        Caused end (faults (D.view disk.old).faults (R.faults repos.old) (C.faults clock.old) 0
+        (O.faults out.old)) (faults (D.view disk.new).faults (R.faults repos.new)
+        (C.faults clock.new) 0 (O.faults out.new))) }
     ensures stop { IfErr result IsStop }
-    ensures unmoved { OnOk result (Unmoved (faults (D.view disk.old).faults (R.faults repos.old) (C.faults clock.old) 0 (O.faults out.old)) (faults (D.view disk.new).faults (R.faults repos.new) (C.faults clock.new) 0 (O.faults out.new)) (P.panel judges.old) (P.panel judges.new)) }
-    ensures told { IfErr result (λ end. Told end (faults (D.view disk.old).faults (R.faults repos.old) (C.faults clock.old) 0 (O.faults out.old)) (faults (D.view disk.new).faults (R.faults repos.new) (C.faults clock.new) 0 (O.faults out.new)) (P.panel judges.old) (P.panel judges.new)) }
+    ensures unmoved { OnOk result
+        (Unmoved (faults (D.view disk.old).faults (R.faults repos.old) (C.faults clock.old) 0
+        (O.faults out.old)) (faults (D.view disk.new).faults (R.faults repos.new)
+        (C.faults clock.new) 0 (O.faults out.new)) (P.panel judges.old) (P.panel judges.new)) }
+    ensures told { IfErr result (λ end.
+        Told end (faults (D.view disk.old).faults (R.faults repos.old) (C.faults clock.old) 0
+        (O.faults out.old)) (faults (D.view disk.new).faults (R.faults repos.new)
+        (C.faults clock.new) 0 (O.faults out.new)) (P.panel judges.old) (P.panel judges.new)) }
 {
     let mut done = 0;
     'batches: while done < group.len() {

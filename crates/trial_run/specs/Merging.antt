@@ -25,7 +25,9 @@ those wanted sent = filter (λ m. is_chosen wanted m.0) sent
 
 -- those of the first host, then those of the second, the third and the fourth
 abbrev pub by_host : Sent → Sent
-by_host sent = those (Some (host_of 0)) sent ++ (those (Some (host_of 1)) sent ++ (those (Some (host_of 2)) sent ++ those (Some (host_of 3)) sent))
+by_host sent = those (Some (host_of 0)) sent
+    ++ (those (Some (host_of 1)) sent ++
+    (those (Some (host_of 2)) sent ++ those (Some (host_of 3)) sent))
 
 -- A world in which every host is the home of whom it tells of, and every signature is good. There is no repository to fetch, and the clock stands at 0.
 abbrev pub trusting : World
@@ -33,4 +35,5 @@ trusting = record { moment = λ host frame. 0; home = λ did host. true; verdict
 
 -- From the empty journal, in that world, the messages make the rows.
 abbrev pub IsRunOf : Sent → List Row → Type 0
-IsRunOf sent rows = (checks : Checks) → OpensRight checks → LinksRight checks → RunIn checks trusting [] (as_read sent) rows
+IsRunOf sent rows = (checks : Checks) → OpensRight checks → LinksRight checks
+    → RunIn checks trusting [] (as_read sent) rows

@@ -33,7 +33,8 @@ roots_below (suc a) J = roots_below a J ++ root_of_repo (account (generated_did 
 
 -- what two journals show of an account is the same
 abbrev pub IsShownSame : ℕ → List Row → List Row → Type 0
-IsShownSame a J K = account_text (generated_did a) (account (generated_did a) J) ≡ account_text (generated_did a) (account (generated_did a) K)
+IsShownSame a J K = account_text (generated_did a) (account (generated_did a) J)
+    ≡ account_text (generated_did a) (account (generated_did a) K)
 
 -- of each account of a made history
 abbrev pub AreShownSame : List Row → List Row → Type 0
@@ -45,8 +46,11 @@ word text n = text ++ decimal n
 
 -- the first line: how the history was drawn, how many accounts have a commit, how many numbers were given, and how many keys there are
 abbrev pub first_line : ℕ → ℕ → ℕ → List Row → List ℕ
-first_line start n keys J = word (codes "trial ") start ++ (word (codes " ") n ++ (word (codes " accounts ") (known_below 16 J) ++ (word (codes " events ") (last_seq J) ++ (word (codes " keys ") keys ++ 10 ∷ []))))
+first_line start n keys J = word (codes "trial ") start
+    ++ (word (codes " ") n ++ (word (codes " accounts ") (known_below 16 J)
+    ++ (word (codes " events ") (last_seq J) ++ (word (codes " keys ") keys ++ 10 ∷ []))))
 
 -- that both merges came to the same accounts; and the link over the roots of all trees
 abbrev pub summary : ℕ → ℕ → ℕ → List Row → List ℕ
-summary start n keys J = first_line start n keys J ++ (codes "merge same\nheads " ++ (text_of (cid (roots_below 16 J)) ++ 10 ∷ []))
+summary start n keys J = first_line start n keys J
+    ++ (codes "merge same\nheads " ++ (text_of (cid (roots_below 16 J)) ++ 10 ∷ []))

@@ -21,7 +21,8 @@ pub record AreMerges (start n : ℕ) (ones others : List Row) : Type 0 where
   pub other : IsRunOf (by_host (history start n).messages) others
 
 -- So they were, and the summary of the first was written, whole, or a front of it where a call of the output failed.
-pub record TrialCameTo (Writes : List ℕ → Type 0) (Holds : List Row → List Row → Type 0) (start n : ℕ) : Type 0 where
+pub record TrialCameTo (Writes : List ℕ → Type 0) (Holds : List Row → List Row → Type 0)
+    (start n : ℕ) : Type 0 where
   pub ones : List Row
   pub others : List Row
   pub are : AreMerges start n ones others
@@ -31,7 +32,8 @@ pub record TrialCameTo (Writes : List ℕ → Type 0) (Holds : List Row → List
 -- What a trial of a history does with two empty disks, which hold these bytes in the end, and with the output.
 abbrev pub Tried : Bool → ℕ → ℕ → List ℕ → List ℕ → List ℕ → List ℕ → TrialEnd → Type 0
 Tried output_tells start n first second old new TrialEnd.Done =
-    TrialCameTo (λ text. IsTrue output_tells → new ≡ old ++ text) (λ ones others. IsImageOf ones first × IsImageOf others second) start n
+    TrialCameTo (λ text. IsTrue output_tells
+    → new ≡ old ++ text) (λ ones others. IsImageOf ones first × IsImageOf others second) start n
 Tried output_tells start n first second old new TrialEnd.WriteFault =
     TrialCameTo (λ text. IsTrue output_tells → AddsFront old new text) (λ ones others. ⊤) start n
 Tried output_tells start n first second old new TrialEnd.Memory = IsTrue output_tells → new ≡ old

@@ -111,7 +111,9 @@ impl Merge {
         requires n { n ≡ length history.now.messages }
         requires merged { (sent : Sent) × IsMerged sent self.old (memory_view disk.old) }
         ensures { OnOk result ((sent : Sent) → IsMerged sent self.old (memory_view disk.old)
-            → IsMerged (sent ++ those (option_map (λ text. text.now) wanted.entry) history.now.messages) self.new (memory_view disk.new)) }
+            → IsMerged (sent ++ those (option_map
+            (λ text. text.now) wanted.entry) history.now.messages) self.new
+            (memory_view disk.new)) }
     {
         'messages: for i in 0..n {
             let host = history.host(i + 1);

@@ -44,7 +44,8 @@ fn add_root(roots: &mut Octets, repo: &Repo) -> Result<u64, Memory>
 // Of the account of a number.
 fn repo_of(store: &Store, account: u8) -> Repo
     requires { account < 16 }
-    ensures { (J : List TheRow) → Holds store.now.core J → result ≡ (account_in (generated_did account) J).repo }
+    ensures { (J : List TheRow) → Holds store.now.core J
+        → result ≡ (account_in (generated_did account) J).repo }
 {
     match store.account(did_of(account)) {
         Some(found) => found.repo(),
@@ -54,8 +55,10 @@ fn repo_of(store: &Store, account: u8) -> Repo
 
 // The roots of the accounts' trees, and how many of them have a commit.
 fn add_roots(store: &Store, roots: &mut Octets) -> Result<u64, Memory>
-    ensures known { IfOk result (λ known. (J : List TheRow) → Holds store.now.core J → known ≡ known_below 16 J) }
-    ensures roots { OnOk result ((J : List TheRow) → Holds store.now.core J → roots.new ≡ roots.old ++ roots_below 16 J) }
+    ensures known { IfOk result (λ known. (J : List TheRow) → Holds store.now.core J
+        → known ≡ known_below 16 J) }
+    ensures roots { OnOk result ((J : List TheRow) → Holds store.now.core J
+        → roots.new ≡ roots.old ++ roots_below 16 J) }
 {
     let mut known = 0;
     'accounts: for account in 0..ACCOUNTS {
@@ -72,7 +75,8 @@ fn add_first_line(
     events: u64,
     keys: u64,
 ) -> Result<(), Memory>
-    ensures { OnOk result ((J : List TheRow) → known ≡ known_below 16 J → events ≡ last_seq J → text.new ≡ text.old ++ first_line start n keys J) }
+    ensures { OnOk result ((J : List TheRow) → known ≡ known_below 16 J → events ≡ last_seq J
+        → text.new ≡ text.old ++ first_line start n keys J) }
 {
     add_word(text, b"trial ", start)?;
     add_word(text, b" ", u64::from(n))?;
@@ -102,7 +106,8 @@ pub(crate) fn sum_up(
     store: &Store,
     same: bool,
 ) -> Result<Octets, Memory>
-    ensures { IfOk result (λ text. same ≡ true → (J : List TheRow) → Holds store.now.core J → text ≡ summary start n keys J) }
+    ensures { IfOk result (λ text. same ≡ true → (J : List TheRow) → Holds store.now.core J
+        → text ≡ summary start n keys J) }
 {
     let mut roots = Octets::new(alloc);
     let known = add_roots(store, &mut roots)?;
@@ -117,7 +122,8 @@ pub(crate) fn sum_up(
 // Whether two stores say the same of the account of a number.
 fn is_same(alloc: Global, one: &Store, other: &Store, account: u8) -> Result<bool, Memory>
     requires { account < 16 }
-    ensures { IfOk result (λ same. (J K : List TheRow) → Holds one.now.core J → Holds other.now.core K
+    ensures { IfOk result (λ same. (J K : List TheRow) → Holds one.now.core J
+        → Holds other.now.core K
         → (same ≡ true) ↔ IsShownSame account J K) }
 {
     let did = did_of(account);
@@ -128,9 +134,11 @@ fn is_same(alloc: Global, one: &Store, other: &Store, account: u8) -> Result<boo
 
 /// Whether two stores say the same of all accounts of a made history.
 pub(crate) fn are_same(alloc: Global, one: &Store, other: &Store) -> Result<bool, Memory>
-    ensures same { IfOk result (λ same. (J K : List TheRow) → Holds one.now.core J → Holds other.now.core K
+    ensures same { IfOk result (λ same. (J K : List TheRow) → Holds one.now.core J
+        → Holds other.now.core K
         → ((did : List ℕ) → account_in did J ≡ account_in did K) → same ≡ true) }
-    ensures exact { IfOk result (λ same. (J K : List TheRow) → Holds one.now.core J → Holds other.now.core K
+    ensures exact { IfOk result (λ same. (J K : List TheRow) → Holds one.now.core J
+        → Holds other.now.core K
         → (same ≡ true) ↔ AreShownSame J K) }
 {
     for account in 0..ACCOUNTS {

@@ -61,7 +61,8 @@ fn host_after_host(
 ) -> Result<Merge, Memory>
     requires n { n ≡ length history.now.messages }
     requires empty { (memory_view disk.old).content ≡ [] }
-    ensures { IfOk result (λ merge. IsMerged (by_host history.now.messages) merge (memory_view disk.new)) }
+    ensures { IfOk result (λ merge. IsMerged (by_host history.now.messages) merge
+        (memory_view disk.new)) }
 {
     let mut merge = Merge::open(alloc, disk)?;
     merge.take_by_host(alloc, disk, history, n)?;
@@ -77,7 +78,8 @@ fn summed(
     one: &Store,
     other: &Store,
 ) -> Result<Octets, Memory>
-    ensures { IfOk result (λ text. (J K : List TheRow) → Holds one.now.core J → Holds other.now.core K
+    ensures { IfOk result (λ text. (J K : List TheRow) → Holds one.now.core J
+        → Holds other.now.core K
         → ((did : List ℕ) → account_in did J ≡ account_in did K) → text ≡ summary start n keys J) }
 {
     let same = are_same(alloc, one, other)?;
@@ -98,7 +100,8 @@ fn try_both(
     requires first { (memory_view first.old).content ≡ [] }
     requires second { (memory_view second.old).content ≡ [] }
     ensures { IfOk result (λ text. TrialCameTo (λ whole. text ≡ whole)
-        (λ ones others. IsImageOf ones (memory_view first.new).content × IsImageOf others (memory_view second.new).content) start n) }
+        (λ ones others. IsImageOf ones (memory_view first.new).content
+        × IsImageOf others (memory_view second.new).content) start n) }
 {
     let history = drawn(alloc, start, n)?;
     let one = in_order(alloc, first, &history, n)?;
@@ -123,7 +126,8 @@ pub fn trial_on<O: Sink>(
     requires most { n ≤ MOST_MESSAGES }
     requires first { (memory_view first.old).content ≡ [] }
     requires second { (memory_view second.old).content ≡ [] }
-    ensures tried { Tried O.tells start n (memory_view first.new).content (memory_view second.new).content (O.written out.old) (O.written out.new) result }
+    ensures tried { Tried O.tells start n (memory_view first.new).content
+        (memory_view second.new).content (O.written out.old) (O.written out.new) result }
     ensures failed { result ≡ TrialEnd.WriteFault → Rose (O.faults out.old) (O.faults out.new) }
     ensures counts { O.faults out.old ≤ O.faults out.new }
     ensures out_steady { result ≢ TrialEnd.WriteFault → O.faults out.new ≡ O.faults out.old }
@@ -142,7 +146,8 @@ pub fn trial_on<O: Sink>(
 pub fn trial<O: Sink>(alloc: Global, start: u64, n: u64, out: &mut O) -> TrialEnd
     requires least { 1 ≤ n }
     requires most { n ≤ MOST_MESSAGES }
-    ensures tried { (first second : List ℕ) × Tried O.tells start n first second (O.written out.old) (O.written out.new) result }
+    ensures tried { (first second : List ℕ)
+        × Tried O.tells start n first second (O.written out.old) (O.written out.new) result }
     ensures failed { result ≡ TrialEnd.WriteFault → Rose (O.faults out.old) (O.faults out.new) }
     ensures counts { O.faults out.old ≤ O.faults out.new }
     ensures out_steady { result ≢ TrialEnd.WriteFault → O.faults out.new ≡ O.faults out.old }

@@ -16,5 +16,8 @@ Trusts panel = (name : List ℕ) → panel name ≡ trusting
 
 -- Steps between judges who say yes to everything, and who say so still behind them, make rows that show it.
 abbrev pub TrustingStepsShow : Type 0
-TrustingStepsShow = (checks : Checks) → OpensRight checks → (clock_tells repos_tell : Bool) (J : List Row) (ended : List (List ℕ)) (old new : Around) (steps : List Step)
-    → AreSteps checks J ended steps → AllAsked clock_tells repos_tell J old steps new → Trusts old.panel → Trusts new.panel → list_all says_yes (rows steps) ≡ true
+TrustingStepsShow = (checks : Checks) → OpensRight checks
+    → (clock_tells repos_tell : Bool) (J : List Row) (ended : List (List ℕ)) (old new : Around)
+    (steps : List Step)
+    → AreSteps checks J ended steps → AllAsked clock_tells repos_tell J old steps new
+    → Trusts old.panel → Trusts new.panel → list_all says_yes (rows steps) ≡ true

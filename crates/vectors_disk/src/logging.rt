@@ -19,7 +19,8 @@ const MANY: u32 = 1000;
 pub fn append<D: Disk>(log: &mut Log, disk: &mut D, body: &[u8]) -> Result<u64, LogFault>
     requires { IsTrue D.tells → IsOn (D.view disk.old) log.old }
     ensures on { OnOk result (IsTrue D.tells → IsOn (D.view disk.new) log.new) }
-    ensures full { (e : ℕ) → result ≡ Err (LogFault.Full e) → IsTrue D.tells → IsOn (D.view disk.new) log.new }
+    ensures full { (e : ℕ) → result ≡ Err (LogFault.Full e) → IsTrue D.tells
+        → IsOn (D.view disk.new) log.new }
 {
     let Ok(len) = u32::try_from(body.len()) else {
         return Err(LogFault::Memory);
@@ -39,7 +40,8 @@ pub fn append_put<D: Disk>(
 ) -> Result<u64, LogFault>
     requires { IsTrue D.tells → IsOn (D.view disk.old) log.old }
     ensures on { OnOk result (IsTrue D.tells → IsOn (D.view disk.new) log.new) }
-    ensures full { (e : ℕ) → result ≡ Err (LogFault.Full e) → IsTrue D.tells → IsOn (D.view disk.new) log.new }
+    ensures full { (e : ℕ) → result ≡ Err (LogFault.Full e) → IsTrue D.tells
+        → IsOn (D.view disk.new) log.new }
 {
     let mut room = Octets::new(alloc);
     let (head, rest) = body.split_at(HEAD.min(body.len()));

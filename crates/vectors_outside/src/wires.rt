@@ -15,7 +15,8 @@ pub struct Wires;
 
 // The requests with a comma between two, or `none`.
 fn requests(alloc: Global, text: &str) -> Result<Vec<Octets>>
-    ensures { IfOk result (λ requests. All (λ request. length request ≤ LONGEST_REQUEST) requests.items) }
+    ensures { IfOk result (λ requests.
+        All (λ request. length request ≤ LONGEST_REQUEST) requests.items) }
 {
     let mut requests = Vec::new(alloc);
     if text == "none" {
