@@ -9,7 +9,7 @@ use Rattle.relay_store.specs.Journals.{IsBadPairJournalAt}
 use Rattle.relay_store.specs.Opening.{IsOfReading, Opened}
 use Rattle.relay_store.specs.declared.fault.StoreFault.{StoreFault}
 use Rattle.relay_store.specs.declared.store.Store.{Store}
-use Rattle.relay_run.proofs.Beside.{leaves_stand, opened_leaves}
+use Rattle.relay_store.proofs.Beside.{leaves_stand, opened_leaves}
 use Rattle.tape_run.specs.Ends.{end_of_store as tape_end_of}
 use Rattle.tape_run.specs.Tells.{Tells}
 use Rattle.ingest_run.specs.Ingested.{Unopened, pair_scene}

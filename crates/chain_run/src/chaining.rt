@@ -14,7 +14,7 @@ ghost use Rattle.relay_row.specs.declared.row.Row.{Row as TheRow};
 ghost use Rattle.relay_step.specs.Around.{around};
 ghost use Rattle.relay_store.specs.Shown.{held_by};
 ghost use Rattle.relay_store.specs.Store.{IsKept, IsOf, Keeps, seen_in};
-ghost use Rattle.relay_run.specs.Pairs.{of_pair};
+ghost use Rattle.relay_store.specs.Pairs.{of_pair};
 ghost use Rattle.tape_run.specs.Taken.{scene};
 ghost use Rattle.tape_run.specs.Tells.{tells};
 ghost use Rattle.ingest_run.specs.Ends.{IsCausedBy};

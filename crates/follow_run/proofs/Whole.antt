@@ -16,7 +16,7 @@ use Rattle.relay_store.specs.Opening.{Opened}
 use Rattle.relay_store.specs.Store.{seen_in}
 use Rattle.relay_store.specs.declared.message.Message.{Message}
 use Rattle.relay_store.specs.declared.store.Store.{Store}
-use Rattle.relay_run.specs.Pairs.{of_pair}
+use Rattle.relay_store.specs.Pairs.{of_pair}
 use Rattle.tape_run.specs.Causes.{HidesNone}
 use Rattle.tape_run.specs.Ends.{AreExtraAt, end_of_store}
 use Rattle.tape_run.specs.Feeds.{IsFeedEnd, IsOnFeed, TakenOfFeed}

@@ -13,7 +13,7 @@ ghost use Rattle.relay_store.specs.Journals.{IsPairImageOf};
 ghost use Rattle.relay_store.specs.Opening.{BothOnlyRead};
 ghost use Rattle.relay_store.specs.Store.{IsKept, IsOf, seen_in};
 ghost use Rattle.relay_store.specs.declared.fault.StoreFault.{StoreFault};
-ghost use Rattle.relay_run.specs.Pairs.{of_pair};
+ghost use Rattle.relay_store.specs.Pairs.{of_pair};
 ghost use Rattle.tape_run.specs.Causes.{HidesNone};
 ghost use Rattle.tape_run.specs.Tells.{tells};
 ghost use Rattle.tape_run.specs.Feeds.{TakenOfFeed};

@@ -17,8 +17,8 @@ use Rattle.relay_store.specs.Store.{IsOf, Keeps, seen_in}
 use Rattle.relay_store.specs.declared.fault.StoreFault.{StoreFault}
 use Rattle.relay_store.specs.declared.store.Store.{Store}
 use Rattle.relay_store.proofs.OnDisk.{pair_has_no_room, pair_has_room}
-use Rattle.relay_run.specs.Pairs.{IsOneOfPair, StandsFor, of_pair}
-use Rattle.relay_run.proofs.Beside.{ComesBeside, image_of_side, leaves_on, leaves_stand, log_front, opened_keeps, opened_leaves, run_on, stands_on, view_now, view_on}
+use Rattle.relay_store.specs.Pairs.{IsOneOfPair, StandsFor, of_pair}
+use Rattle.relay_store.proofs.Beside.{ComesBeside, image_of_side, leaves_on, leaves_stand, log_front, opened_keeps, opened_leaves, run_on, stands_on, view_now, view_on}
 use Rattle.tape_run.specs.Crashes.{IsOnTheWay, Leaves}
 use Rattle.tape_run.specs.Ends.{FullOnly, disk_failed, end_of_store}
 use Rattle.tape_run.specs.Tells.{Tells}

@@ -24,7 +24,7 @@ use Rattle.tape_run.specs.Ends.{AreExtraAt, AreTaken, AreUnder, FullOnly, IsRepo
 use Rattle.tape_run.specs.Tells.{Tells}
 use Rattle.tape_run.specs.Tapes.{AreRecords, IsOnTape}
 use Rattle.tape_run.specs.declared.end.TapeEnd.{TapeEnd}
-use Rattle.relay_run.specs.Pairs.{IsOneOfPair, StandsFor}
+use Rattle.relay_store.specs.Pairs.{IsOneOfPair, StandsFor}
 use Rattle.ingest_run.specs.NextMessage.{IsNextEnd}
 
 -- The two disks, what the judges, the clock and the repositories tell, what is left of the input, and what is written, at one moment.

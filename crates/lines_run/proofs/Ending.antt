@@ -2,7 +2,7 @@
 use Rattle.std.proofs.Common.{◌≡◌, ◌⊎◌, ⊎_elim, inl, inr, ℕ, ◌≤◌, Result, Err, refl, sym, ap, subst}
 use Rattle.at_cid.specs.Counts.{Rose}
 use Rattle.relay_store.specs.declared.fault.StoreFault.{StoreFault}
-use Rattle.relay_run.proofs.Causing.{rose_behind}
+use Rattle.relay_store.proofs.Counting.{rose_behind}
 use Rattle.backfill.specs.declared.replay_fault.ReplayFault.{ReplayFault}
 use Rattle.serve_run.specs.Ends.{end_of_opening, end_of_replay}
 use Rattle.serve_run.specs.declared.end.ServeEnd.{ServeEnd}

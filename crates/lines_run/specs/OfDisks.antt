@@ -2,7 +2,7 @@
 use Rattle.std.specs.Prelude.{⊤, ℕ, Bool, List, Option, IsTrue}
 use Rattle.relay_row.specs.declared.row.Row.{Row}
 use Rattle.relay_store.specs.Shown.{held_by}
-use Rattle.relay_run.specs.Pairs.{PairView}
+use Rattle.relay_store.specs.Pairs.{PairView}
 use Rattle.serve_run.specs.Ends.{ServeOpened}
 use Rattle.serve_run.specs.Replayed.{IsReplayed, OnlyRead}
 use Rattle.serve_run.specs.declared.end.ServeEnd.{ServeEnd}

@@ -11,7 +11,7 @@ ghost use Rattle.relay_store.specs.Journals.{IsPairImageOf};
 ghost use Rattle.relay_store.specs.Opening.{BothOnlyRead};
 ghost use Rattle.relay_store.specs.Shown.{held_by};
 ghost use Rattle.relay_store.specs.Store.{IsKept, Keeps, seen_in};
-ghost use Rattle.relay_run.specs.Pairs.{pair_view};
+ghost use Rattle.relay_store.specs.Pairs.{pair_view};
 ghost use Rattle.serve_run.specs.Ends.{IsCausedBy, ServeEndShows};
 ghost use Rattle.serve_run.specs.Replayed.{IsReplayed};
 ghost use Rattle.serve_run.specs.declared.end.ServeEnd.{ServeEnd};

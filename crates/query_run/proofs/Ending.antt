@@ -8,7 +8,7 @@ use Rattle.relay_store.specs.Opening.{BothOnlyRead, Opened}
 use Rattle.relay_store.specs.declared.fault.StoreFault.{StoreFault}
 use Rattle.relay_store.specs.declared.store.Store.{Store}
 use Rattle.relay_store.proofs.Opened.{bad_read}
-use Rattle.relay_run.proofs.Beside.{leaves_stand, opened_leaves}
+use Rattle.relay_store.proofs.Beside.{leaves_stand, opened_leaves}
 use Rattle.serve_run.specs.Replayed.{OnlyRead}
 use Rattle.query_run.specs.AtWire.{AtWire}
 use Rattle.query_run.specs.Ends.{IsCausedBy, IsOfAnswering, IsOfDisks, QueryMayEnd, QueryEndShows, QueryOpened, end_of_opening}

@@ -1,7 +1,7 @@
 -- What answering requests by the journal of two disks does (own).
 use Rattle.std.specs.Prelude.{ℕ, Bool, List}
 use Rattle.relay_row.specs.declared.row.Row.{Row}
-use Rattle.relay_run.specs.Pairs.{PairView}
+use Rattle.relay_store.specs.Pairs.{PairView}
 use Rattle.serve_run.specs.Replayed.{OnlyRead}
 use Rattle.query_run.specs.AtWire.{AtWire}
 use Rattle.query_run.specs.Ends.{QueryOpened}

@@ -6,7 +6,7 @@ ghost use Rattle.gate_log.specs.declared.limits.TheConstants.{LAST_END};
 ghost use Rattle.relay_row.specs.declared.row.Row.{Row as TheRow};
 ghost use Rattle.relay_store.specs.Journals.{IsPairImageOf};
 ghost use Rattle.relay_store.specs.Opening.{BothOnlyRead};
-ghost use Rattle.relay_run.specs.Pairs.{pair_view};
+ghost use Rattle.relay_store.specs.Pairs.{pair_view};
 ghost use Rattle.query_run.specs.AtWire.{at_wire};
 ghost use Rattle.query_run.specs.Ends.{IsCausedBy, IsOfDisks, QueryMayEnd, QueryEndShows};
 ghost use Rattle.query_run.specs.OfDisks.{AnsweredBy};

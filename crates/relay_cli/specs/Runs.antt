@@ -24,7 +24,7 @@ use Rattle.query_run.specs.OfDisks.{AnsweredBy}
 use Rattle.query_run.specs.declared.end.QueryEnd.{QueryEnd}
 use Rattle.relay_run.specs.Cutting.{IsOfCutting, WasCut}
 use Rattle.relay_run.specs.Ends.{IsOfShowing, IsQuiet as IsQuietEnd, RunEndShows as HadJournal}
-use Rattle.relay_run.specs.Pairs.{PairView, pair_view}
+use Rattle.relay_store.specs.Pairs.{PairView, pair_view}
 use Rattle.relay_run.specs.Shown.{TextShown}
 use Rattle.relay_run.specs.Behind.{WasOperated, WasSynced}
 use Rattle.relay_run.specs.declared.end.RunEnd.{RunEnd}

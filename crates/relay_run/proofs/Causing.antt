@@ -1,6 +1,5 @@
 -- How commands end: what the disks show, and the causes.
-use Rattle.std.proofs.Common.{◌≡◌, ◌∙◌, ◌⊎◌, inl, inr, ℕ, ◌≤◌, List, Bool, Result, Err, IsTrue, refl, sym, subst, arith}
-use Rattle.at_cid.specs.Counts.{Rose}
+use Rattle.std.proofs.Common.{◌≡◌, ◌∙◌, ◌⊎◌, inl, inr, ℕ, List, Bool, Result, Err, IsTrue, refl, sym, subst}
 use Rattle.relay_disk.specs.Disk.{View}
 use Rattle.relay_row.specs.declared.row.Row.{Row}
 use Rattle.relay_step.specs.declared.command.CommandAnswer.{CommandAnswer}
@@ -58,10 +57,6 @@ opening_causes disk write spent repos clock StoreFault.Authority of cause = absu
 opening_causes disk write spent repos clock StoreFault.Repos of cause = absurd of
 opening_causes disk write spent repos clock StoreFault.Memory of cause = tt
 opening_causes disk write spent repos clock StoreFault.Clock of cause = absurd of
-
--- a count that rose behind one that hadn't fallen
-pub rose_behind : (before mid now : ℕ) → before ≤ mid → Rose mid now → Rose before now
-rose_behind before mid now le rose = omega (arith, le, rose)
 
 -- an account that is taken down or restored asks neither judges nor repositories
 pub operating_causes : (disk write clock : Type 0) (fault : StoreFault) → IsOfOperating fault → (fault ≡ StoreFault.Disk → disk) → (fault ≡ StoreFault.Clock → clock) → IsCausedBy disk write ⊥ ⊥ clock (RunEnd.Fault fault)

@@ -17,10 +17,10 @@ use Rattle.relay_store.specs.Store.{Keeps, seen_in}
 use Rattle.relay_store.specs.declared.fault.StoreFault.{StoreFault}
 use Rattle.relay_store.specs.declared.store.Store.{Store}
 use Rattle.relay_run.specs.Ends.{IsWritten}
-use Rattle.relay_run.specs.Pairs.{pair_view}
+use Rattle.relay_store.specs.Pairs.{pair_view}
 use Rattle.relay_run.specs.Shown.{TextShown}
 use Rattle.relay_run.specs.declared.end.RunEnd.{RunEnd}
-use Rattle.relay_run.proofs.Beside.{kept_stands, leaves_stand, opened_keeps, opened_leaves}
+use Rattle.relay_store.proofs.Beside.{kept_stands, leaves_stand, opened_keeps, opened_leaves}
 use Rattle.relay_run.proofs.Causing.{not_opened}
 
 -- they weren't opened

@@ -25,9 +25,9 @@ use Rattle.relay_store.specs.declared.fault.StoreFault.{StoreFault}
 use Rattle.relay_store.specs.declared.store.Store.{Store}
 use Rattle.relay_run.specs.Cutting.{EndsCut, IsAnswerOf, IsOfCutting, IsOfFormat, IsUnwritten, IsWrittenAnew, LeavesOpened, WasCut, answered, cut_text, unopened, unwritten}
 use Rattle.relay_run.specs.Ends.{IsCausedBy, IsWritten}
-use Rattle.relay_run.specs.Pairs.{StandsFor, pair_view}
+use Rattle.relay_store.specs.Pairs.{StandsFor, pair_view}
 use Rattle.relay_run.specs.declared.end.RunEnd.{RunEnd}
-use Rattle.relay_run.proofs.Beside.{kept_front, kept_stands, leaves_stand, opened_keeps, opened_leaves}
+use Rattle.relay_store.proofs.Beside.{kept_front, kept_stands, leaves_stand, opened_keeps, opened_leaves}
 use Rattle.relay_run.proofs.Sounds.{cut_stays}
 use Rattle.relay_run.proofs.Causing.{IsBad, done_causes, done_good, same_bad}
 

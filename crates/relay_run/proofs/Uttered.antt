@@ -28,12 +28,12 @@ use Rattle.relay_store.specs.declared.store.Store.{Store}
 use Rattle.relay_store.proofs.OnDisk.{ends_within, pair_has_no_room, pair_has_room}
 use Rattle.relay_run.specs.Ends.{IsWritten}
 use Rattle.relay_run.specs.Lines.{IsEndOf, done_text}
-use Rattle.relay_run.specs.Pairs.{IsOneOfPair, StandsFor, of_pair, pair_view}
+use Rattle.relay_store.specs.Pairs.{IsOneOfPair, StandsFor, of_pair, pair_view}
 use Rattle.relay_run.specs.CommandRan.{EndsCommand, CommandRan, in_vain, rows_kept, said, unopened}
 use Rattle.relay_run.specs.declared.end.RunEnd.{RunEnd}
 use Rattle.relay_run.proofs.Causing.{answered, same_fault}
 use Rattle.relay_run.proofs.Sounds.{Leaves}
-use Rattle.relay_run.proofs.Beside.{both_same, kept_fronts, kept_stands, leaves_on, leaves_stand, one_beside, opened_keeps, opened_leaves, run_on, stands_on, view_now, view_on}
+use Rattle.relay_store.proofs.Beside.{both_same, kept_fronts, kept_stands, leaves_on, leaves_stand, one_beside, opened_keeps, opened_leaves, run_on, stands_on, view_now, view_on}
 
 -- ---- how a command ends by its word
 

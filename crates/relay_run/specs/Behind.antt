@@ -17,7 +17,7 @@ use Rattle.relay_step.specs.Operators.{IsOperated, IsSyncedNow}
 use Rattle.relay_step.specs.declared.command.CommandAnswer.{CommandAnswer}
 use Rattle.relay_store.specs.Faults.{IsCause}
 use Rattle.relay_run.specs.CommandRan.{CommandRan}
-use Rattle.relay_run.specs.Pairs.{PairView}
+use Rattle.relay_store.specs.Pairs.{PairView}
 use Rattle.relay_run.specs.declared.end.RunEnd.{RunEnd}
 
 -- ---- an account taken down or restored

@@ -15,7 +15,7 @@ use Rattle.relay_store.specs.Commands.{done_of}
 use Rattle.relay_store.specs.declared.fault.StoreFault.{StoreFault}
 use Rattle.relay_run.specs.Ends.{IsWritten}
 use Rattle.relay_run.specs.Lines.{done_text}
-use Rattle.relay_run.specs.Pairs.{IsOneOfPair, PairView, StandsFor}
+use Rattle.relay_store.specs.Pairs.{IsOneOfPair, PairView, StandsFor}
 use Rattle.relay_run.specs.declared.end.RunEnd.{RunEnd}
 
 -- What came of an operator's command: the disks weren't opened, no word came, or this word was taken.

@@ -20,8 +20,9 @@ use Rattle.relay_store.specs.declared.cutting.CutDone.{CutDone}
 use Rattle.relay_store.specs.declared.done.Done.{Done}
 use Rattle.relay_store.specs.declared.fault.StoreFault.{StoreFault}
 use Rattle.relay_run.specs.Ends.{IsWritten}
-use Rattle.relay_run.specs.Lines.{IsEndOf, done_text, numbered}
-use Rattle.relay_run.specs.Pairs.{PairView, StandsFor}
+use Rattle.report_lines.specs.Lines.{numbered}
+use Rattle.relay_run.specs.Lines.{IsEndOf, done_text}
+use Rattle.relay_store.specs.Pairs.{PairView, StandsFor}
 use Rattle.relay_run.specs.declared.end.RunEnd.{RunEnd}
 
 -- ---- the answer

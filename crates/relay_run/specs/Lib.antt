@@ -1,4 +1,3 @@
-pub mod Pairs
 pub mod Ends
 pub mod Lines
 pub mod Shown

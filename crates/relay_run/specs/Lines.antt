@@ -1,14 +1,11 @@
 -- The lines of what was answered to an operator (own): numbers are decimal, and each line ends in a line feed.
-use Rattle.std.specs.Prelude.{◌≡◌, ⊤, ℕ, List, [], ◌∷◌, ◌++◌, codes, decimal}
+use Rattle.std.specs.Prelude.{◌≡◌, ⊤, ℕ, List, [], ◌∷◌, ◌++◌, codes}
 use Rattle.at_event.specs.Refusals.{code_of}
 use Rattle.relay_core.specs.Report.{refused_of}
 use Rattle.relay_store.specs.declared.done.Done.{Done}
 use Rattle.relay_store.specs.declared.fault.StoreFault.{StoreFault}
+use Rattle.report_lines.specs.Lines.{numbered}
 use Rattle.relay_run.specs.declared.end.RunEnd.{RunEnd}
-
--- a word and a number
-abbrev pub numbered : List ℕ → ℕ → List ℕ
-numbered command n = command ++ decimal n
 
 -- under which number it goes out, with how many records of a repository that was taken over; or that it is refused
 abbrev pub done_text : Done → List ℕ

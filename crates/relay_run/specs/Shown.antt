@@ -4,7 +4,7 @@ use Rattle.relay_disk.specs.Moments.{PairLeavesOnly}
 use Rattle.relay_row.specs.declared.row.Row.{Row}
 use Rattle.relay_store.specs.Journals.{IsPairImageOf}
 use Rattle.relay_run.specs.Ends.{IsOpened, IsWritten}
-use Rattle.relay_run.specs.Pairs.{PairView, StandsFor}
+use Rattle.relay_store.specs.Pairs.{PairView, StandsFor}
 use Rattle.relay_run.specs.declared.end.RunEnd.{RunEnd}
 
 -- A text of the journal J of two disks was shown.

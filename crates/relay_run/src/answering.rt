@@ -4,7 +4,8 @@ ghost use Rattle.std.specs.Prelude.{◌≡◌, ◌≢◌, ◌≤◌, ◌++◌, �
 ghost use Rattle.at_cid.specs.Counts.{Rose};
 ghost use Rattle.relay_io.specs.Streams.{AddsFront};
 ghost use Rattle.relay_run.specs.Ends.{IsWritten};
-ghost use Rattle.relay_run.specs.Lines.{IsEndOf, done_text, numbered};
+ghost use Rattle.report_lines.specs.Lines.{numbered};
+ghost use Rattle.relay_run.specs.Lines.{IsEndOf, done_text};
 
 use crate::end::RunEnd;
 use at_cid::{Memory, Octets};

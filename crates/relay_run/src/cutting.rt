@@ -19,8 +19,8 @@ ghost use Rattle.relay_store.specs.declared.fault.StoreFault.{StoreFault as TheF
 ghost use Rattle.relay_store.specs.Opening.{BothOnlyRead};
 ghost use Rattle.relay_run.specs.Cutting.{EndsCut, IsAnswerOf, IsOfCutting, WasCut, cut_text};
 ghost use Rattle.relay_run.specs.Ends.{IsCausedBy, IsQuiet, IsWritten, RunEndShows};
-ghost use Rattle.relay_run.specs.Lines.{numbered};
-ghost use Rattle.relay_run.specs.Pairs.{StandsFor, pair_view};
+ghost use Rattle.report_lines.specs.Lines.{numbered};
+ghost use Rattle.relay_store.specs.Pairs.{StandsFor, pair_view};
 
 use crate::answering::{answer_refused, write_last, write_number};
 use crate::end::RunEnd;

@@ -15,7 +15,7 @@ ghost use Rattle.relay_store.specs.Commands.{IsOfOperating, CommandDone};
 ghost use Rattle.relay_store.specs.declared.fault.StoreFault.{StoreFault as TheFault};
 ghost use Rattle.relay_store.specs.Opening.{BothOnlyRead};
 ghost use Rattle.relay_run.specs.Ends.{IsCausedBy, IsQuiet, RunEndShows};
-ghost use Rattle.relay_run.specs.Pairs.{of_pair, pair_view};
+ghost use Rattle.relay_store.specs.Pairs.{of_pair, pair_view};
 ghost use Rattle.relay_run.specs.Behind.{WasOperated};
 
 use crate::answering::answer;

@@ -10,7 +10,7 @@ ghost use Rattle.state_lines.specs.Lines.{account_text, hosts_text};
 ghost use Rattle.relay_store.specs.Journals.{IsPairImageOf};
 ghost use Rattle.relay_store.specs.Opening.{BothOnlyRead};
 ghost use Rattle.relay_run.specs.Ends.{IsCausedBy, IsOfShowing, IsQuiet, IsWritten, RunEndShows};
-ghost use Rattle.relay_run.specs.Pairs.{pair_view};
+ghost use Rattle.relay_store.specs.Pairs.{pair_view};
 ghost use Rattle.relay_run.specs.Shown.{TextShown};
 
 use crate::end::RunEnd;

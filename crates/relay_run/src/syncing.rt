@@ -17,7 +17,7 @@ ghost use Rattle.relay_store.specs.Store.{IsKept, IsOf, seen_in};
 ghost use Rattle.relay_store.specs.Commands.{CommandDone};
 ghost use Rattle.relay_store.specs.Opening.{BothOnlyRead};
 ghost use Rattle.relay_run.specs.Ends.{IsCausedBy, IsQuiet, RunEndShows};
-ghost use Rattle.relay_run.specs.Pairs.{of_pair, pair_view};
+ghost use Rattle.relay_store.specs.Pairs.{of_pair, pair_view};
 ghost use Rattle.relay_run.specs.Behind.{WasSynced};
 
 use crate::answering::answer;

@@ -1,4 +1,5 @@
 pub mod Journals
+pub mod Pairs
 pub mod Places
 pub mod Store
 pub mod Outcomes

@@ -8,8 +8,8 @@ use Rattle.relay_store.specs.Opening.{Opened}
 use Rattle.relay_store.specs.Store.{seen_in}
 use Rattle.relay_store.specs.declared.fault.StoreFault.{StoreFault}
 use Rattle.relay_store.specs.declared.store.Store.{Store}
-use Rattle.relay_run.specs.Pairs.{StandsFor}
-use Rattle.relay_run.proofs.Beside.{kept_stands, leaves_stand, opened_keeps, opened_leaves}
+use Rattle.relay_store.specs.Pairs.{StandsFor}
+use Rattle.relay_store.proofs.Beside.{kept_stands, leaves_stand, opened_keeps, opened_leaves}
 use Rattle.serve_run.specs.Ends.{ServeOpened, end_of_opening}
 use Rattle.serve_run.specs.Replayed.{OnlyRead}
 use Rattle.serve_run.specs.declared.end.ServeEnd.{ServeEnd}

@@ -4,7 +4,7 @@ use Rattle.event_window.specs.Held.{Held}
 use Rattle.relay_io.specs.Streams.{AddsFront}
 use Rattle.relay_row.specs.declared.row.Row.{Row}
 use Rattle.relay_store.specs.Shown.{held_by}
-use Rattle.relay_run.specs.Pairs.{PairView}
+use Rattle.relay_store.specs.Pairs.{PairView}
 use Rattle.serve_run.specs.AtDoor.{AtDoor, SessionIsBroken, NobodyComes, IsStill, Visited}
 use Rattle.serve_run.specs.Ends.{ServeOpened}
 use Rattle.serve_run.specs.Replayed.{OnlyRead}

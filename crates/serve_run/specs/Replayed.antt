@@ -6,7 +6,7 @@ use Rattle.relay_io.specs.Streams.{AddsFront}
 use Rattle.relay_row.specs.declared.row.Row.{Row}
 use Rattle.relay_store.specs.Journals.{IsPairImageOf}
 use Rattle.relay_store.specs.Shown.{held_by}
-use Rattle.relay_run.specs.Pairs.{PairView, StandsFor}
+use Rattle.relay_store.specs.Pairs.{PairView, StandsFor}
 use Rattle.backfill.specs.Served.{served}
 use Rattle.backfill.specs.Writing.{AddsMessages, with_length}
 use Rattle.serve_run.specs.Ends.{ServeOpened}

@@ -4,7 +4,7 @@ use Rattle.at_cid.specs.Counts.{Rose}
 use Rattle.event_window.specs.Held.{Held}
 use Rattle.relay_io.specs.declared.door.Guest.{Guest}
 use Rattle.relay_io.specs.declared.door.Turn.{Turn}
-use Rattle.relay_run.specs.Lines.{numbered}
+use Rattle.report_lines.specs.Lines.{numbered}
 use Rattle.backfill.specs.Served.{notice, served, served_events}
 use Rattle.backfill.specs.Serving.{sendings}
 use Rattle.backfill.specs.Target.{cursor_in}

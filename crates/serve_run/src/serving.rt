@@ -10,7 +10,7 @@ ghost use Rattle.relay_store.specs.Journals.{IsPairImageOf};
 ghost use Rattle.relay_store.specs.Opening.{BothOnlyRead};
 ghost use Rattle.relay_store.specs.Shown.{held_by};
 ghost use Rattle.relay_store.specs.Store.{IsKept, Keeps, seen_in};
-ghost use Rattle.relay_run.specs.Pairs.{pair_view};
+ghost use Rattle.relay_store.specs.Pairs.{pair_view};
 ghost use Rattle.serve_run.specs.AtDoor.{at_door};
 ghost use Rattle.serve_run.specs.Ends.{IsCausedBy, IsDoorCount, ServeEndShows};
 ghost use Rattle.serve_run.specs.Guests.{GuestsServed, ServedAt, end_in};

@@ -3,7 +3,7 @@
 ghost use Rattle.std.specs.Prelude.{◌≡◌, ◌≢◌, ◌≤◌, ◌++◌, IfOk, OnOk, IfErr, IsTrue, Err};
 ghost use Rattle.at_cid.specs.Counts.{Rose};
 ghost use Rattle.relay_io.specs.Streams.{AddsFront};
-ghost use Rattle.relay_run.specs.Lines.{numbered};
+ghost use Rattle.report_lines.specs.Lines.{numbered};
 ghost use Rattle.serve_run.specs.Ends.{IsUnwritten};
 ghost use Rattle.serve_run.specs.Sessions.{sessions_end_line, session_line, told};
 

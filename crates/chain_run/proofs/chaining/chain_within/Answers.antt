@@ -5,7 +5,7 @@ use Rattle.backfill.specs.Served.{served}
 use Rattle.relay_step.specs.Around.{around}
 use Rattle.relay_store.specs.Shown.{held_by}
 use Rattle.tape_run.specs.Tells.{tells}
-use Rattle.relay_run.proofs.Beside.{opened_keeps}
+use Rattle.relay_store.proofs.Beside.{opened_keeps}
 use Rattle.ingest_run.proofs.Whole.{opened_of}
 use Rattle.follow_run.specs.Ends.{feed_end}
 use Rattle.follow_run.proofs.Whole.{followed_on}

@@ -3,7 +3,7 @@ use Rattle.relay_disk.proofs.Moments.{still_here}
 use Rattle.relay_core.specs.Entries.{Holds}
 use Rattle.relay_core.specs.declared.journal_state.Core.{Core}
 use Rattle.relay_store.proofs.Images.{no_journal}
-use Rattle.relay_run.proofs.Beside.{opened_keeps}
+use Rattle.relay_store.proofs.Beside.{opened_keeps}
 use Rattle.serve_run.proofs.Reading.{read_opened}
 use Rattle.query_run.specs.AtWire.{at_wire}
 use Rattle.query_run.specs.Ends.{IsOfDisks, QueryOpened, end_in}

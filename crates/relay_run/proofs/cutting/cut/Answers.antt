@@ -6,9 +6,10 @@ use Rattle.cut_law.specs.Cut.{cut}
 use Rattle.relay_store.specs.Rewriting.{RewriteHasNoRoom}
 use Rattle.relay_store.specs.declared.cutting.CutDone.{CutDone}
 use Rattle.relay_run.specs.Cutting.{IsAnswerOf}
-use Rattle.relay_run.specs.Pairs.{StandsFor}
+use Rattle.relay_store.specs.Pairs.{StandsFor}
 use Rattle.relay_run.specs.declared.end.RunEnd.{RunEnd}
-use Rattle.relay_run.proofs.Causing.{image_shows, never_bad, opening_causes, opening_read, opening_shows, rose_behind}
+use Rattle.relay_store.proofs.Counting.{rose_behind}
+use Rattle.relay_run.proofs.Causing.{image_shows, never_bad, opening_causes, opening_read, opening_shows}
 use Rattle.relay_run.proofs.Severed.{answer_causes, answer_few, answer_good, cut_answered, cut_unopened, cut_unwritten, fault_good, kept, reading_rewrites, rewriting_causes}
 use Rattle.relay_run.proofs.cutting.cut.Goals as goal
 

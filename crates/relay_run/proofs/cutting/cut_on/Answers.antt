@@ -4,7 +4,7 @@ use Rattle.relay_disk.proofs.Moments.{time_called}
 use Rattle.gate_log.specs.declared.picking.Side.TheVariants.{One, Two}
 use Rattle.relay_store.specs.Store.{seen_in}
 use Rattle.cut_law.specs.Cut.{cut}
-use Rattle.relay_run.proofs.Beside.{kept_front}
+use Rattle.relay_store.proofs.Beside.{kept_front}
 use Rattle.relay_run.proofs.Severed.{cut_not, err_not, first_each, first_here, first_live, first_there, first_unlive, not_disk, now_first, now_second, on_fault, second_each, second_here, second_live, second_there, second_unlive, written_anew}
 use Rattle.relay_run.proofs.cutting.cut_on.Goals as goal
 

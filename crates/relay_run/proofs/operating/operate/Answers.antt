@@ -8,7 +8,8 @@ use Rattle.relay_store.specs.Store.{seen_in}
 use Rattle.relay_run.specs.Behind.{NumbersEndBehind, OperatedBehind}
 use Rattle.relay_run.specs.declared.end.RunEnd.{RunEnd}
 use Rattle.relay_run.proofs.Behind.{numbers_end, operated_behind}
-use Rattle.relay_run.proofs.Causing.{commanded_good, done_causes, done_good, image_shows, never_bad, opening_causes, opening_read, opening_shows, operating_causes, rose_behind}
+use Rattle.relay_store.proofs.Counting.{rose_behind}
+use Rattle.relay_run.proofs.Causing.{commanded_good, done_causes, done_good, image_shows, never_bad, opening_causes, opening_read, opening_shows, operating_causes}
 use Rattle.relay_run.proofs.Sounds.{operated_stays, short_text}
 use Rattle.relay_run.proofs.Uttered.{opened_holds, opened_of, ran_err, ran_ok, ran_unopened, vain_by}
 use Rattle.relay_run.proofs.operating.operate.Goals as goal

@@ -4,7 +4,7 @@ use Rattle.std.proofs.lemmas.List.{append-nil}
 use Rattle.backfill.specs.Served.{served}
 use Rattle.backfill.specs.Writing.{with_length}
 use Rattle.relay_store.specs.Shown.{held_by}
-use Rattle.relay_run.proofs.Beside.{opened_keeps}
+use Rattle.relay_store.proofs.Beside.{opened_keeps}
 use Rattle.serve_run.specs.Ends.{ServeOpened, ServeEndShows}
 use Rattle.serve_run.specs.declared.end.ServeEnd.{ServeEnd}
 use Rattle.serve_run.proofs.Ending.{image_shows, nothing_broken, nothing_written, opening_read, opening_shows, opening_steady}

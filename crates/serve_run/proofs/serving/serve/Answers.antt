@@ -1,6 +1,6 @@
 use Rattle.std.proofs.Common.{◌∙◌, Err, sym, ap, subst, refl}
 use Rattle.relay_store.specs.Shown.{held_by}
-use Rattle.relay_run.proofs.Beside.{opened_keeps}
+use Rattle.relay_store.proofs.Beside.{opened_keeps}
 use Rattle.serve_run.specs.AtDoor.{at_door}
 use Rattle.serve_run.specs.Ends.{ServeOpened, ServeEndShows}
 use Rattle.serve_run.specs.Guests.{end_in}

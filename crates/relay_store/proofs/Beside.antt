@@ -17,7 +17,7 @@ use Rattle.relay_store.specs.Store.{Keeps, StoreState, seen_in}
 use Rattle.relay_store.specs.declared.fault.StoreFault.{StoreFault}
 use Rattle.relay_store.specs.declared.store.Store.{Store}
 use Rattle.relay_store.proofs.Images.{kept_log, same_pair_journal}
-use Rattle.relay_run.specs.Pairs.{IsOneOfPair, StandsFor, of_pair}
+use Rattle.relay_store.specs.Pairs.{IsOneOfPair, StandsFor, of_pair}
 
 -- a log of the side that is picked
 pub image_of_side : (J : List Row) (side : Side) (format : Format) (c d : List ℕ) → IsPicked c d side → IsLogOf format J (of_side side c d) → IsPairImageOf J c d
