@@ -2,4 +2,4 @@ pub mod Verdicts
 pub mod Words
 pub mod Encoded
 pub mod Damaged
-pub mod Flawless
+pub mod Telling

@@ -1,12 +1,19 @@
 -- Commands that are equal, and operators' commands as texts that are equal.
 use Rattle.std.proofs.Common.{◌≡◌, ℕ, Bool, List, Option, subst, sym}
+use Rattle.account_state.specs.Folds.{account}
 use Rattle.relay_run.specs.Ends.{IsCausedBy}
 use Rattle.relay_run.specs.declared.end.RunEnd.{RunEnd}
 use Rattle.relay_store.specs.declared.fault.StoreFault.{StoreFault}
+use Rattle.state_lines.specs.Lines.{account_text}
 use Rattle.relay_cli.specs.declared.status.Status.{Status}
 use Rattle.relay_disk.specs.Disk.{View}
 use Rattle.relay_cli.specs.declared.command.Command.{Command}
-use Rattle.relay_cli.specs.Runs.{AreLinesGiven, Faults, IsFollowed, Ran, RanOperated, IsSynced, Place, OutsideTells}
+use Rattle.relay_cli.specs.Ran.{Ran}
+use Rattle.relay_cli.specs.Runs.{AreLinesGiven, HasRun, IsFollowed, IsShown, RanOperated, IsSynced, Place, OutsideTells}
+
+pub shown_of : (did given : List ℕ) (t : OutsideTells) (old new : Place) (status : Status) → given ≡ did
+    → IsShown (λ J. account_text given (account given J)) t old new status → IsShown (λ J. account_text did (account did J)) t old new status
+shown_of did given t old new status same done = subst (λ (x : List ℕ). IsShown (λ J. account_text x (account x J)) t old new status) same done
 
 pub operated_of : (did given time told : List ℕ) (down : Bool) (t : OutsideTells) (old new : Place) (status : Status) → given ≡ did → told ≡ time → RanOperated given down told t old new status → RanOperated did down time t old new status
 operated_of did given time told down t old new status same at done =
@@ -19,16 +26,20 @@ synced_of did given time told t old new status same at done = subst (λ (x : Lis
 pub spent_by : (disk write spent repos clock : Type 0) (end : RunEnd) → IsCausedBy disk write spent repos clock end → end ≡ RunEnd.Fault StoreFault.Authority → spent
 spent_by disk write spent repos clock end caused is = subst (IsCausedBy disk write spent repos clock) is caused
 
-pub followed_of : (host given : List ℕ) (count : ℕ) (t : OutsideTells) (old new : Place) (failed failed_now : Faults) (status : Status) → given ≡ host → IsFollowed given count t old new failed failed_now status → IsFollowed host count t old new failed failed_now status
-followed_of host given count t old new failed failed_now status same done = subst (λ (x : List ℕ). IsFollowed x count t old new failed failed_now status) same done
+pub followed_of : (host given : List ℕ) (count : ℕ) (t : OutsideTells) (old new : Place) (status : Status) → given ≡ host → IsFollowed given count t old new status → IsFollowed host count t old new status
+followed_of host given count t old new status same done = subst (λ (x : List ℕ). IsFollowed x count t old new status) same done
 
 -- what a command does that is this one
-pub ran_as : (D : Type 0) (view : D → View) (t : OutsideTells) (old new : Place) (failed failed_now : Faults) (status : Status) (command one : Command) → command ≡ one → Ran view t old new failed failed_now status one → Ran view t old new failed failed_now status command
-ran_as D view t old new failed failed_now status command one same done = subst (λ (x : Command). Ran view t old new failed failed_now status x) (sym same) done
+pub run_as : (D : Type 0) (view : D → View) (t : OutsideTells) (old new : Place) (status : Status) (command one : Command) → command ≡ one → HasRun view t old new status one → HasRun view t old new status command
+run_as D view t old new status command one same done = subst (λ (x : Command). HasRun view t old new status x) (sym same) done
 
 -- and where its collection is a text that is equal
-pub lines_ran : (D : Type 0) (view : D → View) (t : OutsideTells) (old new : Place) (failed failed_now : Faults) (status : Status) (command : Command) (cursor : ℕ) (collection given : Option (List ℕ))
-    → command ≡ Command.Lines cursor collection → given ≡ collection → AreLinesGiven cursor given t old new failed failed_now status → Ran view t old new failed failed_now status command
-lines_ran D view t old new failed failed_now status command cursor collection given is same done =
-    ran_as D view t old new failed failed_now status command (Command.Lines cursor collection) is
-    (subst (λ (x : Option (List ℕ)). AreLinesGiven cursor x t old new failed failed_now status) same done)
+pub lines_run_as : (D : Type 0) (view : D → View) (t : OutsideTells) (old new : Place) (status : Status) (command : Command) (cursor : ℕ) (collection given : Option (List ℕ))
+    → command ≡ Command.Lines cursor collection → given ≡ collection → AreLinesGiven cursor given t old new status → HasRun view t old new status command
+lines_run_as D view t old new status command cursor collection given is same done =
+    run_as D view t old new status command (Command.Lines cursor collection) is
+    (subst (λ (x : Option (List ℕ)). AreLinesGiven cursor x t old new status) same done)
+
+-- and what a run promises of it
+pub ran_as : (D : Type 0) (view : D → View) (t : OutsideTells) (old new : Place) (status : Status) (command one : Command) → command ≡ one → Ran view t old new status one → Ran view t old new status command
+ran_as D view t old new status command one same done = subst (λ (x : Command). Ran view t old new status x) (sym same) done

@@ -3,4 +3,4 @@ pub mod Statuses
 pub mod Report
 pub mod Verdicts
 pub mod Runs
-pub mod Faults
+pub mod Ran

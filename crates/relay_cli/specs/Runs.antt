@@ -156,7 +156,7 @@ Caused Status.Door old new = Rose old.door new.door
 Caused Status.Wire old new = Rose old.wire new.wire
 Caused status old new = ⊤
 
--- What the objects of a run hold at one moment: the two disks; what the judges, the clock and the repositories tell; what is left of the input, and what is written; what the feed gives of each host behind each number, and what is left of the stream that is open; who comes to the door, and what happened there; and the requests of the wire, and what happened on it.
+-- What the objects of a run hold at one moment: the two disks; what the judges, the clock and the repositories tell; what is left of the input, and what is written; what the feed gives of each host behind each number, and what is left of the stream that is open; who comes to the door, and what happened there; the requests of the wire, and what happened on it; and how often each has failed.
 pub record Place : Type 1 where
   pub one : View
   pub two : View
@@ -167,11 +167,12 @@ pub record Place : Type 1 where
   pub coming : List (List ℕ)
   pub door : AtDoor
   pub wire : AtWire
+  pub failed : Faults
 
 abbrev pub place : View → View → Around → List ℕ → List ℕ → (List ℕ → ℕ → List (List ℕ))
-    → List (List ℕ) → AtDoor → AtWire → Place
-place one two around left written given coming door wire =
-    record { one = one; two = two; around = around; left = left; written = written; given = given; coming = coming; door = door; wire = wire }
+    → List (List ℕ) → AtDoor → AtWire → Faults → Place
+place one two around left written given coming door wire failed =
+    record { one = one; two = two; around = around; left = left; written = written; given = given; coming = coming; door = door; wire = wire; failed = failed }
 
 -- the two disks and what is written
 abbrev pub disks : Place → PairView
@@ -239,8 +240,7 @@ IsFlawless old new = NoneOf (Rose old.disk new.disk
     (Rose old.repos new.repos) (Rose old.clock new.clock)
 
 -- A tape was to be taken into the journal. The disks weren't opened, or it was taken and ended so; and the end tells what the disks were.
-pub record IsIngested (t : OutsideTells) (old new : Place) (failed failed_now : Faults)
-    (status : Status) : Type 0 where
+pub record IsIngested (t : OutsideTells) (old new : Place) (status : Status) : Type 0 where
   pub end : TapeEnd
   pub status_is : status ≡ status_of_tape end
   pub had : IsTrue t.disk → TapeHadJournal end old.one.content old.two.content
@@ -250,7 +250,7 @@ pub record IsIngested (t : OutsideTells) (old new : Place) (failed failed_now : 
   -- a whole tape is taken where nothing fails, unless memory runs out, the log is full, or the numbers or the authorities end
   pub complete : OnJournal t old (λ J. IsTrue t.input → (messages : List Message)
       → AreRecords messages → old.left ≡ encoded_records messages
-      → length (encoded_records messages) < LONGEST → IsFlawless failed failed_now → MayEnd end)
+      → length (encoded_records messages) < LONGEST → IsFlawless old.failed new.failed → MayEnd end)
 
 -- all that following a host moves but the feed
 abbrev pub all_but_feed : Place → PairScene
@@ -264,7 +264,7 @@ IsFlawlessFeed old new = NoneOf (Rose old.disk new.disk
 
 -- A host was to be followed. The disks weren't opened, or messages of its feed were taken into the journal, and it ended so.
 pub record IsFollowed (host : List ℕ) (count : ℕ) (t : OutsideTells) (old new : Place)
-    (failed failed_now : Faults) (status : Status) : Type 0 where
+    (status : Status) : Type 0 where
   pub end : FeedEnd
   pub status_is : status ≡ status_of_feed end
   pub had : IsTrue t.disk → TapeHadJournal (tape_end end) old.one.content old.two.content
@@ -274,9 +274,7 @@ pub record IsFollowed (host : List ℕ) (count : ℕ) (t : OutsideTells) (old ne
       ⊎ Followed (tape_tells t.disk t.clock t.repos t.output) t.feed host LONGEST count
       (old.given host) new.coming J (all_but_feed old) (all_but_feed new) end)
   -- it is done where nothing fails, unless memory runs out, the log is full, or the numbers or the authorities end
-  pub complete : OnJournal t old (λ J. IsFlawlessFeed failed failed_now → MayEnd (tape_end end))
-  -- and where a call of the feed failed, that is told
-  pub steady : end ≢ FeedEnd.Feed → failed_now.feed ≡ failed.feed
+  pub complete : OnJournal t old (λ J. IsFlawlessFeed old.failed new.failed → MayEnd (tape_end end))
 
 -- Events were to be given out, and nothing else was asked or read. The end tells what the disks were.
 pub record IsGivenOut (t : OutsideTells) (old new : Place) (status : Status)
@@ -289,8 +287,7 @@ pub record IsGivenOut (t : OutsideTells) (old new : Place) (status : Status)
   pub does : Does end
 
 -- A trial was run on two disks of its own, which hold these bytes in the end; of what was handed in it has the output alone.
-pub record IsTried (start count : ℕ) (t : OutsideTells) (old new : Place)
-    (status : Status) : Type 0 where
+pub record IsTried (start count : ℕ) (t : OutsideTells) (old new : Place) (status : Status) : Type 0 where
   pub end : TrialEnd
   pub status_is : status ≡ status_of_trial end
   pub first : List ℕ
@@ -303,16 +300,14 @@ IsFlawlessText old new = (Rose old.disk new.disk ⊎ Rose old.other new.other �
     × (Rose old.output new.output → ⊥)
 
 -- the lines of operations are written, and all of them where no count rose, unless memory runs out
-abbrev pub AreLinesGiven : ℕ → Option (List ℕ) → OutsideTells → Place → Place → Faults → Faults
-    → Status → Type 0
-AreLinesGiven cursor collection t old new failed failed_now status =
+abbrev pub AreLinesGiven : ℕ → Option (List ℕ) → OutsideTells → Place → Place → Status → Type 0
+AreLinesGiven cursor collection t old new status =
     IsGivenOut t old new status (λ end. OnJournal t old (λ J.
     LinesWritten t.output J collection cursor (disks old) (disks new) end
-    × (IsFlawlessText failed failed_now → LinesMayEnd end)))
+    × (IsFlawlessText old.failed new.failed → LinesMayEnd end)))
 
 -- Requests were to be answered by the journal, and nothing else was asked or read. The end tells what the disks were; where they failed or have no journal no request was taken and nothing was written.
-pub record IsQueried (count : ℕ) (t : OutsideTells) (old new : Place) (failed failed_now : Faults)
-    (status : Status) : Type 0 where
+pub record IsQueried (count : ℕ) (t : OutsideTells) (old new : Place) (status : Status) : Type 0 where
   pub end : QueryEnd
   pub status_is : status ≡ status_of_query end
   pub had : IsTrue t.disk → QueryHadJournal end old.one.content old.two.content
@@ -322,8 +317,8 @@ pub record IsQueried (count : ℕ) (t : OutsideTells) (old new : Place) (failed 
   pub does : OnJournal t old (λ J. AnsweredBy J t.wire t.output count old.wire new.wire (disks old)
       (disks new) end)
   -- all is done where no count rose, unless memory runs out
-  pub complete : OnJournal t old (λ J. IsFlawlessText failed failed_now
-      → (Rose failed.wire failed_now.wire → ⊥) → QueryMayEnd end)
+  pub complete : OnJournal t old (λ J. IsFlawlessText old.failed new.failed
+      → (Rose old.failed.wire new.failed.wire → ⊥) → QueryMayEnd end)
 
 -- no count rose of what a mirror uses
 abbrev pub IsFlawlessMirror : Faults → Faults → Type 0
@@ -331,16 +326,15 @@ IsFlawlessMirror old new = NoMirrorCause (Rose old.input new.input) (Rose old.ou
     (Rose old.repos new.repos)
 
 -- The stream on the input was to be mirrored, and ended so.
-pub record IsMirroredFrom (t : OutsideTells) (old new : Place) (failed failed_now : Faults)
-    (status : Status) : Type 0 where
+pub record IsMirroredFrom (t : OutsideTells) (old new : Place) (status : Status) : Type 0 where
   pub end : MirrorEnd
   pub status_is : status ≡ status_of_mirror end
   pub does : Mirrored t.input t.output t.repos LONGEST old.around.repository old.left old.written
       new.written end
   -- a whole stream is mirrored where nothing fails, unless memory runs out; of another the place is told
-  pub complete : IsTrue t.input → length old.left < LONGEST → IsFlawlessMirror failed failed_now
+  pub complete : IsTrue t.input → length old.left < LONGEST → IsFlawlessMirror old.failed new.failed
       → (messages : List (List ℕ)) → BeginWith old.left messages [] → MirrorMayEnd end
-  pub bad : IsTrue t.input → length old.left < LONGEST → IsFlawlessMirror failed failed_now
+  pub bad : IsTrue t.input → length old.left < LONGEST → IsFlawlessMirror old.failed new.failed
       → (messages : List (List ℕ)) → (rest : List ℕ) → BeginWith old.left messages rest
       → IsBadBehind messages rest
       → (end ≡ MirrorEnd.BadStream (length (with_length messages))) ⊎ (end ≡ MirrorEnd.Memory)
@@ -379,39 +373,35 @@ uses_wire (Command.Query count) = true
 uses_wire command = false
 
 -- What a run of each command does, on disks that are seen so.
-abbrev pub Ran : {D : Type 0} → (D → View) → OutsideTells → Place → Place → Faults → Faults → Status
-    → Command → Type 0
-Ran view t old new failed failed_now status Command.Check =
+abbrev pub HasRun : {D : Type 0} → (D → View) → OutsideTells → Place → Place → Status → Command
+    → Type 0
+HasRun view t old new status Command.Check =
     Checked LONGEST_FEED_MESSAGE
-    (streams t.input old.left failed.input t.output old.written failed.output)
-    (streams t.input new.left failed_now.input t.output new.written failed_now.output) status
-Ran view t old new failed failed_now status Command.Ingest =
-    IsIngested t old new failed failed_now status
-Ran view t old new failed failed_now status (Command.Account did) =
+    (streams t.input old.left old.failed.input t.output old.written old.failed.output)
+    (streams t.input new.left new.failed.input t.output new.written new.failed.output) status
+HasRun view t old new status Command.Ingest = IsIngested t old new status
+HasRun view t old new status (Command.Account did) =
     IsShown (λ J. account_text did (account did J)) t old new status
-Ran view t old new failed failed_now status Command.Hosts =
+HasRun view t old new status Command.Hosts =
     IsShown (λ J. hosts_text (hosts J)) t old new status
-Ran view t old new failed failed_now status (Command.Takedown did time) =
+HasRun view t old new status (Command.Takedown did time) =
     RanOperated did true time t old new status
-Ran view t old new failed failed_now status (Command.Restore did time) =
+HasRun view t old new status (Command.Restore did time) =
     RanOperated did false time t old new status
-Ran view t old new failed failed_now status (Command.Sync did time) =
+HasRun view t old new status (Command.Sync did time) =
     IsSynced did time t old new status
-Ran view t old new failed failed_now status (Command.Cut seq) = RanCut view seq t old new status
-Ran view t old new failed failed_now status (Command.Follow host count) =
-    IsFollowed host count t old new failed failed_now status
-Ran view t old new failed failed_now status (Command.Replay cursor) =
+HasRun view t old new status (Command.Cut seq) = RanCut view seq t old new status
+HasRun view t old new status (Command.Follow host count) =
+    IsFollowed host count t old new status
+HasRun view t old new status (Command.Replay cursor) =
     IsGivenOut t old new status (λ end. OnJournal t old (λ J. Replayed t.output
-    (Rose failed.output failed_now.output) J cursor (disks old) (disks new) end))
-Ran view t old new failed failed_now status (Command.Serve count) =
-    IsGivenOut t old new status (λ end. IsDoorCount failed.door failed_now.door end
+    (Rose old.failed.output new.failed.output) J cursor (disks old) (disks new) end))
+HasRun view t old new status (Command.Serve count) =
+    IsGivenOut t old new status (λ end. IsDoorCount old.failed.door new.failed.door end
     × OnJournal t old (λ J. ServedAt t.door t.output count J old.door new.door
     (disks old) (disks new) end))
-Ran view t old new failed failed_now status (Command.Trial start count) =
-    IsTried start count t old new status
-Ran view t old new failed failed_now status Command.Mirror =
-    IsMirroredFrom t old new failed failed_now status
-Ran view t old new failed failed_now status (Command.Query count) =
-    IsQueried count t old new failed failed_now status
-Ran view t old new failed failed_now status (Command.Lines cursor collection) =
-    AreLinesGiven cursor collection t old new failed failed_now status
+HasRun view t old new status (Command.Trial start count) = IsTried start count t old new status
+HasRun view t old new status Command.Mirror = IsMirroredFrom t old new status
+HasRun view t old new status (Command.Query count) = IsQueried count t old new status
+HasRun view t old new status (Command.Lines cursor collection) =
+    AreLinesGiven cursor collection t old new status

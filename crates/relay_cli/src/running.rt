@@ -1,12 +1,11 @@
 //! The top call.
-ghost use Rattle.std.specs.Prelude.{◌≡◌, ◌≢◌, ◌⊎◌, ℕ, IsTrue, map, option_map, string_bytes, false};
+ghost use Rattle.std.specs.Prelude.{◌≡◌, ◌⊎◌, ℕ, IsTrue, map, option_map, string_bytes, false};
 ghost use Rattle.relay_step.specs.Around.{around};
-ghost use Rattle.relay_step.specs.Causes.{SpendsNone};
 ghost use Rattle.relay_cli.specs.Commands.{IsInForm, IsEncoded};
 ghost use Rattle.query_run.specs.AtWire.{at_wire};
 ghost use Rattle.serve_run.specs.AtDoor.{at_door};
-ghost use Rattle.relay_cli.specs.Faults.{Told, may_hide, speaks_of_part};
-ghost use Rattle.relay_cli.specs.Runs.{Caused, Kept, OnlyDisksRead, Ran, faults, is_on_journal, place, outside_tells, uses_door, uses_feed, uses_input, uses_repos, uses_wire};
+ghost use Rattle.relay_cli.specs.Ran.{HasCauses, Ran};
+ghost use Rattle.relay_cli.specs.Runs.{faults, is_on_journal, place, outside_tells, uses_door, uses_feed, uses_input, uses_repos, uses_wire};
 
 use crate::checking::check;
 use crate::command::{Command, command_from};
@@ -43,43 +42,30 @@ pub fn relay<P: Judges, F: Feed, R: Repos, D: Disk, I: Source, O: Sink, G: Door,
     wire: &mut W,
 ) -> Status
     // What the words say is done, unless memory runs out for the words.
-    ensures ran { let tells =
-        outside_tells D.tells C.tells R.tells I.tells O.tells F.tells G.tells W.tells in
+    ensures ran { let tells = outside_tells D.tells C.tells R.tells I.tells O.tells F.tells G.tells W.tells in
         let before = place (D.view disk.old) (D.view other.old)
         (around (P.panel panel.old) (C.moments clock.old) (R.repository repos.old))
         (I.left input.old) (O.written out.old) (F.behind feed.old) (F.left feed.old)
         (at_door (G.guests door.old) (G.turns door.old) (G.session_faults door.old))
-        (at_wire (W.requests wire.old) (W.exchanges wire.old) (W.send_faults wire.old)) in
+        (at_wire (W.requests wire.old) (W.exchanges wire.old) (W.send_faults wire.old))
+        (faults (D.view disk.old).faults (D.view other.old).faults (R.faults repos.old)
+        (C.faults clock.old) (I.faults input.old) (O.faults out.old) (F.faults feed.old)
+        (G.faults door.old) (W.faults wire.old)) in
         let after = place (D.view disk.new) (D.view other.new)
         (around (P.panel panel.new) (C.moments clock.new) (R.repository repos.new))
         (I.left input.new) (O.written out.new) (F.behind feed.new) (F.left feed.new)
         (at_door (G.guests door.new) (G.turns door.new) (G.session_faults door.new))
-        (at_wire (W.requests wire.new) (W.exchanges wire.new) (W.send_faults wire.new)) in
-        let failed = faults (D.view disk.old).faults (D.view other.old).faults
-        (R.faults repos.old) (C.faults clock.old) (I.faults input.old) (O.faults out.old)
-        (F.faults feed.old) (G.faults door.old) (W.faults wire.old) in
-        let failed_now = faults (D.view disk.new).faults (D.view other.new).faults
-        (R.faults repos.new) (C.faults clock.new) (I.faults input.new) (O.faults out.new)
-        (F.faults feed.new) (G.faults door.new) (W.faults wire.new) in
+        (at_wire (W.requests wire.new) (W.exchanges wire.new) (W.send_faults wire.new))
+        (faults (D.view disk.new).faults (D.view other.new).faults (R.faults repos.new)
+        (C.faults clock.new) (I.faults input.new) (O.faults out.new) (F.faults feed.new)
+        (G.faults door.new) (W.faults wire.new)) in
         ((command : Command) → IsEncoded (map string_bytes words.now) command
-        → Ran D.view tells before after failed failed_now result command)
+        → Ran D.view tells before after result command
+        × HasCauses result before.failed after.failed)
         ⊎ ((result ≡ Status.Memory) × (panel.new ≡ panel.old) × (repos.new ≡ repos.old)
         × (disk.new ≡ disk.old) × (other.new ≡ other.old) × (input.new ≡ input.old)
         × (out.new ≡ out.old) × (clock.new ≡ clock.old) × (feed.new ≡ feed.old)
         × (door.new ≡ door.old) × (wire.new ≡ wire.old)) }
-
-    // Disks that hold no journal are only read, whatever the command, and nothing else is done.
-    ensures damaged { let before = place (D.view disk.old) (D.view other.old)
-        (around (P.panel panel.old) (C.moments clock.old) (R.repository repos.old))
-        (I.left input.old) (O.written out.old) (F.behind feed.old) (F.left feed.old)
-        (at_door (G.guests door.old) (G.turns door.old) (G.session_faults door.old))
-        (at_wire (W.requests wire.old) (W.exchanges wire.old) (W.send_faults wire.old)) in
-        let after = place (D.view disk.new) (D.view other.new)
-        (around (P.panel panel.new) (C.moments clock.new) (R.repository repos.new))
-        (I.left input.new) (O.written out.new) (F.behind feed.new) (F.left feed.new)
-        (at_door (G.guests door.new) (G.turns door.new) (G.session_faults door.new))
-        (at_wire (W.requests wire.new) (W.exchanges wire.new) (W.send_faults wire.new)) in
-        (at : ℕ) → result ≡ Status.BadLog at → IsTrue D.tells → OnlyDisksRead before after }
 
     // What a command has no use for is left alone. Words that are no command touch nothing.
     ensures alone { ((command : Command) → IsEncoded (map string_bytes words.now) command
@@ -102,42 +88,6 @@ pub fn relay<P: Judges, F: Feed, R: Repos, D: Disk, I: Source, O: Sink, G: Door,
         → ⊥) → (result ≡ Status.Usage) ⊎ (result ≡ Status.Memory) }
     ensures usage { result ≡ Status.Usage
         → (command : Command) → IsEncoded (map string_bytes words.now) command → ⊥ }
-
-    // A status that speaks of a failure comes only where a count of failures rose, and no count falls.
-    ensures caused { let failed = faults (D.view disk.old).faults (D.view other.old).faults
-        (R.faults repos.old) (C.faults clock.old) (I.faults input.old) (O.faults out.old)
-        (F.faults feed.old) (G.faults door.old) (W.faults wire.old) in
-        let failed_now = faults (D.view disk.new).faults (D.view other.new).faults
-        (R.faults repos.new) (C.faults clock.new) (I.faults input.new) (O.faults out.new)
-        (F.faults feed.new) (G.faults door.new) (W.faults wire.new) in
-        Caused result failed failed_now }
-    ensures counts { let failed = faults (D.view disk.old).faults (D.view other.old).faults
-        (R.faults repos.old) (C.faults clock.old) (I.faults input.old) (O.faults out.old)
-        (F.faults feed.old) (G.faults door.old) (W.faults wire.old) in
-        let failed_now = faults (D.view disk.new).faults (D.view other.new).faults
-        (R.faults repos.new) (C.faults clock.new) (I.faults input.new) (O.faults out.new)
-        (F.faults feed.new) (G.faults door.new) (W.faults wire.new) in
-        Kept failed failed_now }
-
-    // And the other way: a count that rose is what the status speaks of. One that speaks of no part comes where none failed, but
-    // where the command may hide it; and an authority that is missing is told as such.
-    ensures told { let failed = faults (D.view disk.old).faults (D.view other.old).faults
-        (R.faults repos.old) (C.faults clock.old) (I.faults input.old) (O.faults out.old)
-        (F.faults feed.old) (G.faults door.old) (W.faults wire.old) in
-        let failed_now = faults (D.view disk.new).faults (D.view other.new).faults
-        (R.faults repos.new) (C.faults clock.new) (I.faults input.new) (O.faults out.new)
-        (F.faults feed.new) (G.faults door.new) (W.faults wire.new) in
-        Told result failed failed_now }
-    ensures flawless { let failed = faults (D.view disk.old).faults (D.view other.old).faults
-        (R.faults repos.old) (C.faults clock.old) (I.faults input.old) (O.faults out.old)
-        (F.faults feed.old) (G.faults door.old) (W.faults wire.old) in
-        let failed_now = faults (D.view disk.new).faults (D.view other.new).faults
-        (R.faults repos.new) (C.faults clock.new) (I.faults input.new) (O.faults out.new)
-        (F.faults feed.new) (G.faults door.new) (W.faults wire.new) in
-        ((command : Command) → IsEncoded (map string_bytes words.now) command
-        → may_hide command result ≡ false) → speaks_of_part result ≡ false
-        → (failed_now ≡ failed) × (result ≢ Status.Authority
-        → SpendsNone (P.panel panel.old) (P.panel panel.new)) }
 {
     match command_from(alloc, words) {
         Ok(command) => run(
@@ -174,36 +124,24 @@ fn run<P: Judges, F: Feed, R: Repos, D: Disk, I: Source, O: Sink, G: Door, C: Cl
     wire: &mut W,
 ) -> Status
     requires form { IsInForm command.now }
-    ensures ran { let tells =
-        outside_tells D.tells C.tells R.tells I.tells O.tells F.tells G.tells W.tells in
+    ensures ran { let tells = outside_tells D.tells C.tells R.tells I.tells O.tells F.tells G.tells W.tells in
         let before = place (D.view disk.old) (D.view other.old)
         (around (P.panel panel.old) (C.moments clock.old) (R.repository repos.old))
         (I.left input.old) (O.written out.old) (F.behind feed.old) (F.left feed.old)
         (at_door (G.guests door.old) (G.turns door.old) (G.session_faults door.old))
-        (at_wire (W.requests wire.old) (W.exchanges wire.old) (W.send_faults wire.old)) in
+        (at_wire (W.requests wire.old) (W.exchanges wire.old) (W.send_faults wire.old))
+        (faults (D.view disk.old).faults (D.view other.old).faults (R.faults repos.old)
+        (C.faults clock.old) (I.faults input.old) (O.faults out.old) (F.faults feed.old)
+        (G.faults door.old) (W.faults wire.old)) in
         let after = place (D.view disk.new) (D.view other.new)
         (around (P.panel panel.new) (C.moments clock.new) (R.repository repos.new))
         (I.left input.new) (O.written out.new) (F.behind feed.new) (F.left feed.new)
         (at_door (G.guests door.new) (G.turns door.new) (G.session_faults door.new))
-        (at_wire (W.requests wire.new) (W.exchanges wire.new) (W.send_faults wire.new)) in
-        let failed = faults (D.view disk.old).faults (D.view other.old).faults
-        (R.faults repos.old) (C.faults clock.old) (I.faults input.old) (O.faults out.old)
-        (F.faults feed.old) (G.faults door.old) (W.faults wire.old) in
-        let failed_now = faults (D.view disk.new).faults (D.view other.new).faults
-        (R.faults repos.new) (C.faults clock.new) (I.faults input.new) (O.faults out.new)
-        (F.faults feed.new) (G.faults door.new) (W.faults wire.new) in
-        Ran D.view tells before after failed failed_now result command.now }
-    ensures damaged { let before = place (D.view disk.old) (D.view other.old)
-        (around (P.panel panel.old) (C.moments clock.old) (R.repository repos.old))
-        (I.left input.old) (O.written out.old) (F.behind feed.old) (F.left feed.old)
-        (at_door (G.guests door.old) (G.turns door.old) (G.session_faults door.old))
-        (at_wire (W.requests wire.old) (W.exchanges wire.old) (W.send_faults wire.old)) in
-        let after = place (D.view disk.new) (D.view other.new)
-        (around (P.panel panel.new) (C.moments clock.new) (R.repository repos.new))
-        (I.left input.new) (O.written out.new) (F.behind feed.new) (F.left feed.new)
-        (at_door (G.guests door.new) (G.turns door.new) (G.session_faults door.new))
-        (at_wire (W.requests wire.new) (W.exchanges wire.new) (W.send_faults wire.new)) in
-        (at : ℕ) → result ≡ Status.BadLog at → IsTrue D.tells → OnlyDisksRead before after }
+        (at_wire (W.requests wire.new) (W.exchanges wire.new) (W.send_faults wire.new))
+        (faults (D.view disk.new).faults (D.view other.new).faults (R.faults repos.new)
+        (C.faults clock.new) (I.faults input.new) (O.faults out.new) (F.faults feed.new)
+        (G.faults door.new) (W.faults wire.new)) in
+        Ran D.view tells before after result command.now }
     ensures alone { is_on_journal command.now ≡ false
         → (panel.new ≡ panel.old) × (disk.new ≡ disk.old) × (other.new ≡ other.old)
         × (clock.new ≡ clock.old) }
@@ -213,36 +151,13 @@ fn run<P: Judges, F: Feed, R: Repos, D: Disk, I: Source, O: Sink, G: Door, C: Cl
     ensures unasked_door { uses_door command.now ≡ false → door.new ≡ door.old }
     ensures unasked_wire { uses_wire command.now ≡ false → wire.new ≡ wire.old }
     ensures no_usage { result ≡ Status.Usage → ⊥ }
-    ensures caused { let failed = faults (D.view disk.old).faults (D.view other.old).faults
+    ensures counted { let failed = faults (D.view disk.old).faults (D.view other.old).faults
         (R.faults repos.old) (C.faults clock.old) (I.faults input.old) (O.faults out.old)
         (F.faults feed.old) (G.faults door.old) (W.faults wire.old) in
         let failed_now = faults (D.view disk.new).faults (D.view other.new).faults
         (R.faults repos.new) (C.faults clock.new) (I.faults input.new) (O.faults out.new)
         (F.faults feed.new) (G.faults door.new) (W.faults wire.new) in
-        Caused result failed failed_now }
-    ensures counts { let failed = faults (D.view disk.old).faults (D.view other.old).faults
-        (R.faults repos.old) (C.faults clock.old) (I.faults input.old) (O.faults out.old)
-        (F.faults feed.old) (G.faults door.old) (W.faults wire.old) in
-        let failed_now = faults (D.view disk.new).faults (D.view other.new).faults
-        (R.faults repos.new) (C.faults clock.new) (I.faults input.new) (O.faults out.new)
-        (F.faults feed.new) (G.faults door.new) (W.faults wire.new) in
-        Kept failed failed_now }
-    ensures told { let failed = faults (D.view disk.old).faults (D.view other.old).faults
-        (R.faults repos.old) (C.faults clock.old) (I.faults input.old) (O.faults out.old)
-        (F.faults feed.old) (G.faults door.old) (W.faults wire.old) in
-        let failed_now = faults (D.view disk.new).faults (D.view other.new).faults
-        (R.faults repos.new) (C.faults clock.new) (I.faults input.new) (O.faults out.new)
-        (F.faults feed.new) (G.faults door.new) (W.faults wire.new) in
-        Told result failed failed_now }
-    ensures flawless { let failed = faults (D.view disk.old).faults (D.view other.old).faults
-        (R.faults repos.old) (C.faults clock.old) (I.faults input.old) (O.faults out.old)
-        (F.faults feed.old) (G.faults door.old) (W.faults wire.old) in
-        let failed_now = faults (D.view disk.new).faults (D.view other.new).faults
-        (R.faults repos.new) (C.faults clock.new) (I.faults input.new) (O.faults out.new)
-        (F.faults feed.new) (G.faults door.new) (W.faults wire.new) in
-        may_hide command.now result ≡ false → speaks_of_part result ≡ false
-        → (failed_now ≡ failed) × (result ≢ Status.Authority
-        → SpendsNone (P.panel panel.old) (P.panel panel.new)) }
+        HasCauses result failed failed_now }
 {
     match command {
         Command::Check => check(alloc, LONGEST_FEED_MESSAGE, input, out),

@@ -1,0 +1,80 @@
+-- Ends behind which a failure doesn't stand untold.
+use Rattle.std.proofs.Common.{◌≡◌, ℕ, Bool, List, refl, true, false, ap, sym, ◌∙◌}
+use Rattle.follow_run.specs.Ends.{tape_end}
+use Rattle.follow_run.specs.declared.end.FeedEnd.{FeedEnd}
+use Rattle.relay_store.specs.declared.fault.StoreFault.{StoreFault}
+use Rattle.serve_run.specs.declared.end.ServeEnd.{ServeEnd}
+use Rattle.tape_run.specs.Causes.{EndsByTape, HidesNone}
+use Rattle.tape_run.specs.declared.end.TapeEnd.{TapeEnd}
+use Rattle.relay_cli.specs.Ran.{may_hide_asked, may_hide_input, may_hide_output}
+use Rattle.relay_cli.specs.Statuses.{status_of_feed, status_of_serving, status_of_tape}
+use Rattle.relay_cli.specs.declared.command.Command.{Command}
+use Rattle.relay_cli.specs.declared.status.Status.{Status}
+
+-- what is said of a command and its status is said of what they are
+pub of_command : (f : Command → Status → Bool) (command kind : Command) (status end : Status) → command ≡ kind → status ≡ end → f command status ≡ false → f kind end ≡ false
+of_command f command kind status end same is h = sym (ap (λ k. f k status) same ∙ ap (f kind) is) ∙ h
+
+pub tape_hides_none : (end : TapeEnd) → may_hide_asked Command.Ingest (status_of_tape end) ≡ false → HidesNone end
+tape_hides_none TapeEnd.Done h = tt
+tape_hides_none (TapeEnd.Bad place) h = tt
+tape_hides_none TapeEnd.ReadFault h = tt
+tape_hides_none TapeEnd.WriteFault h = let no : ⊥ = cc in absurd no
+tape_hides_none TapeEnd.TooLong h = tt
+tape_hides_none (TapeEnd.Store StoreFault.Disk) h = let no : ⊥ = cc in absurd no
+tape_hides_none (TapeEnd.Store (StoreFault.BadLog place)) h = tt
+tape_hides_none (TapeEnd.Store (StoreFault.Full end)) h = tt
+tape_hides_none (TapeEnd.Store StoreFault.SeqEnd) h = tt
+tape_hides_none (TapeEnd.Store StoreFault.Authority) h = tt
+tape_hides_none (TapeEnd.Store StoreFault.Repos) h = tt
+tape_hides_none (TapeEnd.Store StoreFault.Memory) h = tt
+tape_hides_none (TapeEnd.Store StoreFault.Clock) h = tt
+tape_hides_none TapeEnd.Memory h = let no : ⊥ = cc in absurd no
+
+pub ends_by_tape : (end : TapeEnd) → may_hide_input Command.Ingest (status_of_tape end) ≡ false → EndsByTape end
+ends_by_tape TapeEnd.Done h = tt
+ends_by_tape (TapeEnd.Bad place) h = tt
+ends_by_tape TapeEnd.ReadFault h = let no : ⊥ = cc in absurd no
+ends_by_tape TapeEnd.WriteFault h = let no : ⊥ = cc in absurd no
+ends_by_tape TapeEnd.TooLong h = tt
+ends_by_tape (TapeEnd.Store StoreFault.Disk) h = let no : ⊥ = cc in absurd no
+ends_by_tape (TapeEnd.Store (StoreFault.BadLog place)) h = let no : ⊥ = cc in absurd no
+ends_by_tape (TapeEnd.Store (StoreFault.Full end)) h = let no : ⊥ = cc in absurd no
+ends_by_tape (TapeEnd.Store StoreFault.SeqEnd) h = let no : ⊥ = cc in absurd no
+ends_by_tape (TapeEnd.Store StoreFault.Authority) h = let no : ⊥ = cc in absurd no
+ends_by_tape (TapeEnd.Store StoreFault.Repos) h = let no : ⊥ = cc in absurd no
+ends_by_tape (TapeEnd.Store StoreFault.Memory) h = let no : ⊥ = cc in absurd no
+ends_by_tape (TapeEnd.Store StoreFault.Clock) h = let no : ⊥ = cc in absurd no
+ends_by_tape TapeEnd.Memory h = let no : ⊥ = cc in absurd no
+
+feed_hides_none : (host : List ℕ) (count : ℕ) (end : FeedEnd) → may_hide_asked (Command.Follow host count) (status_of_feed end) ≡ false → HidesNone (tape_end end)
+feed_hides_none host count FeedEnd.Done h = tt
+feed_hides_none host count FeedEnd.Feed h = tt
+feed_hides_none host count FeedEnd.WriteFault h = let no : ⊥ = cc in absurd no
+feed_hides_none host count (FeedEnd.Store StoreFault.Disk) h = let no : ⊥ = cc in absurd no
+feed_hides_none host count (FeedEnd.Store (StoreFault.BadLog place)) h = tt
+feed_hides_none host count (FeedEnd.Store (StoreFault.Full end)) h = tt
+feed_hides_none host count (FeedEnd.Store StoreFault.SeqEnd) h = tt
+feed_hides_none host count (FeedEnd.Store StoreFault.Authority) h = tt
+feed_hides_none host count (FeedEnd.Store StoreFault.Repos) h = tt
+feed_hides_none host count (FeedEnd.Store StoreFault.Memory) h = tt
+feed_hides_none host count (FeedEnd.Store StoreFault.Clock) h = tt
+feed_hides_none host count FeedEnd.Memory h = let no : ⊥ = cc in absurd no
+
+pub feed_quiet : (command : Command) (host : List ℕ) (count : ℕ) (status : Status) (end : FeedEnd) → command ≡ Command.Follow host count → status ≡ status_of_feed end
+    → may_hide_asked command status ≡ false → HidesNone (tape_end end)
+feed_quiet command host count status end same is hidden =
+    feed_hides_none host count end (of_command may_hide_asked command (Command.Follow host count) status (status_of_feed end) same is hidden)
+
+replay_done : (cursor : ℕ) (end : ServeEnd) → may_hide_output (Command.Replay cursor) (status_of_serving end) ≡ false → end ≡ ServeEnd.Done
+replay_done cursor ServeEnd.Done h = refl
+replay_done cursor ServeEnd.WriteFault h = let no : ⊥ = cc in absurd no
+replay_done cursor ServeEnd.Door h = let no : ⊥ = cc in absurd no
+replay_done cursor ServeEnd.Disk h = let no : ⊥ = cc in absurd no
+replay_done cursor (ServeEnd.BadLog place) h = let no : ⊥ = cc in absurd no
+replay_done cursor ServeEnd.Memory h = let no : ⊥ = cc in absurd no
+
+pub replay_quiet : (command : Command) (cursor : ℕ) (status : Status) (end : ServeEnd) → command ≡ Command.Replay cursor → status ≡ status_of_serving end
+    → may_hide_output command status ≡ false → end ≡ ServeEnd.Done
+replay_quiet command cursor status end same is hidden =
+    replay_done cursor end (of_command may_hide_output command (Command.Replay cursor) status (status_of_serving end) same is hidden)
