@@ -2,9 +2,8 @@
 
 ghost use Rattle.std.specs.Prelude.{◌≤◌, length};
 
-use crate::trees::{layers_of, link_below};
+use crate::trees::{Tree, layers_of, link_below};
 use anyhow::Result;
-use at_car::Blocks;
 use at_cid::compare;
 use mst_list::{Item, ItemList};
 use std::alloc::Global;
@@ -55,8 +54,8 @@ fn stand_for(alloc: Global, items: &[Item], item: &Item) -> Result<bool> {
         Item::Key(..) => Ok(items.first() == Some(item)),
         Item::Hole(layer, link) => {
             let layers = layer.saturating_add(1);
-            let mut blocks = Blocks::new(alloc);
-            let found = link_below(alloc, &mut blocks, layers, items)?;
+            let mut tree = Tree::new(alloc);
+            let found = link_below(alloc, &mut tree, layers, items)?;
             Ok(layers_of(items) <= layers && found == Some(*link))
         }
     }

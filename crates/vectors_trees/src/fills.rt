@@ -2,12 +2,13 @@
 
 use crate::encoded::with_yes;
 use crate::filling::fills;
+use crate::given::{Given, Told};
 use crate::trees::root_of;
-use crate::words::formed_list;
+use crate::words::read;
 use anyhow::Result;
 use mst_list::ItemList;
 use std::alloc::Global;
-use vector_lines::{Answer, Subject, parted};
+use vector_lines::Answer;
 
 pub struct Fills;
 
@@ -23,11 +24,10 @@ fn answer_of(alloc: Global, map: &ItemList, list: &ItemList) -> Result<String> {
         .end()
 }
 
-impl Subject for Fills {
-    fn answer(&self, alloc: Global, input: &str) -> Result<String> {
-        let (map, rest) = parted(input, " ; ")?;
-        let map = formed_list(alloc, map)?;
-        let list = formed_list(alloc, rest)?;
-        answer_of(alloc, &map, &list)
+impl Told for Fills {
+    fn told(&self, alloc: Global, given: &mut Given<'_>, _input: &str) -> Result<String> {
+        read(alloc, &mut given.row, &mut given.map, ' ')?;
+        read(alloc, &mut given.row, &mut given.change.list, ' ')?;
+        answer_of(alloc, &given.map, &given.change.list)
     }
 }

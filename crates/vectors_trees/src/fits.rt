@@ -3,11 +3,12 @@
 //! key ends.
 
 use crate::encoded::with_yes;
+use crate::given::{Given, Told};
 use crate::parts::node_of;
 use anyhow::{Result, bail};
 use mst_node::{Node, layer_of, next_key, node_fits, top_fits};
 use std::alloc::Global;
-use vector_lines::{Answer, Row, Subject};
+use vector_lines::{Answer, Row};
 
 pub struct Fits;
 
@@ -42,19 +43,21 @@ fn told(alloc: Global, place: &Place, node: &Node) -> Result<String> {
         .end()
 }
 
-impl Subject for Fits {
-    fn answer(&self, alloc: Global, input: &str) -> Result<String> {
-        let mut row = Row::new(alloc, input);
+// What is told of the node that is left of a row.
+fn placed(alloc: Global, place: &Place, row: &mut Row<'_>) -> Result<String> {
+    match node_of(alloc, row)? {
+        Some(node) => told(alloc, place, &node),
+        None => bail!("a node"),
+    }
+}
+
+impl Told for Fits {
+    fn told(&self, alloc: Global, given: &mut Given<'_>, _input: &str) -> Result<String> {
         let place = Place {
-            layer: row.layer(" "),
-            low: row.bytes(" "),
-            high: row.bytes(" ; "),
+            layer: given.row.layer(" "),
+            low: given.row.bytes(" "),
+            high: given.row.bytes(" ; "),
         };
-        let parts = row.part(" ; ");
-        row.end()?;
-        match node_of(alloc, parts)? {
-            Some(node) => told(alloc, &place, &node),
-            None => bail!("a node"),
-        }
+        placed(alloc, &place, &mut given.row)
     }
 }

@@ -1,15 +1,16 @@
 //! `KEY = HEIGHT`.
 
+use crate::given::{Given, Told};
 use anyhow::Result;
 use mst_list::height;
 use std::alloc::Global;
-use vector_lines::{Answer, Subject, bytes};
+use vector_lines::Answer;
 
 pub struct Heights;
 
-impl Subject for Heights {
-    fn answer(&self, alloc: Global, input: &str) -> Result<String> {
-        let key = bytes(alloc, input)?;
+impl Told for Heights {
+    fn told(&self, alloc: Global, given: &mut Given<'_>, _input: &str) -> Result<String> {
+        let key = given.row.bytes(" ; ");
         let height = height(key.as_slice());
         Answer::new(alloc).number(u64::from(height)).end()
     }

@@ -7,17 +7,16 @@ use at_cid::Cid;
 use mst_list::{ItemList, OpList, guarded, play, undo_list};
 use std::alloc::Global;
 
+// Whether a map fills a list and has its root, or neither.
+fn is_told(alloc: Global, map: &ItemList, list: &ItemList, is_filled: bool) -> Result<bool> {
+    let is_root = root_of(alloc, map)? == root_of(alloc, list)?;
+    Ok(is_root == is_filled && fills(alloc, map, list)? == is_filled)
+}
+
 // Whether a map fills a list and has its root, and another map so exactly where it is the same.
-fn is_told(alloc: Global, map: &ItemList, other: &ItemList, list: &ItemList) -> Result<bool> {
-    let root = root_of(alloc, list)?;
+fn are_told(alloc: Global, map: &ItemList, other: &ItemList, list: &ItemList) -> Result<bool> {
     let is_same = other.as_slice() == map.as_slice();
-    let is_root = root_of(alloc, other)? == root;
-    Ok(
-        fills(alloc, map, list)?
-            && root_of(alloc, map)? == root
-            && fills(alloc, other, list)? == is_same
-            && is_root == is_same,
-    )
+    Ok(is_told(alloc, map, list, true)? && is_told(alloc, other, list, is_same)?)
 }
 
 fn undone(alloc: Global, list: &ItemList, ops: &OpList) -> Result<ItemList> {
@@ -42,8 +41,8 @@ fn is_lawful(alloc: Global, before: Filled<'_>, ops: &OpList, after: Filled<'_>)
     Ok(
         guarded(after.list, ops)
             && is_played(alloc, before.map, ops, after.map)?
-            && is_told(alloc, after.map, before.map, after.list)?
-            && is_told(alloc, before.map, after.map, before.list)?,
+            && are_told(alloc, after.map, before.map, after.list)?
+            && are_told(alloc, before.map, after.map, before.list)?,
     )
 }
 

@@ -7,6 +7,7 @@ mod encoded;
 mod filling;
 mod fills;
 mod fits;
+mod given;
 mod heights;
 mod laws;
 mod nodes;
@@ -27,6 +28,7 @@ use anyhow::Result;
 use covers::Covers;
 use fills::Fills;
 use fits::Fits;
+use given::Of;
 use heights::Heights;
 use nodes::Nodes;
 use parts::Parts;
@@ -50,29 +52,29 @@ fn compared(rt: &HostRuntime) -> Result<Suite> {
 }
 
 fn compare_nodes(rt: &HostRuntime, suite: &mut Suite) -> Result<()> {
-    suite.file(rt, "heights", &Heights)?;
-    suite.file(rt, "nodes", &Nodes)?;
-    suite.file(rt, "parts", &Parts)?;
-    suite.file(rt, "fits", &Fits)
+    suite.file(rt, "heights", &Of(Heights))?;
+    suite.file(rt, "nodes", &Of(Nodes))?;
+    suite.file(rt, "parts", &Of(Parts))?;
+    suite.file(rt, "fits", &Of(Fits))
 }
 
 fn compare_trees(rt: &HostRuntime, suite: &mut Suite) -> Result<()> {
-    suite.file(rt, "roots", &Roots)?;
-    suite.file(rt, "views", &Views)
+    suite.file(rt, "roots", &Of(Roots))?;
+    suite.file(rt, "views", &Of(Views))
 }
 
 fn compare_operations(rt: &HostRuntime, suite: &mut Suite) -> Result<()> {
-    suite.file(rt, "weighs", &Weighs)?;
-    suite.file(rt, "undo", &Undoing)?;
-    suite.file(rt, "commits", &Commits)?;
-    suite.file(rt, "play", &Playing)
+    suite.file(rt, "weighs", &Of(Weighs))?;
+    suite.file(rt, "undo", &Of(Undoing))?;
+    suite.file(rt, "commits", &Of(Commits))?;
+    suite.file(rt, "play", &Of(Playing))
 }
 
 fn compare_laws(rt: &HostRuntime, suite: &mut Suite) -> Result<()> {
-    suite.file(rt, "fills", &Fills)?;
-    suite.file(rt, "replays", &Replays)?;
-    suite.file(rt, "cover", &Covers)?;
-    suite.file(rt, "rounds", &Rounds)
+    suite.file(rt, "fills", &Of(Fills))?;
+    suite.file(rt, "replays", &Of(Replays))?;
+    suite.file(rt, "cover", &Of(Covers))?;
+    suite.file(rt, "rounds", &Of(Rounds))
 }
 
 fn main(rt: HostRuntime) -> ExitCode {

@@ -1,9 +1,10 @@
 //! `BLOCK = ok left LINK entries KEY>VALUE>RIGHT .., or BadNode`.
 
+use crate::given::{Given, Told};
 use anyhow::{Result, bail};
 use mst_node::{Entry, Node, NodeFault, read_node, write_node};
 use std::alloc::Global;
-use vector_lines::{Answer, Subject, bytes, had, said};
+use vector_lines::{Answer, had, said};
 
 pub struct Nodes;
 
@@ -47,13 +48,16 @@ fn told(alloc: Global, node: &Node, block: &[u8]) -> Result<String> {
     answer.words(", written as ").bytes(again.as_slice()).end()
 }
 
-impl Subject for Nodes {
-    fn answer(&self, alloc: Global, input: &str) -> Result<String> {
-        let block = bytes(alloc, input)?;
-        match read_node(alloc, block.as_slice()) {
-            Ok(node) => told(alloc, &node, block.as_slice()),
-            Err(NodeFault::BadNode) => said(alloc, "BadNode"),
-            Err(NodeFault::Memory) => bail!("out of memory"),
-        }
+fn answer_of(alloc: Global, block: &[u8]) -> Result<String> {
+    match read_node(alloc, block) {
+        Ok(node) => told(alloc, &node, block),
+        Err(NodeFault::BadNode) => said(alloc, "BadNode"),
+        Err(NodeFault::Memory) => bail!("out of memory"),
+    }
+}
+
+impl Told for Nodes {
+    fn told(&self, alloc: Global, given: &mut Given<'_>, _input: &str) -> Result<String> {
+        answer_of(alloc, given.row.bytes(" ; ").as_slice())
     }
 }

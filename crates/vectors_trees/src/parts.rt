@@ -1,6 +1,8 @@
 //! `left LINK entries KEY>VALUE>RIGHT .. = a node, or no node`.
 
+use crate::given::{Given, Told};
 use crate::nodes::with_node;
+use crate::words::{Words, read};
 use anyhow::Result;
 use at_cid::{Memory, Octets};
 use mst_list::KeyBytes;
@@ -9,43 +11,33 @@ use mst_node::{
     write_node,
 };
 use std::alloc::Global;
-use vector_lines::{Answer, Row, Subject, had, said};
+use vector_lines::{Answer, Row, had, said};
 
 pub struct Parts;
 
-fn entry(alloc: Global, word: &str) -> Result<Entry> {
-    let mut row = Row::new(alloc, word);
-    let key = row.bytes(">");
-    let value = row.link(">");
-    let right = row.link_or_none(">");
-    row.end()?;
-    let key = had(KeyBytes::from_slice(alloc, key.as_slice()))?;
-    Ok(Entry { key, value, right })
+fn entry(word: &mut Row<'_>) -> Result<Entry> {
+    let key = had(KeyBytes::of(&word.octets(">")))?;
+    Ok(Entry {
+        key,
+        value: word.link(">"),
+        right: word.link_or_none(">"),
+    })
 }
 
-fn add_entry(alloc: Global, entries: &mut Entries, word: &str) -> Result<()> {
-    let entry = entry(alloc, word)?;
-    had(entries.push(entry))
-}
-
-fn entries(alloc: Global, text: &str) -> Result<Entries> {
-    let mut entries = Entries::new(alloc);
-    if text != "-" {
-        for word in text.split(' ') {
-            add_entry(alloc, &mut entries, word)?;
-        }
+impl Words for Entries {
+    fn is_added(&mut self, word: &mut Row<'_>) -> Result<bool> {
+        had(self.push(entry(word)?))?;
+        Ok(true)
     }
-    Ok(entries)
 }
 
-/// The node of parts, where they make one.
-pub fn node_of(alloc: Global, text: &str) -> Result<Option<Node>> {
-    let mut row = Row::new(alloc, text);
+/// The node of the parts that a row has next, where they make one.
+pub fn node_of(alloc: Global, row: &mut Row<'_>) -> Result<Option<Node>> {
     row.word("left", " ");
     let left = row.link_or_none(" entries ");
-    let words = row.part("\n");
-    row.end()?;
-    Ok(Node::new(left, entries(alloc, words)?))
+    let mut entries = Entries::new(alloc);
+    read(alloc, row, &mut entries, ' ')?;
+    Ok(Node::new(left, entries))
 }
 
 // Puts the block of a node together piece by piece, and gives how long it was told to be.
@@ -69,9 +61,9 @@ fn is_same_in_pieces(alloc: Global, node: &Node, block: &Octets) -> Result<bool>
     Ok(pieces == *block && len == block.len() as u64)
 }
 
-impl Subject for Parts {
-    fn answer(&self, alloc: Global, input: &str) -> Result<String> {
-        match node_of(alloc, input)? {
+impl Told for Parts {
+    fn told(&self, alloc: Global, given: &mut Given<'_>, input: &str) -> Result<String> {
+        match node_of(alloc, &mut given.row)? {
             Some(node) => told(alloc, &node, input),
             None => said(alloc, "no node"),
         }
@@ -81,14 +73,19 @@ impl Subject for Parts {
 // What is said of a node, of which these are the parts.
 fn told(alloc: Global, node: &Node, parts: &str) -> Result<String> {
     let block = had(write_node(alloc, node))?;
-    if !is_same_in_pieces(alloc, node, &block)? {
-        return said(alloc, "another block in pieces");
+    let verdict = verdict(alloc, node, &block, parts)?;
+    said(alloc, verdict)
+}
+
+// What is said of a node with this block.
+fn verdict(alloc: Global, node: &Node, block: &Octets, parts: &str) -> Result<&'static str> {
+    if !is_same_in_pieces(alloc, node, block)? {
+        return Ok("another block in pieces");
     }
-    let again = read_again(alloc, block.as_slice())?;
-    if again.as_str() != parts {
-        return Ok(again);
+    if read_again(alloc, block.as_slice())?.as_str() != parts {
+        return Ok("other parts when it is read again");
     }
-    said(alloc, "a node")
+    Ok("a node")
 }
 
 // The parts of the node that a block is read as.

@@ -1,20 +1,20 @@
 //! `ITEMS ; OPERATIONS = ok ITEMS root LINK, or Clash(i)`.
 
 use crate::encoded::with_tree;
+use crate::given::{Given, Told, read_change};
 use crate::trees::root_of;
-use crate::words::{Change, change_of};
+use crate::words::Change;
 use anyhow::{Result, bail};
 use mst_list::{ItemList, PlayFault, play};
 use std::alloc::Global;
-use vector_lines::{Answer, Subject, parted};
+use vector_lines::Answer;
 
 pub struct Playing;
 
-impl Subject for Playing {
-    fn answer(&self, alloc: Global, input: &str) -> Result<String> {
-        let (items, rest) = parted(input, " ; ")?;
-        let change = change_of(alloc, items, rest)?;
-        answer_of(alloc, &change)
+impl Told for Playing {
+    fn told(&self, alloc: Global, given: &mut Given<'_>, _input: &str) -> Result<String> {
+        read_change(alloc, &mut given.row, &mut given.change)?;
+        answer_of(alloc, &given.change)
     }
 }
 

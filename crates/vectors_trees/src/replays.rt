@@ -1,23 +1,21 @@
 //! `LIST ; OPERATIONS ; MAP = root LINK` of a list with the operations undone, where the laws hold of the list and of the
 //! map that fills it.
 
+use crate::given::{Given, Told, read_change};
 use crate::laws::former_root;
-use crate::words::{Change, change_of, formed_list};
+use crate::words::{Change, read};
 use anyhow::Result;
 use mst_list::ItemList;
 use std::alloc::Global;
-use vector_lines::{Answer, Row, Subject, said};
+use vector_lines::{Answer, said};
 
 pub struct Replays;
 
-impl Subject for Replays {
-    fn answer(&self, alloc: Global, input: &str) -> Result<String> {
-        let mut row = Row::new(alloc, input);
-        let (items, ops, map) = (row.part(" ; "), row.part(" ; "), row.part(" ; "));
-        row.end()?;
-        let change = change_of(alloc, items, ops)?;
-        let map = formed_list(alloc, map)?;
-        told(alloc, &change, &map)
+impl Told for Replays {
+    fn told(&self, alloc: Global, given: &mut Given<'_>, _input: &str) -> Result<String> {
+        read_change(alloc, &mut given.row, &mut given.change)?;
+        read(alloc, &mut given.row, &mut given.map, ' ')?;
+        told(alloc, &given.change, &given.map)
     }
 }
 

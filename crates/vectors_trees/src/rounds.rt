@@ -1,16 +1,17 @@
 //! `SEED ROUNDS = alike, of each ending more than 5`: undoing generated operations on trees with holes and on their lists.
 
-use crate::shown::seen_whole;
-use crate::trees::put_tree;
-use crate::undoing::{undone_list, undone_tree};
-use crate::words::{Change, add_operation, put_block};
-use anyhow::Result;
+use crate::given::{Given, Told};
+use crate::shown::seen;
+use crate::trees::{Tree, put_tree};
+use crate::undoing::{is_tree_end, undone_list};
+use crate::words::{Change, is_item_added, is_operation_added, put_block};
+use anyhow::{Result, bail};
 use at_car::Blocks;
 use at_cid::{Cid, Octets, cid_of};
 use mst_list::{Item, ItemList, KeyBytes, Op, OpList};
 use mst_view::StubTree;
 use std::alloc::Global;
-use vector_lines::{Answer, Row, Subject, had, said};
+use vector_lines::{Answer, had, said};
 
 pub struct Rounds;
 
@@ -44,73 +45,65 @@ fn operation(seed: &mut u32) -> (Option<Cid>, Option<Cid>, bool) {
 }
 
 // Adds a key with the value that is now there.
-fn hold(list: &mut ItemList, key: &Octets) -> Result<()> {
-    let item = Item::Key(had(KeyBytes::of(key))?, cid_of(b"now"));
-    if item.is_formed() {
-        had(list.push(item))?;
+fn hold(list: &mut ItemList, key: &Octets) -> Result<bool> {
+    is_item_added(list, Item::Key(had(KeyBytes::of(key))?, cid_of(b"now")))
+}
+
+// Adds a key that the map may hold, and an operation at it, if there was one. Tells whether what was added is formed.
+fn is_key_added(alloc: Global, seed: &mut u32, place: u32, change: &mut Change) -> Result<bool> {
+    let number = place.wrapping_mul(600).wrapping_add(next(seed) % 600);
+    let (was, now, is_held) = operation(seed);
+    let key = numbered_key(alloc, number)?;
+    if is_held && !hold(&mut change.list, &key)? {
+        return Ok(false);
+    }
+    if was.is_none() && now.is_none() {
+        return Ok(true);
+    }
+    is_operation_added(&mut change.ops, Op { key, was, now })
+}
+
+// Adds the keys of a map, and operations at some of them and at others, most of which it agrees with.
+fn generate(alloc: Global, seed: &mut u32, change: &mut Change) -> Result<()> {
+    let count = next(seed) % 40;
+    for place in 0..count {
+        if !is_key_added(alloc, seed, place, change)? {
+            bail!("a formed key");
+        }
     }
     Ok(())
 }
 
-// Adds a key that the map may hold, and an operation at it, if there was one.
-fn add_key(alloc: Global, seed: &mut u32, place: u32, change: &mut Change) -> Result<()> {
-    let number = place.wrapping_mul(600).wrapping_add(next(seed) % 600);
-    let (was, now, is_held) = operation(seed);
-    let key = numbered_key(alloc, number)?;
-    if is_held {
-        hold(&mut change.list, &key)?;
-    }
-    if was.is_none() && now.is_none() {
-        return Ok(());
-    }
-    add_operation(&mut change.ops, Op { key, was, now })
-}
-
-// A map, and operations at some of its keys and at others, most of which it agrees with.
-fn generated(alloc: Global, seed: &mut u32) -> Result<Change> {
-    let mut change = Change {
-        list: ItemList::new(alloc),
-        ops: OpList::new(alloc),
-    };
-    let count = next(seed) % 40;
-    for place in 0..count {
-        add_key(alloc, seed, place, &mut change)?;
-    }
-    Ok(change)
-}
-
-// The root's block, and as many of the others as the share says, of which 6 is none.
-fn some_of(
-    alloc: Global,
+// Adds the root's block, and as many of the others as the share says, of which 6 is none.
+fn add_some(
     seed: &mut u32,
     share: u32,
+    some: &mut Blocks,
     blocks: &Blocks,
     root: Cid,
-) -> Result<Blocks> {
-    let mut some = Blocks::new(alloc);
+) -> Result<()> {
     for (link, block) in blocks.iter() {
         let chance = next(seed) % 6;
         if *link == root || chance >= share {
-            put_block(&mut some, block)?;
+            put_block(some, block)?;
         }
     }
-    Ok(some)
+    Ok(())
+}
+
+// The tree that some blocks show.
+fn some_seen(alloc: Global, seed: &mut u32, blocks: &Blocks, root: Cid) -> Result<StubTree> {
+    let mut some = Blocks::new(alloc);
+    let share = next(seed) % 4;
+    add_some(seed, share, &mut some, blocks, root)?;
+    Ok(seen(alloc, &some, root)?)
 }
 
 // The tree that some blocks of a map's tree show.
 fn some_tree(alloc: Global, seed: &mut u32, map: &ItemList) -> Result<StubTree> {
-    let mut blocks = Blocks::new(alloc);
-    let root = put_tree(alloc, &mut blocks, map)?;
-    let share = next(seed) % 4;
-    let some = some_of(alloc, seed, share, &blocks, root)?;
-    seen_whole(alloc, &some, root)
-}
-
-// How undoing ends on a tree and on its list.
-#[derive(Drop)]
-struct Ends {
-    on_tree: String,
-    on_list: String,
+    let mut tree = Tree::new(alloc);
+    let root = put_tree(alloc, &mut tree, map)?;
+    some_seen(alloc, seed, &tree.blocks, root)
 }
 
 // How undoing ends on the list of a tree.
@@ -119,17 +112,28 @@ fn list_end(alloc: Global, tree: &StubTree, ops: &OpList) -> Result<String> {
     undone_list(alloc, &list, ops)
 }
 
-fn ends_of(alloc: Global, tree: StubTree, ops: &OpList) -> Result<Ends> {
-    let on_list = list_end(alloc, &tree, ops)?;
-    let on_tree = undone_tree(alloc, tree, ops)?;
-    Ok(Ends { on_tree, on_list })
+// Counts how undoing ends on the list of a tree, and tells whether it ends so on the tree too.
+fn is_alike(alloc: Global, tree: StubTree, ops: &OpList, endings: &mut Endings) -> Result<bool> {
+    let end = list_end(alloc, &tree, ops)?;
+    endings.count(end.as_str());
+    is_tree_end(alloc, tree, ops, end.as_str())
 }
 
-// How undoing ends on a generated tree and on its list.
-fn round(alloc: Global, seed: &mut u32) -> Result<Ends> {
-    let change = generated(alloc, seed)?;
+// Whether undoing ends alike on a generated tree and on its list.
+fn is_round_alike(alloc: Global, seed: &mut u32, endings: &mut Endings) -> Result<bool> {
+    let mut change = Change::new(alloc);
+    is_change_alike(alloc, seed, &mut change, endings)
+}
+
+fn is_change_alike(
+    alloc: Global,
+    seed: &mut u32,
+    change: &mut Change,
+    endings: &mut Endings,
+) -> Result<bool> {
+    generate(alloc, seed, change)?;
     let tree = some_tree(alloc, seed, &change.list)?;
-    ends_of(alloc, tree, &change.ops)
+    is_alike(alloc, tree, &change.ops, endings)
 }
 
 // How many rounds ended in each way: the operations undone, another one found, or one not covered.
@@ -166,12 +170,10 @@ fn told(alloc: Global, endings: &Endings) -> Result<String> {
     said(alloc, "alike, of each ending more than 5")
 }
 
-impl Subject for Rounds {
-    fn answer(&self, alloc: Global, input: &str) -> Result<String> {
-        let mut row = Row::new(alloc, input);
-        let mut seed = u32::try_from(row.number(" ")).unwrap_or(0);
-        let rounds = row.number(" ");
-        row.end()?;
+impl Told for Rounds {
+    fn told(&self, alloc: Global, given: &mut Given<'_>, _input: &str) -> Result<String> {
+        let mut seed = u32::try_from(given.row.number(" ")).unwrap_or(0);
+        let rounds = given.row.number(" ");
         played(alloc, &mut seed, rounds)
     }
 }
@@ -184,19 +186,9 @@ fn played(alloc: Global, seed: &mut u32, rounds: u64) -> Result<String> {
         uncovered: 0,
     };
     for _ in 0..rounds {
-        let ends = round(alloc, seed)?;
-        if ends.on_tree != ends.on_list {
-            return differing(alloc, &ends);
+        if !is_round_alike(alloc, seed, &mut endings)? {
+            return said(alloc, "otherwise on a tree than on its list");
         }
-        endings.count(ends.on_tree.as_str());
     }
     told(alloc, &endings)
-}
-
-fn differing(alloc: Global, ends: &Ends) -> Result<String> {
-    Answer::new(alloc)
-        .words(ends.on_tree.as_str())
-        .words(" on a tree and on its list ")
-        .words(ends.on_list.as_str())
-        .end()
 }

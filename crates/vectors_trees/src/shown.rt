@@ -3,8 +3,8 @@
 ghost use Rattle.std.specs.Prelude.{IsTrue};
 ghost use Rattle.at_cid.specs.Link.{IsNodeLink};
 
-use crate::trees::{layers_of, put_tree, subtree};
-use crate::words::{add_item, put_block};
+use crate::trees::{Shown, Tree, layers_of, put_tree, subtree};
+use crate::words::{is_item_added, put_block};
 use anyhow::{Result, bail};
 use at_car::Blocks;
 use at_cid::{Cid, Kind};
@@ -20,25 +20,19 @@ pub fn is_node_link(link: &Cid) -> bool
     link.kind() == Kind::Node
 }
 
-/// What is seen of blocks at a root, whose link is of kind Node.
-pub fn seen(alloc: Global, blocks: &Blocks, root: Cid) -> Result<Result<StubTree, ViewFault>> {
+/// What is seen of blocks at a root. One whose link isn't of kind Node is no node.
+pub fn seen(alloc: Global, blocks: &Blocks, root: Cid) -> Result<StubTree, ViewFault> {
     if !is_node_link(&root) {
-        bail!("a root of kind Node");
+        return Err(ViewFault::BadNode(root));
     }
-    Ok(view(alloc, blocks, &root))
-}
-
-/// The tree that is seen of blocks at a root.
-pub fn seen_whole(alloc: Global, blocks: &Blocks, root: Cid) -> Result<StubTree> {
-    let answer = seen(alloc, blocks, root)?;
-    Ok(answer?)
+    view(alloc, blocks, &root)
 }
 
 /// The tree of a list, read from its own blocks.
 pub fn tree_of(alloc: Global, list: &ItemList) -> Result<StubTree> {
-    let mut blocks = Blocks::new(alloc);
-    let root = put_tree(alloc, &mut blocks, list)?;
-    seen_whole(alloc, &blocks, root)
+    let mut tree = Tree::new(alloc);
+    let root = put_tree(alloc, &mut tree, list)?;
+    Ok(seen(alloc, &tree.blocks, root)?)
 }
 
 /// Those blocks whose links are among some.
@@ -52,18 +46,20 @@ pub fn blocks_under(alloc: Global, blocks: &Blocks, links: &[Cid]) -> Result<Blo
     Ok(some)
 }
 
-/// The list that the blocks under some links show of a map's tree, by the definition.
-pub fn list_shown(alloc: Global, map: &ItemList, links: &[Cid]) -> Result<ItemList> {
-    let mut blocks = Blocks::new(alloc);
+/// The list that the blocks of nodes that are shown show of a map's tree, by the definition.
+pub fn list_shown(alloc: Global, map: &ItemList, shown: Shown<'_>) -> Result<ItemList> {
+    let mut tree = Tree::new(alloc);
     let items = map.as_slice();
-    let tree = subtree(alloc, &mut blocks, layers_of(items), items, links)?;
+    subtree(alloc, &mut tree, layers_of(items), items, shown)?;
     list_of(alloc, tree.seen)
 }
 
 fn list_of(alloc: Global, items: Vec<Item>) -> Result<ItemList> {
     let mut list = ItemList::new(alloc);
     for item in items {
-        add_item(&mut list, item)?;
+        if !is_item_added(&mut list, item)? {
+            bail!("a formed item");
+        }
     }
     Ok(list)
 }

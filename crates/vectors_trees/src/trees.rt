@@ -1,6 +1,8 @@
 //! The trees of lists, put together from their definition: the keys of a layer's height are those of its nodes, and what
 //! stands between two of them is the list of a subtree one layer below.
 
+ghost use Rattle.std.specs.Prelude.{◌≤◌, length};
+
 use crate::words::put_block;
 use anyhow::Result;
 use at_car::Blocks;
@@ -10,29 +12,42 @@ use mst_node::{EMPTY_NODE, Entry, encode_node};
 use std::alloc::Global;
 use vector_lines::had;
 
-/// A subtree: its link, where it isn't empty, and the items that are seen of it.
+/// A tree that is put together: the blocks of its nodes, and the items that are seen of it.
 #[derive(Drop)]
 pub struct Tree {
-    pub link: Option<Cid>,
+    pub blocks: Blocks,
     pub seen: Vec<Item>,
 }
 
-// A node whose last subtree isn't closed yet: the items that are seen below it, and those of the last subtree.
+impl Tree {
+    /// A tree of which nothing is put together.
+    pub fn new(alloc: Global) -> Tree {
+        Tree {
+            blocks: Blocks::new(alloc),
+            seen: Vec::new(alloc),
+        }
+    }
+}
+
+/// The nodes that are shown: those under some links, or all but one. Any other is seen as a hole.
+#[derive(Clone, Copy)]
+pub enum Shown<'a> {
+    Under(&'a [Cid]),
+    AllBut(&'a Cid),
+}
+
+fn is_shown(shown: Shown<'_>, link: &Cid) -> bool {
+    match shown {
+        Shown::Under(links) => links.iter().any(|other| other == link),
+        Shown::AllBut(other) => other != link,
+    }
+}
+
+// A node whose last subtree isn't closed yet.
 #[derive(Drop)]
 struct OpenNode {
     left: Option<Cid>,
     entries: Vec<Entry>,
-    seen: Vec<Item>,
-    part: Vec<Item>,
-}
-
-fn open_node(alloc: Global) -> OpenNode {
-    OpenNode {
-        left: None,
-        entries: Vec::new(alloc),
-        seen: Vec::new(alloc),
-        part: Vec::new(alloc),
-    }
 }
 
 fn add_copy(items: &mut Vec<Item>, item: &Item) -> Result<()> {
@@ -40,16 +55,19 @@ fn add_copy(items: &mut Vec<Item>, item: &Item) -> Result<()> {
     Ok(())
 }
 
-// Closes the last subtree.
-fn close(node: &mut OpenNode, below: Tree) -> Result<()> {
-    match node.entries.last_mut() {
-        Some(entry) => entry.right = below.link,
-        None => node.left = below.link,
-    }
-    for item in below.seen {
-        node.seen.push(item)?;
+fn add_copies(items: &mut Vec<Item>, others: &[Item]) -> Result<()> {
+    for item in others {
+        add_copy(items, item)?;
     }
     Ok(())
+}
+
+// Closes the last subtree.
+fn close(node: &mut OpenNode, below: Option<Cid>) {
+    match node.entries.last_mut() {
+        Some(entry) => entry.right = below,
+        None => node.left = below,
+    }
 }
 
 fn entry(alloc: Global, key: &[u8], value: &Cid) -> Result<Entry> {
@@ -60,15 +78,12 @@ fn entry(alloc: Global, key: &[u8], value: &Cid) -> Result<Entry> {
     })
 }
 
-// Closes the last subtree and adds an item of the node's height, behind which the next subtree begins.
-fn add_entry(alloc: Global, node: &mut OpenNode, below: Tree, item: &Item) -> Result<()> {
-    close(node, below)?;
-    node.part = Vec::new(alloc);
+// Adds an item of the node's height, behind which the next subtree begins, and which is seen.
+fn add_entry(alloc: Global, node: &mut OpenNode, seen: &mut Vec<Item>, item: &Item) -> Result<()> {
     if let Item::Key(key, value) = item {
-        let entry = entry(alloc, key.as_slice(), value)?;
-        node.entries.push(entry)?;
+        node.entries.push(entry(alloc, key.as_slice(), value)?)?;
     }
-    add_copy(&mut node.seen, item)
+    add_copy(seen, item)
 }
 
 fn is_at(item: &Item, layer: u8) -> bool {
@@ -76,6 +91,23 @@ fn is_at(item: &Item, layer: u8) -> bool {
         Item::Key(key, _) => height(key.as_slice()) == layer,
         Item::Hole(..) => false,
     }
+}
+
+// How many items stand before the first key of a layer's height.
+fn count_below(items: &[Item], layer: u8) -> usize
+    ensures { result ≤ length items.now }
+{
+    for (i, item) in items.iter().enumerate() {
+        if is_at(item, layer) {
+            return i;
+        }
+    }
+    items.len()
+}
+
+// The items before the first key of a layer's height, and the others.
+fn parted(items: &[Item], layer: u8) -> (&[Item], &[Item]) {
+    items.split_at(count_below(items, layer))
 }
 
 // The link of a list that is exactly a hole of the topmost of so many layers.
@@ -91,84 +123,57 @@ fn is_bare(layers: u8, items: &[Item]) -> bool {
     items.is_empty() || lone_hole(layers, items).is_some()
 }
 
-fn is_among(links: &[Cid], link: &Cid) -> bool {
-    links.iter().any(|other| other == link)
-}
-
-// A subtree of no node, of which all items are seen.
-fn bare(alloc: Global, layers: u8, items: &[Item]) -> Result<Tree> {
-    Ok(Tree {
-        link: lone_hole(layers, items),
-        seen: copied(alloc, items)?,
-    })
-}
-
-/// The subtree of items below so many layers, whose blocks are put among the others. A node whose link isn't among those
-/// shown is seen as a hole.
+/// Puts together the subtree of items below so many layers, and gives its link, where it isn't empty.
 pub fn subtree(
     alloc: Global,
-    blocks: &mut Blocks,
+    tree: &mut Tree,
     layers: u8,
     items: &[Item],
-    shown: &[Cid],
-) -> Result<Tree> {
+    shown: Shown<'_>,
+) -> Result<Option<Cid>> {
     if layers == 0 || is_bare(layers, items) {
-        return bare(alloc, layers, items);
+        add_copies(&mut tree.seen, items)?;
+        return Ok(lone_hole(layers, items));
     }
     let layer = layers - 1;
-    let mut node = open_node(alloc);
-    for item in items {
-        if is_at(item, layer) {
-            let below = subtree(alloc, blocks, layer, node.part.as_slice(), shown)?;
-            add_entry(alloc, &mut node, below, item)?;
-        } else {
-            add_copy(&mut node.part, item)?;
-        }
+    let begin = tree.seen.len();
+    let mut node = OpenNode {
+        left: None,
+        entries: Vec::new(alloc),
+    };
+    let mut rest = items;
+    for _ in 0..=items.len() {
+        let (part, others) = parted(rest, layer);
+        close(&mut node, subtree(alloc, tree, layer, part, shown)?);
+        let [item, behind @ ..] = others else {
+            break;
+        };
+        add_entry(alloc, &mut node, &mut tree.seen, item)?;
+        rest = behind;
     }
-    let below = subtree(alloc, blocks, layer, node.part.as_slice(), shown)?;
-    close(&mut node, below)?;
-    shown_or_hole(alloc, blocks, layer, node, shown)
+    let link = put_node(alloc, &mut tree.blocks, &node)?;
+    seen_from(&mut tree.seen, begin, layer, link, shown)
+}
+
+// The link of a node, whose items from a place on are seen where it is shown, and else a hole.
+fn seen_from(
+    seen: &mut Vec<Item>,
+    begin: usize,
+    layer: u8,
+    link: Cid,
+    shown: Shown<'_>,
+) -> Result<Option<Cid>> {
+    if !is_shown(shown, &link) {
+        seen.truncate(begin);
+        seen.push(Item::Hole(layer, link))?;
+    }
+    Ok(Some(link))
 }
 
 // Puts the block of a node among the others.
 fn put_node(alloc: Global, blocks: &mut Blocks, node: &OpenNode) -> Result<Cid> {
     let block = had(encode_node(alloc, &node.left, node.entries.as_slice()))?;
     put_block(blocks, block.as_slice())
-}
-
-// A subtree that is seen as a hole.
-fn hidden(alloc: Global, layer: u8, link: Cid) -> Result<Tree> {
-    let mut seen = Vec::new(alloc);
-    seen.push(Item::Hole(layer, link))?;
-    Ok(Tree {
-        link: Some(link),
-        seen,
-    })
-}
-
-fn shown_or_hole(
-    alloc: Global,
-    blocks: &mut Blocks,
-    layer: u8,
-    node: OpenNode,
-    shown: &[Cid],
-) -> Result<Tree> {
-    let link = put_node(alloc, blocks, &node)?;
-    if !is_among(shown, &link) {
-        return hidden(alloc, layer, link);
-    }
-    Ok(Tree {
-        link: Some(link),
-        seen: node.seen,
-    })
-}
-
-fn copied(alloc: Global, items: &[Item]) -> Result<Vec<Item>> {
-    let mut copy = Vec::new(alloc);
-    for item in items {
-        add_copy(&mut copy, item)?;
-    }
-    Ok(copy)
 }
 
 /// How many layers the tree of items has.
@@ -182,28 +187,27 @@ pub fn layers_of(items: &[Item]) -> u8 {
     layers
 }
 
-/// The link of the subtree of items below so many layers, whose blocks are put among the others.
+/// The link of the subtree of items below so many layers.
 pub fn link_below(
     alloc: Global,
-    blocks: &mut Blocks,
+    tree: &mut Tree,
     layers: u8,
     items: &[Item],
 ) -> Result<Option<Cid>> {
-    let tree = subtree(alloc, blocks, layers, items, &[])?;
-    Ok(tree.link)
+    subtree(alloc, tree, layers, items, Shown::Under(&[]))
 }
 
 /// The root of a list, whose tree's blocks are put among the others.
-pub fn put_tree(alloc: Global, blocks: &mut Blocks, list: &ItemList) -> Result<Cid> {
+pub fn put_tree(alloc: Global, tree: &mut Tree, list: &ItemList) -> Result<Cid> {
     let items = list.as_slice();
-    match link_below(alloc, blocks, layers_of(items), items)? {
+    match link_below(alloc, tree, layers_of(items), items)? {
         Some(root) => Ok(root),
-        None => put_block(blocks, &EMPTY_NODE),
+        None => put_block(&mut tree.blocks, &EMPTY_NODE),
     }
 }
 
 /// The root of a list.
 pub fn root_of(alloc: Global, list: &ItemList) -> Result<Cid> {
-    let mut blocks = Blocks::new(alloc);
-    put_tree(alloc, &mut blocks, list)
+    let mut tree = Tree::new(alloc);
+    put_tree(alloc, &mut tree, list)
 }

@@ -3,11 +3,12 @@
 
 use crate::encoded::{with_tree, with_yes};
 use crate::filling::is_map;
+use crate::given::{Given, Told};
 use crate::laws::former_root;
 use crate::shown::{seen, tree_of};
 use crate::trees::root_of;
 use crate::views::view_fault;
-use crate::words::{blocks, formed_operations, list, operations};
+use crate::words::{are_added, read};
 use anyhow::{Result, bail};
 use at_car::Blocks;
 use at_cid::Cid;
@@ -15,11 +16,18 @@ use mst_list::{ItemList, OpList, UndoFault, guarded, undo_list};
 use mst_undo::{are_apart, undo};
 use mst_view::StubTree;
 use std::alloc::Global;
-use vector_lines::{Answer, Row, Subject, had, parted, said};
+use vector_lines::{Answer, had, said};
 
 pub struct Undoing;
 
 pub struct Commits;
+
+// What is told of a tree that undoing leaves.
+#[derive(Clone, Copy)]
+enum Left {
+    Items,
+    Root,
+}
 
 fn undo_fault(alloc: Global, fault: UndoFault) -> Result<String> {
     match fault {
@@ -58,20 +66,33 @@ pub fn undone_list(alloc: Global, list: &ItemList, ops: &OpList) -> Result<Strin
     }
 }
 
-// What undoing on a tree leaves.
-fn undone(alloc: Global, tree: StubTree, ops: &OpList) -> Result<Result<StubTree, UndoFault>> {
+fn root_told(alloc: Global, tree: &StubTree) -> Result<String> {
+    let root = had(tree.top_link(alloc))?;
+    Answer::new(alloc).words("ok root ").link(&root).end()
+}
+
+fn left_told(alloc: Global, tree: &StubTree, left: Left) -> Result<String> {
+    match left {
+        Left::Items => tree_told(alloc, tree),
+        Left::Root => root_told(alloc, tree),
+    }
+}
+
+// How undoing on a tree ends, told of what is left.
+fn undone(alloc: Global, tree: StubTree, ops: &OpList, left: Left) -> Result<String> {
     if !are_apart(ops) {
         bail!("operations on different keys");
     }
-    Ok(undo(alloc, tree, ops))
-}
-
-/// How undoing on a tree ends.
-pub fn undone_tree(alloc: Global, tree: StubTree, ops: &OpList) -> Result<String> {
-    match undone(alloc, tree, ops)? {
-        Ok(left) => tree_told(alloc, &left),
+    match undo(alloc, tree, ops) {
+        Ok(tree) => left_told(alloc, &tree, left),
         Err(fault) => undo_fault(alloc, fault),
     }
+}
+
+/// Whether undoing on a tree ends in a way.
+pub fn is_tree_end(alloc: Global, tree: StubTree, ops: &OpList, end: &str) -> Result<bool> {
+    let other = undone(alloc, tree, ops, Left::Items)?;
+    Ok(other.as_str() == end)
 }
 
 // Whether a map that was undone fulfils the laws.
@@ -79,18 +100,12 @@ fn is_lawful(alloc: Global, list: &ItemList, ops: &OpList) -> Result<bool> {
     Ok(!is_map(list.as_slice()) || former_root(alloc, list, list, ops)?.is_some())
 }
 
-// How undoing on the tree of a list ends.
-fn tree_end(alloc: Global, list: &ItemList, ops: &OpList) -> Result<String> {
-    let tree = tree_of(alloc, list)?;
-    undone_tree(alloc, tree, ops)
-}
-
 // What is wrong with how undoing on a list ends, or nothing.
 fn wrong_end(alloc: Global, end: &str, list: &ItemList, ops: &OpList) -> Result<&'static str> {
     if !are_apart(ops) {
         return Ok("");
     }
-    if tree_end(alloc, list, ops)?.as_str() != end {
+    if !is_tree_end(alloc, tree_of(alloc, list)?, ops, end)? {
         return Ok(", but otherwise on a tree");
     }
     if end.starts_with("ok") && !is_lawful(alloc, list, ops)? {
@@ -109,53 +124,32 @@ fn answer_of(alloc: Global, list: &ItemList, ops: &OpList) -> Result<String> {
     with_yes(answer, guarded(list, ops)).end()
 }
 
-// The answer of a row with this list.
-fn answer_on(alloc: Global, list: &ItemList, operations_text: &str) -> Result<String> {
-    match operations(alloc, operations_text)? {
-        Some(ops) => answer_of(alloc, list, &ops),
-        None => said(alloc, "no formed operations"),
-    }
-}
-
-impl Subject for Undoing {
-    fn answer(&self, alloc: Global, input: &str) -> Result<String> {
-        let (items, rest) = parted(input, " ; ")?;
-        match list(alloc, items)? {
-            Some(list) => answer_on(alloc, &list, rest),
-            None => said(alloc, "no formed list"),
+impl Told for Undoing {
+    fn told(&self, alloc: Global, given: &mut Given<'_>, _input: &str) -> Result<String> {
+        let (items, ops) = (given.row.part(" ; "), given.row.part(" ; "));
+        if !are_added(alloc, &mut given.change.list, items, ' ')? {
+            return said(alloc, "no formed list");
         }
+        if !are_added(alloc, &mut given.change.ops, ops, ' ')? {
+            return said(alloc, "no formed operations");
+        }
+        answer_of(alloc, &given.change.list, &given.change.ops)
     }
-}
-
-// How undoing on a tree that is seen ends.
-fn root_undone(alloc: Global, tree: StubTree, ops: &OpList) -> Result<String> {
-    match undone(alloc, tree, ops)? {
-        Ok(left) => root_told(alloc, &left),
-        Err(fault) => undo_fault(alloc, fault),
-    }
-}
-
-fn root_told(alloc: Global, tree: &StubTree) -> Result<String> {
-    let root = had(tree.top_link(alloc))?;
-    Answer::new(alloc).words("ok root ").link(&root).end()
 }
 
 // How undoing on what is seen of blocks ends.
 fn seen_undone(alloc: Global, blocks: &Blocks, root: Cid, ops: &OpList) -> Result<String> {
-    match seen(alloc, blocks, root)? {
-        Ok(tree) => root_undone(alloc, tree, ops),
+    match seen(alloc, blocks, root) {
+        Ok(tree) => undone(alloc, tree, ops, Left::Root),
         Err(fault) => view_fault(alloc, fault),
     }
 }
 
-impl Subject for Commits {
-    fn answer(&self, alloc: Global, input: &str) -> Result<String> {
-        let mut row = Row::new(alloc, input);
-        let root = row.link(" ; ");
-        let (texts, ops) = (row.part(" ; "), row.part(" ; "));
-        row.end()?;
-        let blocks = blocks(alloc, texts)?;
-        let ops = formed_operations(alloc, ops)?;
-        seen_undone(alloc, &blocks, root, &ops)
+impl Told for Commits {
+    fn told(&self, alloc: Global, given: &mut Given<'_>, _input: &str) -> Result<String> {
+        let root = given.row.link(" ; ");
+        read(alloc, &mut given.row, &mut given.tree.blocks, ',')?;
+        read(alloc, &mut given.row, &mut given.change.ops, ' ')?;
+        seen_undone(alloc, &given.tree.blocks, root, &given.change.ops)
     }
 }

@@ -2,16 +2,17 @@
 //! how many keys the whole tree has.
 
 use crate::encoded::with_items;
+use crate::given::{Given, Told};
 use crate::shown::seen;
 use crate::walks::walked;
-use crate::words::blocks;
+use crate::words::read;
 use anyhow::{Result, bail};
 use at_car::Blocks;
 use at_cid::Cid;
 use mst_list::ItemList;
 use mst_view::{Branch, StubTree, ViewFault};
 use std::alloc::Global;
-use vector_lines::{Answer, Row, Subject, had, said};
+use vector_lines::{Answer, had, said};
 
 pub struct Views;
 
@@ -51,11 +52,6 @@ fn without_link(tree: StubTree) -> StubTree {
     }
 }
 
-// Whether a tree has a root.
-fn has_root(alloc: Global, tree: &StubTree, root: Cid) -> Result<bool> {
-    Ok(had(tree.top_link(alloc))? == root)
-}
-
 // Whether the top of a tree has a link, if there is a top.
 fn is_top_linked(alloc: Global, tree: StubTree, root: Cid) -> Result<bool> {
     match tree.into_top() {
@@ -64,51 +60,58 @@ fn is_top_linked(alloc: Global, tree: StubTree, root: Cid) -> Result<bool> {
     }
 }
 
-// Whether a tree has a list.
-fn has_list(alloc: Global, tree: &StubTree, list: &ItemList) -> Result<bool> {
+/// Whether a tree has a list.
+pub fn has_list(alloc: Global, tree: &StubTree, list: &ItemList) -> Result<bool> {
     let other = had(tree.list(alloc))?;
     Ok(other.as_slice() == list.as_slice())
 }
 
-// The items of a tree and of its copy, where both have them and the root.
-fn common_items(alloc: Global, tree: &StubTree, copy: &StubTree, root: Cid) -> Result<String> {
-    if !has_root(alloc, copy, root)? || !has_root(alloc, tree, root)? {
-        return said(alloc, "another root than that of the blocks");
-    }
-    let list = had(tree.list(alloc))?;
-    if !has_list(alloc, copy, &list)? {
-        return said(alloc, "another list than that of the copy");
+// Whether a tree has a root and a list.
+fn is_told(alloc: Global, tree: &StubTree, root: Cid, list: &ItemList) -> Result<bool> {
+    Ok(had(tree.top_link(alloc))? == root && has_list(alloc, tree, list)?)
+}
+
+// Whether the copy of a tree has a root and a list.
+fn is_copy_told(alloc: Global, tree: &StubTree, root: Cid, list: &ItemList) -> Result<bool> {
+    let copy = had(tree.try_clone(alloc))?;
+    is_told(alloc, &copy, root, list)
+}
+
+// Whether a tree that is put together again has a root and a list.
+fn is_again_told(alloc: Global, tree: StubTree, root: Cid, list: &ItemList) -> Result<bool> {
+    let again = without_link(tree);
+    Ok(is_told(alloc, &again, root, list)? && is_top_linked(alloc, again, root)?)
+}
+
+// The items of a tree, where it has them and the root as it stands, copied and put together again.
+fn items_told(alloc: Global, tree: StubTree, root: Cid, list: &ItemList) -> Result<String> {
+    if !is_copy_told(alloc, &tree, root, list)? || !is_again_told(alloc, tree, root, list)? {
+        return said(
+            alloc,
+            "another root or list when it is copied or put together again",
+        );
     }
     with_items(Answer::new(alloc).words("ok "), list.as_slice()).end()
 }
 
-// The items of a tree, where it has them and the root as it stands, copied and put together again.
 fn items_of(alloc: Global, tree: StubTree, root: Cid) -> Result<String> {
-    let copy = had(tree.try_clone(alloc))?;
-    let again = without_link(tree);
-    let items = common_items(alloc, &again, &copy, root)?;
-    if !is_top_linked(alloc, again, root)? {
-        return said(alloc, "another link than that of the top");
-    }
-    Ok(items)
+    let list = had(tree.list(alloc))?;
+    items_told(alloc, tree, root, &list)
 }
 
 // What is seen of the blocks.
 fn viewed(alloc: Global, blocks: &Blocks, root: Cid) -> Result<String> {
-    match seen(alloc, blocks, root)? {
+    match seen(alloc, blocks, root) {
         Ok(tree) => items_of(alloc, tree, root),
         Err(fault) => view_fault(alloc, fault),
     }
 }
 
-impl Subject for Views {
-    fn answer(&self, alloc: Global, input: &str) -> Result<String> {
-        let mut row = Row::new(alloc, input);
-        let root = row.link(" ; ");
-        let texts = row.part(" ; ");
-        row.end()?;
-        let blocks = blocks(alloc, texts)?;
-        told(alloc, &blocks, root)
+impl Told for Views {
+    fn told(&self, alloc: Global, given: &mut Given<'_>, _input: &str) -> Result<String> {
+        let root = given.row.link(" ; ");
+        read(alloc, &mut given.row, &mut given.tree.blocks, ',')?;
+        told(alloc, &given.tree.blocks, root)
     }
 }
 

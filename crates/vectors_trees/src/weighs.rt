@@ -1,22 +1,20 @@
 //! `KEY:WAS>NOW ; VALUE ; clear or beside a hole = fine, other or uncovered`: what an operation is to a list by the value of its
 //! key there, and by whether a hole stands beside it.
 
+use crate::given::{Given, Told};
 use crate::words::operation;
 use anyhow::Result;
 use mst_list::{Verdict, weigh};
 use std::alloc::Global;
-use vector_lines::{Row, Subject, said};
+use vector_lines::said;
 
 pub struct Weighs;
 
-impl Subject for Weighs {
-    fn answer(&self, alloc: Global, input: &str) -> Result<String> {
-        let mut row = Row::new(alloc, input);
-        let op = row.part(" ; ");
-        let value = row.link_or_none(" ; ");
-        let is_clear = row.part(" ; ") == "clear";
-        row.end()?;
-        let op = operation(alloc, op)?;
+impl Told for Weighs {
+    fn told(&self, alloc: Global, given: &mut Given<'_>, _input: &str) -> Result<String> {
+        let op = operation(&mut given.row, " ; ");
+        let value = given.row.link_or_none(" ; ");
+        let is_clear = given.row.part(" ; ") == "clear";
         said(alloc, worded(weigh(&op, value, is_clear)))
     }
 }
