@@ -25,14 +25,14 @@ use Rattle.relay_store.specs.Batches.{messages_sent}
 use Rattle.relay_store.specs.Shown.{held_by}
 use Rattle.relay_store.specs.declared.message.Message.{Message}
 use Rattle.relay_store.proofs.Runs.{sent_joined}
-use Rattle.tape_run.specs.Feeds.{AreOf, bytes_of_messages}
-use Rattle.tape_run.specs.Tapes.{AreRecords}
-use Rattle.tape_run.specs.Tells.{Tells}
-use Rattle.tape_run.proofs.Joining.{journal_joined}
-use Rattle.tape_run.proofs.Records.{records_front}
-use Rattle.ingest_run.specs.Ingested.{PairScene}
-use Rattle.follow_run.specs.Followed.{Followed}
-use Rattle.follow_run.specs.declared.end.FeedEnd.{FeedEnd}
+use Rattle.take_run.specs.Feeds.{AreOf, bytes_of_messages}
+use Rattle.take_run.specs.Tapes.{AreRecords}
+use Rattle.take_run.specs.Tells.{Tells}
+use Rattle.take_run.proofs.Joining.{journal_joined}
+use Rattle.take_run.proofs.Records.{records_front}
+use Rattle.take_run.specs.Ingested.{PairScene}
+use Rattle.take_run.specs.Followed.{Followed}
+use Rattle.take_run.specs.declared.end.TakeEnd.{TakeEnd}
 use Rattle.trust_law.specs.Trust.{Trusts}
 use Rattle.trust_law.proofs.Trusting.{steps_show}
 use Rattle.chain_run.specs.Chained.{AccountsFollow, AllTaken, Chained}
@@ -66,13 +66,13 @@ module _ (t : Tells) (host : List ℕ) (most : ℕ) (one two : List Row) (journa
   abbrev pub given : ℕ → List (List ℕ)
   given n = served (held_by one) (Some n)
 
-  abbrev pub FollowedTo : FeedEnd → Type 0
+  abbrev pub FollowedTo : TakeEnd → Type 0
   FollowedTo end = Followed t true host most MOST_SERVED given left two old new end
 
-  run : (end : FeedEnd) (f : FollowedTo end) (checks : Checks) → OpensRight checks → LinksRight checks → Run checks two (messages f.taken.steps) (rows f.taken.steps)
+  run : (end : TakeEnd) (f : FollowedTo end) (checks : Checks) → OpensRight checks → LinksRight checks → Run checks two (messages f.taken.steps) (rows f.taken.steps)
   run end f checks opens links = steps_run checks two [] f.taken.steps ((steps_join checks two [] f.taken.steps (f.taken.under ++ f.taken.extra)).0 (f.taken.are checks opens links)).0
 
-  faithful : (end : FeedEnd) (f : FollowedTo end) → AreFaithful two → AreFaithful (two ++ rows f.taken.steps)
+  faithful : (end : TakeEnd) (f : FollowedTo end) → AreFaithful two → AreFaithful (two ++ rows f.taken.steps)
   faithful end f was =
       let steps = f.taken.steps in
       let over = f.taken.under ++ f.taken.extra in
@@ -84,7 +84,7 @@ module _ (t : Tells) (host : List ℕ) (most : ℕ) (one two : List Row) (journa
       (runs_faithful some_right.0 two (messages steps) (rows steps) are (fronts (two ++ rows steps) (rows over) whole) (run end f some_right.0 some_right.1 some_right.2))
 
   -- where it is done
-  module _ (f : FollowedTo FeedEnd.Done) where
+  module _ (f : FollowedTo TakeEnd.Done) where
     abbrev steps : List Step
     steps = f.taken.steps
 
@@ -121,19 +121,23 @@ module _ (t : Tells) (host : List ℕ) (most : ℕ) (one two : List Row) (journa
         served_follow checks opens links one two host did steps f.feed.rest journal made new_to (are checks opens links) hosts front over
         (steps_show checks opens t.clock t.repos two [] old.around f.taken.mid steps (are checks opens links) asked trusts trusts_behind) could
 
-  all_of : (end : FeedEnd) (f : FollowedTo end) → end ≡ FeedEnd.Done → AllTaken host (given (cursor host two)) f.taken.steps
-  all_of FeedEnd.Done f is = all_taken f
-  all_of FeedEnd.Feed f is = absurd cc
-  all_of FeedEnd.WriteFault f is = absurd cc
-  all_of (FeedEnd.Store fault) f is = absurd cc
-  all_of FeedEnd.Memory f is = absurd cc
+  all_of : (end : TakeEnd) (f : FollowedTo end) → end ≡ TakeEnd.Done → AllTaken host (given (cursor host two)) f.taken.steps
+  all_of TakeEnd.Done f is = all_taken f
+  all_of (TakeEnd.Bad place) f is = absurd cc
+  all_of TakeEnd.TooLong f is = absurd cc
+  all_of TakeEnd.ReadFault f is = absurd cc
+  all_of TakeEnd.WriteFault f is = absurd cc
+  all_of (TakeEnd.Store fault) f is = absurd cc
+  all_of TakeEnd.Memory f is = absurd cc
 
-  law_of : (end : FeedEnd) (f : FollowedTo end) → end ≡ FeedEnd.Done → AccountsFollow host one two (rows f.taken.steps)
-  law_of FeedEnd.Done f is = follows f
-  law_of FeedEnd.Feed f is = absurd cc
-  law_of FeedEnd.WriteFault f is = absurd cc
-  law_of (FeedEnd.Store fault) f is = absurd cc
-  law_of FeedEnd.Memory f is = absurd cc
+  law_of : (end : TakeEnd) (f : FollowedTo end) → end ≡ TakeEnd.Done → AccountsFollow host one two (rows f.taken.steps)
+  law_of TakeEnd.Done f is = follows f
+  law_of (TakeEnd.Bad place) f is = absurd cc
+  law_of TakeEnd.TooLong f is = absurd cc
+  law_of TakeEnd.ReadFault f is = absurd cc
+  law_of TakeEnd.WriteFault f is = absurd cc
+  law_of (TakeEnd.Store fault) f is = absurd cc
+  law_of TakeEnd.Memory f is = absurd cc
 
-  pub chained : (end : FeedEnd) → FollowedTo end → Chained t host most one two old new end
+  pub chained : (end : TakeEnd) → FollowedTo end → Chained t host most one two old new end
   chained end f = record { left = left; followed = f; run = run end f; all = all_of end f; faithful = faithful end f; law = law_of end f }

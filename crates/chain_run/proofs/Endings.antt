@@ -7,10 +7,9 @@ use Rattle.relay_store.specs.Journals.{IsBadPairJournalAt}
 use Rattle.relay_store.specs.Opening.{IsOfReading}
 use Rattle.relay_store.specs.declared.fault.StoreFault.{StoreFault}
 use Rattle.relay_store.proofs.Images.{no_journal}
-use Rattle.tape_run.specs.Ends.{AreExtraAt}
-use Rattle.tape_run.specs.declared.end.TapeEnd.{TapeEnd}
-use Rattle.ingest_run.specs.Ends.{NoneOf, IsCausedBy as IsTakingCausedBy}
-use Rattle.follow_run.specs.Ends.{feed_end, tape_end}
+use Rattle.take_run.specs.Ends.{AreExtraAt}
+use Rattle.take_run.specs.declared.end.TakeEnd.{TakeEnd}
+use Rattle.take_run.specs.PairEnds.{NoneOf, IsCausedBy as IsTakingCausedBy}
 use Rattle.chain_run.specs.Ends.{IsCausedBy, MayEnd, end_of_feed, end_of_store, end_of_taken, taking_end}
 use Rattle.chain_run.specs.Places.{ChainEndShows, HoldsJournal, Place}
 use Rattle.chain_run.specs.declared.end.ChainEnd.{ChainEnd}
@@ -19,15 +18,15 @@ not_rose : {A : Type 0} → Rose 0 0 → A
 not_rose rose = let none : ⊥ = omega (arith, rose) in absurd none
 
 -- an end is that of a feed which gives the same
-pub ends_alike : (disk write repos clock : Type 0) (taken : Result TapeEnd EventsFault) → IfOk taken (λ end. IsTakingCausedBy disk (Rose 0 0) write repos clock end) → ((at : ℕ) → taken ≡ Err (EventsFault.BadLog at) → ⊥)
-    → end_of_taken taken ≡ end_of_feed (feed_end (taking_end taken))
-ends_alike disk write repos clock (Ok TapeEnd.Done) caused good = refl
-ends_alike disk write repos clock (Ok (TapeEnd.Bad place)) caused good = refl
-ends_alike disk write repos clock (Ok TapeEnd.ReadFault) caused good = not_rose caused
-ends_alike disk write repos clock (Ok TapeEnd.WriteFault) caused good = refl
-ends_alike disk write repos clock (Ok TapeEnd.TooLong) caused good = refl
-ends_alike disk write repos clock (Ok (TapeEnd.Store fault)) caused good = refl
-ends_alike disk write repos clock (Ok TapeEnd.Memory) caused good = refl
+pub ends_alike : (disk write repos clock : Type 0) (taken : Result TakeEnd EventsFault) → IfOk taken (λ end. IsTakingCausedBy disk (Rose 0 0) write repos clock end) → ((at : ℕ) → taken ≡ Err (EventsFault.BadLog at) → ⊥)
+    → end_of_taken taken ≡ end_of_feed (taking_end taken)
+ends_alike disk write repos clock (Ok TakeEnd.Done) caused good = refl
+ends_alike disk write repos clock (Ok (TakeEnd.Bad place)) caused good = refl
+ends_alike disk write repos clock (Ok TakeEnd.ReadFault) caused good = not_rose caused
+ends_alike disk write repos clock (Ok TakeEnd.WriteFault) caused good = refl
+ends_alike disk write repos clock (Ok TakeEnd.TooLong) caused good = refl
+ends_alike disk write repos clock (Ok (TakeEnd.Store fault)) caused good = refl
+ends_alike disk write repos clock (Ok TakeEnd.Memory) caused good = refl
 ends_alike disk write repos clock (Err EventsFault.Disk) caused good = refl
 ends_alike disk write repos clock (Err EventsFault.Memory) caused good = refl
 ends_alike disk write repos clock (Err (EventsFault.BadLog place)) caused good = absurd (good place refl)
@@ -44,22 +43,22 @@ opening_causes disk write repos clock StoreFault.Repos of cause = absurd of
 opening_causes disk write repos clock StoreFault.Memory of cause = tt
 opening_causes disk write repos clock StoreFault.Clock of cause = absurd of
 
-pub taking_causes : (first second disk write repos clock : Type 0) (taken : Result TapeEnd EventsFault) → (first → disk) → (second → disk) → IfOk taken (λ end. IsTakingCausedBy second (Rose 0 0) write repos clock end) → (taken ≡ Err EventsFault.Disk → first)
+pub taking_causes : (first second disk write repos clock : Type 0) (taken : Result TakeEnd EventsFault) → (first → disk) → (second → disk) → IfOk taken (λ end. IsTakingCausedBy second (Rose 0 0) write repos clock end) → (taken ≡ Err EventsFault.Disk → first)
     → IsCausedBy disk write repos clock (end_of_taken taken)
-taking_causes first second disk write repos clock (Ok TapeEnd.Done) one two caused cause = tt
-taking_causes first second disk write repos clock (Ok (TapeEnd.Bad place)) one two caused cause = tt
-taking_causes first second disk write repos clock (Ok TapeEnd.ReadFault) one two caused cause = tt
-taking_causes first second disk write repos clock (Ok TapeEnd.WriteFault) one two caused cause = caused
-taking_causes first second disk write repos clock (Ok TapeEnd.TooLong) one two caused cause = tt
-taking_causes first second disk write repos clock (Ok TapeEnd.Memory) one two caused cause = tt
-taking_causes first second disk write repos clock (Ok (TapeEnd.Store StoreFault.Disk)) one two caused cause = two caused
-taking_causes first second disk write repos clock (Ok (TapeEnd.Store (StoreFault.BadLog place))) one two caused cause = tt
-taking_causes first second disk write repos clock (Ok (TapeEnd.Store (StoreFault.Full e))) one two caused cause = tt
-taking_causes first second disk write repos clock (Ok (TapeEnd.Store StoreFault.SeqEnd)) one two caused cause = tt
-taking_causes first second disk write repos clock (Ok (TapeEnd.Store StoreFault.Authority)) one two caused cause = tt
-taking_causes first second disk write repos clock (Ok (TapeEnd.Store StoreFault.Repos)) one two caused cause = caused
-taking_causes first second disk write repos clock (Ok (TapeEnd.Store StoreFault.Memory)) one two caused cause = tt
-taking_causes first second disk write repos clock (Ok (TapeEnd.Store StoreFault.Clock)) one two caused cause = caused
+taking_causes first second disk write repos clock (Ok TakeEnd.Done) one two caused cause = tt
+taking_causes first second disk write repos clock (Ok (TakeEnd.Bad place)) one two caused cause = tt
+taking_causes first second disk write repos clock (Ok TakeEnd.ReadFault) one two caused cause = tt
+taking_causes first second disk write repos clock (Ok TakeEnd.WriteFault) one two caused cause = caused
+taking_causes first second disk write repos clock (Ok TakeEnd.TooLong) one two caused cause = tt
+taking_causes first second disk write repos clock (Ok TakeEnd.Memory) one two caused cause = tt
+taking_causes first second disk write repos clock (Ok (TakeEnd.Store StoreFault.Disk)) one two caused cause = two caused
+taking_causes first second disk write repos clock (Ok (TakeEnd.Store (StoreFault.BadLog place))) one two caused cause = tt
+taking_causes first second disk write repos clock (Ok (TakeEnd.Store (StoreFault.Full e))) one two caused cause = tt
+taking_causes first second disk write repos clock (Ok (TakeEnd.Store StoreFault.SeqEnd)) one two caused cause = tt
+taking_causes first second disk write repos clock (Ok (TakeEnd.Store StoreFault.Authority)) one two caused cause = tt
+taking_causes first second disk write repos clock (Ok (TakeEnd.Store StoreFault.Repos)) one two caused cause = caused
+taking_causes first second disk write repos clock (Ok (TakeEnd.Store StoreFault.Memory)) one two caused cause = tt
+taking_causes first second disk write repos clock (Ok (TakeEnd.Store StoreFault.Clock)) one two caused cause = caused
 taking_causes first second disk write repos clock (Err EventsFault.Disk) one two caused cause = one (cause refl)
 taking_causes first second disk write repos clock (Err EventsFault.Memory) one two caused cause = tt
 taking_causes first second disk write repos clock (Err (EventsFault.BadLog place)) one two caused cause = tt
@@ -87,22 +86,22 @@ second_shows StoreFault.Repos old of first bad = absurd of
 second_shows StoreFault.Memory old of first bad = tt
 second_shows StoreFault.Clock old of first bad = absurd of
 
-pub both_show : (taken : Result TapeEnd EventsFault) (extra : List Step) (old : Place) → AreExtraAt (tape_end (feed_end (taking_end taken))) extra → ((at : ℕ) → taken ≡ Err (EventsFault.BadLog at) → ⊥) → HoldsJournal old.first old.first_other → HoldsJournal old.second old.second_other
+pub both_show : (taken : Result TakeEnd EventsFault) (extra : List Step) (old : Place) → AreExtraAt (taking_end taken) extra → ((at : ℕ) → taken ≡ Err (EventsFault.BadLog at) → ⊥) → HoldsJournal old.first old.first_other → HoldsJournal old.second old.second_other
     → ChainEndShows (end_of_taken taken) old
-both_show (Ok TapeEnd.Done) extra old which good first second = (first, second)
-both_show (Ok (TapeEnd.Bad place)) extra old which good first second = tt
-both_show (Ok TapeEnd.ReadFault) extra old which good first second = tt
-both_show (Ok TapeEnd.WriteFault) extra old which good first second = (first, second)
-both_show (Ok TapeEnd.TooLong) extra old which good first second = tt
-both_show (Ok TapeEnd.Memory) extra old which good first second = tt
-both_show (Ok (TapeEnd.Store StoreFault.Disk)) extra old which good first second = tt
-both_show (Ok (TapeEnd.Store (StoreFault.BadLog place))) extra old which good first second = absurd which
-both_show (Ok (TapeEnd.Store (StoreFault.Full e))) extra old which good first second = (first, second)
-both_show (Ok (TapeEnd.Store StoreFault.SeqEnd)) extra old which good first second = (first, second)
-both_show (Ok (TapeEnd.Store StoreFault.Authority)) extra old which good first second = tt
-both_show (Ok (TapeEnd.Store StoreFault.Repos)) extra old which good first second = (first, second)
-both_show (Ok (TapeEnd.Store StoreFault.Memory)) extra old which good first second = tt
-both_show (Ok (TapeEnd.Store StoreFault.Clock)) extra old which good first second = (first, second)
+both_show (Ok TakeEnd.Done) extra old which good first second = (first, second)
+both_show (Ok (TakeEnd.Bad place)) extra old which good first second = tt
+both_show (Ok TakeEnd.ReadFault) extra old which good first second = tt
+both_show (Ok TakeEnd.WriteFault) extra old which good first second = (first, second)
+both_show (Ok TakeEnd.TooLong) extra old which good first second = tt
+both_show (Ok TakeEnd.Memory) extra old which good first second = tt
+both_show (Ok (TakeEnd.Store StoreFault.Disk)) extra old which good first second = tt
+both_show (Ok (TakeEnd.Store (StoreFault.BadLog place))) extra old which good first second = absurd which
+both_show (Ok (TakeEnd.Store (StoreFault.Full e))) extra old which good first second = (first, second)
+both_show (Ok (TakeEnd.Store StoreFault.SeqEnd)) extra old which good first second = (first, second)
+both_show (Ok (TakeEnd.Store StoreFault.Authority)) extra old which good first second = tt
+both_show (Ok (TakeEnd.Store StoreFault.Repos)) extra old which good first second = (first, second)
+both_show (Ok (TakeEnd.Store StoreFault.Memory)) extra old which good first second = tt
+both_show (Ok (TakeEnd.Store StoreFault.Clock)) extra old which good first second = (first, second)
 both_show (Err EventsFault.Disk) extra old which good first second = tt
 both_show (Err EventsFault.Memory) extra old which good first second = tt
 both_show (Err (EventsFault.BadLog place)) extra old which good first second = absurd (good place refl)

@@ -1,7 +1,7 @@
 -- Faults of events, as those of a feed.
 use Rattle.std.proofs.Common.{inl, inr, Err, refl}
 use Rattle.event_window.specs.declared.fault.EventsFault.{EventsFault}
-use Rattle.tape_run.specs.Following.{IsUnread}
+use Rattle.take_run.specs.Following.{IsUnread}
 use Rattle.chain_run.specs.Ends.{taking_end}
 
 pub is_unread : (fault : EventsFault) → IsUnread (taking_end (Err fault))

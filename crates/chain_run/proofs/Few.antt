@@ -16,7 +16,7 @@ use Rattle.relay_store.specs.Shown.{held_by, is_shown, shown_of}
 use Rattle.relay_store.specs.declared.message.Message.{Message}
 use Rattle.relay_store.proofs.Reread.{last_fits}
 use Rattle.relay_store.proofs.Standing.{one_event}
-use Rattle.tape_run.specs.Feeds.{bytes_of_messages}
+use Rattle.take_run.specs.Feeds.{bytes_of_messages}
 use Rattle.chain_run.specs.declared.taking.TheConstants.{MOST_SERVED}
 
 -- ---- the numbers of a journal's events

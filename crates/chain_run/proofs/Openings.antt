@@ -10,10 +10,10 @@ use Rattle.relay_store.specs.Opening.{IsOfReading, Opened}
 use Rattle.relay_store.specs.declared.fault.StoreFault.{StoreFault}
 use Rattle.relay_store.specs.declared.store.Store.{Store}
 use Rattle.relay_store.proofs.Beside.{leaves_stand, opened_leaves}
-use Rattle.tape_run.specs.Ends.{end_of_store as tape_end_of}
-use Rattle.tape_run.specs.Tells.{Tells}
-use Rattle.ingest_run.specs.Ingested.{Unopened, pair_scene}
-use Rattle.ingest_run.proofs.Whole.{unopened}
+use Rattle.take_run.specs.Ends.{end_of_store as tape_end_of}
+use Rattle.take_run.specs.Tells.{Tells}
+use Rattle.take_run.specs.Ingested.{Unopened, pair_scene}
+use Rattle.take_run.proofs.WholeIngested.{unopened}
 use Rattle.serve_run.specs.Replayed.{OnlyRead}
 use Rattle.serve_run.proofs.Reading.{read_opened}
 use Rattle.chain_run.specs.Chained.{ChainRan}

@@ -9,11 +9,10 @@ use Rattle.relay_store.specs.Journals.{IsPairImageOf}
 use Rattle.relay_store.specs.Opening.{Opened}
 use Rattle.relay_store.specs.Shown.{held_by}
 use Rattle.relay_store.specs.declared.store.Store.{Store}
-use Rattle.tape_run.specs.Tells.{Tells}
-use Rattle.tape_run.specs.declared.end.TapeEnd.{TapeEnd}
-use Rattle.ingest_run.specs.Ends.{IsCausedBy as IsTakingCausedBy}
-use Rattle.follow_run.specs.Ends.{feed_end}
-use Rattle.follow_run.specs.Followed.{Followed}
+use Rattle.take_run.specs.Tells.{Tells}
+use Rattle.take_run.specs.declared.end.TakeEnd.{TakeEnd}
+use Rattle.take_run.specs.PairEnds.{IsCausedBy as IsTakingCausedBy}
+use Rattle.take_run.specs.Followed.{Followed}
 use Rattle.serve_run.proofs.Reading.{read_opened}
 use Rattle.chain_run.specs.Chained.{ChainRan, IsChained}
 use Rattle.chain_run.specs.Ends.{BothOpened, end_of_taken, taking_end}
@@ -30,11 +29,11 @@ failed_since one two mid other now other_now first second = ⊎_elim (λ rose. i
 module _ (t : Tells) (host : List ℕ) (most : ℕ) (old new : Place) (source : Store) (c d e f : View) (c_is : IsDisk c) (d_is : IsDisk d)
     (opened : Opened t.disk old.first old.first_other c d (Ok source)) (one_goes : Goes Same c new.first) (two_goes : Goes Same d new.first_other)
     (c_more : old.first.faults ≤ c.faults) (d_more : old.first_other.faults ≤ d.faults) (e_more : old.second.faults ≤ e.faults) (f_more : old.second_other.faults ≤ f.faults)
-    (taken : Result TapeEnd EventsFault) (first_failed : taken ≡ Err EventsFault.Disk → PairFailed c d new.first new.first_other) (good : (at : ℕ) → taken ≡ Err (EventsFault.BadLog at) → IsTrue t.disk → ⊥)
+    (taken : Result TakeEnd EventsFault) (first_failed : taken ≡ Err EventsFault.Disk → PairFailed c d new.first new.first_other) (good : (at : ℕ) → taken ≡ Err (EventsFault.BadLog at) → IsTrue t.disk → ⊥)
     (taken_so : IfOk taken (λ end. IsTakingCausedBy (PairFailed e f new.second new.second_other) (Rose 0 0) (Rose old.failed.output new.failed.output) (Rose old.failed.repos new.failed.repos) (Rose old.failed.clock new.failed.clock) end))
     (held : IsTrue t.disk → HoldsJournal old.second old.second_other)
     (follow : IsTrue t.disk → (one : List Row) → IsPairImageOf one old.first.content old.first_other.content → (two : List Row) → IsPairImageOf two old.second.content old.second_other.content
-    → (left : List (List ℕ)) × Followed t true host most MOST_SERVED (λ n. served (held_by one) (Some n)) left two (second_scene old) (second_scene new) (feed_end (taking_end taken)))
+    → (left : List (List ℕ)) × Followed t true host most MOST_SERVED (λ n. served (held_by one) (Some n)) left two (second_scene old) (second_scene new) (taking_end taken))
     (kept : CountsKept old new) where
   causes : ChainCaused old new (end_of_taken taken)
   causes =
@@ -55,9 +54,9 @@ module _ (t : Tells) (host : List ℕ) (most : ℕ) (old new : Place) (source : 
       inr (
         one.0,
         one.1,
-        feed_end (taking_end taken),
+        taking_end taken,
         ends_alike (PairFailed e f new.second new.second_other) (Rose old.failed.output new.failed.output) (Rose old.failed.repos new.failed.repos) (Rose old.failed.clock new.failed.clock) taken taken_so (λ at is. good at is told),
-        chained t host most one.0 two one.1.are.journal followed.0 (second_scene old) (second_scene new) (λ name. refl) (λ name. refl) (feed_end (taking_end taken)) followed.1,
+        chained t host most one.0 two one.1.are.journal followed.0 (second_scene old) (second_scene new) (λ name. refl) (λ name. refl) (taking_end taken) followed.1,
       )
 
   ran_so : ChainRan t host most old new (end_of_taken taken)

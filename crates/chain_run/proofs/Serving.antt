@@ -26,7 +26,7 @@ use Rattle.relay_step.specs.Steps.{Step, Decided, after_end, skipped, recorded, 
 use Rattle.relay_step.proofs.Steps.{steps_run}
 use Rattle.relay_store.specs.Batches.{messages_sent}
 use Rattle.relay_store.specs.Shown.{held_by, is_shown, shown_of}
-use Rattle.tape_run.specs.Feeds.{AreOf, bytes_of_messages}
+use Rattle.take_run.specs.Feeds.{AreOf, bytes_of_messages}
 use Rattle.chain_law.specs.Chained.{events_shown, sent_by, raises, AreReadEvents}
 use Rattle.chain_law.specs.Given.{AreGiven}
 use Rattle.chain_law.proofs.Following.{follow, kept_above, sent_last}

@@ -12,12 +12,11 @@ use Rattle.relay_step.specs.Steps.{Step, ended_by_all, messages, rows}
 use Rattle.relay_store.specs.Batches.{messages_sent}
 use Rattle.relay_store.specs.Journals.{IsPairImageOf}
 use Rattle.relay_store.specs.Shown.{held_by, is_shown}
-use Rattle.tape_run.specs.Feeds.{bytes_of_messages}
-use Rattle.tape_run.specs.Tells.{Tells}
-use Rattle.tape_run.specs.declared.end.TapeEnd.{TapeEnd}
-use Rattle.ingest_run.specs.Ingested.{PairScene, Unopened}
-use Rattle.follow_run.specs.Followed.{Followed}
-use Rattle.follow_run.specs.declared.end.FeedEnd.{FeedEnd}
+use Rattle.take_run.specs.Feeds.{bytes_of_messages}
+use Rattle.take_run.specs.Tells.{Tells}
+use Rattle.take_run.specs.declared.end.TakeEnd.{TakeEnd}
+use Rattle.take_run.specs.Ingested.{PairScene, Unopened}
+use Rattle.take_run.specs.Followed.{Followed}
 use Rattle.serve_run.specs.Replayed.{OnlyRead}
 use Rattle.chain_law.specs.Chained.{CanFollow, FollowsAll}
 use Rattle.chain_law.specs.Given.{AreGiven}
@@ -41,7 +40,7 @@ AllTaken host given steps = (given ≡ bytes_of_messages (messages_sent steps))
 
 -- What the journal `one` serves behind the host's cursor was taken into the journal `two` of two disks, and ended so.
 pub record Chained (t : Tells) (host : List ℕ) (most : ℕ) (one two : List Row) (old new : PairScene)
-    (end : FeedEnd) : Type 0 where
+    (end : TakeEnd) : Type 0 where
   pub left : List (List ℕ)
   -- the messages were taken as those of a feed that gives what is served
   pub followed : Followed t true host most MOST_SERVED
@@ -50,19 +49,19 @@ pub record Chained (t : Tells) (host : List ℕ) (most : ℕ) (one two : List Ro
   pub run : (checks : Checks) → OpensRight checks → LinksRight checks
       → Run checks two (messages followed.taken.steps) (rows followed.taken.steps)
   -- where it is done they are all that is served, or all up to the host's end
-  pub all : end ≡ FeedEnd.Done → AllTaken host
+  pub all : end ≡ TakeEnd.Done → AllTaken host
       (served (held_by one) (Some (cursor host two))) followed.taken.steps
   -- what the rows send out is read as that
   pub faithful : AreFaithful two → AreFaithful (two ++ rows followed.taken.steps)
   -- and the accounts follow
-  pub law : end ≡ FeedEnd.Done → AccountsFollow host one two (rows followed.taken.steps)
+  pub law : end ≡ TakeEnd.Done → AccountsFollow host one two (rows followed.taken.steps)
 
 -- One of the two pairs wasn't opened; or both were, and what the first serves was taken into the journal `two` of the second.
 abbrev pub IsChained : Tells → List ℕ → ℕ → List Row → Place → Place → ChainEnd → Type 0
 IsChained t host most two old new end =
-    ((e : TapeEnd) × (end ≡ end_of_taking e) × Unopened two (second_scene old) (second_scene new) e)
+    ((e : TakeEnd) × (end ≡ end_of_taking e) × Unopened two (second_scene old) (second_scene new) e)
     ⊎ ((one : List Row) × IsPairImageOf one old.first.content old.first_other.content
-    × (e : FeedEnd) × (end ≡ end_of_feed e)
+    × (e : TakeEnd) × (end ≡ end_of_feed e)
     × Chained t host most one two (second_scene old) (second_scene new) e)
 
 -- A relay behind a relay ran, and ended so.

@@ -2,8 +2,7 @@
 use Rattle.std.specs.Prelude.{⊤, Result, Ok, Err}
 use Rattle.event_window.specs.declared.fault.EventsFault.{EventsFault}
 use Rattle.relay_store.specs.declared.fault.StoreFault.{StoreFault}
-use Rattle.follow_run.specs.declared.end.FeedEnd.{FeedEnd}
-use Rattle.tape_run.specs.declared.end.TapeEnd.{TapeEnd}
+use Rattle.take_run.specs.declared.end.TakeEnd.{TakeEnd}
 use Rattle.chain_run.specs.declared.end.ChainEnd.{ChainEnd}
 
 -- the end that a fault of a store brings. Judges that say yes to everything are never spent
@@ -23,30 +22,27 @@ end_of_events EventsFault.Memory = ChainEnd.Memory
 end_of_events (EventsFault.BadLog place) = ChainEnd.BadLog place
 
 -- the end of taking messages, none of which comes of a tape
-abbrev pub end_of_taking : TapeEnd → ChainEnd
-end_of_taking TapeEnd.Done = ChainEnd.Done
-end_of_taking TapeEnd.WriteFault = ChainEnd.WriteFault
-end_of_taking (TapeEnd.Store fault) = end_of_store fault
+abbrev pub end_of_taking : TakeEnd → ChainEnd
+end_of_taking TakeEnd.Done = ChainEnd.Done
+end_of_taking TakeEnd.WriteFault = ChainEnd.WriteFault
+end_of_taking (TakeEnd.Store fault) = end_of_store fault
 end_of_taking end = ChainEnd.Memory
 
 -- the end of taking what the first store's events give
-abbrev pub end_of_taken : Result TapeEnd EventsFault → ChainEnd
+abbrev pub end_of_taken : Result TakeEnd EventsFault → ChainEnd
 end_of_taken (Ok end) = end_of_taking end
 end_of_taken (Err fault) = end_of_events fault
 
 -- the same as an end of taking a feed, whose calls fail where the events have a fault
-abbrev pub taking_end : Result TapeEnd EventsFault → TapeEnd
+abbrev pub taking_end : Result TakeEnd EventsFault → TakeEnd
 taking_end (Ok end) = end
-taking_end (Err EventsFault.Memory) = TapeEnd.Memory
-taking_end (Err fault) = TapeEnd.ReadFault
+taking_end (Err EventsFault.Memory) = TakeEnd.Memory
+taking_end (Err fault) = TakeEnd.ReadFault
 
 -- the end that following a feed brings which is what the first relay serves
-abbrev pub end_of_feed : FeedEnd → ChainEnd
-end_of_feed FeedEnd.Done = ChainEnd.Done
-end_of_feed FeedEnd.Feed = ChainEnd.Disk
-end_of_feed FeedEnd.WriteFault = ChainEnd.WriteFault
-end_of_feed (FeedEnd.Store fault) = end_of_store fault
-end_of_feed FeedEnd.Memory = ChainEnd.Memory
+abbrev pub end_of_feed : TakeEnd → ChainEnd
+end_of_feed TakeEnd.ReadFault = ChainEnd.Disk
+end_of_feed end = end_of_taking end
 
 -- both pairs were opened: the end is none that opening may come to
 abbrev pub BothOpened : ChainEnd → Type 0

@@ -13,7 +13,7 @@ use Rattle.relay_law.specs.Right.{LinksRight}
 use Rattle.relay_step.specs.Steps.{Step, AreSteps, ended_by_all, rows}
 use Rattle.relay_store.specs.Batches.{messages_sent}
 use Rattle.relay_store.specs.Shown.{held_by, is_shown}
-use Rattle.tape_run.specs.Feeds.{AreOf, bytes_of_messages}
+use Rattle.take_run.specs.Feeds.{AreOf, bytes_of_messages}
 use Rattle.chain_law.specs.Given.{AreGiven}
 use Rattle.chain_law.specs.Chained.{CanFollow, FollowsAll}
 

@@ -6,8 +6,8 @@ use Rattle.relay_disk.specs.Disk.{View}
 use Rattle.relay_row.specs.declared.row.Row.{Row}
 use Rattle.relay_step.specs.Around.{around}
 use Rattle.relay_store.specs.Journals.{IsBadPairJournalAt, IsPairImageOf}
-use Rattle.ingest_run.specs.Ends.{NoneOf}
-use Rattle.ingest_run.specs.Ingested.{PairScene, pair_scene}
+use Rattle.take_run.specs.PairEnds.{NoneOf}
+use Rattle.take_run.specs.Ingested.{PairScene, pair_scene}
 use Rattle.chain_run.specs.Ends.{IsCausedBy}
 use Rattle.chain_run.specs.declared.end.ChainEnd.{ChainEnd}
 

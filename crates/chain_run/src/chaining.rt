@@ -15,9 +15,9 @@ ghost use Rattle.relay_step.specs.Around.{around};
 ghost use Rattle.relay_store.specs.Shown.{held_by};
 ghost use Rattle.relay_store.specs.Store.{IsKept, IsOf, Keeps, seen_in};
 ghost use Rattle.relay_store.specs.Pairs.{of_pair};
-ghost use Rattle.tape_run.specs.Taken.{scene};
-ghost use Rattle.tape_run.specs.Tells.{tells};
-ghost use Rattle.ingest_run.specs.Ends.{IsCausedBy};
+ghost use Rattle.take_run.specs.Taken.{scene};
+ghost use Rattle.take_run.specs.Tells.{tells};
+ghost use Rattle.take_run.specs.PairEnds.{IsCausedBy};
 ghost use Rattle.chain_run.specs.Chained.{ChainRan};
 ghost use Rattle.chain_run.specs.Ends.{taking_end};
 ghost use Rattle.chain_run.specs.Places.{PairFailed, failures, place};
@@ -33,7 +33,7 @@ use relay_disk::Disk;
 use relay_io::{Clock, Repos, Sink};
 use relay_store::Store;
 use std::alloc::Global;
-use tape_run::TapeEnd;
+use take_run::TakeEnd;
 
 // Takes what is given of these events, on the disk of the store's side.
 fn take_on<E: Events, D: Disk, P: Judges, R: Repos, C: Clock, O: Sink>(
@@ -47,7 +47,7 @@ fn take_on<E: Events, D: Disk, P: Judges, R: Repos, C: Clock, O: Sink>(
     repos: &mut R,
     clock: &mut C,
     out: &mut O,
-) -> Result<TapeEnd, EventsFault>
+) -> Result<TakeEnd, EventsFault>
     requires open { IsTrue (seen_in store.old).log.is_open }
     requires on { IsTrue D.tells → IsKept (seen_in store.old)
         (view_of_side (seen_in store.old).side (D.view disk.old) (D.view other.old)) }
@@ -127,7 +127,7 @@ fn chain_from<D: Disk, P: Judges, R: Repos, C: Clock, O: Sink>(
     repos: &mut R,
     clock: &mut C,
     out: &mut O,
-) -> Result<TapeEnd, EventsFault>
+) -> Result<TakeEnd, EventsFault>
     requires source { IsTrue D.tells → IsKept (seen_in source.now) (D.view source_disk.old) }
     requires open { IsTrue (seen_in store.old).log.is_open }
     requires on { IsTrue D.tells → IsKept (seen_in store.old)
@@ -191,7 +191,7 @@ fn chain_sides<D: Disk, P: Judges, R: Repos, C: Clock, O: Sink>(
     repos: &mut R,
     clock: &mut C,
     out: &mut O,
-) -> Result<TapeEnd, EventsFault>
+) -> Result<TakeEnd, EventsFault>
     requires source { IsTrue D.tells → IsKept (seen_in source.now)
         (view_of_side (seen_in source.now).side (D.view first.old) (D.view first_other.old)) }
     requires open { IsTrue (seen_in store.old).log.is_open }

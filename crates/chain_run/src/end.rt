@@ -5,7 +5,7 @@ ghost use Rattle.chain_run.specs.Ends.{end_of_events, end_of_store, end_of_taken
 
 use event_window::EventsFault;
 use relay_store::StoreFault;
-use tape_run::TapeEnd;
+use take_run::TakeEnd;
 
 /// How a relay behind a relay ended. A place or an end is in bytes from the front of its log.
 #[derive(Clone, Copy, Debug, PartialEq, Eq)]
@@ -58,21 +58,21 @@ impl ChainEnd {
     }
 
     // The end of taking messages. No tape is read.
-    fn of_taking(end: TapeEnd) -> ChainEnd
+    fn of_taking(end: TakeEnd) -> ChainEnd
         ensures { result ≡ end_of_taking end }
     {
         match end {
-            TapeEnd::Done => ChainEnd::Done,
-            TapeEnd::WriteFault => ChainEnd::WriteFault,
-            TapeEnd::Store(fault) => ChainEnd::of_store(fault),
-            TapeEnd::Memory | TapeEnd::Bad(_) | TapeEnd::TooLong | TapeEnd::ReadFault => {
+            TakeEnd::Done => ChainEnd::Done,
+            TakeEnd::WriteFault => ChainEnd::WriteFault,
+            TakeEnd::Store(fault) => ChainEnd::of_store(fault),
+            TakeEnd::Memory | TakeEnd::Bad(_) | TakeEnd::TooLong | TakeEnd::ReadFault => {
                 ChainEnd::Memory
             }
         }
     }
 
     // The end of taking what the first store's events give.
-    pub(crate) fn of_taken(taken: Result<TapeEnd, EventsFault>) -> ChainEnd
+    pub(crate) fn of_taken(taken: Result<TakeEnd, EventsFault>) -> ChainEnd
         ensures { result ≡ end_of_taken taken }
     {
         match taken {

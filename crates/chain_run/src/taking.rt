@@ -10,10 +10,10 @@ ghost use Rattle.backfill.specs.Served.{served};
 ghost use Rattle.relay_row.specs.declared.row.Row.{Row as TheRow};
 ghost use Rattle.relay_step.specs.Around.{around};
 ghost use Rattle.relay_store.specs.Store.{IsKept, IsOf, seen_in};
-ghost use Rattle.tape_run.specs.Causes.{Caused, Kept, faults};
-ghost use Rattle.tape_run.specs.Following.{IsNextOf};
-ghost use Rattle.tape_run.specs.Taken.{scene};
-ghost use Rattle.tape_run.specs.Tells.{tells};
+ghost use Rattle.take_run.specs.Causes.{Caused, Kept, faults};
+ghost use Rattle.take_run.specs.Following.{IsNextOf};
+ghost use Rattle.take_run.specs.Taken.{scene};
+ghost use Rattle.take_run.specs.Tells.{tells};
 ghost use Rattle.chain_run.specs.Ends.{taking_end};
 ghost use Rattle.chain_run.specs.Taking.{TakenOfEvents};
 
@@ -25,7 +25,7 @@ use relay_disk::Disk;
 use relay_io::{Clock, LONGEST_FEED_MESSAGE, Repos, Sink};
 use relay_store::{Message, Store};
 use std::alloc::Global;
-use tape_run::{Tally, TapeEnd, finish, take_group};
+use take_run::{Tally, TakeEnd, finish, take_group};
 
 /// More messages than a journal serves: one for each number, and what is said of the cursor.
 pub const MOST_SERVED: u64 = NUMBERS + 1;
@@ -86,7 +86,7 @@ fn take_left<E: Events, D: Disk, P: Judges, R: Repos, C: Clock, O: Sink>(
     clock: &mut C,
     tally: &mut Tally,
     out: &mut O,
-) -> Result<TapeEnd, EventsFault>
+) -> Result<TakeEnd, EventsFault>
     requires open { IsTrue (seen_in store.old).log.is_open }
     requires on { IsTrue D.tells → IsKept (seen_in store.old) (D.view disk.old) }
     requires host { is_host host.now ≡ true }
@@ -156,7 +156,7 @@ pub(crate) fn take_given<E: Events, D: Disk, P: Judges, R: Repos, C: Clock, O: S
     repos: &mut R,
     clock: &mut C,
     out: &mut O,
-) -> Result<TapeEnd, EventsFault>
+) -> Result<TakeEnd, EventsFault>
     requires open { IsTrue (seen_in store.old).log.is_open }
     requires on { IsTrue D.tells → IsKept (seen_in store.old) (D.view disk.old) }
     requires host { is_host host.now ≡ true }

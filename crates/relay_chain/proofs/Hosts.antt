@@ -1,7 +1,7 @@
 -- The host that words name, and what its run comes to.
 use Rattle.std.proofs.Common.{◌≡◌, ◌↔◌, ◌∙◌, ℕ, List, [], ◌∷◌, subst, sym}
 use Rattle.relay_store.specs.declared.limits.TheConstants.{LONGEST}
-use Rattle.tape_run.specs.Tells.{Tells}
+use Rattle.take_run.specs.Tells.{Tells}
 use Rattle.chain_run.specs.Chained.{ChainRan}
 use Rattle.chain_run.specs.Places.{Place}
 use Rattle.chain_run.specs.declared.end.ChainEnd.{ChainEnd}

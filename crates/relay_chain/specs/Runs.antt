@@ -2,7 +2,7 @@
 use Rattle.std.specs.Prelude.{◌≡◌, ℕ, List, [], ◌∷◌, IsTrue}
 use Rattle.at_syntax.specs.Host.{is_host}
 use Rattle.relay_store.specs.declared.limits.TheConstants.{LONGEST}
-use Rattle.tape_run.specs.Tells.{Tells}
+use Rattle.take_run.specs.Tells.{Tells}
 use Rattle.chain_run.specs.Chained.{ChainRan}
 use Rattle.chain_run.specs.Places.{Place}
 use Rattle.chain_run.specs.declared.end.ChainEnd.{ChainEnd}

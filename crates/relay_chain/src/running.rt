@@ -1,7 +1,7 @@
 //! The top call.
 
 ghost use Rattle.std.specs.Prelude.{◌≡◌, ◌↔◌, ℕ, List, MatchOption, map, string_bytes};
-ghost use Rattle.tape_run.specs.Tells.{tells};
+ghost use Rattle.take_run.specs.Tells.{tells};
 ghost use Rattle.chain_run.specs.Places.{failures, place};
 ghost use Rattle.relay_chain.specs.Runs.{AreHost, Ran};
 ghost use Rattle.relay_chain.specs.declared.status.ChainStatus.{ChainStatus as TheStatus};

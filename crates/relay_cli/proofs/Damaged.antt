@@ -1,13 +1,12 @@
 -- Which ends the status of disks without a journal comes of.
 use Rattle.std.proofs.Common.{◌≡◌, ℕ, ap, subst, sym}
-use Rattle.follow_run.specs.declared.end.FeedEnd.{FeedEnd}
 use Rattle.mirror_run.specs.declared.end.MirrorEnd.{MirrorEnd}
 use Rattle.query_run.specs.Ends.{IsOfDisks}
 use Rattle.query_run.specs.declared.end.QueryEnd.{QueryEnd}
 use Rattle.relay_run.specs.declared.end.RunEnd.{RunEnd}
 use Rattle.relay_store.specs.declared.fault.StoreFault.{StoreFault}
 use Rattle.serve_run.specs.declared.end.ServeEnd.{ServeEnd}
-use Rattle.tape_run.specs.declared.end.TapeEnd.{TapeEnd}
+use Rattle.take_run.specs.declared.end.TakeEnd.{TakeEnd}
 use Rattle.trial_run.specs.declared.end.TrialEnd.{TrialEnd}
 use Rattle.relay_cli.specs.Runs.{Checked, Streams}
 use Rattle.relay_cli.specs.Statuses.{status_of, status_of_fault, status_of_feed, status_of_mirror, status_of_query, status_of_run, status_of_serving, status_of_tape, status_of_trial}
@@ -30,21 +29,23 @@ run_bad (RunEnd.Refused code) at is = let no : ⊥ = cc in absurd no
 run_bad RunEnd.WriteFault at is = let no : ⊥ = cc in absurd no
 run_bad (RunEnd.Fault f) at is = ap RunEnd.Fault (fault_bad f at is)
 
-pub tape_bad : (end : TapeEnd) (at : ℕ) → status_of_tape end ≡ Status.BadLog at → end ≡ TapeEnd.Store (StoreFault.BadLog at)
-tape_bad TapeEnd.Done at is = let no : ⊥ = cc in absurd no
-tape_bad (TapeEnd.Bad p) at is = let no : ⊥ = cc in absurd no
-tape_bad TapeEnd.ReadFault at is = let no : ⊥ = cc in absurd no
-tape_bad TapeEnd.WriteFault at is = let no : ⊥ = cc in absurd no
-tape_bad TapeEnd.TooLong at is = let no : ⊥ = cc in absurd no
-tape_bad (TapeEnd.Store f) at is = ap TapeEnd.Store (fault_bad f at is)
-tape_bad TapeEnd.Memory at is = let no : ⊥ = cc in absurd no
+pub tape_bad : (end : TakeEnd) (at : ℕ) → status_of_tape end ≡ Status.BadLog at → end ≡ TakeEnd.Store (StoreFault.BadLog at)
+tape_bad TakeEnd.Done at is = let no : ⊥ = cc in absurd no
+tape_bad (TakeEnd.Bad p) at is = let no : ⊥ = cc in absurd no
+tape_bad TakeEnd.ReadFault at is = let no : ⊥ = cc in absurd no
+tape_bad TakeEnd.WriteFault at is = let no : ⊥ = cc in absurd no
+tape_bad TakeEnd.TooLong at is = let no : ⊥ = cc in absurd no
+tape_bad (TakeEnd.Store f) at is = ap TakeEnd.Store (fault_bad f at is)
+tape_bad TakeEnd.Memory at is = let no : ⊥ = cc in absurd no
 
-pub feed_bad : (end : FeedEnd) (at : ℕ) → status_of_feed end ≡ Status.BadLog at → end ≡ FeedEnd.Store (StoreFault.BadLog at)
-feed_bad FeedEnd.Done at is = let no : ⊥ = cc in absurd no
-feed_bad FeedEnd.Feed at is = let no : ⊥ = cc in absurd no
-feed_bad FeedEnd.WriteFault at is = let no : ⊥ = cc in absurd no
-feed_bad (FeedEnd.Store f) at is = ap FeedEnd.Store (fault_bad f at is)
-feed_bad FeedEnd.Memory at is = let no : ⊥ = cc in absurd no
+pub feed_bad : (end : TakeEnd) (at : ℕ) → status_of_feed end ≡ Status.BadLog at → end ≡ TakeEnd.Store (StoreFault.BadLog at)
+feed_bad TakeEnd.Done at is = let no : ⊥ = cc in absurd no
+feed_bad (TakeEnd.Bad p) at is = let no : ⊥ = cc in absurd no
+feed_bad TakeEnd.TooLong at is = let no : ⊥ = cc in absurd no
+feed_bad TakeEnd.ReadFault at is = let no : ⊥ = cc in absurd no
+feed_bad TakeEnd.WriteFault at is = let no : ⊥ = cc in absurd no
+feed_bad (TakeEnd.Store f) at is = ap TakeEnd.Store (fault_bad f at is)
+feed_bad TakeEnd.Memory at is = let no : ⊥ = cc in absurd no
 
 pub serving_bad : (end : ServeEnd) (at : ℕ) → status_of_serving end ≡ Status.BadLog at → end ≡ ServeEnd.BadLog at
 serving_bad ServeEnd.Done at is = let no : ⊥ = cc in absurd no

@@ -1,11 +1,9 @@
 -- Ends behind which a failure doesn't stand untold.
 use Rattle.std.proofs.Common.{◌≡◌, ℕ, Bool, List, refl, true, false, ap, sym, ◌∙◌}
-use Rattle.follow_run.specs.Ends.{tape_end}
-use Rattle.follow_run.specs.declared.end.FeedEnd.{FeedEnd}
 use Rattle.relay_store.specs.declared.fault.StoreFault.{StoreFault}
 use Rattle.serve_run.specs.declared.end.ServeEnd.{ServeEnd}
-use Rattle.tape_run.specs.Causes.{EndsByTape, HidesNone}
-use Rattle.tape_run.specs.declared.end.TapeEnd.{TapeEnd}
+use Rattle.take_run.specs.Causes.{EndsByTape, HidesNone}
+use Rattle.take_run.specs.declared.end.TakeEnd.{TakeEnd}
 use Rattle.relay_cli.specs.Ran.{may_hide_asked, may_hide_input, may_hide_output}
 use Rattle.relay_cli.specs.Statuses.{status_of_feed, status_of_serving, status_of_tape}
 use Rattle.relay_cli.specs.declared.command.Command.{Command}
@@ -15,54 +13,56 @@ use Rattle.relay_cli.specs.declared.status.Status.{Status}
 pub of_command : (f : Command → Status → Bool) (command kind : Command) (status end : Status) → command ≡ kind → status ≡ end → f command status ≡ false → f kind end ≡ false
 of_command f command kind status end same is h = sym (ap (λ k. f k status) same ∙ ap (f kind) is) ∙ h
 
-pub tape_hides_none : (end : TapeEnd) → may_hide_asked Command.Ingest (status_of_tape end) ≡ false → HidesNone end
-tape_hides_none TapeEnd.Done h = tt
-tape_hides_none (TapeEnd.Bad place) h = tt
-tape_hides_none TapeEnd.ReadFault h = tt
-tape_hides_none TapeEnd.WriteFault h = let no : ⊥ = cc in absurd no
-tape_hides_none TapeEnd.TooLong h = tt
-tape_hides_none (TapeEnd.Store StoreFault.Disk) h = let no : ⊥ = cc in absurd no
-tape_hides_none (TapeEnd.Store (StoreFault.BadLog place)) h = tt
-tape_hides_none (TapeEnd.Store (StoreFault.Full end)) h = tt
-tape_hides_none (TapeEnd.Store StoreFault.SeqEnd) h = tt
-tape_hides_none (TapeEnd.Store StoreFault.Authority) h = tt
-tape_hides_none (TapeEnd.Store StoreFault.Repos) h = tt
-tape_hides_none (TapeEnd.Store StoreFault.Memory) h = tt
-tape_hides_none (TapeEnd.Store StoreFault.Clock) h = tt
-tape_hides_none TapeEnd.Memory h = let no : ⊥ = cc in absurd no
+pub tape_hides_none : (end : TakeEnd) → may_hide_asked Command.Ingest (status_of_tape end) ≡ false → HidesNone end
+tape_hides_none TakeEnd.Done h = tt
+tape_hides_none (TakeEnd.Bad place) h = tt
+tape_hides_none TakeEnd.ReadFault h = tt
+tape_hides_none TakeEnd.WriteFault h = let no : ⊥ = cc in absurd no
+tape_hides_none TakeEnd.TooLong h = tt
+tape_hides_none (TakeEnd.Store StoreFault.Disk) h = let no : ⊥ = cc in absurd no
+tape_hides_none (TakeEnd.Store (StoreFault.BadLog place)) h = tt
+tape_hides_none (TakeEnd.Store (StoreFault.Full end)) h = tt
+tape_hides_none (TakeEnd.Store StoreFault.SeqEnd) h = tt
+tape_hides_none (TakeEnd.Store StoreFault.Authority) h = tt
+tape_hides_none (TakeEnd.Store StoreFault.Repos) h = tt
+tape_hides_none (TakeEnd.Store StoreFault.Memory) h = tt
+tape_hides_none (TakeEnd.Store StoreFault.Clock) h = tt
+tape_hides_none TakeEnd.Memory h = let no : ⊥ = cc in absurd no
 
-pub ends_by_tape : (end : TapeEnd) → may_hide_input Command.Ingest (status_of_tape end) ≡ false → EndsByTape end
-ends_by_tape TapeEnd.Done h = tt
-ends_by_tape (TapeEnd.Bad place) h = tt
-ends_by_tape TapeEnd.ReadFault h = let no : ⊥ = cc in absurd no
-ends_by_tape TapeEnd.WriteFault h = let no : ⊥ = cc in absurd no
-ends_by_tape TapeEnd.TooLong h = tt
-ends_by_tape (TapeEnd.Store StoreFault.Disk) h = let no : ⊥ = cc in absurd no
-ends_by_tape (TapeEnd.Store (StoreFault.BadLog place)) h = let no : ⊥ = cc in absurd no
-ends_by_tape (TapeEnd.Store (StoreFault.Full end)) h = let no : ⊥ = cc in absurd no
-ends_by_tape (TapeEnd.Store StoreFault.SeqEnd) h = let no : ⊥ = cc in absurd no
-ends_by_tape (TapeEnd.Store StoreFault.Authority) h = let no : ⊥ = cc in absurd no
-ends_by_tape (TapeEnd.Store StoreFault.Repos) h = let no : ⊥ = cc in absurd no
-ends_by_tape (TapeEnd.Store StoreFault.Memory) h = let no : ⊥ = cc in absurd no
-ends_by_tape (TapeEnd.Store StoreFault.Clock) h = let no : ⊥ = cc in absurd no
-ends_by_tape TapeEnd.Memory h = let no : ⊥ = cc in absurd no
+pub ends_by_tape : (end : TakeEnd) → may_hide_input Command.Ingest (status_of_tape end) ≡ false → EndsByTape end
+ends_by_tape TakeEnd.Done h = tt
+ends_by_tape (TakeEnd.Bad place) h = tt
+ends_by_tape TakeEnd.ReadFault h = let no : ⊥ = cc in absurd no
+ends_by_tape TakeEnd.WriteFault h = let no : ⊥ = cc in absurd no
+ends_by_tape TakeEnd.TooLong h = tt
+ends_by_tape (TakeEnd.Store StoreFault.Disk) h = let no : ⊥ = cc in absurd no
+ends_by_tape (TakeEnd.Store (StoreFault.BadLog place)) h = let no : ⊥ = cc in absurd no
+ends_by_tape (TakeEnd.Store (StoreFault.Full end)) h = let no : ⊥ = cc in absurd no
+ends_by_tape (TakeEnd.Store StoreFault.SeqEnd) h = let no : ⊥ = cc in absurd no
+ends_by_tape (TakeEnd.Store StoreFault.Authority) h = let no : ⊥ = cc in absurd no
+ends_by_tape (TakeEnd.Store StoreFault.Repos) h = let no : ⊥ = cc in absurd no
+ends_by_tape (TakeEnd.Store StoreFault.Memory) h = let no : ⊥ = cc in absurd no
+ends_by_tape (TakeEnd.Store StoreFault.Clock) h = let no : ⊥ = cc in absurd no
+ends_by_tape TakeEnd.Memory h = let no : ⊥ = cc in absurd no
 
-feed_hides_none : (host : List ℕ) (count : ℕ) (end : FeedEnd) → may_hide_asked (Command.Follow host count) (status_of_feed end) ≡ false → HidesNone (tape_end end)
-feed_hides_none host count FeedEnd.Done h = tt
-feed_hides_none host count FeedEnd.Feed h = tt
-feed_hides_none host count FeedEnd.WriteFault h = let no : ⊥ = cc in absurd no
-feed_hides_none host count (FeedEnd.Store StoreFault.Disk) h = let no : ⊥ = cc in absurd no
-feed_hides_none host count (FeedEnd.Store (StoreFault.BadLog place)) h = tt
-feed_hides_none host count (FeedEnd.Store (StoreFault.Full end)) h = tt
-feed_hides_none host count (FeedEnd.Store StoreFault.SeqEnd) h = tt
-feed_hides_none host count (FeedEnd.Store StoreFault.Authority) h = tt
-feed_hides_none host count (FeedEnd.Store StoreFault.Repos) h = tt
-feed_hides_none host count (FeedEnd.Store StoreFault.Memory) h = tt
-feed_hides_none host count (FeedEnd.Store StoreFault.Clock) h = tt
-feed_hides_none host count FeedEnd.Memory h = let no : ⊥ = cc in absurd no
+feed_hides_none : (host : List ℕ) (count : ℕ) (end : TakeEnd) → may_hide_asked (Command.Follow host count) (status_of_feed end) ≡ false → HidesNone end
+feed_hides_none host count TakeEnd.Done h = tt
+feed_hides_none host count (TakeEnd.Bad place) h = tt
+feed_hides_none host count TakeEnd.TooLong h = tt
+feed_hides_none host count TakeEnd.ReadFault h = tt
+feed_hides_none host count TakeEnd.WriteFault h = let no : ⊥ = cc in absurd no
+feed_hides_none host count (TakeEnd.Store StoreFault.Disk) h = let no : ⊥ = cc in absurd no
+feed_hides_none host count (TakeEnd.Store (StoreFault.BadLog place)) h = tt
+feed_hides_none host count (TakeEnd.Store (StoreFault.Full end)) h = tt
+feed_hides_none host count (TakeEnd.Store StoreFault.SeqEnd) h = tt
+feed_hides_none host count (TakeEnd.Store StoreFault.Authority) h = tt
+feed_hides_none host count (TakeEnd.Store StoreFault.Repos) h = tt
+feed_hides_none host count (TakeEnd.Store StoreFault.Memory) h = tt
+feed_hides_none host count (TakeEnd.Store StoreFault.Clock) h = tt
+feed_hides_none host count TakeEnd.Memory h = let no : ⊥ = cc in absurd no
 
-pub feed_quiet : (command : Command) (host : List ℕ) (count : ℕ) (status : Status) (end : FeedEnd) → command ≡ Command.Follow host count → status ≡ status_of_feed end
-    → may_hide_asked command status ≡ false → HidesNone (tape_end end)
+pub feed_quiet : (command : Command) (host : List ℕ) (count : ℕ) (status : Status) (end : TakeEnd) → command ≡ Command.Follow host count → status ≡ status_of_feed end
+    → may_hide_asked command status ≡ false → HidesNone end
 feed_quiet command host count status end same is hidden =
     feed_hides_none host count end (of_command may_hide_asked command (Command.Follow host count) status (status_of_feed end) same is hidden)
 

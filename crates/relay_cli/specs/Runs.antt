@@ -3,11 +3,9 @@ use Rattle.std.specs.Prelude.{◌≡◌, ◌≢◌, ⊤, Option, ℕ, ◌+◌, �
 use Rattle.at_cid.specs.Counts.{Rose}
 use Rattle.account_state.specs.Folds.{account}
 use Rattle.host_state.specs.Folds.{hosts}
-use Rattle.follow_run.specs.Ends.{tape_end}
-use Rattle.follow_run.specs.Followed.{Followed}
-use Rattle.follow_run.specs.declared.end.FeedEnd.{FeedEnd}
-use Rattle.ingest_run.specs.Ends.{MayEnd, NoneOf, TapeEndShows as TapeHadJournal}
-use Rattle.ingest_run.specs.Ingested.{Ingested, PairScene, Unopened, pair_scene}
+use Rattle.take_run.specs.PairEnds.{IsOfFeed, MayEnd, NoneOf, TakeEndShows as TapeHadJournal}
+use Rattle.take_run.specs.Followed.{Followed}
+use Rattle.take_run.specs.Ingested.{Ingested, PairScene, Unopened, pair_scene}
 use Rattle.relay_disk.specs.Disk.{View}
 use Rattle.relay_io.specs.Streams.{AddsFront}
 use Rattle.relay_io.specs.declared.feed.TheConstants.{LONGEST_FEED_MESSAGE}
@@ -39,9 +37,9 @@ use Rattle.serve_run.specs.Replayed.{Replayed}
 use Rattle.serve_run.specs.declared.end.ServeEnd.{ServeEnd}
 use Rattle.state_lines.specs.Lines.{account_text, hosts_text}
 use Rattle.relay_store.specs.declared.message.Message.{Message}
-use Rattle.tape_run.specs.Tells.{tells as tape_tells}
-use Rattle.tape_run.specs.Tapes.{AreRecords, encoded_records}
-use Rattle.tape_run.specs.declared.end.TapeEnd.{TapeEnd}
+use Rattle.take_run.specs.Tells.{tells as tape_tells}
+use Rattle.take_run.specs.Tapes.{AreRecords, encoded_records}
+use Rattle.take_run.specs.declared.end.TakeEnd.{TakeEnd}
 use Rattle.trial_run.specs.Tried.{Tried}
 use Rattle.trial_run.specs.declared.end.TrialEnd.{TrialEnd}
 use Rattle.relay_cli.specs.declared.command.Command.{Command}
@@ -241,7 +239,7 @@ IsFlawless old new = NoneOf (Rose old.disk new.disk
 
 -- A tape was to be taken into the journal. The disks weren't opened, or it was taken and ended so; and the end tells what the disks were.
 pub record IsIngested (t : OutsideTells) (old new : Place) (status : Status) : Type 0 where
-  pub end : TapeEnd
+  pub end : TakeEnd
   pub status_is : status ≡ status_of_tape end
   pub had : IsTrue t.disk → TapeHadJournal end old.one.content old.two.content
   pub does : OnJournal t old (λ J. Unopened J (whole_input old) (whole_input new) end
@@ -265,16 +263,17 @@ IsFlawlessFeed old new = NoneOf (Rose old.disk new.disk
 -- A host was to be followed. The disks weren't opened, or messages of its feed were taken into the journal, and it ended so.
 pub record IsFollowed (host : List ℕ) (count : ℕ) (t : OutsideTells) (old new : Place)
     (status : Status) : Type 0 where
-  pub end : FeedEnd
+  pub end : TakeEnd
   pub status_is : status ≡ status_of_feed end
-  pub had : IsTrue t.disk → TapeHadJournal (tape_end end) old.one.content old.two.content
+  pub of_feed : IsOfFeed end
+  pub had : IsTrue t.disk → TapeHadJournal end old.one.content old.two.content
   pub unread : new.left ≡ old.left
-  pub does : OnJournal t old (λ J. (Unopened J (all_but_feed old) (all_but_feed new) (tape_end end)
+  pub does : OnJournal t old (λ J. (Unopened J (all_but_feed old) (all_but_feed new) end
       × (new.coming ≡ old.coming))
       ⊎ Followed (tape_tells t.disk t.clock t.repos t.output) t.feed host LONGEST count
       (old.given host) new.coming J (all_but_feed old) (all_but_feed new) end)
   -- it is done where nothing fails, unless memory runs out, the log is full, or the numbers or the authorities end
-  pub complete : OnJournal t old (λ J. IsFlawlessFeed old.failed new.failed → MayEnd (tape_end end))
+  pub complete : OnJournal t old (λ J. IsFlawlessFeed old.failed new.failed → MayEnd end)
 
 -- Events were to be given out, and nothing else was asked or read. The end tells what the disks were.
 pub record IsGivenOut (t : OutsideTells) (old new : Place) (status : Status)

@@ -1,13 +1,12 @@
 -- The numbers that the program ends with, own.
 use Rattle.std.specs.Prelude.{ℕ}
 use Rattle.at_event.specs.Refusals.{code_of}
-use Rattle.follow_run.specs.declared.end.FeedEnd.{FeedEnd}
 use Rattle.mirror_run.specs.declared.end.MirrorEnd.{MirrorEnd}
 use Rattle.query_run.specs.declared.end.QueryEnd.{QueryEnd}
 use Rattle.relay_run.specs.declared.end.RunEnd.{RunEnd}
 use Rattle.relay_store.specs.declared.fault.StoreFault.{StoreFault}
 use Rattle.serve_run.specs.declared.end.ServeEnd.{ServeEnd}
-use Rattle.tape_run.specs.declared.end.TapeEnd.{TapeEnd}
+use Rattle.take_run.specs.declared.end.TakeEnd.{TakeEnd}
 use Rattle.trial_run.specs.declared.end.TrialEnd.{TrialEnd}
 use Rattle.relay_cli.specs.declared.status.Status.{Status}
 use Rattle.relay_cli.specs.declared.verdict.CheckVerdict.{CheckVerdict}
@@ -57,22 +56,19 @@ status_of_run RunEnd.WriteFault = Status.WriteFault
 status_of_run (RunEnd.Fault fault) = status_of_fault fault
 
 -- of a tape
-abbrev pub status_of_tape : TapeEnd → Status
-status_of_tape TapeEnd.Done = Status.Done
-status_of_tape (TapeEnd.Bad place) = Status.BadTape place
-status_of_tape TapeEnd.ReadFault = Status.ReadFault
-status_of_tape TapeEnd.WriteFault = Status.WriteFault
-status_of_tape TapeEnd.TooLong = Status.TooLong
-status_of_tape (TapeEnd.Store fault) = status_of_fault fault
-status_of_tape TapeEnd.Memory = Status.Memory
+abbrev pub status_of_tape : TakeEnd → Status
+status_of_tape TakeEnd.Done = Status.Done
+status_of_tape (TakeEnd.Bad place) = Status.BadTape place
+status_of_tape TakeEnd.ReadFault = Status.ReadFault
+status_of_tape TakeEnd.WriteFault = Status.WriteFault
+status_of_tape TakeEnd.TooLong = Status.TooLong
+status_of_tape (TakeEnd.Store fault) = status_of_fault fault
+status_of_tape TakeEnd.Memory = Status.Memory
 
 -- of a host's feed
-abbrev pub status_of_feed : FeedEnd → Status
-status_of_feed FeedEnd.Done = Status.Done
-status_of_feed FeedEnd.Feed = Status.Feed
-status_of_feed FeedEnd.WriteFault = Status.WriteFault
-status_of_feed (FeedEnd.Store fault) = status_of_fault fault
-status_of_feed FeedEnd.Memory = Status.Memory
+abbrev pub status_of_feed : TakeEnd → Status
+status_of_feed TakeEnd.ReadFault = Status.Feed
+status_of_feed end = status_of_tape end
 
 -- of a command that gives events out
 abbrev pub status_of_serving : ServeEnd → Status

@@ -13,8 +13,6 @@ use crate::status::Status;
 use crate::words_fault::WordsFault;
 use at_authority::Judges;
 use at_cid::Words;
-use follow_run::follow;
-use ingest_run::ingest;
 use lines_run::lines;
 use mirror_run::mirror;
 use query_run::query;
@@ -24,6 +22,7 @@ use relay_run::{account, cut, hosts, operate, sync};
 use relay_store::LONGEST;
 use serve_run::{replay, serve};
 use std::alloc::Global;
+use take_run::{follow, ingest};
 use trial_run::trial;
 
 /// Does what the words say.
@@ -184,7 +183,7 @@ fn run<P: Judges, F: Feed, R: Repos, D: Disk, I: Source, O: Sink, G: Door, C: Cl
         }
         Command::Follow(host, count) => {
             let host = host.as_str();
-            Status::from(follow(
+            Status::of_following(follow(
                 alloc, LONGEST, host, *count, disk, other, panel, repos, clock, feed, out,
             ))
         }

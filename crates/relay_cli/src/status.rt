@@ -2,13 +2,12 @@
 ghost use Rattle.std.specs.Prelude.{◌≡◌};
 ghost use Rattle.relay_cli.specs.Statuses.{code_of_status};
 
-use follow_run::FeedEnd;
 use mirror_run::MirrorEnd;
 use query_run::QueryEnd;
 use relay_run::RunEnd;
 use relay_store::StoreFault;
 use serve_run::ServeEnd;
-use tape_run::TapeEnd;
+use take_run::TakeEnd;
 use trial_run::TrialEnd;
 
 /// How a run ended. A place or an end is in bytes from the front of its tape, stream or log.
@@ -83,6 +82,20 @@ impl Status {
     }
 }
 
+impl Status {
+    ghost use Rattle.relay_cli.specs.Statuses.{status_of_feed};
+
+    // How following a host ends, whose messages come from a feed.
+    pub(crate) fn of_following(end: TakeEnd) -> Status
+        ensures { result ≡ status_of_feed end }
+    {
+        match end {
+            TakeEnd::ReadFault => Status::Feed,
+            other => Status::from(other),
+        }
+    }
+}
+
 impl From<StoreFault> for Status {
     ghost use Rattle.relay_cli.specs.Statuses.{status_of_fault};
 
@@ -117,36 +130,20 @@ impl From<RunEnd> for Status {
     }
 }
 
-impl From<TapeEnd> for Status {
+impl From<TakeEnd> for Status {
     ghost use Rattle.relay_cli.specs.Statuses.{status_of_tape};
 
     ghost from_gives = { λ end status. status ≡ status_of_tape end };
 
-    fn from(end: TapeEnd) -> Status {
+    fn from(end: TakeEnd) -> Status {
         match end {
-            TapeEnd::Done => Status::Done,
-            TapeEnd::Bad(place) => Status::BadTape(place),
-            TapeEnd::ReadFault => Status::ReadFault,
-            TapeEnd::WriteFault => Status::WriteFault,
-            TapeEnd::TooLong => Status::TooLong,
-            TapeEnd::Store(fault) => Status::from(fault),
-            TapeEnd::Memory => Status::Memory,
-        }
-    }
-}
-
-impl From<FeedEnd> for Status {
-    ghost use Rattle.relay_cli.specs.Statuses.{status_of_feed};
-
-    ghost from_gives = { λ end status. status ≡ status_of_feed end };
-
-    fn from(end: FeedEnd) -> Status {
-        match end {
-            FeedEnd::Done => Status::Done,
-            FeedEnd::Feed => Status::Feed,
-            FeedEnd::WriteFault => Status::WriteFault,
-            FeedEnd::Store(fault) => Status::from(fault),
-            FeedEnd::Memory => Status::Memory,
+            TakeEnd::Done => Status::Done,
+            TakeEnd::Bad(place) => Status::BadTape(place),
+            TakeEnd::ReadFault => Status::ReadFault,
+            TakeEnd::WriteFault => Status::WriteFault,
+            TakeEnd::TooLong => Status::TooLong,
+            TakeEnd::Store(fault) => Status::from(fault),
+            TakeEnd::Memory => Status::Memory,
         }
     }
 }

@@ -4,11 +4,10 @@ use Rattle.at_authority.specs.Trusting.{trusting}
 use Rattle.backfill.specs.Served.{served}
 use Rattle.relay_step.specs.Around.{around}
 use Rattle.relay_store.specs.Shown.{held_by}
-use Rattle.tape_run.specs.Tells.{tells}
+use Rattle.take_run.specs.Tells.{tells}
 use Rattle.relay_store.proofs.Beside.{opened_keeps}
-use Rattle.ingest_run.proofs.Whole.{opened_of}
-use Rattle.follow_run.specs.Ends.{feed_end}
-use Rattle.follow_run.proofs.Whole.{followed_on}
+use Rattle.take_run.proofs.WholeIngested.{opened_of}
+use Rattle.take_run.proofs.WholeFollowed.{followed_on}
 use Rattle.chain_run.specs.Ends.{taking_end}
 use Rattle.chain_run.specs.declared.taking.TheConstants.{MOST_SERVED}
 use Rattle.chain_run.proofs.Openings.{first_fails, second_fails}
@@ -56,7 +55,7 @@ returns g c =
                 c.chain_sides-taken.new.second c.chain_sides-taken.new.second_other c.chain_sides-taken.new.store c.chain_sides-taken.ensures.beside true c.args.host.now c.args.most MOST_SERVED c.in-Ok-open.ensures.open.1
                 (λ n. served (held_by one) (Some n)) events.left (around (λ name. trusting) (g.C.Clock.moments c.args.clock.now) (g.R.Repos.repository c.args.repos.now))
                 (around (λ name. trusting) (g.C.Clock.moments c.chain_sides-taken.new.clock) (g.R.Repos.repository c.chain_sides-taken.new.repos)) (g.O.Sink.written c.args.out.now) (g.O.Sink.written c.chain_sides-taken.new.out)
-                (taking_end taken) (feed_end (taking_end taken)) refl events.taken,
+                (taking_end taken) events.taken,
           ))
           (record {
             first = omega (arith, c.in-Ok.ensures.counts.0, c.chain_sides-taken.ensures.one.counts);

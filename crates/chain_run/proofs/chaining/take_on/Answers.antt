@@ -6,9 +6,9 @@ use Rattle.relay_row.specs.Folds.{cursor}
 use Rattle.relay_step.specs.Around.{around}
 use Rattle.relay_step.proofs.Taken.{cursor_tells}
 use Rattle.relay_store.specs.Store.{seen_in}
-use Rattle.tape_run.specs.Taken.{scene}
-use Rattle.tape_run.specs.Tells.{tells}
-use Rattle.follow_run.proofs.Whole.{on_one, on_two}
+use Rattle.take_run.specs.Taken.{scene}
+use Rattle.take_run.specs.Tells.{tells}
+use Rattle.take_run.proofs.WholeFollowed.{on_one, on_two}
 use Rattle.chain_run.specs.Ends.{taking_end}
 use Rattle.chain_run.specs.Taking.{TakenOfEvents}
 use Rattle.chain_run.specs.declared.taking.TheConstants.{MOST_SERVED}

@@ -3,10 +3,10 @@ use Rattle.event_window.specs.Held.{Held}
 use Rattle.backfill.specs.StreamPlaces.{left_of}
 use Rattle.relay_step.specs.Around.{around}
 use Rattle.relay_store.specs.Store.{IsKept, seen_in}
-use Rattle.tape_run.specs.Causes.{Kept, faults}
-use Rattle.tape_run.specs.Going.{point}
-use Rattle.tape_run.specs.Tells.{tells}
-use Rattle.tape_run.proofs.Feeding.{IsFollowing}
+use Rattle.take_run.specs.Causes.{Kept, faults}
+use Rattle.take_run.specs.Going.{point}
+use Rattle.take_run.specs.Tells.{tells}
+use Rattle.take_run.proofs.Feeding.{IsFollowing}
 use Rattle.chain_run.proofs.taking.take_left.Given as goal
 
 abbrev pub invariant-messages : goal.invariant-messages

@@ -235,25 +235,26 @@ pub returns-in-Follow-clause-ran : goal.returns-in-Follow-clause-ran
 returns-in-Follow-clause-ran g c = record {
   does = run_as _ _ _ _ _ _ _ _ c.in-Follow.is (followed_of _ _ _ _ _ _ _ c.as_str-host.ensures.value (record {
     end = c.follow.result;
-    status_is = c.from-in-Follow.ensures;
+    status_is = c.of_following.ensures;
+    of_feed = c.follow.ensures.few;
     had = c.follow.ensures.shows;
     unread = refl;
     does = c.follow.ensures.followed;
     complete = λ told J image. c.follow.ensures.complete told J image;
   }));
   told = record {
-    disks = λ not. c.follow.ensures.disks_steady (λ e. not (c.from-in-Follow.ensures ∙ ap status_of_feed e));
-    feed = λ not. c.follow.ensures.steady (λ e. not (c.from-in-Follow.ensures ∙ ap status_of_feed e));
+    disks = λ not. c.follow.ensures.disks_steady (λ e. not (c.of_following.ensures ∙ ap status_of_feed e));
+    feed = λ not. c.follow.ensures.steady (λ e. not (c.of_following.ensures ∙ ap status_of_feed e));
     door = λ not. refl;
     wire = λ not. refl;
-    clock = λ hidden not. c.follow.ensures.clock_steady (feed_quiet _ _ _ _ c.follow.result c.in-Follow.is c.from-in-Follow.ensures hidden) (λ e. not (c.from-in-Follow.ensures ∙ ap status_of_feed e));
-    repos = λ hidden not. c.follow.ensures.repos_steady (feed_quiet _ _ _ _ c.follow.result c.in-Follow.is c.from-in-Follow.ensures hidden) (λ e. not (c.from-in-Follow.ensures ∙ ap status_of_feed e));
-    unspent = λ hidden not. c.follow.ensures.unspent (feed_quiet _ _ _ _ c.follow.result c.in-Follow.is c.from-in-Follow.ensures hidden) (λ e. not (c.from-in-Follow.ensures ∙ ap status_of_feed e));
+    clock = λ hidden not. c.follow.ensures.clock_steady (feed_quiet _ _ _ _ c.follow.result c.in-Follow.is c.of_following.ensures hidden) (λ e. not (c.of_following.ensures ∙ ap status_of_feed e));
+    repos = λ hidden not. c.follow.ensures.repos_steady (feed_quiet _ _ _ _ c.follow.result c.in-Follow.is c.of_following.ensures hidden) (λ e. not (c.of_following.ensures ∙ ap status_of_feed e));
+    unspent = λ hidden not. c.follow.ensures.unspent (feed_quiet _ _ _ _ c.follow.result c.in-Follow.is c.of_following.ensures hidden) (λ e. not (c.of_following.ensures ∙ ap status_of_feed e));
     input = λ hidden not. refl;
-    output = λ hidden not. c.follow.ensures.out_steady (λ e. not (c.from-in-Follow.ensures ∙ ap status_of_feed e));
+    output = λ hidden not. c.follow.ensures.out_steady (λ e. not (c.of_following.ensures ∙ ap status_of_feed e));
   };
   damaged = λ at is told.
-      let bad = c.follow.ensures.unopened at (feed_bad c.follow.result at (sym c.from-in-Follow.ensures ∙ is)) told in
+      let bad = c.follow.ensures.unopened at (feed_bad c.follow.result at (sym c.of_following.ensures ∙ is)) told in
       record {
         disks_read = bad.0;
         around = λ i. around (g.P.Judges.panel (bad.1 i)) (g.C.Clock.moments (bad.3 i)) (g.R.Repos.repository (bad.2 i));

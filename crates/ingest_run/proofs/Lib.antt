@@ -1,4 +1,0 @@
-pub mod Grammar
-pub mod Endings
-pub mod NextMessage
-pub mod Whole
