@@ -1,12 +1,10 @@
 -- How writing the lines of two disks ends.
-use Rattle.std.proofs.Common.{◌≡◌, ◌⊎◌, ⊎_elim, inl, inr, ℕ, ◌≤◌, Result, Err, refl, sym, ap, subst}
+use Rattle.std.proofs.Common.{◌≡◌, ◌⊎◌, ⊎_elim, inl, inr, ℕ, ◌≤◌, Result, Err, refl, ap}
 use Rattle.at_cid.specs.Counts.{Rose}
-use Rattle.relay_store.specs.declared.fault.StoreFault.{StoreFault}
 use Rattle.relay_store.proofs.Counting.{rose_behind}
 use Rattle.backfill.specs.declared.replay_fault.ReplayFault.{ReplayFault}
-use Rattle.serve_run.specs.Ends.{end_of_opening, end_of_replay}
+use Rattle.serve_run.specs.Ends.{ServeMayEnd, end_of_replay}
 use Rattle.serve_run.specs.declared.end.ServeEnd.{ServeEnd}
-use Rattle.lines_run.specs.OfDisks.{LinesMayEnd}
 
 -- a fault as it is handed up
 abbrev pub faulted : ReplayFault → Result (Unit {0}) ReplayFault
@@ -24,28 +22,14 @@ pub disk_end : (fault : ReplayFault) → faulted fault ≡ faulted ReplayFault.D
 disk_end fault is = let same : fault ≡ ReplayFault.Disk = cc in ap end_of_replay same
 
 -- an end of disks that were opened, where no failure comes
-pub may_end : (disk write : Type 0) (end : ServeEnd) → (end ≡ ServeEnd.Disk → disk) → (end ≡ ServeEnd.WriteFault → write) → (end ≡ ServeEnd.Door → ⊥)
-    → ((place : ℕ) → end ≡ ServeEnd.BadLog place → ⊥) → (disk → ⊥) → (write → ⊥) → LinesMayEnd end
-may_end disk write ServeEnd.Done failed unwritten no_door no_bad no_disk no_write = tt
-may_end disk write ServeEnd.WriteFault failed unwritten no_door no_bad no_disk no_write = absurd (no_write (unwritten refl))
-may_end disk write ServeEnd.Door failed unwritten no_door no_bad no_disk no_write = absurd (no_door refl)
-may_end disk write ServeEnd.Disk failed unwritten no_door no_bad no_disk no_write = absurd (no_disk (failed refl))
-may_end disk write (ServeEnd.BadLog place) failed unwritten no_door no_bad no_disk no_write = absurd (no_bad place refl)
-may_end disk write ServeEnd.Memory failed unwritten no_door no_bad no_disk no_write = tt
-
-opening_may : (disk : Type 0) (fault : StoreFault) → (fault ≡ StoreFault.Disk → disk) → ((place : ℕ) → fault ≡ StoreFault.BadLog place → ⊥) → (disk → ⊥) → LinesMayEnd (end_of_opening fault)
-opening_may disk StoreFault.Disk failed no_bad no_disk = absurd (no_disk (failed refl))
-opening_may disk (StoreFault.BadLog place) failed no_bad no_disk = absurd (no_bad place refl)
-opening_may disk (StoreFault.Full e) failed no_bad no_disk = tt
-opening_may disk StoreFault.SeqEnd failed no_bad no_disk = tt
-opening_may disk StoreFault.Authority failed no_bad no_disk = tt
-opening_may disk StoreFault.Repos failed no_bad no_disk = tt
-opening_may disk StoreFault.Memory failed no_bad no_disk = tt
-opening_may disk StoreFault.Clock failed no_bad no_disk = tt
-
--- the end of disks that weren't, where none comes
-pub unopened_may : (disk : Type 0) (fault : StoreFault) (end : ServeEnd) → end ≡ end_of_opening fault → (fault ≡ StoreFault.Disk → disk) → ((place : ℕ) → fault ≡ StoreFault.BadLog place → ⊥) → (disk → ⊥) → LinesMayEnd end
-unopened_may disk fault end is failed no_bad no_disk = subst LinesMayEnd (sym is) (opening_may disk fault failed no_bad no_disk)
+pub may_end : (disk write : Type 0) (end : ServeEnd) → (end ≡ ServeEnd.Disk → disk) → (end ≡ ServeEnd.WriteFault → write) → (end ≡ ServeEnd.Next → ⊥)
+    → ((place : ℕ) → end ≡ ServeEnd.BadLog place → ⊥) → (disk → ⊥) → (write → ⊥) → ServeMayEnd end
+may_end disk write ServeEnd.Done failed unwritten no_next no_bad no_disk no_write = tt
+may_end disk write ServeEnd.WriteFault failed unwritten no_next no_bad no_disk no_write = absurd (no_write (unwritten refl))
+may_end disk write ServeEnd.Next failed unwritten no_next no_bad no_disk no_write = absurd (no_next refl)
+may_end disk write ServeEnd.Disk failed unwritten no_next no_bad no_disk no_write = absurd (no_disk (failed refl))
+may_end disk write (ServeEnd.BadLog place) failed unwritten no_next no_bad no_disk no_write = absurd (no_bad place refl)
+may_end disk write ServeEnd.Memory failed unwritten no_next no_bad no_disk no_write = tt
 
 -- a count of one of two disks rose behind a call that let none fall
 pub either_behind : (one one_mid one_now two two_mid two_now : ℕ) → one ≤ one_mid → two ≤ two_mid → Rose one_mid one_now ⊎ Rose two_mid two_now → Rose one one_now ⊎ Rose two two_now

@@ -1,5 +1,5 @@
 -- What writing the lines of two disks does (own).
-use Rattle.std.specs.Prelude.{⊤, ℕ, Bool, List, Option, IsTrue}
+use Rattle.std.specs.Prelude.{ℕ, Bool, List, Option, IsTrue}
 use Rattle.relay_row.specs.declared.row.Row.{Row}
 use Rattle.relay_store.specs.Shown.{held_by}
 use Rattle.relay_store.specs.Pairs.{PairView}
@@ -15,9 +15,3 @@ pub record LinesWritten (output_tells : Bool) (J : List Row) (collection : Optio
   pub written : IsTrue output_tells
       → IsReplayed end (lines_above collection cursor (held_by J).shown) old.written new.written
   pub read : OnlyRead J (ServeOpened end) old.one old.two new.one new.two
-
--- the ends that no failure brings: all was done, or memory ran out
-abbrev pub LinesMayEnd : ServeEnd → Type 0
-LinesMayEnd ServeEnd.Done = ⊤
-LinesMayEnd ServeEnd.Memory = ⊤
-LinesMayEnd end = ⊥

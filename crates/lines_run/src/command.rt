@@ -16,7 +16,7 @@ ghost use Rattle.serve_run.specs.Ends.{IsCausedBy, ServeEndShows};
 ghost use Rattle.serve_run.specs.Replayed.{IsReplayed};
 ghost use Rattle.serve_run.specs.declared.end.ServeEnd.{ServeEnd};
 ghost use Rattle.lines_run.specs.Lines.{lines_above};
-ghost use Rattle.lines_run.specs.OfDisks.{LinesWritten, LinesMayEnd};
+ghost use Rattle.lines_run.specs.OfDisks.{LinesWritten};
 
 use crate::writing::write_lines;
 use event_window::Events;
@@ -45,7 +45,7 @@ fn lines_of_events<E: Events, O: Sink>(
     ensures event_steady { result ≢ ServeEnd.Disk → E.faults events.new ≡ E.faults events.old }
     ensures failed { result ≡ ServeEnd.WriteFault → Rose (O.faults out.old) (O.faults out.new) }
     ensures out_steady { result ≢ ServeEnd.WriteFault → O.faults out.new ≡ O.faults out.old }
-    ensures no_door { result ≡ ServeEnd.Door → ⊥ }
+    ensures no_next { result ≡ ServeEnd.Next → ⊥ }
     ensures no_bad_log { (place : ℕ) → result ≡ ServeEnd.BadLog place
         → IsTrue E.tells → (held : Held) → E.holds events.old held → ⊥ }
     ensures counts { O.faults out.old ≤ O.faults out.new }
@@ -77,7 +77,7 @@ fn lines_from<D: Disk, O: Sink>(
         → (D.view disk.new).faults ≡ (D.view disk.old).faults }
     ensures failed { result ≡ ServeEnd.WriteFault → Rose (O.faults out.old) (O.faults out.new) }
     ensures out_steady { result ≢ ServeEnd.WriteFault → O.faults out.new ≡ O.faults out.old }
-    ensures no_door { result ≡ ServeEnd.Door → ⊥ }
+    ensures no_next { result ≡ ServeEnd.Next → ⊥ }
     ensures no_bad_log { (place : ℕ) → result ≡ ServeEnd.BadLog place → IsTrue D.tells → ⊥ }
     ensures counts { O.faults out.old ≤ O.faults out.new }
 {
@@ -112,7 +112,7 @@ fn lines_on<D: Disk, O: Sink>(
         × ((D.view other.new).faults ≡ (D.view other.old).faults) }
     ensures failed { result ≡ ServeEnd.WriteFault → Rose (O.faults out.old) (O.faults out.new) }
     ensures out_steady { result ≢ ServeEnd.WriteFault → O.faults out.new ≡ O.faults out.old }
-    ensures no_door { result ≡ ServeEnd.Door → ⊥ }
+    ensures no_next { result ≡ ServeEnd.Next → ⊥ }
     ensures no_bad_log { (place : ℕ) → result ≡ ServeEnd.BadLog place → IsTrue D.tells → ⊥ }
     ensures counts { O.faults out.old ≤ O.faults out.new }
 {
@@ -156,7 +156,7 @@ pub fn lines<D: Disk, O: Sink>(
         → IsPairImageOf J (D.view disk.old).content (D.view other.old).content
         → (Rose (D.view disk.old).faults (D.view disk.new).faults
         ⊎ Rose (D.view other.old).faults (D.view other.new).faults → ⊥)
-        → (Rose (O.faults out.old) (O.faults out.new) → ⊥) → LinesMayEnd result }
+        → (Rose (O.faults out.old) (O.faults out.new) → ⊥) → ServeMayEnd result }
     ensures disks_steady { result ≢ ServeEnd.Disk
         → ((D.view disk.new).faults ≡ (D.view disk.old).faults)
         × ((D.view other.new).faults ≡ (D.view other.old).faults) }

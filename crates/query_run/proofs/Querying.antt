@@ -10,10 +10,12 @@ use Rattle.relay_row.specs.declared.row.Row.{Row}
 use Rattle.relay_query.specs.Replies.{IsReplyTo}
 use Rattle.backfill.proofs.Framing.{front_of_first, front_of_second, front_whole}
 use Rattle.query_run.specs.AtWire.{AtWire}
-use Rattle.query_run.specs.Ends.{IsOfWire, IsUnwritten, end_in}
+use Rattle.query_run.specs.Ends.{IsOfWire}
+use Rattle.serve_run.specs.Ends.{IsUnwritten}
+use Rattle.serve_run.specs.Guests.{end_in}
 use Rattle.query_run.specs.Queried.{Answered, AreRequestsWritten, RequestsAreTaken, Comes, IsStill, IsUnreplied, Queried, Replied}
 use Rattle.query_run.specs.Rounds.{RoundsAreCounted, AreReplies, IsSendCounted, Round, queries_end_line, exchanges_of, round_lines, request_line, requests_of, sent_of, told_of}
-use Rattle.query_run.specs.declared.end.QueryEnd.{QueryEnd}
+use Rattle.serve_run.specs.declared.end.ServeEnd.{ServeEnd}
 
 -- so many requests were answered, and a line was written for each
 pub record IsQuerying (tells told : Bool) (J : List Row) (most n : ℕ) (first now : AtWire) (before after : List ℕ) : Type 0 where
@@ -58,40 +60,40 @@ lines_more n (q ∷ rounds) r =
 
 -- ---- how lines that aren't written end
 
-unwritten_by : (end : QueryEnd) → IsUnwritten end → (lines last before after : List ℕ) → AddsFront before after (lines ++ last) → AreRequestsWritten end lines last before after
-unwritten_by QueryEnd.Done of lines last before after front = absurd of
-unwritten_by QueryEnd.WriteFault of lines last before after front = front
-unwritten_by QueryEnd.Wire of lines last before after front = absurd of
-unwritten_by QueryEnd.Disk of lines last before after front = absurd of
-unwritten_by (QueryEnd.BadLog place) of lines last before after front = absurd of
-unwritten_by QueryEnd.Memory of lines last before after front = front
+unwritten_by : (end : ServeEnd) → IsUnwritten end → (lines last before after : List ℕ) → AddsFront before after (lines ++ last) → AreRequestsWritten end lines last before after
+unwritten_by ServeEnd.Done of lines last before after front = absurd of
+unwritten_by ServeEnd.WriteFault of lines last before after front = front
+unwritten_by ServeEnd.Next of lines last before after front = absurd of
+unwritten_by ServeEnd.Disk of lines last before after front = absurd of
+unwritten_by (ServeEnd.BadLog place) of lines last before after front = absurd of
+unwritten_by ServeEnd.Memory of lines last before after front = front
 
-unwritten_taken : (tells : Bool) (end : QueryEnd) → IsUnwritten end → (most : ℕ) (rounds : List Round) (left : List (List ℕ)) → RequestsAreTaken tells end most rounds [] left
-unwritten_taken tells QueryEnd.Done of most rounds left = absurd of
-unwritten_taken tells QueryEnd.WriteFault of most rounds left = refl
-unwritten_taken tells QueryEnd.Wire of most rounds left = absurd of
-unwritten_taken tells QueryEnd.Disk of most rounds left = absurd of
-unwritten_taken tells (QueryEnd.BadLog place) of most rounds left = absurd of
-unwritten_taken tells QueryEnd.Memory of most rounds left = omega arith
+unwritten_taken : (tells : Bool) (end : ServeEnd) → IsUnwritten end → (most : ℕ) (rounds : List Round) (left : List (List ℕ)) → RequestsAreTaken tells end most rounds [] left
+unwritten_taken tells ServeEnd.Done of most rounds left = absurd of
+unwritten_taken tells ServeEnd.WriteFault of most rounds left = refl
+unwritten_taken tells ServeEnd.Next of most rounds left = absurd of
+unwritten_taken tells ServeEnd.Disk of most rounds left = absurd of
+unwritten_taken tells (ServeEnd.BadLog place) of most rounds left = absurd of
+unwritten_taken tells ServeEnd.Memory of most rounds left = omega arith
 
 module _ (tells told : Bool) (J : List Row) (most n : ℕ) (first now : AtWire) (before after : List ℕ) (is : IsQuerying tells told J most n first now before after) where
   -- ---- no more come
 
-  wire_written : (end : QueryEnd) → IsOfWire end → after ≡ before ++ round_lines 0 is.rounds → AreRequestsWritten end (round_lines 0 is.rounds) (queries_end_line (length is.rounds)) before after
-  wire_written QueryEnd.Done of written = absurd of
-  wire_written QueryEnd.WriteFault of written = absurd of
-  wire_written QueryEnd.Wire of written = written
-  wire_written QueryEnd.Disk of written = absurd of
-  wire_written (QueryEnd.BadLog place) of written = absurd of
-  wire_written QueryEnd.Memory of written = front_of_first before after (round_lines 0 is.rounds) (queries_end_line (length is.rounds)) (front_whole before after (round_lines 0 is.rounds) written)
+  wire_written : (end : ServeEnd) → IsOfWire end → after ≡ before ++ round_lines 0 is.rounds → AreRequestsWritten end (round_lines 0 is.rounds) (queries_end_line (length is.rounds)) before after
+  wire_written ServeEnd.Done of written = absurd of
+  wire_written ServeEnd.WriteFault of written = absurd of
+  wire_written ServeEnd.Next of written = written
+  wire_written ServeEnd.Disk of written = absurd of
+  wire_written (ServeEnd.BadLog place) of written = absurd of
+  wire_written ServeEnd.Memory of written = front_of_first before after (round_lines 0 is.rounds) (queries_end_line (length is.rounds)) (front_whole before after (round_lines 0 is.rounds) written)
 
-  wire_taken : (end : QueryEnd) → IsOfWire end → (left : List (List ℕ)) → RequestsAreTaken tells end most is.rounds [] left
-  wire_taken QueryEnd.Done of left = absurd of
-  wire_taken QueryEnd.WriteFault of left = absurd of
-  wire_taken QueryEnd.Wire of left = refl
-  wire_taken QueryEnd.Disk of left = absurd of
-  wire_taken (QueryEnd.BadLog place) of left = absurd of
-  wire_taken QueryEnd.Memory of left = omega arith
+  wire_taken : (end : ServeEnd) → IsOfWire end → (left : List (List ℕ)) → RequestsAreTaken tells end most is.rounds [] left
+  wire_taken ServeEnd.Done of left = absurd of
+  wire_taken ServeEnd.WriteFault of left = absurd of
+  wire_taken ServeEnd.Next of left = refl
+  wire_taken ServeEnd.Disk of left = absurd of
+  wire_taken (ServeEnd.BadLog place) of left = absurd of
+  wire_taken ServeEnd.Memory of left = omega arith
 
   requests_still : (new : AtWire) → IsStill tells now new → IsTrue tells → first.requests ≡ requests_of is.rounds ++ new.requests
   requests_still new still t = is.requests t ∙ ap (λ (l : List (List ℕ)). requests_of is.rounds ++ l) (sym (still t).0)
@@ -102,7 +104,7 @@ module _ (tells told : Bool) (J : List Row) (most n : ℕ) (first now : AtWire) 
   counted_still : (new : AtWire) → new.faults ≡ now.faults → RoundsAreCounted first.faults is.rounds new.faults
   counted_still new same = subst (λ (k : ℕ). RoundsAreCounted first.faults is.rounds k) (sym same) is.counted
 
-  pub stopped_wire : (new : AtWire) (end : QueryEnd) → IsOfWire end → IsStill tells now new → new.faults ≡ now.faults → Queried tells told most J first new before after end
+  pub stopped_wire : (new : AtWire) (end : ServeEnd) → IsOfWire end → IsStill tells now new → new.faults ≡ now.faults → Queried tells told most J first new before after end
   stopped_wire new end of still same = record {
     rounds = is.rounds;
     cut = [];
@@ -121,7 +123,7 @@ module _ (tells told : Bool) (J : List Row) (most n : ℕ) (first now : AtWire) 
   all_taken left over = elim over [ inl none ↦ inl (omega (arith, none, is.few, is.count)) | inr all ↦ inr all ]
 
   all_done : (new : AtWire) (room last : List ℕ) → Comes tells (most - n) room now new (Ok false) → new.faults ≡ now.faults → (IsTrue told → last ≡ after ++ queries_end_line n)
-      → Queried tells told most J first new before last QueryEnd.Done
+      → Queried tells told most J first new before last ServeEnd.Done
   all_done new room last comes same ends = record {
     rounds = is.rounds;
     cut = [];
@@ -135,7 +137,7 @@ module _ (tells told : Bool) (J : List Row) (most n : ℕ) (first now : AtWire) 
     taken = (refl, all_taken new.requests comes.0);
   }
 
-  end_broken : (new : AtWire) (room last : List ℕ) (end : QueryEnd) → IsUnwritten end → Comes tells (most - n) room now new (Ok false) → new.faults ≡ now.faults → (IsTrue told → AddsFront after last (queries_end_line n))
+  end_broken : (new : AtWire) (room last : List ℕ) (end : ServeEnd) → IsUnwritten end → Comes tells (most - n) room now new (Ok false) → new.faults ≡ now.faults → (IsTrue told → AddsFront after last (queries_end_line n))
       → Queried tells told most J first new before last end
   end_broken new room last end of comes same ends = record {
     rounds = is.rounds;
@@ -151,7 +153,7 @@ module _ (tells told : Bool) (J : List Row) (most n : ℕ) (first now : AtWire) 
   }
 
   -- the last line was written, or not
-  pub over : (new : AtWire) (room last : List ℕ) (result : Result (Unit {0}) QueryEnd) → Comes tells (most - n) room now new (Ok false) → new.faults ≡ now.faults
+  pub over : (new : AtWire) (room last : List ℕ) (result : Result (Unit {0}) ServeEnd) → Comes tells (most - n) room now new (Ok false) → new.faults ≡ now.faults
       → OnOk result (IsTrue told → last ≡ after ++ queries_end_line n) → IfErr result (λ end. IsUnwritten end × (IsTrue told → AddsFront after last (queries_end_line n)))
       → Queried tells told most J first new before last (end_in result)
   over new room last (Ok done) comes same written front = all_done new room last comes same written
@@ -202,7 +204,7 @@ module _ (tells told : Bool) (J : List Row) (most n : ℕ) (first now : AtWire) 
           ∙ ap (λ (l : List ℕ). before ++ l) (sym (lines_now reply sent new));
     }
 
-    broken_line : (new : AtWire) (last : List ℕ) (end : QueryEnd) → IsUnwritten end
+    broken_line : (new : AtWire) (last : List ℕ) (end : ServeEnd) → IsUnwritten end
         → (reply : List ℕ) (sent : Bool) → Replied tells J room reply sent mid new → (IsTrue told → AddsFront after last (request_line (n + 1) (told_of sent reply)))
         → Queried tells told most J first new before last end
     broken_line new last end of reply sent replied front = record {
@@ -220,7 +222,7 @@ module _ (tells told : Bool) (J : List Row) (most n : ℕ) (first now : AtWire) 
       taken = unwritten_taken tells end of most _ new.requests;
     }
 
-    not_replied : (new : AtWire) (last : List ℕ) (end : QueryEnd) → IsUnreplied mid new after last end → Queried tells told most J first new before last end
+    not_replied : (new : AtWire) (last : List ℕ) (end : ServeEnd) → IsUnreplied mid new after last end → Queried tells told most J first new before last end
     not_replied new last end none =
         let left : new.requests ≡ mid.requests = ap (λ (w : AtWire). w.requests) none.1.0 in
         let sent : new.exchanges ≡ mid.exchanges = ap (λ (w : AtWire). w.exchanges) none.1.0 in
@@ -233,12 +235,12 @@ module _ (tells told : Bool) (J : List Row) (most n : ℕ) (first now : AtWire) 
           requests = λ t. is.requests t ∙ ap (λ (l : List (List ℕ)). requests_of is.rounds ++ l) ((comes t).0 ∙ ap (λ (l : List (List ℕ)). room ∷ l) (sym left));
           exchanges = λ t. sent ∙ (comes t).1 ∙ ap (λ (l : List Exchange). l ++ Exchange.Came room ∷ []) (is.exchanges t) ∙ append_assoc first.exchanges (exchanges_of is.rounds) (Exchange.Came room ∷ []);
           counted = counted_still new failed;
-          written = λ t. subst (λ (e : QueryEnd). AreRequestsWritten e (round_lines 0 is.rounds) (queries_end_line (length is.rounds)) before last) (sym none.0)
+          written = λ t. subst (λ (e : ServeEnd). AreRequestsWritten e (round_lines 0 is.rounds) (queries_end_line (length is.rounds)) before last) (sym none.0)
               (front_of_first before last (round_lines 0 is.rounds) (queries_end_line (length is.rounds)) (front_whole before last (round_lines 0 is.rounds) (none.1.1 ∙ is.written t)));
-          taken = subst (λ (e : QueryEnd). RequestsAreTaken tells e most is.rounds (room ∷ []) new.requests) (sym none.0) (omega arith);
+          taken = subst (λ (e : ServeEnd). RequestsAreTaken tells e most is.rounds (room ∷ []) new.requests) (sym none.0) (omega arith);
         }
 
-    pub stopped_answering : (new : AtWire) (last : List ℕ) (end : QueryEnd) → IsUnwritten end → Answered tells told J (n + 1) room mid new after last (Err end) → Queried tells told most J first new before last end
+    pub stopped_answering : (new : AtWire) (last : List ℕ) (end : ServeEnd) → IsUnwritten end → Answered tells told J (n + 1) room mid new after last (Err end) → Queried tells told most J first new before last end
     stopped_answering new last end of answered =
         elim answered [
           | inl a ↦ broken_line new last end of a.0 a.1 a.2 a.3
@@ -248,7 +250,7 @@ module _ (tells told : Bool) (J : List Row) (most n : ℕ) (first now : AtWire) 
 -- ---- the reply to one request
 
 -- one was made, and its line was written, or not
-pub answered_by : (tells told : Bool) (J : List Row) (number : ℕ) (request reply : List ℕ) (sent : Bool) (old new : AtWire) (before after said : List ℕ) (result : Result (Unit {0}) QueryEnd)
+pub answered_by : (tells told : Bool) (J : List Row) (number : ℕ) (request reply : List ℕ) (sent : Bool) (old new : AtWire) (before after said : List ℕ) (result : Result (Unit {0}) ServeEnd)
     → Replied tells J request reply sent old new → said ≡ told_of sent reply
     → OnOk result (IsTrue told → after ≡ before ++ request_line number said) → IfErr result (λ end. IsUnwritten end × (IsTrue told → AddsFront before after (request_line number said)))
     → Answered tells told J number request old new before after result
@@ -259,8 +261,8 @@ answered_by tells told J number request reply sent old new before after said (Er
 
 -- ---- an end as it is handed up
 
-abbrev pub ended : QueryEnd → Result (Unit {0}) QueryEnd
+abbrev pub ended : ServeEnd → Result (Unit {0}) ServeEnd
 ended end = Err end
 
-pub ended_too : (P : QueryEnd → Type 0) (result : Result (Unit {0}) QueryEnd) (end : QueryEnd) → result ≡ ended end → P end → P (end_in result)
-ended_too P result end is holds = subst (λ (r : Result (Unit {0}) QueryEnd). P (end_in r)) (sym is) holds
+pub ended_too : (P : ServeEnd → Type 0) (result : Result (Unit {0}) ServeEnd) (end : ServeEnd) → result ≡ ended end → P end → P (end_in result)
+ended_too P result end is holds = subst (λ (r : Result (Unit {0}) ServeEnd). P (end_in r)) (sym is) holds

@@ -6,31 +6,31 @@ use Rattle.relay_row.specs.declared.row.Row.{Row}
 use Rattle.relay_query.specs.Replies.{IsReplyTo}
 use Rattle.query_run.specs.AtWire.{AtWire}
 use Rattle.query_run.specs.Rounds.{RoundsAreCounted, AreReplies, IsSendCounted, Round, queries_end_line, exchanges_of, round_lines, request_line, requests_of, sent_of, told_of}
-use Rattle.query_run.specs.declared.end.QueryEnd.{QueryEnd}
+use Rattle.serve_run.specs.declared.end.ServeEnd.{ServeEnd}
 
 -- The lines of the requests and the last line: whole where all was done, a front of them where they
 -- couldn't be written or memory ran out, and else all but the last.
-abbrev pub AreRequestsWritten : QueryEnd → List ℕ → List ℕ → List ℕ → List ℕ → Type 0
-AreRequestsWritten QueryEnd.Done lines last old new = new ≡ old ++ (lines ++ last)
-AreRequestsWritten QueryEnd.WriteFault lines last old new = AddsFront old new (lines ++ last)
-AreRequestsWritten QueryEnd.Memory lines last old new = AddsFront old new (lines ++ last)
+abbrev pub AreRequestsWritten : ServeEnd → List ℕ → List ℕ → List ℕ → List ℕ → Type 0
+AreRequestsWritten ServeEnd.Done lines last old new = new ≡ old ++ (lines ++ last)
+AreRequestsWritten ServeEnd.WriteFault lines last old new = AddsFront old new (lines ++ last)
+AreRequestsWritten ServeEnd.Memory lines last old new = AddsFront old new (lines ++ last)
 AreRequestsWritten end lines last old new = new ≡ old ++ lines
 
 -- Which requests were taken: where all was done so many, or all that came; none where the disks
 -- weren't opened. One came that wasn't answered only where memory ran out.
-abbrev pub RequestsAreTaken : Bool → QueryEnd → ℕ → List Round → List (List ℕ) → List (List ℕ)
+abbrev pub RequestsAreTaken : Bool → ServeEnd → ℕ → List Round → List (List ℕ) → List (List ℕ)
     → Type 0
-RequestsAreTaken tells QueryEnd.Done count rounds cut left =
+RequestsAreTaken tells ServeEnd.Done count rounds cut left =
     (cut ≡ []) × ((length rounds ≡ count) ⊎ (IsTrue tells → left ≡ []))
-RequestsAreTaken tells QueryEnd.WriteFault count rounds cut left = cut ≡ []
-RequestsAreTaken tells QueryEnd.Wire count rounds cut left = cut ≡ []
-RequestsAreTaken tells QueryEnd.Memory count rounds cut left = length cut ≤ 1
+RequestsAreTaken tells ServeEnd.WriteFault count rounds cut left = cut ≡ []
+RequestsAreTaken tells ServeEnd.Next count rounds cut left = cut ≡ []
+RequestsAreTaken tells ServeEnd.Memory count rounds cut left = length cut ≤ 1
 RequestsAreTaken tells end count rounds cut left = (cut ≡ []) × (rounds ≡ [])
 
 -- Requests were answered by the rows of the journal J, in the order of the wire and at most so many,
 -- and their lines were written.
 pub record Queried (wire_tells output_tells : Bool) (count : ℕ) (J : List Row)
-    (wire wire_now : AtWire) (old new : List ℕ) (end : QueryEnd) : Type 0 where
+    (wire wire_now : AtWire) (old new : List ℕ) (end : ServeEnd) : Type 0 where
   pub rounds : List Round
   -- the requests that came and weren't answered
   pub cut : List (List ℕ)
@@ -54,7 +54,7 @@ IsStill tells old new =
 
 -- The next request came into the room; or none, where no more may come or none is left; or the wire
 -- failed.
-abbrev pub Comes : Bool → ℕ → List ℕ → AtWire → AtWire → Result Bool QueryEnd → Type 0
+abbrev pub Comes : Bool → ℕ → List ℕ → AtWire → AtWire → Result Bool ServeEnd → Type 0
 Comes tells most room old new (Ok true) = IsTrue tells
     → (old.requests ≡ room ∷ new.requests)
     × (new.exchanges ≡ old.exchanges ++ Exchange.Came room ∷ [])
@@ -71,14 +71,14 @@ pub record Replied (tells : Bool) (J : List Row) (request reply : List ℕ) (sen
   pub counted : IsSendCounted sent old.faults new.faults
 
 -- none was made, for want of memory
-abbrev pub IsUnreplied : AtWire → AtWire → List ℕ → List ℕ → QueryEnd → Type 0
+abbrev pub IsUnreplied : AtWire → AtWire → List ℕ → List ℕ → ServeEnd → Type 0
 IsUnreplied old new before after end =
-    (end ≡ QueryEnd.Memory) × ((new ≡ old) × (after ≡ before))
+    (end ≡ ServeEnd.Memory) × ((new ≡ old) × (after ≡ before))
 
 -- The request of this number was answered, and its line was written, or a front of it; or it wasn't
 -- answered.
 abbrev pub Answered : Bool → Bool → List Row → ℕ → List ℕ → AtWire → AtWire → List ℕ → List ℕ
-    → Result (Unit {0}) QueryEnd → Type 0
+    → Result (Unit {0}) ServeEnd → Type 0
 Answered tells told J number request old new before after (Ok done) =
     (reply : List ℕ) × (sent : Bool) × Replied tells J request reply sent old new
     × (IsTrue told → after ≡ before ++ request_line number (told_of sent reply))

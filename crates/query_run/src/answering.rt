@@ -5,28 +5,30 @@ ghost use Rattle.at_cid.specs.Counts.{Rose};
 ghost use Rattle.relay_row.specs.declared.row.Row.{Row as TheRow};
 ghost use Rattle.relay_core.specs.Entries.{Holds};
 ghost use Rattle.query_run.specs.AtWire.{at_wire};
-ghost use Rattle.query_run.specs.Ends.{IsOfAnswering, IsOfWire, end_in};
+ghost use Rattle.query_run.specs.Ends.{IsOfAnswering, IsOfWire};
+ghost use Rattle.serve_run.specs.Guests.{end_in};
 ghost use Rattle.query_run.specs.Queried.{Comes, Queried};
+ghost use Rattle.serve_run.specs.declared.end.ServeEnd.{ServeEnd};
 
-use crate::end::QueryEnd;
 use crate::line::write_end;
 use crate::round::answer_one;
 use at_cid::Octets;
 use relay_core::Core;
 use relay_io::{Sink, Wire, WireFault};
+use serve_run::ServeEnd;
 use std::alloc::Global;
 
 // Has the next request come into the room, where there may be so many more.
-fn come<W: Wire>(most: u64, wire: &mut W, room: &mut Octets) -> Result<bool, QueryEnd>
+fn come<W: Wire>(most: u64, wire: &mut W, room: &mut Octets) -> Result<bool, ServeEnd>
     ensures came { Comes W.tells most room.new
         (at_wire (W.requests wire.old) (W.exchanges wire.old) (W.send_faults wire.old))
         (at_wire (W.requests wire.new) (W.exchanges wire.new) (W.send_faults wire.new)) result }
     ensures some { IfOk result (λ more. IsTrue more → 0 < most) }
     ensures few { IfErr result (λ end. IsOfWire end) }
-    ensures failed { IfErr result (λ end. end ≡ QueryEnd.Wire
+    ensures failed { IfErr result (λ end. end ≡ ServeEnd.Next
         → Rose (W.faults wire.old) (W.faults wire.new)) }
     ensures steady { OnOk result (W.faults wire.new ≡ W.faults wire.old) }
-    ensures no_fault { IfErr result (λ end. (end ≡ QueryEnd.Wire → ⊥)
+    ensures no_fault { IfErr result (λ end. (end ≡ ServeEnd.Next → ⊥)
         → W.faults wire.new ≡ W.faults wire.old) }
     ensures counts { W.faults wire.old ≤ W.faults wire.new }
     ensures send { W.send_faults wire.new ≡ W.send_faults wire.old }
@@ -36,8 +38,8 @@ fn come<W: Wire>(most: u64, wire: &mut W, room: &mut Octets) -> Result<bool, Que
     }
     match wire.next(room) {
         Ok(more) => Ok(more),
-        Err(WireFault::Failed) => Err(QueryEnd::Wire),
-        Err(WireFault::Memory) => Err(QueryEnd::Memory),
+        Err(WireFault::Failed) => Err(ServeEnd::Next),
+        Err(WireFault::Memory) => Err(ServeEnd::Memory),
     }
 }
 
@@ -53,17 +55,17 @@ pub fn answer_all<W: Wire, O: Sink>(
     core: &Core,
     wire: &mut W,
     out: &mut O,
-) -> Result<(), QueryEnd>
+) -> Result<(), ServeEnd>
     ensures queried { (J : List TheRow) → Holds core.now J → Queried W.tells O.tells count J
         (at_wire (W.requests wire.old) (W.exchanges wire.old) (W.send_faults wire.old))
         (at_wire (W.requests wire.new) (W.exchanges wire.new) (W.send_faults wire.new))
         (O.written out.old) (O.written out.new) (end_in result) }
     ensures few { IfErr result (λ end. IsOfAnswering end) }
-    ensures wire { result ≡ Err QueryEnd.Wire → Rose (W.faults wire.old) (W.faults wire.new) }
-    ensures wire_steady { result ≢ Err QueryEnd.Wire → W.faults wire.new ≡ W.faults wire.old }
-    ensures output { result ≡ Err QueryEnd.WriteFault
+    ensures wire { result ≡ Err ServeEnd.Next → Rose (W.faults wire.old) (W.faults wire.new) }
+    ensures wire_steady { result ≢ Err ServeEnd.Next → W.faults wire.new ≡ W.faults wire.old }
+    ensures output { result ≡ Err ServeEnd.WriteFault
         → Rose (O.faults out.old) (O.faults out.new) }
-    ensures out_steady { result ≢ Err QueryEnd.WriteFault → O.faults out.new ≡ O.faults out.old }
+    ensures out_steady { result ≢ Err ServeEnd.WriteFault → O.faults out.new ≡ O.faults out.old }
     ensures counts { W.faults wire.old ≤ W.faults wire.new }
     ensures send_counts { W.send_faults wire.old ≤ W.send_faults wire.new }
     ensures out_counts { O.faults out.old ≤ O.faults out.new }

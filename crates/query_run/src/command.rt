@@ -8,14 +8,16 @@ ghost use Rattle.relay_store.specs.Journals.{IsPairImageOf};
 ghost use Rattle.relay_store.specs.Opening.{BothOnlyRead};
 ghost use Rattle.relay_store.specs.Pairs.{pair_view};
 ghost use Rattle.query_run.specs.AtWire.{at_wire};
-ghost use Rattle.query_run.specs.Ends.{IsCausedBy, IsOfDisks, QueryMayEnd, QueryEndShows};
+ghost use Rattle.query_run.specs.Ends.{IsOfDisks};
 ghost use Rattle.query_run.specs.OfDisks.{AnsweredBy};
+ghost use Rattle.serve_run.specs.Ends.{IsCausedBy, ServeEndShows, ServeMayEnd};
+ghost use Rattle.serve_run.specs.declared.end.ServeEnd.{ServeEnd};
 
 use crate::answering::answer_all;
-use crate::end::QueryEnd;
 use relay_disk::Disk;
 use relay_io::{Sink, Wire};
 use relay_store::Store;
+use serve_run::ServeEnd;
 use std::alloc::Global;
 
 /// Answers at most `count` requests of the wire by the journal on two disks, and writes the lines
@@ -28,7 +30,7 @@ pub fn query<D: Disk, W: Wire, O: Sink>(
     other: &mut D,
     wire: &mut W,
     out: &mut O,
-) -> QueryEnd
+) -> ServeEnd
     requires { most ≤ LAST_END }
     ensures answered { IsTrue D.tells → (J : List TheRow)
         → IsPairImageOf J (D.view disk.old).content (D.view other.old).content
@@ -38,9 +40,9 @@ pub fn query<D: Disk, W: Wire, O: Sink>(
         (pair_view (D.view disk.old) (D.view other.old) (O.written out.old))
         (pair_view (D.view disk.new) (D.view other.new) (O.written out.new)) result }
     ensures shows { IsTrue D.tells
-        → QueryEndShows result (D.view disk.old).content (D.view other.old).content }
+        → ServeEndShows result (D.view disk.old).content (D.view other.old).content }
     ensures quiet { IsOfDisks result → (wire.new ≡ wire.old) × (out.new ≡ out.old) }
-    ensures unopened { (place : ℕ) → result ≡ QueryEnd.BadLog place → IsTrue D.tells
+    ensures unopened { (place : ℕ) → result ≡ ServeEnd.BadLog place → IsTrue D.tells
         → BothOnlyRead (D.view disk.old) (D.view other.old) (D.view disk.new) (D.view other.new) }
 
     // A count of faults rose where the end speaks of one, and where none rose, all is done.
@@ -53,12 +55,12 @@ pub fn query<D: Disk, W: Wire, O: Sink>(
         → (Rose (D.view disk.old).faults (D.view disk.new).faults
         ⊎ Rose (D.view other.old).faults (D.view other.new).faults → ⊥)
         → (Rose (O.faults out.old) (O.faults out.new) → ⊥)
-        → (Rose (W.faults wire.old) (W.faults wire.new) → ⊥) → QueryMayEnd result }
-    ensures disks_steady { result ≢ QueryEnd.Disk
+        → (Rose (W.faults wire.old) (W.faults wire.new) → ⊥) → ServeMayEnd result }
+    ensures disks_steady { result ≢ ServeEnd.Disk
         → ((D.view disk.new).faults ≡ (D.view disk.old).faults)
         × ((D.view other.new).faults ≡ (D.view other.old).faults) }
-    ensures out_steady { result ≢ QueryEnd.WriteFault → O.faults out.new ≡ O.faults out.old }
-    ensures wire_steady { result ≢ QueryEnd.Wire → W.faults wire.new ≡ W.faults wire.old }
+    ensures out_steady { result ≢ ServeEnd.WriteFault → O.faults out.new ≡ O.faults out.old }
+    ensures wire_steady { result ≢ ServeEnd.Next → W.faults wire.new ≡ W.faults wire.old }
     ensures disk_counts { (D.view disk.old).faults ≤ (D.view disk.new).faults }
     ensures other_counts { (D.view other.old).faults ≤ (D.view other.new).faults }
     ensures wire_counts { W.faults wire.old ≤ W.faults wire.new }
@@ -67,10 +69,10 @@ pub fn query<D: Disk, W: Wire, O: Sink>(
 {
     let store = match Store::open(alloc, disk, other, most) {
         Ok(store) => store,
-        Err(fault) => return QueryEnd::of_opening(fault),
+        Err(fault) => return ServeEnd::of_opening(fault),
     };
     match answer_all(alloc, count, store.core(), wire, out) {
-        Ok(()) => QueryEnd::Done,
+        Ok(()) => ServeEnd::Done,
         Err(end) => end,
     }
 }

@@ -4,10 +4,8 @@
 
 mod answering;
 mod command;
-mod end;
 mod line;
 mod round;
 
 pub use answering::answer_all;
 pub use command::query;
-pub use end::QueryEnd;

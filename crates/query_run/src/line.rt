@@ -3,13 +3,14 @@
 ghost use Rattle.std.specs.Prelude.{◌≡◌, ◌≤◌, ◌++◌, IfErr, OnOk, IfOk, IsTrue};
 ghost use Rattle.at_cid.specs.Counts.{Rose};
 ghost use Rattle.relay_io.specs.Streams.{AddsFront};
-ghost use Rattle.query_run.specs.Ends.{IsUnwritten};
 ghost use Rattle.query_run.specs.Rounds.{queries_end_line, request_line};
+ghost use Rattle.serve_run.specs.Ends.{IsUnwritten};
+ghost use Rattle.serve_run.specs.declared.end.ServeEnd.{ServeEnd};
 
-use crate::end::QueryEnd;
 use at_cid::{Memory, Octets};
 use relay_io::{Sink, write_all};
 use report_lines::add_number;
+use serve_run::ServeEnd;
 use std::alloc::Global;
 
 // The line of the request of this number.
@@ -37,21 +38,21 @@ fn last_line(alloc: Global, count: u64) -> Result<Octets, Memory>
 }
 
 // Writes a line.
-fn write_line<O: Sink>(out: &mut O, line: &Octets) -> Result<(), QueryEnd>
+fn write_line<O: Sink>(out: &mut O, line: &Octets) -> Result<(), ServeEnd>
     ensures written { OnOk result (IsTrue O.tells
         → O.written out.new ≡ O.written out.old ++ line.now) }
     ensures front { IfErr result (λ end. IsUnwritten end
         × (IsTrue O.tells → AddsFront (O.written out.old) (O.written out.new) line.now)) }
-    ensures failed { IfErr result (λ end. end ≡ QueryEnd.WriteFault
+    ensures failed { IfErr result (λ end. end ≡ ServeEnd.WriteFault
         → Rose (O.faults out.old) (O.faults out.new)) }
     ensures steady { OnOk result (O.faults out.new ≡ O.faults out.old) }
-    ensures no_fault { IfErr result (λ end. (end ≡ QueryEnd.WriteFault → ⊥)
+    ensures no_fault { IfErr result (λ end. (end ≡ ServeEnd.WriteFault → ⊥)
         → O.faults out.new ≡ O.faults out.old) }
     ensures counts { O.faults out.old ≤ O.faults out.new }
 {
     match write_all(out, line.as_slice()) {
         Ok(()) => Ok(()),
-        Err(_) => Err(QueryEnd::WriteFault),
+        Err(_) => Err(ServeEnd::WriteFault),
     }
 }
 
@@ -61,39 +62,39 @@ pub(crate) fn write_request<O: Sink>(
     number: u64,
     told: &[u8],
     out: &mut O,
-) -> Result<(), QueryEnd>
+) -> Result<(), ServeEnd>
     ensures written { OnOk result (IsTrue O.tells
         → O.written out.new ≡ O.written out.old ++ request_line number told.now) }
     ensures front { IfErr result (λ end. IsUnwritten end × (IsTrue O.tells
         → AddsFront (O.written out.old) (O.written out.new) (request_line number told.now))) }
-    ensures failed { IfErr result (λ end. end ≡ QueryEnd.WriteFault
+    ensures failed { IfErr result (λ end. end ≡ ServeEnd.WriteFault
         → Rose (O.faults out.old) (O.faults out.new)) }
     ensures steady { OnOk result (O.faults out.new ≡ O.faults out.old) }
-    ensures no_fault { IfErr result (λ end. (end ≡ QueryEnd.WriteFault → ⊥)
+    ensures no_fault { IfErr result (λ end. (end ≡ ServeEnd.WriteFault → ⊥)
         → O.faults out.new ≡ O.faults out.old) }
     ensures counts { O.faults out.old ≤ O.faults out.new }
 {
     match line_of(alloc, number, told) {
         Ok(line) => write_line(out, &line),
-        Err(_) => Err(QueryEnd::Memory),
+        Err(_) => Err(ServeEnd::Memory),
     }
 }
 
 /// Writes the last line, behind so many requests.
-pub(crate) fn write_end<O: Sink>(alloc: Global, count: u64, out: &mut O) -> Result<(), QueryEnd>
+pub(crate) fn write_end<O: Sink>(alloc: Global, count: u64, out: &mut O) -> Result<(), ServeEnd>
     ensures written { OnOk result (IsTrue O.tells
         → O.written out.new ≡ O.written out.old ++ queries_end_line count) }
     ensures front { IfErr result (λ end. IsUnwritten end × (IsTrue O.tells
         → AddsFront (O.written out.old) (O.written out.new) (queries_end_line count))) }
-    ensures failed { IfErr result (λ end. end ≡ QueryEnd.WriteFault
+    ensures failed { IfErr result (λ end. end ≡ ServeEnd.WriteFault
         → Rose (O.faults out.old) (O.faults out.new)) }
     ensures steady { OnOk result (O.faults out.new ≡ O.faults out.old) }
-    ensures no_fault { IfErr result (λ end. (end ≡ QueryEnd.WriteFault → ⊥)
+    ensures no_fault { IfErr result (λ end. (end ≡ ServeEnd.WriteFault → ⊥)
         → O.faults out.new ≡ O.faults out.old) }
     ensures counts { O.faults out.old ≤ O.faults out.new }
 {
     match last_line(alloc, count) {
         Ok(line) => write_line(out, &line),
-        Err(_) => Err(QueryEnd::Memory),
+        Err(_) => Err(ServeEnd::Memory),
     }
 }

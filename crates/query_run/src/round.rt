@@ -5,15 +5,16 @@ ghost use Rattle.at_cid.specs.Counts.{Rose};
 ghost use Rattle.relay_row.specs.declared.row.Row.{Row as TheRow};
 ghost use Rattle.relay_core.specs.Entries.{Holds};
 ghost use Rattle.query_run.specs.AtWire.{at_wire};
-ghost use Rattle.query_run.specs.Ends.{IsUnwritten};
 ghost use Rattle.query_run.specs.Queried.{Answered};
 ghost use Rattle.query_run.specs.Rounds.{status_code_in};
+ghost use Rattle.serve_run.specs.Ends.{IsUnwritten};
+ghost use Rattle.serve_run.specs.declared.end.ServeEnd.{ServeEnd};
 
-use crate::end::QueryEnd;
 use crate::line::write_request;
 use relay_core::Core;
 use relay_io::{Failed, Sink, Wire};
 use relay_query::answer;
+use serve_run::ServeEnd;
 use std::alloc::Global;
 
 // The three digits of the code of a reply.
@@ -32,17 +33,17 @@ pub(crate) fn answer_one<W: Wire, O: Sink>(
     request: &[u8],
     wire: &mut W,
     out: &mut O,
-) -> Result<(), QueryEnd>
+) -> Result<(), ServeEnd>
     ensures answered { (J : List TheRow) → Holds core.now J
         → Answered W.tells O.tells J number request.now
         (at_wire (W.requests wire.old) (W.exchanges wire.old) (W.send_faults wire.old))
         (at_wire (W.requests wire.new) (W.exchanges wire.new) (W.send_faults wire.new))
         (O.written out.old) (O.written out.new) result }
     ensures few { IfErr result (λ end. IsUnwritten end) }
-    ensures failed { IfErr result (λ end. end ≡ QueryEnd.WriteFault
+    ensures failed { IfErr result (λ end. end ≡ ServeEnd.WriteFault
         → Rose (O.faults out.old) (O.faults out.new)) }
     ensures steady { OnOk result (O.faults out.new ≡ O.faults out.old) }
-    ensures no_fault { IfErr result (λ end. (end ≡ QueryEnd.WriteFault → ⊥)
+    ensures no_fault { IfErr result (λ end. (end ≡ ServeEnd.WriteFault → ⊥)
         → O.faults out.new ≡ O.faults out.old) }
     ensures wire { W.faults wire.new ≡ W.faults wire.old }
     ensures send_counts { W.send_faults wire.old ≤ W.send_faults wire.new }
@@ -50,7 +51,7 @@ pub(crate) fn answer_one<W: Wire, O: Sink>(
 {
     let reply = match answer(alloc, core, request) {
         Ok(reply) => reply,
-        Err(_) => return Err(QueryEnd::Memory),
+        Err(_) => return Err(ServeEnd::Memory),
     };
     match wire.send(reply.as_slice()) {
         Ok(()) => write_request(alloc, number, code_of(reply.as_slice()), out),

@@ -2,7 +2,6 @@
 use Rattle.std.proofs.Common.{◌≡◌, ℕ, ap, subst, sym}
 use Rattle.mirror_run.specs.declared.end.MirrorEnd.{MirrorEnd}
 use Rattle.query_run.specs.Ends.{IsOfDisks}
-use Rattle.query_run.specs.declared.end.QueryEnd.{QueryEnd}
 use Rattle.relay_run.specs.declared.end.RunEnd.{RunEnd}
 use Rattle.relay_store.specs.declared.fault.StoreFault.{StoreFault}
 use Rattle.serve_run.specs.declared.end.ServeEnd.{ServeEnd}
@@ -50,18 +49,18 @@ feed_bad TakeEnd.Memory at is = let no : ⊥ = cc in absurd no
 pub serving_bad : (end : ServeEnd) (at : ℕ) → status_of_serving end ≡ Status.BadLog at → end ≡ ServeEnd.BadLog at
 serving_bad ServeEnd.Done at is = let no : ⊥ = cc in absurd no
 serving_bad ServeEnd.WriteFault at is = let no : ⊥ = cc in absurd no
-serving_bad ServeEnd.Door at is = let no : ⊥ = cc in absurd no
+serving_bad ServeEnd.Next at is = let no : ⊥ = cc in absurd no
 serving_bad ServeEnd.Disk at is = let no : ⊥ = cc in absurd no
 serving_bad (ServeEnd.BadLog p) at is = let same : p ≡ at = cc in ap ServeEnd.BadLog same
 serving_bad ServeEnd.Memory at is = let no : ⊥ = cc in absurd no
 
-pub query_bad : (end : QueryEnd) (at : ℕ) → status_of_query end ≡ Status.BadLog at → end ≡ QueryEnd.BadLog at
-query_bad QueryEnd.Done at is = let no : ⊥ = cc in absurd no
-query_bad QueryEnd.WriteFault at is = let no : ⊥ = cc in absurd no
-query_bad QueryEnd.Wire at is = let no : ⊥ = cc in absurd no
-query_bad QueryEnd.Disk at is = let no : ⊥ = cc in absurd no
-query_bad (QueryEnd.BadLog p) at is = let same : p ≡ at = cc in ap QueryEnd.BadLog same
-query_bad QueryEnd.Memory at is = let no : ⊥ = cc in absurd no
+pub query_bad : (end : ServeEnd) (at : ℕ) → status_of_query end ≡ Status.BadLog at → end ≡ ServeEnd.BadLog at
+query_bad ServeEnd.Done at is = let no : ⊥ = cc in absurd no
+query_bad ServeEnd.WriteFault at is = let no : ⊥ = cc in absurd no
+query_bad ServeEnd.Next at is = let no : ⊥ = cc in absurd no
+query_bad ServeEnd.Disk at is = let no : ⊥ = cc in absurd no
+query_bad (ServeEnd.BadLog p) at is = let same : p ≡ at = cc in ap ServeEnd.BadLog same
+query_bad ServeEnd.Memory at is = let no : ⊥ = cc in absurd no
 
 pub trial_good : (end : TrialEnd) (at : ℕ) → status_of_trial end ≡ Status.BadLog at → ⊥
 trial_good TrialEnd.Done at is = let no : ⊥ = cc in absurd no
@@ -86,5 +85,5 @@ check_good limit old new status at checked is =
     let came = subst (Checked limit old new) is checked in
     verdict_good came.0 at (sym came.1.status_is)
 
-pub of_disks : (end : QueryEnd) (at : ℕ) → end ≡ QueryEnd.BadLog at → IsOfDisks end
+pub of_disks : (end : ServeEnd) (at : ℕ) → end ≡ ServeEnd.BadLog at → IsOfDisks end
 of_disks end at is = subst IsOfDisks (sym is) tt

@@ -69,7 +69,7 @@ feed_quiet command host count status end same is hidden =
 replay_done : (cursor : ℕ) (end : ServeEnd) → may_hide_output (Command.Replay cursor) (status_of_serving end) ≡ false → end ≡ ServeEnd.Done
 replay_done cursor ServeEnd.Done h = refl
 replay_done cursor ServeEnd.WriteFault h = let no : ⊥ = cc in absurd no
-replay_done cursor ServeEnd.Door h = let no : ⊥ = cc in absurd no
+replay_done cursor ServeEnd.Next h = let no : ⊥ = cc in absurd no
 replay_done cursor ServeEnd.Disk h = let no : ⊥ = cc in absurd no
 replay_done cursor (ServeEnd.BadLog place) h = let no : ⊥ = cc in absurd no
 replay_done cursor ServeEnd.Memory h = let no : ⊥ = cc in absurd no

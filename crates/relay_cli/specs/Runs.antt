@@ -11,15 +11,14 @@ use Rattle.relay_io.specs.Streams.{AddsFront}
 use Rattle.relay_io.specs.declared.feed.TheConstants.{LONGEST_FEED_MESSAGE}
 use Rattle.relay_row.specs.declared.row.Row.{Row}
 use Rattle.backfill.specs.Writing.{with_length}
-use Rattle.lines_run.specs.OfDisks.{LinesWritten, LinesMayEnd}
+use Rattle.lines_run.specs.OfDisks.{LinesWritten}
 use Rattle.mirror_run.specs.Ends.{MirrorMayEnd, NoMirrorCause}
 use Rattle.mirror_run.specs.Mirrored.{Mirrored}
 use Rattle.mirror_run.specs.Stream.{BeginWith, IsBadBehind}
 use Rattle.mirror_run.specs.declared.end.MirrorEnd.{MirrorEnd}
 use Rattle.query_run.specs.AtWire.{AtWire}
-use Rattle.query_run.specs.Ends.{IsOfDisks, QueryMayEnd, QueryEndShows as QueryHadJournal}
+use Rattle.query_run.specs.Ends.{IsOfDisks}
 use Rattle.query_run.specs.OfDisks.{AnsweredBy}
-use Rattle.query_run.specs.declared.end.QueryEnd.{QueryEnd}
 use Rattle.relay_run.specs.Cutting.{IsOfCutting, WasCut}
 use Rattle.relay_run.specs.Ends.{IsOfShowing, IsQuiet as IsQuietEnd, RunEndShows as HadJournal}
 use Rattle.relay_store.specs.Pairs.{PairView, pair_view}
@@ -31,7 +30,7 @@ use Rattle.relay_store.specs.Journals.{IsPairImageOf}
 use Rattle.relay_store.specs.Opening.{BothOnlyRead}
 use Rattle.relay_store.specs.declared.fault.StoreFault.{StoreFault}
 use Rattle.serve_run.specs.AtDoor.{AtDoor}
-use Rattle.serve_run.specs.Ends.{IsDoorCount, ServeEndShows as ServeHadJournal}
+use Rattle.serve_run.specs.Ends.{IsDoorCount, ServeMayEnd, ServeEndShows as ServeHadJournal}
 use Rattle.serve_run.specs.Guests.{ServedAt}
 use Rattle.serve_run.specs.Replayed.{Replayed}
 use Rattle.serve_run.specs.declared.end.ServeEnd.{ServeEnd}
@@ -303,13 +302,13 @@ abbrev pub AreLinesGiven : ℕ → Option (List ℕ) → OutsideTells → Place 
 AreLinesGiven cursor collection t old new status =
     IsGivenOut t old new status (λ end. OnJournal t old (λ J.
     LinesWritten t.output J collection cursor (disks old) (disks new) end
-    × (IsFlawlessText old.failed new.failed → LinesMayEnd end)))
+    × (IsFlawlessText old.failed new.failed → ServeMayEnd end)))
 
 -- Requests were to be answered by the journal, and nothing else was asked or read. The end tells what the disks were; where they failed or have no journal no request was taken and nothing was written.
 pub record IsQueried (count : ℕ) (t : OutsideTells) (old new : Place) (status : Status) : Type 0 where
-  pub end : QueryEnd
+  pub end : ServeEnd
   pub status_is : status ≡ status_of_query end
-  pub had : IsTrue t.disk → QueryHadJournal end old.one.content old.two.content
+  pub had : IsTrue t.disk → ServeHadJournal end old.one.content old.two.content
   pub quiet : IsOfDisks end → (new.wire ≡ old.wire) × (new.written ≡ old.written)
   pub unasked : new.around ≡ old.around
   pub unread : new.left ≡ old.left
@@ -317,7 +316,7 @@ pub record IsQueried (count : ℕ) (t : OutsideTells) (old new : Place) (status 
       (disks new) end)
   -- all is done where no count rose, unless memory runs out
   pub complete : OnJournal t old (λ J. IsFlawlessText old.failed new.failed
-      → (Rose old.failed.wire new.failed.wire → ⊥) → QueryMayEnd end)
+      → (Rose old.failed.wire new.failed.wire → ⊥) → ServeMayEnd end)
 
 -- no count rose of what a mirror uses
 abbrev pub IsFlawlessMirror : Faults → Faults → Type 0

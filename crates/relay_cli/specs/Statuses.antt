@@ -2,7 +2,6 @@
 use Rattle.std.specs.Prelude.{ℕ}
 use Rattle.at_event.specs.Refusals.{code_of}
 use Rattle.mirror_run.specs.declared.end.MirrorEnd.{MirrorEnd}
-use Rattle.query_run.specs.declared.end.QueryEnd.{QueryEnd}
 use Rattle.relay_run.specs.declared.end.RunEnd.{RunEnd}
 use Rattle.relay_store.specs.declared.fault.StoreFault.{StoreFault}
 use Rattle.serve_run.specs.declared.end.ServeEnd.{ServeEnd}
@@ -74,7 +73,7 @@ status_of_feed end = status_of_tape end
 abbrev pub status_of_serving : ServeEnd → Status
 status_of_serving ServeEnd.Done = Status.Done
 status_of_serving ServeEnd.WriteFault = Status.WriteFault
-status_of_serving ServeEnd.Door = Status.Door
+status_of_serving ServeEnd.Next = Status.Door
 status_of_serving ServeEnd.Disk = Status.Disk
 status_of_serving (ServeEnd.BadLog place) = Status.BadLog place
 status_of_serving ServeEnd.Memory = Status.Memory
@@ -96,10 +95,6 @@ status_of_mirror MirrorEnd.TooLong = Status.TooLong
 status_of_mirror MirrorEnd.Memory = Status.Memory
 
 -- of requests that are answered
-abbrev pub status_of_query : QueryEnd → Status
-status_of_query QueryEnd.Done = Status.Done
-status_of_query QueryEnd.WriteFault = Status.WriteFault
-status_of_query QueryEnd.Wire = Status.Wire
-status_of_query QueryEnd.Disk = Status.Disk
-status_of_query (QueryEnd.BadLog place) = Status.BadLog place
-status_of_query QueryEnd.Memory = Status.Memory
+abbrev pub status_of_query : ServeEnd → Status
+status_of_query ServeEnd.Next = Status.Wire
+status_of_query end = status_of_serving end

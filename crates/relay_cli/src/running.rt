@@ -197,7 +197,7 @@ fn run<P: Judges, F: Feed, R: Repos, D: Disk, I: Source, O: Sink, G: Door, C: Cl
         Command::Trial(start, count) => Status::from(trial(alloc, *start, *count, out)),
         Command::Mirror => Status::from(mirror(alloc, LONGEST, input, repos, out)),
         Command::Query(count) => {
-            Status::from(query(alloc, LONGEST, *count, disk, other, wire, out))
+            Status::of_answering(query(alloc, LONGEST, *count, disk, other, wire, out))
         }
         Command::Lines(cursor, collection) => {
             let collection = text_in(collection);

@@ -3,7 +3,6 @@ ghost use Rattle.std.specs.Prelude.{◌≡◌};
 ghost use Rattle.relay_cli.specs.Statuses.{code_of_status};
 
 use mirror_run::MirrorEnd;
-use query_run::QueryEnd;
 use relay_run::RunEnd;
 use relay_store::StoreFault;
 use serve_run::ServeEnd;
@@ -83,7 +82,7 @@ impl Status {
 }
 
 impl Status {
-    ghost use Rattle.relay_cli.specs.Statuses.{status_of_feed};
+    ghost use Rattle.relay_cli.specs.Statuses.{status_of_feed, status_of_query};
 
     // How following a host ends, whose messages come from a feed.
     pub(crate) fn of_following(end: TakeEnd) -> Status
@@ -91,6 +90,16 @@ impl Status {
     {
         match end {
             TakeEnd::ReadFault => Status::Feed,
+            other => Status::from(other),
+        }
+    }
+
+    // How answering requests ends, which come from a wire.
+    pub(crate) fn of_answering(end: ServeEnd) -> Status
+        ensures { result ≡ status_of_query end }
+    {
+        match end {
+            ServeEnd::Next => Status::Wire,
             other => Status::from(other),
         }
     }
@@ -157,7 +166,7 @@ impl From<ServeEnd> for Status {
         match end {
             ServeEnd::Done => Status::Done,
             ServeEnd::WriteFault => Status::WriteFault,
-            ServeEnd::Door => Status::Door,
+            ServeEnd::Next => Status::Door,
             ServeEnd::Disk => Status::Disk,
             ServeEnd::BadLog(place) => Status::BadLog(place),
             ServeEnd::Memory => Status::Memory,
@@ -193,23 +202,6 @@ impl From<MirrorEnd> for Status {
             MirrorEnd::Repos => Status::Repos,
             MirrorEnd::TooLong => Status::TooLong,
             MirrorEnd::Memory => Status::Memory,
-        }
-    }
-}
-
-impl From<QueryEnd> for Status {
-    ghost use Rattle.relay_cli.specs.Statuses.{status_of_query};
-
-    ghost from_gives = { λ end status. status ≡ status_of_query end };
-
-    fn from(end: QueryEnd) -> Status {
-        match end {
-            QueryEnd::Done => Status::Done,
-            QueryEnd::WriteFault => Status::WriteFault,
-            QueryEnd::Wire => Status::Wire,
-            QueryEnd::Disk => Status::Disk,
-            QueryEnd::BadLog(place) => Status::BadLog(place),
-            QueryEnd::Memory => Status::Memory,
         }
     }
 }

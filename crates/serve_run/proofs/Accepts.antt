@@ -84,7 +84,7 @@ module _ (tells : Bool) (held : Held) (most : ℕ) (guest : Guest) (old mid new 
   accepted_broken : (end : ServeEnd) → IsOfSession end → new.faults ≡ old.faults → Received tells held guest mid.turns new.turns (Err end) → GuestAccepted tells held most old new (Err end)
   accepted_broken ServeEnd.Done of counted received = absurd of
   accepted_broken ServeEnd.WriteFault of counted received = absurd of
-  accepted_broken ServeEnd.Door of counted received = absurd of
+  accepted_broken ServeEnd.Next of counted received = absurd of
   accepted_broken ServeEnd.Disk of counted received = inr (broken ServeEnd.Disk counted received)
   accepted_broken (ServeEnd.BadLog p) of counted received = inr (broken (ServeEnd.BadLog p) counted received)
   accepted_broken ServeEnd.Memory of counted received = inr (broken ServeEnd.Memory counted received)

@@ -73,7 +73,7 @@ lines_then visits v served session number is =
 told_behind : (tells : Bool) (held : Held) (all : Type 0) (end : ServeEnd) (old new : AtDoor) → IsUnwritten end → IsStill tells old new ⊎ NobodyComes tells old new → IsBehind tells held all end old new
 told_behind tells held all ServeEnd.Done old new un was = absurd un
 told_behind tells held all ServeEnd.WriteFault old new un was = was
-told_behind tells held all ServeEnd.Door old new un was = absurd un
+told_behind tells held all ServeEnd.Next old new un was = absurd un
 told_behind tells held all ServeEnd.Disk old new un was = absurd un
 told_behind tells held all (ServeEnd.BadLog p) old new un was = absurd un
 told_behind tells held all ServeEnd.Memory old new un (inl still) = inl still
@@ -82,7 +82,7 @@ told_behind tells held all ServeEnd.Memory old new un (inr over) = inr (inl over
 told_front : (end : ServeEnd) (lines last old new : List ℕ) → IsUnwritten end → AddsFront old new (lines ++ last) → AreLinesWritten end lines last old new
 told_front ServeEnd.Done lines last old new un front = absurd un
 told_front ServeEnd.WriteFault lines last old new un front = front
-told_front ServeEnd.Door lines last old new un front = absurd un
+told_front ServeEnd.Next lines last old new un front = absurd un
 told_front ServeEnd.Disk lines last old new un front = absurd un
 told_front (ServeEnd.BadLog p) lines last old new un front = absurd un
 told_front ServeEnd.Memory lines last old new un front = front
@@ -125,7 +125,7 @@ module _ (door_tells output_tells : Bool) (count served : ℕ) (held : Held) (do
   pub serving_stopped : (end : ServeEnd) → IsOfAccepting end → GuestAccepted door_tells held (count - served) mid new (Err end) → GuestsServed door_tells output_tells count held door new old now end
   serving_stopped ServeEnd.Done of accepted = absurd of
   serving_stopped ServeEnd.WriteFault of accepted = absurd of
-  serving_stopped ServeEnd.Door of accepted = record {
+  serving_stopped ServeEnd.Next of accepted = record {
     visits = serving.visits;
     mid = mid;
     visited = serving.visited;
@@ -204,10 +204,10 @@ ended_too P result end is holds = subst (λ (r : Result (Unit {0}) ServeEnd). P 
 
 -- ---- causes
 
-pub accepting_causes : (disk write door : Type 0) (end : ServeEnd) → IsOfAccepting end → (end ≡ ServeEnd.Disk → disk) → (end ≡ ServeEnd.Door → door) → IsCausedBy disk write door end
+pub accepting_causes : (disk write door : Type 0) (end : ServeEnd) → IsOfAccepting end → (end ≡ ServeEnd.Disk → disk) → (end ≡ ServeEnd.Next → door) → IsCausedBy disk write door end
 accepting_causes disk write door ServeEnd.Done of failed gone = absurd of
 accepting_causes disk write door ServeEnd.WriteFault of failed gone = absurd of
-accepting_causes disk write door ServeEnd.Door of failed gone = gone refl
+accepting_causes disk write door ServeEnd.Next of failed gone = gone refl
 accepting_causes disk write door ServeEnd.Disk of failed gone = failed refl
 accepting_causes disk write door (ServeEnd.BadLog p) of failed gone = tt
 accepting_causes disk write door ServeEnd.Memory of failed gone = tt
@@ -215,25 +215,25 @@ accepting_causes disk write door ServeEnd.Memory of failed gone = tt
 pub unwritten_causes : (disk write door : Type 0) (end : ServeEnd) → IsUnwritten end → (end ≡ ServeEnd.WriteFault → write) → IsCausedBy disk write door end
 unwritten_causes disk write door ServeEnd.Done of failed = absurd of
 unwritten_causes disk write door ServeEnd.WriteFault of failed = failed refl
-unwritten_causes disk write door ServeEnd.Door of failed = absurd of
+unwritten_causes disk write door ServeEnd.Next of failed = absurd of
 unwritten_causes disk write door ServeEnd.Disk of failed = absurd of
 unwritten_causes disk write door (ServeEnd.BadLog p) of failed = absurd of
 unwritten_causes disk write door ServeEnd.Memory of failed = tt
 
 -- ---- the door's own count
 
-door_stands : (end : ServeEnd) (before now : ℕ) → (end ≡ ServeEnd.Door → ⊥) → now ≡ before → IsDoorCount before now end
+door_stands : (end : ServeEnd) (before now : ℕ) → (end ≡ ServeEnd.Next → ⊥) → now ≡ before → IsDoorCount before now end
 door_stands ServeEnd.Done before now other same = same
 door_stands ServeEnd.WriteFault before now other same = same
-door_stands ServeEnd.Door before now other same = absurd (other refl)
+door_stands ServeEnd.Next before now other same = absurd (other refl)
 door_stands ServeEnd.Disk before now other same = same
 door_stands (ServeEnd.BadLog p) before now other same = same
 door_stands ServeEnd.Memory before now other same = same
 
-no_door_in_session : (end : ServeEnd) → IsOfSession end → end ≡ ServeEnd.Door → ⊥
+no_door_in_session : (end : ServeEnd) → IsOfSession end → end ≡ ServeEnd.Next → ⊥
 no_door_in_session end of is = subst IsOfSession is of
 
-no_door_in_lines : (end : ServeEnd) → IsUnwritten end → end ≡ ServeEnd.Door → ⊥
+no_door_in_lines : (end : ServeEnd) → IsUnwritten end → end ≡ ServeEnd.Next → ⊥
 no_door_in_lines end un is = subst IsUnwritten is un
 
 -- a session leaves it
@@ -297,10 +297,10 @@ served_unopened door_tells output_tells count held door old fault end is =
     subst (λ (e : ServeEnd). GuestsServed door_tells output_tells count held door door old old e) (sym is) (none_served door_tells output_tells count held door old fault)
 
 -- it stands where the door didn't fail
-pub door_same : (end : ServeEnd) (before now : ℕ) → IsDoorCount before now end → end ≢ ServeEnd.Door → now ≡ before
+pub door_same : (end : ServeEnd) (before now : ℕ) → IsDoorCount before now end → end ≢ ServeEnd.Next → now ≡ before
 door_same ServeEnd.Done before now count other = count
 door_same ServeEnd.WriteFault before now count other = count
-door_same ServeEnd.Door before now count other = absurd (other refl)
+door_same ServeEnd.Next before now count other = absurd (other refl)
 door_same ServeEnd.Disk before now count other = count
 door_same (ServeEnd.BadLog p) before now count other = count
 door_same ServeEnd.Memory before now count other = count

@@ -8,7 +8,7 @@ use Rattle.relay_store.specs.declared.fault.StoreFault.{StoreFault}
 use Rattle.relay_store.specs.declared.store.Store.{Store}
 use Rattle.backfill.specs.Writing.{AddsMessages, IsOfReading}
 use Rattle.backfill.specs.declared.replay_fault.ReplayFault.{ReplayFault}
-use Rattle.serve_run.specs.Ends.{ServeOpened, ServeEndShows, end_of_opening, end_of_replay}
+use Rattle.serve_run.specs.Ends.{ServeMayEnd, ServeOpened, ServeEndShows, end_of_opening, end_of_replay}
 use Rattle.serve_run.specs.Replayed.{IsReplayed, IsUnbroken}
 use Rattle.serve_run.specs.declared.end.ServeEnd.{ServeEnd}
 use Rattle.relay_disk.specs.Disk.{View}
@@ -51,6 +51,20 @@ opening_bad StoreFault.Clock place is = let no : ⊥ = cc in absurd no
 pub opening_read : (tells : Bool) (one two one_now two_now : View) (fault : StoreFault) (end : ServeEnd) (place : ℕ) → Opened tells one two one_now two_now (Err fault) → end ≡ end_of_opening fault → end ≡ ServeEnd.BadLog place → IsTrue tells → BothOnlyRead one two one_now two_now
 opening_read tells one two one_now two_now fault end place opened of is told = bad_read tells one two one_now two_now fault place opened (opening_bad fault place (sym of ∙ is)) told
 
+opening_may : (disk : Type 0) (fault : StoreFault) → (fault ≡ StoreFault.Disk → disk) → ((place : ℕ) → fault ≡ StoreFault.BadLog place → ⊥) → (disk → ⊥) → ServeMayEnd (end_of_opening fault)
+opening_may disk StoreFault.Disk failed no_bad no_disk = absurd (no_disk (failed refl))
+opening_may disk (StoreFault.BadLog place) failed no_bad no_disk = absurd (no_bad place refl)
+opening_may disk (StoreFault.Full e) failed no_bad no_disk = tt
+opening_may disk StoreFault.SeqEnd failed no_bad no_disk = tt
+opening_may disk StoreFault.Authority failed no_bad no_disk = tt
+opening_may disk StoreFault.Repos failed no_bad no_disk = tt
+opening_may disk StoreFault.Memory failed no_bad no_disk = tt
+opening_may disk StoreFault.Clock failed no_bad no_disk = tt
+
+-- the end of disks that weren't, where none comes
+pub unopened_may : (disk : Type 0) (fault : StoreFault) (end : ServeEnd) → end ≡ end_of_opening fault → (fault ≡ StoreFault.Disk → disk) → ((place : ℕ) → fault ≡ StoreFault.BadLog place → ⊥) → (disk → ⊥) → ServeMayEnd end
+unopened_may disk fault end is failed no_bad no_disk = subst ServeMayEnd (sym is) (opening_may disk fault failed no_bad no_disk)
+
 -- a fault as opening hands it up
 abbrev pub unopened : StoreFault → Result Store StoreFault
 unopened fault = Err fault
@@ -67,7 +81,7 @@ opening_steady fault end steady of otherwise other = otherwise (λ is. other (of
 pub image_shows : (end : ServeEnd) (one two : List ℕ) (J : List Row) → IsPairImageOf J one two → ((p : ℕ) → end ≡ ServeEnd.BadLog p → ⊥) → ServeEndShows end one two
 image_shows ServeEnd.Done one two J image good = (J, image)
 image_shows ServeEnd.WriteFault one two J image good = (J, image)
-image_shows ServeEnd.Door one two J image good = (J, image)
+image_shows ServeEnd.Next one two J image good = (J, image)
 image_shows ServeEnd.Disk one two J image good = tt
 image_shows (ServeEnd.BadLog p) one two J image good = absurd (good p refl)
 image_shows ServeEnd.Memory one two J image good = tt
@@ -131,7 +145,7 @@ adds_nothing messages bytes = record { written = []; left = messages; split = re
 pub nothing_broken : (end : ServeEnd) (failed : Type 0) (messages : List (List ℕ)) (bytes : List ℕ) → IsUnbroken end failed messages bytes bytes
 nothing_broken ServeEnd.Done failed messages bytes = tt
 nothing_broken ServeEnd.WriteFault failed messages bytes = tt
-nothing_broken ServeEnd.Door failed messages bytes = tt
+nothing_broken ServeEnd.Next failed messages bytes = tt
 nothing_broken ServeEnd.Disk failed messages bytes = inl (adds_nothing messages bytes)
 nothing_broken (ServeEnd.BadLog p) failed messages bytes = inl (adds_nothing messages bytes)
 nothing_broken ServeEnd.Memory failed messages bytes = tt

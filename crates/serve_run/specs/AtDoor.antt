@@ -75,7 +75,7 @@ pub record SessionIsBroken (tells : Bool) (held : Held) (old new : AtDoor) : Typ
 
 -- what a fault leaves behind the last session: nobody came where the door failed, and else nobody came or a session was broken off
 abbrev pub IsStopped : Bool → Held → ServeEnd → AtDoor → AtDoor → Type 0
-IsStopped tells held ServeEnd.Door old new = IsStill tells old new
+IsStopped tells held ServeEnd.Next old new = IsStill tells old new
 IsStopped tells held end old new = IsStill tells old new ⊎ SessionIsBroken tells held old new
 
 -- One more guest was met, of so many: who came had a session, or nobody is to come any more, or it was stopped.

@@ -1,4 +1,4 @@
--- How a command ends that gives events out (own).
+-- How a command ends that serves a journal to others (own).
 use Rattle.std.specs.Prelude.{◌≡◌, ⊤, ℕ, List, Option, Some, None, Result, Ok, Err}
 use Rattle.at_cid.specs.Counts.{Rose}
 use Rattle.relay_row.specs.declared.row.Row.{Row}
@@ -44,16 +44,22 @@ ServeEndShows ServeEnd.Memory one two = ⊤
 ServeEndShows (ServeEnd.BadLog place) one two = IsBadPairJournalAt place one two
 ServeEndShows end one two = (J : List Row) × IsPairImageOf J one two
 
--- the cause of an end: a count of faults rose
+-- the cause of an end: a count of faults rose, of the door or the wire where the next one didn't come
 abbrev pub IsCausedBy : Type 0 → Type 0 → Type 0 → ServeEnd → Type 0
-IsCausedBy disk write door ServeEnd.WriteFault = write
-IsCausedBy disk write door ServeEnd.Door = door
-IsCausedBy disk write door ServeEnd.Disk = disk
-IsCausedBy disk write door end = ⊤
+IsCausedBy disk write next ServeEnd.WriteFault = write
+IsCausedBy disk write next ServeEnd.Next = next
+IsCausedBy disk write next ServeEnd.Disk = disk
+IsCausedBy disk write next end = ⊤
+
+-- the ends that no failure brings: all was done, or memory ran out
+abbrev pub ServeMayEnd : ServeEnd → Type 0
+ServeMayEnd ServeEnd.Done = ⊤
+ServeMayEnd ServeEnd.Memory = ⊤
+ServeMayEnd end = ⊥
 
 -- the door's count of the faults of `next`: it rose where the door failed, and else stands
 abbrev pub IsDoorCount : ℕ → ℕ → ServeEnd → Type 0
-IsDoorCount before now ServeEnd.Door = Rose before now
+IsDoorCount before now ServeEnd.Next = Rose before now
 IsDoorCount before now end = now ≡ before
 
 -- a line isn't written: the output failed, or memory ran out
@@ -71,7 +77,7 @@ IsOfSession end = ⊥
 
 -- no session came of the next guest: it was broken off so, or the door failed, or memory ran out there
 abbrev pub IsOfAccepting : ServeEnd → Type 0
-IsOfAccepting ServeEnd.Door = ⊤
+IsOfAccepting ServeEnd.Next = ⊤
 IsOfAccepting end = IsOfSession end
 
 -- the count of the failures of sessions, behind what came of one: if it was broken off, it didn't fail

@@ -29,7 +29,7 @@ IsBehind tells held all ServeEnd.Done old new = (all × IsStill tells old new)
     ⊎ NobodyComes tells old new
 IsBehind tells held all ServeEnd.WriteFault old new = IsStill tells old new
     ⊎ NobodyComes tells old new
-IsBehind tells held all ServeEnd.Door old new = IsStill tells old new
+IsBehind tells held all ServeEnd.Next old new = IsStill tells old new
 IsBehind tells held all ServeEnd.Memory old new = IsStill tells old new
     ⊎ (NobodyComes tells old new ⊎ SessionIsBroken tells held old new)
 IsBehind tells held all end old new = IsStill tells old new ⊎ SessionIsBroken tells held old new

@@ -280,7 +280,7 @@ pub(crate) fn accept<D: Disk, G: Door>(
     ensures disks_steady { result ≢ Err ServeEnd.Disk
         → ((D.view disk.new).faults ≡ (D.view disk.old).faults)
         × ((D.view other.new).faults ≡ (D.view other.old).faults) }
-    ensures door { result ≡ Err ServeEnd.Door → Rose (G.faults door.old) (G.faults door.new) }
+    ensures door { result ≡ Err ServeEnd.Next → Rose (G.faults door.old) (G.faults door.new) }
     ensures no_bad_log { (place : ℕ) → result ≡ Err (ServeEnd.BadLog place) → IsTrue D.tells → ⊥ }
     ensures steady { OnOk result (G.faults door.new ≡ G.faults door.old) }
     ensures door_count { IfErr result (λ end.
@@ -293,7 +293,7 @@ pub(crate) fn accept<D: Disk, G: Door>(
     }
     match door.next() {
         Ok(guest) => receive(alloc, &guest, store, disk, other, door),
-        Err(DoorFault::Failed) => Err(ServeEnd::Door),
+        Err(DoorFault::Failed) => Err(ServeEnd::Next),
         Err(DoorFault::Memory) => Err(ServeEnd::Memory),
     }
 }

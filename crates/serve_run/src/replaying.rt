@@ -42,7 +42,7 @@ fn replay_events<E: Events, O: Sink>(
     ensures later { E.later events.old events.new }
     ensures disk { result ≡ ServeEnd.Disk → Rose (E.faults events.old) (E.faults events.new) }
     ensures failed { result ≡ ServeEnd.WriteFault → Rose (O.faults out.old) (O.faults out.new) }
-    ensures no_door { result ≡ ServeEnd.Door → ⊥ }
+    ensures no_next { result ≡ ServeEnd.Next → ⊥ }
     ensures no_bad_log { (place : ℕ) → result ≡ ServeEnd.BadLog place → IsTrue E.tells
         → (held : Held) → E.holds events.old held → ⊥ }
     ensures counts { O.faults out.old ≤ O.faults out.new }
@@ -77,7 +77,7 @@ fn replay_from<D: Disk, O: Sink>(
     ensures goes { Goes Same (D.view disk.old) (D.view disk.new) }
     ensures disk { result ≡ ServeEnd.Disk → Rose (D.view disk.old).faults (D.view disk.new).faults }
     ensures failed { result ≡ ServeEnd.WriteFault → Rose (O.faults out.old) (O.faults out.new) }
-    ensures no_door { result ≡ ServeEnd.Door → ⊥ }
+    ensures no_next { result ≡ ServeEnd.Next → ⊥ }
     ensures no_bad_log { (place : ℕ) → result ≡ ServeEnd.BadLog place → IsTrue D.tells → ⊥ }
     ensures counts { O.faults out.old ≤ O.faults out.new }
     ensures disk_steady { result ≢ ServeEnd.Disk
@@ -116,7 +116,7 @@ fn replay_on<D: Disk, O: Sink>(
     ensures disk { result ≡ ServeEnd.Disk → Rose (D.view disk.old).faults (D.view disk.new).faults
         ⊎ Rose (D.view other.old).faults (D.view other.new).faults }
     ensures failed { result ≡ ServeEnd.WriteFault → Rose (O.faults out.old) (O.faults out.new) }
-    ensures no_door { result ≡ ServeEnd.Door → ⊥ }
+    ensures no_next { result ≡ ServeEnd.Next → ⊥ }
     ensures no_bad_log { (place : ℕ) → result ≡ ServeEnd.BadLog place → IsTrue D.tells → ⊥ }
     ensures counts { O.faults out.old ≤ O.faults out.new }
     ensures disks_steady { result ≢ ServeEnd.Disk

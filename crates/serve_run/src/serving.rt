@@ -107,7 +107,7 @@ pub fn serve<D: Disk, G: Door, O: Sink>(
         → ((D.view disk.new).faults ≡ (D.view disk.old).faults)
         × ((D.view other.new).faults ≡ (D.view other.old).faults) }
     ensures out_steady { result ≢ ServeEnd.WriteFault → O.faults out.new ≡ O.faults out.old }
-    ensures door_steady { result ≢ ServeEnd.Door → G.faults door.new ≡ G.faults door.old }
+    ensures door_steady { result ≢ ServeEnd.Next → G.faults door.new ≡ G.faults door.old }
 {
     let store = match Store::open(alloc, disk, other, most) {
         Ok(store) => store,

@@ -47,7 +47,7 @@ fn with_end(answer: Answer, end: ServeEnd) -> Answer {
     match end {
         ServeEnd::Done => answer.words("Done"),
         ServeEnd::WriteFault => answer.words("WriteFault"),
-        ServeEnd::Door => answer.words("Door"),
+        ServeEnd::Next => answer.words("Door"),
         ServeEnd::Disk => answer.words("Disk"),
         ServeEnd::BadLog(place) => answer.words("BadLog ").number(place),
         ServeEnd::Memory => answer.words("Memory"),

@@ -3,10 +3,11 @@
 
 use crate::outside::{disk_of, disk_with, sink_of, wire_of, with_written};
 use anyhow::Result;
-use query_run::{QueryEnd, query};
+use query_run::query;
 use relay_disk::MemoryDisk;
 use relay_io::{Exchange, MemorySink, MemoryWire};
 use relay_store::LONGEST;
+use serve_run::ServeEnd;
 use std::alloc::Global;
 use std::str;
 use vector_lines::{Answer, Subject, number, parted};
@@ -39,20 +40,20 @@ fn run_on(alloc: Global, disk: &mut MemoryDisk, count: u64, rest: &str) -> Resul
     told(alloc, end, &wire, &out)
 }
 
-fn told(alloc: Global, end: QueryEnd, wire: &MemoryWire, out: &MemorySink) -> Result<String> {
+fn told(alloc: Global, end: ServeEnd, wire: &MemoryWire, out: &MemorySink) -> Result<String> {
     let answer = with_end(Answer::new(alloc), end).words(" ; ");
     let answer = with_written(answer, out.content())?.words(" ;");
     with_exchanges(answer, wire.exchanges())?.end()
 }
 
-fn with_end(answer: Answer, end: QueryEnd) -> Answer {
+fn with_end(answer: Answer, end: ServeEnd) -> Answer {
     match end {
-        QueryEnd::Done => answer.words("Done"),
-        QueryEnd::WriteFault => answer.words("WriteFault"),
-        QueryEnd::Wire => answer.words("Wire"),
-        QueryEnd::Disk => answer.words("Disk"),
-        QueryEnd::BadLog(place) => answer.words("BadLog ").number(place),
-        QueryEnd::Memory => answer.words("Memory"),
+        ServeEnd::Done => answer.words("Done"),
+        ServeEnd::WriteFault => answer.words("WriteFault"),
+        ServeEnd::Next => answer.words("Wire"),
+        ServeEnd::Disk => answer.words("Disk"),
+        ServeEnd::BadLog(place) => answer.words("BadLog ").number(place),
+        ServeEnd::Memory => answer.words("Memory"),
     }
 }
 

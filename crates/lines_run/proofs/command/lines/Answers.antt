@@ -27,7 +27,7 @@ returns-in-Ok-clause-shows g c = λ told.
 
 pub returns-in-Ok-clause-complete : goal.returns-in-Ok-clause-complete
 returns-in-Ok-clause-complete g c = λ told J image no_disk no_write.
-    may_end _ _ c.lines_on.result (λ is. either_behind _ _ _ _ _ _ c.in-Ok.ensures.counts.0 c.in-Ok.ensures.counts.1 (c.lines_on.ensures.disk is)) c.lines_on.ensures.failed c.lines_on.ensures.no_door (λ p is. c.lines_on.ensures.no_bad_log p is told) no_disk no_write
+    may_end _ _ c.lines_on.result (λ is. either_behind _ _ _ _ _ _ c.in-Ok.ensures.counts.0 c.in-Ok.ensures.counts.1 (c.lines_on.ensures.disk is)) c.lines_on.ensures.failed c.lines_on.ensures.no_next (λ p is. c.lines_on.ensures.no_bad_log p is told) no_disk no_write
 
 pub returns-in-Err-clause-written : goal.returns-in-Err-clause-written
 returns-in-Err-clause-written g c = λ told J image. record {

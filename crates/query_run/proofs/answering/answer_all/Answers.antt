@@ -1,14 +1,14 @@
 use Rattle.std.proofs.Common.{rules, ◌≡◌, ◌-◌, ◌+◌, ◌<◌, ◌≤◌, ◌∙◌, ℕ, List, Bool, true, false, Ok, Err, IsTrue, Result, arith, subst}
 use Rattle.query_run.specs.AtWire.{at_wire}
 use Rattle.query_run.specs.Queried.{Answered, Comes, Queried}
-use Rattle.query_run.specs.declared.end.QueryEnd.{QueryEnd}
+use Rattle.serve_run.specs.declared.end.ServeEnd.{ServeEnd}
 use Rattle.query_run.proofs.Querying.{ended, ended_too, over, querying_more, querying_none, stopped_answering, stopped_wire}
 use Rattle.query_run.proofs.answering.answer_all.Goals as goal
 
 pub returns-in_err-come-clause-queried : goal.returns-in_err-come-clause-queried
 returns-in_err-come-clause-queried g c = λ J holds.
     let is : c.from_residual.result ≡ ended c.in_err-come.field-0.0 = search rules in
-    ended_too (λ (end : QueryEnd). Queried g.W.Wire.tells g.O.Sink.tells c.args.count J
+    ended_too (λ (end : ServeEnd). Queried g.W.Wire.tells g.O.Sink.tells c.args.count J
     (at_wire (g.W.Wire.requests c.args.wire.now) (g.W.Wire.exchanges c.args.wire.now) (g.W.Wire.send_faults c.args.wire.now)) (at_wire (g.W.Wire.requests c.come.new.wire) (g.W.Wire.exchanges c.come.new.wire) (g.W.Wire.send_faults c.come.new.wire))
     (g.O.Sink.written c.args.out.now) (g.O.Sink.written c.requests.out) end)
     c.from_residual.result c.in_err-come.field-0.0 is
@@ -44,7 +44,7 @@ returns-in_err-answer_one-clause-queried g c = λ J holds.
     (at_wire (g.W.Wire.requests c.requests.wire) (g.W.Wire.exchanges c.requests.wire) (g.W.Wire.send_faults c.requests.wire)) (at_wire (g.W.Wire.requests c.come.new.wire) (g.W.Wire.exchanges c.come.new.wire) (g.W.Wire.send_faults c.come.new.wire)) (Ok more)) turn c.in_ok-come.ensures.came in
     let some : 0 < c.args.count - c.requests.answered = c.in_ok-come.ensures.some (search rules) in
     let is : c.from_residual-in_err-answer_one.result ≡ ended c.in_err-answer_one.field-0.0 = search rules in
-    ended_too (λ (end : QueryEnd). Queried g.W.Wire.tells g.O.Sink.tells c.args.count J
+    ended_too (λ (end : ServeEnd). Queried g.W.Wire.tells g.O.Sink.tells c.args.count J
     (at_wire (g.W.Wire.requests c.args.wire.now) (g.W.Wire.exchanges c.args.wire.now) (g.W.Wire.send_faults c.args.wire.now)) (at_wire (g.W.Wire.requests c.answer_one.new.wire) (g.W.Wire.exchanges c.answer_one.new.wire) (g.W.Wire.send_faults c.answer_one.new.wire))
     (g.O.Sink.written c.args.out.now) (g.O.Sink.written c.answer_one.new.out) end)
     c.from_residual-in_err-answer_one.result c.in_err-answer_one.field-0.0 is

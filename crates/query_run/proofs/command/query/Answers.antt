@@ -4,11 +4,14 @@ use Rattle.relay_core.specs.Entries.{Holds}
 use Rattle.relay_core.specs.declared.journal_state.Core.{Core}
 use Rattle.relay_store.proofs.Images.{no_journal}
 use Rattle.relay_store.proofs.Beside.{opened_keeps}
-use Rattle.serve_run.proofs.Reading.{read_opened}
+use Rattle.serve_run.proofs.Reading.{read_opened, read_unopened}
 use Rattle.query_run.specs.AtWire.{at_wire}
-use Rattle.query_run.specs.Ends.{IsOfDisks, QueryOpened, end_in}
-use Rattle.query_run.specs.declared.end.QueryEnd.{QueryEnd}
-use Rattle.query_run.proofs.Ending.{answering_causes, answering_may, answering_shows, not_of_disks, opening_read, opening_steady, queried_unopened, read_unopened, unopened_may, unopened_shows}
+use Rattle.query_run.specs.Ends.{IsOfDisks}
+use Rattle.serve_run.specs.Ends.{ServeEndShows, ServeOpened}
+use Rattle.serve_run.specs.Guests.{end_in}
+use Rattle.serve_run.proofs.Ending.{opening_read, opening_shows, opening_steady, unopened_may}
+use Rattle.serve_run.specs.declared.end.ServeEnd.{ServeEnd}
+use Rattle.query_run.proofs.Ending.{answering_causes, answering_may, answering_shows, not_of_disks, queried_unopened}
 use Rattle.query_run.proofs.command.query.Goals as goal
 
 pub returns-in-Err-clause-answered : goal.returns-in-Err-clause-answered
@@ -21,7 +24,8 @@ returns-in-Err-clause-answered g c = λ told J image. record {
 
 pub returns-in-Err-clause-shows : goal.returns-in-Err-clause-shows
 returns-in-Err-clause-shows g c = λ told.
-    unopened_shows c.in-Err.fault c.of_opening.result _ _ c.of_opening.ensures (λ p is. c.in-Err.ensures.bad_log p (ap Err is) told)
+    subst (λ (e : ServeEnd). ServeEndShows e (g.D.Disk.view c.args.disk.now).content (g.D.Disk.view c.args.other.now).content) (sym c.of_opening.ensures)
+    (opening_shows c.in-Err.fault _ _ (λ p is. c.in-Err.ensures.bad_log p (ap Err is) told))
 
 pub returns-in-Err-clause-complete : goal.returns-in-Err-clause-complete
 returns-in-Err-clause-complete g c = λ told J image no_disk no_write no_wire.
@@ -33,7 +37,7 @@ returns-in-Ok-answer_all-clause-answered g c = λ told J image. record {
   queried = c.in-Ok-answer_all.ensures.queried J (subst (λ (x : Core). Holds x J) (sym c.core.ensures)
       (opened_keeps g.D.Disk.tells (g.D.Disk.view c.args.disk.now) (g.D.Disk.view c.args.other.now) (g.D.Disk.view c.open.new.disk) (g.D.Disk.view c.open.new.other) c.in-Ok.store c.in-Ok.ensures.opened told J image).core);
   read = read_opened g.D.Disk.tells (g.D.Disk.view c.args.disk.now) (g.D.Disk.view c.args.other.now) (g.D.Disk.view c.open.new.disk) (g.D.Disk.view c.open.new.other) (g.D.Disk.view c.open.new.disk) (g.D.Disk.view c.open.new.other)
-      c.in-Ok.store (QueryOpened QueryEnd.Done) J (g.met.D.Disk.is_disk c.open.new.disk) (g.met.D.Disk.is_disk c.open.new.other) c.in-Ok.ensures.opened told image
+      c.in-Ok.store (ServeOpened ServeEnd.Done) J (g.met.D.Disk.is_disk c.open.new.disk) (g.met.D.Disk.is_disk c.open.new.other) c.in-Ok.ensures.opened told image
       (still_here (g.D.Disk.view c.open.new.disk)) (still_here (g.D.Disk.view c.open.new.other));
 }
 
@@ -47,7 +51,7 @@ returns-clause-answered g c = λ told J image. record {
   queried = c.in-Err-answer_all.ensures.queried J (subst (λ (x : Core). Holds x J) (sym c.core.ensures)
       (opened_keeps g.D.Disk.tells (g.D.Disk.view c.args.disk.now) (g.D.Disk.view c.args.other.now) (g.D.Disk.view c.open.new.disk) (g.D.Disk.view c.open.new.other) c.in-Ok.store c.in-Ok.ensures.opened told J image).core);
   read = read_opened g.D.Disk.tells (g.D.Disk.view c.args.disk.now) (g.D.Disk.view c.args.other.now) (g.D.Disk.view c.open.new.disk) (g.D.Disk.view c.open.new.other) (g.D.Disk.view c.open.new.disk) (g.D.Disk.view c.open.new.other)
-      c.in-Ok.store (QueryOpened c.in-Err-answer_all.end) J (g.met.D.Disk.is_disk c.open.new.disk) (g.met.D.Disk.is_disk c.open.new.other) c.in-Ok.ensures.opened told image
+      c.in-Ok.store (ServeOpened c.in-Err-answer_all.end) J (g.met.D.Disk.is_disk c.open.new.disk) (g.met.D.Disk.is_disk c.open.new.other) c.in-Ok.ensures.opened told image
       (still_here (g.D.Disk.view c.open.new.disk)) (still_here (g.D.Disk.view c.open.new.other));
 }
 

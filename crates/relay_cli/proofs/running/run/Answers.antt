@@ -421,7 +421,7 @@ pub returns-in-Query-clause-ran : goal.returns-in-Query-clause-ran
 returns-in-Query-clause-ran g c = record {
   does = run_as _ _ _ _ _ _ _ _ c.in-Query.is (record {
     end = c.query.result;
-    status_is = c.from-in-Query.ensures;
+    status_is = c.of_answering.ensures;
     had = c.query.ensures.shows;
     quiet = λ is. let same = c.query.ensures.quiet is in (ap (λ wire. at_wire (g.W.Wire.requests wire) (g.W.Wire.exchanges wire) (g.W.Wire.send_faults wire)) same.0, ap g.O.Sink.written same.1);
     unasked = refl;
@@ -430,18 +430,18 @@ returns-in-Query-clause-ran g c = record {
     complete = λ told J image flawless wire. c.query.ensures.complete told J image flawless.0 flawless.1 wire;
   });
   told = record {
-    disks = λ not. c.query.ensures.disks_steady (λ e. not (c.from-in-Query.ensures ∙ ap status_of_query e));
+    disks = λ not. c.query.ensures.disks_steady (λ e. not (c.of_answering.ensures ∙ ap status_of_query e));
     feed = λ not. refl;
     door = λ not. refl;
-    wire = λ not. c.query.ensures.wire_steady (λ e. not (c.from-in-Query.ensures ∙ ap status_of_query e));
+    wire = λ not. c.query.ensures.wire_steady (λ e. not (c.of_answering.ensures ∙ ap status_of_query e));
     clock = λ hidden not. refl;
     repos = λ hidden not. refl;
     unspent = λ hidden not name s. s;
     input = λ hidden not. refl;
-    output = λ hidden not. c.query.ensures.out_steady (λ e. not (c.from-in-Query.ensures ∙ ap status_of_query e));
+    output = λ hidden not. c.query.ensures.out_steady (λ e. not (c.of_answering.ensures ∙ ap status_of_query e));
   };
   damaged = λ at is told.
-      let end_is = query_bad c.query.result at (sym c.from-in-Query.ensures ∙ is) in
+      let end_is = query_bad c.query.result at (sym c.of_answering.ensures ∙ is) in
       let same = c.query.ensures.quiet (of_disks c.query.result at end_is) in
       record {
         disks_read = c.query.ensures.unopened at end_is told;
