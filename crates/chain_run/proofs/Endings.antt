@@ -1,5 +1,5 @@
 -- How a relay behind a relay ends: the causes, what the disks show, and what ends it where nothing fails.
-use Rattle.std.proofs.Common.{◌≡◌, inl, inr, ℕ, List, Result, Ok, Err, IfOk, refl, arith}
+use Rattle.std.proofs.Common.{◌≡◌, inl, inr, ℕ, Bool, List, Result, Ok, Err, IfOk, refl, arith}
 use Rattle.at_cid.specs.Counts.{Rose}
 use Rattle.event_window.specs.declared.fault.EventsFault.{EventsFault}
 use Rattle.relay_step.specs.Steps.{Step}
@@ -8,9 +8,10 @@ use Rattle.relay_store.specs.Opening.{IsOfReading}
 use Rattle.relay_store.specs.declared.fault.StoreFault.{StoreFault}
 use Rattle.relay_store.proofs.Images.{no_journal}
 use Rattle.take_run.specs.Ends.{AreExtraAt}
+use Rattle.take_run.specs.Stops.{Finished, IsStop}
 use Rattle.take_run.specs.declared.end.TakeEnd.{TakeEnd}
 use Rattle.take_run.specs.PairEnds.{NoneOf, IsCausedBy as IsTakingCausedBy}
-use Rattle.chain_run.specs.Ends.{IsCausedBy, MayEnd, end_of_feed, end_of_store, end_of_taken, taking_end}
+use Rattle.chain_run.specs.Ends.{IsCausedBy, IsOfMessages, MayEnd, end_of_feed, end_of_store, end_of_taken, taking_end}
 use Rattle.chain_run.specs.Places.{ChainEndShows, HoldsJournal, Place}
 use Rattle.chain_run.specs.declared.end.ChainEnd.{ChainEnd}
 
@@ -120,3 +121,23 @@ completes disk write repos clock (ChainEnd.Full e) old caused shows first second
 completes disk write repos clock ChainEnd.SeqEnd old caused shows first second none = tt
 completes disk write repos clock ChainEnd.Memory old caused shows first second none = tt
 completes disk write repos clock ChainEnd.Clock old caused shows first second none = absurd (none.no_clock caused)
+
+-- ---- the ends of taking messages
+
+pub stop_of_messages : (end : TakeEnd) → IsStop end → IsOfMessages end
+stop_of_messages TakeEnd.Done is = tt
+stop_of_messages (TakeEnd.Bad place) is = absurd is
+stop_of_messages TakeEnd.ReadFault is = absurd is
+stop_of_messages TakeEnd.WriteFault is = tt
+stop_of_messages TakeEnd.TooLong is = absurd is
+stop_of_messages (TakeEnd.Store fault) is = tt
+stop_of_messages TakeEnd.Memory is = tt
+
+pub finished_of_messages : (end : TakeEnd) (line : List ℕ) (told : Bool) (old new : List ℕ) → Finished end line told old new → IsOfMessages end
+finished_of_messages TakeEnd.Done line told old new is = tt
+finished_of_messages (TakeEnd.Bad place) line told old new is = absurd is
+finished_of_messages TakeEnd.ReadFault line told old new is = absurd is
+finished_of_messages TakeEnd.WriteFault line told old new is = tt
+finished_of_messages TakeEnd.TooLong line told old new is = absurd is
+finished_of_messages (TakeEnd.Store fault) line told old new is = absurd is
+finished_of_messages TakeEnd.Memory line told old new is = tt

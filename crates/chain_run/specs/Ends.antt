@@ -28,6 +28,13 @@ end_of_taking TakeEnd.WriteFault = ChainEnd.WriteFault
 end_of_taking (TakeEnd.Store fault) = end_of_store fault
 end_of_taking end = ChainEnd.Memory
 
+-- the ends of taking messages that were read before: no bad place, no limit of bytes and no failed read
+abbrev pub IsOfMessages : TakeEnd → Type 0
+IsOfMessages (TakeEnd.Bad place) = ⊥
+IsOfMessages TakeEnd.TooLong = ⊥
+IsOfMessages TakeEnd.ReadFault = ⊥
+IsOfMessages end = ⊤
+
 -- the end of taking what the first store's events give
 abbrev pub end_of_taken : Result TakeEnd EventsFault → ChainEnd
 end_of_taken (Ok end) = end_of_taking end

@@ -19,7 +19,7 @@ ghost use Rattle.take_run.specs.Taken.{scene};
 ghost use Rattle.take_run.specs.Tells.{tells};
 ghost use Rattle.take_run.specs.PairEnds.{IsCausedBy};
 ghost use Rattle.chain_run.specs.Chained.{ChainRan};
-ghost use Rattle.chain_run.specs.Ends.{taking_end};
+ghost use Rattle.chain_run.specs.Ends.{IsOfMessages, taking_end};
 ghost use Rattle.chain_run.specs.Places.{PairFailed, failures, place};
 ghost use Rattle.chain_run.specs.Taking.{TakenOfEvents};
 ghost use Rattle.chain_run.specs.declared.taking.TheConstants.{MOST_SERVED};
@@ -72,6 +72,7 @@ fn take_on<E: Events, D: Disk, P: Judges, R: Repos, C: Clock, O: Sink>(
     ensures first_counts { E.faults events.old ≤ E.faults events.new }
     ensures no_bad_log { (at : ℕ) → result ≡ Err (TheFault.BadLog at) → IsTrue E.tells
         → (held : Held) → E.holds events.old held → ⊥ }
+    ensures of_messages { IfOk result IsOfMessages }
     ensures caused { IfOk result (λ end. IsCausedBy
         (PairFailed (D.view disk.old) (D.view other.old) (D.view disk.new) (D.view other.new))
         (Rose 0 0) (Rose (O.faults out.old) (O.faults out.new))
@@ -151,6 +152,7 @@ fn chain_from<D: Disk, P: Judges, R: Repos, C: Clock, O: Sink>(
     ensures first_disk { result ≡ Err TheFault.Disk
         → Rose (D.view source_disk.old).faults (D.view source_disk.new).faults }
     ensures no_bad_log { (at : ℕ) → result ≡ Err (TheFault.BadLog at) → IsTrue D.tells → ⊥ }
+    ensures of_messages { IfOk result IsOfMessages }
     ensures caused { IfOk result (λ end. IsCausedBy
         (PairFailed (D.view disk.old) (D.view other.old) (D.view disk.new) (D.view other.new))
         (Rose 0 0) (Rose (O.faults out.old) (O.faults out.new))
@@ -218,6 +220,7 @@ fn chain_sides<D: Disk, P: Judges, R: Repos, C: Clock, O: Sink>(
         → PairFailed (D.view first.old) (D.view first_other.old)
         (D.view first.new) (D.view first_other.new) }
     ensures no_bad_log { (at : ℕ) → result ≡ Err (TheFault.BadLog at) → IsTrue D.tells → ⊥ }
+    ensures of_messages { IfOk result IsOfMessages }
     ensures caused { IfOk result (λ end. IsCausedBy
         (PairFailed (D.view second.old) (D.view second_other.old)
         (D.view second.new) (D.view second_other.new))

@@ -1,7 +1,7 @@
 //! How a relay behind a relay ends.
 
-ghost use Rattle.std.specs.Prelude.{◌≡◌};
-ghost use Rattle.chain_run.specs.Ends.{end_of_events, end_of_store, end_of_taken, end_of_taking};
+ghost use Rattle.std.specs.Prelude.{◌≡◌, IfOk};
+ghost use Rattle.chain_run.specs.Ends.{IsOfMessages, end_of_events, end_of_store, end_of_taken, end_of_taking};
 
 use event_window::EventsFault;
 use relay_store::StoreFault;
@@ -59,20 +59,21 @@ impl ChainEnd {
 
     // The end of taking messages. No tape is read.
     fn of_taking(end: TakeEnd) -> ChainEnd
+        requires { IsOfMessages end }
         ensures { result ≡ end_of_taking end }
     {
         match end {
             TakeEnd::Done => ChainEnd::Done,
             TakeEnd::WriteFault => ChainEnd::WriteFault,
             TakeEnd::Store(fault) => ChainEnd::of_store(fault),
-            TakeEnd::Memory | TakeEnd::Bad(_) | TakeEnd::TooLong | TakeEnd::ReadFault => {
-                ChainEnd::Memory
-            }
+            TakeEnd::Memory => ChainEnd::Memory,
+            TakeEnd::Bad(_) | TakeEnd::TooLong | TakeEnd::ReadFault => unreachable!(),
         }
     }
 
     // The end of taking what the first store's events give.
     pub(crate) fn of_taken(taken: Result<TakeEnd, EventsFault>) -> ChainEnd
+        requires { IfOk taken IsOfMessages }
         ensures { result ≡ end_of_taken taken }
     {
         match taken {

@@ -14,7 +14,7 @@ ghost use Rattle.take_run.specs.Causes.{Caused, Kept, faults};
 ghost use Rattle.take_run.specs.Following.{IsNextOf};
 ghost use Rattle.take_run.specs.Taken.{scene};
 ghost use Rattle.take_run.specs.Tells.{tells};
-ghost use Rattle.chain_run.specs.Ends.{taking_end};
+ghost use Rattle.chain_run.specs.Ends.{IsOfMessages, taking_end};
 ghost use Rattle.chain_run.specs.Taking.{TakenOfEvents};
 
 use at_authority::Judges;
@@ -121,6 +121,7 @@ fn take_left<E: Events, D: Disk, P: Judges, R: Repos, C: Clock, O: Sink>(
         0 (O.faults out.old))
         (faults (D.view disk.new).faults (R.faults repos.new) (C.faults clock.new)
         0 (O.faults out.new)) }
+    ensures of_messages { IfOk result IsOfMessages }
     ensures caused { IfOk result (λ end. Caused end
         (faults (D.view disk.old).faults (R.faults repos.old) (C.faults clock.old)
         0 (O.faults out.old))
@@ -187,6 +188,7 @@ pub(crate) fn take_given<E: Events, D: Disk, P: Judges, R: Repos, C: Clock, O: S
         0 (O.faults out.old))
         (faults (D.view disk.new).faults (R.faults repos.new) (C.faults clock.new)
         0 (O.faults out.new)) }
+    ensures of_messages { IfOk result IsOfMessages }
     ensures caused { IfOk result (λ end. Caused end
         (faults (D.view disk.old).faults (R.faults repos.old) (C.faults clock.old)
         0 (O.faults out.old))

@@ -3,6 +3,7 @@ use Rattle.at_syntax.specs.Host.{is_host}
 use Rattle.backfill.specs.StreamPlaces.{left_of}
 use Rattle.take_run.proofs.Feeding.{follow_fails, follow_finishes, follow_stops, follows_on, left_same, starts_following}
 use Rattle.chain_run.specs.Ends.{taking_end}
+use Rattle.chain_run.proofs.Endings.{finished_of_messages, stop_of_messages}
 use Rattle.chain_run.proofs.Faults.{is_unread}
 use Rattle.chain_run.proofs.taking.take_left.Goals as goal
 
@@ -77,3 +78,12 @@ pub take_group-requires-clause-hosts : goal.take_group-requires-clause-hosts
 take_group-requires-clause-hosts g c =
     let same = rw c.in-Ok-Some.field-0-is at c.in-Ok-Some.ensures.named in
     subst (λ (h : List ℕ). (is_host h && true) ≡ true) (sym same) (rw c.requires.host refl)
+
+pub returns-in-Ok-None-clause-of_messages : goal.returns-in-Ok-None-clause-of_messages
+returns-in-Ok-None-clause-of_messages g c = finished_of_messages c.finish.result _ _ _ _ c.finish.ensures.ends
+
+pub returns-in-Err-take_group-clause-of_messages : goal.returns-in-Err-take_group-clause-of_messages
+returns-in-Err-take_group-clause-of_messages g c = stop_of_messages c.in-Err-take_group.end c.in-Err-take_group.ensures.stop
+
+pub returns-clause-of_messages : goal.returns-clause-of_messages
+returns-clause-of_messages g c = finished_of_messages c.finish-2.result _ _ _ _ c.finish-2.ensures.ends
