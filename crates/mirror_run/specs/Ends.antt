@@ -6,21 +6,14 @@ use Rattle.mirror_run.specs.declared.end.MirrorEnd.{MirrorEnd}
 abbrev pub MirrorMayEnd : MirrorEnd → Type 0
 MirrorMayEnd MirrorEnd.Done = ⊤
 MirrorMayEnd MirrorEnd.Memory = ⊤
-MirrorMayEnd (MirrorEnd.BadStream place) = ⊥
-MirrorMayEnd MirrorEnd.ReadFault = ⊥
-MirrorMayEnd MirrorEnd.WriteFault = ⊥
-MirrorMayEnd MirrorEnd.Repos = ⊥
-MirrorMayEnd MirrorEnd.TooLong = ⊥
+MirrorMayEnd end = ⊥
 
 -- the cause of an end that speaks of a failure
 abbrev pub IsCausedBy : Type 0 → Type 0 → Type 0 → MirrorEnd → Type 0
 IsCausedBy read write repos MirrorEnd.ReadFault = read
 IsCausedBy read write repos MirrorEnd.WriteFault = write
 IsCausedBy read write repos MirrorEnd.Repos = repos
-IsCausedBy read write repos MirrorEnd.Done = ⊤
-IsCausedBy read write repos (MirrorEnd.BadStream place) = ⊤
-IsCausedBy read write repos MirrorEnd.TooLong = ⊤
-IsCausedBy read write repos MirrorEnd.Memory = ⊤
+IsCausedBy read write repos end = ⊤
 
 -- none of these has happened
 pub record NoMirrorCause (read write repos : Type 0) : Type 0 where

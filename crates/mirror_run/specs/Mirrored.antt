@@ -57,10 +57,7 @@ IsMirrorWritten tell repositories MirrorEnd.WriteFault messages old new =
 IsMirrorWritten tell repositories MirrorEnd.Memory messages old new =
     (new ≡ old) ⊎ ((text : List ℕ) × IsMirrorText tell repositories messages text
     × AddsFront old new text)
-IsMirrorWritten tell repositories (MirrorEnd.BadStream place) messages old new = new ≡ old
-IsMirrorWritten tell repositories MirrorEnd.ReadFault messages old new = new ≡ old
-IsMirrorWritten tell repositories MirrorEnd.Repos messages old new = new ≡ old
-IsMirrorWritten tell repositories MirrorEnd.TooLong messages old new = new ≡ old
+IsMirrorWritten tell repositories end messages old new = new ≡ old
 
 -- What stands in the input behind the messages that were taken, by how it ended: nothing; what can't be taken, at its place;
 -- or more than may be taken, of which a front of a message was.
@@ -72,9 +69,7 @@ IsRestLeft limit (MirrorEnd.BadStream place) messages rest =
 IsRestLeft limit MirrorEnd.TooLong messages rest =
     (part : List ℕ) × (after : List ℕ) × (rest ≡ part ++ after) × EndsInMessage part
     × (length (with_length messages) + length part ≡ limit)
-IsRestLeft limit MirrorEnd.ReadFault messages rest = ⊤
-IsRestLeft limit MirrorEnd.Repos messages rest = ⊤
-IsRestLeft limit MirrorEnd.Memory messages rest = ⊤
+IsRestLeft limit end messages rest = ⊤
 
 -- A stream was mirrored, of which at most so many bytes may be taken: these messages at its front were taken, and their text
 -- was written.

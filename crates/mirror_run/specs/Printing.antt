@@ -31,27 +31,17 @@ abbrev pub IsTextWritten : MirrorEnd → List ℕ → List ℕ → List ℕ → 
 IsTextWritten MirrorEnd.Done text old new = new ≡ old ++ text
 IsTextWritten MirrorEnd.WriteFault text old new = AddsFront old new text
 IsTextWritten MirrorEnd.Memory text old new = AddsFront old new text
-IsTextWritten (MirrorEnd.BadStream place) text old new = ⊥
-IsTextWritten MirrorEnd.ReadFault text old new = ⊥
-IsTextWritten MirrorEnd.Repos text old new = ⊥
-IsTextWritten MirrorEnd.TooLong text old new = ⊥
+IsTextWritten end text old new = ⊥
 
 -- the ends where not all was written
 abbrev pub IsUnwritten : MirrorEnd → Type 0
-IsUnwritten MirrorEnd.Done = ⊥
 IsUnwritten MirrorEnd.WriteFault = Unit {0}
 IsUnwritten MirrorEnd.Memory = Unit {0}
-IsUnwritten (MirrorEnd.BadStream place) = ⊥
-IsUnwritten MirrorEnd.ReadFault = ⊥
-IsUnwritten MirrorEnd.Repos = ⊥
-IsUnwritten MirrorEnd.TooLong = ⊥
+IsUnwritten end = ⊥
 
 -- the ends once the whole stream was taken
 abbrev pub IsLate : MirrorEnd → Type 0
 IsLate MirrorEnd.Done = Unit {0}
 IsLate MirrorEnd.WriteFault = Unit {0}
 IsLate MirrorEnd.Memory = Unit {0}
-IsLate (MirrorEnd.BadStream place) = ⊥
-IsLate MirrorEnd.ReadFault = ⊥
-IsLate MirrorEnd.Repos = ⊥
-IsLate MirrorEnd.TooLong = ⊥
+IsLate end = ⊥
