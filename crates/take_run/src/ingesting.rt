@@ -101,21 +101,16 @@ pub fn ingest<D: Disk, P: Judges, R: Repos, C: Clock, I: Source, O: Sink>(
 ) -> TakeEnd
     requires most { most ≤ LAST_END }
     requires limit { limit < 2 ^ 63 }
-    ensures ingested { IsTrue D.tells → (J : List TheRow)
+    ensures ingested { let old = pair_scene (D.view disk.old) (D.view other.old)
+        (around (P.panel judges.old) (C.moments clock.old) (R.repository repos.old))
+        (I.left input.old) (O.written out.old) in
+        let new = pair_scene (D.view disk.new) (D.view other.new)
+        (around (P.panel judges.new) (C.moments clock.new) (R.repository repos.new))
+        (I.left input.new) (O.written out.new) in
+        IsTrue D.tells → (J : List TheRow)
         → IsPairImageOf J (D.view disk.old).content (D.view other.old).content
-        → Unopened J (pair_scene (D.view disk.old) (D.view other.old)
-        (around (P.panel judges.old) (C.moments clock.old) (R.repository repos.old))
-        (I.left input.old) (O.written out.old))
-        (pair_scene (D.view disk.new) (D.view other.new)
-        (around (P.panel judges.new) (C.moments clock.new) (R.repository repos.new))
-        (I.left input.new) (O.written out.new)) result
-        ⊎ Ingested (tells D.tells C.tells R.tells O.tells) I.tells most limit J
-        (pair_scene (D.view disk.old) (D.view other.old)
-        (around (P.panel judges.old) (C.moments clock.old) (R.repository repos.old))
-        (I.left input.old) (O.written out.old))
-        (pair_scene (D.view disk.new) (D.view other.new)
-        (around (P.panel judges.new) (C.moments clock.new) (R.repository repos.new))
-        (I.left input.new) (O.written out.new)) result }
+        → Unopened J old new result
+        ⊎ Ingested (tells D.tells C.tells R.tells O.tells) I.tells most limit J old new result }
     ensures shows { IsTrue D.tells → TakeEndShows result (D.view disk.old).content
         (D.view other.old).content }
     // A damaged log is only read, and nothing else is done.
