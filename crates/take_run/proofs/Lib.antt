@@ -9,7 +9,7 @@ pub mod Groups
 pub mod Sounds
 pub mod Ending
 pub mod WholeGroups
-pub mod Feeding
+pub mod FeedSteps
 pub mod Telling
 pub mod Grammar
 pub mod Endings

@@ -20,6 +20,8 @@ ghost use Rattle.take_run.specs.Tapes.{AreRecords, encoded_records};
 ghost use Rattle.take_run.specs.PairEnds.{IsCausedBy, MayEnd, NoneOf, TakeEndShows};
 ghost use Rattle.take_run.specs.Ingested.{Ingested, Unopened, pair_scene};
 
+use crate::end::TakeEnd;
+use crate::running::take_tape;
 use at_authority::Judges;
 use gate_log::Side;
 use relay_disk::Disk;

@@ -1,7 +1,7 @@
 use Rattle.std.proofs.Common.{◌≡◌, ◌&&◌, ℕ, List, true, Err, refl, arith, inl, inr, subst, sym, ◌∙◌}
 use Rattle.at_syntax.specs.Host.{is_host}
 use Rattle.backfill.specs.StreamPlaces.{left_of}
-use Rattle.take_run.proofs.Feeding.{follow_fails, follow_finishes, follow_stops, follows_on, left_same, starts_following}
+use Rattle.take_run.proofs.FeedSteps.{follow_fails, follow_finishes, follow_stops, follows_on, left_same, starts_following}
 use Rattle.chain_run.specs.Ends.{taking_end}
 use Rattle.chain_run.proofs.Endings.{finished_of_messages, stop_of_messages}
 use Rattle.chain_run.proofs.Faults.{is_unread}

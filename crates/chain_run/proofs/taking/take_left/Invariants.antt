@@ -6,7 +6,7 @@ use Rattle.relay_store.specs.Store.{IsKept, seen_in}
 use Rattle.take_run.specs.Causes.{Kept, faults}
 use Rattle.take_run.specs.Going.{point}
 use Rattle.take_run.specs.Tells.{tells}
-use Rattle.take_run.proofs.Feeding.{IsFollowing}
+use Rattle.take_run.proofs.FeedSteps.{IsFollowing}
 use Rattle.chain_run.proofs.taking.take_left.Given as goal
 
 abbrev pub invariant-messages : goal.invariant-messages

@@ -8,7 +8,7 @@ use Rattle.take_run.specs.Going.{point}
 use Rattle.take_run.specs.Tells.{tells}
 use Rattle.take_run.specs.declared.end.TakeEnd.{TakeEnd}
 use Rattle.relay_step.proofs.Taken.{cursor_tells}
-use Rattle.take_run.proofs.Feeding.{feed_opened, follow_fails, starts_following}
+use Rattle.take_run.proofs.FeedSteps.{feed_opened, follow_fails, starts_following}
 use Rattle.take_run.proofs.Telling.{told_written, unmoved_here}
 use Rattle.take_run.proofs.feeding.take_feed.Goals as goal
 

@@ -1,5 +1,5 @@
 use Rattle.std.proofs.Common.{refl, arith, inl, inr, ◌∙◌}
-use Rattle.take_run.proofs.Feeding.{follow_fails, follow_finishes, follow_stops, follows_on, left_same, starts_following}
+use Rattle.take_run.proofs.FeedSteps.{follow_fails, follow_finishes, follow_stops, follows_on, left_same, starts_following}
 use Rattle.take_run.proofs.Endings.{finished_of_feed, stop_of_feed, unread_of_feed}
 use Rattle.take_run.proofs.Telling.{told_on, told_written, unmoved_here, unmoved_on}
 use Rattle.take_run.proofs.feeding.take_open.Goals as goal

@@ -4,7 +4,7 @@ use Rattle.relay_store.specs.Store.{IsKept, seen_in}
 use Rattle.take_run.specs.Causes.{Kept, Unmoved, faults}
 use Rattle.take_run.specs.Going.{point}
 use Rattle.take_run.specs.Tells.{tells}
-use Rattle.take_run.proofs.Feeding.{IsFollowing}
+use Rattle.take_run.proofs.FeedSteps.{IsFollowing}
 use Rattle.take_run.proofs.feeding.take_open.Given as goal
 
 abbrev pub invariant-messages : goal.invariant-messages
