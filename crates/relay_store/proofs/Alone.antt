@@ -40,7 +40,7 @@ long_by false false true d n one two three = let no : ⊥ = cc in absurd no
 long_by false false false true n one two three = omega arith
 long_by false false false false n one two three = omega arith
 
-most_tail : (n : ℕ) → length (tail_of n) ≤ 8
+pub most_tail : (n : ℕ) → length (tail_of n) ≤ 8
 unfolding tail_of tail_by
 most_tail n = most_by (nat_lt n 24) (nat_lt n (2 ^ 8)) (nat_lt n (2 ^ 16)) (nat_lt n (2 ^ 32)) n
 

@@ -17,9 +17,10 @@ use Rattle.relay_core.specs.declared.journal_state.Core.{Core}
 use Rattle.account_state.specs.Dids.{dids}
 use Rattle.account_state.proofs.Nexts.{all_later, last_did, later, next_did}
 use Rattle.cut_law.specs.Cut.{account_row, account_rows, carried, cut, carried_front, host_rows, rows_behind_front}
-use Rattle.relay_store.specs.Rewriting.{RewriteHasNoRoom, IsCopied}
+use Rattle.relay_store.specs.Rewriting.{AllShort, RewriteHasNoRoom, IsCopied}
 use Rattle.relay_store.specs.declared.rewriting.Rewrite.{Rewrite}
 use Rattle.relay_store.proofs.CutFronts.{parted_at, taken_at}
+use Rattle.relay_store.proofs.Shorts.{short_front, short_behind}
 use Rattle.relay_store.proofs.Rewritten.{copied_both, copied_none, no_room_behind, no_room_front}
 
 -- ---- hosts
@@ -32,6 +33,15 @@ hosts_joined : (xs ys : List (List ℕ × ℕ)) → host_rows (xs ++ ys) ≡ hos
 hosts_joined [] ys = refl
 hosts_joined (x ∷ xs) ys = hosts_joined_by (x.1 == 0) (Row.Carried (Carried.Host x.0 x.1)) (host_rows xs) (host_rows ys) (host_rows (xs ++ ys)) (hosts_joined xs ys)
 
+hosts_parted : (hosts : List (List ℕ × ℕ)) (n : ℕ) (x : List ℕ × ℕ) → slice_get hosts n ≡ Some x → host_rows hosts ≡ host_rows (take n hosts) ++ (host_rows (x ∷ []) ++ host_rows (drop (suc n) hosts))
+hosts_parted hosts n x got =
+    ap host_rows (parted_at hosts n x got) ∙ hosts_joined (take n hosts) (x ∷ drop (suc n) hosts) ∙ ap (λ (l : List Row). host_rows (take n hosts) ++ l) (hosts_joined (x ∷ []) (drop (suc n) hosts))
+
+pub host_short : (hosts : List (List ℕ × ℕ)) (n : ℕ) (x : List ℕ × ℕ) → slice_get hosts n ≡ Some x → AllShort (host_rows hosts) → AllShort (host_rows (x ∷ []))
+host_short hosts n x got all =
+    let more = host_rows (drop (suc n) hosts) in
+    short_front (host_rows (x ∷ [])) more (short_behind (host_rows (take n hosts)) (host_rows (x ∷ []) ++ more) (subst AllShort (hosts_parted hosts n x got) all))
+
 module _ (tells : Bool) (hosts : List (List ℕ × ℕ)) (n : ℕ) (x : List ℕ × ℕ) (got : slice_get hosts n ≡ Some x) (r now : Rewrite) (v w : View) (so_far : IsCopied tells (host_rows (take n hosts)) r now v w) where
   pub hosts_more : (next : Rewrite) (u : View) → IsCopied tells (host_rows (x ∷ [])) now next w u → IsCopied tells (host_rows (take (n + 1) hosts)) r next v u
   hosts_more next u one =
@@ -43,9 +53,7 @@ module _ (tells : Bool) (hosts : List (List ℕ × ℕ)) (n : ℕ) (x : List ℕ
   hosts_full e full =
       let carried_front = host_rows (take n hosts) in
       let more = host_rows (drop (suc n) hosts) in
-      let whole : host_rows hosts ≡ carried_front ++ (host_rows (x ∷ []) ++ more) =
-      ap host_rows (parted_at hosts n x got) ∙ hosts_joined (take n hosts) (x ∷ drop (suc n) hosts) ∙ ap (λ (l : List Row). carried_front ++ l) (hosts_joined (x ∷ []) (drop (suc n) hosts)) in
-      subst (λ (l : List Row). RewriteHasNoRoom r.build.end r.build.most l e) (sym whole)
+      subst (λ (l : List Row). RewriteHasNoRoom r.build.end r.build.most l e) (sym (hosts_parted hosts n x got))
       (no_room_behind tells carried_front (host_rows (x ∷ []) ++ more) r now v w e so_far (no_room_front now.build.end now.build.most (host_rows (x ∷ [])) more e full))
 
 -- ---- accounts

@@ -21,7 +21,7 @@ use Rattle.relay_store.specs.Journals.{bytes_of, joined}
 use Rattle.relay_store.specs.Places.{place_of, places_behind, places_in}
 use Rattle.relay_store.specs.Opening.{IsOfReading}
 use Rattle.relay_store.specs.Rereading.{BreaksOrder, GrowsInOrder}
-use Rattle.relay_store.specs.Rewriting.{singles, end_behind, IsCopied, RewriteHasNoRoom, IsOfAdding, IsOfRewriting}
+use Rattle.relay_store.specs.Rewriting.{singles, end_behind, AllShort, IsShort, IsCopied, RewriteHasNoRoom, IsOfAdding, IsOfRewriting}
 use Rattle.relay_store.specs.declared.fault.StoreFault.{StoreFault}
 use Rattle.relay_store.specs.declared.rewriting.Rewrite.{Rewrite}
 use Rattle.relay_store.proofs.Loaded.{length_made}
@@ -210,12 +210,13 @@ no_room_behind tells xs ys r0 r1 v0 v1 e copied is =
 
 -- ---- while rows are put one after another
 
--- some were put, and these are left
+-- some were put, and these are left, each short enough
 pub record IsPutting (tells : Bool) (rows left : List Row) (r now : Rewrite) (v w : View) : Type 0 where
   pub done : List Row
   pub split : rows ≡ done ++ left
   pub copied : IsCopied tells done r now v w
   pub ordered : DoneInOrder rows done r.core
+  pub short : AllShort left
 
 module _ (tells : Bool) (rows left rest : List Row) (row : Row) (r now : Rewrite) (v w : View) (so_far : IsPutting tells rows left r now v w) (is : left ≡ row ∷ rest) where
   pub put_more : (next : Rewrite) (x : View) → IsCopied tells (row ∷ []) now next w x → ((J : List Row) → Holds now.core J → true ≡ keeps_order J row) → IsPutting tells rows rest r next v x
@@ -224,7 +225,11 @@ module _ (tells : Bool) (rows left rest : List Row) (row : Row) (r now : Rewrite
     split = so_far.split ∙ ap (λ (l : List Row). so_far.done ++ l) is ∙ sym (append_assoc so_far.done (row ∷ []) rest);
     copied = copied_both tells so_far.done (row ∷ []) r now next v w x so_far.copied one;
     ordered = done_more rows so_far.done left rest row r.core now.core so_far.split is so_far.copied.core so_far.ordered order;
+    short = (subst AllShort is so_far.short).1;
   }
+
+  pub put_short : IsShort row
+  put_short = (subst AllShort is so_far.short).0
 
   pub put_stops : ((J : List Row) → Holds now.core J → false ≡ keeps_order J row) → BreaksOrder rows r.core
   put_stops order = done_stops rows so_far.done left rest row r.core now.core so_far.split is so_far.copied.core order

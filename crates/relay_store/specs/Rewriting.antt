@@ -4,6 +4,8 @@ use Rattle.relay_disk.specs.Disk.{View}
 use Rattle.relay_disk.specs.Moments.{LeavesOnly}
 use Rattle.gate_log.specs.Image.{made, records}
 use Rattle.gate_log.specs.Build.{HasBuilt, IsBuiltOn, IsClosed}
+use Rattle.gate_log.specs.declared.limits.TheConstants.{BODY_LENGTHS}
+use Rattle.relay_row.specs.Bodies.{rows_body}
 use Rattle.relay_row.specs.declared.row.Row.{Row}
 use Rattle.relay_core.specs.Entries.{Holds}
 use Rattle.relay_store.specs.PendingBodies.{end_of}
@@ -16,6 +18,15 @@ use Rattle.relay_store.specs.declared.rewriting.Rewrite.{Rewrite}
 abbrev pub singles : List Row → List (List Row)
 singles [] = []
 singles (row ∷ rows) = (row ∷ []) ∷ singles rows
+
+-- a body of this row alone is short enough for a log
+abbrev pub IsShort : Row → Type 0
+IsShort row = length (rows_body (row ∷ [])) < BODY_LENGTHS
+
+-- and so it is of each of these rows
+abbrev pub AllShort : List Row → Type 0
+AllShort [] = ⊤
+AllShort (row ∷ rows) = IsShort row × AllShort rows
 
 -- where the next body goes behind a body for each of these rows
 abbrev pub end_behind : ℕ → List Row → ℕ

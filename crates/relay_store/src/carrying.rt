@@ -10,7 +10,8 @@ ghost use Rattle.account_state.specs.State.{state_of};
 ghost use Rattle.host_state.specs.Table.{listed};
 ghost use Rattle.relay_core.specs.Entries.{Holds};
 ghost use Rattle.cut_law.specs.Cut.{account_row, account_rows, carried, host_rows, repo_over};
-ghost use Rattle.relay_store.specs.Rewriting.{CopiedAs, RewriteHasNoRoom, IsOfAdding, IsCopied};
+ghost use Rattle.relay_store.specs.Rereading.{IsOfSome};
+ghost use Rattle.relay_store.specs.Rewriting.{AllShort, CopiedAs, RewriteHasNoRoom, IsOfAdding, IsCopied};
 ghost use Rattle.relay_store.specs.declared.fault.StoreFault.{StoreFault as TheFault};
 
 use crate::StoreFault;
@@ -58,7 +59,8 @@ fn carry_host<D: Disk>(
     rewrite: &mut Rewrite,
     other: &mut D,
 ) -> Result<(), StoreFault>
-    requires { IsTrue D.tells → IsBuiltOn (D.view other.old) rewrite.old.build }
+    requires on { IsTrue D.tells → IsBuiltOn (D.view other.old) rewrite.old.build }
+    requires short { AllShort (host_rows ((name.now, cursor) ∷ [])) }
     ensures copied { OnOk result (IsCopied D.tells
         (host_rows ((name.now, cursor) ∷ [])) rewrite.old rewrite.new (D.view other.old)
         (D.view other.new)) }
@@ -87,7 +89,8 @@ fn carry_hosts<D: Disk>(
     rewrite: &mut Rewrite,
     other: &mut D,
 ) -> Result<(), StoreFault>
-    requires { IsTrue D.tells → IsBuiltOn (D.view other.old) rewrite.old.build }
+    requires on { IsTrue D.tells → IsBuiltOn (D.view other.old) rewrite.old.build }
+    requires short { AllShort (host_rows (listed hosts.now)) }
     ensures copied { OnOk result (IsCopied D.tells (host_rows (listed hosts.now)) rewrite.old rewrite.new
         (D.view other.old) (D.view other.new)) }
     ensures run { IsTrue D.tells → LeavesOnly IsClosed (D.view other.old) (D.view other.new) }
@@ -117,7 +120,8 @@ fn carry_accounts<D: Disk>(
     rewrite: &mut Rewrite,
     other: &mut D,
 ) -> Result<(), StoreFault>
-    requires { IsTrue D.tells → IsBuiltOn (D.view other.old) rewrite.old.build }
+    requires on { IsTrue D.tells → IsBuiltOn (D.view other.old) rewrite.old.build }
+    requires known { IsOfSome core.now }
     ensures copied { OnOk result (CopiedAs D.tells (λ rows. (A : List TheRow) → Holds core.now A
         → rows ≡ account_rows A (dids A))
         rewrite.old rewrite.new (D.view other.old) (D.view other.new)) }
@@ -141,14 +145,15 @@ fn carry_accounts<D: Disk>(
     Ok(())
 }
 
-/// Adds the rows that carry a state over.
+/// Adds the rows that carry a state over. The state is of some journal, so that each of them is short enough for a body of its own.
 pub(crate) fn carry<D: Disk>(
     alloc: Global,
     core: &Core,
     rewrite: &mut Rewrite,
     other: &mut D,
 ) -> Result<(), StoreFault>
-    requires { IsTrue D.tells → IsBuiltOn (D.view other.old) rewrite.old.build }
+    requires on { IsTrue D.tells → IsBuiltOn (D.view other.old) rewrite.old.build }
+    requires known { IsOfSome core.now }
     ensures copied { OnOk result (CopiedAs D.tells (λ rows. (A : List TheRow) → Holds core.now A
         → rows ≡ carried A)
         rewrite.old rewrite.new (D.view other.old) (D.view other.new)) }

@@ -15,6 +15,7 @@ ghost use Rattle.relay_core.specs.Entries.{Holds};
 ghost use Rattle.relay_store.specs.Journals.{AllBodies, bytes_of, joined};
 ghost use Rattle.relay_store.specs.Opening.{IsOfReading};
 ghost use Rattle.relay_store.specs.Rereading.{BreaksOrder, GrowsInOrder, IsOfSome};
+ghost use Rattle.relay_store.specs.Rewriting.{AllShort};
 ghost use Rattle.relay_store.specs.declared.fault.StoreFault.{StoreFault as TheFault};
 
 use crate::StoreFault;
@@ -38,6 +39,8 @@ pub(crate) fn body_at<D: Disk>(
     requires on { IsTrue D.tells → IsOn (D.view disk.old) log.now }
     ensures next { IfOk result (λ found. (place < found.1) × (found.1 ≤ log.now.end)) }
     ensures formed { IfOk result (λ found. list_all is_row found.0.items ≡ true) }
+    // Each of them has room in the body, so that one of it alone is no longer.
+    ensures each { IfOk result (λ found. AllShort found.0.items) }
     ensures rows { IfOk result (λ found. IsTrue D.tells
         → (before : List (List TheRow)) (there : List TheRow) (after : List (List TheRow))
         → IsBody there (rows_body there)

@@ -7,7 +7,7 @@ ghost use Rattle.gate_log.specs.Build.{IsBuiltOn, IsClosed};
 ghost use Rattle.gate_log.specs.declared.limits.TheConstants.{BODY_LENGTHS};
 ghost use Rattle.relay_row.specs.Bodies.{rows_body};
 ghost use Rattle.relay_store.specs.Rereading.{BreaksOrder, GrowsInOrder};
-ghost use Rattle.relay_store.specs.Rewriting.{IsCopied, RewriteHasNoRoom, IsOfAdding, IsOfRewriting};
+ghost use Rattle.relay_store.specs.Rewriting.{AllShort, IsShort, IsCopied, RewriteHasNoRoom, IsOfAdding, IsOfRewriting};
 ghost use Rattle.relay_store.specs.declared.fault.StoreFault.{StoreFault as TheFault};
 
 use crate::StoreFault;
@@ -15,7 +15,7 @@ use crate::applying::{apply_row, make_room};
 use at_cbor::write_list_front;
 use at_cid::{Memory, Octets};
 use event_window::Window;
-use gate_log::{BODY_LENGTHS, Build};
+use gate_log::Build;
 use relay_core::Core;
 use relay_disk::Disk;
 use relay_row::{Row, write_row};
@@ -33,16 +33,13 @@ pub(crate) struct Rewrite {
 // Puts the body of one row together.
 #[tactic(auto, unfolding(relay_row::specs::Bodies::rows_body))]
 fn encode_body(body: &mut Octets, row: &Row) -> Result<(), Memory>
+    requires short { IsShort row.now }
     ensures body { OnOk result (body.new ≡ rows_body (row.now ∷ [])) }
     ensures short { OnOk result (length body.new < BODY_LENGTHS) }
 {
     body.clear();
     write_list_front(body, 1)?;
-    write_row(body, row)?;
-    if body.len() as u64 >= BODY_LENGTHS {
-        return Err(Memory);
-    }
-    Ok(())
+    write_row(body, row)
 }
 
 /// Adds a row as a body of its own.
@@ -52,6 +49,7 @@ pub(crate) fn put_row<D: Disk>(
     row: Row,
 ) -> Result<(), StoreFault>
     requires on { IsTrue D.tells → IsBuiltOn (D.view other.old) rewrite.old.build }
+    requires short { IsShort row }
     ensures copied { OnOk result (IsCopied D.tells (row ∷ []) rewrite.old rewrite.new (D.view other.old)
         (D.view other.new)) }
     ensures run { IsTrue D.tells → LeavesOnly IsClosed (D.view other.old) (D.view other.new) }
@@ -82,6 +80,7 @@ pub(crate) fn put_rows<D: Disk>(
     rows: Vec<Row>,
 ) -> Result<(), StoreFault>
     requires on { IsTrue D.tells → IsBuiltOn (D.view other.old) rewrite.old.build }
+    requires short { AllShort rows.items }
     ensures ordered { OnOk result (GrowsInOrder rows.items rewrite.old.core) }
     ensures bad_log { (p : ℕ) → result ≡ Err (StoreFault.BadLog p)
         → BreaksOrder rows.items rewrite.old.core }

@@ -1,14 +1,22 @@
-use Rattle.std.proofs.Common.{◌≡◌, ◌∷◌, ◌++◌, [], List, Err, refl, rules, subst}
+use Rattle.std.proofs.Common.{◌≡◌, ◌∷◌, ◌++◌, [], List, Err, refl, rules, subst, sym}
 use Rattle.host_state.specs.Table.{listed}
+use Rattle.host_state.specs.declared.hosts.Hosts.{Hosts}
 use Rattle.relay_row.specs.declared.carried.Carried.{Carried}
 use Rattle.relay_row.specs.declared.row.Row.{Row}
 use Rattle.account_state.specs.Dids.{dids}
 use Rattle.cut_law.specs.Cut.{account_rows, host_rows}
-use Rattle.relay_store.specs.Rewriting.{RewriteHasNoRoom}
+use Rattle.relay_store.specs.Rewriting.{AllShort, RewriteHasNoRoom}
 use Rattle.relay_store.specs.declared.fault.StoreFault.{StoreFault}
 use Rattle.relay_store.proofs.Carried.{carried_is}
 use Rattle.relay_store.proofs.Rewritten.{copied_both, no_room_behind, no_room_front, on_ok_as}
+use Rattle.relay_store.proofs.ShortCarried.{hosts_short, last_short}
 use Rattle.relay_store.proofs.carrying.carry.Goals as goal
+
+pub put_row-requires-clause-short : goal.put_row-requires-clause-short
+put_row-requires-clause-short g c = last_short c.last_seq.result
+
+pub carry_hosts-requires-clause-short : goal.carry_hosts-requires-clause-short
+carry_hosts-requires-clause-short g c = subst (λ (hosts : Hosts). AllShort (host_rows (listed hosts))) (sym c.hosts.ensures) (hosts_short c.args.core.now c.requires.known)
 
 pub returns-in_err-put_row-clause-full : goal.returns-in_err-put_row-clause-full
 returns-in_err-put_row-clause-full g c = λ e is A holds.

@@ -1,18 +1,22 @@
-use Rattle.std.proofs.Common.{◌≡◌, ◌∷◌, [], Err, arith, rules, subst}
+use Rattle.std.proofs.Common.{◌≡◌, ◌∷◌, [], Err, arith, rules, subst, sym}
 use Rattle.relay_disk.proofs.Moments.{joined}
 use Rattle.relay_row.specs.declared.row.Row.{Row}
 use Rattle.account_state.specs.State.{state_of}
 use Rattle.account_state.proofs.Left.{fewer_left}
-use Rattle.relay_store.specs.Rewriting.{RewriteHasNoRoom, IsCopied}
+use Rattle.relay_store.specs.Rewriting.{IsShort, RewriteHasNoRoom, IsCopied}
 use Rattle.relay_store.specs.declared.fault.StoreFault.{StoreFault}
 use Rattle.relay_store.proofs.Carried.{carrying_all, carrying_full, carrying_more, carrying_none}
+use Rattle.relay_store.proofs.ShortCarried.{account_short}
 use Rattle.relay_store.proofs.carrying.carry_accounts.Goals as goal
 
 pub accounts-init : goal.accounts-init
-accounts-init g c = (carrying_none _ _ _ _ _ (search rules) (g.met.D.Disk.is_disk _) c.requires, search rules)
+accounts-init g c = (carrying_none _ _ _ _ _ (search rules) (g.met.D.Disk.is_disk _) c.requires.on, search rules)
 
 pub put_row-requires : goal.put_row-requires
-put_row-requires g c = record { on = c.accounts.invariant.0.copied.on }
+put_row-requires g c = record {
+  on = c.accounts.invariant.0.copied.on;
+  short = subst IsShort (sym c.in_ok-row.ensures) (account_short c.args.core.now c.requires.known c.in-Some.name.now (state_of c.in-Some.account.now) c.in-Some.ensures.found);
+}
 
 pub accounts-preserved : goal.accounts-preserved
 accounts-preserved g c = (

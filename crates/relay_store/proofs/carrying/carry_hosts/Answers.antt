@@ -2,15 +2,15 @@ use Rattle.std.proofs.Common.{◌≡◌, Err, arith, rules, sym}
 use Rattle.relay_disk.proofs.Moments.{joined}
 use Rattle.host_state.specs.Table.{listed}
 use Rattle.relay_store.specs.declared.fault.StoreFault.{StoreFault}
-use Rattle.relay_store.proofs.Carried.{hosts_full, hosts_more}
+use Rattle.relay_store.proofs.Carried.{host_short, hosts_full, hosts_more}
 use Rattle.relay_store.proofs.Rewritten.{copied_none}
 use Rattle.relay_store.proofs.carrying.carry_hosts.Goals as goal
 
 pub each-init : goal.each-init
-each-init g c = copied_none _ _ _ (g.met.D.Disk.is_disk _) c.requires
+each-init g c = copied_none _ _ _ (g.met.D.Disk.is_disk _) c.requires.on
 
 pub carry_host-requires : goal.carry_host-requires
-carry_host-requires g c = c.each.invariant.on
+carry_host-requires g c = record { on = c.each.invariant.on; short = host_short (listed c.args.hosts.now) c.each.place (c.in-Some.name.now, c.in-Some.cursor) (sym c.in-Some.ensures) c.requires.short }
 
 pub each-preserved : goal.each-preserved
 each-preserved g c = hosts_more _ (listed c.args.hosts.now) c.each.place (c.in-Some.name.now, c.in-Some.cursor) (sym c.in-Some.ensures) _ _ _ _ c.each.invariant _ _ c.in_ok-carry_host.ensures.copied

@@ -7,12 +7,13 @@ use Rattle.relay_row.specs.Journal.{IsJournal}
 use Rattle.relay_row.specs.Rules.{is_row}
 use Rattle.relay_row.specs.declared.row.Row.{Row}
 use Rattle.relay_store.specs.Journals.{AllBodies, bytes_of, joined}
-use Rattle.relay_store.specs.Rewriting.{RewriteHasNoRoom}
+use Rattle.relay_store.specs.Rewriting.{AllShort, RewriteHasNoRoom}
 use Rattle.relay_store.specs.declared.fault.StoreFault.{StoreFault}
 use Rattle.relay_store.proofs.Ordering.{formed_dropped}
 use Rattle.relay_store.proofs.Recopied.{drop_least, next_there, some_more}
 use Rattle.relay_store.proofs.Rewritten.{copied_both, no_room_behind, no_room_front, on_ok_as, reading_is}
 use Rattle.relay_store.proofs.Searching.{each_at}
+use Rattle.relay_store.proofs.Shorts.{short_dropped}
 use Rattle.relay_store.proofs.copying.copy_behind.Goals as goal
 
 pub returns-in_err-rows-clause-full : goal.returns-in_err-rows-clause-full
@@ -32,6 +33,9 @@ pub returns-in_err-rows-clause-few : goal.returns-in_err-rows-clause-few
 returns-in_err-rows-clause-few g c = λ f is.
     let failed : c.body_at.result ≡ Err f = search rules in
     reading_is f (c.body_at.ensures.few f failed)
+
+pub put_rows-requires-clause-short : goal.put_rows-requires-clause-short
+put_rows-requires-clause-short g c = subst AllShort (sym c.in-Ok.ensures.tail) (short_dropped _ c.in_ok-rows.rows.items c.in_ok-rows.ensures.each)
 
 pub returns-in_err-put_rows-clause-full : goal.returns-in_err-put_rows-clause-full
 returns-in_err-put_rows-clause-full g c = λ e is tells before there after each held here.

@@ -25,7 +25,7 @@ bodies-init g c = record {
 }
 
 pub put_rows-requires : goal.put_rows-requires
-put_rows-requires g c = record { on = c.bodies.invariant.copied.on }
+put_rows-requires g c = record { on = c.bodies.invariant.copied.on; short = c.in_ok-rows.ensures.each }
 
 pub bodies-preserved : goal.bodies-preserved
 bodies-preserved g c =

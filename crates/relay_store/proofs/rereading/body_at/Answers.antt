@@ -1,13 +1,16 @@
-use Rattle.std.proofs.Common.{◌≡◌, ◌∙◌, true, ℕ, List, Result, Err, ap, subst, sym}
+use Rattle.std.proofs.Common.{◌≡◌, ◌∙◌, ◌<◌, true, ℕ, List, Result, Err, length, ap, arith, subst, sym}
 use Rattle.std.specs.List.{list_all}
+use Rattle.gate_log.specs.declared.limits.TheConstants.{BODY_LENGTHS}
 use Rattle.relay_row.specs.Answers.{ReadsBody}
-use Rattle.relay_row.specs.Bodies.{IsBody}
+use Rattle.relay_row.specs.Bodies.{IsBody, rows_body}
 use Rattle.relay_row.specs.Rules.{is_row}
 use Rattle.relay_row.specs.declared.fault.RowFault.{RowFault}
 use Rattle.relay_row.specs.declared.row.Row.{Row}
 use Rattle.relay_row.proofs.Bodies.{same_rows}
+use Rattle.relay_store.specs.Rewriting.{AllShort}
 use Rattle.relay_store.specs.declared.fault.StoreFault.{StoreFault}
 use Rattle.relay_store.proofs.Opened.{log_bad}
+use Rattle.relay_store.proofs.Shorts.{body_short}
 use Rattle.relay_store.proofs.rereading.body_at.Goals as goal
 
 pub returns-in-Err-clause-no_bad_log : goal.returns-in-Err-clause-no_bad_log
@@ -29,3 +32,10 @@ returns-in-Err-BadRow-clause-no_bad_log g c = λ p is tells before there after b
 
 pub returns-in-Ok-read_rows-clause-formed : goal.returns-in-Ok-read_rows-clause-formed
 returns-in-Ok-read_rows-clause-formed g c = subst (λ (l : List Row). list_all is_row l ≡ true) (sym c.into_vec.ensures) c.in-Ok-read_rows.ensures.formed
+
+pub returns-in-Ok-read_rows-clause-each : goal.returns-in-Ok-read_rows-clause-each
+returns-in-Ok-read_rows-clause-each g c =
+    let rows = c.in-Ok-read_rows.rows in
+    let is : IsBody rows c.as_slice.result.now = c.in-Ok-read_rows.ensures in
+    let short : length (rows_body rows) < BODY_LENGTHS = omega (arith, c.in-Ok.ensures.short, ap length is.made, ap length c.as_slice.ensures.value) in
+    subst AllShort (sym c.into_vec.ensures) (body_short rows short)

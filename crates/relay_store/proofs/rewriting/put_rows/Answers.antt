@@ -1,16 +1,19 @@
 use Rattle.std.proofs.Common.{◌≡◌, [], List, Err, arith, rules, subst}
 use Rattle.relay_disk.proofs.Moments.{joined}
 use Rattle.relay_row.specs.declared.row.Row.{Row}
+use Rattle.relay_store.specs.Rewriting.{AllShort}
 use Rattle.relay_store.specs.declared.fault.StoreFault.{StoreFault}
 use Rattle.relay_store.proofs.Ordering.{done_none}
-use Rattle.relay_store.proofs.Rewritten.{IsPutting, adding_is, copied_none, put_all, put_full, put_more, put_ordered, put_stops}
+use Rattle.relay_store.proofs.Rewritten.{IsPutting, adding_is, copied_none, put_all, put_full, put_more, put_ordered, put_short, put_stops}
 use Rattle.relay_store.proofs.rewriting.put_rows.Goals as goal
 
 pub rows-init : goal.rows-init
-rows-init g c = record { done = []; split = search rules; copied = copied_none _ _ _ (g.met.D.Disk.is_disk _) c.requires.on; ordered = done_none _ _ }
+rows-init g c =
+    let split : c.args.rows.items ≡ c.from_vec-left.result.items = search rules in
+    record { done = []; split = split; copied = copied_none _ _ _ (g.met.D.Disk.is_disk _) c.requires.on; ordered = done_none _ _; short = subst AllShort split c.requires.short }
 
 pub put_row-requires : goal.put_row-requires
-put_row-requires g c = record { on = c.rows.invariant.copied.on }
+put_row-requires g c = record { on = c.rows.invariant.copied.on; short = put_short _ _ _ _ _ _ _ _ _ c.rows.invariant c.in-Some.ensures.items }
 
 pub rows-preserved : goal.rows-preserved
 rows-preserved g c = put_more _ _ _ _ _ _ _ _ _ c.rows.invariant c.in-Some.ensures.items _ _ c.in_ok-put_row.ensures.copied c.if-not-is_next.ensures
