@@ -1,6 +1,9 @@
 //! What the table of hosts is asked and told.
 
-ghost use Rattle.std.specs.Prelude.{◌≡◌, ◌≢◌, List, ℕ, [], true, length, ◌==◌, slice_get, option_map, OnOk};
+ghost use Rattle.std.specs.Prelude.{◌≡◌, ◌≢◌, List, ℕ, [], true, length, ◌==◌, slice_get, option_map, is_some, ◌<◌, IfSome, OnOk};
+ghost use Rattle.std.specs.Str.{bytes_eq};
+ghost use Rattle.std.specs.String.{string_bytes};
+ghost use Rattle.indexmap.specs.IndexMap.{index_map_len, index_of_by, get_by_text};
 ghost use Rattle.relay_row.specs.Folds.{host_in};
 ghost use Rattle.host_state.specs.Folds.{set_cursor, hosts_after, cursor_of};
 ghost use Rattle.host_state.specs.Table.{listed, has_room};
@@ -19,6 +22,7 @@ impl Hosts {
         Hosts {
             alloc,
             map: IndexMap::new(alloc),
+            recent: 0,
             ready: IndexMap::new(alloc),
         }
     }
@@ -47,12 +51,25 @@ impl Hosts {
         }
     }
 
+    // The place of a host that a row names. That of the one that was set last is looked at first.
+    fn place(&self, host: &str) -> Option<usize>
+        ensures place { result
+            ≡ index_of_by (λ name. bytes_eq host.now (string_bytes name)) self.now.map }
+        ensures found { is_some result ≡ is_some (get_by_text self.now.map host.now) }
+        ensures within { IfSome result (λ place. place < index_map_len self.now.map) }
+    {
+        match self.map.as_slice().get_index(self.recent) {
+            Some((name, _)) if name.as_str() == host => Some(self.recent),
+            _ => self.map.get_index_of(host),
+        }
+    }
+
     /// The cursor of a host, or 0 where no row names it.
     pub fn cursor(&self, host: &str) -> u64
         ensures { result ≡ cursor_of (listed self.now) host.now }
     {
-        match self.map.get(host) {
-            Some(cursor) => *cursor,
+        match self.place(host) {
+            Some(place) => self.map[place],
             None => 0,
         }
     }
@@ -64,7 +81,7 @@ impl Hosts {
         ensures kept { (name : List ℕ) → has_room self.old name ≡ true
             → has_room self.new name ≡ true }
     {
-        if self.map.contains_key(host) || self.ready.contains_key(host) {
+        if self.place(host).is_some() || self.ready.contains_key(host) {
             return Ok(());
         }
         let name = String::from_str(self.alloc, host)?;
@@ -79,10 +96,12 @@ impl Hosts {
         ensures listed { listed self.new ≡ set_cursor (listed self.old) host.now cursor }
         ensures room { (name : List ℕ) → has_room self.new name ≡ has_room self.old name }
     {
-        if let Some(place) = self.map.get_mut(host) {
-            *place = cursor;
+        if let Some(place) = self.place(host) {
+            self.map[place] = cursor;
+            self.recent = place;
             return;
         }
+        self.recent = self.map.len();
         if let Some((name, _)) = self.ready.swap_remove_entry(host) {
             let Ok(_) = self.map.insert(name, cursor) else {
                 unreachable!()
@@ -100,5 +119,18 @@ impl Hosts {
         if !host.is_empty() {
             self.set(host, row.host_seq());
         }
+    }
+
+    /// The hosts after one more row, whose host need not have been touched, where it names one: `touch` and `apply` in one.
+    pub fn learn(&mut self, row: &Row) -> Result<(), Memory>
+        ensures { OnOk result (listed self.new ≡ hosts_after (listed self.old) row.now) }
+    {
+        let host = row.host();
+        if host.is_empty() {
+            return Ok(());
+        }
+        self.touch(host)?;
+        self.set(host, row.host_seq());
+        Ok(())
     }
 }

@@ -1,10 +1,9 @@
-use Rattle.std.proofs.Common.{ℕ, Option, ap, ◌∙◌}
-use Rattle.std.specs.Option.{unwrap_or}
-use Rattle.host_state.proofs.Listed.{cursor_listed}
+use Rattle.std.proofs.Common.{sym}
+use Rattle.host_state.proofs.Listed.{cursor_placed, cursor_missing}
 use Rattle.host_state.proofs.hosts.Hosts.cursor.Goals as goal
 
 pub returns-in-Some : goal.returns-in-Some
-returns-in-Some c = ap (λ (o : Option ℕ). unwrap_or o 0) c.in-Some.ensures.value ∙ cursor_listed c.args.host.now c.args.self.now.map.entries
+returns-in-Some c = cursor_placed c.args.host.now c.args.self.now.map.entries c.in-Some.place c.index.result.now (sym c.in-Some.ensures.place) c.index.ensures
 
 pub returns-in-None : goal.returns-in-None
-returns-in-None c = ap (λ (o : Option ℕ). unwrap_or o 0) c.in-None.ensures.value ∙ cursor_listed c.args.host.now c.args.self.now.map.entries
+returns-in-None c = cursor_missing c.args.host.now c.args.self.now.map.entries (sym c.in-None.ensures.place)
