@@ -1,8 +1,6 @@
 -- What a node of the tree tells of the entries.
 use Rattle.std.proofs.Common.{◌≡◌, ℕ, ◌<◌, true, false, List, ◌∷◌, ◌++◌, Bool, Option, Some, None, refl, sym, ap, ◌∙◌, subst, arith, Less, Equal, Greater}
-use Rattle.std.proofs.lemmas.Bool.{false≢true}
 use Rattle.std.specs.Global.{Box}
-use Rattle.std.specs.Option.{is_some}
 use Rattle.std.specs.Ordering.{is_lt}
 use Rattle.std.specs.declared.cmp.Ordering.{Ordering}
 use Rattle.account_state.specs.Entries.{Entry, found_entry, is_before, next_in, put, IsSorted}
@@ -34,11 +32,8 @@ ordered did other name text r o compared left right is =
 pub before_is : (did other name text : List ℕ) (r : Ordering) (told b : Bool) → r ≡ cmp other text → other ≡ did → text ≡ name → told ≡ is_lt r → told ≡ b → is_before did name ≡ b
 before_is did other name text r told b compared left right lt is = ap is_lt (ordered did other name text r r compared left right refl) ∙ sym lt ∙ is
 
-pub none_there : {link : Link} {tree : Shape} → shape link ≡ tree → link ≡ Empty → (did : List ℕ) → is_some (found_entry did tree.entries) ≡ true → ⊥
-none_there view is did there =
-    let none : is_some (found_entry did (shape Empty).entries) ≡ true =
-    subst (λ (l : Link). is_some (found_entry did (shape l).entries) ≡ true) is (subst (λ (t : Shape). is_some (found_entry did t.entries) ≡ true) (sym view) there) in
-    absurd (false≢true none)
+pub none_there : {link : Link} {tree : Shape} → shape link ≡ tree → link ≡ Empty → (did : List ℕ) → found_entry did tree.entries ≡ None
+none_there view is did = ap (λ (t : Shape). found_entry did t.entries) (sym view ∙ ap shape is)
 
 -- each side of a first node is on the tree's level at most
 module _ {tree : Shape} {level : ℕ} (n m : TreeNode) (whole : tree ≡ node_shape level n) (sides : AreSides level m.left m.right) (same : n ≡ m) (below : tree.level < 255) where

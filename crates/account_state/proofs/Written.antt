@@ -1,5 +1,5 @@
 -- The entries after one account was written.
-use Rattle.std.proofs.Common.{◌≡◌, ◌≢◌, ℕ, Bool, true, false, not, cond, ◌&&◌, List, [], ◌∷◌, ◌++◌, Option, Some, None, refl, sym, ap, ◌∙◌, subst, append_assoc}
+use Rattle.std.proofs.Common.{◌≡◌, ◌≢◌, ℕ, Bool, true, false, not, cond, ◌&&◌, List, [], ◌∷◌, ◌++◌, Option, Some, None, refl, sym, ap, ◌∙◌, subst, append_assoc, Result, Ok, Err, OnOk, OnErr}
 use Rattle.std.specs.Option.{is_some, option_map, unwrap_or}
 use Rattle.std.specs.Prelude.{length, ◌==◌}
 use Rattle.std.specs.Str.{bytes_eq}
@@ -11,7 +11,7 @@ use Rattle.account_state.specs.Folds.{fresh, moved}
 use Rattle.account_state.specs.State.{State, state_of, known}
 use Rattle.account_state.specs.declared.account.Account.{Account}
 use Rattle.account_state.proofs.Order.{same_text, is_text}
-use Rattle.account_state.proofs.Sorted.{found_here, found_later, found_other, found_put, sorted_put}
+use Rattle.account_state.proofs.Sorted.{found_here, found_later, found_other, found_put}
 
 not_empty : (text : List ℕ) → (length text == 0) ≡ false → not (bytes_eq text []) ≡ true
 not_empty [] h = absurd cc
@@ -106,6 +106,30 @@ module _ (e : Entry) (es : List Entry) (absent : found_entry e.0 es ≡ None) wh
         | false ↦ λ t. ap is_some (found_other name e es t) ∙ there
       ]) refl
 
+-- an account that follows a row takes its room
+module _ (row : Row) (e : Entry) (es new : List Entry) (absent : found_entry e.0 es ≡ None) (name_is : e.0 ≡ did_of_row row) (full : (length (did_of_row row) == 0) ≡ false) (moves : known e.1 ≡ Some (moved fresh row)) (is : new ≡ put e es) where
+  gone : found_entry (did_of_row row) es ≡ None
+  gone = ap (λ (text : List ℕ). found_entry text es) (sym name_is) ∙ absent
+
+  learned : entry new (did_of_row row) ≡ entry_after (did_of_row row) (entry es (did_of_row row)) row
+  learned =
+      let named : names (did_of_row row) (did_of_row row) ≡ true = and_from (not (bytes_eq (did_of_row row) [])) (bytes_eq (did_of_row row) (did_of_row row)) (not_empty (did_of_row row) full) (is_text (did_of_row row) (did_of_row row) refl) in
+      ap (λ (l : List Entry). entry l (did_of_row row)) is
+      ∙ ap (λ (text : List ℕ). entry (put e es) text) (sym name_is)
+      ∙ ap known_in (found_put e es absent) ∙ moves
+      ∙ ap (λ (o : Option Account). Some (moved (unwrap_or (known_in o) fresh) row)) (sym gone)
+      ∙ sym (ap (λ (c : Bool). cond c (Some (moved (unwrap_or (entry es (did_of_row row)) fresh) row)) (entry es (did_of_row row))) named)
+
+  pub entries_learned : (name : List ℕ) → entry new name ≡ entry_after name (entry es name) row
+  entries_learned name =
+      (elim (bytes_eq name (did_of_row row)) as (λ c. bytes_eq name (did_of_row row) ≡ c → entry new name ≡ entry_after name (entry es name) row) [
+        | true ↦ λ t. subst (λ (text : List ℕ). entry new text ≡ entry_after text (entry es text) row) (sym (same_text name (did_of_row row) t)) learned
+        | false ↦ λ t.
+            ap (λ (l : List Entry). entry l name) is
+            ∙ ap known_in (found_other name e es (ap (λ (text : List ℕ). bytes_eq name text) name_is ∙ t))
+            ∙ sym (ap (λ (c : Bool). cond c (Some (moved (unwrap_or (entry es name) fresh) row)) (entry es name)) (and_false (not (bytes_eq name [])) (bytes_eq name (did_of_row row)) t))
+      ]) refl
+
 -- a row's DID that isn't empty has room
 pub filled : (row : Row) → (length (did_of_row row) == 0) ≡ false → did_of_row row ≢ []
 filled row full empty = both (length (did_of_row row) == 0) full (ap (λ (text : List ℕ). length text == 0) empty)
@@ -160,21 +184,15 @@ pub absent_from : {T : Type 0} → (f : T → Account) (o : Option T) (p : Optio
 absent_from f None p e h = sym e
 absent_from f (Some x) p e h = absurd cc
 
--- a table in which a DID took room
-module _ (old tree new : List Entry) (view : tree ≡ old) (e : Entry) (did : List ℕ) (name_is : e.0 ≡ did) (gone : found_entry did tree ≡ None) (is : new ≡ put e tree) where
-  absent : found_entry e.0 tree ≡ None
-  absent = ap (λ (text : List ℕ). found_entry text tree) name_is ∙ gone
+pub none_from : (o : Option Account) → is_some o ≡ false → o ≡ None
+none_from None h = refl
+none_from (Some x) h = absurd cc
 
-  pub touched_sorted : IsSorted tree → IsSorted new
-  touched_sorted s = subst IsSorted (sym is) (sorted_put e tree absent s)
+-- an account that was put in its place, or not for want of memory
+pub put_or_not : {X E : Type 0} → (r : Result X E) (P : List Entry → Type 0) (old made new : List Entry) → OnOk r (new ≡ made) → OnErr r (new ≡ old) → P made → P old → P new
+put_or_not (Ok x) P old made new is same m o = subst P (sym is) m
+put_or_not (Err x) P old made new is same m o = subst P (sym same) o
 
-  pub touched_entries : known e.1 ≡ None → (name : List ℕ) → entry new name ≡ entry old name
-  touched_entries unknown name =
-      ap (λ (es : List Entry). entry es name) is ∙ entries_touched e tree absent unknown name ∙ ap (λ (es : List Entry). entry es name) view
-
-  pub touched_room : has_room new did ≡ true
-  touched_room = ap (λ (es : List Entry). has_room es did) is ∙ ap (λ (text : List ℕ). has_room (put e tree) text) (sym name_is) ∙ room_touched e tree absent
-
-  pub touched_kept : (name : List ℕ) → has_room old name ≡ true → has_room new name ≡ true
-  touched_kept name there =
-      ap (λ (es : List Entry). has_room es name) is ∙ room_kept e tree absent name (ap (λ (es : List Entry). has_room es name) view ∙ there)
+pub on_ok : {X E : Type 0} → (r : Result X E) (P Q : Type 0) → (P → Q) → OnOk r P → OnOk r Q
+on_ok (Ok x) P Q f h = f h
+on_ok (Err x) P Q f h = tt

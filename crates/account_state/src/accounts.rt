@@ -1,14 +1,15 @@
 //! The accounts that the rows of a journal name.
 
-ghost use Rattle.std.specs.Prelude.{◌≡◌, ◌≢◌, List, ℕ, [], Some, None, true, false, option_map, OnOk, IfSome};
+ghost use Rattle.std.specs.Prelude.{◌≡◌, ◌≢◌, List, ℕ, [], Some, None, true, false, option_map, OnOk, OnErr, IfSome};
 ghost use Rattle.relay_row.specs.Folds.{did_of_row};
-ghost use Rattle.account_state.specs.Entries.{entry, has_room, entry_after, is_before};
+ghost use Rattle.account_state.specs.Entries.{entry, has_room, entry_after, found_entry, is_before, put};
+ghost use Rattle.account_state.specs.Shape.{no_entries};
 ghost use Rattle.account_state.specs.State.{state_of};
 
 use crate::account::Account;
 use crate::taking::take_did;
 use crate::tree::{Tree, TreeNode};
-use at_cid::Memory;
+use at_cid::{Memory, Words};
 use relay_row::Row;
 use std::alloc::Global;
 use std::marker::Model;
@@ -66,11 +67,22 @@ impl Accounts {
         if self.tree.get(did.as_bytes()).is_some() {
             return Ok(());
         }
+        let name = Words::from_str(self.alloc, did)?;
+        self.put(TreeNode::unnamed(self.alloc, name))
+    }
+
+    // Puts an account in its place.
+    fn put(&mut self, node: TreeNode) -> Result<(), Memory>
+        requires absent { found_entry node.name self.old ≡ None }
+        requires before { node.left ≡ no_entries }
+        requires behind { node.right ≡ no_entries }
+        ensures put { OnOk result (self.new ≡ put (node.name, node.account) self.old) }
+        ensures err { OnErr result (self.new ≡ self.old) }
+    {
         // A tree of this level has 2 ^ 255 - 1 accounts or more, for which no memory is large enough.
         if self.tree.level() == u8::MAX {
             return Err(Memory);
         }
-        let node = TreeNode::unnamed(self.alloc, did)?;
         self.tree.insert(Box::new(self.alloc, node)?);
         Ok(())
     }
@@ -86,7 +98,27 @@ impl Accounts {
         if did.is_empty() {
             return;
         }
-        self.tree.follow(did.as_bytes(), &mut row);
+        let true = self.tree.follow_known(did.as_bytes(), &mut row) else {
+            unreachable!()
+        };
+    }
+
+    /// The accounts after one more row, whose DID need not have been touched, where it names one: `touch` and `apply` in one.
+    /// After running out of memory the accounts are to be given up.
+    pub fn learn(&mut self, mut row: Row) -> Result<(), Memory>
+        ensures { OnOk result ((name : List ℕ)
+            → entry self.new name ≡ entry_after name (entry self.old name) row) }
+    {
+        let name = take_did(self.alloc, &mut row);
+        if name.is_empty() {
+            return Ok(());
+        }
+        if self.tree.follow_known(name.as_bytes(), &mut row) {
+            return Ok(());
+        }
+        let mut node = TreeNode::unnamed(self.alloc, name);
+        node.account.follow(&mut row);
+        self.put(node)
     }
 
     /// The next DID that a row names, in the order of bytes, with its account.

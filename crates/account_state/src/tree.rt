@@ -1,6 +1,6 @@
 //! Accounts in a search tree.
 
-ghost use Rattle.std.specs.Prelude.{◌≡◌, ◌<◌, None, true, IfOk, option_map};
+ghost use Rattle.std.specs.Prelude.{◌≡◌, ◌<◌, None, true, false, option_map};
 ghost use Rattle.std.specs.Option.{is_some};
 ghost use Rattle.std.specs.Cmp.Lexicographic.{slice_cmp};
 ghost use Rattle.std.specs.Ordering.{nat_cmp};
@@ -11,7 +11,7 @@ ghost use Rattle.account_state.specs.State.{known};
 
 use crate::account::Account;
 use crate::balancing::{skew, split};
-use at_cid::{Memory, Words, compare};
+use at_cid::{Words, compare};
 use relay_row::Row;
 use std::alloc::Global;
 use std::cmp::Ordering;
@@ -74,18 +74,18 @@ fn order_of(did: &[u8], other: &[u8]) -> Ordering
 
 impl TreeNode {
     /// Room for an account that no row names.
-    pub(crate) fn unnamed(alloc: Global, did: &str) -> Result<TreeNode, Memory>
-        ensures left { IfOk result (λ node. node.left ≡ no_entries) }
-        ensures right { IfOk result (λ node. node.right ≡ no_entries) }
-        ensures name { IfOk result (λ node. node.name ≡ did.now) }
-        ensures account { IfOk result (λ node. known node.account ≡ None) }
+    pub(crate) fn unnamed(alloc: Global, name: Words) -> TreeNode
+        ensures left { result.left ≡ no_entries }
+        ensures right { result.right ≡ no_entries }
+        ensures name { result.name ≡ name }
+        ensures account { known result.account ≡ None }
     {
-        Ok(TreeNode {
+        TreeNode {
             left: Tree::new(),
             right: Tree::new(),
-            name: Words::from_str(alloc, did)?,
+            name,
             account: Account::unnamed(alloc),
-        })
+        }
     }
 }
 
@@ -169,22 +169,28 @@ impl Tree {
         }
     }
 
-    /// The account of a DID follows a row, which is left without what it said of it. Takes no memory.
-    pub(crate) fn follow(&mut self, did: &[u8], row: &mut Row)
+    /// Whether there is room for a DID. Where there is, its account follows a row, which is left without what it said of
+    /// it. Takes no memory.
+    pub(crate) fn follow_known(&mut self, did: &[u8], row: &mut Row) -> bool
         requires sorted { IsSorted self.old.entries }
-        requires there { is_some (found_entry did.now self.old.entries) ≡ true }
-        ensures entries { Follows did.now row.old self.old.entries self.new.entries }
+        ensures known { result ≡ is_some (found_entry did.now self.old.entries) }
+        ensures entries { result ≡ true → Follows did.now row.old self.old.entries self.new.entries }
+        ensures tree { result ≡ false → self.new ≡ self.old }
+        ensures row { result ≡ false → row.new ≡ row.old }
         ensures low { IsLow self.new }
         ensures kept { IsAsLow self.old self.new }
     {
         match &mut self.link {
-            Link::Empty => unreachable!(),
+            Link::Empty => false,
             Link::Fork(_, node) => {
                 let order = order_of(did, node.name.as_bytes());
                 match order {
-                    Ordering::Less => node.left.follow(did, row),
-                    Ordering::Equal => node.account.follow(row),
-                    Ordering::Greater => node.right.follow(did, row),
+                    Ordering::Less => node.left.follow_known(did, row),
+                    Ordering::Equal => {
+                        node.account.follow(row);
+                        true
+                    }
+                    Ordering::Greater => node.right.follow_known(did, row),
                 }
             }
         }
