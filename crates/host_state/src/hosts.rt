@@ -9,8 +9,8 @@ use std::alloc::Global;
 /// The hosts that rows name, in the order of their first rows, each with its cursor: how far its
 /// stream was taken.
 ///
-/// The name of a host that was touched and that no row names yet lies apart, with room in the map. Rows of one host mostly
-/// stand in a row, so the place of the one that was set last is kept, and looked at first.
+/// The name of a host that was touched and that no row names yet lies apart, with room in the map. A host's rows
+/// mostly stand one behind another, so the place of the host that was set last is kept, and looked at first.
 #[derive(Drop)]
 pub struct Hosts {
     pub(crate) alloc: Global,

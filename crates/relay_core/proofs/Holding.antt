@@ -1,5 +1,5 @@
 -- The state behind one more row.
-use Rattle.std.proofs.Common.{◌≡◌, ℕ, Bool, true, false, cond, ◌||◌, not, ◌&&◌, List, [], ◌∷◌, ◌++◌, Option, Some, None, refl, sym, ap, ◌∙◌}
+use Rattle.std.proofs.Common.{◌≡◌, ℕ, Bool, true, false, cond, ◌||◌, not, ◌&&◌, List, [], ◌∷◌, ◌++◌, Option, Some, None, refl, sym, ap, ◌∙◌, Result, Ok, Err, OnOk}
 use Rattle.std.specs.Prelude.{nat_lt, ◌==◌}
 use Rattle.std.specs.List.{list_all, list_any}
 use Rattle.std.specs.Option.{is_some, unwrap_or}
@@ -71,6 +71,11 @@ holds_on c d row f rows h = record {
   last = last_follows c d row rows f h;
   stage = f.stage ∙ ap (λ (s : Stage). next_stage s row) h.stage ∙ sym (stage_step rows row);
 }
+
+-- a row that was learned, where memory was enough
+pub holds_learned : {X E : Type 0} (c d : Core) (row : Row) (r : Result X E) → OnOk r ((name : List ℕ) → entry d.accounts name ≡ entry_after name (entry c.accounts name) row) → listed d.hosts ≡ hosts_after (listed c.hosts) row → d.last ≡ last_after c.last row → d.stage ≡ next_stage c.stage row → OnOk r ((rows : List Row) → Holds c rows → Holds d (rows ++ row ∷ []))
+holds_learned c d row (Ok x) entries listed last stage = holds_on c d row (record { entries = entries; listed = listed; last = last; stage = stage })
+holds_learned c d row (Err e) entries listed last stage = tt
 
 -- the state of the empty journal
 pub none_holds : (c : Core) → ((did : List ℕ) → entry c.accounts did ≡ None) → listed c.hosts ≡ [] → c.last ≡ 0 → c.stage ≡ Stage.Start → Holds c []

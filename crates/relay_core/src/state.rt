@@ -173,4 +173,16 @@ impl Core {
         self.hosts.apply(&row);
         self.accounts.apply(row);
     }
+
+    /// The state after one more row, whose names need not have been touched. After running out of memory the state is of no
+    /// journal, and is to be given up.
+    pub fn learn(&mut self, row: Row) -> Result<(), Memory>
+        ensures { OnOk result ((rows : List Row) → Holds self.old rows
+            → Holds self.new (rows ++ row ∷ [])) }
+    {
+        self.stage = stage_after(self.stage, &row);
+        self.last = last_after(self.last, &row);
+        self.hosts.learn(&row)?;
+        self.accounts.learn(row)
+    }
 }
