@@ -1,6 +1,6 @@
 //! Taking rows into what is known.
 
-ghost use Rattle.std.specs.Prelude.{◌≡◌, ◌≢◌, ◌<◌, ◌++◌, ◌∷◌, [], true, List, ℕ, OnOk};
+ghost use Rattle.std.specs.Prelude.{◌≡◌, ◌≢◌, ◌<◌, ◌++◌, ◌∷◌, [], true, List, ℕ, ◌==◌, if◌then◌else◌, OnOk};
 ghost use Rattle.account_state.specs.Entries.{has_room as has_account};
 ghost use Rattle.host_state.specs.Table.{has_room as has_host};
 ghost use Rattle.relay_row.specs.Folds.{host_in, did_of_row};
@@ -22,6 +22,17 @@ fn number_in(row: &Row) -> u64
         Row::Synced(_, whole, _) => whole.seq,
         Row::Operated(operated) => operated.seq,
         Row::Carried(_) => 0,
+    }
+}
+
+// Notes where a row stands, if it sends out an event.
+fn note(window: &mut Window, place: Place)
+    requires { 0 < window.old.spare }
+    ensures { window.new.places
+        ≡ window.old.places ++ (if place.seq == 0 then [] else place ∷ []) }
+{
+    if place.seq != 0 {
+        window.push(place);
     }
 }
 
@@ -49,7 +60,26 @@ pub(crate) fn apply_row(core: &mut Core, window: &mut Window, place: u64, index:
 {
     let seq = number_in(&row);
     core.apply(row);
-    if seq != 0 {
-        window.push(Place { seq, place, index });
-    }
+    note(window, Place { seq, place, index });
+}
+
+/// Takes one more row, for which no room was made: it stands at this index of the body at this place. After running out of
+/// memory what is known is of no journal, and is to be given up.
+pub(crate) fn learn_row(
+    core: &mut Core,
+    window: &mut Window,
+    place: u64,
+    index: u8,
+    row: Row,
+) -> Result<(), Memory>
+    ensures core { OnOk result ((J : List TheRow) → Holds core.old J
+        → Holds core.new (J ++ row ∷ [])) }
+    ensures window { OnOk result (window.new.places
+        ≡ window.old.places ++ place_of place index row) }
+{
+    window.reserve(1)?;
+    let seq = number_in(&row);
+    core.learn(row)?;
+    note(window, Place { seq, place, index });
+    Ok(())
 }

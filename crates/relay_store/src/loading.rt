@@ -17,7 +17,7 @@ ghost use Rattle.relay_store.specs.Places.{places_in};
 ghost use Rattle.relay_store.specs.declared.fault.StoreFault.{StoreFault as TheFault};
 
 use crate::StoreFault;
-use crate::applying::{apply_row, make_room};
+use crate::applying::learn_row;
 use event_window::Window;
 use gate_log::Log;
 use relay_core::Core;
@@ -43,8 +43,7 @@ fn apply_rows(
         if !core.is_next(&row) {
             return Err(RowFault::BadRow);
         }
-        make_room(core, window, &row)?;
-        apply_row(core, window, place, index, row);
+        learn_row(core, window, place, index, row)?;
         index += 1;
     }
     Ok(())

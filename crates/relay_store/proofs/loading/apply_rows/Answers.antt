@@ -1,7 +1,5 @@
-use Rattle.std.proofs.Common.{rules, ◌≡◌, ◌∙◌, ◌++◌, List, Err, refl, ap}
-use Rattle.event_window.specs.declared.place.Place.{Place}
+use Rattle.std.proofs.Common.{rules, ◌≡◌, Err, refl}
 use Rattle.relay_row.specs.declared.fault.RowFault.{RowFault}
-use Rattle.relay_store.specs.Places.{place_of}
 use Rattle.relay_store.proofs.RowsApplied.{applying_more, applying_stops, no_rows_were}
 use Rattle.relay_store.proofs.loading.apply_rows.Goals as goal
 
@@ -16,6 +14,4 @@ returns-then-not-is_next-clause-bad c = λ is J holds there are journal.
 
 pub rows-preserved : goal.rows-preserved
 rows-preserved c =
-    applying_more _ _ _ _ _ _ _ _ _ _ c.rows.invariant _ c.in_ok-row.ensures c.in-Some.is _ _ _ refl c.if-not-is_next.ensures
-    (λ J holds. c.apply_row.ensures.core J (c.make_room.ensures.core J holds))
-    (c.apply_row.ensures.window ∙ ap (λ (l : List Place). l ++ place_of c.args.place c.rows.index c.in-Some.row) c.make_room.ensures.window)
+    applying_more _ _ _ _ _ _ _ _ _ _ c.rows.invariant _ c.in_ok-row.ensures c.in-Some.is _ _ _ refl c.if-not-is_next.ensures c.in_ok-learn_row.ensures.core c.in_ok-learn_row.ensures.window
