@@ -174,7 +174,8 @@ impl Tree {
     pub(crate) fn follow_known(&mut self, did: &[u8], row: &mut Row) -> bool
         requires sorted { IsSorted self.old.entries }
         ensures known { result ≡ is_some (found_entry did.now self.old.entries) }
-        ensures entries { result ≡ true → Follows did.now row.old self.old.entries self.new.entries }
+        ensures entries { result ≡ true
+            → Follows did.now row.old self.old.entries self.new.entries }
         ensures tree { result ≡ false → self.new ≡ self.old }
         ensures row { result ≡ false → row.new ≡ row.old }
         ensures low { IsLow self.new }
