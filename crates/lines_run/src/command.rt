@@ -12,7 +12,7 @@ ghost use Rattle.relay_store.specs.Opening.{BothOnlyRead};
 ghost use Rattle.relay_store.specs.Shown.{held_by};
 ghost use Rattle.relay_store.specs.Store.{IsKept, Keeps, seen_in};
 ghost use Rattle.relay_store.specs.Pairs.{pair_view};
-ghost use Rattle.serve_run.specs.Ends.{IsCausedBy, ServeEndShows};
+ghost use Rattle.serve_run.specs.Ends.{IsCausedBy, ServeEndShows, ServeMayEnd};
 ghost use Rattle.serve_run.specs.Replayed.{IsReplayed};
 ghost use Rattle.serve_run.specs.declared.end.ServeEnd.{ServeEnd};
 ghost use Rattle.lines_run.specs.Lines.{lines_above};

@@ -75,3 +75,7 @@ completes disk read write repos clock feed_tells host most steps over rest (Take
 completes disk read write repos clock feed_tells host most steps over rest (TakeEnd.Store StoreFault.Repos) ends which caused none = absurd (none.no_repos caused)
 completes disk read write repos clock feed_tells host most steps over rest (TakeEnd.Store StoreFault.Memory) ends which caused none = absurd which
 completes disk read write repos clock feed_tells host most steps over rest (TakeEnd.Store StoreFault.Clock) ends which caused none = absurd (none.no_clock caused)
+
+-- what was opened didn't fail
+pub never_failed : {T : Type 0} (x : T) → ◌≡◌ {A = Result T StoreFault} (Ok x) (Err StoreFault.Disk) → ⊥
+never_failed x is = let no : ⊥ = cc in no

@@ -6,10 +6,10 @@ use Rattle.relay_store.proofs.Images.{no_journal}
 use Rattle.relay_store.proofs.Beside.{opened_keeps}
 use Rattle.serve_run.specs.Ends.{ServeOpened, ServeEndShows}
 use Rattle.serve_run.specs.declared.end.ServeEnd.{ServeEnd}
-use Rattle.serve_run.proofs.Ending.{image_shows, nothing_written, opening_read, opening_shows, opening_steady}
+use Rattle.serve_run.proofs.Ending.{image_shows, nothing_written, opening_read, opening_shows, opening_steady, unopened_may}
 use Rattle.serve_run.proofs.Reading.{read_opened, read_unopened}
 use Rattle.lines_run.specs.Lines.{lines_above}
-use Rattle.lines_run.proofs.Ending.{either_behind, may_end, unopened_may}
+use Rattle.lines_run.proofs.Ending.{either_behind, may_end}
 use Rattle.lines_run.proofs.command.lines.Goals as goal
 
 pub returns-in-Ok-clause-written : goal.returns-in-Ok-clause-written

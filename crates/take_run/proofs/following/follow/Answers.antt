@@ -7,7 +7,7 @@ use Rattle.take_run.specs.Tells.{tells}
 use Rattle.take_run.specs.declared.end.TakeEnd.{TakeEnd}
 use Rattle.take_run.specs.PairEnds.{IsCausedBy, IsOfFeed, MayEnd, TakeEndShows}
 use Rattle.take_run.proofs.Endings.{image_shows, never_bad, none_later, opening_causes, opening_completes, opening_read, opening_shows, store_of_feed}
-use Rattle.take_run.proofs.WholeFollowed.{completes, followed_on}
+use Rattle.take_run.proofs.WholeFollowed.{completes, followed_on, never_failed}
 use Rattle.take_run.proofs.WholeIngested.{opened_of, unopened}
 use Rattle.take_run.proofs.following.follow.Goals as goal
 
@@ -84,6 +84,6 @@ returns-in-Err-clause-unspent g c = λ none not name spent. spent
 
 pub returns-clause-disks_steady : goal.returns-clause-disks_steady
 returns-clause-disks_steady g c = λ not.
-    let opened = c.in-Ok.ensures.steady (λ is. absurd cc) in
+    let opened = c.in-Ok.ensures.steady (λ is. never_failed _ is) in
     let taken = c.take_on.ensures.disks_steady not in
     (taken.0 ∙ opened.0, taken.1 ∙ opened.1)
