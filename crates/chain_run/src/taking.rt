@@ -25,7 +25,7 @@ use relay_disk::Disk;
 use relay_io::{Clock, LONGEST_FEED_MESSAGE, Repos, Sink};
 use relay_store::{Message, Store};
 use std::alloc::Global;
-use take_run::{Tally, TakeEnd, finish, take_group};
+use take_run::{TakeEnd, Tally, finish, take_group};
 
 /// More messages than a journal serves: one for each number, and what is said of the cursor.
 pub const MOST_SERVED: u64 = NUMBERS + 1;
