@@ -103,21 +103,21 @@ impl Accounts {
         };
     }
 
-    /// The accounts after one more row, whose DID need not have been touched, where it names one: `touch` and `apply` in one.
-    /// After running out of memory the accounts are to be given up.
-    pub fn learn(&mut self, mut row: Row) -> Result<(), Memory>
+    /// The accounts after one more row, whose DID need not have been touched, where it names one: `touch` and `apply` in one. What
+    /// they keep is taken out of the row. After running out of memory the accounts are to be given up.
+    pub fn learn(&mut self, row: &mut Row) -> Result<(), Memory>
         ensures { OnOk result ((name : List ℕ)
-            → entry self.new name ≡ entry_after name (entry self.old name) row) }
+            → entry self.new name ≡ entry_after name (entry self.old name) row.old) }
     {
-        let name = take_did(self.alloc, &mut row);
+        let name = take_did(self.alloc, row);
         if name.is_empty() {
             return Ok(());
         }
-        if self.tree.follow_known(name.as_bytes(), &mut row) {
+        if self.tree.follow_known(name.as_bytes(), row) {
             return Ok(());
         }
         let mut node = TreeNode::unnamed(self.alloc, name);
-        node.account.follow(&mut row);
+        node.account.follow(row);
         self.put(node)
     }
 

@@ -174,15 +174,15 @@ impl Core {
         self.accounts.apply(row);
     }
 
-    /// The state after one more row, whose names need not have been touched. After running out of memory the state is of no
-    /// journal, and is to be given up.
-    pub fn learn(&mut self, row: Row) -> Result<(), Memory>
+    /// The state after one more row, whose names need not have been touched. What it keeps is taken out of the row. After running
+    /// out of memory the state is of no journal, and is to be given up.
+    pub fn learn(&mut self, row: &mut Row) -> Result<(), Memory>
         ensures { OnOk result ((rows : List Row) → Holds self.old rows
-            → Holds self.new (rows ++ row ∷ [])) }
+            → Holds self.new (rows ++ row.old ∷ [])) }
     {
-        self.stage = stage_after(self.stage, &row);
-        self.last = last_after(self.last, &row);
-        self.hosts.learn(&row)?;
+        self.stage = stage_after(self.stage, row);
+        self.last = last_after(self.last, row);
+        self.hosts.learn(row)?;
         self.accounts.learn(row)
     }
 }

@@ -66,11 +66,11 @@ pub past_all : {X : Type 0} (i : ℕ) (xs : List X) → drop i xs ≡ [] → len
 past_all i xs none = omega (arith, length-drop i xs, ap length none)
 
 -- what is told of the bytes behind the first row
-module _ (answer : Option (List ℕ)) (left : List ℕ) (told : (row : Row) (rest : List ℕ) → is_row row ≡ true → left ≡ row_encoding row ++ rest → answer ≡ Some rest) where
+module _ (answer : Option (List ℕ)) (left : List ℕ) (told : (row : Row) (more : List Row) → is_row row ≡ true → left ≡ row_encoding row ++ encoded_rows more → answer ≡ Some (encoded_rows more)) where
   pub none_behind : (rows : List Row) → list_all is_row rows ≡ true → left ≡ encoded_rows rows → answer ≡ None → rows ≡ []
   none_behind [] formed is none = refl
   none_behind (row ∷ rows) formed is none =
-      let some = told row (encoded_rows rows) (and_parts (is_row row) (list_all is_row rows) formed).0 is in
+      let some = told row rows (and_parts (is_row row) (list_all is_row rows) formed).0 is in
       let both : ◌≡◌ {A = Option (List ℕ)} None (Some (encoded_rows rows)) = sym none ∙ some in
       absurd cc
 
@@ -78,7 +78,7 @@ module _ (answer : Option (List ℕ)) (left : List ℕ) (told : (row : Row) (res
       → (piece : List ℕ) × (left ≡ piece ++ rest) × (rest ≡ encoded_rows (drop 1 rows))
   some_behind [] rest formed is some got = absurd (some is)
   some_behind (row ∷ rows) rest formed is some got =
-      let same : encoded_rows rows ≡ rest = same_Some (encoded_rows rows) rest (sym (told row (encoded_rows rows) (and_parts (is_row row) (list_all is_row rows) formed).0 is) ∙ got) in
+      let same : encoded_rows rows ≡ rest = same_Some (encoded_rows rows) rest (sym (told row rows (and_parts (is_row row) (list_all is_row rows) formed).0 is) ∙ got) in
       (row_encoding row, is ∙ ap (λ (l : List ℕ). row_encoding row ++ l) same, sym same)
 
 -- the front of a body tells how many rows it has

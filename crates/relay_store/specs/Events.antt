@@ -1,6 +1,6 @@
 -- Where the events of a journal are found again, and what is told of them (own).
 use Rattle.std.specs.Prelude.{◌≡◌, ℕ, Bool, true, List, [], ◌∷◌, ◌++◌, length, drop, slice_get, Option, Some, None, IsTrue}
-use Rattle.std.specs.List.{Contains}
+use Rattle.std.specs.List.{Contains, list_all}
 use Rattle.event_window.specs.Held.{Event, Held}
 use Rattle.event_window.specs.declared.place.Place.{Place}
 use Rattle.relay_disk.specs.Disk.{View, Goes, Same}
@@ -10,8 +10,9 @@ use Rattle.gate_log.specs.Log.{LogState, IsOn}
 use Rattle.gate_log.specs.Log.{HoldsBodies as HasBodies}
 use Rattle.relay_row.specs.Bodies.{encoded_rows}
 use Rattle.relay_row.specs.Folds.{events_in}
+use Rattle.relay_row.specs.Rules.{is_row}
 use Rattle.relay_row.specs.declared.row.Row.{Row}
-use Rattle.row_peek.specs.Passing.{ends_row}
+use Rattle.row_peek.specs.Passing.{ended_row}
 use Rattle.row_peek.specs.Peeking.{event_at}
 use Rattle.relay_core.specs.Entries.{Holds}
 use Rattle.relay_core.specs.declared.journal_state.Core.{Core}
@@ -36,6 +37,11 @@ IsBufferOf format bodies buffer = (before : List (List Row)) (there : List Row)
 abbrev pub HasEvents : StoreState → View → BufferState → Held → Type 0
 HasEvents s v buffer held = (J : List Row) × (keeps : Keeps J s v) × (held ≡ held_by J)
     × IsBufferOf s.log.format keeps.bodies buffer
+
+-- Where the bytes of a body from one place on are rows, those from another on are the rows behind the first.
+abbrev pub BeginsNext : List ℕ → ℕ → ℕ → Type 0
+BeginsNext body at next = (rows : List Row) → list_all is_row rows ≡ true
+    → drop at body ≡ encoded_rows rows → drop next body ≡ encoded_rows (drop 1 rows)
 
 -- the message of the first of events, if there is one
 abbrev pub message_of : List Event → List ℕ
@@ -65,11 +71,15 @@ pub record IsToldOf (J : List Row) (row : Row) (shown : Bool) (room : List ℕ) 
   pub is : shown ≡ is_shown J row
   pub message : shown ≡ true → room ≡ message_of (events_in row)
 
+-- the row at the front of these bytes ends as one of a body does
+abbrev pub EndsThere : List ℕ → Type 0
+EndsThere left = (rest : List ℕ) × (ended_row left ≡ Some rest)
+
 -- Of any disk: the event that is seen of the row at the front of these bytes has this number, and where it is shown, its message is in the room; and the row ends as one of a body does.
 pub record IsReadAs (left : List ℕ) (seq : ℕ) (shown : Bool) (room : List ℕ) : Type 0 where
   pub message : List ℕ
   pub seen : event_at left ≡ Some (seq, message)
-  pub ends : ends_row left ≡ true
+  pub ends : EndsThere left
   pub given : shown ≡ true → room ≡ message
 
 -- At the front of these bytes an event is seen that has this message, and a number that is kept at one of these places.

@@ -63,22 +63,22 @@ pub(crate) fn apply_row(core: &mut Core, window: &mut Window, place: u64, index:
     note(window, Place { seq, place, index });
 }
 
-/// Takes one more row, for which no room was made: it stands at this index of the body at this place. After running out of
-/// memory what is known is of no journal, and is to be given up.
+/// Takes one more row, for which no room was made: it stands at this index of the body at this place. What is kept is taken out of
+/// the row. After running out of memory what is known is of no journal, and is to be given up.
 pub(crate) fn learn_row(
     core: &mut Core,
     window: &mut Window,
     place: u64,
     index: u8,
-    row: Row,
+    row: &mut Row,
 ) -> Result<(), Memory>
     ensures core { OnOk result ((J : List TheRow) → Holds core.old J
-        → Holds core.new (J ++ row ∷ [])) }
+        → Holds core.new (J ++ row.old ∷ [])) }
     ensures window { OnOk result (window.new.places
-        ≡ window.old.places ++ place_of place index row) }
+        ≡ window.old.places ++ place_of place index row.old) }
 {
     window.reserve(1)?;
-    let seq = number_in(&row);
+    let seq = number_in(row);
     core.learn(row)?;
     note(window, Place { seq, place, index });
     Ok(())

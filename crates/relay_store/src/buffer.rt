@@ -1,6 +1,6 @@
 //! Where one is in a log while its events are read back.
 
-ghost use Rattle.std.specs.Prelude.{◌≡◌, ◌≤◌, ◌<◌, ◌+◌, ◌^◌, ◌++◌, ◌∷◌, ◌⊎◌, ◌↔◌, [], ℕ, List, length, drop, Some, None, Err, true, false, IsTrue, IfOk, IfSome, OnOk, OnErr, option_map};
+ghost use Rattle.std.specs.Prelude.{◌≡◌, ◌≢◌, ◌≤◌, ◌<◌, ◌+◌, ◌^◌, ◌++◌, ◌∷◌, ◌⊎◌, ◌↔◌, [], ℕ, List, length, drop, Some, None, Err, true, false, IsTrue, IfOk, IfSome, OnOk, OnErr, option_map};
 ghost use Rattle.std.specs.List.{list_all};
 ghost use Rattle.at_cid.specs.Counts.{Rose};
 ghost use Rattle.relay_disk.specs.Disk.{Goes, Same};
@@ -11,10 +11,9 @@ ghost use Rattle.gate_log.specs.Log.{HoldsBodies as HasBodies, IsOn};
 ghost use Rattle.relay_row.specs.Bodies.{IsBody, rows_body, row_encoding, encoded_rows};
 ghost use Rattle.relay_row.specs.Rules.{is_row};
 ghost use Rattle.relay_row.specs.declared.row.Row.{Row as TheRow};
-ghost use Rattle.row_peek.specs.Passing.{ends_row};
 ghost use Rattle.row_peek.specs.Peeked.{Sees};
 ghost use Rattle.row_peek.specs.Peeking.{peeked_at, seen};
-ghost use Rattle.relay_store.specs.Events.{IsBufferOf};
+ghost use Rattle.relay_store.specs.Events.{BeginsNext, EndsThere, IsBufferOf};
 ghost use Rattle.relay_store.specs.Journals.{AllBodies, bytes_of};
 
 use crate::bodies::read_body;
@@ -22,7 +21,7 @@ use at_cbor::take_list_front;
 use event_window::{EventsFault, Place};
 use gate_log::{Log, LogFault};
 use relay_disk::Disk;
-use row_peek::{Peeked, behind_row, ends_row, peek};
+use row_peek::{Peeked, behind_ended_row, behind_row, peek};
 use std::alloc::Global;
 use std::marker::Model;
 
@@ -31,14 +30,15 @@ use std::marker::Model;
 pub struct Buffer {
     place: u64,
     index: u8,
-    // Where that row begins.
+    // Where that row begins, and where the next one does, if that is known.
     at: usize,
+    next: Option<usize>,
     body: Vec<u8>,
 }
 
 impl Model for Buffer {
-    ghost use Rattle.std.specs.Prelude.{◌≤◌, ◌<◌, ◌^◌, drop, vec_len};
-    ghost use Rattle.relay_store.specs.Events.{BufferState};
+    ghost use Rattle.std.specs.Prelude.{◌≤◌, ◌<◌, ◌^◌, IfSome, drop, vec_len};
+    ghost use Rattle.relay_store.specs.Events.{BeginsNext, BufferState};
 
     ghost Value = { BufferState };
 
@@ -50,7 +50,8 @@ impl Model for Buffer {
     } };
 
     // The body is shorter than its length can say.
-    ghost invariant = { λ p. (p.at ≤ vec_len p.body) × (vec_len p.body < 2 ^ 32) };
+    ghost invariant = { λ p. (p.at ≤ vec_len p.body) × (vec_len p.body < 2 ^ 32)
+        × IfSome p.next (λ next. (next ≤ vec_len p.body) × BeginsNext p.body.items p.at next) };
 }
 
 // What a fault of reading a log at a place comes to.
@@ -93,9 +94,7 @@ fn first_row(body: &[u8]) -> Option<usize>
 // Where the rows begin behind the one at a place.
 fn next_row(body: &[u8], at: usize) -> Option<usize>
     requires { at ≤ length body.now }
-    ensures next { IfSome result (λ next. (rows : List TheRow) → list_all is_row rows ≡ true
-        → drop at body.now ≡ encoded_rows rows
-        → drop next body.now ≡ encoded_rows (drop 1 rows)) }
+    ensures next { IfSome result (BeginsNext body.now at) }
     ensures none { result ≡ None → (rows : List TheRow) → list_all is_row rows ≡ true
         → drop at body.now ≡ encoded_rows rows → rows ≡ [] }
     ensures within { IfSome result (λ next. next ≤ length body.now) }
@@ -105,6 +104,25 @@ fn next_row(body: &[u8], at: usize) -> Option<usize>
         return None;
     }
     let Some(rest) = behind_row(left) else {
+        return None;
+    };
+    start_of(body, rest)
+}
+
+// Where the rows begin behind the one at a place, if that one ends as a row of a body does.
+fn ended_row(body: &[u8], at: usize) -> Option<usize>
+    requires { at ≤ length body.now }
+    ensures next { IfSome result (BeginsNext body.now at) }
+    ensures ends { IfSome result (λ next. EndsThere (drop at body.now)) }
+    ensures row { (row : TheRow) (more : List TheRow) → is_row row ≡ true
+        → drop at body.now ≡ row_encoding row ++ encoded_rows more → result ≢ None }
+    ensures within { IfSome result (λ next. next ≤ length body.now) }
+{
+    let (_, left) = body.split_at(at);
+    if left.is_empty() {
+        return None;
+    }
+    let Some(rest) = behind_ended_row(left) else {
         return None;
     };
     start_of(body, rest)
@@ -163,6 +181,7 @@ impl Buffer {
             place: 0,
             index: 0,
             at: 0,
+            next: None,
             body: Vec::new(alloc),
         }
     }
@@ -205,6 +224,7 @@ impl Buffer {
         self.place = 0;
         self.index = 0;
         self.at = 0;
+        self.next = None;
         self.at = rows_at(log, disk, place, &mut self.body)?;
         self.place = place;
         Ok(())
@@ -221,14 +241,17 @@ impl Buffer {
             → (result ≡ true → self.new.left ≡ encoded_rows (drop 1 rows))
             × (result ≡ false → rows ≡ []) }
     {
-        match next_row(self.body.as_slice(), self.at) {
-            Some(at) => {
-                self.at = at;
-                self.index += 1;
-                true
-            }
-            None => false,
-        }
+        let next = match self.next {
+            Some(next) => Some(next),
+            None => next_row(self.body.as_slice(), self.at),
+        };
+        let Some(at) = next else {
+            return false;
+        };
+        self.at = at;
+        self.next = None;
+        self.index += 1;
+        true
     }
 
     /// Goes on to the row at an index, unless no row stands there.
@@ -249,14 +272,15 @@ impl Buffer {
         true
     }
 
-    /// Whether the row before which it is ends as one of a body does.
-    pub(crate) fn ends_row(&self) -> bool
-        ensures found { result ≡ ends_row self.now.left }
+    /// Whether the row before which it is ends as one of a body does. Where the next one begins is then known.
+    pub(crate) fn ends_row(&mut self) -> bool
+        ensures same { self.new ≡ self.old }
+        ensures ends { result ≡ true → EndsThere self.old.left }
         ensures row { (row : TheRow) (more : List TheRow) → is_row row ≡ true
-            → self.now.left ≡ row_encoding row ++ encoded_rows more → result ≡ true }
+            → self.old.left ≡ row_encoding row ++ encoded_rows more → result ≡ true }
     {
-        let (_, left) = self.body.as_slice().split_at(self.at);
-        ends_row(left)
+        self.next = ended_row(self.body.as_slice(), self.at);
+        self.next.is_some()
     }
 
     /// What is seen of the row before which it is.

@@ -26,28 +26,29 @@ use relay_disk::Disk;
 // Tells of the event of the row before which the buffer is, which is to have the number that was kept.
 fn copy_shown(
     core: &Core,
-    buffer: &Buffer,
+    buffer: &mut Buffer,
     place: Place,
     room: &mut Octets,
 ) -> Result<bool, EventsFault>
     ensures told { IfOk result (λ shown. (J : List TheRow) (row : TheRow) (rest : List ℕ)
         → Holds core.now J → is_row row ≡ true
-        → buffer.now.left ≡ row_encoding row ++ rest → IsToldOf J row shown room.new) }
-    ensures kept { IfOk result (λ shown. IsReadAs buffer.now.left place.seq shown room.new) }
+        → buffer.old.left ≡ row_encoding row ++ rest → IsToldOf J row shown room.new) }
+    ensures kept { IfOk result (λ shown. IsReadAs buffer.old.left place.seq shown room.new) }
     ensures short { IfOk result (λ shown. shown ≡ true → length room.new < 2 ^ 32) }
     ensures bad_log { (p : ℕ) → result ≡ Err (EventsFault.BadLog p)
         → (row : TheRow) (more : List TheRow) → is_row row ≡ true
-        → buffer.now.left ≡ row_encoding row ++ encoded_rows more
+        → buffer.old.left ≡ row_encoding row ++ encoded_rows more
         → events_in row ≡ (place.seq, message_of (events_in row)) ∷ [] → ⊥ }
     ensures no_disk { result ≡ Err EventsFault.Disk → ⊥ }
+    ensures same { buffer.new ≡ buffer.old }
 {
+    if !buffer.ends_row() {
+        return Err(EventsFault::BadLog(place.place));
+    }
     let Some(peeked) = buffer.peeked() else {
         return Err(EventsFault::BadLog(place.place));
     };
     if peeked.seq != place.seq {
-        return Err(EventsFault::BadLog(place.place));
-    }
-    if !buffer.ends_row() {
         return Err(EventsFault::BadLog(place.place));
     }
     if !is_shown(core, &peeked) {

@@ -39,11 +39,12 @@ fn apply_rows(
         → (there : List TheRow) → AreLeft there rows.old → IsJournal (J ++ there) → ⊥ }
 {
     let mut index = 0;
-    'rows: while let Some(row) = rows.next()? {
+    'rows: while let Some(mut row) = rows.next()? {
         if !core.is_next(&row) {
             return Err(RowFault::BadRow);
         }
-        learn_row(core, window, place, index, row)?;
+        learn_row(core, window, place, index, &mut row)?;
+        drop(row);
         index += 1;
     }
     Ok(())

@@ -48,11 +48,10 @@ unfoldable pub row_behind : List ℕ → Option (List ℕ)
 row_behind bytes = number_at Major.List bytes >>= λ n. items_behind n.0 n.1
 
 -- no bytes, or such as begin with a list
-abbrev pub ends_before : Option (List ℕ) → Bool
-ends_before None = false
-ends_before (Some []) = true
-ends_before (Some (first ∷ bytes)) = nat_le 128 first && nat_lt first 160
+abbrev pub ends_before : List ℕ → Bool
+ends_before [] = true
+ends_before (first ∷ bytes) = nat_le 128 first && nat_lt first 160
 
--- behind the row in front there are none, or another list
-unfoldable pub ends_row : List ℕ → Bool
-ends_row bytes = ends_before (row_behind bytes)
+-- the bytes behind the row in front, which ends with the bytes or where another list begins
+unfoldable pub ended_row : List ℕ → Option (List ℕ)
+ended_row bytes = row_behind bytes >>= λ rest. if ends_before rest then Some rest else None

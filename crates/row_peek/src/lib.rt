@@ -5,6 +5,6 @@ mod passing;
 mod peeked;
 mod peeking;
 
-pub use passing::{behind_row, ends_row};
+pub use passing::{behind_ended_row, behind_row};
 pub use peeked::Peeked;
 pub use peeking::peek;

@@ -1,7 +1,7 @@
 //! The bytes behind the items of rows. Where no such item stands in front, any bytes may be answered, or none.
 
 ghost use Rattle.std.specs.Prelude.{◌≡◌, ℕ, List, ◌++◌, true, Some, option_map};
-ghost use Rattle.row_peek.specs.Passing.{past, content_behind, scalar_behind, scalars_behind, item_content_behind, item_behind, items_behind, row_behind, ends_row};
+ghost use Rattle.row_peek.specs.Passing.{past, content_behind, scalar_behind, scalars_behind, item_content_behind, item_behind, items_behind, row_behind, ends_before, ended_row};
 ghost use Rattle.relay_row.specs.Bodies.{row_encoding, encoded_rows};
 ghost use Rattle.relay_row.specs.Rules.{is_row};
 ghost use Rattle.relay_row.specs.declared.row.Row.{Row};
@@ -110,22 +110,32 @@ pub fn behind_row(bytes: &[u8]) -> Option<&[u8]>
     behind_list(bytes)
 }
 
-/// Whether the items of the row at the front of bytes end with the bytes, or where another list begins.
-#[tactic(auto, unfolding(crate::specs::Passing::ends_row))]
-fn ends_list(bytes: &[u8]) -> bool
-    ensures { result ≡ ends_row bytes.now }
+/// Whether there are no bytes, or such as begin with a list.
+fn ends_before(bytes: &[u8]) -> bool
+    ensures { result ≡ ends_before bytes.now }
 {
-    match behind_list(bytes) {
-        Some([first, ..]) => *first >= 0x80 && *first < 0xa0,
-        Some([]) => true,
-        None => false,
+    match bytes {
+        [first, ..] => *first >= 0x80 && *first < 0xa0,
+        [] => true,
     }
 }
 
-/// Whether the row at the front of bytes ends as a row of a body does: with the bytes, or where another list begins.
-pub fn ends_row(bytes: &[u8]) -> bool
-    ensures found { result ≡ ends_row bytes.now }
-    ensures row { (row : Row) (more : List Row) → is_row row ≡ true → bytes.now ≡ row_encoding row ++ encoded_rows more → result ≡ true }
+/// Behind a list of items of a row, where the bytes end there or another list begins.
+#[tactic(auto, unfolding(crate::specs::Passing::ended_row))]
+fn behind_ended_list(bytes: &[u8]) -> Option<&[u8]>
+    ensures { option_map (λ rest. rest.now) result ≡ ended_row bytes.now }
 {
-    ends_list(bytes)
+    let rest = behind_list(bytes)?;
+    if !ends_before(rest) {
+        return None;
+    }
+    Some(rest)
+}
+
+/// The bytes behind the row at the front of bytes, where it ends as a row of a body does: with the bytes, or where another list begins.
+pub fn behind_ended_row(bytes: &[u8]) -> Option<&[u8]>
+    ensures found { option_map (λ rest. rest.now) result ≡ ended_row bytes.now }
+    ensures row { (row : Row) (more : List Row) → is_row row ≡ true → bytes.now ≡ row_encoding row ++ encoded_rows more → option_map (λ rest. rest.now) result ≡ Some (encoded_rows more) }
+{
+    behind_ended_list(bytes)
 }
