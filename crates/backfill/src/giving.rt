@@ -1,6 +1,6 @@
 //! Giving the messages that follow a cursor one by one.
 
-ghost use Rattle.std.specs.Prelude.{◌≡◌, ◌≤◌, ℕ, Some, IsTrue, IfOk, OnOk, OnErr, Err};
+ghost use Rattle.std.specs.Prelude.{◌≡◌, ◌≢◌, ◌≤◌, ℕ, Some, IsTrue, IfOk, OnOk, OnErr, Err};
 ghost use Rattle.at_cid.specs.Counts.{Rose};
 ghost use Rattle.event_window.specs.Held.{Held};
 ghost use Rattle.event_window.specs.declared.fault.EventsFault.{EventsFault};
@@ -43,6 +43,7 @@ fn give_above<E: Events>(
     ensures disk { result ≡ Err EventsFault.Disk
         → Rose (E.faults events.old) (E.faults events.new) }
     ensures counts { E.faults events.old ≤ E.faults events.new }
+    ensures steady { result ≢ Err EventsFault.Disk → E.faults events.new ≡ E.faults events.old }
     ensures no_bad_log { (at : ℕ) → result ≡ Err (EventsFault.BadLog at) → IsTrue E.tells
         → (held : Held) → E.holds events.old held → ⊥ }
 {
@@ -76,6 +77,7 @@ fn give_first<E: Events>(
     ensures disk { result ≡ Err EventsFault.Disk
         → Rose (E.faults events.old) (E.faults events.new) }
     ensures counts { E.faults events.old ≤ E.faults events.new }
+    ensures steady { result ≢ Err EventsFault.Disk → E.faults events.new ≡ E.faults events.old }
     ensures no_bad_log { (at : ℕ) → result ≡ Err (EventsFault.BadLog at) → IsTrue E.tells
         → (held : Held) → E.holds events.old held → ⊥ }
 {
@@ -112,6 +114,7 @@ pub fn give_next<E: Events>(
     ensures disk { result ≡ Err EventsFault.Disk
         → Rose (E.faults events.old) (E.faults events.new) }
     ensures counts { E.faults events.old ≤ E.faults events.new }
+    ensures steady { result ≢ Err EventsFault.Disk → E.faults events.new ≡ E.faults events.old }
     ensures no_bad_log { (at : ℕ) → result ≡ Err (EventsFault.BadLog at) → IsTrue E.tells
         → (held : Held) → E.holds events.old held → ⊥ }
 {

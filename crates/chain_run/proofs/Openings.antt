@@ -1,5 +1,5 @@
 -- What a relay behind a relay does where a pair of disks isn't opened.
-use Rattle.std.proofs.Common.{◌≡◌, ◌≤◌, ⊎_elim, inl, inr, ℕ, List, [], Bool, Ok, Err, IsTrue, refl, arith, subst, sym}
+use Rattle.std.proofs.Common.{◌≡◌, ◌≢◌, ◌≤◌, ⊎_elim, inl, inr, ℕ, List, [], Bool, Ok, Err, IsTrue, refl, arith, subst, sym}
 use Rattle.at_authority.specs.Trusting.{trusting}
 use Rattle.relay_disk.specs.Disk.{View, IsDisk}
 use Rattle.relay_disk.proofs.Moments.{read_left, still_here}
@@ -63,7 +63,7 @@ first_unread tells one two one_now two_now fault J first second opened told read
   crashes = λ stands. opened_leaves tells one two one_now two_now (Err fault) opened told J stands;
 }
 
-module _ (t : Tells) (host : List ℕ) (most : ℕ) (old : Place) (c d : View) (c_is : IsDisk c) (d_is : IsDisk d) (c_more : old.first.faults ≤ c.faults) (d_more : old.first_other.faults ≤ d.faults) (fault : StoreFault) (reading : IsOfReading fault) (end : ChainEnd) (end_is : end ≡ end_of_store fault) where
+module _ (t : Tells) (host : List ℕ) (most : ℕ) (old : Place) (c d : View) (c_is : IsDisk c) (d_is : IsDisk d) (c_more : old.first.faults ≤ c.faults) (d_more : old.first_other.faults ≤ d.faults) (fault : StoreFault) (reading : IsOfReading fault) (first_told : end_of_store fault ≢ ChainEnd.Disk → (c.faults ≡ old.first.faults) × (d.faults ≡ old.first_other.faults)) (end : ChainEnd) (end_is : end ≡ end_of_store fault) where
   -- the first pair wasn't opened
   module _ (second_is : IsDisk old.second) (other_is : IsDisk old.second_other) (opened : Opened t.disk old.first old.first_other c d (Err fault))
       (bad : (p : ℕ) → fault ≡ StoreFault.BadLog p → IsTrue t.disk → IsBadPairJournalAt p old.first.content old.first_other.content) (failed : fault ≡ StoreFault.Disk → PairFailed old.first old.first_other c d) where
@@ -79,6 +79,7 @@ module _ (t : Tells) (host : List ℕ) (most : ℕ) (old : Place) (c d : View) (
       first = λ told one image. first_unread t.disk old.first old.first_other c d fault one c_is d_is opened told reading;
       shows = λ told. first_shows fault old reading (λ p is. bad p is told);
       caused = first_caused;
+      told = first_told;
       counts = record { first = c_more; first_other = d_more; second = omega arith; second_other = omega arith; repos = omega arith; clock = omega arith; output = omega arith };
       complete = λ told one two none. completes _ _ _ _ (end_of_store fault) old first_caused (first_shows fault old reading (λ p is. bad p is told)) one two none;
     }
@@ -110,6 +111,7 @@ module _ (t : Tells) (host : List ℕ) (most : ℕ) (old : Place) (c d : View) (
       first = λ told one image. read_opened t.disk old.first old.first_other c d c d source (BothOpened (end_of_store fault)) one c_is d_is opened told image (still_here c) (still_here d);
       shows = second_shown;
       caused = second_caused;
+      told = first_told;
       counts = record { first = c_more; first_other = d_more; second = e_more; second_other = f_more; repos = omega arith; clock = omega arith; output = omega arith };
       complete = λ told one two none. completes _ _ _ _ (end_of_store fault) old second_caused (second_shown told) one two none;
     }

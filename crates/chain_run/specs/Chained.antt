@@ -21,7 +21,7 @@ use Rattle.serve_run.specs.Replayed.{OnlyRead}
 use Rattle.chain_law.specs.Chained.{CanFollow, FollowsAll}
 use Rattle.chain_law.specs.Given.{AreGiven}
 use Rattle.chain_run.specs.Ends.{BothOpened, MayEnd, end_of_feed, end_of_taking}
-use Rattle.chain_run.specs.Places.{ChainCaused, ChainEndShows, CountsKept, HoldsJournal, IsFlawless, Place, second_scene}
+use Rattle.chain_run.specs.Places.{ChainCaused, ChainEndShows, CountsKept, FirstTold, HoldsJournal, IsFlawless, Place, second_scene}
 use Rattle.chain_run.specs.declared.end.ChainEnd.{ChainEnd}
 use Rattle.chain_run.specs.declared.taking.TheConstants.{MOST_SERVED}
 
@@ -75,9 +75,10 @@ pub record ChainRan (t : Tells) (host : List ℕ) (most : ℕ) (old new : Place)
   pub first : IsTrue t.disk → (one : List Row)
       → IsPairImageOf one old.first.content old.first_other.content
       → OnlyRead one (BothOpened end) old.first old.first_other new.first new.first_other
-  -- the end tells what the disks were, and which count rose; and no count fell
+  -- the end tells what the disks were, and which count rose, that of the first disks always; and no count fell
   pub shows : IsTrue t.disk → ChainEndShows end old
   pub caused : ChainCaused old new end
+  pub told : FirstTold old new end
   pub counts : CountsKept old new
   -- it is done, unless a count rose, memory ran out, the log is full, or the numbers have ended
   pub complete : IsTrue t.disk → HoldsJournal old.first old.first_other

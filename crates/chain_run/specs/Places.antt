@@ -1,5 +1,5 @@
 -- What a relay behind a relay works on, at one moment (own).
-use Rattle.std.specs.Prelude.{◌≤◌, ◌⊎◌, ⊤, ℕ, List, [], Option}
+use Rattle.std.specs.Prelude.{◌≡◌, ◌≢◌, ◌≤◌, ◌⊎◌, ⊤, ℕ, List, [], Option}
 use Rattle.at_cid.specs.Counts.{Rose}
 use Rattle.at_authority.specs.Trusting.{trusting}
 use Rattle.relay_disk.specs.Disk.{View}
@@ -70,6 +70,11 @@ abbrev pub ChainCaused : Place → Place → ChainEnd → Type 0
 ChainCaused old new end =
     IsCausedBy (DiskFailed old new) (Rose old.failed.output new.failed.output)
     (Rose old.failed.repos new.failed.repos) (Rose old.failed.clock new.failed.clock) end
+
+-- a failure of the first disks is what the end tells
+abbrev pub FirstTold : Place → Place → ChainEnd → Type 0
+FirstTold old new end = end ≢ ChainEnd.Disk
+    → (new.first.faults ≡ old.first.faults) × (new.first_other.faults ≡ old.first_other.faults)
 
 -- no count rose
 abbrev pub IsFlawless : Place → Place → Type 0

@@ -1,6 +1,6 @@
 //! What one relay serves, taken by a relay behind it.
 
-ghost use Rattle.std.specs.Prelude.{◌≡◌, ◌≤◌, ◌⊎◌, ℕ, List, [], true, IfOk, IsTrue, Some, Err};
+ghost use Rattle.std.specs.Prelude.{◌≡◌, ◌≢◌, ◌≤◌, ◌⊎◌, ℕ, List, [], true, IfOk, IsTrue, Some, Err};
 ghost use Rattle.at_cid.specs.Counts.{Rose};
 ghost use Rattle.at_syntax.specs.Host.{is_host};
 ghost use Rattle.backfill.specs.Served.{served};
@@ -70,6 +70,8 @@ fn take_on<E: Events, D: Disk, P: Judges, R: Repos, C: Clock, O: Sink>(
     ensures first_disk { result ≡ Err TheFault.Disk
         → Rose (E.faults events.old) (E.faults events.new) }
     ensures first_counts { E.faults events.old ≤ E.faults events.new }
+    ensures first_steady { result ≢ Err TheFault.Disk
+        → E.faults events.new ≡ E.faults events.old }
     ensures no_bad_log { (at : ℕ) → result ≡ Err (TheFault.BadLog at) → IsTrue E.tells
         → (held : Held) → E.holds events.old held → ⊥ }
     ensures of_messages { IfOk result IsOfMessages }
@@ -151,6 +153,8 @@ fn chain_from<D: Disk, P: Judges, R: Repos, C: Clock, O: Sink>(
     ensures goes { Goes Same (D.view source_disk.old) (D.view source_disk.new) }
     ensures first_disk { result ≡ Err TheFault.Disk
         → Rose (D.view source_disk.old).faults (D.view source_disk.new).faults }
+    ensures first_steady { result ≢ Err TheFault.Disk
+        → (D.view source_disk.new).faults ≡ (D.view source_disk.old).faults }
     ensures no_bad_log { (at : ℕ) → result ≡ Err (TheFault.BadLog at) → IsTrue D.tells → ⊥ }
     ensures of_messages { IfOk result IsOfMessages }
     ensures caused { IfOk result (λ end. IsCausedBy
@@ -219,6 +223,9 @@ fn chain_sides<D: Disk, P: Judges, R: Repos, C: Clock, O: Sink>(
     ensures first_disk { result ≡ Err TheFault.Disk
         → PairFailed (D.view first.old) (D.view first_other.old)
         (D.view first.new) (D.view first_other.new) }
+    ensures first_steady { result ≢ Err TheFault.Disk
+        → ((D.view first.new).faults ≡ (D.view first.old).faults)
+        × ((D.view first_other.new).faults ≡ (D.view first_other.old).faults) }
     ensures no_bad_log { (at : ℕ) → result ≡ Err (TheFault.BadLog at) → IsTrue D.tells → ⊥ }
     ensures of_messages { IfOk result IsOfMessages }
     ensures caused { IfOk result (λ end. IsCausedBy

@@ -1,6 +1,6 @@
 //! Taking the messages that one store gives out into another.
 
-ghost use Rattle.std.specs.Prelude.{◌≡◌, ◌≤◌, ◌<◌, ◌^◌, true, [], List, ℕ, IfOk, IfSome, IsTrue, Some, Err};
+ghost use Rattle.std.specs.Prelude.{◌≡◌, ◌≢◌, ◌≤◌, ◌<◌, ◌^◌, true, [], List, ℕ, IfOk, IfSome, IsTrue, Some, Err};
 ghost use Rattle.at_cid.specs.Counts.{Rose};
 ghost use Rattle.at_syntax.specs.Host.{is_host};
 ghost use Rattle.event_window.specs.Held.{Held};
@@ -51,6 +51,7 @@ fn read_next<E: Events>(
     ensures later { E.later events.old events.new }
     ensures disk { result ≡ Err TheFault.Disk → Rose (E.faults events.old) (E.faults events.new) }
     ensures counts { E.faults events.old ≤ E.faults events.new }
+    ensures steady { result ≢ Err TheFault.Disk → E.faults events.new ≡ E.faults events.old }
     ensures no_bad_log { (at : ℕ) → result ≡ Err (TheFault.BadLog at) → IsTrue E.tells
         → (held : Held) → E.holds events.old held → ⊥ }
 {
@@ -113,6 +114,8 @@ fn take_left<E: Events, D: Disk, P: Judges, R: Repos, C: Clock, O: Sink>(
     ensures first_disk { result ≡ Err TheFault.Disk
         → Rose (E.faults events.old) (E.faults events.new) }
     ensures first_counts { E.faults events.old ≤ E.faults events.new }
+    ensures first_steady { result ≢ Err TheFault.Disk
+        → E.faults events.new ≡ E.faults events.old }
     ensures no_bad_log { (at : ℕ) → result ≡ Err (TheFault.BadLog at) → IsTrue E.tells
         → (held : Held) → E.holds events.old held → ⊥ }
     ensures side { (seen_in store.new).side ≡ (seen_in store.old).side }
@@ -180,6 +183,8 @@ pub(crate) fn take_given<E: Events, D: Disk, P: Judges, R: Repos, C: Clock, O: S
     ensures first_disk { result ≡ Err TheFault.Disk
         → Rose (E.faults events.old) (E.faults events.new) }
     ensures first_counts { E.faults events.old ≤ E.faults events.new }
+    ensures first_steady { result ≢ Err TheFault.Disk
+        → E.faults events.new ≡ E.faults events.old }
     ensures no_bad_log { (at : ℕ) → result ≡ Err (TheFault.BadLog at) → IsTrue E.tells
         → (held : Held) → E.holds events.old held → ⊥ }
     ensures side { (seen_in store.new).side ≡ (seen_in store.old).side }

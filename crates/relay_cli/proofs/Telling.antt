@@ -1,6 +1,7 @@
 -- Ends behind which a failure doesn't stand untold.
-use Rattle.std.proofs.Common.{◌≡◌, ℕ, Bool, List, refl, true, false, ap, sym, ◌∙◌}
+use Rattle.std.proofs.Common.{◌≡◌, ◌≢◌, ◌⊎◌, ⊎_elim, inl, inr, ℕ, Bool, List, refl, true, false, ap, sym, subst, ◌∙◌}
 use Rattle.relay_store.specs.declared.fault.StoreFault.{StoreFault}
+use Rattle.serve_run.specs.Ends.{IsCausedBy}
 use Rattle.serve_run.specs.declared.end.ServeEnd.{ServeEnd}
 use Rattle.take_run.specs.Causes.{EndsByTape, HidesNone}
 use Rattle.take_run.specs.declared.end.TakeEnd.{TakeEnd}
@@ -66,15 +67,24 @@ pub feed_quiet : (command : Command) (host : List ℕ) (count : ℕ) (status : S
 feed_quiet command host count status end same is hidden =
     feed_hides_none host count end (of_command may_hide_asked command (Command.Follow host count) status (status_of_feed end) same is hidden)
 
-replay_done : (cursor : ℕ) (end : ServeEnd) → may_hide_output (Command.Replay cursor) (status_of_serving end) ≡ false → end ≡ ServeEnd.Done
-replay_done cursor ServeEnd.Done h = refl
-replay_done cursor ServeEnd.WriteFault h = let no : ⊥ = cc in absurd no
-replay_done cursor ServeEnd.Next h = let no : ⊥ = cc in absurd no
-replay_done cursor ServeEnd.Disk h = let no : ⊥ = cc in absurd no
-replay_done cursor (ServeEnd.BadLog place) h = let no : ⊥ = cc in absurd no
-replay_done cursor ServeEnd.Memory h = let no : ⊥ = cc in absurd no
+-- no door and no wire is asked
+pub none_next : (disk write : Type 0) (end : ServeEnd) → IsCausedBy disk write ⊥ end → end ≡ ServeEnd.Next → ⊥
+none_next disk write end caused is = subst (IsCausedBy disk write ⊥) is caused
 
-pub replay_quiet : (command : Command) (cursor : ℕ) (status : Status) (end : ServeEnd) → command ≡ Command.Replay cursor → status ≡ status_of_serving end
-    → may_hide_output command status ≡ false → end ≡ ServeEnd.Done
-replay_quiet command cursor status end same is hidden =
-    replay_done cursor end (of_command may_hide_output command (Command.Replay cursor) status (status_of_serving end) same is hidden)
+replay_told : (cursor : ℕ) (end : ServeEnd) → may_hide_output (Command.Replay cursor) (status_of_serving end) ≡ false → status_of_serving end ≢ Status.WriteFault
+    → (end ≡ ServeEnd.Next → ⊥) → (end ≡ ServeEnd.Done) ⊎ (end ≡ ServeEnd.Memory)
+replay_told cursor ServeEnd.Done h not next = inl refl
+replay_told cursor ServeEnd.WriteFault h not next = absurd (not refl)
+replay_told cursor ServeEnd.Next h not next = absurd (next refl)
+replay_told cursor ServeEnd.Disk h not next = let no : ⊥ = cc in absurd no
+replay_told cursor (ServeEnd.BadLog place) h not next = let no : ⊥ = cc in absurd no
+replay_told cursor ServeEnd.Memory h not next = inr refl
+
+-- a replay that found its journal, or no memory, tells of an output that failed
+pub replay_quiet : (command : Command) (cursor : ℕ) (status : Status) (end : ServeEnd) (Q : Type 0) → command ≡ Command.Replay cursor → status ≡ status_of_serving end
+    → (end ≡ ServeEnd.Next → ⊥) → (end ≡ ServeEnd.Done → Q) → (end ≡ ServeEnd.Memory → Q)
+    → may_hide_output command status ≡ false → status ≢ Status.WriteFault → Q
+replay_quiet command cursor status end Q same is next done memory hidden not =
+    ⊎_elim done memory
+    (replay_told cursor end (of_command may_hide_output command (Command.Replay cursor) status (status_of_serving end) same is hidden)
+    (λ fault. not (is ∙ fault)) next)

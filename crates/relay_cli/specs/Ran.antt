@@ -27,8 +27,8 @@ may_hide_input command status = false
 
 -- Whether a failure of the output may stand untold: what was read before a fault of the journal is still written.
 abbrev pub may_hide_output : Command → Status → Bool
-may_hide_output (Command.Replay cursor) Status.Done = false
-may_hide_output (Command.Replay cursor) status = true
+may_hide_output (Command.Replay cursor) Status.Disk = true
+may_hide_output (Command.Replay cursor) (Status.BadLog at) = true
 may_hide_output command status = false
 
 -- A part that failed, and authorities that ended, are what the status speaks of.

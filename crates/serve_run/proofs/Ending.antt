@@ -110,6 +110,12 @@ broken fault = Err fault
 pub replay_disk : (fault : ReplayFault) → broken fault ≡ broken ReplayFault.Disk → end_of_replay fault ≡ ServeEnd.Disk
 replay_disk fault is = let same : fault ≡ ReplayFault.Disk = cc in ap end_of_replay same
 
+pub replay_memory : (fault : ReplayFault) → end_of_replay fault ≡ ServeEnd.Memory → broken fault ≡ broken ReplayFault.Memory
+replay_memory ReplayFault.Output is = absurd cc
+replay_memory ReplayFault.Disk is = absurd cc
+replay_memory ReplayFault.Memory is = refl
+replay_memory (ReplayFault.BadLog p) is = absurd cc
+
 -- a fault isn't the end of all
 pub replay_undone : (fault : ReplayFault) → end_of_replay fault ≡ ServeEnd.Done → ⊥
 replay_undone ReplayFault.Output is = cc

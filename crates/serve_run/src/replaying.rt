@@ -48,6 +48,7 @@ fn replay_events<E: Events, O: Sink>(
     ensures counts { O.faults out.old ≤ O.faults out.new }
     ensures event_steady { result ≢ ServeEnd.Disk → E.faults events.new ≡ E.faults events.old }
     ensures out_steady { result ≡ ServeEnd.Done → O.faults out.new ≡ O.faults out.old }
+    ensures memory_steady { result ≡ ServeEnd.Memory → O.faults out.new ≡ O.faults out.old }
 {
     match backfill::replay(alloc, events, cursor, out) {
         Ok(_) => ServeEnd::Done,
@@ -83,6 +84,7 @@ fn replay_from<D: Disk, O: Sink>(
     ensures disk_steady { result ≢ ServeEnd.Disk
         → (D.view disk.new).faults ≡ (D.view disk.old).faults }
     ensures out_steady { result ≡ ServeEnd.Done → O.faults out.new ≡ O.faults out.old }
+    ensures memory_steady { result ≡ ServeEnd.Memory → O.faults out.new ≡ O.faults out.old }
 {
     let mut events = store.events(alloc, disk);
     replay_events(alloc, &mut events, cursor, out)
@@ -123,6 +125,7 @@ fn replay_on<D: Disk, O: Sink>(
         → ((D.view disk.new).faults ≡ (D.view disk.old).faults)
         × ((D.view other.new).faults ≡ (D.view other.old).faults) }
     ensures out_steady { result ≡ ServeEnd.Done → O.faults out.new ≡ O.faults out.old }
+    ensures memory_steady { result ≡ ServeEnd.Memory → O.faults out.new ≡ O.faults out.old }
 {
     match store.side() {
         Side::One => replay_from(alloc, store, disk, cursor, out),
@@ -169,6 +172,7 @@ pub fn replay<D: Disk, O: Sink>(
         × ((D.view other.new).faults ≡ (D.view other.old).faults) }
     // Behind a fault of reading, the output may fail too.
     ensures out_steady { result ≡ ServeEnd.Done → O.faults out.new ≡ O.faults out.old }
+    ensures memory_steady { result ≡ ServeEnd.Memory → O.faults out.new ≡ O.faults out.old }
 {
     match Store::open(alloc, disk, other, most) {
         Ok(store) => replay_on(alloc, &store, disk, other, cursor, out),

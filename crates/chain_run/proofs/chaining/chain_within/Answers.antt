@@ -1,4 +1,4 @@
-use Rattle.std.proofs.Common.{Err, true, arith, ap, refl}
+use Rattle.std.proofs.Common.{◌≡◌, ◌∙◌, Err, true, arith, ap, refl}
 use Rattle.std.specs.Prelude.{Some}
 use Rattle.at_authority.specs.Trusting.{trusting}
 use Rattle.backfill.specs.Served.{served}
@@ -8,8 +8,10 @@ use Rattle.take_run.specs.Tells.{tells}
 use Rattle.relay_store.proofs.Beside.{opened_keeps}
 use Rattle.take_run.proofs.WholeIngested.{opened_of}
 use Rattle.take_run.proofs.WholeFollowed.{followed_on}
-use Rattle.chain_run.specs.Ends.{taking_end}
+use Rattle.relay_store.specs.declared.fault.StoreFault.{StoreFault}
+use Rattle.chain_run.specs.Ends.{end_of_store, end_of_taken, taking_end}
 use Rattle.chain_run.specs.declared.taking.TheConstants.{MOST_SERVED}
+use Rattle.chain_run.proofs.Faults.{ok_no_fault}
 use Rattle.chain_run.proofs.Openings.{first_fails, second_fails}
 use Rattle.chain_run.proofs.Ran.{ran}
 use Rattle.chain_run.proofs.chaining.chain_within.Goals as goal
@@ -18,7 +20,7 @@ pub returns-in-Err : goal.returns-in-Err
 returns-in-Err g c = record {
   ran =
       first_fails _ c.args.host.now c.args.most _ (g.D.Disk.view c.open.new.disk) (g.D.Disk.view c.open.new.other) (g.met.D.Disk.is_disk c.open.new.disk) (g.met.D.Disk.is_disk c.open.new.other)
-      c.in-Err.ensures.counts.0 c.in-Err.ensures.counts.1 c.in-Err.fault (c.in-Err.ensures.few c.in-Err.fault refl) c.of_store.result c.of_store.ensures
+      c.in-Err.ensures.counts.0 c.in-Err.ensures.counts.1 c.in-Err.fault (c.in-Err.ensures.few c.in-Err.fault refl) (λ not. c.in-Err.ensures.steady (λ is. let same : c.in-Err.fault ≡ StoreFault.Disk = cc in not (ap end_of_store same))) c.of_store.result c.of_store.ensures
       (g.met.D.Disk.is_disk c.args.second.now) (g.met.D.Disk.is_disk c.args.second_other.now) c.in-Err.ensures.opened (λ p is told. c.in-Err.ensures.bad_log p (ap Err is) told) (λ is. c.in-Err.ensures.disk (ap Err is));
 }
 
@@ -26,7 +28,7 @@ pub returns-in-Err-open : goal.returns-in-Err-open
 returns-in-Err-open g c = record {
   ran =
       second_fails _ c.args.host.now c.args.most _ (g.D.Disk.view c.open.new.disk) (g.D.Disk.view c.open.new.other) (g.met.D.Disk.is_disk c.open.new.disk) (g.met.D.Disk.is_disk c.open.new.other)
-      c.in-Ok.ensures.counts.0 c.in-Ok.ensures.counts.1 c.in-Err-open.fault (c.in-Err-open.ensures.few c.in-Err-open.fault refl) c.of_store-in-Err-open.result c.of_store-in-Err-open.ensures
+      c.in-Ok.ensures.counts.0 c.in-Ok.ensures.counts.1 c.in-Err-open.fault (c.in-Err-open.ensures.few c.in-Err-open.fault refl) (λ not. c.in-Ok.ensures.steady (ok_no_fault c.in-Ok.source StoreFault.Disk)) c.of_store-in-Err-open.result c.of_store-in-Err-open.ensures
       c.in-Ok.source (g.D.Disk.view c.open-2.new.disk) (g.D.Disk.view c.open-2.new.other) (g.met.D.Disk.is_disk c.open-2.new.disk) (g.met.D.Disk.is_disk c.open-2.new.other)
       c.in-Err-open.ensures.counts.0 c.in-Err-open.ensures.counts.1 c.in-Ok.ensures.opened c.in-Err-open.ensures.opened (λ p is told. c.in-Err-open.ensures.bad_log p (ap Err is) told) (λ is. c.in-Err-open.ensures.disk (ap Err is));
 }
@@ -66,5 +68,9 @@ returns g c =
             clock = c.chain_sides-taken.ensures.clock_counts;
             output = c.chain_sides-taken.ensures.out_counts;
           })
+          (λ not.
+          let opened = c.in-Ok.ensures.steady (ok_no_fault c.in-Ok.source StoreFault.Disk) in
+          let sides = c.chain_sides-taken.ensures.first_steady (λ is. not (ap end_of_taken is)) in
+          (sides.0 ∙ opened.0, sides.1 ∙ opened.1))
           c.of_taken.result c.of_taken.ensures;
     }

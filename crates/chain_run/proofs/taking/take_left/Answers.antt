@@ -1,6 +1,7 @@
-use Rattle.std.proofs.Common.{◌≡◌, ◌&&◌, ℕ, List, true, Err, refl, arith, inl, inr, subst, sym, ◌∙◌}
+use Rattle.std.proofs.Common.{◌≡◌, ◌&&◌, ℕ, List, true, Err, refl, arith, inl, inr, ap, subst, sym, ◌∙◌}
 use Rattle.at_syntax.specs.Host.{is_host}
 use Rattle.backfill.specs.StreamPlaces.{left_of}
+use Rattle.event_window.specs.declared.fault.EventsFault.{EventsFault}
 use Rattle.take_run.proofs.FeedSteps.{follow_fails, follow_finishes, follow_stops, follows_on, left_same, starts_following}
 use Rattle.chain_run.specs.Ends.{taking_end}
 use Rattle.chain_run.proofs.Endings.{finished_of_messages, stop_of_messages}
@@ -14,6 +15,7 @@ messages-init g c = record {
   known = c.requires.known;
   later = g.met.E.Events.later_here _;
   first_counts = omega arith;
+  first_steady = refl;
   is_open = c.requires.open;
   on = c.requires.on;
   side = refl;
@@ -67,6 +69,7 @@ messages-preserved g c =
       known = c.read_next.ensures.known;
       later = g.met.E.Events.later_again _ _ _ c.messages.invariant.later c.read_next.ensures.later;
       first_counts = omega (arith, c.messages.invariant.first_counts, c.read_next.ensures.counts);
+      first_steady = c.read_next.ensures.steady (λ is. absurd cc) ∙ c.messages.invariant.first_steady;
       is_open = c.in-Ok.ensures.open;
       on = c.in-Ok.ensures.on;
       side = c.in-Ok.ensures.side ∙ c.messages.invariant.side;
@@ -87,3 +90,16 @@ returns-in-Err-take_group-clause-of_messages g c = stop_of_messages c.in-Err-tak
 
 pub returns-clause-of_messages : goal.returns-clause-of_messages
 returns-clause-of_messages g c = finished_of_messages c.finish-2.result _ _ _ _ c.finish-2.ensures.ends
+
+pub returns-in-Ok-None-clause-first_steady : goal.returns-in-Ok-None-clause-first_steady
+returns-in-Ok-None-clause-first_steady g c = λ not. c.read_next.ensures.steady (λ is. absurd cc) ∙ c.messages.invariant.first_steady
+
+pub returns-in-Err-clause-first_steady : goal.returns-in-Err-clause-first_steady
+returns-in-Err-clause-first_steady g c = λ not.
+    c.read_next.ensures.steady (λ is. let same : c.in-Err.fault ≡ EventsFault.Disk = cc in not (ap Err same)) ∙ c.messages.invariant.first_steady
+
+pub returns-in-Err-take_group-clause-first_steady : goal.returns-in-Err-take_group-clause-first_steady
+returns-in-Err-take_group-clause-first_steady g c = λ not. c.read_next.ensures.steady (λ is. absurd cc) ∙ c.messages.invariant.first_steady
+
+pub returns-clause-first_steady : goal.returns-clause-first_steady
+returns-clause-first_steady g c = λ not. c.messages.invariant.first_steady

@@ -25,6 +25,7 @@ invariant-messages g l =
       known : IsTrue g.E.Events.tells → (held : Held) × g.E.Events.holds l.events held;
       later : g.E.Events.later l.fn.events l.events;
       first_counts : g.E.Events.faults l.fn.events ≤ g.E.Events.faults l.events;
+      first_steady : g.E.Events.faults l.events ≡ g.E.Events.faults l.fn.events;
       is_open : IsTrue (seen_in l.store).log.is_open;
       on : IsTrue g.D.Disk.tells → IsKept (seen_in l.store) (view l.disk);
       side : (seen_in l.store).side ≡ (seen_in l.fn.store).side;

@@ -4,7 +4,7 @@ use Rattle.relay_step.specs.Around.{around}
 use Rattle.serve_run.specs.AtDoor.{at_door}
 use Rattle.relay_cli.proofs.Damaged.{check_good, feed_bad, mirror_good, of_disks, query_bad, run_bad, serving_bad, tape_bad, trial_good}
 use Rattle.relay_cli.proofs.Words.{followed_of, lines_run_as, operated_of, run_as, shown_of, spent_by, synced_of}
-use Rattle.relay_cli.proofs.Telling.{ends_by_tape, feed_quiet, of_command, replay_quiet, tape_hides_none}
+use Rattle.relay_cli.proofs.Telling.{ends_by_tape, feed_quiet, none_next, of_command, replay_quiet, tape_hides_none}
 use Rattle.relay_cli.specs.Ran.{may_hide_asked, may_hide_input}
 use Rattle.relay_cli.specs.Statuses.{status_of_feed, status_of_mirror, status_of_query, status_of_run, status_of_serving, status_of_tape, status_of_trial}
 use Rattle.relay_cli.specs.declared.command.Command.{Command}
@@ -320,7 +320,7 @@ returns-in-Replay-clause-ran g c = record {
     repos = λ hidden not. refl;
     unspent = λ hidden not name s. s;
     input = λ hidden not. refl;
-    output = λ hidden not. c.replay.ensures.out_steady (replay_quiet _ _ _ c.replay.result c.in-Replay.is c.from-in-Replay.ensures hidden);
+    output = replay_quiet _ _ _ c.replay.result _ c.in-Replay.is c.from-in-Replay.ensures (none_next _ _ c.replay.result c.replay.ensures.caused) c.replay.ensures.out_steady c.replay.ensures.memory_steady;
   };
   damaged = λ at is told.
       let bad = c.replay.ensures.unopened at (serving_bad c.replay.result at (sym c.from-in-Replay.ensures ∙ is)) told in

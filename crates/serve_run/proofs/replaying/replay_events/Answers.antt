@@ -2,7 +2,7 @@ use Rattle.std.proofs.Common.{◌∙◌, Err, sym, ap}
 use Rattle.std.specs.Prelude.{Some}
 use Rattle.backfill.specs.Served.{served}
 use Rattle.backfill.specs.Writing.{with_length}
-use Rattle.serve_run.proofs.Ending.{fault_unbroken, fault_written, replay_bad, replay_disk, replay_undone}
+use Rattle.serve_run.proofs.Ending.{fault_unbroken, fault_written, replay_bad, replay_disk, replay_memory, replay_undone}
 use Rattle.serve_run.proofs.replaying.replay_events.Goals as goal
 
 pub returns-in-Ok-clause-written : goal.returns-in-Ok-clause-written
@@ -25,3 +25,6 @@ returns-in-Err-clause-event_steady g c = λ no. c.in-Err.ensures.event_steady (�
 
 pub returns-in-Err-clause-out_steady : goal.returns-in-Err-clause-out_steady
 returns-in-Err-clause-out_steady g c = λ is. absurd (replay_undone c.in-Err.fault (sym c.of_replay.ensures ∙ is))
+
+pub returns-in-Err-clause-memory_steady : goal.returns-in-Err-clause-memory_steady
+returns-in-Err-clause-memory_steady g c = λ is. c.in-Err.ensures.memory_steady (replay_memory c.in-Err.fault (sym c.of_replay.ensures ∙ is))
