@@ -1,5 +1,5 @@
 -- A message that is written is read as it was meant.
-use Rattle.std.proofs.Common.{◌≡◌, ℕ, ◌<◌, ◌^◌, List, ◌++◌, Some, Ok, codes, refl, ap, ◌∙◌, subst, lit<}
+use Rattle.std.proofs.Common.{◌≡◌, ℕ, ◌<◌, ◌^◌, List, ◌++◌, Option, None, Some, Ok, codes, refl, ap, ◌∙◌, subst, lit<}
 use Rattle.at_cid.specs.Link.{IsBytes}
 use Rattle.at_cbor.specs.Item.{Item}
 use Rattle.at_cbor.specs.Kinds.{map_in}
@@ -12,7 +12,7 @@ use Rattle.at_event.specs.declared.frame.Frame.{Frame}
 use Rattle.at_event.specs.declared.kind.EventKind.{EventKind}
 use Rattle.at_event.specs.declared.kind.Heading.{Heading}
 use Rattle.at_event.specs.Events.{IsEvent}
-use Rattle.at_event.specs.Frames.{items_in, IsMessage, heading_named, heading_of, frame_of, announced, event_frame}
+use Rattle.at_event.specs.Frames.{items_in, IsMessage, heading_named, heading_of, headed, framed, frame_of, payload_frame, announced, event_frame}
 use Rattle.at_event.specs.Seen.{Seen}
 use Rattle.at_event.specs.Table.{seq_of, event_kind_of}
 use Rattle.at_event.specs.Writing.{kind_name, header_of, event_message, numbered, out_of}
@@ -37,6 +37,18 @@ heading_read EventKind.Commit = refl
 heading_read EventKind.Sync = refl
 heading_read EventKind.Identity = refl
 heading_read EventKind.Account = refl
+
+-- what stands behind the header of an event is whole or not
+framed_behind : (kind : EventKind) (whole : Option Item) → framed (whole >>= λ payload. Some (header_of kind, payload)) ≡ payload_frame kind whole
+framed_behind kind None = refl
+framed_behind kind (Some payload) = ap (λ (heading : Option Heading). headed heading (map_in payload) payload) (heading_read kind)
+
+pub headed_message : (kind : EventKind) (message rest : List ℕ) → message ≡ encoding (header_of kind) ++ rest → frame_of message ≡ payload_frame kind (whole_item rest)
+unfolding frame_of items_in
+headed_message kind message rest is =
+    ap (λ (found : Option (Item × List ℕ)). framed (found >>= λ header. whole_item header.1 >>= λ payload. Some (header.0, payload)))
+    (ap item_from_front is ∙ item_taken_again (header_of kind) rest (header_fits kind))
+    ∙ framed_behind kind (whole_item rest)
 
 -- ---- the two items
 

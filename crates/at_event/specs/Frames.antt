@@ -75,6 +75,11 @@ abbrev pub framed : Option (Item × Item) → Result Frame FrameFault
 framed None = Err FrameFault.BadFrame
 framed (Some items) = headed (heading_of items.0) (map_in items.1) items.1
 
+-- the frame of a message with the header of an event, where this is the whole of what stands behind it
+abbrev pub payload_frame : EventKind → Option Item → Result Frame FrameFault
+payload_frame kind None = Err FrameFault.BadFrame
+payload_frame kind (Some payload) = headed (Some (Heading.Event kind)) (map_in payload) payload
+
 -- the frame that a message is, or why it is none
 unfoldable pub frame_of : List ℕ → Result Frame FrameFault
 frame_of message = framed (items_in message)

@@ -7,6 +7,7 @@ mod flaw;
 mod forms;
 mod frame;
 mod head;
+mod header;
 mod kind;
 mod laws;
 mod map_fields;

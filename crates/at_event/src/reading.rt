@@ -4,16 +4,18 @@ ghost use Rattle.std.specs.Prelude.{◌≡◌, option_map, IfOk, IfSome, Some};
 ghost use Rattle.at_cbor.specs.Item.{Item};
 ghost use Rattle.at_cbor.specs.declared.decoding.TheConstants.{DEPTH};
 ghost use Rattle.at_cbor.specs.Encoding.{Fits};
+ghost use Rattle.at_cbor.specs.Taking.{whole_item};
 ghost use Rattle.at_cbor.specs.View.{item_of};
 ghost use Rattle.at_event.specs.Flaws.{Reads};
 ghost use Rattle.at_event.specs.Formed.{IsFormedFrame};
-ghost use Rattle.at_event.specs.Frames.{items_in, heading_named, heading_of, event_frame, announced, framed, frame_of, IsMessage, IsFrameOf, ReadsAs};
+ghost use Rattle.at_event.specs.Frames.{items_in, heading_named, heading_of, event_frame, announced, framed, frame_of, payload_frame, IsMessage, IsFrameOf, ReadsAs};
 ghost use Rattle.at_event.specs.Table.{event_of, seq_of};
 
 use crate::event::Event;
 use crate::flaw::Flaw;
 use crate::forms::{required_did, required_short_text};
 use crate::frame::{Frame, FrameFault};
+use crate::header::take_header;
 use crate::kind::{EventKind, Heading};
 use crate::table::{did_key, read_body};
 use at_cbor::{Value, decode_whole, field, take_item};
@@ -114,10 +116,27 @@ fn read_announced(alloc: Global, heading: Heading, payload: Value) -> Result<Fra
     }
 }
 
+/// The frame of a message with the header of an event, and these bytes behind it.
+#[tactic(auto, unfolding(crate::specs::Frames::announced))]
+fn read_payload(alloc: Global, kind: EventKind, bytes: &[u8]) -> Result<Frame, FrameFault>
+    ensures { ReadsAs result (payload_frame kind (whole_item bytes.now)) }
+{
+    let Some(payload) = decode_whole(alloc, bytes)? else {
+        return Err(FrameFault::BadFrame);
+    };
+    if payload.as_map().is_none() {
+        return Err(FrameFault::BadFrame);
+    }
+    read_numbered(alloc, kind, payload)
+}
+
 #[tactic(auto, unfolding(crate::specs::Frames::frame_of))]
 fn read_message(alloc: Global, message: &[u8]) -> Result<Frame, FrameFault>
     ensures { ReadsAs result (frame_of message.now) }
 {
+    if let Some((kind, payload)) = take_header(message) {
+        return read_payload(alloc, kind, payload);
+    }
     let Some((header, payload)) = read_items(alloc, message)? else {
         return Err(FrameFault::BadFrame);
     };

@@ -10,6 +10,7 @@ ghost use Rattle.at_event.specs.Frames.{frame_of};
 ghost use Rattle.at_event.specs.Writing.{kind_name, header_of, number_item, with_field_value, with_seq, blocks_of, fields_with_blocks, with_blocks, numbered, out_of, out_length};
 
 use crate::event::{Body, Event};
+use crate::header::header;
 use crate::kind::EventKind;
 use at_cbor::{
     Value, encoded_len, front_len, string_len, write_bytes, write_int, write_map_front, write_text,
@@ -34,11 +35,7 @@ pub fn write_header(out: &mut Octets, kind: EventKind) -> Result<(), Memory>
     ensures written { OnOk result (out.new ≡ out.old ++ encoding (header_of kind)) }
     ensures err { OnErr result (take (length out.old) out.new ≡ out.old) }
 {
-    write_map_front(out, 2)?;
-    write_text(out, "t")?;
-    write_text(out, name(kind))?;
-    write_text(out, "op")?;
-    write_int(out, 1)
+    out.extend(header(kind))
 }
 
 /// Adds an event's number.

@@ -1,5 +1,5 @@
 -- The grammar of DIDs and its test say the same.
-use Rattle.std.proofs.Common.{◌≡◌, ℕ, ◌+◌, ◌-◌, ◌<◌, ◌≤◌, Bool, true, false, ◌&&◌, eqb, List, [], ◌∷◌, ◌++◌, length, take, get_or, refl, sym, ap, ◌∙◌, arith}
+use Rattle.std.proofs.Common.{◌≡◌, ◌≢◌, ℕ, ◌+◌, ◌-◌, ◌<◌, ◌≤◌, Bool, true, false, ◌&&◌, eqb, List, [], ◌∷◌, ◌++◌, length, take, get_or, refl, sym, ap, ◌∙◌, arith}
 use Rattle.std.specs.Prelude.{IsTrue, ◌↔◌, nat_lt, nat_le, codes}
 use Rattle.std.specs.List.{list_all, position_or_len, before_first, after_first}
 use Rattle.std.specs.Str.{bytes_eq}
@@ -131,4 +131,31 @@ did_tested text named = from_parts text (record {
 pub did_grammar : (text : List ℕ) (test : Bool) → test ≡ is_did text → IsTrue test ↔ IsDid text
 did_grammar text test e = (λ h. did_parts text (sym e ∙ h), λ named. e ∙ did_tested text named)
 
-pub ruleset too_few_colons = (no_colon, one_colon)
+not_true : (b : Bool) → (b ≡ true → ⊥) → b ≡ false
+not_true false never = refl
+not_true true never = absurd (never refl)
+
+-- a text that doesn't begin with `did:` is none
+pub no_scheme : (text : List ℕ) → ((rest : List ℕ) → text ≢ codes "did:" ++ rest) → is_did text ≡ false
+no_scheme text none = not_true (is_did text) (λ is. let named = did_parts text is in none (named.method ++ 58 ∷ (named.front ++ named.final ∷ [])) named.encoded)
+
+-- what it comes to behind `did:`
+pub behind_scheme : (text rest : List ℕ) → text ≡ codes "did:" ++ rest
+    → is_did text ≡ (nat_le (length text) 2048 && (is_method (before_first is_colon rest) && is_identifier (after_first is_colon rest)))
+unfolding is_did
+behind_scheme text rest is = rw is refl
+
+-- a rest without a colon is no method and identifier
+pub no_method : (text rest : List ℕ) → text ≡ codes "did:" ++ rest → position_or_len (λ c. eqb c 58) rest ≡ length rest → is_did text ≡ false
+no_method text rest is none =
+    behind_scheme text rest is
+    ∙ and_right (nat_le (length text) 2048) (is_method (before_first is_colon rest) && is_identifier (after_first is_colon rest))
+    (no_identifier (is_method (before_first is_colon rest)) (after_first is_colon rest) (after_none 58 rest none))
+
+-- by its parts
+pub did_by : (text rest method identifier : List ℕ) (fits is_the_method is_the_identifier : Bool) → text ≡ codes "did:" ++ rest
+    → method ≡ before_first is_colon rest → identifier ≡ after_first is_colon rest
+    → fits ≡ nat_le (length text) 2048 → is_the_method ≡ is_method method → is_the_identifier ≡ is_identifier identifier
+    → is_did text ≡ (fits && (is_the_method && is_the_identifier))
+did_by text rest method identifier fits is_the_method is_the_identifier is front behind short first then =
+    behind_scheme text rest is ∙ sym (rw (short, first, then, front, behind) refl)

@@ -1,9 +1,9 @@
 //! DIDs.
 
-ghost use Rattle.std.specs.Prelude.{◌≡◌, ◌↔◌, IsTrue, MatchOption, length};
+ghost use Rattle.std.specs.Prelude.{◌≡◌, ◌≢◌, ◌↔◌, ◌++◌, ℕ, List, IsTrue, MatchOption, codes, length};
 ghost use Rattle.std.specs.List.{list_all, position_or_len, before_first, after_first};
 ghost use Rattle.at_syntax.specs.Characters.{is_lower};
-ghost use Rattle.at_syntax.specs.Did.{IsDid, is_did, is_method, is_identifier, is_final_character, is_identifier_character, is_colon, is_did_scheme, method_of};
+ghost use Rattle.at_syntax.specs.Did.{IsDid, is_did, is_method, is_identifier, is_final_character, is_identifier_character, is_colon, method_of};
 
 use crate::characters::{is_alphanumeric, is_lower};
 
@@ -34,16 +34,16 @@ fn are_identifier_characters(bytes: &[u8]) -> bool
     bytes.iter().all(|byte| is_identifier_character(*byte))
 }
 
-fn is_method(text: &str) -> bool
-    ensures { result ≡ is_method text.now }
+fn is_method(bytes: &[u8]) -> bool
+    ensures { result ≡ is_method bytes.now }
 {
-    !text.is_empty() && are_lower(text.as_bytes())
+    !bytes.is_empty() && are_lower(bytes)
 }
 
-fn is_identifier(text: &str) -> bool
-    ensures { result ≡ is_identifier text.now }
+fn is_identifier(bytes: &[u8]) -> bool
+    ensures { result ≡ is_identifier bytes.now }
 {
-    let Some((last, front)) = text.as_bytes().split_last() else {
+    let Some((last, front)) = bytes.split_last() else {
         return false;
     };
     are_identifier_characters(front) && is_final_character(*last)
@@ -58,26 +58,39 @@ fn around_colon(text: &str) -> Option<(&str, &str)>
     text.split_once(':')
 }
 
-/// Whether the scheme is `did`, and what stands behind its colon a method, a colon and an
-/// identifier.
-#[tactic(auto, using(crate::proofs::Dids::too_few_colons))]
-fn is_named(scheme: &str, rest: &str) -> bool
-    ensures { result ≡ is_did_scheme scheme.now rest.now }
+/// The bytes behind `did:`.
+fn behind_scheme(bytes: &[u8]) -> Option<&[u8]>
+    ensures { MatchOption result ((rest : List ℕ) → bytes.now ≢ codes "did:" ++ rest) (λ rest. bytes.now ≡ codes "did:" ++ rest.now) }
 {
-    let Some((method, identifier)) = around_colon(rest) else {
-        return false;
-    };
-    scheme == "did" && is_method(method) && is_identifier(identifier)
+    bytes.strip_prefix(b"did:")
 }
 
-#[tactic(auto, unfolding(crate::specs::Did::is_did), using(crate::proofs::Dids::too_few_colons))]
+/// The bytes before the first colon, which are a method, and those behind it, an identifier.
+fn parts_of(bytes: &[u8]) -> Option<(&[u8], &[u8])>
+    ensures { MatchOption result
+        (position_or_len is_colon bytes.now ≡ length bytes.now)
+        (λ parts. (parts.0.now ≡ before_first is_colon bytes.now) × (parts.1.now ≡ after_first is_colon bytes.now)) }
+{
+    match bytes.iter().position(|&byte| byte == b':') {
+        Some(place) => Some((&bytes[..place], &bytes[place + 1..])),
+        None => None,
+    }
+}
+
+#[tactic(auto, unfolding(crate::specs::Did::is_did))]
 fn is_did(text: &str) -> bool
     ensures { result ≡ is_did text.now }
 {
-    let Some((scheme, rest)) = around_colon(text) else {
+    if text.len() > LONGEST_DID {
+        return false;
+    }
+    let Some(rest) = behind_scheme(text.as_bytes()) else {
         return false;
     };
-    text.len() <= LONGEST_DID && is_named(scheme, rest)
+    let Some((method, identifier)) = parts_of(rest) else {
+        return false;
+    };
+    is_method(method) && is_identifier(identifier)
 }
 
 /// Whether the text is a DID: `did:`, one or more of `a-z`, `:`, then one or more of
