@@ -118,16 +118,16 @@ fn take_event(
         moment,
     };
     if goes_out(decision) {
-        Ok(NewRow::of_event(taken, event))
+        NewRow::of_event(alloc, taken, event)
     } else {
-        Ok(NewRow::new(taken))
+        NewRow::new(alloc, taken)
     }
 }
 
 fn take_faulty(alloc: Global, host: &str, seq: u64, moment: Option<u64>) -> Result<NewRow, Memory>
     ensures { IfOk result (λ taken. taken ≡ faulty_taken host.now seq moment) }
 {
-    Ok(NewRow::new(Taken {
+    let taken = Taken {
         host: Words::from_str(alloc, host)?,
         host_seq: seq,
         did: Words::new(alloc),
@@ -138,7 +138,8 @@ fn take_faulty(alloc: Global, host: &str, seq: u64, moment: Option<u64>) -> Resu
         effect: Effect::Nothing,
         fetched: Fetched::NotAsked,
         moment,
-    }))
+    };
+    NewRow::new(alloc, taken)
 }
 
 impl Core {

@@ -1,5 +1,5 @@
 -- The front of bytes, made from that of a number.
-use Rattle.std.proofs.Common.{◌≡◌, ℕ, ◌+◌, ◌≤◌, ◌^◌, inl, inr, Bool, true, false, cond, ltb, List, [], ◌∷◌, ◌++◌, length, slice_index_or, Fits, w8, refl, ◌∙◌, arith}
+use Rattle.std.proofs.Common.{◌≡◌, ℕ, suc, ◌+◌, ◌≤◌, ◌^◌, inl, inr, Bool, true, false, cond, ltb, List, [], ◌∷◌, ◌++◌, length, take, drop, slice_index_or, Fits, w8, refl, sym, ap, ◌∙◌, arith, append_assoc}
 use Rattle.std.proofs.lemmas.Bool.{cases_lt, le-ltb, lt-ltb}
 use Rattle.at_cbor.specs.declared.major.Major.{Major}
 use Rattle.at_cbor.specs.Encoding.{front_of, info_of, tail_of}
@@ -27,3 +27,21 @@ first_there old body n place here is =
 
 pub front_fits : (n : ℕ) → Fits w8 (64 + info_of n)
 front_fits n = omega (arith, info_most n)
+
+-- the front of so few bytes that one byte tells their number
+short_front : (n : ℕ) → 24 ≤ n → n ≤ 255 → front_of Major.Bytes n ≡ 0x58 ∷ n ∷ []
+unfolding info_of tail_of
+short_front n some few = rw (le-ltb n 24 some, lt-ltb n (2 ^ 8) (omega (arith, few))) refl
+
+-- one byte of two set between what stands before them and behind them
+byte_set : (old behind : List ℕ) (a b c : ℕ) → take (suc (length old)) ((old ++ a ∷ b ∷ []) ++ behind) ++ ((c ∷ []) ++ drop (suc (suc (length old))) ((old ++ a ∷ b ∷ []) ++ behind)) ≡ old ++ a ∷ c ∷ behind
+byte_set [] behind a b c = refl
+byte_set (x ∷ old) behind a b c = ap (λ (l : List ℕ). x ∷ l) (byte_set old behind a b c)
+
+-- bytes whose number was put into their front once they stood behind it
+pub short_written : (old bytes there : List ℕ) (place behind n : ℕ) → place ≡ suc (length old) → behind ≡ suc (suc (length old)) → there ≡ (old ++ 0x58 ∷ 0 ∷ []) ++ bytes → n ≡ length bytes → 24 ≤ n → n ≤ 255
+    → take place there ++ (n ∷ []) ++ drop behind there ≡ old ++ (front_of Major.Bytes (length bytes) ++ bytes)
+short_written old bytes there place behind n at past is all some few =
+    append_assoc (take place there) (n ∷ []) (drop behind there)
+    ∙ rw (at, past, is) (byte_set old bytes 0x58 0 n)
+    ∙ ap (λ (l : List ℕ). old ++ (l ++ bytes)) (sym (short_front n some few) ∙ ap (front_of Major.Bytes) all)

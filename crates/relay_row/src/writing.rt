@@ -22,7 +22,7 @@ use at_cbor::{
     write_bool, write_bytes, write_link, write_list_front, write_null, write_number, write_text,
 };
 use at_cid::{Memory, Octets, Words};
-use at_event::{Event, Head, Refusal, frame_len, write_frame};
+use at_event::{Event, EventKind, Head, Refusal, frame_len, write_frame};
 use at_syntax::{TID_LEN, Tid};
 use std::alloc::Global;
 
@@ -209,8 +209,8 @@ fn write_bytes_front(out: &mut Octets, len: u64) -> Result<(), Memory>
     Ok(())
 }
 
-// The message of an event under a number.
-fn write_event(out: &mut Octets, event: &Event, seq: u64) -> Result<(), Memory>
+// The message of an event under a number, whose length is found first.
+fn write_measured_event(out: &mut Octets, event: &Event, seq: u64) -> Result<(), Memory>
     requires { seq < NUMBERS }
     ensures written { OnOk result (out.new ≡ out.old ++ encoding (Item.bytes (out_of event.now seq))) }
     ensures err { OnErr result (take (length out.old) out.new ≡ out.old) }
@@ -221,6 +221,37 @@ fn write_event(out: &mut Octets, event: &Event, seq: u64) -> Result<(), Memory>
     }
     write_bytes_front(out, len)?;
     write_frame(out, event, seq)
+}
+
+// The message of an event under a number, whose length is most likely one for which its front has a single byte: it is put there
+// once the message stands behind it.
+fn write_short_event(out: &mut Octets, event: &Event, seq: u64) -> Result<(), Memory>
+    requires { seq < NUMBERS }
+    ensures written { OnOk result (out.new ≡ out.old ++ encoding (Item.bytes (out_of event.now seq))) }
+    ensures err { OnErr result (take (length out.old) out.new ≡ out.old) }
+{
+    let place = out.len();
+    out.extend(&[0x58, 0])?;
+    write_frame(out, event, seq)?;
+    let len = out.len() - place - 2;
+    if len < 24 || len > 255 {
+        out.truncate(place);
+        return write_measured_event(out, event, seq);
+    }
+    out.overwrite(place + 1, &[len as u8]);
+    Ok(())
+}
+
+// The message of an event under a number. An event with blocks has a long one.
+fn write_event(out: &mut Octets, event: &Event, seq: u64) -> Result<(), Memory>
+    requires { seq < NUMBERS }
+    ensures written { OnOk result (out.new ≡ out.old ++ encoding (Item.bytes (out_of event.now seq))) }
+    ensures err { OnErr result (take (length out.old) out.new ≡ out.old) }
+{
+    match event.kind() {
+        EventKind::Commit | EventKind::Sync => write_measured_event(out, event, seq),
+        EventKind::Identity | EventKind::Account => write_short_event(out, event, seq),
+    }
 }
 
 // The message of a row, or of the event of which it isn't encoded yet.
@@ -367,7 +398,7 @@ pub fn write_new_row(out: &mut Octets, new_row: &NewRow) -> Result<(), Memory>
     ensures written { OnOk result (out.new ≡ out.old ++ row_encoding (Row.Taken new_row.now)) }
     ensures err { OnErr result (take (length out.old) out.new ≡ out.old) }
 {
-    write_taken(out, &new_row.taken, &new_row.event)
+    write_taken(out, &new_row.parts.taken, &new_row.parts.event)
 }
 
 /// Adds rows, one behind the other, without the front of a list.
