@@ -2,6 +2,7 @@
 
 ghost use Rattle.std.specs.Prelude.{◌≡◌, Some, None, true, option_map, if◌then◌else◌};
 ghost use Rattle.std.specs.Option.{unwrap_or};
+ghost use Rattle.relay_row.specs.Folds.{host_in, host_seq_in};
 ghost use Rattle.account_state.specs.declared.repo.Repo.{Repo};
 ghost use Rattle.account_state.specs.Folds.{fresh, effected, last_rev, lost, refetched, taken_by, repo_carried, carried_as, moved};
 ghost use Rattle.account_state.specs.State.{state_of, known};
@@ -176,6 +177,8 @@ impl Account {
     fn take_message(&mut self, taken: &mut Taken)
         ensures state { state_of self.new ≡ taken_by (state_of self.old) taken.old }
         ensures named { self.new.named ≡ self.old.named }
+        ensures host { taken.new.host ≡ taken.old.host }
+        ensures host_seq { taken.new.host_seq ≡ taken.old.host_seq }
     {
         self.take_effect(&mut taken.effect);
         self.take_refusal(&taken.refusal);
@@ -209,7 +212,9 @@ impl Account {
 
     /// A row names it and moves it. What the host said of it is taken out of the row, so this takes no memory.
     pub(crate) fn follow(&mut self, row: &mut Row)
-        ensures { known self.new ≡ Some (moved (unwrap_or (known self.old) fresh) row.old) }
+        ensures state { known self.new ≡ Some (moved (unwrap_or (known self.old) fresh) row.old) }
+        ensures host { host_in row.new ≡ host_in row.old }
+        ensures host_seq { host_seq_in row.new ≡ host_seq_in row.old }
     {
         self.name();
         match row {

@@ -1,7 +1,7 @@
 //! The accounts that the rows of a journal name.
 
 ghost use Rattle.std.specs.Prelude.{◌≡◌, ◌≢◌, List, ℕ, [], Some, None, true, false, option_map, OnOk, OnErr, IfSome};
-ghost use Rattle.relay_row.specs.Folds.{did_of_row};
+ghost use Rattle.relay_row.specs.Folds.{did_of_row, host_in, host_seq_in};
 ghost use Rattle.account_state.specs.Entries.{entry, has_room, entry_after, found_entry, is_before, put};
 ghost use Rattle.account_state.specs.Shape.{no_entries};
 ghost use Rattle.account_state.specs.State.{state_of};
@@ -103,11 +103,14 @@ impl Accounts {
         };
     }
 
-    /// The accounts after one more row, whose DID need not have been touched, where it names one: `touch` and `apply` in one. What
-    /// they keep is taken out of the row. After running out of memory the accounts are to be given up.
+    /// The accounts after one more row, whose DID need not have been touched, where it names one: `touch` and `apply` in one, with
+    /// one search. What they keep is taken out of the row. Where memory runs out, they stay as they were.
     pub fn learn(&mut self, row: &mut Row) -> Result<(), Memory>
-        ensures { OnOk result ((name : List ℕ)
+        ensures ok { OnOk result ((name : List ℕ)
             → entry self.new name ≡ entry_after name (entry self.old name) row.old) }
+        ensures err { OnErr result (self.new ≡ self.old) }
+        ensures host { host_in row.new ≡ host_in row.old }
+        ensures host_seq { host_seq_in row.new ≡ host_seq_in row.old }
     {
         let name = take_did(self.alloc, row);
         if name.is_empty() {

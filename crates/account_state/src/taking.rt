@@ -1,7 +1,7 @@
 //! The DIDs that rows name.
 
 ghost use Rattle.std.specs.Prelude.{◌≡◌};
-ghost use Rattle.relay_row.specs.Folds.{did_of_row};
+ghost use Rattle.relay_row.specs.Folds.{did_of_row, host_in, host_seq_in};
 ghost use Rattle.account_state.specs.Folds.{moved};
 ghost use Rattle.account_state.specs.State.{State};
 
@@ -14,6 +14,8 @@ use std::mem;
 pub(crate) fn take_did(alloc: Global, row: &mut Row) -> Words
     ensures did { result ≡ did_of_row row.old }
     ensures moves { (a : State) → moved a row.new ≡ moved a row.old }
+    ensures host { host_in row.new ≡ host_in row.old }
+    ensures host_seq { host_seq_in row.new ≡ host_seq_in row.old }
 {
     let empty = Words::new(alloc);
     match row {

@@ -4,6 +4,7 @@ ghost use Rattle.std.specs.Prelude.{◌≡◌, ◌<◌, None, true, false, optio
 ghost use Rattle.std.specs.Option.{is_some};
 ghost use Rattle.std.specs.Cmp.Lexicographic.{slice_cmp};
 ghost use Rattle.std.specs.Ordering.{nat_cmp};
+ghost use Rattle.relay_row.specs.Folds.{host_in, host_seq_in};
 ghost use Rattle.account_state.specs.Entries.{IsSorted, Follows, found_entry, put, next_in};
 ghost use Rattle.account_state.specs.Shape.{no_entries, IsLow, Settles, IsAsLow};
 ghost use Rattle.account_state.specs.Tree.{shape, IsBalanced};
@@ -178,6 +179,8 @@ impl Tree {
             → Follows did.now row.old self.old.entries self.new.entries }
         ensures tree { result ≡ false → self.new ≡ self.old }
         ensures row { result ≡ false → row.new ≡ row.old }
+        ensures host { host_in row.new ≡ host_in row.old }
+        ensures host_seq { host_seq_in row.new ≡ host_seq_in row.old }
         ensures low { IsLow self.new }
         ensures kept { IsAsLow self.old self.new }
     {

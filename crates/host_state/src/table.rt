@@ -120,17 +120,4 @@ impl Hosts {
             self.set(host, row.host_seq());
         }
     }
-
-    /// The hosts after one more row, whose host need not have been touched, where it names one: `touch` and `apply` in one.
-    pub fn learn(&mut self, row: &Row) -> Result<(), Memory>
-        ensures { OnOk result (listed self.new ≡ hosts_after (listed self.old) row.now) }
-    {
-        let host = row.host();
-        if host.is_empty() {
-            return Ok(());
-        }
-        self.touch(host)?;
-        self.set(host, row.host_seq());
-        Ok(())
-    }
 }

@@ -1,19 +1,20 @@
 -- The state behind one more row.
-use Rattle.std.proofs.Common.{◌≡◌, ℕ, Bool, true, false, cond, ◌||◌, not, ◌&&◌, List, [], ◌∷◌, ◌++◌, Option, Some, None, refl, sym, ap, ◌∙◌, Result, Ok, Err, OnOk}
+use Rattle.std.proofs.Common.{◌≡◌, ℕ, Bool, true, false, cond, ◌||◌, not, ◌&&◌, List, [], ◌∷◌, ◌++◌, Option, Some, None, refl, sym, ap, ◌∙◌}
 use Rattle.std.specs.Prelude.{nat_lt, ◌==◌}
 use Rattle.std.specs.List.{list_all, list_any}
 use Rattle.std.specs.Option.{is_some, unwrap_or}
+use Rattle.std.specs.Str.{bytes_eq}
 use Rattle.std.proofs.lemmas.List.Folds.{list_any-append}
 use Rattle.relay_row.proofs.Journals.{folded_joined}
 use Rattle.relay_row.specs.declared.row.Row.{Row}
 use Rattle.relay_row.specs.declared.carried.Carried.{Carried}
-use Rattle.relay_row.specs.Folds.{names, did_of_row, is_named, cursor, seq_in, last_after, last_seq}
+use Rattle.relay_row.specs.Folds.{host_in, host_seq_in, names, did_of_row, is_named, cursor, seq_in, last_after, last_seq}
 use Rattle.relay_row.specs.Journal.{are_none, is_last_or_host, is_carried_row, rises_above, keeps_order}
 use Rattle.account_state.specs.Entries.{entry, entry_after}
 use Rattle.account_state.specs.Folds.{fresh, moved, account_after, account}
 use Rattle.account_state.specs.State.{State}
 use Rattle.host_state.proofs.Cursors.{hosts_tell as cursors_tell}
-use Rattle.host_state.specs.Folds.{hosts_after, hosts, cursor_of}
+use Rattle.host_state.specs.Folds.{set_cursor, hosts_after, hosts, cursor_of}
 use Rattle.host_state.specs.Table.{listed}
 use Rattle.relay_core.specs.declared.journal_state.Core.{Core}
 use Rattle.relay_core.specs.declared.stage.Stage.{Stage}
@@ -72,10 +73,12 @@ holds_on c d row f rows h = record {
   stage = f.stage ∙ ap (λ (s : Stage). next_stage s row) h.stage ∙ sym (stage_step rows row);
 }
 
--- a row that was learned, where memory was enough
-pub holds_learned : {X E : Type 0} (c d : Core) (row : Row) (r : Result X E) → OnOk r ((name : List ℕ) → entry d.accounts name ≡ entry_after name (entry c.accounts name) row) → listed d.hosts ≡ hosts_after (listed c.hosts) row → d.last ≡ last_after c.last row → d.stage ≡ next_stage c.stage row → OnOk r ((rows : List Row) → Holds c rows → Holds d (rows ++ row ∷ []))
-holds_learned c d row (Ok x) entries listed last stage = holds_on c d row (record { entries = entries; listed = listed; last = last; stage = stage })
-holds_learned c d row (Err e) entries listed last stage = tt
+-- rows of the same host, at the same place in its stream, do the same to the hosts
+pub hosts_same : (hs same : List (List ℕ × ℕ)) (row other : Row) → hs ≡ same → host_in row ≡ host_in other → host_seq_in row ≡ host_seq_in other → hosts_after hs row ≡ hosts_after same other
+hosts_same hs same row other is host place =
+    ap (λ (l : List (List ℕ × ℕ)). cond (bytes_eq (host_in row) []) l (set_cursor l (host_in row) (host_seq_in row))) is
+    ∙ ap (λ (name : List ℕ). cond (bytes_eq name []) same (set_cursor same name (host_seq_in row))) host
+    ∙ ap (λ (n : ℕ). cond (bytes_eq (host_in other) []) same (set_cursor same (host_in other) n)) place
 
 -- the state of the empty journal
 pub none_holds : (c : Core) → ((did : List ℕ) → entry c.accounts did ≡ None) → listed c.hosts ≡ [] → c.last ≡ 0 → c.stage ≡ Stage.Start → Holds c []

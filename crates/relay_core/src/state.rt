@@ -1,6 +1,6 @@
 //! What the relay's state is asked, and how rows move it.
 
-ghost use Rattle.std.specs.Prelude.{◌≡◌, ◌≢◌, List, ℕ, [], ◌++◌, ◌∷◌, Some, None, true, option_map, OnOk, IfSome};
+ghost use Rattle.std.specs.Prelude.{◌≡◌, ◌≢◌, List, ℕ, [], ◌++◌, ◌∷◌, Some, None, true, option_map, OnOk, OnErr, IfSome};
 ghost use Rattle.at_event.specs.declared.frame.Frame.{Frame as TheFrame};
 ghost use Rattle.relay_row.specs.Folds.{host_in, did_of_row};
 ghost use Rattle.relay_row.specs.Journal.{rises_above, keeps_order};
@@ -25,6 +25,18 @@ use at_event::{Event, Frame};
 use host_state::Hosts;
 use relay_row::{Carried, Row};
 use std::alloc::Global;
+
+// Makes room for the host that a row names, if it names one.
+fn touch_host(hosts: &mut Hosts, row: &Row) -> Result<(), Memory>
+    ensures listed { listed hosts.new ≡ listed hosts.old }
+    ensures room { OnOk result (host_in row.now ≢ [] → has_host hosts.new (host_in row.now) ≡ true) }
+{
+    let host = row.host();
+    if host.is_empty() {
+        return Ok(());
+    }
+    hosts.touch(host)
+}
 
 impl Core {
     /// The state of the empty journal.
@@ -174,15 +186,21 @@ impl Core {
         self.accounts.apply(row);
     }
 
-    /// The state after one more row, whose names need not have been touched. What it keeps is taken out of the row. After running
-    /// out of memory the state is of no journal, and is to be given up.
+    /// The state after one more row, whose names need not have been touched: `touch` and `apply` in one, with one search for the
+    /// account. What it keeps is taken out of the row. Where memory runs out, it stays the state of the same rows.
     pub fn learn(&mut self, row: &mut Row) -> Result<(), Memory>
-        ensures { OnOk result ((rows : List Row) → Holds self.old rows
+        ensures ok { OnOk result ((rows : List Row) → Holds self.old rows
             → Holds self.new (rows ++ row.old ∷ [])) }
+        ensures err { OnErr result ((rows : List Row) → Holds self.old rows
+            → Holds self.new rows) }
     {
-        self.stage = stage_after(self.stage, row);
-        self.last = last_after(self.last, row);
-        self.hosts.learn(row)?;
-        self.accounts.learn(row)
+        touch_host(&mut self.hosts, row)?;
+        let stage = stage_after(self.stage, row);
+        let last = last_after(self.last, row);
+        self.accounts.learn(row)?;
+        self.hosts.apply(row);
+        self.stage = stage;
+        self.last = last;
+        Ok(())
     }
 }

@@ -1,19 +1,17 @@
 //! Taking a row into what is known and into the body under way.
 
-ghost use Rattle.std.specs.Prelude.{◌≡◌, ◌≢◌, ◌≤◌, ◌<◌, ◌+◌, ◌⊎◌, [], true, ℕ, List, length, drop, IfErr, OnOk, OnErr};
-ghost use Rattle.account_state.specs.Entries.{has_room as has_account};
-ghost use Rattle.host_state.specs.Table.{has_room as has_host};
+ghost use Rattle.std.specs.Prelude.{◌≡◌, ◌≤◌, ◌<◌, ◌+◌, ◌++◌, ◌∷◌, ◌⊎◌, [], ℕ, List, length, drop, IfErr, OnOk, OnErr};
 ghost use Rattle.gate_log.specs.declared.pending_bodies.TheConstants.{AHEAD};
 ghost use Rattle.gate_log.specs.declared.limits.TheConstants.{AROUND_BODY, BODY_LENGTHS};
-ghost use Rattle.relay_row.specs.Folds.{host_in, did_of_row};
 ghost use Rattle.relay_row.specs.declared.limits.TheConstants.{MOST_ROWS};
 ghost use Rattle.relay_row.specs.declared.row.Row.{Row as TheRow};
 ghost use Rattle.relay_core.specs.Entries.{Holds};
 ghost use Rattle.relay_store.specs.PendingBodies.{Fits, FitsWith, HasRows, IsAdded, IsFull, IsFullWith, IsApplied, IsUnchanged, behind_pending, cut_to, length_with};
+ghost use Rattle.relay_store.specs.Places.{place_of};
 ghost use Rattle.relay_store.specs.declared.fault.StoreFault.{StoreFault as TheFault};
 
 use crate::StoreFault;
-use crate::applying::{apply_row, make_room};
+use crate::applying::learn_row;
 use crate::pending::{Pending, list_front_len};
 use event_window::Window;
 use gate_log::{AHEAD, AROUND_BODY, BEFORE_BODY, BODY_LENGTHS, Log};
@@ -60,37 +58,36 @@ fn fit_row(log: &Log, pending: &Pending, start: usize) -> Result<(), StoreFault>
     }
 }
 
-// Finds room for the row that stands in a pending batch from a place on: in the log, and in what is known.
-fn find_room(
+// Takes the row that stands in a pending batch from a place on into what is known, if the log has room for it.
+fn learn_fitting(
     log: &Log,
     core: &mut Core,
     window: &mut Window,
     pending: &Pending,
     start: usize,
-    row: &Row,
+    row: &mut Row,
 ) -> Result<(), StoreFault>
     requires few { pending.now.count < MOST_ROWS }
     requires begun { AHEAD ≤ start }
     requires within { start ≤ length pending.now.body }
     ensures fits { OnOk result (FitsWith log.now pending.now) }
-    ensures host { OnOk result (host_in row.now ≢ []
-        → has_host core.new.hosts (host_in row.now) ≡ true) }
-    ensures account { OnOk result (did_of_row row.now ≢ []
-        → has_account core.new.accounts (did_of_row row.now) ≡ true) }
-    ensures spare { OnOk result (0 < window.new.spare) }
-    ensures core { (J : List TheRow) → Holds core.old J → Holds core.new J }
-    ensures window { window.new.places ≡ window.old.places }
+    ensures core { OnOk result ((J : List TheRow) → Holds core.old J
+        → Holds core.new (J ++ row.old ∷ [])) }
+    ensures window { OnOk result (window.new.places ≡ window.old.places
+        ++ place_of log.now.end pending.now.count row.old) }
+    ensures core_kept { OnErr result ((J : List TheRow) → Holds core.old J → Holds core.new J) }
+    ensures window_kept { OnErr result (window.new.places ≡ window.old.places) }
     ensures full { (e : ℕ) → result ≡ Err (StoreFault.Full e)
         → IsFullWith log.now start pending.now e }
     ensures cause { IfErr result (λ f. (f ≡ StoreFault.Memory)
         ⊎ ((e : ℕ) × (f ≡ StoreFault.Full e))) }
 {
     fit_row(log, pending, start)?;
-    make_room(core, window, row)?;
+    learn_row(core, window, log.end(), pending.count as u8, row)?;
     Ok(())
 }
 
-// Takes the row that stands in a pending batch from a place on, memory first. Where it can't be taken, it is dropped.
+// Takes the row that stands in a pending batch from a place on. Where it can't be taken, it is dropped.
 fn take_in(
     alloc: Global,
     log: &Log,
@@ -98,7 +95,7 @@ fn take_in(
     window: &mut Window,
     pending: &mut Pending,
     start: usize,
-    row: Row,
+    row: &mut Row,
 ) -> Result<(), StoreFault>
     requires few { pending.old.count < MOST_ROWS }
     requires begun { AHEAD ≤ start }
@@ -107,7 +104,7 @@ fn take_in(
     ensures begun { AHEAD ≤ length pending.new.body }
     ensures fits { Fits log.now pending.new }
     ensures ok { OnOk result
-        (IsApplied log.now.end row core.old core.new window.old.places window.new.places pending.old
+        (IsApplied log.now.end row.old core.old core.new window.old.places window.new.places pending.old
         pending.new) }
     ensures as_before { OnErr result (IsUnchanged core.old core.new window.old.places window.new.places
         (cut_to start pending.old) pending.new) }
@@ -116,9 +113,8 @@ fn take_in(
     ensures cause { IfErr result (λ f. (f ≡ StoreFault.Memory)
         ⊎ ((e : ℕ) × (f ≡ StoreFault.Full e))) }
 {
-    match find_room(log, core, window, pending, start, &row) {
+    match learn_fitting(log, core, window, pending, start, row) {
         Ok(()) => {
-            apply_row(core, window, log.end(), pending.count as u8, row);
             pending.count += 1;
             Ok(())
         }
@@ -136,7 +132,7 @@ pub(crate) fn add_row(
     core: &mut Core,
     window: &mut Window,
     pending: &mut Pending,
-    row: Row,
+    mut row: Row,
 ) -> Result<(), StoreFault>
     requires few { pending.old.count < MOST_ROWS }
     requires begun { AHEAD ≤ length pending.old.body }
@@ -155,7 +151,11 @@ pub(crate) fn add_row(
 {
     let start = pending.body.len();
     match write_row(&mut pending.body, &row) {
-        Ok(()) => take_in(alloc, log, core, window, pending, start, row),
+        Ok(()) => {
+            let taken = take_in(alloc, log, core, window, pending, start, &mut row);
+            drop(row);
+            taken
+        }
         Err(_) => {
             pending.cut_back(alloc, start);
             Err(StoreFault::Memory)
@@ -191,8 +191,10 @@ pub(crate) fn add_new_row(
     let start = pending.body.len();
     match write_new_row(&mut pending.body, &new_row) {
         Ok(()) => {
-            let row = Row::Taken(new_row.into_parts());
-            take_in(alloc, log, core, window, pending, start, row)
+            let mut row = Row::Taken(new_row.into_parts());
+            let taken = take_in(alloc, log, core, window, pending, start, &mut row);
+            drop(row);
+            taken
         }
         Err(_) => {
             pending.cut_back(alloc, start);

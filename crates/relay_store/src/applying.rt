@@ -1,9 +1,6 @@
 //! Taking rows into what is known.
 
-ghost use Rattle.std.specs.Prelude.{◌≡◌, ◌≢◌, ◌<◌, ◌++◌, ◌∷◌, [], true, List, ℕ, ◌==◌, if◌then◌else◌, OnOk};
-ghost use Rattle.account_state.specs.Entries.{has_room as has_account};
-ghost use Rattle.host_state.specs.Table.{has_room as has_host};
-ghost use Rattle.relay_row.specs.Folds.{host_in, did_of_row};
+ghost use Rattle.std.specs.Prelude.{◌≡◌, ◌<◌, ◌++◌, ◌∷◌, [], List, ◌==◌, if◌then◌else◌, OnOk, OnErr};
 ghost use Rattle.relay_row.specs.declared.row.Row.{Row as TheRow};
 ghost use Rattle.relay_core.specs.Entries.{Holds};
 ghost use Rattle.relay_store.specs.Places.{number_in, place_of};
@@ -36,35 +33,8 @@ fn note(window: &mut Window, place: Place)
     }
 }
 
-/// Makes room for a row in what is known.
-pub(crate) fn make_room(core: &mut Core, window: &mut Window, row: &Row) -> Result<(), Memory>
-    ensures host { OnOk result (host_in row.now ≢ []
-        → has_host core.new.hosts (host_in row.now) ≡ true) }
-    ensures account { OnOk result (did_of_row row.now ≢ []
-        → has_account core.new.accounts (did_of_row row.now) ≡ true) }
-    ensures spare { OnOk result (0 < window.new.spare) }
-    ensures core { (J : List TheRow) → Holds core.old J → Holds core.new J }
-    ensures window { window.new.places ≡ window.old.places }
-{
-    core.touch(row.host(), row.did())?;
-    window.reserve(1)
-}
-
-/// Takes one more row, for which room was made: it stands at this index of the body at this place. Takes no memory.
-pub(crate) fn apply_row(core: &mut Core, window: &mut Window, place: u64, index: u8, row: Row)
-    requires host { host_in row ≢ [] → has_host core.old.hosts (host_in row) ≡ true }
-    requires account { did_of_row row ≢ [] → has_account core.old.accounts (did_of_row row) ≡ true }
-    requires spare { 0 < window.old.spare }
-    ensures core { (J : List TheRow) → Holds core.old J → Holds core.new (J ++ row ∷ []) }
-    ensures window { window.new.places ≡ window.old.places ++ place_of place index row }
-{
-    let seq = number_in(&row);
-    core.apply(row);
-    note(window, Place { seq, place, index });
-}
-
-/// Takes one more row, for which no room was made: it stands at this index of the body at this place. What is kept is taken out of
-/// the row. After running out of memory what is known is of no journal, and is to be given up.
+/// Takes one more row, which stands at this index of the body at this place. What is kept is taken out of the row. Where memory
+/// runs out, what is known stays as it was.
 pub(crate) fn learn_row(
     core: &mut Core,
     window: &mut Window,
@@ -76,6 +46,8 @@ pub(crate) fn learn_row(
         → Holds core.new (J ++ row.old ∷ [])) }
     ensures window { OnOk result (window.new.places
         ≡ window.old.places ++ place_of place index row.old) }
+    ensures core_kept { OnErr result ((J : List TheRow) → Holds core.old J → Holds core.new J) }
+    ensures window_kept { OnErr result (window.new.places ≡ window.old.places) }
 {
     window.reserve(1)?;
     let seq = number_in(row);

@@ -110,7 +110,7 @@ fn next_row(body: &[u8], at: usize) -> Option<usize>
 }
 
 // Where the rows begin behind the one at a place, if that one ends as a row of a body does.
-fn ended_row(body: &[u8], at: usize) -> Option<usize>
+fn next_if_ended(body: &[u8], at: usize) -> Option<usize>
     requires { at ≤ length body.now }
     ensures next { IfSome result (BeginsNext body.now at) }
     ensures ends { IfSome result (λ next. EndsThere (drop at body.now)) }
@@ -279,7 +279,7 @@ impl Buffer {
         ensures row { (row : TheRow) (more : List TheRow) → is_row row ≡ true
             → self.old.left ≡ row_encoding row ++ encoded_rows more → result ≡ true }
     {
-        self.next = ended_row(self.body.as_slice(), self.at);
+        self.next = next_if_ended(self.body.as_slice(), self.at);
         self.next.is_some()
     }
 

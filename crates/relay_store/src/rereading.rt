@@ -85,12 +85,13 @@ fn fold_rows(core: &mut Core, place: u64, rows: Vec<Row>) -> Result<(), StoreFau
     ensures few { (f : TheFault) → result ≡ Err f → IsOfReading f }
 {
     let mut left = VecDeque::from_vec(rows);
-    'rows: while let Some(row) = left.pop_front() {
+    'rows: while let Some(mut row) = left.pop_front() {
         if !core.is_next(&row) {
             return Err(StoreFault::BadLog(place));
         }
-        core.touch(row.host(), row.did())?;
-        core.apply(row);
+        let learned = core.learn(&mut row);
+        drop(row);
+        learned?;
     }
     Ok(())
 }

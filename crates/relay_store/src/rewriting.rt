@@ -11,7 +11,7 @@ ghost use Rattle.relay_store.specs.Rewriting.{AllShort, IsShort, IsCopied, Rewri
 ghost use Rattle.relay_store.specs.declared.fault.StoreFault.{StoreFault as TheFault};
 
 use crate::StoreFault;
-use crate::applying::{apply_row, make_room};
+use crate::applying::learn_row;
 use at_cbor::write_list_front;
 use at_cid::{Memory, Octets};
 use event_window::Window;
@@ -46,7 +46,7 @@ fn encode_body(body: &mut Octets, row: &Row) -> Result<(), Memory>
 pub(crate) fn put_row<D: Disk>(
     rewrite: &mut Rewrite,
     other: &mut D,
-    row: Row,
+    mut row: Row,
 ) -> Result<(), StoreFault>
     requires on { IsTrue D.tells → IsBuiltOn (D.view other.old) rewrite.old.build }
     requires short { IsShort row }
@@ -63,12 +63,13 @@ pub(crate) fn put_row<D: Disk>(
     ensures few { (f : TheFault) → result ≡ Err f → IsOfAdding f }
 {
     encode_body(&mut rewrite.body, &row)?;
-    make_room(&mut rewrite.core, &mut rewrite.window, &row)?;
     let place = match rewrite.build.add(other, rewrite.body.as_slice()) {
         Ok(place) => place,
         Err(fault) => return Err(StoreFault::from(fault)),
     };
-    apply_row(&mut rewrite.core, &mut rewrite.window, place, 0, row);
+    let learned = learn_row(&mut rewrite.core, &mut rewrite.window, place, 0, &mut row);
+    drop(row);
+    learned?;
     Ok(())
 }
 

@@ -7,7 +7,7 @@ pub rows-init : goal.rows-init
 rows-init c = moving_none _ _ _ (search rules)
 
 pub rows-preserved : goal.rows-preserved
-rows-preserved c = moving_more _ _ _ _ _ _ c.rows.invariant c.in-Some.ensures.items _ (λ J holds. c.apply.ensures.holds J (c.touch.ensures.holds J holds)) c.if-not-is_next.ensures
+rows-preserved c = moving_more _ _ _ _ _ _ c.rows.invariant c.in-Some.ensures.items _ c.in_ok-learned.ensures.ok c.if-not-is_next.ensures
 
 pub returns-then-not-is_next-clause-bad_log : goal.returns-then-not-is_next-clause-bad_log
 returns-then-not-is_next-clause-bad_log c = λ p is. moving_stops _ _ _ _ _ _ c.rows.invariant c.in-Some.ensures.items c.if-not-is_next.ensures

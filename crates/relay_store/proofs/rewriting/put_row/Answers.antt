@@ -33,7 +33,7 @@ returns-clause-copied g c =
     (λ past. not_both c.add.result c.in-Ok.place _ c.in-Ok.is ((c.add.ensures.full end).1 (omega arith, omega (arith, past, ap length body))))
     c.in-Ok.ensures.on
     (λ told bodies has. subst (λ (l : List ℕ). HasBuilt (bodies ++ l ∷ []) c.add.new.self (g.D.Disk.view c.add.new.disk)) body (c.in-Ok.ensures.added told bodies has))
-    (λ J holds. c.apply_row.ensures.core J (c.make_room.ensures.core J holds))
-    (c.apply_row.ensures.window ∙ (λ i. c.make_room.ensures.window i ++ place_of (c.in-Ok.ensures.place i) 0 c.args.row))
+    c.in_ok-learned.ensures.core
+    (c.in_ok-learned.ensures.window ∙ ap (λ (place : ℕ). old.window.places ++ place_of place 0 c.args.row) c.in-Ok.ensures.place)
     c.add.ensures.moments
     c.in-Ok.ensures.steady

@@ -58,7 +58,7 @@ returns-clause-entries t c = λ known.
           let is = listed n (opened c.self.view_is w.in-Fork.is n w.deref_mut-in-Equal.ensures.value) in
           let name : w.as_bytes.result.now ≡ n.name = let value = w.as_bytes.ensures.value in cc in
           let same = equal_is c.args.did.now n.name (ordered c.args.did.now c.args.did.now n.name w.as_bytes.result.now w.order_of-order.result Equal w.order_of-order.ensures refl name w.in-Equal.is) in
-          rw w.self-inside-is (subst (λ (es : List Entry). Follows c.args.did.now c.args.row.now es (n.left.entries ++ (n.name, w.follow.new.self) ∷ n.right.entries)) (sym is) (follows_here c.args.did.now c.args.row.now n.left.entries n.name n.account w.follow.new.self n.right.entries same w.follow.ensures))
+          rw w.self-inside-is (subst (λ (es : List Entry). Follows c.args.did.now c.args.row.now es (n.left.entries ++ (n.name, w.follow.new.self) ∷ n.right.entries)) (sym is) (follows_here c.args.did.now c.args.row.now n.left.entries n.name n.account w.follow.new.self n.right.entries same w.follow.ensures.state))
       | in-Fork+in-Greater w ↦
           let n = w.deref_mut-in-Greater.result.now in
           let is = listed n (opened c.self.view_is w.in-Fork.is n w.deref_mut-in-Greater.ensures.value) in

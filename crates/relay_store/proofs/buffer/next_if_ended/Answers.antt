@@ -3,7 +3,7 @@ use Rattle.std.proofs.lemmas.Option.{same_Some}
 use Rattle.relay_row.specs.Bodies.{encoded_rows, row_encoding}
 use Rattle.row_peek.specs.Passing.{ended_row}
 use Rattle.relay_store.proofs.Buffering.{behind_front, if_some, is_none, is_some, no_borrow, some_behind, some_encoded, starts, starts_some}
-use Rattle.relay_store.proofs.buffer.ended_row.Goals as goal
+use Rattle.relay_store.proofs.buffer.next_if_ended.Goals as goal
 
 pub returns-then-is_empty-clause-row : goal.returns-then-is_empty-clause-row
 returns-then-is_empty-clause-row c = λ row more is e. absurd (some_encoded row more (sym e ∙ sym c.split_at.ensures.back ∙ is_none c.split_at.result.1.now c.is_empty.result c.is_empty.ensures c.if-is_empty.true))
