@@ -71,10 +71,13 @@ fn add_outcome(line: &mut Octets, outcome: &Outcome) -> Result<(), Memory>
     }
 }
 
+// How many bytes get room at once: most lines have no more.
+const ORDINARY_LINE: usize = 64;
+
 fn make_line(alloc: Global, host: &str, outcome: &Outcome) -> Result<Octets, Memory>
     ensures { IfOk result (λ line. line ≡ line_of host.now outcome.now) }
 {
-    let mut line = Octets::new(alloc);
+    let mut line = Octets::from_vec(Vec::with_capacity(alloc, ORDINARY_LINE)?);
     line.extend(host.as_bytes())?;
     add_outcome(&mut line, outcome)?;
     line.extend(b"\n")?;
