@@ -2,9 +2,10 @@
 
 As a program of its own (`program.py TOLD COMMAND..`) it runs a command and writes to the file TOLD the seconds of processor
 time and the peak of memory in bytes: the system counts to a child the memory of whoever started it, which is little here.
-The variable RELAY_PROGRAM of the environment names another program than the proved one that `./relay` builds, and
-MEASURES_PROGRAM another one than `measures`.
+Programs are those of the sources as they stand: the proved ones where they stand, else compiled ones (tools/compile). The
+variables RELAY_PROGRAM, CHAIN_PROGRAM, MEASURES_PROGRAM and EDGE_RUN_PROGRAM of the environment name others.
 """
+import functools
 import os
 import pathlib
 import re
@@ -18,44 +19,62 @@ import time
 from collections import namedtuple
 
 TOP = pathlib.Path(__file__).resolve().parent.parent
-RELAY = pathlib.Path(os.environ.get("RELAY_PROGRAM", TOP / "relay"))
-PROGRAM = pathlib.Path(os.environ.get("RELAY_PROGRAM", TOP / "crates/relay_cli/out/relay_cli"))
+VARIABLES = {"relay_cli": "RELAY_PROGRAM", "relay_chain": "CHAIN_PROGRAM", "measures": "MEASURES_PROGRAM", "edge_run": "EDGE_RUN_PROGRAM"}
 TIME, VALGRIND = map(shutil.which, ("time", "valgrind"))
 Spent = namedtuple("Spent", "passed seconds peak")  # by the wall, of processor time, and bytes of memory
 SAMPLES = TOP / "samples"
 HEADS = ("file", "without", "run", "input", "prints", "ends", "left")  # of the parts of a history
 
 
-def build():
-    """Has the program proved and built, where it is not, unless another one was named."""
-    if "RELAY_PROGRAM" in os.environ:
-        return
-    subprocess.run([RELAY], stdin=subprocess.DEVNULL, stdout=subprocess.DEVNULL, check=False)
-    if not PROGRAM.exists():
-        sys.exit(125)
-
-
+@functools.cache
 def built(name):
-    """The proved program of a crate, which is built where it is missing."""
-    path = pathlib.Path(os.environ.get(f"{name.upper()}_PROGRAM", TOP / "crates" / name / "out" / name))
-    if not path.exists():
-        subprocess.run(["rt", "run"], cwd=TOP / "crates" / name, stdin=subprocess.DEVNULL, stdout=subprocess.DEVNULL, check=False)
-    if not path.exists():
+    """The program of a crate."""
+    if VARIABLES[name] in os.environ:
+        return pathlib.Path(os.environ[VARIABLES[name]])
+    found = subprocess.run([TOP / "tools/compile", name], stdin=subprocess.DEVNULL, stdout=subprocess.PIPE, text=True, check=False)
+    if found.returncode:
         sys.exit(125)
-    return path
+    return pathlib.Path(found.stdout.strip())
 
 
-def run(*words, given=b"", command=PROGRAM, **options):
-    """The status and the output of a run, with what it said on standard error behind, where nothing may come."""
-    done = subprocess.run([command, *words], input=given, stdout=subprocess.PIPE, stderr=subprocess.PIPE, check=False, **options)
-    return done.returncode, done.stdout + done.stderr
+def __getattr__(name):
+    """`PROGRAM` is the relay's program, which is looked for once a script asks."""
+    if name == "PROGRAM":
+        return built("relay_cli")
+    raise AttributeError(name)
 
 
-def measured(folder, *words, given=b"", command=PROGRAM):
+def stop_unless_proved():
+    """Ends the script where the relay's program isn't proved, unless one was named: what is measured is what is proved."""
+    found = subprocess.run([TOP / "relay", "--which"], stdout=subprocess.PIPE, text=True, check=False).stdout
+    if "RELAY_PROGRAM" not in os.environ and not {"proved yes", "sources as they stand"} <= {*found.splitlines()}:
+        sys.exit("no proved program of these sources stands: ./relay --prove makes it")
+
+
+def run(*words, given=b"", command=None, **options):
+    """The status of a run, and what it wrote to standard output."""
+    return told(*words, given=given, command=command, **options)[:2]
+
+
+def told(*words, given=b"", command=None, **options):
+    """The status of a run, and what it wrote to standard output and to standard error."""
+    done = subprocess.run([command or built("relay_cli"), *words], input=given, capture_output=True, check=False, **options)
+    return done.returncode, done.stdout, done.stderr
+
+
+def is_reported(status, said):
+    """Whether standard error has what a run says that ends so: lines of the program, and one at least unless it ended with 0."""
+    lines = said.decode().splitlines()
+    return all(re.match("relay(_chain)?: .", line) for line in lines) and (status == 0 or bool(lines))
+
+
+def measured(folder, *words, given=b"", command=None):
     """The status and the output of a run, the seconds of processor time that it took, and its peak of memory in bytes."""
     with tempfile.NamedTemporaryFile("r") as told:
         launcher = [sys.executable, "-I", "-S", __file__, told.name]
-        done = subprocess.run([*launcher, command, folder, *words], input=given, stdout=subprocess.PIPE, check=False)
+        done = subprocess.run([*launcher, command or built("relay_cli"), folder, *words], input=given, capture_output=True, check=False)
+        if done.returncode:
+            sys.stderr.buffer.write(done.stderr)
         seconds, peak = told.read().split()
     return done.returncode, done.stdout, float(seconds), int(peak)
 
@@ -74,15 +93,16 @@ def is_free(port):
 def spent(command, given=os.devnull, out=os.devnull, ends=0):
     """What a command takes, over files, which has to end with this status, if one is named. The peak is that of a child of `time`, and 0 where that
     isn't there: a child of this process would begin with this one's peak."""
-    with open(given, "rb") as source, open(out, "wb") as sink, tempfile.NamedTemporaryFile("r") as told:
+    with open(given, "rb") as source, open(out, "wb") as sink, tempfile.NamedTemporaryFile("r") as told, tempfile.TemporaryFile("w+") as said:
         timed = [TIME, "-f", "%M", "-o", told.name] if TIME else []
         began = time.monotonic()
-        child = subprocess.Popen([*timed, *command], stdin=source, stdout=sink)
+        child = subprocess.Popen([*timed, *command], stdin=source, stdout=sink, stderr=said)
         _, status, used = os.wait4(child.pid, 0)
         passed = time.monotonic() - began
         child.returncode = status
         if ends is not None and status != ends << 8:
-            sys.exit(f"{' '.join(map(str, command))}: status {status >> 8}")
+            said.seek(0)
+            sys.exit(f"{' '.join(map(str, command))}: status {status >> 8}\n{said.read()}")
         return Spent(passed, used.ru_utime + used.ru_stime, 1024 * int(told.read().split()[-1]) if TIME else 0)
 
 

@@ -3,7 +3,7 @@ import base64
 import socket
 import time
 
-from frames import BINARY, CLOSE, PING, TEXT, frame, played, read_head, read_rest, reset, says
+from frames import BINARY, CLOSE, CONTINUE, PING, TEXT, frame, played, read_head, read_rest, reset, says
 
 TARGET = "/xrpc/com.atproto.sync.subscribeRepos?cursor=4"
 NONCE = base64.b64encode(b"0123456789abcdef").decode()
@@ -125,6 +125,30 @@ def speaks(content):
     return play
 
 
+def fragments_without_end(peer):
+    """Sends empty fragments of one message, and takes nothing."""
+    enter(peer)
+    peer.sendall(frame(BINARY, final=False, masked=True))
+    try:
+        while True:
+            peer.sendall(frame(CONTINUE, final=False, masked=True) * 1000)
+    except OSError:
+        return b"", "gone"
+
+
+def slow_fragments(peer):
+    """Sends an empty fragment each half second, and never closes."""
+    enter(peer)
+    peer.sendall(frame(BINARY, final=False, masked=True))
+    try:
+        for _ in range(80):
+            peer.sendall(frame(CONTINUE, final=False, masked=True))
+            time.sleep(0.5)
+    except OSError:
+        return b"", "gone"
+    return b"", "silence"
+
+
 def resets(peer):
     head = enter(peer)
     reset(peer)
@@ -224,6 +248,9 @@ GUESTS = {
     "unmasked": speaks(frame(TEXT, b"hello")),
     "long-word": speaks(frame(BINARY, b"x" * 5000, masked=True)),
     "resets": resets,
+    "fragments-without-end": fragments_without_end,
+    "fragments-all-along": fragments_without_end,
+    "slow-fragments": slow_fragments,
     "never-reads": never_reads,
     "drips": drips,
     "goodbye-in-the-middle": goodbye_in_the_middle,

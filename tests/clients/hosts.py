@@ -132,9 +132,31 @@ def empty_fragments(peer, head):
         time.sleep(0.5)
 
 
+def in_fragments(count):
+    """A message in this many fragments of a byte each."""
+    return frame(BINARY, b"x", final=False) + frame(CONTINUE, b"x", final=False) * (count - 2) + frame(CONTINUE, b"x")
+
+
+def fragments_without_end(peer, head):
+    peer.sendall(answer(head) + frame(BINARY, final=False))
+    while True:
+        peer.sendall(frame(CONTINUE, final=False) * 1000)
+
+
+def slow_fragments(peer, head):
+    """Sends a fragment of a byte each second, and answers pings."""
+    peer.sendall(answer(head))
+    time.sleep(1)
+    peer.sendall(frame(BINARY, b"x", final=False))
+    for _ in range(2 * PATIENCE):
+        taken, _ = read_rest(peer, 1)
+        peer.sendall(b"".join(frame(PONG, payload) for name, payload in split(taken) if name == "ping"))
+        peer.sendall(frame(CONTINUE, b"x", final=False))
+
+
 def flood(peer, head):
     peer.sendall(answer(head) + frame(PING, b"p" * 100) * 1001)
-    time.sleep(1)
+    return seen(peer, PATIENCE)
 
 
 def drip(peer, content):
@@ -154,6 +176,10 @@ HOSTS = {
         frame(CONTINUE, b"b" * 100, final=False) + frame(CONTINUE, b"c" * 56),
         FAREWELL,
     ),
+    "many-fragments": gives(in_fragments(65_536), FAREWELL),
+    "thousand-empty-fragments": gives(frame(BINARY, final=False) + frame(CONTINUE, final=False) * 999 + frame(CONTINUE, b"x"), FAREWELL),
+    "more-fragments": gives(in_fragments(65_537)),
+    "fragments-without-end": fragments_without_end,
     "pings": gives(frame(PING, b"one") + frame(BINARY, b"x"), frame(PING, b"two"), frame(PONG, b"un") + frame(BINARY, b"yy"), FAREWELL),
     "together": together,
     "in-steps": in_steps,
@@ -183,6 +209,7 @@ HOSTS = {
     "quiet": quiet,
     "dripping": dripping,
     "empty-fragments": empty_fragments,
+    "slow-fragments": slow_fragments,
 }
 
 

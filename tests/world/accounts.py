@@ -79,7 +79,7 @@ class Account:
 
     def commit(self, creates: int = 1, updates: int = 0, deletes: int = 0, is_kept: bool = True, key: "Key | None" = None,
                is_high: bool = False) -> dict:
-        """The fields of the `#commit` that makes so many changes. One that isn't kept is no part of the account."""
+        """The fields of the `#commit` that makes these numbers of changes. One that isn't kept is no part of the account."""
         before, later = self.pairs(), dict(self.records)
         paths = sorted(self.records)
         for i in range(creates):

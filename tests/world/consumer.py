@@ -1,4 +1,4 @@
-"""A consumer of the relay's stream, which holds every account's records as the stream tells of them."""
+"""A consumer of the relay's stream, which holds every account's records as the stream has them."""
 import asyncio
 import pathlib
 import sys
@@ -78,7 +78,7 @@ class Consumer:
 
 
 async def taken(consumer: Consumer, cursor: int) -> "tuple[int, int]":
-    """Has a consumer take all that the relay serves behind a cursor; how many messages, and the code of the close."""
+    """Has a consumer take all that the relay serves after a cursor; how many messages, and the code of the close."""
     count = 0
     async with websockets.connect(f"{STREAM}?cursor={cursor}", max_size=None) as door:
         async for message in door:

@@ -39,16 +39,16 @@ class Page:
             is_beside = line.startswith("    $ ") or is_beside and line.startswith("    ")
         return found
 
-    def script(self, name: str) -> str:
-        """A script of the page."""
-        return re.search(rf"```sh\n(#!/bin/sh\n# {name}: .*?)```", self.text, re.DOTALL)[1]
+    def block(self, kind: str) -> str:
+        """What a block of this kind on the page has."""
+        return re.search(rf"```{kind}\n(.*?)```", self.text, re.DOTALL)[1]
 
     def here(self, words: str) -> str:
         """Words of the page with this machine's hosts, programs and patience in them."""
         for name, host in zip(HOSTS, self.world.hosts):
             words = words.replace(name, host.name)
-        words = words.replace(DIRECTORY, f"--plc {self.world.directory.address}").replace("cd /srv/relay", f"cd {shlex.quote(str(self.room))}")
-        words = words.replace("/srv/relay/", f"{self.room}/")
+        words = words.replace(DIRECTORY, f"--plc {self.world.directory.address}")
+        words = re.sub(r"/srv/relay/tools/(each-\w+)", rf"{shlex.quote(str(TOOLS))}/\1", words).replace("/srv/relay", shlex.quote(str(self.room)))
         words = re.sub(r"--seconds \d+", "--seconds 4", words)
         words = re.sub(r"tools/(record|vouch)", rf"{sys.executable} {TOOLS}/\1 --plain", words)
         words = words.replace("tools/repositories", f"{sys.executable} {TOOLS}/repositories --plain --relay {program.PROGRAM}")
@@ -56,8 +56,10 @@ class Page:
 
     def run(self, words: str) -> "tuple[int, str]":
         """The status of a command in the folder, and all that it prints."""
+        python = pathlib.Path(sys.executable).parent
+        settings = {**os.environ, "RELAY": str(program.PROGRAM), "PATH": f"{python}:{os.environ['PATH']}"}
         done = subprocess.run(["sh", "-c", self.here(words)], cwd=self.room, stdout=subprocess.PIPE, stderr=subprocess.STDOUT,
-                              stdin=subprocess.DEVNULL, text=True, check=False, timeout=WAIT)
+                              stdin=subprocess.DEVNULL, text=True, check=False, timeout=WAIT, env=settings)
         return done.returncode, done.stdout
 
 
@@ -79,7 +81,7 @@ def rows(world: World):
         status, out = page.run(words)
         want = [] if words.endswith("wait") else shape("\n".join(printed))
         yield f"in the page: {words}", (status, [] if words.endswith("wait") else shape(out)), (0, want)
-    yield "so many commands, and that for several hosts", len(commands), 11
+    yield "the number of commands, with that for several hosts", len(commands), 11
     names = {line.split(" ")[0] for line in page.run("./relay day hosts")[1].splitlines()}
     yield "the host is known", names, {world.hosts[0].name, "end"}
     yield from scripts(page, world)
@@ -88,40 +90,52 @@ def rows(world: World):
 
 
 def scripts(page: Page, world: World):
-    """The scripts of the page, as a service and a crontab run them, on the folder that its commands left."""
+    """The scripts of tools/, as the page's service and crontab run them, on the folder that its commands left."""
     for path in (page.room / "tapes").iterdir():
         if path.name in ("2", ".2.last"):
             path.unlink()
-    for name in ("each-recording", "each-hour", "each-day"):
-        path = page.room / name
-        path.write_text(page.here(page.script(name)))
-        path.chmod(0o755)
-    hourly, daily = (line.split(" ", 5)[5] for line in re.search(r"```crontab\n(.*?)```", page.text, re.DOTALL)[1].splitlines())
+    hourly, daily = (line.split(" ", 5)[5] for line in page.block("crontab").splitlines())
+    hourly += " --plain"
+    recording = re.search("^ExecStart=(.*)$", page.block("ini"), re.MULTILINE)[1] + " --plain --seconds 4"
     host = world.hosts[0]
     host.commit(world.ada)
-    yield "recording an hour", page.run("./each-recording")[0], 0
+    yield "recording an hour", page.run(recording)[0], 0
     host.commit(world.ada)
-    yield "and the next one", page.run("./each-recording")[0], 0
+    yield "and the next one", page.run(recording)[0], 0
     status, out = page.run(hourly)
     tapes = [name for name in sorted(os.listdir(page.room / "tapes")) if not name.startswith(".")]
     yield "taking an hour", (status, "end 0 fetched 0" in out), (0, True)
     yield "all but the last tape are taken", (len(tapes), sorted(os.listdir(page.room / "reports"))), (3, tapes[:2])
     yield "up to its cursor", page.run("./relay day hosts")[1], f"{host.name} {len(host.events) - 1}\nend 1\n"
+    yield "an hour without a tape that is done", page.run(hourly), (0, "")
     lasts = page.room / "lasts"
     lasts.write_text("3\n" + "".join(f"{4 + i}\n" for i in range(6)))
     status, out = page.run(daily)
     last = int(lasts.read_text().split()[-1])
     yield "cutting a day", (status, out), (0, f"cut 3 oldest 4 last {last}\n")
-    os.utime(page.room / "tapes" / tapes[0], (0, datetime.datetime(2025, 1, 1).timestamp()))
-    page.run(daily)
-    yield "an old tape is gone", [(page.room / "tapes" / name).exists() for name in tapes], [False, True, True]
+    yield from old_tapes(page, daily, tapes)
     yield from units(page)
+
+
+def old_tapes(page: Page, daily: str, tapes: "list[str]"):
+    """An old tape goes where its report is whole, and stays where it was not taken, or not to the end."""
+    for name in tapes:
+        os.utime(page.room / "tapes" / name, (0, datetime.datetime(2025, 1, 1).timestamp()))
+    report = page.room / "reports" / tapes[1]
+    whole = report.read_text()
+    report.write_text("".join(whole.splitlines(keepends=True)[:-1]))
+    _, out = page.run(daily)
+    yield "an old tape is gone", [(page.room / "tapes" / name).exists() for name in tapes], [False, True, True]
+    yield "those that were not taken are named", [f"tapes/{name} is older than 7 days" in out for name in tapes], [False, True, True]
+    report.write_text(whole)
+    page.run(daily)
+    yield "and one goes once it was", [(page.room / "tapes" / name).exists() for name in tapes], [False, False, True]
 
 
 def reference():
     """docs/TOOLS.md has the options and statuses that each tool says of itself."""
     text = (program.TOP / "docs/TOOLS.md").read_text()
-    for name in ("record", "vouch", "repositories"):
+    for name in ("record", "vouch", "repositories", "status"):
         part = re.search(rf"^## {name}$(.*?)(?=^## |\Z)", text, re.DOTALL | re.MULTILINE)[1]
         said = tool(name, "--help")[1]
         options = set(re.findall(r"(?<!\S)(--[a-z-]+)", re.search(r"^options:$(.*)", said, re.DOTALL | re.MULTILINE)[1]))
@@ -151,7 +165,7 @@ def units(page: Page):
         print("world: systemd-analyze isn't here, the unit of docs/REAL_HOSTS.md was not read by it")
         return
     unit = page.room / "recording.service"
-    unit.write_text(re.search(r"```ini\n(.*?)```", page.text, re.DOTALL)[1].replace("/srv/relay", str(page.room)))
+    unit.write_text(page.block("ini").replace("/srv/relay/tools", str(TOOLS)).replace("/srv/relay", str(page.room)))
     done = subprocess.run(["systemd-analyze", "verify", unit], stdout=subprocess.PIPE, stderr=subprocess.STDOUT, text=True, check=False, timeout=WAIT)
     said = [line for line in done.stdout.splitlines() if unit.name in line]
     yield "the unit", said, []

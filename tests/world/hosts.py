@@ -183,7 +183,7 @@ class Host:
             asked.give(200, content, "application/vnd.ipld.car", len(content) + self.more if self.more else None)
 
     def stream(self, asked: Asked, query: dict):
-        """Sends the events behind the cursor, and what comes, until the peer goes or it is time to break off."""
+        """Sends the events after the cursor, and what comes, until the peer goes or it is time to break off."""
         asked.upgrade()
         peer = asked.connection
         peer.setsockopt(socket.IPPROTO_TCP, socket.TCP_NODELAY, 1)
@@ -201,8 +201,8 @@ class Host:
             with self.news:
                 if cursor == len(self.events):
                     self.news.wait(0.02)
-                behind = self.events[cursor:cursor + 1]
-            for message, _ in behind:
+                later = self.events[cursor:cursor + 1]
+            for message, _ in later:
                 peer.sendall(frame(BINARY, message))
                 cursor, most = cursor + 1, None if most is None else most - 1
                 time.sleep(self.pause)

@@ -76,7 +76,7 @@ class World:
             host.state(account, True)
             if account is not self.kim:
                 host.commit(account, creates=3)
-        self.jons_old = self.jon.repository()
+        self.jons_old, self.jons_rev = self.jon.repository(), self.jon.rev
         for account in (self.ada, self.bob, self.web, self.dan, self.carol, self.jon, self.hal, self.ivy):
             self.home(account).commit(account, creates=2, updates=1)
             self.home(account).commit(account, creates=1, deletes=1)

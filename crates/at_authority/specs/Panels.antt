@@ -1,10 +1,10 @@
--- Who is asked: for each DID method a list of authorities of authorities in their order, of which those in front have fallen.
+-- Who is asked: for each DID method a list of authorities in their order, of which those in front have fallen.
 use Rattle.std.specs.Prelude.{◌≡◌, ℕ, zero, suc, Bool, true, false, ◌≤◌, ◌<◌, ◌⊎◌, List, [], ◌∷◌, length, drop, map, get_or, Option, if◌then◌else◌}
 use Rattle.std.specs.Str.{bytes_eq}
 use Rattle.at_authority.specs.Queries.{Telling}
 use Rattle.at_authority.specs.Answers.{Rises}
 
--- an authority on its list of authorities: its value, where it tells it, and its count of faults
+-- an authority on such a list: its value, where it tells it, and its count of faults
 pub record Entry : Type 0 where
   pub value : Option Telling
   pub faults : ℕ

@@ -19,7 +19,7 @@ pub enum JudgeFault {
     Memory,
 }
 
-/// Who is asked for homes and verdicts. For each DID method it has a list of authorities of authorities, of which the first that lives is
+/// Who is asked for homes and verdicts. For each DID method it has a list of authorities, of which the first that lives is
 /// asked; an authority whose call fails falls, and the next is asked the same. A DID that is asked about must be one, as
 /// [`did_ok`](at_syntax::did_ok) tells.
 pub trait Judges {

@@ -5,7 +5,6 @@
 mod asked;
 mod authorities;
 mod authority;
-mod file_authority;
 mod judges;
 mod laws;
 mod line;
@@ -18,7 +17,6 @@ mod trust_all;
 
 pub use asked::Asked;
 pub use authority::Authority;
-pub use file_authority::FileAuthority;
 pub use judges::{JudgeFault, Judges};
 pub use laws::{
     answers_have_ranks, calls_fell, calls_join, calls_part, home_lines_name_homes, one_line_is_bad,

@@ -1,4 +1,4 @@
--- What a relay behind a relay does (own).
+-- What a relay that follows another one does (own).
 use Rattle.std.specs.Prelude.{◌≡◌, ◌⊎◌, ℕ, true, List, [], ◌++◌, Some, IsTrue}
 use Rattle.backfill.specs.Served.{served}
 use Rattle.relay_row.specs.Folds.{cursor}

@@ -1,4 +1,4 @@
--- How a relay behind a relay ends, by how its parts do (own).
+-- How a relay that follows another one ends, by how its parts do (own).
 use Rattle.std.specs.Prelude.{⊤, Result, Ok, Err}
 use Rattle.event_window.specs.declared.fault.EventsFault.{EventsFault}
 use Rattle.relay_store.specs.declared.fault.StoreFault.{StoreFault}

@@ -1,4 +1,4 @@
--- What a relay behind a relay works on, at one moment (own).
+-- What a relay that follows another one works on, at one moment (own).
 use Rattle.std.specs.Prelude.{◌≡◌, ◌≢◌, ◌≤◌, ◌⊎◌, ⊤, ℕ, List, [], Option}
 use Rattle.at_cid.specs.Counts.{Rose}
 use Rattle.at_authority.specs.Trusting.{trusting}

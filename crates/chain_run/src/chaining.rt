@@ -1,4 +1,4 @@
-//! What one relay serves, taken by a relay behind it.
+//! What one relay serves, taken by a second one that follows it.
 
 ghost use Rattle.std.specs.Prelude.{◌≡◌, ◌≢◌, ◌≤◌, ◌⊎◌, ℕ, List, [], true, IfOk, IsTrue, Some, Err};
 ghost use Rattle.at_cid.specs.Counts.{Rose};
@@ -270,8 +270,8 @@ fn chain_sides<D: Disk, P: Judges, R: Repos, C: Clock, O: Sink>(
     }
 }
 
-/// Takes what the journal of the first two disks serves behind the host's cursor as messages of the host into the journal of the second
-/// two, none behind the host's end, and writes the report. Each home is right and each signature good, as the first relay has found
+/// Takes what the journal of the first two disks serves after the host's cursor as messages of the host into the journal of the second
+/// two, none after the host's end, and writes the report. Each home is right and each signature good, as the first relay has found
 /// them. No row of either log is to end past `most`, which is in bytes.
 pub fn chain_within<D: Disk, R: Repos, C: Clock, O: Sink>(
     alloc: Global,

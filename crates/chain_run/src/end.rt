@@ -1,4 +1,4 @@
-//! How a relay behind a relay ends.
+//! How a relay that follows another one ends.
 
 ghost use Rattle.std.specs.Prelude.{◌≡◌, IfOk};
 ghost use Rattle.chain_run.specs.Ends.{IsOfMessages, end_of_events, end_of_store, end_of_taken, end_of_taking};
@@ -7,7 +7,7 @@ use event_window::EventsFault;
 use relay_store::StoreFault;
 use take_run::TakeEnd;
 
-/// How a relay behind a relay ended. A place or an end is in bytes from the front of its log.
+/// How a run of a relay that follows another one ended. A place or an end is in bytes from the front of its log.
 #[derive(Clone, Copy, Debug, PartialEq, Eq)]
 pub enum ChainEnd {
     /// All that the first relay serves was taken, or all up to the end of its host; and the whole report is written.

@@ -146,7 +146,7 @@ fn take_left<E: Events, D: Disk, P: Judges, R: Repos, C: Clock, O: Sink>(
     Ok(finish(alloc, store.last_seq(), tally, out))
 }
 
-/// Takes the messages that follow a cursor, one by one, none behind the host's end and at most `most`, and writes the report: a line for
+/// Takes the messages that follow a cursor, one by one, none after the host's end and at most `most`, and writes the report: a line for
 /// each message once its row is durable, and one more where it is done.
 pub(crate) fn take_given<E: Events, D: Disk, P: Judges, R: Repos, C: Clock, O: Sink>(
     alloc: Global,

@@ -1,30 +1,52 @@
 //! The edge by itself, to be tried against other programs.
 //!
-//! `edge_run feed HOST CURSOR` writes each message of a host's stream behind the cursor, after its
+//! `edge_run feed HOST CURSOR` writes each message of a host's stream after the cursor, each after its
 //! length in four bytes (the most significant first), and ends with 0 where the host closed and with
 //! 1 where the feed failed.
 //!
-//! `edge_run door GUESTS MESSAGES LENGTH [PORT]` serves so many guests, one after another. Each gets so
-//! many messages of so many bytes, all of them the letter `m`. It prints a line for each guest.
+//! `edge_run door GUESTS MESSAGES LENGTH [PORT]` serves GUESTS guests, one after another. Each gets
+//! MESSAGES messages of LENGTH bytes, all of them the letter `m`. It prints a line for each guest.
 //!
-//! `edge_run wire REQUESTS LENGTH [PORT]` takes so many requests, one after another, and sends each a
-//! reply of so many bytes, all of them the letter `m`. It prints for each how many bytes it has, and
+//! `edge_run wire REQUESTS LENGTH [PORT]` takes REQUESTS requests, one after another, and sends each a
+//! reply of LENGTH bytes, all of them the letter `m`. It prints for each how many bytes it has, and
 //! whether the reply was sent.
+//!
+//! Why one of them failed stands on standard error.
 #![tactic(auto)]
 
 ghost use Rattle.std.specs.Prelude.{IsTrue};
 
-use anyhow::{Context, Result, bail};
+use anyhow::{Context, Error, Result, bail};
 use at_cid::Octets;
-use relay_io::{Door, Feed, Guest, Wire, WriterSink, write_all};
+use os_edge::{Reporter, WriterSink};
+use relay_io::{Door, Feed, Guest, Wire, write_all};
 use std::env;
 use std::process::ExitCode;
-use ws_edge::{DOOR_PORT, TcpWire, WIRE_PORT, WsDoor, WsFeed};
+use ws_edge::{DOOR_PORT, Fault, TcpWire, WIRE_PORT, WsDoor, WsFeed};
+
+// Why a call failed: by the edge, where it says so.
+fn reason(fault: Option<Fault>, error: Error) -> Error {
+    match fault {
+        Some(fault) => fault.into(),
+        None => error,
+    }
+}
 
 // Writes what a host gives.
 fn follow(rt: &HostRuntime, host: &str, cursor: u64) -> Result<()> {
     let mut feed = WsFeed::new(rt.alloc(), rt);
-    let mut out = WriterSink::new(rt.stdout());
+    match write_messages(rt, &mut feed, host, cursor) {
+        Ok(()) => Ok(()),
+        Err(error) => Err(reason(feed.fault(), error)),
+    }
+}
+
+// Writes the messages of a host, each after its length.
+fn write_messages<F: Feed>(rt: &HostRuntime, feed: &mut F, host: &str, cursor: u64) -> Result<()> {
+    let Ok(reporter) = Reporter::new(*rt, "edge_run") else {
+        bail!("out of memory");
+    };
+    let mut out = WriterSink::new(reporter, "standard output", rt.stdout());
     let mut message = Octets::new(rt.alloc());
     feed.open(host, cursor)?;
     for _ in 0..u64::MAX {
@@ -38,8 +60,8 @@ fn follow(rt: &HostRuntime, host: &str, cursor: u64) -> Result<()> {
     Ok(())
 }
 
-// Sends the message so many times to the guest who waits, and ends the session. Says how many were
-// taken, and how it ended.
+// Sends the message this many times to the guest who waits, and ends the session. Returns how many
+// were taken, and how it ended.
 fn send_times<G: Door>(door: &mut G, times: u64, message: &[u8]) -> (u64, &'static str)
     requires { IsTrue (G.waits door.old) }
 {
@@ -58,7 +80,11 @@ fn send_times<G: Door>(door: &mut G, times: u64, message: &[u8]) -> (u64, &'stat
 fn serve(rt: &HostRuntime, port: u16, guests: u64, times: u64, message: &[u8]) -> Result<()> {
     let mut door = WsDoor::new(rt.alloc(), rt, port);
     for _ in 0..guests {
-        match door.next()? {
+        let guest = match door.next() {
+            Ok(guest) => guest,
+            Err(error) => return Err(reason(door.fault(), error.into())),
+        };
+        match guest {
             Guest::Target(target) => {
                 let (sent, end) = send_times(&mut door, times, message);
                 println!(rt; "{} sent {sent} {end}", target.as_str())?;
@@ -75,8 +101,10 @@ fn reply_to(rt: &HostRuntime, port: u16, requests: u64, reply: &[u8]) -> Result<
     let mut wire = TcpWire::new(rt, port);
     let mut request = Octets::new(rt.alloc());
     for _ in 0..requests {
-        if !wire.next(&mut request)? {
-            break;
+        match wire.next(&mut request) {
+            Ok(true) => {}
+            Ok(false) => break,
+            Err(error) => return Err(reason(wire.fault(), error.into())),
         }
         let length = request.len();
         let end = if wire.send(reply).is_ok() {
@@ -89,7 +117,7 @@ fn reply_to(rt: &HostRuntime, port: u16, requests: u64, reply: &[u8]) -> Result<
     Ok(())
 }
 
-// So many bytes, all of them the letter `m`.
+// Bytes of this length, all of them the letter `m`.
 fn content(rt: &HostRuntime, length: &str) -> Result<Vec<u8>> {
     Ok(vec![in rt.alloc(); b'm'; length.parse::<usize>()?]?)
 }

@@ -2,14 +2,17 @@
 
 use anyhow::{Result, bail};
 use at_cid::cid_of;
-use relay_io::{ReaderSource, read_to_end};
+use os_edge::{ReaderSource, Reporter};
+use relay_io::read_to_end;
+use vector_lines::had;
 
 /// The most bytes of input.
 const MOST: usize = 1 << 28;
 
 /// Hashes the blocks of the input, and says how many there are.
 pub fn hash(rt: &HostRuntime) -> Result<()> {
-    let mut input = ReaderSource::new(rt.stdin());
+    let reporter = had(Reporter::new(*rt, "measures"))?;
+    let mut input = ReaderSource::new(reporter, "standard input", rt.stdin());
     let Ok(bytes) = read_to_end(rt.alloc(), &mut input, MOST) else {
         bail!("the input");
     };

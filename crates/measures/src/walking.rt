@@ -1,12 +1,15 @@
 //! A whole repository, checked.
 
 use anyhow::{Result, bail};
-use relay_io::{FileRepos, Repos};
+use os_edge::{FileRepos, Reporter};
+use relay_io::Repos;
 use repo_sync::check_repo;
+use vector_lines::had;
 
 /// Checks the repository in the file of a DID.
 pub fn walk(rt: &HostRuntime, folder: &str, did: &str) -> Result<()> {
-    let mut repos = FileRepos::new(rt, rt.alloc(), folder.to_string(rt.alloc())?);
+    let reporter = had(Reporter::new(*rt, "measures"))?;
+    let mut repos = FileRepos::new(reporter, rt.alloc(), folder.to_string(rt.alloc())?);
     if !repos.open(did)? {
         bail!("no repository of this DID");
     }

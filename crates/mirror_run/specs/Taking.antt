@@ -1,4 +1,4 @@
--- What a mirror holds behind the messages that were taken of a stream. No public clause cites this file.
+-- What a mirror holds after the messages that were taken of a stream. No public clause cites this file.
 use Rattle.std.specs.Prelude.{◌≡◌, ℕ, Bool, false, List, [], ◌++◌, length, IsTrue}
 use Rattle.backfill.specs.Writing.{with_length}
 use Rattle.mirror.specs.Held.{IsHeld}

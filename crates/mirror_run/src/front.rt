@@ -14,7 +14,7 @@ pub(crate) const LENGTH: usize = 4;
 pub(crate) enum Front {
     Message(Octets),
     TooLong,
-    /// Too few bytes for an answer: a message takes so many with its length, as far as they tell.
+    /// Too few bytes for an answer: the number that a message takes with its length, as far as these bytes show it.
     More(usize),
 }
 

@@ -13,7 +13,7 @@ use crate::taking::take_stream;
 use relay_io::{Repos, Sink, Source};
 use std::alloc::Global;
 
-/// Takes the messages of a stream, each behind its length in four bytes, the highest first, and at most
+/// Takes the messages of a stream, each after its length in four bytes, the highest first, and at most
 /// 8,388,608 bytes long, into a mirror, which fetches the repositories that its `#sync` events name. At
 /// the end of the stream it writes a line for each account, in ascending order of their DIDs, and a last
 /// one with the number of events. Of the input at most `limit` bytes are taken.

@@ -51,7 +51,7 @@ impl From<Failed> for StreamFault {
     }
 }
 
-/// A reader of a stream, which takes at most so many bytes of its source.
+/// A reader of a stream, which takes a limited number of bytes of its source.
 #[derive(Drop)]
 pub(crate) struct MessageReader {
     alloc: Global,

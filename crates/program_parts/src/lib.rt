@@ -1,8 +1,12 @@
-//! What the relay's programs share: the files of a folder, and how far a long run is.
+//! What the relay's programs share: their words, and how far a long run is.
 #![tactic(auto)]
 
-mod files;
+mod arguments;
+mod pace;
 mod progress;
+mod report_lines;
+mod texts;
 
-pub use files::{disk_in, path_in, repos_in};
-pub use progress::{Counted, Watched};
+pub use arguments::{ArgumentsFault, read_arguments};
+pub use progress::{ProgressSink, ProgressSource};
+pub use texts::{Texts, write_text};

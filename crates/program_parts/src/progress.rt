@@ -1,97 +1,67 @@
-//! How far a long run is, said on standard error where that is a terminal.
+//! How far a long run is, shown on standard error where that is a terminal.
 ghost use Rattle.std.specs.Prelude.{◌≡◌};
 
+use crate::pace::{Pace, Share};
+use crate::report_lines::ReportCounts;
+use os_edge::Reporter;
 use relay_io::{Failed, Sink, Source};
 use std::cell::Cell;
-use std::io::IsTerminal;
-use std::time::Instant;
+use std::fmt::{self, Display, Formatter};
 
-/// How many milliseconds a run goes on before anything is said.
-const FIRST: u64 = 2_000;
-
-/// And how many from one time to the next.
-const NEXT: u64 = 500;
-
-/// When something is to be said: never where standard error is no terminal, and else from time to time.
+/// A source that counts the bytes that are taken of it, and shows from time to time how many they are.
 #[derive(Drop)]
-struct Pace<'a> {
-    rt: &'a HostRuntime,
-    start: Option<Instant>,
-    due: u64,
-    said: bool,
-}
-
-impl<'a> Pace<'a> {
-    fn new(rt: &'a HostRuntime, is_told: bool) -> Self {
-        let start = if is_told && rt.stderr().is_terminal() {
-            Instant::now(rt).ok()
-        } else {
-            None
-        };
-        Pace {
-            rt,
-            start,
-            due: FIRST,
-            said: false,
-        }
-    }
-
-    // The milliseconds since the start, where it is time to say something.
-    fn is_due(&mut self) -> Option<u64> {
-        let gone = self.start?.elapsed(self.rt).ok()?;
-        let gone = u64::try_from(gone.as_millis()).ok()?;
-        if gone < self.due {
-            return None;
-        }
-        self.due = gone.saturating_add(NEXT);
-        self.said = true;
-        Some(gone)
-    }
-
-    // Ends the line on the terminal, if there is one.
-    fn end(&self) {
-        if self.said {
-            let _ = eprintln!(self.rt; "");
-        }
-    }
-}
-
-/// A source that counts the bytes that are taken of it, and says from time to time how many they are.
-#[derive(Drop)]
-pub struct Counted<'a, I: Source> {
+pub struct ProgressSource<'a, I: Source> {
     input: I,
     taken: &'a Cell<u64>,
-    pace: Pace<'a>,
+    pace: Pace,
 }
 
-impl<'a, I: Source> Counted<'a, I> {
-    /// The same source. Nothing is said unless `is_told`.
-    pub fn new(input: I, rt: &'a HostRuntime, taken: &'a Cell<u64>, is_told: bool) -> Self {
-        Counted {
+/// How many bytes were read.
+#[derive(Clone, Copy)]
+struct BytesRead {
+    megabytes: u64,
+    rate: u64,
+    share: Option<Share>,
+}
+
+impl Display for BytesRead {
+    fn fmt<W: fmt::Write>(&self, f: &mut Formatter<W>) -> fmt::Result {
+        let (megabytes, rate) = (self.megabytes, self.rate);
+        write!(f, "{megabytes} MB, {rate} MB a second")?;
+        match &self.share {
+            Some(share) => Display::fmt(share, f),
+            None => Ok(()),
+        }
+    }
+}
+
+impl<'a, I: Source> ProgressSource<'a, I> {
+    /// The same source. Nothing is shown unless `is_shown`.
+    pub fn new(input: I, reporter: Reporter, taken: &'a Cell<u64>, is_shown: bool) -> Self {
+        ProgressSource {
             input,
             taken,
-            pace: Pace::new(rt, is_told),
+            pace: Pace::new(reporter, is_shown),
         }
     }
 
-    /// Ends the line on the terminal, if there is one.
-    pub fn end(&self) {
-        self.pace.end();
-    }
-
-    fn tell(&mut self)
+    fn show(&mut self)
         ensures input { self.new.input ≡ self.old.input }
     {
         let Some(gone) = self.pace.is_due() else {
             return;
         };
-        let megabytes = self.taken.get() / 1_000_000;
-        let rate = megabytes.saturating_mul(1_000) / gone.max(1);
-        let _ = eprint!(self.pace.rt; "\r{megabytes} MB, {rate} MB a second ");
+        let taken = self.taken.get();
+        let megabytes = taken / 1_000_000;
+        self.pace.reporter().show_progress(&BytesRead {
+            megabytes,
+            rate: megabytes.saturating_mul(1_000) / gone.max(1),
+            share: self.pace.share(taken, gone),
+        });
     }
 }
 
-impl<I: Source> Source for Counted<'_, I> {
+impl<I: Source> Source for ProgressSource<'_, I> {
     ghost tells = { I.tells };
 
     ghost left = { λ source. I.left source.input };
@@ -102,103 +72,76 @@ impl<I: Source> Source for Counted<'_, I> {
         let count = self.input.read(room)?;
         self.taken
             .set(self.taken.get().saturating_add(count as u64));
-        self.tell();
+        self.show();
         Ok(count)
     }
 }
 
-/// A reader of a report, who counts its lines by what they say. `field` and `place` tell where in a line it is.
-#[derive(Clone, Copy)]
-struct Lines {
-    messages: u64,
-    events: u64,
-    refused: u64,
-    field: u8,
-    place: u8,
-}
-
-impl Lines {
-    fn new() -> Lines {
-        Lines {
-            messages: 0,
-            events: 0,
-            refused: 0,
-            field: 0,
-            place: 0,
-        }
-    }
-
-    fn read(&mut self, bytes: &[u8]) {
-        for byte in bytes {
-            self.step(*byte);
-        }
-    }
-
-    // The third field of a line is `event`, or begins as `refused` does; no other has these letters there.
-    fn step(&mut self, byte: u8) {
-        match (byte, self.field, self.place) {
-            (b'\n', _, _) => {
-                self.messages = self.messages.saturating_add(1);
-                self.field = 0;
-                self.place = 0;
-                return;
-            }
-            (b' ', _, _) => {
-                self.field = self.field.saturating_add(1);
-                self.place = 0;
-                return;
-            }
-            (b'v', 2, 1) => self.events = self.events.saturating_add(1),
-            (b'r', 2, 0) => self.refused = self.refused.saturating_add(1),
-            _ => {}
-        }
-        self.place = self.place.saturating_add(1);
-    }
-}
-
-/// A sink of a report, which says from time to time how much it has told of. Nothing is said in the first two seconds, of the
-/// last line, or where standard error is no terminal.
+/// A sink of a report, which shows from time to time what it has reported. Nothing is shown in the
+/// first two seconds, of the last line, or where standard error is no terminal.
 #[derive(Drop)]
-pub struct Watched<'a, O: Sink> {
+pub struct ProgressSink<'a, O: Sink> {
     out: O,
     taken: &'a Cell<u64>,
-    lines: Lines,
-    pace: Pace<'a>,
+    counts: ReportCounts,
+    pace: Pace,
 }
 
-impl<'a, O: Sink> Watched<'a, O> {
-    /// The same sink. `taken` are the bytes of the input so far; nothing is said unless `is_reported`.
-    pub fn new(out: O, rt: &'a HostRuntime, taken: &'a Cell<u64>, is_reported: bool) -> Self {
-        Watched {
+/// What was reported so far.
+#[derive(Clone, Copy)]
+struct Reported {
+    counts: ReportCounts,
+    megabytes: u64,
+    rate: u64,
+    share: Option<Share>,
+}
+
+impl Display for Reported {
+    fn fmt<W: fmt::Write>(&self, f: &mut Formatter<W>) -> fmt::Result {
+        let (megabytes, rate) = (self.megabytes, self.rate);
+        let messages = self.counts.messages;
+        let events = self.counts.events;
+        let refused = self.counts.refused;
+        write!(
+            f,
+            "{messages} messages, {megabytes} MB, {events} events, {refused} refused, {rate} messages a second"
+        )?;
+        match &self.share {
+            Some(share) => Display::fmt(share, f),
+            None => Ok(()),
+        }
+    }
+}
+
+impl<'a, O: Sink> ProgressSink<'a, O> {
+    /// The same sink. `taken` are the bytes of the input so far; nothing is shown unless `is_shown`.
+    pub fn new(out: O, reporter: Reporter, taken: &'a Cell<u64>, is_shown: bool) -> Self {
+        ProgressSink {
             out,
             taken,
-            lines: Lines::new(),
-            pace: Pace::new(rt, is_reported),
+            counts: ReportCounts::new(),
+            pace: Pace::new(reporter, is_shown),
         }
     }
 
-    /// Ends the line on the terminal, if there is one.
-    pub fn end(&self) {
-        self.pace.end();
-    }
-
-    fn tell(&mut self)
+    fn show(&mut self)
         ensures out { self.new.out ≡ self.old.out }
     {
         let Some(gone) = self.pace.is_due() else {
             return;
         };
-        let lines = self.lines;
-        let rate = lines.messages.saturating_mul(1_000) / gone.max(1);
-        let megabytes = self.taken.get() / 1_000_000;
-        let _ = eprint!(self.pace.rt;
-            "\r{} messages, {megabytes} MB, {} events, {} refused, {rate} messages a second ",
-            lines.messages, lines.events, lines.refused
-        );
+        let taken = self.taken.get();
+        let counts = self.counts;
+        self.pace.reporter().show_progress(&Reported {
+            counts,
+            megabytes: taken / 1_000_000,
+            rate: counts.messages.saturating_mul(1_000) / gone.max(1),
+            share: self.pace.share(taken, gone),
+        });
     }
 }
 
-impl<O: Sink> Sink for Watched<'_, O> {
+impl<O: Sink> Sink for ProgressSink<'_, O> {
     ghost tells = { O.tells };
 
     ghost written = { λ sink. O.written sink.out };
@@ -206,10 +149,11 @@ impl<O: Sink> Sink for Watched<'_, O> {
     ghost faults = { λ sink. O.faults sink.out };
 
     fn write(&mut self, piece: &[u8]) -> Result<usize, Failed> {
+        self.pace.reporter().clear_progress();
         let count = self.out.write(piece)?;
-        if self.pace.start.is_some() && !piece.starts_with(b"end ") {
-            self.lines.read(&piece[..count]);
-            self.tell();
+        if self.pace.is_shown() && !piece.starts_with(b"end ") {
+            self.counts.read(&piece[..count]);
+            self.show();
         }
         Ok(count)
     }

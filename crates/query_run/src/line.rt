@@ -80,7 +80,7 @@ pub(crate) fn write_request<O: Sink>(
     }
 }
 
-/// Writes the last line, behind so many requests.
+/// Writes the last line, with the number of requests.
 pub(crate) fn write_end<O: Sink>(alloc: Global, count: u64, out: &mut O) -> Result<(), ServeEnd>
     ensures written { OnOk result (IsTrue O.tells
         → O.written out.new ≡ O.written out.old ++ queries_end_line count) }

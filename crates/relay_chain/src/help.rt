@@ -1,53 +1,30 @@
-//! What the program says of itself, and of how a run ended.
-
-use crate::status::ChainStatus;
+//! What the program says of itself.
 
 /// The name of the program, and its version.
-pub const VERSION: &str = "relay_chain 0.1.0\n";
+pub const VERSION: &str = "Jupwachay relay_chain 0.2.0\n";
 
 /// What it does, the files of the folders, and the statuses.
 pub const HELP: &str = "\
 usage: relay_chain DIR1 DIR2 HOST
-       relay_chain --help | --version
+       relay_chain -h | help | --help
+       relay_chain version | --version
 
-Takes what the relay of DIR1 serves behind the last number of HOST into the journal of
-DIR2, as messages of HOST, and prints a line for each. No authority is asked: what DIR1
-serves was judged there.
+Takes what the relay of DIR1 serves after the cursor of HOST into the journal of DIR2, as
+messages of HOST, and prints a line for each. No table is asked: what DIR1 serves was
+checked there. The journal of DIR1 is only read.
 
-The files of both folders:
-  log, log.2             the journal, on the one or the other
+Files in both folders:
+  log, log.2           the journal, on one of the two
+  generation           the generation of the journal that the last cut wrote
 
-And of DIR2:
-  repos/LINK.car         whole repositories to fetch, by the link over their DID
+Files in DIR2:
+  repos/LINK.car       whole repositories, each named by the link over its DID
 
-The statuses:
+Exit status (a line on standard error names what failed, and why):
    0  done                                 10  the files of a folder hold no journal
-   2  HOST is no host's name               11  the log of DIR2 has no room
-   4  writing the output failed            12  the last number was given
-   5  a disk failed                        14  there was no memory
-   7  reading a repository failed          17  the clock can't be read
+   2  HOST is no host's name               11  the journal of DIR2 has no room
+   4  standard output failed               12  the last sequence number was given
+   5  a file of a journal failed, or       14  memory ran out
+      another run is working on it         17  the clock failed
+   7  a repository failed
 ";
-
-/// What a status means, and what to do, in a line; none where all was done.
-pub fn advice(status: ChainStatus) -> Option<&'static str> {
-    match status {
-        ChainStatus::Done => None,
-        ChainStatus::Usage => Some("the words are no host's name: see relay_chain --help"),
-        ChainStatus::WriteFault => Some(
-            "writing the output failed: look at what takes it, and run it again",
-        ),
-        ChainStatus::Disk => Some(
-            "a disk failed: look at the disks and at the files' rights, and run it again",
-        ),
-        ChainStatus::Repos => Some("reading a repository failed: look at repos, and run it again"),
-        ChainStatus::BadLog(_) => Some(
-            "the files of a folder hold no journal: put back a copy of its log and log.2",
-        ),
-        ChainStatus::Full(_) => Some("the second log has no room: take its front out with cut"),
-        ChainStatus::SeqEnd => Some("the last number was given: begin in a fresh folder"),
-        ChainStatus::Memory => Some("there was no memory: give the program more, and run it again"),
-        ChainStatus::Clock => Some(
-            "the clock can't be read: mend the machine's clock, and run it again",
-        ),
-    }
-}

@@ -1,38 +1,69 @@
-//! A relay behind a relay: what the one serves, taken by the other as messages of a host.
+//! A relay that follows another one: what the first serves is taken by the second as messages of a host.
 #![tactic(auto)]
 
 mod help;
+mod meaning;
 mod running;
 mod status;
 
 use at_cid::Memory;
-use help::{HELP, VERSION, advice};
-use program_parts::{Watched, disk_in, repos_in};
-use relay_io::{SystemClock, WriterSink, write_all};
+use at_syntax::host_ok;
+use help::{HELP, VERSION};
+use meaning::report_end;
+use os_edge::{
+    Access, FileRepos, Journal, Reporter, SystemClock, Unopened, WriterSink, are_apart,
+    hold_descriptors, open_journal, path_in,
+};
+use program_parts::{ArgumentsFault, ProgressSink, Texts, read_arguments, write_text};
+use relay_disk::FileDisk;
 pub use running::chain;
 pub use status::ChainStatus;
 use std::cell::Cell;
-use std::env;
-use std::io::IsTerminal;
 use std::process::ExitCode;
 
-// Runs the words on the real objects of two folders.
+/// What the program says of itself.
+const TEXTS: Texts = Texts {
+    help: HELP,
+    version: VERSION,
+};
+
+impl From<Unopened> for ChainStatus {
+    fn from(fault: Unopened) -> ChainStatus {
+        match fault {
+            Unopened::Disk => ChainStatus::Disk,
+            Unopened::Older => ChainStatus::BadLog(0),
+            Unopened::Memory => ChainStatus::Memory,
+        }
+    }
+}
+
+// Runs the words on the real objects of two folders, of which the first is only read.
 fn run_in(
-    rt: &HostRuntime,
+    reporter: Reporter,
     first: &str,
     second: &str,
     words: &[String],
-) -> Result<ChainStatus, Memory> {
-    let mut first_disk = disk_in(rt, first, "log")?;
-    let mut first_other = disk_in(rt, first, "log.2")?;
-    let mut second_disk = disk_in(rt, second, "log")?;
-    let mut second_other = disk_in(rt, second, "log.2")?;
-    let mut repos = repos_in(rt, second)?;
-    let mut clock = SystemClock::new(rt);
+) -> Result<ChainStatus, Unopened> {
+    let rt = *reporter.rt();
+    let alloc = rt.alloc();
+    are_apart(alloc, reporter, first, second)?;
+    let Journal { log, other } = open_journal(alloc, reporter, first, Access::Reading)?;
+    let mut first_disk = FileDisk::on(log);
+    let mut first_other = FileDisk::on(other);
+    let Journal { log, other } = open_journal(alloc, reporter, second, Access::Writing)?;
+    let mut second_disk = FileDisk::on(log);
+    let mut second_other = FileDisk::on(other);
+    let mut repos = FileRepos::new(reporter, alloc, path_in(alloc, second, "repos")?);
+    let mut clock = SystemClock::new(reporter, rt);
     let taken = Cell::new(0);
-    let mut out = Watched::new(WriterSink::new(rt.stdout()), rt, &taken, true);
+    let mut out = ProgressSink::new(
+        WriterSink::new(reporter, "standard output", rt.stdout()),
+        reporter,
+        &taken,
+        true,
+    );
     let status = chain(
-        rt.alloc(),
+        alloc,
         words,
         &mut first_disk,
         &mut first_other,
@@ -42,60 +73,77 @@ fn run_in(
         &mut clock,
         &mut out,
     );
-    out.end();
+    reporter.clear_progress();
     Ok(status)
 }
 
-// The text that one word alone asks for.
-fn text_for(word: &str) -> Option<&'static str> {
-    match word {
-        "--help" => Some(HELP),
-        "--version" => Some(VERSION),
-        _ => None,
+// Runs the program with these words.
+fn run(reporter: Reporter, words: &[String]) -> ChainStatus {
+    if let Some(text) = TEXTS.asked(words) {
+        return match write_text(reporter, text) {
+            Ok(()) => ChainStatus::Done,
+            Err(_) => ChainStatus::WriteFault,
+        };
+    }
+    let [first, second, words @ ..] = words else {
+        reporter.show(&HELP);
+        return ChainStatus::Usage;
+    };
+    if first.is_empty() || second.is_empty() {
+        reporter.report("usage", &"the name of a folder is empty");
+        return ChainStatus::Usage;
+    }
+    if !is_host(words) {
+        reporter.report(
+            "usage: relay_chain DIR1 DIR2 HOST",
+            &"HOST is the name of a host, alone",
+        );
+        return ChainStatus::Usage;
+    }
+    match run_in(reporter, first.as_str(), second.as_str(), words) {
+        Ok(status) => {
+            report_end(reporter, second.as_str(), status);
+            status
+        }
+        Err(fault) => ChainStatus::from(fault),
     }
 }
 
-// Writes a text to the output.
-fn shown(rt: &HostRuntime, text: &str) -> ChainStatus {
-    match write_all(&mut WriterSink::new(rt.stdout()), text.as_bytes()) {
-        Ok(()) => ChainStatus::Done,
-        Err(_) => ChainStatus::WriteFault,
+// Whether the words are the name of a host alone.
+fn is_host(words: &[String]) -> bool {
+    match words {
+        [host] => host_ok(host.as_str()),
+        _ => false,
     }
 }
 
-// The code of a status. What it means is said on standard error where that is a terminal.
-fn ended(rt: &HostRuntime, status: ChainStatus) -> ExitCode {
-    if let Some(advice) = advice(status) {
-        if rt.stderr().is_terminal() {
-            let _ = eprintln!(rt; "relay_chain: {advice}");
+// Runs the program, once the standard descriptors are held.
+fn run_held(reporter: Reporter) -> ChainStatus {
+    match hold_descriptors(reporter.rt()) {
+        Ok(closed) if !closed.output => {}
+        Ok(_) => {
+            reporter.report("standard output", &"it is closed");
+            return ChainStatus::WriteFault;
+        }
+        Err(error) => {
+            reporter.report("standard streams", &error);
+            return ChainStatus::WriteFault;
         }
     }
-    ExitCode::from(status.code())
+    match read_arguments(reporter.rt()) {
+        Ok(words) => run(reporter, words.as_slice()),
+        Err(ArgumentsFault::NotText) => {
+            reporter.report("usage", &"a word is no UTF-8 text");
+            ChainStatus::Usage
+        }
+        Err(ArgumentsFault::Memory) => ChainStatus::Memory,
+    }
 }
 
 fn main(rt: HostRuntime) -> ExitCode {
-    let Ok(mut given) = env::args(&rt) else {
-        return ended(&rt, ChainStatus::Memory);
+    let status = match Reporter::new(rt, "relay_chain") {
+        Ok(reporter) => run_held(reporter),
+        Err(Memory) => ChainStatus::Memory,
     };
-    let _program = given.next();
-    let Some(first) = given.next() else {
-        return ended(&rt, ChainStatus::Usage);
-    };
-    let Some(second) = given.next() else {
-        let status = match text_for(first.as_str()) {
-            Some(text) => shown(&rt, text),
-            None => ChainStatus::Usage,
-        };
-        return ended(&rt, status);
-    };
-    let mut words = Vec::new(rt.alloc());
-    for word in given {
-        if words.push(word).is_err() {
-            return ended(&rt, ChainStatus::Memory);
-        }
-    }
-    let status = run_in(&rt, first.as_str(), second.as_str(), words.as_slice()).unwrap_or(
-        ChainStatus::Memory,
-    );
-    ended(&rt, status)
+    ExitCode::from(status.code())
 }

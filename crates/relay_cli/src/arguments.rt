@@ -1,4 +1,4 @@
-//! The words of a command behind its first.
+//! The words of a command after its first.
 ghost use Rattle.std.specs.Prelude.{◌≡◌, ◌≢◌, ℕ, List, Option, IfOk, IsErrOf, IsTrue, decimal};
 ghost use Rattle.at_syntax.specs.Did.{is_did};
 ghost use Rattle.at_syntax.specs.Host.{is_host};

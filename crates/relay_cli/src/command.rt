@@ -22,11 +22,11 @@ pub enum Command {
     Check,
     /// Takes the messages of a tape.
     Ingest,
-    /// Takes at most so many messages of the host's feed.
+    /// Takes messages of this host's feed, at most this number.
     Follow(Words, u64),
-    /// Writes the messages behind this number.
+    /// Writes the messages after this number.
     Replay(u64),
-    /// Serves so many guests.
+    /// Serves this number of guests.
     Serve(u64),
     /// Prints the account of this DID.
     Account(Words),
@@ -40,13 +40,13 @@ pub enum Command {
     Sync(Words, Words),
     /// Takes the events up to this number out of the journal.
     Cut(u64),
-    /// Runs so many made messages from this start, in two merges.
+    /// Makes messages from this start, this number of them, and runs them in two merges.
     Trial(u64, u64),
     /// Mirrors the stream on the input.
     Mirror,
-    /// Answers so many requests.
+    /// Answers this number of requests.
     Query(u64),
-    /// Writes the operations behind this number as lines of JSON: those on records of this collection, or all.
+    /// Writes the operations after this number as lines of JSON: those on records of this collection, or all.
     Lines(u64, Option<Words>),
 }
 

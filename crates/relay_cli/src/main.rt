@@ -4,12 +4,15 @@
 mod arguments;
 mod checking;
 mod command;
+mod explaining;
 mod help;
 mod judging;
+mod meaning;
 mod parts;
 mod report;
 mod running;
 mod status;
+mod times;
 mod verb;
 mod verdict;
 mod words_fault;
@@ -17,121 +20,194 @@ mod words_fault;
 use at_authority::Panel;
 use at_cid::Memory;
 pub use checking::check;
-use help::{HELP, VERSION, advice};
-use parts::{TABLES, authority_in};
-use program_parts::{Counted, Watched, disk_in, repos_in};
-use relay_io::{ReaderSource, SystemClock, WriterSink, write_all};
+use explaining::explain;
+use help::{HELP, VERSION};
+use meaning::{report_end, report_sockets};
+use os_edge::{
+    Access, FileRepos, Journal, JournalFile, ReaderSource, Reporter, SystemClock, Unopened,
+    WriterSink, hold_descriptors, open_journal, path_in, record_generation,
+};
+use parts::{TABLES, authority_in, remark_on_stranger};
+use program_parts::{
+    ArgumentsFault, ProgressSink, ProgressSource, Texts, read_arguments, write_text,
+};
+use relay_disk::FileDisk;
 pub use running::relay;
 pub use status::Status;
 use std::cell::Cell;
-use std::env;
-use std::io::IsTerminal;
 use std::process::ExitCode;
+use times::remark_on_time;
+use verb::{Verb, verb_from};
 use ws_edge::{DOOR_PORT, TcpWire, WIRE_PORT, WsDoor, WsFeed};
 
-// Whether the words are those of a run that writes a report, of which it is said how far it is.
-fn is_reported(words: &[String]) -> bool {
-    match words.first() {
-        Some(word) => matches!(word.as_str(), "ingest" | "follow"),
-        None => false,
+/// What the program says of itself.
+const TEXTS: Texts = Texts {
+    help: HELP,
+    version: VERSION,
+};
+
+impl From<Unopened> for Status {
+    fn from(fault: Unopened) -> Status {
+        match fault {
+            Unopened::Disk => Status::Disk,
+            Unopened::Older => Status::BadLog(0),
+            Unopened::Memory => Status::Memory,
+        }
     }
 }
 
-// Whether the words are those of a run that reads all of its input first, of which it is said how far that is.
-fn is_mirrored(words: &[String]) -> bool {
-    match words.first() {
-        Some(word) => word.as_str() == "mirror",
-        None => false,
+// The disks of a folder's journal, opened as the command needs them; empty ones in memory for a
+// command that has no use for a journal.
+fn disks_for(
+    reporter: Reporter,
+    folder: &str,
+    verb: Verb,
+) -> Result<(FileDisk<JournalFile>, FileDisk<JournalFile>), Unopened> {
+    let alloc = reporter.rt().alloc();
+    let Journal { log, other } = match verb.access() {
+        Some(access) => open_journal(alloc, reporter, folder, access)?,
+        None => Journal::in_memory(alloc, reporter),
+    };
+    Ok((FileDisk::on(log), FileDisk::on(other)))
+}
+
+// What is worth a remark before a command begins.
+fn remark_before(
+    reporter: Reporter,
+    folder: &str,
+    verb: Verb,
+    words: &[String],
+) -> Result<(), Memory> {
+    match (verb, words) {
+        (Verb::Follow, [_, host, _]) => remark_on_stranger(reporter, folder, host.as_str()),
+        (Verb::Takedown | Verb::Restore | Verb::Sync, [_, _, time]) => {
+            remark_on_time(reporter, time.as_str());
+            Ok(())
+        }
+        _ => Ok(()),
     }
 }
 
-// Runs the words on the real objects of a folder.
-fn run_in(rt: &HostRuntime, folder: &str, words: &[String]) -> Result<Status, Memory> {
-    let mut panel = Panel::new(rt.alloc());
+// Runs a command on the real objects of a folder.
+fn run_in(
+    reporter: Reporter,
+    folder: &str,
+    verb: Verb,
+    words: &[String],
+) -> Result<Status, Unopened> {
+    let rt = *reporter.rt();
+    let alloc = rt.alloc();
+    let (mut disk, mut other) = disks_for(reporter, folder, verb)?;
+    remark_before(reporter, folder, verb, words)?;
+    let mut panel = Panel::new(alloc);
     for (method, name) in TABLES {
-        let authority = Box::new(rt.alloc(), authority_in(rt, folder, name)?)?;
+        let Ok(authority) = Box::new(alloc, authority_in(reporter, folder, name)?) else {
+            return Err(Unopened::Memory);
+        };
         panel.add(method, authority)?;
     }
-    let mut repos = repos_in(rt, folder)?;
-    let mut disk = disk_in(rt, folder, "log")?;
-    let mut other = disk_in(rt, folder, "log.2")?;
-    let mut clock = SystemClock::new(rt);
+    let mut repos = FileRepos::new(reporter, alloc, path_in(alloc, folder, "repos")?);
+    let mut clock = SystemClock::new(reporter, rt);
     let taken = Cell::new(0);
-    let mut input = Counted::new(
-        ReaderSource::new(rt.stdin()),
-        rt,
+    let mut input = ProgressSource::new(
+        ReaderSource::new(reporter, "standard input", rt.stdin()),
+        reporter,
         &taken,
-        is_mirrored(words),
+        verb == Verb::Mirror,
     );
-    let mut out = Watched::new(WriterSink::new(rt.stdout()), rt, &taken, is_reported(words));
-    let mut feed = WsFeed::new(rt.alloc(), rt);
-    let mut door = WsDoor::new(rt.alloc(), rt, DOOR_PORT);
+    let mut out = ProgressSink::new(
+        WriterSink::new(reporter, "standard output", rt.stdout()),
+        reporter,
+        &taken,
+        matches!(verb, Verb::Ingest | Verb::Follow),
+    );
+    let mut feed = WsFeed::new(alloc, rt);
+    let mut door = WsDoor::new(alloc, rt, DOOR_PORT);
     let mut wire = TcpWire::new(rt, WIRE_PORT);
     let status = relay(
-        rt.alloc(),
-        words,
-        &mut panel,
-        &mut feed,
-        &mut repos,
-        &mut disk,
-        &mut other,
-        &mut input,
-        &mut out,
-        &mut door,
-        &mut clock,
-        &mut wire,
+        alloc, words, &mut panel, &mut feed, &mut repos, &mut disk, &mut other, &mut input,
+        &mut out, &mut door, &mut clock, &mut wire,
     );
-    input.end();
-    out.end();
+    reporter.clear_progress();
+    report_sockets(
+        reporter,
+        status,
+        words,
+        feed.fault(),
+        door.fault(),
+        wire.fault(),
+    );
+    report_end(reporter, folder, status);
+    if verb == Verb::Cut && status == Status::Done {
+        record_generation(alloc, reporter, folder)?;
+    }
     Ok(status)
 }
 
-// The text that one word alone asks for.
-fn text_for(word: &str) -> Option<&'static str> {
-    match word {
-        "--help" => Some(HELP),
-        "--version" => Some(VERSION),
-        _ => None,
+// Runs the program with these words.
+fn run(reporter: Reporter, words: &[String]) -> Status {
+    if let Some(text) = TEXTS.asked(words) {
+        return match write_text(reporter, text) {
+            Ok(()) => Status::Done,
+            Err(_) => Status::WriteFault,
+        };
+    }
+    let [folder, words @ ..] = words else {
+        reporter.show(&HELP);
+        return Status::Usage;
+    };
+    match explain(reporter, folder.as_str(), words) {
+        Ok(verb) => match run_in(reporter, folder.as_str(), verb, words) {
+            Ok(status) => status,
+            Err(fault) => Status::from(fault),
+        },
+        Err(status) => status,
     }
 }
 
-// Writes a text to the output.
-fn shown(rt: &HostRuntime, text: &str) -> Status {
-    match write_all(&mut WriterSink::new(rt.stdout()), text.as_bytes()) {
-        Ok(()) => Status::Done,
-        Err(_) => Status::WriteFault,
-    }
-}
-
-// The code of a status. What it means is said on standard error where that is a terminal.
-fn ended(rt: &HostRuntime, status: Status) -> ExitCode {
-    if let Some(advice) = advice(status) {
-        if rt.stderr().is_terminal() {
-            let _ = eprintln!(rt; "relay: {advice}");
+// Runs the program, once the standard descriptors are held.
+fn run_held(reporter: Reporter) -> Status {
+    let closed = match hold_descriptors(reporter.rt()) {
+        Ok(closed) => closed,
+        Err(error) => {
+            reporter.report("standard streams", &error);
+            return Status::WriteFault;
         }
+    };
+    if closed.output {
+        reporter.report("standard output", &"it is closed");
+        return Status::WriteFault;
     }
-    ExitCode::from(status.code())
+    let words = match read_arguments(reporter.rt()) {
+        Ok(words) => words,
+        Err(ArgumentsFault::NotText) => {
+            reporter.report("usage", &"a word is no UTF-8 text");
+            return Status::Usage;
+        }
+        Err(ArgumentsFault::Memory) => return Status::Memory,
+    };
+    if closed.input && reads_input(words.as_slice()) {
+        reporter.report("standard input", &"it is closed");
+        return Status::ReadFault;
+    }
+    run(reporter, words.as_slice())
+}
+
+// Whether the words are those of a command that reads the standard input.
+fn reads_input(words: &[String]) -> bool {
+    match words {
+        [_, word, ..] => matches!(
+            verb_from(word.as_str()),
+            Some(Verb::Check | Verb::Ingest | Verb::Mirror)
+        ),
+        _ => false,
+    }
 }
 
 fn main(rt: HostRuntime) -> ExitCode {
-    let Ok(mut given) = env::args(&rt) else {
-        return ended(&rt, Status::Memory);
+    let status = match Reporter::new(rt, "relay") {
+        Ok(reporter) => run_held(reporter),
+        Err(_) => Status::Memory,
     };
-    let _program = given.next();
-    let Some(folder) = given.next() else {
-        return ended(&rt, Status::Usage);
-    };
-    let mut words = Vec::new(rt.alloc());
-    for word in given {
-        if words.push(word).is_err() {
-            return ended(&rt, Status::Memory);
-        }
-    }
-    if words.is_empty() {
-        if let Some(text) = text_for(folder.as_str()) {
-            return ended(&rt, shown(&rt, text));
-        }
-    }
-    let status = run_in(&rt, folder.as_str(), words.as_slice()).unwrap_or(Status::Memory);
-    ended(&rt, status)
+    ExitCode::from(status.code())
 }

@@ -2,6 +2,8 @@
 ghost use Rattle.std.specs.Prelude.{◌≡◌, ◌≢◌, MatchOption};
 ghost use Rattle.relay_cli.specs.Commands.{verb_name};
 
+use os_edge::Access;
+
 /// Which command the words are of.
 #[derive(Clone, Copy, Debug, PartialEq, Eq)]
 pub enum Verb {
@@ -20,6 +22,19 @@ pub enum Verb {
     Mirror,
     Query,
     Lines,
+}
+
+impl Verb {
+    /// What the command does with the folder's journal; none where it has no use for one.
+    pub fn access(self) -> Option<Access> {
+        match self {
+            Verb::Check | Verb::Trial | Verb::Mirror => None,
+            Verb::Replay | Verb::Serve | Verb::Account | Verb::Hosts | Verb::Query | Verb::Lines =>
+                { Some(Access::Reading) }
+            Verb::Ingest | Verb::Follow | Verb::Takedown | Verb::Restore | Verb::Sync | Verb::Cut =>
+                Some(Access::Writing),
+        }
+    }
 }
 
 /// The command that a first word is of.

@@ -9,7 +9,7 @@ use at_event::Refusal;
 /// What a message comes to by itself.
 #[derive(Clone, Copy, Debug, PartialEq, Eq)]
 pub enum CheckVerdict {
-    /// A commit, which so many operations lead from the first root to the second.
+    /// A commit: the number of its operations, the root that they lead from, and the root that they lead to.
     Accepted(Cid, Cid, u32),
     /// A message that is refused.
     Refused(Refusal),

@@ -6,10 +6,8 @@ ghost use Rattle.relay_disk.specs.Untold.{untold, untold_disk};
 
 use crate::counts::{counted, fail};
 use crate::disk::SIZES;
-use crate::{Call, Disk, Failed, FileCalls, LazyFile};
+use crate::{Call, Disk, Failed, FileCalls};
 use std::io;
-use std::os::unix::fs::FileExt;
-use std::rt::Files;
 
 /// A disk on one file. A call answers `Failed` where the file does, and where a place or a size isn't inside.
 #[derive(Drop)]
@@ -25,20 +23,6 @@ impl<F: FileCalls> FileDisk<F> {
         ensures faults { result.faults ≡ 0 }
     {
         FileDisk { file, faults: 0 }
-    }
-}
-
-impl<R: Files> FileDisk<LazyFile<R>>
-where
-    R::File: FileExt,
-{
-    /// The disk on the file at this path, without faults so far. Nothing is opened yet.
-    pub fn new(rt: R, path: String) -> Self
-        ensures rt { result.file.rt ≡ rt }
-        ensures path { result.file.path ≡ path }
-        ensures faults { result.faults ≡ 0 }
-    {
-        FileDisk::on(LazyFile::new(rt, path))
     }
 }
 

@@ -1,5 +1,6 @@
 //! What the relay reads from and writes to, and the clock that it asks: traits that say what each
-//! object holds, forms in memory that tell it, and forms over the machine that don't.
+//! object holds, and forms in memory that tell it. The forms over the machine, which tell nothing,
+//! stand in `os_edge` and `ws_edge`.
 #![tactic(auto)]
 
 mod clock;
@@ -7,7 +8,6 @@ mod copying;
 mod door;
 mod failed;
 mod feed;
-mod file_repos;
 mod list_clock;
 mod memory_door;
 mod memory_feed;
@@ -15,21 +15,17 @@ mod memory_repos;
 mod memory_sink;
 mod memory_source;
 mod memory_wire;
-mod reader_source;
 mod reading;
 mod repos;
 mod sink;
 mod source;
-mod system_clock;
 mod wire;
-mod writer_sink;
 mod writing;
 
 pub use clock::Clock;
 pub use door::{Door, DoorFault, Guest, Turn};
 pub use failed::Failed;
 pub use feed::{Feed, FeedFault, LONGEST_FEED_MESSAGE};
-pub use file_repos::FileRepos;
 pub use list_clock::ListClock;
 pub use memory_door::MemoryDoor;
 pub use memory_feed::{MemoryFeed, Numbered};
@@ -37,12 +33,9 @@ pub use memory_repos::{MemoryRepos, Repository};
 pub use memory_sink::MemorySink;
 pub use memory_source::MemorySource;
 pub use memory_wire::MemoryWire;
-pub use reader_source::ReaderSource;
 pub use reading::{ReadFault, read_to_end};
 pub use repos::{Repos, ReposFault};
 pub use sink::Sink;
 pub use source::Source;
-pub use system_clock::SystemClock;
 pub use wire::{Exchange, LONGEST_REQUEST, Wire, WireFault};
-pub use writer_sink::WriterSink;
 pub use writing::write_all;

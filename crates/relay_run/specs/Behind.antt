@@ -1,4 +1,4 @@
--- What the commands on an account do, behind the journal of two disks (own).
+-- What the commands on an account do, after the journal of two disks (own).
 use Rattle.std.specs.Prelude.{◌≡◌, ⊤, ℕ, ◌+◌, ◌≤◌, Bool, true, List, None, IsTrue}
 use Rattle.at_authority.specs.Panels.{IsSpent}
 use Rattle.at_cid.specs.declared.limits.TheConstants.{NUMBERS}

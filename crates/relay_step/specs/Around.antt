@@ -11,7 +11,7 @@ use Rattle.relay_step.specs.Asked.{step_calls}
 use Rattle.relay_step.specs.Fetching.{IsFetchedTold}
 use Rattle.relay_step.specs.Steps.{Decided, after_end, skipped, recorded, Step, rows_decided}
 
--- what the parts tell: the judges' benches, the moments to come, and each DID's repository
+-- what the parts tell: the authorities of each method, the moments to come, and each DID's repository
 pub record Around : Type 0 where
   pub panel : Panel
   pub moments : List ℕ

@@ -133,7 +133,7 @@ fn replay_on<D: Disk, O: Sink>(
     }
 }
 
-/// Writes each message that [`serve`](crate::serve) sends to a guest with this cursor, behind its length in four bytes, the highest
+/// Writes each message that [`serve`](crate::serve) sends to a guest with this cursor, after its length in four bytes, the highest
 /// first. No row of the log is to end past `most`, which is in bytes.
 pub fn replay<D: Disk, O: Sink>(
     alloc: Global,

@@ -66,7 +66,7 @@ fn serve_guests<D: Disk, G: Door, O: Sink>(
     write_end(alloc, served, out)
 }
 
-/// Serves at most `count` guests, one after another in the order of the door, each with the events behind the cursor that the target
+/// Serves at most `count` guests, one after another in the order of the door, each with the events after the cursor that the target
 /// asks for, and writes a line for each session that ended, and the last line. A session that fails is no fault: the next guest is
 /// served. No row of the log is to end past `most`, which is in bytes.
 pub fn serve<D: Disk, G: Door, O: Sink>(

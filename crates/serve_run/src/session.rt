@@ -16,15 +16,15 @@ use std::alloc::Global;
 /// What came of a guest's session.
 #[derive(Clone, Copy, Debug, PartialEq, Eq)]
 pub enum Session {
-    /// Behind this cursor so many events were sent. Where none was asked for, the last number stands for it.
+    /// The cursor, and the number of events that were sent after it. Where none was asked for, the last number stands for it.
     Sent(u64, u64),
-    /// The cursor is above the last number, and the guest was told that alone.
+    /// The cursor is above the last number, and the guest was sent that notice alone.
     Future(u64),
     /// The target asks for no stream, or for no cursor that is one.
     BadTarget,
     /// The handshake gave no target.
     NoHandshake,
-    /// Sending to the guest, or ending the session, failed behind so many events.
+    /// Sending to the guest, or ending the session, failed after this number of events.
     Failed(u64),
 }
 
@@ -116,7 +116,7 @@ pub(crate) fn write_session<O: Sink>(
     }
 }
 
-/// Writes the last line, behind so many sessions.
+/// Writes the last line, with the number of sessions.
 pub(crate) fn write_end<O: Sink>(alloc: Global, count: u64, out: &mut O) -> Result<(), ServeEnd>
     ensures written { OnOk result (IsTrue O.tells
         → O.written out.new ≡ O.written out.old ++ sessions_end_line count) }

@@ -87,20 +87,6 @@ answered_said (s ∷ steps) others (o ∷ outcomes) is =
     let rest : map Some outcomes ≡ map outcome_of steps = cc in
     (λ i. (s.host, head i) ∷ answered_said steps others outcomes rest i)
 
--- hosts that haven't ended
-live_joined : (ended : List (List ℕ)) (group : List Message) (m : Message) → AreLive ended group → has_ended ended m.host ≡ false → AreLive ended (group ++ m ∷ [])
-live_joined ended [] m live not = (not, tt)
-live_joined ended (x ∷ group) m live not = (live.0, live_joined ended group m live.1 not)
-
-pub live_more : (ended : List (List ℕ)) (group : List Message) (n : ℕ) (m : Message) (host : List ℕ) → n < length group → host ≡ (get_or group n m).host → AreLive ended (take n group) → has_ended ended host ≡ false
-    → AreLive ended (take (n + 1) group)
-live_more ended group n m host below is live not =
-    subst (AreLive ended) (sym (take_more group n m below)) (live_joined ended (take n group) (get_or group n m) live (subst (λ (x : List ℕ). has_ended ended x ≡ false) is not))
-
-pub first_ended : (ended : List (List ℕ)) (group : List Message) (m : Message) (host : List ℕ) → FirstHasEnded ended group → host ≡ (get_or group 0 m).host → has_ended ended host ≡ true
-first_ended ended [] m host ended_first is = absurd ended_first
-first_ended ended (x ∷ group) m host ended_first is = subst (λ (h : List ℕ). has_ended ended h ≡ true) (sym is) ended_first
-
 -- unless a fault came, some message has an outcome
 pub some_answered : (group : List Message) (outcomes : List Outcome) → 1 ≤ length group → (length outcomes ≡ length group) ⊎ HasEnd outcomes → 1 ≤ length outcomes
 some_answered group outcomes some all = ⊎_elim

@@ -19,6 +19,7 @@ use Rattle.relay_store.specs.Outcomes.{outcome_as, outcome_decided, skipped_outc
 use Rattle.relay_store.specs.declared.message.Message.{Message}
 use Rattle.relay_store.specs.declared.outcome.Outcome.{Outcome}
 use Rattle.take_run.specs.Said.{AreLive, ended_in, ended_said, said, said_to}
+use Rattle.take_run.proofs.Names.{last_first}
 
 -- the same hosts have ended
 abbrev pub SameEnded : List (List ℕ) → List (List ℕ) → Type 0
@@ -26,18 +27,6 @@ SameEnded xs ys = (host : List ℕ) → has_ended xs host ≡ has_ended ys host
 
 ended_one : (xs ys : List (List ℕ)) (name : List ℕ) → SameEnded xs ys → SameEnded (name ∷ xs) (name ∷ ys)
 ended_one xs ys name same host = ap (λ (b : Bool). bytes_eq host name || b) (same host)
-
-or_between : (a b c : Bool) → (a || (b || c)) ≡ (b || (a || c))
-or_between true true c = refl
-or_between true false c = refl
-or_between false true c = refl
-or_between false false c = refl
-
--- at the end or in front
-last_first : (xs : List (List ℕ)) (name : List ℕ) → SameEnded (xs ++ name ∷ []) (name ∷ xs)
-last_first [] name host = refl
-last_first (x ∷ xs) name host =
-    ap (λ (b : Bool). bytes_eq host x || b) (last_first xs name host) ∙ or_between (bytes_eq host x) (bytes_eq host name) (has_ended xs host)
 
 pass_same : (pass : Pass) (host : List ℕ) (xs ys : List (List ℕ)) → SameEnded xs ys → SameEnded (ended_by pass host xs) (ended_by pass host ys)
 pass_same Pass.Ended host xs ys same = ended_one xs ys host same

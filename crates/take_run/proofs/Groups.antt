@@ -1,10 +1,10 @@
 -- Groups, and the parts of them that batches take.
-use Rattle.std.proofs.Common.{◌≡◌, ℕ, ◌+◌, ◌-◌, List, [], ◌∷◌, ◌++◌, length, take, drop, suc, zero, refl, ap, ◌∙◌, sym, subst, length-drop}
+use Rattle.std.proofs.Common.{◌≡◌, ℕ, ◌+◌, ◌-◌, List, [], ◌∷◌, ◌++◌, length, take, drop, suc, zero, refl, ap, ◌∙◌, sym, subst}
 use Rattle.std.specs.Prelude.{◌&&◌}
 use Rattle.std.specs.List.{list_all}
 use Rattle.std.proofs.lemmas.Bool.{and_parts}
 use Rattle.std.proofs.lemmas.List.{take-append-drop}
-use Rattle.std.proofs.Math.Seq.{take-add, take-length}
+use Rattle.std.proofs.Math.Seq.{take-add}
 use Rattle.at_syntax.specs.Host.{is_host}
 use Rattle.relay_disk.specs.Disk.{View}
 use Rattle.relay_row.specs.declared.row.Row.{Row}
@@ -15,6 +15,7 @@ use Rattle.take_run.specs.Going.{Going, Point, Stopped}
 use Rattle.take_run.specs.Tells.{Tells}
 use Rattle.take_run.specs.declared.end.TakeEnd.{TakeEnd}
 use Rattle.take_run.proofs.Joining.{going_more, going_stops, of_going}
+use Rattle.take_run.proofs.Living.{rest_whole}
 
 pub hosts_front : (group : List Message) (n : ℕ) → AreOfHosts group → AreOfHosts (take n group)
 hosts_front group zero all = refl
@@ -27,10 +28,6 @@ pub hosts_rest : (group : List Message) (n : ℕ) → AreOfHosts group → AreOf
 hosts_rest group zero all = all
 hosts_rest [] (suc n) all = refl
 hosts_rest (m ∷ group) (suc n) all = hosts_rest group n (and_parts (is_host m.host) (list_all (λ (x : Message). is_host x.host) group) all).1
-
--- the rest of a group, as it is taken out of a slice
-rest_whole : (group : List Message) (done : ℕ) → take (length group - done) (drop done group) ≡ drop done group
-rest_whole group done = ap (λ n. take n (drop done group)) (sym (length-drop done group)) ∙ take-length (drop done group)
 
 pub hosts_left : (group : List Message) (done : ℕ) → AreOfHosts group → AreOfHosts (take (length group - done) (drop done group))
 hosts_left group done all = subst AreOfHosts (sym (rest_whole group done)) (hosts_rest group done all)

@@ -1,4 +1,6 @@
+pub mod Names
 pub mod Answers
+pub mod Living
 pub mod Records
 pub mod Ended
 pub mod Counts

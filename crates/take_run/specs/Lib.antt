@@ -2,6 +2,7 @@ pub mod Tells
 pub mod Ends
 pub mod Stops
 pub mod Causes
+pub mod Names
 pub mod Said
 pub mod Lines
 pub mod Tapes

@@ -14,27 +14,13 @@ ghost use Rattle.take_run.specs.Said.{AreLive, FirstHasEnded};
 
 use crate::answering::{answer, skip};
 use crate::end::TakeEnd;
+use crate::live::{live_front, live_still};
 use crate::tally::Tally;
 use at_authority::Judges;
 use relay_disk::Disk;
 use relay_io::{Clock, Repos, Sink};
 use relay_store::{Message, Store};
 use std::alloc::Global;
-
-// How many messages there are in front of the first whose host has ended.
-fn live_front(group: &[Message], tally: &Tally) -> usize
-    ensures within { result ≤ length group.now }
-    ensures live { AreLive tally.now.ended.items (take result group.now) }
-    ensures ended { 0 < length group.now → result ≡ 0
-        → FirstHasEnded tally.now.ended.items group.now }
-{
-    for (n, message) in group.iter().enumerate() {
-        if tally.has_ended(message.host.as_str()) {
-            return n;
-        }
-    }
-    group.len()
-}
 
 // Takes messages of hosts that haven't ended, writes the lines of those that are answered, and says how many those are.
 fn take_live<D: Disk, P: Judges, R: Repos, C: Clock, O: Sink>(
@@ -77,6 +63,7 @@ fn take_live<D: Disk, P: Judges, R: Repos, C: Clock, O: Sink>(
     ensures few { IfOk result (λ n. n ≤ length group.now) }
     ensures side { (seen_in store.new).side ≡ (seen_in store.old).side }
     ensures count { IfOk result (λ n. tally.new.messages ≤ tally.old.messages + n) }
+    ensures ends { OnOk result (take (length tally.old.ended.items) tally.new.ended.items ≡ tally.old.ended.items) }
     ensures counts { Kept (faults (D.view disk.old).faults (R.faults repos.old) (C.faults clock.old) 0
         (O.faults out.old)) (faults (D.view disk.new).faults (R.faults repos.new)
         (C.faults clock.new) 0 (O.faults out.new)) }
@@ -106,12 +93,13 @@ fn take_live<D: Disk, P: Judges, R: Repos, C: Clock, O: Sink>(
     }
 }
 
-// Takes some messages in front of the group, and says how many.
+// Takes some messages in front of the group, of which the first `live` are of hosts that haven't ended, and says how many.
 fn take_some<D: Disk, P: Judges, R: Repos, C: Clock, O: Sink>(
     alloc: Global,
     store: &mut Store,
     disk: &mut D,
     group: &[Message],
+    live: usize,
     judges: &mut P,
     repos: &mut R,
     clock: &mut C,
@@ -123,6 +111,9 @@ fn take_some<D: Disk, P: Judges, R: Repos, C: Clock, O: Sink>(
     requires some { 1 ≤ length group.now }
     requires few { length group.now ≤ MOST_ROWS }
     requires hosts { AreOfHosts group.now }
+    requires within { live ≤ length group.now }
+    requires live { AreLive tally.old.ended.items (take live group.now) }
+    requires ended { live ≡ 0 → FirstHasEnded tally.old.ended.items group.now }
     requires room { tally.old.messages + length group.now ≤ 2 ^ 63 }
     ensures recorded { IfOk result (λ n. (J : List TheRow) → IsOf J store.old.core
         → Going D.view (tells D.tells C.tells R.tells O.tells) J (take n group.now)
@@ -146,6 +137,7 @@ fn take_some<D: Disk, P: Judges, R: Repos, C: Clock, O: Sink>(
     ensures few { IfOk result (λ n. n ≤ length group.now) }
     ensures side { (seen_in store.new).side ≡ (seen_in store.old).side }
     ensures count { IfOk result (λ n. tally.new.messages ≤ tally.old.messages + n) }
+    ensures ends { OnOk result (take (length tally.old.ended.items) tally.new.ended.items ≡ tally.old.ended.items) }
     ensures counts { Kept (faults (D.view disk.old).faults (R.faults repos.old) (C.faults clock.old) 0
         (O.faults out.old)) (faults (D.view disk.new).faults (R.faults repos.new)
         (C.faults clock.new) 0 (O.faults out.new)) }
@@ -163,7 +155,6 @@ fn take_some<D: Disk, P: Judges, R: Repos, C: Clock, O: Sink>(
         (O.faults out.old)) (faults (D.view disk.new).faults (R.faults repos.new)
         (C.faults clock.new) 0 (O.faults out.new)) (P.panel judges.old) (P.panel judges.new)) }
 {
-    let live = live_front(group, tally);
     if live == 0 {
         return match skip(alloc, group[0].host.as_str(), tally, out) {
             Ok(()) => Ok(1),
@@ -229,10 +220,17 @@ pub fn take_group<D: Disk, P: Judges, R: Repos, C: Clock, O: Sink>(
         (C.faults clock.new) 0 (O.faults out.new)) (P.panel judges.old) (P.panel judges.new)) }
 {
     let mut done = 0;
+    let mut live = live_front(group, tally);
     'batches: while done < group.len() {
         let rest = &group[done..];
-        match take_some(alloc, store, disk, rest, judges, repos, clock, tally, out) {
-            Ok(count) => done += count,
+        let before = tally.ended.len();
+        match take_some(
+            alloc, store, disk, rest, live, judges, repos, clock, tally, out,
+        ) {
+            Ok(count) => {
+                done += count;
+                live = live_still(&group[done..], live.saturating_sub(count), before, tally);
+            }
             Err(end) => return Err(end),
         }
     }

@@ -125,8 +125,8 @@ fn take_open<D: Disk, P: Judges, R: Repos, C: Clock, F: Feed, O: Sink>(
     finish(alloc, store.last_seq(), tally, out)
 }
 
-/// Takes the messages that a feed gives of a host behind its cursor into a store that is open on this disk, at most `most` of them and
-/// none behind the host's end, and writes the report: a line for each message once its row is durable, and one more where it is done.
+/// Takes the messages that a feed gives of a host after its cursor into a store that is open on this disk, at most `most` of them and
+/// none after the host's end, and writes the report: a line for each message once its row is durable, and one more where it is done.
 pub fn take_feed<D: Disk, P: Judges, R: Repos, C: Clock, F: Feed, O: Sink>(
     alloc: Global,
     host: &str,

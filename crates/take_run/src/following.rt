@@ -96,8 +96,8 @@ fn take_on<D: Disk, P: Judges, R: Repos, C: Clock, F: Feed, O: Sink>(
     }
 }
 
-/// Takes the messages that a feed gives of a host behind its cursor into the journal of two disks, at most `count` of them and none
-/// behind the host's end, and writes the report: a line for each message once its row is durable, and one more where it is done. No row
+/// Takes the messages that a feed gives of a host after its cursor into the journal of two disks, at most `count` of them and none
+/// after the host's end, and writes the report: a line for each message once its row is durable, and one more where it is done. No row
 /// of the log is to end past `most`, which is in bytes.
 pub fn follow<D: Disk, P: Judges, R: Repos, C: Clock, F: Feed, O: Sink>(
     alloc: Global,

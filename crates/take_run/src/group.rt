@@ -31,7 +31,7 @@ pub(crate) struct Group {
     pub(crate) rest: Rest,
 }
 
-/// Reads the next group: at most `MOST_ROWS` records, and no further one behind `LONGEST_FEED_MESSAGE` bytes of messages.
+/// Reads the next group: at most `MOST_ROWS` records, and no further one after `LONGEST_FEED_MESSAGE` bytes of messages.
 pub(crate) fn read_group<I: Source>(alloc: Global, tape: &mut Tape, input: &mut I) -> Group
     ensures read { IsTrue I.tells → IsGroup tape.old (I.left input.old) tape.new
         (I.left input.new) result.messages.items result.rest }

@@ -8,6 +8,7 @@ mod feeding;
 mod following;
 mod group;
 mod ingesting;
+mod live;
 mod running;
 mod tally;
 

@@ -1,19 +1,23 @@
 //! What a run keeps for its report.
 
-ghost use Rattle.std.specs.Prelude.{◌≡◌, ◌≤◌, ◌<◌, ◌^◌, [], ◌∷◌, Some, None, OnOk, List, ℕ};
+ghost use Rattle.std.specs.Prelude.{◌≡◌, ◌≤◌, ◌<◌, ◌^◌, [], ◌∷◌, ◌++◌, Some, None, OnOk, List, ℕ};
+ghost use Rattle.take_run.specs.Names.{AreNamesOf};
 
 use at_cid::{Memory, Words};
 use relay_store::{Fetch, Outcome};
 use std::alloc::Global;
+use std::collections::BTreeSet;
 
 /// The hosts that have ended, in the order of their ends, and how many messages there were, how many numbers were given and how
-/// many messages were refused.
+/// many messages were refused. A host is looked up by its name, at the logarithm of the number of those that have ended.
 #[derive(Drop)]
 pub struct Tally {
     pub ended: Vec<Words>,
+    names: BTreeSet<String>,
     pub messages: u64,
     pub events: u64,
     pub refused: u64,
+    ghost looked_up: { AreNamesOf names ended.items },
     ghost few_events: { events ≤ messages },
     ghost few_refused: { refused ≤ messages },
 }
@@ -31,6 +35,7 @@ impl Tally {
     {
         Tally {
             ended: Vec::new(alloc),
+            names: BTreeSet::new(alloc),
             messages: 0,
             events: 0,
             refused: 0,
@@ -41,12 +46,7 @@ impl Tally {
     pub fn has_ended(&self, host: &str) -> bool
         ensures { result ≡ has_ended self.now.ended.items host.now }
     {
-        for name in &self.ended {
-            if host == name.as_str() {
-                return true;
-            }
-        }
-        false
+        self.names.contains(host)
     }
 
     /// Notes a message of a host that ended before.
@@ -55,6 +55,21 @@ impl Tally {
         ensures { (host : List ℕ) → IsNoted ((host, None) ∷ []) self.old self.new }
     {
         self.messages += 1;
+    }
+
+    // Notes the end of a host.
+    fn end(&mut self, alloc: Global, host: &str) -> Result<(), Memory>
+        ensures ended { OnOk result (self.new.ended.items ≡ self.old.ended.items ++ host.now ∷ []) }
+        ensures messages { self.new.messages ≡ self.old.messages }
+        ensures events { self.new.events ≡ self.old.events }
+        ensures refused { self.new.refused ≡ self.old.refused }
+    {
+        self.ended.reserve(1)?;
+        let ended = Words::from_str(alloc, host)?;
+        let name = String::from_str(alloc, host)?;
+        self.names.insert(name)?;
+        self.ended.push_reserved(ended);
+        Ok(())
     }
 
     /// Notes what was answered to a message of a host.
@@ -68,7 +83,7 @@ impl Tally {
         ensures { OnOk result (IsNoted ((host.now, Some outcome.now) ∷ []) self.old self.new) }
     {
         if let Outcome::Ended(_) = outcome {
-            self.ended.push(Words::from_str(alloc, host)?)?;
+            self.end(alloc, host)?;
         }
         self.messages += 1;
         match outcome {

@@ -110,7 +110,7 @@ fn try_both(
     Ok(text)
 }
 
-/// Takes the history of so many messages, 1 to 100,000, that is drawn from a number, into stores on two empty disks: on the
+/// Takes the history of `n` messages, 1 to 100,000, that is drawn from a number, into stores on two empty disks: on the
 /// first in its order, on the second host after host. Every host is trusted. It writes how many accounts have a commit, how many
 /// numbers were given and how many keys there are; that both orders came to the same accounts; and the link over the roots of all
 /// trees. It holds all messages at once, and what a disk in memory keeps of them.

@@ -5,7 +5,8 @@ ghost use Rattle.at_cid.specs.declared.limits.TheConstants.{NUMBERS};
 
 use anyhow::{Result, bail};
 use at_cid::NUMBERS;
-use relay_io::{Clock, ListClock, SystemClock};
+use os_edge::{Reporter, SystemClock};
+use relay_io::{Clock, ListClock};
 use std::alloc::Global;
 use vector_lines::{Answer, Row, Subject, had, said};
 
@@ -63,7 +64,10 @@ impl Subject for Moments<'_> {
         let least = row.number(" ");
         let most = row.number(" ");
         row.end()?;
-        let moment = SystemClock::new(self.rt).now()?;
+        let moment = SystemClock::new(
+            had(Reporter::new(*self.rt, "vectors_disk"))?,
+            self.rt,
+        ).now()?;
         if moment < least || moment > most {
             return Answer::new(alloc).number(moment).end();
         }

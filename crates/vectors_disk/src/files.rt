@@ -1,14 +1,15 @@
-//! `SCRIPT = CONTENT read BYTES`, made on a file of the folder that the program runs in, and `BODY BODY = ..`, appended to a
-//! log in one.
+//! `SCRIPT = CONTENT read BYTES`, made on a file of a journal in the folder that the program runs in, and `BODY BODY = ..`,
+//! appended to a log in one.
 
 use crate::logging::held;
 use crate::scripts::{Step, run, script};
 use crate::stops::added;
-use anyhow::Result;
-use relay_disk::{Disk, FileDisk, LazyFile};
+use anyhow::{Result, bail};
+use os_edge::{Access, JournalFile, Reporter, open_journal};
+use relay_disk::{Disk, FileDisk};
 use std::alloc::Global;
 use std::fs;
-use vector_lines::{Answer, Subject, pieces};
+use vector_lines::{Answer, Subject, had, pieces};
 
 #[derive(Drop)]
 pub struct FileDisks<'a> {
@@ -20,15 +21,21 @@ pub struct FileLogs<'a> {
     pub rt: &'a HostRuntime,
 }
 
-/// The file, which is removed before and behind each row.
-const PATH: &str = "disk.bin";
+/// The files of a journal, which are removed before and after each row.
+const NAMES: [&str; 2] = ["log", "log.2"];
 
-fn file_disk<'a>(rt: &'a HostRuntime) -> Result<FileDisk<LazyFile<&'a HostRuntime>>> {
-    Ok(FileDisk::new(rt, PATH.to_string(rt.alloc())?))
+fn file_disk(rt: &HostRuntime) -> Result<FileDisk<JournalFile>> {
+    let reporter = had(Reporter::new(*rt, "vectors_disk"))?;
+    match open_journal(rt.alloc(), reporter, ".", Access::Writing) {
+        Ok(journal) => Ok(FileDisk::on(journal.log)),
+        Err(_) => bail!("a journal that isn't opened"),
+    }
 }
 
-fn remove_file(rt: &HostRuntime) {
-    let _ = fs::remove_file(rt, PATH);
+fn remove_files(rt: &HostRuntime) {
+    for name in NAMES {
+        let _ = fs::remove_file(rt, name);
+    }
 }
 
 // What a script leaves in a file, by other disks on it, which refuse whatever goes past the end.
@@ -76,7 +83,7 @@ fn whole<D: Disk>(rt: &HostRuntime, disk: &mut D) -> Result<Vec<u8>> {
 }
 
 // Whether a disk of so many bytes refuses what goes past its end.
-fn is_refused(disk: &mut FileDisk<LazyFile<&HostRuntime>>, size: u64) -> bool {
+fn is_refused(disk: &mut FileDisk<JournalFile>, size: u64) -> bool {
     let is_read = disk.read(size, &mut [0]).is_ok();
     let is_written = disk.write_at(100, &[1]).is_ok();
     let is_cut = disk.cut(100).is_ok();
@@ -86,9 +93,9 @@ fn is_refused(disk: &mut FileDisk<LazyFile<&HostRuntime>>, size: u64) -> bool {
 impl Subject for FileDisks<'_> {
     fn answer(&self, alloc: Global, input: &str) -> Result<String> {
         let steps = script(alloc, input)?;
-        remove_file(self.rt);
+        remove_files(self.rt);
         let answer = left_by(self.rt, &steps);
-        remove_file(self.rt);
+        remove_files(self.rt);
         answer
     }
 }
@@ -117,9 +124,9 @@ fn logged(rt: &HostRuntime, bodies: &[Vec<u8>]) -> Result<String> {
 impl Subject for FileLogs<'_> {
     fn answer(&self, alloc: Global, input: &str) -> Result<String> {
         let bodies = pieces(alloc, input)?;
-        remove_file(self.rt);
+        remove_files(self.rt);
         let answer = logged(self.rt, &bodies);
-        remove_file(self.rt);
+        remove_files(self.rt);
         answer
     }
 }

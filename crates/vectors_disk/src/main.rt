@@ -50,7 +50,7 @@ fn compared(rt: &HostRuntime) -> Result<Suite> {
 fn compare_streams(rt: &HostRuntime, suite: &mut Suite) -> Result<()> {
     suite.file(rt, "sources", &Sources)?;
     suite.file(rt, "sinks", &Sinks)?;
-    suite.file(rt, "streams", &Streams)?;
+    suite.file(rt, "streams", &Streams { rt })?;
     suite.file(rt, "clocks", &Clocks)?;
     suite.file(rt, "moments", &Moments { rt })
 }

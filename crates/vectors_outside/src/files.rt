@@ -3,9 +3,9 @@
 use crate::reading::whole;
 use crate::words::size;
 use anyhow::Result;
-use relay_io::FileRepos;
+use os_edge::{FileRepos, Reporter};
 use std::alloc::Global;
-use vector_lines::{Subject, parted, said};
+use vector_lines::{Subject, had, parted, said};
 
 #[derive(Drop)]
 pub struct FileRepositories<'a> {
@@ -17,7 +17,8 @@ impl Subject for FileRepositories<'_> {
         let (folder, rest) = parted(input, " ; ")?;
         let (did, room) = parted(rest, " ; ")?;
         let room = size(room)?;
-        let mut repos = FileRepos::new(self.rt, alloc, said(alloc, folder)?);
+        let reporter = had(Reporter::new(*self.rt, "vectors_outside"))?;
+        let mut repos = FileRepos::new(reporter, alloc, said(alloc, folder)?);
         whole(alloc, &mut repos, did, room)
     }
 }

@@ -3,10 +3,11 @@
 
 use crate::words::{answer_text, rev_or_none};
 use anyhow::{Context, Result};
-use relay_io::{FileRepos, Repos};
+use os_edge::{FileRepos, Reporter};
+use relay_io::Repos;
 use repo_sync::check_repo;
 use std::alloc::Global;
-use vector_lines::Subject;
+use vector_lines::{Subject, had};
 
 #[derive(Drop)]
 pub struct Files<'a> {
@@ -17,7 +18,8 @@ impl Subject for Files<'_> {
     fn answer(&self, alloc: Global, input: &str) -> Result<String> {
         let (did, least) = input.split_once(" ; ").context("a DID and a revision")?;
         let least = rev_or_none(least)?;
-        let mut repos = FileRepos::new(self.rt, alloc, ".".to_string(alloc)?);
+        let reporter = had(Reporter::new(*self.rt, "vectors_repos"))?;
+        let mut repos = FileRepos::new(reporter, alloc, ".".to_string(alloc)?);
         if !repos.open(did)? {
             return Ok("none".to_string(alloc)?);
         }

@@ -2,11 +2,10 @@
 ghost use Rattle.std.specs.Prelude.{List, ℕ, IfOk, IfSome};
 ghost use Rattle.ws_edge.specs.Handshakes.{IsAnswered, IsHere};
 
+use crate::fault::Fault;
 use crate::framed::Framed;
-use crate::handshake_fault::HandshakeFault;
 use crate::head::{behind_head, read_piece};
 use crate::limits::{ANSWER_SECONDS, CONNECT_SECONDS, LONGEST_HEAD, MOST_FIELDS};
-use crate::reason::Reason;
 use crate::timed::Timed;
 use at_cid::Octets;
 use httparse::Status;
@@ -29,10 +28,8 @@ pub(crate) fn ask<R: Net + Clock + RandomSource + Copy>(
     rt: R,
     host: &str,
     cursor: u64,
-) -> Result<Session<R::Stream, R>, HandshakeFault> {
-    let Some(port) = port_of(host) else {
-        return Err(HandshakeFault::Refused(Reason::Wrong));
-    };
+) -> Result<Session<R::Stream, R>, Fault> {
+    let port = port_of(host)?;
     let path = format!(in alloc; "/xrpc/com.atproto.sync.subscribeRepos?cursor={cursor}")?;
     let mut nonce = [0; 16];
     rt.fill_bytes(&mut nonce)?;
@@ -52,16 +49,18 @@ pub(crate) fn ask<R: Net + Clock + RandomSource + Copy>(
 }
 
 // The port of a host on this machine: decimal, without a sign and zeros in front.
-fn port_of(host: &str) -> Option<u16>
-    ensures here { IfSome result (λ _. (port : List ℕ) × IsHere host.now port) }
+fn port_of(host: &str) -> Result<u16, Fault>
+    ensures here { IfOk result (λ _. (port : List ℕ) × IsHere host.now port) }
 {
-    let port = behind_name(host)?;
+    let Some(port) = behind_name(host) else {
+        return Err(Fault::Elsewhere);
+    };
     if port.starts_with('0') || port.starts_with('+') {
-        return None;
+        return Err(Fault::Port);
     }
     match port.parse::<u16>() {
-        Ok(port) => Some(port),
-        Err(_) => None,
+        Ok(port) => Ok(port),
+        Err(_) => Err(Fault::Port),
     }
 }
 
@@ -81,7 +80,7 @@ fn shake_hands<S: Read + Write>(
     alloc: Global,
     stream: &mut S,
     request: &ClientRequest<'_>,
-) -> Result<Vec<u8>, HandshakeFault> {
+) -> Result<Vec<u8>, Fault> {
     let mut bytes = Vec::new(alloc);
     write_request(request, &mut bytes)?;
     stream.write_all(bytes.as_slice())?;
@@ -92,7 +91,7 @@ fn shake_hands<S: Read + Write>(
             return Ok(behind);
         }
     }
-    Err(HandshakeFault::Refused(Reason::TooLong))
+    Err(Fault::LongHead)
 }
 
 // What stands behind the head of an answer that accepts the request, or `None` where the head isn't
@@ -101,7 +100,7 @@ fn behind_answer(
     alloc: Global,
     request: &ClientRequest<'_>,
     bytes: &[u8],
-) -> Result<Option<Vec<u8>>, HandshakeFault>
+) -> Result<Option<Vec<u8>>, Fault>
     ensures answered { IfOk result (λ behind. IfSome behind (λ rest. IsAnswered bytes.now request.now rest.items)) }
 {
     let mut spans = [EMPTY_HEADER_SPAN; MOST_FIELDS];
@@ -121,9 +120,7 @@ fn session_on<S: Read + Write + Drop, R: RandomSource + Clock + Copy>(
     stream: Timed<S, R>,
     mut behind: Vec<u8>,
 ) -> Session<S, R> {
-    let mut stream = Framed::new(stream);
-    let count = stream.admit(behind.as_slice());
-    behind.truncate(count);
+    let stream = Framed::new(stream, LONGEST_FEED_MESSAGE, &mut behind);
     let limits = WebSocketConfig::default()
         .max_message_size(Some(LONGEST_FEED_MESSAGE))
         .max_frame_size(Some(LONGEST_FEED_MESSAGE));

@@ -1,6 +1,16 @@
 //! How long the edge waits, and how much it takes. Seconds are those that calls wait for the other
 //! side; what the relay does in between costs nobody anything.
 
+/// The most seconds that count for a call which a signal interrupted, and for a look at what a guest
+/// says: the relay itself may have been stopped meanwhile, for which the other side can't be blamed.
+pub(crate) const STOP_SECONDS: u64 = 1;
+
+/// The milliseconds after which a connection that couldn't be taken is tried again.
+pub(crate) const ACCEPT_PAUSE_MILLISECONDS: u64 = 100;
+
+/// How often that is tried: for half a minute.
+pub(crate) const MOST_ACCEPTS: u64 = 300;
+
 /// The seconds in which a guest's request has to come and its answer to leave.
 pub(crate) const WELCOME_SECONDS: u64 = 5;
 
@@ -33,13 +43,13 @@ pub(crate) const REQUEST_SECONDS: u64 = 5;
 /// The seconds in which a reply on the wire has to leave.
 pub(crate) const REPLY_SECONDS: u64 = 30;
 
-/// The seconds for which a connection of the wire is read on behind its reply.
+/// The seconds for which a connection of the wire is read on after its reply.
 pub(crate) const BEHIND_SECONDS: u64 = 1;
 
-/// How many bytes are read at a time, and dropped, behind the last ones that were sent.
+/// How many bytes are read at a time, and dropped, after the last ones that were sent.
 pub(crate) const PIECE_BEHIND: usize = 4096;
 
-/// The most times that so many are read.
+/// The most times that this many are read.
 pub(crate) const MOST_PIECES_BEHIND: usize = 1000;
 
 /// The longest head of a handshake, in bytes.
@@ -53,6 +63,12 @@ pub(crate) const LONGEST_SIGN: u64 = 125;
 
 /// The most pings and pongs of a host that are passed over before it is sent a ping.
 pub(crate) const MOST_SIGNS: usize = 1000;
+
+/// The most frames of a message of a host or a guest.
+pub(crate) const MOST_FRAMES: u64 = 65_536;
+
+/// The most of these frames that bring no byte.
+pub(crate) const MOST_EMPTY_FRAMES: u64 = 1000;
 
 /// The longest message of a guest, in bytes: a consumer has nothing to say.
 pub(crate) const LONGEST_WORD: usize = 4096;

@@ -4,7 +4,7 @@ ghost use Rattle.relay_io.specs.declared.wire.TheConstants.{LONGEST_REQUEST};
 
 use at_cid::{Memory, Octets};
 use relay_io::LONGEST_REQUEST;
-use std::io::{ErrorKind, Read};
+use std::io::Read;
 
 /// Reads a request, in place of what is in the room: up to and with the first empty line or the last
 /// byte that it may have, or what has come where no more comes.
@@ -21,7 +21,6 @@ pub(crate) fn read_request<S: Read>(stream: &mut S, request: &mut Octets) -> Res
         match stream.read(&mut room[..left]) {
             Ok(0) => break,
             Ok(count) => request.extend(&room[..count])?,
-            Err(e) if e.kind() == ErrorKind::Interrupted => {}
             Err(_) => break,
         }
         if let Some(place) = behind_empty_line(request.as_slice()) {

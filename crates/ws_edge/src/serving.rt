@@ -1,5 +1,6 @@
 //! A session with a guest.
 
+use crate::framed::Framed;
 use crate::limits::{CLOSE_SECONDS, MOST_WORDS, SESSION_SECONDS};
 use crate::timed::Timed;
 use relay_io::DoorFault;
@@ -11,7 +12,7 @@ use tungstenite::{CloseCode, CloseFrame, Error, Message, NoMask, Utf8Bytes, WebS
 use websocket::error::ProtocolError;
 
 /// A session with a guest.
-pub(crate) type Session<S, C> = WebSocket<Timed<S, C>, NoMask>;
+pub(crate) type Session<S, C> = WebSocket<Framed<Timed<S, C>>, NoMask>;
 
 /// Hands a message over. Messages leave together, so that one write carries many.
 pub(crate) fn send_to<S: Read + Write + OpenStream + Drop, C: Clock + Copy>(
@@ -19,7 +20,10 @@ pub(crate) fn send_to<S: Read + Write + OpenStream + Drop, C: Clock + Copy>(
     session: &mut Session<S, C>,
     message: &[u8],
 ) -> Result<(), DoorFault> {
-    session.get_mut().earn(message.len(), SESSION_SECONDS);
+    session
+        .get_mut()
+        .below()
+        .earn(message.len(), SESSION_SECONDS);
     let Ok(message) = Message::binary(alloc, message) else {
         return Err(DoorFault::Memory);
     };
@@ -35,9 +39,13 @@ pub(crate) fn send_to<S: Read + Write + OpenStream + Drop, C: Clock + Copy>(
 pub(crate) fn hear<S: Read + Write + OpenStream + Drop, C: Clock + Copy>(
     session: &mut Session<S, C>,
 ) -> Result<(), DoorFault> {
-    session.get_mut().look(true);
+    if session.get_mut().below().begin_looking().is_err() {
+        return Err(DoorFault::Failed);
+    }
     let heard = hear_words(session);
-    session.get_mut().look(false);
+    if session.get_mut().below().end_looking().is_err() {
+        return Err(DoorFault::Failed);
+    }
     heard
 }
 
@@ -75,7 +83,7 @@ pub(crate) fn close_with<S: Read + Write + OpenStream + Drop, C: Clock + Copy>(
         code: CloseCode::Normal,
         reason: Utf8Bytes::from_static(""),
     };
-    session.get_mut().give(CLOSE_SECONDS);
+    session.get_mut().below().give(CLOSE_SECONDS);
     session.close(Some(frame)).is_ok() && closes(session)
 }
 

@@ -2,6 +2,7 @@
 ghost use Rattle.std.specs.Prelude.{◌≡◌, [], false};
 
 use crate::connection::next_connection;
+use crate::fault::Fault;
 use crate::leaving::{read_on, send_last};
 use crate::limits::{BEHIND_SECONDS, REPLY_SECONDS, REQUEST_SECONDS};
 use crate::requests::read_request;
@@ -27,6 +28,7 @@ pub struct TcpWire<R: Net + Clock + Copy> {
     waiting: Option<Timed<R::Stream, R>>,
     faults: u64,
     send_faults: u64,
+    fault: Option<Fault>,
 }
 
 impl<R: Net + Clock + Copy> TcpWire<R> {
@@ -42,7 +44,13 @@ impl<R: Net + Clock + Copy> TcpWire<R> {
             waiting: None,
             faults: 0,
             send_faults: 0,
+            fault: None,
         }
+    }
+
+    /// Why the last call of `next` that failed did.
+    pub fn fault(&self) -> Option<Fault> {
+        self.fault
     }
 }
 
@@ -59,9 +67,13 @@ impl<R: Net + Clock + Copy> Wire for TcpWire<R> {
 
     fn next(&mut self, room: &mut Octets) -> Result<bool, WireFault> {
         self.waiting = None;
-        let Ok(stream) = next_connection(&self.rt, self.port, &mut self.listener) else {
-            self.faults = self.faults.saturating_add(1);
-            return Err(WireFault::Failed);
+        let stream = match next_connection(&self.rt, self.port, &mut self.listener) {
+            Ok(stream) => stream,
+            Err(fault) => {
+                self.faults = self.faults.saturating_add(1);
+                self.fault = Some(fault);
+                return Err(WireFault::Failed);
+            }
         };
         let Some(stream) = stream else {
             room.clear();

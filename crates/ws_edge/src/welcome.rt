@@ -4,14 +4,15 @@ ghost use Rattle.httparse.specs.Spans.{IsRequestOf, IsRequestWithin, span_bytes}
 ghost use Rattle.websocket.specs.Handshake.{response_bytes};
 ghost use Rattle.ws_edge.specs.Handshakes.{IsAccepted, IsAsked};
 
-use crate::handshake_fault::HandshakeFault;
+use crate::fault::Fault;
+use crate::framed::Framed;
 use crate::head::{behind_head, read_piece};
 use crate::leaving::{read_on, send_last};
 use crate::limits::{
     LONGEST_HEAD, LONGEST_WORD, MOST_FIELDS, REFUSAL_SECONDS, SESSION_SECONDS, WELCOME_SECONDS,
     WRITE_SIZE,
 };
-use crate::reason::Reason;
+use crate::refusal::refusal;
 use crate::serving::Session;
 use crate::timed::Timed;
 use at_cid::{Octets, Words};
@@ -41,21 +42,23 @@ pub(crate) fn welcome<S: Read + Write + OpenStream + Drop, C: Clock + Copy>(
     alloc: Global,
     stream: S,
     clock: C,
-) -> Result<(Words, Session<S, C>), HandshakeFault> {
+) -> Result<(Words, Session<S, C>), Fault> {
     // Without it the last bytes of a session wait for the guest's acknowledgement of those before.
     let _ = stream.set_nodelay(true);
     let mut stream = Timed::new(stream, clock);
     stream.give(WELCOME_SECONDS);
-    let asked = match read_request(alloc, &mut stream) {
+    let mut asked = match read_request(alloc, &mut stream) {
         Ok(asked) => asked,
-        Err(HandshakeFault::Refused(reason)) => {
-            refuse(&mut stream, reason);
-            return Err(HandshakeFault::Refused(reason));
+        Err(fault) => {
+            if fault != Fault::Memory {
+                refuse(&mut stream, fault);
+            }
+            return Err(fault);
         }
-        Err(HandshakeFault::Memory) => return Err(HandshakeFault::Memory),
     };
     stream.write_all(asked.answer.as_slice())?;
     stream.give(SESSION_SECONDS);
+    let stream = Framed::new(stream, LONGEST_WORD, &mut asked.behind);
     let session = WebSocket::from_partially_read(
         alloc,
         stream,
@@ -77,7 +80,7 @@ fn limits() -> WebSocketConfig {
 }
 
 // Reads a request, and what it asks for.
-fn read_request<S: Read>(alloc: Global, stream: &mut S) -> Result<Asked, HandshakeFault> {
+fn read_request<S: Read>(alloc: Global, stream: &mut S) -> Result<Asked, Fault> {
     let mut head = Octets::new(alloc);
     for _ in 0..LONGEST_HEAD {
         read_piece(stream, &mut head)?;
@@ -85,11 +88,11 @@ fn read_request<S: Read>(alloc: Global, stream: &mut S) -> Result<Asked, Handsha
             return Ok(asked);
         }
     }
-    Err(HandshakeFault::Refused(Reason::TooLong))
+    Err(Fault::LongHead)
 }
 
 // What these bytes ask for, or `None` where the head isn't whole.
-fn asked_by(alloc: Global, bytes: &[u8]) -> Result<Option<Asked>, HandshakeFault>
+fn asked_by(alloc: Global, bytes: &[u8]) -> Result<Option<Asked>, Fault>
     ensures asked { IfOk result (λ asked. IfSome asked (λ a. IsAsked bytes.now a.target a.answer.items a.behind.items)) }
 {
     let mut fields = [EMPTY_HEADER_SPAN; MOST_FIELDS];
@@ -108,10 +111,7 @@ fn asked_by(alloc: Global, bytes: &[u8]) -> Result<Option<Asked>, HandshakeFault
 }
 
 // The request at the front, or `None` where it isn't whole.
-fn request_in(
-    bytes: &[u8],
-    fields: &mut [HeaderSpan],
-) -> Result<Option<RequestSpans>, HandshakeFault>
+fn request_in(bytes: &[u8], fields: &mut [HeaderSpan]) -> Result<Option<RequestSpans>, Fault>
     ensures within { IfOk result (λ found. IfSome found (IsRequestWithin bytes.now fields.new)) }
     ensures stands { IfOk result (λ found. IfSome found (IsRequestOf bytes.now fields.new)) }
 {
@@ -123,11 +123,7 @@ fn request_in(
 }
 
 // The key that accepts a request for a WebSocket.
-fn accept_of(
-    bytes: &[u8],
-    request: &RequestSpans,
-    fields: &[HeaderSpan],
-) -> Result<[u8; 28], HandshakeFault>
+fn accept_of(bytes: &[u8], request: &RequestSpans, fields: &[HeaderSpan]) -> Result<[u8; 28], Fault>
     requires { IsRequestWithin bytes.now fields.now request.now }
     ensures accepted { IfOk result (IsAccepted bytes.now request.now fields.now) }
 {
@@ -135,19 +131,19 @@ fn accept_of(
 }
 
 // The target of a request.
-fn target_of(alloc: Global, bytes: &[u8], request: RequestSpans) -> Result<Words, HandshakeFault>
+fn target_of(alloc: Global, bytes: &[u8], request: RequestSpans) -> Result<Words, Fault>
     requires ordered { request.path.start ≤ request.path.end }
     requires inside { request.path.end ≤ length bytes.now }
     ensures target { IfOk result (λ target. target ≡ span_bytes bytes.now request.path) }
 {
     let Ok(target) = str::from_utf8(request.path.of(bytes)) else {
-        return Err(HandshakeFault::Refused(Reason::Wrong));
+        return Err(Fault::Handshake);
     };
     Ok(Words::from_str(alloc, target)?)
 }
 
 // The answer with this key.
-fn answer_with(alloc: Global, accept: &[u8; 28]) -> Result<Vec<u8>, HandshakeFault>
+fn answer_with(alloc: Global, accept: &[u8; 28]) -> Result<Vec<u8>, Fault>
     ensures answer { IfOk result (λ answer. answer.items ≡ response_bytes accept.now []) }
 {
     let mut answer = Vec::new(alloc);
@@ -158,10 +154,10 @@ fn answer_with(alloc: Global, accept: &[u8; 28]) -> Result<Vec<u8>, HandshakeFau
 // Tells a guest why.
 fn refuse<S: Read + Write + OpenStream + Drop, C: Clock + Copy>(
     stream: &mut Timed<S, C>,
-    reason: Reason,
+    fault: Fault,
 ) {
     stream.give(REFUSAL_SECONDS);
-    if send_last(stream, reason.answer()) {
+    if send_last(stream, refusal(fault)) {
         read_on(stream);
     }
 }

@@ -2,7 +2,7 @@
 ghost use Rattle.std.specs.Prelude.{◌≡◌, [], false, is_some};
 
 use crate::connection::next_connection;
-use crate::handshake_fault::HandshakeFault;
+use crate::fault::Fault;
 use crate::limits::WRITE_SIZE;
 use crate::serving::{Session, close_with, hear, send_to};
 use crate::welcome::welcome;
@@ -28,6 +28,7 @@ pub struct WsDoor<R: Net + Clock + Copy> {
     unseen: usize,
     faults: u64,
     session_faults: u64,
+    fault: Option<Fault>,
 }
 
 impl<R: Net + Clock + Copy> WsDoor<R> {
@@ -46,7 +47,13 @@ impl<R: Net + Clock + Copy> WsDoor<R> {
             unseen: 0,
             faults: 0,
             session_faults: 0,
+            fault: None,
         }
+    }
+
+    /// Why the last call of `next` that failed did.
+    pub fn fault(&self) -> Option<Fault> {
+        self.fault
     }
 }
 
@@ -69,8 +76,9 @@ impl<R: Net + Clock + Copy> Door for WsDoor<R> {
         let stream = match next_connection(&self.rt, self.port, &mut self.listener) {
             Ok(Some(stream)) => stream,
             Ok(None) => return Ok(Guest::NoHandshake),
-            Err(Failed) => {
+            Err(fault) => {
                 self.faults = self.faults.saturating_add(1);
+                self.fault = Some(fault);
                 return Err(DoorFault::Failed);
             }
         };
@@ -79,8 +87,8 @@ impl<R: Net + Clock + Copy> Door for WsDoor<R> {
                 self.guest = Some(session);
                 Ok(Guest::Target(target))
             }
-            Err(HandshakeFault::Refused(_)) => Ok(Guest::NoHandshake),
-            Err(HandshakeFault::Memory) => Err(DoorFault::Memory),
+            Err(Fault::Memory) => Err(DoorFault::Memory),
+            Err(_) => Ok(Guest::NoHandshake),
         }
     }
 

@@ -2,6 +2,7 @@
 ghost use Rattle.std.specs.Prelude.{◌≡◌, [], false};
 
 use crate::asking::{Session, ask};
+use crate::fault::Fault;
 use crate::hearing::next_message;
 use at_cid::Octets;
 use relay_io::{Failed, Feed, FeedFault};
@@ -20,6 +21,7 @@ pub struct WsFeed<R: Net + Clock + RandomSource + Copy> {
     rt: R,
     session: Option<Session<R::Stream, R>>,
     faults: u64,
+    fault: Option<Fault>,
 }
 
 impl<R: Net + Clock + RandomSource + Copy> WsFeed<R> {
@@ -32,7 +34,13 @@ impl<R: Net + Clock + RandomSource + Copy> WsFeed<R> {
             rt,
             session: None,
             faults: 0,
+            fault: None,
         }
+    }
+
+    /// Why the last call that failed did.
+    pub fn fault(&self) -> Option<Fault> {
+        self.fault
     }
 }
 
@@ -52,8 +60,9 @@ impl<R: Net + Clock + RandomSource + Copy> Feed for WsFeed<R> {
                 self.session = Some(session);
                 Ok(())
             }
-            Err(_) => {
+            Err(fault) => {
                 self.faults = self.faults.saturating_add(1);
+                self.fault = Some(fault);
                 Err(Failed)
             }
         }
@@ -67,9 +76,14 @@ impl<R: Net + Clock + RandomSource + Copy> Feed for WsFeed<R> {
         if !matches!(came, Ok(true)) {
             self.session = None;
         }
-        if let Err(FeedFault::Failed) = came {
-            self.faults = self.faults.saturating_add(1);
+        match came {
+            Ok(more) => Ok(more),
+            Err(Fault::Memory) => Err(FeedFault::Memory),
+            Err(fault) => {
+                self.faults = self.faults.saturating_add(1);
+                self.fault = Some(fault);
+                Err(FeedFault::Failed)
+            }
         }
-        came
     }
 }

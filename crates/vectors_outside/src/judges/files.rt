@@ -3,7 +3,8 @@
 
 use super::calls::{Call, DIGEST, SIG, What, answers, read_call, worded};
 use anyhow::{Result, bail};
-use at_authority::{Asked, Authority, FileAuthority, Panel};
+use at_authority::{Asked, Authority, Panel};
+use os_edge::FileAuthority;
 use std::alloc::Global;
 use std::fs;
 use vector_lines::{Subject, bytes, had};
@@ -23,9 +24,9 @@ pub struct FilePanels<'a> {
 /// The file, which is removed before and behind each row.
 const PATH: &str = "table.txt";
 
-fn authority(rt: &HostRuntime) -> Result<FileAuthority<HostRuntime>> {
+fn authority(rt: &HostRuntime) -> Result<FileAuthority> {
     let path = PATH.to_string(rt.alloc())?;
-    Ok(FileAuthority::new(rt.clone()?, rt.alloc(), path))
+    Ok(FileAuthority::new(*rt, rt.alloc(), path))
 }
 
 // Changes the file, where the step does that.

@@ -1,9 +1,10 @@
-use Rattle.std.proofs.Common.{length, ◌-◌, ◌+◌, ◌≤◌, ◌≡◌, take, IsTrue, List}
+use Rattle.std.proofs.Common.{length, ◌-◌, ◌+◌, ◌<◌, ◌≤◌, ◌≡◌, take, drop, IsTrue, List}
 use Rattle.relay_row.specs.declared.row.Row.{Row}
 use Rattle.relay_step.specs.Around.{around}
 use Rattle.relay_store.specs.Store.{IsKept, IsOf, seen_in}
 use Rattle.take_run.specs.Causes.{Kept, Unmoved, faults}
 use Rattle.take_run.specs.Going.{Going, point}
+use Rattle.take_run.specs.Said.{AreLive, FirstHasEnded}
 use Rattle.take_run.specs.Tells.{tells}
 use Rattle.take_run.proofs.batching.take_group.Given as goal
 
@@ -16,6 +17,9 @@ invariant-batches g l =
     let written = g.O.Sink.written in
     record {
       within : l.done ≤ length l.group;
+      live_within : l.live ≤ length (drop l.done l.group);
+      live : AreLive l.tally.ended.items (take l.live (drop l.done l.group));
+      first : 0 < length (drop l.done l.group) → l.live ≡ 0 → FirstHasEnded l.tally.ended.items (drop l.done l.group);
       is_open : IsTrue (seen_in l.store).log.is_open;
       on : IsTrue g.D.Disk.tells → IsKept (seen_in l.store) (view l.disk);
       side : (seen_in l.store).side ≡ (seen_in l.fn.store).side;

@@ -1,6 +1,8 @@
-use Rattle.std.proofs.Common.{ap, arith, length, refl}
+use Rattle.std.proofs.Common.{ap, ◌∙◌, arith, length, refl, take}
 use Rattle.take_run.proofs.Answers.{answered_few, some_answered}
+use Rattle.take_run.specs.Said.{answered}
 use Rattle.take_run.proofs.Batches.{live_goes, live_stops, live_unwritten}
+use Rattle.take_run.proofs.Living.{ended_grows}
 use Rattle.take_run.proofs.Telling.{batch_told, batch_unmoved, batch_unwritten_told, store_stops, unwritten_stops}
 use Rattle.take_run.proofs.batching.take_live.Goals as goal
 
@@ -51,3 +53,6 @@ pub returns-clause-told : goal.returns-clause-told
 returns-clause-told g c =
     batch_told c.take_all-batch.result.fault _ _ _ _ _ _ _ _ _ _ c.take_all-batch.ensures.disk_steady c.take_all-batch.ensures.clock_steady c.take_all-batch.ensures.repos_steady c.take_all-batch.ensures.unspent
     c.in-Some.fault c.in-Some.is c.of_store.result c.of_store.ensures c.in-Ok.ensures.steady
+
+pub returns-in-None-clause-ends : goal.returns-in-None-clause-ends
+returns-in-None-clause-ends g c = ap (take (length c.args.tally.now.ended.items)) c.in-Ok.ensures.noted.ends ∙ ended_grows c.args.tally.now.ended.items (answered c.args.group.now c.as_slice-outcomes.result.now)

@@ -1,8 +1,0 @@
-use Rattle.std.proofs.Common.{sym, ap, ◌∙◌}
-use Rattle.relay_store.specs.declared.message.Message.{Message}
-use Rattle.take_run.proofs.Answers.{live_more}
-use Rattle.take_run.proofs.batching.live_front.Goals as goal
-
-pub loop-n-preserved : goal.loop-n-preserved
-loop-n-preserved c =
-    live_more c.args.tally.now.ended.items c.args.group.now c.loop-n.n c.index-group-n.result c.as_str.result.now c.loop-n-test.true (c.as_str.ensures.value ∙ ap (λ (m : Message). m.host) c.index-group-n.is) c.loop-n.invariant (sym c.has_ended.ensures ∙ c.if-has_ended.false)
