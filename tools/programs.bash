@@ -1,7 +1,7 @@
 # Where the programs of this repository stand, and whether they were made of its sources. Read by ./relay, tools/compile and
 # ./test's scripts; `top` is the repository's folder.
 #
-#   built/KIND/NAME           a link to COMMIT/NAME, set by rename; KIND is proved or unproved, NAME a program's crate
+#   built/KIND/NAME           names COMMIT/NAME in its one line, set by rename; KIND is proved or unproved, NAME a program's crate
 #   built/KIND/COMMIT/NAME    the program; beside it NAME.sources has the digest of the sources that it was made of
 #   built/prove.log, built/compile-NAME.log   what the last build said
 #
@@ -53,10 +53,10 @@ digest_of() {
 
 # Sets `program` to the one of this kind that stands: one that was made of these sources first.
 find_standing() {
-    local store link first=
+    local store named first=
     for store in "$top/built" "$cache"; do
-        link=$(readlink "$store/$1/$name") && [ -x "$store/$1/$link" ] || continue
-        program=$store/$1/$link
+        named=$(cat "$store/$1/$name" 2>/dev/null) && [ -x "$store/$1/$named" ] || continue
+        program=$store/$1/$named
         fits && return
         first=${first:-$program}
     done

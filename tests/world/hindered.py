@@ -117,7 +117,7 @@ def progress(world: World):
     status, said = on_a_terminal("vouch", folder, tape, *words)
     yield "vouch on a terminal", (status, " accounts, " in said, "\r" in said), (0, True, True)
     status, said = on_a_terminal("repositories", folder, "--did", world.ada.did, "--no-sync", *words)
-    shown = re.search(rf"{world.ada.did} [1-9]\d* bytes", said) is not None
+    shown = re.search(rf"{world.ada.did} [1-9]\d* bytes|[01] of 1 (accounts|commits), ", said) is not None
     yield "repositories on a terminal", (status, shown), (0, True)
 
 
