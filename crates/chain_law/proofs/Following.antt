@@ -34,7 +34,8 @@ use Rattle.chain_law.specs.Chained.{events_shown, sent_by, rows_about, all_about
 use Rattle.chain_law.specs.Given.{AreGiven}
 use Rattle.chain_law.specs.Laws.{RelaysFollow}
 use Rattle.chain_law.proofs.Sending.{Tells, row_tells}
-use Rattle.chain_law.proofs.Trailing.{Trails, Carries, passes_again}
+use Rattle.chain_law.specs.Again.{Trails}
+use Rattle.chain_law.proofs.Trailing.{Carries, passes_again}
 
 -- ---- numbers and cursors
 
@@ -71,16 +72,16 @@ sent_last J row message is = by_kind row is
     by_kind (Row.Operated o) e = by_number o.seq (ap first_seq e)
     by_kind (Row.Carried c) e = absurd cc
 
-cursor_stays : (host : List ℕ) (n m : ℕ) (row : Row) → n ≤ m → host_seq_in row ≤ m → cursor_after host n row ≤ m
+pub cursor_stays : (host : List ℕ) (n m : ℕ) (row : Row) → n ≤ m → host_seq_in row ≤ m → cursor_after host n row ≤ m
 cursor_stays host n m row old new = elim (names host (host_in row)) as (λ b. cond b (host_seq_in row) n ≤ m) [ true ↦ new | false ↦ old ]
 
 -- ---- one message, taken by the second relay
 
 -- its row
-record IsRowOf (checks : Checks) (K : List Row) (host : List ℕ) (e : Seen) (row : Row) : Type 0 where
-  taken : Taken
-  row_is : row ≡ Row.Taken taken
-  is : decided_event checks (last_seq K) (account e.did K) host e (shown taken) ≡ taken
+pub record IsRowOf (checks : Checks) (K : List Row) (host : List ℕ) (e : Seen) (row : Row) : Type 0 where
+  pub taken : Taken
+  pub row_is : row ≡ Row.Taken taken
+  pub is : decided_event checks (last_seq K) (account e.did K) host e (shown taken) ≡ taken
 
 row_made : (checks : Checks) (K : List Row) (host : List ℕ) (e : Seen) (row : Row) → IsMadeBy checks K (host, Ok (Frame.Event e)) row → IsRowOf checks K host e row
 row_made checks K host e (Row.Taken t) made = record { taken = t; row_is = refl; is = taken_is (decided_event checks (last_seq K) (account e.did K) host e (shown t)) t made }
@@ -89,15 +90,15 @@ row_made checks K host e (Row.Operated o) made = absurd made
 row_made checks K host e (Row.Carried c) made = absurd made
 
 -- what the run goes on with
-record GoesOn (checks : Checks) (K : List Row) (host : List ℕ) (e : Seen) (messages : List Message) (rows : List Row) : Type 0 where
-  row : Row
-  others : List Row
-  is : rows ≡ row ∷ others
-  row_of : IsRowOf checks K host e row
-  run : RunFrom checks (K ++ row ∷ []) [] messages others
+pub record TakesOn (checks : Checks) (K : List Row) (host : List ℕ) (e : Seen) (messages : List Message) (rows : List Row) : Type 0 where
+  pub row : Row
+  pub others : List Row
+  pub is : rows ≡ row ∷ others
+  pub row_of : IsRowOf checks K host e row
+  pub run : RunFrom checks (K ++ row ∷ []) [] messages others
 
-goes_on : (checks : Checks) (K : List Row) (host message : List ℕ) (e : Seen) (messages : List Message) (rows : List Row) → frame_of message ≡ Ok (Frame.Event e) → nat_le e.seq (cursor host K) ≡ false
-    → RunFrom checks K [] ((host, frame_of message) ∷ messages) rows → GoesOn checks K host e messages rows
+pub goes_on : (checks : Checks) (K : List Row) (host message : List ℕ) (e : Seen) (messages : List Message) (rows : List Row) → frame_of message ≡ Ok (Frame.Event e) → nat_le e.seq (cursor host K) ≡ false
+    → RunFrom checks K [] ((host, frame_of message) ∷ messages) rows → TakesOn checks K host e messages rows
 goes_on checks K host message e messages rows reads above run =
     let P : Result Frame FrameFault → Type 0 = λ f. RunFrom checks K [] ((host, f) ∷ messages) rows in
     let T : Option Pass → Type 0 = λ p.
@@ -109,13 +110,13 @@ goes_on checks K host message e messages rows reads above run =
 -- ---- trust
 
 -- a row of a message that was neither refused for its home or its signature nor by the clock
-abbrev is_trusting : Row → Bool
+abbrev pub is_trusting : Row → Bool
 is_trusting row = says_yes row && is_timely row
 
 not_ahead : (q : Option Refusal) → is_not_ahead q ≡ true → q ≢ Some Refusal.FutureRev
 not_ahead q h same = false≢true (sym (ap is_not_ahead same) ∙ h)
 
-filtered : (test keeps : Row → Bool) (rows : List Row) → list_all test rows ≡ true → list_all test (filter keeps rows) ≡ true
+pub filtered : (test keeps : Row → Bool) (rows : List Row) → list_all test rows ≡ true → list_all test (filter keeps rows) ≡ true
 filtered test keeps [] h = refl
 filtered test keeps (row ∷ rows) h =
     let both = and_parts (test row) (list_all test rows) h in
@@ -124,7 +125,7 @@ filtered test keeps (row ∷ rows) h =
       | false ↦ filtered test keeps rows both.1
     ]
 
-both_tests : (one other : Row → Bool) (rows : List Row) → list_all one rows ≡ true → list_all other rows ≡ true → list_all (λ row. one row && other row) rows ≡ true
+pub both_tests : (one other : Row → Bool) (rows : List Row) → list_all one rows ≡ true → list_all other rows ≡ true → list_all (λ row. one row && other row) rows ≡ true
 both_tests one other [] h k = refl
 both_tests one other (row ∷ rows) h k =
     let a = and_parts (one row) (list_all one rows) h in
@@ -182,30 +183,30 @@ trusting row t is h = sym (ap is_trusting is) ∙ h
 above_cursor : (last c n : ℕ) → c ≤ last → n ≡ last + 1 → nat_le n c ≡ false
 above_cursor last c n low is = lt-leb n c (omega (arith, low, is))
 
-record EndsOf (did : List ℕ) (front rest K R : List Row) : Type 0 where
-  accepted : AcceptAll (events (rows_about did rest)) (rows_about did R)
-  trails : Trails (account did (front ++ rest)) (account did (K ++ R))
+pub record EndsOf (did : List ℕ) (front rest K R : List Row) : Type 0 where
+  pub accepted : AcceptAll (events (rows_about did rest)) (rows_about did R)
+  pub trails : Trails (account did (front ++ rest)) (account did (K ++ R))
 
 -- what is asked of rows of the first journal, behind those in front of them, and of the rows that the second one gets of them
-record AsksOf (checks : Checks) (host did : List ℕ) (shows : Row → Bool) (front rest K R : List Row) : Type 0 where
-  journal : IsJournal (front ++ rest)
-  given : AreGiven checks front rest
-  low : cursor host K ≤ last_seq front
-  trails : Trails (account did front) (account did K)
-  uncut : all_about did (λ row. not (is_carried_row row)) rest ≡ true
-  shown_all : all_about did (withholds_nothing shows) rest ≡ true
-  raised : AllRaise did front rest
-  trusted : all_about did is_trusting R ≡ true
-  run : RunFrom checks K [] (sent_by host (events_shown shows rest)) R
+pub record AsksOf (checks : Checks) (host did : List ℕ) (shows : Row → Bool) (front rest K R : List Row) : Type 0 where
+  pub journal : IsJournal (front ++ rest)
+  pub given : AreGiven checks front rest
+  pub low : cursor host K ≤ last_seq front
+  pub trails : Trails (account did front) (account did K)
+  pub uncut : all_about did (λ row. not (is_carried_row row)) rest ≡ true
+  pub shown_all : all_about did (withholds_nothing shows) rest ≡ true
+  pub raised : AllRaise did front rest
+  pub trusted : all_about did is_trusting R ≡ true
+  pub run : RunFrom checks K [] (sent_by host (events_shown shows rest)) R
 
 module _ (checks : Checks) (opens : OpensRight checks) (links : LinksRight checks) (host did : List ℕ) (shows : Row → Bool) where
-  abbrev Asks : List Row → List Row → List Row → List Row → Type 0
+  abbrev pub Asks : List Row → List Row → List Row → List Row → Type 0
   Asks = AsksOf checks host did shows
 
-  abbrev Ends : List Row → List Row → List Row → List Row → Type 0
+  abbrev pub Ends : List Row → List Row → List Row → List Row → Type 0
   Ends = EndsOf did
 
-  abbrev FollowsOn : List Row → Type 0
+  abbrev pub FollowsOn : List Row → Type 0
   FollowsOn rest = (front K R : List Row) → Asks front rest K R → Ends front rest K R
 
   ended : FollowsOn []
@@ -289,7 +290,7 @@ module _ (checks : Checks) (opens : OpensRight checks) (links : LinksRight check
 
     -- the row's event is taken
     module _ (message : List ℕ) (e : Seen) (sent : events_in row ≡ (last_seq front + 1, message) ∷ []) (reads : frame_of message ≡ Ok (Frame.Event e)) (of_did : e.did ≡ did_of_row row) (seq_is : e.seq ≡ last_seq front + 1) (is_shown : shows row ≡ true) where
-      goes : GoesOn checks K host e (sent_by host (events_shown shows rest)) R
+      goes : TakesOn checks K host e (sent_by host (events_shown shows rest)) R
       goes = goes_on checks K host message e (sent_by host (events_shown shows rest)) R reads (above_cursor (last_seq front) (cursor host K) e.seq asks.low seq_is) (run_as true ((last_seq front + 1, message) ∷ []) is_shown sent)
 
       abbrev new : Row
@@ -409,13 +410,13 @@ module _ (checks : Checks) (opens : OpensRight checks) (links : LinksRight check
     row_follows : Ends front (row ∷ rest) K R
     row_follows = by_named named refl (row_tells checks opens links front row journal_here asks.given.0)
 
-  all_follow : (rest : List Row) → FollowsOn rest
+  pub all_follow : (rest : List Row) → FollowsOn rest
   all_follow [] = ended
   all_follow (row ∷ rest) = λ front K R asks. row_follows row rest (all_follow rest) front K R asks
 
 -- ---- the law
 
-unnamed_account : (did : List ℕ) (rows : List Row) → is_named did rows ≡ false → account did rows ≡ fresh
+pub unnamed_account : (did : List ℕ) (rows : List Row) → is_named did rows ≡ false → account did rows ≡ fresh
 unfolding is_named account
 unnamed_account did rows h = go rows fresh h
   where
@@ -425,7 +426,7 @@ unnamed_account did rows h = go rows fresh h
         let both = or_parts (names did (did_of_row x)) (list_any (λ row. names did (did_of_row row)) xs) none in
         ap (λ (c : Bool). folded (account_after did) (cond c (moved s x) s) xs) both.0 ∙ go xs s both.1
 
-fresh_trails : Trails fresh fresh
+pub fresh_trails : Trails fresh fresh
 fresh_trails = record { active = refl; up = refl; rev = refl; repo = λ known. refl }
 
 no_account : (did : List ℕ) → account did [] ≡ fresh

@@ -5,5 +5,7 @@ pub mod Lengths
 pub mod Own
 pub mod Sending
 pub mod Following
+pub mod Again
+pub mod Notices
 pub mod Reading
 pub mod Needing

@@ -1,5 +1,5 @@
 -- The relay's own events, which tell of what it fetched and of its operators' commands, are carried on.
-use Rattle.std.proofs.Common.{◌≡◌, ℕ, ◌≤◌, Bool, true, false, not, ◌&&◌, List, [], ◌∷◌, length, Option, Some, None, Ok, is_some, codes, refl, sym, ap, ◌∙◌, subst, arith}
+use Rattle.std.proofs.Common.{◌≡◌, ℕ, ◌≤◌, Bool, true, false, not, ◌&&◌, List, [], ◌∷◌, length, Option, Some, None, Ok, is_some, codes, refl, sym, ap, ◌∙◌, subst}
 use Rattle.std.specs.Prelude.{nat_lt, ◌==◌}
 use Rattle.std.specs.Str.{bytes_eq}
 use Rattle.std.proofs.lemmas.Bool.{and_from, eq-eqb, le-ltb, not-false}
@@ -38,7 +38,8 @@ use Rattle.relay_law.proofs.Own.{takendown}
 use Rattle.at_car.proofs.Lengths.{found_one}
 use Rattle.chain_law.proofs.Lengths.{did_short, sync_fits, account_fits}
 use Rattle.chain_law.proofs.Renumbered.{one_head, shown_active}
-use Rattle.chain_law.proofs.Trailing.{Trails, Carries, opens_to}
+use Rattle.chain_law.specs.Again.{Trails}
+use Rattle.chain_law.proofs.Trailing.{Carries, opens_to}
 
 -- ---- what some repository comes to
 

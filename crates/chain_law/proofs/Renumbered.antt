@@ -30,7 +30,8 @@ use Rattle.relay_law.specs.Right.{LinksRight, expect_of}
 use Rattle.relay_law.proofs.Answered.{same_head, told_ok, linking_decided}
 use Rattle.relay_law.proofs.Right.{checks_right}
 use Rattle.chain_law.specs.Given.{answers_at}
-use Rattle.chain_law.proofs.Trailing.{Trails, RepoShows, Shows, Carries, is_long, good_trails}
+use Rattle.chain_law.specs.Again.{Trails}
+use Rattle.chain_law.proofs.Trailing.{RepoShows, Shows, Carries, is_long, good_trails}
 
 -- ---- one head
 

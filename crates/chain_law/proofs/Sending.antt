@@ -47,7 +47,8 @@ use Rattle.chain_law.specs.Chained.{is_raised, raises, fetch_raises}
 use Rattle.chain_law.specs.Given.{answers_at, refusal_at, event_taken_at, IsOfRepository, IsFoundOfRepository, IsOfEvent, IsOfFaulty, IsOfSync, IsOfTakedown, IsGiven}
 use Rattle.chain_law.proofs.Own.{sync_carries, down_carries, up_carries}
 use Rattle.chain_law.proofs.Renumbered.{carried_on}
-use Rattle.chain_law.proofs.Trailing.{Trails, Carries, accepted_shows, lost_active}
+use Rattle.chain_law.specs.Again.{Trails}
+use Rattle.chain_law.proofs.Trailing.{Carries, accepted_shows, lost_active}
 
 -- ---- the relay's own `#sync` is read as it was written
 

@@ -1,5 +1,5 @@
 -- The account of a second relay trails that of the first, and what shows no refusal of the one shows none of the other.
-use Rattle.std.proofs.Common.{◌≡◌, ◌≢◌, ℕ, Bool, true, false, not, ◌&&◌, Option, Some, None, Result, Ok, refl, sym, ap, ◌∙◌, subst}
+use Rattle.std.proofs.Common.{◌≡◌, ◌≢◌, ℕ, Bool, true, false, not, Option, Some, None, Result, Ok, refl, sym, ap, ◌∙◌, subst}
 use Rattle.std.specs.Prelude.{nat_lt}
 use Rattle.at_event.specs.Refusals.{code_of}
 use Rattle.at_event.specs.Seen.{Seen}
@@ -18,15 +18,9 @@ use Rattle.relay_core.specs.Table.{when, is_ahead, refusal_in, body_lines}
 use Rattle.relay_core.specs.declared.limits.TheConstants.{LONGEST_MESSAGE}
 use Rattle.relay_core.proofs.Showing.{table}
 use Rattle.relay_law.proofs.Answered.{told_ok}
+use Rattle.chain_law.specs.Again.{Trails}
 use Rattle.chain_law.specs.Given.{answers_at, refusal_at}
 use Rattle.chain_law.proofs.Tables.{table_none, table_late, table_lost, short, short_none, short_late, short_lost, when_not, when_active, later_at}
-
--- What a second relay knows of an account, beside what the first one knows: it is active where the first shows it active, nobody took it down, and its repository is the same, or was lost by the first alone, at the same revision.
-pub record Trails (a b : State) : Type 0 where
-  pub active : b.active ≡ (a.active && not a.down)
-  pub up : b.down ≡ false
-  pub rev : last_rev b.repo ≡ last_rev a.repo
-  pub repo : ((rev : Option ℕ) → a.repo ≢ Repo.Lost rev) → b.repo ≡ a.repo
 
 pub good_trails : (a b : State) (head : Head) → Trails a b → Trails (record a { repo = Repo.Good head }) (record b { repo = Repo.Good head })
 good_trails a b head t = record { active = t.active; up = t.up; rev = refl; repo = λ known. refl }

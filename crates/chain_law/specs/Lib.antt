@@ -1,4 +1,5 @@
 pub mod Given
 pub mod Chained
+pub mod Again
 pub mod Laws
 pub mod Needed

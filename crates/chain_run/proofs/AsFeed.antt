@@ -1,5 +1,5 @@
 -- What a relay behind a relay does, from what following a feed does that gives what the first one serves.
-use Rattle.std.proofs.Common.{◌≡◌, ◌⊎◌, inl, inr, ⊎_elim, ◌∙◌, ℕ, true, List, [], ◌∷◌, ◌++◌, map, Some, refl, sym, ap, subst, append-nil}
+use Rattle.std.proofs.Common.{◌≡◌, ◌≢◌, ◌⊎◌, inl, inr, ⊎_elim, ◌∙◌, ℕ, true, List, [], ◌∷◌, ◌++◌, map, Some, refl, sym, ap, subst, append-nil}
 use Rattle.std.specs.List.{AllByRecursion}
 use Rattle.at_cid.specs.Link.{IsBytes}
 use Rattle.at_authority.specs.Panels.{Panel}
@@ -35,8 +35,9 @@ use Rattle.take_run.specs.Followed.{Followed}
 use Rattle.take_run.specs.declared.end.TakeEnd.{TakeEnd}
 use Rattle.trust_law.specs.Trust.{Trusts}
 use Rattle.trust_law.proofs.Trusting.{steps_show}
-use Rattle.chain_run.specs.Chained.{AccountsFollow, AllTaken, Chained}
+use Rattle.chain_run.specs.Chained.{AccountsFollow, AccountsGoOn, AllTaken, Chained}
 use Rattle.chain_run.specs.declared.taking.TheConstants.{MOST_SERVED}
+use Rattle.chain_run.proofs.Again.{served_go_on}
 use Rattle.chain_run.proofs.Few.{not_as_many}
 use Rattle.chain_run.proofs.Serving.{served_follow}
 
@@ -121,6 +122,11 @@ module _ (t : Tells) (host : List ℕ) (most : ℕ) (one two : List Row) (journa
         served_follow checks opens links one two host did steps f.feed.rest journal made new_to (are checks opens links) hosts front over
         (steps_show checks opens t.clock t.repos two [] old.around f.taken.mid steps (are checks opens links) asked trusts trusts_behind) could
 
+    goes_on : host ≢ [] → AccountsGoOn host one two (rows steps)
+    goes_on some checks opens links made front_rows more whole did had could =
+        served_go_on checks opens links one front_rows more two whole host did some steps f.feed.rest journal made (are checks opens links) hosts front over
+        (steps_show checks opens t.clock t.repos two [] old.around f.taken.mid steps (are checks opens links) asked trusts trusts_behind) had could
+
   all_of : (end : TakeEnd) (f : FollowedTo end) → end ≡ TakeEnd.Done → AllTaken host (given (cursor host two)) f.taken.steps
   all_of TakeEnd.Done f is = all_taken f
   all_of (TakeEnd.Bad place) f is = absurd cc
@@ -139,5 +145,14 @@ module _ (t : Tells) (host : List ℕ) (most : ℕ) (one two : List Row) (journa
   law_of (TakeEnd.Store fault) f is = absurd cc
   law_of TakeEnd.Memory f is = absurd cc
 
+  again_of : (end : TakeEnd) (f : FollowedTo end) → end ≡ TakeEnd.Done → host ≢ [] → AccountsGoOn host one two (rows f.taken.steps)
+  again_of TakeEnd.Done f is = goes_on f
+  again_of (TakeEnd.Bad place) f is = absurd cc
+  again_of TakeEnd.TooLong f is = absurd cc
+  again_of TakeEnd.ReadFault f is = absurd cc
+  again_of TakeEnd.WriteFault f is = absurd cc
+  again_of (TakeEnd.Store fault) f is = absurd cc
+  again_of TakeEnd.Memory f is = absurd cc
+
   pub chained : (end : TakeEnd) → FollowedTo end → Chained t host most one two old new end
-  chained end f = record { left = left; followed = f; run = run end f; all = all_of end f; faithful = faithful end f; law = law_of end f }
+  chained end f = record { left = left; followed = f; run = run end f; all = all_of end f; faithful = faithful end f; law = law_of end f; again = again_of end f }

@@ -15,7 +15,7 @@ use Rattle.chain_run.specs.Ends.{IsCausedBy, IsOfMessages, MayEnd, end_of_feed, 
 use Rattle.chain_run.specs.Places.{ChainEndShows, HoldsJournal, Place}
 use Rattle.chain_run.specs.declared.end.ChainEnd.{ChainEnd}
 
-not_rose : {A : Type 0} → Rose 0 0 → A
+pub not_rose : {A : Type 0} → Rose 0 0 → A
 not_rose rose = let none : ⊥ = omega (arith, rose) in absurd none
 
 -- an end is that of a feed which gives the same

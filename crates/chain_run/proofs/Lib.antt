@@ -1,7 +1,9 @@
 pub mod Faults
 pub mod Few
 pub mod Serving
+pub mod Again
 pub mod Endings
+pub mod Telling
 pub mod Openings
 pub mod AsFeed
 pub mod Ran

@@ -10,6 +10,7 @@ use Rattle.relay_store.specs.Opening.{IsOfReading, Opened}
 use Rattle.relay_store.specs.declared.fault.StoreFault.{StoreFault}
 use Rattle.relay_store.specs.declared.store.Store.{Store}
 use Rattle.relay_store.proofs.Beside.{leaves_stand, opened_leaves}
+use Rattle.take_run.specs.Causes.{Failures, failures}
 use Rattle.take_run.specs.Ends.{end_of_store as tape_end_of}
 use Rattle.take_run.specs.Tells.{Tells}
 use Rattle.take_run.specs.Ingested.{Unopened, pair_scene}
@@ -18,9 +19,10 @@ use Rattle.serve_run.specs.Replayed.{OnlyRead}
 use Rattle.serve_run.proofs.Reading.{read_opened}
 use Rattle.chain_run.specs.Chained.{ChainRan}
 use Rattle.chain_run.specs.Ends.{BothOpened, end_of_store, end_of_taking}
-use Rattle.chain_run.specs.Places.{ChainCaused, ChainEndShows, PairFailed, Place}
+use Rattle.chain_run.specs.Places.{ChainCaused, ChainEndShows, PairFailed, PairSteady, Place}
 use Rattle.chain_run.specs.declared.end.ChainEnd.{ChainEnd}
 use Rattle.chain_run.proofs.Endings.{completes, first_shows, opening_causes, second_shows}
+use Rattle.chain_run.proofs.Telling.{first_fails_told, second_fails_told}
 
 ends_opening : (fault : StoreFault) → end_of_store fault ≡ end_of_taking (tape_end_of fault)
 ends_opening StoreFault.Disk = refl
@@ -43,13 +45,14 @@ not_opened StoreFault.Memory reading is = is
 not_opened StoreFault.Clock reading is = reading
 
 -- the first pair wasn't opened, and the second wasn't touched
-untouched : (fault : StoreFault) → IsOfReading fault → (J : List Row) (one two : View) → IsDisk one → IsDisk two → (around : Around) (written : List ℕ)
-    → Unopened J (pair_scene one two around [] written) (pair_scene one two around [] written) (tape_end_of fault)
-untouched fault reading J one two first second around written = record {
+untouched : (fault : StoreFault) → IsOfReading fault → (J : List Row) (one two : View) → IsDisk one → IsDisk two → (around : Around) (failed : Failures) (written : List ℕ)
+    → Unopened J (pair_scene one two around failed [] written) (pair_scene one two around failed [] written) (tape_end_of fault)
+untouched fault reading J one two first second around failed written = record {
   fault = fault;
   is = refl;
   of_reading = reading;
   around = refl;
+  failures = refl;
   left = refl;
   written = refl;
   stands = λ s. s;
@@ -63,10 +66,11 @@ first_unread tells one two one_now two_now fault J first second opened told read
   crashes = λ stands. opened_leaves tells one two one_now two_now (Err fault) opened told J stands;
 }
 
-module _ (t : Tells) (host : List ℕ) (most : ℕ) (old : Place) (c d : View) (c_is : IsDisk c) (d_is : IsDisk d) (c_more : old.first.faults ≤ c.faults) (d_more : old.first_other.faults ≤ d.faults) (fault : StoreFault) (reading : IsOfReading fault) (first_told : end_of_store fault ≢ ChainEnd.Disk → (c.faults ≡ old.first.faults) × (d.faults ≡ old.first_other.faults)) (end : ChainEnd) (end_is : end ≡ end_of_store fault) where
+module _ (t : Tells) (host : List ℕ) (most : ℕ) (old : Place) (c d : View) (c_is : IsDisk c) (d_is : IsDisk d) (c_more : old.first.faults ≤ c.faults) (d_more : old.first_other.faults ≤ d.faults) (fault : StoreFault) (reading : IsOfReading fault) (end : ChainEnd) (end_is : end ≡ end_of_store fault) where
   -- the first pair wasn't opened
   module _ (second_is : IsDisk old.second) (other_is : IsDisk old.second_other) (opened : Opened t.disk old.first old.first_other c d (Err fault))
-      (bad : (p : ℕ) → fault ≡ StoreFault.BadLog p → IsTrue t.disk → IsBadPairJournalAt p old.first.content old.first_other.content) (failed : fault ≡ StoreFault.Disk → PairFailed old.first old.first_other c d) where
+      (bad : (p : ℕ) → fault ≡ StoreFault.BadLog p → IsTrue t.disk → IsBadPairJournalAt p old.first.content old.first_other.content) (failed : fault ≡ StoreFault.Disk → PairFailed old.first old.first_other c d)
+      (steady : fault ≢ StoreFault.Disk → PairSteady old.first old.first_other c d) where
     abbrev pub after_first : Place
     after_first = record old { first = c; first_other = d }
 
@@ -75,11 +79,11 @@ module _ (t : Tells) (host : List ℕ) (most : ℕ) (old : Place) (c d : View) (
 
     first_fails_so : ChainRan t host most old after_first (end_of_store fault)
     first_fails_so = record {
-      chained = λ told two image. inl (tape_end_of fault, ends_opening fault, untouched fault reading two old.second old.second_other second_is other_is (around (λ name. trusting) old.moments old.repository) old.written);
+      chained = λ told two image. inl (tape_end_of fault, ends_opening fault, untouched fault reading two old.second old.second_other second_is other_is (around (λ name. trusting) old.moments old.repository) (failures old.failed.repos old.failed.clock 0) old.written);
       first = λ told one image. first_unread t.disk old.first old.first_other c d fault one c_is d_is opened told reading;
       shows = λ told. first_shows fault old reading (λ p is. bad p is told);
       caused = first_caused;
-      told = first_told;
+      told = first_fails_told old c d fault reading steady;
       counts = record { first = c_more; first_other = d_more; second = omega arith; second_other = omega arith; repos = omega arith; clock = omega arith; output = omega arith };
       complete = λ told one two none. completes _ _ _ _ (end_of_store fault) old first_caused (first_shows fault old reading (λ p is. bad p is told)) one two none;
     }
@@ -90,7 +94,8 @@ module _ (t : Tells) (host : List ℕ) (most : ℕ) (old : Place) (c d : View) (
   -- the second wasn't
   module _ (source : Store) (e f : View) (e_is : IsDisk e) (f_is : IsDisk f) (e_more : old.second.faults ≤ e.faults) (f_more : old.second_other.faults ≤ f.faults)
       (opened : Opened t.disk old.first old.first_other c d (Ok source)) (unopened_so : Opened t.disk old.second old.second_other e f (Err fault))
-      (bad : (p : ℕ) → fault ≡ StoreFault.BadLog p → IsTrue t.disk → IsBadPairJournalAt p old.second.content old.second_other.content) (failed : fault ≡ StoreFault.Disk → PairFailed old.second old.second_other e f) where
+      (bad : (p : ℕ) → fault ≡ StoreFault.BadLog p → IsTrue t.disk → IsBadPairJournalAt p old.second.content old.second_other.content) (failed : fault ≡ StoreFault.Disk → PairFailed old.second old.second_other e f)
+      (first_same : PairSteady old.first old.first_other c d) (steady : fault ≢ StoreFault.Disk → PairSteady old.second old.second_other e f) where
     abbrev pub after_second : Place
     after_second = record old { first = c; first_other = d; second = e; second_other = f }
 
@@ -106,12 +111,12 @@ module _ (t : Tells) (host : List ℕ) (most : ℕ) (old : Place) (c d : View) (
           inl (
             tape_end_of fault,
             ends_opening fault,
-            unopened t.disk old.second old.second_other e f fault two (around (λ name. trusting) old.moments old.repository) [] old.written (tape_end_of fault) e_is f_is unopened_so told reading refl,
+            unopened t.disk old.second old.second_other e f fault two (around (λ name. trusting) old.moments old.repository) (failures old.failed.repos old.failed.clock 0) [] old.written (tape_end_of fault) e_is f_is unopened_so told reading refl,
           );
       first = λ told one image. read_opened t.disk old.first old.first_other c d c d source (BothOpened (end_of_store fault)) one c_is d_is opened told image (still_here c) (still_here d);
       shows = second_shown;
       caused = second_caused;
-      told = first_told;
+      told = second_fails_told old c d e f fault first_same steady;
       counts = record { first = c_more; first_other = d_more; second = e_more; second_other = f_more; repos = omega arith; clock = omega arith; output = omega arith };
       complete = λ told one two none. completes _ _ _ _ (end_of_store fault) old second_caused (second_shown told) one two none;
     }

@@ -16,7 +16,7 @@ use Rattle.take_run.specs.Followed.{Followed}
 use Rattle.serve_run.proofs.Reading.{read_opened}
 use Rattle.chain_run.specs.Chained.{ChainRan, IsChained}
 use Rattle.chain_run.specs.Ends.{BothOpened, end_of_taken, taking_end}
-use Rattle.chain_run.specs.Places.{ChainCaused, ChainEndShows, CountsKept, FirstTold, HoldsJournal, PairFailed, Place, second_scene}
+use Rattle.chain_run.specs.Places.{ChainCaused, ChainEndShows, ChainTold, CountsKept, HoldsJournal, PairFailed, Place, second_scene}
 use Rattle.chain_run.specs.declared.end.ChainEnd.{ChainEnd}
 use Rattle.chain_run.specs.declared.taking.TheConstants.{MOST_SERVED}
 use Rattle.chain_run.proofs.AsFeed.{chained}
@@ -34,7 +34,7 @@ module _ (t : Tells) (host : List ℕ) (most : ℕ) (old new : Place) (source : 
     (held : IsTrue t.disk → HoldsJournal old.second old.second_other)
     (follow : IsTrue t.disk → (one : List Row) → IsPairImageOf one old.first.content old.first_other.content → (two : List Row) → IsPairImageOf two old.second.content old.second_other.content
     → (left : List (List ℕ)) × Followed t true host most MOST_SERVED (λ n. served (held_by one) (Some n)) left two (second_scene old) (second_scene new) (taking_end taken))
-    (kept : CountsKept old new) (first_told : FirstTold old new (end_of_taken taken)) where
+    (kept : CountsKept old new) (tells_so : ChainTold old new (end_of_taken taken)) where
   causes : ChainCaused old new (end_of_taken taken)
   causes =
       taking_causes (PairFailed c d new.first new.first_other) (PairFailed e f new.second new.second_other) _ _ _ _ taken
@@ -65,7 +65,7 @@ module _ (t : Tells) (host : List ℕ) (most : ℕ) (old new : Place) (source : 
     first = λ told one image. read_opened t.disk old.first old.first_other c d new.first new.first_other source (BothOpened (end_of_taken taken)) one c_is d_is opened told image one_goes two_goes;
     shows = shown;
     caused = causes;
-    told = first_told;
+    told = tells_so;
     counts = kept;
     complete = λ told one two none. completes _ _ _ _ (end_of_taken taken) old causes (shown told) one two none;
   }

@@ -63,11 +63,11 @@ read_on checks last did carried raised true a after es others (inr s) read =
     let P : List Event → Type 0 = λ l. AreReadEvents (l ++ others) in
     subst P (sym s.is) (record { seen = s.event; reads = s.reads; numbered = s.seq_is }, read)
 
-record IsShownSo (front rows : List Row) (shows : Row → Bool) : Type 0 where
-  rise : AreRising (last_seq front) (events_shown shows rows)
-  read : AreReadEvents (events_shown shows rows)
+pub record IsShownSo (front rows : List Row) (shows : Row → Bool) : Type 0 where
+  pub rise : AreRising (last_seq front) (events_shown shows rows)
+  pub read : AreReadEvents (events_shown shows rows)
 
-shown_so : (checks : Checks) → OpensRight checks → LinksRight checks → (shows : Row → Bool) (rows front : List Row) → IsJournal (front ++ rows) → AreGiven checks front rows → IsShownSo front rows shows
+pub shown_so : (checks : Checks) → OpensRight checks → LinksRight checks → (shows : Row → Bool) (rows front : List Row) → IsJournal (front ++ rows) → AreGiven checks front rows → IsShownSo front rows shows
 shown_so checks opens links shows [] front journal given = record { rise = tt; read = tt }
 shown_so checks opens links shows (row ∷ rows) front journal given =
     let P : List Row → Type 0 = λ X. IsJournal X in
@@ -85,7 +85,7 @@ shown_so checks opens links shows (row ∷ rows) front journal given =
 
 -- ---- what is served from the start
 
-same_shown : (J rows : List Row) → shown_of J rows ≡ events_shown (is_shown J) rows
+pub same_shown : (J rows : List Row) → shown_of J rows ≡ events_shown (is_shown J) rows
 same_shown J [] = refl
 same_shown J (row ∷ rows) = ap (λ (l : List Event). cond (is_shown J row) (events_in row) [] ++ l) (same_shown J rows)
 
@@ -96,7 +96,7 @@ all_above n (e ∷ events) rise = rw (lt-leb e.0 n rise.0) (ap (λ (l : List Eve
 at_start : (held : Held) → standing_of held 0 ≡ Standing.Current
 at_start held = rw (le-ltb held.last 0 (omega arith)) refl
 
-no_number : last_seq [] ≡ 0
+pub no_number : last_seq [] ≡ 0
 unfolding last_seq
 no_number = refl
 
@@ -122,13 +122,13 @@ not_ended checks J ended host frame (skipped pass) e reads is =
     by_old true Pass.Ended h = absurd cc
     by_old false p h = absurd cc
 
-head_is : {A : Type 0} (x y : A) (xs ys : List A) → x ∷ xs ≡ y ∷ ys → x ≡ y
+pub head_is : {A : Type 0} (x y : A) (xs ys : List A) → x ∷ xs ≡ y ∷ ys → x ≡ y
 head_is x y xs ys h = cc
 
-tail_is : {A : Type 0} (x y : A) (xs ys : List A) → x ∷ xs ≡ y ∷ ys → xs ≡ ys
+pub tail_is : {A : Type 0} (x y : A) (xs ys : List A) → x ∷ xs ≡ y ∷ ys → xs ≡ ys
 tail_is x y xs ys h = cc
 
-none_ended : (checks : Checks) (steps : List Step) (J : List Row) (ended : List (List ℕ)) (es : List Event) (rest : List (List ℕ)) → AreSteps checks J ended steps → map (λ e. e.1) es ≡ bytes_of_messages (messages_sent steps) ++ rest → AreReadEvents es → ended_by_all steps ended ≡ ended
+pub none_ended : (checks : Checks) (steps : List Step) (J : List Row) (ended : List (List ℕ)) (es : List Event) (rest : List (List ℕ)) → AreSteps checks J ended steps → map (λ e. e.1) es ≡ bytes_of_messages (messages_sent steps) ++ rest → AreReadEvents es → ended_by_all steps ended ≡ ended
 none_ended checks [] J ended es rest are same read = refl
 none_ended checks (s ∷ steps) J ended [] rest are same read = absurd cc
 none_ended checks (s ∷ steps) J ended (e ∷ es) rest are same read =
@@ -137,7 +137,7 @@ none_ended checks (s ∷ steps) J ended (e ∷ es) rest are same read =
     ap (λ (l : List (List ℕ)). ended_by_all steps l) here
     ∙ none_ended checks steps (J ++ rows_decided s.decided) ended es rest (subst (λ (l : List (List ℕ)). AreSteps checks (J ++ rows_decided s.decided) l steps) here are.1) (tail_is e.1 s.bytes (map (λ x. x.1) es) (bytes_of_messages (messages_sent steps) ++ rest) same) read.1
 
-messages_are : (host : List ℕ) (steps : List Step) (es : List Event) → AreOf host (messages_sent steps) → map (λ e. e.1) es ≡ bytes_of_messages (messages_sent steps) → messages steps ≡ sent_by host es
+pub messages_are : (host : List ℕ) (steps : List Step) (es : List Event) → AreOf host (messages_sent steps) → map (λ e. e.1) es ≡ bytes_of_messages (messages_sent steps) → messages steps ≡ sent_by host es
 messages_are host [] [] of same = refl
 messages_are host [] (e ∷ es) of same = absurd cc
 messages_are host (s ∷ steps) [] of same = absurd cc
@@ -146,7 +146,7 @@ messages_are host (s ∷ steps) (e ∷ es) of same =
     let one : message_of s ≡ (host, frame_of e.1) = (λ i. (of.0 i, frame_of (sym first i))) in
     ap (λ (m : Read). m ∷ messages steps) one ∙ ap (λ (l : List Read). (host, frame_of e.1) ∷ l) (messages_are host steps es of.1 (tail_is e.1 s.bytes (map (λ x. x.1) es) (bytes_of_messages (messages_sent steps)) same))
 
-all_sent : (host : List ℕ) (steps : List Step) (rest : List (List ℕ)) → ended_by_all steps [] ≡ [] → (rest ≡ []) ⊎ (has_ended (ended_by_all steps []) host ≡ true) → rest ≡ []
+pub all_sent : (host : List ℕ) (steps : List Step) (rest : List (List ℕ)) → ended_by_all steps [] ≡ [] → (rest ≡ []) ⊎ (has_ended (ended_by_all steps []) host ≡ true) → rest ≡ []
 all_sent host steps rest none (inl all) = all
 all_sent host steps rest none (inr over) = absurd (false≢true (sym (ap (λ (l : List (List ℕ)). has_ended l host) none) ∙ over))
 

@@ -1,5 +1,5 @@
 -- What a relay that follows another one does (own).
-use Rattle.std.specs.Prelude.{◌≡◌, ◌⊎◌, ℕ, true, List, [], ◌++◌, Some, IsTrue}
+use Rattle.std.specs.Prelude.{◌≡◌, ◌≢◌, ◌⊎◌, ℕ, true, List, [], ◌++◌, Some, IsTrue}
 use Rattle.backfill.specs.Served.{served}
 use Rattle.relay_row.specs.Folds.{cursor}
 use Rattle.relay_row.specs.declared.row.Row.{Row}
@@ -18,10 +18,11 @@ use Rattle.take_run.specs.declared.end.TakeEnd.{TakeEnd}
 use Rattle.take_run.specs.Ingested.{PairScene, Unopened}
 use Rattle.take_run.specs.Followed.{Followed}
 use Rattle.serve_run.specs.Replayed.{OnlyRead}
+use Rattle.chain_law.specs.Again.{CanGoOn, GoesOn, HasTaken}
 use Rattle.chain_law.specs.Chained.{CanFollow, FollowsAll}
 use Rattle.chain_law.specs.Given.{AreGiven}
 use Rattle.chain_run.specs.Ends.{BothOpened, MayEnd, end_of_feed, end_of_taking}
-use Rattle.chain_run.specs.Places.{ChainCaused, ChainEndShows, CountsKept, FirstTold, HoldsJournal, IsFlawless, Place, second_scene}
+use Rattle.chain_run.specs.Places.{ChainCaused, ChainEndShows, ChainTold, CountsKept, HoldsJournal, IsFlawless, Place, second_scene}
 use Rattle.chain_run.specs.declared.end.ChainEnd.{ChainEnd}
 use Rattle.chain_run.specs.declared.taking.TheConstants.{MOST_SERVED}
 
@@ -31,6 +32,13 @@ AccountsFollow host one two rows =
     (checks : Checks) → OpensRight checks → LinksRight checks → AreGiven checks [] one
     → cursor host two ≡ 0 → (did : List ℕ) → CanFollow did (is_shown one) one two rows
     → FollowsAll did one two rows
+
+-- Run after run: of rows that stand in front of a journal that a relay made, the other one had taken all that they send out of an account; of those that have come since it takes all too.
+abbrev pub AccountsGoOn : List ℕ → List Row → List Row → List Row → Type 0
+AccountsGoOn host one two rows =
+    (checks : Checks) → OpensRight checks → LinksRight checks → AreGiven checks [] one
+    → (front more : List Row) → one ≡ front ++ more → (did : List ℕ) → HasTaken host did front two
+    → CanGoOn did (is_shown one) front more rows → GoesOn host did front more two rows
 
 -- the messages of the steps are all that is given, or all up to the one that ended the host
 abbrev pub AllTaken : List ℕ → List (List ℕ) → List Step → Type 0
@@ -55,6 +63,8 @@ pub record Chained (t : Tells) (host : List ℕ) (most : ℕ) (one two : List Ro
   pub faithful : AreFaithful two → AreFaithful (two ++ rows followed.taken.steps)
   -- and the accounts follow
   pub law : end ≡ TakeEnd.Done → AccountsFollow host one two (rows followed.taken.steps)
+  -- run after run
+  pub again : end ≡ TakeEnd.Done → host ≢ [] → AccountsGoOn host one two (rows followed.taken.steps)
 
 -- One of the two pairs wasn't opened; or both were, and what the first serves was taken into the journal `two` of the second.
 abbrev pub IsChained : Tells → List ℕ → ℕ → List Row → Place → Place → ChainEnd → Type 0
@@ -75,10 +85,10 @@ pub record ChainRan (t : Tells) (host : List ℕ) (most : ℕ) (old new : Place)
   pub first : IsTrue t.disk → (one : List Row)
       → IsPairImageOf one old.first.content old.first_other.content
       → OnlyRead one (BothOpened end) old.first old.first_other new.first new.first_other
-  -- the end tells what the disks were, and which count rose, that of the first disks always; and no count fell
+  -- the end tells what the disks were; what it speaks of failed, and what failed it speaks of; and no count fell
   pub shows : IsTrue t.disk → ChainEndShows end old
   pub caused : ChainCaused old new end
-  pub told : FirstTold old new end
+  pub told : ChainTold old new end
   pub counts : CountsKept old new
   -- it is done, unless a count rose, memory ran out, the log is full, or the numbers have ended
   pub complete : IsTrue t.disk → HoldsJournal old.first old.first_other

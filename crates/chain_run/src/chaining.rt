@@ -15,12 +15,13 @@ ghost use Rattle.relay_step.specs.Around.{around};
 ghost use Rattle.relay_store.specs.Shown.{held_by};
 ghost use Rattle.relay_store.specs.Store.{IsKept, IsOf, Keeps, seen_in};
 ghost use Rattle.relay_store.specs.Pairs.{of_pair};
+ghost use Rattle.take_run.specs.Causes.{failures};
 ghost use Rattle.take_run.specs.Taken.{scene};
 ghost use Rattle.take_run.specs.Tells.{tells};
 ghost use Rattle.take_run.specs.PairEnds.{IsCausedBy};
 ghost use Rattle.chain_run.specs.Chained.{ChainRan};
 ghost use Rattle.chain_run.specs.Ends.{IsOfMessages, taking_end};
-ghost use Rattle.chain_run.specs.Places.{PairFailed, failures, place};
+ghost use Rattle.chain_run.specs.Places.{HoldsJournal, PairFailed, PairOnlyRead, TakingTold, failure_counts, place};
 ghost use Rattle.chain_run.specs.Taking.{TakenOfEvents};
 ghost use Rattle.chain_run.specs.declared.taking.TheConstants.{MOST_SERVED};
 
@@ -59,10 +60,10 @@ fn take_on<E: Events, D: Disk, P: Judges, R: Repos, C: Clock, O: Sink>(
         host.now MOST_SERVED (served held (Some (cursor host.now J))) J
         (scene (seen_in store.old) (of_pair (seen_in store.old).side disk.old other.old)
         (around (P.panel judges.old) (C.moments clock.old) (R.repository repos.old))
-        [] (O.written out.old))
+        (failures (R.faults repos.old) (C.faults clock.old) 0) [] (O.written out.old))
         (scene (seen_in store.new) (of_pair (seen_in store.old).side disk.new other.new)
         (around (P.panel judges.new) (C.moments clock.new) (R.repository repos.new))
-        [] (O.written out.new))
+        (failures (R.faults repos.new) (C.faults clock.new) 0) [] (O.written out.new))
         (taking_end result) }
     ensures beside { of_pair (other_side (seen_in store.old).side) disk.new other.new
         ≡ of_pair (other_side (seen_in store.old).side) disk.old other.old }
@@ -80,6 +81,10 @@ fn take_on<E: Events, D: Disk, P: Judges, R: Repos, C: Clock, O: Sink>(
         (Rose 0 0) (Rose (O.faults out.old) (O.faults out.new))
         (Rose (R.faults repos.old) (R.faults repos.new))
         (Rose (C.faults clock.old) (C.faults clock.new)) end) }
+    ensures told { TakingTold (D.view disk.old) (D.view other.old) (D.view disk.new) (D.view other.new)
+        (failure_counts (R.faults repos.old) (C.faults clock.old) (O.faults out.old))
+        (failure_counts (R.faults repos.new) (C.faults clock.new) (O.faults out.new))
+        (taking_end result) }
     ensures disk_counts { (D.view disk.old).faults ≤ (D.view disk.new).faults }
     ensures other_counts { (D.view other.old).faults ≤ (D.view other.new).faults }
     ensures repos_count { R.faults repos.old ≤ R.faults repos.new }
@@ -143,10 +148,10 @@ fn chain_from<D: Disk, P: Judges, R: Repos, C: Clock, O: Sink>(
         host.now MOST_SERVED (served (held_by one) (Some (cursor host.now J))) J
         (scene (seen_in store.old) (of_pair (seen_in store.old).side disk.old other.old)
         (around (P.panel judges.old) (C.moments clock.old) (R.repository repos.old))
-        [] (O.written out.old))
+        (failures (R.faults repos.old) (C.faults clock.old) 0) [] (O.written out.old))
         (scene (seen_in store.new) (of_pair (seen_in store.old).side disk.new other.new)
         (around (P.panel judges.new) (C.moments clock.new) (R.repository repos.new))
-        [] (O.written out.new))
+        (failures (R.faults repos.new) (C.faults clock.new) 0) [] (O.written out.new))
         (taking_end result) }
     ensures beside { of_pair (other_side (seen_in store.old).side) disk.new other.new
         ≡ of_pair (other_side (seen_in store.old).side) disk.old other.old }
@@ -162,6 +167,10 @@ fn chain_from<D: Disk, P: Judges, R: Repos, C: Clock, O: Sink>(
         (Rose 0 0) (Rose (O.faults out.old) (O.faults out.new))
         (Rose (R.faults repos.old) (R.faults repos.new))
         (Rose (C.faults clock.old) (C.faults clock.new)) end) }
+    ensures told { TakingTold (D.view disk.old) (D.view other.old) (D.view disk.new) (D.view other.new)
+        (failure_counts (R.faults repos.old) (C.faults clock.old) (O.faults out.old))
+        (failure_counts (R.faults repos.new) (C.faults clock.new) (O.faults out.new))
+        (taking_end result) }
     ensures disk_counts { (D.view disk.old).faults ≤ (D.view disk.new).faults }
     ensures other_counts { (D.view other.old).faults ≤ (D.view other.new).faults }
     ensures repos_count { R.faults repos.old ≤ R.faults repos.new }
@@ -211,10 +220,10 @@ fn chain_sides<D: Disk, P: Judges, R: Repos, C: Clock, O: Sink>(
         host.now MOST_SERVED (served (held_by one) (Some (cursor host.now J))) J
         (scene (seen_in store.old) (of_pair (seen_in store.old).side second.old second_other.old)
         (around (P.panel judges.old) (C.moments clock.old) (R.repository repos.old))
-        [] (O.written out.old))
+        (failures (R.faults repos.old) (C.faults clock.old) 0) [] (O.written out.old))
         (scene (seen_in store.new) (of_pair (seen_in store.old).side second.new second_other.new)
         (around (P.panel judges.new) (C.moments clock.new) (R.repository repos.new))
-        [] (O.written out.new))
+        (failures (R.faults repos.new) (C.faults clock.new) 0) [] (O.written out.new))
         (taking_end result) }
     ensures beside { of_pair (other_side (seen_in store.old).side) second.new second_other.new
         ≡ of_pair (other_side (seen_in store.old).side) second.old second_other.old }
@@ -234,6 +243,10 @@ fn chain_sides<D: Disk, P: Judges, R: Repos, C: Clock, O: Sink>(
         (Rose 0 0) (Rose (O.faults out.old) (O.faults out.new))
         (Rose (R.faults repos.old) (R.faults repos.new))
         (Rose (C.faults clock.old) (C.faults clock.new)) end) }
+    ensures told { TakingTold (D.view second.old) (D.view second_other.old) (D.view second.new) (D.view second_other.new)
+        (failure_counts (R.faults repos.old) (C.faults clock.old) (O.faults out.old))
+        (failure_counts (R.faults repos.new) (C.faults clock.new) (O.faults out.new))
+        (taking_end result) }
     ensures disk_counts { (D.view second.old).faults ≤ (D.view second.new).faults }
     ensures other_counts { (D.view second_other.old).faults ≤ (D.view second_other.new).faults }
     ensures repos_count { R.faults repos.old ≤ R.faults repos.new }
@@ -291,12 +304,24 @@ pub fn chain_within<D: Disk, R: Repos, C: Clock, O: Sink>(
         (place (D.view first.old) (D.view first_other.old)
         (D.view second.old) (D.view second_other.old)
         (C.moments clock.old) (R.repository repos.old) (O.written out.old)
-        (failures (R.faults repos.old) (C.faults clock.old) (O.faults out.old)))
+        (failure_counts (R.faults repos.old) (C.faults clock.old) (O.faults out.old)))
         (place (D.view first.new) (D.view first_other.new)
         (D.view second.new) (D.view second_other.new)
         (C.moments clock.new) (R.repository repos.new) (O.written out.new)
-        (failures (R.faults repos.new) (C.faults clock.new) (O.faults out.new)))
+        (failure_counts (R.faults repos.new) (C.faults clock.new) (O.faults out.new)))
         result }
+    // A pair that holds no journal is only read, and nothing else is done.
+    ensures no_first_journal { IsTrue D.tells
+        → (HoldsJournal (D.view first.old) (D.view first_other.old) → ⊥)
+        → PairOnlyRead (D.view first.old) (D.view first_other.old)
+        (D.view first.new) (D.view first_other.new)
+        × (second.new ≡ second.old) × (second_other.new ≡ second_other.old)
+        × (repos.new ≡ repos.old) × (clock.new ≡ clock.old) × (out.new ≡ out.old) }
+    ensures no_second_journal { IsTrue D.tells
+        → (HoldsJournal (D.view second.old) (D.view second_other.old) → ⊥)
+        → PairOnlyRead (D.view second.old) (D.view second_other.old)
+        (D.view second.new) (D.view second_other.new)
+        × (repos.new ≡ repos.old) × (clock.new ≡ clock.old) × (out.new ≡ out.old) }
 {
     let source = match Store::open(alloc, first, first_other, most) {
         Ok(source) => source,

@@ -10,7 +10,7 @@ ghost use Rattle.backfill.specs.Served.{served};
 ghost use Rattle.relay_row.specs.declared.row.Row.{Row as TheRow};
 ghost use Rattle.relay_step.specs.Around.{around};
 ghost use Rattle.relay_store.specs.Store.{IsKept, IsOf, seen_in};
-ghost use Rattle.take_run.specs.Causes.{Caused, Kept, faults};
+ghost use Rattle.take_run.specs.Causes.{Caused, Kept, Told, failures, faults};
 ghost use Rattle.take_run.specs.Following.{IsNextOf};
 ghost use Rattle.take_run.specs.Taken.{scene};
 ghost use Rattle.take_run.specs.Tells.{tells};
@@ -103,10 +103,10 @@ fn take_left<E: Events, D: Disk, P: Judges, R: Repos, C: Clock, O: Sink>(
         host.now most (left_of held place.old) J
         (scene (seen_in store.old) disk.old
         (around (P.panel judges.old) (C.moments clock.old) (R.repository repos.old))
-        [] (O.written out.old))
+        (failures (R.faults repos.old) (C.faults clock.old) 0) [] (O.written out.old))
         (scene (seen_in store.new) disk.new
         (around (P.panel judges.new) (C.moments clock.new) (R.repository repos.new))
-        [] (O.written out.new))
+        (failures (R.faults repos.new) (C.faults clock.new) 0) [] (O.written out.new))
         (taking_end result) }
     ensures same { IsTrue E.tells → (held : Held)
         → E.holds events.old held → E.holds events.new held }
@@ -130,6 +130,11 @@ fn take_left<E: Events, D: Disk, P: Judges, R: Repos, C: Clock, O: Sink>(
         0 (O.faults out.old))
         (faults (D.view disk.new).faults (R.faults repos.new) (C.faults clock.new)
         0 (O.faults out.new))) }
+    ensures told { Told (taking_end result)
+        (faults (D.view disk.old).faults (R.faults repos.old) (C.faults clock.old)
+        0 (O.faults out.old))
+        (faults (D.view disk.new).faults (R.faults repos.new) (C.faults clock.new)
+        0 (O.faults out.new)) (P.panel judges.old) (P.panel judges.new) }
 {
     'messages: for _ in 0..most {
         let message = match read_next(alloc, host, tally, events, place) {
@@ -172,10 +177,10 @@ pub(crate) fn take_given<E: Events, D: Disk, P: Judges, R: Repos, C: Clock, O: S
         host.now most (served held (Some cursor)) J
         (scene (seen_in store.old) disk.old
         (around (P.panel judges.old) (C.moments clock.old) (R.repository repos.old))
-        [] (O.written out.old))
+        (failures (R.faults repos.old) (C.faults clock.old) 0) [] (O.written out.old))
         (scene (seen_in store.new) disk.new
         (around (P.panel judges.new) (C.moments clock.new) (R.repository repos.new))
-        [] (O.written out.new))
+        (failures (R.faults repos.new) (C.faults clock.new) 0) [] (O.written out.new))
         (taking_end result) }
     ensures same { IsTrue E.tells → (held : Held)
         → E.holds events.old held → E.holds events.new held }
@@ -199,6 +204,11 @@ pub(crate) fn take_given<E: Events, D: Disk, P: Judges, R: Repos, C: Clock, O: S
         0 (O.faults out.old))
         (faults (D.view disk.new).faults (R.faults repos.new) (C.faults clock.new)
         0 (O.faults out.new))) }
+    ensures told { Told (taking_end result)
+        (faults (D.view disk.old).faults (R.faults repos.old) (C.faults clock.old)
+        0 (O.faults out.old))
+        (faults (D.view disk.new).faults (R.faults repos.new) (C.faults clock.new)
+        0 (O.faults out.new)) (P.panel judges.old) (P.panel judges.new) }
 {
     let mut tally = Tally::new(alloc);
     let mut place = StreamPlace::Start(cursor);

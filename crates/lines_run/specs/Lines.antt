@@ -8,10 +8,21 @@ use Rattle.backfill.specs.Served.{rising_above}
 use Rattle.backfill.specs.declared.replay_fault.ReplayFault.{ReplayFault}
 use Rattle.json_lines.specs.Lines.{lines_read}
 
+-- the lines of each of these events
+abbrev pub lines_in : Option (List ℕ) → List Event → List ℕ
+lines_in collection events = flat_map (λ e. lines_read collection (frame_of e.1)) events
+
 -- the lines of each event above a number
 abbrev pub lines_above : Option (List ℕ) → ℕ → List Event → List ℕ
-lines_above collection seq events =
-    flat_map (λ e. lines_read collection (frame_of e.1)) (rising_above seq events)
+lines_above collection seq events = lines_in collection (rising_above seq events)
+
+-- The lines of the first of these events were written, and no line in part.
+pub record AddsLines (collection : Option (List ℕ)) (events : List Event) (old new : List ℕ)
+    : Type 0 where
+  pub written : List Event
+  pub left : List Event
+  pub split : events ≡ written ++ left
+  pub bytes : new ≡ old ++ lines_in collection written
 
 -- all of a text was written, or a front of it where a fault came
 abbrev pub IsWritten : Result (Unit {0}) ReplayFault → List ℕ → List ℕ → List ℕ → Type 0

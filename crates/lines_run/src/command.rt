@@ -12,10 +12,11 @@ ghost use Rattle.relay_store.specs.Opening.{BothOnlyRead};
 ghost use Rattle.relay_store.specs.Shown.{held_by};
 ghost use Rattle.relay_store.specs.Store.{IsKept, Keeps, seen_in};
 ghost use Rattle.relay_store.specs.Pairs.{pair_view};
+ghost use Rattle.backfill.specs.Served.{rising_above};
 ghost use Rattle.serve_run.specs.Ends.{IsCausedBy, ServeEndShows, ServeMayEnd};
 ghost use Rattle.serve_run.specs.Replayed.{IsReplayed};
 ghost use Rattle.serve_run.specs.declared.end.ServeEnd.{ServeEnd};
-ghost use Rattle.lines_run.specs.Lines.{lines_above};
+ghost use Rattle.lines_run.specs.Lines.{AddsLines, lines_above};
 ghost use Rattle.lines_run.specs.OfDisks.{LinesWritten};
 
 use crate::writing::write_lines;
@@ -40,6 +41,10 @@ fn lines_of_events<E: Events, O: Sink>(
         → IsReplayed result
         (lines_above (option_map (λ text. text.now) collection.entry) cursor held.shown)
         (O.written out.old) (O.written out.new) }
+    ensures whole { IsTrue E.tells → (held : Held) → E.holds events.old held → IsTrue O.tells
+        → result ≢ ServeEnd.WriteFault
+        → AddsLines (option_map (λ text. text.now) collection.entry)
+        (rising_above cursor held.shown) (O.written out.old) (O.written out.new) }
     ensures later { E.later events.old events.new }
     ensures disk { result ≡ ServeEnd.Disk → Rose (E.faults events.old) (E.faults events.new) }
     ensures event_steady { result ≢ ServeEnd.Disk → E.faults events.new ≡ E.faults events.old }
@@ -70,6 +75,11 @@ fn lines_from<D: Disk, O: Sink>(
         → Keeps J (seen_in store.now) (D.view disk.old) → IsTrue O.tells → IsReplayed result
         (lines_above (option_map (λ text. text.now) collection.entry) cursor (held_by J).shown)
         (O.written out.old) (O.written out.new) }
+    ensures whole { IsTrue D.tells → (J : List TheRow)
+        → Keeps J (seen_in store.now) (D.view disk.old) → IsTrue O.tells
+        → result ≢ ServeEnd.WriteFault
+        → AddsLines (option_map (λ text. text.now) collection.entry)
+        (rising_above cursor (held_by J).shown) (O.written out.old) (O.written out.new) }
     ensures goes { Goes Same (D.view disk.old) (D.view disk.new) }
     ensures disk { result ≡ ServeEnd.Disk
         → Rose (D.view disk.old).faults (D.view disk.new).faults }
@@ -102,6 +112,11 @@ fn lines_on<D: Disk, O: Sink>(
         → IsTrue O.tells → IsReplayed result
         (lines_above (option_map (λ text. text.now) collection.entry) cursor (held_by J).shown)
         (O.written out.old) (O.written out.new) }
+    ensures whole { IsTrue D.tells → (J : List TheRow) → Keeps J (seen_in store.now)
+        (view_of_side (seen_in store.now).side (D.view disk.old) (D.view other.old))
+        → IsTrue O.tells → result ≢ ServeEnd.WriteFault
+        → AddsLines (option_map (λ text. text.now) collection.entry)
+        (rising_above cursor (held_by J).shown) (O.written out.old) (O.written out.new) }
     ensures one { Goes Same (D.view disk.old) (D.view disk.new) }
     ensures two { Goes Same (D.view other.old) (D.view other.new) }
     ensures disk { result ≡ ServeEnd.Disk
@@ -143,9 +158,12 @@ pub fn lines<D: Disk, O: Sink>(
     ensures shows { IsTrue D.tells
         → ServeEndShows result (D.view disk.old).content (D.view other.old).content }
 
-    // A damaged log is only read, and nothing else is done.
-    ensures unopened { (place : ℕ) → result ≡ ServeEnd.BadLog place → IsTrue D.tells
-        → BothOnlyRead (D.view disk.old) (D.view other.old) (D.view disk.new) (D.view other.new)
+    // Disks that hold no journal are only read, and nothing else is done.
+    ensures no_journal { IsTrue D.tells
+        → ((J : List TheRow)
+        → IsPairImageOf J (D.view disk.old).content (D.view other.old).content → ⊥)
+        → (result ≢ ServeEnd.Disk
+        → BothOnlyRead (D.view disk.old) (D.view other.old) (D.view disk.new) (D.view other.new))
         × (out.new ≡ out.old) }
 
     // A count of faults rose where the end speaks of one, and where none rose, all is done.

@@ -5,9 +5,10 @@ ghost use Rattle.at_cid.specs.Counts.{Rose};
 ghost use Rattle.at_event.specs.Frames.{frame_of};
 ghost use Rattle.event_window.specs.Held.{Held, IsNext};
 ghost use Rattle.relay_io.specs.Streams.{AddsFront};
+ghost use Rattle.backfill.specs.Served.{rising_above};
 ghost use Rattle.backfill.specs.declared.replay_fault.ReplayFault.{ReplayFault};
 ghost use Rattle.json_lines.specs.Lines.{lines_read};
-ghost use Rattle.lines_run.specs.Lines.{IsOfEvents, IsOfOutput, IsWritten, lines_above};
+ghost use Rattle.lines_run.specs.Lines.{AddsLines, IsOfEvents, IsOfOutput, IsWritten, lines_above};
 
 use at_cid::Octets;
 use backfill::ReplayFault;
@@ -63,8 +64,7 @@ fn write_message<O: Sink>(
     ensures failed { IfErr result (λ f. f ≡ ReplayFault.Output
         → Rose (O.faults out.old) (O.faults out.new)) }
     ensures steady { OnOk result (O.faults out.new ≡ O.faults out.old) }
-    ensures no_fault { IfErr result (λ f. (f ≡ ReplayFault.Output → ⊥)
-        → O.faults out.new ≡ O.faults out.old) }
+    ensures no_fault { IfErr result (λ f. (f ≡ ReplayFault.Output → ⊥) → out.new ≡ out.old) }
     ensures counts { O.faults out.old ≤ O.faults out.new }
 {
     let mut lines = Octets::new(alloc);
@@ -82,7 +82,8 @@ fn write_message<O: Sink>(
 /// is in the collection, or in any where none is named, in the order of the events.
 ///
 /// A line is that of [`json_lines::lines`]. The lines of one event are written at once; one room
-/// holds each message in turn. After a fault a front of all the lines was written.
+/// holds each message in turn. After a fault a front of all the lines was written, and no line in
+/// part unless the output failed.
 pub fn write_lines<E: Events, O: Sink>(
     alloc: Global,
     events: &mut E,
@@ -95,6 +96,12 @@ pub fn write_lines<E: Events, O: Sink>(
         → IsWritten result
         (lines_above (option_map (λ text. text.now) collection.entry) cursor held.shown)
         (O.written out.old) (O.written out.new) }
+
+    // Unless the output failed, no line is written in part.
+    ensures whole { IsTrue E.tells → (held : Held) → E.holds events.old held → IsTrue O.tells
+        → result ≢ Err ReplayFault.Output
+        → AddsLines (option_map (λ text. text.now) collection.entry)
+        (rising_above cursor held.shown) (O.written out.old) (O.written out.new) }
     ensures same { IsTrue E.tells → (held : Held) → E.holds events.old held
         → E.holds events.new held }
     ensures later { E.later events.old events.new }

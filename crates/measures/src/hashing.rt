@@ -1,10 +1,10 @@
 //! Blocks, hashed. A block is four bytes of length, the most significant first, and the bytes.
 
+use crate::memory::had;
 use anyhow::{Result, bail};
 use at_cid::cid_of;
 use os_edge::{ReaderSource, Reporter};
 use relay_io::read_to_end;
-use vector_lines::had;
 
 /// The most bytes of input.
 const MOST: usize = 1 << 28;

@@ -9,6 +9,7 @@
 #![tactic(auto)]
 
 mod hashing;
+mod memory;
 mod taping;
 mod walking;
 mod weighing;

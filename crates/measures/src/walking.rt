@@ -1,10 +1,10 @@
 //! A whole repository, checked.
 
+use crate::memory::had;
 use anyhow::{Result, bail};
 use os_edge::{FileRepos, Reporter};
 use relay_io::Repos;
 use repo_sync::check_repo;
-use vector_lines::had;
 
 /// Checks the repository in the file of a DID.
 pub fn walk(rt: &HostRuntime, folder: &str, did: &str) -> Result<()> {

@@ -1,5 +1,6 @@
 //! A table of accounts, for the memory that they take: each has a DID of 32 bytes and a repository whose head is known.
 
+use crate::memory::had;
 use account_state::Accounts;
 use anyhow::{Result, bail, ensure};
 use at_cid::{Octets, Words, cid_of};
@@ -7,7 +8,6 @@ use at_event::Head;
 use at_syntax::Tid;
 use relay_row::{Row, Whole};
 use std::alloc::Global;
-use vector_lines::had;
 
 // An odd number whose multiples are spread over all of 64 bits.
 const SPREAD: u64 = 0x9E37_79B9_7F4A_7C15;

@@ -1,11 +1,14 @@
 -- The links of parts.
-use Rattle.std.proofs.Common.{◌≡◌, ℕ, zero, suc, ◌<◌, Bool, true, false, cond, eqb, List, [], ◌∷◌, length, Some, None, refl, ap, sym, subst, arith}
+use Rattle.std.proofs.Common.{◌≡◌, ℕ, zero, suc, ◌<◌, max, Bool, true, false, cond, eqb, List, [], ◌∷◌, length, Some, None, refl, ap, sym, subst, arith, Ordering, Less, Equal, Greater, nat_cmp, is_le, is_lt}
+use Rattle.std.specs.Ordering.{ord_max}
 use Rattle.std.proofs.lemmas.Bool.{eqb-true}
+use Rattle.std.proofs.lemmas.Map.Keys.{ge_from_not_lt, le_from_is_le}
 use Rattle.at_cid.specs.Link.{cid}
 use Rattle.mst_list.specs.declared.item.Item.{Item}
 use Rattle.mst_list.specs.declared.item.Item.TheVariants.{Key, Hole}
-use Rattle.mst_node.specs.Trees.{hole_or, node_over, part_link, encode_layer}
+use Rattle.mst_node.specs.Trees.{hole_or, node_over, part_link, encode_layer, top_layer}
 use Rattle.mirror.specs.Lone.{lone_hole}
+use Rattle.mirror.specs.Placed.{item_height}
 
 pub none_below : (h : ℕ) (F : List Item) → h ≡ 0 → part_link h F ≡ None
 unfolding part_link
@@ -58,3 +61,17 @@ node_at (suc h) n (x ∷ F) is some hole =
     let same : h ≡ n = omega (arith, is) in
     let P : ℕ → Type 0 = λ m. Some (hole_or h (x ∷ F) (cid (node_over (part_link h) h (x ∷ F)))) ≡ Some (cid (encode_layer m (x ∷ F))) in
     subst P same (ap (λ (c : List ℕ). Some c) (other_link h (x ∷ F) (cid (node_over (part_link h) h (x ∷ F))) (subst (λ (m : ℕ). lone_hole m (x ∷ F) ≡ None) (sym same) hole)))
+
+-- the greatest height of one item and others
+pub top_more : (x : Item) (F : List Item) → top_layer (x ∷ F) ≡ max (item_height x) (top_layer F)
+top_more (Key k v) F = refl
+top_more (Hole l c) F = omega arith
+
+-- the greater one of two numbers
+pub greater_one : (a b : ℕ) → ord_max nat_cmp a b ≡ max a b
+greater_one a b = go (nat_cmp b a) refl
+  where
+    go : (o : Ordering) → nat_cmp b a ≡ o → cond (is_lt o) a b ≡ max a b
+    go Less e = omega (arith, le_from_is_le b a (ap is_le e))
+    go Equal e = omega (arith, le_from_is_le b a (ap is_le e), ge_from_not_lt b a (ap is_lt e))
+    go Greater e = omega (arith, ge_from_not_lt b a (ap is_lt e))

@@ -6,11 +6,11 @@ ghost use Rattle.mirror.specs.Held.{Continues, IsAfterCommit};
 ghost use Rattle.mirror.specs.Playing.{IsPlayableAs};
 
 use crate::holding::Holding;
-use crate::whole_map::WholeMap;
 use at_cid::Memory;
 use at_event::CommitEvent;
 use at_syntax::Tid;
 use mst_list::{OpList, PlayFault};
+use whole_map::WholeMap;
 
 fn is_rev(since: Option<Tid>, rev: Option<Tid>) -> bool
     ensures same { result ≡ true → since ≡ rev }

@@ -1,7 +1,7 @@
 //! What is held of an account.
 
-use crate::whole_map::WholeMap;
 use at_syntax::Tid;
+use whole_map::WholeMap;
 
 /// What a mirror holds of an account.
 #[derive(Debug, Drop)]

@@ -18,15 +18,15 @@ use crate::fault::MirrorFault;
 use crate::holding::Holding;
 use crate::step::Step;
 use crate::syncing::after_sync;
-use crate::whole_map::WholeMap;
 use at_cid::Memory;
 use at_event::{Body, CommitEvent, Event, Frame, FrameFault, SyncEvent, read_frame};
 use at_syntax::Tid;
-use mst_list::{ItemList, OpList};
+use mst_list::OpList;
 use relay_io::Repos;
 use std::alloc::Global;
 use std::collections::BTreeMap;
 use std::ops::Bound;
+use whole_map::WholeMap;
 
 /// The whole map of each account of a stream.
 #[derive(Drop)]
@@ -212,11 +212,11 @@ impl Mirror {
 
     /// The map of an account, with the revision that gave it. None where the account waits, or no commit or `#sync` gave it
     /// a revision.
-    pub fn map(&self, did: &str) -> Option<(Tid, &ItemList)>
+    pub fn map(&self, did: &str) -> Option<(Tid, &WholeMap)>
         ensures { option_map (λ x. (x.0, x.1.now)) result ≡ map_held (held_by self.now did.now) }
     {
         match self.accounts.get(did) {
-            Some(Holding::Mapped(Some(rev), map)) => Some((*rev, map.as_list())),
+            Some(Holding::Mapped(Some(rev), map)) => Some((*rev, map)),
             _ => None,
         }
     }

@@ -7,10 +7,10 @@ mod edits;
 mod fault;
 mod holding;
 mod keeping;
+mod placed;
 mod root;
 mod step;
 mod syncing;
-mod whole_map;
 
 pub use fault::MirrorFault;
 pub use holding::Holding;

@@ -5,32 +5,32 @@ ghost use Rattle.mst_list.specs.declared.limits.TheConstants.{MOST_HEIGHT};
 ghost use Rattle.mirror.specs.Lone.{lone_hole};
 ghost use Rattle.mst_node.specs.Trees.{entries_at, first_part, part_link, root, encode_layer, top_layer};
 
+use crate::placed::{Placed, placed_of};
 use at_cid::{Cid, Memory, Octets, cid_of};
-use mst_list::{Item, ItemList, height};
+use mst_list::Item;
 use mst_node::{Entry, encode_node};
 use std::alloc::Global;
+use whole_map::WholeMap;
 
 // The layer of the top node.
-fn top_layer(items: &[Item]) -> u8
+fn top_layer(items: &[Placed<'_>]) -> u8
     ensures value { result ≡ top_layer items.now }
     ensures most { result ≤ MOST_HEIGHT }
 {
     let mut top = 0;
     for item in items {
-        if let Item::Key(key, _) = item {
-            top = top.max(height(key.as_slice()));
-        }
+        top = top.max(item.height());
     }
     top
 }
 
 // The items before the first key of a height.
-fn first_part(items: &[Item], layer: u8) -> &[Item]
+fn first_part<'a, 'b>(items: &'a [Placed<'b>], layer: u8) -> &'a [Placed<'b>]
     ensures { result.now ≡ first_part layer items.now }
 {
     for (i, item) in items.iter().enumerate() {
-        if let Item::Key(key, _) = item
-            && height(key.as_slice()) == layer
+        if item.height() == layer
+            && let Item::Key(..) = item.item()
         {
             return &items[..i];
         }
@@ -39,18 +39,21 @@ fn first_part(items: &[Item], layer: u8) -> &[Item]
 }
 
 // The link of a hole at a layer that stands alone.
-fn lone_hole(layer: u8, items: &[Item]) -> Option<Cid>
+fn lone_hole(layer: u8, items: &[Placed<'_>]) -> Option<Cid>
     ensures { result ≡ lone_hole layer items.now }
 {
-    match items {
-        [Item::Hole(at, link)] if *at == layer => Some(*link),
+    let [placed] = items else {
+        return None;
+    };
+    match placed.item() {
+        Item::Hole(at, link) if *at == layer => Some(*link),
         _ => None,
     }
 }
 
 // The link of a part below a layer.
 #[cycle(encode)]
-fn part_link(alloc: Global, layer: u8, items: &[Item]) -> Result<Option<Cid>, Memory>
+fn part_link(alloc: Global, layer: u8, items: &[Placed<'_>]) -> Result<Option<Cid>, Memory>
     ensures { IfOk result (λ link. link ≡ part_link layer items.now) }
 {
     if layer == 0 {
@@ -68,7 +71,7 @@ fn part_link(alloc: Global, layer: u8, items: &[Item]) -> Result<Option<Cid>, Me
 
 // The entries at a layer, each with the link of the part to its right.
 #[cycle(encode)]
-fn entries_at(alloc: Global, layer: u8, items: &[Item]) -> Result<Vec<Entry>, Memory>
+fn entries_at(alloc: Global, layer: u8, items: &[Placed<'_>]) -> Result<Vec<Entry>, Memory>
     ensures { IfOk result
         (λ entries. entries.items ≡ entries_at (part_link layer) layer items.now) }
 {
@@ -78,8 +81,8 @@ fn entries_at(alloc: Global, layer: u8, items: &[Item]) -> Result<Vec<Entry>, Me
         let [item, others @ ..] = rest else {
             return Ok(entries);
         };
-        if let Item::Key(key, value) = item
-            && height(key.as_slice()) == layer
+        if item.height() == layer
+            && let Item::Key(key, value) = item.item()
         {
             let right = part_link(alloc, layer, first_part(others, layer))?;
             let key = key.try_clone()?;
@@ -95,7 +98,7 @@ fn entries_at(alloc: Global, layer: u8, items: &[Item]) -> Result<Vec<Entry>, Me
 
 // The block at a layer.
 #[cycle(encode)]
-fn node_over(alloc: Global, layer: u8, items: &[Item]) -> Result<Octets, Memory>
+fn node_over(alloc: Global, layer: u8, items: &[Placed<'_>]) -> Result<Octets, Memory>
     ensures { IfOk result (λ block. block ≡ encode_layer layer items.now) }
 {
     let left = part_link(alloc, layer, first_part(items, layer))?;
@@ -103,12 +106,13 @@ fn node_over(alloc: Global, layer: u8, items: &[Item]) -> Result<Octets, Memory>
     encode_node(alloc, &left, entries.as_slice())
 }
 
-/// The link of the top node of a map's tree, which a repository's commit states as its `data`. Each key is hashed once a layer
-/// of the tree. (Repository specification, MST structure.)
-pub fn whole_root(alloc: Global, map: &ItemList) -> Result<Cid, Memory>
+/// The link of the top node of a map's tree, which a repository's commit states as its `data`. It goes over the map once, and
+/// hashes each key once. (Repository specification, MST structure.)
+pub fn whole_root(alloc: Global, map: &WholeMap) -> Result<Cid, Memory>
     ensures { IfOk result (λ link. link ≡ root map.now) }
 {
-    let items = map.as_slice();
+    let placed = placed_of(alloc, map)?;
+    let items = placed.as_slice();
     let block = node_over(alloc, top_layer(items), items)?;
     Ok(cid_of(block.as_slice()))
 }

@@ -16,7 +16,6 @@ ghost use Rattle.mirror.specs.declared.fault.MirrorFault.{MirrorFault};
 
 use crate::fault::MirrorFault;
 use crate::holding::Holding;
-use crate::whole_map::WholeMap;
 use at_car::{Blocks, CarFault, Kept};
 use at_cid::{Cid, Cids, Memory};
 use at_commit::CommitFault;
@@ -26,6 +25,7 @@ use mst_view::{ViewFault, view};
 use relay_io::{Repos, ReposFault};
 use repo_sync::{RepoFault, scan_repo};
 use std::alloc::Global;
+use whole_map::WholeMap;
 
 fn first_root(roots: &Cids) -> Option<Cid>
     ensures { result ≡ root_of roots.now }
@@ -69,12 +69,11 @@ fn tree_at(alloc: Global, blocks: &Blocks, root: &Cid) -> Result<Option<WholeMap
         Err(ViewFault::Memory) => return Err(Memory),
         Err(_) => return Ok(None),
     };
-    let mut list = tree.list(alloc)?;
+    let list = tree.list(alloc)?;
     if !has_keys_only(list.as_slice()) {
         return Ok(None);
     }
-    list.shrink_to_fit();
-    Ok(Some(WholeMap::from_list(list)))
+    Ok(Some(WholeMap::from_list(alloc, &list)?))
 }
 
 // The map under a link, of blocks of which the nodes are kept.

@@ -6,8 +6,7 @@ ghost use Rattle.mirror_run.specs.Lines.{mirror_end_line, line_with, records_wor
 
 use at_cid::{Cid, Memory, Octets};
 use at_syntax::{TID_LEN, Tid};
-use mirror::whole_root;
-use mst_list::ItemList;
+use mirror::{WholeMap, whole_root};
 use report_lines::{add_link, add_number};
 use std::alloc::Global;
 
@@ -46,7 +45,7 @@ fn add_map(line: &mut Octets, rev: Tid, count: u64, root: &Cid) -> Result<(), Me
 
 /// The line of an account that has a map, with its line feed: the revision that gave the map, how many
 /// records it has, and its root.
-pub(crate) fn map_line(alloc: Global, did: &str, rev: Tid, map: &ItemList) -> Result<Octets, Memory>
+pub(crate) fn map_line(alloc: Global, did: &str, rev: Tid, map: &WholeMap) -> Result<Octets, Memory>
     ensures { IfOk result (λ line. line ≡ line_with did.now (Some (rev, map.now))) }
 {
     let root = whole_root(alloc, map)?;

@@ -27,8 +27,8 @@ RequestsAreTaken tells ServeEnd.Next count rounds cut left = cut ≡ []
 RequestsAreTaken tells ServeEnd.Memory count rounds cut left = length cut ≤ 1
 RequestsAreTaken tells end count rounds cut left = (cut ≡ []) × (rounds ≡ [])
 
--- Requests were answered by the rows of the journal J, in the order of the wire and at most so many,
--- and their lines were written.
+-- Requests were answered by the rows of the journal J, in the order of the wire and at most so
+-- many, and their lines were written.
 pub record Queried (wire_tells output_tells : Bool) (count : ℕ) (J : List Row)
     (wire wire_now : AtWire) (old new : List ℕ) (end : ServeEnd) : Type 0 where
   pub rounds : List Round

@@ -1,6 +1,6 @@
 //! The command that answers requests, from opening to its last line.
 
-ghost use Rattle.std.specs.Prelude.{◌≡◌, ◌≢◌, ◌≤◌, ◌⊎◌, ℕ, List, IsTrue};
+ghost use Rattle.std.specs.Prelude.{◌≡◌, ◌≢◌, ◌≤◌, ◌⊎◌, List, IsTrue};
 ghost use Rattle.at_cid.specs.Counts.{Rose};
 ghost use Rattle.gate_log.specs.declared.limits.TheConstants.{LAST_END};
 ghost use Rattle.relay_row.specs.declared.row.Row.{Row as TheRow};
@@ -42,8 +42,14 @@ pub fn query<D: Disk, W: Wire, O: Sink>(
     ensures shows { IsTrue D.tells
         → ServeEndShows result (D.view disk.old).content (D.view other.old).content }
     ensures quiet { IsOfDisks result → (wire.new ≡ wire.old) × (out.new ≡ out.old) }
-    ensures unopened { (place : ℕ) → result ≡ ServeEnd.BadLog place → IsTrue D.tells
-        → BothOnlyRead (D.view disk.old) (D.view other.old) (D.view disk.new) (D.view other.new) }
+
+    // Disks that hold no journal are only read, and nothing else is done.
+    ensures no_journal { IsTrue D.tells
+        → ((J : List TheRow)
+        → IsPairImageOf J (D.view disk.old).content (D.view other.old).content → ⊥)
+        → (result ≢ ServeEnd.Disk
+        → BothOnlyRead (D.view disk.old) (D.view other.old) (D.view disk.new) (D.view other.new))
+        × (wire.new ≡ wire.old) × (out.new ≡ out.old) }
 
     // A count of faults rose where the end speaks of one, and where none rose, all is done.
     ensures caused { IsCausedBy (Rose (D.view disk.old).faults (D.view disk.new).faults

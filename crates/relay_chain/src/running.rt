@@ -1,8 +1,8 @@
 //! The top call.
 
-ghost use Rattle.std.specs.Prelude.{◌≡◌, ◌↔◌, ℕ, List, MatchOption, map, string_bytes};
+ghost use Rattle.std.specs.Prelude.{◌≡◌, ◌↔◌, ℕ, List, IsTrue, MatchOption, map, string_bytes};
 ghost use Rattle.take_run.specs.Tells.{tells};
-ghost use Rattle.chain_run.specs.Places.{failures, place};
+ghost use Rattle.chain_run.specs.Places.{HoldsJournal, PairOnlyRead, failure_counts, place};
 ghost use Rattle.relay_chain.specs.Runs.{AreHost, Ran};
 ghost use Rattle.relay_chain.specs.declared.status.ChainStatus.{ChainStatus as TheStatus};
 
@@ -32,12 +32,24 @@ pub fn chain<D: Disk, R: Repos, C: Clock, O: Sink>(
         (place (D.view first.old) (D.view first_other.old)
         (D.view second.old) (D.view second_other.old)
         (C.moments clock.old) (R.repository repos.old) (O.written out.old)
-        (failures (R.faults repos.old) (C.faults clock.old) (O.faults out.old)))
+        (failure_counts (R.faults repos.old) (C.faults clock.old) (O.faults out.old)))
         (place (D.view first.new) (D.view first_other.new)
         (D.view second.new) (D.view second_other.new)
         (C.moments clock.new) (R.repository repos.new) (O.written out.new)
-        (failures (R.faults repos.new) (C.faults clock.new) (O.faults out.new)))
+        (failure_counts (R.faults repos.new) (C.faults clock.new) (O.faults out.new)))
         result }
+    // A pair that holds no journal is only read, and nothing else is done.
+    ensures no_first_journal { IsTrue D.tells
+        → (HoldsJournal (D.view first.old) (D.view first_other.old) → ⊥)
+        → PairOnlyRead (D.view first.old) (D.view first_other.old)
+        (D.view first.new) (D.view first_other.new)
+        × (second.new ≡ second.old) × (second_other.new ≡ second_other.old)
+        × (repos.new ≡ repos.old) × (clock.new ≡ clock.old) × (out.new ≡ out.old) }
+    ensures no_second_journal { IsTrue D.tells
+        → (HoldsJournal (D.view second.old) (D.view second_other.old) → ⊥)
+        → PairOnlyRead (D.view second.old) (D.view second_other.old)
+        (D.view second.new) (D.view second_other.new)
+        × (repos.new ≡ repos.old) × (clock.new ≡ clock.old) × (out.new ≡ out.old) }
     // Words that are no host's name touch nothing, and no others end so.
     ensures usage { (result ≡ TheStatus.Usage)
         ↔ ((host : List ℕ) → AreHost (map string_bytes words.now) host → ⊥) }

@@ -1,5 +1,5 @@
 pub mod Verdicts
 pub mod Words
 pub mod Encoded
-pub mod Damaged
+pub mod Asking
 pub mod Telling

@@ -2,7 +2,7 @@
 use Rattle.std.specs.Prelude.{◌≡◌, ◌≢◌, Bool, true, false, ℕ, IsTrue}
 use Rattle.relay_disk.specs.Disk.{View}
 use Rattle.relay_step.specs.Causes.{SpendsNone}
-use Rattle.relay_cli.specs.Runs.{Caused, Faults, HasRun, Kept, OnlyDisksRead, OutsideTells, Place}
+use Rattle.relay_cli.specs.Runs.{Caused, Faults, HasRun, HasSpent, HoldsNoJournal, Kept, NothingDone, OutsideTells, Place, is_on_journal}
 use Rattle.relay_cli.specs.declared.command.Command.{Command}
 use Rattle.relay_cli.specs.declared.status.Status.{Status}
 
@@ -31,6 +31,12 @@ may_hide_output (Command.Replay cursor) Status.Disk = true
 may_hide_output (Command.Replay cursor) (Status.BadLog at) = true
 may_hide_output command status = false
 
+-- whether a command takes messages of hosts
+abbrev pub takes_messages : Command → Bool
+takes_messages Command.Ingest = true
+takes_messages (Command.Follow host count) = true
+takes_messages command = false
+
 -- A part that failed, and authorities that ended, are what the status speaks of.
 pub record Told (command : Command) (old new : Place) (status : Status) : Type 0 where
   pub disks : status ≢ Status.Disk
@@ -53,10 +59,14 @@ pub record Told (command : Command) (old new : Place) (status : Status) : Type 0
 abbrev pub HasCauses : Status → Faults → Faults → Type 0
 HasCauses status old new = Caused status old new × Kept old new
 
--- What a run of a command does, on disks that are seen so; which failures it tells; and disks that hold no journal are only read,
--- and nothing else is done.
+-- What a run of a command does, on disks that are seen so, and which failures it tells.
 pub record Ran {D : Type 0} (view : D → View) (t : OutsideTells) (old new : Place) (status : Status)
     (command : Command) : Type 0 where
   pub does : HasRun view t old new status command
   pub told : Told command old new status
-  pub damaged : (at : ℕ) → status ≡ Status.BadLog at → IsTrue t.disk → OnlyDisksRead old new
+  -- it ends for want of an authority only where a method has none left (where messages are taken, `does` says so)
+  pub spent : takes_messages command ≡ false → status ≡ Status.Authority
+      → HasSpent new.around.panel
+  -- over disks that hold no journal nothing is done
+  pub no_journal : IsTrue t.disk → is_on_journal command ≡ true → HoldsNoJournal old
+      → NothingDone old new status

@@ -1,8 +1,10 @@
 -- What a run of a command does to the outside (own).
 use Rattle.std.specs.Prelude.{◌≡◌, ◌≢◌, ⊤, Option, ℕ, ◌+◌, ◌≤◌, ◌<◌, Bool, true, false, List, [], ◌++◌, length, IsTrue, ◌⊎◌}
 use Rattle.at_cid.specs.Counts.{Rose}
+use Rattle.at_authority.specs.Panels.{IsSpent, Panel}
 use Rattle.account_state.specs.Folds.{account}
 use Rattle.host_state.specs.Folds.{hosts}
+use Rattle.take_run.specs.Causes.{failures}
 use Rattle.take_run.specs.PairEnds.{IsOfFeed, MayEnd, NoneOf, TakeEndShows as TapeHadJournal}
 use Rattle.take_run.specs.Followed.{Followed}
 use Rattle.take_run.specs.Ingested.{Ingested, PairScene, Unopened, pair_scene}
@@ -177,11 +179,16 @@ disks p = pair_view p.one p.two p.written
 
 -- and all that taking a tape moves
 abbrev pub whole_input : Place → PairScene
-whole_input p = pair_scene p.one p.two p.around p.left p.written
+whole_input p = pair_scene p.one p.two p.around
+    (failures p.failed.repos p.failed.clock p.failed.input) p.left p.written
 
--- The two disks were only read, and nothing else was done: nothing is written, taken, sent or asked.
-pub record OnlyDisksRead (old new : Place) : Type 0 where
-  pub disks_read : BothOnlyRead old.one old.two new.one new.two
+-- The pair of disks is the image of no journal.
+abbrev pub HoldsNoJournal : Place → Type 0
+HoldsNoJournal p = (J : List Row) → IsPairImageOf J p.one.content p.two.content → ⊥
+
+-- Nothing was done: nothing is written, taken, sent or asked, and unless a disk failed the two were only read.
+pub record NothingDone (old new : Place) (status : Status) : Type 0 where
+  pub disks_read : status ≢ Status.Disk → BothOnlyRead old.one old.two new.one new.two
   pub around : new.around ≡ old.around
   pub left : new.left ≡ old.left
   pub written : new.written ≡ old.written
@@ -189,6 +196,10 @@ pub record OnlyDisksRead (old new : Place) : Type 0 where
   pub coming : new.coming ≡ old.coming
   pub door : new.door ≡ old.door
   pub wire : new.wire ≡ old.wire
+
+-- Some method has no authority left.
+abbrev pub HasSpent : Panel → Type 0
+HasSpent panel = (method : List ℕ) × IsSpent (panel method)
 
 -- what a command does with the journal of the two disks, where they tell it
 abbrev pub OnJournal : OutsideTells → Place → (List Row → Type 0) → Type 0
@@ -251,7 +262,8 @@ pub record IsIngested (t : OutsideTells) (old new : Place) (status : Status) : T
 
 -- all that following a host moves but the feed
 abbrev pub all_but_feed : Place → PairScene
-all_but_feed p = pair_scene p.one p.two p.around [] p.written
+all_but_feed p = pair_scene p.one p.two p.around (failures p.failed.repos p.failed.clock 0) []
+    p.written
 
 -- no count rose, with the feed's in the place of the input's
 abbrev pub IsFlawlessFeed : Faults → Faults → Type 0

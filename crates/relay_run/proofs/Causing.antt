@@ -1,6 +1,10 @@
 -- How commands end: what the disks show, and the causes.
-use Rattle.std.proofs.Common.{◌≡◌, ◌∙◌, ◌⊎◌, inl, inr, ℕ, List, Bool, Result, Err, IsTrue, refl, sym, subst}
-use Rattle.relay_disk.specs.Disk.{View}
+use Rattle.std.proofs.Common.{◌≡◌, ◌≢◌, ◌∙◌, ◌⊎◌, inl, inr, ℕ, List, Bool, Result, Err, IsTrue, refl, sym, ap, subst}
+use Rattle.relay_disk.specs.Disk.{View, Goes, Same}
+use Rattle.gate_log.specs.Pick.{IsPicked, other_side, view_of_side}
+use Rattle.gate_log.specs.declared.picking.Side.{Side}
+use Rattle.gate_log.specs.declared.picking.Side.TheVariants.{One, Two}
+use Rattle.gate_log.proofs.OneSide.{one_side}
 use Rattle.relay_row.specs.declared.row.Row.{Row}
 use Rattle.relay_step.specs.declared.command.CommandAnswer.{CommandAnswer}
 use Rattle.relay_store.specs.Journals.{IsBadPairJournalAt, IsPairImageOf}
@@ -10,9 +14,7 @@ use Rattle.relay_store.specs.Taking.{ComesOfAsking}
 use Rattle.relay_store.specs.Commands.{IsAnswer, IsOfOperating, CommandDone}
 use Rattle.relay_store.specs.declared.done.Done.{Done}
 use Rattle.relay_store.specs.declared.fault.StoreFault.{StoreFault}
-use Rattle.relay_store.proofs.Images.{no_journal}
-use Rattle.relay_store.proofs.Opened.{bad_read}
-use Rattle.relay_run.specs.Ends.{IsCausedBy, IsOpened, RunEndShows}
+use Rattle.relay_run.specs.Ends.{IsCausedBy, IsOpened, OtherOnlyRead, RunEndShows}
 use Rattle.relay_run.specs.Lines.{IsEndOf}
 use Rattle.relay_run.specs.declared.end.RunEnd.{RunEnd}
 
@@ -38,15 +40,19 @@ opening_shows StoreFault.Repos one two of bad = absurd of
 opening_shows StoreFault.Memory one two of bad = tt
 opening_shows StoreFault.Clock one two of bad = absurd of
 
--- a bad log was only read
-pub opening_read : (tells : Bool) (one two one_now two_now : View) (fault : StoreFault) (place : ℕ) → Opened tells one two one_now two_now (Err fault) → RunEnd.Fault fault ≡ RunEnd.Fault (StoreFault.BadLog place) → IsTrue tells → BothOnlyRead one two one_now two_now
-opening_read tells one two one_now two_now fault place opened is told =
-    let bad : fault ≡ StoreFault.BadLog place = cc in
-    bad_read tells one two one_now two_now fault place opened bad told
+-- where it comes to no store, and no disk failed, both were only read
+pub opening_read : (tells : Bool) (one two one_now two_now : View) (fault : StoreFault) → Opened tells one two one_now two_now (Err fault) → IsTrue tells → RunEnd.Fault fault ≢ RunEnd.Fault StoreFault.Disk → BothOnlyRead one two one_now two_now
+opening_read tells one two one_now two_now fault opened told other = opened.read fault refl (λ is. other (ap RunEnd.Fault is)) told
 
--- and two disks with a journal show none
-pub never_bad : (end : RunEnd) (place : ℕ) (one two : List ℕ) (J : List Row) → IsPairImageOf J one two → RunEndShows end one two → end ≡ RunEnd.Fault (StoreFault.BadLog place) → ⊥
-never_bad end place one two J image shows is = no_journal place one two J image (subst (λ (e : RunEnd). RunEndShows e one two) is shows)
+-- and so was the side that isn't picked, whichever it is
+pub both_beside : (one two one_now two_now : View) → BothOnlyRead one two one_now two_now → OtherOnlyRead one two one_now two_now
+both_beside one two one_now two_now read One picked = read.second
+both_beside one two one_now two_now read Two picked = read.first
+
+-- one side is picked, and the other was only read
+pub picked_beside : (side : Side) (one two one_now two_now : View) → IsPicked one_now.content two_now.content side → Goes Same (view_of_side (other_side side) one two) (view_of_side (other_side side) one_now two_now) → OtherOnlyRead one two one_now two_now
+picked_beside side one two one_now two_now is goes other picked =
+    subst (λ (s : Side). Goes Same (view_of_side (other_side s) one two) (view_of_side (other_side s) one_now two_now)) (one_side one_now.content two_now.content side other is picked) goes
 
 pub opening_causes : (disk write spent repos clock : Type 0) (fault : StoreFault) → IsOfReading fault → (fault ≡ StoreFault.Disk → disk) → IsCausedBy disk write spent repos clock (RunEnd.Fault fault)
 opening_causes disk write spent repos clock StoreFault.Disk of cause = cause refl

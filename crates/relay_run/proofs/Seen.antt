@@ -16,12 +16,12 @@ use Rattle.relay_store.specs.Opening.{IsOfReading, Opened}
 use Rattle.relay_store.specs.Store.{Keeps, seen_in}
 use Rattle.relay_store.specs.declared.fault.StoreFault.{StoreFault}
 use Rattle.relay_store.specs.declared.store.Store.{Store}
-use Rattle.relay_run.specs.Ends.{IsWritten}
+use Rattle.relay_run.specs.Ends.{IsWritten, OtherOnlyRead}
 use Rattle.relay_store.specs.Pairs.{pair_view}
 use Rattle.relay_run.specs.Shown.{TextShown}
 use Rattle.relay_run.specs.declared.end.RunEnd.{RunEnd}
 use Rattle.relay_store.proofs.Beside.{kept_stands, leaves_stand, opened_keeps, opened_leaves}
-use Rattle.relay_run.proofs.Causing.{not_opened}
+use Rattle.relay_run.proofs.Causing.{not_opened, picked_beside}
 
 -- they weren't opened
 pub shown_unopened : (tells : Bool) (one two one_now two_now : View) (fault : StoreFault) (out_told : Bool) (J : List Row) (text written : List ℕ) → IsDisk one_now → IsDisk two_now
@@ -53,3 +53,7 @@ module _ (tells : Bool) (one two one_now two_now : View) (first : IsDisk one_now
   -- the text of the hosts
   pub hosts_are : (text : List ℕ) (table : Hosts) → text ≡ hosts_text (listed table) → table ≡ s.core.hosts → text ≡ hosts_text (hosts J)
   hosts_are text table lines found = lines ∙ ap (λ (h : Hosts). hosts_text (listed h)) found ∙ ap hosts_text keeps.core.hosts
+
+  -- the side that isn't picked was only read
+  pub opened_beside : OtherOnlyRead one two one_now two_now
+  opened_beside = picked_beside s.side one two one_now two_now (opened.side told one_now.content two_now.content first.possible second.possible) opened.beside

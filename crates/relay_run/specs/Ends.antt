@@ -1,5 +1,8 @@
 -- How a command on a journal ends (own).
 use Rattle.std.specs.Prelude.{◌≡◌, ⊤, ℕ, List, ◌++◌}
+use Rattle.relay_disk.specs.Disk.{View, Goes, Same}
+use Rattle.gate_log.specs.Pick.{IsPicked, other_side, view_of_side}
+use Rattle.gate_log.specs.declared.picking.Side.{Side}
 use Rattle.relay_io.specs.Streams.{AddsFront}
 use Rattle.relay_row.specs.declared.row.Row.{Row}
 use Rattle.relay_store.specs.Faults.{IsCause}
@@ -19,6 +22,13 @@ IsWritten (RunEnd.Fault fault) text old new = new ≡ old
 abbrev pub IsQuiet : RunEnd → List ℕ → List ℕ → Type 0
 IsQuiet (RunEnd.Fault fault) old new = new ≡ old
 IsQuiet end old new = ⊤
+
+-- Of two disks, the side that isn't picked of what they hold now was only read.
+abbrev pub OtherOnlyRead : View → View → View → View → Type 0
+OtherOnlyRead one two one_now two_now = (side : Side)
+    → IsPicked one_now.content two_now.content side
+    → Goes Same (view_of_side (other_side side) one two)
+    (view_of_side (other_side side) one_now two_now)
 
 -- It was opened: the end is none that opening may come to.
 abbrev pub IsOpened : RunEnd → Type 0

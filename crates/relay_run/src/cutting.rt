@@ -159,10 +159,12 @@ pub fn cut<D: Disk, O: Sink>(
     ensures shows { IsTrue D.tells → RunEndShows result (D.view disk.old).content
         (D.view other.old).content }
     ensures quiet { IsTrue O.tells → IsQuiet result (O.written out.old) (O.written out.new) }
-    // A damaged log is only read, and nothing else is done.
-    ensures unopened { (place : ℕ) → result ≡ RunEnd.Fault (StoreFault.BadLog place)
-        → IsTrue D.tells
-        → BothOnlyRead (D.view disk.old) (D.view other.old) (D.view disk.new) (D.view other.new)
+    // Disks that hold no journal are only read, and nothing else is done.
+    ensures no_journal { IsTrue D.tells
+        → ((J : List TheRow)
+        → IsPairImageOf J (D.view disk.old).content (D.view other.old).content → ⊥)
+        → (result ≢ RunEnd.Fault StoreFault.Disk
+        → BothOnlyRead (D.view disk.old) (D.view other.old) (D.view disk.new) (D.view other.new))
         × (out.new ≡ out.old) }
     ensures few { IsOfCutting result }
     ensures caused { IsCausedBy (Rose (D.view disk.old).faults (D.view disk.new).faults

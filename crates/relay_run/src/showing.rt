@@ -9,7 +9,7 @@ ghost use Rattle.host_state.specs.Folds.{hosts as hosts_of};
 ghost use Rattle.state_lines.specs.Lines.{account_text, hosts_text};
 ghost use Rattle.relay_store.specs.Journals.{IsPairImageOf};
 ghost use Rattle.relay_store.specs.Opening.{BothOnlyRead};
-ghost use Rattle.relay_run.specs.Ends.{IsCausedBy, IsOfShowing, IsQuiet, IsWritten, RunEndShows};
+ghost use Rattle.relay_run.specs.Ends.{IsCausedBy, IsOfShowing, IsQuiet, IsWritten, OtherOnlyRead, RunEndShows};
 ghost use Rattle.relay_store.specs.Pairs.{pair_view};
 ghost use Rattle.relay_run.specs.Shown.{TextShown};
 
@@ -53,11 +53,16 @@ pub fn account<D: Disk, O: Sink>(
     ensures shows { IsTrue D.tells → RunEndShows result (D.view disk.old).content
         (D.view other.old).content }
     ensures quiet { IsTrue O.tells → IsQuiet result (O.written out.old) (O.written out.new) }
-    // A damaged log is only read, and nothing else is done.
-    ensures unopened { (place : ℕ) → result ≡ RunEnd.Fault (StoreFault.BadLog place)
-        → IsTrue D.tells
-        → BothOnlyRead (D.view disk.old) (D.view other.old) (D.view disk.new) (D.view other.new)
+    // Disks that hold no journal are only read, and nothing else is done.
+    ensures no_journal { IsTrue D.tells
+        → ((J : List TheRow)
+        → IsPairImageOf J (D.view disk.old).content (D.view other.old).content → ⊥)
+        → (result ≢ RunEnd.Fault StoreFault.Disk
+        → BothOnlyRead (D.view disk.old) (D.view other.old) (D.view disk.new) (D.view other.new))
         × (out.new ≡ out.old) }
+    // The side that isn't picked then was only read.
+    ensures beside { IsTrue D.tells → result ≢ RunEnd.Fault StoreFault.Disk
+        → OtherOnlyRead (D.view disk.old) (D.view other.old) (D.view disk.new) (D.view other.new) }
     ensures few { IsOfShowing result }
     ensures caused { IsCausedBy (Rose (D.view disk.old).faults (D.view disk.new).faults
         ⊎ Rose (D.view other.old).faults (D.view other.new).faults)
@@ -97,11 +102,16 @@ pub fn hosts<D: Disk, O: Sink>(
     ensures shows { IsTrue D.tells → RunEndShows result (D.view disk.old).content
         (D.view other.old).content }
     ensures quiet { IsTrue O.tells → IsQuiet result (O.written out.old) (O.written out.new) }
-    // A damaged log is only read, and nothing else is done.
-    ensures unopened { (place : ℕ) → result ≡ RunEnd.Fault (StoreFault.BadLog place)
-        → IsTrue D.tells
-        → BothOnlyRead (D.view disk.old) (D.view other.old) (D.view disk.new) (D.view other.new)
+    // Disks that hold no journal are only read, and nothing else is done.
+    ensures no_journal { IsTrue D.tells
+        → ((J : List TheRow)
+        → IsPairImageOf J (D.view disk.old).content (D.view other.old).content → ⊥)
+        → (result ≢ RunEnd.Fault StoreFault.Disk
+        → BothOnlyRead (D.view disk.old) (D.view other.old) (D.view disk.new) (D.view other.new))
         × (out.new ≡ out.old) }
+    // The side that isn't picked then was only read.
+    ensures beside { IsTrue D.tells → result ≢ RunEnd.Fault StoreFault.Disk
+        → OtherOnlyRead (D.view disk.old) (D.view other.old) (D.view disk.new) (D.view other.new) }
     ensures few { IsOfShowing result }
     ensures caused { IsCausedBy (Rose (D.view disk.old).faults (D.view disk.new).faults
         ⊎ Rose (D.view other.old).faults (D.view other.new).faults)

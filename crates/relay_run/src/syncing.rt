@@ -16,7 +16,7 @@ ghost use Rattle.relay_store.specs.Journals.{IsPairImageOf};
 ghost use Rattle.relay_store.specs.Store.{IsKept, IsOf, seen_in};
 ghost use Rattle.relay_store.specs.Commands.{CommandDone};
 ghost use Rattle.relay_store.specs.Opening.{BothOnlyRead};
-ghost use Rattle.relay_run.specs.Ends.{IsCausedBy, IsQuiet, RunEndShows};
+ghost use Rattle.relay_run.specs.Ends.{IsCausedBy, IsQuiet, OtherOnlyRead, RunEndShows};
 ghost use Rattle.relay_store.specs.Pairs.{of_pair, pair_view};
 ghost use Rattle.relay_run.specs.Behind.{WasSynced};
 
@@ -119,12 +119,17 @@ pub fn sync<D: Disk, P: Judges, R: Repos, C: Clock, O: Sink>(
     ensures shows { IsTrue D.tells → RunEndShows result (D.view disk.old).content
         (D.view other.old).content }
     ensures quiet { IsTrue O.tells → IsQuiet result (O.written out.old) (O.written out.new) }
-    // A damaged log is only read, and nothing else is done.
-    ensures unopened { (place : ℕ) → result ≡ RunEnd.Fault (StoreFault.BadLog place)
-        → IsTrue D.tells
-        → BothOnlyRead (D.view disk.old) (D.view other.old) (D.view disk.new) (D.view other.new)
+    // Disks that hold no journal are only read, and nothing else is done.
+    ensures no_journal { IsTrue D.tells
+        → ((J : List TheRow)
+        → IsPairImageOf J (D.view disk.old).content (D.view other.old).content → ⊥)
+        → (result ≢ RunEnd.Fault StoreFault.Disk
+        → BothOnlyRead (D.view disk.old) (D.view other.old) (D.view disk.new) (D.view other.new))
         × (judges.new ≡ judges.old) × (repos.new ≡ repos.old) × (clock.new ≡ clock.old)
         × (out.new ≡ out.old) }
+    // The side that isn't picked then was only read.
+    ensures beside { IsTrue D.tells → result ≢ RunEnd.Fault StoreFault.Disk
+        → OtherOnlyRead (D.view disk.old) (D.view other.old) (D.view disk.new) (D.view other.new) }
     ensures caused { IsCausedBy (Rose (D.view disk.old).faults (D.view disk.new).faults
         ⊎ Rose (D.view other.old).faults (D.view other.new).faults)
         (Rose (O.faults out.old) (O.faults out.new))

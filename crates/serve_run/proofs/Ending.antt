@@ -13,7 +13,6 @@ use Rattle.serve_run.specs.Replayed.{IsReplayed, IsUnbroken}
 use Rattle.serve_run.specs.declared.end.ServeEnd.{ServeEnd}
 use Rattle.relay_disk.specs.Disk.{View}
 use Rattle.relay_store.specs.Opening.{BothOnlyRead, Opened}
-use Rattle.relay_store.proofs.Opened.{bad_read}
 
 -- ---- opening
 
@@ -37,19 +36,9 @@ opening_shows StoreFault.Repos one two bad = tt
 opening_shows StoreFault.Memory one two bad = tt
 opening_shows StoreFault.Clock one two bad = tt
 
-opening_bad : (fault : StoreFault) (place : ℕ) → end_of_opening fault ≡ ServeEnd.BadLog place → fault ≡ StoreFault.BadLog place
-opening_bad StoreFault.Disk place is = let no : ⊥ = cc in absurd no
-opening_bad (StoreFault.BadLog q) place is = let same : q ≡ place = cc in ap StoreFault.BadLog same
-opening_bad (StoreFault.Full e) place is = let no : ⊥ = cc in absurd no
-opening_bad StoreFault.SeqEnd place is = let no : ⊥ = cc in absurd no
-opening_bad StoreFault.Authority place is = let no : ⊥ = cc in absurd no
-opening_bad StoreFault.Repos place is = let no : ⊥ = cc in absurd no
-opening_bad StoreFault.Memory place is = let no : ⊥ = cc in absurd no
-opening_bad StoreFault.Clock place is = let no : ⊥ = cc in absurd no
-
--- a bad log was only read
-pub opening_read : (tells : Bool) (one two one_now two_now : View) (fault : StoreFault) (end : ServeEnd) (place : ℕ) → Opened tells one two one_now two_now (Err fault) → end ≡ end_of_opening fault → end ≡ ServeEnd.BadLog place → IsTrue tells → BothOnlyRead one two one_now two_now
-opening_read tells one two one_now two_now fault end place opened of is told = bad_read tells one two one_now two_now fault place opened (opening_bad fault place (sym of ∙ is)) told
+-- what wasn't opened was only read, unless a disk failed
+pub opening_read : (tells : Bool) (one two one_now two_now : View) (fault : StoreFault) (end : ServeEnd) → Opened tells one two one_now two_now (Err fault) → end ≡ end_of_opening fault → IsTrue tells → end ≢ ServeEnd.Disk → BothOnlyRead one two one_now two_now
+opening_read tells one two one_now two_now fault end opened of told other = opened.read fault refl (λ is. other (of ∙ ap end_of_opening is)) told
 
 opening_may : (disk : Type 0) (fault : StoreFault) → (fault ≡ StoreFault.Disk → disk) → ((place : ℕ) → fault ≡ StoreFault.BadLog place → ⊥) → (disk → ⊥) → ServeMayEnd (end_of_opening fault)
 opening_may disk StoreFault.Disk failed no_bad no_disk = absurd (no_disk (failed refl))

@@ -11,7 +11,8 @@ use Rattle.serve_run.specs.Sessions.{AllVisits, AreCounted, IsSentInPart, IsFail
 use Rattle.serve_run.specs.declared.end.ServeEnd.{ServeEnd}
 use Rattle.serve_run.specs.declared.session.Session.{Session}
 
--- A door at one moment: the guests to come, what happened, and the count of failed sendings and endings.
+-- A door at one moment: the guests to come, what happened, and the count of failed sendings and
+-- endings.
 pub record AtDoor : Type 0 where
   pub guests : List Guest
   pub turns : List Turn
@@ -21,8 +22,8 @@ pub record AtDoor : Type 0 where
 abbrev pub at_door : List Guest → List Turn → ℕ → AtDoor
 at_door guests turns faults = record { guests = guests; turns = turns; faults = faults }
 
--- The guest who waited was sent something, by what the target asks for, and the session ended: all of it, or a front of
--- it where the session failed or was broken off.
+-- The guest who waited was sent something, by what the target asks for, and the session ended: all
+-- of it, or a front of it where the session failed or was broken off.
 abbrev pub SessionServed : Bool → Held → Result (Option ℕ) TargetFault → List Turn → List Turn
     → Result Session ServeEnd → Type 0
 SessionServed tells held asked old new (Ok session) =
@@ -73,12 +74,14 @@ pub record SessionIsBroken (tells : Bool) (held : Held) (old new : AtDoor) : Typ
       ∷ sendings sent
   pub counted : new.faults ≡ old.faults
 
--- what a fault leaves behind the last session: nobody came where the door failed, and else nobody came or a session was broken off
+-- what a fault leaves behind the last session: nobody came where the door failed, and else nobody
+-- came or a session was broken off
 abbrev pub IsStopped : Bool → Held → ServeEnd → AtDoor → AtDoor → Type 0
 IsStopped tells held ServeEnd.Next old new = IsStill tells old new
 IsStopped tells held end old new = IsStill tells old new ⊎ SessionIsBroken tells held old new
 
--- One more guest was met, of so many: who came had a session, or nobody is to come any more, or it was stopped.
+-- One more guest was met, of so many: who came had a session, or nobody is to come any more, or it
+-- was stopped.
 abbrev pub GuestAccepted : Bool → Held → ℕ → AtDoor → AtDoor → Result (Option Session) ServeEnd
     → Type 0
 GuestAccepted tells held most old new (Ok (Some session)) = (v : Visit) × (v.session ≡ session)

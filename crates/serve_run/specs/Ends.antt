@@ -37,14 +37,16 @@ ServeOpened (ServeEnd.BadLog place) = ⊥
 ServeOpened ServeEnd.Memory = ⊥
 ServeOpened end = ⊤
 
--- what the bytes of the two disks were: no image of a journal, which they show at this place, or an image of one; where the disk failed or memory ran out nothing is said
+-- what the bytes of the two disks were: no image of a journal, which they show at this place, or an
+-- image of one; where the disk failed or memory ran out nothing is said
 abbrev pub ServeEndShows : ServeEnd → List ℕ → List ℕ → Type 0
 ServeEndShows ServeEnd.Disk one two = ⊤
 ServeEndShows ServeEnd.Memory one two = ⊤
 ServeEndShows (ServeEnd.BadLog place) one two = IsBadPairJournalAt place one two
 ServeEndShows end one two = (J : List Row) × IsPairImageOf J one two
 
--- the cause of an end: a count of faults rose, of the door or the wire where the next one didn't come
+-- the cause of an end: a count of faults rose, of the door or the wire where the next one didn't
+-- come
 abbrev pub IsCausedBy : Type 0 → Type 0 → Type 0 → ServeEnd → Type 0
 IsCausedBy disk write next ServeEnd.WriteFault = write
 IsCausedBy disk write next ServeEnd.Next = next
@@ -75,12 +77,14 @@ IsOfSession (ServeEnd.BadLog place) = ⊤
 IsOfSession ServeEnd.Memory = ⊤
 IsOfSession end = ⊥
 
--- no session came of the next guest: it was broken off so, or the door failed, or memory ran out there
+-- no session came of the next guest: it was broken off so, or the door failed, or memory ran out
+-- there
 abbrev pub IsOfAccepting : ServeEnd → Type 0
 IsOfAccepting ServeEnd.Next = ⊤
 IsOfAccepting end = IsOfSession end
 
--- the count of the failures of sessions, behind what came of one: if it was broken off, it didn't fail
+-- the count of the failures of sessions, behind what came of one: if it was broken off, it didn't
+-- fail
 abbrev pub IsSessionCount : ℕ → ℕ → Result Session ServeEnd → Type 0
 IsSessionCount before now (Ok session) = IsCounted session before now
 IsSessionCount before now (Err end) = now ≡ before

@@ -16,14 +16,16 @@ abbrev pub end_in : Result (Unit {0}) ServeEnd → ServeEnd
 end_in (Ok done) = ServeEnd.Done
 end_in (Err end) = end
 
--- The lines of the sessions and the last line: whole where all was done, a front of them where they couldn't be written or memory ran out, and else all but the last.
+-- The lines of the sessions and the last line: whole where all was done, a front of them where they
+-- couldn't be written or memory ran out, and else all but the last.
 abbrev pub AreLinesWritten : ServeEnd → List ℕ → List ℕ → List ℕ → List ℕ → Type 0
 AreLinesWritten ServeEnd.Done lines last old new = new ≡ old ++ (lines ++ last)
 AreLinesWritten ServeEnd.WriteFault lines last old new = AddsFront old new (lines ++ last)
 AreLinesWritten ServeEnd.Memory lines last old new = AddsFront old new (lines ++ last)
 AreLinesWritten end lines last old new = new ≡ old ++ lines
 
--- what happened behind the last session: all guests were served, or the door said that nobody comes any more, or nobody came, or a session was broken off
+-- what happened behind the last session: all guests were served, or the door said that nobody comes
+-- any more, or nobody came, or a session was broken off
 abbrev pub IsBehind : Bool → Held → Type 0 → ServeEnd → AtDoor → AtDoor → Type 0
 IsBehind tells held all ServeEnd.Done old new = (all × IsStill tells old new)
     ⊎ NobodyComes tells old new
@@ -34,7 +36,8 @@ IsBehind tells held all ServeEnd.Memory old new = IsStill tells old new
     ⊎ (NobodyComes tells old new ⊎ SessionIsBroken tells held old new)
 IsBehind tells held all end old new = IsStill tells old new ⊎ SessionIsBroken tells held old new
 
--- Guests were served in the order of the door, at most so many, and the lines of their sessions written.
+-- Guests were served in the order of the door, at most so many, and the lines of their sessions
+-- written.
 pub record GuestsServed (door_tells output_tells : Bool) (count : ℕ) (held : Held)
     (door door_now : AtDoor) (old new : List ℕ) (end : ServeEnd) : Type 0 where
   pub visits : List Visit

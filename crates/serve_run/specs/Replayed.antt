@@ -30,7 +30,8 @@ IsUnbroken ServeEnd.Disk failed messages old new = AddsMessages messages old new
 IsUnbroken (ServeEnd.BadLog place) failed messages old new = AddsMessages messages old new ⊎ failed
 IsUnbroken end failed messages old new = ⊤
 
--- The messages that a guest with this cursor is sent were written, each behind its length. The output may have failed.
+-- The messages that a guest with this cursor is sent were written, each behind its length. The
+-- output may have failed.
 pub record Replayed (output_tells : Bool) (failed : Type 0) (J : List Row) (cursor : ℕ)
     (old new : PairView)
     (end : ServeEnd) : Type 0 where

@@ -1,4 +1,5 @@
--- Sessions of guests, and their lines (own): numbers are decimal, and each line ends in a line feed.
+-- Sessions of guests, and their lines (own): numbers are decimal, and each line ends in a line
+-- feed.
 use Rattle.std.specs.Prelude.{◌≡◌, ◌⊎◌, ℕ, ◌+◌, ◌-◌, List, [], ◌∷◌, ◌++◌, length, nat_lt, Bool, Option, Some, None, Result, Ok, Err, codes, if◌then◌else◌}
 use Rattle.at_cid.specs.Counts.{Rose}
 use Rattle.event_window.specs.Held.{Held}
@@ -38,7 +39,8 @@ session_of held None = Session.Sent held.last 0
 session_of held (Some cursor) = if nat_lt held.last cursor then Session.Future cursor
     else Session.Sent cursor (length (served_events held (Some cursor)))
 
--- what comes of a guest who was sent so many events, or is told that the cursor is above the last number
+-- what comes of a guest who was sent so many events, or is told that the cursor is above the last
+-- number
 abbrev pub came_of : ℕ → Option ℕ → ℕ → Bool → Session
 came_of last None events future = Session.Sent last events
 came_of last (Some cursor) events future =
@@ -65,7 +67,8 @@ abbrev pub IsFailed : Held → Result (Option ℕ) TargetFault → List (List �
 IsFailed held asked sent session = IsSentInPart held asked sent
     × (session ≡ Session.Failed (events_sent held asked sent))
 
--- A guest who came: what was sent, what came of the session, and the count of failed sendings and endings behind it.
+-- A guest who came: what was sent, what came of the session, and the count of failed sendings and
+-- endings behind it.
 pub record Visit : Type 0 where
   pub guest : Guest
   pub sent : List (List ℕ)

@@ -252,7 +252,8 @@ fn receive<D: Disk, G: Door>(
     }
 }
 
-/// Serves the next guest, where at most `most` more are served, and returns how the session ended, or that there is none.
+/// Serves the next guest, where at most `most` more are served, and returns how the session ended,
+/// or that there is none.
 pub(crate) fn accept<D: Disk, G: Door>(
     alloc: Global,
     most: u64,

@@ -1,4 +1,5 @@
-//! The commands that give the events of a journal on two disks out, each from opening to its last line.
+//! The commands that give the events of a journal on two disks out, each from opening to its last
+//! line.
 #![tactic(auto)]
 
 mod accepting;

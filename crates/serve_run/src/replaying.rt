@@ -133,8 +133,9 @@ fn replay_on<D: Disk, O: Sink>(
     }
 }
 
-/// Writes each message that [`serve`](crate::serve) sends to a guest with this cursor, after its length in four bytes, the highest
-/// first. No row of the log is to end past `most`, which is in bytes.
+/// Writes each message that [`serve`](crate::serve) sends to a guest with this cursor, after its
+/// length in four bytes, the highest first. No row of the log is to end past `most`, which is in
+/// bytes.
 pub fn replay<D: Disk, O: Sink>(
     alloc: Global,
     most: u64,
@@ -157,9 +158,12 @@ pub fn replay<D: Disk, O: Sink>(
         → IsPairImageOf J (D.view disk.old).content (D.view other.old).content
         → has_long (served_events (held_by J) (Some cursor)) ≡ false }
 
-    // A damaged log is only read, and nothing else is done.
-    ensures unopened { (place : ℕ) → result ≡ ServeEnd.BadLog place → IsTrue D.tells
-        → BothOnlyRead (D.view disk.old) (D.view other.old) (D.view disk.new) (D.view other.new)
+    // Disks that hold no journal are only read, and nothing else is done.
+    ensures no_journal { IsTrue D.tells
+        → ((J : List TheRow)
+        → IsPairImageOf J (D.view disk.old).content (D.view other.old).content → ⊥)
+        → (result ≢ ServeEnd.Disk
+        → BothOnlyRead (D.view disk.old) (D.view other.old) (D.view disk.new) (D.view other.new))
         × (out.new ≡ out.old) }
     ensures caused { IsCausedBy (Rose (D.view disk.old).faults (D.view disk.new).faults
         ⊎ Rose (D.view other.old).faults (D.view other.new).faults)

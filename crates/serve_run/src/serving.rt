@@ -66,9 +66,10 @@ fn serve_guests<D: Disk, G: Door, O: Sink>(
     write_end(alloc, served, out)
 }
 
-/// Serves at most `count` guests, one after another in the order of the door, each with the events after the cursor that the target
-/// asks for, and writes a line for each session that ended, and the last line. A session that fails is no fault: the next guest is
-/// served. No row of the log is to end past `most`, which is in bytes.
+/// Serves at most `count` guests, one after another in the order of the door, each with the events
+/// after the cursor that the target asks for, and writes a line for each session that ended, and
+/// the last line. A session that fails is no fault: the next guest is served. No row of the log is
+/// to end past `most`, which is in bytes.
 pub fn serve<D: Disk, G: Door, O: Sink>(
     alloc: Global,
     most: u64,
@@ -89,9 +90,12 @@ pub fn serve<D: Disk, G: Door, O: Sink>(
     ensures shows { IsTrue D.tells → ServeEndShows result (D.view disk.old).content
         (D.view other.old).content }
 
-    // A damaged log is only read, and nothing else is done.
-    ensures unopened { (place : ℕ) → result ≡ ServeEnd.BadLog place → IsTrue D.tells
-        → BothOnlyRead (D.view disk.old) (D.view other.old) (D.view disk.new) (D.view other.new)
+    // Disks that hold no journal are only read, and nothing else is done.
+    ensures no_journal { IsTrue D.tells
+        → ((J : List TheRow)
+        → IsPairImageOf J (D.view disk.old).content (D.view other.old).content → ⊥)
+        → (result ≢ ServeEnd.Disk
+        → BothOnlyRead (D.view disk.old) (D.view other.old) (D.view disk.new) (D.view other.new))
         × (door.new ≡ door.old) × (out.new ≡ out.old) }
     ensures caused { IsCausedBy (Rose (D.view disk.old).faults (D.view disk.new).faults
         ⊎ Rose (D.view other.old).faults (D.view other.new).faults)

@@ -16,7 +16,8 @@ use std::alloc::Global;
 /// What came of a guest's session.
 #[derive(Clone, Copy, Debug, PartialEq, Eq)]
 pub enum Session {
-    /// The cursor, and the number of events that were sent after it. Where none was asked for, the last number stands for it.
+    /// The cursor, and the number of events that were sent after it. Where none was asked for, the
+    /// last number stands for it.
     Sent(u64, u64),
     /// The cursor is above the last number, and the guest was sent that notice alone.
     Future(u64),

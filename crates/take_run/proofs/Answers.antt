@@ -1,7 +1,6 @@
 -- Answers, one after another.
-use Rattle.std.proofs.Common.{◌≡◌, ◌⊎◌, ⊎_elim, ◌<◌, ◌≤◌, ℕ, ◌+◌, true, false, List, [], ◌∷◌, ◌++◌, length, take, drop, get_or, map, suc, zero, Some, refl, ap, ◌∙◌, sym, subst, arith, append_assoc, length-append}
-use Rattle.std.proofs.lemmas.List.{append-nil, drop_all, take_more}
-use Rattle.relay_core.specs.Runs.{has_ended}
+use Rattle.std.proofs.Common.{◌≡◌, ◌⊎◌, ⊎_elim, ◌<◌, ◌≤◌, ℕ, ◌+◌, List, [], ◌∷◌, ◌++◌, length, drop, get_or, map, suc, zero, Some, refl, ap, ◌∙◌, sym, subst, arith, append_assoc, length-append}
+use Rattle.std.proofs.lemmas.List.{append-nil, drop_all}
 use Rattle.relay_step.specs.Steps.{Step}
 use Rattle.relay_store.specs.Batches.{HasEnd, messages_sent}
 use Rattle.relay_store.specs.Lines.{line_of}
@@ -9,7 +8,7 @@ use Rattle.relay_store.specs.Outcomes.{outcome_of}
 use Rattle.relay_store.specs.declared.message.Message.{Message}
 use Rattle.relay_store.specs.declared.outcome.Outcome.{Outcome}
 use Rattle.take_run.specs.declared.tally.Tally.{Tally}
-use Rattle.take_run.specs.Said.{Said, AreLive, FirstHasEnded, IsNoted, answered, ended_in, ended_said, given, line_said, refused, said, text_of}
+use Rattle.take_run.specs.Said.{Said, IsNoted, answered, ended_in, ended_said, given, line_said, refused, said, text_of}
 
 pub text_joined : (x y : List Said) → text_of (x ++ y) ≡ text_of x ++ text_of y
 text_joined [] y = refl

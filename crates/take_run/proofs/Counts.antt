@@ -3,7 +3,6 @@ use Rattle.std.proofs.Common.{◌≡◌, ◌≢◌, ℕ, ◌+◌, Bool, true, fa
 use Rattle.std.specs.Prelude.{◌==◌, if◌then◌else◌}
 use Rattle.std.specs.List.{filter}
 use Rattle.std.specs.Option.{is_some}
-use Rattle.std.proofs.lemmas.List.{append-nil}
 use Rattle.at_cbor.specs.Item.{Item}
 use Rattle.at_event.specs.Frames.{announced, event_frame, frame_of, framed, headed, items_in, numbered_frame}
 use Rattle.at_event.specs.Table.{seq_of}
@@ -21,12 +20,11 @@ use Rattle.account_state.specs.Folds.{account}
 use Rattle.relay_core.specs.Decide.{Checks, answers, decided_event, decision_for, refusal_of}
 use Rattle.relay_core.specs.Report.{is_row_refused, taken_line}
 use Rattle.relay_core.specs.Rows.{event_taken, faulty_taken}
-use Rattle.relay_core.specs.Runs.{Message, IsMadeBy, has_ended, skipped_by}
+use Rattle.relay_core.specs.Runs.{IsMadeBy}
 use Rattle.relay_core.specs.Shown.{shown}
 use Rattle.relay_core.specs.Table.{did_of}
 use Rattle.relay_core.specs.declared.answers.Answers.{Answers}
 use Rattle.relay_core.specs.declared.decision.Decision.{Decision}
-use Rattle.relay_core.specs.declared.decision.Pass.{Pass}
 use Rattle.relay_step.specs.Steps.{Step, Decided, after_end, skipped, recorded, AreSteps, IsDecidedAs, ended_decided, message_of, messages, rows, rows_decided}
 use Rattle.relay_store.specs.Lines.{line_of}
 use Rattle.relay_store.specs.Outcomes.{fetch_in, outcome_as, outcome_decided, skipped_outcome, taken_outcome}

@@ -1,5 +1,5 @@
 -- How taking a tape ends.
-use Rattle.std.proofs.Common.{◌≡◌, inl, ℕ, Bool, List, [], ◌++◌, length, Option, None, IsTrue, refl, ap, ◌∙◌, sym, subst, arith, append_assoc, length-append}
+use Rattle.std.proofs.Common.{◌≡◌, ◌≢◌, ◌<◌, inl, ℕ, Bool, List, [], ◌++◌, length, Option, None, IsTrue, refl, ap, ◌∙◌, sym, subst, arith, append_assoc, length-append}
 use Rattle.std.specs.List.{filter}
 use Rattle.std.proofs.lemmas.List.{append-nil, take-append-le}
 use Rattle.relay_disk.specs.Disk.{View}
@@ -15,6 +15,7 @@ use Rattle.relay_core.specs.Opening.{OpensRight}
 use Rattle.relay_core.specs.Report.{end_line, is_row_refused}
 use Rattle.relay_law.specs.Right.{LinksRight}
 use Rattle.relay_law.proofs.Choosing.{some_right}
+use Rattle.at_authority.specs.Panels.{Panel}
 use Rattle.relay_step.specs.Around.{Around, AllAsked}
 use Rattle.relay_step.specs.Steps.{Step, messages, rows, AreSteps}
 use Rattle.relay_step.proofs.Blocks.{steps_give}
@@ -28,33 +29,35 @@ use Rattle.relay_store.specs.declared.message.Message.{Message}
 use Rattle.relay_store.proofs.Asks.{nothing_here, nothing_in_vain}
 use Rattle.relay_store.proofs.Images.{kept_log}
 use Rattle.relay_store.proofs.Linework.{lines_report}
-use Rattle.tape.specs.Reading.{coming, held}
+use Rattle.tape.specs.Reading.{held}
 use Rattle.tape.specs.declared.fault.TapeFault.{TapeFault}
 use Rattle.tape.specs.declared.tape.Tape.{Tape}
 use Rattle.take_run.specs.Lines.{lines_of}
-use Rattle.take_run.specs.Ends.{AreExtraAt, AreTaken, AreUnder, FullOnly, IsReportWritten, StopsAsking, end_of_tape, fault_in}
+use Rattle.take_run.specs.Causes.{AreTold, Failures, failures}
+use Rattle.take_run.specs.Ends.{AreExtraAt, AreTaken, AreUnder, FullOnly, IsReportWritten, StopsAsking, StopsShort, end_of_tape, fault_in}
 use Rattle.take_run.specs.Stops.{Finished, IsReported, IsStop}
 use Rattle.take_run.specs.Going.{Going, Point, Stopped}
 use Rattle.take_run.specs.Tells.{Tells}
-use Rattle.take_run.specs.Said.{said, text_of}
+use Rattle.take_run.specs.Said.{said, text_for, text_of}
 use Rattle.take_run.specs.Taken.{Scene, Taken, scene}
-use Rattle.take_run.specs.Groups.{AreRead, IsGroup}
-use Rattle.take_run.specs.Tapes.{AreRecords, IsOnTape, encoded_records}
+use Rattle.take_run.specs.Groups.{FollowsOn}
+use Rattle.take_run.specs.Tapes.{AreRecords, EndsTape, IsOnTape}
 use Rattle.take_run.specs.declared.end.TakeEnd.{TakeEnd}
 use Rattle.take_run.specs.declared.group.Rest.{Rest}
 use Rattle.take_run.proofs.Batches.{none_next, whole_front}
 use Rattle.take_run.proofs.Counts.{given_is, lines_are, refused_is, said_length}
-use Rattle.take_run.proofs.Joining.{front_behind}
+use Rattle.take_run.proofs.Joining.{before_more, front_behind}
 use Rattle.take_run.proofs.Records.{records_front}
 use Rattle.take_run.proofs.Sounds.{covered_get_through, sounds, stays_faithful}
+use Rattle.take_run.proofs.Telling.{none_told}
 
 -- ---- by the end
 
-stop_on_tape : (limit : ℕ) (before after : List ℕ) (xs : List Message) (end : TakeEnd) → IsStop end → (rest : List ℕ) × (before ≡ encoded_records xs ++ rest) → IsOnTape limit before after xs end
-stop_on_tape limit before after xs TakeEnd.WriteFault stop h = h
-stop_on_tape limit before after xs TakeEnd.Memory stop h = h
-stop_on_tape limit before after xs (TakeEnd.Store fault) stop h = h
-stop_on_tape limit before after xs end stop h = absurd stop
+pub stop_ends : (limit size : ℕ) (part after : List ℕ) (end : TakeEnd) → IsStop end → EndsTape limit size part after end
+stop_ends limit size part after TakeEnd.WriteFault stop = tt
+stop_ends limit size part after TakeEnd.Memory stop = tt
+stop_ends limit size part after (TakeEnd.Store fault) stop = tt
+stop_ends limit size part after end stop = absurd stop
 
 stop_taken : (end : TakeEnd) (behind : List Message) → IsStop end → AreTaken end behind
 stop_taken TakeEnd.WriteFault behind stop = tt
@@ -128,47 +131,54 @@ fault_written TapeFault.Failed lines last old now h = h
 fault_written TapeFault.Budget lines last old now h = h
 fault_written TapeFault.Memory lines last old now h = front_longer old now lines last (whole_front old now lines h)
 
--- ---- the records at the front of the input
+-- ---- what ends the tape
 
-pub end_on_tape : (limit : ℕ) (before after : List ℕ) (xs : List Message) (end : TakeEnd) (line : List ℕ) (told : Bool) (mid now : List ℕ) → Finished end line told mid now → before ≡ encoded_records xs ++ [] → after ≡ [] → IsOnTape limit before after xs end
-end_on_tape limit before after xs TakeEnd.Done line told mid now h is none = (is ∙ append-nil (encoded_records xs), none)
-end_on_tape limit before after xs TakeEnd.WriteFault line told mid now h is none = ([], is)
-end_on_tape limit before after xs TakeEnd.Memory line told mid now h is none = ([], is)
-end_on_tape limit before after xs end line told mid now h is none = absurd h
+pub finished_ends : (limit size : ℕ) (part after : List ℕ) (end : TakeEnd) (line : List ℕ) (told : Bool) (mid now : List ℕ) → Finished end line told mid now → part ≡ [] → after ≡ [] → size < limit → EndsTape limit size part after end
+finished_ends limit size part after TakeEnd.Done line told mid now h none ended short = (none, ended, short)
+finished_ends limit size part after TakeEnd.WriteFault line told mid now h none ended short = tt
+finished_ends limit size part after TakeEnd.Memory line told mid now h none ended short = tt
+finished_ends limit size part after end line told mid now h none ended short = absurd h
 
--- some records stand in front of what is to come
-pub some_read : (old : Tape) (before : List ℕ) (new : Tape) (after : List ℕ) (group : List Message) (rest : Rest) → IsGroup old before new after group rest → (behind : List ℕ) × AreRead old before group behind
-some_read old before new after group Rest.More h = (coming new after, h)
-some_read old before new after group Rest.Nothing h = ([], h.0)
-some_read old before new after group (Rest.Fault (TapeFault.Torn place)) h = (h.0, h.1)
-some_read old before new after group (Rest.Fault (TapeFault.BadName place)) h = (h.0, h.1)
-some_read old before new after group (Rest.Fault (TapeFault.TooLong place)) h = (h.0, h.1)
-some_read old before new after group (Rest.Fault TapeFault.Failed) h = (held new ++ after, h.0)
-some_read old before new after group (Rest.Fault TapeFault.Budget) h = (held new ++ after, h.0)
-some_read old before new after group (Rest.Fault TapeFault.Memory) h = h
-
-pub fault_on_tape : (limit : ℕ) (before after left : List ℕ) (xs group : List Message) (old new : Tape) (fault : TapeFault) → new.place ≡ length (encoded_records (xs ++ group)) → new.most ≡ limit
-    → ((behind : List ℕ) → AreRead old left group behind → before ≡ encoded_records (xs ++ group) ++ behind) → IsGroup old left new after group (Rest.Fault fault) → IsOnTape limit before after (xs ++ group) (end_of_tape fault)
-fault_on_tape limit before after left xs group old new (TapeFault.Torn place) here most more h = (h.0, more h.0 h.1, h.2, h.3 ∙ here)
-fault_on_tape limit before after left xs group old new (TapeFault.BadName place) here most more h = (h.0, more h.0 h.1, h.2, h.3 ∙ here)
-fault_on_tape limit before after left xs group old new (TapeFault.TooLong place) here most more h = (h.0, more h.0 h.1, h.2, h.3 ∙ here)
-fault_on_tape limit before after left xs group old new TapeFault.Failed here most more h = (held new, more (held new ++ after) h.0, h.1)
-fault_on_tape limit before after left xs group old new TapeFault.Budget here most more h = (held new, more (held new ++ after) h.0, h.1, omega (arith, h.2, here, most))
-fault_on_tape limit before after left xs group old new TapeFault.Memory here most more h = (h.0, more h.0 h.1)
+pub fault_ends : (limit size : ℕ) (tape : Tape) (after : List ℕ) (fault : TapeFault) → tape.place ≡ size → tape.most ≡ limit → FollowsOn tape after (Rest.Fault fault) → EndsTape limit size (held tape) after (end_of_tape fault)
+fault_ends limit size tape after (TapeFault.Torn place) here most h = (h.0, h.1 ∙ here)
+fault_ends limit size tape after (TapeFault.BadName place) here most h = (h.0, h.1 ∙ here)
+fault_ends limit size tape after (TapeFault.TooLong place) here most h = (h.0, h.1 ∙ here)
+fault_ends limit size tape after TapeFault.Failed here most h = h
+fault_ends limit size tape after TapeFault.Budget here most h = (h.0, omega (arith, h.1, here, most))
+fault_ends limit size tape after TapeFault.Memory here most h = tt
 
 -- ---- the two ways to end
 
 said_lines : (J : List Row) (ended : List (List ℕ)) (steps : List Step) → ((checks : Checks) → OpensRight checks → LinksRight checks → AreSteps checks J ended steps) → text_of (said steps) ≡ lines_of steps
 said_lines J ended steps are = lines_are some_right.0 J ended steps (are some_right.0 some_right.1 some_right.2)
 
+-- what stopped short of lines as they were answered stops short of the lines of steps
+short_lines : (tells : Bool) (end : TakeEnd) (steps : List Step) (under : List Row) (old now : List ℕ) → ((front others : List Step) → steps ≡ front ++ others → text_for front ≡ lines_of front) → StopsShort text_for tells end steps under old now → StopsShort lines_of tells end steps under old now
+short_lines tells TakeEnd.WriteFault steps under old now agree short = λ told. subst (λ (l : List ℕ). AddsFront old now l) (agree steps [] (sym (append-nil steps))) (short told)
+short_lines tells TakeEnd.Memory steps under old now agree short = λ told.
+    let lack = short told in (lack.0, lack.1, lack.2, lack.3, lack.4 ∙ ap (λ (l : List ℕ). old ++ l) (agree lack.0 lack.1 lack.2))
+short_lines tells (TakeEnd.Store StoreFault.Disk) steps under old now agree short = short
+short_lines tells end steps under old now agree short = absurd short
+
+-- the counts, with the input's
+abbrev pub with_input : Failures → ℕ → Failures
+with_input fs input = failures fs.repos fs.clock input
+
+told_with : (end : TakeEnd) (fs now : Failures) (i i_now : ℕ) (p p_now : Panel) → AreTold end fs now p p_now → AreTold end (with_input fs i) (with_input now i_now) p p_now
+told_with end fs now i i_now p p_now told = record { repos = told.repos; clock = told.clock; unspent = told.unspent }
+
 -- a fault stopped it
-pub taken_stopped : {D : Type 0} (view : D → View) (t : Tells) (input_tells : Bool) (limit : ℕ) (J : List Row) (xs : List Message) (a c : Point D) (before after : List ℕ) (end : TakeEnd) → Stopped view t J xs a c end → a.tally.ended.items ≡ [] → AreRecords xs
-    → (IsTrue input_tells → (rest : List ℕ) × (before ≡ encoded_records xs ++ rest)) → Taken view t input_tells limit J (scene a.store a.disk a.around before a.written) (scene c.store c.disk c.around after c.written) end
-taken_stopped view t input_tells limit J xs a c before after end h none records read =
+pub taken_stopped : {D : Type 0} (view : D → View) (t : Tells) (input_tells : Bool) (limit : ℕ) (J : List Row) (xs : List Message) (a c : Point D) (before after : List ℕ) (i i_now : ℕ) (end : TakeEnd) → Stopped view t J xs a c end → a.tally.ended.items ≡ [] → AreRecords xs
+    → (IsTrue input_tells → IsOnTape limit before after xs end) → Taken view t input_tells limit J (scene a.store a.disk a.around (with_input a.failures i) before a.written) (scene c.store c.disk c.around (with_input c.failures i_now) after c.written) end
+taken_stopped view t input_tells limit J xs a c before after i i_now end h none records read =
     let all = h.steps ++ (h.under ++ h.extra) in
     let are : (checks : Checks) → OpensRight checks → LinksRight checks → AreSteps checks J [] all = λ checks opens links. subst (λ (e : List (List ℕ)). AreSteps checks J e all) none (h.are checks opens links) in
     let whole : AreRecords (messages_sent all ++ h.behind) = subst AreRecords h.front records in
     let mine : AreRecords (messages_sent all) = records_front (messages_sent all) h.behind whole in
+    let steps_are : (checks : Checks) → OpensRight checks → LinksRight checks → AreSteps checks J a.tally.ended.items h.steps = λ checks opens links. ((steps_join checks J a.tally.ended.items h.steps (h.under ++ h.extra)).0 (h.are checks opens links)).0 in
+    let agree : (front others : List Step) → h.steps ≡ front ++ others → text_for front ≡ lines_of front = λ front others is.
+    said_lines J a.tally.ended.items front (λ checks opens links. ((steps_join checks J a.tally.ended.items front others).0 (subst (λ (l : List Step). AreSteps checks J a.tally.ended.items l) is (steps_are checks opens links))).0) in
+    let short : StopsShort text_for t.output end h.steps (rows h.under) a.written c.written → StopsShort lines_of t.output end h.steps (rows h.under) a.written c.written = short_lines t.output end h.steps (rows h.under) a.written c.written agree in
     record {
       steps = h.steps;
       under = h.under;
@@ -180,7 +190,7 @@ taken_stopped view t input_tells limit J xs a c before after end h none records 
       behind = h.behind;
       all = stop_taken end h.behind h.stop;
       records = whole;
-      from = λ told. subst (λ (l : List Message). IsOnTape limit before after l end) h.front (stop_on_tape limit before after xs end h.stop (read told));
+      from = λ told. subst (λ (l : List Message). IsOnTape limit before after l end) h.front (read told);
       known = h.known;
       on_disk = h.on_disk;
       format = h.format;
@@ -189,11 +199,13 @@ taken_stopped view t input_tells limit J xs a c before after end h none records 
       full = h.full;
       written = λ told. stop_written end _ _ a.written c.written h.stop
           (subst (λ (l : List ℕ). IsReported end l a.written c.written)
-          (said_lines J a.tally.ended.items h.steps (λ checks opens links. ((steps_join checks J a.tally.ended.items h.steps (h.under ++ h.extra)).0 (h.are checks opens links)).0)) (h.written told));
+          (said_lines J a.tally.ended.items h.steps steps_are) (h.written told));
       mid = h.mid;
       asked = h.asked;
       stops = h.stops;
       next = h.next;
+      told = λ not. told_with end a.failures c.failures i i_now a.around.panel c.around.panel (h.told (λ is. not (short is)));
+      read_told = λ not no_read. absurd (not (before_more end _ _ h.extra h.behind short h.before));
       sound = sounds J all mine h.journal are;
       faithful = stays_faithful J all mine h.journal are (steps_give t.clock t.repos J a.around h.mid all h.journal h.asked);
       covered = covered_get_through J [] all mine are;
@@ -203,17 +215,17 @@ taken_stopped view t input_tells limit J xs a c before after end h none records 
 abbrev pub Takes : {D : Type 0} {view : D → View} {t : Tells} {input_tells : Bool} {limit : ℕ} {J : List Row} {old new : Scene D} {end : TakeEnd} → Taken view t input_tells limit J old new end → List Step → List Message → Type 0
 Takes taken steps behind = (taken.steps ++ (taken.under ++ taken.extra) ≡ steps) × (taken.behind ≡ behind)
 
-pub stopped_takes : {D : Type 0} (view : D → View) (t : Tells) (input_tells : Bool) (limit : ℕ) (J : List Row) (xs : List Message) (a c : Point D) (before after : List ℕ) (end : TakeEnd) (h : Stopped view t J xs a c end) (none : a.tally.ended.items ≡ []) (records : AreRecords xs) (read : IsTrue input_tells → (rest : List ℕ) × (before ≡ encoded_records xs ++ rest))
-    → Takes (taken_stopped view t input_tells limit J xs a c before after end h none records read) (h.steps ++ (h.under ++ h.extra)) h.behind
+pub stopped_takes : {D : Type 0} (view : D → View) (t : Tells) (input_tells : Bool) (limit : ℕ) (J : List Row) (xs : List Message) (a c : Point D) (before after : List ℕ) (i i_now : ℕ) (end : TakeEnd) (h : Stopped view t J xs a c end) (none : a.tally.ended.items ≡ []) (records : AreRecords xs) (read : IsTrue input_tells → IsOnTape limit before after xs end)
+    → Takes (taken_stopped view t input_tells limit J xs a c before after i i_now end h none records read) (h.steps ++ (h.under ++ h.extra)) h.behind
 unfolding taken_stopped
-stopped_takes view t input_tells limit J xs a c before after end h none records read = (refl, refl)
+stopped_takes view t input_tells limit J xs a c before after i i_now end h none records read = (refl, refl)
 
 -- the tape has ended it, or the last line
-pub taken_going : {D : Type 0} (view : D → View) (t : Tells) (input_tells : Bool) (limit : ℕ) (J : List Row) (xs : List Message) (a b : Point D) (before after now : List ℕ) (end : TakeEnd) → IsQuiet end → (h : Going view t J xs a b) → a.tally.ended.items ≡ [] → AreRecords xs
+pub taken_going : {D : Type 0} (view : D → View) (t : Tells) (input_tells : Bool) (limit : ℕ) (J : List Row) (xs : List Message) (a b : Point D) (before after now : List ℕ) (i i_now : ℕ) (end : TakeEnd) → IsQuiet end → (end ≢ TakeEnd.ReadFault → i_now ≡ i) → (h : Going view t J xs a b) → a.tally.ended.items ≡ [] → AreRecords xs
     → (IsTrue input_tells → IsOnTape limit before after xs end)
     → (IsTrue t.output → IsReportWritten end (lines_of h.steps) (end_line J (messages h.steps) (rows h.steps)) a.written now)
-    → Taken view t input_tells limit J (scene a.store a.disk a.around before a.written) (scene b.store b.disk b.around after now) end
-taken_going view t input_tells limit J xs a b before after now end quiet h none records read written =
+    → Taken view t input_tells limit J (scene a.store a.disk a.around (with_input a.failures i) before a.written) (scene b.store b.disk b.around (with_input b.failures i_now) after now) end
+taken_going view t input_tells limit J xs a b before after now i i_now end quiet still h none records read written =
     let steps = h.steps in
     let same : steps ≡ steps ++ [] = sym (append-nil steps) in
     let are : (checks : Checks) → OpensRight checks → LinksRight checks → AreSteps checks J [] (steps ++ []) = λ checks opens links.
@@ -252,16 +264,18 @@ taken_going view t input_tells limit J xs a b before after now end quiet h none 
       asked = asked;
       stops = quiet.stops t.clock t.repos b.around;
       next = subst (λ (f : Option StoreFault). EndsNext t.clock t.repos b.store.core [] b.around b.around f) (sym quiet.none) (none_next t.clock t.repos b.store.core [] b.around b.around);
+      told = λ short. told_with end a.failures b.failures i i_now a.around.panel b.around.panel (none_told end a.failures b.failures a.around.panel b.around.panel h.steady);
+      read_told = λ not. still;
       sound = sounds J (steps ++ []) mine journal are;
       faithful = stays_faithful J (steps ++ []) mine journal are (steps_give t.clock t.repos J a.around b.around (steps ++ []) journal asked);
       covered = covered_get_through J [] (steps ++ []) mine are;
     }
 
-pub going_takes : {D : Type 0} (view : D → View) (t : Tells) (input_tells : Bool) (limit : ℕ) (J : List Row) (xs : List Message) (a b : Point D) (before after now : List ℕ) (end : TakeEnd) (quiet : IsQuiet end) (h : Going view t J xs a b) (none : a.tally.ended.items ≡ []) (records : AreRecords xs)
+pub going_takes : {D : Type 0} (view : D → View) (t : Tells) (input_tells : Bool) (limit : ℕ) (J : List Row) (xs : List Message) (a b : Point D) (before after now : List ℕ) (i i_now : ℕ) (end : TakeEnd) (quiet : IsQuiet end) (still : end ≢ TakeEnd.ReadFault → i_now ≡ i) (h : Going view t J xs a b) (none : a.tally.ended.items ≡ []) (records : AreRecords xs)
     (read : IsTrue input_tells → IsOnTape limit before after xs end) (written : IsTrue t.output → IsReportWritten end (lines_of h.steps) (end_line J (messages h.steps) (rows h.steps)) a.written now)
-    → Takes (taken_going view t input_tells limit J xs a b before after now end quiet h none records read written) (h.steps ++ []) []
+    → Takes (taken_going view t input_tells limit J xs a b before after now i i_now end quiet still h none records read written) (h.steps ++ []) []
 unfolding taken_going
-going_takes view t input_tells limit J xs a b before after now end quiet h none records read written = (refl, refl)
+going_takes view t input_tells limit J xs a b before after now i i_now end quiet still h none records read written = (refl, refl)
 
 -- ---- the numbers in the last line
 

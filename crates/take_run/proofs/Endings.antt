@@ -1,5 +1,5 @@
 -- How taking a tape ends: what the disks show, the causes, and what ends a whole tape.
-use Rattle.std.proofs.Common.{◌≡◌, ◌⊎◌, inl, inr, ⊎_elim, ◌∙◌, ℕ, ◌+◌, ◌<◌, ◌≤◌, List, ◌++◌, length, refl, sym, ap, subst, arith, length-append, Bool, Err, IsTrue}
+use Rattle.std.proofs.Common.{◌≡◌, ◌≢◌, ◌⊎◌, inl, inr, ⊎_elim, ◌∙◌, ℕ, ◌+◌, ◌<◌, ◌≤◌, List, ◌++◌, length, refl, sym, ap, subst, arith, length-append, Bool, Err, IsTrue}
 use Rattle.at_cid.specs.Counts.{Rose}
 use Rattle.relay_row.specs.declared.row.Row.{Row}
 use Rattle.relay_step.specs.Steps.{Step}
@@ -8,8 +8,7 @@ use Rattle.relay_store.specs.Opening.{BothOnlyRead, IsOfReading, Opened}
 use Rattle.relay_store.specs.declared.fault.StoreFault.{StoreFault}
 use Rattle.relay_store.specs.declared.message.Message.{Message}
 use Rattle.relay_store.proofs.Images.{no_journal}
-use Rattle.relay_store.proofs.Opened.{bad_read}
-use Rattle.take_run.specs.Ends.{AreExtraAt, end_of_store}
+use Rattle.take_run.specs.Ends.{AreExtraAt, disk_failed, end_of_store}
 use Rattle.take_run.specs.Tapes.{AreRecords, IsOnTape, encoded_records}
 use Rattle.take_run.specs.declared.end.TakeEnd.{TakeEnd}
 use Rattle.take_run.specs.Following.{IsUnread}
@@ -51,25 +50,11 @@ opening_completes disk read write repos clock StoreFault.Repos one two J image o
 opening_completes disk read write repos clock StoreFault.Memory one two J image of cause bad none = tt
 opening_completes disk read write repos clock StoreFault.Clock one two J image of cause bad none = absurd of
 
-pub opening_bad : (fault : StoreFault) (place : ℕ) → end_of_store fault ≡ TakeEnd.Store (StoreFault.BadLog place) → fault ≡ StoreFault.BadLog place
-opening_bad StoreFault.Disk place is = let no : ⊥ = cc in absurd no
-opening_bad (StoreFault.BadLog q) place is = let same : q ≡ place = cc in ap StoreFault.BadLog same
-opening_bad (StoreFault.Full e) place is = let no : ⊥ = cc in absurd no
-opening_bad StoreFault.SeqEnd place is = let no : ⊥ = cc in absurd no
-opening_bad StoreFault.Authority place is = let no : ⊥ = cc in absurd no
-opening_bad StoreFault.Repos place is = let no : ⊥ = cc in absurd no
-opening_bad StoreFault.Memory place is = let no : ⊥ = cc in absurd no
-opening_bad StoreFault.Clock place is = let no : ⊥ = cc in absurd no
-
--- a bad log was only read
-pub opening_read : (tells : Bool) (one two one_now two_now : View) (fault : StoreFault) (end : TakeEnd) (place : ℕ) → Opened tells one two one_now two_now (Err fault) → end ≡ end_of_store fault → end ≡ TakeEnd.Store (StoreFault.BadLog place) → IsTrue tells → BothOnlyRead one two one_now two_now
-opening_read tells one two one_now two_now fault end place opened of is told = bad_read tells one two one_now two_now fault place opened (opening_bad fault place (sym of ∙ is)) told
+-- the disks were only read
+pub opening_read : (tells : Bool) (one two one_now two_now : View) (fault : StoreFault) (end : TakeEnd) → Opened tells one two one_now two_now (Err fault) → end ≡ end_of_store fault → IsTrue tells → end ≢ disk_failed → BothOnlyRead one two one_now two_now
+opening_read tells one two one_now two_now fault end opened of told not = opened.read fault refl (λ is. not (of ∙ ap end_of_store is)) told
 
 -- ---- behind it
-
--- two disks with a journal show no bad log
-pub never_bad : (end : TakeEnd) (place : ℕ) (one two : List ℕ) (J : List Row) → IsPairImageOf J one two → TakeEndShows end one two → end ≡ TakeEnd.Store (StoreFault.BadLog place) → ⊥
-never_bad end place one two J image shows is = no_journal place one two J image (subst (λ (e : TakeEnd). TakeEndShows e one two) is shows)
 
 pub image_shows : (end : TakeEnd) (over : List Step) (one two : List ℕ) (J : List Row) → AreExtraAt end over → IsPairImageOf J one two → TakeEndShows end one two
 image_shows TakeEnd.Done over one two J which image = (J, image)
@@ -94,11 +79,11 @@ not_long limit before after part front is reached short = omega (arith, ap lengt
 pub completes : (disk read write repos clock : Type 0) (end : TakeEnd) (over : List Step) (limit : ℕ) (before after : List ℕ) (xs T : List Message) → AreExtraAt end over → AreRecords xs → IsOnTape limit before after xs end
     → AreRecords T → before ≡ encoded_records T → length (encoded_records T) < limit → IsCausedBy disk read write repos clock end → NoneOf disk read write repos clock → MayEnd end
 completes disk read write repos clock TakeEnd.Done over limit before after xs T which are on all is short caused none = tt
-completes disk read write repos clock (TakeEnd.Bad place) over limit before after xs T which are on all is short caused none = absurd (no_fault xs T on.0 are all (sym is ∙ on.1) on.2)
+completes disk read write repos clock (TakeEnd.Bad place) over limit before after xs T which are on all is short caused none = absurd (no_fault xs T (on.part ++ after) are all (sym is ∙ on.front) on.ends.0)
 completes disk read write repos clock TakeEnd.ReadFault over limit before after xs T which are on all is short caused none = absurd (none.no_read caused)
 completes disk read write repos clock TakeEnd.WriteFault over limit before after xs T which are on all is short caused none = absurd (none.no_write caused)
 completes disk read write repos clock TakeEnd.TooLong over limit before after xs T which are on all is short caused none =
-    absurd (not_long limit before after on.0 (encoded_records xs) on.1 on.3 (subst (λ (l : List ℕ). length l < limit) (sym is) short))
+    absurd (not_long limit before after on.part (encoded_records xs) on.front on.ends.1 (subst (λ (l : List ℕ). length l < limit) (sym is) short))
 completes disk read write repos clock TakeEnd.Memory over limit before after xs T which are on all is short caused none = tt
 completes disk read write repos clock (TakeEnd.Store StoreFault.Disk) over limit before after xs T which are on all is short caused none = absurd (none.no_disk caused)
 completes disk read write repos clock (TakeEnd.Store (StoreFault.BadLog p)) over limit before after xs T which are on all is short caused none = absurd which

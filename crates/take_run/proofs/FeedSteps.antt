@@ -26,7 +26,7 @@ use Rattle.take_run.specs.Tapes.{AreRecords}
 use Rattle.take_run.specs.Tells.{Tells}
 use Rattle.take_run.specs.declared.end.TakeEnd.{TakeEnd}
 use Rattle.take_run.proofs.Ended.{ends_alike}
-use Rattle.take_run.proofs.Ending.{Takes, fault_written, going_takes, last_behind, line_of_run, lines_of_run, quiet_finished, quiet_tape, stopped_takes, taken_going, taken_stopped}
+use Rattle.take_run.proofs.Ending.{Takes, fault_written, going_takes, last_behind, line_of_run, lines_of_run, quiet_finished, quiet_tape, stopped_takes, taken_going, taken_stopped, with_input}
 use Rattle.take_run.proofs.Joining.{going_more, going_more_steps, going_stops, going_stops_steps, nothing_taken, nothing_taken_steps, of_going}
 use Rattle.take_run.proofs.Records.{records_joined}
 
@@ -169,14 +169,14 @@ module _ (feed_tells : Bool) (host : List ℕ) (given left : List (List ℕ)) {D
 
     -- taking it stops
     pub follow_stops : (most : ℕ) → n < most → (J : List Row) (of : IsOf J a.store.core) → a.tally.ended.items ≡ [] → (c : Point D) (end : TakeEnd) → ((K : List Row) → IsOf K b.store.core → Stopped view t K (m ∷ []) b c end)
-        → TakenOfFeed view t feed_tells host most given after J (scene a.store a.disk a.around [] a.written) (scene c.store c.disk c.around [] c.written) end
+        → TakenOfFeed view t feed_tells host most given after J (scene a.store a.disk a.around (with_input a.failures 0) [] a.written) (scene c.store c.disk c.around (with_input c.failures 0) [] c.written) end
     follow_stops most below J of none c end stopped =
         let one = so_far.going J of in
         let two = stopped (J ++ rows one.0.steps) (of_going view t J so_far.read a b one.0) in
         let stop = going_stops view t J so_far.read (m ∷ []) a b one.0 c end two in
         let all = stop.steps ++ (stop.under ++ stop.extra) in
-        taken_of_feed view t feed_tells host most given after J _ _ end all stop.behind (taken_stopped view t false 0 J (so_far.read ++ m ∷ []) a c [] [] end stop none more_records (λ told. not_told told))
-        (stopped_takes view t false 0 J (so_far.read ++ m ∷ []) a c [] [] end stop none more_records (λ told. not_told told))
+        taken_of_feed view t feed_tells host most given after J _ _ end all stop.behind (taken_stopped view t false 0 J (so_far.read ++ m ∷ []) a c [] [] 0 0 end stop none more_records (λ told. not_told told))
+        (stopped_takes view t false 0 J (so_far.read ++ m ∷ []) a c [] [] 0 0 end stop none more_records (λ told. not_told told))
         (record {
           hosts = subst (AreOf host) stop.front more_hosts;
           few = omega (arith, below, so_far.count, ap length stop.front, length-append so_far.read (m ∷ []));
@@ -223,7 +223,7 @@ module _ (feed_tells : Bool) (host : List ℕ) (given left : List (List ℕ)) {D
     pub follow_finishes : a.tally.messages ≡ 0 → a.tally.events ≡ 0 → a.tally.refused ≡ 0 → (last : ℕ) → last ≡ b.store.core.last → (end : TakeEnd) (now : List ℕ)
         → Finished end (end_line_of b.tally.messages b.tally.events b.tally.refused last) t.output b.written now → (IsTrue feed_tells → after ≡ left)
         → (n ≡ most) ⊎ ((IsTrue feed_tells → left ≡ []) ⊎ (has_ended b.tally.ended.items host ≡ true))
-        → TakenOfFeed view t feed_tells host most given after J (scene a.store a.disk a.around [] a.written) (scene b.store b.disk b.around [] now) end
+        → TakenOfFeed view t feed_tells host most given after J (scene a.store a.disk a.around (with_input a.failures 0) [] a.written) (scene b.store b.disk b.around (with_input b.failures 0) [] now) end
     follow_finishes m e r last last_is end now finished same why =
         let going = (so_far.going J of).0 in
         let line : end_line_of b.tally.messages b.tally.events b.tally.refused last ≡ end_line J (messages going.steps) (rows going.steps) =
@@ -231,27 +231,27 @@ module _ (feed_tells : Bool) (host : List ℕ) (given left : List (List ℕ)) {D
         let finished_so : Finished end (end_line J (messages going.steps) (rows going.steps)) t.output b.written now = subst (λ (l : List ℕ). Finished end l t.output b.written now) line finished in
         let quiet = quiet_finished end _ t.output b.written now finished in
         let written : IsTrue t.output → IsReportWritten end (lines_of going.steps) (end_line J (messages going.steps) (rows going.steps)) a.written now = λ told. last_behind end _ (lines_of going.steps) t.output a.written b.written now finished_so (lines_of_run view t J so_far.read a b going) told in
-        taken_of_feed view t feed_tells host most given after J _ _ end (going.steps ++ []) [] (taken_going view t false 0 J so_far.read a b [] [] now end quiet going none so_far.records (λ told. not_told told) written)
-        (going_takes view t false 0 J so_far.read a b [] [] now end quiet going none so_far.records (λ told. not_told told) written)
+        taken_of_feed view t feed_tells host most given after J _ _ end (going.steps ++ []) [] (taken_going view t false 0 J so_far.read a b [] [] now 0 0 end quiet (λ not. refl) going none so_far.records (λ told. not_told told) written)
+        (going_takes view t false 0 J so_far.read a b [] [] now 0 0 end quiet (λ not. refl) going none so_far.records (λ told. not_told told) written)
         (whole end (λ told. left_same end left after (same told)) (finished_ends feed_tells host most _ left end _ t.output b.written now finished (done why)))
 
     unread : (fault : TapeFault) → ((all : List Step) → IsFeedEnd feed_tells host most all left (end_of_tape fault)) → (IsTrue feed_tells → IsLeftOf (end_of_tape fault) left after)
-        → TakenOfFeed view t feed_tells host most given after J (scene a.store a.disk a.around [] a.written) (scene b.store b.disk b.around [] b.written) (end_of_tape fault)
+        → TakenOfFeed view t feed_tells host most given after J (scene a.store a.disk a.around (with_input a.failures 0) [] a.written) (scene b.store b.disk b.around (with_input b.failures 0) [] b.written) (end_of_tape fault)
     unread fault ends behind =
         let going = (so_far.going J of).0 in
         let written : IsTrue t.output → IsReportWritten (end_of_tape fault) (lines_of going.steps) (end_line J (messages going.steps) (rows going.steps)) a.written b.written = λ told. fault_written fault _ (end_line J (messages going.steps) (rows going.steps)) a.written b.written (lines_of_run view t J so_far.read a b going told) in
-        taken_of_feed view t feed_tells host most given after J _ _ (end_of_tape fault) (going.steps ++ []) [] (taken_going view t false 0 J so_far.read a b [] [] b.written (end_of_tape fault) (quiet_tape fault) going none so_far.records (λ told. not_told told) written)
-        (going_takes view t false 0 J so_far.read a b [] [] b.written (end_of_tape fault) (quiet_tape fault) going none so_far.records (λ told. not_told told) written)
+        taken_of_feed view t feed_tells host most given after J _ _ (end_of_tape fault) (going.steps ++ []) [] (taken_going view t false 0 J so_far.read a b [] [] b.written 0 0 (end_of_tape fault) (quiet_tape fault) (λ not. refl) going none so_far.records (λ told. not_told told) written)
+        (going_takes view t false 0 J so_far.read a b [] [] b.written 0 0 (end_of_tape fault) (quiet_tape fault) (λ not. refl) going none so_far.records (λ told. not_told told) written)
         (whole (end_of_tape fault) behind (ends (going.steps ++ [])))
 
     -- the feed failed, or memory ran out
     pub follow_fails : (end : TakeEnd) → IsUnread end → (IsTrue feed_tells → IsLeftOf end left after)
-        → TakenOfFeed view t feed_tells host most given after J (scene a.store a.disk a.around [] a.written) (scene b.store b.disk b.around [] b.written) end
+        → TakenOfFeed view t feed_tells host most given after J (scene a.store a.disk a.around (with_input a.failures 0) [] a.written) (scene b.store b.disk b.around (with_input b.failures 0) [] b.written) end
     follow_fails end (inl is) behind =
-        subst (TakenOfFeed view t feed_tells host most given after J (scene a.store a.disk a.around [] a.written) (scene b.store b.disk b.around [] b.written)) (sym is)
+        subst (TakenOfFeed view t feed_tells host most given after J (scene a.store a.disk a.around (with_input a.failures 0) [] a.written) (scene b.store b.disk b.around (with_input b.failures 0) [] b.written)) (sym is)
         (unread TapeFault.Failed (λ all. tt) (λ told. subst (λ (e : TakeEnd). IsLeftOf e left after) is (behind told)))
     follow_fails end (inr is) behind =
-        subst (TakenOfFeed view t feed_tells host most given after J (scene a.store a.disk a.around [] a.written) (scene b.store b.disk b.around [] b.written)) (sym is)
+        subst (TakenOfFeed view t feed_tells host most given after J (scene a.store a.disk a.around (with_input a.failures 0) [] a.written) (scene b.store b.disk b.around (with_input b.failures 0) [] b.written)) (sym is)
         (unread TapeFault.Memory (λ all. tt) (λ told. subst (λ (e : TakeEnd). IsLeftOf e left after) is (behind told)))
 
 -- ---- opening

@@ -1,5 +1,5 @@
 -- One part of a run behind another.
-use Rattle.std.proofs.Common.{◌≡◌, inl, inr, ⊎_elim, ℕ, ◌+◌, Bool, false, List, [], ◌∷◌, ◌++◌, length, take, Option, Some, None, refl, ap, ◌∙◌, sym, subst, arith, append_assoc, length-append}
+use Rattle.std.proofs.Common.{◌≡◌, inl, inr, ⊎_elim, ℕ, ◌+◌, Bool, false, IsTrue, List, [], ◌∷◌, ◌++◌, length, take, Option, Some, None, refl, ap, ◌∙◌, sym, subst, arith, append_assoc, length-append}
 use Rattle.std.proofs.lemmas.List.{append-nil}
 use Rattle.std.proofs.Math.Seq.{take-append-add}
 use Rattle.relay_disk.specs.Disk.{View, IsDisk}
@@ -27,20 +27,24 @@ use Rattle.relay_store.proofs.Asks.{all_joined, nothing_here, nothing_in_vain}
 use Rattle.relay_store.proofs.Images.{kept_log}
 use Rattle.relay_store.proofs.Runs.{rows_joined, sent_joined}
 use Rattle.take_run.specs.Crashes.{HadRoom, IsSoFar, Leaves}
-use Rattle.take_run.specs.Ends.{StopsAsking, fault_in}
+use Rattle.take_run.specs.Ends.{StopsAsking, StopsBefore, StopsShort, fault_in}
 use Rattle.take_run.specs.Stops.{IsReported}
 use Rattle.take_run.specs.Going.{Going, Keeping, Point, Stopped}
 use Rattle.take_run.specs.Tells.{Tells}
-use Rattle.take_run.specs.Said.{IsNoted, Said, said, said_to, text_of}
+use Rattle.take_run.specs.Said.{IsNoted, Said, said, said_to, text_for, text_of}
 use Rattle.take_run.specs.declared.end.TakeEnd.{TakeEnd}
 use Rattle.take_run.proofs.Answers.{noted_more, noted_none, text_joined}
 use Rattle.take_run.proofs.Ended.{SameEnded, ends_alike, steps_same}
+use Rattle.take_run.proofs.Telling.{are_told_on, none_failed, none_failed_on}
 
 -- ---- lists
 
 pub said_joined : (steps others : List Step) → said (steps ++ others) ≡ said steps ++ said others
 said_joined [] others = refl
 said_joined (s ∷ steps) others = ap (λ (l : List Said). said_to s ∷ l) (said_joined steps others)
+
+text_for_joined : (steps others : List Step) → text_for (steps ++ others) ≡ text_for steps ++ text_for others
+text_for_joined steps others = ap text_of (said_joined steps others) ∙ text_joined (said steps) (said others)
 
 -- journals with the rows of steps
 pub journal_joined : (J : List Row) (steps others : List Step) → (J ++ rows steps) ++ rows others ≡ J ++ rows (steps ++ others)
@@ -95,6 +99,7 @@ nothing_taken view t J a is_disk of =
       noted = noted_none a.tally;
       written = λ told. sym (append-nil a.written);
       asked = nothing_here t.clock t.repos a.around;
+      steady = none_failed a.failures a.around.panel;
     }
 
 pub nothing_taken_steps : {D : Type 0} (view : D → View) (t : Tells) (J : List Row) (a : Point D) (is_disk : IsDisk (view a.disk)) (of : IsOf J a.store.core) → (nothing_taken view t J a is_disk of).steps ≡ []
@@ -155,6 +160,7 @@ module _ {D : Type 0} (view : D → View) (t : Tells) (J : List Row) (messages :
             ∙ append_assoc a.written (text_of (said xs)) (text_of (said ys))
             ∙ ap (λ (l : List ℕ). a.written ++ l) (sym (text_joined (said xs) (said ys)) ∙ ap text_of (sym (said_joined xs ys)));
         asked = all_joined t.clock t.repos J a.around b.around c.around xs ys one.asked two.asked;
+        steady = none_failed_on a.failures b.failures c.failures a.around.panel b.around.panel c.around.panel one.steady two.steady;
       }
 
   pub going_more_steps : (others : List Message) (c : Point D) (two : Going view t (J ++ rows one.steps) others b c) → (going_more others c two).steps ≡ one.steps ++ two.steps
@@ -189,6 +195,28 @@ report_behind TakeEnd.WriteFault old mid now t u is h = front_behind old mid now
 report_behind TakeEnd.Memory old mid now t u is h = front_behind old mid now t u is h
 report_behind end old mid now t u is h = h ∙ ap (λ (l : List ℕ). l ++ u) is ∙ append_assoc old t u
 
+-- what stopped short stops short behind other steps
+short_behind : (tells : Bool) (end : TakeEnd) (xs ys : List Step) (under : List Row) (old mid now : List ℕ) → (IsTrue tells → mid ≡ old ++ text_for xs) → StopsShort text_for tells end ys under mid now → StopsShort text_for tells end (xs ++ ys) under old now
+short_behind tells TakeEnd.WriteFault xs ys under old mid now so_far short = λ told.
+    subst (λ (l : List ℕ). AddsFront old now l) (sym (text_for_joined xs ys)) (front_behind old mid now (text_for xs) (text_for ys) (so_far told) (short told))
+short_behind tells TakeEnd.Memory xs ys under old mid now so_far short = λ told.
+    let lack = short told in (
+      xs ++ lack.0,
+      lack.1,
+      ap (λ (l : List Step). xs ++ l) lack.2 ∙ sym (append_assoc xs lack.0 lack.1),
+      lack.3,
+      lack.4 ∙ ap (λ (l : List ℕ). l ++ text_for lack.0) (so_far told) ∙ append_assoc old (text_for xs) (text_for lack.0) ∙ ap (λ (l : List ℕ). old ++ l) (sym (text_for_joined xs lack.0)),
+    )
+short_behind tells (TakeEnd.Store StoreFault.Disk) xs ys under old mid now so_far short = short
+short_behind tells end xs ys under old mid now so_far short = absurd short
+
+pub before_more : (end : TakeEnd) (one two : Type 0) (extra : List Step) (behind : List Message) → (one → two) → StopsBefore end one extra behind → StopsBefore end two extra behind
+before_more TakeEnd.WriteFault one two extra behind more before = more before
+before_more TakeEnd.Memory one two extra behind more (inl short) = inl (more short)
+before_more TakeEnd.Memory one two extra behind more (inr left) = inr left
+before_more (TakeEnd.Store fault) one two extra behind more before = tt
+before_more end one two extra behind more before = absurd before
+
 module _ {D : Type 0} (view : D → View) (t : Tells) (J : List Row) (messages others : List Message) (a b : Point D) (one : Going view t J messages a b) where
   pub going_stops : (c : Point D) (end : TakeEnd) → Stopped view t (J ++ rows one.steps) others b c end → Stopped view t J (messages ++ others) a c end
   going_stops c end two =
@@ -196,6 +224,8 @@ module _ {D : Type 0} (view : D → View) (t : Tells) (J : List Row) (messages o
       let ys = two.steps in
       let more = two.under ++ two.extra in
       let all : (xs ++ ys) ++ more ≡ xs ++ (ys ++ more) = append_assoc xs ys more in
+      let short : StopsShort text_for t.output end ys (rows two.under) b.written c.written → StopsShort text_for t.output end (xs ++ ys) (rows two.under) a.written c.written = λ h.
+      short_behind t.output end xs ys (rows two.under) a.written b.written c.written one.written h in
       record {
         steps = xs ++ ys;
         under = two.under;
@@ -224,6 +254,8 @@ module _ {D : Type 0} (view : D → View) (t : Tells) (J : List Row) (messages o
         asked = subst (λ (l : List Step). AllAsked t.clock t.repos J a.around l two.mid) (sym all) (all_joined t.clock t.repos J a.around b.around two.mid xs (ys ++ more) one.asked two.asked);
         stops = two.stops;
         next = two.next;
+        told = λ not. are_told_on end a.failures b.failures c.failures a.around.panel b.around.panel c.around.panel one.steady (two.told (λ h. not (short h)));
+        before = before_more end _ _ two.extra two.behind short two.before;
       }
 
   pub going_stops_steps : (c : Point D) (end : TakeEnd) (two : Stopped view t (J ++ rows one.steps) others b c end) → (going_stops c end two).steps ++ ((going_stops c end two).under ++ (going_stops c end two).extra) ≡ (one.steps ++ two.steps) ++ (two.under ++ two.extra)
@@ -265,6 +297,18 @@ next_longer C R core (m ∷ xs) ys old new (Some StoreFault.SeqEnd) next = next
 next_longer C R core (m ∷ xs) ys old new (Some StoreFault.Authority) next = next
 next_longer C R core (m ∷ xs) ys old new fault next = tt
 
+none_in_front : (xs ys : List Message) → xs ++ ys ≡ [] → xs ≡ []
+none_in_front [] ys is = refl
+none_in_front (m ∷ xs) ys is = let no : ⊥ = cc in absurd no
+
+before_longer : (end : TakeEnd) (short : Type 0) (extra : List Step) (xs ys : List Message) → StopsBefore end short extra xs → StopsBefore end short extra (xs ++ ys)
+before_longer TakeEnd.WriteFault short extra xs ys before = before
+before_longer TakeEnd.Memory short extra xs ys (inl is) = inl is
+before_longer TakeEnd.Memory short extra xs ys (inr (inl some)) = inr (inl some)
+before_longer TakeEnd.Memory short extra xs ys (inr (inr some)) = inr (inr (λ none. some (none_in_front xs ys none)))
+before_longer (TakeEnd.Store fault) short extra xs ys before = tt
+before_longer end short extra xs ys before = absurd before
+
 pub stops_longer : {D : Type 0} (view : D → View) (t : Tells) (J : List Row) (xs ys whole : List Message) (a c : Point D) (end : TakeEnd) → whole ≡ xs ++ ys → Stopped view t J xs a c end → Stopped view t J whole a c end
 stops_longer view t J xs ys whole a c end is h = record {
   steps = h.steps;
@@ -288,4 +332,6 @@ stops_longer view t J xs ys whole a c end is h = record {
   asked = h.asked;
   stops = stops_asking_longer t.clock t.repos end h.extra h.mid c.around h.behind ys h.stops;
   next = next_longer t.clock t.repos c.store.core h.behind ys h.mid c.around (fault_in end) h.next;
+  told = h.told;
+  before = before_longer end _ h.extra h.behind ys h.before;
 }

@@ -1,13 +1,12 @@
 -- The messages in front of a group whose hosts haven't ended, as hosts end.
-use Rattle.std.proofs.Common.{◌≡◌, ◌≤◌, ◌<◌, ℕ, ◌+◌, ◌-◌, ◌||◌, Bool, true, false, List, [], ◌∷◌, ◌++◌, length, take, drop, get_or, zero, suc, Some, None, Option, refl, ap, ◌∙◌, sym, subst, arith, length-append, length-drop}
+use Rattle.std.proofs.Common.{◌≡◌, ◌≤◌, ◌<◌, ℕ, ◌+◌, ◌-◌, ◌||◌, Bool, true, false, List, [], ◌∷◌, ◌++◌, length, take, drop, get_or, zero, suc, Some, None, refl, ap, ◌∙◌, sym, subst, arith, length-append, length-drop}
 use Rattle.std.specs.Prelude.{if◌then◌else◌}
 use Rattle.std.proofs.lemmas.List.{take-append-drop, take-append-le, take-take, take_more, drop-drop}
 use Rattle.std.proofs.Math.Seq.{take-length}
 use Rattle.relay_core.specs.Runs.{has_ended}
 use Rattle.relay_store.specs.Batches.{is_end}
 use Rattle.relay_store.specs.declared.message.Message.{Message}
-use Rattle.relay_store.specs.declared.outcome.Outcome.{Outcome}
-use Rattle.take_run.specs.Said.{Said, AreLive, FirstHasEnded, ended_in, ended_said}
+use Rattle.take_run.specs.Said.{Said, AreLive, FirstHasEnded, ended_in}
 use Rattle.take_run.proofs.Names.{ended_parts}
 
 -- one more

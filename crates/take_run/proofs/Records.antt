@@ -1,15 +1,15 @@
 -- Messages as records of a tape, and groups of them.
 use Rattle.std.proofs.Common.{◌≡◌, ◌≢◌, ◌≤◌, ℕ, ◌+◌, List, [], ◌∷◌, ◌++◌, length, inl, inr, refl, sym, ap, subst, ◌∙◌, arith, append_assoc, length-append}
-use Rattle.std.specs.Prelude.{Err, ◌&&◌}
+use Rattle.std.specs.Prelude.{Ok, None, Err, ◌&&◌}
 use Rattle.std.specs.List.{list_all}
-use Rattle.std.proofs.lemmas.List.{append-nil}
+use Rattle.std.proofs.lemmas.List.{append-nil, length-take, length-drop}
 use Rattle.at_cid.specs.Counts.{Rose}
 use Rattle.at_syntax.specs.Host.{is_host}
 use Rattle.relay_store.specs.Taking.{AreOfHosts}
 use Rattle.relay_store.specs.declared.message.Message.{Message}
 use Rattle.tape.specs.Format.{record_bytes}
-use Rattle.tape.specs.Reading.{coming, held, IsNext, IsPlaced}
-use Rattle.tape.specs.Shown.{Shows, bad_name, too_long}
+use Rattle.tape.specs.Reading.{coming, held, taken, IsNext, IsPlaced}
+use Rattle.tape.specs.Shown.{Shows, cut}
 use Rattle.tape.specs.declared.fault.TapeFault.{TapeFault}
 use Rattle.tape.specs.declared.tape.Tape.{Tape}
 use Rattle.tape.proofs.Lawful.{more_bad, more_long}
@@ -52,17 +52,39 @@ read_one old before xs m mid rest read is =
 pub place_one : (xs : List Message) (m : Message) → length (encoded_records (xs ++ m ∷ [])) ≡ length (encoded_records xs) + length (record_bytes m.host m.bytes)
 place_one xs m = ap length (encoded_one xs m) ∙ length-append (encoded_records xs) (record_bytes m.host m.bytes)
 
+-- behind a group what was to come is to come still
+read_still : (old tape new : Tape) (before left after : List ℕ) (xs : List Message) → AreRead old before xs (coming tape left) → coming new after ≡ coming tape left → AreRead old before xs (coming new after)
+read_still old tape new before left after xs read stays = read ∙ ap (λ (l : List ℕ). encoded_records xs ++ l) (sym stays)
+
 -- a fault behind a group
 pub read_fault : (old tape new : Tape) (before left after : List ℕ) (xs : List Message) (fault : TapeFault) → AreRead old before xs (coming tape left) → IsNext tape left new after (Err fault) → IsPlaced tape.place new.place (Err fault)
     → IsGroup old before new after xs (Rest.Fault fault)
-read_fault old tape new before left after xs (TapeFault.Torn place) read next placed = (coming tape left, read, inr (inr next.0), placed.0 ∙ sym placed.1)
-read_fault old tape new before left after xs (TapeFault.BadName place) read next placed =
-    (coming tape left, read, inl (subst (λ (l : List ℕ). Shows l bad_name) next.1 (more_bad (held new) after next.0)), placed.0 ∙ sym placed.1)
-read_fault old tape new before left after xs (TapeFault.TooLong place) read next placed =
-    (coming tape left, read, inr (inl (subst (λ (l : List ℕ). Shows l too_long) next.1 (more_long (held new) after next.0))), placed.0 ∙ sym placed.1)
-read_fault old tape new before left after xs TapeFault.Failed read next placed = (read ∙ ap (λ (l : List ℕ). encoded_records xs ++ l) (sym next.1), next.0)
-read_fault old tape new before left after xs TapeFault.Budget read next placed = (read ∙ ap (λ (l : List ℕ). encoded_records xs ++ l) (sym next.2), next.0, next.1)
-read_fault old tape new before left after xs TapeFault.Memory read next placed = (coming tape left, read)
+read_fault old tape new before left after xs (TapeFault.Torn place) read next placed = record {
+  read = read_still old tape new before left after xs read next.1.0;
+  follows = (inr (inr (subst (λ (l : List ℕ). Shows l cut) (sym next.1.0) next.0)), placed.0 ∙ sym placed.1);
+}
+read_fault old tape new before left after xs (TapeFault.BadName place) read next placed = record {
+  read = read_still old tape new before left after xs read next.1;
+  follows = (inl (more_bad (held new) after next.0), placed.0 ∙ sym placed.1);
+}
+read_fault old tape new before left after xs (TapeFault.TooLong place) read next placed = record {
+  read = read_still old tape new before left after xs read next.1;
+  follows = (inr (inl (more_long (held new) after next.0)), placed.0 ∙ sym placed.1);
+}
+read_fault old tape new before left after xs TapeFault.Failed read next placed = record { read = read_still old tape new before left after xs read next.1; follows = next.0 }
+read_fault old tape new before left after xs TapeFault.Budget read next placed = record { read = read_still old tape new before left after xs read next.2; follows = (next.0, next.1) }
+read_fault old tape new before left after xs TapeFault.Memory read next placed = record { read = read_still old tape new before left after xs read next; follows = tt }
+
+-- the end of the tape behind a group
+pub read_none : (old tape new : Tape) (before left after : List ℕ) (xs : List Message) → AreRead old before xs (coming tape left) → IsNext tape left new after (Ok None) → IsGroup old before new after xs Rest.Nothing
+read_none old tape new before left after xs read next = record {
+  read = read_still old tape new before left after xs read next.1.0;
+  follows = (sym (append-nil (held new)) ∙ ap (λ (l : List ℕ). held new ++ l) (sym next.1.1) ∙ next.1.0 ∙ next.0, next.1.1, next.1.2);
+}
+
+-- no more was taken than may be
+pub taken_within : (tape : Tape) → taken tape ≤ tape.most
+taken_within tape = omega (arith, tape.within, length-take {A = ℕ}, length-drop {A = ℕ})
 
 -- how many bytes they have, with one more
 pub bytes_one : (xs : List Message) (m : Message) → bytes_together (xs ++ m ∷ []) ≡ bytes_together xs + length m.bytes

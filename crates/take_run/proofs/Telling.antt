@@ -5,7 +5,7 @@ use Rattle.relay_step.specs.Causes.{SpendsNone}
 use Rattle.relay_store.specs.declared.fault.StoreFault.{StoreFault}
 use Rattle.relay_store.specs.declared.outcome.Outcome.{Outcome}
 use Rattle.tape.specs.declared.fault.TapeFault.{TapeFault}
-use Rattle.take_run.specs.Causes.{EndsByTape, HidesNone, Told, Unmoved, faults}
+use Rattle.take_run.specs.Causes.{AreTold, EndsByTape, Failures, HidesNone, NoneFailed, Told, Unmoved, failures, faults}
 use Rattle.take_run.specs.Ends.{end_of_store, end_of_tape}
 use Rattle.take_run.specs.Groups.{ReadFailed}
 use Rattle.take_run.specs.Stops.{IsStop, IsUnwritten}
@@ -62,6 +62,40 @@ fault_told TapeFault.Memory before now read by = read
 pub read_told : (rest : Rest) (fault : TapeFault) (before now : ℕ) → rest ≡ Rest.Fault fault → ReadFailed rest before now → (end : TakeEnd) → end ≡ end_of_tape fault → EndsByTape end → now ≡ before
 read_told rest fault before now is read end end_is by =
     fault_told fault before now (subst (λ (r : Rest). ReadFailed r before now) is read) (subst (λ (e : TakeEnd). EndsByTape e) end_is by)
+
+fault_steady : (fault : TapeFault) (before now : ℕ) → ReadFailed (Rest.Fault fault) before now → end_of_tape fault ≢ TakeEnd.ReadFault → now ≡ before
+fault_steady (TapeFault.Torn place) before now read not = read
+fault_steady (TapeFault.BadName place) before now read not = read
+fault_steady (TapeFault.TooLong place) before now read not = read
+fault_steady TapeFault.Failed before now read not = absurd (not refl)
+fault_steady TapeFault.Budget before now read not = read
+fault_steady TapeFault.Memory before now read not = read
+
+pub read_steady : (rest : Rest) (fault : TapeFault) (before now : ℕ) → rest ≡ Rest.Fault fault → ReadFailed rest before now → (end : TakeEnd) → end ≡ end_of_tape fault → end ≢ TakeEnd.ReadFault → now ≡ before
+read_steady rest fault before now is read end end_is not =
+    fault_steady fault before now (subst (λ (r : Rest). ReadFailed r before now) is read) (λ other. not (end_is ∙ other))
+
+-- ---- what the end speaks of
+
+pub none_failed : (fs : Failures) (p : Panel) → NoneFailed fs fs p p
+none_failed fs p = record { repos = refl; clock = refl; unspent = λ name spent. spent }
+
+pub none_failed_on : (fs mid now : Failures) (p p_mid p_now : Panel) → NoneFailed fs mid p p_mid → NoneFailed mid now p_mid p_now → NoneFailed fs now p p_now
+none_failed_on fs mid now p p_mid p_now one two = record {
+  repos = two.repos ∙ one.repos;
+  clock = two.clock ∙ one.clock;
+  unspent = λ name spent. one.unspent name (two.unspent name spent);
+}
+
+pub none_told : (end : TakeEnd) (fs now : Failures) (p p_now : Panel) → NoneFailed fs now p p_now → AreTold end fs now p p_now
+none_told end fs now p p_now none = record { repos = λ not. none.repos; clock = λ not. none.clock; unspent = λ not. none.unspent }
+
+pub are_told_on : (end : TakeEnd) (fs mid now : Failures) (p p_mid p_now : Panel) → NoneFailed fs mid p p_mid → AreTold end mid now p_mid p_now → AreTold end fs now p p_now
+are_told_on end fs mid now p p_mid p_now one told = record {
+  repos = λ not. told.repos not ∙ one.repos;
+  clock = λ not. told.clock not ∙ one.clock;
+  unspent = λ not name spent. one.unspent name (told.unspent not name spent);
+}
 
 -- ---- nothing was done
 
@@ -141,4 +175,24 @@ module _ (fault : Option StoreFault) (d d_now r r_now c c_now o o_now : ℕ) (p 
         repos = λ none not. repos_steady (not_disk none) (λ other. not (at StoreFault.Repos other));
         clock = λ none not. clock_steady (not_disk none) (λ other. not (at StoreFault.Clock other));
         unspent = λ none not. unspent (not_disk none) (λ other. not (at StoreFault.Authority other));
+      }
+
+-- the same, of what was asked alone
+module _ (fault : Option StoreFault) (r r_now c c_now : ℕ) (p p_now : Panel) (clock_steady : fault ≢ Some StoreFault.Disk → fault ≢ Some StoreFault.Clock → c_now ≡ c)
+    (repos_steady : fault ≢ Some StoreFault.Disk → fault ≢ Some StoreFault.Repos → r_now ≡ r) (unspent : fault ≢ Some StoreFault.Disk → fault ≢ Some StoreFault.Authority → SpendsNone p p_now) where
+  pub batch_none_failed : fault ≡ None → NoneFailed (failures r c 0) (failures r_now c_now 0) p p_now
+  batch_none_failed is = record {
+    repos = repos_steady (λ other. let no : ⊥ = cc in no) (λ other. let no : ⊥ = cc in no);
+    clock = clock_steady (λ other. let no : ⊥ = cc in no) (λ other. let no : ⊥ = cc in no);
+    unspent = unspent (λ other. let no : ⊥ = cc in no) (λ other. let no : ⊥ = cc in no);
+  }
+
+  pub batch_are_told : (f : StoreFault) → fault ≡ Some f → f ≢ StoreFault.Disk → AreTold (end_of_store f) (failures r c 0) (failures r_now c_now 0) p p_now
+  batch_are_told f is not_disk =
+      let at : (g : StoreFault) → fault ≡ Some g → end_of_store f ≡ end_of_store g = λ g other. let one : f ≡ g = cc in ap end_of_store one in
+      let disk : fault ≢ Some StoreFault.Disk = λ other. let one : f ≡ StoreFault.Disk = cc in not_disk one in
+      record {
+        repos = λ not. repos_steady disk (λ other. not (at StoreFault.Repos other));
+        clock = λ not. clock_steady disk (λ other. not (at StoreFault.Clock other));
+        unspent = λ not. unspent disk (λ other. not (at StoreFault.Authority other));
       }

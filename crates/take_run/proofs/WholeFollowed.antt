@@ -1,5 +1,5 @@
 -- What following a host did on two disks, from what it did on the one that is picked.
-use Rattle.std.proofs.Common.{◌≡◌, ◌≤◌, ◌⊎◌, inl, inr, ⊎_elim, ℕ, Bool, false, List, [], ◌++◌, Result, Ok, Err, IsTrue, refl, sym, subst, arith}
+use Rattle.std.proofs.Common.{◌≡◌, ℕ, Bool, false, List, [], ◌++◌, Result, Ok, Err, IsTrue, sym, subst}
 use Rattle.relay_disk.specs.Disk.{View, IsDisk}
 use Rattle.gate_log.specs.Pick.{other_side}
 use Rattle.gate_log.specs.declared.picking.Side.{Side}
@@ -16,6 +16,7 @@ use Rattle.relay_store.specs.Store.{seen_in}
 use Rattle.relay_store.specs.declared.message.Message.{Message}
 use Rattle.relay_store.specs.declared.store.Store.{Store}
 use Rattle.relay_store.specs.Pairs.{of_pair}
+use Rattle.take_run.specs.Causes.{Failures}
 use Rattle.take_run.specs.Ends.{AreExtraAt}
 use Rattle.take_run.specs.Feeds.{IsFeedEnd, IsOnFeed, TakenOfFeed}
 use Rattle.take_run.specs.Taken.{scene}
@@ -47,13 +48,13 @@ on_two P side is a b c d holds = subst (λ (s : Side). P (of_pair s a b) (of_pai
 
 module _ {D : Type 0} (view : D → View) (is_disk : (x : D) → IsDisk (view x)) (a b c d : D) (t : Tells) (told : IsTrue t.disk) (s : Store) (opened : Opened t.disk (view a) (view b) (view c) (view d) (Ok s))
     (J : List Row) (image : IsPairImageOf J (view a).content (view b).content) (e f : D) (u : Store) (beside : of_pair (other_side s.side) e f ≡ of_pair (other_side s.side) c d) (feed_tells : Bool) (host : List ℕ) (most count : ℕ) (most_is : s.log.most ≡ most)
-    (given : ℕ → List (List ℕ)) (left : List (List ℕ)) (old new : Around) (written written_now : List ℕ) (end : TakeEnd)
-    (taken : TakenOfFeed view t feed_tells host count (given (cursor host J)) left J (scene (seen_in s) (of_pair s.side c d) old [] written) (scene (seen_in u) (of_pair s.side e f) new [] written_now) end) where
-  pub followed_on : Followed t feed_tells host most count given left J (pair_scene (view a) (view b) old [] written) (pair_scene (view e) (view f) new [] written_now) end
+    (given : ℕ → List (List ℕ)) (left : List (List ℕ)) (old : Around) (failed : Failures) (new : Around) (failed_now : Failures) (written written_now : List ℕ) (end : TakeEnd)
+    (taken : TakenOfFeed view t feed_tells host count (given (cursor host J)) left J (scene (seen_in s) (of_pair s.side c d) old failed [] written) (scene (seen_in u) (of_pair s.side e f) new failed_now [] written_now) end) where
+  pub followed_on : Followed t feed_tells host most count given left J (pair_scene (view a) (view b) old failed [] written) (pair_scene (view e) (view f) new failed_now [] written_now) end
   followed_on =
-      followed t feed_tells host most count given left J (pair_scene (view a) (view b) old [] written) (pair_scene (view e) (view f) new [] written_now) end
-      (ingested view is_disk a b c d t told s opened J image e f u beside false most 0 most_is old new [] [] written written_now end taken.taken) _ _
-      (ingested_takes view is_disk a b c d t told s opened J image e f u beside false most 0 most_is old new [] [] written written_now end taken.taken)
+      followed t feed_tells host most count given left J (pair_scene (view a) (view b) old failed [] written) (pair_scene (view e) (view f) new failed_now [] written_now) end
+      (ingested view is_disk a b c d t told s opened J image e f u beside false most 0 most_is old failed new failed_now [] [] written written_now end taken.taken) _ _
+      (ingested_takes view is_disk a b c d t told s opened J image e f u beside false most 0 most_is old failed new failed_now [] [] written written_now end taken.taken)
       taken.feed
 
 -- ---- what ends it

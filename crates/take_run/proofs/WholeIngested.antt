@@ -19,6 +19,7 @@ use Rattle.relay_store.specs.declared.store.Store.{Store}
 use Rattle.relay_store.proofs.OnDisk.{pair_has_no_room, pair_has_room}
 use Rattle.relay_store.specs.Pairs.{IsOneOfPair, StandsFor, of_pair}
 use Rattle.relay_store.proofs.Beside.{ComesBeside, image_of_side, leaves_on, leaves_stand, log_front, opened_keeps, opened_leaves, run_on, stands_on, view_now, view_on}
+use Rattle.take_run.specs.Causes.{Failures}
 use Rattle.take_run.specs.Crashes.{IsOnTheWay, Leaves}
 use Rattle.take_run.specs.Ends.{FullOnly, disk_failed, end_of_store}
 use Rattle.take_run.specs.Tells.{Tells}
@@ -28,15 +29,16 @@ use Rattle.take_run.specs.Ingested.{Ingested, IsPairOnTheWay, Unopened, pair_sce
 use Rattle.take_run.proofs.NextMessage.{next_end}
 
 -- they weren't opened
-pub unopened : (tells : Bool) (one two one_now two_now : View) (fault : StoreFault) (J : List Row) (around : Around) (left written : List ℕ) (end : TakeEnd) → IsDisk one_now → IsDisk two_now
-    → Opened tells one two one_now two_now (Err fault) → IsTrue tells → IsOfReading fault → end ≡ end_of_store fault → Unopened J (pair_scene one two around left written) (pair_scene one_now two_now around left written) end
-unopened tells one two one_now two_now fault J around left written end first second opened told of is =
+pub unopened : (tells : Bool) (one two one_now two_now : View) (fault : StoreFault) (J : List Row) (around : Around) (failed : Failures) (left written : List ℕ) (end : TakeEnd) → IsDisk one_now → IsDisk two_now
+    → Opened tells one two one_now two_now (Err fault) → IsTrue tells → IsOfReading fault → end ≡ end_of_store fault → Unopened J (pair_scene one two around failed left written) (pair_scene one_now two_now around failed left written) end
+unopened tells one two one_now two_now fault J around failed left written end first second opened told of is =
     let leaves : StandsFor J one two → PairLeavesOnly (IsPairImageOf J) one one_now two two_now = opened_leaves tells one two one_now two_now (Err fault) opened told J in
     record {
       fault = fault;
       is = is;
       of_reading = of;
       around = refl;
+      failures = refl;
       left = refl;
       written = refl;
       stands = λ stands. leaves_stand J one two one_now two_now first second (leaves stands);
@@ -79,8 +81,8 @@ module _ {D : Type 0} (view : D → View) (is_disk : (x : D) → IsDisk (view x)
   pub opened_of : IsOf J (seen_in s).core
   opened_of = record { holds = keeps.core; journal = keeps.are.journal }
 
-  module _ (e f : D) (u : Store) (beside : of_pair (other_side s.side) e f ≡ of_pair (other_side s.side) c d) (input_tells : Bool) (most limit : ℕ) (most_is : s.log.most ≡ most) (old new : Around) (left left_now written written_now : List ℕ) (end : TakeEnd)
-      (taken : Taken view t input_tells limit J (scene (seen_in s) (of_pair s.side c d) old left written) (scene (seen_in u) (of_pair s.side e f) new left_now written_now) end) where
+  module _ (e f : D) (u : Store) (beside : of_pair (other_side s.side) e f ≡ of_pair (other_side s.side) c d) (input_tells : Bool) (most limit : ℕ) (most_is : s.log.most ≡ most) (old : Around) (failed : Failures) (new : Around) (failed_now : Failures) (left left_now written written_now : List ℕ) (end : TakeEnd)
+      (taken : Taken view t input_tells limit J (scene (seen_in s) (of_pair s.side c d) old failed left written) (scene (seen_in u) (of_pair s.side e f) new failed_now left_now written_now) end) where
     leaves : Leaves J (rows taken.steps) (rows taken.under) (seen_in s) (view (of_pair s.side c d)) (seen_in u) (view (of_pair s.side e f)) end
     leaves = taken.on_disk told (subst (Keeps J (seen_in s)) (view_on view is_disk a b c d e f s.side) keeps)
 
@@ -96,7 +98,7 @@ module _ {D : Type 0} (view : D → View) (is_disk : (x : D) → IsDisk (view x)
     keeps_now : end ≢ disk_failed → Keeps (J ++ rows taken.steps) (seen_in u) (view_of_side s.side (view e) (view f))
     keeps_now not = subst (Keeps (J ++ rows taken.steps) (seen_in u)) (sym (view_now view is_disk a b c d e f s.side)) (leaves.keeps not)
 
-    pub ingested : Ingested t input_tells most limit J (pair_scene (view a) (view b) old left written) (pair_scene (view e) (view f) new left_now written_now) end
+    pub ingested : Ingested t input_tells most limit J (pair_scene (view a) (view b) old failed left written) (pair_scene (view e) (view f) new failed_now left_now written_now) end
     ingested = record {
       steps = taken.steps;
       under = taken.under;
@@ -125,6 +127,8 @@ module _ {D : Type 0} (view : D → View) (is_disk : (x : D) → IsDisk (view x)
       asked = taken.asked;
       stops = taken.stops;
       next = next_end t (J ++ rows taken.steps) (seen_in u).core taken.behind taken.mid new end taken.known taken.next;
+      told = taken.told;
+      read_told = taken.read_told;
       sound = taken.sound;
       faithful = taken.faithful;
       covered = taken.covered;

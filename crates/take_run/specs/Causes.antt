@@ -16,7 +16,35 @@ pub record Faults : Type 0 where
 
 -- the counts, by name
 abbrev pub faults : ℕ → ℕ → ℕ → ℕ → ℕ → Faults
-faults disk repos clock input output = record { disk = disk; repos = repos; clock = clock; input = input; output = output }
+faults disk repos clock input output = record {
+  disk = disk;
+  repos = repos;
+  clock = clock;
+  input = input;
+  output = output;
+}
+
+-- how often the repositories, the clock and the input have failed
+pub record Failures : Type 0 where
+  pub repos : ℕ
+  pub clock : ℕ
+  pub input : ℕ
+
+-- the same, by name
+abbrev pub failures : ℕ → ℕ → ℕ → Failures
+failures repos clock input = record { repos = repos; clock = clock; input = input }
+
+-- no repositories and no clock failed, and no authorities ended
+pub record NoneFailed (old new : Failures) (panel panel_now : Panel) : Type 0 where
+  pub repos : new.repos ≡ old.repos
+  pub clock : new.clock ≡ old.clock
+  pub unspent : SpendsNone panel panel_now
+
+-- but those of which the end speaks
+pub record AreTold (end : TakeEnd) (old new : Failures) (panel panel_now : Panel) : Type 0 where
+  pub repos : end ≢ TakeEnd.Store StoreFault.Repos → new.repos ≡ old.repos
+  pub clock : end ≢ TakeEnd.Store StoreFault.Clock → new.clock ≡ old.clock
+  pub unspent : end ≢ TakeEnd.Store StoreFault.Authority → SpendsNone panel panel_now
 
 -- no count fell
 pub record Kept (old new : Faults) : Type 0 where

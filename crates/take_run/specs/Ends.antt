@@ -1,5 +1,5 @@
 -- How taking a tape ends, and what each end leaves (own).
-use Rattle.std.specs.Prelude.{◌≡◌, ◌≤◌, ℕ, Bool, List, [], ◌∷◌, ◌++◌, length, Option, Some, None}
+use Rattle.std.specs.Prelude.{◌≡◌, ◌≢◌, ◌⊎◌, ◌≤◌, ℕ, Bool, List, [], ◌∷◌, ◌++◌, length, Option, Some, None, IsTrue}
 use Rattle.relay_io.specs.Streams.{AddsFront}
 use Rattle.relay_row.specs.declared.row.Row.{Row}
 use Rattle.relay_step.specs.Around.{Around, AskedNothing}
@@ -76,3 +76,25 @@ IsReportWritten TakeEnd.Done lines last old new = new ≡ old ++ (lines ++ last)
 IsReportWritten TakeEnd.WriteFault lines last old new = AddsFront old new (lines ++ last)
 IsReportWritten TakeEnd.Memory lines last old new = AddsFront old new (lines ++ last)
 IsReportWritten end lines last old new = new ≡ old ++ lines
+
+-- only the lines of the first of the steps were written, and not of all
+abbrev pub LackLines : (List Step → List ℕ) → List Step → List ℕ → List ℕ → Type 0
+LackLines lines steps old new = (front : List Step) × (others : List Step)
+    × (steps ≡ front ++ others) × (others ≢ []) × (new ≡ old ++ lines front)
+
+-- It ended before the steps were done with: the output failed at their lines, memory ran out before all lines were written, or the disk failed before rows were durable.
+abbrev pub StopsShort : (List Step → List ℕ) → Bool → TakeEnd → List Step → List Row → List ℕ
+    → List ℕ → Type 0
+StopsShort lines output_tells TakeEnd.WriteFault steps under old new = IsTrue output_tells
+    → AddsFront old new (lines steps)
+StopsShort lines output_tells TakeEnd.Memory steps under old new = IsTrue output_tells
+    → LackLines lines steps old new
+StopsShort lines output_tells (TakeEnd.Store StoreFault.Disk) steps under old new = under ≢ []
+StopsShort lines output_tells end steps under old new = ⊥
+
+-- Or before the messages that were read were done with: one is left over, or a fault of the store ended it.
+abbrev pub StopsBefore : TakeEnd → Type 0 → List Step → List Message → Type 0
+StopsBefore TakeEnd.WriteFault short extra behind = short
+StopsBefore TakeEnd.Memory short extra behind = short ⊎ ((extra ≢ []) ⊎ (behind ≢ []))
+StopsBefore (TakeEnd.Store fault) short extra behind = Unit {0}
+StopsBefore end short extra behind = ⊥

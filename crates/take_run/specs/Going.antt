@@ -14,9 +14,10 @@ use Rattle.relay_store.specs.Batches.{EndsNext, messages_sent}
 use Rattle.relay_store.specs.PendingBodies.{IsFull}
 use Rattle.relay_store.specs.Store.{StoreState, Keeps}
 use Rattle.relay_store.specs.declared.message.Message.{Message}
+use Rattle.take_run.specs.Causes.{AreTold, Failures, NoneFailed}
 use Rattle.take_run.specs.Crashes.{HadRoom, IsSoFar, Leaves}
-use Rattle.take_run.specs.Ends.{AreExtraAt, AreUnder, FullOnly, StopsAsking, disk_failed, fault_in}
-use Rattle.take_run.specs.Said.{IsNoted, said, text_of}
+use Rattle.take_run.specs.Ends.{AreExtraAt, AreUnder, FullOnly, StopsAsking, StopsBefore, StopsShort, disk_failed, fault_in}
+use Rattle.take_run.specs.Said.{IsNoted, said, text_for, text_of}
 use Rattle.take_run.specs.Stops.{IsReported, IsStop}
 use Rattle.take_run.specs.Tells.{Tells}
 use Rattle.take_run.specs.declared.end.TakeEnd.{TakeEnd}
@@ -28,11 +29,19 @@ pub record Point (D : Type 0) : Type 0 where
   pub tally : Tally
   pub disk : D
   pub around : Around
+  pub failures : Failures
   pub written : List ℕ
 
 -- the same, of its parts
-abbrev pub point : {D : Type 0} → StoreState → Tally → D → Around → List ℕ → Point D
-point store tally disk around written = record { store = store; tally = tally; disk = disk; around = around; written = written }
+abbrev pub point : {D : Type 0} → StoreState → Tally → D → Around → Failures → List ℕ → Point D
+point store tally disk around failures written = record {
+  store = store;
+  tally = tally;
+  disk = disk;
+  around = around;
+  failures = failures;
+  written = written;
+}
 
 -- The disk kept the journal J, and keeps it with these rows. A crash at any moment leaves some of them.
 pub record Keeping (J rows : List Row) (old : StoreState) (was : View) (new : StoreState)
@@ -57,6 +66,7 @@ pub record Going {D : Type 0} (view : D → View) (t : Tells) (J : List Row) (me
   pub noted : IsNoted (said steps) old.tally new.tally
   pub written : IsTrue t.output → new.written ≡ old.written ++ text_of (said steps)
   pub asked : AllAsked t.clock t.repos J old.around steps new.around
+  pub steady : NoneFailed old.failures new.failures old.around.panel new.around.panel
 
 -- A fault stopped it: some messages in front were taken.
 pub record Stopped {D : Type 0} (view : D → View) (t : Tells) (J : List Row)
@@ -84,3 +94,7 @@ pub record Stopped {D : Type 0} (view : D → View) (t : Tells) (J : List Row)
   pub asked : AllAsked t.clock t.repos J old.around (steps ++ (under ++ extra)) mid
   pub stops : StopsAsking t.clock t.repos end extra behind mid new.around
   pub next : EndsNext t.clock t.repos new.store.core behind mid new.around (fault_in end)
+  pub told : (StopsShort text_for t.output end steps (rows under) old.written new.written → ⊥)
+      → AreTold end old.failures new.failures old.around.panel new.around.panel
+  pub before : StopsBefore end
+      (StopsShort text_for t.output end steps (rows under) old.written new.written) extra behind

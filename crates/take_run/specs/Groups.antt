@@ -1,5 +1,5 @@
 -- Groups of records that are read (own). No public clause cites this file.
-use Rattle.std.specs.Prelude.{◌≡◌, ℕ, ◌+◌, List, [], ◌∷◌, ◌++◌, length}
+use Rattle.std.specs.Prelude.{◌≡◌, ◌<◌, ℕ, ◌+◌, List, [], ◌∷◌, ◌++◌, length}
 use Rattle.at_cid.specs.Counts.{Rose}
 use Rattle.relay_store.specs.declared.message.Message.{Message}
 use Rattle.tape.specs.Reading.{coming, held, taken}
@@ -13,22 +13,25 @@ use Rattle.take_run.specs.declared.group.Rest.{Rest}
 abbrev pub AreRead : Tape → List ℕ → List Message → List ℕ → Type 0
 AreRead old before group rest = coming old before ≡ encoded_records group ++ rest
 
--- what follows on a group
-abbrev pub IsGroup : Tape → List ℕ → Tape → List ℕ → List Message → Rest → Type 0
-IsGroup old before new after group Rest.More = AreRead old before group (coming new after)
-IsGroup old before new after group Rest.Nothing = AreRead old before group [] × (after ≡ [])
-IsGroup old before new after group (Rest.Fault (TapeFault.Torn place)) = (rest : List ℕ)
-    × AreRead old before group rest × ShowsFault rest × (place ≡ new.place)
-IsGroup old before new after group (Rest.Fault (TapeFault.BadName place)) = (rest : List ℕ)
-    × AreRead old before group rest × ShowsFault rest × (place ≡ new.place)
-IsGroup old before new after group (Rest.Fault (TapeFault.TooLong place)) = (rest : List ℕ)
-    × AreRead old before group rest × ShowsFault rest × (place ≡ new.place)
-IsGroup old before new after group (Rest.Fault TapeFault.Failed) =
-    AreRead old before group (held new ++ after) × NeedsMore (held new)
-IsGroup old before new after group (Rest.Fault TapeFault.Budget) =
-    AreRead old before group (held new ++ after) × NeedsMore (held new) × (taken new ≡ new.most)
-IsGroup old before new after group (Rest.Fault TapeFault.Memory) = (rest : List ℕ)
-    × AreRead old before group rest
+-- what follows on a group, where the reader is behind it and this is left of the source
+abbrev pub FollowsOn : Tape → List ℕ → Rest → Type 0
+FollowsOn new after Rest.More = Unit {0}
+FollowsOn new after Rest.Nothing = (held new ≡ []) × (after ≡ []) × (taken new < new.most)
+FollowsOn new after (Rest.Fault (TapeFault.Torn place)) = ShowsFault (coming new after)
+    × (place ≡ new.place)
+FollowsOn new after (Rest.Fault (TapeFault.BadName place)) = ShowsFault (coming new after)
+    × (place ≡ new.place)
+FollowsOn new after (Rest.Fault (TapeFault.TooLong place)) = ShowsFault (coming new after)
+    × (place ≡ new.place)
+FollowsOn new after (Rest.Fault TapeFault.Failed) = NeedsMore (held new)
+FollowsOn new after (Rest.Fault TapeFault.Budget) = NeedsMore (held new) × (taken new ≡ new.most)
+FollowsOn new after (Rest.Fault TapeFault.Memory) = Unit {0}
+
+-- A group of records was read, and this follows on it.
+pub record IsGroup (old : Tape) (before : List ℕ) (new : Tape) (after : List ℕ)
+    (group : List Message) (rest : Rest) : Type 0 where
+  pub read : AreRead old before group (coming new after)
+  pub follows : FollowsOn new after rest
 
 -- the count of faults rose where a read failed, and nowhere else
 abbrev pub ReadFailed : Rest → ℕ → ℕ → Type 0

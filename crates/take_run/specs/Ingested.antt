@@ -18,25 +18,34 @@ use Rattle.relay_store.specs.Opening.{IsOfReading}
 use Rattle.relay_store.specs.Room.{PairHasNoRoom, PairHasRoom}
 use Rattle.relay_store.specs.declared.fault.StoreFault.{StoreFault}
 use Rattle.relay_store.specs.declared.message.Message.{Message}
+use Rattle.take_run.specs.Causes.{AreTold, Failures}
 use Rattle.take_run.specs.Covered.{CoveredGetThrough}
 use Rattle.take_run.specs.Lines.{lines_of}
-use Rattle.take_run.specs.Ends.{AreExtraAt, AreTaken, AreUnder, FullOnly, IsReportWritten, StopsAsking, disk_failed, end_of_store}
+use Rattle.take_run.specs.Ends.{AreExtraAt, AreTaken, AreUnder, FullOnly, IsReportWritten, StopsAsking, StopsBefore, StopsShort, disk_failed, end_of_store}
 use Rattle.take_run.specs.Tells.{Tells}
 use Rattle.take_run.specs.Tapes.{AreRecords, IsOnTape}
 use Rattle.take_run.specs.declared.end.TakeEnd.{TakeEnd}
 use Rattle.relay_store.specs.Pairs.{IsOneOfPair, StandsFor}
 use Rattle.take_run.specs.NextMessage.{IsNextEnd}
 
--- The two disks, what the judges, the clock and the repositories tell, what is left of the input, and what is written, at one moment.
+-- The two disks, what the judges, the clock and the repositories tell, how often parts have failed, what is left of the input, and what is written, at one moment.
 pub record PairScene : Type 1 where
   pub one : View
   pub two : View
   pub around : Around
+  pub failures : Failures
   pub left : List ℕ
   pub written : List ℕ
 
-abbrev pub pair_scene : View → View → Around → List ℕ → List ℕ → PairScene
-pair_scene one two around left written = record { one = one; two = two; around = around; left = left; written = written }
+abbrev pub pair_scene : View → View → Around → Failures → List ℕ → List ℕ → PairScene
+pair_scene one two around failures left written = record {
+  one = one;
+  two = two;
+  around = around;
+  failures = failures;
+  left = left;
+  written = written;
+}
 
 -- An image of the journal J with some of these rows behind it, from the first on.
 pub record IsPairSoFar (J rows : List Row) (c d : List ℕ) : Type 0 where
@@ -49,12 +58,13 @@ pub record IsPairSoFar (J rows : List Row) (c d : List ℕ) : Type 0 where
 abbrev pub IsPairOnTheWay : List Row → List Row → List Row → List ℕ → List ℕ → Type 0
 IsPairOnTheWay J rows under c d = IsPairSoFar J rows c d ⊎ IsPairImageOf ((J ++ rows) ++ under) c d
 
--- The disks weren't opened: nothing was taken, asked or written, and where they stood for the journal J they do again, at each moment of a crash.
+-- The disks weren't opened: nothing was taken, asked or written and nothing else failed, and where they stood for the journal J they do again, at each moment of a crash.
 pub record Unopened (J : List Row) (old new : PairScene) (end : TakeEnd) : Type 0 where
   pub fault : StoreFault
   pub is : end ≡ end_of_store fault
   pub of_reading : IsOfReading fault
   pub around : new.around ≡ old.around
+  pub failures : new.failures ≡ old.failures
   pub left : new.left ≡ old.left
   pub written : new.written ≡ old.written
   pub stands : StandsFor J old.one old.two → StandsFor J new.one new.two
@@ -100,6 +110,12 @@ pub record Ingested (t : Tells) (input_tells : Bool) (most limit : ℕ) (J : Lis
   pub asked : AllAsked t.clock t.repos J old.around (steps ++ (under ++ extra)) mid
   pub stops : StopsAsking t.clock t.repos end extra behind mid new.around
   pub next : IsNextEnd t (J ++ rows steps) behind mid new.around end
+  -- Of the repositories, the clock and the authorities none failed but what ended it, unless it stopped short. The input failed only where that ended it, unless it stopped before.
+  pub told : (StopsShort lines_of t.output end steps (rows under) old.written new.written → ⊥)
+      → AreTold end old.failures new.failures old.around.panel new.around.panel
+  pub read_told : (StopsBefore end
+      (StopsShort lines_of t.output end steps (rows under) old.written new.written) extra behind
+      → ⊥) → end ≢ TakeEnd.ReadFault → new.failures.input ≡ old.failures.input
   -- with the rows of any of the steps in front a sound journal stays sound, and a faithful one faithful; and a covered commit gets through
   pub sound : (front others : List Step) → steps ++ (under ++ extra) ≡ front ++ others → IsSound J
       → IsSound (J ++ rows front)

@@ -39,6 +39,10 @@ abbrev pub text_of : List Said → List ℕ
 text_of [] = []
 text_of (x ∷ xs) = line_said x ++ text_of xs
 
+-- the lines of what was answered to steps
+abbrev pub text_for : List Step → List ℕ
+text_for steps = text_of (said steps)
+
 -- the hosts that have ended, in the order of their ends, behind an answer
 abbrev pub ended_said : List (List ℕ) → Said → List (List ℕ)
 ended_said ended (host, None) = ended

@@ -16,25 +16,34 @@ use Rattle.relay_store.specs.Batches.{EndsNext, messages_sent}
 use Rattle.relay_store.specs.PendingBodies.{IsFull}
 use Rattle.relay_store.specs.Store.{StoreState, Keeps}
 use Rattle.relay_store.specs.declared.message.Message.{Message}
+use Rattle.take_run.specs.Causes.{AreTold, Failures}
 use Rattle.take_run.specs.Covered.{CoveredGetThrough}
 use Rattle.take_run.specs.Lines.{lines_of}
 use Rattle.take_run.specs.Crashes.{HadRoom, Leaves}
-use Rattle.take_run.specs.Ends.{AreExtraAt, AreTaken, AreUnder, FullOnly, IsReportWritten, StopsAsking, disk_failed, fault_in}
+use Rattle.take_run.specs.Ends.{AreExtraAt, AreTaken, AreUnder, FullOnly, IsReportWritten, StopsAsking, StopsBefore, StopsShort, disk_failed, fault_in}
 use Rattle.take_run.specs.Tells.{Tells}
 use Rattle.take_run.specs.Tapes.{AreRecords, IsOnTape}
 use Rattle.take_run.specs.declared.end.TakeEnd.{TakeEnd}
 
--- a store, its disk, what the judges, the clock and the repositories tell, what is left of the input, and what is written
+-- a store, its disk, what the judges, the clock and the repositories tell, how often parts have failed, what is left of the input, and what is written
 pub record Scene (D : Type 0) : Type 0 where
   pub store : StoreState
   pub disk : D
   pub around : Around
+  pub failures : Failures
   pub left : List ℕ
   pub written : List ℕ
 
 -- the same, of its parts
-abbrev pub scene : {D : Type 0} → StoreState → D → Around → List ℕ → List ℕ → Scene D
-scene store disk around left written = record { store = store; disk = disk; around = around; left = left; written = written }
+abbrev pub scene : {D : Type 0} → StoreState → D → Around → Failures → List ℕ → List ℕ → Scene D
+scene store disk around failures left written = record {
+  store = store;
+  disk = disk;
+  around = around;
+  failures = failures;
+  left = left;
+  written = written;
+}
 
 -- A tape, of which at most `limit` bytes may be taken, was taken behind the journal J, and ended so.
 pub record Taken {D : Type 0} (view : D → View) (t : Tells) (input_tells : Bool) (limit : ℕ)
@@ -73,6 +82,12 @@ pub record Taken {D : Type 0} (view : D → View) (t : Tells) (input_tells : Boo
   pub stops : StopsAsking t.clock t.repos end extra behind mid new.around
   -- for the next message the numbers have ended, or no authority is left, where that ended it
   pub next : EndsNext t.clock t.repos new.store.core behind mid new.around (fault_in end)
+  -- Of the repositories, the clock and the authorities none failed but what ended it, unless it stopped short. The input failed only where that ended it, unless it stopped before.
+  pub told : (StopsShort lines_of t.output end steps (rows under) old.written new.written → ⊥)
+      → AreTold end old.failures new.failures old.around.panel new.around.panel
+  pub read_told : (StopsBefore end
+      (StopsShort lines_of t.output end steps (rows under) old.written new.written) extra behind
+      → ⊥) → end ≢ TakeEnd.ReadFault → new.failures.input ≡ old.failures.input
   -- with the rows of any of the steps in front a sound journal stays sound, and a faithful one faithful; and a covered commit gets through
   pub sound : (front others : List Step) → steps ++ (under ++ extra) ≡ front ++ others → IsSound J
       → IsSound (J ++ rows front)

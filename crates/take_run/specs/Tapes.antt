@@ -1,5 +1,5 @@
 -- Messages as the records of a tape.
-use Rattle.std.specs.Prelude.{◌≡◌, ◌⊎◌, ℕ, ◌+◌, List, [], ◌∷◌, ◌++◌, length}
+use Rattle.std.specs.Prelude.{◌≡◌, ◌⊎◌, ◌≤◌, ◌<◌, ℕ, ◌+◌, List, [], ◌∷◌, ◌++◌, length}
 use Rattle.at_cid.specs.Link.{IsBytes}
 use Rattle.relay_store.specs.declared.message.Message.{Message}
 use Rattle.tape.specs.Format.{record_bytes, IsRecord}
@@ -20,17 +20,18 @@ AreRecords (m ∷ messages) = IsRecord m.host m.bytes × IsBytes m.bytes × AreR
 abbrev pub ShowsFault : List ℕ → Type 0
 ShowsFault bytes = Shows bytes bad_name ⊎ (Shows bytes too_long ⊎ Shows bytes cut)
 
--- Of an input, before and after: the records of the messages stand at its front. Where it is done they are all of it. At a bad place what stands behind them shows a fault, and the place is where they end. Where a read failed, the bytes that were taken behind them are none or those of a record that is cut, and where the limit was reached so many were taken.
-abbrev pub IsOnTape : ℕ → List ℕ → List ℕ → List Message → TakeEnd → Type 0
-IsOnTape limit before after messages TakeEnd.Done = (before ≡ encoded_records messages)
-    × (after ≡ [])
-IsOnTape limit before after messages (TakeEnd.Bad place) = (rest : List ℕ)
-    × (before ≡ encoded_records messages ++ rest) × ShowsFault rest
-    × (place ≡ length (encoded_records messages))
-IsOnTape limit before after messages TakeEnd.ReadFault = (part : List ℕ)
-    × (before ≡ encoded_records messages ++ (part ++ after)) × NeedsMore part
-IsOnTape limit before after messages TakeEnd.TooLong =
-    (part : List ℕ) × (before ≡ encoded_records messages ++ (part ++ after)) × NeedsMore part
-    × (length (encoded_records messages) + length part ≡ limit)
-IsOnTape limit before after messages end = (rest : List ℕ)
-    × (before ≡ encoded_records messages ++ rest)
+-- What ends a tape behind records of so many bytes, of which this part was taken behind them, and that is left. Where it is done there is nothing more, and the limit wasn't reached. At a bad place what stands behind the records shows a fault, and the place is where they end. Where a read failed or the limit was reached, the part is none, or that of a record that is cut.
+abbrev pub EndsTape : ℕ → ℕ → List ℕ → List ℕ → TakeEnd → Type 0
+EndsTape limit size part after TakeEnd.Done = (part ≡ []) × (after ≡ []) × (size < limit)
+EndsTape limit size part after (TakeEnd.Bad place) = ShowsFault (part ++ after) × (place ≡ size)
+EndsTape limit size part after TakeEnd.ReadFault = NeedsMore part
+EndsTape limit size part after TakeEnd.TooLong = NeedsMore part × (size + length part ≡ limit)
+EndsTape limit size part after end = Unit {0}
+
+-- Of an input, before and after: the records of the messages stand at its front, and behind them this part was taken, which is `limit` bytes in all at most.
+pub record IsOnTape (limit : ℕ) (before after : List ℕ) (messages : List Message) (end : TakeEnd)
+    : Type 0 where
+  pub part : List ℕ
+  pub front : before ≡ encoded_records messages ++ (part ++ after)
+  pub within : length (encoded_records messages) + length part ≤ limit
+  pub ends : EndsTape limit (length (encoded_records messages)) part after end

@@ -73,6 +73,8 @@ pub(crate) fn answer<O: Sink>(
     ensures front { IfErr result (λ end. IsUnwritten end
         × (IsTrue O.tells → AddsFront (O.written out.old) (O.written out.new)
         (text_of (answered group.now outcomes.now)))) }
+    ensures nothing { IfErr result (λ end. end ≡ TheEnd.Memory → IsTrue O.tells
+        → O.written out.new ≡ O.written out.old) }
     ensures counts { O.faults out.old ≤ O.faults out.new }
     ensures caused { IfErr result (λ end. end ≡ TakeEnd.WriteFault
         → Rose (O.faults out.old) (O.faults out.new)) }
@@ -113,7 +115,10 @@ pub(crate) fn skip<O: Sink>(
     ensures written { OnOk result (IsTrue O.tells
         → O.written out.new ≡ O.written out.old ++ over_line host.now) }
     ensures front { IfErr result (λ end. IsUnwritten end
-        × (IsTrue O.tells → AddsFront (O.written out.old) (O.written out.new) (over_line host.now))) }
+        × (IsTrue O.tells → AddsFront (O.written out.old) (O.written out.new)
+        (over_line host.now))) }
+    ensures nothing { IfErr result (λ end. end ≡ TheEnd.Memory → IsTrue O.tells
+        → O.written out.new ≡ O.written out.old) }
     ensures counts { O.faults out.old ≤ O.faults out.new }
     ensures caused { IfErr result (λ end. end ≡ TakeEnd.WriteFault
         → Rose (O.faults out.old) (O.faults out.new)) }

@@ -1,12 +1,13 @@
 //! Taking a group of messages, with their lines.
 
-ghost use Rattle.std.specs.Prelude.{◌≡◌, ◌≤◌, ◌<◌, ◌+◌, ◌^◌, List, OnOk, IfOk, IfErr, IsTrue, length, take};
+ghost use Rattle.std.specs.Prelude.{◌≡◌, ◌≢◌, ◌≤◌, ◌<◌, ◌+◌, ◌^◌, true, false, Some, List, OnOk, IfOk, IfErr, IsTrue, length, take};
 ghost use Rattle.relay_row.specs.declared.limits.TheConstants.{MOST_ROWS};
 ghost use Rattle.relay_row.specs.declared.row.Row.{Row as TheRow};
 ghost use Rattle.relay_step.specs.Around.{around};
 ghost use Rattle.relay_store.specs.Store.{IsKept, IsOf, seen_in};
 ghost use Rattle.relay_store.specs.Taking.{AreOfHosts};
-ghost use Rattle.take_run.specs.Causes.{Caused, Kept, Told, Unmoved, faults};
+ghost use Rattle.relay_store.specs.declared.fault.StoreFault.{StoreFault as TheFault};
+ghost use Rattle.take_run.specs.Causes.{Caused, Kept, Told, Unmoved, failures, faults};
 ghost use Rattle.take_run.specs.Going.{Going, Stopped, point};
 ghost use Rattle.take_run.specs.Stops.{IsStop};
 ghost use Rattle.take_run.specs.Tells.{tells};
@@ -19,8 +20,21 @@ use crate::tally::Tally;
 use at_authority::Judges;
 use relay_disk::Disk;
 use relay_io::{Clock, Repos, Sink};
-use relay_store::{Message, Store};
+use relay_store::{Batch, Message, Store, StoreFault};
 use std::alloc::Global;
+
+// Whether memory ran out though no message is left over, which the store doesn't exclude.
+fn leaves_none(batch: &Batch, group: &[Message]) -> bool
+    ensures spent { result ≡ true → (batch.now.fault ≡ Some TheFault.Memory)
+        × (length batch.now.outcomes.items ≡ length group.now) }
+    ensures left { result ≡ false → batch.now.fault ≡ Some TheFault.Memory
+        → length batch.now.outcomes.items ≢ length group.now }
+{
+    match batch.fault {
+        Some(StoreFault::Memory) => batch.outcomes.len() == group.len(),
+        _ => false,
+    }
+}
 
 // Takes messages of hosts that haven't ended, writes the lines of those that are answered, and says how many those are.
 fn take_live<D: Disk, P: Judges, R: Repos, C: Clock, O: Sink>(
@@ -45,17 +59,21 @@ fn take_live<D: Disk, P: Judges, R: Repos, C: Clock, O: Sink>(
         → Going D.view (tells D.tells C.tells R.tells O.tells) J (take n group.now)
         (point (seen_in store.old) tally.old disk.old
         (around (P.panel judges.old) (C.moments clock.old) (R.repository repos.old))
+        (failures (R.faults repos.old) (C.faults clock.old) 0)
         (O.written out.old))
         (point (seen_in store.new) tally.new disk.new
         (around (P.panel judges.new) (C.moments clock.new) (R.repository repos.new))
+        (failures (R.faults repos.new) (C.faults clock.new) 0)
         (O.written out.new))) }
     ensures stopped { IfErr result (λ end. (J : List TheRow) → IsOf J store.old.core
         → Stopped D.view (tells D.tells C.tells R.tells O.tells) J group.now
         (point (seen_in store.old) tally.old disk.old
         (around (P.panel judges.old) (C.moments clock.old) (R.repository repos.old))
+        (failures (R.faults repos.old) (C.faults clock.old) 0)
         (O.written out.old))
         (point (seen_in store.new) tally.new disk.new
         (around (P.panel judges.new) (C.moments clock.new) (R.repository repos.new))
+        (failures (R.faults repos.new) (C.faults clock.new) 0)
         (O.written out.new)) end) }
     ensures on { OnOk result (IsTrue D.tells → IsKept (seen_in store.new) (D.view disk.new)) }
     ensures open { OnOk result (IsTrue (seen_in store.new).log.is_open) }
@@ -63,8 +81,10 @@ fn take_live<D: Disk, P: Judges, R: Repos, C: Clock, O: Sink>(
     ensures few { IfOk result (λ n. n ≤ length group.now) }
     ensures side { (seen_in store.new).side ≡ (seen_in store.old).side }
     ensures count { IfOk result (λ n. tally.new.messages ≤ tally.old.messages + n) }
-    ensures ends { OnOk result (take (length tally.old.ended.items) tally.new.ended.items ≡ tally.old.ended.items) }
-    ensures counts { Kept (faults (D.view disk.old).faults (R.faults repos.old) (C.faults clock.old) 0
+    ensures ends { OnOk result
+        (take (length tally.old.ended.items) tally.new.ended.items ≡ tally.old.ended.items) }
+    ensures counts { Kept
+        (faults (D.view disk.old).faults (R.faults repos.old) (C.faults clock.old) 0
         (O.faults out.old)) (faults (D.view disk.new).faults (R.faults repos.new)
         (C.faults clock.new) 0 (O.faults out.new)) }
     ensures caused { IfErr result (λ end.
@@ -82,6 +102,10 @@ fn take_live<D: Disk, P: Judges, R: Repos, C: Clock, O: Sink>(
         (C.faults clock.new) 0 (O.faults out.new)) (P.panel judges.old) (P.panel judges.new)) }
 {
     let batch = store.take_all(alloc, disk, group, judges, repos, clock);
+    // Where memory runs out, a message is left over, or else the lines are.
+    if leaves_none(&batch, group) {
+        return Err(TakeEnd::Memory);
+    }
     let outcomes = batch.outcomes.as_slice();
     match answer(alloc, group, outcomes, tally, out) {
         Ok(()) => {}
@@ -119,17 +143,21 @@ fn take_some<D: Disk, P: Judges, R: Repos, C: Clock, O: Sink>(
         → Going D.view (tells D.tells C.tells R.tells O.tells) J (take n group.now)
         (point (seen_in store.old) tally.old disk.old
         (around (P.panel judges.old) (C.moments clock.old) (R.repository repos.old))
+        (failures (R.faults repos.old) (C.faults clock.old) 0)
         (O.written out.old))
         (point (seen_in store.new) tally.new disk.new
         (around (P.panel judges.new) (C.moments clock.new) (R.repository repos.new))
+        (failures (R.faults repos.new) (C.faults clock.new) 0)
         (O.written out.new))) }
     ensures stopped { IfErr result (λ end. (J : List TheRow) → IsOf J store.old.core
         → Stopped D.view (tells D.tells C.tells R.tells O.tells) J group.now
         (point (seen_in store.old) tally.old disk.old
         (around (P.panel judges.old) (C.moments clock.old) (R.repository repos.old))
+        (failures (R.faults repos.old) (C.faults clock.old) 0)
         (O.written out.old))
         (point (seen_in store.new) tally.new disk.new
         (around (P.panel judges.new) (C.moments clock.new) (R.repository repos.new))
+        (failures (R.faults repos.new) (C.faults clock.new) 0)
         (O.written out.new)) end) }
     ensures on { OnOk result (IsTrue D.tells → IsKept (seen_in store.new) (D.view disk.new)) }
     ensures open { OnOk result (IsTrue (seen_in store.new).log.is_open) }
@@ -137,8 +165,10 @@ fn take_some<D: Disk, P: Judges, R: Repos, C: Clock, O: Sink>(
     ensures few { IfOk result (λ n. n ≤ length group.now) }
     ensures side { (seen_in store.new).side ≡ (seen_in store.old).side }
     ensures count { IfOk result (λ n. tally.new.messages ≤ tally.old.messages + n) }
-    ensures ends { OnOk result (take (length tally.old.ended.items) tally.new.ended.items ≡ tally.old.ended.items) }
-    ensures counts { Kept (faults (D.view disk.old).faults (R.faults repos.old) (C.faults clock.old) 0
+    ensures ends { OnOk result
+        (take (length tally.old.ended.items) tally.new.ended.items ≡ tally.old.ended.items) }
+    ensures counts { Kept
+        (faults (D.view disk.old).faults (R.faults repos.old) (C.faults clock.old) 0
         (O.faults out.old)) (faults (D.view disk.new).faults (R.faults repos.new)
         (C.faults clock.new) 0 (O.faults out.new)) }
     ensures caused { IfErr result (λ end.
@@ -186,23 +216,28 @@ pub fn take_group<D: Disk, P: Judges, R: Repos, C: Clock, O: Sink>(
         → Going D.view (tells D.tells C.tells R.tells O.tells) J group.now
         (point (seen_in store.old) tally.old disk.old
         (around (P.panel judges.old) (C.moments clock.old) (R.repository repos.old))
+        (failures (R.faults repos.old) (C.faults clock.old) 0)
         (O.written out.old))
         (point (seen_in store.new) tally.new disk.new
         (around (P.panel judges.new) (C.moments clock.new) (R.repository repos.new))
+        (failures (R.faults repos.new) (C.faults clock.new) 0)
         (O.written out.new))) }
     ensures stopped { IfErr result (λ end. (J : List TheRow) → IsOf J store.old.core
         → Stopped D.view (tells D.tells C.tells R.tells O.tells) J group.now
         (point (seen_in store.old) tally.old disk.old
         (around (P.panel judges.old) (C.moments clock.old) (R.repository repos.old))
+        (failures (R.faults repos.old) (C.faults clock.old) 0)
         (O.written out.old))
         (point (seen_in store.new) tally.new disk.new
         (around (P.panel judges.new) (C.moments clock.new) (R.repository repos.new))
+        (failures (R.faults repos.new) (C.faults clock.new) 0)
         (O.written out.new)) end) }
     ensures on { OnOk result (IsTrue D.tells → IsKept (seen_in store.new) (D.view disk.new)) }
     ensures open { OnOk result (IsTrue (seen_in store.new).log.is_open) }
     ensures side { (seen_in store.new).side ≡ (seen_in store.old).side }
     ensures count { OnOk result (tally.new.messages ≤ tally.old.messages + length group.now) }
-    ensures counts { Kept (faults (D.view disk.old).faults (R.faults repos.old) (C.faults clock.old) 0
+    ensures counts { Kept
+        (faults (D.view disk.old).faults (R.faults repos.old) (C.faults clock.old) 0
         (O.faults out.old)) (faults (D.view disk.new).faults (R.faults repos.new)
         (C.faults clock.new) 0 (O.faults out.new)) }
     ensures caused { IfErr result (λ end.

@@ -7,7 +7,7 @@ ghost use Rattle.relay_row.specs.Folds.{cursor};
 ghost use Rattle.relay_row.specs.declared.row.Row.{Row as TheRow};
 ghost use Rattle.relay_step.specs.Around.{around};
 ghost use Rattle.relay_store.specs.Store.{IsKept, IsOf, seen_in};
-ghost use Rattle.take_run.specs.Causes.{Caused, Kept, Told, faults};
+ghost use Rattle.take_run.specs.Causes.{Caused, Kept, Told, failures, faults};
 ghost use Rattle.take_run.specs.Feeds.{TakenOfFeed};
 ghost use Rattle.take_run.specs.Following.{IsNextOf, IsUnread};
 ghost use Rattle.take_run.specs.PairEnds.{IsOfFeed};
@@ -89,10 +89,12 @@ fn take_open<D: Disk, P: Judges, R: Repos, C: Clock, F: Feed, O: Sink>(
         → TakenOfFeed D.view (tells D.tells C.tells R.tells O.tells) F.tells host.now most
         (F.left feed.old) (F.left feed.new) J
         (scene (seen_in store.old) disk.old
-        (around (P.panel judges.old) (C.moments clock.old) (R.repository repos.old)) []
+        (around (P.panel judges.old) (C.moments clock.old) (R.repository repos.old))
+        (failures (R.faults repos.old) (C.faults clock.old) 0) []
         (O.written out.old))
         (scene (seen_in store.new) disk.new
-        (around (P.panel judges.new) (C.moments clock.new) (R.repository repos.new)) []
+        (around (P.panel judges.new) (C.moments clock.new) (R.repository repos.new))
+        (failures (R.faults repos.new) (C.faults clock.new) 0) []
         (O.written out.new)) result }
     ensures of_feed { IsOfFeed result }
     ensures side { (seen_in store.new).side ≡ (seen_in store.old).side }
@@ -100,7 +102,8 @@ fn take_open<D: Disk, P: Judges, R: Repos, C: Clock, F: Feed, O: Sink>(
         (F.faults feed.old) (O.faults out.old))
         (faults (D.view disk.new).faults (R.faults repos.new) (C.faults clock.new)
         (F.faults feed.new) (O.faults out.new)) }
-    ensures caused { Caused result (faults (D.view disk.old).faults (R.faults repos.old) (C.faults clock.old)
+    ensures caused { Caused result
+        (faults (D.view disk.old).faults (R.faults repos.old) (C.faults clock.old)
         (F.faults feed.old) (O.faults out.old))
         (faults (D.view disk.new).faults (R.faults repos.new) (C.faults clock.new)
         (F.faults feed.new) (O.faults out.new)) }
@@ -147,10 +150,12 @@ pub fn take_feed<D: Disk, P: Judges, R: Repos, C: Clock, F: Feed, O: Sink>(
         → TakenOfFeed D.view (tells D.tells C.tells R.tells O.tells) F.tells host.now most
         (F.behind feed.old host.now (cursor host.now J)) (F.left feed.new) J
         (scene (seen_in store.old) disk.old
-        (around (P.panel judges.old) (C.moments clock.old) (R.repository repos.old)) []
+        (around (P.panel judges.old) (C.moments clock.old) (R.repository repos.old))
+        (failures (R.faults repos.old) (C.faults clock.old) 0) []
         (O.written out.old))
         (scene (seen_in store.new) disk.new
-        (around (P.panel judges.new) (C.moments clock.new) (R.repository repos.new)) []
+        (around (P.panel judges.new) (C.moments clock.new) (R.repository repos.new))
+        (failures (R.faults repos.new) (C.faults clock.new) 0) []
         (O.written out.new)) result }
     ensures of_feed { IsOfFeed result }
     ensures side { (seen_in store.new).side ≡ (seen_in store.old).side }
@@ -158,7 +163,8 @@ pub fn take_feed<D: Disk, P: Judges, R: Repos, C: Clock, F: Feed, O: Sink>(
         (F.faults feed.old) (O.faults out.old))
         (faults (D.view disk.new).faults (R.faults repos.new) (C.faults clock.new)
         (F.faults feed.new) (O.faults out.new)) }
-    ensures caused { Caused result (faults (D.view disk.old).faults (R.faults repos.old) (C.faults clock.old)
+    ensures caused { Caused result
+        (faults (D.view disk.old).faults (R.faults repos.old) (C.faults clock.old)
         (F.faults feed.old) (O.faults out.old))
         (faults (D.view disk.new).faults (R.faults repos.new) (C.faults clock.new)
         (F.faults feed.new) (O.faults out.new)) }

@@ -14,7 +14,7 @@ ghost use Rattle.relay_store.specs.Opening.{BothOnlyRead};
 ghost use Rattle.relay_store.specs.Store.{IsKept, IsOf, seen_in};
 ghost use Rattle.relay_store.specs.declared.fault.StoreFault.{StoreFault};
 ghost use Rattle.relay_store.specs.Pairs.{of_pair};
-ghost use Rattle.take_run.specs.Causes.{HidesNone};
+ghost use Rattle.take_run.specs.Causes.{HidesNone, failures};
 ghost use Rattle.take_run.specs.Tells.{tells};
 ghost use Rattle.take_run.specs.Feeds.{TakenOfFeed};
 ghost use Rattle.take_run.specs.Taken.{scene};
@@ -55,10 +55,12 @@ fn take_on<D: Disk, P: Judges, R: Repos, C: Clock, F: Feed, O: Sink>(
         → TakenOfFeed D.view (tells D.tells C.tells R.tells O.tells) F.tells host.now count
         (F.behind feed.old host.now (cursor host.now J)) (F.left feed.new) J
         (scene (seen_in store.old) (of_pair (seen_in store.old).side disk.old other.old)
-        (around (P.panel judges.old) (C.moments clock.old) (R.repository repos.old)) []
+        (around (P.panel judges.old) (C.moments clock.old) (R.repository repos.old))
+        (failures (R.faults repos.old) (C.faults clock.old) 0) []
         (O.written out.old))
         (scene (seen_in store.new) (of_pair (seen_in store.old).side disk.new other.new)
-        (around (P.panel judges.new) (C.moments clock.new) (R.repository repos.new)) []
+        (around (P.panel judges.new) (C.moments clock.new) (R.repository repos.new))
+        (failures (R.faults repos.new) (C.faults clock.new) 0) []
         (O.written out.new)) result }
     ensures beside { of_pair (other_side (seen_in store.old).side) disk.new other.new
         ≡ of_pair (other_side (seen_in store.old).side) disk.old other.old }
@@ -116,10 +118,12 @@ pub fn follow<D: Disk, P: Judges, R: Repos, C: Clock, F: Feed, O: Sink>(
     requires host { is_host host.now ≡ true }
     requires count { count < 2 ^ 63 }
     ensures followed { let old = pair_scene (D.view disk.old) (D.view other.old)
-        (around (P.panel judges.old) (C.moments clock.old) (R.repository repos.old)) []
+        (around (P.panel judges.old) (C.moments clock.old) (R.repository repos.old))
+        (failures (R.faults repos.old) (C.faults clock.old) 0) []
         (O.written out.old) in
         let new = pair_scene (D.view disk.new) (D.view other.new)
-        (around (P.panel judges.new) (C.moments clock.new) (R.repository repos.new)) []
+        (around (P.panel judges.new) (C.moments clock.new) (R.repository repos.new))
+        (failures (R.faults repos.new) (C.faults clock.new) 0) []
         (O.written out.new) in
         IsTrue D.tells → (J : List TheRow)
         → IsPairImageOf J (D.view disk.old).content (D.view other.old).content
@@ -129,10 +133,11 @@ pub fn follow<D: Disk, P: Judges, R: Repos, C: Clock, F: Feed, O: Sink>(
     ensures of_feed { IsOfFeed result }
     ensures shows { IsTrue D.tells → TakeEndShows result (D.view disk.old).content
         (D.view other.old).content }
-    // A damaged log is only read, and nothing else is done.
-    ensures unopened { (place : ℕ) → result ≡ TakeEnd.Store (StoreFault.BadLog place)
-        → IsTrue D.tells
-        → BothOnlyRead (D.view disk.old) (D.view other.old) (D.view disk.new) (D.view other.new)
+    // Disks that hold no journal are only read, and nothing else is done.
+    ensures no_journal { IsTrue D.tells → ((J : List TheRow)
+        → IsPairImageOf J (D.view disk.old).content (D.view other.old).content → ⊥)
+        → (result ≢ TheEnd.Store StoreFault.Disk
+        → BothOnlyRead (D.view disk.old) (D.view other.old) (D.view disk.new) (D.view other.new))
         × (judges.new ≡ judges.old) × (repos.new ≡ repos.old) × (clock.new ≡ clock.old)
         × (feed.new ≡ feed.old) × (out.new ≡ out.old) }
     ensures caused { IsCausedBy (Rose (D.view disk.old).faults (D.view disk.new).faults

@@ -37,7 +37,8 @@ pub(crate) fn read_group<I: Source>(alloc: Global, tape: &mut Tape, input: &mut 
         (I.left input.new) result.messages.items result.rest }
     ensures records { AreRecords result.messages.items }
     ensures few { length result.messages.items ≤ MOST_ROWS }
-    ensures bytes { bytes_together result.messages.items < LONGEST_FEED_MESSAGE + LONGEST_FEED_MESSAGE }
+    ensures bytes { bytes_together result.messages.items
+        < LONGEST_FEED_MESSAGE + LONGEST_FEED_MESSAGE }
     ensures some { result.rest ≡ Rest.More → tape.old.place < tape.new.place }
     ensures place { tape.new.place ≡ tape.old.place + length
         (encoded_records result.messages.items) }

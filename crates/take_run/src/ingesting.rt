@@ -13,7 +13,7 @@ ghost use Rattle.relay_store.specs.Store.{IsKept, IsOf, seen_in};
 ghost use Rattle.relay_store.specs.declared.fault.StoreFault.{StoreFault};
 ghost use Rattle.relay_store.specs.declared.message.Message.{Message as TheMessage};
 ghost use Rattle.relay_store.specs.Pairs.{of_pair};
-ghost use Rattle.take_run.specs.Causes.{EndsByTape, HidesNone};
+ghost use Rattle.take_run.specs.Causes.{EndsByTape, HidesNone, failures};
 ghost use Rattle.take_run.specs.Tells.{tells};
 ghost use Rattle.take_run.specs.Taken.{Taken, scene};
 ghost use Rattle.take_run.specs.Tapes.{AreRecords, encoded_records};
@@ -50,9 +50,11 @@ fn take_on<D: Disk, P: Judges, R: Repos, C: Clock, I: Source, O: Sink>(
         → Taken D.view (tells D.tells C.tells R.tells O.tells) I.tells limit J
         (scene (seen_in store.old) (of_pair (seen_in store.old).side disk.old other.old)
         (around (P.panel judges.old) (C.moments clock.old) (R.repository repos.old))
+        (failures (R.faults repos.old) (C.faults clock.old) (I.faults input.old))
         (I.left input.old) (O.written out.old))
         (scene (seen_in store.new) (of_pair (seen_in store.old).side disk.new other.new)
         (around (P.panel judges.new) (C.moments clock.new) (R.repository repos.new))
+        (failures (R.faults repos.new) (C.faults clock.new) (I.faults input.new))
         (I.left input.new) (O.written out.new)) result }
     ensures beside { of_pair (other_side (seen_in store.old).side) disk.new other.new
         ≡ of_pair (other_side (seen_in store.old).side) disk.old other.old }
@@ -105,9 +107,11 @@ pub fn ingest<D: Disk, P: Judges, R: Repos, C: Clock, I: Source, O: Sink>(
     requires limit { limit < 2 ^ 63 }
     ensures ingested { let old = pair_scene (D.view disk.old) (D.view other.old)
         (around (P.panel judges.old) (C.moments clock.old) (R.repository repos.old))
+        (failures (R.faults repos.old) (C.faults clock.old) (I.faults input.old))
         (I.left input.old) (O.written out.old) in
         let new = pair_scene (D.view disk.new) (D.view other.new)
         (around (P.panel judges.new) (C.moments clock.new) (R.repository repos.new))
+        (failures (R.faults repos.new) (C.faults clock.new) (I.faults input.new))
         (I.left input.new) (O.written out.new) in
         IsTrue D.tells → (J : List TheRow)
         → IsPairImageOf J (D.view disk.old).content (D.view other.old).content
@@ -115,10 +119,11 @@ pub fn ingest<D: Disk, P: Judges, R: Repos, C: Clock, I: Source, O: Sink>(
         ⊎ Ingested (tells D.tells C.tells R.tells O.tells) I.tells most limit J old new result }
     ensures shows { IsTrue D.tells → TakeEndShows result (D.view disk.old).content
         (D.view other.old).content }
-    // A damaged log is only read, and nothing else is done.
-    ensures unopened { (place : ℕ) → result ≡ TakeEnd.Store (StoreFault.BadLog place)
-        → IsTrue D.tells
-        → BothOnlyRead (D.view disk.old) (D.view other.old) (D.view disk.new) (D.view other.new)
+    // Disks that hold no journal are only read, and nothing else is done.
+    ensures no_journal { IsTrue D.tells → ((J : List TheRow)
+        → IsPairImageOf J (D.view disk.old).content (D.view other.old).content → ⊥)
+        → (result ≢ TakeEnd.Store StoreFault.Disk
+        → BothOnlyRead (D.view disk.old) (D.view other.old) (D.view disk.new) (D.view other.new))
         × (judges.new ≡ judges.old) × (repos.new ≡ repos.old) × (clock.new ≡ clock.old)
         × (input.new ≡ input.old) × (out.new ≡ out.old) }
     ensures caused { IsCausedBy (Rose (D.view disk.old).faults (D.view disk.new).faults

@@ -4,7 +4,7 @@ ghost use Rattle.std.specs.Prelude.{◌≡◌, ◌<◌, ◌^◌, List, IsTrue};
 ghost use Rattle.relay_row.specs.declared.row.Row.{Row as TheRow};
 ghost use Rattle.relay_step.specs.Around.{around};
 ghost use Rattle.relay_store.specs.Store.{IsKept, IsOf, seen_in};
-ghost use Rattle.take_run.specs.Causes.{Caused, EndsByTape, Kept, Told, faults};
+ghost use Rattle.take_run.specs.Causes.{Caused, EndsByTape, Kept, Told, failures, faults};
 ghost use Rattle.take_run.specs.Tells.{tells};
 ghost use Rattle.take_run.specs.Taken.{Taken, scene};
 
@@ -40,16 +40,19 @@ pub fn take_tape<D: Disk, P: Judges, R: Repos, C: Clock, I: Source, O: Sink>(
         → Taken D.view (tells D.tells C.tells R.tells O.tells) I.tells limit J
         (scene (seen_in store.old) disk.old
         (around (P.panel judges.old) (C.moments clock.old) (R.repository repos.old))
+        (failures (R.faults repos.old) (C.faults clock.old) (I.faults input.old))
         (I.left input.old) (O.written out.old))
         (scene (seen_in store.new) disk.new
         (around (P.panel judges.new) (C.moments clock.new) (R.repository repos.new))
+        (failures (R.faults repos.new) (C.faults clock.new) (I.faults input.new))
         (I.left input.new) (O.written out.new)) result }
     ensures side { (seen_in store.new).side ≡ (seen_in store.old).side }
     ensures counts { Kept (faults (D.view disk.old).faults (R.faults repos.old) (C.faults clock.old)
         (I.faults input.old) (O.faults out.old))
         (faults (D.view disk.new).faults (R.faults repos.new) (C.faults clock.new)
         (I.faults input.new) (O.faults out.new)) }
-    ensures caused { Caused result (faults (D.view disk.old).faults (R.faults repos.old) (C.faults clock.old)
+    ensures caused { Caused result
+        (faults (D.view disk.old).faults (R.faults repos.old) (C.faults clock.old)
         (I.faults input.old) (O.faults out.old))
         (faults (D.view disk.new).faults (R.faults repos.new) (C.faults clock.new)
         (I.faults input.new) (O.faults out.new)) }

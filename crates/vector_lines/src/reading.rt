@@ -1,13 +1,30 @@
 //! The parts of a row.
 
 use anyhow::{Context, Result};
+use at_cid::{Cid, parse_text};
+use std::alloc::Global;
 
-/// What stands before a mark, and what behind it.
-pub fn parted<'a>(text: &'a str, mark: &str) -> Result<(&'a str, &'a str)> {
-    text.split_once(mark).context("another part of a row")
+/// The bytes that a text in hexadecimal stands for; `-` is none.
+pub fn bytes(alloc: Global, text: &str) -> Result<Vec<u8>> {
+    if text == "-" {
+        return Ok(Vec::new(alloc));
+    }
+    hex::decode(alloc, text).context("hexadecimal")
 }
 
-/// The number of a text.
-pub fn number(text: &str) -> Result<u64> {
-    Ok(text.parse::<u64>()?)
+/// The numbers with a comma between two, or `-` for none.
+pub fn numbers(alloc: Global, text: &str) -> Result<Vec<u64>> {
+    let mut numbers = Vec::new(alloc);
+    if text == "-" {
+        return Ok(numbers);
+    }
+    for word in text.split(',') {
+        numbers.push(word.parse::<u64>()?)?;
+    }
+    Ok(numbers)
+}
+
+/// The link of a text of 59 characters.
+pub fn link(text: &str) -> Option<Cid> {
+    parse_text(text.as_bytes())
 }

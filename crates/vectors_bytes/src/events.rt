@@ -1,77 +1,115 @@
-//! The relay's own events.
+//! Messages of a stream. Each is let go by `mem::drop`, to whose proof its parts are nothing.
 
-use anyhow::{Context, Result, bail, ensure};
-use at_cid::Octets;
-use at_event::{account_frame, sync_frame};
+ghost use Rattle.std.specs.Prelude.{◌<◌};
+ghost use Rattle.at_cid.specs.declared.limits.TheConstants.{NUMBERS};
+
+use at_cid::{Memory, NUMBERS, Octets};
+use at_event::{
+    Event, Frame, FrameFault, Refusal, account_frame, out_frame, out_len, read_frame, sync_frame,
+};
 use at_syntax::Tid;
-use std::alloc::Global;
-use vector_lines::{Answer, Subject, bytes, had, number, parted};
+use std::mem;
+use vector_lines::Case;
 
-pub struct Events;
+/// Answers what a message reads as.
+pub fn frame(case: &mut Case<'_>) {
+    let message = case.bytes(" ");
+    let frame = read_frame(case.alloc, message.as_slice());
+    say_frame(case, &frame);
+    mem::drop(frame);
+}
 
-impl Subject for Events {
-    // `sync SEQ DID TIME REV BLOCKS` or `account SEQ DID TIME ACTIVE STATUS`: the message.
-    fn answer(&self, alloc: Global, input: &str) -> Result<String> {
-        let (kind, rest) = parted(input, " ")?;
-        let frame = framed(alloc, kind, &event(rest)?)?;
-        Answer::new(alloc).bytes(frame.as_slice()).end()
+fn say_frame(case: &mut Case<'_>, frame: &Result<Frame, FrameFault>) {
+    match frame {
+        Ok(Frame::Event(event)) => say_event(case, event),
+        Ok(Frame::Faulty(seq)) => {
+            case.say("Faulty(");
+            case.say_number(*seq);
+            case.say(")");
+        }
+        Ok(Frame::Info) => case.say("Info"),
+        Ok(Frame::Error) => case.say("Error"),
+        Ok(Frame::Unknown) => case.say("Unknown"),
+        Err(fault) => case.say_named(fault),
     }
 }
 
-// The words of an event.
-#[derive(Drop)]
-struct Words<'a> {
-    seq: u64,
-    did: &'a str,
-    time: &'a str,
-    more: &'a str,
-    last: &'a str,
+fn say_event(case: &mut Case<'_>, event: &Event) {
+    case.say("Event ");
+    case.say_named(&event.kind());
+    case.say(" seq ");
+    case.say_number(event.seq);
+    case.say(" did ");
+    case.say(event.did.as_str());
+    case.say(" out_len ");
+    case.say_number(out_len(event));
 }
 
-fn event(words: &str) -> Result<Words<'_>> {
-    let (seq, rest) = parted(words, " ")?;
-    let (did, rest) = parted(rest, " ")?;
-    event_of(number(seq)?, did, rest)
+/// Answers `NUMBER MESSAGE = the message that goes out under that number`.
+pub fn renumbered(case: &mut Case<'_>) {
+    let seq = case.number(" ");
+    let message = case.bytes(" ");
+    let frame = read_frame(case.alloc, message.as_slice());
+    match &frame {
+        Ok(Frame::Event(event)) if seq < NUMBERS => {
+            say_message(case, out_frame(case.alloc, event, seq));
+        }
+        Err(fault) => case.say_named(fault),
+        _ => case.say("no event"),
+    }
+    mem::drop(frame);
 }
 
-// The words of an event of that number and DID.
-fn event_of<'a>(seq: u64, did: &'a str, rest: &'a str) -> Result<Words<'a>> {
-    let (time, rest) = parted(rest, " ")?;
-    let (more, last) = parted(rest, " ")?;
-    Ok(Words {
-        seq,
-        did,
-        time,
-        more,
-        last,
-    })
-}
-
-fn framed(alloc: Global, kind: &str, words: &Words<'_>) -> Result<Octets> {
-    match kind {
-        "sync" => sync(alloc, words),
-        "account" => account(alloc, words),
-        _ => bail!("no word of events"),
+fn say_message(case: &mut Case<'_>, message: Result<Octets, Memory>) {
+    if let Some(message) = case.gave(message) {
+        case.say_bytes(message.as_slice());
     }
 }
 
-fn sync(alloc: Global, words: &Words<'_>) -> Result<Octets> {
-    let seq = words.seq;
-    ensure!(seq < 1 << 53, "a number of a stream");
-    let rev = Tid::parse(words.more).context("a TID")?;
-    let blocks = bytes(alloc, words.last)?;
-    let blocks = blocks.as_slice();
-    had(sync_frame(alloc, words.did, rev, blocks, words.time, seq))
+/// Answers `sync SEQ DID TIME REV BLOCKS` or `account SEQ DID TIME ACTIVE STATUS` with the message of the relay's own event.
+pub fn own_event(case: &mut Case<'_>) {
+    let kind = case.part(" ");
+    let seq = case.number(" ");
+    let did = case.part(" ");
+    let time = case.part(" ");
+    if seq < NUMBERS {
+        match kind {
+            "sync" => sync(case, seq, did, time),
+            _ => account(case, seq, did, time),
+        }
+    }
 }
 
-fn account(alloc: Global, words: &Words<'_>) -> Result<Octets> {
-    let seq = words.seq;
-    ensure!(seq < 1 << 53, "a number of a stream");
-    let active = words.more == "active";
-    let status = if words.last == "-" {
-        None
-    } else {
-        Some(words.last)
-    };
-    had(account_frame(alloc, words.did, active, status, words.time, seq))
+fn sync(case: &mut Case<'_>, seq: u64, did: &str, time: &str)
+    requires { seq < NUMBERS }
+{
+    let rev = case.part(" ");
+    let blocks = case.bytes(" ");
+    if let Some(rev) = Tid::parse(rev) {
+        say_message(
+            case,
+            sync_frame(case.alloc, did, rev, blocks.as_slice(), time, seq),
+        );
+    }
+}
+
+fn account(case: &mut Case<'_>, seq: u64, did: &str, time: &str)
+    requires { seq < NUMBERS }
+{
+    let is_active = case.part(" ") == "active";
+    let status = case.part(" ");
+    let status = if status == "-" { None } else { Some(status) };
+    say_message(
+        case,
+        account_frame(case.alloc, did, is_active, status, time, seq),
+    );
+}
+
+/// Answers `NUMBER = the name of the refusal` of one that says no more.
+pub fn refusal(case: &mut Case<'_>) {
+    let code = u8::try_from(case.number(" ")).unwrap_or(0);
+    match Refusal::plain(code) {
+        Some(refusal) => case.say(refusal.name()),
+        None => case.say("none"),
+    }
 }

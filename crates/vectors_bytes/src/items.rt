@@ -1,48 +1,34 @@
-//! The DAG-CBOR item at the front of bytes.
+//! The DAG-CBOR item at the front of bytes: its kind and the length of its encoding, or the fault.
 
-use anyhow::{Result, bail, ensure};
-use at_cbor::{CborFault, Value, decode, encode, encoded_len};
-use std::alloc::Global;
-use vector_lines::{Answer, Subject, bytes, had};
+use at_cbor::{Value, decode, encode};
+use at_cid::{Memory, Octets};
+use vector_lines::Case;
 
-pub struct Items;
-
-impl Subject for Items {
-    fn answer(&self, alloc: Global, input: &str) -> Result<String> {
-        let given = bytes(alloc, input)?;
-        match decode(alloc, given.as_slice()) {
-            Ok((value, len)) => {
-                let written = had(encode(alloc, &value))?;
-                told(alloc, &value, written.as_slice(), given.get(..len))
-            }
-            Err(fault) => fault_of(alloc, fault),
+/// Answers a row of items.
+pub fn item(case: &mut Case<'_>) {
+    let given = case.bytes(" ");
+    match decode(case.alloc, given.as_slice()) {
+        Ok((value, len)) => {
+            let again = encode(case.alloc, &value);
+            say_item(case, &value, again, given.get(..len));
         }
+        Err(fault) => case.say_named(&fault),
     }
 }
 
-fn fault_of(alloc: Global, fault: CborFault) -> Result<String> {
-    if fault == CborFault::Memory {
-        bail!("memory");
+// Answers the kind of a value and the length of its encoding, where that is the one that was given.
+fn say_item(
+    case: &mut Case<'_>,
+    value: &Value,
+    again: Result<Octets, Memory>,
+    given: Option<&[u8]>,
+) {
+    if let Some(again) = case.gave(again) {
+        case.say(kind(value));
+        case.say(" ");
+        case.say_number(again.len() as u64);
+        case.must(Some(again.as_slice()) == given, ", another spelling");
     }
-    Ok(format!(in alloc; "{fault:?}")?)
-}
-
-// The kind of a value and the length of its encoding, where it is written as it was given, and a copy is the same.
-fn told(alloc: Global, value: &Value, written: &[u8], given: Option<&[u8]>) -> Result<String> {
-    ensure!(Some(written) == given, "another spelling");
-    let len = written.len();
-    ensure!(is_copied(alloc, value, len)?, "another copy");
-    Answer::new(alloc)
-        .words(kind(value))
-        .words(" ")
-        .number(len as u64)
-        .end()
-}
-
-// Whether a copy is the same, and has an encoding of that length.
-fn is_copied(alloc: Global, value: &Value, len: usize) -> Result<bool> {
-    let copy = had(value.try_clone(alloc))?;
-    Ok(copy == *value && encoded_len(value) == len as u64)
 }
 
 fn kind(value: &Value) -> &'static str {
@@ -60,9 +46,7 @@ fn kind(value: &Value) -> &'static str {
         "Link"
     } else if value.as_bool().is_some() {
         "Bool"
-    } else if value.is_null() {
-        "Null"
     } else {
-        "no kind"
+        "Null"
     }
 }

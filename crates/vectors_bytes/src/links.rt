@@ -1,73 +1,61 @@
-//! Links: of a block, from binary, from text, their order, and which block they are of.
+//! Links: `of` a block, from `binary`, from `text`, the `order` of two, and whether one `is` of a block, with its digest.
 
-use anyhow::{Result, bail};
-use at_cid::{Kind, cid_of, parse_binary, parse_text};
-use std::alloc::Global;
-use std::cmp::Ordering;
-use vector_lines::{Answer, Subject, bytes, link, parted, said};
+use at_cid::{cid_of, parse_binary, parse_text};
+use vector_lines::Case;
 
-pub struct Links;
+/// Answers a row of links.
+pub fn links(case: &mut Case<'_>) {
+    match case.part(" ") {
+        "of" => of_block(case),
+        "binary" => from_binary(case),
+        "text" => from_text(case),
+        "order" => order(case),
+        _ => is_of(case),
+    }
+}
 
-impl Subject for Links {
-    fn answer(&self, alloc: Global, input: &str) -> Result<String> {
-        let (word, rest) = parted(input, " ")?;
-        match word {
-            "of" => of_block(alloc, rest),
-            "binary" => from_binary(alloc, rest),
-            "text" => from_text(alloc, rest),
-            "order" => order(alloc, rest),
-            "is" => is_of(alloc, rest),
-            _ => bail!("no word of links"),
+fn of_block(case: &mut Case<'_>) {
+    let block = case.bytes(" ");
+    let link = cid_of(block.as_slice());
+    case.say_bytes(link.as_bytes());
+    case.say(" ");
+    case.say_link(&link);
+}
+
+fn from_binary(case: &mut Case<'_>) {
+    let binary = case.bytes(" ");
+    match parse_binary(binary.as_slice()) {
+        Some(link) => {
+            case.say_named(&link.kind());
+            case.say(" ");
+            case.say_link(&link);
         }
+        None => case.say("no"),
     }
 }
 
-fn of_block(alloc: Global, input: &str) -> Result<String> {
-    let link = cid_of(bytes(alloc, input)?.as_slice());
-    Answer::new(alloc)
-        .bytes(link.as_bytes())
-        .words(" ")
-        .link(&link)
-        .end()
-}
-
-fn from_binary(alloc: Global, input: &str) -> Result<String> {
-    let Some(link) = parse_binary(bytes(alloc, input)?.as_slice()) else {
-        return said(alloc, "no");
-    };
-    let kind = match link.kind() {
-        Kind::Node => "Node ",
-        Kind::Raw => "Raw ",
-    };
-    Answer::new(alloc).words(kind).link(&link).end()
-}
-
-fn from_text(alloc: Global, input: &str) -> Result<String> {
-    let letters = if input == "-" { "" } else { input };
-    match parse_text(letters.as_bytes()) {
-        Some(link) => Answer::new(alloc).bytes(link.as_bytes()).end(),
-        None => said(alloc, "no"),
+fn from_text(case: &mut Case<'_>) {
+    let letters = case.part(" ");
+    match parse_text(if letters == "-" {
+        b""
+    } else {
+        letters.as_bytes()
+    }) {
+        Some(link) => case.say_bytes(link.as_bytes()),
+        None => case.say("no"),
     }
 }
 
-// The order of two links.
-fn order(alloc: Global, input: &str) -> Result<String> {
-    let (left, right) = parted(input, " ")?;
-    let word = match link(left)?.cmp(&link(right)?) {
-        Ordering::Less => "less",
-        Ordering::Equal => "equal",
-        Ordering::Greater => "greater",
-    };
-    said(alloc, word)
+fn order(case: &mut Case<'_>) {
+    let left = case.link(" ");
+    let right = case.link(" ");
+    case.say_named(&left.cmp(&right));
 }
 
-// Whether a link is of a block, and its digest.
-fn is_of(alloc: Global, input: &str) -> Result<String> {
-    let (letters, block) = parted(input, " ")?;
-    let link = link(letters)?;
-    let is = link.is_of(bytes(alloc, block)?.as_slice());
-    Answer::new(alloc)
-        .words(if is { "yes " } else { "no " })
-        .bytes(link.digest())
-        .end()
+fn is_of(case: &mut Case<'_>) {
+    let link = case.link(" ");
+    let block = case.bytes(" ");
+    case.say_yes(link.is_of(block.as_slice()));
+    case.say(" ");
+    case.say_bytes(link.digest());
 }

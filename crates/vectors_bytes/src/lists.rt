@@ -1,194 +1,112 @@
 //! Bytes, texts and lists of links that grow and are copied, and the calls that fail of an object in memory.
 
-use anyhow::{Result, bail, ensure};
 use at_cid::{Cids, Failures, Octets, Words};
-use std::alloc::Global;
-use vector_lines::{Answer, Subject, bytes, had, link, number, parted};
+use vector_lines::Case;
 
-pub struct Lists;
-
-impl Subject for Lists {
-    fn answer(&self, alloc: Global, input: &str) -> Result<String> {
-        let (word, rest) = parted(input, " ")?;
-        match word {
-            "octets" => octets(alloc, rest),
-            "over" => over(alloc, rest),
-            "cut" => cut(alloc, rest),
-            "words" => words(alloc, rest),
-            "links" => links(alloc, rest),
-            "calls" => calls(alloc, rest),
-            _ => bail!("no word of lists"),
-        }
+/// Answers a row of lists.
+pub fn lists(case: &mut Case<'_>) {
+    match case.part(" ") {
+        "octets" => octets(case),
+        "over" => over(case),
+        "cut" => cut(case),
+        "words" => words(case),
+        "links" => links(case),
+        _ => calls(case),
     }
 }
 
-// Bytes, one more, and some more: all of them and how many, as a copy has them.
-fn octets(alloc: Global, input: &str) -> Result<String> {
-    let (front, rest) = parted(input, " ")?;
-    let mut whole = octets_of(alloc, front)?;
-    add_both(alloc, &mut whole, rest)?;
-    counted(alloc, &octets_again(alloc, &whole)?)
-}
-
-// Adds the bytes of two words.
-fn add_both(alloc: Global, whole: &mut Octets, words: &str) -> Result<()> {
-    let (one, more) = parted(words, " ")?;
-    let one = bytes(alloc, one)?;
-    add_bytes_to(whole, one.as_slice(), bytes(alloc, more)?.as_slice())
-}
-
-// Adds bytes one by one, and then some at once.
-fn add_bytes_to(whole: &mut Octets, one: &[u8], more: &[u8]) -> Result<()> {
-    for byte in one {
-        had(whole.push(*byte))?;
+// Bytes, some more one by one, and some more at once: all of them and how many, as a copy has them.
+fn octets(case: &mut Case<'_>) {
+    let mut whole = case.octets(" ");
+    for byte in case.bytes(" ").as_slice() {
+        case.did(whole.push(*byte));
     }
-    had(whole.extend(more))
+    let more = case.bytes(" ");
+    case.did(whole.extend(more.as_slice()));
+    if let Some(copy) = case.gave(whole.try_clone()) {
+        case.say_bytes(copy.as_slice());
+        case.say(" ");
+        case.say_number(copy.len() as u64);
+    }
 }
 
-fn octets_of(alloc: Global, digits: &str) -> Result<Octets> {
-    let given = bytes(alloc, digits)?;
-    had(Octets::from_slice(alloc, given.as_slice()))
-}
-
-// A copy of bytes, taken apart and put together again.
-fn octets_again(alloc: Global, whole: &Octets) -> Result<Octets> {
-    let copy = had(whole.try_clone())?;
-    ensure!(copy == *whole, "the copy is another");
-    ensure!(
-        whole.is_empty() == (*whole == Octets::new(alloc)),
-        "which are empty"
-    );
-    Ok(Octets::from_vec(copy.into_vec()))
-}
-
-fn counted(alloc: Global, octets: &Octets) -> Result<String> {
-    Answer::new(alloc)
-        .bytes(octets.as_slice())
-        .words(" ")
-        .number(octets.len() as u64)
-        .end()
-}
-
-// Bytes with a piece written over those from a place on. All are dropped then.
-fn over(alloc: Global, input: &str) -> Result<String> {
-    let (front, rest) = parted(input, " ")?;
-    let mut whole = octets_of(alloc, front)?;
-    put_over(alloc, &mut whole, rest)?;
-    let answer = Answer::new(alloc).bytes(whole.as_slice());
-    whole.clear();
-    ensure!(whole.is_empty(), "all are dropped");
-    answer.end()
-}
-
-// Writes a piece over the bytes from a place on.
-fn put_over(alloc: Global, whole: &mut Octets, words: &str) -> Result<()> {
-    let (place, piece) = parted(words, " ")?;
-    overwrite(whole, number(place)?, bytes(alloc, piece)?.as_slice())
-}
-
-fn overwrite(whole: &mut Octets, place: u64, piece: &[u8]) -> Result<()> {
-    let place = usize::try_from(place)?;
+// Bytes with a piece written over those from a place on.
+fn over(case: &mut Case<'_>) {
+    let mut whole = case.octets(" ");
+    let place = case.size(" ");
+    let piece = case.bytes(" ");
     if whole.len() < place || whole.len() - place < piece.len() {
-        bail!("a place inside");
+        return case.say("no place inside");
     }
-    whole.overwrite(place, piece);
-    Ok(())
+    whole.overwrite(place, piece.as_slice());
+    case.say_bytes(whole.as_slice());
 }
 
 // Bytes without those behind the first so many.
-fn cut(alloc: Global, input: &str) -> Result<String> {
-    let (front, len) = parted(input, " ")?;
-    let mut whole = octets_of(alloc, front)?;
-    whole.truncate(usize::try_from(number(len)?)?);
-    Answer::new(alloc).bytes(whole.as_slice()).end()
+fn cut(case: &mut Case<'_>) {
+    let mut whole = case.octets(" ");
+    whole.truncate(case.size(" "));
+    case.say_bytes(whole.as_slice());
 }
 
 // A text, its further letters one by one, and a text behind it: all of it and its bytes, as a copy has them.
-fn words(alloc: Global, input: &str) -> Result<String> {
-    let (front, rest) = parted(input, " ")?;
-    let (letters, more) = parted(rest, " ")?;
-    let mut whole = had(Words::from_str(alloc, front))?;
-    add_letters(&mut whole, letters, more)?;
-    encoded(alloc, &words_again(alloc, &whole)?)
-}
-
-// Adds letters one by one, and then some at once.
-fn add_letters(whole: &mut Words, letters: &str, more: &str) -> Result<()> {
-    for letter in letters.chars() {
-        had(whole.push(letter))?;
+fn words(case: &mut Case<'_>) {
+    let front = case.part(" ");
+    if let Some(mut whole) = case.gave(Words::from_str(case.alloc, front)) {
+        for letter in case.part(" ").chars() {
+            case.did(whole.push(letter));
+        }
+        let more = case.part(" ");
+        case.did(whole.extend(more));
+        say_copy(case, &whole);
     }
-    had(whole.extend(more))
 }
 
-// A copy of a text, made once more from what it tells.
-fn words_again(alloc: Global, whole: &Words) -> Result<Words> {
-    let copy = had(whole.try_clone())?;
-    ensure!(copy == *whole, "the copy is another");
-    ensure!(
-        whole.is_empty() == (*whole == Words::new(alloc)),
-        "which are empty"
-    );
-    had(Words::from_str(alloc, copy.as_str()))
-}
-
-fn encoded(alloc: Global, words: &Words) -> Result<String> {
-    Answer::new(alloc)
-        .words(words.as_str())
-        .words(" ")
-        .bytes(words.as_bytes())
-        .words(" ")
-        .number(words.len() as u64)
-        .end()
-}
-
-// The place of each link in a list of them all, with how many stand in it.
-fn links(alloc: Global, input: &str) -> Result<String> {
-    let mut list = Cids::new(alloc);
-    ensure!(list.is_empty(), "a new list is empty");
-    for word in input.split(' ') {
-        had(list.push(link(word)?))?;
+fn say_copy(case: &mut Case<'_>, words: &Words) {
+    if let Some(copy) = case.gave(words.try_clone()) {
+        case.say(copy.as_str());
+        case.say(" ");
+        case.say_bytes(copy.as_bytes());
+        case.say(" ");
+        case.say_number(copy.len() as u64);
     }
-    listed(alloc, &links_again(&list)?)
 }
 
-fn links_again(list: &Cids) -> Result<Cids> {
-    let copy = had(list.try_clone())?;
-    ensure!(copy.as_slice() == list.as_slice(), "the copy is another");
-    ensure!(copy.get(copy.len()).is_none(), "no link behind the last");
-    Ok(copy)
-}
-
-fn listed(alloc: Global, links: &Cids) -> Result<String> {
-    let mut answer = Answer::new(alloc);
-    for place in 0..links.len() {
-        answer = answer.link_or_none(links.get(place)).words(" ");
+// The links of a list, and how many stand in it, as a copy has them.
+fn links(case: &mut Case<'_>) {
+    let mut list = Cids::new(case.alloc);
+    for word in case.part(" ; ").split(' ') {
+        let rest = case.turn(word);
+        let link = case.link(" ");
+        case.back(rest);
+        case.did(list.push(link));
     }
-    answer.number(links.len() as u64).end()
-}
-
-// What calls come to of which the listed ones fail; a call with `!` fails by itself.
-fn calls(alloc: Global, input: &str) -> Result<String> {
-    let (listed, names) = parted(input, " ")?;
-    let mut failures = had(Failures::new(alloc, &[number(listed)?]))?;
-    let mut text = String::new(alloc);
-    for name in names.chars() {
-        text.push(called(&mut failures, name))?;
+    if let Some(copy) = case.gave(list.try_clone()) {
+        case.say_links(copy.as_slice(), " ");
+        case.say(" ");
+        case.say_number(copy.len() as u64);
     }
-    Answer::new(alloc)
-        .words(text.as_str())
-        .words(" taken ")
-        .number(failures.taken)
-        .words(" faults ")
-        .number(failures.faults)
-        .end()
 }
 
-// What a call comes to: its name where it fails, and else a point.
-fn called(failures: &mut Failures, name: char) -> char {
+// What calls come to of which one fails: `.`, or `!` where it fails. A call `!` fails by itself.
+fn calls(case: &mut Case<'_>) {
+    let failing = case.number(" ");
+    if let Some(mut failures) = case.gave(Failures::new(case.alloc, &[failing])) {
+        for name in case.part(" ").chars() {
+            call(case, &mut failures, name);
+        }
+        case.say(" taken ");
+        case.say_number(failures.taken);
+        case.say(" faults ");
+        case.say_number(failures.faults);
+    }
+}
+
+fn call(case: &mut Case<'_>, failures: &mut Failures, name: char) {
     let came = if name == '!' {
         failures.fail(name)
     } else {
         failures.begin(name)
     };
-    came.err().unwrap_or('.')
+    case.say(if came.is_ok() { "." } else { "!" });
 }

@@ -1,74 +1,105 @@
-//! The outside rows, and our own, on links, DAG-CBOR, names, CARs, commit objects and frames: each file of `data/` against
-//! what the libraries answer. The words of a run name the files that it compares; without words it compares all.
+//! Rows on links, DAG-CBOR, names, CARs, commit objects and frames, on nodes and trees, and on commits and repositories that are
+//! checked: each file of `data/` against what the libraries answer. The words of a run name the files that it compares; without
+//! words it compares all.
 #![tactic(auto)]
 
-mod cars;
+mod blocks;
 mod commits;
-mod encoded;
 mod events;
-mod forms;
-mod frames;
-mod fronts;
 mod items;
 mod links;
 mod lists;
+mod mirrors;
 mod names;
-mod numbers;
+mod nodes;
 mod pieces;
-mod refusals;
-mod scans;
-mod telling;
-mod written;
+mod repositories;
+mod trees;
+mod undoing;
+mod verdicts;
 
-use anyhow::Result;
 use std::process::ExitCode;
-use vector_lines::Suite;
+use vector_lines::{Case, Subject, run};
+
+const FILES: [&str; 29] = [
+    "links",
+    "own_links",
+    "own_lists",
+    "cbor_faults",
+    "own_items",
+    "own_pieces",
+    "names",
+    "own_names",
+    "car_faults",
+    "own_cars",
+    "commit_objects",
+    "frames",
+    "own_frames",
+    "own_numbers",
+    "own_events",
+    "refusals",
+    "heights",
+    "nodes",
+    "parts",
+    "views",
+    "play",
+    "undo",
+    "commits",
+    "changes",
+    "orders",
+    "trees",
+    "repositories",
+    "syncs",
+    "mirrors",
+];
+
+struct Bytes;
+
+impl Subject for Bytes {
+    fn answer(&self, file: &str, case: &mut Case<'_>) {
+        match file {
+            "links" | "own_links" => links::links(case),
+            "own_lists" => lists::lists(case),
+            "cbor_faults" | "own_items" => items::item(case),
+            "own_pieces" => pieces::pieces(case),
+            "names" | "own_names" => names::names(case),
+            "car_faults" => blocks::read_car(case),
+            "own_cars" => blocks::write_car(case),
+            "commit_objects" => commits::commit(case),
+            _ => of_events(file, case),
+        }
+    }
+}
+
+// The files on messages.
+fn of_events(file: &str, case: &mut Case<'_>) {
+    match file {
+        "frames" | "own_frames" => events::frame(case),
+        "own_numbers" => events::renumbered(case),
+        "own_events" => events::own_event(case),
+        "refusals" => events::refusal(case),
+        "changes" | "orders" | "trees" => verdicts::followed(case),
+        "repositories" => repositories::repository(case),
+        "syncs" => repositories::sync(case),
+        "mirrors" => mirrors::mirrored(case),
+        _ => of_trees(file, case),
+    }
+}
+
+// The files on trees.
+fn of_trees(file: &str, case: &mut Case<'_>) {
+    match file {
+        "heights" => nodes::height_of(case),
+        "nodes" => nodes::node(case),
+        "parts" => nodes::parts(case),
+        "views" => trees::viewed(case),
+        "play" => undoing::played(case),
+        "undo" => undoing::undone(case),
+        "commits" => undoing::undone_tree(case),
+        _ => case.say("no such file"),
+    }
+}
 
 fn main(rt: HostRuntime) -> ExitCode {
-    Suite::end(&rt, compared(&rt))
-}
-
-fn compared(rt: &HostRuntime) -> Result<Suite> {
-    let mut suite = Suite::new(rt)?;
-    compare_links(rt, &mut suite)?;
-    compare_items(rt, &mut suite)?;
-    compare_names(rt, &mut suite)?;
-    compare_blocks(rt, &mut suite)?;
-    compare_frames(rt, &mut suite)?;
-    Ok(suite)
-}
-
-fn compare_links(rt: &HostRuntime, suite: &mut Suite) -> Result<()> {
-    suite.file(rt, "links", &links::Links)?;
-    suite.file(rt, "own_links", &links::Links)?;
-    suite.file(rt, "own_lists", &lists::Lists)
-}
-
-fn compare_items(rt: &HostRuntime, suite: &mut Suite) -> Result<()> {
-    suite.file(rt, "cbor_faults", &items::Items)?;
-    suite.file(rt, "own_items", &items::Items)?;
-    suite.file(rt, "own_pieces", &pieces::Pieces)?;
-    suite.file(rt, "own_fronts", &fronts::Fronts)?;
-    suite.file(rt, "own_forms", &forms::Forms)
-}
-
-fn compare_names(rt: &HostRuntime, suite: &mut Suite) -> Result<()> {
-    suite.file(rt, "names", &names::Names)?;
-    suite.file(rt, "own_names", &names::Names)
-}
-
-fn compare_blocks(rt: &HostRuntime, suite: &mut Suite) -> Result<()> {
-    suite.file(rt, "car_faults", &cars::Cars)?;
-    suite.file(rt, "car_faults", &scans::Scans)?;
-    suite.file(rt, "own_cars", &written::Written)?;
-    suite.file(rt, "commit_objects", &commits::Commits)
-}
-
-fn compare_frames(rt: &HostRuntime, suite: &mut Suite) -> Result<()> {
-    suite.file(rt, "frames", &frames::Frames)?;
-    suite.file(rt, "own_frames", &frames::Frames)?;
-    suite.file(rt, "own_numbers", &numbers::Numbers)?;
-    suite.file(rt, "own_commit_events", &telling::Telling)?;
-    suite.file(rt, "own_events", &events::Events)?;
-    suite.file(rt, "refusals", &refusals::Refusals)
+    run(&rt, &FILES, &Bytes)
 }

@@ -1,77 +1,58 @@
 //! DIDs, record paths, host names and TIDs.
 
-use anyhow::{Context, Result, bail, ensure};
 use at_syntax::{TID_LEN, Tid, did_ok, host_ok, method, path_ok};
-use std::alloc::Global;
-use std::cmp::Ordering;
-use vector_lines::{Answer, Subject, bytes, number, parted, said};
+use vector_lines::Case;
 
-pub struct Names;
-
-impl Subject for Names {
-    fn answer(&self, alloc: Global, input: &str) -> Result<String> {
-        let (word, rest) = parted(input, " ")?;
-        match word {
-            "order" => order(alloc, rest),
-            "value" => of_value(alloc, number(rest)?),
-            _ => {
-                let name = bytes(alloc, rest)?;
-                named(alloc, word, str::from_utf8(name.as_slice())?)
-            }
-        }
+/// Answers a row of names: the `order` of two TIDs, the TID of a `value`, or whether bytes are a name.
+pub fn names(case: &mut Case<'_>) {
+    match case.part(" ") {
+        "order" => order(case),
+        "value" => of_value(case),
+        kind => named(case, kind),
     }
 }
 
-fn named(alloc: Global, word: &str, text: &str) -> Result<String> {
-    match word {
-        "did" => told(alloc, did_ok(text)),
-        "path" => told(alloc, path_ok(text)),
-        "host" => told(alloc, host_ok(text)),
-        "tid" => tid(alloc, text),
-        "method" => method_of(alloc, text),
-        _ => bail!("no word of names"),
+fn named(case: &mut Case<'_>, kind: &str) {
+    let bytes = case.bytes(" ");
+    let Ok(text) = str::from_utf8(bytes.as_slice()) else {
+        return case.say("no text");
+    };
+    match kind {
+        "did" => say_ok(case, did_ok(text)),
+        "path" => say_ok(case, path_ok(text)),
+        "host" => say_ok(case, host_ok(text)),
+        "tid" => tid(case, text),
+        _ => method_of(case, text),
     }
 }
 
-fn told(alloc: Global, ok: bool) -> Result<String> {
-    said(alloc, if ok { "ok" } else { "no" })
+fn say_ok(case: &mut Case<'_>, is: bool) {
+    case.say(if is { "ok" } else { "no" });
 }
 
-// The text of the TID of a value.
-fn of_value(alloc: Global, value: u64) -> Result<String> {
+fn tid(case: &mut Case<'_>, text: &str) {
+    match Tid::parse(text) {
+        Some(tid) => case.say_number(tid.value()),
+        None => case.say("no"),
+    }
+}
+
+fn method_of(case: &mut Case<'_>, did: &str) {
+    if did_ok(did) {
+        case.say(method(did));
+    }
+}
+
+fn of_value(case: &mut Case<'_>) {
+    let tid = Tid::from_value(case.number(" "));
     let mut letters = [0; TID_LEN];
-    said(alloc, Tid::from_value(value).write_text(&mut letters))
+    case.say(tid.write_text(&mut letters));
 }
 
-fn tid(alloc: Global, text: &str) -> Result<String> {
-    let Some(tid) = Tid::parse(text) else {
-        return told(alloc, false);
-    };
-    let mut written = [0; TID_LEN];
-    tid.write(&mut written);
-    ensure!(
-        written.as_slice() == text.as_bytes(),
-        "the TID is written otherwise"
-    );
-    Answer::new(alloc).number(tid.value()).end()
-}
-
-fn method_of(alloc: Global, text: &str) -> Result<String> {
-    ensure!(did_ok(text), "a DID");
-    said(alloc, method(text))
-}
-
-fn parsed(text: &str) -> Result<Tid> {
-    Tid::parse(text).context("a TID")
-}
-
-// The order of two TIDs.
-fn order(alloc: Global, texts: &str) -> Result<String> {
-    let (left, right) = parted(texts, " ")?;
-    let word = match parsed(left)?.cmp(&parsed(right)?) {
-        Ordering::Less => "less",
-        Ordering::Equal => "equal",
-        Ordering::Greater => "greater",
-    };
-    said(alloc, word)
+fn order(case: &mut Case<'_>) {
+    let left = Tid::parse(case.part(" "));
+    let right = Tid::parse(case.part(" "));
+    if let (Some(left), Some(right)) = (left, right) {
+        case.say_named(&left.cmp(&right));
+    }
 }

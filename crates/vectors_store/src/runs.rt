@@ -1,76 +1,197 @@
-//! `SETUP | STEP ; .. = what each step answers`. The messages are taken one by one, and again as groups, which answers the same.
-//! Behind either the disks are opened again, which gives the same state.
+//! Runs of `query` and `lines` on a disk that has the log of a journal, or other bytes. The calls of the disk, of the output and of
+//! the wire with listed numbers, from 1 on, fail.
 
-use crate::sessions::{Decided, session};
-use crate::setup::{Setup, disk_of, read_setup};
-use crate::steps::{Step, joined, steps_of};
-use anyhow::{Result, bail};
+ghost use Rattle.std.specs.Prelude.{◌≤◌, All, IfOk, length};
+ghost use Rattle.relay_io.specs.declared.wire.TheConstants.{LONGEST_REQUEST};
+
+use at_cid::{Memory, Octets};
+use lines_run::lines;
+use query_run::query;
 use relay_disk::MemoryDisk;
+use relay_io::{Exchange, LONGEST_REQUEST, MemorySink, MemoryWire};
+use relay_store::LONGEST;
 use std::alloc::Global;
-use vector_lines::{Answer, Subject};
+use std::fs;
+use vector_lines::Case;
 
-pub struct Runs;
+// How a log of the first format begins.
+const MARK: &[u8] = b"\x01atrelay\x01";
 
-/// `SETUP | STEP ; .. = the content of each disk behind the steps`.
-pub struct Logs;
+// The calls of a disk, and the bytes of its writes, for which there is room.
+const CALLS: usize = 400;
 
-// The two disks of a row.
-fn disks(alloc: Global, setup: &Setup<'_>) -> Result<(MemoryDisk, MemoryDisk)> {
-    let one = disk_of(alloc, setup.one.as_slice())?;
-    let two = disk_of(alloc, setup.two.as_slice())?;
-    Ok((one, two))
-}
+const BYTES: usize = 4_000;
 
-fn reopened(alloc: Global, setup: &Setup<'_>, steps: &[Step<'_>]) -> Result<Decided> {
-    let (mut one, mut two) = disks(alloc, setup)?;
-    let told = session(alloc, setup, &mut one, &mut two, steps)?;
-    let again = session(alloc, setup, &mut one, &mut two, &[])?;
-    if told.state.as_str() != again.state.as_str() {
-        bail!("another state once it was opened again");
+// The bytes that an output has room for, and those that it takes at a call.
+const ROOM: usize = 10_000;
+
+const STEP: usize = 200;
+
+// The replies of a wire for which there is room, and the bytes of each.
+const REPLIES: usize = 20;
+
+const REPLY: usize = 4_000;
+
+/// The log of the bodies of a file, which has them in hexadecimal, one a line; a line that begins with `#` is a remark.
+pub fn log_of_file(rt: &HostRuntime, path: &str) -> Octets {
+    let mut log = Octets::new(rt.alloc());
+    let _ = log.extend(MARK);
+    if let Ok(text) = fs::read_to_string(rt, path) {
+        for line in text.lines() {
+            if !line.starts_with('#') {
+                add_record(rt.alloc(), &mut log, line);
+            }
+        }
     }
-    Ok(told)
+    let _ = log.push(0);
+    log
 }
 
-// What is told of messages that were taken one by one, and as groups.
-fn compared(alloc: Global, taken: Decided, grouped: &Decided) -> Result<String> {
-    if taken.is_same(grouped) {
-        return Ok(taken.report);
-    }
-    Answer::new(alloc)
-        .words(taken.report.as_str())
-        .words(", but in groups ")
-        .words(grouped.report.as_str())
-        .end()
-}
-
-fn run(alloc: Global, setup: &Setup<'_>, steps: Vec<Step<'_>>) -> Result<String> {
-    let taken = reopened(alloc, setup, steps.as_slice())?;
-    let groups = joined(alloc, steps)?;
-    let grouped = reopened(alloc, setup, groups.as_slice())?;
-    compared(alloc, taken, &grouped)
-}
-
-fn contents(alloc: Global, setup: &Setup<'_>, steps: &[Step<'_>]) -> Result<String> {
-    let (mut one, mut two) = disks(alloc, setup)?;
-    session(alloc, setup, &mut one, &mut two, steps)?;
-    Answer::new(alloc)
-        .bytes(one.content())
-        .words(" ")
-        .bytes(two.content())
-        .end()
-}
-
-impl Subject for Runs {
-    fn answer(&self, alloc: Global, input: &str) -> Result<String> {
-        let setup = read_setup(alloc, input)?;
-        run(alloc, &setup, steps_of(alloc, setup.steps)?)
+fn add_record(alloc: Global, log: &mut Octets, line: &str) {
+    let mut case = Case::new(alloc, line);
+    let body = case.bytes(" ");
+    if let Ok(length) = u32::try_from(body.len()) {
+        case.did(log.push(1));
+        case.did(log.extend(&length.to_be_bytes()));
+        case.did(log.extend(body.as_slice()));
     }
 }
 
-impl Subject for Logs {
-    fn answer(&self, alloc: Global, input: &str) -> Result<String> {
-        let setup = read_setup(alloc, input)?;
-        let steps = steps_of(alloc, setup.steps)?;
-        contents(alloc, &setup, steps.as_slice())
+// A disk with these bytes, and with room for calls.
+fn disk_with(case: &mut Case<'_>, content: &[u8], failing: &[u64]) -> Option<MemoryDisk> {
+    match case.gave(MemoryDisk::new(case.alloc, content, failing)) {
+        Some(mut disk) => {
+            case.did(disk.reserve(CALLS, BYTES));
+            Some(disk)
+        }
+        None => None,
+    }
+}
+
+// A disk with the bytes of a row's next part, or with the log for `log`, and with the failing calls of the part behind.
+fn disk_of(case: &mut Case<'_>, log: &[u8]) -> Option<MemoryDisk> {
+    let word = case.part(" ; ");
+    let failing = case.numbers(" ; ");
+    if word == "log" {
+        return disk_with(case, log, failing.as_slice());
+    }
+    let content = Case::new(case.alloc, word).bytes(" ");
+    disk_with(case, content.as_slice(), failing.as_slice())
+}
+
+// An output, with the failing writes of a row's next part.
+fn sink_of(case: &mut Case<'_>) -> Option<MemorySink> {
+    let failing = case.numbers(" ; ");
+    case.gave(MemorySink::new(case.alloc, ROOM, STEP, failing.as_slice()))
+}
+
+/// Answers `DISK ; FAILING CALLS ; CURSOR ; COLLECTION or - ; FAILING WRITES = END ; LINES`.
+pub fn lines_run(case: &mut Case<'_>, log: &[u8]) {
+    if let Some(mut disk) = disk_of(case, log) {
+        let cursor = case.number(" ; ");
+        let collection = case.part_or_none(" ; ");
+        let out = sink_of(case);
+        let other = disk_with(case, &[], &[]);
+        if let (Some(mut out), Some(mut other)) = (out, other) {
+            let end = lines(
+                case.alloc, LONGEST, &mut disk, &mut other, cursor, collection, &mut out,
+            );
+            case.say_named(&end);
+            case.say(" ; ");
+            say_written(case, out.content());
+        }
+    }
+}
+
+/// Answers `DISK ; FAILING CALLS ; COUNT ; FAILING WRITES ; FAILING NEXTS ; FAILING SENDS ; REQUESTS = END ; LINES ; EXCHANGES`.
+pub fn query_run(case: &mut Case<'_>, log: &[u8]) {
+    if let Some(mut disk) = disk_of(case, log) {
+        let count = case.number(" ; ");
+        let out = sink_of(case);
+        let wire = wire_of(case);
+        let other = disk_with(case, &[], &[]);
+        if let (Some(mut out), Some(mut wire), Some(mut other)) = (out, wire, other) {
+            let end = query(
+                case.alloc, LONGEST, count, &mut disk, &mut other, &mut wire, &mut out,
+            );
+            case.say_named(&end);
+            case.say(" ; ");
+            say_written(case, out.content());
+            case.say(" ;");
+            for exchange in wire.exchanges() {
+                say_exchange(case, exchange);
+            }
+        }
+    }
+}
+
+// The requests with a comma between two, or `none`.
+fn requests(alloc: Global, text: &str) -> Result<Vec<Octets>, Memory>
+    ensures { IfOk result (λ requests. All (λ request. length request ≤ LONGEST_REQUEST)
+        requests.items) }
+{
+    let mut requests = Vec::new(alloc);
+    if text == "none" {
+        return Ok(requests);
+    }
+    for word in text.split(',') {
+        let request = Case::new(alloc, word).octets(" ");
+        if request.len() > LONGEST_REQUEST {
+            return Err(Memory);
+        }
+        requests.push(request)?;
+    }
+    Ok(requests)
+}
+
+// A wire with the failing calls and the requests of a row's next parts, and with room for replies.
+fn wire_of(case: &mut Case<'_>) -> Option<MemoryWire> {
+    let failing = case.numbers(" ; ");
+    let sends = case.numbers(" ; ");
+    match requests(case.alloc, case.part(" ; ")) {
+        Ok(requests) => wire_with(
+            case,
+            MemoryWire::new(case.alloc, requests, failing.as_slice(), sends.as_slice()),
+        ),
+        Err(Memory) => None,
+    }
+}
+
+fn wire_with(case: &mut Case<'_>, wire: Result<MemoryWire, Memory>) -> Option<MemoryWire> {
+    match case.gave(wire) {
+        Some(mut wire) => {
+            case.did(wire.reserve(REPLIES, REPLY));
+            Some(wire)
+        }
+        None => None,
+    }
+}
+
+// Answers the text that was written, in which `|` stands for the end of each line, or `-` for none.
+fn say_written(case: &mut Case<'_>, written: &[u8]) {
+    if written.is_empty() {
+        return case.say("-");
+    }
+    if let Ok(text) = str::from_utf8(written) {
+        for (i, line) in text.split('\n').enumerate() {
+            case.say(if i == 0 { "" } else { "|" });
+            case.say(line);
+        }
+    }
+}
+
+// Answers what happened on a wire: of a request its bytes, of a reply its last line.
+fn say_exchange(case: &mut Case<'_>, exchange: &Exchange) {
+    match exchange {
+        Exchange::Came(request) => {
+            case.say(" came:");
+            case.say_bytes(request.as_slice());
+        }
+        Exchange::Sent(reply) => {
+            case.say(" sent:");
+            if let Ok(text) = str::from_utf8(reply.as_slice()) {
+                case.say(text.rsplit('\n').next().unwrap_or(""));
+            }
+        }
     }
 }

@@ -1,115 +1,84 @@
-//! A store opened on two disks, and the steps of a row made on it.
+//! `ONE ; TWO ; MOST | JUDGES | REPOSITORIES | MOMENTS | STEPS = what each step answers, and who of the judges has fallen`: a store
+//! that is opened on two disks, of which no row is to end past MOST, and the steps that are made on it.
 
-ghost use Rattle.std.specs.Prelude.{◌≡◌, IfOk};
-
-use crate::judging::{authority, fallen};
-use crate::report::Report;
-use crate::setup::{Setup, clock_of, repos_of};
-use crate::sitting::Sitting;
-use crate::states::state;
-use crate::steps::Step;
-use anyhow::{Result, bail};
-use at_authority::{Judges, Panel, TrustAll};
+use crate::disks::{FileInMemory, fill, two_disks};
+use crate::judges::{authority_of, say_fallen};
+use crate::setup::{clock_of, repos_of};
+use crate::steps::{Sitting, make};
+use at_authority::Panel;
 use gate_log::{LAST_END, Side};
-use relay_disk::Disk;
-use relay_store::{Store, StoreFault};
-use std::alloc::Global;
-use vector_lines::{had, said};
+use relay_store::Store;
+use std::mem;
+use vector_lines::Case;
 
-/// What the steps answered, and the state behind them.
-#[derive(Drop)]
-pub struct Decided {
-    pub report: String,
-    pub state: String,
-}
-
-impl Decided {
-    /// Whether both are told alike.
-    pub fn is_same(&self, other: &Decided) -> bool {
-        self.report.as_str() == other.report.as_str() && self.state.as_str() == other.state.as_str()
+/// Answers a row of a store.
+pub fn session(rt: &HostRuntime, case: &mut Case<'_>) {
+    if let Some((mut one, mut two)) = two_disks(rt, case) {
+        fill(case, &mut one, " ; ");
+        fill(case, &mut two, " ; ");
+        opened(case, &mut one, &mut two);
     }
 }
 
-// The store that was opened, with what it asks.
-fn sitting(alloc: Global, setup: &Setup<'_>, store: Store) -> Result<Sitting>
-    ensures { IfOk result (λ made. made.store ≡ store) }
-{
-    let report = Report::new(alloc);
-    Ok(Sitting {
-        alloc,
-        store,
-        repos: repos_of(alloc, setup.repositories)?,
-        clock: clock_of(alloc, setup.moments)?,
-        report,
-    })
-}
-
-fn unopened(alloc: Global, fault: StoreFault) -> Result<Decided> {
-    let report = Report::unopened(alloc, fault)?.end(alloc)?;
-    let state = said(alloc, "none")?;
-    Ok(Decided { report, state })
-}
-
-fn told_by(alloc: Global, sitting: &Sitting) -> Result<Decided> {
-    let state = state(alloc, sitting.store.core())?;
-    let report = sitting.report.end(alloc)?;
-    Ok(Decided { report, state })
-}
-
-// Opens a store, and makes the steps.
-fn sat<D: Disk, P: Judges>(
-    alloc: Global,
-    setup: &Setup<'_>,
-    judges: &mut P,
-    one: &mut D,
-    two: &mut D,
-    steps: &[Step<'_>],
-) -> Result<Decided> {
-    if setup.most > LAST_END {
-        bail!("a limit past the last end");
-    }
-    let store = match Store::open(alloc, one, two, setup.most) {
-        Ok(store) => store,
-        Err(fault) => return unopened(alloc, fault),
-    };
-    let side = store.side();
-    let mut sitting = sitting(alloc, setup, store)?;
-    match side {
-        Side::One => sitting.run(one, judges, steps)?,
-        Side::Two => sitting.run(two, judges, steps)?,
-    }
-    told_by(alloc, &sitting)
-}
-
-fn judged<D: Disk>(
-    alloc: Global,
-    setup: &Setup<'_>,
-    one: &mut D,
-    two: &mut D,
-    steps: &[Step<'_>],
-) -> Result<Decided> {
-    let mut panel = Panel::new(alloc);
-    for text in setup.judges.split(" ; ") {
-        if text != "-" {
-            let (method, authority) = authority(alloc, text)?;
-            had(panel.add(method, Box::new(alloc, authority)?))?;
+fn opened<'a>(case: &mut Case<'a>, one: &mut FileInMemory, two: &mut FileInMemory) {
+    let most = case.number(" | ").min(LAST_END);
+    let mut panel = Panel::new(case.alloc);
+    let judges = case.part(" | ");
+    if judges != "-" {
+        for judge in judges.split(" ; ") {
+            let rest = case.turn(judge);
+            let method = case.part(" : ");
+            if let Some(authority) = authority_of(case) {
+                match Box::new(case.alloc, authority) {
+                    Ok(authority) => {
+                        case.did(panel.add(method, authority));
+                    }
+                    Err(_) => case.say("Memory"),
+                }
+            }
+            case.back(rest);
         }
     }
-    let mut told = sat(alloc, setup, &mut panel, one, two, steps)?;
-    told.report.push_str(fallen(alloc, &panel)?.as_str())?;
-    Ok(told)
+    let repos = repos_of(case);
+    let clock = clock_of(case);
+    let steps = case.part(" | ");
+    if let (Some(repos), Some(clock)) = (repos, clock) {
+        match Store::open(case.alloc, one, two, most) {
+            Ok(store) => {
+                let side = store.side();
+                let mut sitting = Sitting {
+                    store,
+                    repos,
+                    clock,
+                    panel,
+                    is_behind: false,
+                    messages: 0,
+                    events: 0,
+                    refused: 0,
+                };
+                match side {
+                    Side::One => sat(case, &mut sitting, one, steps),
+                    Side::Two => sat(case, &mut sitting, two, steps),
+                }
+                mem::drop(sitting);
+            }
+            Err(fault) => {
+                case.say_number(u64::from(fault.number()));
+                case.say(" ");
+                case.say_named(&fault);
+            }
+        }
+    }
 }
 
-/// Opens a store on two disks as the row says, with what it asks made anew, and makes the steps.
-pub fn session<D: Disk>(
-    alloc: Global,
-    setup: &Setup<'_>,
-    one: &mut D,
-    two: &mut D,
-    steps: &[Step<'_>],
-) -> Result<Decided> {
-    if setup.judges == "all" {
-        return sat(alloc, setup, &mut TrustAll, one, two, steps);
+// Makes the steps, with ` ; ` between two, or none for `-`.
+fn sat<'a>(case: &mut Case<'a>, sitting: &mut Sitting, disk: &mut FileInMemory, steps: &'a str) {
+    if steps != "-" {
+        for step in steps.split(" ; ") {
+            let rest = case.turn(step);
+            make(case, sitting, disk);
+            case.back(rest);
+        }
     }
-    judged(alloc, setup, one, two, steps)
+    say_fallen(case, &sitting.panel);
 }

@@ -3,6 +3,7 @@ use Rattle.at_syntax.specs.Host.{is_host}
 use Rattle.backfill.specs.StreamPlaces.{left_of}
 use Rattle.event_window.specs.declared.fault.EventsFault.{EventsFault}
 use Rattle.take_run.proofs.FeedSteps.{follow_fails, follow_finishes, follow_stops, follows_on, left_same, starts_following}
+use Rattle.take_run.proofs.Telling.{told_on, told_written, unmoved_here, unmoved_on}
 use Rattle.chain_run.specs.Ends.{taking_end}
 use Rattle.chain_run.proofs.Endings.{finished_of_messages, stop_of_messages}
 use Rattle.chain_run.proofs.Faults.{is_unread}
@@ -21,6 +22,7 @@ messages-init g c = record {
   side = refl;
   few = omega (arith, c.requires.no_messages);
   counts = record { disk = omega arith; repos = omega arith; clock = omega arith; input = omega arith; output = omega arith };
+  unmoved = unmoved_here _ _ _ _ _;
 }
 
 pub returns-in-Ok-None-clause-taken : goal.returns-in-Ok-None-clause-taken
@@ -75,6 +77,7 @@ messages-preserved g c =
       side = c.in-Ok.ensures.side ∙ c.messages.invariant.side;
       few = omega (arith, c.in-Ok.ensures.count, c.messages.invariant.few);
       counts = record { disk = omega (arith, was.disk, now.disk); repos = omega (arith, was.repos, now.repos); clock = omega (arith, was.clock, now.clock); input = omega arith; output = omega (arith, was.output, now.output) };
+      unmoved = unmoved_on _ _ _ _ _ _ _ _ _ _ c.messages.invariant.unmoved _ _ _ _ _ c.in-Ok.ensures.unmoved;
     }
 
 pub take_group-requires-clause-hosts : goal.take_group-requires-clause-hosts
@@ -103,3 +106,15 @@ returns-in-Err-take_group-clause-first_steady g c = λ not. c.read_next.ensures.
 
 pub returns-clause-first_steady : goal.returns-clause-first_steady
 returns-clause-first_steady g c = λ not. c.messages.invariant.first_steady
+
+pub returns-in-Ok-None-clause-told : goal.returns-in-Ok-None-clause-told
+returns-in-Ok-None-clause-told g c = told_written _ _ _ _ _ _ _ _ _ _ c.messages.invariant.unmoved c.finish.result _ c.finish.ensures.steady
+
+pub returns-in-Err-clause-told : goal.returns-in-Err-clause-told
+returns-in-Err-clause-told g c = told_written _ _ _ _ _ _ _ _ _ _ c.messages.invariant.unmoved (taking_end (Err c.in-Err.fault)) _ (λ not. refl)
+
+pub returns-in-Err-take_group-clause-told : goal.returns-in-Err-take_group-clause-told
+returns-in-Err-take_group-clause-told g c = told_on _ _ _ _ _ _ _ _ _ _ c.messages.invariant.unmoved c.in-Err-take_group.end _ _ _ _ _ c.in-Err-take_group.ensures.told
+
+pub returns-clause-told : goal.returns-clause-told
+returns-clause-told g c = told_written _ _ _ _ _ _ _ _ _ _ c.messages.invariant.unmoved c.finish-2.result _ c.finish-2.ensures.steady

@@ -3,7 +3,7 @@ use Rattle.event_window.specs.Held.{Held}
 use Rattle.backfill.specs.StreamPlaces.{left_of}
 use Rattle.relay_step.specs.Around.{around}
 use Rattle.relay_store.specs.Store.{IsKept, seen_in}
-use Rattle.take_run.specs.Causes.{Kept, faults}
+use Rattle.take_run.specs.Causes.{Kept, Unmoved, failures, faults}
 use Rattle.take_run.specs.Going.{point}
 use Rattle.take_run.specs.Tells.{tells}
 use Rattle.take_run.proofs.FeedSteps.{IsFollowing}
@@ -19,8 +19,8 @@ invariant-messages g l =
     record {
       following : IsTrue g.E.Events.tells → (held : Held) → g.E.Events.holds l.fn.events held
           → IsFollowing true l.host (left_of held l.fn.place) (left_of held l.place) view (tells g.D.Disk.tells g.C.Clock.tells g.R.Repos.tells g.O.Sink.tells)
-          (point (seen_in l.fn.store) l.fn.tally l.fn.disk (around (panel l.fn.judges) (moments l.fn.clock) (repository l.fn.repos)) (written l.fn.out))
-          (point (seen_in l.store) l.tally l.disk (around (panel l.judges) (moments l.clock) (repository l.repos)) (written l.out)) l.counter;
+          (point (seen_in l.fn.store) l.fn.tally l.fn.disk (around (panel l.fn.judges) (moments l.fn.clock) (repository l.fn.repos)) (failures (g.R.Repos.faults l.fn.repos) (g.C.Clock.faults l.fn.clock) 0) (written l.fn.out))
+          (point (seen_in l.store) l.tally l.disk (around (panel l.judges) (moments l.clock) (repository l.repos)) (failures (g.R.Repos.faults l.repos) (g.C.Clock.faults l.clock) 0) (written l.out)) l.counter;
       holds : IsTrue g.E.Events.tells → (held : Held) → g.E.Events.holds l.fn.events held → g.E.Events.holds l.events held;
       known : IsTrue g.E.Events.tells → (held : Held) × g.E.Events.holds l.events held;
       later : g.E.Events.later l.fn.events l.events;
@@ -32,4 +32,6 @@ invariant-messages g l =
       few : l.tally.messages ≤ l.counter;
       counts : Kept (faults (view l.fn.disk).faults (g.R.Repos.faults l.fn.repos) (g.C.Clock.faults l.fn.clock) 0 (g.O.Sink.faults l.fn.out))
           (faults (view l.disk).faults (g.R.Repos.faults l.repos) (g.C.Clock.faults l.clock) 0 (g.O.Sink.faults l.out));
+      unmoved : Unmoved (faults (view l.fn.disk).faults (g.R.Repos.faults l.fn.repos) (g.C.Clock.faults l.fn.clock) 0 (g.O.Sink.faults l.fn.out))
+          (faults (view l.disk).faults (g.R.Repos.faults l.repos) (g.C.Clock.faults l.clock) 0 (g.O.Sink.faults l.out)) (panel l.fn.judges) (panel l.judges);
     }

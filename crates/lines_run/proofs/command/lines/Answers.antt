@@ -9,12 +9,16 @@ use Rattle.serve_run.specs.declared.end.ServeEnd.{ServeEnd}
 use Rattle.serve_run.proofs.Ending.{image_shows, nothing_written, opening_read, opening_shows, opening_steady, unopened_may}
 use Rattle.serve_run.proofs.Reading.{read_opened, read_unopened}
 use Rattle.lines_run.specs.Lines.{lines_above}
+use Rattle.backfill.specs.Served.{rising_above}
+use Rattle.lines_run.proofs.Lining.{adds_no_line}
 use Rattle.lines_run.proofs.Ending.{either_behind, may_end}
 use Rattle.lines_run.proofs.command.lines.Goals as goal
 
 pub returns-in-Ok-clause-written : goal.returns-in-Ok-clause-written
 returns-in-Ok-clause-written g c = λ told J image. record {
   written = c.lines_on.ensures.written told J
+      (opened_keeps g.D.Disk.tells (g.D.Disk.view c.args.disk.now) (g.D.Disk.view c.args.other.now) (g.D.Disk.view c.open.new.disk) (g.D.Disk.view c.open.new.other) c.in-Ok.store c.in-Ok.ensures.opened told J image);
+  whole = c.lines_on.ensures.whole told J
       (opened_keeps g.D.Disk.tells (g.D.Disk.view c.args.disk.now) (g.D.Disk.view c.args.other.now) (g.D.Disk.view c.open.new.disk) (g.D.Disk.view c.open.new.other) c.in-Ok.store c.in-Ok.ensures.opened told J image);
   read = read_opened g.D.Disk.tells (g.D.Disk.view c.args.disk.now) (g.D.Disk.view c.args.other.now) (g.D.Disk.view c.open.new.disk) (g.D.Disk.view c.open.new.other) (g.D.Disk.view c.lines_on.new.disk) (g.D.Disk.view c.lines_on.new.other)
       c.in-Ok.store (ServeOpened c.lines_on.result) J (g.met.D.Disk.is_disk c.open.new.disk) (g.met.D.Disk.is_disk c.open.new.other) c.in-Ok.ensures.opened told image c.lines_on.ensures.one c.lines_on.ensures.two;
@@ -32,6 +36,7 @@ returns-in-Ok-clause-complete g c = λ told J image no_disk no_write.
 pub returns-in-Err-clause-written : goal.returns-in-Err-clause-written
 returns-in-Err-clause-written g c = λ told J image. record {
   written = λ _. nothing_written c.in-Err.fault c.of_opening.result (lines_above (option_map (λ text. text.now) c.args.collection) c.args.cursor (held_by J).shown) (g.O.Sink.written c.args.out.now) c.of_opening.ensures (0, omega arith, sym (append-nil (g.O.Sink.written c.args.out.now)));
+  whole = λ _ _. adds_no_line (option_map (λ text. text.now) c.args.collection) (rising_above c.args.cursor (held_by J).shown) (g.O.Sink.written c.args.out.now);
   read = read_unopened g.D.Disk.tells (g.D.Disk.view c.args.disk.now) (g.D.Disk.view c.args.other.now) (g.D.Disk.view c.open.new.disk) (g.D.Disk.view c.open.new.other) c.in-Err.fault c.of_opening.result J
       (g.met.D.Disk.is_disk c.open.new.disk) (g.met.D.Disk.is_disk c.open.new.other) c.in-Err.ensures.opened told c.of_opening.ensures;
 }
@@ -46,14 +51,14 @@ returns-in-Err-clause-complete g c = λ told J image no_disk no_write.
     unopened_may _ c.in-Err.fault c.of_opening.result c.of_opening.ensures (λ is. c.in-Err.ensures.disk (ap Err is))
     (λ p is. no_journal p _ _ J image (c.in-Err.ensures.bad_log p (ap Err is) told)) no_disk
 
-pub returns-in-Err-clause-unopened : goal.returns-in-Err-clause-unopened
-returns-in-Err-clause-unopened g c = λ place is told. (
-  opening_read g.D.Disk.tells (g.D.Disk.view c.args.disk.now) (g.D.Disk.view c.args.other.now) (g.D.Disk.view c.open.new.disk) (g.D.Disk.view c.open.new.other) c.in-Err.fault c.of_opening.result place c.in-Err.ensures.opened c.of_opening.ensures is told,
+pub returns-in-Err-clause-no_journal : goal.returns-in-Err-clause-no_journal
+returns-in-Err-clause-no_journal g c = λ told none. (
+  opening_read g.D.Disk.tells (g.D.Disk.view c.args.disk.now) (g.D.Disk.view c.args.other.now) (g.D.Disk.view c.open.new.disk) (g.D.Disk.view c.open.new.other) c.in-Err.fault c.of_opening.result c.in-Err.ensures.opened c.of_opening.ensures told,
   refl,
 )
 
-pub returns-in-Ok-clause-unopened : goal.returns-in-Ok-clause-unopened
-returns-in-Ok-clause-unopened g c = λ place is told. absurd (c.lines_on.ensures.no_bad_log place is told)
+pub returns-in-Ok-clause-no_journal : goal.returns-in-Ok-clause-no_journal
+returns-in-Ok-clause-no_journal g c = λ told none. let kept = c.in-Ok.ensures.opened.keeps told in absurd (none kept.0 kept.1)
 
 pub returns-in-Err-clause-disks_steady : goal.returns-in-Err-clause-disks_steady
 returns-in-Err-clause-disks_steady g c = opening_steady c.in-Err.fault c.of_opening.result _ c.of_opening.ensures c.in-Err.ensures.steady

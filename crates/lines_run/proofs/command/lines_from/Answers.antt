@@ -7,6 +7,9 @@ lines_of_events-requires g c = λ told. let kept = c.requires told in (held_by k
 pub returns-clause-written : goal.returns-clause-written
 returns-clause-written g c = λ told J keeps. c.lines_of_events.ensures.written told (held_by J) (c.events-events.ensures.held told J keeps)
 
+pub returns-clause-whole : goal.returns-clause-whole
+returns-clause-whole g c = λ told J keeps. c.lines_of_events.ensures.whole told (held_by J) (c.events-events.ensures.held told J keeps)
+
 pub returns-clause-no_bad_log : goal.returns-clause-no_bad_log
 returns-clause-no_bad_log g c = λ place is told.
     let kept = c.requires told in

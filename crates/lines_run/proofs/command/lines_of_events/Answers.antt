@@ -9,6 +9,12 @@ pub returns-in-Err-clause-written : goal.returns-in-Err-clause-written
 returns-in-Err-clause-written g c = λ told held holds out.
     fault_written c.in-Err.fault c.of_replay.result (lines_above (option_map (λ text. text.now) c.args.collection) c.args.cursor held.shown) _ _ c.of_replay.ensures (c.in-Err.ensures.written told held holds out)
 
+pub returns-in-Ok-clause-whole : goal.returns-in-Ok-clause-whole
+returns-in-Ok-clause-whole g c = λ told held holds out no. c.in-Ok.ensures.whole told held holds out (λ is. absurd cc)
+
+pub returns-in-Err-clause-whole : goal.returns-in-Err-clause-whole
+returns-in-Err-clause-whole g c = λ told held holds out no. c.in-Err.ensures.whole told held holds out (λ is. no (c.of_replay.ensures ∙ output_end c.in-Err.fault is))
+
 pub returns-in-Err-clause-out_steady : goal.returns-in-Err-clause-out_steady
 returns-in-Err-clause-out_steady g c = λ no. c.in-Err.ensures.no_fault (λ is. no (c.of_replay.ensures ∙ output_end c.in-Err.fault is))
 

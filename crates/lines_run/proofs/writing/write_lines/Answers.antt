@@ -1,10 +1,12 @@
-use Rattle.std.proofs.Common.{rules, ◌≡◌, ◌∙◌, ◌++◌, ◌<◌, ◌≤◌, ◌^◌, ℕ, List, Option, IfSome, Err, Ok, IsTrue, arith, subst}
+use Rattle.std.proofs.Common.{rules, ◌≡◌, ◌∙◌, ◌++◌, ℕ, List, Option, Err, arith, sym, ap, subst}
 use Rattle.std.specs.Prelude.{option_map}
 use Rattle.event_window.specs.Held.{IsNext}
 use Rattle.relay_io.specs.Streams.{AddsFront}
 use Rattle.at_event.specs.Frames.{frame_of}
 use Rattle.json_lines.specs.Lines.{lines_read}
-use Rattle.lines_run.proofs.Lining.{lining_broken, lining_done, lining_more, lining_none, lining_stopped, written_err}
+use Rattle.backfill.specs.Served.{rising_above}
+use Rattle.lines_run.specs.Lines.{AddsLines}
+use Rattle.lines_run.proofs.Lining.{lining_broken, lining_done, lining_more, lining_stopped, lining_whole, written_err}
 use Rattle.lines_run.proofs.writing.write_lines.Goals as goal
 
 pub returns-in_err-number-clause-written : goal.returns-in_err-number-clause-written
@@ -40,3 +42,15 @@ returns-clause-written g c = λ told held holds writes.
     let next = subst (λ (found : Option ℕ). IsNext c.events.last held.shown found c.next_above.new.room) c.in_default.is
     (c.in_ok-number.ensures.next told held (c.events.invariant.holds told held holds)) in
     lining_done _ _ _ _ _ _ _ (c.events.invariant.lining told held holds) next writes
+
+pub returns-in_err-number-clause-whole : goal.returns-in_err-number-clause-whole
+returns-in_err-number-clause-whole g c = λ told held holds writes other. lining_whole _ _ _ _ _ _ _ (c.events.invariant.lining told held holds) writes
+
+pub returns-in_err-write_message-clause-whole : goal.returns-in_err-write_message-clause-whole
+returns-in_err-write_message-clause-whole g c = λ told held holds writes other.
+    let same : c.from_residual-in_err-write_message.result ≡ Err c.in_err-write_message.field-0.0 = search rules in
+    subst (λ out. AddsLines (option_map (λ text. text.now) c.args.collection) (rising_above c.args.cursor held.shown) (g.O.Sink.written c.args.out.now) (g.O.Sink.written out))
+    (sym (c.in_err-write_message.ensures.no_fault (λ is. other (same ∙ ap Err is)))) (lining_whole _ _ _ _ _ _ _ (c.events.invariant.lining told held holds) writes)
+
+pub returns-clause-whole : goal.returns-clause-whole
+returns-clause-whole g c = λ told held holds writes other. lining_whole _ _ _ _ _ _ _ (c.events.invariant.lining told held holds) writes

@@ -1,8 +1,8 @@
-use Rattle.std.proofs.Common.{rules, ◌≡◌, ◌-◌, ◌+◌, ◌<◌, ◌≤◌, ◌∙◌, ℕ, List, Bool, true, false, Ok, Err, IsTrue, Result, arith, subst}
+use Rattle.std.proofs.Common.{rules, ◌≡◌, ◌-◌, ◌+◌, ◌<◌, ◌∙◌, ℕ, List, Bool, true, false, Ok, Err, arith, subst}
 use Rattle.query_run.specs.AtWire.{at_wire}
 use Rattle.query_run.specs.Queried.{Answered, Comes, Queried}
 use Rattle.serve_run.specs.declared.end.ServeEnd.{ServeEnd}
-use Rattle.query_run.proofs.Querying.{ended, ended_too, over, querying_more, querying_none, stopped_answering, stopped_wire}
+use Rattle.query_run.proofs.Querying.{ended, ended_too, over, querying_more, stopped_answering, stopped_wire}
 use Rattle.query_run.proofs.answering.answer_all.Goals as goal
 
 pub returns-in_err-come-clause-queried : goal.returns-in_err-come-clause-queried

@@ -1,4 +1,4 @@
-use Rattle.std.proofs.Common.{Err, sym, ap, subst}
+use Rattle.std.proofs.Common.{Err, sym, ap, subst, refl}
 use Rattle.relay_disk.proofs.Moments.{still_here}
 use Rattle.relay_core.specs.Entries.{Holds}
 use Rattle.relay_core.specs.declared.journal_state.Core.{Core}
@@ -6,7 +6,6 @@ use Rattle.relay_store.proofs.Images.{no_journal}
 use Rattle.relay_store.proofs.Beside.{opened_keeps}
 use Rattle.serve_run.proofs.Reading.{read_opened, read_unopened}
 use Rattle.query_run.specs.AtWire.{at_wire}
-use Rattle.query_run.specs.Ends.{IsOfDisks}
 use Rattle.serve_run.specs.Ends.{ServeEndShows, ServeOpened}
 use Rattle.serve_run.specs.Guests.{end_in}
 use Rattle.serve_run.proofs.Ending.{opening_read, opening_shows, opening_steady, unopened_may}
@@ -83,11 +82,18 @@ returns-clause-out_steady g c = λ no. c.in-Err-answer_all.ensures.out_steady (�
 pub returns-clause-wire_steady : goal.returns-clause-wire_steady
 returns-clause-wire_steady g c = λ no. c.in-Err-answer_all.ensures.wire_steady (λ is. no (ap end_in is))
 
-pub returns-in-Err-clause-unopened : goal.returns-in-Err-clause-unopened
-returns-in-Err-clause-unopened g c = λ place is told. opening_read g.D.Disk.tells (g.D.Disk.view c.args.disk.now) (g.D.Disk.view c.args.other.now) (g.D.Disk.view c.open.new.disk) (g.D.Disk.view c.open.new.other) c.in-Err.fault c.of_opening.result place c.in-Err.ensures.opened c.of_opening.ensures is told
+pub returns-in-Err-clause-no_journal : goal.returns-in-Err-clause-no_journal
+returns-in-Err-clause-no_journal g c = λ told none. (
+  opening_read g.D.Disk.tells (g.D.Disk.view c.args.disk.now) (g.D.Disk.view c.args.other.now) (g.D.Disk.view c.open.new.disk) (g.D.Disk.view c.open.new.other) c.in-Err.fault c.of_opening.result c.in-Err.ensures.opened c.of_opening.ensures told,
+  refl,
+  refl,
+)
 
-pub returns-clause-unopened : goal.returns-clause-unopened
-returns-clause-unopened g c = λ place is told. absurd (not_of_disks c.in-Err-answer_all.end c.in-Err-answer_all.ensures.few (subst IsOfDisks (sym is) tt))
+pub returns-in-Ok-answer_all-clause-no_journal : goal.returns-in-Ok-answer_all-clause-no_journal
+returns-in-Ok-answer_all-clause-no_journal g c = λ told none. let kept = c.in-Ok.ensures.opened.keeps told in absurd (none kept.0 kept.1)
+
+pub returns-clause-no_journal : goal.returns-clause-no_journal
+returns-clause-no_journal g c = λ told none. let kept = c.in-Ok.ensures.opened.keeps told in absurd (none kept.0 kept.1)
 
 pub returns-in-Err-clause-disks_steady : goal.returns-in-Err-clause-disks_steady
 returns-in-Err-clause-disks_steady g c = opening_steady c.in-Err.fault c.of_opening.result _ c.of_opening.ensures c.in-Err.ensures.steady

@@ -1,4 +1,4 @@
-use Rattle.std.proofs.Common.{◌≡◌, ◌∙◌, List, ℕ, [], ◌∷◌, ◌++◌, true, false, refl, sym, ap, subst}
+use Rattle.std.proofs.Common.{◌∙◌, List, ℕ, true, false, refl, sym, ap, subst}
 use Rattle.std.specs.Prelude.{codes}
 use Rattle.std.proofs.lemmas.List.{append-nil}
 use Rattle.relay_query.specs.Replies.{IsReplyTo}

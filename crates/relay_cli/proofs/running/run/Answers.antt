@@ -2,7 +2,7 @@ use Rattle.std.proofs.Common.{◌∙◌, ap, false, refl, sym, true}
 use Rattle.query_run.specs.AtWire.{at_wire}
 use Rattle.relay_step.specs.Around.{around}
 use Rattle.serve_run.specs.AtDoor.{at_door}
-use Rattle.relay_cli.proofs.Damaged.{check_good, feed_bad, mirror_good, of_disks, query_bad, run_bad, serving_bad, tape_bad, trial_good}
+use Rattle.relay_cli.proofs.Asking.{check_asks_none, cutting_asks_none, mirror_asks_none, off_journal, query_asks_none, run_spent, serving_asks_none, showing_asks_none, takes_none, trial_asks_none}
 use Rattle.relay_cli.proofs.Words.{followed_of, lines_run_as, operated_of, run_as, shown_of, spent_by, synced_of}
 use Rattle.relay_cli.proofs.Telling.{ends_by_tape, feed_quiet, none_next, of_command, replay_quiet, tape_hides_none}
 use Rattle.relay_cli.specs.Ran.{may_hide_asked, may_hide_input}
@@ -24,7 +24,8 @@ returns-in-Check-clause-ran g c = record {
     input = λ hidden not. c.check.ensures.input_steady not;
     output = λ hidden not. c.check.ensures.out_steady not;
   };
-  damaged = λ at is told. absurd (check_good _ _ _ c.check.result at c.check.ensures.checked is);
+  spent = λ other is. absurd (check_asks_none _ _ _ c.check.result c.check.ensures.checked is);
+  no_journal = λ told on. absurd (off_journal _ _ c.in-Check.is refl on);
 }
 
 pub returns-in-Ingest-clause-ran : goal.returns-in-Ingest-clause-ran
@@ -47,13 +48,14 @@ returns-in-Ingest-clause-ran g c = record {
     input = λ hidden not. c.ingest.ensures.input_steady (ends_by_tape c.ingest.result (of_command may_hide_input _ Command.Ingest _ _ c.in-Ingest.is c.from.ensures hidden));
     output = λ hidden not. c.ingest.ensures.out_steady (λ e. not (c.from.ensures ∙ ap status_of_tape e));
   };
-  damaged = λ at is told.
-      let bad = c.ingest.ensures.unopened at (tape_bad c.ingest.result at (sym c.from.ensures ∙ is)) told in
+  spent = λ other. absurd (takes_none _ _ c.in-Ingest.is refl other);
+  no_journal = λ told on none.
+      let alone = c.ingest.ensures.no_journal told none in
       record {
-        disks_read = bad.0;
-        around = λ i. around (g.P.Judges.panel (bad.1 i)) (g.C.Clock.moments (bad.3 i)) (g.R.Repos.repository (bad.2 i));
-        left = ap g.I.Source.left bad.4;
-        written = ap g.O.Sink.written bad.5;
+        disks_read = λ not. alone.0 (λ e. not (c.from.ensures ∙ ap status_of_tape e));
+        around = λ i. around (g.P.Judges.panel (alone.1 i)) (g.C.Clock.moments (alone.3 i)) (g.R.Repos.repository (alone.2 i));
+        left = ap g.I.Source.left alone.4;
+        written = ap g.O.Sink.written alone.5;
         given = refl;
         coming = refl;
         door = refl;
@@ -81,13 +83,14 @@ returns-in-Account-clause-ran g c = record {
     input = λ hidden not. refl;
     output = λ hidden not. c.account.ensures.out_steady (λ e. not (c.from-in-Account.ensures ∙ ap status_of_run e));
   };
-  damaged = λ at is told.
-      let bad = c.account.ensures.unopened at (run_bad c.account.result at (sym c.from-in-Account.ensures ∙ is)) told in
+  spent = λ other is. absurd (showing_asks_none c.account.result c.account.ensures.few (run_spent c.account.result (sym c.from-in-Account.ensures ∙ is)));
+  no_journal = λ told on none.
+      let alone = c.account.ensures.no_journal told none in
       record {
-        disks_read = bad.0;
+        disks_read = λ not. alone.0 (λ e. not (c.from-in-Account.ensures ∙ ap status_of_run e));
         around = refl;
         left = refl;
-        written = ap g.O.Sink.written bad.1;
+        written = ap g.O.Sink.written alone.1;
         given = refl;
         coming = refl;
         door = refl;
@@ -115,13 +118,14 @@ returns-in-Hosts-clause-ran g c = record {
     input = λ hidden not. refl;
     output = λ hidden not. c.hosts.ensures.out_steady (λ e. not (c.from-in-Hosts.ensures ∙ ap status_of_run e));
   };
-  damaged = λ at is told.
-      let bad = c.hosts.ensures.unopened at (run_bad c.hosts.result at (sym c.from-in-Hosts.ensures ∙ is)) told in
+  spent = λ other is. absurd (showing_asks_none c.hosts.result c.hosts.ensures.few (run_spent c.hosts.result (sym c.from-in-Hosts.ensures ∙ is)));
+  no_journal = λ told on none.
+      let alone = c.hosts.ensures.no_journal told none in
       record {
-        disks_read = bad.0;
+        disks_read = λ not. alone.0 (λ e. not (c.from-in-Hosts.ensures ∙ ap status_of_run e));
         around = refl;
         left = refl;
-        written = ap g.O.Sink.written bad.1;
+        written = ap g.O.Sink.written alone.1;
         given = refl;
         coming = refl;
         door = refl;
@@ -149,13 +153,14 @@ returns-in-Takedown-clause-ran g c = record {
     input = λ hidden not. refl;
     output = λ hidden not. c.operate.ensures.out_steady (λ e. not (c.from-in-Takedown.ensures ∙ ap status_of_run e));
   };
-  damaged = λ at is told.
-      let bad = c.operate.ensures.unopened at (run_bad c.operate.result at (sym c.from-in-Takedown.ensures ∙ is)) told in
+  spent = λ other is. absurd (spent_by _ _ _ _ _ c.operate.result c.operate.ensures.caused (run_spent c.operate.result (sym c.from-in-Takedown.ensures ∙ is)));
+  no_journal = λ told on none.
+      let alone = c.operate.ensures.no_journal told none in
       record {
-        disks_read = bad.0;
-        around = ap (λ clock. around (g.P.Judges.panel c.args.panel.now) (g.C.Clock.moments clock) (g.R.Repos.repository c.args.repos.now)) bad.1;
+        disks_read = λ not. alone.0 (λ e. not (c.from-in-Takedown.ensures ∙ ap status_of_run e));
+        around = ap (λ clock. around (g.P.Judges.panel c.args.panel.now) (g.C.Clock.moments clock) (g.R.Repos.repository c.args.repos.now)) alone.1;
         left = refl;
-        written = ap g.O.Sink.written bad.2;
+        written = ap g.O.Sink.written alone.2;
         given = refl;
         coming = refl;
         door = refl;
@@ -183,13 +188,14 @@ returns-in-Restore-clause-ran g c = record {
     input = λ hidden not. refl;
     output = λ hidden not. c.operate-in-Restore.ensures.out_steady (λ e. not (c.from-in-Restore.ensures ∙ ap status_of_run e));
   };
-  damaged = λ at is told.
-      let bad = c.operate-in-Restore.ensures.unopened at (run_bad c.operate-in-Restore.result at (sym c.from-in-Restore.ensures ∙ is)) told in
+  spent = λ other is. absurd (spent_by _ _ _ _ _ c.operate-in-Restore.result c.operate-in-Restore.ensures.caused (run_spent c.operate-in-Restore.result (sym c.from-in-Restore.ensures ∙ is)));
+  no_journal = λ told on none.
+      let alone = c.operate-in-Restore.ensures.no_journal told none in
       record {
-        disks_read = bad.0;
-        around = ap (λ clock. around (g.P.Judges.panel c.args.panel.now) (g.C.Clock.moments clock) (g.R.Repos.repository c.args.repos.now)) bad.1;
+        disks_read = λ not. alone.0 (λ e. not (c.from-in-Restore.ensures ∙ ap status_of_run e));
+        around = ap (λ clock. around (g.P.Judges.panel c.args.panel.now) (g.C.Clock.moments clock) (g.R.Repos.repository c.args.repos.now)) alone.1;
         left = refl;
-        written = ap g.O.Sink.written bad.2;
+        written = ap g.O.Sink.written alone.2;
         given = refl;
         coming = refl;
         door = refl;
@@ -217,13 +223,14 @@ returns-in-Sync-clause-ran g c = record {
     input = λ hidden not. refl;
     output = λ hidden not. c.sync.ensures.out_steady (λ e. not (c.from-in-Sync.ensures ∙ ap status_of_run e));
   };
-  damaged = λ at is told.
-      let bad = c.sync.ensures.unopened at (run_bad c.sync.result at (sym c.from-in-Sync.ensures ∙ is)) told in
+  spent = λ other is. (_, spent_by _ _ _ _ _ c.sync.result c.sync.ensures.caused (run_spent c.sync.result (sym c.from-in-Sync.ensures ∙ is)));
+  no_journal = λ told on none.
+      let alone = c.sync.ensures.no_journal told none in
       record {
-        disks_read = bad.0;
-        around = λ i. around (g.P.Judges.panel (bad.1 i)) (g.C.Clock.moments (bad.3 i)) (g.R.Repos.repository (bad.2 i));
+        disks_read = λ not. alone.0 (λ e. not (c.from-in-Sync.ensures ∙ ap status_of_run e));
+        around = λ i. around (g.P.Judges.panel (alone.1 i)) (g.C.Clock.moments (alone.3 i)) (g.R.Repos.repository (alone.2 i));
         left = refl;
-        written = ap g.O.Sink.written bad.4;
+        written = ap g.O.Sink.written alone.4;
         given = refl;
         coming = refl;
         door = refl;
@@ -253,15 +260,16 @@ returns-in-Follow-clause-ran g c = record {
     input = λ hidden not. refl;
     output = λ hidden not. c.follow.ensures.out_steady (λ e. not (c.of_following.ensures ∙ ap status_of_feed e));
   };
-  damaged = λ at is told.
-      let bad = c.follow.ensures.unopened at (feed_bad c.follow.result at (sym c.of_following.ensures ∙ is)) told in
+  spent = λ other. absurd (takes_none _ _ c.in-Follow.is refl other);
+  no_journal = λ told on none.
+      let alone = c.follow.ensures.no_journal told none in
       record {
-        disks_read = bad.0;
-        around = λ i. around (g.P.Judges.panel (bad.1 i)) (g.C.Clock.moments (bad.3 i)) (g.R.Repos.repository (bad.2 i));
+        disks_read = λ not. alone.0 (λ e. not (c.of_following.ensures ∙ ap status_of_feed e));
+        around = λ i. around (g.P.Judges.panel (alone.1 i)) (g.C.Clock.moments (alone.3 i)) (g.R.Repos.repository (alone.2 i));
         left = refl;
-        written = ap g.O.Sink.written bad.5;
-        given = ap g.F.Feed.behind bad.4;
-        coming = ap g.F.Feed.left bad.4;
+        written = ap g.O.Sink.written alone.5;
+        given = ap g.F.Feed.behind alone.4;
+        coming = ap g.F.Feed.left alone.4;
         door = refl;
         wire = refl;
       };
@@ -287,13 +295,14 @@ returns-in-Cut-clause-ran g c = record {
     input = λ hidden not. refl;
     output = λ hidden not. c.cut.ensures.out_steady (λ e. not (c.from-in-Cut.ensures ∙ ap status_of_run e));
   };
-  damaged = λ at is told.
-      let bad = c.cut.ensures.unopened at (run_bad c.cut.result at (sym c.from-in-Cut.ensures ∙ is)) told in
+  spent = λ other is. absurd (cutting_asks_none c.cut.result c.cut.ensures.few (run_spent c.cut.result (sym c.from-in-Cut.ensures ∙ is)));
+  no_journal = λ told on none.
+      let alone = c.cut.ensures.no_journal told none in
       record {
-        disks_read = bad.0;
+        disks_read = λ not. alone.0 (λ e. not (c.from-in-Cut.ensures ∙ ap status_of_run e));
         around = refl;
         left = refl;
-        written = ap g.O.Sink.written bad.1;
+        written = ap g.O.Sink.written alone.1;
         given = refl;
         coming = refl;
         door = refl;
@@ -322,13 +331,14 @@ returns-in-Replay-clause-ran g c = record {
     input = λ hidden not. refl;
     output = replay_quiet _ _ _ c.replay.result _ c.in-Replay.is c.from-in-Replay.ensures (none_next _ _ c.replay.result c.replay.ensures.caused) c.replay.ensures.out_steady c.replay.ensures.memory_steady;
   };
-  damaged = λ at is told.
-      let bad = c.replay.ensures.unopened at (serving_bad c.replay.result at (sym c.from-in-Replay.ensures ∙ is)) told in
+  spent = λ other is. absurd (serving_asks_none c.replay.result (sym c.from-in-Replay.ensures ∙ is));
+  no_journal = λ told on none.
+      let alone = c.replay.ensures.no_journal told none in
       record {
-        disks_read = bad.0;
+        disks_read = λ not. alone.0 (λ e. not (c.from-in-Replay.ensures ∙ ap status_of_serving e));
         around = refl;
         left = refl;
-        written = ap g.O.Sink.written bad.1;
+        written = ap g.O.Sink.written alone.1;
         given = refl;
         coming = refl;
         door = refl;
@@ -357,16 +367,17 @@ returns-in-Serve-clause-ran g c = record {
     input = λ hidden not. refl;
     output = λ hidden not. c.serve.ensures.out_steady (λ e. not (c.from-in-Serve.ensures ∙ ap status_of_serving e));
   };
-  damaged = λ at is told.
-      let bad = c.serve.ensures.unopened at (serving_bad c.serve.result at (sym c.from-in-Serve.ensures ∙ is)) told in
+  spent = λ other is. absurd (serving_asks_none c.serve.result (sym c.from-in-Serve.ensures ∙ is));
+  no_journal = λ told on none.
+      let alone = c.serve.ensures.no_journal told none in
       record {
-        disks_read = bad.0;
+        disks_read = λ not. alone.0 (λ e. not (c.from-in-Serve.ensures ∙ ap status_of_serving e));
         around = refl;
         left = refl;
-        written = ap g.O.Sink.written bad.2;
+        written = ap g.O.Sink.written alone.2;
         given = refl;
         coming = refl;
-        door = ap (λ door. at_door (g.G.Door.guests door) (g.G.Door.turns door) (g.G.Door.session_faults door)) bad.1;
+        door = ap (λ door. at_door (g.G.Door.guests door) (g.G.Door.turns door) (g.G.Door.session_faults door)) alone.1;
         wire = refl;
       };
 }
@@ -391,7 +402,8 @@ returns-in-Trial-clause-ran g c = record {
     input = λ hidden not. refl;
     output = λ hidden not. c.trial.ensures.out_steady (λ e. not (c.from-in-Trial.ensures ∙ ap status_of_trial e));
   };
-  damaged = λ at is told. absurd (trial_good c.trial.result at (sym c.from-in-Trial.ensures ∙ is));
+  spent = λ other is. absurd (trial_asks_none c.trial.result (sym c.from-in-Trial.ensures ∙ is));
+  no_journal = λ told on. absurd (off_journal _ _ c.in-Trial.is refl on);
 }
 
 pub returns-in-Mirror-clause-ran : goal.returns-in-Mirror-clause-ran
@@ -414,7 +426,8 @@ returns-in-Mirror-clause-ran g c = record {
     input = λ hidden not. c.mirror.ensures.input_steady (λ e. not (c.from-in-Mirror.ensures ∙ ap status_of_mirror e));
     output = λ hidden not. c.mirror.ensures.out_steady (λ e. not (c.from-in-Mirror.ensures ∙ ap status_of_mirror e));
   };
-  damaged = λ at is told. absurd (mirror_good c.mirror.result at (sym c.from-in-Mirror.ensures ∙ is));
+  spent = λ other is. absurd (mirror_asks_none c.mirror.result (sym c.from-in-Mirror.ensures ∙ is));
+  no_journal = λ told on. absurd (off_journal _ _ c.in-Mirror.is refl on);
 }
 
 pub returns-in-Query-clause-ran : goal.returns-in-Query-clause-ran
@@ -440,18 +453,18 @@ returns-in-Query-clause-ran g c = record {
     input = λ hidden not. refl;
     output = λ hidden not. c.query.ensures.out_steady (λ e. not (c.of_answering.ensures ∙ ap status_of_query e));
   };
-  damaged = λ at is told.
-      let end_is = query_bad c.query.result at (sym c.of_answering.ensures ∙ is) in
-      let same = c.query.ensures.quiet (of_disks c.query.result at end_is) in
+  spent = λ other is. absurd (query_asks_none c.query.result (sym c.of_answering.ensures ∙ is));
+  no_journal = λ told on none.
+      let alone = c.query.ensures.no_journal told none in
       record {
-        disks_read = c.query.ensures.unopened at end_is told;
+        disks_read = λ not. alone.0 (λ e. not (c.of_answering.ensures ∙ ap status_of_query e));
         around = refl;
         left = refl;
-        written = ap g.O.Sink.written same.1;
+        written = ap g.O.Sink.written alone.2;
         given = refl;
         coming = refl;
         door = refl;
-        wire = ap (λ wire. at_wire (g.W.Wire.requests wire) (g.W.Wire.exchanges wire) (g.W.Wire.send_faults wire)) same.0;
+        wire = ap (λ wire. at_wire (g.W.Wire.requests wire) (g.W.Wire.exchanges wire) (g.W.Wire.send_faults wire)) alone.1;
       };
 }
 
@@ -476,13 +489,14 @@ returns-in-Lines-clause-ran g c = record {
     input = λ hidden not. refl;
     output = λ hidden not. c.lines.ensures.out_steady (λ e. not (c.from-in-Lines.ensures ∙ ap status_of_serving e));
   };
-  damaged = λ at is told.
-      let bad = c.lines.ensures.unopened at (serving_bad c.lines.result at (sym c.from-in-Lines.ensures ∙ is)) told in
+  spent = λ other is. absurd (serving_asks_none c.lines.result (sym c.from-in-Lines.ensures ∙ is));
+  no_journal = λ told on none.
+      let alone = c.lines.ensures.no_journal told none in
       record {
-        disks_read = bad.0;
+        disks_read = λ not. alone.0 (λ e. not (c.from-in-Lines.ensures ∙ ap status_of_serving e));
         around = refl;
         left = refl;
-        written = ap g.O.Sink.written bad.1;
+        written = ap g.O.Sink.written alone.1;
         given = refl;
         coming = refl;
         door = refl;

@@ -7,9 +7,8 @@ use Rattle.relay_store.specs.Rewriting.{RewriteHasNoRoom}
 use Rattle.relay_store.specs.declared.cutting.CutDone.{CutDone}
 use Rattle.relay_run.specs.Cutting.{IsAnswerOf}
 use Rattle.relay_store.specs.Pairs.{StandsFor}
-use Rattle.relay_run.specs.declared.end.RunEnd.{RunEnd}
 use Rattle.relay_store.proofs.Counting.{rose_behind}
-use Rattle.relay_run.proofs.Causing.{image_shows, never_bad, opening_causes, opening_read, opening_shows}
+use Rattle.relay_run.proofs.Causing.{image_shows, opening_causes, opening_read, opening_shows}
 use Rattle.relay_run.proofs.Severed.{answer_causes, answer_few, answer_good, cut_answered, cut_unopened, cut_unwritten, fault_good, kept, reading_rewrites, rewriting_causes}
 use Rattle.relay_run.proofs.cutting.cut.Goals as goal
 
@@ -67,18 +66,14 @@ pub returns-clause-caused : goal.returns-clause-caused
 returns-clause-caused g c = rewriting_causes _ (Rose (g.O.Sink.faults c.args.out.now) (g.O.Sink.faults c.args.out.now)) c.in-Err-cut_on.fault (c.in-Err-cut_on.ensures.few c.in-Err-cut_on.fault refl)
     (λ is. ⊎_elim (λ first. inl (rose_behind _ _ _ c.in-Ok.ensures.counts.0 first)) (λ second. inr (rose_behind _ _ _ c.in-Ok.ensures.counts.1 second)) (c.in-Err-cut_on.ensures.disk (ap Err is)))
 
-pub returns-in-Err-clause-unopened : goal.returns-in-Err-clause-unopened
-returns-in-Err-clause-unopened g c = λ place is told. (
-  opening_read g.D.Disk.tells (g.D.Disk.view c.args.disk.now) (g.D.Disk.view c.args.other.now) (g.D.Disk.view c.open.new.disk) (g.D.Disk.view c.open.new.other) c.in-Err.fault place c.in-Err.ensures.opened is told,
+pub returns-in-Err-clause-no_journal : goal.returns-in-Err-clause-no_journal
+returns-in-Err-clause-no_journal g c = λ told none. (
+  opening_read g.D.Disk.tells (g.D.Disk.view c.args.disk.now) (g.D.Disk.view c.args.other.now) (g.D.Disk.view c.open.new.disk) (g.D.Disk.view c.open.new.other) c.in-Err.fault c.in-Err.ensures.opened told,
   refl,
 )
 
-pub returns-in-Ok-cut_on-clause-unopened : goal.returns-in-Ok-cut_on-clause-unopened
-returns-in-Ok-cut_on-clause-unopened g c = λ place is told.
-    let kept = c.in-Ok.ensures.opened.keeps told in
-    absurd (never_bad (c.answer.result) place (g.D.Disk.view c.args.disk.now).content (g.D.Disk.view c.args.other.now).content kept.0 kept.1 (returns-in-Ok-cut_on-clause-shows g c told) is)
+pub returns-in-Ok-cut_on-clause-no_journal : goal.returns-in-Ok-cut_on-clause-no_journal
+returns-in-Ok-cut_on-clause-no_journal g c = λ told none. let kept = c.in-Ok.ensures.opened.keeps told in absurd (none kept.0 kept.1)
 
-pub returns-clause-unopened : goal.returns-clause-unopened
-returns-clause-unopened g c = λ place is told.
-    let kept = c.in-Ok.ensures.opened.keeps told in
-    absurd (never_bad (RunEnd.Fault c.in-Err-cut_on.fault) place (g.D.Disk.view c.args.disk.now).content (g.D.Disk.view c.args.other.now).content kept.0 kept.1 (returns-clause-shows g c told) is)
+pub returns-clause-no_journal : goal.returns-clause-no_journal
+returns-clause-no_journal g c = λ told none. let kept = c.in-Ok.ensures.opened.keeps told in absurd (none kept.0 kept.1)

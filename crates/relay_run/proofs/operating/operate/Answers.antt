@@ -1,4 +1,4 @@
-use Rattle.std.proofs.Common.{◌≡◌, ◌⊎◌, inl, inr, ⊎_elim, Err, IsTrue, refl, ap}
+use Rattle.std.proofs.Common.{◌≡◌, ◌⊎◌, inl, inr, ⊎_elim, Ok, Err, IsTrue, refl, ap}
 use Rattle.std.specs.Prelude.{⊤}
 use Rattle.at_cid.specs.Counts.{Rose}
 use Rattle.relay_step.specs.Causes.{OneTaken}
@@ -6,12 +6,13 @@ use Rattle.relay_step.specs.Commands.{OperatedAt}
 use Rattle.relay_store.specs.Faults.{IsCause}
 use Rattle.relay_store.specs.Store.{seen_in}
 use Rattle.relay_run.specs.Behind.{NumbersEndBehind, OperatedBehind}
+use Rattle.relay_store.specs.declared.fault.StoreFault.{StoreFault}
 use Rattle.relay_run.specs.declared.end.RunEnd.{RunEnd}
 use Rattle.relay_run.proofs.Behind.{numbers_end, operated_behind}
 use Rattle.relay_store.proofs.Counting.{rose_behind}
-use Rattle.relay_run.proofs.Causing.{commanded_good, done_causes, done_good, image_shows, never_bad, opening_causes, opening_read, opening_shows, operating_causes}
+use Rattle.relay_run.proofs.Causing.{both_beside, commanded_good, done_causes, done_good, image_shows, opening_causes, opening_read, opening_shows, operating_causes, same_fault}
 use Rattle.relay_run.proofs.Sounds.{operated_stays, short_text}
-use Rattle.relay_run.proofs.Uttered.{opened_holds, opened_of, ran_err, ran_ok, ran_unopened, vain_by}
+use Rattle.relay_run.proofs.Uttered.{ok_not, opened_holds, opened_of, other_read, ran_err, ran_ok, ran_unopened, vain_by}
 use Rattle.relay_run.proofs.operating.operate.Goals as goal
 
 pub returns-in-Err-clause-ran : goal.returns-in-Err-clause-ran
@@ -71,19 +72,32 @@ returns-clause-caused g c = operating_causes _ (Rose (g.O.Sink.faults c.args.out
     (λ is. ⊎_elim (λ first. inl (rose_behind _ _ _ c.in-Ok.ensures.counts.0 first)) (λ second. inr (rose_behind _ _ _ c.in-Ok.ensures.counts.1 second)) (c.in-Err-operate_on.ensures.disk (ap Err is)))
     (λ is. c.in-Err-operate_on.ensures.clock (ap Err is))
 
-pub returns-in-Err-clause-unopened : goal.returns-in-Err-clause-unopened
-returns-in-Err-clause-unopened g c = λ place is told. (
-  opening_read g.D.Disk.tells (g.D.Disk.view c.args.disk.now) (g.D.Disk.view c.args.other.now) (g.D.Disk.view c.open.new.disk) (g.D.Disk.view c.open.new.other) c.in-Err.fault place c.in-Err.ensures.opened is told,
+pub returns-in-Err-clause-no_journal : goal.returns-in-Err-clause-no_journal
+returns-in-Err-clause-no_journal g c = λ told none. (
+  opening_read g.D.Disk.tells (g.D.Disk.view c.args.disk.now) (g.D.Disk.view c.args.other.now) (g.D.Disk.view c.open.new.disk) (g.D.Disk.view c.open.new.other) c.in-Err.fault c.in-Err.ensures.opened told,
   refl,
   refl,
 )
 
-pub returns-in-Ok-operate_on-clause-unopened : goal.returns-in-Ok-operate_on-clause-unopened
-returns-in-Ok-operate_on-clause-unopened g c = λ place is told.
-    let kept = c.in-Ok.ensures.opened.keeps told in
-    absurd (never_bad (c.answer.result) place (g.D.Disk.view c.args.disk.now).content (g.D.Disk.view c.args.other.now).content kept.0 kept.1 (returns-in-Ok-operate_on-clause-shows g c told) is)
+pub returns-in-Ok-operate_on-clause-no_journal : goal.returns-in-Ok-operate_on-clause-no_journal
+returns-in-Ok-operate_on-clause-no_journal g c = λ told none. let kept = c.in-Ok.ensures.opened.keeps told in absurd (none kept.0 kept.1)
 
-pub returns-clause-unopened : goal.returns-clause-unopened
-returns-clause-unopened g c = λ place is told.
+pub returns-clause-no_journal : goal.returns-clause-no_journal
+returns-clause-no_journal g c = λ told none. let kept = c.in-Ok.ensures.opened.keeps told in absurd (none kept.0 kept.1)
+
+pub returns-in-Err-clause-beside : goal.returns-in-Err-clause-beside
+returns-in-Err-clause-beside g c = λ told other. both_beside _ _ _ _ (opening_read g.D.Disk.tells (g.D.Disk.view c.args.disk.now) (g.D.Disk.view c.args.other.now) (g.D.Disk.view c.open.new.disk) (g.D.Disk.view c.open.new.other) c.in-Err.fault c.in-Err.ensures.opened told other)
+
+pub returns-in-Ok-operate_on-clause-beside : goal.returns-in-Ok-operate_on-clause-beside
+returns-in-Ok-operate_on-clause-beside g c = λ told other.
     let kept = c.in-Ok.ensures.opened.keeps told in
-    absurd (never_bad (RunEnd.Fault c.in-Err-operate_on.fault) place (g.D.Disk.view c.args.disk.now).content (g.D.Disk.view c.args.other.now).content kept.0 kept.1 (returns-clause-shows g c told) is)
+    other_read g.D.Disk.view (λ x. g.met.D.Disk.is_disk x) c.args.disk.now c.args.other.now c.open.new.disk c.open.new.other g.D.Disk.tells told c.in-Ok.store c.in-Ok.ensures.opened kept.0 kept.1
+    c.operate_on.new.disk c.operate_on.new.other c.operate_on.new.store c.in-Ok-operate_on.ensures.beside _ _ (Ok c.in-Ok-operate_on.done)
+    (c.in-Ok-operate_on.ensures.commanded kept.0 (opened_of g.D.Disk.view (λ x. g.met.D.Disk.is_disk x) c.args.disk.now c.args.other.now c.open.new.disk c.open.new.other g.D.Disk.tells told c.in-Ok.store c.in-Ok.ensures.opened kept.0 kept.1)) (ok_not c.in-Ok-operate_on.done StoreFault.Disk)
+
+pub returns-clause-beside : goal.returns-clause-beside
+returns-clause-beside g c = λ told other.
+    let kept = c.in-Ok.ensures.opened.keeps told in
+    other_read g.D.Disk.view (λ x. g.met.D.Disk.is_disk x) c.args.disk.now c.args.other.now c.open.new.disk c.open.new.other g.D.Disk.tells told c.in-Ok.store c.in-Ok.ensures.opened kept.0 kept.1
+    c.operate_on.new.disk c.operate_on.new.other c.operate_on.new.store c.in-Err-operate_on.ensures.beside _ _ (Err c.in-Err-operate_on.fault)
+    (c.in-Err-operate_on.ensures.commanded kept.0 (opened_of g.D.Disk.view (λ x. g.met.D.Disk.is_disk x) c.args.disk.now c.args.other.now c.open.new.disk c.open.new.other g.D.Disk.tells told c.in-Ok.store c.in-Ok.ensures.opened kept.0 kept.1)) (λ is. other (ap RunEnd.Fault (same_fault c.in-Err-operate_on.fault StoreFault.Disk is)))

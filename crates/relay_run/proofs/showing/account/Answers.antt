@@ -5,8 +5,8 @@ use Rattle.account_state.specs.Folds.{account as account_of}
 use Rattle.account_state.specs.State.{state_of}
 use Rattle.relay_store.specs.declared.fault.StoreFault.{StoreFault}
 use Rattle.relay_run.specs.declared.end.RunEnd.{RunEnd}
-use Rattle.relay_run.proofs.Causing.{image_shows, never_bad, opening_read, opening_shows, shown_good}
-use Rattle.relay_run.proofs.Seen.{account_is, shown_opened, shown_unopened}
+use Rattle.relay_run.proofs.Causing.{both_beside, image_shows, opening_read, opening_shows, shown_good}
+use Rattle.relay_run.proofs.Seen.{account_is, opened_beside, shown_opened, shown_unopened}
 use Rattle.relay_run.proofs.showing.account.Goals as goal
 
 pub returns-clause-shown : goal.returns-clause-shown
@@ -33,13 +33,23 @@ returns-in-Ok-account_line-clause-shown g c = λ told J image.
 pub returns-in-Ok-account_line-clause-shows : goal.returns-in-Ok-account_line-clause-shows
 returns-in-Ok-account_line-clause-shows g c = λ told. let kept = c.in-Ok.ensures.opened.keeps told in image_shows c.show.result _ _ kept.0 kept.1 (shown_good c.show.result c.show.ensures.ends)
 
-pub returns-clause-unopened : goal.returns-clause-unopened
-returns-clause-unopened g c = λ place is told. (
-  opening_read g.D.Disk.tells (g.D.Disk.view c.args.disk.now) (g.D.Disk.view c.args.other.now) (g.D.Disk.view c.open.new.disk) (g.D.Disk.view c.open.new.other) c.in-Err.fault place c.in-Err.ensures.opened is told,
+pub returns-clause-no_journal : goal.returns-clause-no_journal
+returns-clause-no_journal g c = λ told none. (
+  opening_read g.D.Disk.tells (g.D.Disk.view c.args.disk.now) (g.D.Disk.view c.args.other.now) (g.D.Disk.view c.open.new.disk) (g.D.Disk.view c.open.new.other) c.in-Err.fault c.in-Err.ensures.opened told,
   refl,
 )
 
-pub returns-in-Ok-account_line-clause-unopened : goal.returns-in-Ok-account_line-clause-unopened
-returns-in-Ok-account_line-clause-unopened g c = λ place is told.
-    let kept = c.in-Ok.ensures.opened.keeps told in
-    absurd (never_bad (c.show.result) place (g.D.Disk.view c.args.disk.now).content (g.D.Disk.view c.args.other.now).content kept.0 kept.1 (returns-in-Ok-account_line-clause-shows g c told) is)
+pub returns-in-Ok-clause-no_journal : goal.returns-in-Ok-clause-no_journal
+returns-in-Ok-clause-no_journal g c = λ told none. let kept = c.in-Ok.ensures.opened.keeps told in absurd (none kept.0 kept.1)
+
+pub returns-in-Ok-account_line-clause-no_journal : goal.returns-in-Ok-account_line-clause-no_journal
+returns-in-Ok-account_line-clause-no_journal g c = λ told none. let kept = c.in-Ok.ensures.opened.keeps told in absurd (none kept.0 kept.1)
+
+pub returns-clause-beside : goal.returns-clause-beside
+returns-clause-beside g c = λ told other. both_beside _ _ _ _ (opening_read g.D.Disk.tells (g.D.Disk.view c.args.disk.now) (g.D.Disk.view c.args.other.now) (g.D.Disk.view c.open.new.disk) (g.D.Disk.view c.open.new.other) c.in-Err.fault c.in-Err.ensures.opened told other)
+
+pub returns-in-Ok-clause-beside : goal.returns-in-Ok-clause-beside
+returns-in-Ok-clause-beside g c = λ told other. let kept = c.in-Ok.ensures.opened.keeps told in opened_beside g.D.Disk.tells (g.D.Disk.view c.args.disk.now) (g.D.Disk.view c.args.other.now) (g.D.Disk.view c.open.new.disk) (g.D.Disk.view c.open.new.other) (g.met.D.Disk.is_disk c.open.new.disk) (g.met.D.Disk.is_disk c.open.new.other) c.in-Ok.store c.in-Ok.ensures.opened told kept.0 kept.1
+
+pub returns-in-Ok-account_line-clause-beside : goal.returns-in-Ok-account_line-clause-beside
+returns-in-Ok-account_line-clause-beside g c = λ told other. let kept = c.in-Ok.ensures.opened.keeps told in opened_beside g.D.Disk.tells (g.D.Disk.view c.args.disk.now) (g.D.Disk.view c.args.other.now) (g.D.Disk.view c.open.new.disk) (g.D.Disk.view c.open.new.other) (g.met.D.Disk.is_disk c.open.new.disk) (g.met.D.Disk.is_disk c.open.new.other) c.in-Ok.store c.in-Ok.ensures.opened told kept.0 kept.1

@@ -1,4 +1,4 @@
-use Rattle.std.proofs.Common.{◌≡◌, ◌⊎◌, Err, refl, ap}
+use Rattle.std.proofs.Common.{◌≡◌, ◌⊎◌, Ok, Err, refl, ap}
 use Rattle.std.specs.Prelude.{⊤}
 use Rattle.at_cid.specs.Counts.{Rose}
 use Rattle.at_authority.specs.Panels.{IsSpent}
@@ -10,11 +10,12 @@ use Rattle.relay_step.specs.Commands.{SyncedAt}
 use Rattle.relay_store.specs.Faults.{IsCause}
 use Rattle.relay_store.specs.Store.{seen_in}
 use Rattle.relay_run.specs.Behind.{FetchEndsNumbers, FetchIsSpent, SyncedBehind}
+use Rattle.relay_store.specs.declared.fault.StoreFault.{StoreFault}
 use Rattle.relay_run.specs.declared.end.RunEnd.{RunEnd}
 use Rattle.relay_run.proofs.Behind.{fetch_ends, fetch_is_spent, synced_behind}
-use Rattle.relay_run.proofs.Causing.{commanded_good, done_causes, done_good, image_shows, never_bad, opening_causes, opening_read, opening_shows}
+use Rattle.relay_run.proofs.Causing.{both_beside, commanded_good, done_causes, done_good, image_shows, opening_causes, opening_read, opening_shows, same_fault}
 use Rattle.relay_run.proofs.Sounds.{synced_stays, short_text}
-use Rattle.relay_run.proofs.Uttered.{opened_holds, opened_of, ran_err, ran_ok, ran_unopened, vain_by}
+use Rattle.relay_run.proofs.Uttered.{ok_not, opened_holds, opened_of, other_read, ran_err, ran_ok, ran_unopened, vain_by}
 use Rattle.relay_run.proofs.syncing.sync.Goals as goal
 
 pub returns-in-Err-clause-ran : goal.returns-in-Err-clause-ran
@@ -73,21 +74,34 @@ returns-clause-shows g c = λ told.
     (commanded_good g.D.Disk.view g.D.Disk.tells J _ _ (seen_in c.in-Ok.store) (seen_in c.sync_on.new.store) _ _ c.in-Err-sync_on.fault
     (c.in-Err-sync_on.ensures.commanded J (opened_of g.D.Disk.view (λ x. g.met.D.Disk.is_disk x) c.args.disk.now c.args.other.now c.open.new.disk c.open.new.other g.D.Disk.tells told c.in-Ok.store c.in-Ok.ensures.opened J image)))
 
-pub returns-in-Err-clause-unopened : goal.returns-in-Err-clause-unopened
-returns-in-Err-clause-unopened g c = λ place is told. (
-  opening_read g.D.Disk.tells (g.D.Disk.view c.args.disk.now) (g.D.Disk.view c.args.other.now) (g.D.Disk.view c.open.new.disk) (g.D.Disk.view c.open.new.other) c.in-Err.fault place c.in-Err.ensures.opened is told,
+pub returns-in-Err-clause-no_journal : goal.returns-in-Err-clause-no_journal
+returns-in-Err-clause-no_journal g c = λ told none. (
+  opening_read g.D.Disk.tells (g.D.Disk.view c.args.disk.now) (g.D.Disk.view c.args.other.now) (g.D.Disk.view c.open.new.disk) (g.D.Disk.view c.open.new.other) c.in-Err.fault c.in-Err.ensures.opened told,
   refl,
   refl,
   refl,
   refl,
 )
 
-pub returns-in-Ok-sync_on-clause-unopened : goal.returns-in-Ok-sync_on-clause-unopened
-returns-in-Ok-sync_on-clause-unopened g c = λ place is told.
-    let kept = c.in-Ok.ensures.opened.keeps told in
-    absurd (never_bad (c.answer.result) place (g.D.Disk.view c.args.disk.now).content (g.D.Disk.view c.args.other.now).content kept.0 kept.1 (returns-in-Ok-sync_on-clause-shows g c told) is)
+pub returns-in-Ok-sync_on-clause-no_journal : goal.returns-in-Ok-sync_on-clause-no_journal
+returns-in-Ok-sync_on-clause-no_journal g c = λ told none. let kept = c.in-Ok.ensures.opened.keeps told in absurd (none kept.0 kept.1)
 
-pub returns-clause-unopened : goal.returns-clause-unopened
-returns-clause-unopened g c = λ place is told.
+pub returns-clause-no_journal : goal.returns-clause-no_journal
+returns-clause-no_journal g c = λ told none. let kept = c.in-Ok.ensures.opened.keeps told in absurd (none kept.0 kept.1)
+
+pub returns-in-Err-clause-beside : goal.returns-in-Err-clause-beside
+returns-in-Err-clause-beside g c = λ told other. both_beside _ _ _ _ (opening_read g.D.Disk.tells (g.D.Disk.view c.args.disk.now) (g.D.Disk.view c.args.other.now) (g.D.Disk.view c.open.new.disk) (g.D.Disk.view c.open.new.other) c.in-Err.fault c.in-Err.ensures.opened told other)
+
+pub returns-in-Ok-sync_on-clause-beside : goal.returns-in-Ok-sync_on-clause-beside
+returns-in-Ok-sync_on-clause-beside g c = λ told other.
     let kept = c.in-Ok.ensures.opened.keeps told in
-    absurd (never_bad (RunEnd.Fault c.in-Err-sync_on.fault) place (g.D.Disk.view c.args.disk.now).content (g.D.Disk.view c.args.other.now).content kept.0 kept.1 (returns-clause-shows g c told) is)
+    other_read g.D.Disk.view (λ x. g.met.D.Disk.is_disk x) c.args.disk.now c.args.other.now c.open.new.disk c.open.new.other g.D.Disk.tells told c.in-Ok.store c.in-Ok.ensures.opened kept.0 kept.1
+    c.sync_on.new.disk c.sync_on.new.other c.sync_on.new.store c.in-Ok-sync_on.ensures.beside _ _ (Ok c.in-Ok-sync_on.done)
+    (c.in-Ok-sync_on.ensures.commanded kept.0 (opened_of g.D.Disk.view (λ x. g.met.D.Disk.is_disk x) c.args.disk.now c.args.other.now c.open.new.disk c.open.new.other g.D.Disk.tells told c.in-Ok.store c.in-Ok.ensures.opened kept.0 kept.1)) (ok_not c.in-Ok-sync_on.done StoreFault.Disk)
+
+pub returns-clause-beside : goal.returns-clause-beside
+returns-clause-beside g c = λ told other.
+    let kept = c.in-Ok.ensures.opened.keeps told in
+    other_read g.D.Disk.view (λ x. g.met.D.Disk.is_disk x) c.args.disk.now c.args.other.now c.open.new.disk c.open.new.other g.D.Disk.tells told c.in-Ok.store c.in-Ok.ensures.opened kept.0 kept.1
+    c.sync_on.new.disk c.sync_on.new.other c.sync_on.new.store c.in-Err-sync_on.ensures.beside _ _ (Err c.in-Err-sync_on.fault)
+    (c.in-Err-sync_on.ensures.commanded kept.0 (opened_of g.D.Disk.view (λ x. g.met.D.Disk.is_disk x) c.args.disk.now c.args.other.now c.open.new.disk c.open.new.other g.D.Disk.tells told c.in-Ok.store c.in-Ok.ensures.opened kept.0 kept.1)) (λ is. other (ap RunEnd.Fault (same_fault c.in-Err-sync_on.fault StoreFault.Disk is)))

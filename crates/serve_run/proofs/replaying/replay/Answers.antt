@@ -46,14 +46,14 @@ returns-in-Err-clause-shows g c = λ told.
     subst (λ (e : ServeEnd). ServeEndShows e (g.D.Disk.view c.args.disk.now).content (g.D.Disk.view c.args.other.now).content) (sym c.of_opening.ensures)
     (opening_shows c.in-Err.fault _ _ (λ p is. c.in-Err.ensures.bad_log p (ap Err is) told))
 
-pub returns-in-Err-clause-unopened : goal.returns-in-Err-clause-unopened
-returns-in-Err-clause-unopened g c = λ place is told. (
-  opening_read g.D.Disk.tells (g.D.Disk.view c.args.disk.now) (g.D.Disk.view c.args.other.now) (g.D.Disk.view c.open.new.disk) (g.D.Disk.view c.open.new.other) c.in-Err.fault c.of_opening.result place c.in-Err.ensures.opened c.of_opening.ensures is told,
+pub returns-in-Err-clause-no_journal : goal.returns-in-Err-clause-no_journal
+returns-in-Err-clause-no_journal g c = λ told none. (
+  opening_read g.D.Disk.tells (g.D.Disk.view c.args.disk.now) (g.D.Disk.view c.args.other.now) (g.D.Disk.view c.open.new.disk) (g.D.Disk.view c.open.new.other) c.in-Err.fault c.of_opening.result c.in-Err.ensures.opened c.of_opening.ensures told,
   refl,
 )
 
-pub returns-in-Ok-clause-unopened : goal.returns-in-Ok-clause-unopened
-returns-in-Ok-clause-unopened g c = λ place is told. absurd (c.replay_on.ensures.no_bad_log place is told)
+pub returns-in-Ok-clause-no_journal : goal.returns-in-Ok-clause-no_journal
+returns-in-Ok-clause-no_journal g c = λ told none. let kept = c.in-Ok.ensures.opened.keeps told in absurd (none kept.0 kept.1)
 
 pub returns-in-Err-clause-disks_steady : goal.returns-in-Err-clause-disks_steady
 returns-in-Err-clause-disks_steady g c = opening_steady c.in-Err.fault c.of_opening.result _ c.of_opening.ensures c.in-Err.ensures.steady

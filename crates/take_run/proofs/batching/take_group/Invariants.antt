@@ -2,7 +2,7 @@ use Rattle.std.proofs.Common.{length, ◌-◌, ◌+◌, ◌<◌, ◌≤◌, ◌�
 use Rattle.relay_row.specs.declared.row.Row.{Row}
 use Rattle.relay_step.specs.Around.{around}
 use Rattle.relay_store.specs.Store.{IsKept, IsOf, seen_in}
-use Rattle.take_run.specs.Causes.{Kept, Unmoved, faults}
+use Rattle.take_run.specs.Causes.{Kept, Unmoved, failures, faults}
 use Rattle.take_run.specs.Going.{Going, point}
 use Rattle.take_run.specs.Said.{AreLive, FirstHasEnded}
 use Rattle.take_run.specs.Tells.{tells}
@@ -26,8 +26,8 @@ invariant-batches g l =
       count : l.tally.messages ≤ l.fn.tally.messages + l.done;
       going : (J : List Row) → IsOf J l.fn.store.core
           → Going view (tells g.D.Disk.tells g.C.Clock.tells g.R.Repos.tells g.O.Sink.tells) J (take l.done l.group)
-          (point (seen_in l.fn.store) l.fn.tally l.fn.disk (around (panel l.fn.judges) (moments l.fn.clock) (repository l.fn.repos)) (written l.fn.out))
-          (point (seen_in l.store) l.tally l.disk (around (panel l.judges) (moments l.clock) (repository l.repos)) (written l.out));
+          (point (seen_in l.fn.store) l.fn.tally l.fn.disk (around (panel l.fn.judges) (moments l.fn.clock) (repository l.fn.repos)) (failures (g.R.Repos.faults l.fn.repos) (g.C.Clock.faults l.fn.clock) 0) (written l.fn.out))
+          (point (seen_in l.store) l.tally l.disk (around (panel l.judges) (moments l.clock) (repository l.repos)) (failures (g.R.Repos.faults l.repos) (g.C.Clock.faults l.clock) 0) (written l.out));
       counts : Kept (faults (view l.fn.disk).faults (g.R.Repos.faults l.fn.repos) (g.C.Clock.faults l.fn.clock) 0 (g.O.Sink.faults l.fn.out)) (faults (view l.disk).faults (g.R.Repos.faults l.repos) (g.C.Clock.faults l.clock) 0 (g.O.Sink.faults l.out));
       unmoved : Unmoved (faults (view l.fn.disk).faults (g.R.Repos.faults l.fn.repos) (g.C.Clock.faults l.fn.clock) 0 (g.O.Sink.faults l.fn.out)) (faults (view l.disk).faults (g.R.Repos.faults l.repos) (g.C.Clock.faults l.clock) 0 (g.O.Sink.faults l.out)) (panel l.fn.judges) (panel l.judges);
     }

@@ -1,20 +1,35 @@
-use Rattle.std.proofs.Common.{ap, ◌∙◌, arith, length, refl, take}
+use Rattle.std.proofs.Common.{◌≢◌, inr, Some, List, sym, subst, ap, ◌∙◌, arith, length, refl, take}
+use Rattle.relay_store.specs.declared.fault.StoreFault.{StoreFault}
+use Rattle.relay_store.specs.declared.outcome.Outcome.{Outcome}
 use Rattle.take_run.proofs.Answers.{answered_few, some_answered}
-use Rattle.take_run.specs.Said.{answered}
-use Rattle.take_run.proofs.Batches.{live_goes, live_stops, live_unwritten}
+use Rattle.take_run.specs.Said.{answered, text_of}
+use Rattle.take_run.specs.declared.end.TakeEnd.{TakeEnd}
+use Rattle.take_run.proofs.Batches.{live_goes, live_stops, live_unwritten, none_added}
 use Rattle.take_run.proofs.Living.{ended_grows}
-use Rattle.take_run.proofs.Telling.{batch_told, batch_unmoved, batch_unwritten_told, store_stops, unwritten_stops}
+use Rattle.take_run.proofs.Telling.{batch_are_told, batch_none_failed, batch_told, batch_unmoved, batch_unwritten_told, store_stops, unwritten_stops}
 use Rattle.take_run.proofs.batching.take_live.Goals as goal
+
+pub returns-then-leaves_none-clause-stopped : goal.returns-then-leaves_none-clause-stopped
+returns-then-leaves_none-clause-stopped g c = λ J of.
+    let spent = c.leaves_none.ensures.spent c.if-leaves_none.true in
+    live_unwritten g.D.Disk.view _ J c.args.group.now _ _ _ _ (c.take_all-batch.ensures.batched J of) c.take_all-batch.result.outcomes.items refl c.args.tally.now c.requires.live _ _ _ _ _
+    (omega (arith, spent.1, c.requires.some)) TakeEnd.Memory (inr refl) (λ told. none_added (g.O.Sink.written c.args.out.now) (text_of (answered c.args.group.now c.take_all-batch.result.outcomes.items))) (λ is told. refl)
+
+pub returns-then-leaves_none-clause-told : goal.returns-then-leaves_none-clause-told
+returns-then-leaves_none-clause-told g c =
+    batch_told c.take_all-batch.result.fault _ _ _ _ _ _ _ _ _ _ c.take_all-batch.ensures.disk_steady c.take_all-batch.ensures.clock_steady c.take_all-batch.ensures.repos_steady c.take_all-batch.ensures.unspent
+    StoreFault.Memory (c.leaves_none.ensures.spent c.if-leaves_none.true).0 TakeEnd.Memory refl refl
 
 pub returns-in-Err-clause-stopped : goal.returns-in-Err-clause-stopped
 returns-in-Err-clause-stopped g c = λ J of.
-    live_unwritten g.D.Disk.view _ J c.args.group.now _ _ _ _ (c.take_all-batch.ensures.batched J of) c.as_slice-outcomes.result.now c.as_slice-outcomes.ensures.value c.args.tally.now c.requires.live _ _ _
-    c.in-Err.ensures.some c.in-Err.end c.in-Err.ensures.front.0 c.in-Err.ensures.front.1
+    live_unwritten g.D.Disk.view _ J c.args.group.now _ _ _ _ (c.take_all-batch.ensures.batched J of) c.as_slice-outcomes.result.now c.as_slice-outcomes.ensures.value c.args.tally.now c.requires.live _ _ _ _ _
+    c.in-Err.ensures.some c.in-Err.end c.in-Err.ensures.front.0 c.in-Err.ensures.front.1 c.in-Err.ensures.nothing
 
 pub returns-in-None-clause-recorded : goal.returns-in-None-clause-recorded
 returns-in-None-clause-recorded g c = λ J of.
-    live_goes g.D.Disk.view _ J c.args.group.now _ _ _ _ (c.take_all-batch.ensures.batched J of) c.as_slice-outcomes.result.now c.as_slice-outcomes.ensures.value c.args.tally.now c.requires.live _ _ _
+    live_goes g.D.Disk.view _ J c.args.group.now _ _ _ _ (c.take_all-batch.ensures.batched J of) c.as_slice-outcomes.result.now c.as_slice-outcomes.ensures.value c.args.tally.now c.requires.live _ _ _ _ _
     c.in-None.is c.in-Ok.ensures.noted c.in-Ok.ensures.written (length c.as_slice-outcomes.result.now) refl
+    (batch_none_failed c.take_all-batch.result.fault _ _ _ _ _ _ c.take_all-batch.ensures.clock_steady c.take_all-batch.ensures.repos_steady c.take_all-batch.ensures.unspent c.in-None.is)
 
 pub returns-in-None-clause-count : goal.returns-in-None-clause-count
 returns-in-None-clause-count g c =
@@ -31,8 +46,11 @@ returns-in-None-clause-few g c = omega (arith, c.take_all-batch.ensures.few, ap 
 
 pub returns-clause-stopped : goal.returns-clause-stopped
 returns-clause-stopped g c = λ J of.
-    live_stops g.D.Disk.view _ J c.args.group.now _ _ _ _ (c.take_all-batch.ensures.batched J of) c.as_slice-outcomes.result.now c.as_slice-outcomes.ensures.value c.args.tally.now c.requires.live _ _ _
-    c.in-Some.fault c.in-Some.is (g.met.D.Disk.is_disk _) c.in-Ok.ensures.written c.of_store.result c.of_store.ensures
+    live_stops g.D.Disk.view _ J c.args.group.now _ _ _ _ (c.take_all-batch.ensures.batched J of) c.as_slice-outcomes.result.now c.as_slice-outcomes.ensures.value c.args.tally.now c.requires.live _ _ _ _ _
+    c.in-Some.fault c.in-Some.is (g.met.D.Disk.is_disk _) c.requires.open c.take_all-batch.ensures.closed
+    (batch_are_told c.take_all-batch.result.fault _ _ _ _ _ _ c.take_all-batch.ensures.clock_steady c.take_all-batch.ensures.repos_steady c.take_all-batch.ensures.unspent c.in-Some.fault c.in-Some.is)
+    (λ is. subst (λ (l : List Outcome). length l ≢ length c.args.group.now) (sym c.as_slice-outcomes.ensures.value) (c.leaves_none.ensures.left c.if-leaves_none.false (c.in-Some.is ∙ ap Some is)))
+    c.in-Ok.ensures.written c.of_store.result c.of_store.ensures
 
 pub returns-in-Err-clause-stop : goal.returns-in-Err-clause-stop
 returns-in-Err-clause-stop g c = unwritten_stops c.in-Err.end c.in-Err.ensures.front.0

@@ -20,7 +20,7 @@ returns-in-Ok-clause-recorded g c = λ J of.
     let host : c.as_str.result.now ≡ m.host = c.as_str.ensures.value ∙ ap (λ (x : Message). x.host) first in
     let ended : has_ended c.args.tally.now.ended.items m.host ≡ true =
     first_ended c.args.tally.now.ended.items c.args.group.now m m.host (c.requires.ended c.if-live-eq0.true) (ap (λ (x : Message). x.host) (sym first)) in
-    pass_goes g.D.Disk.view _ J c.args.group.now m _ c.args.tally.now _ c.args.disk.now _ _ _ c.requires.some first (g.met.D.Disk.is_disk _) of ended
+    pass_goes g.D.Disk.view _ J c.args.group.now m _ c.args.tally.now _ c.args.disk.now _ _ _ _ c.requires.some first (g.met.D.Disk.is_disk _) of ended
     (subst (λ (h : List ℕ). IsNoted ((h, None) ∷ []) c.args.tally.now c.skip.new.tally) host c.in-Ok.ensures.noted)
     (λ told. c.in-Ok.ensures.written told ∙ ap (λ (h : List ℕ). g.O.Sink.written c.args.out.now ++ over_line h) host)
 
@@ -31,9 +31,10 @@ returns-in-Err-clause-stopped g c = λ J of.
     let host : c.as_str.result.now ≡ m.host = c.as_str.ensures.value ∙ ap (λ (x : Message). x.host) first in
     let ended : has_ended c.args.tally.now.ended.items m.host ≡ true =
     first_ended c.args.tally.now.ended.items c.args.group.now m m.host (c.requires.ended c.if-live-eq0.true) (ap (λ (x : Message). x.host) (sym first)) in
-    pass_unwritten g.D.Disk.view _ J c.args.group.now m _ c.args.tally.now _ c.args.disk.now _ _ _ c.requires.some first (g.met.D.Disk.is_disk _) of ended
+    pass_unwritten g.D.Disk.view _ J c.args.group.now m _ c.args.tally.now _ c.args.disk.now _ _ _ _ c.requires.some first (g.met.D.Disk.is_disk _) of ended
     c.in-Err.end c.in-Err.ensures.front.0
     (λ told. subst (λ (h : List ℕ). AddsFront (g.O.Sink.written c.args.out.now) (g.O.Sink.written c.skip.new.out) (over_line h)) host (c.in-Err.ensures.front.1 told))
+    c.in-Err.ensures.nothing
 
 pub take_live-requires-clause-hosts : goal.take_live-requires-clause-hosts
 take_live-requires-clause-hosts g c = hosts_front c.args.group.now c.args.live c.requires.hosts

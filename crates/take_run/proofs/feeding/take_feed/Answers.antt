@@ -4,6 +4,7 @@ use Rattle.relay_core.specs.declared.journal_state.Core.{Core}
 use Rattle.relay_row.specs.Folds.{cursor}
 use Rattle.relay_step.specs.Around.{around}
 use Rattle.relay_store.specs.Store.{seen_in}
+use Rattle.take_run.specs.Causes.{failures}
 use Rattle.take_run.specs.Going.{point}
 use Rattle.take_run.specs.Tells.{tells}
 use Rattle.take_run.specs.declared.end.TakeEnd.{TakeEnd}
@@ -16,7 +17,7 @@ pub returns-in-Err-clause-taken : goal.returns-in-Err-clause-taken
 returns-in-Err-clause-taken g c = λ J of.
     follow_fails g.F.Feed.tells c.args.host.now _ _ g.D.Disk.view _ _ _ 0
     (starts_following g.F.Feed.tells c.args.host.now (g.F.Feed.behind c.args.feed.now c.args.host.now (cursor c.args.host.now J)) g.D.Disk.view (tells g.D.Disk.tells g.C.Clock.tells g.R.Repos.tells g.O.Sink.tells)
-    (point (seen_in c.args.store.now) c.new-tally.result c.args.disk.now (around (g.P.Judges.panel c.args.judges.now) (g.C.Clock.moments c.args.clock.now) (g.R.Repos.repository c.args.repos.now)) (g.O.Sink.written c.args.out.now)) (g.met.D.Disk.is_disk _))
+    (point (seen_in c.args.store.now) c.new-tally.result c.args.disk.now (around (g.P.Judges.panel c.args.judges.now) (g.C.Clock.moments c.args.clock.now) (g.R.Repos.repository c.args.repos.now)) (failures (g.R.Repos.faults c.args.repos.now) (g.C.Clock.faults c.args.clock.now) 0) (g.O.Sink.written c.args.out.now)) (g.met.D.Disk.is_disk _))
     c.args.most (omega arith) J of c.new-tally.ensures.ended _ TakeEnd.ReadFault (inl refl) (λ told. inr (c.in-Err.ensures.closed told))
 
 pub returns-clause-taken : goal.returns-clause-taken

@@ -1,7 +1,7 @@
 use Rattle.std.proofs.Common.{◌≤◌, ◌≡◌, IsTrue}
 use Rattle.relay_step.specs.Around.{around}
 use Rattle.relay_store.specs.Store.{IsKept, seen_in}
-use Rattle.take_run.specs.Causes.{Kept, Unmoved, faults}
+use Rattle.take_run.specs.Causes.{Kept, Unmoved, failures, faults}
 use Rattle.take_run.specs.Going.{point}
 use Rattle.take_run.specs.Tells.{tells}
 use Rattle.take_run.proofs.FeedSteps.{IsFollowing}
@@ -17,8 +17,8 @@ invariant-messages g l =
     let left = g.F.Feed.left in
     record {
       following : IsFollowing g.F.Feed.tells l.host (left l.fn.feed) (left l.feed) view (tells g.D.Disk.tells g.C.Clock.tells g.R.Repos.tells g.O.Sink.tells)
-          (point (seen_in l.fn.store) l.fn.tally l.fn.disk (around (panel l.fn.judges) (moments l.fn.clock) (repository l.fn.repos)) (written l.fn.out))
-          (point (seen_in l.store) l.tally l.disk (around (panel l.judges) (moments l.clock) (repository l.repos)) (written l.out)) l.counter;
+          (point (seen_in l.fn.store) l.fn.tally l.fn.disk (around (panel l.fn.judges) (moments l.fn.clock) (repository l.fn.repos)) (failures (g.R.Repos.faults l.fn.repos) (g.C.Clock.faults l.fn.clock) 0) (written l.fn.out))
+          (point (seen_in l.store) l.tally l.disk (around (panel l.judges) (moments l.clock) (repository l.repos)) (failures (g.R.Repos.faults l.repos) (g.C.Clock.faults l.clock) 0) (written l.out)) l.counter;
       is_open : IsTrue (seen_in l.store).log.is_open;
       on : IsTrue g.D.Disk.tells → IsKept (seen_in l.store) (view l.disk);
       side : (seen_in l.store).side ≡ (seen_in l.fn.store).side;

@@ -2,11 +2,12 @@ use Rattle.std.proofs.Common.{◌≡◌, ◌⊎◌, inl, inr, [], Err, refl, sym
 use Rattle.at_cid.specs.Counts.{Rose}
 use Rattle.relay_step.specs.Around.{around}
 use Rattle.relay_store.specs.declared.fault.StoreFault.{StoreFault}
+use Rattle.take_run.specs.Causes.{failures}
 use Rattle.take_run.specs.Ends.{end_of_store}
 use Rattle.take_run.specs.Tells.{tells}
 use Rattle.take_run.specs.declared.end.TakeEnd.{TakeEnd}
 use Rattle.take_run.specs.PairEnds.{IsCausedBy, IsOfFeed, MayEnd, TakeEndShows}
-use Rattle.take_run.proofs.Endings.{image_shows, never_bad, none_later, opening_causes, opening_completes, opening_read, opening_shows, store_of_feed}
+use Rattle.take_run.proofs.Endings.{image_shows, none_later, opening_causes, opening_completes, opening_read, opening_shows, store_of_feed}
 use Rattle.take_run.proofs.WholeFollowed.{completes, followed_on, never_failed}
 use Rattle.take_run.proofs.WholeIngested.{opened_of, unopened}
 use Rattle.take_run.proofs.following.follow.Goals as goal
@@ -14,7 +15,7 @@ use Rattle.take_run.proofs.following.follow.Goals as goal
 pub returns-in-Err-clause-followed : goal.returns-in-Err-clause-followed
 returns-in-Err-clause-followed g c = λ told J image.
     inl (
-      unopened g.D.Disk.tells (g.D.Disk.view c.args.disk.now) (g.D.Disk.view c.args.other.now) (g.D.Disk.view c.open.new.disk) (g.D.Disk.view c.open.new.other) c.in-Err.fault J (around (g.P.Judges.panel c.args.judges.now) (g.C.Clock.moments c.args.clock.now) (g.R.Repos.repository c.args.repos.now))
+      unopened g.D.Disk.tells (g.D.Disk.view c.args.disk.now) (g.D.Disk.view c.args.other.now) (g.D.Disk.view c.open.new.disk) (g.D.Disk.view c.open.new.other) c.in-Err.fault J (around (g.P.Judges.panel c.args.judges.now) (g.C.Clock.moments c.args.clock.now) (g.R.Repos.repository c.args.repos.now)) (failures (g.R.Repos.faults c.args.repos.now) (g.C.Clock.faults c.args.clock.now) 0)
           [] (g.O.Sink.written c.args.out.now) c.of_store.result (g.met.D.Disk.is_disk c.open.new.disk) (g.met.D.Disk.is_disk c.open.new.other)
           c.in-Err.ensures.opened told (c.in-Err.ensures.few c.in-Err.fault refl) c.of_store.ensures,
       refl,
@@ -43,7 +44,7 @@ pub returns-clause-followed : goal.returns-clause-followed
 returns-clause-followed g c = λ told J image.
     inr (followed_on g.D.Disk.view (λ x. g.met.D.Disk.is_disk x) c.args.disk.now c.args.other.now c.open.new.disk c.open.new.other (tells g.D.Disk.tells g.C.Clock.tells g.R.Repos.tells g.O.Sink.tells) told c.in-Ok.store c.in-Ok.ensures.opened J image
     c.take_on.new.disk c.take_on.new.other c.take_on.new.store c.take_on.ensures.beside g.F.Feed.tells c.args.host.now c.args.most c.args.count c.in-Ok.ensures.open.1
-    (λ n. g.F.Feed.behind c.args.feed.now c.args.host.now n) (g.F.Feed.left c.take_on.new.feed) (around (g.P.Judges.panel c.args.judges.now) (g.C.Clock.moments c.args.clock.now) (g.R.Repos.repository c.args.repos.now)) (around (g.P.Judges.panel c.take_on.new.judges) (g.C.Clock.moments c.take_on.new.clock) (g.R.Repos.repository c.take_on.new.repos)) (g.O.Sink.written c.args.out.now) (g.O.Sink.written c.take_on.new.out)
+    (λ n. g.F.Feed.behind c.args.feed.now c.args.host.now n) (g.F.Feed.left c.take_on.new.feed) (around (g.P.Judges.panel c.args.judges.now) (g.C.Clock.moments c.args.clock.now) (g.R.Repos.repository c.args.repos.now)) (failures (g.R.Repos.faults c.args.repos.now) (g.C.Clock.faults c.args.clock.now) 0) (around (g.P.Judges.panel c.take_on.new.judges) (g.C.Clock.moments c.take_on.new.clock) (g.R.Repos.repository c.take_on.new.repos)) (failures (g.R.Repos.faults c.take_on.new.repos) (g.C.Clock.faults c.take_on.new.clock) 0) (g.O.Sink.written c.args.out.now) (g.O.Sink.written c.take_on.new.out)
     c.take_on.result (c.take_on.ensures.taken J (opened_of g.D.Disk.view (λ x. g.met.D.Disk.is_disk x) c.args.disk.now c.args.other.now c.open.new.disk c.open.new.other (tells g.D.Disk.tells g.C.Clock.tells g.R.Repos.tells g.O.Sink.tells) told c.in-Ok.store c.in-Ok.ensures.opened J image)))
 
 pub returns-clause-shows : goal.returns-clause-shows
@@ -60,9 +61,9 @@ returns-clause-complete g c = λ told J image none.
     completes _ _ _ _ _ g.F.Feed.tells c.args.host.now c.args.count _ taken.taken.extra _ c.take_on.result taken.feed.ends taken.taken.which_extra c.take_on.ensures.caused
     (none_later (g.D.Disk.view c.args.disk.now).faults (g.D.Disk.view c.open.new.disk).faults (g.D.Disk.view c.take_on.new.disk).faults (g.D.Disk.view c.args.other.now).faults (g.D.Disk.view c.open.new.other).faults (g.D.Disk.view c.take_on.new.other).faults _ _ _ _ c.in-Ok.ensures.counts.0 c.in-Ok.ensures.counts.1 none)
 
-pub returns-in-Err-clause-unopened : goal.returns-in-Err-clause-unopened
-returns-in-Err-clause-unopened g c = λ place is told. (
-  opening_read g.D.Disk.tells (g.D.Disk.view c.args.disk.now) (g.D.Disk.view c.args.other.now) (g.D.Disk.view c.open.new.disk) (g.D.Disk.view c.open.new.other) c.in-Err.fault c.of_store.result place c.in-Err.ensures.opened c.of_store.ensures is told,
+pub returns-in-Err-clause-no_journal : goal.returns-in-Err-clause-no_journal
+returns-in-Err-clause-no_journal g c = λ told none. (
+  λ not. opening_read g.D.Disk.tells (g.D.Disk.view c.args.disk.now) (g.D.Disk.view c.args.other.now) (g.D.Disk.view c.open.new.disk) (g.D.Disk.view c.open.new.other) c.in-Err.fault c.of_store.result c.in-Err.ensures.opened c.of_store.ensures told not,
   refl,
   refl,
   refl,
@@ -70,10 +71,10 @@ returns-in-Err-clause-unopened g c = λ place is told. (
   refl,
 )
 
-pub returns-clause-unopened : goal.returns-clause-unopened
-returns-clause-unopened g c = λ place is told.
+pub returns-clause-no_journal : goal.returns-clause-no_journal
+returns-clause-no_journal g c = λ told none.
     let kept = c.in-Ok.ensures.opened.keeps told in
-    absurd (never_bad c.take_on.result place (g.D.Disk.view c.args.disk.now).content (g.D.Disk.view c.args.other.now).content kept.0 kept.1 (returns-clause-shows g c told) is)
+    absurd (none kept.0 kept.1)
 
 pub returns-in-Err-clause-disks_steady : goal.returns-in-Err-clause-disks_steady
 returns-in-Err-clause-disks_steady g c = λ not.

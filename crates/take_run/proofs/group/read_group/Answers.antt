@@ -7,7 +7,7 @@ use Rattle.take_run.specs.declared.group.Rest.{Rest}
 use Rattle.take_run.specs.Groups.{AreRead, IsGroup, bytes_together}
 use Rattle.take_run.specs.Tapes.{AreRecords, encoded_records}
 use Rattle.relay_store.specs.declared.message.Message.{Message}
-use Rattle.take_run.proofs.Records.{as_long, bytes_one, place_one, read_failed, read_fault, read_one, records_joined}
+use Rattle.take_run.proofs.Records.{as_long, bytes_one, place_one, read_failed, read_fault, read_none, read_one, records_joined}
 use Rattle.take_run.proofs.group.read_group.Goals as goal
 use Rattle.take_run.proofs.group.read_group.Goals.{then-reading-test+else-size-lt-LONGEST_FEED_MESSAGE, else-reading-test}
 
@@ -42,6 +42,11 @@ pub returns-in-Err-clause-read : goal.returns-in-Err-clause-read
 returns-in-Err-clause-read g c = λ told.
     subst (λ (l : List Message). IsGroup c.args.tape.now (g.I.Source.left c.args.input.now) c.next.new.self (g.I.Source.left c.next.new.source) l (Rest.Fault c.in-Err.fault)) (sym c.reserve.ensures.items)
     (read_fault c.args.tape.now c.reading.tape c.next.new.self _ _ _ c.reading.messages.items c.in-Err.fault (c.reading.invariant.read told) (c.in-Err.ensures.next told) c.in-Err.ensures.placed)
+
+pub returns-in-Ok-None-clause-read : goal.returns-in-Ok-None-clause-read
+returns-in-Ok-None-clause-read g c = λ told.
+    subst (λ (l : List Message). IsGroup c.args.tape.now (g.I.Source.left c.args.input.now) c.next.new.self (g.I.Source.left c.next.new.source) l Rest.Nothing) (sym c.reserve.ensures.items)
+    (read_none c.args.tape.now c.reading.tape c.next.new.self _ _ _ c.reading.messages.items (c.reading.invariant.read told) (rw c.in-Ok-None.field-0-is at (c.in-Ok-None.ensures.next told)))
 
 pub returns-in-Err-clause-failed : goal.returns-in-Err-clause-failed
 returns-in-Err-clause-failed g c = read_failed c.in-Err.fault _ _ _ c.reading.invariant.steady (λ is. c.in-Err.ensures.failed (ap Err is)) c.in-Err.ensures.no_fault

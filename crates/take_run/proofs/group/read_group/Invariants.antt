@@ -1,16 +1,16 @@
 use Rattle.std.proofs.Common.{◌≡◌, ◌≤◌, ◌<◌, ◌+◌, ◌-◌, IsTrue, length}
 use Rattle.relay_io.specs.declared.feed.TheConstants.{LONGEST_FEED_MESSAGE}
 use Rattle.relay_row.specs.declared.limits.TheConstants.{MOST_ROWS}
-use Rattle.take_run.specs.Groups.{IsGroup, bytes_together}
+use Rattle.tape.specs.Reading.{coming}
+use Rattle.take_run.specs.Groups.{AreRead, bytes_together}
 use Rattle.take_run.specs.Tapes.{AreRecords, encoded_records}
-use Rattle.take_run.specs.declared.group.Rest.{Rest}
 use Rattle.take_run.proofs.group.read_group.Given as goal
 
 abbrev pub invariant-reading : goal.invariant-reading
 invariant-reading g l =
     let left = g.I.Source.left in
     record {
-      read : IsTrue g.I.Source.tells → IsGroup l.fn.tape (left l.fn.input) l.tape (left l.input) l.messages.items Rest.More;
+      read : IsTrue g.I.Source.tells → AreRead l.fn.tape (left l.fn.input) l.messages.items (coming l.tape (left l.input));
       records : AreRecords l.messages.items;
       few : length l.messages.items ≤ MOST_ROWS;
       some : length l.messages.items ≡ 0 → l.size ≡ 0;

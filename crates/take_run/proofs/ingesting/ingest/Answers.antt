@@ -2,17 +2,18 @@ use Rattle.std.proofs.Common.{◌≡◌, ◌⊎◌, inl, inr, Err, refl, sym, ap
 use Rattle.at_cid.specs.Counts.{Rose}
 use Rattle.relay_step.specs.Around.{around}
 use Rattle.relay_store.specs.declared.fault.StoreFault.{StoreFault}
+use Rattle.take_run.specs.Causes.{failures}
 use Rattle.take_run.specs.Ends.{end_of_store}
 use Rattle.take_run.specs.Tells.{tells}
 use Rattle.take_run.specs.declared.end.TakeEnd.{TakeEnd}
 use Rattle.take_run.specs.PairEnds.{IsCausedBy, MayEnd, TakeEndShows}
-use Rattle.take_run.proofs.Endings.{completes, image_shows, never_bad, none_later, opening_causes, opening_completes, opening_read, opening_shows}
+use Rattle.take_run.proofs.Endings.{completes, image_shows, none_later, opening_causes, opening_completes, opening_read, opening_shows}
 use Rattle.take_run.proofs.WholeIngested.{ingested, opened_of, unopened}
 use Rattle.take_run.proofs.ingesting.ingest.Goals as goal
 
 pub returns-in-Err-clause-ingested : goal.returns-in-Err-clause-ingested
 returns-in-Err-clause-ingested g c = λ told J image.
-    inl (unopened g.D.Disk.tells (g.D.Disk.view c.args.disk.now) (g.D.Disk.view c.args.other.now) (g.D.Disk.view c.open.new.disk) (g.D.Disk.view c.open.new.other) c.in-Err.fault J (around (g.P.Judges.panel c.args.judges.now) (g.C.Clock.moments c.args.clock.now) (g.R.Repos.repository c.args.repos.now))
+    inl (unopened g.D.Disk.tells (g.D.Disk.view c.args.disk.now) (g.D.Disk.view c.args.other.now) (g.D.Disk.view c.open.new.disk) (g.D.Disk.view c.open.new.other) c.in-Err.fault J (around (g.P.Judges.panel c.args.judges.now) (g.C.Clock.moments c.args.clock.now) (g.R.Repos.repository c.args.repos.now)) (failures (g.R.Repos.faults c.args.repos.now) (g.C.Clock.faults c.args.clock.now) (g.I.Source.faults c.args.input.now))
     (g.I.Source.left c.args.input.now) (g.O.Sink.written c.args.out.now) c.of_store.result (g.met.D.Disk.is_disk c.open.new.disk) (g.met.D.Disk.is_disk c.open.new.other)
     c.in-Err.ensures.opened told (c.in-Err.ensures.few c.in-Err.fault refl) c.of_store.ensures)
 
@@ -36,8 +37,8 @@ pub returns-clause-ingested : goal.returns-clause-ingested
 returns-clause-ingested g c = λ told J image.
     inr (ingested g.D.Disk.view (λ x. g.met.D.Disk.is_disk x) c.args.disk.now c.args.other.now c.open.new.disk c.open.new.other (tells g.D.Disk.tells g.C.Clock.tells g.R.Repos.tells g.O.Sink.tells) told c.in-Ok.store c.in-Ok.ensures.opened J image
     c.take_on.new.disk c.take_on.new.other c.take_on.new.store c.take_on.ensures.beside g.I.Source.tells c.args.most c.args.limit c.in-Ok.ensures.open.1
-    (around (g.P.Judges.panel c.args.judges.now) (g.C.Clock.moments c.args.clock.now) (g.R.Repos.repository c.args.repos.now))
-    (around (g.P.Judges.panel c.take_on.new.judges) (g.C.Clock.moments c.take_on.new.clock) (g.R.Repos.repository c.take_on.new.repos))
+    (around (g.P.Judges.panel c.args.judges.now) (g.C.Clock.moments c.args.clock.now) (g.R.Repos.repository c.args.repos.now)) (failures (g.R.Repos.faults c.args.repos.now) (g.C.Clock.faults c.args.clock.now) (g.I.Source.faults c.args.input.now))
+    (around (g.P.Judges.panel c.take_on.new.judges) (g.C.Clock.moments c.take_on.new.clock) (g.R.Repos.repository c.take_on.new.repos)) (failures (g.R.Repos.faults c.take_on.new.repos) (g.C.Clock.faults c.take_on.new.clock) (g.I.Source.faults c.take_on.new.input))
     (g.I.Source.left c.args.input.now) (g.I.Source.left c.take_on.new.input) (g.O.Sink.written c.args.out.now) (g.O.Sink.written c.take_on.new.out) c.take_on.result
     (c.take_on.ensures.taken J (opened_of g.D.Disk.view (λ x. g.met.D.Disk.is_disk x) c.args.disk.now c.args.other.now c.open.new.disk c.open.new.other (tells g.D.Disk.tells g.C.Clock.tells g.R.Repos.tells g.O.Sink.tells) told c.in-Ok.store c.in-Ok.ensures.opened J image)))
 
@@ -55,9 +56,9 @@ returns-clause-complete g c = λ told input_told J image messages are is short n
     completes _ _ _ _ _ c.take_on.result taken.extra c.args.limit (g.I.Source.left c.args.input.now) (g.I.Source.left c.take_on.new.input) _ messages taken.which_extra taken.records (taken.from input_told) are is short c.take_on.ensures.caused
     (none_later (g.D.Disk.view c.args.disk.now).faults (g.D.Disk.view c.open.new.disk).faults (g.D.Disk.view c.take_on.new.disk).faults (g.D.Disk.view c.args.other.now).faults (g.D.Disk.view c.open.new.other).faults (g.D.Disk.view c.take_on.new.other).faults _ _ _ _ c.in-Ok.ensures.counts.0 c.in-Ok.ensures.counts.1 none)
 
-pub returns-in-Err-clause-unopened : goal.returns-in-Err-clause-unopened
-returns-in-Err-clause-unopened g c = λ place is told. (
-  opening_read g.D.Disk.tells (g.D.Disk.view c.args.disk.now) (g.D.Disk.view c.args.other.now) (g.D.Disk.view c.open.new.disk) (g.D.Disk.view c.open.new.other) c.in-Err.fault c.of_store.result place c.in-Err.ensures.opened c.of_store.ensures is told,
+pub returns-in-Err-clause-no_journal : goal.returns-in-Err-clause-no_journal
+returns-in-Err-clause-no_journal g c = λ told none. (
+  λ not. opening_read g.D.Disk.tells (g.D.Disk.view c.args.disk.now) (g.D.Disk.view c.args.other.now) (g.D.Disk.view c.open.new.disk) (g.D.Disk.view c.open.new.other) c.in-Err.fault c.of_store.result c.in-Err.ensures.opened c.of_store.ensures told not,
   refl,
   refl,
   refl,
@@ -65,10 +66,10 @@ returns-in-Err-clause-unopened g c = λ place is told. (
   refl,
 )
 
-pub returns-clause-unopened : goal.returns-clause-unopened
-returns-clause-unopened g c = λ place is told.
+pub returns-clause-no_journal : goal.returns-clause-no_journal
+returns-clause-no_journal g c = λ told none.
     let kept = c.in-Ok.ensures.opened.keeps told in
-    absurd (never_bad c.take_on.result place (g.D.Disk.view c.args.disk.now).content (g.D.Disk.view c.args.other.now).content kept.0 kept.1 (returns-clause-shows g c told) is)
+    absurd (none kept.0 kept.1)
 
 pub returns-in-Err-clause-disks_steady : goal.returns-in-Err-clause-disks_steady
 returns-in-Err-clause-disks_steady g c = λ not.

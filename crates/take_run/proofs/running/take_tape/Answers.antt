@@ -2,7 +2,7 @@ use Rattle.std.proofs.Common.{length, inl, inr, refl, sym, ap, subst, ◌∙◌,
 use Rattle.relay_store.specs.Taking.{AreOfHosts}
 use Rattle.take_run.proofs.Records.{as_long, of_hosts}
 use Rattle.take_run.proofs.WholeGroups.{reads_on, starts_reading, tape_ends, tape_finishes, tape_stops}
-use Rattle.take_run.proofs.Telling.{read_on, read_told, stop_not_by_tape, told_on, told_written, unmoved_here, unmoved_on}
+use Rattle.take_run.proofs.Telling.{read_on, read_steady, read_told, stop_not_by_tape, told_on, told_written, unmoved_here, unmoved_on}
 use Rattle.take_run.proofs.running.take_tape.Goals as goal
 
 pub groups-init : goal.groups-init
@@ -39,19 +39,20 @@ pub returns-in-Err-clause-taken : goal.returns-in-Err-clause-taken
 returns-in-Err-clause-taken g c = λ J of.
     tape_stops g.I.Source.tells (g.I.Source.left c.args.input.now) c.groups.tape c.read_group-group.new.tape (g.I.Source.left c.groups.input) (g.I.Source.left c.read_group-group.new.input) g.D.Disk.view _ _ _ c.groups.invariant.reading
     c.read_group-group.result.messages.items c.as_slice-messages.result.now c.read_group-group.result.rest c.as_slice-messages.ensures.value c.read_group-group.ensures.read c.read_group-group.ensures.records c.read_group-group.ensures.place
-    c.args.limit J of c.new-tally.ensures.ended _ c.in-Err.end c.in-Err.ensures.stopped
+    c.args.limit (c.read_group-group.ensures.most ∙ c.groups.invariant.most) J of c.new-tally.ensures.ended _ _ _ c.in-Err.end c.in-Err.ensures.stopped
 
 pub returns-in-Nothing-clause-taken : goal.returns-in-Nothing-clause-taken
 returns-in-Nothing-clause-taken g c = λ J of.
     tape_finishes g.I.Source.tells (g.I.Source.left c.args.input.now) c.groups.tape c.read_group-group.new.tape (g.I.Source.left c.groups.input) (g.I.Source.left c.read_group-group.new.input) g.D.Disk.view _ _ _ c.groups.invariant.reading
     c.read_group-group.result.messages.items c.as_slice-messages.result.now c.read_group-group.result.rest c.as_slice-messages.ensures.value c.read_group-group.ensures.read c.read_group-group.ensures.records c.read_group-group.ensures.place
-    c.args.limit J of c.new-tally.ensures.ended c.in-Nothing.is _ c.in-Ok.ensures.recorded c.new-tally.ensures.messages c.new-tally.ensures.events c.new-tally.ensures.refused c.last_seq.result c.last_seq.ensures c.finish.result _ c.finish.ensures.ends
+    c.args.limit (c.read_group-group.ensures.most ∙ c.groups.invariant.most) J of c.new-tally.ensures.ended _ _ c.in-Nothing.is (read_on c.read_group-group.result.rest _ _ c.read_group-group.ensures.failed (inr c.in-Nothing.is) ∙ c.groups.invariant.still) _ c.in-Ok.ensures.recorded c.new-tally.ensures.messages c.new-tally.ensures.events c.new-tally.ensures.refused c.last_seq.result c.last_seq.ensures c.finish.result _ c.finish.ensures.ends
 
 pub returns-in-Fault-clause-taken : goal.returns-in-Fault-clause-taken
 returns-in-Fault-clause-taken g c = λ J of.
     tape_ends g.I.Source.tells (g.I.Source.left c.args.input.now) c.groups.tape c.read_group-group.new.tape (g.I.Source.left c.groups.input) (g.I.Source.left c.read_group-group.new.input) g.D.Disk.view _ _ _ c.groups.invariant.reading
     c.read_group-group.result.messages.items c.as_slice-messages.result.now c.read_group-group.result.rest c.as_slice-messages.ensures.value c.read_group-group.ensures.read c.read_group-group.ensures.records c.read_group-group.ensures.place
-    c.args.limit J of c.new-tally.ensures.ended c.in-Fault.fault c.in-Fault.is (c.read_group-group.ensures.most ∙ c.groups.invariant.most) _ c.in-Ok.ensures.recorded c.of_tape.result c.of_tape.ensures
+    c.args.limit (c.read_group-group.ensures.most ∙ c.groups.invariant.most) J of c.new-tally.ensures.ended _ _ c.in-Fault.fault c.in-Fault.is _ c.in-Ok.ensures.recorded c.of_tape.result c.of_tape.ensures
+    (λ not. read_steady c.read_group-group.result.rest c.in-Fault.fault _ _ c.in-Fault.is c.read_group-group.ensures.failed c.of_tape.result c.of_tape.ensures not ∙ c.groups.invariant.still)
 
 pub groups-preserved : goal.groups-preserved
 groups-preserved g c =
@@ -60,7 +61,7 @@ groups-preserved g c =
     record {
       reading = reads_on g.I.Source.tells (g.I.Source.left c.args.input.now) c.groups.tape c.read_group-group.new.tape (g.I.Source.left c.groups.input) (g.I.Source.left c.read_group-group.new.input) g.D.Disk.view _ _ _ c.groups.invariant.reading
           c.read_group-group.result.messages.items c.as_slice-messages.result.now c.read_group-group.result.rest c.as_slice-messages.ensures.value c.read_group-group.ensures.read c.read_group-group.ensures.records c.read_group-group.ensures.place
-          c.in-More.is _ c.in-Ok.ensures.recorded;
+          _ c.in-Ok.ensures.recorded;
       is_open = c.in-Ok.ensures.open;
       on = c.in-Ok.ensures.on;
       side = c.in-Ok.ensures.side ∙ c.groups.invariant.side;
