@@ -1,11 +1,12 @@
 """Tool and relay are killed at random moments, and nothing is lost, and nothing comes twice."""
+import contextlib
 import os
 import pathlib
 import random
 import signal
 import time
 
-from rows import Rows, same
+from rows import Rows, Wrong, same
 
 import day
 from clients import Reader
@@ -15,11 +16,16 @@ from scene import Scene
 ROWS = Rows()
 LONG, QUICK = 20, 3
 KILLS = LONG
+TRIES = 30
 
 
 def children(number: int) -> "list[int]":
     """The processes that a process started and that are there still."""
-    return [int(each) for path in pathlib.Path(f"/proc/{number}/task").glob("*/children") for each in path.read_text().split()]
+    found = []
+    for path in pathlib.Path(f"/proc/{number}/task").glob("*/children"):
+        with contextlib.suppress(OSError):  # a thread that ended meanwhile
+            found += map(int, path.read_text().split())
+    return found
 
 
 @ROWS.row("kills at random moments lose nothing")
@@ -36,7 +42,13 @@ def killed(folder):
                 relay.child.wait()
                 relay.start()
             else:
-                kill_a_run(relay)
+                for _ in range(TRIES):
+                    if kill_a_run(relay):
+                        break
+                    going_on.join()
+                    going_on = scene.go_on(6, 0.1)
+                else:
+                    raise Wrong(f"no run of the relay was seen while {TRIES} times six messages came")
             going_on.join()
         relay.wait_until_taken(scene.sent())
         last = relay.metrics()["live_last_number"]
@@ -49,14 +61,17 @@ def killed(folder):
         same(sorted(path.name for path in relay.folder.glob("live.tape*")), [], "the tapes that are left")
 
 
-def kill_a_run(relay: Relay) -> None:
-    """Kills a run of the relay, as soon as there is one."""
-    runs = wait_for(lambda: children(relay.child.pid), "a run of the relay", 60) if relay.child.poll() is None else []
-    for number in runs:
-        try:
-            os.kill(number, signal.SIGKILL)
-        except ProcessLookupError:
-            pass
+def kill_a_run(relay: Relay) -> bool:
+    """Kills a run of the relay, as soon as there is one, which may last milliseconds; whether there was one within two seconds."""
+    end = time.monotonic() + 2
+    while time.monotonic() < end and relay.child.poll() is None:
+        runs = children(relay.child.pid)
+        for number in runs:
+            with contextlib.suppress(ProcessLookupError):
+                os.kill(number, signal.SIGKILL)
+        if runs:
+            return True
+    return False
 
 
 @ROWS.row("a signal ends it soon, and what wasn't taken comes again")
