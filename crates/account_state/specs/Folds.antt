@@ -22,7 +22,12 @@ fresh = record { active = true; status = None; down = false; repo = Repo.Missing
 abbrev pub effected : State → Effect → State
 effected a Effect.Nothing = a
 effected a (Effect.Repo head) = record a { repo = Repo.Good head }
-effected a (Effect.Account active status) = record { active = active; status = status; down = a.down; repo = a.repo }
+effected a (Effect.Account active status) = record {
+  active = active;
+  status = status;
+  down = a.down;
+  repo = a.repo;
+}
 
 -- the revision of the newest commit that is known, also where commits behind it were lost
 abbrev pub last_rev : Repo → Option ℕ
@@ -52,7 +57,12 @@ repo_carried (CarriedRepo.Lost rev) = Repo.Lost rev
 
 -- a carried account, whatever was known before
 abbrev pub carried_as : CarriedAccount → State
-carried_as b = record { active = b.active; status = b.status; down = b.down; repo = repo_carried b.repo }
+carried_as b = record {
+  active = b.active;
+  status = b.status;
+  down = b.down;
+  repo = repo_carried b.repo;
+}
 
 -- what a row makes of the account that it names
 abbrev pub moved : State → Row → State

@@ -2,7 +2,8 @@
 use Rattle.std.specs.Prelude.{◌≡◌, ℕ, ◌+◌, ◌^◌, ◌<◌, ◌≤◌, ◌⊎◌, List, [], length}
 use Rattle.account_state.specs.Entries.{Entry}
 
--- the level of the first node and that of its right side, the nodes on the longest way down, and the entries in order
+-- the level of the first node and that of its right side, the nodes on the longest way down, and
+-- the entries in order
 pub record Shape : Type 0 where
   pub level : ℕ
   pub right_level : ℕ
@@ -12,8 +13,9 @@ pub record Shape : Type 0 where
 abbrev pub no_entries : Shape
 no_entries = record { level = 0; right_level = 0; depth = 0; entries = [] }
 
--- n entries are at most 2 log2 (n + 1) deep: a level has at most two nodes on a way down, and a tree of level l has at
--- least 2 ^ l - 1 entries. With one node on its own level (its right side is lower) a tree is less deep by one.
+-- n entries are at most 2 log2 (n + 1) deep: a level has at most two nodes on a way down, and a
+-- tree of level l has at least 2 ^ l - 1 entries. With one node on its own level (its right side is
+-- lower) a tree is less deep by one.
 pub record IsLow (tree : Shape) : Type 0 where
   pub right_level : tree.right_level ≤ tree.level
   pub depth : tree.depth ≤ tree.level + tree.right_level
@@ -25,15 +27,16 @@ pub record IsSide (at : ℕ) (side : Shape) : Type 0 where
   pub most : side.level ≤ at
   pub least : at ≤ side.level + 1
 
--- the sides of a node at a level in an AA tree: the left one stands one level lower, and no three nodes of one level stand
--- in a row to the right
+-- the sides of a node at a level in an AA tree: the left one stands one level lower, and no three
+-- nodes of one level stand in a row to the right
 pub record AreSides (at : ℕ) (left right : Shape) : Type 0 where
   pub on_left : IsSide at left
   pub on_right : IsSide at right
   pub lower : left.level + 1 ≡ at
   pub ends : right.right_level < at
 
--- a tree takes one entry more: it keeps its level, or two of its nodes stood on that level and now one stands above it
+-- a tree takes one entry more: it keeps its level, or two of its nodes stood on that level and now
+-- one stands above it
 abbrev pub IsRaised : ℕ → ℕ → Shape → Type 0
 IsRaised level right_level new = (right_level ≡ level) × (new.level ≡ level + 1)
     × (new.right_level ≡ level)

@@ -28,7 +28,8 @@ Turns (answers q good) old new = (new ≡ old) × Says old q good
 Turns (refreshes did) old new = new ≡ option_map (refreshed did) old
 Turns (fails did) old new = new ≡ old
 
--- Where nobody lives, a method that never had an authority says no, and one whose authorities have all fallen says nothing
+-- Where nobody lives, a method that never had an authority says no, and one whose authorities have
+-- all fallen says nothing
 abbrev pub NobodySays : Call → List Entry → Type 0
 NobodySays (answers q good) all = (all ≡ []) × (good ≡ false)
 NobodySays (refreshes did) all = all ≡ []
@@ -37,9 +38,11 @@ NobodySays (fails did) all = Unit {0}
 -- the first that lives is asked, and the others stay as they are
 abbrev pub Does : Call → List Entry → List (Option Telling) → List (Option Telling) → Type 0
 Does call all [] new = (new ≡ []) × NobodySays call all
-Does call all (value ∷ others) new = (after : Option Telling) × (new ≡ after ∷ others) × Turns call value after
+Does call all (value ∷ others) new =
+    (after : Option Telling) × (new ≡ after ∷ others) × Turns call value after
 
--- a call on its list of authorities: some fall, and the first of those that live on does what is asked
+-- a call on its list of authorities: some fall, and the first of those that live on does what is
+-- asked
 pub record Asks (call : Call) (old new : Authorities) : Type 0 where
   pub falls : Falls old new
   pub does : Does call new.entries (drop new.fallen (values old)) (living new)

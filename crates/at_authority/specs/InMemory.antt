@@ -8,7 +8,11 @@ use Rattle.at_authority.specs.Standing.{answer_of}
 
 -- about a DID that was refreshed it answers by its later table
 abbrev pub telling_of : TableAuthority → Telling
-telling_of a = record { now = λ q. if contains_text a.refreshed (did_asked q) then answer_of a.later q else answer_of a.present q; later = answer_of a.later }
+telling_of a = record {
+  now = λ q. if contains_text a.refreshed (did_asked q) then answer_of a.later q
+      else answer_of a.present q;
+  later = answer_of a.later;
+}
 
 abbrev pub calls_of : TableAuthority → Failures
 calls_of a = a.failures

@@ -1,4 +1,5 @@
--- Who is asked: for each DID method a list of authorities in their order, of which those in front have fallen.
+-- Who is asked: for each DID method a list of authorities in their order, of which those in front
+-- have fallen.
 use Rattle.std.specs.Prelude.{◌≡◌, ℕ, zero, suc, Bool, true, false, ◌≤◌, ◌<◌, ◌⊎◌, List, [], ◌∷◌, length, drop, map, get_or, Option, if◌then◌else◌}
 use Rattle.std.specs.Str.{bytes_eq}
 use Rattle.at_authority.specs.Queries.{Telling}
@@ -32,7 +33,8 @@ pub record IsSpent (authorities : Authorities) : Type 0 where
   pub had : 0 < authorities.fallen
   pub gone : authorities.fallen ≡ length authorities.entries
 
--- Some of those in front fall, and none comes back: an authority falls exactly where its count of faults rises
+-- Some of those in front fall, and none comes back: an authority falls exactly where its count of
+-- faults rises
 pub record Falls (old new : Authorities) : Type 0 where
   pub as_many : length new.entries ≡ length old.entries
   pub later : old.fallen ≤ new.fallen
@@ -42,16 +44,21 @@ pub record Falls (old new : Authorities) : Type 0 where
 
 -- a list of authorities in memory, of authorities that are seen by what they tell and their faults
 abbrev pub authorities_of : {A : Type 0} → (A → Option Telling) → (A → ℕ) → List A → ℕ → Authorities
-authorities_of tells faults authorities fallen = record { entries = map (λ a. record { value = tells a; faults = faults a }) authorities; fallen = fallen }
+authorities_of tells faults authorities fallen = record {
+  entries = map (λ a. record { value = tells a; faults = faults a }) authorities;
+  fallen = fallen;
+}
 
 -- the list of authorities of a method that never had an authority
 abbrev pub never : Authorities
 never = record { entries = []; fallen = 0 }
 
 -- the list of authorities that stands under a name
-abbrev pub authorities_at : {B : Type 0} → (B → List ℕ) → (B → Authorities) → List B → List ℕ → Authorities
+abbrev pub authorities_at : {B : Type 0} → (B → List ℕ)
+    → (B → Authorities) → List B → List ℕ → Authorities
 authorities_at method authorities [] name = never
-authorities_at method authorities (b ∷ others) name = if bytes_eq (method b) name then authorities b else authorities_at method authorities others name
+authorities_at method authorities (b ∷ others) name = if bytes_eq (method b) name then authorities b
+    else authorities_at method authorities others name
 
 -- the first that passes a test stands at this place
 abbrev pub FirstAt : {B : Type 0} → (B → Bool) → List B → ℕ → Type 0

@@ -11,11 +11,15 @@ abbrev pub did_asked : Query → List ℕ
 did_asked (asks_home did host) = did
 did_asked (asks_verdict did digest sig) = did
 
--- The value of an authority: how it answers now, and how it will answer about a DID that it refreshes
+-- The value of an authority: how it answers now, and how it will answer about a DID that it
+-- refreshes
 pub record Telling : Type 0 where
   pub now : Query → Bool
   pub later : Query → Bool
 
 -- after a refresh it answers about that DID as foretold, and about all others as before
 abbrev pub refreshed : List ℕ → Telling → Telling
-refreshed did value = record { now = λ q. if bytes_eq did (did_asked q) then value.later q else value.now q; later = value.later }
+refreshed did value = record {
+  now = λ q. if bytes_eq did (did_asked q) then value.later q else value.now q;
+  later = value.later;
+}

@@ -19,8 +19,10 @@ abbrev pub FirstSays : List (Option Telling) → Query → Bool → Type 0
 FirstSays [] q good = ⊥
 FirstSays (value ∷ others) q good = Says value q good
 
--- The rank of an authority is the number of those behind it, so it stays when one in front falls. The one of this rank answers so
-pub record SaysAtRank (rank : ℕ) (authorities : Authorities) (q : Query) (good : Bool) : Type 0 where
+-- The rank of an authority is the number of those behind it, so it stays when one in front falls.
+-- The one of this rank answers so
+pub record SaysAtRank (rank : ℕ) (authorities : Authorities) (q : Query) (good : Bool)
+    : Type 0 where
   pub lives : rank < length (living authorities)
   pub says : FirstSays (drop (length (living authorities) - (rank + 1)) (living authorities)) q good
 
@@ -30,12 +32,15 @@ LastSays [] values = Unit {0}
 LastSays (a ∷ []) values = FirstSays values a.0 a.1
 LastSays (a ∷ b ∷ asked) values = LastSays (b ∷ asked) values
 
--- Questions were asked of a list of authorities: those that live in the end have their values, each answer is that of an authority that lived
--- in the beginning, of the rank of the one that is first in the end or a greater one, and the last is that of the first
-pub record ByRanks (old : Authorities) (asked : List (Query × Bool)) (new : Authorities) : Type 0 where
+-- Questions were asked of a list of authorities: those that live in the end have their values, each
+-- answer is that of an authority that lived in the beginning, of the rank of the one that is first
+-- in the end or a greater one, and the last is that of the first
+pub record ByRanks (old : Authorities) (asked : List (Query × Bool)) (new : Authorities)
+    : Type 0 where
   pub fewer : length (living new) ≤ length (living old)
   pub values : living new ≡ drop (length (living old) - length (living new)) (living old)
-  pub each : AllByRecursion (λ a. (rank : ℕ) × (length (living new) ≤ rank + 1) × SaysAtRank rank old a.0 a.1) asked
+  pub each : AllByRecursion
+      (λ a. (rank : ℕ) × (length (living new) ≤ rank + 1) × SaysAtRank rank old a.0 a.1) asked
   pub last : LastSays asked (living new)
 
 -- a question with its answer, as a call

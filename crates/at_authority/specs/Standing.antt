@@ -15,13 +15,15 @@ home_of table did = option_map string_bytes (get_by_text table.homes did)
 -- what it answers
 abbrev pub answer_of : Table → Query → Bool
 answer_of table (asks_home did host) = is_named host (home_of table did)
-answer_of table (asks_verdict did digest sig) = contains_text table.trusted did || contains_text table.good (signed_part did (encode_lower digest) (encode_lower sig))
+answer_of table (asks_verdict did digest sig) = contains_text table.trusted did
+    || contains_text table.good (signed_part did (encode_lower digest) (encode_lower sig))
 
 -- it has what these lines say, and nothing else
 pub record StandsFor (lines : List (List ℕ)) (table : Table) : Type 0 where
   pub homes : (did : List ℕ) → home_of table did ≡ home_in did lines
   pub trusted : (did : List ℕ) → contains_text table.trusted did ≡ has_line (trust_line did) lines
-  pub good : (part : List ℕ) → contains_text table.good part ≡ has_line (codes "good " ++ part) lines
+  pub good : (part : List ℕ)
+      → contains_text table.good part ≡ has_line (codes "good " ++ part) lines
 
 -- the line has this kind and these fields
 pub record IsOfKind (text kind rest : List ℕ) : Type 0 where
@@ -30,6 +32,7 @@ pub record IsOfKind (text kind rest : List ℕ) : Type 0 where
   pub others : rest ≡ other_fields text
 
 abbrev pub IsRead : List ℕ → Line → Type 0
-IsRead text (Line.Home did host) = IsOfKind text (codes "home") (other_fields text) × (did.now ≡ first_field (other_fields text)) × (host.now ≡ other_fields (other_fields text))
+IsRead text (Line.Home did host) = IsOfKind text (codes "home") (other_fields text)
+    × (did.now ≡ first_field (other_fields text)) × (host.now ≡ other_fields (other_fields text))
 IsRead text (Line.Trust did) = IsOfKind text (codes "trust") did.now
 IsRead text (Line.Good part) = IsOfKind text (codes "good") part.now

@@ -1,5 +1,5 @@
--- A table of an authority as text (a format of this project): lines, each with a line feed behind it, in which a blank
--- separates two fields.
+-- A table of an authority as text (a format of this project): lines, each with a line feed behind
+-- it, in which a blank separates two fields.
 use Rattle.std.specs.Prelude.{◌≡◌, ◌≢◌, ℕ, ◌+◌, ◌%◌, List, [], ◌∷◌, ◌++◌, length, Bool, false, ◌&&◌, ◌||◌, ◌==◌, ◌⊎◌, nat_lt, if◌then◌else◌, Option, Some, None, IsTrue, codes, All}
 use Rattle.std.specs.List.{list_all, list_any, before_first, after_first}
 use Rattle.std.specs.Option.{option_or}
@@ -100,7 +100,8 @@ other_fields text = after_first is_blank text
 -- the home that a line gives a DID
 abbrev pub home_by : List ℕ → List ℕ → Option (List ℕ)
 home_by did line =
-    if bytes_eq (first_field line) (codes "home") && bytes_eq (first_field (other_fields line)) did then Some (other_fields (other_fields line)) else None
+    if bytes_eq (first_field line) (codes "home") && bytes_eq (first_field (other_fields line)) did
+    then Some (other_fields (other_fields line)) else None
 
 -- the home that the last such line gives it
 abbrev pub home_in : List ℕ → List (List ℕ) → Option (List ℕ)
@@ -114,11 +115,12 @@ abbrev pub is_named : List ℕ → Option (List ℕ) → Bool
 is_named host None = false
 is_named host (Some name) = bytes_eq name host
 
--- A host is the home of a DID where the last home line of the DID names it. A verdict is good where there is a line that
--- trusts the DID, or one with this digest and this signature
+-- A host is the home of a DID where the last home line of the DID names it. A verdict is good where
+-- there is a line that trusts the DID, or one with this digest and this signature
 abbrev pub told_by : List (List ℕ) → Query → Bool
 told_by lines (asks_home did host) = is_named host (home_in did lines)
-told_by lines (asks_verdict did digest sig) = has_line (trust_line did) lines || has_line (good_line did (encode_lower digest) (encode_lower sig)) lines
+told_by lines (asks_verdict did digest sig) = has_line (trust_line did) lines
+    || has_line (good_line did (encode_lower digest) (encode_lower sig)) lines
 
 -- the form of a line as a test, field by field
 
@@ -136,4 +138,5 @@ abbrev pub is_of_kind : List ℕ → (List ℕ → Bool) → List ℕ → Bool
 is_of_kind kind test line = bytes_eq (first_field line) kind && test (other_fields line)
 
 unfoldable pub is_line : List ℕ → Bool
-is_line line = is_of_kind (codes "home") is_home_rest line || (is_of_kind (codes "trust") is_did line || is_of_kind (codes "good") is_good_rest line)
+is_line line = is_of_kind (codes "home") is_home_rest line
+    || (is_of_kind (codes "trust") is_did line || is_of_kind (codes "good") is_good_rest line)

@@ -43,7 +43,8 @@ impl Authorities {
 
     /// Adds an authority behind the others. Where memory runs out, it is dropped.
     pub(crate) fn push(&mut self, authority: Box<dyn Authority>) -> Result<(), Memory>
-        ensures ok { OnOk result (self.new.entries.items ≡ self.old.entries.items ++ authority ∷ []) }
+        ensures ok { OnOk result
+            (self.new.entries.items ≡ self.old.entries.items ++ authority ∷ []) }
         ensures err { OnErr result (self.new.entries.items ≡ self.old.entries.items) }
         ensures fallen { self.new.fallen ≡ self.old.fallen }
         ensures method { string_bytes self.new.method ≡ string_bytes self.old.method }
@@ -65,8 +66,11 @@ impl Authorities {
         did: &str,
         question: AuthorityQuestion<'_>,
     ) -> Result<bool, JudgeFault>
-        ensures asks { Asks (returned did.now (call_of did.now question.entry) result) (authorities_of (λ a. tells a) (λ a. faults a) self.old.entries.items self.old.fallen) (authorities_of (λ a. tells a) (λ a. faults a) self.new.entries.items self.new.fallen) }
-        ensures spent { IsErrOf result JudgeFault.NoneLeft ↔ IsSpent (authorities_of (λ a. tells a) (λ a. faults a) self.new.entries.items self.new.fallen) }
+        ensures asks { Asks (returned did.now (call_of did.now question.entry) result)
+            (authorities_of (λ a. tells a) (λ a. faults a) self.old.entries.items self.old.fallen)
+            (authorities_of (λ a. tells a) (λ a. faults a) self.new.entries.items self.new.fallen) }
+        ensures spent { IsErrOf result JudgeFault.NoneLeft ↔ IsSpent
+            (authorities_of (λ a. tells a) (λ a. faults a) self.new.entries.items self.new.fallen) }
         ensures method { string_bytes self.new.method ≡ string_bytes self.old.method }
     {
         while self.fallen < self.entries.len() {

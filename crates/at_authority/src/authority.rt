@@ -26,13 +26,15 @@ pub trait Authority: Drop {
 
     /// Whether the signature under a digest, the SHA-256 of what was signed, is good for the DID.
     fn verdict(&mut self, did: &str, digest: &[u8; 32], sig: &[u8]) -> Result<bool, Asked>
-        ensures says { IfOk result (Says (tells self.old) (asks_verdict did.now digest.now sig.now)) }
+        ensures says { IfOk result
+            (Says (tells self.old) (asks_verdict did.now digest.now sig.now)) }
         ensures kept { tells self.new ≡ tells self.old }
         ensures counted { CountsFailure result (faults self.old) (faults self.new) };
 
     /// Looks up anew what it knows of the DID.
     fn refresh(&mut self, did: &str) -> Result<(), Asked>
-        ensures refreshed { OnOk result (tells self.new ≡ option_map (refreshed did.now) (tells self.old)) }
+        ensures refreshed { OnOk result
+            (tells self.new ≡ option_map (refreshed did.now) (tells self.old)) }
         ensures kept { OnErr result (tells self.new ≡ tells self.old) }
         ensures counted { CountsFailure result (faults self.old) (faults self.new) };
 }

@@ -29,19 +29,26 @@ pub trait Judges {
     /// Whether the host is the home of the DID. A method that never had an authority has none.
     fn home(&mut self, did: &str, host: &str) -> Result<bool, JudgeFault>
         requires { IsTrue (is_did did.now) }
-        ensures call { IsCall (returned did.now (answers (asks_home did.now host.now)) result) (panel self.old) (panel self.new) }
-        ensures spent { IsErrOf result JudgeFault.NoneLeft ↔ IsSpent (panel self.new (method_of did.now)) };
+        ensures call { IsCall (returned did.now (answers (asks_home did.now host.now)) result)
+            (panel self.old) (panel self.new) }
+        ensures spent { IsErrOf result JudgeFault.NoneLeft
+            ↔ IsSpent (panel self.new (method_of did.now)) };
 
     /// Whether the signature under a digest, the SHA-256 of what was signed, is good for the DID. Where its method never had
     /// an authority, none is.
     fn verdict(&mut self, did: &str, digest: &[u8; 32], sig: &[u8]) -> Result<bool, JudgeFault>
         requires { IsTrue (is_did did.now) }
-        ensures call { IsCall (returned did.now (answers (asks_verdict did.now digest.now sig.now)) result) (panel self.old) (panel self.new) }
-        ensures spent { IsErrOf result JudgeFault.NoneLeft ↔ IsSpent (panel self.new (method_of did.now)) };
+        ensures call { IsCall
+            (returned did.now (answers (asks_verdict did.now digest.now sig.now)) result)
+            (panel self.old) (panel self.new) }
+        ensures spent { IsErrOf result JudgeFault.NoneLeft
+            ↔ IsSpent (panel self.new (method_of did.now)) };
 
     /// Has the first living authority look up anew what it knows of the DID. Does nothing where its method never had one.
     fn refresh(&mut self, did: &str) -> Result<(), JudgeFault>
         requires { IsTrue (is_did did.now) }
-        ensures call { IsCall (returned did.now (λ _. refreshes did.now) result) (panel self.old) (panel self.new) }
-        ensures spent { IsErrOf result JudgeFault.NoneLeft ↔ IsSpent (panel self.new (method_of did.now)) };
+        ensures call { IsCall (returned did.now (λ _. refreshes did.now) result)
+            (panel self.old) (panel self.new) }
+        ensures spent { IsErrOf result JudgeFault.NoneLeft
+            ↔ IsSpent (panel self.new (method_of did.now)) };
 }

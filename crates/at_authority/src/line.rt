@@ -20,9 +20,9 @@ pub(crate) enum Line<'a> {
 
 /// The text before the first blank, and the text behind it.
 fn around_blank(text: &str) -> Option<(&str, &str)>
-    ensures { MatchOption result
-        (position_or_len is_blank text.now ≡ length text.now)
-        (λ parts. (parts.0.now ≡ before_first is_blank text.now) × (parts.1.now ≡ after_first is_blank text.now)) }
+    ensures { MatchOption result (position_or_len is_blank text.now ≡ length text.now)
+        (λ parts. (parts.0.now ≡ before_first is_blank text.now)
+        × (parts.1.now ≡ after_first is_blank text.now)) }
 {
     text.split_once(' ')
 }
@@ -79,8 +79,8 @@ fn is_good(rest: &str) -> bool
 #[tactic(auto, using(crate::proofs::Lines::too_few_blanks))]
 fn home(rest: &str) -> Option<(&str, &str)>
     ensures { MatchOption result
-        (is_home_rest rest.now ≡ false)
-        (λ parts. (is_home_rest rest.now ≡ true) × (parts.0.now ≡ first_field rest.now) × (parts.1.now ≡ other_fields rest.now)) }
+        (is_home_rest rest.now ≡ false) (λ parts. (is_home_rest rest.now ≡ true)
+        × (parts.0.now ≡ first_field rest.now) × (parts.1.now ≡ other_fields rest.now)) }
 {
     let (did, host) = around_blank(rest)?;
     if did_ok(did) && host_ok(host) {

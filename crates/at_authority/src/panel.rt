@@ -35,7 +35,9 @@ impl Panel {
 
     // Where the list of authorities of a method stands.
     fn position(&self, name: &str) -> Option<usize>
-        ensures { MatchOption result (NonePasses (λ b. bytes_eq (string_bytes b.method) name.now) self.now.lists.items) (FirstAt (λ b. bytes_eq (string_bytes b.method) name.now) self.now.lists.items) }
+        ensures { MatchOption result
+            (NonePasses (λ b. bytes_eq (string_bytes b.method) name.now) self.now.lists.items)
+            (FirstAt (λ b. bytes_eq (string_bytes b.method) name.now) self.now.lists.items) }
     {
         for (i, authorities) in self.lists.iter().enumerate() {
             if authorities.is_of(name) {
@@ -47,10 +49,15 @@ impl Panel {
 
     /// Adds an authority behind those of the method. Where memory runs out, it is dropped, and the panel is as before.
     pub fn add(&mut self, name: &str, authority: Box<dyn Authority>) -> Result<(), Memory>
-        ensures added { OnOk result ((⟦<Panel as Judges>⟧.panel self.new name.now).entries ≡ (⟦<Panel as Judges>⟧.panel self.old name.now).entries ++ record { value = tells authority; faults = faults authority } ∷ []) }
-        ensures fallen { (⟦<Panel as Judges>⟧.panel self.new name.now).fallen ≡ (⟦<Panel as Judges>⟧.panel self.old name.now).fallen }
-        ensures others { (other : List ℕ) → other ≢ name.now → ⟦<Panel as Judges>⟧.panel self.new other ≡ ⟦<Panel as Judges>⟧.panel self.old other }
-        ensures kept { OnErr result ((other : List ℕ) → ⟦<Panel as Judges>⟧.panel self.new other ≡ ⟦<Panel as Judges>⟧.panel self.old other) }
+        ensures added { OnOk result ((⟦<Panel as Judges>⟧.panel self.new name.now).entries
+            ≡ (⟦<Panel as Judges>⟧.panel self.old name.now).entries
+            ++ record { value = tells authority; faults = faults authority } ∷ []) }
+        ensures fallen { (⟦<Panel as Judges>⟧.panel self.new name.now).fallen
+            ≡ (⟦<Panel as Judges>⟧.panel self.old name.now).fallen }
+        ensures others { (other : List ℕ) → other ≢ name.now
+            → ⟦<Panel as Judges>⟧.panel self.new other ≡ ⟦<Panel as Judges>⟧.panel self.old other }
+        ensures kept { OnErr result ((other : List ℕ)
+            → ⟦<Panel as Judges>⟧.panel self.new other ≡ ⟦<Panel as Judges>⟧.panel self.old other) }
     {
         match self.position(name) {
             Some(i) => self.lists[i].push(authority),
@@ -87,8 +94,10 @@ impl Panel {
 
     fn ask(&mut self, did: &str, question: AuthorityQuestion<'_>) -> Result<bool, JudgeFault>
         requires { IsTrue (is_did did.now) }
-        ensures call { IsCall (returned did.now (call_of did.now question.entry) result) (⟦<Panel as Judges>⟧.panel self.old) (⟦<Panel as Judges>⟧.panel self.new) }
-        ensures spent { IsErrOf result JudgeFault.NoneLeft ↔ IsSpent (⟦<Panel as Judges>⟧.panel self.new (method_of did.now)) }
+        ensures call { IsCall (returned did.now (call_of did.now question.entry) result)
+            (⟦<Panel as Judges>⟧.panel self.old) (⟦<Panel as Judges>⟧.panel self.new) }
+        ensures spent { IsErrOf result JudgeFault.NoneLeft
+            ↔ IsSpent (⟦<Panel as Judges>⟧.panel self.new (method_of did.now)) }
     {
         match self.position(method(did)) {
             Some(i) => self.lists[i].ask(did, question),

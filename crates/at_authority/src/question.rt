@@ -24,7 +24,8 @@ pub(crate) fn ask(
     did: &str,
     question: AuthorityQuestion<'_>,
 ) -> Result<bool, Asked>
-    ensures does { IfOk result (λ good. Turns (call_of did.now question.entry good) (tells authority.old) (tells authority.new)) }
+    ensures does { IfOk result (λ good. Turns (call_of did.now question.entry good)
+        (tells authority.old) (tells authority.new)) }
     ensures kept { OnErr result (tells authority.new ≡ tells authority.old) }
     ensures counted { CountsFailure result (faults authority.old) (faults authority.new) }
 {

@@ -31,9 +31,9 @@ pub struct Table {
 
 /// The text before the first line feed, and the text behind it.
 fn around_line_feed(text: &str) -> Option<(&str, &str)>
-    ensures { MatchOption result
-        (position_or_len is_line_feed text.now ≡ length text.now)
-        (λ parts. (parts.0.now ≡ before_first is_line_feed text.now) × (text.now ≡ parts.0.now ++ 10 ∷ parts.1.now)) }
+    ensures { MatchOption result (position_or_len is_line_feed text.now ≡ length text.now)
+        (λ parts. (parts.0.now ≡ before_first is_line_feed text.now)
+        × (text.now ≡ parts.0.now ++ 10 ∷ parts.1.now)) }
 {
     text.split_once('\n')
 }
@@ -52,7 +52,8 @@ impl Table {
 
     /// Adds what one more line says.
     fn add(&mut self, line: Line<'_>) -> Result<(), Memory>
-        ensures { OnOk result ((text : List ℕ) (lines : List (List ℕ)) → IsRead text line.entry → StandsFor lines self.old → StandsFor (lines ++ text ∷ []) self.new) }
+        ensures { OnOk result ((text : List ℕ) (lines : List (List ℕ)) → IsRead text line.entry
+            → StandsFor lines self.old → StandsFor (lines ++ text ∷ []) self.new) }
     {
         match line {
             Line::Home { did, host } => {
@@ -75,8 +76,10 @@ impl Table {
     /// The table of a text, read in one pass. `BadLine` names the first line that is none of a table: an empty one too, and a
     /// last one without its line feed.
     pub fn parse(alloc: Global, text: &str) -> Result<Table, TableFault>
-        ensures table { IfOk result (λ table. (lines : List (List ℕ)) × IsTable text.now lines × ((q : Query) → answer_of table q ≡ told_by lines q)) }
-        ensures bad { (number : ℕ) → result ≡ Err (TableFault.BadLine number) → IsBadAt number text.now }
+        ensures table { IfOk result (λ table. (lines : List (List ℕ))
+            × IsTable text.now lines × ((q : Query) → answer_of table q ≡ told_by lines q)) }
+        ensures bad { (number : ℕ) → result ≡ Err (TableFault.BadLine number)
+            → IsBadAt number text.now }
     {
         let mut table = Table::empty(alloc);
         let mut rest = text;
@@ -108,7 +111,8 @@ impl Table {
 
     /// Whether the signature under the digest is good for the DID.
     pub fn verdict(&self, did: &str, digest: &[u8; 32], sig: &[u8]) -> Result<bool, Memory>
-        ensures { IfOk result (λ good. good ≡ answer_of self.now (asks_verdict did.now digest.now sig.now)) }
+        ensures { IfOk result
+            (λ good. good ≡ answer_of self.now (asks_verdict did.now digest.now sig.now)) }
     {
         if self.trusted.contains(did) {
             return Ok(true);

@@ -34,8 +34,10 @@ impl TableAuthority {
         later: Table,
         failing: &[u64],
     ) -> Result<TableAuthority, Memory>
-        ensures now { IfOk result (λ made. (q : Query) → (telling_of made).now q ≡ answer_of present q) }
-        ensures later { IfOk result (λ made. (q : Query) → (telling_of made).later q ≡ answer_of later q) }
+        ensures now { IfOk result
+            (λ made. (q : Query) → (telling_of made).now q ≡ answer_of present q) }
+        ensures later { IfOk result
+            (λ made. (q : Query) → (telling_of made).later q ≡ answer_of later q) }
         ensures fresh { IfOk result (λ made. IsFresh failing.now (calls_of made)) }
     {
         let failures = Failures::new(alloc, failing)?;
@@ -50,7 +52,8 @@ impl TableAuthority {
 
     // The table by which it answers about a DID.
     fn table(&self, did: &str) -> &Table
-        ensures { (q : Query) → did_asked q ≡ did.now → answer_of result.now q ≡ (telling_of self.now).now q }
+        ensures { (q : Query) → did_asked q ≡ did.now
+            → answer_of result.now q ≡ (telling_of self.now).now q }
     {
         if self.refreshed.contains(did) {
             &self.later
@@ -68,9 +71,11 @@ impl Authority for TableAuthority {
     ghost faults = { λ authority. (calls_of authority).faults };
 
     fn home(&mut self, did: &str, host: &str) -> Result<bool, Asked>
-        ensures says { IfOk result (Says (Some (telling_of self.old)) (asks_home did.now host.now)) }
+        ensures says { IfOk result
+            (Says (Some (telling_of self.old)) (asks_home did.now host.now)) }
         ensures kept { Some (telling_of self.new) ≡ Some (telling_of self.old) }
-        ensures counted { CountsFailure result (calls_of self.old).faults (calls_of self.new).faults }
+        ensures counted { CountsFailure result
+            (calls_of self.old).faults (calls_of self.new).faults }
 
         // Where it fails.
         ensures fails { IsErrOf result Asked.Failed ↔ FailsNext (calls_of self.old) }
@@ -82,9 +87,11 @@ impl Authority for TableAuthority {
     }
 
     fn verdict(&mut self, did: &str, digest: &[u8; 32], sig: &[u8]) -> Result<bool, Asked>
-        ensures says { IfOk result (Says (Some (telling_of self.old)) (asks_verdict did.now digest.now sig.now)) }
+        ensures says { IfOk result
+            (Says (Some (telling_of self.old)) (asks_verdict did.now digest.now sig.now)) }
         ensures kept { Some (telling_of self.new) ≡ Some (telling_of self.old) }
-        ensures counted { CountsFailure result (calls_of self.old).faults (calls_of self.new).faults }
+        ensures counted { CountsFailure result
+            (calls_of self.old).faults (calls_of self.new).faults }
 
         // Where it fails.
         ensures fails { IsErrOf result Asked.Failed ↔ FailsNext (calls_of self.old) }
@@ -99,9 +106,11 @@ impl Authority for TableAuthority {
     }
 
     fn refresh(&mut self, did: &str) -> Result<(), Asked>
-        ensures refreshed { OnOk result (Some (telling_of self.new) ≡ option_map (refreshed did.now) (Some (telling_of self.old))) }
+        ensures refreshed { OnOk result (Some (telling_of self.new)
+            ≡ option_map (refreshed did.now) (Some (telling_of self.old))) }
         ensures kept { OnErr result (Some (telling_of self.new) ≡ Some (telling_of self.old)) }
-        ensures counted { CountsFailure result (calls_of self.old).faults (calls_of self.new).faults }
+        ensures counted { CountsFailure result
+            (calls_of self.old).faults (calls_of self.new).faults }
 
         // Where it fails.
         ensures fails { IsErrOf result Asked.Failed ↔ FailsNext (calls_of self.old) }

@@ -17,4 +17,5 @@ AreInOrder entries = IsStrictlySortedBy by_link entries
 -- the first place of a link
 abbrev pub place_of : List ℕ → List ScanEntry → Option BlockPlace
 place_of link [] = None
-place_of link (e ∷ entries) = if eq_by_cmp key_cmp link e.link then Some e.place else place_of link entries
+place_of link (e ∷ entries) = if eq_by_cmp key_cmp link e.link then Some e.place
+    else place_of link entries

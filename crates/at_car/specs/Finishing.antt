@@ -10,9 +10,12 @@ use Rattle.at_car.specs.declared.scan.Kept.{Kept}
 
 -- what is kept is of these blocks
 abbrev pub IsKeptOf : (List ℕ → Bool) → BlockMap → Kept → Type 0
-IsKeptOf picks blocks kept = IsSifted picks (root_of kept.roots) blocks kept.first kept.nodes kept.others
+IsKeptOf picks blocks kept =
+    IsSifted picks (root_of kept.roots) blocks kept.first kept.nodes kept.others
 
 -- the answer is a CAR of which this is kept, or the fault, unless memory ran out
-abbrev pub Finishes : (List ℕ → Bool) → Result Kept CarFault → Result (List (List ℕ) × BlockMap) CarFault → Type 0
-Finishes picks (Ok kept) answer = (blocks : BlockMap) × (answer ≡ Ok (kept.roots, blocks)) × IsKeptOf picks blocks kept
+abbrev pub Finishes : (List ℕ → Bool) → Result Kept CarFault
+    → Result (List (List ℕ) × BlockMap) CarFault → Type 0
+Finishes picks (Ok kept) answer =
+    (blocks : BlockMap) × (answer ≡ Ok (kept.roots, blocks)) × IsKeptOf picks blocks kept
 Finishes picks (Err fault) answer = Fails (fault_of fault) answer

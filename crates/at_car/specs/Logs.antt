@@ -1,4 +1,5 @@
--- What is told of blocks that came one after the other: of each its link, and the block where it is held.
+-- What is told of blocks that came one after the other: of each its link, and the block where it is
+-- held.
 use Rattle.std.specs.Prelude.{◌≡◌, ℕ, Bool, true, false, ◌==◌, not, if◌then◌else◌, List, [], ◌∷◌, Option, Some, None}
 use Rattle.at_car.specs.Places.{bytes_at, IsLaid}
 use Rattle.at_car.specs.declared.entry.ScanEntry.{ScanEntry}
@@ -31,4 +32,5 @@ was_let_go (Some (Some block)) = false
 -- the links of the entries whose blocks aren't held
 abbrev pub links_let_go : List ScanEntry → List (List ℕ)
 links_let_go [] = []
-links_let_go (e ∷ entries) = if is_held e then links_let_go entries else e.link ∷ links_let_go entries
+links_let_go (e ∷ entries) = if is_held e then links_let_go entries
+    else e.link ∷ links_let_go entries

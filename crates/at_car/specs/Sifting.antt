@@ -27,7 +27,8 @@ is_root None c = false
 is_root (Some r) c = bytes_eq r c
 
 -- what is held of the blocks, by a root and the choice of those that are kept
-pub record IsSifted (picks : List ℕ → Bool) (root : Option (List ℕ)) (blocks : BlockMap) (first : Option (List ℕ)) (nodes : BlockMap) (others : List (List ℕ)) : Type 0 where
+pub record IsSifted (picks : List ℕ → Bool) (root : Option (List ℕ)) (blocks : BlockMap)
+    (first : Option (List ℕ)) (nodes : BlockMap) (others : List (List ℕ)) : Type 0 where
   pub first_is : first ≡ block_at root blocks
   pub nodes_are : (c : List ℕ) → map.get nodes c ≡ picked picks (map.get blocks c)
   pub others_are : (c : List ℕ) → has others c ≡ is_passed picks (map.get blocks c)
@@ -37,6 +38,8 @@ abbrev pub sift : (List ℕ → Bool) → List ℕ → Option (List ℕ)
 sift picks b = if picks b then Some b else None
 
 -- the same while blocks come, of which the first under a link counts
-pub record HoldsSifted (picks : List ℕ → Bool) (root : Option (List ℕ)) (blocks : BlockMap) (sifted : Sifted) : Type 0 where
+pub record HoldsSifted (picks : List ℕ → Bool) (root : Option (List ℕ))
+    (blocks : BlockMap) (sifted : Sifted) : Type 0 where
   pub first_is : sifted.first ≡ block_at root blocks
-  pub log_is : (c : List ℕ) → map.find key_cmp c sifted.log ≡ option_map (sift picks) (map.get blocks c)
+  pub log_is : (c : List ℕ)
+      → map.find key_cmp c sifted.log ≡ option_map (sift picks) (map.get blocks c)

@@ -27,13 +27,18 @@ root_in None = None
 root_in (Some roots) = root_of roots
 
 -- what a file comes to of which blocks were read, and these bytes are left from a place on
-abbrev pub resumed : List (List ℕ) → BlockMap → ℕ → List ℕ → Result (List (List ℕ) × BlockMap) CarFault
-resumed roots blocks place rest = merged blocks (sections_in (place + length rest) rest) >>= λ all. Ok (roots, all)
+abbrev pub resumed : List (List ℕ) → BlockMap → ℕ
+    → List ℕ → Result (List (List ℕ) × BlockMap) CarFault
+resumed roots blocks place rest = merged blocks (sections_in (place + length rest) rest)
+    >>= λ all. Ok (roots, all)
 
--- these roots and blocks were read, and what is held is of them; however the bytes go on, reading on gives what reading the whole gives
-pub record HasBegun (picks : List ℕ → Bool) (bytes : List ℕ) (roots : List (List ℕ)) (blocks : BlockMap) (p : Progress) : Type 0 where
+-- these roots and blocks were read, and what is held is of them; however the bytes go on, reading
+-- on gives what reading the whole gives
+pub record HasBegun (picks : List ℕ → Bool) (bytes : List ℕ)
+    (roots : List (List ℕ)) (blocks : BlockMap) (p : Progress) : Type 0 where
   pub holds : HoldsSifted picks (root_of roots) blocks p.sifted
-  pub resumes : (more : List ℕ) → car_of (bytes ++ more) ≡ resumed roots blocks p.place (left_of p ++ more)
+  pub resumes : (more : List ℕ)
+      → car_of (bytes ++ more) ≡ resumed roots blocks p.place (left_of p ++ more)
 
 -- nothing was read
 pub record IsFresh (bytes : List ℕ) (p : Progress) : Type 0 where
@@ -42,7 +47,8 @@ pub record IsFresh (bytes : List ℕ) (p : Progress) : Type 0 where
   pub first : p.sifted.first ≡ None
   pub log : (c : List ℕ) → map.find key_cmp c p.sifted.log ≡ None
 
-abbrev pub StandsAt : (List ℕ → Bool) → Option CarFault → Option (List (List ℕ)) → Progress → List ℕ → Type 0
+abbrev pub StandsAt : (List ℕ → Bool) → Option CarFault
+    → Option (List (List ℕ)) → Progress → List ℕ → Type 0
 StandsAt picks (Some fault) roots p bytes = (more : List ℕ) → car_of (bytes ++ more) ≡ Err fault
 StandsAt picks None None p bytes = IsFresh bytes p
 StandsAt picks None (Some roots) p bytes = (blocks : BlockMap) × HasBegun picks bytes roots blocks p
@@ -57,8 +63,9 @@ IsIdle p = p.fault ≡ None → is_cut (left_of p) ≡ true
 
 -- what was done at the front of the bytes that are left, which begin at a place
 abbrev pub Took : (List ℕ → Bool) → Option (List ℕ) → ℕ → List ℕ → Sifted → Sifted → Taken → Type 0
-Took picks root place left old new (Taken.Section used) =
-    (0 < used) × (used ≤ length left)
-    × ((blocks : BlockMap) → HoldsSifted picks root blocks old → (all : BlockMap) × HoldsSifted picks root all new
-    × ((roots : List (List ℕ)) (more : List ℕ) → resumed roots blocks place (left ++ more) ≡ resumed roots all (place + used) (drop used left ++ more)))
-Took picks root place left old new (Taken.Fault fault) = (roots : List (List ℕ)) (blocks : BlockMap) (more : List ℕ) → resumed roots blocks place (left ++ more) ≡ Err fault
+Took picks root place left old new (Taken.Section used) = (0 < used) × (used ≤ length left)
+    × ((blocks : BlockMap) → HoldsSifted picks root blocks old → (all : BlockMap)
+    × HoldsSifted picks root all new × ((roots : List (List ℕ)) (more : List ℕ) → resumed roots
+    blocks place (left ++ more) ≡ resumed roots all (place + used) (drop used left ++ more)))
+Took picks root place left old new (Taken.Fault fault) = (roots : List (List ℕ))
+    (blocks : BlockMap) (more : List ℕ) → resumed roots blocks place (left ++ more) ≡ Err fault

@@ -118,7 +118,8 @@ fn read_front(alloc: Global, progress: &mut Progress) -> Result<(), Memory>
     requires front { progress.old.roots ≡ None }
     requires uncut { is_cut (left_of progress.old) ≡ false }
     requires fits { progress.old.place + length (left_of progress.old) < 2 ^ 64 }
-    ensures stands { (picks : List ℕ → Bool) (bytes : List ℕ) → StandsFor picks progress.old bytes → StandsFor picks progress.new bytes }
+    ensures stands { (picks : List ℕ → Bool) (bytes : List ℕ)
+        → StandsFor picks progress.old bytes → StandsFor picks progress.new bytes }
     ensures shorter { OnOk result (length (left_of progress.new) < length (left_of progress.old)) }
 {
     let left = progress.left();
@@ -140,7 +141,8 @@ fn read_next<S: Sieve>(alloc: Global, sieve: &S, progress: &mut Progress) -> Res
     requires begun { IsSome progress.old.roots }
     requires uncut { is_cut (left_of progress.old) ≡ false }
     requires fits { progress.old.place + length (left_of progress.old) < 2 ^ 64 }
-    ensures stands { (bytes : List ℕ) → StandsFor S.picks progress.old bytes → StandsFor S.picks progress.new bytes }
+    ensures stands { (bytes : List ℕ) → StandsFor S.picks progress.old bytes
+        → StandsFor S.picks progress.new bytes }
     ensures shorter { OnOk result (length (left_of progress.new) < length (left_of progress.old)) }
 {
     let root = progress.first_root();
@@ -162,7 +164,8 @@ fn read_next<S: Sieve>(alloc: Global, sieve: &S, progress: &mut Progress) -> Res
 
 /// Lets go what came again under a link.
 fn tidy(alloc: Global, progress: &mut Progress) -> Result<(), Memory>
-    ensures stands { (picks : List ℕ → Bool) (bytes : List ℕ) → StandsFor picks progress.old bytes → StandsFor picks progress.new bytes }
+    ensures stands { (picks : List ℕ → Bool) (bytes : List ℕ)
+        → StandsFor picks progress.old bytes → StandsFor picks progress.new bytes }
     ensures left { left_of progress.new ≡ left_of progress.old }
     ensures place { progress.new.place ≡ progress.old.place }
     ensures roots { progress.new.roots ≡ progress.old.roots }
@@ -173,9 +176,11 @@ fn tidy(alloc: Global, progress: &mut Progress) -> Result<(), Memory>
 
 /// Reads what comes next, where it is whole, and says whether it is.
 fn step<S: Sieve>(alloc: Global, sieve: &S, progress: &mut Progress) -> Result<bool, Memory>
-    ensures stands { (bytes : List ℕ) → StandsFor S.picks progress.old bytes → StandsFor S.picks progress.new bytes }
+    ensures stands { (bytes : List ℕ) → StandsFor S.picks progress.old bytes
+        → StandsFor S.picks progress.new bytes }
     ensures idle { IfOk result (λ went. went ≡ false → IsIdle progress.new) }
-    ensures shorter { IfOk result (λ went. went ≡ true → length (left_of progress.new) < length (left_of progress.old)) }
+    ensures shorter { IfOk result
+        (λ went. went ≡ true → length (left_of progress.new) < length (left_of progress.old)) }
 {
     if progress.fault.is_some() || is_cut(progress.left()) {
         return Ok(false);
@@ -202,7 +207,8 @@ pub(crate) fn advance<S: Sieve>(
     sieve: &S,
     progress: &mut Progress,
 ) -> Result<(), Memory>
-    ensures stands { (bytes : List ℕ) → StandsFor S.picks progress.old bytes → StandsFor S.picks progress.new bytes }
+    ensures stands { (bytes : List ℕ) → StandsFor S.picks progress.old bytes
+        → StandsFor S.picks progress.new bytes }
     ensures idle { OnOk result (IsIdle progress.new) }
 {
     'steps: loop {
@@ -214,8 +220,10 @@ pub(crate) fn advance<S: Sieve>(
 
 /// Holds a piece more. What was read is let go.
 pub(crate) fn hold(alloc: Global, progress: &mut Progress, piece: &[u8]) -> Result<(), Memory>
-    ensures ok { OnOk result ((picks : List ℕ → Bool) (bytes : List ℕ) → StandsFor picks progress.old bytes → StandsFor picks progress.new (bytes ++ piece.now)) }
-    ensures err { OnErr result ((picks : List ℕ → Bool) (bytes : List ℕ) → StandsFor picks progress.old bytes → StandsFor picks progress.new bytes) }
+    ensures ok { OnOk result ((picks : List ℕ → Bool) (bytes : List ℕ)
+        → StandsFor picks progress.old bytes → StandsFor picks progress.new (bytes ++ piece.now)) }
+    ensures err { OnErr result ((picks : List ℕ → Bool) (bytes : List ℕ)
+        → StandsFor picks progress.old bytes → StandsFor picks progress.new bytes) }
 {
     if progress.fault.is_some() {
         return Ok(());

@@ -82,7 +82,8 @@ const TOO_MANY: usize = 65_536;
 fn bring_near(alloc: Global, entries: &mut [ScanEntry]) -> Result<(), Memory>
     ensures places { (link : List ℕ) → place_of link entries.new ≡ place_of link entries.old }
     ensures len { length entries.new ≡ length entries.old }
-    ensures told { (buffer : List ℕ) → All (IsTold buffer) entries.old → All (IsTold buffer) entries.new }
+    ensures told { (buffer : List ℕ) → All (IsTold buffer) entries.old
+        → All (IsTold buffer) entries.new }
 {
     entries.sort_by_cached_key(
         alloc,
@@ -97,7 +98,8 @@ fn bring_near(alloc: Global, entries: &mut [ScanEntry]) -> Result<(), Memory>
 fn bring_halves_near(alloc: Global, entries: &mut [ScanEntry]) -> Result<(), Memory>
     ensures places { (link : List ℕ) → place_of link entries.new ≡ place_of link entries.old }
     ensures len { length entries.new ≡ length entries.old }
-    ensures told { (buffer : List ℕ) → All (IsTold buffer) entries.old → All (IsTold buffer) entries.new }
+    ensures told { (buffer : List ℕ) → All (IsTold buffer) entries.old
+        → All (IsTold buffer) entries.new }
 {
     if !(MANY..TOO_MANY).contains(&entries.len()) {
         return Ok(());
@@ -110,9 +112,11 @@ fn bring_halves_near(alloc: Global, entries: &mut [ScanEntry]) -> Result<(), Mem
 
 /// Puts entries in ascending order of their links. A link that stands twice keeps its first place.
 pub(crate) fn settle(alloc: Global, entries: &mut Vec<ScanEntry>) -> Result<(), Memory>
-    ensures places { (link : List ℕ) → place_of link entries.new.items ≡ place_of link entries.old.items }
+    ensures places { (link : List ℕ)
+        → place_of link entries.new.items ≡ place_of link entries.old.items }
     ensures order { OnOk result (AreInOrder entries.new.items) }
-    ensures told { (buffer : List ℕ) → All (IsTold buffer) entries.old.items → All (IsTold buffer) entries.new.items }
+    ensures told { (buffer : List ℕ) → All (IsTold buffer) entries.old.items
+        → All (IsTold buffer) entries.new.items }
 {
     bring_halves_near(alloc, entries.as_mut_slice())?;
     // Few links begin alike, and few are of the other kind.
@@ -126,8 +130,10 @@ pub(crate) fn settle(alloc: Global, entries: &mut Vec<ScanEntry>) -> Result<(), 
 pub(crate) fn seek(entries: &[ScanEntry], link: &Cid) -> Result<usize, usize>
     requires { AreInOrder entries.now }
     ensures range { IsSearchInRange result (length entries.now) }
-    ensures there { IfOk result (HoldsAt (λ (e : ScanEntry). place_of link.now entries.now ≡ Some e.place) entries.now) }
-    ensures absent { IfErr result (IsPartitionPoint (λ (e : ScanEntry). key_cmp e.link link.now ≡ Less) (λ (e : ScanEntry). key_cmp e.link link.now ≡ Greater) entries.now) }
+    ensures there { IfOk result
+        (HoldsAt (λ (e : ScanEntry). place_of link.now entries.now ≡ Some e.place) entries.now) }
+    ensures absent { IfErr result (IsPartitionPoint (λ (e : ScanEntry). key_cmp e.link link.now
+        ≡ Less) (λ (e : ScanEntry). key_cmp e.link link.now ≡ Greater) entries.now) }
 {
     // A search looks at the link alone.
     let place = BlockPlace { start: 0, len: 0 };

@@ -178,7 +178,8 @@ impl ScanLog {
 
     /// Puts the entries in order, each link once.
     fn order(&mut self, alloc: Global) -> Result<(), Memory>
-        ensures { (link : List ℕ) → finite.find key_cmp link self.new ≡ finite.find key_cmp link self.old }
+        ensures { (link : List ℕ)
+            → finite.find key_cmp link self.new ≡ finite.find key_cmp link self.old }
     {
         settle(alloc, &mut self.entries)?;
         self.most_entries = doubled(self.entries.len(), FEW_ENTRIES);
@@ -204,7 +205,8 @@ impl ScanLog {
 
     /// Lets go what came under a link that was there, if it may be half of all that is held.
     pub(crate) fn tidy(&mut self, alloc: Global) -> Result<(), Memory>
-        ensures { (link : List ℕ) → finite.find key_cmp link self.new ≡ finite.find key_cmp link self.old }
+        ensures { (link : List ℕ)
+            → finite.find key_cmp link self.new ≡ finite.find key_cmp link self.old }
     {
         let is_full = self.most_bytes <= self.buffer.len();
         let all = self.entries.len();
@@ -224,8 +226,10 @@ impl ScanLog {
 
     /// The blocks that are held, and the links of the others. The first block under a link counts.
     pub(crate) fn split(self, alloc: Global) -> Result<(Blocks, Links), Memory>
-        ensures held { IfOk result (λ x. (link : List ℕ) → finite.get x.0 link ≡ held (finite.find key_cmp link self)) }
-        ensures let_go { IfOk result (λ x. (link : List ℕ) → has x.1 link ≡ was_let_go (finite.find key_cmp link self)) }
+        ensures held { IfOk result
+            (λ x. (link : List ℕ) → finite.get x.0 link ≡ held (finite.find key_cmp link self)) }
+        ensures let_go { IfOk result
+            (λ x. (link : List ℕ) → has x.1 link ≡ was_let_go (finite.find key_cmp link self)) }
     {
         let ScanLog {
             buffer,

@@ -65,8 +65,10 @@ impl<S: Sieve> Scan<S> {
 
     /// The bytes so far are followed by the piece. After [`Memory`] they are as before.
     pub fn push(&mut self, piece: &[u8]) -> Result<(), Memory>
-        ensures ok { OnOk result ((bytes : List ℕ) → StandsFor S.picks self.old.progress bytes → StandsFor S.picks self.new.progress (bytes ++ piece.now)) }
-        ensures err { OnErr result ((bytes : List ℕ) → StandsFor S.picks self.old.progress bytes → StandsFor S.picks self.new.progress bytes) }
+        ensures ok { OnOk result ((bytes : List ℕ) → StandsFor S.picks self.old.progress bytes
+            → StandsFor S.picks self.new.progress (bytes ++ piece.now)) }
+        ensures err { OnErr result ((bytes : List ℕ) → StandsFor S.picks self.old.progress bytes
+            → StandsFor S.picks self.new.progress bytes) }
     {
         advance(self.alloc, &self.sieve, &mut self.progress)?;
         hold(self.alloc, &mut self.progress, piece)
@@ -74,7 +76,8 @@ impl<S: Sieve> Scan<S> {
 
     /// What is kept of the CAR that the bytes so far are, or its fault, as [`crate::read`] gives it.
     pub fn finish(self) -> Result<Kept, CarFault>
-        ensures { (bytes : List ℕ) → StandsFor S.picks self.progress bytes → Finishes S.picks result (car_of bytes) }
+        ensures { (bytes : List ℕ) → StandsFor S.picks self.progress bytes
+            → Finishes S.picks result (car_of bytes) }
     {
         let Scan {
             alloc,
@@ -89,7 +92,8 @@ impl<S: Sieve> Scan<S> {
 /// What was read, where nothing is left to be read.
 fn finish(alloc: Global, progress: Progress) -> Result<Kept, CarFault>
     requires { IsIdle progress }
-    ensures { (picks : List ℕ → Bool) (bytes : List ℕ) → StandsFor picks progress bytes → Finishes picks result (car_of bytes) }
+    ensures { (picks : List ℕ → Bool) (bytes : List ℕ)
+        → StandsFor picks progress bytes → Finishes picks result (car_of bytes) }
 {
     let Progress {
         roots,

@@ -26,7 +26,8 @@ fn root_block(
     link: &Cid,
     block: &[u8],
 ) -> Result<Option<Octets>, Memory>
-    ensures { IfOk result (λ found. found ≡ (if is_some first.now then None else (if is_root root.now link.now then Some block.now else None))) }
+    ensures { IfOk result (λ found. found ≡ (if is_some first.now then None
+        else (if is_root root.now link.now then Some block.now else None))) }
 {
     if first.is_some() {
         return Ok(None);
@@ -40,7 +41,8 @@ fn root_block(
 /// Adds a block, or its link alone.
 fn put(log: &mut ScanLog, picked: bool, link: Cid, block: &[u8]) -> Result<(), Memory>
     requires { digest_of link ≡ sha256 block.now }
-    ensures ok { OnOk result (log.new ≡ log.old ++ (link, (if picked then Some block.now else None)) ∷ []) }
+    ensures ok { OnOk result
+        (log.new ≡ log.old ++ (link, (if picked then Some block.now else None)) ∷ []) }
     ensures err { OnErr result (log.new ≡ log.old) }
 {
     if picked {
@@ -60,7 +62,8 @@ pub(crate) fn sift<S: Sieve>(
     block: &[u8],
 ) -> Result<(), Memory>
     requires { digest_of link ≡ sha256 block.now }
-    ensures ok { OnOk result ((blocks : BlockMap) → HoldsSifted S.picks root.now blocks sifted.old → HoldsSifted S.picks root.now (kept blocks link block.now) sifted.new) }
+    ensures ok { OnOk result ((blocks : BlockMap) → HoldsSifted S.picks root.now blocks sifted.old
+        → HoldsSifted S.picks root.now (kept blocks link block.now) sifted.new) }
     ensures err { OnErr result (sifted.new ≡ sifted.old) }
 {
     let picked = sieve.keeps(block)?;

@@ -1,5 +1,6 @@
 -- The one encoding of each item, and which items have one.
--- (The DAG-CBOR specification, on RFC 8949: heads are of its section 3. That integers are of 64 bits with a sign, and how deep lists and maps may be in one another, is this project's own.)
+-- (The DAG-CBOR specification, on RFC 8949: heads are of its section 3. That integers are of 64
+-- bits with a sign, and how deep lists and maps may be in one another, is this project's own.)
 use Rattle.std.specs.Prelude.{◌≡◌, ⊤, ℕ, suc, ◌+◌, ◌-◌, ◌*◌, ◌<◌, ◌≤◌, ◌^◌, max, ℤ, pos, negsuc, List, [], ◌∷◌, ◌++◌, length, Bool, true, false, Option, Some, None, nat_lt, if◌then◌else◌}
 use Rattle.std.specs.Str.{is_utf8}
 use Rattle.std.specs.Int.{w16, w32, w64, to_be_bytes}
@@ -13,7 +14,8 @@ use Rattle.at_cbor.specs.Majors.{major_number}
 
 -- the low five bits of the first byte, for an argument in its shortest form
 unfoldable pub info_of : ℕ → ℕ
-info_of n = if nat_lt n 24 then n else (if nat_lt n (2 ^ 8) then 24 else (if nat_lt n (2 ^ 16) then 25 else (if nat_lt n (2 ^ 32) then 26 else 27)))
+info_of n = if nat_lt n 24 then n else (if nat_lt n (2 ^ 8) then 24
+    else (if nat_lt n (2 ^ 16) then 25 else (if nat_lt n (2 ^ 32) then 26 else 27)))
 
 -- the bytes behind it
 unfoldable pub tail_of : ℕ → List ℕ
@@ -100,14 +102,16 @@ IsString bytes = (length bytes < ARGUMENTS) × IsBytes bytes
 abbrev pub IsText : List ℕ → Type 0
 IsText bytes = IsString bytes × (is_utf8 bytes ≡ true)
 
--- Items that have an encoding, with at most so many lists and maps in one another. The keys of a map ascend, behind a key before them.
+-- Items that have an encoding, with at most so many lists and maps in one another. The keys of a
+-- map ascend, behind a key before them.
 abbrev mutual
   pub Fits : Item → ℕ → Type 0
   Fits (Item.int z) depth = IsInt z
   Fits (Item.bytes bs) depth = IsString bs
   Fits (Item.text bs) depth = IsText bs
   Fits (Item.list is) depth = (0 < depth) × (items_count is < ARGUMENTS) × ItemsFit is (depth - 1)
-  Fits (Item.map fs) depth = (0 < depth) × (fields_count fs < ARGUMENTS) × FieldsFit fs None (depth - 1)
+  Fits (Item.map fs) depth =
+      (0 < depth) × (fields_count fs < ARGUMENTS) × FieldsFit fs None (depth - 1)
   Fits (Item.link bs) depth = (is_link bs ≡ true) × IsBytes bs
   Fits (Item.bool b) depth = ⊤
   Fits Item.null depth = ⊤
@@ -118,7 +122,8 @@ abbrev mutual
 
   pub FieldsFit : Fields → Option (List ℕ) → ℕ → Type 0
   FieldsFit no_fields before depth = ⊤
-  FieldsFit (field k i fs) before depth = IsText k × (is_above before k ≡ true) × Fits i depth × FieldsFit fs (Some k) depth
+  FieldsFit (field k i fs) before depth =
+      IsText k × (is_above before k ≡ true) × Fits i depth × FieldsFit fs (Some k) depth
 
 -- it has an encoding at each depth at which its lists and maps are nested
 abbrev pub IsSpellable : Item → Type 0
@@ -128,7 +133,8 @@ abbrev pub AreSpellable : List Item → Type 0
 AreSpellable is = (depth : ℕ) → items_nesting (items_of is) ≤ depth → ItemsFit (items_of is) depth
 
 abbrev pub AreFieldsSpellable : List (List ℕ × Item) → Type 0
-AreFieldsSpellable fs = (depth : ℕ) → fields_nesting (fields_of fs) ≤ depth → FieldsFit (fields_of fs) None depth
+AreFieldsSpellable fs = (depth : ℕ) → fields_nesting (fields_of fs) ≤ depth
+    → FieldsFit (fields_of fs) None depth
 
 -- a head that keeps the rules, with its argument or its link
 abbrev pub head_encoding : Head → List ℕ

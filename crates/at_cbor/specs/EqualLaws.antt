@@ -58,7 +58,8 @@ mutual
 
   fields_same : (fs : Fields) → fields_eq fs fs ≡ true
   fields_same no_fields = refl
-  fields_same (field k i fs) = and_from _ _ ((bytes_eq-Decides k k).1 refl) (and_from (item_eq i i) (fields_eq fs fs) (item_same i) (fields_same fs))
+  fields_same (field k i fs) = and_from _ _ ((bytes_eq-Decides k k).1 refl)
+      (and_from (item_eq i i) (fields_eq fs fs) (item_same i) (fields_same fs))
 
 equal_if : (i j : Item) → i ≡ j → item_eq i j ≡ true
 equal_if i j e = rw e (item_same j)

@@ -1,4 +1,5 @@
--- The head of an item (RFC 8949, section 3), and the first rule that it breaks. A flaw is which rule is broken, and how many bytes are left where the head begins.
+-- The head of an item (RFC 8949, section 3), and the first rule that it breaks. A flaw is which
+-- rule is broken, and how many bytes are left where the head begins.
 use Rattle.std.specs.Prelude.{ℕ, ◌%◌, ◌^◌, pos, negsuc, List, [], ◌∷◌, length, take, drop, slice_index, Bool, true, false, ◌&&◌, ◌||◌, Option, Some, None, Result, Ok, Err, nat_lt, nat_le, ◌==◌, if◌then◌else◌}
 use Rattle.std.specs.Int.{Width, w8, w16, w32, w64, byte_len, from_be_bytes}
 use Rattle.at_cid.specs.Link.{prefix_of, link_at}
@@ -20,7 +21,8 @@ flaw_of (Stop.At cause left) = Some (cause, left)
 
 -- a number of so many bytes, and the bytes behind it
 abbrev pub wide_at : Width → List ℕ → Option (ℕ × List ℕ)
-wide_at w bytes = if nat_lt (length bytes) (byte_len w) then None else Some (from_be_bytes w (take (byte_len w) bytes), drop (byte_len w) bytes)
+wide_at w bytes = if nat_lt (length bytes) (byte_len w) then None
+    else Some (from_be_bytes w (take (byte_len w) bytes), drop (byte_len w) bytes)
 
 -- the argument that the low five bits announce
 unfoldable pub argument_at : ℕ → List ℕ → Option (ℕ × List ℕ)
@@ -48,7 +50,8 @@ agrees (x ∷ xs) (y ∷ ys) = x == y && agrees xs ys
 
 -- too few bytes for a link behind its tag, and so far as in front of one
 abbrev pub begins_link : List ℕ → Bool
-begins_link bytes = agrees bytes (0x58 ∷ 0x25 ∷ 0x00 ∷ prefix_of Node) || agrees bytes (0x58 ∷ 0x25 ∷ 0x00 ∷ prefix_of Raw)
+begins_link bytes = agrees bytes (0x58 ∷ 0x25 ∷ 0x00 ∷ prefix_of Node)
+    || agrees bytes (0x58 ∷ 0x25 ∷ 0x00 ∷ prefix_of Raw)
 
 abbrev pub link_behind : ℕ → Option (List ℕ) → List ℕ → Result (Head × List ℕ) Flaw
 link_behind left None rest = Err (Cause.BadTag, left)
@@ -57,7 +60,8 @@ link_behind left (Some link) rest = Ok (Head.Link link, rest)
 -- the link in the 39 bytes behind its tag: the head of a byte string of 37 bytes, a 0, and the link
 unfoldable pub whole_link : ℕ → List ℕ → Result (Head × List ℕ) Flaw
 whole_link left bytes =
-    if slice_index bytes 0 == 0x58 && slice_index bytes 1 == 0x25 && slice_index bytes 2 == 0x00 then link_behind left (link_at (drop 3 bytes)) (drop TAGGED_LEN bytes)
+    if slice_index bytes 0 == 0x58 && slice_index bytes 1 == 0x25 && slice_index bytes 2 == 0x00
+    then link_behind left (link_at (drop 3 bytes)) (drop TAGGED_LEN bytes)
     else Err (Cause.BadTag, left)
 
 unfoldable pub tagged : ℕ → List ℕ → Result (Head × List ℕ) Flaw
@@ -80,13 +84,16 @@ is_long major info n = nat_lt n (least_of info)
 
 -- what a first byte of this major type and an argument say
 unfoldable pub major_of : Major → ℕ → ℕ → ℕ → List ℕ → Result (Head × List ℕ) Flaw
-major_of Major.Unsigned first left n rest = if nat_lt n INTEGERS then Ok (Head.Int (pos n), rest) else Err (Cause.IntRange, left)
-major_of Major.Negative first left n rest = if nat_lt n INTEGERS then Ok (Head.Int (negsuc n), rest) else Err (Cause.IntRange, left)
+major_of Major.Unsigned first left n rest = if nat_lt n INTEGERS
+    then Ok (Head.Int (pos n), rest) else Err (Cause.IntRange, left)
+major_of Major.Negative first left n rest = if nat_lt n INTEGERS
+    then Ok (Head.Int (negsuc n), rest) else Err (Cause.IntRange, left)
 major_of Major.Bytes first left n rest = Ok (Head.Bytes n, rest)
 major_of Major.Text first left n rest = Ok (Head.Text n, rest)
 major_of Major.List first left n rest = Ok (Head.List n, rest)
 major_of Major.Map first left n rest = Ok (Head.Map n, rest)
-major_of Major.Tag first left n rest = if n == 42 then tagged left rest else Err (Cause.BadTag, left)
+major_of Major.Tag first left n rest = if n == 42 then tagged left rest
+    else Err (Cause.BadTag, left)
 major_of Major.Simple first left n rest = simple_of first left rest
 
 -- a first byte and its argument, where that isn't cut

@@ -1,4 +1,5 @@
--- What a value of DAG-CBOR says, without where it lies in memory: the IPLD data model without floats.
+-- What a value of DAG-CBOR says, without where it lies in memory: the IPLD data model without
+-- floats.
 use Rattle.std.specs.Prelude.{ℕ, ℤ, suc, ◌+◌, ◌==◌, ◌&&◌, ◌||◌, nat_lt, true, Some, None, Bool, List, [], ◌∷◌, ◌-◌, length, slice_get, Option, option_map}
 use Rattle.std.specs.Ordering.{is_lt}
 use Rattle.at_cid.specs.Order.{key_cmp}
@@ -69,10 +70,12 @@ pairs_size fs = fields_size (fields_of fs)
 abbrev pub last_key : List (List ℕ × Item) → Option (List ℕ)
 last_key fs = option_map (λ f. f.0) (slice_get fs (length fs - 1))
 
--- (The DAG-CBOR specification, map keys.) A key comes after the one before it: it is longer, or as long and greater byte by byte
+-- (The DAG-CBOR specification, map keys.) A key comes after the one before it: it is longer, or as
+-- long and greater byte by byte
 abbrev pub is_above : Option (List ℕ) → List ℕ → Bool
 is_above None key = true
-is_above (Some before) key = nat_lt (length before) (length key) || (length before == length key && is_lt (key_cmp before key))
+is_above (Some before) key = nat_lt (length before) (length key)
+    || (length before == length key && is_lt (key_cmp before key))
 
 -- the keys ascend, behind a key before them
 abbrev pub are_ascending : Option (List ℕ) → List (List ℕ × Item) → Bool

@@ -48,7 +48,8 @@ place_from n (field k i fs) name = if bytes_eq k name then Some n else place_fro
 -- the fields, with the value of a key replaced, where it is there
 abbrev pub value_put : List ℕ → Item → Fields → Fields
 value_put name value no_fields = no_fields
-value_put name value (field k i fs) = if bytes_eq k name then field k value fs else field k i (value_put name value fs)
+value_put name value (field k i fs) = if bytes_eq k name then field k value fs
+    else field k i (value_put name value fs)
 
 -- the value of a key, where the item is a map that has it
 abbrev pub field_of : Item → List ℕ → Option Item

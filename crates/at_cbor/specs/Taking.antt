@@ -1,4 +1,5 @@
--- Pieces at the front of some bytes: each with what stands behind it, or nothing where it doesn't stand in front.
+-- Pieces at the front of some bytes: each with what stands behind it, or nothing where it doesn't
+-- stand in front.
 -- (The laws of taking say that what is taken is what is encoded there.)
 use Rattle.std.specs.Prelude.{ℕ, ◌/◌, ◌%◌, ◌&&◌, ◌==◌, nat_lt, if◌then◌else◌, List, [], ◌∷◌, length, take, drop, slice_index, Option, Some, None, Ok, Err}
 use Rattle.std.specs.Str.{is_utf8}
@@ -38,7 +39,8 @@ shortest least (Some a) = if nat_lt a.0 least then None else Some a
 -- the number that a head of a major type tells in its shortest form
 unfoldable pub number_at : Major → List ℕ → Taking ℕ
 number_at major [] = None
-number_at major (first ∷ bytes) = if first / 32 == major_number major && nat_lt (first % 32) 28 then shortest (least_of (first % 32)) (argument_at (first % 32) bytes) else None
+number_at major (first ∷ bytes) = if first / 32 == major_number major && nat_lt (first % 32) 28
+    then shortest (least_of (first % 32)) (argument_at (first % 32) bytes) else None
 
 -- so many bytes
 abbrev pub string_of : ℕ → List ℕ → Taking (List ℕ)
@@ -54,7 +56,8 @@ string_at bytes = string_behind Major.Bytes bytes
 
 -- a text
 unfoldable pub text_from_front : List ℕ → Taking (List ℕ)
-text_from_front bytes = string_behind Major.Text bytes >>= λ text. if is_utf8 text.0 then Some text else None
+text_from_front bytes = string_behind Major.Text bytes
+    >>= λ text. if is_utf8 text.0 then Some text else None
 
 abbrev pub linked : Option (List ℕ) → List ℕ → Taking (List ℕ)
 linked None rest = None
@@ -62,7 +65,8 @@ linked (Some c) rest = Some (c, rest)
 
 -- a link
 unfoldable pub link_from_front : List ℕ → Taking (List ℕ)
-link_from_front bytes = behind (0xd8 ∷ 0x2a ∷ 0x58 ∷ 0x25 ∷ 0x00 ∷ []) bytes >>= λ b. linked (link_at b) (drop LINK_LEN b)
+link_from_front bytes = behind (0xd8 ∷ 0x2a ∷ 0x58 ∷ 0x25 ∷ 0x00 ∷ []) bytes
+    >>= λ b. linked (link_at b) (drop LINK_LEN b)
 
 -- the item that is a link, or null where there is none
 abbrev pub link_item : Option (List ℕ) → Item
@@ -72,7 +76,9 @@ link_item (Some c) = Item.link c
 -- a link of kind Node, or null
 unfoldable pub child_at : List ℕ → Taking (Option (List ℕ))
 child_at [] = None
-child_at (first ∷ bytes) = if first == 0xf6 then Some (None, bytes) else (link_from_front (first ∷ bytes) >>= λ c. if slice_index c.0 1 == 0x71 then Some (Some c.0, c.1) else None)
+child_at (first ∷ bytes) = if first == 0xf6 then Some (None, bytes)
+    else (link_from_front (first ∷ bytes)
+    >>= λ c. if slice_index c.0 1 == 0x71 then Some (Some c.0, c.1) else None)
 
 abbrev pub found : {A : Type 0} → Reading A → Taking A
 found (Ok x) = Some x

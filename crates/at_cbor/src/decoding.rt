@@ -52,11 +52,13 @@ fn whole(alloc: Global, bytes: &[u8]) -> Result<(Value, usize), CborFault>
 /// reserves no memory.
 pub fn decode(alloc: Global, bytes: &[u8]) -> Result<(Value, usize), CborFault>
     // What is read is encoded so.
-    ensures found { IfOk result (λ x. Fits (item_of x.0) DEPTH × (take x.1 bytes.now ≡ encoding (item_of x.0))) }
+    ensures found { IfOk result
+        (λ x. Fits (item_of x.0) DEPTH × (take x.1 bytes.now ≡ encoding (item_of x.0))) }
     ensures within { IfOk result (λ x. x.1 ≤ length bytes.now) }
     ensures nested { IfOk result (λ x. nesting (item_of x.0) ≤ DEPTH) }
     // What is encoded so is read, unless memory runs out.
-    ensures only { (i : Item) (rest : List ℕ) → Fits i DEPTH → bytes.now ≡ encoding i ++ rest → Decodes result (Ok (i, length (encoding i))) }
+    ensures only { (i : Item) (rest : List ℕ) → Fits i DEPTH
+        → bytes.now ≡ encoding i ++ rest → Decodes result (Ok (i, length (encoding i))) }
     // Which fault it is, and where.
     ensures exact { Decodes result (decoded bytes.now) }
     // All in front of the place keeps the rules, and what stands there breaks the rule that is named.

@@ -16,7 +16,8 @@ pub fn encode(alloc: Global, value: &Value) -> Result<Octets, Memory>
     requires { nesting (item_of value.now) ≤ DEPTH }
     ensures encoded { IfOk result (λ bytes. bytes ≡ encoding (item_of value.now)) }
     // It is read back as the same value, whatever follows it.
-    ensures again { IfOk result (λ bytes. (rest : List ℕ) → decoded (bytes ++ rest) ≡ Ok (item_of value.now, length bytes)) }
+    ensures again { IfOk result (λ bytes. (rest : List ℕ)
+        → decoded (bytes ++ rest) ≡ Ok (item_of value.now, length bytes)) }
 {
     let mut out = Octets::new(alloc);
     write_value(&mut out, value)?;

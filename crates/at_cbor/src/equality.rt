@@ -63,7 +63,8 @@ fn equal_value(left: &Value, right: &Value) -> bool
 
 #[cycle(equal)]
 fn equal_values(left: &[Value], right: &[Value]) -> bool
-    ensures { result ≡ items_eq (items_of (map item_of left.now)) (items_of (map item_of right.now)) }
+    ensures { result ≡ items_eq (items_of (map item_of left.now))
+        (items_of (map item_of right.now)) }
 {
     if left.len() != right.len() {
         return false;
@@ -78,7 +79,8 @@ fn equal_values(left: &[Value], right: &[Value]) -> bool
 
 #[cycle(equal)]
 fn equal_fields(left: &[(Words, Value)], right: &[(Words, Value)]) -> bool
-    ensures { result ≡ fields_eq (fields_of (map pair_of left.now)) (fields_of (map pair_of right.now)) }
+    ensures { result ≡ fields_eq (fields_of (map pair_of left.now))
+        (fields_of (map pair_of right.now)) }
 {
     if left.len() != right.len() {
         return false;

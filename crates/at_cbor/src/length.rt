@@ -76,7 +76,8 @@ fn value_len(value: &Value) -> u64
 
 #[cycle(len)]
 fn values_len(values: &[Value]) -> u64
-    ensures { result ≡ min (length (items_encoding (items_of (map item_of values.now)))) (2 ^ 64 - 1) }
+    ensures { result ≡ min (length (items_encoding (items_of (map item_of values.now))))
+        (2 ^ 64 - 1) }
 {
     let mut sum: u64 = 0;
     for value in values {
@@ -87,7 +88,8 @@ fn values_len(values: &[Value]) -> u64
 
 #[cycle(len)]
 fn fields_len(fields: &[(Words, Value)]) -> u64
-    ensures { result ≡ min (length (fields_encoding (fields_of (map pair_of fields.now)))) (2 ^ 64 - 1) }
+    ensures { result ≡ min (length (fields_encoding (fields_of (map pair_of fields.now))))
+        (2 ^ 64 - 1) }
 {
     let mut sum: u64 = 0;
     for (key, value) in fields {

@@ -10,7 +10,8 @@ use at_cid::Words;
 use std::mem;
 
 fn value_at<'a>(fields: &'a [(Words, Value)], name: &str) -> Option<&'a Value>
-    ensures { option_map (λ value. item_of value.now) result ≡ value_of (fields_of (map pair_of fields.now)) name.now }
+    ensures { option_map (λ value. item_of value.now) result
+        ≡ value_of (fields_of (map pair_of fields.now)) name.now }
 {
     for (key, value) in fields {
         if key.as_bytes() == name.as_bytes() {
@@ -34,9 +35,12 @@ fn place_of(fields: &[(Words, Value)], name: &str) -> Option<usize>
 
 /// Puts a value in the place of a key's, where it is there, and gives the one that it had.
 pub(crate) fn replace_in(fields: &mut [(Words, Value)], name: &str, value: Value) -> Option<Value>
-    ensures taken { option_map item_of result ≡ value_of (fields_of (map pair_of fields.old)) name.now }
-    ensures put { fields_of (map pair_of fields.new) ≡ value_put name.now (item_of value) (fields_of (map pair_of fields.old)) }
-    ensures ascending { are_ascending None (map pair_of fields.new) ≡ are_ascending None (map pair_of fields.old) }
+    ensures taken { option_map item_of result
+        ≡ value_of (fields_of (map pair_of fields.old)) name.now }
+    ensures put { fields_of (map pair_of fields.new) ≡ value_put name.now
+        (item_of value) (fields_of (map pair_of fields.old)) }
+    ensures ascending { are_ascending None (map pair_of fields.new)
+        ≡ are_ascending None (map pair_of fields.old) }
 {
     let Some(place) = place_of(fields, name) else {
         return None;
@@ -47,7 +51,8 @@ pub(crate) fn replace_in(fields: &mut [(Words, Value)], name: &str, value: Value
 impl Fields {
     /// The value of a key, where it is there. Takes no memory.
     pub fn find(&self, name: &str) -> Option<&Value>
-        ensures { option_map (λ value. item_of value.now) result ≡ value_of (fields_of self.now) name.now }
+        ensures { option_map (λ value. item_of value.now) result
+            ≡ value_of (fields_of self.now) name.now }
     {
         value_at(self.as_slice(), name)
     }

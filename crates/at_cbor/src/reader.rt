@@ -41,7 +41,8 @@ impl<'a> ByteReader<'a> {
     /// The next byte.
     #[inline]
     pub(crate) fn byte(&mut self) -> Option<u8>
-        ensures byte { MatchOption result (self.old.rest.now ≡ []) (λ byte. self.old.rest.now ≡ byte ∷ self.new.rest.now) }
+        ensures byte { MatchOption result
+            (self.old.rest.now ≡ []) (λ byte. self.old.rest.now ≡ byte ∷ self.new.rest.now) }
         ensures left { self.new.left ≡ self.old.left }
     {
         let [byte, rest @ ..] = self.rest else {
@@ -56,7 +57,8 @@ impl<'a> ByteReader<'a> {
     pub(crate) fn short_text(&mut self) -> Option<u64>
         ensures { MatchOption result
             ((self.new.rest.now ≡ self.old.rest.now) × (self.new.left ≡ self.old.left))
-            (λ count. (head_at self.old.rest.now ≡ Ok (Head.Text count, self.new.rest.now)) × (self.new.left ≡ length self.old.rest.now)) }
+            (λ count. (head_at self.old.rest.now ≡ Ok (Head.Text count, self.new.rest.now))
+            × (self.new.left ≡ length self.old.rest.now)) }
     {
         let [first, rest @ ..] = self.rest else {
             return None;
@@ -75,7 +77,8 @@ impl<'a> ByteReader<'a> {
     pub(crate) fn link(&mut self) -> Option<Cid>
         ensures { MatchOption result
             ((self.new.rest.now ≡ self.old.rest.now) × (self.new.left ≡ self.old.left))
-            (λ link. (head_at self.old.rest.now ≡ Ok (Head.Link link, self.new.rest.now)) × (self.new.left ≡ length self.old.rest.now)) }
+            (λ link. (head_at self.old.rest.now ≡ Ok (Head.Link link, self.new.rest.now))
+            × (self.new.left ≡ length self.old.rest.now)) }
     {
         let Some((link, rest)) = take_link(self.rest) else {
             return None;
@@ -90,8 +93,8 @@ impl<'a> ByteReader<'a> {
     #[inline]
     pub(crate) fn take<const N: usize>(&mut self) -> Option<[u8; N]>
         ensures bytes { MatchOption result
-            (length self.old.rest.now < N)
-            (λ bytes. (N ≤ length self.old.rest.now) × (bytes ≡ take N self.old.rest.now) × (self.new.rest.now ≡ drop N self.old.rest.now)) }
+            (length self.old.rest.now < N) (λ bytes. (N ≤ length self.old.rest.now)
+            × (bytes ≡ take N self.old.rest.now) × (self.new.rest.now ≡ drop N self.old.rest.now)) }
         ensures left { self.new.left ≡ self.old.left }
     {
         let (bytes, rest) = self.rest.split_first_chunk::<N>()?;
@@ -102,9 +105,9 @@ impl<'a> ByteReader<'a> {
     /// So many of the next bytes.
     #[inline]
     pub(crate) fn sub(&mut self, count: usize) -> Option<&'a [u8]>
-        ensures bytes { MatchOption result
-            (length self.old.rest.now < count)
-            (λ bytes. (count ≤ length self.old.rest.now) × (bytes.now ≡ take count self.old.rest.now) × (self.new.rest.now ≡ drop count self.old.rest.now)) }
+        ensures bytes { MatchOption result (length self.old.rest.now < count) (λ bytes.
+            (count ≤ length self.old.rest.now) × (bytes.now ≡ take count self.old.rest.now)
+            × (self.new.rest.now ≡ drop count self.old.rest.now)) }
         ensures left { self.new.left ≡ self.old.left }
     {
         if self.rest.len() < count {

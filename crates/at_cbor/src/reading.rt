@@ -19,7 +19,8 @@ use std::alloc::Global;
 /// The string of so many bytes behind its head.
 #[tactic(auto, unfolding(crate::specs::Reading::string_at))]
 fn read_string<'a>(reader: &mut ByteReader<'a>, count: u64) -> Result<&'a [u8], Stop>
-    ensures string { Gives (λ string. (string.now, reader.new.rest.now)) flaw_of result (string_at reader.old.left count reader.old.rest.now) }
+    ensures string { Gives (λ string. (string.now, reader.new.rest.now)) flaw_of result
+        (string_at reader.old.left count reader.old.rest.now) }
     ensures left { reader.new.left ≡ reader.old.left }
 {
     match reader.sub(count as usize) {
@@ -31,7 +32,8 @@ fn read_string<'a>(reader: &mut ByteReader<'a>, count: u64) -> Result<&'a [u8], 
 /// The text that the bytes encode.
 #[tactic(auto, using(crate::proofs::Texts::tests_of_text))]
 fn text_of(bytes: &[u8]) -> Option<&str>
-    ensures { MatchOption result (is_utf8 bytes.now ≡ false) (λ text. (text.now ≡ bytes.now) × (is_utf8 bytes.now ≡ true)) }
+    ensures { MatchOption result
+        (is_utf8 bytes.now ≡ false) (λ text. (text.now ≡ bytes.now) × (is_utf8 bytes.now ≡ true)) }
 {
     match str::from_utf8(bytes) {
         Ok(text) => Some(text),
@@ -42,7 +44,8 @@ fn text_of(bytes: &[u8]) -> Option<&str>
 /// The text of so many bytes behind its head.
 #[tactic(auto, unfolding(crate::specs::Reading::text_at))]
 fn read_text(alloc: Global, reader: &mut ByteReader, count: u64) -> Result<Words, Stop>
-    ensures text { Gives (λ text. (text, reader.new.rest.now)) flaw_of result (text_at reader.old.left count reader.old.rest.now) }
+    ensures text { Gives (λ text. (text, reader.new.rest.now)) flaw_of result
+        (text_at reader.old.left count reader.old.rest.now) }
     ensures left { reader.new.left ≡ reader.old.left }
 {
     let string = read_string(reader, count)?;
@@ -61,7 +64,8 @@ fn read_key_text(
     reader: &mut ByteReader,
     count: u64,
 ) -> Result<Words, Stop>
-    ensures { Gives (λ key. (key, reader.new.rest.now)) flaw_of result (key_of (last_key fields.now) reader.old.left (Head.Text count) reader.old.rest.now) }
+    ensures { Gives (λ key. (key, reader.new.rest.now)) flaw_of result
+        (key_of (last_key fields.now) reader.old.left (Head.Text count) reader.old.rest.now) }
 {
     let key = read_text(alloc, reader, count)?;
     if !fields.admits(&key) {
@@ -78,7 +82,8 @@ fn read_key_of(
     reader: &mut ByteReader,
     head: Head,
 ) -> Result<Words, Stop>
-    ensures { Gives (λ key. (key, reader.new.rest.now)) flaw_of result (key_of (last_key fields.now) reader.old.left head reader.old.rest.now) }
+    ensures { Gives (λ key. (key, reader.new.rest.now)) flaw_of result
+        (key_of (last_key fields.now) reader.old.left head reader.old.rest.now) }
 {
     match head {
         Head::Text(count) => read_key_text(alloc, fields, reader, count),
@@ -89,7 +94,8 @@ fn read_key_of(
 /// The key at the front. Almost every key is a short text.
 #[tactic(auto, unfolding(crate::specs::Reading::key_at))]
 fn read_key(alloc: Global, fields: &Fields, reader: &mut ByteReader) -> Result<Words, Stop>
-    ensures { Gives (λ key. (key, reader.new.rest.now)) flaw_of result (key_at (last_key fields.now) reader.old.rest.now) }
+    ensures { Gives (λ key. (key, reader.new.rest.now)) flaw_of result
+        (key_at (last_key fields.now) reader.old.rest.now) }
 {
     if let Some(count) = reader.short_text() {
         return read_key_text(alloc, fields, reader, count);
@@ -102,7 +108,8 @@ fn read_key(alloc: Global, fields: &Fields, reader: &mut ByteReader) -> Result<W
 #[cycle(read)]
 #[tactic(auto, using(crate::proofs::Loops::item_at_is), unfolding(crate::specs::Reading::body_of))]
 pub(crate) fn read_item(alloc: Global, depth: u8, reader: &mut ByteReader) -> Result<Value, Stop>
-    ensures { Gives (λ value. (item_of value, reader.new.rest.now)) flaw_of result (item_at depth reader.old.rest.now) }
+    ensures { Gives (λ value. (item_of value, reader.new.rest.now)) flaw_of result
+        (item_at depth reader.old.rest.now) }
 {
     if let Some(count) = reader.short_text() {
         return Ok(Value::Text(read_text(alloc, reader, count)?));
@@ -117,7 +124,8 @@ pub(crate) fn read_item(alloc: Global, depth: u8, reader: &mut ByteReader) -> Re
 #[cycle(read)]
 #[tactic(auto, unfolding(crate::specs::Reading::body_of))]
 fn read_body(alloc: Global, depth: u8, reader: &mut ByteReader, head: Head) -> Result<Value, Stop>
-    ensures { Gives (λ value. (item_of value, reader.new.rest.now)) flaw_of result (body_of (inside depth) reader.old.left head reader.old.rest.now) }
+    ensures { Gives (λ value. (item_of value, reader.new.rest.now)) flaw_of result
+        (body_of (inside depth) reader.old.left head reader.old.rest.now) }
 {
     match head {
         Head::Int(number) => Ok(Value::Int(number)),
@@ -142,7 +150,8 @@ fn read_values(
     reader: &mut ByteReader,
     count: u64,
 ) -> Result<Values, Stop>
-    ensures { Gives (λ values. (values, reader.new.rest.now)) flaw_of result (items_at (item_at depth) count reader.old.rest.now) }
+    ensures { Gives (λ values. (values, reader.new.rest.now)) flaw_of result
+        (items_at (item_at depth) count reader.old.rest.now) }
 {
     let mut values = Values::new(alloc);
     'values: for _ in 0..count {
@@ -160,7 +169,8 @@ fn read_fields(
     reader: &mut ByteReader,
     count: u64,
 ) -> Result<Fields, Stop>
-    ensures { Gives (λ fields. (fields, reader.new.rest.now)) flaw_of result (fields_at (item_at depth) None count reader.old.rest.now) }
+    ensures { Gives (λ fields. (fields, reader.new.rest.now)) flaw_of result
+        (fields_at (item_at depth) None count reader.old.rest.now) }
 {
     let mut fields = Fields::new(alloc);
     'fields: for _ in 0..count {

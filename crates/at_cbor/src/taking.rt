@@ -34,7 +34,8 @@ pub fn take_behind<'a, const N: usize>(front: &[u8; N], bytes: &'a [u8]) -> Opti
 #[tactic(auto, unfolding(crate::specs::Taking::number_at))]
 #[inline]
 fn read_number(reader: &mut ByteReader, major: Major) -> Option<u64>
-    ensures { option_map (λ n. (n, reader.new.rest.now)) result ≡ number_at major reader.old.rest.now }
+    ensures { option_map (λ n. (n, reader.new.rest.now)) result
+        ≡ number_at major reader.old.rest.now }
 {
     let first = reader.byte()?;
     let info = first % 32;
@@ -149,7 +150,8 @@ pub fn take_child(bytes: &[u8]) -> Option<(Option<Cid>, &[u8])>
 /// The item at the front, in which at most 64 lists and maps are in one another.
 #[tactic(auto, unfolding(crate::specs::Taking::item_from_front))]
 pub fn take_item(alloc: Global, bytes: &[u8]) -> Result<Option<(Value, &[u8])>, Memory>
-    ensures { IfOk result (λ taken. option_map (λ x. (item_of x.0, x.1.now)) taken ≡ item_from_front bytes.now) }
+    ensures { IfOk result
+        (λ taken. option_map (λ x. (item_of x.0, x.1.now)) taken ≡ item_from_front bytes.now) }
 {
     let mut reader = ByteReader::new(bytes);
     match read_item(alloc, DEPTH, &mut reader) {

@@ -175,7 +175,8 @@ fn put_value(out: &mut Octets, value: &Value) -> Result<(), Memory>
 
 #[cycle(write)]
 fn put_values(out: &mut Octets, values: &[Value]) -> Result<(), Memory>
-    ensures written { OnOk result (out.new ≡ out.old ++ items_encoding (items_of (map item_of values.now))) }
+    ensures written { OnOk result
+        (out.new ≡ out.old ++ items_encoding (items_of (map item_of values.now))) }
     ensures spellable { OnOk result (AreSpellable (map item_of values.now)) }
     ensures err { OnErr result (take (length out.old) out.new ≡ out.old) }
 {
@@ -188,7 +189,8 @@ fn put_values(out: &mut Octets, values: &[Value]) -> Result<(), Memory>
 #[cycle(write)]
 fn put_fields(out: &mut Octets, fields: &[(Words, Value)]) -> Result<(), Memory>
     requires { are_ascending None (map pair_of fields.now) ≡ true }
-    ensures written { OnOk result (out.new ≡ out.old ++ fields_encoding (fields_of (map pair_of fields.now))) }
+    ensures written { OnOk result
+        (out.new ≡ out.old ++ fields_encoding (fields_of (map pair_of fields.now))) }
     ensures spellable { OnOk result (AreFieldsSpellable (map pair_of fields.now)) }
     ensures err { OnErr result (take (length out.old) out.new ≡ out.old) }
 {

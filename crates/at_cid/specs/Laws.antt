@@ -5,4 +5,5 @@ use Rattle.at_cid.specs.Text.{text_of}
 
 -- No two links have one text.
 abbrev pub TextTellsLink : Type 0
-TextTellsLink = (one other : List ℕ) → IsLink one → IsLink other → text_of one ≡ text_of other → one ≡ other
+TextTellsLink = (one other : List ℕ) → IsLink one
+    → IsLink other → text_of one ≡ text_of other → one ≡ other

@@ -1,5 +1,6 @@
 -- A link: four bytes that say what it names, and the SHA-256 of the block that it names.
--- (CIDv1, with the multicodec of DAG-CBOR or of raw bytes, and the multihash of SHA-256 with 32 bytes.)
+-- (CIDv1, with the multicodec of DAG-CBOR or of raw bytes, and the multihash of SHA-256 with 32
+-- bytes.)
 use Rattle.std.specs.Prelude.{ℕ, List, [], ◌∷◌, ◌++◌, length, take, drop, slice_index, Bool, false, ◌&&◌, ◌||◌, ◌==◌, ◌≡◌, ◌<◌, if◌then◌else◌, IsTrue, Option, Some, None}
 use Rattle.sha2.specs.Sha256.{sha256}
 use Rattle.at_cid.specs.declared.cid.TheConstants.{DIGEST_LEN, LINK_LEN}
@@ -29,7 +30,8 @@ is_link [] = false
 is_link (a ∷ []) = false
 is_link (a ∷ b ∷ []) = false
 is_link (a ∷ b ∷ c ∷ []) = false
-is_link (a ∷ b ∷ c ∷ d ∷ digest) = a == 0x01 && (b == 0x71 || b == 0x55) && c == 0x12 && d == 0x20 && length digest == DIGEST_LEN
+is_link (a ∷ b ∷ c ∷ d ∷ digest) =
+    a == 0x01 && (b == 0x71 || b == 0x55) && c == 0x12 && d == 0x20 && length digest == DIGEST_LEN
 
 -- the link in the first bytes, as many as a link has, where they have its form
 abbrev pub link_at : List ℕ → Option (List ℕ)

@@ -1,4 +1,5 @@
--- The order of lists of bytes, in which keys and links stand: the first difference decides, and a front comes before the whole.
+-- The order of lists of bytes, in which keys and links stand: the first difference decides, and a
+-- front comes before the whole.
 use Rattle.std.specs.Prelude.{ℕ, List}
 use Rattle.std.specs.declared.cmp.Ordering.{Ordering}
 use Rattle.std.specs.Ordering.{nat_cmp}

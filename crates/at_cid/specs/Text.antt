@@ -14,11 +14,13 @@ bit_at bytes place = slice_index bytes (place / 8) / 2 ^ (7 - place % 8) % 2
 
 -- the number that the five bits from the place 5 * k on make
 unfoldable pub five_bits : List ℕ → ℕ → ℕ
-five_bits bytes k = 16 * bit_at bytes (5 * k) + 8 * bit_at bytes (5 * k + 1) + 4 * bit_at bytes (5 * k + 2) + 2 * bit_at bytes (5 * k + 3) + bit_at bytes (5 * k + 4)
+five_bits bytes k = 16 * bit_at bytes (5 * k) + 8 * bit_at bytes (5 * k + 1)
+    + 4 * bit_at bytes (5 * k + 2) + 2 * bit_at bytes (5 * k + 3) + bit_at bytes (5 * k + 4)
 
 -- the same number, found in the two bytes in which these bits lie
 unfoldable pub bits_of_pair : List ℕ → ℕ → ℕ
-bits_of_pair bytes k = (slice_index bytes (5 * k / 8) * 256 + slice_index bytes (5 * k / 8 + 1)) / 2 ^ (11 - 5 * k % 8) % 32
+bits_of_pair bytes k = (slice_index bytes (5 * k / 8) * 256 + slice_index bytes (5 * k / 8 + 1))
+    / 2 ^ (11 - 5 * k % 8) % 32
 
 -- the letter at a place, counted from 0
 unfoldable pub letter_at : List ℕ → ℕ → ℕ
@@ -30,12 +32,14 @@ text_of bytes = 98 ∷ map (letter_at bytes) (range_with_len 0 LETTERS)
 
 -- the five bits of a letter, and 0 for what is none
 abbrev pub digit_of : ℕ → ℕ
-digit_of letter = if nat_le 97 letter && nat_le letter 122 then letter - 97 else (if nat_le 50 letter && nat_le letter 55 then letter - 24 else 0)
+digit_of letter = if nat_le 97 letter && nat_le letter 122 then letter - 97
+    else (if nat_le 50 letter && nat_le letter 55 then letter - 24 else 0)
 
 -- eight bits of those that the letters behind the `b` stand for, from the bit at 8 * i on
 unfoldable pub octet_at : List ℕ → ℕ → ℕ
 octet_at text i = let at = 8 * i / 5 + 1 in
-    (digit_of (slice_index text at) * 1024 + digit_of (slice_index text (at + 1)) * 32 + digit_of (slice_index text (at + 2))) / 2 ^ (7 - 8 * i % 5) % 256
+    (digit_of (slice_index text at) * 1024 + digit_of (slice_index text (at + 1)) * 32
+    + digit_of (slice_index text (at + 2))) / 2 ^ (7 - 8 * i % 5) % 256
 
 -- the bytes of a link that the letters stand for
 abbrev pub octets_of : List ℕ → List ℕ

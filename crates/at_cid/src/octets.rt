@@ -137,7 +137,8 @@ impl Octets {
     /// Writes bytes over those from a place on. Takes no memory.
     pub fn overwrite(&mut self, place: usize, bytes: &[u8])
         requires { place + length bytes.now ≤ length self.old }
-        ensures { self.new ≡ take place self.old ++ bytes.now ++ drop (place + length bytes.now) self.old }
+        ensures { self.new ≡ take place self.old ++ bytes.now
+            ++ drop (place + length bytes.now) self.old }
     {
         self.bytes[place..place + bytes.len()].copy_from_slice(bytes);
     }

@@ -15,11 +15,18 @@ use Rattle.at_commit.specs.declared.reading.TheConstants.{LONGEST_BLOCK}
 
 -- the commit that fields are, which is signed without `sig`
 abbrev pub commit_with : Fields → Object → Commit
-commit_with fields object = record { did = object.did; rev = object.rev; data_root = object.data_root; sig = object.sig; unsigned = encoding (Item.map (unsigned_of fields)) }
+commit_with fields object = record {
+  did = object.did;
+  rev = object.rev;
+  data_root = object.data_root;
+  sig = object.sig;
+  unsigned = encoding (Item.map (unsigned_of fields));
+}
 
 -- of version 3
 abbrev pub commit_from : Fields → Option Object → Result Commit CommitFault
-commit_from fields (Some object) = if int_eq object.version (pos 3) then Ok (commit_with fields object) else Err CommitFault.Version
+commit_from fields (Some object) = if int_eq object.version (pos 3)
+    then Ok (commit_with fields object) else Err CommitFault.Version
 commit_from _ None = Err CommitFault.Form
 
 unfoldable pub commit_in : Fields → Result Commit CommitFault
@@ -29,9 +36,11 @@ abbrev pub commit_at : Option Item → Result Commit CommitFault
 commit_at (Some (Item.map fields)) = commit_in fields
 commit_at i = Err CommitFault.Form
 
--- The commit that the block is, or what is wrong with it. The version is looked at where all else has its form.
+-- The commit that the block is, or what is wrong with it. The version is looked at where all else
+-- has its form.
 unfoldable pub commit_of : List ℕ → Result Commit CommitFault
-commit_of block = if nat_lt LONGEST_BLOCK (length block) then Err CommitFault.TooLong else commit_at (whole_item block)
+commit_of block = if nat_lt LONGEST_BLOCK (length block) then Err CommitFault.TooLong
+    else commit_at (whole_item block)
 
 -- a commit is of this account and this revision
 abbrev pub is_of : List ℕ → ℕ → Commit → Bool

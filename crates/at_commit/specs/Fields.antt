@@ -1,4 +1,5 @@
--- The fields of a commit object, as the AT Protocol's Repository specification has them ("Commit Objects").
+-- The fields of a commit object, as the AT Protocol's Repository specification has them ("Commit
+-- Objects").
 use Rattle.std.specs.Prelude.{ℕ, ℤ, List, Bool, true, ◌||◌, if◌then◌else◌, Option, Some, None, codes, is_some}
 use Rattle.at_cbor.specs.Item.{Item, Fields}
 use Rattle.at_cbor.specs.Kinds.{int_in, bytes_in, link_in, null_in, value_of}
@@ -25,4 +26,5 @@ object_of fields = value_of fields (codes "did") >>= did_in
     >>= λ version. value_of fields (codes "data") >>= node_in
     >>= λ data_root. value_of fields (codes "rev") >>= tid_in
     >>= λ rev. value_of fields (codes "sig") >>= bytes_in
-    >>= λ sig. if is_previous (value_of fields (codes "prev")) then Some (record { did = did; version = version; data_root = data_root; rev = rev; sig = sig }) else None
+    >>= λ sig. if is_previous (value_of fields (codes "prev")) then Some
+    (record { did = did; version = version; data_root = data_root; rev = rev; sig = sig }) else None

@@ -28,7 +28,8 @@ const VERSION: i64 = 3;
 /// What the fields of a map say, where they are those of a commit object of the version that is read.
 #[tactic(auto, unfolding(crate::specs::Commit::commit_in))]
 fn read_parts(fields: &Fields) -> Result<Parts<'_>, CommitFault>
-    ensures told { IfOk result (λ parts. commit_in (fields_of fields.entry.now) ≡ Ok (commit_with (fields_of fields.entry.now) (seen_object parts))) }
+    ensures told { IfOk result (λ parts. commit_in (fields_of fields.entry.now)
+        ≡ Ok (commit_with (fields_of fields.entry.now) (seen_object parts))) }
     ensures refused { IfErr result (λ fault. commit_in (fields_of fields.entry.now) ≡ Err fault) }
     ensures short { result ≢ Err CommitFault.TooLong }
 {
@@ -71,7 +72,8 @@ pub fn read(alloc: Global, block: &[u8]) -> Result<Commit, CommitFault>
     ensures too_long { (result ≡ Err CommitFault.TooLong) ↔ (LONGEST_BLOCK < length block.now) }
     // What is read is encoded so, and what is encoded so is read.
     ensures whole { IfOk result (IsCommitIn block.now) }
-    ensures only { (i : Item) → Fits i DEPTH → block.now ≡ encoding i → length block.now ≤ LONGEST_BLOCK → ReadsAs result (commit_at (Some i)) }
+    ensures only { (i : Item) → Fits i DEPTH → block.now ≡ encoding i
+        → length block.now ≤ LONGEST_BLOCK → ReadsAs result (commit_at (Some i)) }
     ensures data { IfOk result (λ commit. IsNodeLink commit.data_root) }
     ensures did { IfOk result (λ commit. IsTrue (is_did commit.did)) }
 {
@@ -82,7 +84,8 @@ pub fn read(alloc: Global, block: &[u8]) -> Result<Commit, CommitFault>
 #[tactic(auto, unfolding(crate::specs::Commit::commit_of))]
 fn read_fields(alloc: Global, block: &[u8]) -> Result<Fields, CommitFault>
     ensures told { IfOk result (λ fields. commit_of block.now ≡ commit_in (fields_of fields)) }
-    ensures refused { IfErr result (λ fault. IfSome (fault_of fault) (λ f. commit_of block.now ≡ Err f)) }
+    ensures refused { IfErr result
+        (λ fault. IfSome (fault_of fault) (λ f. commit_of block.now ≡ Err f)) }
     ensures too_long { (result ≡ Err CommitFault.TooLong) ↔ (LONGEST_BLOCK < length block.now) }
 {
     if block.len() > LONGEST_BLOCK {

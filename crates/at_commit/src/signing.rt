@@ -43,7 +43,8 @@ fn write_field(out: &mut Octets, key: &Words, value: &Value) -> Result<(), Memor
 
 /// Adds the encoding of all fields that are signed.
 fn write_fields(out: &mut Octets, fields: &[(Words, Value)]) -> Result<(), Memory>
-    ensures { OnOk result (out.new ≡ out.old ++ fields_encoding (fields_of (filter is_signed (map pair_of fields.now)))) }
+    ensures { OnOk result (out.new ≡ out.old
+        ++ fields_encoding (fields_of (filter is_signed (map pair_of fields.now)))) }
 {
     for (key, value) in fields {
         write_field(out, key, value)?;
@@ -53,7 +54,8 @@ fn write_fields(out: &mut Octets, fields: &[(Words, Value)]) -> Result<(), Memor
 
 /// The encoding of the map without `sig`.
 pub fn unsigned(alloc: Global, fields: &Fields) -> Result<Octets, Memory>
-    ensures { IfOk result (λ bytes. bytes ≡ encoding (Item.map (unsigned_of (fields_of fields.now)))) }
+    ensures { IfOk result
+        (λ bytes. bytes ≡ encoding (Item.map (unsigned_of (fields_of fields.now)))) }
 {
     let fields = fields.as_slice();
     let mut out = Octets::new(alloc);

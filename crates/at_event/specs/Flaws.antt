@@ -8,6 +8,7 @@ abbrev pub flaw_of : Flaw → Option Flaw
 flaw_of Flaw.BadField = Some Flaw.BadField
 flaw_of Flaw.Memory = None
 
--- The reader found this, seen by view, and nothing where a field is missing or of another form, unless memory ran out.
+-- The reader found this, seen by view, and nothing where a field is missing or of another form,
+-- unless memory ran out.
 abbrev pub Reads : {X Y : Type 0} → (X → Y) → Result X Flaw → Option Y → Type 0
 Reads view result found = Finds view flaw_of result found

@@ -1,4 +1,5 @@
--- Which frame a message is: Event Stream specification, and the Lexicon `com.atproto.sync.subscribeRepos`.
+-- Which frame a message is: Event Stream specification, and the Lexicon
+-- `com.atproto.sync.subscribeRepos`.
 use Rattle.std.specs.Prelude.{◌≡◌, ℕ, ◌==◌, ℤ, pos, negsuc, List, ◌++◌, if◌then◌else◌, Option, Some, None, Result, Ok, Err, codes}
 use Rattle.std.specs.Str.{bytes_eq}
 use Rattle.at_cid.specs.Memory.{Gives}
@@ -40,7 +41,8 @@ heading_named t =
 
 -- `op` 1 is a message with its kind in `t`, and -1 is an error
 abbrev pub operated : ℤ → Item → Option Heading
-operated (pos n) header = if n == 1 then (required text_in header (codes "t") >>= λ t. Some (heading_named t)) else Some Heading.Unknown
+operated (pos n) header = if n == 1 then
+    (required text_in header (codes "t") >>= λ t. Some (heading_named t)) else Some Heading.Unknown
 operated (negsuc n) header = if n == 0 then Some Heading.Error else Some Heading.Unknown
 
 -- what the header announces, where it is one
@@ -75,7 +77,8 @@ abbrev pub framed : Option (Item × Item) → Result Frame FrameFault
 framed None = Err FrameFault.BadFrame
 framed (Some items) = headed (heading_of items.0) (map_in items.1) items.1
 
--- the frame of a message with the header of an event, where this is the whole of what stands behind it
+-- the frame of a message with the header of an event, where this is the whole of what stands behind
+-- it
 abbrev pub payload_frame : EventKind → Option Item → Result Frame FrameFault
 payload_frame kind None = Err FrameFault.BadFrame
 payload_frame kind (Some payload) = headed (Some (Heading.Event kind)) (map_in payload) payload

@@ -15,13 +15,15 @@ use Rattle.at_event.specs.Writing.{numbered, out_of}
 
 -- a frame is read as its event, under its number, and gives the frame of any other number
 abbrev pub FramesAreRenumbered : Type 0
-FramesAreRenumbered =
-    (event : Seen) (n m : ℕ) → IsEvent event → n < NUMBERS → m < NUMBERS
-    → (frame_of (out_of event n) ≡ Ok (Frame.Event (numbered event n))) × IsEvent (numbered event n) × (out_of (numbered event n) m ≡ out_of event m)
+FramesAreRenumbered = (event : Seen) (n m : ℕ) → IsEvent event → n < NUMBERS → m < NUMBERS
+    → (frame_of (out_of event n) ≡ Ok (Frame.Event (numbered event n)))
+    × IsEvent (numbered event n) × (out_of (numbered event n) m ≡ out_of event m)
 
 -- the payload of an event is a map, with no more lists and maps in one another than may be
 abbrev pub PayloadsAreMaps : Type 0
-PayloadsAreMaps = (event : Seen) → IsEvent event → ((fields : List (List ℕ × Item)) × (map_in event.payload ≡ Some fields)) × (nesting event.payload ≤ DEPTH)
+PayloadsAreMaps = (event : Seen) → IsEvent event
+    → ((fields : List (List ℕ × Item)) × (map_in event.payload ≡ Some fields))
+    × (nesting event.payload ≤ DEPTH)
 
 -- the fields of an event have their forms
 abbrev pub EventsAreFormed : Type 0
@@ -29,4 +31,5 @@ EventsAreFormed = (event : Seen) → IsEvent event → IsFormed event
 
 -- the event that a message is read as is made of the fields of its payload
 abbrev pub FramesAreEvents : Type 0
-FramesAreEvents = (message : List ℕ) (event : Seen) → IsBytes message → frame_of message ≡ Ok (Frame.Event event) → IsEvent event
+FramesAreEvents = (message : List ℕ) (event : Seen) → IsBytes message
+    → frame_of message ≡ Ok (Frame.Event event) → IsEvent event

@@ -1,4 +1,5 @@
--- Which fields of which form an event has, as the Lexicon `com.atproto.sync.subscribeRepos` lists them. All other fields are passed on unread.
+-- Which fields of which form an event has, as the Lexicon `com.atproto.sync.subscribeRepos` lists
+-- them. All other fields are passed on unread.
 use Rattle.std.specs.Prelude.{ℕ, List, [], ◌∷◌, Bool, false, if◌then◌else◌, Option, Some, None, codes}
 use Rattle.std.specs.Str.{bytes_eq}
 use Rattle.at_cbor.specs.Item.{Item}
@@ -61,7 +62,16 @@ commit_event_of fields = do
   too_big ← too_big_in fields
   blocks ← required bytes_in fields (codes "blocks")
   ops ← required ops_in fields (codes "ops")
-  Some (record { repo = repo; rev = rev; since = since; prev_data = prev_data; commit = commit; too_big = too_big; blocks = blocks; ops = ops })
+  Some (record {
+    repo = repo;
+    rev = rev;
+    since = since;
+    prev_data = prev_data;
+    commit = commit;
+    too_big = too_big;
+    blocks = blocks;
+    ops = ops;
+  })
 
 -- the fields of a `#sync`
 unfoldable pub sync_of : Item → Option SyncEvent

@@ -1,4 +1,5 @@
--- The frames that go out: Event Stream specification, and the Lexicon `com.atproto.sync.subscribeRepos`.
+-- The frames that go out: Event Stream specification, and the Lexicon
+-- `com.atproto.sync.subscribeRepos`.
 use Rattle.std.specs.Prelude.{ℕ, ◌^◌, ◌-◌, pos, List, ◌++◌, length, min, Bool, if◌then◌else◌, Option, Some, None, codes}
 use Rattle.std.specs.Str.{bytes_eq}
 use Rattle.at_cbor.specs.Item.{Item, Fields, no_fields, field}
@@ -19,7 +20,8 @@ kind_name EventKind.Account = codes "#account"
 
 -- the header `{t, op}`
 abbrev pub header_of : EventKind → Item
-header_of kind = Item.map (field (codes "t") (Item.text (kind_name kind)) (field (codes "op") (Item.int (pos 1)) no_fields))
+header_of kind = Item.map (field (codes "t") (Item.text (kind_name kind))
+    (field (codes "op") (Item.int (pos 1)) no_fields))
 
 -- the message of a kind of event with a payload
 unfoldable pub event_message : EventKind → Item → List ℕ
@@ -32,7 +34,8 @@ field_encoding key value = fields_encoding (field key value no_fields)
 -- the fields, with the value of this key replaced
 abbrev pub with_field_value : List ℕ → Item → Fields → Fields
 with_field_value name value no_fields = no_fields
-with_field_value name value (field k i fs) = field k (if bytes_eq k name then value else i) (with_field_value name value fs)
+with_field_value name value (field k i fs) =
+    field k (if bytes_eq k name then value else i) (with_field_value name value fs)
 
 -- the blocks that an event states
 abbrev pub blocks_of : Body → Option (List ℕ)
@@ -61,13 +64,20 @@ with_seq n i = i
 
 -- the event under another number
 abbrev pub numbered : Seen → ℕ → Seen
-numbered event n = record { seq = n; did = event.did; time = event.time; body = event.body; payload = with_seq n event.payload }
+numbered event n = record {
+  seq = n;
+  did = event.did;
+  time = event.time;
+  body = event.body;
+  payload = with_seq n event.payload;
+}
 
 -- the frame in which an event goes out under a number
 unfoldable pub out_of : Seen → ℕ → List ℕ
 out_of event n = event_message (event_kind_of event.body) (with_seq n event.payload)
 
--- how long that frame is where the number takes nine bytes, as the greatest does; at most the greatest number of 64 bits
+-- how long that frame is where the number takes nine bytes, as the greatest does; at most the
+-- greatest number of 64 bits
 unfoldable pub out_length : Seen → ℕ
 out_length event = min (length (out_of event (NUMBERS - 1))) (2 ^ 64 - 1)
 
@@ -95,7 +105,19 @@ account_payload did active status time seq =
 
 -- these events as they are read
 abbrev pub sync_seen : List ℕ → ℕ → List ℕ → List ℕ → ℕ → Seen
-sync_seen did rev blocks time seq = record { seq = seq; did = did; time = time; body = Body.Sync (record { did = did; rev = rev; blocks = blocks }); payload = sync_payload did rev blocks time seq }
+sync_seen did rev blocks time seq = record {
+  seq = seq;
+  did = did;
+  time = time;
+  body = Body.Sync (record { did = did; rev = rev; blocks = blocks });
+  payload = sync_payload did rev blocks time seq;
+}
 
 abbrev pub account_seen : List ℕ → Bool → Option (List ℕ) → List ℕ → ℕ → Seen
-account_seen did active status time seq = record { seq = seq; did = did; time = time; body = Body.Account (record { active = active; status = status }); payload = account_payload did active status time seq }
+account_seen did active status time seq = record {
+  seq = seq;
+  did = did;
+  time = time;
+  body = Body.Account (record { active = active; status = status });
+  payload = account_payload did active status time seq;
+}

@@ -21,7 +21,8 @@ pub fn write_text_field(out: &mut Octets, key: &str, text: &str) -> Result<(), M
 
 /// Adds a field whose value is a revision, as a text.
 pub fn write_tid_field(out: &mut Octets, key: &str, tid: Tid) -> Result<(), Memory>
-    ensures { OnOk result (out.new ≡ out.old ++ field_encoding key.now (Item.text (digits_of tid))) }
+    ensures { OnOk result
+        (out.new ≡ out.old ++ field_encoding key.now (Item.text (digits_of tid))) }
 {
     let mut digits = [0; TID_LEN];
     write_text_field(out, key, tid.write_text(&mut digits))

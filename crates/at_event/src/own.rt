@@ -30,7 +30,8 @@ fn write_sync(
     seq: u64,
 ) -> Result<(), Memory>
     requires { seq < NUMBERS }
-    ensures { OnOk result (out.new ≡ out.old ++ encoding (sync_payload did.now rev blocks.now time.now seq)) }
+    ensures { OnOk result
+        (out.new ≡ out.old ++ encoding (sync_payload did.now rev blocks.now time.now seq)) }
 {
     write_map_front(out, 5)?;
     write_text_field(out, "did", did)?;
@@ -51,7 +52,8 @@ fn write_account(
     seq: u64,
 ) -> Result<(), Memory>
     requires { seq < NUMBERS }
-    ensures { OnOk result (out.new ≡ out.old ++ encoding (account_payload did.now active (option_map (λ text. text.now) status.entry) time.now seq)) }
+    ensures { OnOk result (out.new ≡ out.old ++ encoding (account_payload did.now active
+        (option_map (λ text. text.now) status.entry) time.now seq)) }
 {
     write_map_front(out, if status.is_some() { 5 } else { 4 })?;
     write_text_field(out, "did", did)?;
@@ -76,9 +78,12 @@ pub fn sync_frame(
     seq: u64,
 ) -> Result<Octets, Memory>
     requires { seq < NUMBERS }
-    ensures encoded { IfOk result (λ bytes. bytes ≡ event_message EventKind.Sync (sync_payload did.now rev blocks.now time.now seq)) }
+    ensures encoded { IfOk result (λ bytes. bytes ≡ event_message EventKind.Sync
+        (sync_payload did.now rev blocks.now time.now seq)) }
     // It is read back as that event, where the DID is one and the time has at most 64 bytes.
-    ensures again { IfOk result (λ bytes. IsTrue (is_did did.now) → length time.now ≤ LONGEST_SHORT_TEXT → frame_of bytes ≡ Ok (Frame.Event (sync_seen did.now rev blocks.now time.now seq))) }
+    ensures again { IfOk result
+        (λ bytes. IsTrue (is_did did.now) → length time.now ≤ LONGEST_SHORT_TEXT
+        → frame_of bytes ≡ Ok (Frame.Event (sync_seen did.now rev blocks.now time.now seq))) }
 {
     ghost_text(did);
     rev.ghost_value();
@@ -101,9 +106,13 @@ pub fn account_frame(
     seq: u64,
 ) -> Result<Octets, Memory>
     requires { seq < NUMBERS }
-    ensures encoded { IfOk result (λ bytes. bytes ≡ event_message EventKind.Account (account_payload did.now active (option_map (λ text. text.now) status.entry) time.now seq)) }
+    ensures encoded { IfOk result (λ bytes. bytes ≡ event_message EventKind.Account (account_payload
+        did.now active (option_map (λ text. text.now) status.entry) time.now seq)) }
     // It is read back as that event, where the DID is one and the status and the time have at most 64 bytes.
-    ensures again { IfOk result (λ bytes. IsTrue (is_did did.now) → IfSome status.entry (λ text. length text.now ≤ LONGEST_SHORT_TEXT) → length time.now ≤ LONGEST_SHORT_TEXT → frame_of bytes ≡ Ok (Frame.Event (account_seen did.now active (option_map (λ text. text.now) status.entry) time.now seq))) }
+    ensures again { IfOk result (λ bytes. IsTrue (is_did did.now)
+        → IfSome status.entry (λ text. length text.now ≤ LONGEST_SHORT_TEXT)
+        → length time.now ≤ LONGEST_SHORT_TEXT → frame_of bytes ≡ Ok (Frame.Event
+        (account_seen did.now active (option_map (λ text. text.now) status.entry) time.now seq))) }
 {
     ghost_text(did);
     ghost_text(time);

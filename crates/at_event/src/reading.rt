@@ -26,7 +26,8 @@ use std::alloc::Global;
 /// The header and the payload that the message is.
 #[tactic(auto, unfolding(crate::specs::Frames::items_in))]
 fn read_items(alloc: Global, message: &[u8]) -> Result<Option<(Value, Value)>, Memory>
-    ensures items { IfOk result (λ found. option_map (λ x. (item_of x.0, item_of x.1)) found ≡ items_in message.now) }
+    ensures items { IfOk result
+        (λ found. option_map (λ x. (item_of x.0, item_of x.1)) found ≡ items_in message.now) }
     ensures fits { IfOk result (λ found. IfSome found (λ x. Fits (item_of x.1) DEPTH)) }
 {
     let Some((header, rest)) = take_item(alloc, message)? else {
@@ -157,7 +158,8 @@ fn read_message(alloc: Global, message: &[u8]) -> Result<Frame, FrameFault>
 pub fn read_frame(alloc: Global, message: &[u8]) -> Result<Frame, FrameFault>
     // The message is encoded so, and a message that is encoded so is read.
     ensures whole { IfOk result (IsFrameOf message.now) }
-    ensures only { (header payload : Item) → IsMessage message.now header payload → ReadsAs result (framed (Some (header, payload))) }
+    ensures only { (header payload : Item) → IsMessage message.now header payload
+        → ReadsAs result (framed (Some (header, payload))) }
     // The fields of an event have their forms.
     ensures formed { IfOk result IsFormedFrame }
     ensures exact { ReadsAs result (frame_of message.now) }

@@ -80,8 +80,10 @@ fn read_list(alloc: Global, value: &Value) -> Result<EventOps, Flaw>
 // Takes the blocks out of a payload, and leaves none in their place.
 fn take_blocks(alloc: Global, fields: &mut Value) -> Result<Octets, Flaw>
     requires { Fits (item_of fields.old) DEPTH }
-    ensures taken { Reads (λ blocks. blocks) result (required bytes_in (item_of fields.old) (codes "blocks")) }
-    ensures left { IfOk result (λ blocks. item_of fields.old ≡ with_blocks (Some blocks) (item_of fields.new)) }
+    ensures taken { Reads (λ blocks. blocks) result
+        (required bytes_in (item_of fields.old) (codes "blocks")) }
+    ensures left { IfOk result
+        (λ blocks. item_of fields.old ≡ with_blocks (Some blocks) (item_of fields.new)) }
 {
     let Value::Map(fields) = fields else {
         return Err(Flaw::BadField);
@@ -99,7 +101,8 @@ fn take_blocks(alloc: Global, fields: &mut Value) -> Result<Octets, Flaw>
 fn read_commit(alloc: Global, fields: &mut Value) -> Result<CommitEvent, Flaw>
     requires { Fits (item_of fields.old) DEPTH }
     ensures commit { Reads (λ commit. commit) result (commit_event_of (item_of fields.old)) }
-    ensures left { IfOk result (λ commit. item_of fields.old ≡ with_blocks (Some commit.blocks) (item_of fields.new)) }
+    ensures left { IfOk result
+        (λ commit. item_of fields.old ≡ with_blocks (Some commit.blocks) (item_of fields.new)) }
 {
     let repo = required_did(fields, "repo")?;
     let rev = tid(required(fields, "rev")?)?;
@@ -125,7 +128,8 @@ fn read_commit(alloc: Global, fields: &mut Value) -> Result<CommitEvent, Flaw>
 fn read_sync(alloc: Global, fields: &mut Value) -> Result<SyncEvent, Flaw>
     requires { Fits (item_of fields.old) DEPTH }
     ensures sync { Reads (λ sync. sync) result (sync_of (item_of fields.old)) }
-    ensures left { IfOk result (λ sync. item_of fields.old ≡ with_blocks (Some sync.blocks) (item_of fields.new)) }
+    ensures left { IfOk result
+        (λ sync. item_of fields.old ≡ with_blocks (Some sync.blocks) (item_of fields.new)) }
 {
     let did = required_did(fields, "did")?;
     let rev = tid(required(fields, "rev")?)?;
@@ -148,7 +152,8 @@ pub fn read_body(alloc: Global, kind: EventKind, fields: &mut Value) -> Result<B
     requires { Fits (item_of fields.old) DEPTH }
     ensures body { Reads (λ body. body) result (event_body_of kind (item_of fields.old)) }
     ensures kind { IfOk result (λ body. event_kind_of body ≡ kind) }
-    ensures left { IfOk result (λ body. item_of fields.old ≡ with_blocks (blocks_of body) (item_of fields.new)) }
+    ensures left { IfOk result
+        (λ body. item_of fields.old ≡ with_blocks (blocks_of body) (item_of fields.new)) }
 {
     match kind {
         EventKind::Commit => {

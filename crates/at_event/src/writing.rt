@@ -55,7 +55,9 @@ fn write_field(
     seq: u64,
 ) -> Result<(), Memory>
     requires { seq < NUMBERS }
-    ensures written { OnOk result (out.new ≡ out.old ++ fields_encoding (with_field_value (codes "seq") (number_item seq) (fields_with_blocks (blocks_of body.now) (field key.now (item_of value.now) no_fields)))) }
+    ensures written { OnOk result
+        (out.new ≡ out.old ++ fields_encoding (with_field_value (codes "seq") (number_item seq)
+        (fields_with_blocks (blocks_of body.now) (field key.now (item_of value.now) no_fields)))) }
     ensures err { OnErr result (take (length out.old) out.new ≡ out.old) }
 {
     write_text(out, key.as_str())?;
@@ -76,7 +78,9 @@ fn write_fields(
     seq: u64,
 ) -> Result<(), Memory>
     requires { seq < NUMBERS }
-    ensures written { OnOk result (out.new ≡ out.old ++ fields_encoding (with_field_value (codes "seq") (number_item seq) (fields_with_blocks (blocks_of body.now) (fields_of (map pair_of fields.now))))) }
+    ensures written { OnOk result
+        (out.new ≡ out.old ++ fields_encoding (with_field_value (codes "seq") (number_item seq)
+        (fields_with_blocks (blocks_of body.now) (fields_of (map pair_of fields.now))))) }
     ensures err { OnErr result (take (length out.old) out.new ≡ out.old) }
 {
     for (key, value) in fields {
@@ -87,7 +91,8 @@ fn write_fields(
 
 fn write_payload(out: &mut Octets, rest: &Value, body: &Body, seq: u64) -> Result<(), Memory>
     requires { seq < NUMBERS }
-    ensures written { OnOk result (out.new ≡ out.old ++ encoding (with_seq seq (with_blocks (blocks_of body.now) (item_of rest.now)))) }
+    ensures written { OnOk result (out.new ≡ out.old
+        ++ encoding (with_seq seq (with_blocks (blocks_of body.now) (item_of rest.now)))) }
     ensures err { OnErr result (take (length out.old) out.new ≡ out.old) }
 {
     match rest {
@@ -117,7 +122,8 @@ pub fn out_frame(alloc: Global, event: &Event, seq: u64) -> Result<Octets, Memor
     requires { seq < NUMBERS }
     ensures encoded { IfOk result (λ bytes. bytes ≡ out_of event.now seq) }
     // It is read back as the same event, under the number.
-    ensures again { IfOk result (λ bytes. frame_of bytes ≡ Ok (Frame.Event (numbered event.now seq))) }
+    ensures again { IfOk result
+        (λ bytes. frame_of bytes ≡ Ok (Frame.Event (numbered event.now seq))) }
 {
     event.ghost_event();
     let mut out = Octets::new(alloc);
@@ -133,7 +139,9 @@ fn number_len(seq: u64) -> u64
 }
 
 fn field_len(key: &Words, value: &Value, body: &Body) -> u64
-    ensures { result ≡ min (length (fields_encoding (fields_with_blocks (blocks_of body.now) (field key.now (item_of value.now) no_fields)))) (2 ^ 64 - 1) }
+    ensures { result ≡ min (length (fields_encoding
+        (fields_with_blocks (blocks_of body.now) (field key.now (item_of value.now) no_fields))))
+        (2 ^ 64 - 1) }
 {
     let value = match body.blocks() {
         Some(blocks) if key.as_bytes() == "blocks".as_bytes() => string_len(blocks.len()),
@@ -143,7 +151,9 @@ fn field_len(key: &Words, value: &Value, body: &Body) -> u64
 }
 
 fn fields_len(fields: &[(Words, Value)], body: &Body) -> u64
-    ensures { result ≡ min (length (fields_encoding (fields_with_blocks (blocks_of body.now) (fields_of (map pair_of fields.now))))) (2 ^ 64 - 1) }
+    ensures { result ≡ min (length (fields_encoding
+        (fields_with_blocks (blocks_of body.now) (fields_of (map pair_of fields.now)))))
+        (2 ^ 64 - 1) }
 {
     let mut sum: u64 = 0;
     for (key, value) in fields {
@@ -153,7 +163,8 @@ fn fields_len(fields: &[(Words, Value)], body: &Body) -> u64
 }
 
 fn payload_len(rest: &Value, body: &Body) -> u64
-    ensures { result ≡ min (length (encoding (with_blocks (blocks_of body.now) (item_of rest.now)))) (2 ^ 64 - 1) }
+    ensures { result ≡ min (length (encoding (with_blocks (blocks_of body.now) (item_of rest.now))))
+        (2 ^ 64 - 1) }
 {
     match rest {
         Value::Map(fields) => {
@@ -180,7 +191,8 @@ pub fn frame_len(event: &Event, seq: u64) -> u64
 /// Takes no memory.
 pub fn out_len(event: &Event) -> u64
     ensures value { result ≡ out_length event.now }
-    ensures nine { (n : ℕ) → 2 ^ 32 ≤ n → n < NUMBERS → result ≡ min (length (out_of event.now n)) (2 ^ 64 - 1) }
+    ensures nine { (n : ℕ) → 2 ^ 32 ≤ n → n < NUMBERS
+        → result ≡ min (length (out_of event.now n)) (2 ^ 64 - 1) }
     // No frame of the event is longer.
     ensures most { (n : ℕ) → n < NUMBERS → min (length (out_of event.now n)) (2 ^ 64 - 1) ≤ result }
 {

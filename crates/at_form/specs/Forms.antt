@@ -22,7 +22,8 @@ tid_in i = text_in i >>= tid_of
 
 -- a text of at most so many bytes
 unfoldable pub short_text_in : Item → Option (List ℕ)
-short_text_in i = text_in i >>= λ text. if nat_le (length text) LONGEST_SHORT_TEXT then Some text else None
+short_text_in i = text_in i >>= λ text. if nat_le (length text) LONGEST_SHORT_TEXT
+    then Some text else None
 
 abbrev pub of_node : Kind → List ℕ → Option (List ℕ)
 of_node Node link = Some link

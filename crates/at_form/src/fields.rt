@@ -13,7 +13,8 @@ use at_syntax::Tid;
 /// The value of a key, unless it is null.
 #[tactic(auto, unfolding(crate::specs::Forms::present_value))]
 pub fn given<'a>(fields: &'a Value, name: &str) -> Option<&'a Value>
-    ensures { option_map (λ value. item_of value.now) result ≡ present_value (item_of fields.now) name.now }
+    ensures { option_map (λ value. item_of value.now) result
+        ≡ present_value (item_of fields.now) name.now }
 {
     match field(fields, name) {
         Some(value) if value.is_null() => None,

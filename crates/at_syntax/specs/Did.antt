@@ -1,4 +1,5 @@
--- A DID, as the AT Protocol's specification of DIDs has it: `did:`, a method, `:` and an identifier.
+-- A DID, as the AT Protocol's specification of DIDs has it: `did:`, a method, `:` and an
+-- identifier.
 use Rattle.std.specs.Prelude.{◌≡◌, ℕ, ◌-◌, ◌<◌, ◌≤◌, List, [], ◌∷◌, ◌++◌, length, take, slice_index, Bool, ◌&&◌, ◌||◌, ◌==◌, nat_le, nat_lt, IsTrue, codes}
 use Rattle.std.specs.List.{list_all, before_first, after_first}
 use Rattle.std.specs.Str.{bytes_eq}
@@ -13,7 +14,8 @@ is_final_character c = is_alphanumeric c || c == 46 || c == 95 || c == 45
 abbrev pub is_identifier_character : ℕ → Bool
 is_identifier_character c = is_final_character c || c == 58 || c == 37
 
--- The text is a DID. Its identifier is any characters of an identifier, with a final one at the end.
+-- The text is a DID. Its identifier is any characters of an identifier, with a final one at the
+-- end.
 pub record IsDid (text : List ℕ) : Type 0 where
   pub method : List ℕ
   pub front : List ℕ
@@ -46,11 +48,14 @@ abbrev pub is_method : List ℕ → Bool
 is_method text = nat_lt 0 (length text) && list_all is_lower text
 
 abbrev pub is_identifier : List ℕ → Bool
-is_identifier text = nat_lt 0 (length text) && list_all is_identifier_character (take (length text - 1) text) && is_final_character (slice_index text (length text - 1))
+is_identifier text = nat_lt 0 (length text) && list_all is_identifier_character
+    (take (length text - 1) text) && is_final_character (slice_index text (length text - 1))
 
 -- the scheme is `did`, and the rest is a method, a colon and an identifier
 abbrev pub is_did_scheme : List ℕ → List ℕ → Bool
-is_did_scheme scheme rest = bytes_eq scheme (codes "did") && is_method (before_first is_colon rest) && is_identifier (after_first is_colon rest)
+is_did_scheme scheme rest = bytes_eq scheme (codes "did")
+    && is_method (before_first is_colon rest) && is_identifier (after_first is_colon rest)
 
 unfoldable pub is_did : List ℕ → Bool
-is_did text = nat_le (length text) LONGEST_DID && is_did_scheme (scheme_of text) (after_first is_colon text)
+is_did text = nat_le (length text) LONGEST_DID
+    && is_did_scheme (scheme_of text) (after_first is_colon text)

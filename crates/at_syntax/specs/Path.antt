@@ -1,4 +1,5 @@
--- A record's path, as the AT Protocol's specifications of NSIDs and record keys have its parts: a collection, `/` and a record key.
+-- A record's path, as the AT Protocol's specifications of NSIDs and record keys have its parts: a
+-- collection, `/` and a record key.
 use Rattle.std.specs.Prelude.{◌≡◌, ℕ, List, ◌++◌, length, Bool, not, ◌&&◌, ◌||◌, ◌==◌, nat_le, nat_lt, IsTrue, codes}
 use Rattle.std.specs.List.{list_all, before_first, after_first}
 use Rattle.std.specs.Str.{bytes_eq}
@@ -11,15 +12,19 @@ is_collection_character c = is_alphanumeric c || c == 46 || c == 45
 
 -- what a record key is made of: letters, digits, `_`, `~`, `.`, `:` and `-`
 abbrev pub is_record_key_character : ℕ → Bool
-is_record_key_character c = is_alphanumeric c || c == 95 || c == 126 || c == 46 || c == 58 || c == 45
+is_record_key_character c =
+    is_alphanumeric c || c == 95 || c == 126 || c == 46 || c == 58 || c == 45
 
 -- 1 to as many characters of a collection as it has at most, whose segments aren't looked at
 abbrev pub is_collection : List ℕ → Bool
-is_collection text = nat_lt 0 (length text) && nat_le (length text) LONGEST_COLLECTION && list_all is_collection_character text
+is_collection text = nat_lt 0 (length text) && nat_le (length text) LONGEST_COLLECTION
+    && list_all is_collection_character text
 
 -- 1 to as many characters of a record key as it has at most, but neither `.` nor `..`
 abbrev pub is_record_key : List ℕ → Bool
-is_record_key text = nat_lt 0 (length text) && nat_le (length text) LONGEST_RECORD_KEY && list_all is_record_key_character text && not (bytes_eq text (codes ".")) && not (bytes_eq text (codes ".."))
+is_record_key text = nat_lt 0 (length text) && nat_le (length text) LONGEST_RECORD_KEY
+    && list_all is_record_key_character text
+    && not (bytes_eq text (codes ".")) && not (bytes_eq text (codes ".."))
 
 -- the text is a path
 pub record IsPath (text : List ℕ) : Type 0 where

@@ -1,4 +1,5 @@
--- A TID, as the AT Protocol's specification of timestamp identifiers has it: the 13 digits of a number of 64 bits in base 32, in an alphabet that ascends.
+-- A TID, as the AT Protocol's specification of timestamp identifiers has it: the 13 digits of a
+-- number of 64 bits in base 32, in an alphabet that ascends.
 use Rattle.std.specs.Prelude.{◌≡◌, ℕ, ◌+◌, ◌-◌, ◌/◌, ◌%◌, ◌^◌, List, length, map, slice_index, Bool, ◌&&◌, ◌||◌, ◌==◌, nat_lt, if◌then◌else◌, Option, Some, None, IsTrue}
 use Rattle.std.specs.List.{list_all, range_with_len}
 use Rattle.std.specs.Int.Digits.{number_from_digits}
@@ -21,7 +22,8 @@ pub record IsTid (text : List ℕ) : Type 0 where
 
 -- the same as a test
 unfoldable pub is_tid : List ℕ → Bool
-is_tid text = length text == TID_LEN && is_first_character (slice_index text 0) && list_all is_tid_character text
+is_tid text = length text == TID_LEN && is_first_character (slice_index text 0)
+    && list_all is_tid_character text
 
 -- the character of a digit below 32
 abbrev pub character_of : ℕ → ℕ

@@ -51,25 +51,26 @@ fn is_identifier(bytes: &[u8]) -> bool
 
 /// The text before the first colon, and the text behind it.
 fn around_colon(text: &str) -> Option<(&str, &str)>
-    ensures { MatchOption result
-        (position_or_len is_colon text.now ≡ length text.now)
-        (λ parts. (parts.0.now ≡ before_first is_colon text.now) × (parts.1.now ≡ after_first is_colon text.now)) }
+    ensures { MatchOption result (position_or_len is_colon text.now ≡ length text.now)
+        (λ parts. (parts.0.now ≡ before_first is_colon text.now)
+        × (parts.1.now ≡ after_first is_colon text.now)) }
 {
     text.split_once(':')
 }
 
 /// The bytes behind `did:`.
 fn behind_scheme(bytes: &[u8]) -> Option<&[u8]>
-    ensures { MatchOption result ((rest : List ℕ) → bytes.now ≢ codes "did:" ++ rest) (λ rest. bytes.now ≡ codes "did:" ++ rest.now) }
+    ensures { MatchOption result ((rest : List ℕ) → bytes.now ≢ codes "did:" ++ rest)
+        (λ rest. bytes.now ≡ codes "did:" ++ rest.now) }
 {
     bytes.strip_prefix(b"did:")
 }
 
 /// The bytes before the first colon, which are a method, and those behind it, an identifier.
 fn parts_of(bytes: &[u8]) -> Option<(&[u8], &[u8])>
-    ensures { MatchOption result
-        (position_or_len is_colon bytes.now ≡ length bytes.now)
-        (λ parts. (parts.0.now ≡ before_first is_colon bytes.now) × (parts.1.now ≡ after_first is_colon bytes.now)) }
+    ensures { MatchOption result (position_or_len is_colon bytes.now ≡ length bytes.now)
+        (λ parts. (parts.0.now ≡ before_first is_colon bytes.now)
+        × (parts.1.now ≡ after_first is_colon bytes.now)) }
 {
     match bytes.iter().position(|&byte| byte == b':') {
         Some(place) => Some((&bytes[..place], &bytes[place + 1..])),

@@ -2,7 +2,7 @@
 
 ghost use Rattle.std.specs.Prelude.{◌≡◌, ◌≢◌, ◌≤◌, ℕ, Some, IsTrue, IfOk, OnOk, OnErr, Err};
 ghost use Rattle.at_cid.specs.Counts.{Rose};
-ghost use Rattle.event_window.specs.Held.{Held};
+ghost use Rattle.event_window.specs.Held.{Held, damage_after};
 ghost use Rattle.event_window.specs.declared.fault.EventsFault.{EventsFault};
 ghost use Rattle.relay_io.specs.Messages.{Gives};
 ghost use Rattle.backfill.specs.StreamPlaces.{left_of};
@@ -46,6 +46,7 @@ fn give_above<E: Events>(
     ensures steady { result ≢ Err EventsFault.Disk → E.faults events.new ≡ E.faults events.old }
     ensures no_bad_log { (at : ℕ) → result ≡ Err (EventsFault.BadLog at) → IsTrue E.tells
         → (held : Held) → E.holds events.old held → ⊥ }
+    ensures damaged { E.damage events.new ≡ damage_after (E.damage events.old) result }
 {
     match next_above(events, seq, room)? {
         Some(number) => {
@@ -80,6 +81,7 @@ fn give_first<E: Events>(
     ensures steady { result ≢ Err EventsFault.Disk → E.faults events.new ≡ E.faults events.old }
     ensures no_bad_log { (at : ℕ) → result ≡ Err (EventsFault.BadLog at) → IsTrue E.tells
         → (held : Held) → E.holds events.old held → ⊥ }
+    ensures damaged { E.damage events.new ≡ damage_after (E.damage events.old) result }
 {
     match standing_of(events, cursor) {
         Standing::Future => {
@@ -117,6 +119,7 @@ pub fn give_next<E: Events>(
     ensures steady { result ≢ Err EventsFault.Disk → E.faults events.new ≡ E.faults events.old }
     ensures no_bad_log { (at : ℕ) → result ≡ Err (EventsFault.BadLog at) → IsTrue E.tells
         → (held : Held) → E.holds events.old held → ⊥ }
+    ensures damaged { E.damage events.new ≡ damage_after (E.damage events.old) result }
 {
     match *place {
         StreamPlace::Start(cursor) => give_first(events, cursor, place, room),

@@ -18,7 +18,8 @@ start_in (Some prev_data) = prev_data
 abbrev pub start_of : CommitEvent → List ℕ
 start_of e = start_in e.prev_data
 
--- an event that follows on another, but doesn't say on which `data`, or a change that doesn't say of what
+-- an event that follows on another, but doesn't say on which `data`, or a change that doesn't say
+-- of what
 abbrev pub has_gap : CommitEvent → Bool
 has_gap e = (is_some e.since && not (is_some e.prev_data)) || list_any lacks_prev e.ops
 
@@ -39,11 +40,13 @@ IsRefusedWith e refusal = IsFirstRefusal e None (has_gap e) (start_of e) refusal
 abbrev pub IsRefused : CommitEvent → CheckFault → Type 0
 IsRefused e = Tells (IsRefusedWith e)
 
--- Soundness: on every map whose tree has the first root, the operations play, and they give a map whose tree has the second root.
+-- Soundness: on every map whose tree has the first root, the operations play, and they give a map
+-- whose tree has the second root.
 abbrev pub Replays : CommitEvent → List ℕ → List ℕ → Type 0
 Replays e from to = (held : HoldsCommit e) → ReplaysBy (edits_of e) held.blocks from to
 
--- the event is in order, and its operations play from a map with the root that it states to one with its `data`, whose cover its blocks hold
+-- the event is in order, and its operations play from a map with the root that it states to one
+-- with its `data`, whose cover its blocks hold
 pub record IsCoveredAlone (e : CommitEvent) : Type 0 where
   pub shown : first_of (open_lines e None) ≡ None
   pub no_gap : has_gap e ≡ false

@@ -55,7 +55,8 @@ abbrev pub RefusalsAreUnjudged : Type 0
 RefusalsAreUnjudged = (e : CommitEvent) (last : Option ℕ) (gap : Bool) (former : List ℕ)
     (refusal : Refusal) → IsFirstRefusal e last gap former refusal → is_judged refusal ≡ false
 
--- Where the fields of a commit event that was read show no refusal, and each change says of what, its edits are well formed and on different keys.
+-- Where the fields of a commit event that was read show no refusal, and each change says of what,
+-- its edits are well formed and on different keys.
 abbrev pub EditsAreFormed : Type 0
 EditsAreFormed = (event : Seen) (e : CommitEvent) → IsEvent event → event.body ≡ Body.Commit e
     → first_of (field_lines e) ≡ None → list_any lacks_prev e.ops ≡ false

@@ -24,7 +24,8 @@ pub record IsOpened (e : CommitEvent) (o : Opened) : Type 0 where
   pub own : is_commit_of e.repo e.rev (Some commit) ≡ true
   pub head : IsHeadOf e commit o
 
--- of the commit event's blocks its CAR was read, and the `data` of the commit object under its first root
+-- of the commit event's blocks its CAR was read, and the `data` of the commit object under its
+-- first root
 pub record IsContent (e : CommitEvent) (content : Content) : Type 0 where
   pub car : car_in e ≡ Ok (content.car.roots, content.car.blocks)
   pub data_root : data_in (object_in (car_in e)) ≡ Some content.data_root

@@ -1,7 +1,8 @@
 -- The order of the refusals of one commit. The first one that applies is told:
 --   5 to 17: the first of `open_lines`, in the order of that list, 14 before 13;
 --   19: there is a gap;
---   20 to 23: what stops the operations on their way back from `data` (`Stops`), of which one alone applies.
+-- 20 to 23: what stops the operations on their way back from `data` (`Stops`), of which one alone
+-- applies.
 use Rattle.std.specs.Prelude.{◌≡◌, ◌⊎◌, ℕ, List, Bool, true, false, Option, Some, None, Ok}
 use Rattle.at_car.specs.Blocks.{BlockMap}
 use Rattle.at_commit.specs.declared.commit.Commit.{Commit}
@@ -41,7 +42,8 @@ pub record IsPassed (e : CommitEvent) (last : Option ℕ) (gap : Bool)
   pub holds : HoldsCommit e
   pub leads : Leads e holds.blocks former holds.commit.data_root
 
--- the first refusal that applies: to an event behind the last revision, with a gap before it or not, whose operations start from the former root
+-- the first refusal that applies: to an event behind the last revision, with a gap before it or
+-- not, whose operations start from the former root
 abbrev pub IsFirstRefusal : CommitEvent → Option ℕ → Bool → List ℕ → Refusal → Type 0
 IsFirstRefusal e last gap former refusal = (first_of (open_lines e last) ≡ Some refusal)
     ⊎ IsStopped e last gap former refusal

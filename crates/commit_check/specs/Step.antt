@@ -48,7 +48,8 @@ abbrev pub is_data : Option (List ℕ) → List ℕ → Bool
 is_data None later = false
 is_data (Some prev) later = bytes_eq prev later
 
--- the event doesn't follow on what is expected: an account that is lost, another revision or `data` than the last ones, or any where there was none
+-- the event doesn't follow on what is expected: an account that is lost, another revision or `data`
+-- than the last ones, or any where there was none
 abbrev pub strays : CommitEvent → Expect → Bool
 strays e Expect.Start = is_some e.since
     || (is_some e.prev_data && not (is_data e.prev_data empty_root))
@@ -65,7 +66,8 @@ root_before Expect.Start = empty_root
 root_before (Expect.After head) = head.data_root
 root_before Expect.Lost = empty_root
 
--- The commit leads from the former root to `data`: without operations they are one, and else the blocks show the step.
+-- The commit leads from the former root to `data`: without operations they are one, and else the
+-- blocks show the step.
 abbrev pub LeadsBy : List Op → BlockMap → List ℕ → List ℕ → Type 0
 LeadsBy [] blocks former later = later ≡ former
 LeadsBy (op ∷ ops) blocks former later = (F : List Item) × IsStep blocks former later (op ∷ ops) F
@@ -101,19 +103,22 @@ StopsAt (op ∷ ops) blocks former later refusal = ⊥
 abbrev pub Stops : CommitEvent → BlockMap → List ℕ → List ℕ → Refusal → Type 0
 Stops e blocks former later refusal = StopsAt (edits_of e) blocks former later refusal
 
--- the blocks that a step names: those of the view with the operations undone, and none without operations
+-- the blocks that a step names: those of the view with the operations undone, and none without
+-- operations
 abbrev pub blocks_named : List Op → List Item → List (List ℕ)
 blocks_named [] F = []
 blocks_named (op ∷ ops) F = nodes (undone F (op ∷ ops))
 
--- Soundness: on every map whose tree has the former root, the operations play, and what they give is a map whose tree has the later root,
--- unless different blocks of that map's tree and of those that the step names share a digest.
+-- Soundness: on every map whose tree has the former root, the operations play, and what they give
+-- is a map whose tree has the later root, unless different blocks of that map's tree and of those
+-- that the step names share a digest.
 abbrev pub ReplaysBy : List Op → BlockMap → List ℕ → List ℕ → Type 0
 ReplaysBy ops blocks former later = (s : List Item) → IsMap s → root s ≡ former
     → ((F : List Item) → IsView blocks later F → Distinct (nodes s ++ blocks_named ops F))
     → (t : List Item) × IsMap t × Plays s ops t × (root t ≡ later)
 
--- the operations play from a map with the former root to one with the later root, whose cover the blocks hold
+-- the operations play from a map with the former root to one with the later root, whose cover the
+-- blocks hold
 pub record IsCoveredBy (ops : List Op) (blocks : BlockMap) (former later : List ℕ) : Type 0 where
   pub before : List Item
   pub after : List Item

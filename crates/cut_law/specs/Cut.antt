@@ -1,4 +1,5 @@
--- What cutting a journal leaves: its events up to a number are let go, and what the rows up to the last of these came to is carried over (own).
+-- What cutting a journal leaves: its events up to a number are let go, and what the rows up to the
+-- last of these came to is carried over (own).
 use Rattle.std.specs.Prelude.{◌≡◌, ℕ, ◌≤◌, Bool, true, List, [], ◌∷◌, ◌++◌, map, nat_le, ◌==◌, if◌then◌else◌}
 use Rattle.std.specs.List.{list_any}
 use Rattle.relay_row.specs.Folds.{events_in, last_seq}
@@ -43,13 +44,20 @@ repo_over (Repo.Lost rev) = CarriedRepo.Lost rev
 
 -- the row that carries an account over
 abbrev pub account_row : List ℕ → State → Row
-account_row did a = Row.Carried (Carried.Account (record { did = did; active = a.active; status = a.status; down = a.down; repo = repo_over a.repo }))
+account_row did a = Row.Carried (Carried.Account (record {
+  did = did;
+  active = a.active;
+  status = a.status;
+  down = a.down;
+  repo = repo_over a.repo;
+}))
 
 -- a row for each of these DIDs, with its account
 abbrev pub account_rows : List Row → List (List ℕ) → List Row
 account_rows rows names = map (λ did. account_row did (account did rows)) names
 
--- what carries rows over: their last number, then their hosts in the order of their first rows, then their accounts
+-- what carries rows over: their last number, then their hosts in the order of their first rows,
+-- then their accounts
 unfoldable pub carried : List Row → List Row
 carried rows = Row.Carried (Carried.Last (last_seq rows))
     ∷ (host_rows (hosts rows) ++ account_rows rows (dids rows))

@@ -1,4 +1,5 @@
--- What becomes of rows and events of a journal over changes of it: rows that are added, and cuts (own).
+-- What becomes of rows and events of a journal over changes of it: rows that are added, and cuts
+-- (own).
 use Rattle.std.specs.Prelude.{◌≡◌, ◌⊎◌, ℕ, Bool, true, List, [], ◌∷◌, Contains}
 use Rattle.relay_row.specs.Journal.{IsJournal}
 use Rattle.relay_row.specs.declared.row.Row.{Row}
@@ -17,7 +18,8 @@ AllCuts passes [] = Unit {0}
 AllCuts passes (adds rows ∷ changes) = AllCuts passes changes
 AllCuts passes (cuts number ∷ changes) = (passes number ≡ true) × AllCuts passes changes
 
--- The journal K comes from J by rows that were added and by cuts at numbers that pass, and each journal between them is one.
+-- The journal K comes from J by rows that were added and by cuts at numbers that pass, and each
+-- journal between them is one.
 pub record ComesFrom (passes : ℕ → Bool) (J K : List Row) : Type 0 where
   pub changes : List Change
   pub came : AreChanged J changes K

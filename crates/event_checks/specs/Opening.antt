@@ -1,4 +1,5 @@
--- What the blocks of an event hold, and what they show: a CAR, its first root, and the commit object under it.
+-- What the blocks of an event hold, and what they show: a CAR, its first root, and the commit
+-- object under it.
 use Rattle.std.specs.Prelude.{◌≡◌, ℕ, List, [], ◌∷◌, ◌++◌, Bool, true, false, not, is_some, Option, Some, None, Result, Ok, Err}
 use Rattle.std.specs.Str.{bytes_eq}
 use Rattle.at_car.specs.Blocks.{BlockMap}

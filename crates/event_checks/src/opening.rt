@@ -126,8 +126,8 @@ pub fn find_data(
         (first_of (object_lines (Ok (car.now.roots, car.now.blocks)) stated did.now rev) ≡ None) }
     ensures found { IfOk result (λ root. data_in (object_in (Ok (car.now.roots, car.now.blocks)))
         ≡ Some root) }
-    ensures refused { IfErr result
-        (IsShown (first_of (object_lines (Ok (car.now.roots, car.now.blocks)) stated did.now rev))) }
+    ensures refused { IfErr result (IsShown
+        (first_of (object_lines (Ok (car.now.roots, car.now.blocks)) stated did.now rev))) }
 {
     let (_, block) = match find_block(car, stated) {
         Ok(found) => found,

@@ -1,11 +1,13 @@
 -- The events that are held, and which of them comes next (own).
-use Rattle.std.specs.Prelude.{◌≡◌, ℕ, ◌+◌, List, [], ◌∷◌, Option, Some, None, nat_le, if◌then◌else◌}
+use Rattle.std.specs.Prelude.{◌≡◌, ℕ, ◌+◌, List, [], ◌∷◌, Option, Some, None, Result, Ok, Err, nat_le, if◌then◌else◌}
+use Rattle.event_window.specs.declared.fault.EventsFault.{EventsFault}
 
 -- an event: its number, and its message
 abbrev pub Event : Type 0
 Event = ℕ × List ℕ
 
--- the numbers that are held, in order, the events among them that are shown, and the last number that was given
+-- the numbers that are held, in order, the events among them that are shown, and the last number
+-- that was given
 pub record Held : Type 0 where
   pub numbers : List ℕ
   pub shown : List Event
@@ -28,3 +30,13 @@ event_above seq (e ∷ events) = if nat_le e.0 seq then event_above seq events e
 abbrev pub IsNext : ℕ → List Event → Option ℕ → List ℕ → Type 0
 IsNext seq events None room = event_above seq events ≡ None
 IsNext seq events (Some n) room = event_above seq events ≡ Some (n, room)
+
+-- up to which number events were given, after this answer
+abbrev pub given_after : ℕ → Result (Option ℕ) EventsFault → ℕ
+given_after before (Ok (Some n)) = n
+given_after before other = before
+
+-- where damage was found last, after this answer
+abbrev pub damage_after : {A : Type 0} → Option ℕ → Result A EventsFault → Option ℕ
+damage_after before (Err (EventsFault.BadLog place)) = Some place
+damage_after before other = before

@@ -96,8 +96,10 @@ impl Window {
 
     /// The last of the places of the numbers up to a number, where the numbers rise.
     pub fn last_upto(&self, seq: u64) -> Option<Place>
-        ensures none { result ≡ None → AreAbove 0 self.now.places → self.now.places ≡ all_above seq self.now.places }
-        ensures last { IfSome result (λ p. AreAbove 0 self.now.places → IsLastUpto seq p self.now.places) }
+        ensures none { result ≡ None → AreAbove 0 self.now.places
+            → self.now.places ≡ all_above seq self.now.places }
+        ensures last { IfSome result
+            (λ p. AreAbove 0 self.now.places → IsLastUpto seq p self.now.places) }
     {
         let count = upto(self.places.as_slice(), seq);
         if count == 0 {
@@ -123,7 +125,8 @@ impl Window {
 
 // Whether the first whose number is above a number stands at an index, where the numbers rise.
 fn begins_at(places: &[Place], seq: u64, index: usize) -> bool
-    ensures begins { result ≡ true → AreAbove 0 places.now → all_above seq places.now ≡ drop index places.now }
+    ensures begins { result ≡ true → AreAbove 0 places.now
+        → all_above seq places.now ≡ drop index places.now }
     ensures bound { result ≡ true → index < length places.now }
 {
     if index >= places.len() || places[index].seq <= seq {

@@ -12,9 +12,11 @@ use Rattle.at_car.specs.Car.{car_of}
 use Rattle.at_car.specs.Faults.{IsFault}
 use Rattle.at_car.specs.Form.{IsCarOf}
 
--- Bytes are read as a fault exactly where all in front of its place keeps the rules and what stands there breaks this one.
+-- Bytes are read as a fault exactly where all in front of its place keeps the rules and what stands
+-- there breaks this one.
 abbrev pub CborFaultsAreExact : Type 0
-CborFaultsAreExact = (bytes : List ℕ) (cause : Cause) (place : ℕ) → IsBytes bytes → (decoded bytes ≡ Err (cause, place)) ↔ IsFaulty bytes cause place
+CborFaultsAreExact = (bytes : List ℕ) (cause : Cause) (place : ℕ) → IsBytes bytes
+    → (decoded bytes ≡ Err (cause, place)) ↔ IsFaulty bytes cause place
 
 -- an item's encoding stands in front
 abbrev pub HasItem : List ℕ → Type 0
@@ -24,19 +26,24 @@ abbrev pub HasFault : List ℕ → Type 0
 HasFault bytes = (cause : Cause) × (place : ℕ) × IsFaulty bytes cause place
 
 abbrev pub HasOneFault : List ℕ → Type 0
-HasOneFault bytes = (cause other : Cause) (place elsewhere : ℕ) → IsFaulty bytes cause place → IsFaulty bytes other elsewhere → (cause ≡ other) × (place ≡ elsewhere)
+HasOneFault bytes = (cause other : Cause) (place elsewhere : ℕ) → IsFaulty bytes cause place
+    → IsFaulty bytes other elsewhere → (cause ≡ other) × (place ≡ elsewhere)
 
 -- Bytes have an item in front or a fault, not both, and no two faults.
 abbrev pub CborHasOneAnswer : Type 0
-CborHasOneAnswer = (bytes : List ℕ) → IsBytes bytes → (HasItem bytes ⊎ HasFault bytes) × (HasItem bytes → HasFault bytes → ⊥) × HasOneFault bytes
+CborHasOneAnswer = (bytes : List ℕ) → IsBytes bytes
+    → (HasItem bytes ⊎ HasFault bytes) × (HasItem bytes → HasFault bytes → ⊥) × HasOneFault bytes
 
--- The fault is one of the bytes: they have no header, or the first faulty section breaks the rule that it names.
+-- The fault is one of the bytes: they have no header, or the first faulty section breaks the rule
+-- that it names.
 abbrev pub IsFaultOf : CarFault → List ℕ → Type 0
 IsFaultOf fault bytes = (fault ≢ CarFault.Memory) × IsFault fault bytes
 
--- Bytes are read as a fault of CARs exactly where it is one of them. The running out of memory is none.
+-- Bytes are read as a fault of CARs exactly where it is one of them. The running out of memory is
+-- none.
 abbrev pub CarFaultsAreExact : Type 0
-CarFaultsAreExact = (bytes : List ℕ) (fault : CarFault) → IsBytes bytes → (car_of bytes ≡ Err fault) ↔ IsFaultOf fault bytes
+CarFaultsAreExact = (bytes : List ℕ) (fault : CarFault) → IsBytes bytes
+    → (car_of bytes ≡ Err fault) ↔ IsFaultOf fault bytes
 
 -- a header with some roots and sections with some blocks, to the end
 abbrev pub IsSomeCar : List ℕ → Type 0
@@ -46,8 +53,10 @@ abbrev pub HasCarFault : List ℕ → Type 0
 HasCarFault bytes = (fault : CarFault) × IsFaultOf fault bytes
 
 abbrev pub HasOneCarFault : List ℕ → Type 0
-HasOneCarFault bytes = (fault other : CarFault) → IsFaultOf fault bytes → IsFaultOf other bytes → fault ≡ other
+HasOneCarFault bytes = (fault other : CarFault)
+    → IsFaultOf fault bytes → IsFaultOf other bytes → fault ≡ other
 
 -- Bytes are a CAR or have a fault, not both, and no two faults.
 abbrev pub CarHasOneAnswer : Type 0
-CarHasOneAnswer = (bytes : List ℕ) → IsBytes bytes → (IsSomeCar bytes ⊎ HasCarFault bytes) × (IsSomeCar bytes → HasCarFault bytes → ⊥) × HasOneCarFault bytes
+CarHasOneAnswer = (bytes : List ℕ) → IsBytes bytes → (IsSomeCar bytes ⊎ HasCarFault bytes)
+    × (IsSomeCar bytes → HasCarFault bytes → ⊥) × HasOneCarFault bytes

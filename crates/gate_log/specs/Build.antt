@@ -6,8 +6,8 @@ use Rattle.at_cid.specs.declared.limits.TheConstants.{NUMBERS}
 use Rattle.gate_log.specs.declared.limits.TheConstants.{EMPTY_LEN}
 use Rattle.gate_log.specs.Image.{made, records, IsMade, AreShort, generation}
 
--- a build as contracts see it: the format with the generation, where the next record goes, how far records may go, and
--- the records that aren't written yet
+-- a build as contracts see it: the format with the generation, where the next record goes, how far
+-- records may go, and the records that aren't written yet
 pub record BuildState : Type 0 where
   pub format : Format
   pub end : ℕ
@@ -26,7 +26,8 @@ IsIdle c = IsClosed c ⊎ (length c < EMPTY_LEN)
 abbrev pub shut : List ℕ → List ℕ
 shut bytes = 0 ∷ drop 1 bytes
 
--- The disk holds the front and these bodies' records behind a closed gate, and a crash leaves that gate closed.
+-- The disk holds the front and these bodies' records behind a closed gate, and a crash leaves that
+-- gate closed.
 pub record Builds (format : Format) (bodies : List (List ℕ)) (end : ℕ) (v : View) : Type 0 where
   pub ends : end ≡ length (made format bodies)
   pub now : v.content ≡ shut (made format bodies ++ 0 ∷ [])

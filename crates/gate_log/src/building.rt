@@ -52,7 +52,8 @@ impl Model for Build {
 // Takes everything off a disk, after closing its gate if that is open.
 fn clear<D: Disk>(disk: &mut D) -> Result<(), Failed>
     ensures empty { OnOk result (IsTrue D.tells → IsSettled (D.view disk.new) []) }
-    ensures moments { IsTrue D.tells → LeavesOnly (IsFormerOrIdle (D.view disk.old)) (D.view disk.old) (D.view disk.new) }
+    ensures moments { IsTrue D.tells
+        → LeavesOnly (IsFormerOrIdle (D.view disk.old)) (D.view disk.old) (D.view disk.new) }
     ensures steady { OnOk result ((D.view disk.new).faults ≡ (D.view disk.old).faults) }
     ensures failed { OnErr result (Rose (D.view disk.old).faults (D.view disk.new).faults) }
     ensures counts { (D.view disk.old).faults ≤ (D.view disk.new).faults }
@@ -66,7 +67,8 @@ fn take_off<D: Disk>(disk: &mut D, size: u64) -> Result<(), Failed>
     requires synced { IsTrue D.tells → IsSynced (D.view disk.old) }
     requires size { IsTrue D.tells → size ≡ length (D.view disk.old).content }
     ensures empty { OnOk result (IsTrue D.tells → IsSettled (D.view disk.new) []) }
-    ensures moments { IsTrue D.tells → LeavesOnly (IsFormerOrIdle (D.view disk.old)) (D.view disk.old) (D.view disk.new) }
+    ensures moments { IsTrue D.tells
+        → LeavesOnly (IsFormerOrIdle (D.view disk.old)) (D.view disk.old) (D.view disk.new) }
     ensures steady { OnOk result ((D.view disk.new).faults ≡ (D.view disk.old).faults) }
     ensures failed { OnErr result (Rose (D.view disk.old).faults (D.view disk.new).faults) }
     ensures counts { (D.view disk.old).faults ≤ (D.view disk.new).faults }
@@ -83,8 +85,10 @@ fn take_off<D: Disk>(disk: &mut D, size: u64) -> Result<(), Failed>
 fn close<D: Disk>(disk: &mut D) -> Result<(), Failed>
     requires synced { IsTrue D.tells → IsSynced (D.view disk.old) }
     requires some { IsTrue D.tells → 1 ≤ length (D.view disk.old).content }
-    ensures closed { OnOk result (IsTrue D.tells → (c : List ℕ) → (D.view disk.new).may_leave c → IsClosed c) }
-    ensures moments { IsTrue D.tells → LeavesOnly (IsFormerOrIdle (D.view disk.old)) (D.view disk.old) (D.view disk.new) }
+    ensures closed { OnOk result
+        (IsTrue D.tells → (c : List ℕ) → (D.view disk.new).may_leave c → IsClosed c) }
+    ensures moments { IsTrue D.tells
+        → LeavesOnly (IsFormerOrIdle (D.view disk.old)) (D.view disk.old) (D.view disk.new) }
     ensures steady { OnOk result ((D.view disk.new).faults ≡ (D.view disk.old).faults) }
     ensures failed { OnErr result (Rose (D.view disk.old).faults (D.view disk.new).faults) }
     ensures counts { (D.view disk.old).faults ≤ (D.view disk.new).faults }
@@ -102,7 +106,8 @@ fn lay_front<D: Disk>(disk: &mut D, format: Format, behind: &[u8]) -> Result<(),
     requires empty { IsTrue D.tells → IsSettled (D.view disk.old) [] }
     requires front { behind.now ≡ drop 1 (front format) ++ 0 ∷ [] }
     requires below { generation format < NUMBERS }
-    ensures begun { OnOk result (IsTrue D.tells → Builds format [] (length (front format)) (D.view disk.new)) }
+    ensures begun { OnOk result
+        (IsTrue D.tells → Builds format [] (length (front format)) (D.view disk.new)) }
     ensures moments { IsTrue D.tells → LeavesOnly IsIdle (D.view disk.old) (D.view disk.new) }
     ensures steady { OnOk result ((D.view disk.new).faults ≡ (D.view disk.old).faults) }
     ensures failed { OnErr result (Rose (D.view disk.old).faults (D.view disk.new).faults) }
@@ -114,11 +119,13 @@ fn lay_front<D: Disk>(disk: &mut D, format: Format, behind: &[u8]) -> Result<(),
 
 // Opens the gate in front of what was built, once that is durable.
 fn open_gate<D: Disk>(disk: &mut D, format: Format) -> Result<(), Failed>
-    requires { IsTrue D.tells → (bodies : List (List ℕ)) × (end : ℕ) × Builds format bodies end (D.view disk.old) }
-    ensures made { OnOk result (IsTrue D.tells → (bodies : List (List ℕ)) (end : ℕ) → Builds format bodies end (D.view disk.old)
-        → Stands format bodies end (D.view disk.new)) }
+    requires { IsTrue D.tells
+        → (bodies : List (List ℕ)) × (end : ℕ) × Builds format bodies end (D.view disk.old) }
+    ensures made { OnOk result (IsTrue D.tells → (bodies : List (List ℕ)) (end : ℕ)
+        → Builds format bodies end (D.view disk.old) → Stands format bodies end (D.view disk.new)) }
     ensures synced { OnOk result (IsTrue D.tells → IsSynced (D.view disk.new)) }
-    ensures moments { IsTrue D.tells → (bodies : List (List ℕ)) (end : ℕ) → Builds format bodies end (D.view disk.old)
+    ensures moments { IsTrue D.tells → (bodies : List (List ℕ)) (end : ℕ)
+        → Builds format bodies end (D.view disk.old)
         → LeavesOnly (IsClosedOrMade format bodies) (D.view disk.old) (D.view disk.new) }
     ensures steady { OnOk result ((D.view disk.new).faults ≡ (D.view disk.old).faults) }
     ensures failed { OnErr result (Rose (D.view disk.old).faults (D.view disk.new).faults) }
@@ -130,7 +137,8 @@ fn open_gate<D: Disk>(disk: &mut D, format: Format) -> Result<(), Failed>
 
 // What stands behind the first gate of a log of this generation that has no record.
 fn front_behind(alloc: Global, generation: u64) -> Result<Vec<u8>, Memory>
-    ensures bytes { IfOk result (λ room. room.items ≡ drop 1 (front (Format.Two generation)) ++ 0 ∷ []) }
+    ensures bytes { IfOk result
+        (λ room. room.items ≡ drop 1 (front (Format.Two generation)) ++ 0 ∷ []) }
     ensures capacity { IfOk result (λ room. BEFORE_BODY ≤ vec_capacity room) }
 {
     let mut room = Vec::new(alloc);
@@ -173,13 +181,16 @@ impl Build {
           most = most;
           waiting = [];
         }) }
-        ensures begun { IfOk result (λ build. IsTrue D.tells → HasBuilt [] build (D.view disk.new)) }
+        ensures begun { IfOk result
+            (λ build. IsTrue D.tells → HasBuilt [] build (D.view disk.new)) }
 
         // A crash at any moment of the call leaves what one could leave before, or bytes that are picked of no pair.
-        ensures moments { IsTrue D.tells → LeavesOnly (IsFormerOrIdle (D.view disk.old)) (D.view disk.old) (D.view disk.new) }
+        ensures moments { IsTrue D.tells
+            → LeavesOnly (IsFormerOrIdle (D.view disk.old)) (D.view disk.old) (D.view disk.new) }
 
         ensures steady { OnOk result ((D.view disk.new).faults ≡ (D.view disk.old).faults) }
-        ensures disk { result ≡ Err LogFault.Disk → Rose (D.view disk.old).faults (D.view disk.new).faults }
+        ensures disk { result ≡ Err LogFault.Disk
+            → Rose (D.view disk.old).faults (D.view disk.new).faults }
         ensures counts { (D.view disk.old).faults ≤ (D.view disk.new).faults }
         ensures memory { result ≡ Err LogFault.Memory → disk.new ≡ disk.old }
         ensures no_full { (e : ℕ) → result ≡ Err (LogFault.Full e) → ⊥ }
@@ -207,8 +218,12 @@ impl Build {
         requires short { length body.now < BODY_LENGTHS }
 
         ensures place { IfOk result (λ place. place ≡ self.old.end) }
-        ensures build { OnOk result (self.new ≡ record self.old { end = self.old.end + BEFORE_BODY + length body.now; waiting = self.new.waiting }) }
-        ensures added { OnOk result (IsTrue D.tells → (bodies : List (List ℕ)) → HasBuilt bodies self.old (D.view disk.old)
+        ensures build { OnOk result (self.new ≡ record self.old {
+          end = self.old.end + BEFORE_BODY + length body.now;
+          waiting = self.new.waiting;
+        }) }
+        ensures added { OnOk result (IsTrue D.tells → (bodies : List (List ℕ))
+            → HasBuilt bodies self.old (D.view disk.old)
             → HasBuilt (bodies ++ body.now ∷ []) self.new (D.view disk.new)) }
         ensures on { OnOk result (IsTrue D.tells → IsBuiltOn (D.view disk.new) self.new) }
 
@@ -216,10 +231,13 @@ impl Build {
         ensures moments { IsTrue D.tells → LeavesOnly IsClosed (D.view disk.old) (D.view disk.new) }
 
         ensures steady { OnOk result ((D.view disk.new).faults ≡ (D.view disk.old).faults) }
-        ensures disk { result ≡ Err LogFault.Disk → Rose (D.view disk.old).faults (D.view disk.new).faults }
+        ensures disk { result ≡ Err LogFault.Disk
+            → Rose (D.view disk.old).faults (D.view disk.new).faults }
         ensures counts { (D.view disk.old).faults ≤ (D.view disk.new).faults }
-        ensures full { (e : ℕ) → (result ≡ Err (LogFault.Full e)) ↔ ((e ≡ self.old.end + AROUND_BODY + length body.now) × (self.old.most < e)) }
-        ensures untouched { OnErr result ((result ≡ Err LogFault.Disk → ⊥) → (self.new ≡ self.old) × (disk.new ≡ disk.old)) }
+        ensures full { (e : ℕ) → (result ≡ Err (LogFault.Full e))
+            ↔ ((e ≡ self.old.end + AROUND_BODY + length body.now) × (self.old.most < e)) }
+        ensures untouched { OnErr result
+            ((result ≡ Err LogFault.Disk → ⊥) → (self.new ≡ self.old) × (disk.new ≡ disk.old)) }
         ensures no_bad_log { (p : ℕ) → result ≡ Err (LogFault.BadLog p) → ⊥ }
     {
         let gate = self.end;
@@ -240,18 +258,26 @@ impl Build {
     /// Makes what was built durable, and opens its gate. It takes no memory.
     pub fn finish<D: Disk>(self, disk: &mut D) -> Result<Log, LogFault>
         requires { IsTrue D.tells → IsBuiltOn (D.view disk.old) self }
-        ensures log { IfOk result (λ log. log ≡ record { format = self.format; end = self.end; most = self.most; spare = 0; is_open = true }) }
-        ensures holds { IfOk result (λ log. IsTrue D.tells → (bodies : List (List ℕ)) → HasBuilt bodies self (D.view disk.old)
-            → HoldsBodies bodies log (D.view disk.new)) }
+        ensures log { IfOk result (λ log. log ≡ record {
+          format = self.format;
+          end = self.end;
+          most = self.most;
+          spare = 0;
+          is_open = true;
+        }) }
+        ensures holds { IfOk result (λ log. IsTrue D.tells → (bodies : List (List ℕ))
+            → HasBuilt bodies self (D.view disk.old) → HoldsBodies bodies log (D.view disk.new)) }
         ensures on { IfOk result (λ log. IsTrue D.tells → IsOn (D.view disk.new) log) }
         ensures synced { OnOk result (IsTrue D.tells → IsSynced (D.view disk.new)) }
 
         // A crash at any moment of the call leaves the first gate closed, or the whole log.
-        ensures moments { IsTrue D.tells → (bodies : List (List ℕ)) → HasBuilt bodies self (D.view disk.old)
+        ensures moments { IsTrue D.tells → (bodies : List (List ℕ))
+            → HasBuilt bodies self (D.view disk.old)
             → LeavesOnly (IsClosedOrMade self.format bodies) (D.view disk.old) (D.view disk.new) }
 
         ensures steady { OnOk result ((D.view disk.new).faults ≡ (D.view disk.old).faults) }
-        ensures disk { OnErr result ((result ≡ Err LogFault.Disk) × Rose (D.view disk.old).faults (D.view disk.new).faults) }
+        ensures disk { OnErr result ((result ≡ Err LogFault.Disk)
+            × Rose (D.view disk.old).faults (D.view disk.new).faults) }
         ensures counts { (D.view disk.old).faults ≤ (D.view disk.new).faults }
     {
         let mut build = self;
@@ -279,7 +305,8 @@ impl Build {
     fn write_waiting<D: Disk>(&mut self, disk: &mut D) -> Result<(), Failed>
         requires { IsTrue D.tells → IsBuiltOn (D.view disk.old) self.old }
         ensures build { OnOk result (self.new ≡ record self.old { waiting = [] }) }
-        ensures written { OnOk result (IsTrue D.tells → (bodies : List (List ℕ)) → HasBuilt bodies self.old (D.view disk.old)
+        ensures written { OnOk result
+            (IsTrue D.tells → (bodies : List (List ℕ)) → HasBuilt bodies self.old (D.view disk.old)
             → HasBuilt bodies self.new (D.view disk.new)) }
         ensures moments { IsTrue D.tells → LeavesOnly IsClosed (D.view disk.old) (D.view disk.new) }
         ensures steady { OnOk result ((D.view disk.new).faults ≡ (D.view disk.old).faults) }

@@ -79,19 +79,23 @@ impl Log {
             → LeavesOnly (IsImageOfOne (D.view disk.old)) (D.view disk.old) (D.view disk.new) }
 
         // Only an unmade disk is written, and a crash on the way leaves a log without bodies.
-        ensures reads { IsTrue D.tells → (IsUnmade (D.view disk.old).content → ⊥) → Goes Same (D.view disk.old) (D.view disk.new) }
-        ensures makes { IsTrue D.tells → IsUnmade (D.view disk.old).content → LeavesNew (D.view disk.old)
-            → LeavesOnly IsNew (D.view disk.old) (D.view disk.new) }
+        ensures reads { IsTrue D.tells → (IsUnmade (D.view disk.old).content → ⊥)
+            → Goes Same (D.view disk.old) (D.view disk.new) }
+        ensures makes { IsTrue D.tells → IsUnmade (D.view disk.old).content
+            → LeavesNew (D.view disk.old) → LeavesOnly IsNew (D.view disk.old) (D.view disk.new) }
 
-        ensures made { IfOk result (λ log. IsTrue D.tells → IsUnmade (D.view disk.old).content → log.format ≡ Format.One) }
+        ensures made { IfOk result
+            (λ log. IsTrue D.tells → IsUnmade (D.view disk.old).content → log.format ≡ Format.One) }
 
         ensures synced { OnOk result (IsTrue D.tells → IsSynced (D.view disk.new)) }
         ensures later { (D.view disk.old).moment ≤ (D.view disk.new).moment }
-        ensures bad_log { (p : ℕ) → result ≡ Err (LogFault.BadLog p) → IsTrue D.tells → IsBadAt p (D.view disk.old).content }
+        ensures bad_log { (p : ℕ) → result ≡ Err (LogFault.BadLog p)
+            → IsTrue D.tells → IsBadAt p (D.view disk.old).content }
         ensures steady { OnOk result ((D.view disk.new).faults ≡ (D.view disk.old).faults) }
         ensures no_fault { OnErr result ((result ≡ Err LogFault.Disk → ⊥)
             → (D.view disk.new).faults ≡ (D.view disk.old).faults) }
-        ensures disk { result ≡ Err LogFault.Disk → Rose (D.view disk.old).faults (D.view disk.new).faults }
+        ensures disk { result ≡ Err LogFault.Disk
+            → Rose (D.view disk.old).faults (D.view disk.new).faults }
         ensures counts { (D.view disk.old).faults ≤ (D.view disk.new).faults }
         ensures memory { result ≡ Err LogFault.Memory → disk.new ≡ disk.old }
         ensures no_full { (e : ℕ) → result ≡ Err (LogFault.Full e) → ⊥ }
@@ -116,7 +120,8 @@ impl Log {
         requires room { BEFORE_BODY ≤ vec_capacity room }
         requires end { end < SIZES }
         requires most { most ≤ LAST_END }
-        ensures { result ≡ record { format = format; end = end; most = most; spare = 0; is_open = true } }
+        ensures { result
+            ≡ record { format = format; end = end; most = most; spare = 0; is_open = true } }
     {
         Log {
             format,
@@ -177,7 +182,8 @@ impl Log {
 
     /// Whether a body of so many bytes can be added. If it can't, this is what `append` answers.
     pub fn fits(&self, len: u32) -> Result<(), LogFault>
-        ensures full { (e : ℕ) → (result ≡ Err (LogFault.Full e)) ↔ ((e ≡ self.now.end + AROUND_BODY + len) × (self.now.most < e)) }
+        ensures full { (e : ℕ) → (result ≡ Err (LogFault.Full e))
+            ↔ ((e ≡ self.now.end + AROUND_BODY + len) × (self.now.most < e)) }
         ensures ok { OnOk result (self.now.end + AROUND_BODY + len ≤ self.now.most) }
         ensures no_disk { result ≡ Err LogFault.Disk → ⊥ }
         ensures no_bad_log { (p : ℕ) → result ≡ Err (LogFault.BadLog p) → ⊥ }
@@ -220,22 +226,29 @@ impl Log {
         requires room { length body.now ≤ self.old.spare }
 
         ensures place { IfOk result (λ place. place ≡ self.old.end) }
-        ensures log { OnOk result (self.new ≡ record self.old { end = self.old.end + BEFORE_BODY + length body.now }) }
-        ensures added { OnOk result (IsTrue D.tells → (bodies : List (List ℕ)) → HoldsBodies bodies self.old (D.view disk.old)
+        ensures log { OnOk result
+            (self.new ≡ record self.old { end = self.old.end + BEFORE_BODY + length body.now }) }
+        ensures added { OnOk result (IsTrue D.tells → (bodies : List (List ℕ))
+            → HoldsBodies bodies self.old (D.view disk.old)
             → HoldsBodies (bodies ++ body.now ∷ []) self.new (D.view disk.new)) }
 
         ensures on { OnOk result (IsTrue D.tells → IsOn (D.view disk.new) self.new) }
 
         // A crash at any moment of the call leaves the bodies, with the new one or without.
-        ensures moments { IsTrue D.tells → (bodies : List (List ℕ)) → HoldsBodies bodies self.old (D.view disk.old)
-            → LeavesOnly (IsBeforeOrAfter self.old.format bodies body.now) (D.view disk.old) (D.view disk.new) }
+        ensures moments { IsTrue D.tells → (bodies : List (List ℕ))
+            → HoldsBodies bodies self.old (D.view disk.old)
+            → LeavesOnly (IsBeforeOrAfter self.old.format bodies body.now)
+            (D.view disk.old) (D.view disk.new) }
 
         ensures steady { OnOk result ((D.view disk.new).faults ≡ (D.view disk.old).faults) }
-        ensures disk { result ≡ Err LogFault.Disk → Rose (D.view disk.old).faults (D.view disk.new).faults
+        ensures disk { result ≡ Err LogFault.Disk
+            → Rose (D.view disk.old).faults (D.view disk.new).faults
             × (self.new ≡ record self.old { is_open = false }) }
         ensures counts { (D.view disk.old).faults ≤ (D.view disk.new).faults }
-        ensures full { (e : ℕ) → (result ≡ Err (LogFault.Full e)) ↔ ((e ≡ self.old.end + AROUND_BODY + length body.now) × (self.old.most < e)) }
-        ensures untouched { (e : ℕ) → result ≡ Err (LogFault.Full e) → (self.new ≡ self.old) × (disk.new ≡ disk.old) }
+        ensures full { (e : ℕ) → (result ≡ Err (LogFault.Full e))
+            ↔ ((e ≡ self.old.end + AROUND_BODY + length body.now) × (self.old.most < e)) }
+        ensures untouched { (e : ℕ) → result ≡ Err (LogFault.Full e)
+            → (self.new ≡ self.old) × (disk.new ≡ disk.old) }
         ensures no_bad_log { (p : ℕ) → result ≡ Err (LogFault.BadLog p) → ⊥ }
         ensures no_memory { result ≡ Err LogFault.Memory → ⊥ }
     {
@@ -271,22 +284,29 @@ impl Log {
         requires short { length (body_in head.now room.old) < BODY_LENGTHS }
 
         ensures place { IfOk result (λ place. place ≡ self.old.end) }
-        ensures log { OnOk result (self.new ≡ record self.old { end = self.old.end + BEFORE_BODY + length (body_in head.now room.old) }) }
-        ensures added { OnOk result (IsTrue D.tells → (bodies : List (List ℕ)) → HoldsBodies bodies self.old (D.view disk.old)
+        ensures log { OnOk result (self.new ≡ record self.old {
+          end = self.old.end + BEFORE_BODY + length (body_in head.now room.old);
+        }) }
+        ensures added { OnOk result (IsTrue D.tells → (bodies : List (List ℕ))
+            → HoldsBodies bodies self.old (D.view disk.old)
             → HoldsBodies (bodies ++ body_in head.now room.old ∷ []) self.new (D.view disk.new)) }
 
         ensures on { OnOk result (IsTrue D.tells → IsOn (D.view disk.new) self.new) }
 
         // A crash at any moment of the call leaves the bodies, with the new one or without.
-        ensures moments { IsTrue D.tells → (bodies : List (List ℕ)) → HoldsBodies bodies self.old (D.view disk.old)
-            → LeavesOnly (IsBeforeOrAfter self.old.format bodies (body_in head.now room.old)) (D.view disk.old) (D.view disk.new) }
+        ensures moments { IsTrue D.tells → (bodies : List (List ℕ))
+            → HoldsBodies bodies self.old (D.view disk.old)
+            → LeavesOnly (IsBeforeOrAfter self.old.format bodies (body_in head.now room.old))
+            (D.view disk.old) (D.view disk.new) }
 
         ensures steady { OnOk result ((D.view disk.new).faults ≡ (D.view disk.old).faults) }
-        ensures disk { result ≡ Err LogFault.Disk → Rose (D.view disk.old).faults (D.view disk.new).faults
+        ensures disk { result ≡ Err LogFault.Disk
+            → Rose (D.view disk.old).faults (D.view disk.new).faults
             × (self.new ≡ record self.old { is_open = false }) }
         ensures counts { (D.view disk.old).faults ≤ (D.view disk.new).faults }
         ensures full { (e : ℕ) → (result ≡ Err (LogFault.Full e))
-            ↔ ((e ≡ self.old.end + AROUND_BODY + length (body_in head.now room.old)) × (self.old.most < e)) }
+            ↔ ((e ≡ self.old.end + AROUND_BODY + length (body_in head.now room.old))
+            × (self.old.most < e)) }
         ensures untouched { (e : ℕ) → result ≡ Err (LogFault.Full e)
             → (self.new ≡ self.old) × (disk.new ≡ disk.old) × (room.new ≡ room.old) }
         ensures used { OnOk result (room.new ≡ []) }
@@ -326,26 +346,31 @@ impl Log {
         requires below { place < self.now.end }
 
         // At the place of a body it puts this body there.
-        ensures body { IfOk result (λ next. IsTrue D.tells → (before : List (List ℕ)) (body : List ℕ) (after : List (List ℕ))
-            → HoldsBodies (before ++ body ∷ after) self.now (D.view disk.old) → place ≡ place_behind self.now before
+        ensures body { IfOk result (λ next. IsTrue D.tells
+            → (before : List (List ℕ)) (body : List ℕ) (after : List (List ℕ))
+            → HoldsBodies (before ++ body ∷ after) self.now (D.view disk.old)
+            → place ≡ place_behind self.now before
             → (room.new.items ≡ body) × (next ≡ place + BEFORE_BODY + length body)) }
         ensures next { IfOk result (λ next. (place < next) × (next ≤ self.now.end)) }
         ensures short { OnOk result (length room.new.items < 2 ^ 32) }
         ensures bad_log { (p : ℕ) → result ≡ Err (LogFault.BadLog p) → IsTrue D.tells
             → (before : List (List ℕ)) (body : List ℕ) (after : List (List ℕ))
-            → HoldsBodies (before ++ body ∷ after) self.now (D.view disk.old) → place ≡ place_behind self.now before → ⊥ }
+            → HoldsBodies (before ++ body ∷ after) self.now (D.view disk.old)
+            → place ≡ place_behind self.now before → ⊥ }
         ensures bad_place { (p : ℕ) → result ≡ Err (LogFault.BadLog p) → p ≡ place }
 
         // Whatever it answers, the disk holds the bodies that it held.
         ensures goes { Goes Same (D.view disk.old) (D.view disk.new) }
-        ensures holds { IsTrue D.tells → (bodies : List (List ℕ)) → HoldsBodies bodies self.now (D.view disk.old)
+        ensures holds { IsTrue D.tells → (bodies : List (List ℕ))
+            → HoldsBodies bodies self.now (D.view disk.old)
             → HoldsBodies bodies self.now (D.view disk.new) }
         ensures on { IsTrue D.tells → IsOn (D.view disk.new) self.now }
 
         ensures steady { OnOk result ((D.view disk.new).faults ≡ (D.view disk.old).faults) }
         ensures no_fault { OnErr result ((result ≡ Err LogFault.Disk → ⊥)
             → (D.view disk.new).faults ≡ (D.view disk.old).faults) }
-        ensures disk { result ≡ Err LogFault.Disk → Rose (D.view disk.old).faults (D.view disk.new).faults }
+        ensures disk { result ≡ Err LogFault.Disk
+            → Rose (D.view disk.old).faults (D.view disk.new).faults }
         ensures no_full { (e : ℕ) → result ≡ Err (LogFault.Full e) → ⊥ }
     {
         if self.end - place < BEFORE_BODY as u64 {

@@ -54,14 +54,17 @@ pub fn add_from_room<D: Disk>(
     room: &mut Octets,
     start: usize,
 ) -> Result<(), Failed>
-    requires stands { IsTrue D.tells → (bodies : List (List ℕ)) × Stands format bodies gate (D.view disk.old) }
+    requires stands { IsTrue D.tells
+        → (bodies : List (List ℕ)) × Stands format bodies gate (D.view disk.old) }
     requires below { gate + 2 + length room.old < SIZES }
     requires within { start ≤ length room.old }
     ensures added { OnOk result (IsTrue D.tells → (bodies : List (List ℕ)) (body : List ℕ)
-        → drop start room.old ≡ behind_gate body → length body < BODY_LENGTHS → Stands format bodies gate (D.view disk.old)
-        → Stands format (bodies ++ body ∷ []) (gate + BEFORE_BODY + length body) (D.view disk.new)) }
+        → drop start room.old ≡ behind_gate body → length body < BODY_LENGTHS
+        → Stands format bodies gate (D.view disk.old) → Stands format
+        (bodies ++ body ∷ []) (gate + BEFORE_BODY + length body) (D.view disk.new)) }
     ensures moments { IsTrue D.tells → (bodies : List (List ℕ)) (body : List ℕ)
-        → drop start room.old ≡ behind_gate body → length body < BODY_LENGTHS → Stands format bodies gate (D.view disk.old)
+        → drop start room.old ≡ behind_gate body → length body < BODY_LENGTHS
+        → Stands format bodies gate (D.view disk.old)
         → LeavesOnly (IsBeforeOrAfter format bodies body) (D.view disk.old) (D.view disk.new) }
     ensures steady { OnOk result ((D.view disk.new).faults ≡ (D.view disk.old).faults) }
     ensures failed { OnErr result (Rose (D.view disk.old).faults (D.view disk.new).faults) }

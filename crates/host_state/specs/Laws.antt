@@ -9,6 +9,7 @@ abbrev pub HostsTellCursors : Type 0
 HostsTellCursors = (host : List ℕ) (rows : List Row)
     → cursor_of (hosts rows) host ≡ cursor host rows
 
--- The hosts behind a journal in two halves are those of the second half behind the hosts of the first.
+-- The hosts behind a journal in two halves are those of the second half behind the hosts of the
+-- first.
 abbrev pub HostsJoin : Type 0
 HostsJoin = (xs ys : List Row) → hosts (xs ++ ys) ≡ folded hosts_after (hosts xs) ys

@@ -54,7 +54,8 @@ abbrev pub repository : List Row → List ℕ → List ℕ → Head → ℕ → 
 repository J did time head records block moment =
     Row.Synced did (whole_under did time head records block (last_seq J + 1)) (Some moment)
 
--- The row of a repository that was fetched at an operator's command may be ill formed, or break the order ..
+-- The row of a repository that was fetched at an operator's command may be ill formed, or break the
+-- order ..
 pub record SyncedMayBeIllFormed : Type 0 where
   -- where there was no journal
   pub journal : ((J : List Row) (did time : List ℕ) (head : Head) (records : ℕ) (block : List ℕ)

@@ -54,7 +54,8 @@ abbrev pub LivesUnfounded : Point → List Point → Type 0
 LivesUnfounded p [] = Unit {0}
 LivesUnfounded p (next ∷ points) = NextOf p.serves p next × LivesUnfounded next points
 
--- What the disks of an open store stand for is no premise that is wanted: calls say what they leave, whatever was there.
+-- What the disks of an open store stand for is no premise that is wanted: calls say what they
+-- leave, whatever was there.
 abbrev pub UnfoundedComeOn : Type 0
 UnfoundedComeOn = (p : Point) (points : List Point) (J : List Row) → LivesUnfounded p points
     → p.serves ≡ Some J → AllCome J points

@@ -1,4 +1,5 @@
--- What a mirror holds of an account: the map of its repository, as the messages of a stream lead to it (own definition).
+-- What a mirror holds of an account: the map of its repository, as the messages of a stream lead to
+-- it (own definition).
 use Rattle.std.specs.Prelude.{◌≡◌, ℕ, Bool, true, false, not, ◌&&◌, is_some, List, [], ◌∷◌, Option, Some, None, Result, Ok, Err}
 use Rattle.std.specs.List.{list_all}
 use Rattle.std.specs.Str.{bytes_eq}
@@ -27,7 +28,8 @@ states_edit Action.Other was now = false
 abbrev pub is_edit : EventOp → Bool
 is_edit op = states_edit op.action (is_some op.prev) (is_some op.cid)
 
--- A commit follows on the revision that is held, and its operations, on different keys, play on the map and give this one.
+-- A commit follows on the revision that is held, and its operations, on different keys, play on the
+-- map and give this one.
 pub record Continues (c : CommitEvent) (rev : Option ℕ) (s t : List Item) : Type 0 where
   pub since : c.since ≡ rev
   pub edits : list_all is_edit c.ops ≡ true
@@ -35,14 +37,16 @@ pub record Continues (c : CommitEvent) (rev : Option ℕ) (s t : List Item) : Ty
   pub apart : AreApart (edits_of c)
   pub plays : Plays s (edits_of c) t
 
--- what a commit makes of what is held: the map that it continues to, and nothing where it continues to none
+-- what a commit makes of what is held: the map that it continues to, and nothing where it continues
+-- to none
 abbrev pub IsAfterCommit : CommitEvent → Holding → Holding → Type 0
 IsAfterCommit c (Holding.Mapped rev s) (Holding.Mapped now t) = (now ≡ Some c.rev)
     × Continues c rev s t
 IsAfterCommit c (Holding.Mapped rev s) Holding.Waiting = (t : List Item) → Continues c rev s t → ⊥
 IsAfterCommit c Holding.Waiting now = now ≡ Holding.Waiting
 
--- what a `#sync` makes of it, whatever was held: the map of the account's repository, and nothing where that has none
+-- what a `#sync` makes of it, whatever was held: the map of the account's repository, and nothing
+-- where that has none
 abbrev pub IsAfterSync : Repositories → SyncEvent → Holding → Type 0
 IsAfterSync repositories sync (Holding.Mapped now t) = (now ≡ Some sync.rev)
     × Answers repositories sync t

@@ -1,4 +1,5 @@
--- The map of a whole repository. (Repository specification: a CAR whose first root is the commit, with each node of its tree.)
+-- The map of a whole repository. (Repository specification: a CAR whose first root is the commit,
+-- with each node of its tree.)
 use Rattle.std.specs.Prelude.{◌≡◌, ◌≤◌, ℕ, List, length, Option, Some}
 use Rattle.at_car.specs.Car.{car_of}
 use Rattle.at_event.specs.declared.event.SyncEvent.{SyncEvent}
@@ -13,7 +14,8 @@ use Rattle.repo_sync.specs.declared.limits.TheConstants.{MOST_REPOSITORY_BYTES}
 abbrev pub Repositories : Type 0
 Repositories = List ℕ → Option (List ℕ)
 
--- The bytes are a repository with this commit as first root, and its tree is whole: a view without holes, which is this map.
+-- The bytes are a repository with this commit as first root, and its tree is whole: a view without
+-- holes, which is this map.
 pub record HasMap (bytes link : List ℕ) (F : List Item) : Type 0 where
   pub short : length bytes ≤ MOST_REPOSITORY_BYTES
   pub holds : HoldsRepository bytes

@@ -10,7 +10,8 @@ use Rattle.mst_list.specs.Lists.{KeysOnly}
 use Rattle.mst_node.specs.Trees.{IsView}
 use Rattle.mirror.specs.Repository.{HasMap}
 
--- Of these roots and blocks: the first root is the link, and under it a commit object whose tree is whole and has this map.
+-- Of these roots and blocks: the first root is the link, and under it a commit object whose tree is
+-- whole and has this map.
 pub record HasMapUnder (roots : List (List ℕ)) (blocks : BlockMap) (link : List ℕ)
     (F : List Item) : Type 0 where
   pub block : List ℕ

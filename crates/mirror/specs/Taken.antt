@@ -66,8 +66,9 @@ abbrev pub IsStep : Mirror → Result Frame FrameFault → Step → Type 0
 IsStep m (Ok (Frame.Event e)) step = step ≡ step_by (is_repo_body e.body) (held_by m e.did)
 IsStep m other step = step ≡ Step.Passed
 
--- A message was taken: of each account what it makes is held, and the last number is its own. Only a `#sync` of the account
--- asks for its repository, so that of all others this holds also where the repositories aren't known.
+-- A message was taken: of each account what it makes is held, and the last number is its own. Only
+-- a `#sync` of the account asks for its repository, so that of all others this holds also where the
+-- repositories aren't known.
 pub record IsTaken (tells : Bool) (repositories : Repositories) (old new : Mirror)
     (message : List ℕ) (step : Step)
     : Type 0 where

@@ -1,4 +1,5 @@
--- Playing operations on maps, and undoing them on lists with holes. Both are one edit: a value, or nothing, is put at a key.
+-- Playing operations on maps, and undoing them on lists with holes. Both are one edit: a value, or
+-- nothing, is put at a key.
 use Rattle.std.specs.Prelude.{◌≡◌, ◌≢◌, ℕ, List, [], ◌∷◌, ◌++◌, Option, Some, None}
 use Rattle.std.specs.declared.cmp.Ordering.{Ordering}
 use Rattle.std.specs.declared.cmp.Ordering.TheVariants.{Less, Equal, Greater}
@@ -56,7 +57,8 @@ abbrev pub undone : List Item → List Op → List Item
 undone F [] = F
 undone F (op ∷ ops) = put op.key op.was (undone F ops)
 
--- the operation agrees with the list: its key has the value that it left, or isn't visible where it left none
+-- the operation agrees with the list: its key has the value that it left, or isn't visible where it
+-- left none
 abbrev pub Agrees : List Item → Op → Type 0
 Agrees F op = value_at op.key F ≡ op.now
 
@@ -77,8 +79,9 @@ pub record IsClear (k : List ℕ) (F : List Item) : Type 0 where
   pub no_hole_before : EndsInHole (before k F) → ⊥
   pub no_hole_after : StartsWithHole (after k F) → ⊥
 
--- the operation's edit of the list is safe whatever the holes hold: by kind, an update's key is visible,
--- beside a create's key or in its gap stands no hole, and in the gap of a delete's key that isn't visible stands none
+-- the operation's edit of the list is safe whatever the holes hold: by kind, an update's key is
+-- visible, beside a create's key or in its gap stands no hole, and in the gap of a delete's key
+-- that isn't visible stands none
 abbrev pub GuardedBy : List ℕ → Option (List ℕ) → Option (List ℕ) → List Item → Type 0
 GuardedBy k (Some v) (Some w) F = value_at k F ≢ None
 GuardedBy k None now F = IsClear k F
@@ -118,4 +121,5 @@ AreApart (op ∷ ops) = IsNewTo op.key ops × AreApart ops
 abbrev pub Filled : (ℕ → List ℕ → List Item → Type 0) → List Item → List Item → Type 0
 Filled holds [] s = s ≡ []
 Filled holds (Key k v ∷ F) s = (t : List Item) × (s ≡ Key k v ∷ t) × Filled holds F t
-Filled holds (Hole l c ∷ F) s = (g : List Item) × (t : List Item) × (s ≡ g ++ t) × holds l c g × Filled holds F t
+Filled holds (Hole l c ∷ F) s =
+    (g : List Item) × (t : List Item) × (s ≡ g ++ t) × holds l c g × Filled holds F t

@@ -20,13 +20,15 @@ starts_with_hole _ = false
 abbrev pub clear_behind : Bool → List ℕ → List Item → Bool
 clear_behind behind k [] = not behind
 clear_behind behind k (Hole l c ∷ F) = clear_behind true k F
-clear_behind behind k (Key j v ∷ F) = by_order (key_cmp j k) (clear_behind false k F) (not behind && not (starts_with_hole F)) (not behind)
+clear_behind behind k (Key j v ∷ F) = by_order (key_cmp j k)
+    (clear_behind false k F) (not behind && not (starts_with_hole F)) (not behind)
 
 -- a hole stands in the gap of k, which isn't visible
 abbrev pub IsHidden : List ℕ → List Item → Type 0
 IsHidden k F = (value_at k F ≡ None) × EndsInHole (before k F)
 
--- a create or update whose key is visible with another value, or isn't visible and no hole can hide it, or a delete whose key is visible
+-- a create or update whose key is visible with another value, or isn't visible and no hole can hide
+-- it, or a delete whose key is visible
 abbrev pub Disagrees : List Item → Op → Type 0
 Disagrees F op = (value_at op.key F ≢ op.now) × (IsHidden op.key F → ⊥)
 
@@ -34,9 +36,11 @@ Disagrees F op = (value_at op.key F ≢ op.now) × (IsHidden op.key F → ⊥)
 abbrev pub IsBesideHole : List ℕ → List Item → Type 0
 IsBesideHole k F = EndsInHole (before k F) ⊎ StartsWithHole (after k F)
 
--- the operation doesn't disagree, and its key is hidden, or it is a create with a hole beside its key
+-- the operation doesn't disagree, and its key is hidden, or it is a create with a hole beside its
+-- key
 abbrev pub IsUncovered : List Item → Op → Type 0
-IsUncovered F op = (Disagrees F op → ⊥) × (IsHidden op.key F ⊎ ((op.was ≡ None) × IsBesideHole op.key F))
+IsUncovered F op = (Disagrees F op → ⊥)
+    × (IsHidden op.key F ⊎ ((op.was ≡ None) × IsBesideHole op.key F))
 
 -- the operation agrees with the list and is guarded
 abbrev pub IsFine : List Item → Op → Type 0
@@ -65,8 +69,8 @@ IsCaused F ops (UndoFault.OtherOp i) = IsFirst Disagrees F ops i
 IsCaused F ops (UndoFault.NotCovered i) = IsFirst IsUncovered F ops i
 IsCaused F ops UndoFault.Memory = Unit {0}
 
--- what an undoing answers, but for running out of memory: the list as it was, where each operation agrees and is guarded,
--- and else the first operation that disagrees or isn't covered
+-- what an undoing answers, but for running out of memory: the list as it was, where each operation
+-- agrees and is guarded, and else the first operation that disagrees or isn't covered
 abbrev pub IsUndone : List Item → List Op → Result (List Item) UndoFault → Type 0
 IsUndone F ops (Ok G) = AllAgree F ops × IsGuarded F ops × (G ≡ undone F ops)
 IsUndone F ops (Err (UndoFault.OtherOp i)) = IsFirst Disagrees F ops i
@@ -81,9 +85,11 @@ undo_cause UndoFault.Memory = None
 
 -- the result is the answer of the undoing, whichever that is, unless memory ran out
 abbrev pub UndoesExactly : List Item → List Op → Result (List Item) UndoFault → Type 0
-UndoesExactly F ops result = (answer : Result (List Item) UndoFault) → IsUndone F ops answer → Gives (λ G. G) undo_cause result answer
+UndoesExactly F ops result = (answer : Result (List Item) UndoFault)
+    → IsUndone F ops answer → Gives (λ G. G) undo_cause result answer
 
--- the first operation that doesn't apply: those before it give t, in which its key hasn't the value that it was to have
+-- the first operation that doesn't apply: those before it give t, in which its key hasn't the value
+-- that it was to have
 abbrev pub IsClash : List Item → List Op → ℕ → Type 0
 IsClash s [] i = ⊥
 IsClash s (op ∷ ops) zero = value_at op.key s ≢ op.was
@@ -107,4 +113,5 @@ play_cause PlayFault.Memory = None
 
 -- the result is the answer of the playing, whichever that is, unless memory ran out
 abbrev pub PlaysExactly : List Item → List Op → Result (List Item) PlayFault → Type 0
-PlaysExactly s ops result = (answer : Result (List Item) PlayFault) → IsPlayed s ops answer → Gives (λ t. t) play_cause result answer
+PlaysExactly s ops result = (answer : Result (List Item) PlayFault)
+    → IsPlayed s ops answer → Gives (λ t. t) play_cause result answer

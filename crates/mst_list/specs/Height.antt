@@ -1,4 +1,5 @@
--- The heights of keys. (Repository specification, MST structure: the layer of a key is the number of leading zero bits of its SHA-256, two bits a layer.)
+-- The heights of keys. (Repository specification, MST structure: the layer of a key is the number
+-- of leading zero bits of its SHA-256, two bits a layer.)
 use Rattle.std.specs.Prelude.{ℕ, List, [], ◌∷◌, ◌/◌, ◌+◌, ◌==◌, if◌then◌else◌}
 use Rattle.std.specs.Int as int
 use Rattle.std.specs.Int.{w8}

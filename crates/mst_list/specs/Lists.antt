@@ -1,4 +1,5 @@
--- Lists with holes, and maps. (Repository specification, MST structure. A hole is a subtree that is known by its link alone.)
+-- Lists with holes, and maps. (Repository specification, MST structure. A hole is a subtree that is
+-- known by its link alone.)
 use Rattle.std.specs.Prelude.{◌≡◌, ◌≢◌, ℕ, ◌<◌, ◌≤◌, List, [], ◌∷◌, length}
 use Rattle.std.specs.declared.cmp.Ordering.TheVariants.{Less}
 use Rattle.mst_list.specs.declared.item.TheConstants.{MOST_KEY_BYTES}

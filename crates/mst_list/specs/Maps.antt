@@ -1,5 +1,6 @@
--- Maps whose keys are found by halving, and operations of different keys, which are judged on the map as it is.
-use Rattle.std.specs.Prelude.{◌≡◌, ◌≢◌, ◌<◌, ◌≤◌, ℕ, zero, suc, List, [], ◌∷◌, ◌++◌, length, slice_index_or, is_some, true, Option, Some, None, Result, Ok, Err}
+-- Maps whose keys are found by halving, and operations of different keys, which are judged on the
+-- map as it is.
+use Rattle.std.specs.Prelude.{◌≡◌, ◌≢◌, ◌<◌, ◌≤◌, ℕ, zero, suc, List, [], ◌∷◌, length, slice_index_or, is_some, true, Option, Some, None, Result, Ok, Err}
 use Rattle.std.specs.declared.cmp.Ordering.{Ordering}
 use Rattle.std.specs.declared.cmp.Ordering.TheVariants.{Less}
 use Rattle.at_cid.specs.Order.{key_cmp}
@@ -7,7 +8,7 @@ use Rattle.mst_list.specs.declared.item.Item.{Item}
 use Rattle.mst_list.specs.declared.item.Item.TheVariants.{Key, Hole}
 use Rattle.mst_list.specs.declared.op.Op.{Op}
 use Rattle.mst_list.specs.declared.playing.PlayFault.{PlayFault}
-use Rattle.mst_list.specs.Edits.{before, value_at, with_value, put}
+use Rattle.mst_list.specs.Edits.{before, value_at, put}
 
 -- how an item's key compares with k; a map has no holes
 abbrev pub order_of : List ℕ → Item → Ordering
@@ -21,7 +22,8 @@ value_in (Hole l c) = None
 
 -- a search for k: the place of the item that holds it, or else the place where it would stand
 abbrev pub IsFound : List ℕ → List Item → Result ℕ ℕ → Type 0
-IsFound k s (Ok at) = (at ≡ length (before k s)) × (at < length s) × ((x : Item) → x ≡ slice_index_or s at x → value_at k s ≡ value_in x) × (is_some (value_at k s) ≡ true)
+IsFound k s (Ok at) = (at ≡ length (before k s)) × (at < length s) × ((x : Item)
+    → x ≡ slice_index_or s at x → value_at k s ≡ value_in x) × (is_some (value_at k s) ≡ true)
 IsFound k s (Err at) = (at ≡ length (before k s)) × (at ≤ length s) × (value_at k s ≡ None)
 
 -- each operation finds at its key what it says was there
@@ -43,8 +45,3 @@ IsJudgedFault s ops PlayFault.Memory = ⊥
 abbrev pub edited : List Item → List Op → List Item
 edited s [] = s
 edited s (op ∷ ops) = edited (put op.key op.now s) ops
-
--- the items that the operations put, those of the last operation first
-abbrev pub items_put : List Op → List Item
-items_put [] = []
-items_put (op ∷ ops) = items_put ops ++ with_value op.key op.now

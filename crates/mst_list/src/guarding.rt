@@ -10,7 +10,8 @@ use crate::op_list::OpList;
 use crate::scanning::{is_clear, value_of};
 
 fn guards(items: &[Item], op: &Op) -> bool
-    ensures { IsTrue result ↔ GuardedBy op.entry.now.key op.entry.now.was op.entry.now.now items.now }
+    ensures { IsTrue result
+        ↔ GuardedBy op.entry.now.key op.entry.now.was op.entry.now.now items.now }
 {
     let key = op.key.as_slice();
     if op.was.is_none() {

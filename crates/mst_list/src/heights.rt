@@ -38,7 +38,8 @@ pub fn height(key: &[u8]) -> u8
 /// [`height`] of the key that has these bytes behind those that a hasher was given.
 #[tactic(auto, unfolding(crate::specs::Height::height))]
 pub fn height_behind(hasher: &Sha256, rest: &[u8]) -> u8
-    ensures value { (front : List ℕ) → Holds256 hasher.now front → result ≡ height (front ++ rest.now) }
+    ensures value { (front : List ℕ) → Holds256 hasher.now front
+        → result ≡ height (front ++ rest.now) }
     ensures most { result ≤ MOST_HEIGHT }
 {
     let Ok(mut hasher) = hasher.clone() else {

@@ -25,7 +25,8 @@ pub enum Verdict {
 
 /// Judges an operation by the value of its key in a list, and by whether no hole stands beside the key's place there.
 pub fn weigh(op: &Op, value: Option<Cid>, clear: bool) -> Verdict
-    ensures { (F : List Item) → value ≡ value_at op.entry.now.key F → clear ≡ clear_behind false op.entry.now.key F → IsJudged F op.entry.now result }
+    ensures { (F : List Item) → value ≡ value_at op.entry.now.key F
+        → clear ≡ clear_behind false op.entry.now.key F → IsJudged F op.entry.now result }
 {
     match (value, op.now) {
         (Some(value), Some(now)) => {

@@ -14,9 +14,7 @@ mod limits;
 mod op;
 mod op_list;
 mod playing;
-mod playing_in_place;
 mod scanning;
-mod searching;
 mod undoing;
 
 pub use guarding::guarded;
@@ -30,5 +28,4 @@ pub use limits::{MOST_HEIGHT, OP_COUNTS};
 pub use op::Op;
 pub use op_list::OpList;
 pub use playing::{PlayFault, play};
-pub use playing_in_place::play_in_place;
 pub use undoing::{UndoFault, undo_list};

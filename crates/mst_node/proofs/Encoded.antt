@@ -1,9 +1,10 @@
 -- The node that is taken from a block is the one that it encodes, and each node that a block encodes is taken.
-use Rattle.std.proofs.Common.{◌≡◌, ℕ, zero, suc, ◌<◌, ◌≤◌, ◌^◌, true, List, [], ◌∷◌, ◌++◌, length, take, drop, Option, Some, None, refl, sym, ap, ◌∙◌, subst, Less, arith, append_assoc, append-nil, length-append, length-drop, Err}
+use Rattle.std.proofs.Common.{◌≡◌, ℕ, zero, suc, ◌+◌, ◌*◌, ◌/◌, min, ◌<◌, ◌≤◌, ◌^◌, true, List, [], ◌∷◌, ◌++◌, length, take, drop, Option, Some, None, refl, sym, ap, ◌∙◌, subst, Less, arith, append_assoc, append-nil, length-append, length-drop, Err}
 use Rattle.std.proofs.lemmas.List.{length-take}
 use Rattle.std.proofs.lemmas.Option.{same_Some}
 use Rattle.at_cid.specs.Link.{IsBytes, IsLink, is_link}
 use Rattle.at_cid.specs.Order.{key_cmp}
+use Rattle.at_cid.proofs.Links.{link_length}
 use Rattle.at_cbor.specs.declared.major.Major.{Major}
 use Rattle.at_cbor.specs.Item.{Item, items_of}
 use Rattle.at_cbor.specs.Encoding.{info_of, tail_of, front_of, link_encoding, encoding, items_encoding, items_count}
@@ -15,8 +16,9 @@ use Rattle.at_cbor.proofs.Taken.{bind_some, held, behind_takes, number_takes, nu
 use Rattle.mst_node.specs.NodeBytes.{shared, entry_item, entry_items, node_bytes}
 use Rattle.mst_node.specs.Nodes.{Node, IsChildLink, AreFormedEntries, EntriesAscend, IsNode, Encodes}
 use Rattle.mst_node.specs.declared.fault.NodeFault.{NodeFault}
-use Rattle.mst_node.specs.Taking.{IsTaken, Parts, parts_of, key_at, right_at, value_at, parts_at, may_follow, entry_made, entry_at, entries_at, front_at, end_at, node_at}
-use Rattle.mst_node.specs.Reading.{node_of}
+use Rattle.mst_node.specs.declared.taking.TheConstants.{FEWEST_ENTRY_BYTES}
+use Rattle.mst_node.specs.Taking.{IsTaken, Parts, parts_of, key_at, right_at, value_at, parts_at, may_follow, entry_made, entry_at, entries_at, front_at, end_at, node_at, next_at}
+use Rattle.mst_node.specs.Reading.{key_before, node_of}
 use Rattle.mst_node.proofs.Encoding.{entry_of, key_back, shared_at_most, end_bytes, node_parts}
 use Rattle.mst_node.proofs.Writes.{entries_counted}
 use Rattle.mst_node.proofs.Readers.{entries_count, encodes_told, none_told}
@@ -139,6 +141,52 @@ entry_again last e rest key value right above =
     let read : parts_at (encoding (entry_item last e) ++ rest) ≡ Some (parts_in last e, rest) =
     ap parts_at (entry_parts last e rest) ∙ parts_again (parts_in last e) rest (omega arith) (omega arith) right value.link in
     rw (read, follows_test last e.key key.most above) (ap (λ k. Some (entry_of k e.value e.right, rest)) (key_back last e.key))
+
+-- no entry has fewer bytes
+child_some : (o : Option (List ℕ)) → 1 ≤ length (encoding (link_item o))
+child_some None = omega arith
+child_some (Some link) = omega arith
+
+parts_long : (p : Parts) (rest : List ℕ) → 1 ≤ length p.tail → IsLink p.value → FEWEST_ENTRY_BYTES + length rest ≤ length (parts_before p rest)
+parts_long p rest some value =
+    let K = encoding (Item.bytes p.tail) in let P = front_of Major.Unsigned p.count in let T = encoding (link_item p.right) in
+    let v : List ℕ = 0x61 ∷ 0x76 ∷ (link_encoding p.value ++ rest) in let t : List ℕ = 0x61 ∷ 0x74 ∷ (T ++ v) in let q : List ℕ = 0x61 ∷ 0x70 ∷ (P ++ t) in
+    let one = length-append K q in let two = length-append P t in let three = length-append T v in let four = length-append p.value rest in
+    let key = length-append (front_of Major.Bytes (length p.tail)) p.tail in let child = child_some p.right in let link = link_length p.value value.link in
+    omega arith
+
+pub record HasFewest (bytes rest : List ℕ) : Type 0 where
+  pub fewest : FEWEST_ENTRY_BYTES + length rest ≤ length bytes
+  pub rest_fits : IsBytes rest
+
+entry_fewest : (last bytes : List ℕ) (x : Entry × List ℕ) → IsBytes bytes → entry_at last bytes ≡ Some x → HasFewest bytes x.1
+unfolding entry_at
+entry_fewest last bytes x fits e =
+    let p = bind_some (parts_at bytes) _ x e in
+    let t = parts_take bytes p.0 fits p.1 in
+    let h = held (may_follow last p.0.0.count p.0.0.tail) (Some (entry_made last p.0.0, p.0.1)) x p.2 in
+    let m = test_follows last p.0.0.count p.0.0.tail h.0 in
+    let long : FEWEST_ENTRY_BYTES + length p.0.1 ≤ length bytes = subst (λ (b : List ℕ). FEWEST_ENTRY_BYTES + length p.0.1 ≤ length b) (sym t.parts) (parts_long p.0.0 p.0.1 m.some t.value) in
+    subst (λ (y : Entry × List ℕ). HasFewest bytes y.1) (same_Some (entry_made last p.0.0, p.0.1) x h.1) (record { fewest = long; rest_fits = t.rest_fits })
+
+pub next_fewest : (front : List Entry) (bytes : List ℕ) (x : List Entry × List ℕ) → IsBytes bytes → next_at front bytes ≡ Some x → HasFewest bytes x.1
+next_fewest front bytes x fits e =
+    let a = bind_some (entry_at (key_before [] front) bytes) _ x e in
+    subst (λ (y : List Entry × List ℕ). HasFewest bytes y.1) (same_Some (front ++ a.0.0 ∷ [], a.0.1) x a.2) (entry_fewest (key_before [] front) bytes a.0 fits a.1)
+
+-- what stands behind the front of a block has no more bytes
+pub front_within : (block : List ℕ) (x : ℕ × List ℕ) → IsBytes block → front_at block ≡ Some x → length x.1 ≤ length block
+unfolding front_at
+front_within block x fits e =
+    let f = bind_some (behind (0xa2 ∷ 0x61 ∷ 0x65 ∷ []) block) (number_at Major.List) x e in let tf = behind_takes _ block f.0 fits f.1 in
+    let tc = number_takes Major.List f.0 x tf.rest_fits f.2 in
+    let whole = ap length tf.parts in let behind_front = ap length tc.0.parts in let added = length-append (front_of Major.List x.0) x.1 in
+    omega arith
+
+-- where another entry was found, there was room for it
+pub room_left : (len capacity count size i left rest : ℕ) → len ≡ i → capacity ≡ min count (size / FEWEST_ENTRY_BYTES) → i < count → i * FEWEST_ENTRY_BYTES + left ≤ size → FEWEST_ENTRY_BYTES + rest ≤ left
+    → len < capacity
+room_left len capacity count size i left rest counted room more behind fewest = omega arith
 
 record TakesEntries (last bytes : List ℕ) (n : ℕ) (x : List Entry × List ℕ) : Type 0 where
   pub taken : Takes bytes (items_encoding (items_of (entry_items last x.0))) x.1

@@ -1,5 +1,6 @@
--- Which nodes may stand where in a tree. (Repository specification, MST structure: a node's keys have its layer's height and
--- ascend between the keys beside its subtree; below it is one layer less; no node is empty but that of the empty tree.)
+-- Which nodes may stand where in a tree. (Repository specification, MST structure: a node's keys
+-- have its layer's height and ascend between the keys beside its subtree; below it is one layer
+-- less; no node is empty but that of the empty tree.)
 use Rattle.std.specs.Prelude.{ℕ, Bool, true, false, not, ◌&&◌, eqb, List, [], ◌∷◌, Option, Some, None}
 use Rattle.at_cid.specs.Order.{key_cmp}
 use Rattle.mst_list.specs.Height.{height}
@@ -24,7 +25,8 @@ may_hang h (Some c) = not (eqb h 0)
 
 -- an entry stands at layer h between two bounds
 abbrev pub entry_fits : ℕ → Option (List ℕ) → Option (List ℕ) → Entry → Bool
-entry_fits h low high e = eqb (height e.key) h && (is_over low e.key && (is_under e.key high && may_hang h e.right))
+entry_fits h low high e =
+    eqb (height e.key) h && (is_over low e.key && (is_under e.key high && may_hang h e.right))
 
 -- the entries stand at layer h, in order, between two bounds
 abbrev pub entries_fit : ℕ → Option (List ℕ) → Option (List ℕ) → List Entry → Bool

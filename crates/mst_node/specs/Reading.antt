@@ -1,4 +1,5 @@
--- The node that a block encodes, told from its bytes: what would be its parts are read, and it is the node where it is encoded so.
+-- The node that a block encodes, told from its bytes: what would be its parts are read, and it is
+-- the node where it is encoded so.
 -- (The law of reading says that this is the node that the block encodes, where there is one.)
 use Rattle.std.specs.Prelude.{ℕ, zero, suc, ◌+◌, ◌-◌, pos, Bool, true, false, ◌&&◌, ◌==◌, nat_lt, nat_le, if◌then◌else◌, List, [], ◌∷◌, ◌++◌, length, take, drop, slice_index, Option, Some, None, Ok, Err, unwrap_or}
 use Rattle.std.specs.Str.{bytes_eq}
@@ -39,7 +40,8 @@ is_over (Some j) k = by_order (key_cmp j k) true false false
 -- the entries have their forms, and their keys ascend from a bound
 abbrev pub are_entries : Option (List ℕ) → List Entry → Bool
 are_entries low [] = true
-are_entries low (e ∷ es) = (is_key e.key && (is_any_link e.value && is_child e.right)) && (is_over low e.key && are_entries (Some e.key) es)
+are_entries low (e ∷ es) = (is_key e.key && (is_any_link e.value && is_child e.right))
+    && (is_over low e.key && are_entries (Some e.key) es)
 
 -- a node that has a block
 abbrev pub is_node : Node → Bool
@@ -67,32 +69,39 @@ entry_in last i = record {
 }
 
 -- the entry that was read in front, and those behind it
-abbrev pub entries_on : (List ℕ → List ℕ → List Entry × List ℕ) → List ℕ → List ℕ → Reading Item → List Entry × List ℕ
+abbrev pub entries_on : (List ℕ → List ℕ → List Entry × List ℕ)
+    → List ℕ → List ℕ → Reading Item → List Entry × List ℕ
 entries_on more last bytes (Err e) = ([], bytes)
-entries_on more last bytes (Ok x) = let e = entry_in last x.0 in let r = more e.key x.1 in (e ∷ r.0, r.1)
+entries_on more last bytes (Ok x) = let e = entry_in last x.0 in
+    let r = more e.key x.1 in (e ∷ r.0, r.1)
 
--- the entries at the front of the bytes, at most so many, and what follows them; an entry begins with the head of a map of four
+-- the entries at the front of the bytes, at most so many, and what follows them; an entry begins
+-- with the head of a map of four
 unfoldable pub entries_from : ℕ → List ℕ → List ℕ → List Entry × List ℕ
 entries_from zero last bytes = ([], bytes)
-entries_from (suc n) last bytes = if slice_index bytes 0 == 0xa4 then entries_on (entries_from n) last bytes (item_at 1 bytes) else ([], bytes)
+entries_from (suc n) last bytes = if slice_index bytes 0 == 0xa4
+    then entries_on (entries_from n) last bytes (item_at 1 bytes) else ([], bytes)
 
 -- how many bytes follow a head's first byte, whose low five bits are given
 abbrev pub head_size : ℕ → ℕ
-head_size i = if nat_lt i 24 then 0 else (if i == 24 then 1 else (if i == 25 then 2 else (if i == 26 then 4 else 8)))
+head_size i = if nat_lt i 24 then 0
+    else (if i == 24 then 1 else (if i == 25 then 2 else (if i == 26 then 4 else 8)))
 
 abbrev pub link_from : Reading Item → Option (List ℕ)
 link_from (Ok x) = link_or (Some x.0)
 link_from (Err e) = None
 
--- what would be the parts of a node: behind the front of a map, `e` and the head of a list are entries, and behind `l` is a link
+-- what would be the parts of a node: behind the front of a map, `e` and the head of a list are
+-- entries, and behind `l` is a link
 abbrev pub parts_from : List ℕ → Node
-parts_from block =
-    let read = entries_from (length block) [] (drop (4 + head_size (slice_index block 3 - 0x80)) block) in
+parts_from block = let read =
+    entries_from (length block) [] (drop (4 + head_size (slice_index block 3 - 0x80)) block) in
     (link_from (item_at 0 (drop 2 read.1)), read.0)
 
 -- the node that the block encodes
 unfoldable pub node_of : List ℕ → Option Node
-node_of block = let n = parts_from block in if is_node n && bytes_eq (node_bytes n.0 n.1) block then Some n else None
+node_of block = let n = parts_from block in
+    if is_node n && bytes_eq (node_bytes n.0 n.1) block then Some n else None
 
 -- the key of the last entry, behind the key `last`
 abbrev pub key_before : List ℕ → List Entry → List ℕ

@@ -1,5 +1,6 @@
--- What a node is taken from: its pieces at the front of bytes, each with what stands behind it, or nothing where it doesn't stand
--- in front. (That what is taken is exactly what is encoded is proved in proofs/Encoded.antt.)
+-- What a node is taken from: its pieces at the front of bytes, each with what stands behind it, or
+-- nothing where it doesn't stand in front. (That what is taken is exactly what is encoded is proved
+-- in proofs/Encoded.antt.)
 use Rattle.std.specs.Prelude.{◌≡◌, ⊤, ℕ, zero, suc, ◌-◌, Bool, true, false, ◌&&◌, nat_lt, nat_le, if◌then◌else◌, List, [], ◌∷◌, ◌++◌, length, take, drop, Option, Some, None, Result, Ok, Err}
 use Rattle.at_cbor.specs.declared.major.Major.{Major}
 use Rattle.at_cid.specs.Link.{link_at}
@@ -11,7 +12,8 @@ use Rattle.mst_node.specs.declared.fault.NodeFault.{NodeFault}
 use Rattle.mst_node.specs.Nodes.{Node}
 use Rattle.mst_node.specs.Reading.{key_before}
 
--- the parts of an entry: what of its key isn't shared, how much is, the link to the right, and the value
+-- the parts of an entry: what of its key isn't shared, how much is, the link to the right, and the
+-- value
 pub record Parts : Type 0 where
   pub tail : List ℕ
   pub count : ℕ
@@ -19,7 +21,12 @@ pub record Parts : Type 0 where
   pub value : List ℕ
 
 abbrev pub parts_of : List ℕ → ℕ → Option (List ℕ) → List ℕ → Parts
-parts_of tail count right value = record { tail = tail; count = count; right = right; value = value }
+parts_of tail count right value = record {
+  tail = tail;
+  count = count;
+  right = right;
+  value = value;
+}
 
 -- what of an entry's key isn't shared, and how much is
 unfoldable pub key_at : List ℕ → Taking (List ℕ × ℕ)
@@ -63,20 +70,24 @@ goes_above other [] = false
 goes_above [] (y ∷ tail) = true
 goes_above (x ∷ other) (y ∷ tail) = nat_lt x y
 
--- behind the key `last`, so many of its bytes and these others are a key above it, and no more of its bytes are shared
+-- behind the key `last`, so many of its bytes and these others are a key above it, and no more of
+-- its bytes are shared
 abbrev pub may_follow : List ℕ → ℕ → List ℕ → Bool
-may_follow last count tail = nat_le count (length last) && (nat_le (length tail) MOST_KEY_BYTES && (nat_le count (MOST_KEY_BYTES - length tail) && goes_above (drop count last) tail))
+may_follow last count tail = nat_le count (length last) && (nat_le (length tail) MOST_KEY_BYTES
+    && (nat_le count (MOST_KEY_BYTES - length tail) && goes_above (drop count last) tail))
 
 abbrev pub entry_made : List ℕ → Parts → Entry
 entry_made last p = record { key = take p.count last ++ p.tail; value = p.value; right = p.right }
 
 -- the entry behind the key `last`
 unfoldable pub entry_at : List ℕ → List ℕ → Taking Entry
-entry_at last bytes = parts_at bytes >>= λ p. if may_follow last p.0.count p.0.tail then Some (entry_made last p.0, p.1) else None
+entry_at last bytes = parts_at bytes >>= λ p. if may_follow last p.0.count p.0.tail
+    then Some (entry_made last p.0, p.1) else None
 
 -- these entries, and the one behind them
 abbrev pub next_at : List Entry → List ℕ → Taking (List Entry)
-next_at entries bytes = entry_at (key_before [] entries) bytes >>= λ x. Some (entries ++ x.0 ∷ [], x.1)
+next_at entries bytes = entry_at (key_before [] entries) bytes
+    >>= λ x. Some (entries ++ x.0 ∷ [], x.1)
 
 -- so many entries behind the key `last`
 unfoldable pub entries_at : ℕ → List ℕ → List ℕ → Taking (List Entry)

@@ -1,8 +1,9 @@
 //! Reading a node from its block.
 
-ghost use Rattle.std.specs.Prelude.{◌≡◌, Some, None, true, map, IfOk, IfErr};
+ghost use Rattle.std.specs.Prelude.{◌≡◌, ◌≤◌, ◌*◌, Some, None, true, length, map, vec_capacity, IfOk, IfErr};
 ghost use Rattle.std.specs.List.{list_all};
 ghost use Rattle.mst_node.specs.declared.fault.NodeFault as fault;
+ghost use Rattle.mst_node.specs.declared.taking.TheConstants.{FEWEST_ENTRY_BYTES};
 ghost use Rattle.mst_node.specs.Nodes as nodes;
 ghost use Rattle.mst_node.specs.Nodes.{Encodes};
 ghost use Rattle.mst_node.specs.Reading.{node_of};
@@ -23,7 +24,9 @@ pub fn read_parts<E: Keyed + Drop>(
 ) -> Result<(Option<Cid>, Vec<E>), NodeFault>
     ensures told { IfOk result (λ n. node_of block.now ≡ Some (n.0, map E.entry n.1.items)) }
     ensures bare { IfOk result (λ n. list_all E.is_bare n.1.items ≡ true) }
-    ensures none { IfErr result (λ cause. cause ≡ fault.NodeFault.BadNode → node_of block.now ≡ None) }
+    ensures room { IfOk result (λ n. vec_capacity n.1 * FEWEST_ENTRY_BYTES ≤ length block.now) }
+    ensures none { IfErr result
+        (λ cause. cause ≡ fault.NodeFault.BadNode → node_of block.now ≡ None) }
 {
     ghost_bytes(block);
     take_node(alloc, block)
@@ -37,10 +40,12 @@ pub fn read_parts<E: Keyed + Drop>(
 #[tactic(auto, using(crate::proofs::Readers::told_encodes, crate::proofs::Readers::none_encodes, crate::proofs::Rounds::entries_same))]
 pub fn read_node(alloc: Global, block: &[u8]) -> Result<Node, NodeFault>
     ensures node { IfOk result (λ node. Encodes block.now node) }
-    ensures bad { IfErr result (λ cause. cause ≡ fault.NodeFault.BadNode → (n : nodes.Node) → Encodes block.now n → ⊥) }
+    ensures bad { IfErr result
+        (λ cause. cause ≡ fault.NodeFault.BadNode → (n : nodes.Node) → Encodes block.now n → ⊥) }
     // The same by the one node that is told from a block.
     ensures told { IfOk result (λ node. node_of block.now ≡ Some node) }
-    ensures none { IfErr result (λ cause. cause ≡ fault.NodeFault.BadNode → node_of block.now ≡ None) }
+    ensures none { IfErr result
+        (λ cause. cause ≡ fault.NodeFault.BadNode → node_of block.now ≡ None) }
 {
     let (left, entries) = read_parts(alloc, block)?;
     Ok(Node {

@@ -1,11 +1,12 @@
 //! The parts of a node, taken from its block from left to right.
 
-ghost use Rattle.std.specs.Prelude.{◌≡◌, ◌≤◌, ◌∷◌, ◌++◌, [], Some, true, length, map, take, option_map, IfOk, OnOk, IfSome, IsSome};
+ghost use Rattle.std.specs.Prelude.{◌≡◌, ◌<◌, ◌≤◌, ◌+◌, ◌*◌, ◌/◌, ◌∷◌, ◌++◌, [], Some, true, length, map, min, take, option_map, vec_len, vec_capacity, IfOk, OnOk, IfSome, IsSome};
 ghost use Rattle.mst_node.specs.Nodes.{entry_with};
 ghost use Rattle.std.specs.List.{list_all};
 ghost use Rattle.at_cid.specs.Link.{link_at};
 ghost use Rattle.at_cbor.specs.Taking.{child_at};
 ghost use Rattle.mst_node.specs.Reading.{key_before};
+ghost use Rattle.mst_node.specs.declared.taking.TheConstants.{FEWEST_ENTRY_BYTES};
 ghost use Rattle.mst_node.specs.Taking.{IsTaken, key_at, right_at, value_at, goes_above, link_of, value_in, may_follow, next_at, entries_at, front_at, end_at, node_at};
 
 use crate::fault::NodeFault;
@@ -49,7 +50,8 @@ fn take_key(bytes: &[u8]) -> Option<(&[u8], usize, &[u8])>
 #[tactic(auto, unfolding(at_cbor::specs::Taking::child_at, at_cbor::specs::Taking::link_from_front))]
 #[inline(always)]
 fn find_child(bytes: &[u8]) -> Option<(Option<&[u8]>, &[u8])>
-    ensures taken { option_map (λ x. (link_of (option_map (λ front. front.now) x.0), x.1.now)) result ≡ child_at bytes.now }
+    ensures taken { option_map (λ x. (link_of (option_map (λ front. front.now) x.0), x.1.now))
+        result ≡ child_at bytes.now }
     ensures there { IfSome result (λ x. IfSome x.0 (λ front. IsSome (link_at front.now))) }
 {
     let [first, behind_null @ ..] = bytes else {
@@ -73,7 +75,8 @@ fn find_child(bytes: &[u8]) -> Option<(Option<&[u8]>, &[u8])>
 /// What begins with the link to the right of an entry, where there is one, and the bytes behind.
 #[inline(always)]
 fn find_right(bytes: &[u8]) -> Option<(Option<&[u8]>, &[u8])>
-    ensures taken { option_map (λ x. (link_of (option_map (λ front. front.now) x.0), x.1.now)) result ≡ right_at bytes.now }
+    ensures taken { option_map (λ x. (link_of (option_map (λ front. front.now) x.0), x.1.now))
+        result ≡ right_at bytes.now }
     ensures there { IfSome result (λ x. IfSome x.0 (λ front. IsSome (link_at front.now))) }
 {
     let Some(rest) = take_behind(&[0x61, b't'], bytes) else {
@@ -119,12 +122,28 @@ pub(crate) fn last_key<E: Keyed>(entries: &[E]) -> &[u8]
 #[inline(always)]
 fn short_key<E: Keyed>(entries: &[E], count: usize, tail: &[u8]) -> Option<KeyBytes>
     requires { count ≤ length (key_before [] (map E.entry entries.now)) }
-    ensures { IfSome result (λ key. key ≡ take count (key_before [] (map E.entry entries.now)) ++ tail.now) }
+    ensures { IfSome result
+        (λ key. key ≡ take count (key_before [] (map E.entry entries.now)) ++ tail.now) }
 {
     match entries.last() {
         Some(entry) => entry.key().going_on(count, tail),
         None => None,
     }
+}
+
+/// Room for one more entry, where there is none.
+#[inline(always)]
+fn make_room<E>(entries: &mut Vec<E>) -> Result<(), Memory>
+    ensures items { entries.new.items ≡ entries.old.items }
+    ensures len { vec_len entries.new ≡ vec_len entries.old }
+    ensures room { OnOk result (vec_len entries.new < vec_capacity entries.new) }
+    ensures kept { vec_len entries.old < vec_capacity entries.old
+        → vec_capacity entries.new ≡ vec_capacity entries.old }
+{
+    if entries.len() == entries.capacity() {
+        entries.reserve(1)?;
+    }
+    Ok(())
 }
 
 /// Adds an entry with a key, a value, and what begins with the link to its right, where there is one.
@@ -136,10 +155,15 @@ fn push_keyed<E: Keyed + Drop>(
     right: Option<&[u8]>,
 ) -> Result<(), Memory>
     requires { IfSome right (λ front. IsSome (link_at front.now)) }
-    ensures pushed { OnOk result (map E.entry entries.new.items ≡ map E.entry entries.old.items ++ entry_with key value (link_of (option_map (λ front. front.now) right.entry)) ∷ []) }
-    ensures bare { list_all E.is_bare entries.old.items ≡ true → list_all E.is_bare entries.new.items ≡ true }
+    ensures pushed { OnOk result (map E.entry entries.new.items ≡ map E.entry entries.old.items
+        ++ entry_with key value (link_of (option_map (λ front. front.now) right.entry)) ∷ []) }
+    ensures bare { list_all E.is_bare entries.old.items ≡ true
+        → list_all E.is_bare entries.new.items ≡ true }
+    ensures one { OnOk result (vec_len entries.new ≡ vec_len entries.old + 1) }
+    ensures kept { vec_len entries.old < vec_capacity entries.old
+        → OnOk result (vec_capacity entries.new ≡ vec_capacity entries.old) }
 {
-    entries.reserve(1)?;
+    make_room(entries)?;
     let Some(front) = right else {
         entries.push_reserved(E::of(key, value, None));
         return Ok(());
@@ -158,8 +182,13 @@ fn push_entry<'a, E: Keyed + Drop>(
     entries: &mut Vec<E>,
     bytes: &'a [u8],
 ) -> Result<&'a [u8], NodeFault>
-    ensures taken { IsTaken (λ rest. (map E.entry entries.new.items, rest.now)) result (next_at (map E.entry entries.old.items) bytes.now) }
-    ensures bare { list_all E.is_bare entries.old.items ≡ true → list_all E.is_bare entries.new.items ≡ true }
+    ensures taken { IsTaken (λ rest. (map E.entry entries.new.items, rest.now)) result
+        (next_at (map E.entry entries.old.items) bytes.now) }
+    ensures bare { list_all E.is_bare entries.old.items ≡ true
+        → list_all E.is_bare entries.new.items ≡ true }
+    ensures one { OnOk result (vec_len entries.new ≡ vec_len entries.old + 1) }
+    ensures kept { vec_len entries.old < vec_capacity entries.old
+        → OnOk result (vec_capacity entries.new ≡ vec_capacity entries.old) }
 {
     let Some((tail, count, rest)) = take_key(bytes) else {
         return Err(NodeFault::BadNode);
@@ -190,17 +219,29 @@ fn push_entry<'a, E: Keyed + Drop>(
 /// The fewest bytes of an entry: its map with four names, a key of one byte, 0, null and a link.
 const FEWEST_ENTRY_BYTES: usize = 54;
 
-/// So many entries at the front. A claimed count takes no more room than the bytes can hold entries.
+/// No entries, with room for so many, or for as many as the bytes can hold where those are fewer.
+fn entries_room<E>(alloc: Global, count: usize, bytes: &[u8]) -> Result<Vec<E>, Memory>
+    ensures none { IfOk result (λ entries. entries.items ≡ []) }
+    ensures len { IfOk result (λ entries. vec_len entries ≡ 0) }
+    ensures room { IfOk result (λ entries. vec_capacity entries
+        ≡ min count (length bytes.now / FEWEST_ENTRY_BYTES)) }
+{
+    let entries = Vec::with_capacity(alloc, count.min(bytes.len() / FEWEST_ENTRY_BYTES))?;
+    Ok(entries)
+}
+
+/// So many entries at the front. Whatever count is claimed, there is no more room for them than the bytes can hold.
 fn take_entries<E: Keyed + Drop>(
     alloc: Global,
     count: usize,
     bytes: &[u8],
 ) -> Result<(Vec<E>, &[u8]), NodeFault>
-    ensures taken { IsTaken (λ x. (map E.entry x.0.items, x.1.now)) result (entries_at count [] bytes.now) }
+    ensures taken { IsTaken (λ x. (map E.entry x.0.items, x.1.now)) result
+        (entries_at count [] bytes.now) }
     ensures bare { IfOk result (λ x. list_all E.is_bare x.0.items ≡ true) }
+    ensures room { IfOk result (λ x. vec_capacity x.0 * FEWEST_ENTRY_BYTES ≤ length bytes.now) }
 {
-    let room = count.min(bytes.len() / FEWEST_ENTRY_BYTES);
-    let mut entries = Vec::with_capacity(alloc, room)?;
+    let mut entries = entries_room(alloc, count, bytes)?;
     let mut rest = bytes;
     'entries: for _ in 0..count {
         rest = push_entry(alloc, &mut entries, rest)?;
@@ -237,6 +278,7 @@ pub(crate) fn take_node<E: Keyed + Drop>(
 ) -> Result<(Option<Cid>, Vec<E>), NodeFault>
     ensures taken { IsTaken (λ x. (x.0, map E.entry x.1.items)) result (node_at block.now) }
     ensures bare { IfOk result (λ x. list_all E.is_bare x.1.items ≡ true) }
+    ensures room { IfOk result (λ x. vec_capacity x.1 * FEWEST_ENTRY_BYTES ≤ length block.now) }
 {
     let Some((count, rest)) = take_front(block) else {
         return Err(NodeFault::BadNode);

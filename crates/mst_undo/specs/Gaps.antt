@@ -31,7 +31,8 @@ first_with (suc n) x first = first
 abbrev pub parts_with : ℕ → Below → List Part → List Part
 parts_with zero x parts = parts
 parts_with (suc n) x [] = []
-parts_with (suc n) x (p ∷ parts) = record { key = p.key; value = p.value; below = first_with n x p.below } ∷ parts_with n x parts
+parts_with (suc n) x (p ∷ parts) =
+    record { key = p.key; value = p.value; below = first_with n x p.below } ∷ parts_with n x parts
 
 -- f' and ps' are f and ps with x in a gap
 pub record IsFilled (n : ℕ) (x f : Below) (ps : List Part) (f' : Below)

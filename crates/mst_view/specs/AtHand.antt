@@ -15,4 +15,5 @@ is_marked marks link = slice_index_or marks (place_of link) false
 
 -- there is one for each link that has a block
 abbrev pub AreMarked : List Bool → BlockMap → Type 0
-AreMarked marks blocks = (link block : List ℕ) → map.get blocks link ≡ Some block → is_marked marks link ≡ true
+AreMarked marks blocks = (link block : List ℕ)
+    → map.get blocks link ≡ Some block → is_marked marks link ≡ true

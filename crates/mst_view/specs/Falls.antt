@@ -15,4 +15,5 @@ below_falls h (Tree b) l = let low = l.0 in omega arith
 
 pub parts_fall : (h : ℕ) (parts : List Part) → AllAt h parts → most deep-Part parts ≤ h
 parts_fall h [] l = omega arith
-parts_fall h (p ∷ parts) l = let one = below_falls h p.below l.1 in let rest = parts_fall h parts l.2 in omega arith
+parts_fall h (p ∷ parts) l = let one = below_falls h p.below l.1 in
+    let rest = parts_fall h parts l.2 in omega arith

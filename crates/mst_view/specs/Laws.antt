@@ -17,8 +17,10 @@ pub record IsToldView (B : FinMap key_cmp (List ℕ)) (r : List ℕ) : Type 0 wh
   pub one_fault : (c d : List ℕ) → IsAtFault B r c → IsAtFault B r d → c ≡ d
 
 abbrev pub ViewLaw : Type 0
-ViewLaw = (B : FinMap key_cmp (List ℕ)) (r b : List ℕ) → AreUnderNodeLinks B → IsNodeLink r → map.get B r ≡ Some b → IsToldView B r
+ViewLaw = (B : FinMap key_cmp (List ℕ)) (r b : List ℕ) → AreUnderNodeLinks B
+    → IsNodeLink r → map.get B r ≡ Some b → IsToldView B r
 
 -- A view has at most as many nodes as there are blocks.
 abbrev pub ViewSizeLaw : Type 0
-ViewSizeLaw = (B : FinMap key_cmp (List ℕ)) (r : List ℕ) (F : List Item) → IsView B r F → length (nodes F) ≤ map.len B
+ViewSizeLaw = (B : FinMap key_cmp (List ℕ)) (r : List ℕ) (F : List Item)
+    → IsView B r F → length (nodes F) ≤ map.len B

@@ -44,7 +44,8 @@ abbrev pub IsKept : Layered → Option (List ℕ) → Type 0
 IsKept v None = Unit {0}
 IsKept v (Some c) = c ≡ cid (encode_layer v.layer v.items)
 
-pub record IsLayered (h : ℕ) (kept : Option (List ℕ)) (first : Below) (parts : List Part) : Type 0 where
+pub record IsLayered (h : ℕ) (kept : Option (List ℕ))
+    (first : Below) (parts : List Part) : Type 0 where
   pub first_lies : LiesBelow h first
   pub all_at : AllAt h parts
   pub kept_is : IsKept (layered h first parts) kept

@@ -19,4 +19,5 @@ with_front front r = go_on r (λ G. Ok (front ++ G))
 -- the entries stand at layer h, and where it is 0 nothing hangs below
 abbrev pub AllHang : ℕ → List Entry → Type 0
 AllHang h [] = Unit {0}
-AllHang h (e ∷ es) = ((height e.key ≡ h) × IsChildLink e.right × (h ≡ 0 → e.right ≡ None)) × AllHang h es
+AllHang h (e ∷ es) =
+    ((height e.key ≡ h) × IsChildLink e.right × (h ≡ 0 → e.right ≡ None)) × AllHang h es

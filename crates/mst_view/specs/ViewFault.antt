@@ -14,7 +14,8 @@ use Rattle.mst_view.specs.declared.viewing.ViewFault.{ViewFault}
 abbrev pub HasDoubledHole : FinMap key_cmp (List ℕ) → List ℕ → Type 0
 HasDoubledHole B r = (F : List Item) × IsWalk B r F × (HolesDiffer F → ⊥)
 
--- the link is that of the first block at fault, parents first and left to right, or the root where a hole's link stands twice
+-- the link is that of the first block at fault, parents first and left to right, or the root where
+-- a hole's link stands twice
 abbrev pub IsAtFault : FinMap key_cmp (List ℕ) → List ℕ → List ℕ → Type 0
 IsAtFault B r c = IsFirstTopFault in_part B r c ⊎ ((c ≡ r) × HasDoubledHole B r)
 

@@ -16,7 +16,8 @@ use std::alloc::Global;
 #[inline]
 fn words_below(layer: u8, below: &Below, words: &mut Vec<u64>) -> Result<(), Memory>
     requires { LiesBelow layer below.now }
-    ensures { OnOk result (words.new.items ≡ words.old.items ++ map first_word (hole_links (below_items layer below.now))) }
+    ensures { OnOk result (words.new.items ≡ words.old.items
+        ++ map first_word (hole_links (below_items layer below.now))) }
 {
     match below {
         Below::Empty => Ok(()),
@@ -31,7 +32,8 @@ fn words_below(layer: u8, below: &Below, words: &mut Vec<u64>) -> Result<(), Mem
 /// Puts the numbers that the links of a node's holes begin with at the end of a list.
 #[cycle(words)]
 fn words_of(branch: &Branch, words: &mut Vec<u64>) -> Result<(), Memory>
-    ensures { OnOk result (words.new.items ≡ words.old.items ++ map first_word (hole_links branch.now.items)) }
+    ensures { OnOk result
+        (words.new.items ≡ words.old.items ++ map first_word (hole_links branch.now.items)) }
 {
     words_below(branch.layer, &branch.first, words)?;
     for part in &branch.rest {
@@ -76,7 +78,8 @@ fn differ(words: &[u64]) -> bool
 /// Whether no link of a node's holes begins as another, so that none stands twice: of few numbers that they begin with, each is
 /// looked for by its mark, and many are put in order, which is faster than comparing links.
 pub(crate) fn begin_apart(alloc: Global, branch: &Branch) -> Result<bool, Memory>
-    ensures { IfOk result (λ apart. apart ≡ true → all_differ bytes_eq (hole_links branch.now.items) ≡ true) }
+    ensures { IfOk result
+        (λ apart. apart ≡ true → all_differ bytes_eq (hole_links branch.now.items) ≡ true) }
 {
     let mut words = Vec::with_capacity(alloc, FEW)?;
     words_of(branch, &mut words)?;

@@ -16,7 +16,8 @@ pub(crate) const PIECE: usize = 1 << 14;
 pub(crate) fn hand_over(room: &mut Octets, start: usize, hash: &mut Sha256)
     requires { start ≤ length room.old }
     ensures room { room.new ≡ take start room.old }
-    ensures hash { (given : List ℕ) → Holds256 hash.old given → Holds256 hash.new (given ++ drop start room.old) }
+    ensures hash { (given : List ℕ) → Holds256 hash.old given
+        → Holds256 hash.new (given ++ drop start room.old) }
 {
     hash.update(room.as_slice().split_at(start).1);
     room.truncate(start);

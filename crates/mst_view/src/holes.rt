@@ -15,7 +15,8 @@ use std::collections::BTreeSet;
 #[cycle(holes)]
 fn links_below(layer: u8, below: &Below, links: &mut Vec<Cid>) -> Result<(), Memory>
     requires { LiesBelow layer below.now }
-    ensures { OnOk result (links.new.items ≡ links.old.items ++ hole_links (below_items layer below.now)) }
+    ensures { OnOk result
+        (links.new.items ≡ links.old.items ++ hole_links (below_items layer below.now)) }
 {
     match below {
         Below::Empty => Ok(()),

@@ -46,7 +46,8 @@ impl Branch {
     // The same. What is encoded lies behind what the room holds, and is cut off again: so the blocks of the nodes below are
     // encoded behind the part of this node's block that is there. Mostly that is the whole block, which is hashed at once.
     fn link_behind(&self, room: &mut Octets) -> Result<Cid, Memory>
-        ensures link { IfOk result (λ link. link ≡ cid (encode_layer self.now.layer self.now.items)) }
+        ensures link { IfOk result
+            (λ link. link ≡ cid (encode_layer self.now.layer self.now.items)) }
         ensures room { OnOk result (room.new ≡ room.old) }
     {
         if let Some(link) = self.link {

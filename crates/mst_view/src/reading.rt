@@ -68,7 +68,9 @@ fn read_below(
 ) -> Result<Below, ReadFault>
     requires kind { IsChildLink link.now }
     requires lowest { layer ≡ 0 → link.now ≡ None }
-    ensures gives { Gives (below_items layer) link_at_fault result (part_at in_part node_of blocks.now layer (option_map (λ k. k.now) low.entry) (option_map (λ k. k.now) high.entry) link.now) }
+    ensures gives { Gives (below_items layer) link_at_fault result
+        (part_at in_part node_of blocks.now layer (option_map (λ k. k.now) low.entry)
+        (option_map (λ k. k.now) high.entry) link.now) }
     ensures lies { IfOk result (LiesBelow layer) }
     ensures keeps { IfOk result (λ below. below_link below ≡ link.now) }
 {
@@ -96,7 +98,9 @@ fn read_tree(
     requires above { 0 < layer }
     requires linked { AreLinked blocks.now }
     requires there { map.get blocks.now link ≡ Some block.now }
-    ensures gives { Gives (below_items layer) link_at_fault result (part_at in_part node_of blocks.now layer (option_map (λ k. k.now) low.entry) (option_map (λ k. k.now) high.entry) (Some link)) }
+    ensures gives { Gives (below_items layer) link_at_fault result
+        (part_at in_part node_of blocks.now layer (option_map (λ k. k.now) low.entry)
+        (option_map (λ k. k.now) high.entry) (Some link)) }
     ensures lies { IfOk result (LiesBelow layer) }
     ensures keeps { IfOk result (λ below. below_link below ≡ Some link) }
 {
@@ -124,7 +128,9 @@ fn read_rights(
 ) -> Result<(), ReadFault>
     requires hang { AllHang layer (entries_of rest.old.items) }
     requires bare { list_all is_bare rest.old.items ≡ true }
-    ensures gives { Gives (λ _. rest_items layer rest.new.items) link_at_fault result (rights_of (part_at in_part node_of blocks.now layer) (option_map (λ k. k.now) high.entry) (entries_of rest.old.items)) }
+    ensures gives { Gives (λ _. rest_items layer rest.new.items) link_at_fault result
+        (rights_of (part_at in_part node_of blocks.now layer)
+        (option_map (λ k. k.now) high.entry) (entries_of rest.old.items)) }
     ensures at { OnOk result (AllAt layer rest.new.items) }
     ensures keeps { OnOk result (entries_of rest.new.items ≡ entries_of rest.old.items) }
 {
@@ -166,7 +172,9 @@ pub(crate) fn read_branch(
     requires hang { AllHang layer (entries_of parts.items) }
     requires bare { list_all is_bare parts.items ≡ true }
     requires link_is { link ≡ cid (node_bytes left (entries_of parts.items)) }
-    ensures gives { Gives (λ branch. branch.items) link_at_fault result (parts_of (part_at in_part node_of blocks.now layer) (option_map (λ k. k.now) low.entry) (option_map (λ k. k.now) high.entry) (left, entries_of parts.items)) }
+    ensures gives { Gives (λ branch. branch.items) link_at_fault result
+        (parts_of (part_at in_part node_of blocks.now layer) (option_map (λ k. k.now) low.entry)
+        (option_map (λ k. k.now) high.entry) (left, entries_of parts.items)) }
     ensures layer { IfOk result (λ branch. branch.layer ≡ layer) }
     ensures link { IfOk result (λ branch. cid (encode_layer branch.layer branch.items) ≡ link) }
     ensures at { is_some_node (left, entries_of parts.items) ≡ true → IfOk result IsAtLayer }

@@ -61,7 +61,8 @@ fn view_parts(
     requires layer { layer ≡ layer_of (entries_of parts.items) }
     requires bare { list_all is_bare parts.items ≡ true }
     requires fits { top_fits (left, entries_of parts.items) ≡ true }
-    requires there { (block : List ℕ) × (map.get blocks.now root ≡ Some block) × (node_of block ≡ Some (left, entries_of parts.items)) }
+    requires there { (block : List ℕ) × (map.get blocks.now root ≡ Some block)
+        × (node_of block ≡ Some (left, entries_of parts.items)) }
     ensures view { IfOk result (λ tree. IsView blocks.now root tree) }
     ensures fault { IfErr result (λ fault. IsViewFault blocks.now root fault) }
 {

@@ -37,7 +37,8 @@ fault_of B CountFault.Memory = WalkFault.Memory
 
 -- the same over what was kept of the blocks
 abbrev pub kept_fault_of : Kept → CountFault → WalkFault
-kept_fault_of kept (CountFault.At c) = fault_in c (is_some (map.get kept.nodes c) || has kept.others c)
+kept_fault_of kept (CountFault.At c) =
+    fault_in c (is_some (map.get kept.nodes c) || has kept.others c)
 kept_fault_of kept CountFault.Memory = WalkFault.Memory
 
 -- the number of keys, or the fault at the link that is named

@@ -1,4 +1,5 @@
--- What a walk of a whole tree answers. (Repository specification, MST structure: a whole tree has each of its nodes at hand.)
+-- What a walk of a whole tree answers. (Repository specification, MST structure: a whole tree has
+-- each of its nodes at hand.)
 use Rattle.std.specs.Prelude.{◌≡◌, ℕ, Bool, is_some, List, length, Option, Some, None, Result, Ok, Err}
 use Rattle.std.specs.FinMap as map
 use Rattle.std.specs.FinMap.{FinMap}
@@ -15,11 +16,12 @@ use Rattle.mst_whole.specs.declared.walking.WalkFault.{WalkFault}
 abbrev pub HasKeys : FinMap key_cmp (List ℕ) → List ℕ → ℕ → Type 0
 HasKeys B r n = (F : List Item) × IsView B r F × KeysOnly F × (n ≡ length F)
 
--- the first fault of the whole tree at r, parents before what hangs below them and from left to right, is a block that isn't
--- there, or one that is and is no node that may stand at its place
+-- the first fault of the whole tree at r, parents before what hangs below them and from left to
+-- right, is a block that isn't there, or one that is and is no node that may stand at its place
 abbrev pub IsWalkFault : FinMap key_cmp (List ℕ) → List ℕ → WalkFault → Type 0
 IsWalkFault B r (WalkFault.NoBlock c) = (map.get B c ≡ None) × IsFirstTopFault in_whole B r c
-IsWalkFault B r (WalkFault.BadNode c) = ((b : List ℕ) × (map.get B c ≡ Some b)) × IsFirstTopFault in_whole B r c
+IsWalkFault B r (WalkFault.BadNode c) =
+    ((b : List ℕ) × (map.get B c ≡ Some b)) × IsFirstTopFault in_whole B r c
 IsWalkFault B r WalkFault.Memory = Unit {0}
 
 -- what a walk answers, but for running out of memory
@@ -37,7 +39,8 @@ cause_of WalkFault.Memory = None
 
 -- the result is the answer of the walk, whichever that is, unless memory ran out
 abbrev pub WalksExactly : FinMap key_cmp (List ℕ) → List ℕ → Result ℕ WalkFault → Type 0
-WalksExactly B r result = (answer : Result ℕ WalkFault) → IsWalked B r answer → Gives (λ n. n) cause_of result answer
+WalksExactly B r result = (answer : Result ℕ WalkFault)
+    → IsWalked B r answer → Gives (λ n. n) cause_of result answer
 
 -- the block is that of a node
 abbrev pub is_node_block : List ℕ → Bool

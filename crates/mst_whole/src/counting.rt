@@ -43,7 +43,8 @@ fn count_below(
     high: Option<&[u8]>,
     link: Option<Cid>,
 ) -> Result<u64, CountFault>
-    ensures gives { Gives (λ n. n) link_at_fault result (count (part_at in_whole node_of blocks.now layer (option_map (λ k. k.now) low.entry) (option_map (λ k. k.now) high.entry) link)) }
+    ensures gives { Gives (λ n. n) link_at_fault result (count (part_at in_whole node_of blocks.now
+        layer (option_map (λ k. k.now) low.entry) (option_map (λ k. k.now) high.entry) link)) }
     ensures most { IfOk result (λ n. n < NUMBERS) }
 {
     if layer == 0 {
@@ -84,7 +85,9 @@ fn count_rest(
     high: Option<&[u8]>,
     entries: &[Entry],
 ) -> Result<u64, CountFault>
-    ensures gives { Gives (λ n. n) link_at_fault result (count (rights_of (part_at in_whole node_of blocks.now layer) (option_map (λ k. k.now) high.entry) entries.now)) }
+    ensures gives { Gives (λ n. n) link_at_fault result
+        (count (rights_of (part_at in_whole node_of blocks.now layer)
+        (option_map (λ k. k.now) high.entry) entries.now)) }
     ensures most { IfOk result (λ n. n < NUMBERS) }
 {
     let mut keys = 0;
@@ -117,7 +120,9 @@ fn count_parts(
     left: Option<Cid>,
     entries: &[Entry],
 ) -> Result<u64, CountFault>
-    ensures gives { Gives (λ n. n) link_at_fault result (count (parts_of (part_at in_whole node_of blocks.now layer) (option_map (λ k. k.now) low.entry) (option_map (λ k. k.now) high.entry) (left, entries.now))) }
+    ensures gives { Gives (λ n. n) link_at_fault result (count
+        (parts_of (part_at in_whole node_of blocks.now layer) (option_map (λ k. k.now) low.entry)
+        (option_map (λ k. k.now) high.entry) (left, entries.now))) }
     ensures most { IfOk result (λ n. n < NUMBERS) }
 {
     let first = count_below(alloc, blocks, layer, low, next_key(high, entries), left)?;

@@ -47,7 +47,8 @@ impl Sieve for NodeSieve {
 
 /// The fault at a link: its block isn't there, or is a bad node.
 fn kept_fault(kept: &Kept, link: Cid) -> WalkFault
-    ensures { result ≡ fault_in link (is_some (map.get kept.now.nodes link) || has kept.now.others link) }
+    ensures { result ≡ fault_in link
+        (is_some (map.get kept.now.nodes link) || has kept.now.others link) }
 {
     if kept.nodes.get(&link).is_some() || kept.others.contains(&link) {
         WalkFault::BadNode(link)
@@ -67,7 +68,8 @@ fn fault_of(kept: &Kept, fault: CountFault) -> WalkFault
 }
 
 fn walk_at(alloc: Global, kept: &Kept, root: Cid) -> Result<u64, WalkFault>
-    ensures walked { (blocks : BlockMap) → IsKeptOf is_node_block blocks kept.now → Gives (λ n. n) cause_of result (walked blocks root) }
+    ensures walked { (blocks : BlockMap) → IsKeptOf is_node_block blocks kept.now
+        → Gives (λ n. n) cause_of result (walked blocks root) }
     ensures nodes { IfOk result (λ n. walked kept.now.nodes root ≡ Ok n) }
     ensures most { IfOk result (λ n. n < NUMBERS) }
 {
@@ -79,9 +81,12 @@ fn walk_at(alloc: Global, kept: &Kept, root: Cid) -> Result<u64, WalkFault>
 
 /// What [`crate::walk`] answers on all the blocks of which this is kept by a [`NodeSieve`].
 pub fn walk_kept(alloc: Global, kept: &Kept, root: &Cid) -> Result<u64, WalkFault>
-    ensures whole { (blocks : BlockMap) → IsKeptOf is_node_block blocks kept.now → IsNodeLink root.now → IfOk result (HasKeys blocks root.now) }
-    ensures fault { (blocks : BlockMap) → IsKeptOf is_node_block blocks kept.now → IfErr result (IsWalkFault blocks root.now) }
-    ensures exact { (blocks : BlockMap) → IsKeptOf is_node_block blocks kept.now → WalksExactly blocks root.now result }
+    ensures whole { (blocks : BlockMap) → IsKeptOf is_node_block blocks kept.now
+        → IsNodeLink root.now → IfOk result (HasKeys blocks root.now) }
+    ensures fault { (blocks : BlockMap) → IsKeptOf is_node_block blocks kept.now
+        → IfErr result (IsWalkFault blocks root.now) }
+    ensures exact { (blocks : BlockMap) → IsKeptOf is_node_block blocks kept.now
+        → WalksExactly blocks root.now result }
     ensures most { IfOk result (λ n. n < NUMBERS) }
 {
     kept.nodes.ghost_linked();

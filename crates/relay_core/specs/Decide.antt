@@ -25,12 +25,14 @@ use Rattle.relay_core.specs.declared.decision.Decision.{Decision}
 use Rattle.relay_core.specs.declared.decision.Pass.{Pass}
 use Rattle.relay_core.specs.declared.limits.TheConstants.{FETCHED_AHEAD, FETCHED_UNSIGNED}
 
--- What opening and linking say: functions of the event, and of what is known of its account's repository.
+-- What opening and linking say: functions of the event, and of what is known of its account's
+-- repository.
 pub record Checks : Type 0 where
   pub opens : Seen → Option ℕ → Result Head Refusal
   pub links : Seen → Repo → Option Refusal
 
--- what a fetch finds, before it has a number: no repository, one that is refused, or a head, how many records there are, and the commit's block
+-- what a fetch finds, before it has a number: no repository, one that is refused, or a head, how
+-- many records there are, and the commit's block
 pub data Found : Type 0 where
   absent : Found
   unfit : ℕ → Found
@@ -51,7 +53,8 @@ commit_blocks head block = map.insert map.empty head.commit block
 abbrev pub commit_car : Head → List ℕ → List ℕ
 commit_car head block = written head.commit (commit_blocks head block)
 
--- A repository whose blocks were found in order: its revision is far ahead of the moment, which is told first, or its signature is bad, or it is taken over.
+-- A repository whose blocks were found in order: its revision is far ahead of the moment, which is
+-- told first, or its signature is bad, or it is taken over.
 abbrev pub judged : ℕ → Bool → Head → ℕ → List ℕ → Found
 judged moment good head records block =
     if is_ahead head.rev (Some moment) then unfit FETCHED_AHEAD
@@ -64,7 +67,12 @@ sync_message did time head block n = event_message EventKind.Sync
 
 -- a repository that is taken over, under a number
 abbrev pub whole_under : List ℕ → List ℕ → Head → ℕ → List ℕ → ℕ → Whole
-whole_under did time head records block n = record { seq = n; head = head; records = records; message = sync_message did time head block n }
+whole_under did time head records block n = record {
+  seq = n;
+  head = head;
+  records = records;
+  message = sync_message did time head block n;
+}
 
 -- what was found, under the number behind the last one
 abbrev pub fetched_as : ℕ → Seen → Found → Fetched
@@ -115,8 +123,16 @@ refusal_of checks a e o = first_refusal (event_lines a e (answers checks 0 a e o
 
 -- what is decided of an event whose first refusal is this
 abbrev pub decision_for : State → Body → Found → Option Refusal → Decision
-decision_for a body f None = record { refusal = None; held = is_held a body; gives = not (is_held a body) }
-decision_for a body f (Some r) = record { refusal = Some r; held = false; gives = if loses (code_of r) then is_found f else false }
+decision_for a body f None = record {
+  refusal = None;
+  held = is_held a body;
+  gives = not (is_held a body);
+}
+decision_for a body f (Some r) = record {
+  refusal = Some r;
+  held = false;
+  gives = if loses (code_of r) then is_found f else false;
+}
 
 -- the row of an event that stands above the cursor
 abbrev pub decided_event : Checks → ℕ → State → List ℕ → Seen → Outside → Taken

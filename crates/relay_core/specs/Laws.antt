@@ -43,7 +43,8 @@ abbrev pub AsksOnce : Type 0
 AsksOnce = (cursor : ℕ) (a : State) (frame : Frame) (x : Answers) (q : Question)
     → next_of cursor a frame x ≡ Next.Ask q → is_open q x ≡ true
 
--- With all answers, an event above its host's cursor is decided by the first refusal of the table that applies.
+-- With all answers, an event above its host's cursor is decided by the first refusal of the table
+-- that applies.
 abbrev pub NextDecides : Type 0
 NextDecides = (checks : Checks) (last cursor : ℕ) (a : State) (e : Seen) (o : Outside)
     → nat_le e.seq cursor ≡ false
@@ -67,7 +68,8 @@ abbrev pub WorldsRun : Type 0
 WorldsRun = (checks : Checks) (w : World) (J : List Row) (messages : List Message) (rows : List Row)
     → RunIn checks w J messages rows → Run checks J messages rows
 
--- A ready commit whose home and signature are good is accepted, under the next number; else one of the two is told.
+-- A ready commit whose home and signature are good is accepted, under the next number; else one of
+-- the two is told.
 abbrev pub ReadyDecides : Type 0
 ReadyDecides = (checks : Checks) (J : List Row) (host : List ℕ) (e : Seen) (o : Outside)
     → IsReady checks J host e o.moment

@@ -1,4 +1,5 @@
--- The right answers to opening an event: the first refusal that it shows by itself, or the head that its blocks give its repository.
+-- The right answers to opening an event: the first refusal that it shows by itself, or the head
+-- that its blocks give its repository.
 use Rattle.std.specs.Prelude.{◌≡◌, ℕ, List, Option, None, Ok}
 use Rattle.at_car.specs.Car.{car_of}
 use Rattle.at_commit.specs.declared.commit.Commit.{Commit}

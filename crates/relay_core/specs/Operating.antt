@@ -21,7 +21,13 @@ operated_message a false did time n = event_message EventKind.Account
     (account_payload did a.active a.status time n)
 
 abbrev pub operated_as : ℕ → State → List ℕ → Bool → List ℕ → Option ℕ → Operated
-operated_as last a did down time moment = record { did = did; down = down; seq = last + 1; message = operated_message a down did time (last + 1); moment = moment }
+operated_as last a did down time moment = record {
+  did = did;
+  down = down;
+  seq = last + 1;
+  message = operated_message a down did time (last + 1);
+  moment = moment;
+}
 
 -- a repository is fetched for an account that is active and not down
 abbrev pub sync_refusal : State → Option Refusal

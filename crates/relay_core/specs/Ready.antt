@@ -12,7 +12,9 @@ use Rattle.relay_core.specs.Decide.{Checks}
 use Rattle.relay_core.specs.Table.{is_ahead}
 use Rattle.relay_core.specs.declared.limits.TheConstants.{LONGEST_MESSAGE}
 
--- Behind the journal J, a host's commit event stands above the host's cursor; its account is active and not down; the commit opens, isn't ahead of the moment, and follows what is known of its repository.
+-- Behind the journal J, a host's commit event stands above the host's cursor; its account is active
+-- and not down; the commit opens, isn't ahead of the moment, and follows what is known of its
+-- repository.
 pub record IsReady (checks : Checks) (J : List Row) (host : List ℕ) (e : Seen)
     (moment : ℕ) : Type 0 where
   pub commit : CommitEvent

@@ -1,4 +1,5 @@
--- What is said of a run: a line for each message, and one at the end (own). Links are their texts, numbers are decimal, and each line ends in a line feed.
+-- What is said of a run: a line for each message, and one at the end (own). Links are their texts,
+-- numbers are decimal, and each line ends in a line feed.
 use Rattle.std.specs.Prelude.{ℕ, Bool, true, false, List, [], ◌∷◌, ◌++◌, length, Option, Some, None, Result, Ok, Err, codes, decimal, ◌==◌, if◌then◌else◌}
 use Rattle.std.specs.List.{filter}
 use Rattle.std.specs.Option.{is_some}
@@ -106,7 +107,8 @@ is_row_refused (Row.Synced did whole moment) = false
 is_row_refused (Row.Operated o) = false
 is_row_refused (Row.Carried c) = false
 
--- the last line: how many messages there were, how many numbers were given, how many messages were refused, and the last number
+-- the last line: how many messages there were, how many numbers were given, how many messages were
+-- refused, and the last number
 abbrev pub end_line : List Row → List Message → List Row → List ℕ
 end_line J messages rows =
     codes "end " ++ (decimal (length messages)

@@ -79,7 +79,8 @@ faulty_taken host seq moment = record {
   moment = moment;
 }
 
--- the row of a message, for a decision on it, behind the last number. Other messages than events make none
+-- the row of a message, for a decision on it, behind the last number. Other messages than events
+-- make none
 abbrev pub row_of : ℕ → List ℕ → Frame → Decision → Answers → Option Row
 row_of last host (Frame.Event e) d x = Some (Row.Taken (event_taken last host e d x))
 row_of last host (Frame.Faulty seq) d x = Some (Row.Taken (faulty_taken host seq x.moment))

@@ -1,4 +1,5 @@
--- Runs: messages in the order in which they are taken, the rows that they make, and what is said of each (own).
+-- Runs: messages in the order in which they are taken, the rows that they make, and what is said of
+-- each (own).
 use Rattle.std.specs.Prelude.{◌≡◌, ℕ, Bool, true, false, List, [], ◌∷◌, ◌++◌, Option, Some, None, Result, Ok, Err}
 use Rattle.std.specs.List.{list_any}
 use Rattle.std.specs.Str.{bytes_eq}
@@ -27,7 +28,8 @@ IsMadeBy checks J (host, Ok frame) (Row.Taken t) =
     decided checks (last_seq J) (account (did_of frame) J) host frame (shown t) ≡ Some t
 IsMadeBy checks J message row = ⊥
 
--- one turn, at a host that ended before or not: what holds where it ends now, where nothing is made, and where a row is
+-- one turn, at a host that ended before or not: what holds where it ends now, where nothing is
+-- made, and where a row is
 abbrev pub Turn : Bool → Option Pass → Type 0 → Type 0 → Type 0 → Type 0
 Turn true pass ends passes takes = passes
 Turn false (Some Pass.Ended) ends passes takes = ends
@@ -48,6 +50,7 @@ RunFrom checks J ended (m ∷ messages) rows = Turn (has_ended ended m.0) (skipp
     ((row : Row) × (others : List Row) × (rows ≡ row ∷ others) × IsMadeBy checks J m row
     × RunFrom checks (J ++ row ∷ []) ended messages others)
 
--- Behind the journal J the messages make the rows: each that isn't skipped makes the row that is decided for the answers that the row shows, and no message of a host that ended before makes any.
+-- Behind the journal J the messages make the rows: each that isn't skipped makes the row that is
+-- decided for the answers that the row shows, and no message of a host that ended before makes any.
 abbrev pub Run : Checks → List Row → List Message → List Row → Type 0
 Run checks J messages rows = RunFrom checks J [] messages rows

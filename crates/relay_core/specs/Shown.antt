@@ -24,7 +24,8 @@ abbrev pub shows_verdict : Option Refusal → Bool
 shows_verdict (Some Refusal.BadSignature) = false
 shows_verdict other = true
 
--- A row shows that whoever was asked said yes: the host is the account's home, and the signature is good.
+-- A row shows that whoever was asked said yes: the host is the account's home, and the signature is
+-- good.
 abbrev pub says_yes : Row → Bool
 says_yes (Row.Taken t) = shows_home t.refusal && shows_verdict t.refusal
 says_yes row = true
@@ -63,4 +64,9 @@ or_zero None = 0
 or_zero (Some n) = n
 
 abbrev pub shown : Taken → Outside
-shown t = record { moment = or_zero t.moment; home = shows_home t.refusal; verdict = shows_verdict t.refusal; fetched = found_in t.fetched }
+shown t = record {
+  moment = or_zero t.moment;
+  home = shows_home t.refusal;
+  verdict = shows_verdict t.refusal;
+  fetched = found_in t.fetched;
+}

@@ -1,4 +1,5 @@
--- The table of refusals, with the questions between its lines: the one place where their order stands (own).
+-- The table of refusals, with the questions between its lines: the one place where their order
+-- stands (own).
 use Rattle.std.specs.Prelude.{ℕ, ◌+◌, ◌/◌, Bool, true, false, not, List, [], ◌∷◌, Option, Some, None, Result, Ok, Err, if◌then◌else◌, nat_lt, nat_le, option_map}
 use Rattle.at_event.specs.Refusals.{code_of}
 use Rattle.at_event.specs.Seen.{Seen}
@@ -15,13 +16,22 @@ use Rattle.relay_core.specs.declared.decision.Next.{Next}
 use Rattle.relay_core.specs.declared.decision.Pass.{Pass}
 use Rattle.relay_core.specs.declared.limits.TheConstants.{LONGEST_MESSAGE, MOST_AHEAD}
 
--- a line of the table: a refusal that applies or not, as is known at once or by the answer to a question
+-- a line of the table: a refusal that applies or not, as is known at once or by the answer to a
+-- question
 pub data TableLine : Type 0 where
   told : Option Refusal → TableLine
   asked : Question → Option (Option Refusal) → TableLine
 
 abbrev pub no_answers : Answers
-no_answers = record { moment = None; refreshed = false; home = None; opened = None; verdict = None; linked = None; fetched = None }
+no_answers = record {
+  moment = None;
+  refreshed = false;
+  home = None;
+  opened = None;
+  verdict = None;
+  linked = None;
+  fetched = None;
+}
 
 -- the refusal, where the test holds
 abbrev pub when : Bool → Refusal → Option Refusal
@@ -118,7 +128,8 @@ is_held a Body.Identity = false
 is_held a (Body.Account b) = a.down
 
 abbrev pub accepted : State → Body → Next
-accepted a body = Next.Done (record { refusal = None; held = is_held a body; gives = not (is_held a body) })
+accepted a body =
+    Next.Done (record { refusal = None; held = is_held a body; gives = not (is_held a body) })
 
 abbrev pub next_at : Walk → State → Body → Option Fetched → Next
 next_at (waits q) a body fetched = Next.Ask q

@@ -11,7 +11,9 @@ use Rattle.relay_core.specs.Runs.{Message, Turn, skipped_by, has_ended}
 use Rattle.relay_core.specs.Sending.{IsSendable}
 use Rattle.relay_core.specs.Table.{did_of}
 
--- What is true outside: when a host sent a message, whether it is the home of a DID, whether an event's signature is good, and what the fetch of a repository finds, by the DID, the last revision and the moment.
+-- What is true outside: when a host sent a message, whether it is the home of a DID, whether an
+-- event's signature is good, and what the fetch of a repository finds, by the DID, the last
+-- revision and the moment.
 pub record World : Type 0 where
   pub moment : List ℕ → Frame → ℕ
   pub home : List ℕ → List ℕ → Bool
@@ -30,10 +32,30 @@ outside w host a e = record {
 -- the answers to a message of a host; of one that is no event, only the moment is asked
 abbrev pub outside_of : World → List ℕ → State → Frame → Outside
 outside_of w host a (Frame.Event e) = outside w host a e
-outside_of w host a (Frame.Faulty seq) = record { moment = w.moment host (Frame.Faulty seq); home = true; verdict = true; fetched = absent }
-outside_of w host a Frame.Info = record { moment = 0; home = true; verdict = true; fetched = absent }
-outside_of w host a Frame.Error = record { moment = 0; home = true; verdict = true; fetched = absent }
-outside_of w host a Frame.Unknown = record { moment = 0; home = true; verdict = true; fetched = absent }
+outside_of w host a (Frame.Faulty seq) = record {
+  moment = w.moment host (Frame.Faulty seq);
+  home = true;
+  verdict = true;
+  fetched = absent;
+}
+outside_of w host a Frame.Info = record {
+  moment = 0;
+  home = true;
+  verdict = true;
+  fetched = absent;
+}
+outside_of w host a Frame.Error = record {
+  moment = 0;
+  home = true;
+  verdict = true;
+  fetched = absent;
+}
+outside_of w host a Frame.Unknown = record {
+  moment = 0;
+  home = true;
+  verdict = true;
+  fetched = absent;
+}
 
 -- what a fetch finds for a message can be sent
 abbrev pub CanSendFor : World → List Row → List ℕ → Frame → Type 0

@@ -29,7 +29,8 @@ use std::alloc::Global;
 // Makes room for the host that a row names, if it names one.
 fn touch_host(hosts: &mut Hosts, row: &Row) -> Result<(), Memory>
     ensures listed { listed hosts.new ≡ listed hosts.old }
-    ensures room { OnOk result (host_in row.now ≢ [] → has_host hosts.new (host_in row.now) ≡ true) }
+    ensures room { OnOk result
+        (host_in row.now ≢ [] → has_host hosts.new (host_in row.now) ≡ true) }
 {
     let host = row.host();
     if host.is_empty() {

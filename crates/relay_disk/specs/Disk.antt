@@ -3,7 +3,8 @@ use Rattle.std.specs.Prelude.{◌≡◌, ◌⊎◌, ◌↔◌, ◌+◌, ◌≤�
 
 -- A disk at one moment.
 pub record View : Type 1 where
-  -- The bytes that a read gives, if the disk tells them. If it doesn't, no answer of a call is tied to this list.
+  -- The bytes that a read gives, if the disk tells them. If it doesn't, no answer of a call is tied
+  -- to this list.
   pub content : List ℕ
   -- what a crash now may leave
   pub may_leave : List ℕ → Type 0
@@ -18,7 +19,8 @@ pub record View : Type 1 where
 abbrev pub written : ℕ → List ℕ → List ℕ → List ℕ
 written place bytes old = take place old ++ bytes ++ drop (place + length bytes) old
 
--- A write of n bytes, done in any part: any bytes in its range, the same elsewhere, any size between.
+-- A write of n bytes, done in any part: any bytes in its range, the same elsewhere, any size
+-- between.
 pub record Torn (place n : ℕ) (old new : List ℕ) : Type 0 where
   pub before : take place new ≡ take place old
   pub after : drop (place + n) new ≡ drop (place + n) old
@@ -41,7 +43,8 @@ pub record Goes (part : List ℕ → List ℕ → Type 0) (old new : View) : Typ
   pub follows : (c : List ℕ) → new.may_leave c → (d : List ℕ) × old.may_leave d × part d c
   -- time goes on, and forgets nothing
   pub later : old.moment ≤ new.moment
-  pub nothing_else : (t : ℕ) (c : List ℕ) → t ≤ old.moment → new.left_since t c → old.left_since t c ⊎ new.may_leave c
+  pub nothing_else : (t : ℕ) (c : List ℕ) → t ≤ old.moment
+      → new.left_since t c → old.left_since t c ⊎ new.may_leave c
   pub keeps : (t : ℕ) (c : List ℕ) → t ≤ old.moment → old.left_since t c → new.left_since t c
   pub counts : old.faults ≤ new.faults
 

@@ -16,9 +16,10 @@ passes_left f = f.passes.left
 abbrev pub faults_so_far : {D : Type 0} → FuseDisk D → ℕ
 faults_so_far f = f.passes.faults
 
--- A call: one pass fewer. Where there is none left, the call fails and the disk isn't touched. Else it fails exactly
--- where the disk does, which counts it.
-pub record Burns {D T : Type 0} (faults : D → ℕ) (result : Result T Failed) (old new : FuseDisk D) : Type 0 where
+-- A call: one pass fewer. Where there is none left, the call fails and the disk isn't touched. Else
+-- it fails exactly where the disk does, which counts it.
+pub record Burns {D T : Type 0} (faults : D → ℕ) (result : Result T Failed)
+    (old new : FuseDisk D) : Type 0 where
   pub fewer : passes_left new ≡ passes_left old - 1
   pub fails : passes_left old ≡ 0 → IsErr result
   pub untouched : passes_left old ≡ 0 → inner new ≡ inner old

@@ -9,7 +9,8 @@ abbrev pub works_of : List Call → List ℕ → List Work
 works_of [] bytes = []
 works_of (Size ∷ calls) bytes = works_of calls bytes
 works_of (Read place len ∷ calls) bytes = works_of calls bytes
-works_of (Write place len ∷ calls) bytes = wrote place (take len bytes) ∷ works_of calls (drop len bytes)
+works_of (Write place len ∷ calls) bytes =
+    wrote place (take len bytes) ∷ works_of calls (drop len bytes)
 works_of (Cut size ∷ calls) bytes = cut_to size ∷ works_of calls bytes
 works_of (Sync ∷ calls) bytes = synced ∷ works_of calls bytes
 
@@ -27,11 +28,14 @@ abbrev pub covered_after : Bool → ℕ → List Call → Bool
 covered_after so_far i [] = so_far
 covered_after so_far i (Size ∷ calls) = covered_after so_far i calls
 covered_after so_far i (Read place len ∷ calls) = covered_after so_far i calls
-covered_after so_far i (Write place len ∷ calls) = covered_after (so_far || (nat_le place i && nat_lt i (place + len))) i calls
+covered_after so_far i (Write place len ∷ calls) =
+    covered_after (so_far || (nat_le place i && nat_lt i (place + len))) i calls
 covered_after so_far i (Cut size ∷ calls) = covered_after so_far i calls
 covered_after so_far i (Sync ∷ calls) = covered_after false i calls
 
--- the bytes, of which the first stands at place i, each of them inverted that a call since the last sync wrote
+-- the bytes, of which the first stands at place i, each of them inverted that a call since the last
+-- sync wrote
 abbrev pub inverted_from : ℕ → List Call → List ℕ → List ℕ
 inverted_from i calls [] = []
-inverted_from i calls (byte ∷ bytes) = cond (covered_after false i calls) (255 - byte) byte ∷ inverted_from (i + 1) calls bytes
+inverted_from i calls (byte ∷ bytes) =
+    cond (covered_after false i calls) (255 - byte) byte ∷ inverted_from (i + 1) calls bytes

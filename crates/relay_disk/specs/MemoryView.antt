@@ -32,9 +32,11 @@ spare_calls d = d.room.calls
 abbrev pub spare_bytes : MemoryDisk → ℕ
 spare_bytes d = d.room.bytes
 
--- The next call, which writes so many bytes, is to fail: its number is listed, or it goes past the room.
+-- The next call, which writes so many bytes, is to fail: its number is listed, or it goes past the
+-- room.
 abbrev pub IsToFail : ℕ → MemoryDisk → Type 0
-IsToFail bytes d = Contains (failing d) (min (taken d + 1) (2 ^ 64 - 1)) ⊎ ((spare_calls d ≡ 0) ⊎ (spare_bytes d < bytes))
+IsToFail bytes d = Contains (failing d) (min (taken d + 1) (2 ^ 64 - 1))
+    ⊎ ((spare_calls d ≡ 0) ⊎ (spare_bytes d < bytes))
 
 -- a call was taken
 pub record Takes (old new : MemoryDisk) : Type 0 where

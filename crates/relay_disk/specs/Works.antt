@@ -38,7 +38,8 @@ changed m work whole part = record {
 }
 
 abbrev pub next : Moment → Work → Moment
-next m (wrote place bytes) = changed m (wrote place bytes) (written place bytes m.content) (Torn place (length bytes))
+next m (wrote place bytes) =
+    changed m (wrote place bytes) (written place bytes m.content) (Torn place (length bytes))
 next m (cut_to size) = changed m (cut_to size) (take size m.content) (Cut size)
 next m synced = opened m.content
 
@@ -49,7 +50,8 @@ after m (work ∷ works) = after (next m work) works
 
 -- what a crash after some of the calls, from the t-th on, may have left
 abbrev pub LeftSince : Moment → List Work → ℕ → List ℕ → Type 0
-LeftSince m works t c = (k : ℕ) × (t ≤ k) × (k ≤ length works) × (after m (take k works)).may_leave c
+LeftSince m works t c =
+    (k : ℕ) × (t ≤ k) × (k ≤ length works) × (after m (take k works)).may_leave c
 
 -- a disk that had this content first, and these calls since
 abbrev pub view_of : List ℕ → List Work → ℕ → View
@@ -64,15 +66,25 @@ view_of first works faults =
     }
 
 -- the content is one of those that a crash may leave
-pub possible : (m : Moment) (works : List Work) → m.may_leave m.content → (after m works).may_leave (after m works).content
+pub possible : (m : Moment) (works : List Work) → m.may_leave m.content
+    → (after m works).may_leave (after m works).content
 possible m [] is = is
 possible m (wrote place bytes ∷ works) is = possible (next m (wrote place bytes)) works (inl refl)
 possible m (cut_to size ∷ works) is = possible (next m (cut_to size)) works (inl refl)
 possible m (synced ∷ works) is = possible (next m synced) works refl
 
-pub view_is_disk : (first : List ℕ) (works : List Work) (faults : ℕ) → IsDisk (view_of first works faults)
+pub view_is_disk : (first : List ℕ) (works : List Work) (faults : ℕ)
+    → IsDisk (view_of first works faults)
 view_is_disk first works faults = record {
   possible = possible (opened first) works refl;
-  counts_now = λ t c le now. (length works, le, le_refl _, subst (λ ws. (after (opened first) ws).may_leave c) (sym (take_all (length works) works (le_refl _))) now);
-  only_now = λ c left. subst (λ ws. (after (opened first) ws).may_leave c) (take_all left.0 works left.1) left.3;
+  counts_now = λ t c le now. (
+    length works,
+    le,
+    le_refl _,
+    subst (λ ws.
+        (after (opened first) ws).may_leave c)
+        (sym (take_all (length works) works (le_refl _))) now,
+  );
+  only_now = λ c left. subst (λ ws. (after (opened first) ws).may_leave c)
+      (take_all left.0 works left.1) left.3;
 }

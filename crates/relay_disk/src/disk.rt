@@ -56,7 +56,8 @@ pub trait Disk {
     /// Takes off what is behind a size.
     fn cut(&mut self, size: u64) -> Result<(), Failed>
         requires { IsTrue tells → size ≤ length (view self.old).content }
-        ensures ok { OnOk result (IsTrue tells → (view self.new).content ≡ take size (view self.old).content) }
+        ensures ok { OnOk result
+            (IsTrue tells → (view self.new).content ≡ take size (view self.old).content) }
         ensures goes { Goes (Cut size) (view self.old) (view self.new) }
         ensures steady { OnOk result ((view self.new).faults ≡ (view self.old).faults) }
         ensures failed { OnErr result (Rose (view self.old).faults (view self.new).faults) };

@@ -42,14 +42,16 @@ fn check_inside<F: FileCalls>(file: &mut F, place: u64) -> Result<(), Failed>
 }
 
 fn write_inside<F: FileCalls>(file: &mut F, place: u64, piece: &[u8]) -> Result<(), Failed>
-    ensures { OnOk result (IsTrue F.tells → F.made file.new ≡ F.made file.old ++ Call.Size ∷ (Call.Write place (length piece.now) ∷ [])) }
+    ensures { OnOk result (IsTrue F.tells → F.made file.new ≡ F.made file.old
+        ++ Call.Size ∷ (Call.Write place (length piece.now) ∷ [])) }
 {
     check_inside(file, place)?;
     answered(file.write_at(place, piece))
 }
 
 fn cut_inside<F: FileCalls>(file: &mut F, size: u64) -> Result<(), Failed>
-    ensures { OnOk result (IsTrue F.tells → F.made file.new ≡ F.made file.old ++ Call.Size ∷ (Call.Cut size ∷ [])) }
+    ensures { OnOk result
+        (IsTrue F.tells → F.made file.new ≡ F.made file.old ++ Call.Size ∷ (Call.Cut size ∷ [])) }
 {
     check_inside(file, size)?;
     answered(file.cut(size))
@@ -63,12 +65,14 @@ impl<F: FileCalls> Disk for FileDisk<F> {
     ghost is_disk = { λ d. untold_disk d.faults };
 
     fn size(&mut self) -> Result<u64, Failed>
-        ensures size { IfOk result (λ size. IsTrue false → size ≡ length (untold self.old.faults).content) }
+        ensures size { IfOk result
+            (λ size. IsTrue false → size ≡ length (untold self.old.faults).content) }
         ensures below { IfOk result (λ size. size < SIZES) }
         ensures goes { Goes Same (untold self.old.faults) (untold self.new.faults) }
         ensures steady { OnOk result (self.new.faults ≡ self.old.faults) }
         ensures failed { OnErr result (Rose self.old.faults self.new.faults) }
-        ensures calls { IsTrue F.tells → F.made self.new.file ≡ F.made self.old.file ++ Call.Size ∷ [] }
+        ensures calls { IsTrue F.tells
+            → F.made self.new.file ≡ F.made self.old.file ++ Call.Size ∷ [] }
     {
         match self.file.size() {
             Ok(size) if size < SIZES => Ok(size),
@@ -77,11 +81,13 @@ impl<F: FileCalls> Disk for FileDisk<F> {
     }
 
     fn read(&mut self, place: u64, room: &mut [u8]) -> Result<(), Failed>
-        ensures bytes { OnOk result (IsTrue false → room.new ≡ take (length room.old) (drop place (untold self.old.faults).content)) }
+        ensures bytes { OnOk result (IsTrue false
+            → room.new ≡ take (length room.old) (drop place (untold self.old.faults).content)) }
         ensures goes { Goes Same (untold self.old.faults) (untold self.new.faults) }
         ensures steady { OnOk result (self.new.faults ≡ self.old.faults) }
         ensures failed { OnErr result (Rose self.old.faults self.new.faults) }
-        ensures calls { IsTrue F.tells → F.made self.new.file ≡ F.made self.old.file ++ Call.Read place (length room.old) ∷ [] }
+        ensures calls { IsTrue F.tells → F.made self.new.file ≡ F.made self.old.file
+            ++ Call.Read place (length room.old) ∷ [] }
     {
         let answer = answered(self.file.read(place, room));
         counted(&mut self.faults, answer)
@@ -89,22 +95,27 @@ impl<F: FileCalls> Disk for FileDisk<F> {
 
     fn write_at(&mut self, place: u64, piece: &[u8]) -> Result<(), Failed>
         requires { place + length piece.now < SIZES }
-        ensures ok { OnOk result (IsTrue false → (untold self.new.faults).content ≡ written place piece.now (untold self.old.faults).content) }
-        ensures goes { Goes (Torn place (length piece.now)) (untold self.old.faults) (untold self.new.faults) }
+        ensures ok { OnOk result (IsTrue false → (untold self.new.faults).content
+            ≡ written place piece.now (untold self.old.faults).content) }
+        ensures goes { Goes (Torn place (length piece.now))
+            (untold self.old.faults) (untold self.new.faults) }
         ensures steady { OnOk result (self.new.faults ≡ self.old.faults) }
         ensures failed { OnErr result (Rose self.old.faults self.new.faults) }
-        ensures calls { OnOk result (IsTrue F.tells → F.made self.new.file ≡ F.made self.old.file ++ Call.Size ∷ (Call.Write place (length piece.now) ∷ [])) }
+        ensures calls { OnOk result (IsTrue F.tells → F.made self.new.file ≡ F.made self.old.file
+            ++ Call.Size ∷ (Call.Write place (length piece.now) ∷ [])) }
     {
         let answer = write_inside(&mut self.file, place, piece);
         counted(&mut self.faults, answer)
     }
 
     fn cut(&mut self, size: u64) -> Result<(), Failed>
-        ensures ok { OnOk result (IsTrue false → (untold self.new.faults).content ≡ take size (untold self.old.faults).content) }
+        ensures ok { OnOk result (IsTrue false
+            → (untold self.new.faults).content ≡ take size (untold self.old.faults).content) }
         ensures goes { Goes (Cut size) (untold self.old.faults) (untold self.new.faults) }
         ensures steady { OnOk result (self.new.faults ≡ self.old.faults) }
         ensures failed { OnErr result (Rose self.old.faults self.new.faults) }
-        ensures calls { OnOk result (IsTrue F.tells → F.made self.new.file ≡ F.made self.old.file ++ Call.Size ∷ (Call.Cut size ∷ [])) }
+        ensures calls { OnOk result (IsTrue F.tells
+            → F.made self.new.file ≡ F.made self.old.file ++ Call.Size ∷ (Call.Cut size ∷ [])) }
     {
         let answer = cut_inside(&mut self.file, size);
         counted(&mut self.faults, answer)
@@ -115,7 +126,8 @@ impl<F: FileCalls> Disk for FileDisk<F> {
         ensures goes { Goes Same (untold self.old.faults) (untold self.new.faults) }
         ensures steady { OnOk result (self.new.faults ≡ self.old.faults) }
         ensures failed { OnErr result (Rose self.old.faults self.new.faults) }
-        ensures calls { IsTrue F.tells → F.made self.new.file ≡ F.made self.old.file ++ Call.Sync ∷ [] }
+        ensures calls { IsTrue F.tells
+            → F.made self.new.file ≡ F.made self.old.file ++ Call.Sync ∷ [] }
     {
         let answer = answered(self.file.sync());
         counted(&mut self.faults, answer)

@@ -19,11 +19,13 @@ pub trait FileCalls {
 
     /// Fills the room with the bytes from a place on, or fails.
     fn read(&mut self, place: u64, room: &mut [u8]) -> io::Result<()>
-        ensures { IsTrue tells → made self.new ≡ made self.old ++ Call.Read place (length room.old) ∷ [] };
+        ensures { IsTrue tells
+            → made self.new ≡ made self.old ++ Call.Read place (length room.old) ∷ [] };
 
     /// Writes the whole piece at a place, over what is there and past the end.
     fn write_at(&mut self, place: u64, piece: &[u8]) -> io::Result<()>
-        ensures { IsTrue tells → made self.new ≡ made self.old ++ Call.Write place (length piece.now) ∷ [] };
+        ensures { IsTrue tells
+            → made self.new ≡ made self.old ++ Call.Write place (length piece.now) ∷ [] };
 
     /// Gives the file this size.
     fn cut(&mut self, size: u64) -> io::Result<()>

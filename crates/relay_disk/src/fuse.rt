@@ -52,9 +52,11 @@ impl<D: Disk> Disk for FuseDisk<D> {
     ghost is_disk = { λ f. recounted_disk (D.view f.disk) f.passes.faults (D.is_disk f.disk) };
 
     fn size(&mut self) -> Result<u64, Failed>
-        ensures size { IfOk result (λ size. IsTrue D.tells → size ≡ length (D.view self.old.disk).content) }
+        ensures size { IfOk result
+            (λ size. IsTrue D.tells → size ≡ length (D.view self.old.disk).content) }
         ensures below { IfOk result (λ size. size < SIZES) }
-        ensures goes { Goes Same (recounted (D.view self.old.disk) self.old.passes.faults) (recounted (D.view self.new.disk) self.new.passes.faults) }
+        ensures goes { Goes Same (recounted (D.view self.old.disk) self.old.passes.faults)
+            (recounted (D.view self.new.disk) self.new.passes.faults) }
         ensures steady { OnOk result (self.new.passes.faults ≡ self.old.passes.faults) }
         ensures failed { OnErr result (Rose self.old.passes.faults self.new.passes.faults) }
         ensures burns { Burns (λ d. (D.view d).faults) result self.old self.new }
@@ -65,9 +67,12 @@ impl<D: Disk> Disk for FuseDisk<D> {
     }
 
     fn read(&mut self, place: u64, room: &mut [u8]) -> Result<(), Failed>
-        requires { IsTrue D.tells → place + length room.old ≤ length (D.view self.old.disk).content }
-        ensures bytes { OnOk result (IsTrue D.tells → room.new ≡ take (length room.old) (drop place (D.view self.old.disk).content)) }
-        ensures goes { Goes Same (recounted (D.view self.old.disk) self.old.passes.faults) (recounted (D.view self.new.disk) self.new.passes.faults) }
+        requires { IsTrue D.tells
+            → place + length room.old ≤ length (D.view self.old.disk).content }
+        ensures bytes { OnOk result (IsTrue D.tells
+            → room.new ≡ take (length room.old) (drop place (D.view self.old.disk).content)) }
+        ensures goes { Goes Same (recounted (D.view self.old.disk) self.old.passes.faults)
+            (recounted (D.view self.new.disk) self.new.passes.faults) }
         ensures steady { OnOk result (self.new.passes.faults ≡ self.old.passes.faults) }
         ensures failed { OnErr result (Rose self.old.passes.faults self.new.passes.faults) }
         ensures burns { Burns (λ d. (D.view d).faults) result self.old self.new }
@@ -80,8 +85,11 @@ impl<D: Disk> Disk for FuseDisk<D> {
     fn write_at(&mut self, place: u64, piece: &[u8]) -> Result<(), Failed>
         requires inside { IsTrue D.tells → place ≤ length (D.view self.old.disk).content }
         requires below { place + length piece.now < SIZES }
-        ensures ok { OnOk result (IsTrue D.tells → (D.view self.new.disk).content ≡ written place piece.now (D.view self.old.disk).content) }
-        ensures goes { Goes (Torn place (length piece.now)) (recounted (D.view self.old.disk) self.old.passes.faults) (recounted (D.view self.new.disk) self.new.passes.faults) }
+        ensures ok { OnOk result (IsTrue D.tells → (D.view self.new.disk).content
+            ≡ written place piece.now (D.view self.old.disk).content) }
+        ensures goes { Goes (Torn place (length piece.now))
+            (recounted (D.view self.old.disk) self.old.passes.faults)
+            (recounted (D.view self.new.disk) self.new.passes.faults) }
         ensures steady { OnOk result (self.new.passes.faults ≡ self.old.passes.faults) }
         ensures failed { OnErr result (Rose self.old.passes.faults self.new.passes.faults) }
         ensures burns { Burns (λ d. (D.view d).faults) result self.old self.new }
@@ -93,8 +101,10 @@ impl<D: Disk> Disk for FuseDisk<D> {
 
     fn cut(&mut self, size: u64) -> Result<(), Failed>
         requires { IsTrue D.tells → size ≤ length (D.view self.old.disk).content }
-        ensures ok { OnOk result (IsTrue D.tells → (D.view self.new.disk).content ≡ take size (D.view self.old.disk).content) }
-        ensures goes { Goes (Cut size) (recounted (D.view self.old.disk) self.old.passes.faults) (recounted (D.view self.new.disk) self.new.passes.faults) }
+        ensures ok { OnOk result (IsTrue D.tells
+            → (D.view self.new.disk).content ≡ take size (D.view self.old.disk).content) }
+        ensures goes { Goes (Cut size) (recounted (D.view self.old.disk) self.old.passes.faults)
+            (recounted (D.view self.new.disk) self.new.passes.faults) }
         ensures steady { OnOk result (self.new.passes.faults ≡ self.old.passes.faults) }
         ensures failed { OnErr result (Rose self.old.passes.faults self.new.passes.faults) }
         ensures burns { Burns (λ d. (D.view d).faults) result self.old self.new }
@@ -106,7 +116,8 @@ impl<D: Disk> Disk for FuseDisk<D> {
 
     fn sync(&mut self) -> Result<(), Failed>
         ensures ok { OnOk result (IsTrue D.tells → IsSynced (D.view self.new.disk)) }
-        ensures goes { Goes Same (recounted (D.view self.old.disk) self.old.passes.faults) (recounted (D.view self.new.disk) self.new.passes.faults) }
+        ensures goes { Goes Same (recounted (D.view self.old.disk) self.old.passes.faults)
+            (recounted (D.view self.new.disk) self.new.passes.faults) }
         ensures steady { OnOk result (self.new.passes.faults ≡ self.old.passes.faults) }
         ensures failed { OnErr result (Rose self.old.passes.faults self.new.passes.faults) }
         ensures burns { Burns (λ d. (D.view d).faults) result self.old self.new }

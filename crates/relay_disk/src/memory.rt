@@ -158,11 +158,14 @@ impl Disk for MemoryDisk {
     ghost is_disk = { λ d. view_is_disk d.first.items (works_of d.calls.items d.pieces.items) d.room.failures.faults };
 
     fn size(&mut self) -> Result<u64, Failed>
-        ensures size { IfOk result (λ size. IsTrue true → size ≡ length (memory_view self.old).content) }
+        ensures size { IfOk result
+            (λ size. IsTrue true → size ≡ length (memory_view self.old).content) }
         ensures below { IfOk result (λ size. size < SIZES) }
         ensures goes { Goes Same (memory_view self.old) (memory_view self.new) }
-        ensures steady { OnOk result ((memory_view self.new).faults ≡ (memory_view self.old).faults) }
-        ensures failed { OnErr result (Rose (memory_view self.old).faults (memory_view self.new).faults) }
+        ensures steady { OnOk result
+            ((memory_view self.new).faults ≡ (memory_view self.old).faults) }
+        ensures failed { OnErr result
+            (Rose (memory_view self.old).faults (memory_view self.new).faults) }
         ensures fails { IsErr result ↔ IsToFail 0 self.old }
         ensures taken { Takes self.old self.new }
         ensures done { OnOk result (Does Call.Size 0 self.old self.new) }
@@ -178,8 +181,10 @@ impl Disk for MemoryDisk {
         ensures bytes { OnOk result (IsTrue true →
             room.new ≡ take (length room.old) (drop place (memory_view self.old).content)) }
         ensures goes { Goes Same (memory_view self.old) (memory_view self.new) }
-        ensures steady { OnOk result ((memory_view self.new).faults ≡ (memory_view self.old).faults) }
-        ensures failed { OnErr result (Rose (memory_view self.old).faults (memory_view self.new).faults) }
+        ensures steady { OnOk result
+            ((memory_view self.new).faults ≡ (memory_view self.old).faults) }
+        ensures failed { OnErr result
+            (Rose (memory_view self.old).faults (memory_view self.new).faults) }
         ensures fails { IsErr result ↔ IsToFail 0 self.old }
         ensures taken { Takes self.old self.new }
         ensures done { OnOk result (Does (Call.Read place (length room.old)) 0 self.old self.new) }
@@ -196,14 +201,18 @@ impl Disk for MemoryDisk {
     fn write_at(&mut self, place: u64, piece: &[u8]) -> Result<(), Failed>
         requires inside { IsTrue true → place ≤ length (memory_view self.old).content }
         requires below { place + length piece.now < SIZES }
-        ensures ok { OnOk result (IsTrue true →
-            (memory_view self.new).content ≡ written place piece.now (memory_view self.old).content) }
-        ensures goes { Goes (Torn place (length piece.now)) (memory_view self.old) (memory_view self.new) }
-        ensures steady { OnOk result ((memory_view self.new).faults ≡ (memory_view self.old).faults) }
-        ensures failed { OnErr result (Rose (memory_view self.old).faults (memory_view self.new).faults) }
+        ensures ok { OnOk result (IsTrue true → (memory_view self.new).content
+            ≡ written place piece.now (memory_view self.old).content) }
+        ensures goes { Goes (Torn place (length piece.now))
+            (memory_view self.old) (memory_view self.new) }
+        ensures steady { OnOk result
+            ((memory_view self.new).faults ≡ (memory_view self.old).faults) }
+        ensures failed { OnErr result
+            (Rose (memory_view self.old).faults (memory_view self.new).faults) }
         ensures fails { IsErr result ↔ IsToFail (length piece.now) self.old }
         ensures taken { Takes self.old self.new }
-        ensures done { OnOk result (Does (Call.Write place (length piece.now)) (length piece.now) self.old self.new) }
+        ensures done { OnOk result
+            (Does (Call.Write place (length piece.now)) (length piece.now) self.old self.new) }
         ensures not_done { OnErr result (DoesNothing self.old self.new) }
     {
         self.room.take(piece.len())?;
@@ -216,10 +225,13 @@ impl Disk for MemoryDisk {
 
     fn cut(&mut self, size: u64) -> Result<(), Failed>
         requires { IsTrue true → size ≤ length (memory_view self.old).content }
-        ensures ok { OnOk result (IsTrue true → (memory_view self.new).content ≡ take size (memory_view self.old).content) }
+        ensures ok { OnOk result (IsTrue true
+            → (memory_view self.new).content ≡ take size (memory_view self.old).content) }
         ensures goes { Goes (Cut size) (memory_view self.old) (memory_view self.new) }
-        ensures steady { OnOk result ((memory_view self.new).faults ≡ (memory_view self.old).faults) }
-        ensures failed { OnErr result (Rose (memory_view self.old).faults (memory_view self.new).faults) }
+        ensures steady { OnOk result
+            ((memory_view self.new).faults ≡ (memory_view self.old).faults) }
+        ensures failed { OnErr result
+            (Rose (memory_view self.old).faults (memory_view self.new).faults) }
         ensures fails { IsErr result ↔ IsToFail 0 self.old }
         ensures taken { Takes self.old self.new }
         ensures done { OnOk result (Does (Call.Cut size) 0 self.old self.new) }
@@ -235,8 +247,10 @@ impl Disk for MemoryDisk {
     fn sync(&mut self) -> Result<(), Failed>
         ensures ok { OnOk result (IsTrue true → IsSynced (memory_view self.new)) }
         ensures goes { Goes Same (memory_view self.old) (memory_view self.new) }
-        ensures steady { OnOk result ((memory_view self.new).faults ≡ (memory_view self.old).faults) }
-        ensures failed { OnErr result (Rose (memory_view self.old).faults (memory_view self.new).faults) }
+        ensures steady { OnOk result
+            ((memory_view self.new).faults ≡ (memory_view self.old).faults) }
+        ensures failed { OnErr result
+            (Rose (memory_view self.old).faults (memory_view self.new).faults) }
         ensures fails { IsErr result ↔ IsToFail 0 self.old }
         ensures taken { Takes self.old self.new }
         ensures done { OnOk result (Does Call.Sync 0 self.old self.new) }

@@ -16,11 +16,13 @@ pub(crate) struct Room {
 impl Room {
     /// Takes a call that writes so many bytes. It fails where its number is listed or it goes past the room.
     pub(crate) fn take(&mut self, bytes: usize) -> Result<(), Failed>
-        ensures fails { IsErr result ↔ (Contains self.old.failures.listed.items self.new.failures.taken
+        ensures fails { IsErr result
+            ↔ (Contains self.old.failures.listed.items self.new.failures.taken
             ⊎ ((self.old.calls ≡ 0) ⊎ (self.old.bytes < bytes))) }
         ensures calls { OnOk result (self.new.calls + 1 ≡ self.old.calls) }
         ensures bytes { OnOk result (self.new.bytes + bytes ≡ self.old.bytes) }
-        ensures kept { OnErr result ((self.new.calls ≡ self.old.calls) × (self.new.bytes ≡ self.old.bytes)) }
+        ensures kept { OnErr result
+            ((self.new.calls ≡ self.old.calls) × (self.new.bytes ≡ self.old.bytes)) }
         ensures taken { self.new.failures.taken ≡ min (self.old.failures.taken + 1) (2 ^ 64 - 1) }
         ensures listed { self.new.failures.listed.items ≡ self.old.failures.listed.items }
         ensures steady { OnOk result (self.new.failures.faults ≡ self.old.failures.faults) }

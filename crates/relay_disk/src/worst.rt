@@ -35,11 +35,16 @@ impl MemoryDisk {
     /// since then inverted.
     pub fn worst(&self, alloc: Global, i: u8) -> Result<Option<MemoryDisk>, Memory>
         ensures none { IfOk result (λ found. IsNone found ↔ (WORST_CASES ≤ i)) }
-        ensures image { IfOk result (λ found. IfSome found (λ disk. IsWorst i (moment_of self.now) (memory_view disk).content)) }
-        ensures left { IfOk result (λ found. IfSome found (λ disk. (memory_view self.now).may_leave (memory_view disk).content)) }
-        ensures settled { IfOk result (λ found. IfSome found (λ disk. IsSettled (memory_view disk) (memory_view disk).content)) }
-        ensures fresh { IfOk result (λ found. IfSome found (λ disk. (failing disk ≡ []) × (taken disk ≡ 0) × (calls_of disk ≡ []))) }
-        ensures faults { IfOk result (λ found. IfSome found (λ disk. (memory_view disk).faults ≡ 0)) }
+        ensures image { IfOk result (λ found. IfSome found
+            (λ disk. IsWorst i (moment_of self.now) (memory_view disk).content)) }
+        ensures left { IfOk result (λ found. IfSome found
+            (λ disk. (memory_view self.now).may_leave (memory_view disk).content)) }
+        ensures settled { IfOk result (λ found. IfSome found
+            (λ disk. IsSettled (memory_view disk) (memory_view disk).content)) }
+        ensures fresh { IfOk result (λ found. IfSome found
+            (λ disk. (failing disk ≡ []) × (taken disk ≡ 0) × (calls_of disk ≡ []))) }
+        ensures faults { IfOk result
+            (λ found. IfSome found (λ disk. (memory_view disk).faults ≡ 0)) }
     {
         let image = match i {
             0 => Vec::from_slice(alloc, &self.content)?,

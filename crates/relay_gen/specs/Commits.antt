@@ -47,7 +47,14 @@ generated_ops (Some c) i x = drafted c.map i x
 
 -- commit i, of an account with these operations, behind those before it
 abbrev pub generated_commit : ℕ → ℕ → List Commit → List Op → Commit
-generated_commit i a commits ops = record { account = a; seq = suc (last_generated (a % 4) commits); rev = i * 1024; past = past_of (last_of a commits); ops = ops; map = played (generated_map (last_of a commits)) ops }
+generated_commit i a commits ops = record {
+  account = a;
+  seq = suc (last_generated (a % 4) commits);
+  rev = i * 1024;
+  past = past_of (last_of a commits);
+  ops = ops;
+  map = played (generated_map (last_of a commits)) ops;
+}
 
 -- Behind others commit i: its account is drawn, and then its operations are.
 abbrev pub with_commit : ℕ → Drawn → Drawn

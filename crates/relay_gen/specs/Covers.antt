@@ -13,7 +13,8 @@ use Rattle.mst_node.specs.Trees.{nodes}
 abbrev pub one_between : Option (List ℕ) → Option (List ℕ) → List (List ℕ) → Bool
 one_between low high keys = list_any (λ k. is_over low k && is_under k high) keys
 
--- the block is on the way to one of the keys: it is encoded over a part of the map whose bounds lie round the key
+-- the block is on the way to one of the keys: it is encoded over a part of the map whose bounds lie
+-- round the key
 abbrev pub is_on_ways : List (List ℕ) → Encoded → Bool
 is_on_ways keys e = one_between e.low e.high keys
 

@@ -20,20 +20,27 @@ with_op ops op = if list_any (λ (o : Op). bytes_eq o.key op.key) ops then ops e
 
 -- Commit i creates this at the place j of its operations.
 abbrev pub creation : ℕ → ℕ → Op
-creation i j = record { key = generated_path (i * 4 + j); was = None; now = Some (generated_value (i * 8 + j)) }
+creation i j = record {
+  key = generated_path (i * 4 + j);
+  was = None;
+  now = Some (generated_value (i * 8 + j));
+}
 
 -- what is done to an item of the map: 7 deletes its key, and the others give it a value
 abbrev pub with_edit : List Op → ℕ → List ℕ → Option Item → List Op
-with_edit ops kind value (Some (Key k was)) = with_op ops (record { key = k; was = Some was; now = if kind == 7 then None else Some value })
+with_edit ops kind value (Some (Key k was)) =
+    with_op ops (record { key = k; was = Some was; now = if kind == 7 then None else Some value })
 with_edit ops kind value item = ops
 
--- The operation at the place j of commit i to the map s: of eight kinds the first five create, as all do where the map is empty. The others edit a key, whose place in the map is drawn.
+-- The operation at the place j of commit i to the map s: of eight kinds the first five create, as
+-- all do where the map is empty. The others edit a key, whose place in the map is drawn.
 abbrev pub with_drawn : List Item → ℕ → ℕ → Draft → Draft
-with_drawn s i j d =
-    let kind = drawn 8 (next d.state) in
-    if nat_lt kind 5 || length s == 0
-    then record { ops = with_op d.ops (creation i j); state = next d.state }
-    else record { ops = with_edit d.ops kind (generated_value (i * 8 + j)) (slice_get s (drawn (length s) (next (next d.state)))); state = next (next d.state) }
+with_drawn s i j d = let kind = drawn 8 (next d.state) in if nat_lt kind 5 || length s == 0
+    then record { ops = with_op d.ops (creation i j); state = next d.state } else record {
+      ops = with_edit d.ops kind
+          (generated_value (i * 8 + j)) (slice_get s (drawn (length s) (next (next d.state))));
+      state = next (next d.state);
+    }
 
 -- so many operations more, from the place j on
 abbrev pub with_more : List Item → ℕ → ℕ → ℕ → Draft → Draft

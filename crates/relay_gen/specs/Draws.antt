@@ -1,4 +1,5 @@
--- The numbers that a history is drawn from (own): a linear congruential generator of 64 bits, of whose state the high half is given.
+-- The numbers that a history is drawn from (own): a linear congruential generator of 64 bits, of
+-- whose state the high half is given.
 use Rattle.std.specs.Prelude.{ℕ, ◌+◌, ◌*◌, ◌/◌, ◌%◌, ◌^◌}
 
 -- the state after a draw

@@ -16,7 +16,8 @@ pub record IsOfItsHost (host did : List ℕ) : Type 0 where
   pub did_is : did ≡ generated_did account
   pub host_is : host ≡ host_of account
 
--- Each event of a made history is of an account of the host that sends it, so no two hosts tell of one account. (Every message that is at hand is a string of bytes.)
+-- Each event of a made history is of an account of the host that sends it, so no two hosts tell of
+-- one account. (Every message that is at hand is a string of bytes.)
 abbrev pub HostsTellOfTheirOwn : Type 0
 HostsTellOfTheirOwn = (start n : ℕ) (host message : List ℕ) (e : Seen) → n ≤ MOST_MESSAGES
     → IsString message → Contains (history start n).messages (host, message)

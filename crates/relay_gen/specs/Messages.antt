@@ -1,4 +1,5 @@
--- The message of a made commit (own), by the Lexicon `com.atproto.sync.subscribeRepos` and the Repository specification.
+-- The message of a made commit (own), by the Lexicon `com.atproto.sync.subscribeRepos` and the
+-- Repository specification.
 use Rattle.std.specs.Prelude.{ℕ, pos, false, List, [], ◌∷◌, ◌++◌, map, codes, Option, Some, None}
 use Rattle.std.specs.FinMap as finite
 use Rattle.std.specs.List.{repeat}
@@ -62,7 +63,8 @@ abbrev pub prev_data : Option Past → List (List ℕ × Item)
 prev_data None = []
 prev_data (Some past) = (codes "prevData", Item.link past.data_root) ∷ []
 
--- the fields of a `#commit`, in their order: those up to the DID, those up to the blocks, and those behind
+-- the fields of a `#commit`, in their order: those up to the DID, those up to the blocks, and those
+-- behind
 abbrev pub front_fields : List Op → ℕ → ℕ → List ℕ → List (List ℕ × Item)
 front_fields ops rev seq did =
     (codes "ops", Item.list (items_of (map op_item ops)))

@@ -48,7 +48,8 @@ AreBefore i [] = Unit {0}
 AreBefore i (c ∷ commits) = IsMap c.map × AreOlder (i * 4) c.map × (length c.map ≤ i * 4)
     × (c.seq < i) × AreBefore i commits
 
--- what a making holds behind commits: the state of the draws, each account's repository, and the last number of each host
+-- what a making holds behind commits: the state of the draws, each account's repository, and the
+-- last number of each host
 pub record IsBehind (d : Drawn) (state : ℕ) (accounts : List Repository)
     (seqs : List ℕ) : Type 0 where
   pub draws : state ≡ d.state
@@ -65,7 +66,10 @@ turned_of (op ∷ ops) = turned_of ops ++ record { key = op.key; was = op.now; n
 
 -- the repository after a commit
 abbrev pub after_commit : ℕ → List Item → List Op → Repository
-after_commit rev s ops = record { map = played s ops; past = Some (record { rev = rev; data_root = root (played s ops) }) }
+after_commit rev s ops = record {
+  map = played s ops;
+  past = Some (record { rev = rev; data_root = root (played s ops) });
+}
 
 -- the message of a commit that left the map t
 abbrev pub commit_message : List ℕ → ℕ → ℕ → Option Past → List Op → List Item → List ℕ

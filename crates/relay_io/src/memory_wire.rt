@@ -70,7 +70,8 @@ impl MemoryWire {
     /// made.
     #[tactic(auto, using(crate::proofs::Rooms::rooms_more))]
     pub fn reserve(&mut self, calls: usize, bytes: usize) -> Result<(), Memory>
-        ensures ok { OnOk result (rooms_of self.new ≡ rooms_of self.old ++ repeat calls (bytes ∷ [])) }
+        ensures ok { OnOk result
+            (rooms_of self.new ≡ rooms_of self.old ++ repeat calls (bytes ∷ [])) }
         ensures requests { requests_of self.new ≡ requests_of self.old }
         ensures exchanges { exchanges_of self.new ≡ exchanges_of self.old }
         ensures calls { wire_calls self.new ≡ wire_calls self.old }
@@ -108,8 +109,8 @@ impl MemoryWire {
         ensures empty { IfSome result (λ room. (room.items ≡ []) × (vec_len room ≡ 0)) }
         ensures holds { IfSome result (λ room. bytes ≤ vec_capacity room) }
         ensures found { is_some result ≡ has_room bytes (rooms_of self.old) }
-        ensures spare { IfSome result (λ _.
-            vec_len self.new.exchanges + 1 + vec_len self.new.rooms ≤ vec_capacity self.new.exchanges) }
+        ensures spare { IfSome result (λ _. vec_len self.new.exchanges + 1
+            + vec_len self.new.rooms ≤ vec_capacity self.new.exchanges) }
         ensures requests { requests_of self.new ≡ requests_of self.old }
         ensures exchanges { exchanges_of self.new ≡ exchanges_of self.old }
         ensures calls { wire_calls self.new ≡ wire_calls self.old }
@@ -148,8 +149,8 @@ impl Wire for MemoryWire {
         ensures came { IfOk result (λ more. IsTrue true
             → exchanges_of self.new ≡ exchanges_of self.old ++ came more room.new) }
         ensures within { IfOk result (λ more. IsTrue more → length room.new ≤ LONGEST_REQUEST) }
-        ensures kept { OnErr result (IsTrue true
-            → (requests_of self.new ≡ requests_of self.old) × (exchanges_of self.new ≡ exchanges_of self.old)) }
+        ensures kept { OnErr result (IsTrue true → (requests_of self.new ≡ requests_of self.old)
+            × (exchanges_of self.new ≡ exchanges_of self.old)) }
         ensures counts { (wire_calls self.old).faults ≤ (wire_calls self.new).faults }
         ensures steady { OnOk result ((wire_calls self.new).faults ≡ (wire_calls self.old).faults) }
         ensures no_fault { IsErrOf result WireFault.Memory
@@ -195,7 +196,8 @@ impl Wire for MemoryWire {
         ensures counts { (wire_calls self.new).faults ≡ (wire_calls self.old).faults }
         ensures send_counts { (send_calls self.old).faults ≤ (send_calls self.new).faults }
         ensures steady { OnOk result ((send_calls self.new).faults ≡ (send_calls self.old).faults) }
-        ensures failed { OnErr result (Rose (send_calls self.old).faults (send_calls self.new).faults) }
+        ensures failed { OnErr result
+            (Rose (send_calls self.old).faults (send_calls self.new).faults) }
 
         // Where it fails.
         ensures fails { IsErr result ↔ FailsNext (send_calls self.old)

@@ -85,7 +85,8 @@ pub trait Wire {
         ensures steady { OnOk result (faults self.new ≡ faults self.old) }
         ensures no_fault { IsErrOf result WireFault.Memory → faults self.new ≡ faults self.old }
         ensures send_counts { send_faults self.new ≡ send_faults self.old }
-        ensures failed { IsErrOf result WireFault.Failed → Rose (faults self.old) (faults self.new) };
+        ensures failed { IsErrOf result WireFault.Failed
+            → Rose (faults self.old) (faults self.new) };
 
     /// Sends a reply to the request that waits, and closes its connection. It takes no memory.
     fn send(&mut self, reply: &[u8]) -> Result<(), Failed>

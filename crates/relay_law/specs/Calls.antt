@@ -43,7 +43,8 @@ abbrev pub found_head : Result Found Refusal → Result Head Refusal
 found_head (Ok found) = Ok found.head
 found_head (Err refusal) = Err refusal
 
--- Of each event the checks say what the calls answer: `open_commit` and `link` of a commit, `check_sync` of a `#sync`.
+-- Of each event the checks say what the calls answer: `open_commit` and `link` of a commit,
+-- `check_sync` of a `#sync`.
 pub record SayWhatCallsAnswer (checks : Checks) : Type 0 where
   pub opens : (e : Seen) (c : CommitEvent) (last : Option ℕ) (answer : Result Opened Refusal)
       → e.body ≡ Body.Commit c → IsOpenAnswer c last answer

@@ -1,4 +1,5 @@
--- The chains of an account: the commits that a journal accepted of it, each run of them behind a base (own).
+-- The chains of an account: the commits that a journal accepted of it, each run of them behind a
+-- base (own).
 use Rattle.std.specs.Prelude.{ℕ, List, [], ◌∷◌, ◌++◌, if◌then◌else◌, ◌==◌}
 use Rattle.relay_row.specs.Folds.{names, did_of_row}
 use Rattle.relay_row.specs.declared.carried.Carried.{Carried}
@@ -9,7 +10,8 @@ use Rattle.relay_row.specs.declared.taken.Effect.{Effect}
 use Rattle.relay_row.specs.declared.taken.Taken.{Taken}
 use Rattle.commit_check.specs.Step.{empty_root}
 
--- what a row is to the chains of its account: an accepted commit, with its message and its `data`; a base, with the root of its map; or neither
+-- what a row is to the chains of its account: an accepted commit, with its message and its `data`;
+-- a base, with the root of its map; or neither
 pub data Part : Type 0 where
   commits : List ℕ → List ℕ → Part
   rests : List ℕ → Part

@@ -1,4 +1,5 @@
--- When a commit has to be accepted, in terms of maps: its operations play, and its blocks hold their cover.
+-- When a commit has to be accepted, in terms of maps: its operations play, and its blocks hold
+-- their cover.
 use Rattle.std.specs.Prelude.{◌≡◌, ℕ, true, false, List, Some, None, nat_lt}
 use Rattle.at_event.specs.Seen.{Seen}
 use Rattle.at_event.specs.Writing.{out_length}
@@ -15,7 +16,10 @@ use Rattle.relay_core.specs.Table.{is_ahead}
 use Rattle.relay_core.specs.declared.limits.TheConstants.{LONGEST_MESSAGE}
 use Rattle.relay_law.specs.Right.{expect_of}
 
--- Behind the journal J, a host's commit event stands above the host's cursor; its account is active and not down; it shows no refusal by itself and isn't ahead of the moment; there is no gap before it; and its operations play from a map with the root that is expected to one with its `data` as root, whose cover its blocks hold.
+-- Behind the journal J, a host's commit event stands above the host's cursor; its account is active
+-- and not down; it shows no refusal by itself and isn't ahead of the moment; there is no gap before
+-- it; and its operations play from a map with the root that is expected to one with its `data` as
+-- root, whose cover its blocks hold.
 pub record IsCovered (J : List Row) (host : List ℕ) (e : Seen) (moment : ℕ) : Type 0 where
   pub commit : CommitEvent
   pub body : e.body ≡ Body.Commit commit

@@ -1,4 +1,5 @@
--- Faithful rows: what a row sends out is read as an event of the row's account, under the number that it got.
+-- Faithful rows: what a row sends out is read as an event of the row's account, under the number
+-- that it got.
 use Rattle.std.specs.Prelude.{◌≡◌, ◌≢◌, ℕ, false, List, [], ◌∷◌, Ok, IsTrue}
 use Rattle.at_event.specs.Frames.{frame_of}
 use Rattle.at_event.specs.Seen.{Seen}

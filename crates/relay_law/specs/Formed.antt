@@ -42,12 +42,14 @@ IsFetchedBehind last Fetched.Absent = ⊤
 IsFetchedBehind last (Fetched.Refused n) = is_repo_number true n ≡ true
 IsFetchedBehind last (Fetched.Whole w) = IsWholeBehind last w
 
--- the right answer to opening an event: the first refusal that it shows by itself, or the head that its blocks give its repository
+-- the right answer to opening an event: the first refusal that it shows by itself, or the head that
+-- its blocks give its repository
 abbrev pub IsOpenedAs : Body → Option ℕ → Result Head Refusal → Type 0
 IsOpenedAs body last (Ok head) = (shown_alone body last ≡ None) × IsHeadOf body head
 IsOpenedAs body last (Err r) = shown_alone body last ≡ Some r
 
--- The answers to an event so far, of its account and behind the last number: the moment is a number; opening and linking say what is right; and a fetch came to what a row may keep.
+-- The answers to an event so far, of its account and behind the last number: the moment is a
+-- number; opening and linking say what is right; and a fetch came to what a row may keep.
 pub record AreAnswersTo (last : ℕ) (a : State) (e : Seen) (x : Answers) : Type 0 where
   pub moment : (m : ℕ) → x.moment ≡ Some m → m < NUMBERS
   pub opened : (answer : Result Head Refusal) → x.opened ≡ Some answer
@@ -72,7 +74,8 @@ IsFormedFound last did time (unfit n) = is_repo_number true n ≡ true
 IsFormedFound last did time (found head records block) = (is_head head ≡ true) × (records < NUMBERS)
     × (is_message (sync_message did time head block (last + 1)) ≡ true)
 
--- the answers from outside to a message: the moment is a number, and a fetch for an event finds what a row may keep
+-- the answers from outside to a message: the moment is a number, and a fetch for an event finds
+-- what a row may keep
 abbrev pub AreFormedFor : ℕ → Frame → Outside → Type 0
 AreFormedFor last (Frame.Event e) o = (o.moment < NUMBERS)
     × IsFormedFound last e.did e.time o.fetched

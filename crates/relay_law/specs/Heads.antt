@@ -25,13 +25,15 @@ use Rattle.relay_law.specs.Faithful.{AreFaithful, ReadsAs}
 use Rattle.relay_law.specs.Right.{expect_of}
 use Rattle.relay_law.specs.Sound.{IsSound}
 
--- A commit gives this head behind what was known of its repository: it shows no refusal, no gap stands before it, and the head is that of the commit object in its blocks.
+-- A commit gives this head behind what was known of its repository: it shows no refusal, no gap
+-- stands before it, and the head is that of the commit object in its blocks.
 pub record CommitGives (before : Repo) (head : Head) (c : CommitEvent) : Type 0 where
   pub shown : first_of (open_lines c (last_rev before)) ≡ None
   pub no_gap : is_gap c (expect_of before) ≡ false
   pub gives : IsHeadOf (Body.Commit c) head
 
--- an event gives a head: a commit so, a `#sync` that of the commit object in its blocks, and no other
+-- an event gives a head: a commit so, a `#sync` that of the commit object in its blocks, and no
+-- other
 abbrev pub GivesHead : Repo → Head → Body → Type 0
 GivesHead before head (Body.Commit c) = CommitGives before head c
 GivesHead before head (Body.Sync sync) = IsHeadOf (Body.Sync sync) head
@@ -44,7 +46,8 @@ EffectGives before t (Effect.Account active status) = Unit {0}
 EffectGives before t (Effect.Repo head) =
     ReadsAs t.message t.did t.seq (λ body. (kind_number body ≡ t.kind) × GivesHead before head body)
 
--- the relay's own `#sync` gives the head of the repository that was taken over: that of the commit object in its blocks
+-- the relay's own `#sync` gives the head of the repository that was taken over: that of the commit
+-- object in its blocks
 abbrev pub WholeGives : List ℕ → Whole → Type 0
 WholeGives did w = ReadsAs w.message did w.seq (λ body. (kind_number body ≡ 2)
     × IsHeadOf body w.head)
@@ -55,8 +58,8 @@ FetchGives did Fetched.Absent = Unit {0}
 FetchGives did (Fetched.Refused n) = Unit {0}
 FetchGives did (Fetched.Whole w) = WholeGives did w
 
--- Behind the journal J, the message of an accepted commit or `#sync` gives the head that its row keeps, and
--- so does the relay's own `#sync` of a repository that the row takes over.
+-- Behind the journal J, the message of an accepted commit or `#sync` gives the head that its row
+-- keeps, and so does the relay's own `#sync` of a repository that the row takes over.
 abbrev pub GivesItsHead : List Row → Row → Type 0
 GivesItsHead J (Row.Taken t) = EffectGives (account t.did J).repo t t.effect
     × FetchGives t.did t.fetched
@@ -68,7 +71,8 @@ abbrev pub GiveHeads : List Row → List Row → Type 0
 GiveHeads J [] = Unit {0}
 GiveHeads J (row ∷ rows) = GivesItsHead J row × GiveHeads (J ++ row ∷ []) rows
 
--- A block gives a head: it is read as a commit object with the head's root, and the head's link ends with its digest.
+-- A block gives a head: it is read as a commit object with the head's root, and the head's link
+-- ends with its digest.
 pub record BlockGives (head : Head) (block : List ℕ) : Type 0 where
   pub commit : Commit
   pub reads : commit_of block ≡ Ok commit
@@ -89,8 +93,8 @@ FetchesGive (Row.Synced did whole moment ∷ rows) = FetchesGive rows
 FetchesGive (Row.Operated o ∷ rows) = FetchesGive rows
 FetchesGive (Row.Carried c ∷ rows) = FetchesGive rows
 
--- A journal is faithful: it is sound, and each message that it sends is read as an event of its row's
--- account, under its number, that gives the head that the row keeps.
+-- A journal is faithful: it is sound, and each message that it sends is read as an event of its
+-- row's account, under its number, that gives the head that the row keeps.
 pub record IsFaithfulJournal (J : List Row) : Type 0 where
   pub journal : IsJournal J
   pub sound : IsSound J

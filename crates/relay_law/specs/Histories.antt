@@ -1,11 +1,14 @@
--- Histories: what becomes of the journal of a store over its calls, failures, crashes and openings (own).
+-- Histories: what becomes of the journal of a store over its calls, failures, crashes and openings
+-- (own).
 use Rattle.std.specs.Prelude.{◌≡◌, ◌≢◌, ◌⊎◌, ℕ, ◌≤◌, true, List, [], ◌∷◌, ◌++◌, Option, Some, None, nat_le, nat_lt}
 use Rattle.std.specs.List.{list_all}
 use Rattle.relay_row.specs.Folds.{cursor, events, last_seq}
 use Rattle.relay_row.specs.declared.row.Row.{Row}
 use Rattle.relay_law.specs.Carried.{CarriesOver}
 
--- A journal is cut at a number up to its last one: the front that sent out the events up to it, of which there are some, gives way to rows that carry it over, with its last number and each host's cursor; the events behind it have greater numbers.
+-- A journal is cut at a number up to its last one: the front that sent out the events up to it, of
+-- which there are some, gives way to rows that carry it over, with its last number and each host's
+-- cursor; the events behind it have greater numbers.
 pub record IsCut (J : List Row) (number : ℕ) (cut : List Row) : Type 0 where
   pub front : List Row
   pub others : List Row
@@ -38,7 +41,8 @@ AreChanged J (change ∷ changes) K = (middle : List Row) × IsChanged J change 
 abbrev pub Comes : List Row → List Row → Type 0
 Comes J K = (changes : List Change) × AreChanged J changes K
 
--- Between two calls: the journal of the store, where one is open, and the journals for which the disks stand, by one or another of the bytes that a crash there may leave.
+-- Between two calls: the journal of the store, where one is open, and the journals for which the
+-- disks stand, by one or another of the bytes that a crash there may leave.
 pub record Point : Type 0 where
   pub serves : Option (List Row)
   pub leaves : List (List Row)
@@ -51,7 +55,9 @@ IsIn J (K ∷ journals) = (J ≡ K) ⊎ IsIn J journals
 abbrev pub Stands : Point → Type 0
 Stands p = (J : List Row) → p.serves ≡ Some J → (K : List Row) → IsIn K p.leaves → K ≡ J
 
--- A call of a store with this journal, that was to make a change: it ended so, or with nothing changed, or the store is no longer open, after a failure of the disks or a crash; and the disks stand for the one journal or for the other.
+-- A call of a store with this journal, that was to make a change: it ended so, or with nothing
+-- changed, or the store is no longer open, after a failure of the disks or a crash; and the disks
+-- stand for the one journal or for the other.
 pub record Calls (J : List Row) (next : Point) : Type 0 where
   pub change : Change
   pub changed : List Row
@@ -59,7 +65,8 @@ pub record Calls (J : List Row) (next : Point) : Type 0 where
   pub ends : (next.serves ≡ Some changed) ⊎ ((next.serves ≡ Some J) ⊎ (next.serves ≡ None))
   pub leaves : (K : List Row) → IsIn K next.leaves → (K ≡ J) ⊎ (K ≡ changed)
 
--- An opening: it opens a journal for which the disks stand, or fails, or a crash ends it; and the disks stand for nothing new.
+-- An opening: it opens a journal for which the disks stand, or fails, or a crash ends it; and the
+-- disks stand for nothing new.
 pub record Opens (p next : Point) : Type 0 where
   pub ends : (J : List Row) → next.serves ≡ Some J → IsIn J p.leaves
   pub leaves : (K : List Row) → IsIn K next.leaves → IsIn K p.leaves
@@ -68,7 +75,8 @@ abbrev pub NextOf : Option (List Row) → Point → Point → Type 0
 NextOf None p next = Opens p next
 NextOf (Some J) p next = Calls J next
 
--- a list of points, each of which follows the one before it by a call, or by an opening where no store is open
+-- a list of points, each of which follows the one before it by a call, or by an opening where no
+-- store is open
 abbrev pub LivesFrom : Point → List Point → Type 0
 LivesFrom p [] = Stands p
 LivesFrom p (next ∷ points) = Stands p × NextOf p.serves p next × LivesFrom next points

@@ -49,7 +49,8 @@ AreEvents ((host, Ok Frame.Error) ∷ messages) = AreEvents messages
 AreEvents ((host, Ok Frame.Unknown) ∷ messages) = AreEvents messages
 AreEvents ((host, Err fault) ∷ messages) = AreEvents messages
 
--- A run behind a sound journal leaves a sound journal, whatever the hosts sent and whatever was answered, as long as the checks are right.
+-- A run behind a sound journal leaves a sound journal, whatever the hosts sent and whatever was
+-- answered, as long as the checks are right.
 abbrev pub RunsStaySound : Type 0
 RunsStaySound = (checks : Checks) → AreRight checks
     → (J : List Row) (messages : List Message) (rows : List Row)
@@ -89,21 +90,24 @@ abbrev pub SentAreEvents : Type 0
 SentAreEvents = (sent : List (List ℕ × List ℕ)) → AllByRecursion (λ m. IsBytes m.1) sent
     → AreEvents (as_read sent)
 
--- A store's run behind a sound journal leaves a sound journal, whatever bytes the hosts sent and whatever was answered: a run by whichever checks open and link rightly, as its calls do.
+-- A store's run behind a sound journal leaves a sound journal, whatever bytes the hosts sent and
+-- whatever was answered: a run by whichever checks open and link rightly, as its calls do.
 abbrev pub StoresStaySound : Type 0
 StoresStaySound = (J : List Row) (sent : List (List ℕ × List ℕ)) (rows : List Row)
     → AllByRecursion (λ m. IsBytes m.1) sent → IsJournal (J ++ rows) → IsSound J
     → ((checks : Checks) → OpensRight checks → LinksRight checks → Run checks J (as_read sent) rows)
     → IsSound (J ++ rows)
 
--- Behind one journal, in one world, two merges of the same hosts' streams leave the same accounts and the same cursors, and of every host, aside from the numbers given, the same rows.
+-- Behind one journal, in one world, two merges of the same hosts' streams leave the same accounts
+-- and the same cursors, and of every host, aside from the numbers given, the same rows.
 abbrev pub MergesAgree : Type 0
 MergesAgree = (checks : Checks) (w : World) (J : List Row) (ended : List (List ℕ))
     (one other : List Message) (ones others : List Row)
     → Merge one other → OneHome w one → RunsIn checks w J ended one ones
     → RunsIn checks w J ended other others → Agree checks J ones others
 
--- A covered commit is accepted where its home and its signature are good, and else refused for one of the two alone.
+-- A covered commit is accepted where its home and its signature are good, and else refused for one
+-- of the two alone.
 abbrev pub CoveredAreAccepted : Type 0
 CoveredAreAccepted = (checks : Checks) → OpensRight checks → LinksRight checks
     → (J : List Row) (host : List ℕ) (e : Seen) (o : Outside) (t : Taken) → IsEvent e
@@ -112,7 +116,8 @@ CoveredAreAccepted = (checks : Checks) → OpensRight checks → LinksRight chec
     → t.refusal ≡ (if o.home then (if o.verdict then None else Some Refusal.BadSignature)
     else Some Refusal.NotHome)
 
--- The rows that operators' commands make are faithful, whatever the time is that they bear, if it is a short text.
+-- The rows that operators' commands make are faithful, whatever the time is that they bear, if it
+-- is a short text.
 pub record OperatorsAreFaithful : Type 0 where
   pub operated : (J : List Row) (did : List ℕ) (down : Bool) (time : List ℕ) (moment : Option ℕ)
       → IsShortText time
@@ -137,18 +142,23 @@ RunsFollowKnown = (checks : Checks) → AreRight checks
     → (J : List Row) (messages : List Message) (rows : List Row) → Run checks J messages rows
     → AreOfKnown J rows
 
--- Where the front of a sound journal gives way to rows that carry it over, the journal stays sound, as long as no commit behind the front is of an account that was lost.
+-- Where the front of a sound journal gives way to rows that carry it over, the journal stays sound,
+-- as long as no commit behind the front is of an account that was lost.
 abbrev pub CarriedStaySound : Type 0
 CarriedStaySound = (front others carried : List Row) → IsJournal (front ++ others)
     → IsSound (front ++ others) → AreOfKnown front others → CarriesOver front carried
     → IsSound (carried ++ others)
 
--- Over every list of calls, failures, crashes and openings, each journal that a later store has comes from the one that is open now by rows added at its end and by cuts at numbers that were held.
+-- Over every list of calls, failures, crashes and openings, each journal that a later store has
+-- comes from the one that is open now by rows added at its end and by cuts at numbers that were
+-- held.
 abbrev pub JournalsComeOn : Type 0
 JournalsComeOn = (p : Point) (points : List Point) (J : List Row) → LivesFrom p points
     → p.serves ≡ Some J → AllCome J points
 
--- A message that is decided makes a row that is well formed and keeps the order of its journal, whatever was answered, as long as opening and linking were answered rightly and the number that the row gives is one.
+-- A message that is decided makes a row that is well formed and keeps the order of its journal,
+-- whatever was answered, as long as opening and linking were answered rightly and the number that
+-- the row gives is one.
 abbrev pub MadeRowsAreFormed : Type 0
 MadeRowsAreFormed = (J : List Row) (host : List ℕ) (frame : Frame) (x : Answers) (d : Decision)
     (row : Row)
@@ -158,7 +168,8 @@ MadeRowsAreFormed = (J : List Row) (host : List ℕ) (frame : Frame) (x : Answer
     → row_of (last_seq J) host frame d x ≡ Some row
     → seq_in row < NUMBERS → IsJournal (J ++ row ∷ [])
 
--- The same of the row that is decided for answers to all questions, as long as the checks open and link rightly.
+-- The same of the row that is decided for answers to all questions, as long as the checks open and
+-- link rightly.
 abbrev pub DecidedRowsAreFormed : Type 0
 DecidedRowsAreFormed = (checks : Checks) → OpensRight checks → LinksRight checks
     → (J : List Row) (host : List ℕ) (frame : Frame) (o : Outside) (t : Taken)
@@ -167,7 +178,8 @@ DecidedRowsAreFormed = (checks : Checks) → OpensRight checks → LinksRight ch
     → decided checks (last_seq J) (account (did_of frame) J) host frame o ≡ Some t
     → seq_in (Row.Taken t) < NUMBERS → IsJournal (J ++ Row.Taken t ∷ [])
 
--- The row that takes an account down or restores it, at a time and a moment, is well formed and keeps the order of its journal, as long as a number is left.
+-- The row that takes an account down or restores it, at a time and a moment, is well formed and
+-- keeps the order of its journal, as long as a number is left.
 abbrev pub OperatedRowsAreFormed : Type 0
 OperatedRowsAreFormed = (J : List Row) (did : List ℕ) (down : Bool) (time : List ℕ) (moment : ℕ)
     → IsJournal J → names_did did ≡ true → IsShortText time → moment < NUMBERS
@@ -185,7 +197,8 @@ SyncedRowsAreFormed = (J : List Row) (did time : List ℕ) (head : Head) (record
     → IsJournal (J ++ Row.Synced did (whole_under did time head records block (last_seq J + 1))
     (Some moment) ∷ [])
 
--- A run of right checks, and so a store's, gives the heads that its rows keep, as long as what was fetched was given by its blocks.
+-- A run of right checks, and so a store's, gives the heads that its rows keep, as long as what was
+-- fetched was given by its blocks.
 abbrev pub RunsGiveHeads : Type 0
 RunsGiveHeads = (checks : Checks) → OpensRight checks → LinksRight checks
     → (J : List Row) (messages : List Message) (rows : List Row)
@@ -206,10 +219,10 @@ abbrev pub synced_row : List Row → List ℕ → List ℕ → Head → ℕ → 
 synced_row J did time head records block moment =
     Row.Synced did (whole_under did time head records block (last_seq J + 1)) moment
 
--- The journals that a relay writes are faithful: the empty one; what a store's run adds, whatever bytes the
--- hosts sent and whatever was answered, as long as the block of each repository that was fetched gives its head;
--- the rows that operators' commands make; and one whose front gives way to rows that carry it over. So is each
--- front of one.
+-- The journals that a relay writes are faithful: the empty one; what a store's run adds, whatever
+-- bytes the hosts sent and whatever was answered, as long as the block of each repository that was
+-- fetched gives its head; the rows that operators' commands make; and one whose front gives way to
+-- rows that carry it over. So is each front of one.
 pub record JournalsStayFaithful : Type 0 where
   pub none : IsFaithfulJournal []
   pub run : (J : List Row) (sent : List (List ℕ × List ℕ)) (rows : List Row)

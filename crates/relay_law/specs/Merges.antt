@@ -42,7 +42,9 @@ abbrev pub OneHome : World → List Message → Type 0
 OneHome w messages = (did one other : List ℕ) → Names messages one did → Names messages other did
     → w.home did one ≡ true → w.home did other ≡ true → one ≡ other
 
--- Both are what is decided of one message of a host, for one account and the same answers, each behind a last number of its own: they differ in the numbers that were given alone, also inside the messages that go out.
+-- Both are what is decided of one message of a host, for one account and the same answers, each
+-- behind a last number of its own: they differ in the numbers that were given alone, also inside
+-- the messages that go out.
 pub record DifferInNumbers (checks : Checks) (one other : Taken) : Type 0 where
   pub host : List ℕ
   pub frame : Frame
@@ -69,7 +71,8 @@ AllAlike checks (one ∷ ones) (other ∷ others) = AreAlike checks one other
 abbrev pub rows_of : List ℕ → List Row → List Row
 rows_of host rows = filter (λ row. bytes_eq host (host_in row)) rows
 
--- What two lists of rows behind one journal agree on: each account, each host's cursor, and, aside from the numbers given, the rows of each host.
+-- What two lists of rows behind one journal agree on: each account, each host's cursor, and, aside
+-- from the numbers given, the rows of each host.
 pub record Agree (checks : Checks) (J ones others : List Row) : Type 0 where
   pub accounts : (did : List ℕ) → account did (J ++ ones) ≡ account did (J ++ others)
   pub cursors : (host : List ℕ) → cursor host (J ++ ones) ≡ cursor host (J ++ others)

@@ -1,4 +1,5 @@
--- What a journal's soundness asks of the checks of commits, and the right answers to linking a commit.
+-- What a journal's soundness asks of the checks of commits, and the right answers to linking a
+-- commit.
 use Rattle.std.specs.Prelude.{◌≡◌, ◌≢◌, ℕ, List, false, Option, Some, None, Ok}
 use Rattle.at_event.specs.Events.{IsEvent}
 use Rattle.at_event.specs.Seen.{Seen}
@@ -19,7 +20,8 @@ root_expected Repo.Missing = empty_root
 root_expected (Repo.Good head) = head.data_root
 root_expected (Repo.Lost rev) = empty_root
 
--- A commit that is linked isn't of a lost account, and goes from the root that was expected to its `data`.
+-- A commit that is linked isn't of a lost account, and goes from the root that was expected to its
+-- `data`.
 pub record AreRight (checks : Checks) : Type 0 where
   pub not_lost : (e : Seen) (c : CommitEvent) (rev : Option ℕ) → e.body ≡ Body.Commit c
       → checks.links e (Repo.Lost rev) ≢ None
@@ -33,7 +35,9 @@ expect_of Repo.Missing = Expect.Start
 expect_of (Repo.Good head) = Expect.After head
 expect_of (Repo.Lost rev) = Expect.Lost
 
--- Linking says what is right of a commit: it passes only where there is no gap and, by the blocks that were read, the commit leads from the root before to its `data`; a refusal is the one that stops it.
+-- Linking says what is right of a commit: it passes only where there is no gap and, by the blocks
+-- that were read, the commit leads from the root before to its `data`; a refusal is the one that
+-- stops it.
 pub record LinksRight (checks : Checks) : Type 0 where
   pub no_gap : (e : Seen) (c : CommitEvent) (repo : Repo) → e.body ≡ Body.Commit c
       → checks.links e repo ≡ None → is_gap c (expect_of repo) ≡ false

@@ -1,4 +1,5 @@
--- Sound journals: each accepted commit of a chain follows from what stands before it, and so each chain replays.
+-- Sound journals: each accepted commit of a chain follows from what stands before it, and so each
+-- chain replays.
 use Rattle.std.specs.Prelude.{◌≡◌, ℕ, List, [], ◌∷◌, ◌++◌, Ok}
 use Rattle.at_car.specs.Blocks.{BlockMap}
 use Rattle.at_event.specs.Frames.{frame_of}
@@ -26,7 +27,8 @@ pub record IsCommit (message : List ℕ) (c : CommitEvent) : Type 0 where
   pub reads : frame_of message ≡ Ok (Frame.Event event)
   pub says : event.body ≡ Body.Commit c
 
--- a commit event goes from root to root: on every map with the former root its operations play, and give a map with the later one, unless different blocks share a digest
+-- a commit event goes from root to root: on every map with the former root its operations play, and
+-- give a map with the later one, unless different blocks share a digest
 pub record GoesFrom (c : CommitEvent) (former later : List ℕ) : Type 0 where
   pub blocks : BlockMap
   pub has : HasBlocks c blocks
@@ -63,7 +65,8 @@ pub record GoesTo (s : List Item) (c : CommitEvent) (data_root : List ℕ)
   pub plays : Plays s (edits_of c) t
   pub rooted : root t ≡ data_root
 
--- from this map, commit by commit, a chain replays, for as long as different blocks don't share a digest
+-- from this map, commit by commit, a chain replays, for as long as different blocks don't share a
+-- digest
 abbrev pub Replays : List Item → List (List ℕ × List ℕ) → Type 0
 Replays s [] = Unit {0}
 Replays s (k ∷ ks) = (c : CommitEvent) × IsCommit k.0 c

@@ -60,7 +60,8 @@ events_of Fetched.Absent = []
 events_of (Fetched.Refused n) = []
 events_of (Fetched.Whole w) = (w.seq, w.message) ∷ []
 
--- the event that a row sends out, if it does: its number and its message. A well formed row sends one at most
+-- the event that a row sends out, if it does: its number and its message. A well formed row sends
+-- one at most
 abbrev pub events_in : Row → List (ℕ × List ℕ)
 events_in (Row.Taken t) = if t.seq == 0 then events_of t.fetched else (t.seq, t.message) ∷ []
 events_in (Row.Synced did whole moment) = (whole.seq, whole.message) ∷ []

@@ -35,7 +35,8 @@ abbrev pub head_items : Head → List Item
 head_items h = rev_text h.rev ∷ Item.link h.data_root ∷ Item.link h.commit ∷ []
 
 abbrev pub whole_items : Whole → List Item
-whole_items w = number w.seq ∷ rev_text w.head.rev ∷ Item.link w.head.data_root ∷ Item.link w.head.commit ∷ number w.records ∷ Item.bytes w.message ∷ []
+whole_items w = number w.seq ∷ rev_text w.head.rev ∷ Item.link w.head.data_root
+    ∷ Item.link w.head.commit ∷ number w.records ∷ Item.bytes w.message ∷ []
 
 -- 0 where a message is accepted, else the number of its refusal
 abbrev pub code : Option Refusal → ℕ
@@ -69,13 +70,16 @@ repo_item (CarriedRepo.Lost rev) = list (or_null rev_text rev ∷ [])
 abbrev pub carried_items : Carried → List Item
 carried_items (Carried.Last seq) = number 4 ∷ number 0 ∷ number seq ∷ []
 carried_items (Carried.Host host cursor) = number 4 ∷ number 1 ∷ Item.text host ∷ number cursor ∷ []
-carried_items (Carried.Account a) =
-    number 4 ∷ number 2 ∷ Item.text a.did ∷ Item.bool a.active ∷ or_null Item.text a.status ∷ Item.bool a.down ∷ repo_item a.repo ∷ []
+carried_items (Carried.Account a) = number 4 ∷ number 2 ∷ Item.text a.did ∷ Item.bool a.active
+    ∷ or_null Item.text a.status ∷ Item.bool a.down ∷ repo_item a.repo ∷ []
 
 abbrev pub row_items : Row → List Item
 row_items (Row.Taken t) =
-    number 1 ∷ Item.text t.host ∷ number t.host_seq ∷ Item.text t.did ∷ number t.kind ∷ number (code t.refusal) ∷ list (detail_items t.refusal)
-    ∷ number t.seq ∷ Item.bytes t.message ∷ effect_item t.effect ∷ fetched_item t.fetched ∷ if_there number t.moment
-row_items (Row.Synced did whole moment) = number 2 ∷ Item.text did ∷ list (whole_items whole) ∷ if_there number moment
-row_items (Row.Operated o) = number 3 ∷ Item.text o.did ∷ Item.bool o.down ∷ number o.seq ∷ Item.bytes o.message ∷ if_there number o.moment
+    number 1 ∷ Item.text t.host ∷ number t.host_seq ∷ Item.text t.did ∷ number t.kind
+    ∷ number (code t.refusal) ∷ list (detail_items t.refusal) ∷ number t.seq ∷ Item.bytes t.message
+    ∷ effect_item t.effect ∷ fetched_item t.fetched ∷ if_there number t.moment
+row_items (Row.Synced did whole moment) =
+    number 2 ∷ Item.text did ∷ list (whole_items whole) ∷ if_there number moment
+row_items (Row.Operated o) = number 3 ∷ Item.text o.did ∷ Item.bool o.down
+    ∷ number o.seq ∷ Item.bytes o.message ∷ if_there number o.moment
 row_items (Row.Carried carried) = carried_items carried

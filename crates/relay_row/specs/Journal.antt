@@ -29,16 +29,22 @@ are_none (row ∷ rows) = false
 abbrev pub rises_above : ℕ → ℕ → Bool
 rises_above last seq = seq == 0 || nat_lt last seq
 
--- Behind these rows a row keeps the order: a message stands above its host's cursor, and a number above the last one. What is carried stands in front of all other rows: the last number first, then the hosts, each once, then the accounts, each once.
+-- Behind these rows a row keeps the order: a message stands above its host's cursor, and a number
+-- above the last one. What is carried stands in front of all other rows: the last number first,
+-- then the hosts, each once, then the accounts, each once.
 abbrev pub keeps_order : List Row → Row → Bool
-keeps_order before (Row.Taken t) = nat_lt (cursor t.host before) t.host_seq && rises_above (last_seq before) (seq_in (Row.Taken t))
+keeps_order before (Row.Taken t) =
+    nat_lt (cursor t.host before) t.host_seq && rises_above (last_seq before) (seq_in (Row.Taken t))
 keeps_order before (Row.Synced did whole moment) = rises_above (last_seq before) whole.seq
 keeps_order before (Row.Operated o) = rises_above (last_seq before) o.seq
 keeps_order before (Row.Carried (Carried.Last seq)) = are_none before
-keeps_order before (Row.Carried (Carried.Host host n)) = not (are_none before) && (list_all is_last_or_host before && cursor host before == 0)
-keeps_order before (Row.Carried (Carried.Account a)) = not (are_none before) && (list_all is_carried_row before && not (is_named a.did before))
+keeps_order before (Row.Carried (Carried.Host host n)) =
+    not (are_none before) && (list_all is_last_or_host before && cursor host before == 0)
+keeps_order before (Row.Carried (Carried.Account a)) =
+    not (are_none before) && (list_all is_carried_row before && not (is_named a.did before))
 
 -- A journal: well formed rows, of which each keeps the order behind those in front of it.
 pub record IsJournal (rows : List Row) : Type 0 where
   pub formed : list_all is_row rows ≡ true
-  pub ordered : (before : List Row) (row : Row) (after : List Row) → rows ≡ before ++ row ∷ after → keeps_order before row ≡ true
+  pub ordered : (before : List Row) (row : Row) (after : List Row)
+      → rows ≡ before ++ row ∷ after → keeps_order before row ≡ true

@@ -19,15 +19,20 @@ BodiesTellRows = (xs ys : List Row) (body : List ℕ) → IsBody xs body → IsB
 abbrev pub RowsJoin : Type 0
 RowsJoin = (xs ys : List Row) → encoded_rows (xs ++ ys) ≡ encoded_rows xs ++ encoded_rows ys
 
--- What follows from a journal in two halves follows from the second half behind what follows from the first.
+-- What follows from a journal in two halves follows from the second half behind what follows from
+-- the first.
 pub record FoldsJoin : Type 0 where
-  pub cursors : (host : List ℕ) (xs ys : List Row) → cursor host (xs ++ ys) ≡ folded (cursor_after host) (cursor host xs) ys
+  pub cursors : (host : List ℕ) (xs ys : List Row)
+      → cursor host (xs ++ ys) ≡ folded (cursor_after host) (cursor host xs) ys
   pub lasts : (xs ys : List Row) → last_seq (xs ++ ys) ≡ folded last_after (last_seq xs) ys
   pub events : (xs ys : List Row) → events (xs ++ ys) ≡ events xs ++ events ys
 
--- No rows are a journal. A journal grows by well formed rows that keep the order, and by no others, and each front of a journal is one.
+-- No rows are a journal. A journal grows by well formed rows that keep the order, and by no others,
+-- and each front of a journal is one.
 pub record JournalsGrow : Type 0 where
   pub none : IsJournal []
-  pub grows : (rows : List Row) (row : Row) → IsJournal rows → is_row row ≡ true → keeps_order rows row ≡ true → IsJournal (rows ++ row ∷ [])
-  pub grew : (rows : List Row) (row : Row) → IsJournal (rows ++ row ∷ []) → (is_row row ≡ true) × (keeps_order rows row ≡ true)
+  pub grows : (rows : List Row) (row : Row) → IsJournal rows → is_row row ≡ true
+      → keeps_order rows row ≡ true → IsJournal (rows ++ row ∷ [])
+  pub grew : (rows : List Row) (row : Row) → IsJournal (rows ++ row ∷ [])
+      → (is_row row ≡ true) × (keeps_order rows row ≡ true)
   pub fronts : (xs ys : List Row) → IsJournal (xs ++ ys) → IsJournal xs

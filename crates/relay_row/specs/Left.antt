@@ -32,14 +32,15 @@ pub record AreLeft (rows : List Row) (left : RowsLeft) : Type 0 where
   pub count : left.count ≡ length rows
   pub bytes : left.bytes ≡ encoded_rows rows
 
--- What stands behind the body's front; BadRow only where it is the body of no rows; else memory ran out.
+-- What stands behind the body's front; BadRow only where it is the body of no rows; else memory ran
+-- out.
 abbrev pub BeginsBody : Result RowsLeft RowFault → List ℕ → Type 0
 BeginsBody (Ok left) body = AreBehindFront body left
 BeginsBody (Err RowFault.BadRow) body = (rows : List Row) → IsBody rows body → ⊥
 BeginsBody (Err RowFault.Memory) body = ⊤
 
--- The row in front; none where no rows are left; BadRow only where what was left is that of no rows;
--- else memory ran out. Without a row all is left that was.
+-- The row in front; none where no rows are left; BadRow only where what was left is that of no
+-- rows; else memory ran out. Without a row all is left that was.
 abbrev pub TakesNext : Result (Option Row) RowFault → RowsLeft → RowsLeft → Type 0
 TakesNext (Ok (Some row)) was now = AreInFront (row ∷ []) was now
 TakesNext (Ok None) was now = AreLeft [] was × (now ≡ was)

@@ -12,7 +12,8 @@ use Rattle.relay_row.specs.declared.limits.TheConstants.{PLACES}
 abbrev pub Reading : Type 0 → Type 0
 Reading A = List ℕ → Option (A × List ℕ)
 
--- What a reader answers: this, seen by view, and nothing where it isn't there, unless memory ran out.
+-- What a reader answers: this, seen by view, and nothing where it isn't there, unless memory ran
+-- out.
 abbrev pub Reads : {X Y : Type 0} → (X → Y) → Result X RowFault → Option Y → Type 0
 Reads view (Ok x) found = found ≡ Some (view x)
 Reads view (Err RowFault.BadRow) found = found ≡ None

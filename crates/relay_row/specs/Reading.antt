@@ -50,10 +50,12 @@ one_detail n =
     else fail))
 
 unfoldable pub two_details : ℕ → Reading (Option Refusal)
-two_details n = if n == OTHER_DATA then (link_at >>= λ want. link_at >>= λ got. give (Some (Refusal.OtherData want got))) else fail
+two_details n = if n == OTHER_DATA
+    then (link_at >>= λ want. link_at >>= λ got. give (Some (Refusal.OtherData want got))) else fail
 
 abbrev pub details : ℕ → ℕ → Reading (Option Refusal)
-details n count = if count == 0 then given (plain n) else (if count == 1 then one_detail n else (if count == 2 then two_details n else fail))
+details n count = if count == 0 then given (plain n)
+    else (if count == 1 then one_detail n else (if count == 2 then two_details n else fail))
 
 -- the refusal with this number, from its detail
 unfoldable pub detail_at : ℕ → Reading (Option Refusal)
@@ -66,7 +68,8 @@ account_effect = do
   give (Effect.Account active status)
 
 abbrev pub effect_of : ℕ → Reading Effect
-effect_of count = if count == 3 then (head_at >>= λ head. give (Effect.Repo head)) else (if count == 2 then account_effect else fail)
+effect_of count = if count == 3 then (head_at >>= λ head. give (Effect.Repo head))
+    else (if count == 2 then account_effect else fail)
 
 unfoldable pub effect_at : Reading Effect
 effect_at = or_null_at Effect.Nothing (count_at >>= effect_of)
@@ -82,14 +85,16 @@ unfoldable pub fetched_at : Reading Fetched
 fetched_at = or_null_at Fetched.NotAsked number_or_whole
 
 abbrev pub repo_of : ℕ → Reading CarriedRepo
-repo_of count = if count == 3 then (head_at >>= λ head. give (CarriedRepo.Good head)) else (if count == 1 then (null_or_rev_at >>= λ rev. give (CarriedRepo.Lost rev)) else fail)
+repo_of count = if count == 3 then (head_at >>= λ head. give (CarriedRepo.Good head))
+    else (if count == 1 then (null_or_rev_at >>= λ rev. give (CarriedRepo.Lost rev)) else fail)
 
 unfoldable pub repo_at : Reading CarriedRepo
 repo_at = or_null_at CarriedRepo.Missing (count_at >>= repo_of)
 
 -- a moment behind so many items, where there is one more
 unfoldable pub moment_at : ℕ → ℕ → Reading (Option ℕ)
-moment_at others count = if count == others then give None else (if count == others + 1 then (number_at >>= λ moment. give (Some moment)) else fail)
+moment_at others count = if count == others then give None
+    else (if count == others + 1 then (number_at >>= λ moment. give (Some moment)) else fail)
 
 unfoldable pub taken_at : ℕ → Reading Taken
 taken_at count = do
@@ -104,7 +109,18 @@ taken_at count = do
   effect ← effect_at
   fetched ← fetched_at
   moment ← moment_at 11 count
-  give (record { host = host; host_seq = host_seq; did = did; kind = kind; refusal = refusal; seq = seq; message = message; effect = effect; fetched = fetched; moment = moment })
+  give (record {
+    host = host;
+    host_seq = host_seq;
+    did = did;
+    kind = kind;
+    refusal = refusal;
+    seq = seq;
+    message = message;
+    effect = effect;
+    fetched = fetched;
+    moment = moment;
+  })
 
 unfoldable pub synced_at : ℕ → Reading Row
 synced_at count = do
@@ -140,9 +156,8 @@ host_at = do
 abbrev pub carried_of : ℕ → ℕ → Reading Carried
 carried_of count which =
     if which == 0 && count == 3 then (number_at >>= λ seq. give (Carried.Last seq))
-    else (if which == 1 && count == 4 then host_at
-    else (if which == 2 && count == 7 then (account_at >>= λ account. give (Carried.Account account))
-    else fail))
+    else (if which == 1 && count == 4 then host_at else (if which == 2 && count == 7
+    then (account_at >>= λ account. give (Carried.Account account)) else fail))
 
 unfoldable pub carried_at : ℕ → Reading Carried
 carried_at count = byte_at >>= carried_of count

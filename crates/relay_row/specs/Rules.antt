@@ -122,14 +122,15 @@ is_timed (Some n) = true
 
 -- an accepted event goes out under a number, or is held, which an `#account` alone may be
 unfoldable pub is_accepted : Taken → Bool
-is_accepted t =
-    is_effect t.kind t.effect && (is_fetched false (is_timed t.moment) t.fetched
-    && ((is_positive t.seq && is_message t.message) || (t.kind == 4 && (t.seq == 0 && is_empty t.message))))
+is_accepted t = is_effect t.kind t.effect && (is_fetched false (is_timed t.moment) t.fetched
+    && ((is_positive t.seq && is_message t.message)
+    || (t.kind == 4 && (t.seq == 0 && is_empty t.message))))
 
 unfoldable pub is_refused : Refusal → Taken → Bool
-is_refused r t =
-    is_detail r && (nat_le (code_of r) 24 || (code_of r == 25 && is_timed t.moment)) && (nat_le t.kind 4 && (beq (t.kind == 0) (code_of r == 1)
-    && (is_nothing t.effect && (is_fetched (loses (code_of r)) (is_timed t.moment) t.fetched && (t.seq == 0 && is_empty t.message)))))
+is_refused r t = is_detail r && (nat_le (code_of r) 24 || (code_of r == 25 && is_timed t.moment))
+    && (nat_le t.kind 4 && (beq (t.kind == 0) (code_of r == 1)
+    && (is_nothing t.effect && (is_fetched (loses (code_of r)) (is_timed t.moment) t.fetched
+    && (t.seq == 0 && is_empty t.message)))))
 
 abbrev pub is_decided : Option Refusal → Taken → Bool
 is_decided None t = is_accepted t
@@ -140,10 +141,12 @@ abbrev pub is_about : ℕ → List ℕ → Bool
 is_about kind did = if kind == 0 then is_empty did else names_did did
 
 unfoldable pub is_taken : Taken → Bool
-is_taken t = names_host t.host && (is_number t.host_seq && (is_about t.kind t.did && (is_moment t.moment && is_decided t.refusal t)))
+is_taken t = names_host t.host && (is_number t.host_seq
+    && (is_about t.kind t.did && (is_moment t.moment && is_decided t.refusal t)))
 
 unfoldable pub is_operated : Operated → Bool
-is_operated o = names_did o.did && (is_positive o.seq && (is_message o.message && is_moment o.moment))
+is_operated o =
+    names_did o.did && (is_positive o.seq && (is_message o.message && is_moment o.moment))
 
 abbrev pub is_rev_or_none : Option ℕ → Bool
 is_rev_or_none None = true

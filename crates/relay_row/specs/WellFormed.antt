@@ -1,4 +1,5 @@
--- When a row is well formed, record by record: what its numbers, texts, links and bytes are, and what goes with what (own).
+-- When a row is well formed, record by record: what its numbers, texts, links and bytes are, and
+-- what goes with what (own).
 -- `Rules` says the same as a test, which a law shows.
 use Rattle.std.specs.Prelude.{⊤, ◌≡◌, ◌≢◌, ◌⊎◌, ◌↔◌, ℕ, ◌^◌, ◌<◌, ◌≤◌, List, [], length, Option, Some, None, IfSome, IsSome, IsTrue, IsUtf8}
 use Rattle.at_cid.specs.Link.{IsBytes, IsLink, IsNodeLink}
@@ -68,7 +69,8 @@ pub record IsWhole (w : Whole) : Type 0 where
 
 -- ---- messages that were taken
 
--- what a refusal says beside its number: a node, the node that was due and the one that was found, or the place of an operation
+-- what a refusal says beside its number: a node, the node that was due and the one that was found,
+-- or the place of an operation
 abbrev pub IsDetail : Refusal → Type 0
 IsDetail (Refusal.BadNode link) = IsNodeLink link
 IsDetail (Refusal.OtherData want got) = IsNodeLink want × IsNodeLink got
@@ -76,7 +78,8 @@ IsDetail (Refusal.OtherOp place) = place < PLACES
 IsDetail (Refusal.NotCovered place) = place < PLACES
 IsDetail refusal = ⊤
 
--- the refusals after which the account is lost, so that its repository is fetched: too big, behind a gap, or without proof
+-- the refusals after which the account is lost, so that its repository is fetched: too big, behind
+-- a gap, or without proof
 abbrev pub IsLoss : Refusal → Type 0
 IsLoss Refusal.TooBig = ⊤
 IsLoss Refusal.Gap = ⊤
@@ -88,9 +91,11 @@ IsLoss refusal = ⊥
 
 -- the refusals of messages, of which the one of a revision ahead of its time is judged at a moment
 abbrev pub IsOfMessage : Option ℕ → Refusal → Type 0
-IsOfMessage moment refusal = (code_of refusal ≤ code_of Refusal.TooLong) ⊎ ((refusal ≡ Refusal.FutureRev) × IsSome moment)
+IsOfMessage moment refusal = (code_of refusal ≤ code_of Refusal.TooLong)
+    ⊎ ((refusal ≡ Refusal.FutureRev) × IsSome moment)
 
--- the number of why a repository was refused: 1 to 7, 9 or 10, and where the row keeps a moment also 12
+-- the number of why a repository was refused: 1 to 7, 9 or 10, and where the row keeps a moment
+-- also 12
 abbrev pub IsRepoNumber : Option ℕ → ℕ → Type 0
 IsRepoNumber moment n = ((1 ≤ n) × (n ≤ 7)) ⊎ ((n ≡ 9) ⊎ ((n ≡ 10) ⊎ (IsSome moment × (n ≡ 12))))
 
@@ -101,7 +106,8 @@ IsFetch moment Fetched.Absent = ⊤
 IsFetch moment (Fetched.Refused n) = IsRepoNumber moment n
 IsFetch moment (Fetched.Whole w) = IsWhole w
 
--- what an accepted event of a kind does: a `#commit` (1) and a `#sync` (2) set the head, an `#identity` (3) does nothing, and an `#account` (4) says whether the account is active
+-- what an accepted event of a kind does: a `#commit` (1) and a `#sync` (2) set the head, an
+-- `#identity` (3) does nothing, and an `#account` (4) says whether the account is active
 abbrev pub IsEffectOf : ℕ → Effect → Type 0
 IsEffectOf kind (Effect.Repo head) = ((kind ≡ 1) ⊎ (kind ≡ 2)) × IsHead head
 IsEffectOf kind Effect.Nothing = kind ≡ 3
@@ -124,7 +130,8 @@ pub record IsAcceptedRow (t : Taken) : Type 0 where
   pub fetched : t.fetched ≡ Fetched.NotAsked
   pub sent : GoesOut t ⊎ IsHeldBack t
 
--- A message that was refused: nothing goes out, its account stays, and a fetch follows exactly where it is lost. It has no kind exactly where it didn't read.
+-- A message that was refused: nothing goes out, its account stays, and a fetch follows exactly
+-- where it is lost. It has no kind exactly where it didn't read.
 pub record IsRefusedRow (r : Refusal) (t : Taken) : Type 0 where
   pub code : IsOfMessage t.moment r
   pub detail : IsDetail r

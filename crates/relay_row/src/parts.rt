@@ -216,7 +216,8 @@ pub fn read_moment(
     count: u64,
 ) -> Result<Option<u64>, RowFault>
     requires { others < 24 }
-    ensures { Reads (λ x. (x, reader.new.rest.now)) result (moment_at others count reader.old.rest.now) }
+    ensures { Reads (λ x. (x, reader.new.rest.now)) result
+        (moment_at others count reader.old.rest.now) }
 {
     if count == others {
         return Ok(None);

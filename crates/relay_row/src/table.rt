@@ -101,7 +101,8 @@ fn read_host(reader: &mut ItemReader) -> Result<Carried, RowFault>
 }
 
 fn read_carried_items(reader: &mut ItemReader, count: u64, which: u8) -> Result<Carried, RowFault>
-    ensures { Reads (λ x. (x, reader.new.rest.now)) result (carried_of count which reader.old.rest.now) }
+    ensures { Reads (λ x. (x, reader.new.rest.now)) result
+        (carried_of count which reader.old.rest.now) }
 {
     if which == 0 && count == 3 {
         let seq = read_number(reader)?;
@@ -126,7 +127,8 @@ fn read_carried(reader: &mut ItemReader, count: u64) -> Result<Carried, RowFault
 }
 
 fn read_row_of(reader: &mut ItemReader, count: u64, which: u8) -> Result<Row, RowFault>
-    ensures { Reads (λ x. (x, reader.new.rest.now)) result (row_of count which reader.old.rest.now) }
+    ensures { Reads (λ x. (x, reader.new.rest.now)) result
+        (row_of count which reader.old.rest.now) }
 {
     match which {
         1 => {
@@ -148,7 +150,8 @@ fn read_row_of(reader: &mut ItemReader, count: u64, which: u8) -> Result<Row, Ro
 
 #[tactic(auto, unfolding(crate::specs::Reading::row_items_at))]
 fn read_row_items(reader: &mut ItemReader, count: u64) -> Result<Row, RowFault>
-    ensures { Reads (λ x. (x, reader.new.rest.now)) result (row_items_at count reader.old.rest.now) }
+    ensures { Reads (λ x. (x, reader.new.rest.now)) result
+        (row_items_at count reader.old.rest.now) }
 {
     let which = read_byte(reader)?;
     read_row_of(reader, count, which)

@@ -35,7 +35,8 @@ fn write_rev(out: &mut Octets, rev: Tid) -> Result<(), Memory>
 }
 
 fn write_head(out: &mut Octets, head: &Head) -> Result<(), Memory>
-    ensures written { OnOk result (out.new ≡ out.old ++ items_encoding (items_of (head_items head.now))) }
+    ensures written { OnOk result
+        (out.new ≡ out.old ++ items_encoding (items_of (head_items head.now))) }
     ensures err { OnErr result (take (length out.old) out.new ≡ out.old) }
 {
     write_rev(out, head.rev)?;
@@ -65,7 +66,8 @@ fn write_code(out: &mut Octets, refusal: &Option<Refusal>) -> Result<(), Memory>
 }
 
 fn write_refusal(out: &mut Octets, refusal: &Refusal) -> Result<(), Memory>
-    ensures written { OnOk result (out.new ≡ out.old ++ encoding (list (detail_items (Some refusal.now)))) }
+    ensures written { OnOk result
+        (out.new ≡ out.old ++ encoding (list (detail_items (Some refusal.now)))) }
     ensures err { OnErr result (take (length out.old) out.new ≡ out.old) }
 {
     match refusal {
@@ -87,7 +89,8 @@ fn write_refusal(out: &mut Octets, refusal: &Refusal) -> Result<(), Memory>
 }
 
 fn write_detail(out: &mut Octets, refusal: &Option<Refusal>) -> Result<(), Memory>
-    ensures written { OnOk result (out.new ≡ out.old ++ encoding (list (detail_items refusal.now))) }
+    ensures written { OnOk result
+        (out.new ≡ out.old ++ encoding (list (detail_items refusal.now))) }
     ensures err { OnErr result (take (length out.old) out.new ≡ out.old) }
 {
     match refusal {
@@ -164,7 +167,8 @@ fn write_repo(out: &mut Octets, repo: &CarriedRepo) -> Result<(), Memory>
 }
 
 fn write_moment(out: &mut Octets, moment: Option<u64>) -> Result<(), Memory>
-    ensures written { OnOk result (out.new ≡ out.old ++ items_encoding (items_of (if_there number moment))) }
+    ensures written { OnOk result
+        (out.new ≡ out.old ++ items_encoding (items_of (if_there number moment))) }
     ensures err { OnErr result (take (length out.old) out.new ≡ out.old) }
 {
     match moment {
@@ -176,7 +180,8 @@ fn write_moment(out: &mut Octets, moment: Option<u64>) -> Result<(), Memory>
 // The front of a list of so many items, and one more where there is a moment.
 fn write_front(out: &mut Octets, others: usize, moment: Option<u64>) -> Result<(), Memory>
     requires { others < 24 }
-    ensures written { OnOk result (out.new ≡ out.old ++ front_of Major.List (others + length (if_there number moment))) }
+    ensures written { OnOk result
+        (out.new ≡ out.old ++ front_of Major.List (others + length (if_there number moment))) }
     ensures err { OnErr result (take (length out.old) out.new ≡ out.old) }
 {
     match moment {
@@ -187,7 +192,9 @@ fn write_front(out: &mut Octets, others: usize, moment: Option<u64>) -> Result<(
 
 // Whose message it is.
 fn write_source(out: &mut Octets, taken: &Taken) -> Result<(), Memory>
-    ensures written { OnOk result (out.new ≡ out.old ++ items_encoding (items_of (number 1 ∷ Item.text taken.now.host ∷ number taken.now.host_seq ∷ Item.text taken.now.did ∷ number taken.now.kind ∷ []))) }
+    ensures written { OnOk result
+        (out.new ≡ out.old ++ items_encoding (items_of (number 1 ∷ Item.text taken.now.host
+        ∷ number taken.now.host_seq ∷ Item.text taken.now.did ∷ number taken.now.kind ∷ []))) }
     ensures err { OnErr result (take (length out.old) out.new ≡ out.old) }
 {
     write_number(out, 1)?;
@@ -212,7 +219,8 @@ fn write_bytes_front(out: &mut Octets, len: u64) -> Result<(), Memory>
 // The message of an event under a number, whose length is found first.
 fn write_measured_event(out: &mut Octets, event: &Event, seq: u64) -> Result<(), Memory>
     requires { seq < NUMBERS }
-    ensures written { OnOk result (out.new ≡ out.old ++ encoding (Item.bytes (out_of event.now seq))) }
+    ensures written { OnOk result
+        (out.new ≡ out.old ++ encoding (Item.bytes (out_of event.now seq))) }
     ensures err { OnErr result (take (length out.old) out.new ≡ out.old) }
 {
     let len = frame_len(event, seq);
@@ -227,7 +235,8 @@ fn write_measured_event(out: &mut Octets, event: &Event, seq: u64) -> Result<(),
 // once the message stands behind it.
 fn write_short_event(out: &mut Octets, event: &Event, seq: u64) -> Result<(), Memory>
     requires { seq < NUMBERS }
-    ensures written { OnOk result (out.new ≡ out.old ++ encoding (Item.bytes (out_of event.now seq))) }
+    ensures written { OnOk result
+        (out.new ≡ out.old ++ encoding (Item.bytes (out_of event.now seq))) }
     ensures err { OnErr result (take (length out.old) out.new ≡ out.old) }
 {
     let place = out.len();
@@ -245,7 +254,8 @@ fn write_short_event(out: &mut Octets, event: &Event, seq: u64) -> Result<(), Me
 // The message of an event under a number. An event with blocks has a long one.
 fn write_event(out: &mut Octets, event: &Event, seq: u64) -> Result<(), Memory>
     requires { seq < NUMBERS }
-    ensures written { OnOk result (out.new ≡ out.old ++ encoding (Item.bytes (out_of event.now seq))) }
+    ensures written { OnOk result
+        (out.new ≡ out.old ++ encoding (Item.bytes (out_of event.now seq))) }
     ensures err { OnErr result (take (length out.old) out.new ≡ out.old) }
 {
     match event.kind() {
@@ -257,7 +267,8 @@ fn write_event(out: &mut Octets, event: &Event, seq: u64) -> Result<(), Memory>
 // The message of a row, or of the event of which it isn't encoded yet.
 fn write_message(out: &mut Octets, taken: &Taken, event: &Option<Event>) -> Result<(), Memory>
     requires { HasNumber taken.now event.now }
-    ensures written { OnOk result (out.new ≡ out.old ++ encoding (Item.bytes (message_of taken.now event.now))) }
+    ensures written { OnOk result
+        (out.new ≡ out.old ++ encoding (Item.bytes (message_of taken.now event.now))) }
     ensures err { OnErr result (take (length out.old) out.new ≡ out.old) }
 {
     match event {
@@ -269,7 +280,9 @@ fn write_message(out: &mut Octets, taken: &Taken, event: &Option<Event>) -> Resu
 // What was decided, and what goes out.
 fn write_decision(out: &mut Octets, taken: &Taken, event: &Option<Event>) -> Result<(), Memory>
     requires { HasNumber taken.now event.now }
-    ensures written { OnOk result (out.new ≡ out.old ++ items_encoding (items_of (number (code taken.now.refusal) ∷ list (detail_items taken.now.refusal) ∷ number taken.now.seq ∷ Item.bytes (message_of taken.now event.now) ∷ []))) }
+    ensures written { OnOk result (out.new ≡ out.old ++ items_encoding
+        (items_of (number (code taken.now.refusal) ∷ list (detail_items taken.now.refusal)
+        ∷ number taken.now.seq ∷ Item.bytes (message_of taken.now event.now) ∷ []))) }
     ensures err { OnErr result (take (length out.old) out.new ≡ out.old) }
 {
     write_code(out, &taken.refusal)?;
@@ -280,7 +293,8 @@ fn write_decision(out: &mut Octets, taken: &Taken, event: &Option<Event>) -> Res
 
 // What follows from it, and when it was.
 fn write_outcome(out: &mut Octets, taken: &Taken) -> Result<(), Memory>
-    ensures written { OnOk result (out.new ≡ out.old ++ items_encoding (items_of (effect_item taken.now.effect ∷ fetched_item taken.now.fetched ∷ if_there number taken.now.moment))) }
+    ensures written { OnOk result (out.new ≡ out.old ++ items_encoding (items_of (effect_item
+        taken.now.effect ∷ fetched_item taken.now.fetched ∷ if_there number taken.now.moment))) }
     ensures err { OnErr result (take (length out.old) out.new ≡ out.old) }
 {
     write_effect(out, &taken.effect)?;
@@ -290,7 +304,8 @@ fn write_outcome(out: &mut Octets, taken: &Taken) -> Result<(), Memory>
 
 fn write_taken(out: &mut Octets, taken: &Taken, event: &Option<Event>) -> Result<(), Memory>
     requires { HasNumber taken.now event.now }
-    ensures written { OnOk result (out.new ≡ out.old ++ encoding (list (row_items (Row.Taken (with_message taken.now event.now))))) }
+    ensures written { OnOk result (out.new ≡ out.old
+        ++ encoding (list (row_items (Row.Taken (with_message taken.now event.now))))) }
     ensures err { OnErr result (take (length out.old) out.new ≡ out.old) }
 {
     write_front(out, 11, taken.moment)?;
@@ -305,7 +320,8 @@ fn write_synced(
     whole: &Whole,
     moment: Option<u64>,
 ) -> Result<(), Memory>
-    ensures written { OnOk result (out.new ≡ out.old ++ encoding (list (row_items (Row.Synced did.now whole.now moment)))) }
+    ensures written { OnOk result
+        (out.new ≡ out.old ++ encoding (list (row_items (Row.Synced did.now whole.now moment)))) }
     ensures err { OnErr result (take (length out.old) out.new ≡ out.old) }
 {
     write_front(out, 3, moment)?;
@@ -317,7 +333,8 @@ fn write_synced(
 
 // Whom an operator spoke of, and what he said.
 fn write_said(out: &mut Octets, operated: &Operated) -> Result<(), Memory>
-    ensures written { OnOk result (out.new ≡ out.old ++ items_encoding (items_of (number 3 ∷ Item.text operated.now.did ∷ Item.bool operated.now.down ∷ []))) }
+    ensures written { OnOk result (out.new ≡ out.old ++ items_encoding
+        (items_of (number 3 ∷ Item.text operated.now.did ∷ Item.bool operated.now.down ∷ []))) }
     ensures err { OnErr result (take (length out.old) out.new ≡ out.old) }
 {
     write_number(out, 3)?;
@@ -326,7 +343,8 @@ fn write_said(out: &mut Octets, operated: &Operated) -> Result<(), Memory>
 }
 
 fn write_operated(out: &mut Octets, operated: &Operated) -> Result<(), Memory>
-    ensures written { OnOk result (out.new ≡ out.old ++ encoding (list (row_items (Row.Operated operated.now)))) }
+    ensures written { OnOk result
+        (out.new ≡ out.old ++ encoding (list (row_items (Row.Operated operated.now)))) }
     ensures err { OnErr result (take (length out.old) out.new ≡ out.old) }
 {
     write_front(out, 5, operated.moment)?;
@@ -337,7 +355,9 @@ fn write_operated(out: &mut Octets, operated: &Operated) -> Result<(), Memory>
 }
 
 fn write_account(out: &mut Octets, account: &CarriedAccount) -> Result<(), Memory>
-    ensures written { OnOk result (out.new ≡ out.old ++ items_encoding (items_of (Item.text account.now.did ∷ Item.bool account.now.active ∷ or_null Item.text account.now.status ∷ Item.bool account.now.down ∷ repo_item account.now.repo ∷ []))) }
+    ensures written { OnOk result (out.new ≡ out.old ++ items_encoding
+        (items_of (Item.text account.now.did ∷ Item.bool account.now.active ∷ or_null Item.text
+        account.now.status ∷ Item.bool account.now.down ∷ repo_item account.now.repo ∷ []))) }
     ensures err { OnErr result (take (length out.old) out.new ≡ out.old) }
 {
     write_text(out, account.did.as_str())?;
@@ -348,7 +368,8 @@ fn write_account(out: &mut Octets, account: &CarriedAccount) -> Result<(), Memor
 }
 
 fn write_carried_front(out: &mut Octets, count: usize, which: u64) -> Result<(), Memory>
-    ensures written { OnOk result (out.new ≡ out.old ++ (front_of Major.List count ++ (encoding (number 4) ++ encoding (number which)))) }
+    ensures written { OnOk result (out.new ≡ out.old
+        ++ (front_of Major.List count ++ (encoding (number 4) ++ encoding (number which)))) }
     ensures err { OnErr result (take (length out.old) out.new ≡ out.old) }
 {
     write_list_front(out, count)?;
@@ -357,7 +378,8 @@ fn write_carried_front(out: &mut Octets, count: usize, which: u64) -> Result<(),
 }
 
 fn write_carried(out: &mut Octets, carried: &Carried) -> Result<(), Memory>
-    ensures written { OnOk result (out.new ≡ out.old ++ encoding (list (carried_items carried.now))) }
+    ensures written { OnOk result
+        (out.new ≡ out.old ++ encoding (list (carried_items carried.now))) }
     ensures err { OnErr result (take (length out.old) out.new ≡ out.old) }
 {
     match carried {

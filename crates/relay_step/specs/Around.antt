@@ -11,14 +11,19 @@ use Rattle.relay_step.specs.Asked.{step_calls}
 use Rattle.relay_step.specs.Fetching.{IsFetchedTold}
 use Rattle.relay_step.specs.Steps.{Decided, after_end, skipped, recorded, Step, rows_decided}
 
--- what the parts tell: the authorities of each method, the moments to come, and each DID's repository
+-- what the parts tell: the authorities of each method, the moments to come, and each DID's
+-- repository
 pub record Around : Type 0 where
   pub panel : Panel
   pub moments : List ℕ
   pub repository : List ℕ → Option (List ℕ)
 
 abbrev pub around : Panel → List ℕ → (List ℕ → Option (List ℕ)) → Around
-around panel moments repository = record { panel = panel; moments = moments; repository = repository }
+around panel moments repository = record {
+  panel = panel;
+  moments = moments;
+  repository = repository;
+}
 
 -- a step that makes a row takes one moment, and keeps it; one that makes none takes none
 abbrev pub IsTimed : List ℕ → Decided → List ℕ → Type 0
@@ -30,7 +35,8 @@ IsTimed moments (recorded t) left = (t.moment ≡ Some (first_moment moments))
 abbrev pub SameRepositories : (List ℕ → Option (List ℕ)) → (List ℕ → Option (List ℕ)) → Type 0
 SameRepositories old new = (did : List ℕ) → new did ≡ old did
 
--- What a host's message, as it reads, asked behind the journal J where this came of it: of the judges, of the clock where it tells, and of the repositories.
+-- What a host's message, as it reads, asked behind the journal J where this came of it: of the
+-- judges, of the clock where it tells, and of the repositories.
 pub record AskedOf (clock_tells repos_tell : Bool) (J : List Row) (old : Around) (host : List ℕ)
     (frame : Result Frame FrameFault) (told : Decided) (new : Around) : Type 0 where
   -- the calls of the judges for its fetch, and what that found

@@ -1,4 +1,5 @@
--- What a step shows of the judges: which calls it made, in their order, and what they answered (own).
+-- What a step shows of the judges: which calls it made, in their order, and what they answered
+-- (own).
 use Rattle.std.specs.Prelude.{◌≡◌, ℕ, ◌≤◌, Bool, true, false, ◌&&◌, ◌||◌, ◌==◌, List, [], ◌∷◌, ◌++◌, length, Option, Some, None, Result, Ok, option_map, nat_le, if◌then◌else◌}
 use Rattle.std.specs.List.{filter}
 use Rattle.sha2.specs.Sha256.{sha256}
@@ -27,12 +28,14 @@ signed_by (Body.Sync s) = signed_in (car_of s.blocks)
 signed_by Body.Identity = None
 signed_by (Body.Account a) = None
 
--- the judges are asked for the home before every refusal but that of an outgoing message that is too long
+-- the judges are asked for the home before every refusal but that of an outgoing message that is
+-- too long
 abbrev pub asks_for_home : Option Refusal → Bool
 asks_for_home (Some Refusal.TooLong) = false
 asks_for_home other = true
 
--- and for the signature of a commit that nothing before that line refuses: where it is bad, where a later line refuses, and where none does
+-- and for the signature of a commit that nothing before that line refuses: where it is bad, where a
+-- later line refuses, and where none does
 abbrev pub asks_for_verdict : Option Refusal → Bool
 asks_for_verdict None = true
 asks_for_verdict (Some r) = code_of r == 18 || (nat_le 19 (code_of r) && nat_le (code_of r) 23)
@@ -53,7 +56,8 @@ abbrev pub verdict_calls : Seen → Option Refusal → List Call
 verdict_calls e r = if asks_for_verdict r
     then verdict_call e.did (signed_by e.body) (shows_verdict r) else []
 
--- the calls about an event to which a refusal applies, or none: behind those of its own table, those of its fetch
+-- the calls about an event to which a refusal applies, or none: behind those of its own table,
+-- those of its fetch
 abbrev pub event_calls : List ℕ → Seen → Option Refusal → List Call → List Call
 event_calls host e r fetch = home_calls host e r ++ (verdict_calls e r ++ fetch)
 

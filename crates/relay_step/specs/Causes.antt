@@ -14,7 +14,8 @@ use Rattle.relay_step.specs.Asked.{AskedInVain}
 use Rattle.relay_step.specs.Questions.{length_line}
 use Rattle.relay_step.specs.declared.fault.StepFault.{StepFault}
 
--- the cause of each fault: that the numbers end, that no authority is left, that a count of faults rose. Only running out of memory has none
+-- the cause of each fault: that the numbers end, that no authority is left, that a count of faults
+-- rose. Only running out of memory has none
 abbrev pub IsCause : Type 0 → Type 0 → Type 0 → Type 0 → StepFault → Type 0
 IsCause ends spent repos clock StepFault.SeqEnd = ends
 IsCause ends spent repos clock StepFault.Authority = spent
@@ -27,8 +28,8 @@ abbrev pub called : {A : Type 0} → List ℕ → (A → Call) → Result A Step
 called did call (Ok x) = call x
 called did call (Err fault) = fails did
 
--- All authorities of the method of the account that a message names have fallen, and the judges are asked:
--- the event stands above its host's cursor, and its outgoing message isn't too long.
+-- All authorities of the method of the account that a message names have fallen, and the judges are
+-- asked: the event stands above its host's cursor, and its outgoing message isn't too long.
 abbrev pub IsSpentFor : Core → List ℕ → Result Frame FrameFault → Panel → Type 0
 IsSpentFor c host (Ok (Frame.Event e)) panel =
     (passed (cursor_in c host) (Frame.Event e) ≡ None) × (length_line e ≡ None)
@@ -48,7 +49,8 @@ AskedInVainOf old other new = new ≡ old
 abbrev pub OneTaken : List ℕ → List ℕ → Type 0
 OneTaken old new = (new ≡ old) ⊎ (new ≡ later_moments old)
 
--- What was asked around for nothing: of the judges this, of the clock a moment at most, and the repositories are the same.
+-- What was asked around for nothing: of the judges this, of the clock a moment at most, and the
+-- repositories are the same.
 pub record CameToNothing (clock_tells repos_tell : Bool) (judged : Type 0)
     (old new : Around) : Type 0 where
   pub judges : judged

@@ -1,4 +1,5 @@
--- What is owed of an operator's command, by the relay's state: behind each journal for which it stands (own).
+-- What is owed of an operator's command, by the relay's state: behind each journal for which it
+-- stands (own).
 use Rattle.std.specs.Prelude.{◌≡◌, ℕ, ◌+◌, ◌≤◌, List, [], ◌∷◌, Bool, true, false, Option, Some, None, Ok, IsTrue}
 use Rattle.at_authority.specs.Panels.{IsSpent}
 use Rattle.at_syntax.specs.Did.{method_of}
@@ -39,8 +40,8 @@ pub record OperatedAt (clock_tells : Bool) (c : Core) (did : List ℕ) (down : B
 abbrev pub EndsBehind : Core → List ℕ → Bool → Type 0
 EndsBehind c did down = (operate_refusal (account_in c did) down ≡ None) × (NUMBERS ≤ c.last + 1)
 
--- The numbers end: the one behind the last is none, the word isn't refused, and what was fetched at a moment of the clock
--- would be taken over.
+-- The numbers end: the one behind the last is none, the word isn't refused, and what was fetched at
+-- a moment of the clock would be taken over.
 pub record EndsFetched (clock_tells repos_tell : Bool) (c : Core) (did : List ℕ) (old new : Around)
     : Type 0 where
   pub ends : NUMBERS ≤ c.last + 1
@@ -52,15 +53,16 @@ pub record EndsFetched (clock_tells repos_tell : Bool) (c : Core) (did : List �
   pub fetch : AnsweredFetch (told_where repos_tell (old.repository did)) did
       (last_rev (account_in c did).repo) moment old.panel found new.panel
 
--- the signature of a repository's commit is asked for: it is whole, and its revision isn't far ahead of the moment
+-- the signature of a repository's commit is asked for: it is whole, and its revision isn't far
+-- ahead of the moment
 abbrev pub IsJudged : Option (List ℕ) → List ℕ → Option ℕ → ℕ → Type 0
 IsJudged None did least moment = ⊥
 IsJudged (Some bytes) did least moment =
     (checked : Checked) × IsAnswer did least bytes (Ok checked)
     × (is_ahead checked.head.rev (Some moment) ≡ false)
 
--- No authority of the account's method is left, and the judges are asked: the word isn't refused, and what is fetched
--- at a moment of the clock is judged.
+-- No authority of the account's method is left, and the judges are asked: the word isn't refused,
+-- and what is fetched at a moment of the clock is judged.
 pub record SpentFetching (clock_tells repos_tell : Bool) (c : Core) (did : List ℕ)
     (old new : Around) : Type 0 where
   pub fine : sync_refusal (account_in c did) ≡ None
@@ -70,7 +72,8 @@ pub record SpentFetching (clock_tells repos_tell : Bool) (c : Core) (did : List 
       → IsJudged (old.repository did) did (last_rev (account_in c did).repo) moment
   pub spent : IsSpent (new.panel (method_of did))
 
--- An account was synchronized at a moment of the clock with what its repository came to, or the word was refused.
+-- An account was synchronized at a moment of the clock with what its repository came to, or the
+-- word was refused.
 pub record SyncedAt (clock_tells repos_tell : Bool) (c : Core) (did time : List ℕ) (old : Around)
     (command : CommandAnswer) (new : Around) : Type 0 where
   pub moment : ℕ

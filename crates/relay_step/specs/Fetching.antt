@@ -19,12 +19,14 @@ use Rattle.repo_sync.specs.declared.fault.RepoFault.{RepoFault}
 use Rattle.repo_sync.specs.declared.found.Found.{Found as Checked}
 use Rattle.relay_step.specs.Steps.{Decided, after_end, skipped, recorded}
 
--- what the answer of a repository's check comes to at a moment, where its signature is said to be good or not
+-- what the answer of a repository's check comes to at a moment, where its signature is said to be
+-- good or not
 abbrev pub found_by : ℕ → Bool → Result Checked RepoFault → Found
 found_by moment good (Ok checked) = judged moment good checked.head checked.records checked.block
 found_by moment good (Err fault) = unfit (fault_number fault)
 
--- what is asked about it: the signature of a commit whose repository is whole, and whose revision isn't far ahead
+-- what is asked about it: the signature of a commit whose repository is whole, and whose revision
+-- isn't far ahead
 abbrev pub verdict_on : List ℕ → ℕ → Bool → Result Checked RepoFault → List Call
 verdict_on did moment good (Ok checked) =
     if is_ahead checked.head.rev (Some moment) then []
@@ -81,8 +83,8 @@ abbrev pub Where : Bool → Type 0 → Type 0 → Type 0
 Where true held other = held
 Where false held other = other
 
--- What is fetched behind a refusal: the account's repository where it loses its account, beside the last revision
--- before the row, and else nothing.
+-- What is fetched behind a refusal: the account's repository where it loses its account, beside the
+-- last revision before the row, and else nothing.
 abbrev pub IsFetched : Bool → (List ℕ → Option (List ℕ)) → List Row → List ℕ → Option Refusal → ℕ
     → Found → List Call → Type 0
 IsFetched repos_tell repository J did None moment f calls = calls ≡ []

@@ -1,4 +1,5 @@
--- What is owed of the decision of a message, by the relay's state: behind each journal for which it stands (own).
+-- What is owed of the decision of a message, by the relay's state: behind each journal for which it
+-- stands (own).
 use Rattle.std.specs.Prelude.{◌≡◌, ℕ, ◌+◌, ◌≤◌, List, [], ◌++◌, Bool, Option, None, Result, Ok, Err, IsTrue}
 use Rattle.at_authority.specs.Calls.{Call, AreCalls}
 use Rattle.at_event.specs.Seen.{Seen}
@@ -74,7 +75,8 @@ IsAsked clock_tells repos_tell c old s new = (J : List Row) → Holds c J
 abbrev pub KeepsJournal : Core → List Row → Type 0
 KeepsJournal c rows = (J : List Row) → Holds c J → IsJournal J → IsJournal (J ++ rows)
 
--- What an event asked around behind the journal J, where these were the answers and this refusal applies, or none.
+-- What an event asked around behind the journal J, where these were the answers and this refusal
+-- applies, or none.
 pub record AskedFor (clock_tells repos_tell : Bool) (J : List Row) (old : Around) (host : List ℕ)
     (e : Seen) (refusal : Option Refusal) (outside : Outside) (new : Around) : Type 0 where
   pub fetch : List Call
@@ -84,7 +86,8 @@ pub record AskedFor (clock_tells repos_tell : Bool) (J : List Row) (old : Around
   pub now : IsTrue clock_tells → IsNow old.moments outside.moment new.moments
   pub same : IsTrue repos_tell → SameRepositories old.repository new.repository
 
--- The numbers end: the one behind the last is none, and a message would give it by this row, for answers that were given.
+-- The numbers end: the one behind the last is none, and a message would give it by this row, for
+-- answers that were given.
 pub record EndsNumbers (clock_tells repos_tell : Bool) (c : Core) (old : Around) (host : List ℕ)
     (frame : Result Frame FrameFault) (new : Around) : Type 0 where
   pub event : Seen

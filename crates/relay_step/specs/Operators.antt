@@ -28,7 +28,8 @@ IsFetchCommand last did time moment (found head records block) command =
     command ≡ CommandAnswer.Made (Row.Synced did
     (whole_under did time head records block (last + 1)) (Some moment))
 
--- what an account's word of synchronizing comes to where it isn't refused at once: what its repository came to, beside the last revision
+-- what an account's word of synchronizing comes to where it isn't refused at once: what its
+-- repository came to, beside the last revision
 pub record IsFetchedNow (old : Panel) (J : List Row) (did time : List ℕ) (moment : ℕ)
     (repository : Option (Option (List ℕ))) (command : CommandAnswer) (new : Panel) : Type 0 where
   pub found : Found
@@ -42,7 +43,8 @@ IsSyncedBy (Some r) old J did time moment repository command new =
 IsSyncedBy None old J did time moment repository command new =
     IsFetchedNow old J did time moment repository command new
 
--- Behind the journal J, synchronizing an account at a moment comes to this; its repository is told or not.
+-- Behind the journal J, synchronizing an account at a moment comes to this; its repository is told
+-- or not.
 abbrev pub IsSyncedNow : Panel → List Row → List ℕ → List ℕ → ℕ → Option (Option (List ℕ))
     → CommandAnswer → Panel → Type 0
 IsSyncedNow old J did time moment repository command new =

@@ -97,7 +97,8 @@ pub record IsTidy (a : State) (e : Seen) (x : Answers) : Type 0 where
 abbrev pub is_unlinked : Refusal → Bool
 is_unlinked r = nat_le 19 (code_of r) && nat_le (code_of r) 23
 
--- Linking says what is right, by all checks that say it; and a refusal is the one that stops the commit.
+-- Linking says what is right, by all checks that say it; and a refusal is the one that stops the
+-- commit.
 pub record IsLinkAnswer (repo : Repo) (e : Seen) (answer : Result (Unit {0}) Refusal) : Type 0 where
   pub right : (checks : Checks) → LinksRight checks → answer ≡ as_result (checks.links e repo)
   pub unlinked : (r : Refusal) → answer ≡ Err r → is_unlinked r ≡ true

@@ -76,7 +76,8 @@ fn ask_one<P: Judges, C: Clock>(
         (P.panel judges.new) (C.moments clock.new)) }
     ensures read { OnOk result (IsReadFor event.now.body answers.new.opened read.new) }
     ensures fewer { OnOk result (open_count answers.new < open_count answers.old) }
-    ensures in_vain { OnErr result (AskedPlain (P.panel judges.old) event.now.did (P.panel judges.new)) }
+    ensures in_vain { OnErr result
+        (AskedPlain (P.panel judges.old) event.now.did (P.panel judges.new)) }
     ensures kept { OnErr result (IsTrue C.tells → C.moments clock.new ≡ C.moments clock.old) }
     ensures caused { IfErr result
         (IsCause ⊥ (IsSpentFor core.now host.now (Ok (AFrame.Event event.now))
@@ -144,7 +145,8 @@ fn ask_known<P: Judges, C: Clock>(
         ≡ next_of (cursor_in core.now host.now) (account_in core.now event.now.did)
         (AFrame.Event event.now) x.1) }
     ensures last { IfOk result (λ x. is_last x.0 ≡ true) }
-    ensures in_vain { OnErr result (AskedInVain (P.panel judges.old) event.now.did (P.panel judges.new)) }
+    ensures in_vain { OnErr result
+        (AskedInVain (P.panel judges.old) event.now.did (P.panel judges.new)) }
     ensures moments { OnErr result (IsTrue C.tells
         → OneTaken (C.moments clock.old) (C.moments clock.new)) }
     ensures caused { IfErr result
@@ -201,7 +203,8 @@ pub(crate) fn ask_all<P: Judges, C: Clock>(
         ≡ next_of (cursor_in core.now host.now) (account_in core.now event.now.did)
         (AFrame.Event event.now) x.1) }
     ensures last { IfOk result (λ x. is_last x.0 ≡ true) }
-    ensures in_vain { OnErr result (AskedInVain (P.panel judges.old) event.now.did (P.panel judges.new)) }
+    ensures in_vain { OnErr result
+        (AskedInVain (P.panel judges.old) event.now.did (P.panel judges.new)) }
     ensures moments { OnErr result (IsTrue C.tells
         → OneTaken (C.moments clock.old) (C.moments clock.new)) }
     ensures caused { IfErr result

@@ -46,7 +46,8 @@ pub(crate) fn take_lost<P: Judges, R: Repos>(
         (R.repository repos.old) (P.panel judges.new)) }
     ensures same { IsTrue R.tells → SameRepositories (R.repository repos.old)
         (R.repository repos.new) }
-    ensures in_vain { OnErr result (AskedPlain (P.panel judges.old) event.did (P.panel judges.new)) }
+    ensures in_vain { OnErr result
+        (AskedPlain (P.panel judges.old) event.did (P.panel judges.new)) }
     ensures caused { IfErr result
         (IsCause (LostEnds R.tells core.now event answers (P.panel judges.old)
         (R.repository repos.old) (P.panel judges.new))

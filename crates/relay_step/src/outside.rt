@@ -19,7 +19,8 @@ pub(crate) fn ask_home<P: Judges>(judges: &mut P, did: &str, host: &str) -> Resu
     requires { IsTrue (is_did did.now) }
     ensures call { IsCall (called did.now (answers (asks_home did.now host.now)) result)
         (P.panel judges.old) (P.panel judges.new) }
-    ensures caused { IfErr result (IsCause ⊥ (IsSpent (P.panel judges.new (method_of did.now))) ⊥ ⊥) }
+    ensures caused { IfErr result
+        (IsCause ⊥ (IsSpent (P.panel judges.new (method_of did.now))) ⊥ ⊥) }
     ensures unspent { result ≢ Err StepFault.Authority
         → SpendsNone (P.panel judges.old) (P.panel judges.new) }
 {
@@ -41,7 +42,8 @@ pub(crate) fn ask_verdict<P: Judges>(
     ensures call { IsCall (called did.now
         (answers (asks_verdict did.now digest.now sig.now)) result) (P.panel judges.old)
         (P.panel judges.new) }
-    ensures caused { IfErr result (IsCause ⊥ (IsSpent (P.panel judges.new (method_of did.now))) ⊥ ⊥) }
+    ensures caused { IfErr result
+        (IsCause ⊥ (IsSpent (P.panel judges.new (method_of did.now))) ⊥ ⊥) }
     ensures unspent { result ≢ Err StepFault.Authority
         → SpendsNone (P.panel judges.old) (P.panel judges.new) }
 {
@@ -57,7 +59,8 @@ pub(crate) fn ask_refresh<P: Judges>(judges: &mut P, did: &str) -> Result<(), St
     requires { IsTrue (is_did did.now) }
     ensures call { IsCall (called did.now (λ _. refreshes did.now) result) (P.panel judges.old)
         (P.panel judges.new) }
-    ensures caused { IfErr result (IsCause ⊥ (IsSpent (P.panel judges.new (method_of did.now))) ⊥ ⊥) }
+    ensures caused { IfErr result
+        (IsCause ⊥ (IsSpent (P.panel judges.new (method_of did.now))) ⊥ ⊥) }
     ensures unspent { result ≢ Err StepFault.Authority
         → SpendsNone (P.panel judges.old) (P.panel judges.new) }
 {

@@ -95,8 +95,10 @@ pub(crate) fn judge<P: Judges>(
     ensures calls { IfOk result (λ good.
         AreCalls (P.panel judges.old) (verdict_call event.now.did (signed_by event.now.body) good)
         (P.panel judges.new)) }
-    ensures failed { OnErr result (IsCall (fails event.now.did) (P.panel judges.old) (P.panel judges.new)) }
-    ensures caused { IfErr result (IsCause ⊥ (IsSpent (P.panel judges.new (method_of event.now.did))) ⊥ ⊥) }
+    ensures failed { OnErr result
+        (IsCall (fails event.now.did) (P.panel judges.old) (P.panel judges.new)) }
+    ensures caused { IfErr result
+        (IsCause ⊥ (IsSpent (P.panel judges.new (method_of event.now.did))) ⊥ ⊥) }
     ensures unspent { result ≢ Err StepFault.Authority
         → SpendsNone (P.panel judges.old) (P.panel judges.new) }
 {

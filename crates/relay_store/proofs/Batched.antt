@@ -13,7 +13,7 @@ use Rattle.relay_core.specs.declared.journal_state.Core.{Core}
 use Rattle.relay_row.specs.Journal.{IsJournal}
 use Rattle.relay_step.specs.Around.{Around}
 use Rattle.relay_step.specs.Steps.{Step, rows}
-use Rattle.relay_store.specs.Batches.{AreAnswers, AreExtra, Batched, EndsLast, HasEnd, StopsAsking, message_from, scene, messages_sent}
+use Rattle.relay_store.specs.Batches.{AreAnswers, AreExtra, Batched, DiskFailed, EndsLast, HasEnd, StopsAsking, message_from, scene, messages_sent}
 use Rattle.relay_store.specs.PendingBodies.{HasRows, IsAhead, behind_pending, end_of}
 use Rattle.relay_store.specs.Journals.{IsOneOf, bytes_of}
 use Rattle.relay_store.specs.Outcomes.{outcome_of}
@@ -108,6 +108,10 @@ module _ (C R : Bool) (log : LogState) (group : List Message) (state state_now :
   pub few_rows : length group ≤ 64 → d_now.count ≤ 64
   few_rows few = omega (arith, few, st.gathered.few, st.gathered.pending.count)
 
+  -- a fault at a message leaves it over
+  left_over : (f : StoreFault) → fault ≡ Some f → st.extra ≡ [] → st.behind ≡ [] → ⊥
+  left_over f is whole last = st.some_left (λ none. let no : ⊥ = cc in no) whole last
+
   roomy : (rows st.gathered.steps ≡ []) ⊎ (end_of log.end (rows st.gathered.steps) ≤ log.most)
   roomy = ⊎_elim
       (λ none. inl (no_rows (rows st.gathered.steps) (sym st.gathered.pending.count ∙ none)))
@@ -141,6 +145,7 @@ module _ (C R : Bool) (log : LogState) (group : List Message) (state state_now :
       answers = answers_for fault st.gathered.steps outcomes not st.gathered.answers;
       ends = st.ends;
       all = st.all;
+      left = λ failed other. st.some_left failed;
       asked = st.asked J of.holds;
       room = roomy;
       full = st.full;
@@ -169,6 +174,7 @@ module _ (C R : Bool) (log : LogState) (group : List Message) (state state_now :
           answers = refl;
           ends = tt;
           all = λ none. let no : ⊥ = cc in absurd no;
+          left = λ failed other. absurd (other refl);
           asked = record { mid = asked.mid; turns = asked.turns; stops = disk_stops C R fault st.extra st.behind asked.mid b asked.stops };
           room = roomy;
           full = tt;
@@ -182,6 +188,17 @@ module _ (C R : Bool) (log : LogState) (group : List Message) (state state_now :
           moments = λ told keeps. moments told J (rows st.gathered.steps) st.gathered.pending (ahead J (view disk) keeps);
         }
 
+    -- where no message is left over, that was no fault of what was asked
+    pub disk_failed : (none_failed : Type 0) → (fault ≢ Some StoreFault.Clock → fault ≢ Some StoreFault.Repos → fault ≢ Some StoreFault.Authority → none_failed) → (J : List Row) → IsOf J state
+        → DiskFailed view tells C R J group (scene (seen log side state places) disk a) (scene (seen log_now side state_now places_now) disk_now b) none_failed
+    unfolding batched_fails
+    disk_failed none_failed by J of = record {
+      batched = batched_fails J of;
+      alone = λ last. by (λ is. left_over StoreFault.Clock is (subst (λ (f : Option StoreFault). AreExtra f st.extra) is st.which) last)
+          (λ is. left_over StoreFault.Repos is (subst (λ (f : Option StoreFault). AreExtra f st.extra) is st.which) last)
+          (λ is. left_over StoreFault.Authority is (subst (λ (f : Option StoreFault). AreExtra f st.extra) is st.which) last);
+    }
+
     pub batched_fails_as : (os : List Outcome) (f : Option StoreFault) → os ≡ [] → f ≡ Some StoreFault.Disk → (J : List Row) → IsOf J state
         → Batched view tells C R J group (scene (seen log side state places) disk a) (scene (seen log_now side state_now places_now) disk_now b) os f
     batched_fails_as os f none is J of =
@@ -189,9 +206,9 @@ module _ (C R : Bool) (log : LogState) (group : List Message) (state state_now :
         (subst (λ (l : List Outcome). Batched view tells C R J group (scene (seen log side state places) disk a) (scene (seen log_now side state_now places_now) disk_now b) l (Some StoreFault.Disk)) (sym none) (batched_fails J of))
 
 -- there was no memory to begin
-pub batched_none : {D : Type 0} (view : D → View) (tells C R : Bool) (J : List Row) (group : List Message) (log : LogState) (side : Side) (state : Core) (places : List Place) (disk : D) (a : Around) (outcomes : List Outcome) → outcomes ≡ [] → IsDisk (view disk) → IsOf J state
+pub batched_none : {D : Type 0} (view : D → View) (tells C R : Bool) (J : List Row) (group : List Message) (log : LogState) (side : Side) (state : Core) (places : List Place) (disk : D) (a : Around) (outcomes : List Outcome) → outcomes ≡ [] → 1 ≤ length group → IsDisk (view disk) → IsOf J state
     → Batched view tells C R J group (scene (seen log side state places) disk a) (scene (seen log side state places) disk a) outcomes (Some StoreFault.Memory)
-batched_none view tells C R J group log side state places disk a outcomes no_outcome is_disk of = record {
+batched_none view tells C R J group log side state places disk a outcomes no_outcome some is_disk of = record {
   steps = [];
   extra = [];
   which = omega arith;
@@ -202,6 +219,7 @@ batched_none view tells C R J group log side state places disk a outcomes no_out
   answers = ap (λ (os : List Outcome). map Some os) no_outcome;
   ends = subst EndsLast (sym no_outcome) tt;
   all = λ none. let no : ⊥ = cc in absurd no;
+  left = λ failed other whole none. let no : ⊥ = omega (arith, some, ap length none) in no;
   asked = record { mid = a; turns = nothing_here C R a; stops = nothing_in_vain C R a a group (nothing_here C R a) };
   room = inl refl;
   full = tt;

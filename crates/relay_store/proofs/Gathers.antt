@@ -179,9 +179,9 @@ module _ (C R : Bool) (log : LogState) (group : List Message) where
 
   module _ (left : List Message) (state state_now : Core) (places places_now : List Place) (d : Pending) (a b : Around) (outcomes : List Outcome) (so_far : IsGathering C R log group left state state_now places places_now d a b outcomes) where
     -- nothing more is taken
-    pub stops_here : (fault : Option StoreFault) → AreExtra fault [] → (fault ≡ None → (left ≡ []) ⊎ HasEnd outcomes) → ((c : Around) → StopsAsking C R fault [] left c c) → EndsFull log so_far.gathered.steps [] fault → EndsNext C R state_now left b b fault
+    pub stops_here : (fault : Option StoreFault) → AreExtra fault [] → (fault ≡ None → (left ≡ []) ⊎ HasEnd outcomes) → (fault ≢ None → left ≢ []) → ((c : Around) → StopsAsking C R fault [] left c c) → EndsFull log so_far.gathered.steps [] fault → EndsNext C R state_now left b b fault
         → Stopped C R log group state state_now places places_now d a b outcomes fault
-    stops_here fault which all asks full next =
+    stops_here fault which all some asks full next =
         let g = so_far.gathered in
         record {
           left = left;
@@ -195,6 +195,7 @@ module _ (C R : Bool) (log : LogState) (group : List Message) where
           journal = subst (λ (l : List Step). KeepsJournal state (rows l)) (sym (append-nil g.steps)) g.journal;
           ends = ends_none outcomes so_far.none_ends;
           all = all;
+          some_left = λ failed whole. some failed;
           asked = λ J holds. record { mid = b; turns = subst (λ (l : List Step). AllAsked C R J a l b) (sym (append-nil g.steps)) (g.asked J holds); stops = asks b };
           full = full;
           ends_next = λ J holds. next;
@@ -277,6 +278,7 @@ module _ (C R : Bool) (log : LogState) (group : List Message) where
               journal = subst (λ (l : List Step). KeepsJournal state (rows l)) (sym (append-nil g.steps)) g.journal;
               ends = ends_one outcomes o so_far.none_ends;
               all = λ none. inr (outcomes, o, refl, ends);
+              some_left = λ failed. absurd (failed refl);
               asked = λ J holds. record { mid = c; turns = subst (λ (l : List Step). AllAsked C R J a l c) (sym (append-nil g.steps)) (g.asked J holds); stops = nothing_here C R c };
               full = tt;
               ends_next = λ J holds. next_nothing C R state_now left c c;
@@ -299,6 +301,7 @@ module _ (C R : Bool) (log : LogState) (group : List Message) where
               journal = subst (λ (l : List Step). KeepsJournal state (rows l)) (sym (append-nil g.steps)) g.journal;
               ends = ends_one outcomes o so_far.none_ends;
               all = λ none. inl last;
+              some_left = λ failed. absurd (failed refl);
               asked = λ J holds. record { mid = c; turns = subst (λ (l : List Step). AllAsked C R J a l c) (sym (append-nil g.steps)) (g.asked J holds); stops = nothing_here C R c };
               full = tt;
               ends_next = λ J holds. next_nothing C R state_now left c c;
@@ -319,6 +322,7 @@ module _ (C R : Bool) (log : LogState) (group : List Message) where
           journal = journal_now;
           ends = ends_none outcomes so_far.none_ends;
           all = λ none. let no : ⊥ = cc in absurd no;
+          some_left = λ failed whole. let no : ⊥ = cc in absurd no;
           asked = λ J holds. record { mid = c; turns = asked_now J holds; stops = nothing_here C R c };
           full = late_full log d told f so_far.gathered.steps (step_of m.host m.bytes told) refl so_far.gathered.pending late;
           ends_next = λ J holds. late_next C R log d told f state_now left c late;
@@ -342,6 +346,7 @@ module _ (C R : Bool) (log : LogState) (group : List Message) where
           journal = subst (λ (l : List Step). KeepsJournal state (rows l)) (sym (append-nil so_far.gathered.steps)) so_far.gathered.journal;
           ends = ends_none outcomes so_far.none_ends;
           all = λ none. let no : ⊥ = cc in absurd no;
+          some_left = λ failed whole is. let no : ⊥ = cc in no;
           asked = λ J holds. record { mid = b; turns = subst (λ (l : List Step). AllAsked C R J a l b) (sym (append-nil so_far.gathered.steps)) (so_far.gathered.asked J holds); stops = vain.asked };
           full = full_of f log so_far.gathered.steps vain.of_asking;
           ends_next = λ J holds.

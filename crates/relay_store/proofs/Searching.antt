@@ -1,11 +1,12 @@
 -- The search for the first event that is shown.
-use Rattle.std.proofs.Common.{◌≡◌, ℕ, ◌-◌, ◌≤◌, ◌<◌, Bool, true, false, List, [], ◌∷◌, ◌++◌, length, take, drop, slice_index_or, Option, Some, None, refl, sym, ◌∙◌, ap, subst, arith}
+use Rattle.std.proofs.Common.{◌≡◌, ℕ, ◌-◌, ◌≤◌, ◌<◌, Bool, true, false, List, [], ◌∷◌, ◌++◌, length, take, drop, slice_index_or, Option, Some, None, Result, Err, refl, sym, ◌∙◌, ap, subst, arith}
 use Rattle.std.specs.Prelude.{if◌then◌else◌, IfSome, IsTrue}
 use Rattle.std.specs.List.{Contains}
 use Rattle.std.proofs.lemmas.List.{take_all, take-append-drop}
 use Rattle.std.proofs.lemmas.List.Elements.{Contains-append_left, Contains-append_right, Contains-push}
 use Rattle.relay_disk.specs.Disk.{View}
-use Rattle.event_window.specs.Held.{Event}
+use Rattle.event_window.specs.Held.{Event, damage_after}
+use Rattle.event_window.specs.declared.fault.EventsFault.{EventsFault}
 use Rattle.event_window.specs.declared.place.Place.{Place}
 use Rattle.gate_log.specs.Image.{made}
 use Rattle.gate_log.specs.Log.{LogState}
@@ -20,6 +21,15 @@ use Rattle.relay_store.specs.Events.{AllStand, IsReadOf, IsRest, IsToldOf, Stand
 use Rattle.relay_store.specs.Journals.{AllBodies, bytes_of}
 use Rattle.relay_store.specs.Shown.{is_shown, shown_of}
 use Rattle.relay_store.proofs.Loaded.{length_made, some_records}
+
+fault_same : (A B : Type 0) (before : Option ℕ) (f : EventsFault) → damage_after {A = A} before (Err f) ≡ damage_after {A = B} before (Err f)
+fault_same A B before EventsFault.Disk = refl
+fault_same A B before EventsFault.Memory = refl
+fault_same A B before (EventsFault.BadLog place) = refl
+
+-- the same fault, of another answer
+pub damage_same : (A : Type 0) {B : Type 0} (before now : Option ℕ) (f : EventsFault) (r : Result B EventsFault) → r ≡ Err f → now ≡ damage_after {A = A} before (Err f) → now ≡ damage_after before r
+damage_same A {B} before now f r is found = found ∙ fault_same A B before f ∙ ap (λ (x : Result B EventsFault). damage_after before x) (sym is)
 
 pub each_at : (before : List (List Row)) (rows : List Row) (after : List (List Row)) → AllBodies (before ++ rows ∷ after) → IsBody rows (rows_body rows)
 each_at [] rows after each = each.0

@@ -29,7 +29,8 @@ use Rattle.relay_store.specs.declared.outcome.Outcome.{Outcome}
 abbrev pub messages_sent : List Step → List Message
 messages_sent steps = map (λ s. record { host = s.host; bytes = s.bytes }) steps
 
--- Which fault leaves a step that was taken and whose row isn't in the body under way: one whose row had no room, or found no memory. The disk's may come behind such a fault.
+-- Which fault leaves a step that was taken and whose row isn't in the body under way: one whose row
+-- had no room, or found no memory. The disk's may come behind such a fault.
 abbrev pub AreExtra : Option StoreFault → List Step → Type 0
 AreExtra (Some (StoreFault.BadLog place)) extra = ⊥
 AreExtra (Some (StoreFault.Full end)) extra = length extra ≡ 1
@@ -61,7 +62,8 @@ abbrev pub InVain : List Message → Panel → Panel → Type 0
 InVain [] old new = new ≡ old
 InVain (m ∷ behind) old new = AskedInVainOf old (frame_of m.bytes) new
 
--- what was asked behind the steps where a fault came: nothing where a step is left over, and else for the next message, in vain
+-- what was asked behind the steps where a fault came: nothing where a step is left over, and else
+-- for the next message, in vain
 abbrev pub AsksBehind : Bool → Bool → List Step → List Message → Around → Around → Type 0
 AsksBehind clock_tells repos_tell [] behind old new =
     CameToNothing clock_tells repos_tell (InVain behind old.panel new.panel) old new
@@ -119,19 +121,23 @@ scene store disk around = record { store = store; disk = disk; around = around }
 pub record Batched {D : Type 0} (view : D → View) (tells clock_tells repos_tell : Bool)
     (J : List Row) (group : List Message) (old new : Scene D) (outcomes : List Outcome)
     (fault : Option StoreFault) : Type 0 where
-  -- the steps whose rows are in the body under way, and one behind them whose row isn't: each is what comes of its message behind the rows before it
+  -- the steps whose rows are in the body under way, and one behind them whose row isn't: each is
+  -- what comes of its message behind the rows before it
   pub steps : List Step
   pub extra : List Step
   pub which : AreExtra fault extra
   pub are : (checks : Checks) → OpensRight checks → LinksRight checks
       → AreSteps checks J [] (steps ++ extra)
   pub journal : IsJournal (J ++ rows (steps ++ extra))
-  -- they are of the messages in front of the group: of all, unless a fault came or a host ended, which none but the last did
+  -- they are of the messages in front of the group: of all, unless a fault came or a host ended,
+  -- which none but the last did
   pub behind : List Message
   pub front : group ≡ messages_sent (steps ++ extra) ++ behind
   pub answers : AreAnswers fault steps outcomes
   pub ends : EndsLast outcomes
   pub all : fault ≡ None → (behind ≡ []) ⊎ HasEnd outcomes
+  -- a fault leaves a message over: the one that it came at, unless its step is left over
+  pub left : fault ≢ None → fault ≢ Some StoreFault.Disk → extra ≡ [] → behind ≢ []
   -- what was asked, in turn
   pub asked : AskedInTurn clock_tells repos_tell J old.around steps extra fault behind new.around
   -- each row in the body had room, and a row that hadn't ends the steps
@@ -154,6 +160,13 @@ pub record Batched {D : Type 0} (view : D → View) (tells clock_tells repos_tel
   -- a crash at any moment leaves the journal, with all rows of the body under way or without
   pub moments : IsTrue tells → Keeps J old.store (view old.disk)
       → LeavesOnly (IsOneOf old.store.log.format J (rows steps)) (view old.disk) (view new.disk)
+
+-- The disk failed, and where no message is left over, nothing that was asked failed.
+pub record DiskFailed {D : Type 0} (view : D → View) (tells clock_tells repos_tell : Bool)
+    (J : List Row) (group : List Message) (old new : Scene D) (none_failed : Type 0) : Type 0 where
+  pub batched : Batched view tells clock_tells repos_tell J group old new []
+      (Some StoreFault.Disk)
+  pub alone : batched.behind ≡ [] → none_failed
 
 abbrev pub message_from : List ℕ → List ℕ → Message
 message_from host bytes = record { host = host; bytes = bytes }

@@ -51,7 +51,8 @@ IsOfCommand StoreFault.Authority = ⊥
 IsOfCommand StoreFault.Repos = ⊥
 IsOfCommand StoreFault.Clock = ⊥
 
--- what may come of an account that is taken down or restored: the judges and the repositories aren't asked
+-- what may come of an account that is taken down or restored: the judges and the repositories
+-- aren't asked
 abbrev pub IsOfOperating : StoreFault → Type 0
 IsOfOperating StoreFault.Authority = ⊥
 IsOfOperating StoreFault.Repos = ⊥
@@ -63,7 +64,8 @@ abbrev pub added : Result Done StoreFault → List Row → List Row
 added (Ok done) rows = rows
 added (Err fault) rows = []
 
--- what is answered: what the word comes to, or that the disk failed, that memory ran out, or that the log has no room for its row
+-- what is answered: what the word comes to, or that the disk failed, that memory ran out, or that
+-- the log has no room for its row
 abbrev pub IsAnswer : LogState → CommandAnswer → Result Done StoreFault → Type 0
 IsAnswer log command (Ok done) = done ≡ done_of command
 IsAnswer log command (Err (StoreFault.Full e)) = (row : Row) × (rows_commanded command ≡ row ∷ [])
@@ -111,7 +113,8 @@ pub record Unsaid {D : Type 0} (failed : Type 0) (old new : StoreState) (disk di
   pub same : new ≡ old
   pub disk_same : disk_now ≡ disk
 
--- An operator's command was taken behind the journal J: it is what it has to be, and this was answered; or none came of it.
+-- An operator's command was taken behind the journal J: it is what it has to be, and this was
+-- answered; or none came of it.
 abbrev pub CommandDone : {D : Type 0} → (D → View) → Bool → List Row → (CommandAnswer → Type 0)
     → Type 0 → StoreState → StoreState → D → D → Result Done StoreFault → Type 0
 CommandDone view tells J is_command failed old new disk disk_now result =

@@ -22,7 +22,8 @@ abbrev pub IsEitherBeside : Side → List Row → List Row → List ℕ → List
 IsEitherBeside side J K live other = IsImageBeside side J live other
     ⊎ IsImageBeside side K live other
 
--- Why a journal isn't cut at a number: it is above the last number; or no event has a number up to it; or the log has the last generation.
+-- Why a journal isn't cut at a number: it is above the last number; or no event has a number up to
+-- it; or the log has the last generation.
 abbrev pub IsUncut : List Row → Format → ℕ → Refusal → Type 0
 IsUncut J format c Refusal.PastEnd = last_seq J < c
 IsUncut J format c Refusal.NothingToCut = (c ≤ last_seq J) × (have_old c J ≡ false)

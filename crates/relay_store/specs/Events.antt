@@ -20,7 +20,8 @@ use Rattle.relay_store.specs.Journals.{AllBodies, bytes_of}
 use Rattle.relay_store.specs.Shown.{held_by, is_shown, shown_of}
 use Rattle.relay_store.specs.Store.{StoreState, Keeps}
 
--- where one is in a log: the place of a body, the index of one of its rows, and the bytes from that row on
+-- where one is in a log: the place of a body, the index of one of its rows, and the bytes from that
+-- row on
 pub record BufferState : Type 0 where
   pub place : ℕ
   pub index : ℕ
@@ -33,12 +34,14 @@ IsBufferOf format bodies buffer = (before : List (List Row)) (there : List Row)
     → bodies ≡ before ++ there ∷ after → buffer.place ≡ length (made format (bytes_of before))
     → buffer.left ≡ encoded_rows (drop buffer.index there)
 
--- The disk is the one that the store is open on, these are the events of its journal, and the buffer is one of its bodies.
+-- The disk is the one that the store is open on, these are the events of its journal, and the
+-- buffer is one of its bodies.
 abbrev pub HasEvents : StoreState → View → BufferState → Held → Type 0
 HasEvents s v buffer held = (J : List Row) × (keeps : Keeps J s v) × (held ≡ held_by J)
     × IsBufferOf s.log.format keeps.bodies buffer
 
--- Where the bytes of a body from one place on are rows, those from another on are the rows behind the first.
+-- Where the bytes of a body from one place on are rows, those from another on are the rows behind
+-- the first.
 abbrev pub BeginsNext : List ℕ → ℕ → ℕ → Type 0
 BeginsNext body at next = (rows : List Row) → list_all is_row rows ≡ true
     → drop at body ≡ encoded_rows rows → drop next body ≡ encoded_rows (drop 1 rows)
@@ -66,7 +69,8 @@ AllStand format bodies (p ∷ places) [] = ⊥
 AllStand format bodies (p ∷ places) (row ∷ rows) = StandsAt format bodies p row
     × AllStand format bodies places rows
 
--- What is told of a row's event as the journal J stands: whether it is shown, and where it is, its message is in the room.
+-- What is told of a row's event as the journal J stands: whether it is shown, and where it is, its
+-- message is in the room.
 pub record IsToldOf (J : List Row) (row : Row) (shown : Bool) (room : List ℕ) : Type 0 where
   pub is : shown ≡ is_shown J row
   pub message : shown ≡ true → room ≡ message_of (events_in row)
@@ -75,14 +79,16 @@ pub record IsToldOf (J : List Row) (row : Row) (shown : Bool) (room : List ℕ) 
 abbrev pub EndsThere : List ℕ → Type 0
 EndsThere left = (rest : List ℕ) × (ended_row left ≡ Some rest)
 
--- Of any disk: the event that is seen of the row at the front of these bytes has this number, and where it is shown, its message is in the room; and the row ends as one of a body does.
+-- Of any disk: the event that is seen of the row at the front of these bytes has this number, and
+-- where it is shown, its message is in the room; and the row ends as one of a body does.
 pub record IsReadAs (left : List ℕ) (seq : ℕ) (shown : Bool) (room : List ℕ) : Type 0 where
   pub message : List ℕ
   pub seen : event_at left ≡ Some (seq, message)
   pub ends : EndsThere left
   pub given : shown ≡ true → room ≡ message
 
--- At the front of these bytes an event is seen that has this message, and a number that is kept at one of these places.
+-- At the front of these bytes an event is seen that has this message, and a number that is kept at
+-- one of these places.
 abbrev pub IsReadOf : List Place → List ℕ → ℕ → List ℕ → Type 0
 IsReadOf places left n message = (p : Place) × Contains places p × (p.seq ≡ n)
     × IsReadAs left n true message
@@ -102,7 +108,9 @@ pub record IsRest (tells : Bool) (log : LogState) (core : Core) (v : View)
 
 -- while the first event that is shown is searched for, from a buffer on
 pub record IsSearching (tells : Bool) (log : LogState) (core : Core) (old now : View)
-    (buffer buffer_now : BufferState) (places left : List Place) : Type 0 where
+    (buffer buffer_now : BufferState) (damage damage_now : Option ℕ)
+    (places left : List Place) : Type 0 where
+  pub undamaged : damage_now ≡ damage
   pub goes : Goes Same old now
   pub steady : now.faults ≡ old.faults
   pub holds : IsTrue tells → (bodies : List (List ℕ)) → HasBodies bodies log old

@@ -27,7 +27,8 @@ number_of StoreFault.Repos = 6
 number_of StoreFault.Memory = 7
 number_of StoreFault.Clock = 8
 
--- the cause of a fault of the parts that are handed in; the others are told of apart, and running out of memory has none
+-- the cause of a fault of the parts that are handed in; the others are told of apart, and running
+-- out of memory has none
 abbrev pub IsCause : Type 0 → Type 0 → Type 0 → Type 0 → StoreFault → Type 0
 IsCause ends spent repos clock StoreFault.SeqEnd = ends
 IsCause ends spent repos clock StoreFault.Authority = spent

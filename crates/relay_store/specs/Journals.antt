@@ -36,7 +36,8 @@ pub record IsLogOf (format : Format) (J : List Row) (bytes : List ℕ) : Type 0 
   pub are : AreBodiesOf J bodies
   pub is_made : IsMade format (bytes_of bodies) bytes
 
--- The bytes of two disks that are an image of this journal: so are those of the side that is picked.
+-- The bytes of two disks that are an image of this journal: so are those of the side that is
+-- picked.
 pub record IsPairImageOf (J : List Row) (one two : List ℕ) : Type 0 where
   pub bodies : List (List Row)
   pub are : AreBodiesOf J bodies
@@ -60,7 +61,8 @@ MayBePairJournal one two J = (c : List ℕ) × (d : List ℕ) × one.may_leave c
 abbrev pub IsPairJournalOfOne : View → View → List ℕ → List ℕ → Type 0
 IsPairJournalOfOne one two c d = (J : List Row) × MayBePairJournal one two J × IsPairImageOf J c d
 
--- The log's bodies have rows of a journal, up to the one at this place: that has none, or they break the order.
+-- The log's bodies have rows of a journal, up to the one at this place: that has none, or they
+-- break the order.
 pub record IsBadBodyAt (place : ℕ) (bytes : List ℕ) : Type 0 where
   pub format : Format
   pub before : List (List Row)
@@ -72,7 +74,8 @@ pub record IsBadBodyAt (place : ℕ) (bytes : List ℕ) : Type 0 where
   pub here : place ≡ length (made format (bytes_of before))
   pub bad : (rows : List Row) → IsBody rows body → IsJournal (joined before ++ rows) → ⊥
 
--- The bytes of two disks are no image of a journal, and this is the place where they show it: where the log shows it, and where that is none, the place of the first body that is bad.
+-- The bytes of two disks are no image of a journal, and this is the place where they show it: where
+-- the log shows it, and where that is none, the place of the first body that is bad.
 abbrev pub IsBadPairJournalAt : ℕ → List ℕ → List ℕ → Type 0
 IsBadPairJournalAt place one two = IsBadPairAt place one two
     ⊎ ((side : Side) × IsPicked one two side × IsBadBodyAt place (of_side side one two))

@@ -1,4 +1,5 @@
--- The lines of a report, by what was answered (own). Links are their texts, numbers are decimal, and each line ends in a line feed.
+-- The lines of a report, by what was answered (own). Links are their texts, numbers are decimal,
+-- and each line ends in a line feed.
 use Rattle.std.specs.Prelude.{◌≡◌, ◌≢◌, ℕ, List, [], ◌∷◌, ◌++◌, length, Err, codes, decimal}
 use Rattle.std.specs.List.{filter}
 use Rattle.at_event.specs.declared.frame.FrameFault.{FrameFault}
@@ -38,7 +39,8 @@ outcome_word (Outcome.Ended end) = end_word end
 abbrev pub line_of : List ℕ → Outcome → List ℕ
 line_of host o = host ++ (outcome_word o ++ 10 ∷ [])
 
--- the last line: how many messages there were, how many numbers were given, how many messages were refused, and the last number
+-- the last line: how many messages there were, how many numbers were given, how many messages were
+-- refused, and the last number
 abbrev pub end_line_of : ℕ → ℕ → ℕ → ℕ → List ℕ
 end_line_of messages events refused last =
     codes "end " ++ (decimal messages ++

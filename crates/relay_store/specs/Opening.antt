@@ -3,10 +3,10 @@ use Rattle.std.specs.Prelude.{◌≡◌, ◌≢◌, ⊤, ℕ, Bool, List, ◌∷
 use Rattle.event_window.specs.declared.place.Place.{Place}
 use Rattle.relay_disk.specs.Disk.{View, Goes, Same}
 use Rattle.relay_disk.specs.Moments.{PairLeavesOnly}
-use Rattle.gate_log.specs.Image.{made}
+use Rattle.gate_log.specs.Image.{IsUnmade, made}
 use Rattle.gate_log.specs.Log.{LogState}
 use Rattle.gate_log.specs.Log.{HoldsBodies as HasBodies}
-use Rattle.gate_log.specs.Pick.{LeavesSide, other_side, view_of_side}
+use Rattle.gate_log.specs.Pick.{IsPicked, LeavesSide, of_side, other_side, view_of_side}
 use Rattle.gate_log.specs.declared.format.Format.{Format}
 use Rattle.relay_row.specs.Bodies.{IsBody}
 use Rattle.relay_row.specs.Journal.{IsJournal}
@@ -32,14 +32,22 @@ pub record Opened (tells : Bool) (one two one_now two_now : View)
   pub keeps : IfOk result (λ s. IsTrue tells → (J : List Row)
       × IsPairImageOf J one.content two.content
       × Keeps J (seen_in s) (view_of_side s.side one_now two_now))
-  -- its side is picked of all that a crash now may leave, and the other side was only read
+  -- its side was picked of what the disks held, and is of all that a crash now may leave
+  pub picked : IfOk result (λ s. IsTrue tells → IsPicked one.content two.content s.side)
   pub side : IfOk result (λ s. IsTrue tells → LeavesSide s.side one_now two_now)
+  -- the other side was only read
   pub beside : IfOk result (λ s. Goes Same (view_of_side (other_side s.side) one two)
       (view_of_side (other_side s.side) one_now two_now))
-  -- whatever moments a crash strikes the two at, it leaves an image of one of the journals that one before could leave
+  -- so was its own, unless the store was made there
+  pub only_read : IfOk result (λ s. IsTrue tells
+      → (IsUnmade (of_side s.side one.content two.content) → ⊥)
+      → Goes Same (view_of_side s.side one two) (view_of_side s.side one_now two_now))
+  -- whatever moments a crash strikes the two at, it leaves an image of one of the journals that one
+  -- before could leave
   pub moments : IsTrue tells → LeavesPairJournals one two
       → PairLeavesOnly (IsPairJournalOfOne one two) one one_now two two_now
-  -- where it comes to no store, and no call of a disk failed, both were only read: a damaged log stays as it is
+  -- where it comes to no store, and no call of a disk failed, both were only read: a damaged log
+  -- stays as it is
   pub read : (fault : StoreFault) → result ≡ Err fault → fault ≢ StoreFault.Disk → IsTrue tells
       → BothOnlyRead one two one_now two_now
 
@@ -52,7 +60,8 @@ pub record IsApplied (place : ℕ) (body : List ℕ) (J : List Row) (state : Cor
   pub core : Holds state (J ++ rows)
   pub window : places_now ≡ places ++ places_in place 0 rows
 
--- These rows of the body at this place were applied, behind every journal that was known, and they keep its order.
+-- These rows of the body at this place were applied, behind every journal that was known, and they
+-- keep its order.
 pub record AreApplied (place : ℕ) (rows : List Row) (state state_now : Core)
     (places places_now : List Place) : Type 0 where
   pub core : (J : List Row) → Holds state J → Holds state_now (J ++ rows)

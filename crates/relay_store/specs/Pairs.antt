@@ -6,7 +6,8 @@ use Rattle.gate_log.specs.declared.picking.Side.TheVariants.{One, Two}
 use Rattle.relay_row.specs.declared.row.Row.{Row}
 use Rattle.relay_store.specs.Journals.{IsPairImageOf}
 
--- The two disks stand for the journal: their content is an image of it, and so is each pair that a crash now may leave.
+-- The two disks stand for the journal: their content is an image of it, and so is each pair that a
+-- crash now may leave.
 pub record StandsFor (J : List Row) (one two : View) : Type 0 where
   pub now : IsPairImageOf J one.content two.content
   pub left : (c d : List ℕ) → one.may_leave c → two.may_leave d → IsPairImageOf J c d

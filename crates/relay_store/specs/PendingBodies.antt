@@ -42,7 +42,8 @@ abbrev pub pending_end : ℕ → List Row → ℕ
 pending_end end [] = end
 pending_end end (row ∷ rows) = end + BEFORE_BODY + length (rows_body (row ∷ rows))
 
--- The log has no room for a body of the rows and of one more: as a body of its own behind the rows so far, that one would end there.
+-- The log has no room for a body of the rows and of one more: as a body of its own behind the rows
+-- so far, that one would end there.
 pub record IsFull (log : LogState) (rows : List Row) (row : Row) (e : ℕ) : Type 0 where
   pub there : e ≡ end_of (pending_end log.end rows) (row ∷ [])
   pub past : log.most < end_of log.end (rows ++ row ∷ [])

@@ -13,7 +13,8 @@ number_in row = first_seq (events_in row)
 
 -- the place of the event of a row, if it sends one out, at an index of the body at a place
 abbrev pub place_of : ℕ → ℕ → Row → List Place
-place_of place index row = if number_in row == 0 then [] else record { seq = number_in row; place = place; index = index } ∷ []
+place_of place index row = if number_in row == 0 then []
+    else record { seq = number_in row; place = place; index = index } ∷ []
 
 -- those of rows of the body at a place, from an index on
 abbrev pub places_in : ℕ → ℕ → List Row → List Place

@@ -12,7 +12,8 @@ use Rattle.relay_core.specs.declared.journal_state.Core.{Core}
 use Rattle.relay_core.specs.Entries.{Holds}
 use Rattle.relay_store.specs.Store.{StoreState, IsOf, Keeps}
 
--- Reading left the disk as it was, but for counts and moments: it still has each journal that the store has.
+-- Reading left the disk as it was, but for counts and moments: it still has each journal that the
+-- store has.
 pub record IsReread (tells : Bool) (s : StoreState) (v w : View) : Type 0 where
   pub goes : Goes Same v w
   pub keeps : IsTrue tells → (J : List Row) → Keeps J s v → Keeps J s w
@@ -31,7 +32,8 @@ BreaksOrder rows state = (J behind : List Row) → Holds state J → IsJournal (
 abbrev pub IsOfSome : Core → Type 0
 IsOfSome state = (J : List Row) × IsOf J state
 
--- The state is of a journal that is cut: of what carries some journal over, where that has a number, and of rows behind it.
+-- The state is of a journal that is cut: of what carries some journal over, where that has a
+-- number, and of rows behind it.
 abbrev pub IsOfSomeCut : Core → Type 0
 IsOfSomeCut state = (front : List Row) × IsJournal front × (0 < last_seq front → IsOfSome state)
 

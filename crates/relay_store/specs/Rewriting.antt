@@ -1,4 +1,5 @@
--- A journal that is written anew into a log that is being built, each row as a body of its own (own).
+-- A journal that is written anew into a log that is being built, each row as a body of its own
+-- (own).
 use Rattle.std.specs.Prelude.{◌≡◌, ◌⊎◌, ⊤, ℕ, ◌+◌, ◌<◌, Bool, List, [], ◌∷◌, ◌++◌, length, IsTrue}
 use Rattle.relay_disk.specs.Disk.{View}
 use Rattle.relay_disk.specs.Moments.{LeavesOnly}
@@ -50,7 +51,8 @@ pub record IsCopied (tells : Bool) (rows : List Row) (old new : Rewrite) (v w : 
   pub run : IsTrue tells → LeavesOnly IsClosed v w
   pub steady : w.faults ≡ v.faults
 
--- One of these rows has no room, as a body of its own behind those before it: with the closed gate behind it, it would end there. Those before it have room.
+-- One of these rows has no room, as a body of its own behind those before it: with the closed gate
+-- behind it, it would end there. Those before it have room.
 pub record RewriteHasNoRoom (end most : ℕ) (rows : List Row) (e : ℕ) : Type 0 where
   pub before : List Row
   pub row : Row

@@ -8,7 +8,8 @@ use Rattle.relay_row.specs.declared.row.Row.{Row}
 use Rattle.relay_store.specs.Journals.{AreBodiesOf, bytes_of}
 use Rattle.relay_store.specs.PendingBodies.{end_of}
 
--- The log that has the journal J has no room for a row: as a body of its own behind the others it would end at e, past the most.
+-- The log that has the journal J has no room for a row: as a body of its own behind the others it
+-- would end at e, past the most.
 pub record HasNoRoom (most : ℕ) (J : List Row) (row : Row) (e : ℕ) (bytes : List ℕ) : Type 0 where
   pub format : Format
   pub bodies : List (List Row)
@@ -17,7 +18,8 @@ pub record HasNoRoom (most : ℕ) (J : List Row) (row : Row) (e : ℕ) (bytes : 
   pub there : e ≡ end_of (length (made format (bytes_of bodies))) (row ∷ [])
   pub past : most < e
 
--- The log that has the journal J had room for it: with the closed gate behind its bodies it ends at the most, or before.
+-- The log that has the journal J had room for it: with the closed gate behind its bodies it ends at
+-- the most, or before.
 pub record HasRoom (most : ℕ) (J : List Row) (bytes : List ℕ) : Type 0 where
   pub format : Format
   pub bodies : List (List Row)

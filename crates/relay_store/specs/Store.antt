@@ -32,7 +32,8 @@ pub record IsOf (J : List Row) (state : Core) : Type 0 where
   pub holds : Holds state J
   pub journal : IsJournal J
 
--- The disk is the one that the store is open on, and it holds this journal: so do its content and all that a crash may leave. What the store knows is of this journal.
+-- The disk is the one that the store is open on, and it holds this journal: so do its content and
+-- all that a crash may leave. What the store knows is of this journal.
 pub record Keeps (J : List Row) (s : StoreState) (v : View) : Type 0 where
   pub bodies : List (List Row)
   pub are : AreBodiesOf J bodies

@@ -1,5 +1,5 @@
 -- What one message comes to, ahead of the disk, and messages one after another (own).
-use Rattle.std.specs.Prelude.{◌≡◌, ◌⊎◌, ◌≤◌, ◌+◌, ⊤, ℕ, Bool, true, List, [], ◌∷◌, ◌++◌, length, map, Option, Some, None, Result, Ok, Err}
+use Rattle.std.specs.Prelude.{◌≡◌, ◌≢◌, ◌⊎◌, ◌≤◌, ◌+◌, ⊤, ℕ, Bool, true, List, [], ◌∷◌, ◌++◌, length, map, Option, Some, None, Result, Ok, Err}
 use Rattle.std.specs.List.{list_all}
 use Rattle.at_syntax.specs.Host.{is_host}
 use Rattle.at_event.specs.Frames.{frame_of}
@@ -122,6 +122,7 @@ pub record Stopped (clock_tells repos_tell : Bool) (log : LogState) (group : Lis
   pub journal : KeepsJournal core (rows (gathered.steps ++ extra))
   pub ends : EndsLast outcomes
   pub all : fault ≡ None → (behind ≡ []) ⊎ HasEnd outcomes
+  pub some_left : fault ≢ None → extra ≡ [] → behind ≢ []
   pub asked : (J : List Row) → Holds core J
       → AskedInTurn clock_tells repos_tell J old gathered.steps extra fault behind new
   pub full : EndsFull log gathered.steps extra fault

@@ -103,11 +103,10 @@ fn take_in(
     requires fits { Fits log.now (cut_to start pending.old) }
     ensures begun { AHEAD ≤ length pending.new.body }
     ensures fits { Fits log.now pending.new }
-    ensures ok { OnOk result
-        (IsApplied log.now.end row.old core.old core.new window.old.places window.new.places pending.old
-        pending.new) }
-    ensures as_before { OnErr result (IsUnchanged core.old core.new window.old.places window.new.places
-        (cut_to start pending.old) pending.new) }
+    ensures ok { OnOk result (IsApplied log.now.end row.old core.old core.new
+        window.old.places window.new.places pending.old pending.new) }
+    ensures as_before { OnErr result (IsUnchanged core.old core.new
+        window.old.places window.new.places (cut_to start pending.old) pending.new) }
     ensures full { (e : ℕ) → result ≡ Err (StoreFault.Full e)
         → IsFullWith log.now start pending.old e }
     ensures cause { IfErr result (λ f. (f ≡ StoreFault.Memory)
@@ -142,8 +141,8 @@ pub(crate) fn add_row(
     ensures ok { OnOk result
         (IsAdded log.now.end row core.old core.new window.old.places window.new.places pending.old
         pending.new) }
-    ensures as_before { OnErr result
-        (IsUnchanged core.old core.new window.old.places window.new.places pending.old pending.new) }
+    ensures as_before { OnErr result (IsUnchanged core.old core.new
+        window.old.places window.new.places pending.old pending.new) }
     ensures full { (e : ℕ) → result ≡ Err (StoreFault.Full e) → (rows : List TheRow)
         → HasRows rows pending.old → IsFull log.now rows row e }
     ensures cause { IfErr result (λ f. (f ≡ StoreFault.Memory)
@@ -181,8 +180,8 @@ pub(crate) fn add_new_row(
     ensures ok { OnOk result (IsAdded log.now.end
         (TheRow.Taken new_row) core.old core.new window.old.places window.new.places pending.old
         pending.new) }
-    ensures as_before { OnErr result
-        (IsUnchanged core.old core.new window.old.places window.new.places pending.old pending.new) }
+    ensures as_before { OnErr result (IsUnchanged core.old core.new
+        window.old.places window.new.places pending.old pending.new) }
     ensures full { (e : ℕ) → result ≡ Err (StoreFault.Full e) → (rows : List TheRow)
         → HasRows rows pending.old → IsFull log.now rows (TheRow.Taken new_row) e }
     ensures cause { IfErr result (λ f. (f ≡ StoreFault.Memory)

@@ -91,8 +91,8 @@ fn carry_hosts<D: Disk>(
 ) -> Result<(), StoreFault>
     requires on { IsTrue D.tells → IsBuiltOn (D.view other.old) rewrite.old.build }
     requires short { AllShort (host_rows (listed hosts.now)) }
-    ensures copied { OnOk result (IsCopied D.tells (host_rows (listed hosts.now)) rewrite.old rewrite.new
-        (D.view other.old) (D.view other.new)) }
+    ensures copied { OnOk result (IsCopied D.tells (host_rows (listed hosts.now))
+        rewrite.old rewrite.new (D.view other.old) (D.view other.new)) }
     ensures run { IsTrue D.tells → LeavesOnly IsClosed (D.view other.old) (D.view other.new) }
     ensures disk { result ≡ Err StoreFault.Disk
         → Rose (D.view other.old).faults (D.view other.new).faults }

@@ -61,8 +61,8 @@ fn take_command(
     ensures added { OnOk result (AreAdded log.now.end
         (rows_commanded command) core.old core.new window.old.places window.new.places pending.old
         pending.new) }
-    ensures as_before { OnErr result
-        (IsUnchanged core.old core.new window.old.places window.new.places pending.old pending.new) }
+    ensures as_before { OnErr result (IsUnchanged core.old core.new
+        window.old.places window.new.places pending.old pending.new) }
     ensures late { IfErr result (IsLate log.now pending.old (rows_commanded command)) }
 {
     match command {

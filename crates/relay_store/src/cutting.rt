@@ -117,8 +117,8 @@ impl Store {
     ) -> Result<(), StoreFault>
         requires on { IsTrue D.tells → IsOn (D.view disk.old) self.now.log }
         requires build { IsTrue D.tells → IsBuiltOn (D.view other.old) rewrite.old.build }
-        ensures copied { OnOk result (CopiedAs D.tells (λ rows. IsTrue D.tells → (J : List TheRow) (c : ℕ)
-            → Keeps J (seen_in self.now) (D.view disk.old)
+        ensures copied { OnOk result (CopiedAs D.tells (λ rows. IsTrue D.tells
+            → (J : List TheRow) (c : ℕ) → Keeps J (seen_in self.now) (D.view disk.old)
             → IsLastUpto c last self.now.window.places
             → rows ≡ cut J c) rewrite.old rewrite.new (D.view other.old) (D.view other.new)) }
         ensures known { OnOk result (Holds rewrite.old.core [] → IsOfSomeCut rewrite.new.core) }

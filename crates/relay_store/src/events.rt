@@ -1,8 +1,8 @@
 //! Giving the events of a store out.
 
-ghost use Rattle.std.specs.Prelude.{◌≡◌, List, IsTrue, refl};
+ghost use Rattle.std.specs.Prelude.{◌≡◌, List, None, IsTrue, refl};
 ghost use Rattle.std.proofs.Common.{◌∙◌, ap};
-ghost use Rattle.event_window.specs.Held.{Held};
+ghost use Rattle.event_window.specs.Held.{Held, given_after};
 ghost use Rattle.relay_row.specs.declared.row.Row.{Row as TheRow};
 ghost use Rattle.relay_store.specs.Events.{HasEvents, IsReadOf};
 ghost use Rattle.relay_store.specs.Rereading.{IsReread, reread_again, reread_here};
@@ -25,6 +25,9 @@ pub struct EventReader<'a, D, P = Buffer> {
     disk: &'a mut D,
     // How many places stand behind the one that was looked at first, last time.
     left: usize,
+    // The number of the event that was given last, or 0, and the place where damage was found last.
+    given: u64,
+    damage: Option<u64>,
     buffer: P,
 }
 
@@ -38,6 +41,8 @@ impl<D, P: Drop> Drop for EventReader<'_, D, P> {
             store: _,
             disk: _,
             left: _,
+            given: _,
+            damage: _,
             buffer,
         } = self;
         drop(buffer);
@@ -54,13 +59,27 @@ impl Store {
         ensures store { result.store.now ≡ self.now }
         ensures disk { result.disk.now ≡ disk.old }
         ensures same_reference { result.disk.ghost_name ≡ disk.entry.ghost_name }
+        ensures none_given { result.given ≡ 0 }
+        ensures no_damage { result.damage ≡ None }
     {
         EventReader {
             store: self,
             disk,
             left: 0,
+            given: 0,
+            damage: None,
             buffer: Buffer::new(alloc),
         }
+    }
+}
+
+// The number of the event that was given last, after an answer.
+fn given_after(before: u64, answer: &Result<Option<u64>, EventsFault>) -> u64
+    ensures { result ≡ given_after before answer.now }
+{
+    match answer {
+        Ok(Some(number)) => *number,
+        _ => before,
     }
 }
 
@@ -74,6 +93,10 @@ impl<D: Disk> Events for EventReader<'_, D> {
         IsReadOf reader.store.now.window.places reader.buffer.left n message };
 
     ghost faults = { λ reader. (D.view reader.disk.now).faults };
+
+    ghost given_upto = { λ reader. reader.given };
+
+    ghost damage = { λ reader. reader.damage };
 
     ghost later = { λ old new. (new.store.now ≡ old.store.now)
         × (new.disk.ghost_name ≡ old.disk.ghost_name)
@@ -106,13 +129,16 @@ impl<D: Disk> Events for EventReader<'_, D> {
         let store = self.store;
         let places = store.window.above(seq, self.left);
         self.left = places.len().saturating_sub(1);
-        find_shown(
+        let found = find_shown(
             &store.log,
             &store.core,
             self.disk,
             places,
             &mut self.buffer,
+            &mut self.damage,
             room,
-        )
+        );
+        self.given = given_after(self.given, &found);
+        found
     }
 }

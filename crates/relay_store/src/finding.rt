@@ -3,6 +3,7 @@
 ghost use Rattle.std.specs.Prelude.{◌≡◌, ◌≤◌, ◌<◌, ◌^◌, ◌++◌, ◌∷◌, [], ℕ, List, length, true, Err, IsTrue, IfOk, IfSome, OnOk, OnErr};
 ghost use Rattle.at_cid.specs.Counts.{Rose};
 ghost use Rattle.relay_disk.specs.Disk.{Goes, Same};
+ghost use Rattle.event_window.specs.Held.{damage_after};
 ghost use Rattle.event_window.specs.declared.fault.EventsFault.{EventsFault};
 ghost use Rattle.gate_log.specs.Image.{made};
 ghost use Rattle.gate_log.specs.Log.{HoldsBodies as HasBodies, IsOn};
@@ -170,13 +171,68 @@ fn copy_shown_at<D: Disk>(
     copy_shown(core, buffer, place, room)
 }
 
-/// The first event that is shown of those at these places: its number, and its message, which goes into the room.
+// The place where damage was found last, after an answer.
+fn damage_after(before: Option<u64>, answer: &Result<bool, EventsFault>) -> Option<u64>
+    ensures { result ≡ damage_after before answer.now }
+{
+    match answer {
+        Err(EventsFault::BadLog(place)) => Some(*place),
+        _ => before,
+    }
+}
+
+// Tells of the event of the row at a place, and where damage was found last.
+fn tell_shown_at<D: Disk>(
+    log: &Log,
+    core: &Core,
+    disk: &mut D,
+    place: Place,
+    buffer: &mut Buffer,
+    damage: &mut Option<u64>,
+    room: &mut Octets,
+) -> Result<bool, EventsFault>
+    requires on { IsTrue D.tells → IsOn (D.view disk.old) log.now }
+    ensures told { IfOk result (λ shown. IsTrue D.tells
+        → (bodies : List (List TheRow)) (J : List TheRow) (row : TheRow) → AllBodies bodies
+        → HasBodies (bytes_of bodies) log.now (D.view disk.old) → Holds core.now J
+        → IsBufferOf log.now.format bodies buffer.old
+        → StandsAt log.now.format bodies place row → IsToldOf J row shown room.new) }
+    ensures kept { IfOk result (λ shown. IsReadAs buffer.new.left place.seq shown room.new) }
+    ensures short { IfOk result (λ shown. shown ≡ true → length room.new < 2 ^ 32) }
+    ensures fits { IsTrue D.tells → (bodies : List (List TheRow)) → AllBodies bodies
+        → HasBodies (bytes_of bodies) log.now (D.view disk.old)
+        → IsBufferOf log.now.format bodies buffer.old
+        → IsBufferOf log.now.format bodies buffer.new }
+    ensures no_bad_log { (p : ℕ) → result ≡ Err (EventsFault.BadLog p) → IsTrue D.tells
+        → (bodies : List (List TheRow)) (row : TheRow)
+        → AllBodies bodies → HasBodies (bytes_of bodies) log.now (D.view disk.old)
+        → IsBufferOf log.now.format bodies buffer.old
+        → StandsAt log.now.format bodies place row → ⊥ }
+    ensures goes { Goes Same (D.view disk.old) (D.view disk.new) }
+    ensures holds { IsTrue D.tells → (bodies : List (List ℕ))
+        → HasBodies bodies log.now (D.view disk.old) → HasBodies bodies log.now (D.view disk.new) }
+    ensures on { IsTrue D.tells → IsOn (D.view disk.new) log.now }
+    ensures steady { OnOk result ((D.view disk.new).faults ≡ (D.view disk.old).faults) }
+    ensures no_fault { OnErr result ((result ≡ Err EventsFault.Disk → ⊥)
+        → (D.view disk.new).faults ≡ (D.view disk.old).faults) }
+    ensures disk { result ≡ Err EventsFault.Disk
+        → Rose (D.view disk.old).faults (D.view disk.new).faults }
+    ensures damaged { damage.new ≡ damage_after damage.old result }
+{
+    let told = copy_shown_at(log, core, disk, place, buffer, room);
+    *damage = damage_after(*damage, &told);
+    told
+}
+
+/// The first event that is shown of those at these places: its number, and its message, which goes into the room. Where damage is
+/// found, that is answered and kept.
 pub(crate) fn find_shown<D: Disk>(
     log: &Log,
     core: &Core,
     disk: &mut D,
     places: &[Place],
     buffer: &mut Buffer,
+    damage: &mut Option<u64>,
     room: &mut Octets,
 ) -> Result<Option<u64>, EventsFault>
     requires on { IsTrue D.tells → IsOn (D.view disk.old) log.now }
@@ -206,13 +262,14 @@ pub(crate) fn find_shown<D: Disk>(
         → (D.view disk.new).faults ≡ (D.view disk.old).faults) }
     ensures disk { result ≡ Err EventsFault.Disk
         → Rose (D.view disk.old).faults (D.view disk.new).faults }
+    ensures damaged { damage.new ≡ damage_after damage.old result }
 {
     let mut left = places;
     'places: loop {
         let [place, others @ ..] = left else {
             return Ok(None);
         };
-        if copy_shown_at(log, core, disk, *place, buffer, room)? {
+        if tell_shown_at(log, core, disk, *place, buffer, damage, room)? {
             return Ok(Some(place.seq));
         }
         left = others;

@@ -1,6 +1,7 @@
 //! Messages taken one after another, ahead of the disk.
 
 ghost use Rattle.std.specs.Prelude.{◌≡◌, ◌≢◌, ◌≤◌, ◌<◌, ⊤, [], ℕ, List, length, drop, IsTrue, IfSome, Some};
+ghost use Rattle.at_authority.specs.Panels.{IsSpent};
 ghost use Rattle.at_cid.specs.Counts.{Rose};
 ghost use Rattle.at_syntax.specs.Host.{is_host};
 ghost use Rattle.relay_row.specs.declared.limits.TheConstants.{MOST_ROWS};
@@ -66,6 +67,8 @@ pub(crate) fn gather<P: Judges, R: Repos, C: Clock>(
         → R.faults repos.new ≡ R.faults repos.old }
     ensures unspent { result ≢ Some StoreFault.Authority
         → SpendsNone (P.panel judges.old) (P.panel judges.new) }
+    ensures spent { result ≡ Some StoreFault.Authority
+        → (method : List ℕ) × IsSpent (P.panel judges.new method) }
 {
     'group: for message in group {
         if outcomes.reserve(1).is_err() {

@@ -85,8 +85,8 @@ fn take_decided(
     ensures added { OnOk result (AreAdded log.now.end
         (rows_decided (told_as told)) core.old core.new window.old.places window.new.places
         pending.old pending.new) }
-    ensures as_before { OnErr result
-        (IsUnchanged core.old core.new window.old.places window.new.places pending.old pending.new) }
+    ensures as_before { OnErr result (IsUnchanged core.old core.new
+        window.old.places window.new.places pending.old pending.new) }
     ensures late { IfErr result (IsTooLate log.now pending.old (told_as told)) }
 {
     match told {
@@ -120,8 +120,8 @@ pub(crate) fn prepare<P: Judges, R: Repos, C: Clock>(
     requires fits { Fits log.now pending.old }
     ensures begun { AHEAD ≤ length pending.new.body }
     ensures fits { Fits log.now pending.new }
-    ensures prepared { Prepared C.tells R.tells log.now host.now message.now core.old core.new window.old.places
-        window.new.places pending.old pending.new
+    ensures prepared { Prepared C.tells R.tells log.now host.now message.now
+        core.old core.new window.old.places window.new.places pending.old pending.new
         (around (P.panel judges.old) (C.moments clock.old) (R.repository repos.old))
         (around (P.panel judges.new) (C.moments clock.new) (R.repository repos.new)) result }
     ensures risen { IfErr result (IsRisen (Rose (R.faults repos.old) (R.faults repos.new))

@@ -50,8 +50,8 @@ pub(crate) fn put_row<D: Disk>(
 ) -> Result<(), StoreFault>
     requires on { IsTrue D.tells → IsBuiltOn (D.view other.old) rewrite.old.build }
     requires short { IsShort row }
-    ensures copied { OnOk result (IsCopied D.tells (row ∷ []) rewrite.old rewrite.new (D.view other.old)
-        (D.view other.new)) }
+    ensures copied { OnOk result (IsCopied D.tells
+        (row ∷ []) rewrite.old rewrite.new (D.view other.old) (D.view other.new)) }
     ensures run { IsTrue D.tells → LeavesOnly IsClosed (D.view other.old) (D.view other.new) }
     ensures disk { result ≡ Err StoreFault.Disk
         → Rose (D.view other.old).faults (D.view other.new).faults }
@@ -85,8 +85,8 @@ pub(crate) fn put_rows<D: Disk>(
     ensures ordered { OnOk result (GrowsInOrder rows.items rewrite.old.core) }
     ensures bad_log { (p : ℕ) → result ≡ Err (StoreFault.BadLog p)
         → BreaksOrder rows.items rewrite.old.core }
-    ensures copied { OnOk result (IsCopied D.tells rows.items rewrite.old rewrite.new (D.view other.old)
-        (D.view other.new)) }
+    ensures copied { OnOk result (IsCopied D.tells rows.items rewrite.old rewrite.new
+        (D.view other.old) (D.view other.new)) }
     ensures run { IsTrue D.tells → LeavesOnly IsClosed (D.view other.old) (D.view other.new) }
     ensures disk { result ≡ Err StoreFault.Disk
         → Rose (D.view other.old).faults (D.view other.new).faults }

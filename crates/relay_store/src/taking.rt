@@ -1,13 +1,14 @@
 //! Messages of hosts taken.
 
 ghost use Rattle.std.specs.Prelude.{◌≡◌, ◌≢◌, ◌⊎◌, ◌≤◌, ⊤, [], ◌∷◌, Some, None, ℕ, List, length, false, IsTrue, IfSome};
+ghost use Rattle.at_authority.specs.Panels.{IsSpent};
 ghost use Rattle.at_cid.specs.Counts.{Rose};
 ghost use Rattle.at_syntax.specs.Host.{is_host};
 ghost use Rattle.relay_row.specs.declared.limits.TheConstants.{MOST_ROWS};
 ghost use Rattle.relay_row.specs.declared.row.Row.{Row as TheRow};
 ghost use Rattle.relay_step.specs.Around.{around};
 ghost use Rattle.relay_step.specs.Causes.{SpendsNone};
-ghost use Rattle.relay_store.specs.Batches.{Batched, HasEnd, scene, outcomes_in, fault_in, message_from};
+ghost use Rattle.relay_store.specs.Batches.{Batched, DiskFailed, HasEnd, scene, outcomes_in, fault_in, message_from};
 ghost use Rattle.relay_store.specs.Faults.{IsRisenOf};
 ghost use Rattle.relay_store.specs.Store.{IsKept, IsOf, seen_in};
 ghost use Rattle.relay_store.specs.Taking.{AreOfHosts};
@@ -86,6 +87,16 @@ impl Store {
         ensures unspent { result.fault ≢ Some StoreFault.Disk
             → result.fault ≢ Some StoreFault.Authority
             → SpendsNone (P.panel judges.old) (P.panel judges.new) }
+        ensures spent { result.fault ≡ Some StoreFault.Authority
+            → (method : List ℕ) × IsSpent (P.panel judges.new method) }
+        ensures disk_failed { result.fault ≡ Some StoreFault.Disk → (J : List TheRow)
+            → IsOf J self.old.core → DiskFailed D.view D.tells C.tells R.tells J group.now
+            (scene (seen_in self.old) disk.old
+            (around (P.panel judges.old) (C.moments clock.old) (R.repository repos.old)))
+            (scene (seen_in self.new) disk.new
+            (around (P.panel judges.new) (C.moments clock.new) (R.repository repos.new)))
+            ((C.faults clock.new ≡ C.faults clock.old) × (R.faults repos.new ≡ R.faults repos.old)
+            × SpendsNone (P.panel judges.old) (P.panel judges.new)) }
     {
         let mut outcomes = Vec::new(alloc);
         match self.pending.start() {
@@ -162,6 +173,11 @@ impl Store {
         ensures unspent { fault_in result ≢ Some StoreFault.Disk
             → fault_in result ≢ Some StoreFault.Authority
             → SpendsNone (P.panel judges.old) (P.panel judges.new) }
+        ensures spent { fault_in result ≡ Some StoreFault.Authority
+            → (method : List ℕ) × IsSpent (P.panel judges.new method) }
+        ensures disk_alone { fault_in result ≡ Some StoreFault.Disk
+            → (C.faults clock.new ≡ C.faults clock.old) × (R.faults repos.new ≡ R.faults repos.old)
+            × SpendsNone (P.panel judges.old) (P.panel judges.new) }
     {
         match self.pending.start() {
             Ok(()) => {}

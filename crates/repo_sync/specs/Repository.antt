@@ -1,5 +1,7 @@
--- What the bytes of a repository come to: a CAR, the commit object under its first root, and the tree under that one's `data`.
--- (Repository specification, version 3: "CAR File Serialization", "Commit Objects", "MST Structure".)
+-- What the bytes of a repository come to: a CAR, the commit object under its first root, and the
+-- tree under that one's `data`.
+-- (Repository specification, version 3: "CAR File Serialization", "Commit Objects", "MST
+-- Structure".)
 use Rattle.std.specs.Prelude.{◌≡◌, ℕ, List, [], ◌∷◌, length, Bool, true, false, not, nat_lt, is_some, Option, Some, None, Result, Ok, Err}
 use Rattle.std.specs.FinMap as map
 use Rattle.std.specs.Str.{bytes_eq}
@@ -73,8 +75,13 @@ pub record HoldsRepository (bytes : List ℕ) : Type 0 where
 
 -- what is handed on of a commit object and its block, with so many records
 abbrev pub found_of : List ℕ → List ℕ → Commit → ℕ → Found
-found_of link block commit records =
-    record { head = record { rev = commit.rev; data_root = commit.data_root; commit = link }; digest = sha256 commit.unsigned; sig = commit.sig; block = block; records = records }
+found_of link block commit records = record {
+  head = record { rev = commit.rev; data_root = commit.data_root; commit = link };
+  digest = sha256 commit.unsigned;
+  sig = commit.sig;
+  block = block;
+  records = records;
+}
 
 -- nothing is wrong: the tree under the commit object is whole, and this was found
 pub record IsWhole (did : List ℕ) (least : Option ℕ) (bytes : List ℕ) (found : Found) : Type 0 where

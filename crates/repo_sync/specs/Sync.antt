@@ -1,4 +1,5 @@
--- What a `#sync` event comes to: its blocks hold the commit of a repository, and nothing that they show is wrong.
+-- What a `#sync` event comes to: its blocks hold the commit of a repository, and nothing that they
+-- show is wrong.
 -- (Lexicon `com.atproto.sync.subscribeRepos`, `#sync`.)
 use Rattle.std.specs.Prelude.{◌≡◌, ℕ, List, false, IfSome, Option, Some, None, Result, Ok, Err}
 use Rattle.at_cid.specs.Memory.{Gives}
@@ -27,7 +28,8 @@ pub record IsSynced (e : SyncEvent) (last : Option ℕ) (found : Found) : Type 0
   pub shown : first_of (sync_lines e last) ≡ None
   pub found_in : IsFoundIn (car_of e.blocks) found
 
--- what an event comes to behind the last revision of its account: the first refusal that applies, or what was found
+-- what an event comes to behind the last revision of its account: the first refusal that applies,
+-- or what was found
 abbrev pub IsSyncAnswer : SyncEvent → Option ℕ → Result Found Refusal → Type 0
 IsSyncAnswer e last (Ok found) = IsSynced e last found
 IsSyncAnswer e last (Err refusal) = first_of (sync_lines e last) ≡ Some refusal

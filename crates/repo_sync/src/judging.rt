@@ -54,7 +54,8 @@ fn find_commit(
     ensures shown { OnOk result (first_of (commit_lines did.now least (Some block.now)) ≡ None) }
     ensures object { IfOk result (λ commit. commit_of block.now ≡ Ok commit) }
     ensures data { IfOk result (λ commit. IsNodeLink commit.data_root) }
-    ensures refused { IfErr result (IsShown (first_of (commit_lines did.now least (Some block.now)))) }
+    ensures refused { IfErr result
+        (IsShown (first_of (commit_lines did.now least (Some block.now)))) }
 {
     let commit = read_commit(alloc, block)?;
     if commit.did.as_bytes() != did.as_bytes() {

@@ -1,4 +1,5 @@
--- The bytes behind items (own). That they are those that are left where such an item stands in front is proved of them.
+-- The bytes behind items (own). That they are those that are left where such an item stands in
+-- front is proved of them.
 use Rattle.std.specs.Prelude.{ℕ, zero, suc, ◌/◌, ◌%◌, Bool, true, false, ◌&&◌, ◌||◌, ◌==◌, nat_le, nat_lt, if◌then◌else◌, List, [], ◌∷◌, length, drop, Option, Some, None}
 use Rattle.at_cbor.specs.Heads.{argument_at}
 use Rattle.at_cbor.specs.Taking.{◌>>=◌, number_at}
@@ -11,12 +12,14 @@ past n bytes = if nat_lt (length bytes) n then None else Some (drop n bytes)
 
 -- the bytes behind what a head's major type and argument announce
 abbrev pub content_behind : ℕ → ℕ → List ℕ → Option (List ℕ)
-content_behind major n bytes = if major == 2 || major == 3 then past n bytes else (if major == 6 then past TAGGED bytes else Some bytes)
+content_behind major n bytes = if major == 2 || major == 3 then past n bytes
+    else (if major == 6 then past TAGGED bytes else Some bytes)
 
 -- the bytes behind a head and what it announces
 abbrev pub behind_head : (ℕ → ℕ → List ℕ → Option (List ℕ)) → List ℕ → Option (List ℕ)
 behind_head content [] = None
-behind_head content (first ∷ bytes) = argument_at (first % 32) bytes >>= λ a. content (first / 32) a.0 a.1
+behind_head content (first ∷ bytes) = argument_at (first % 32) bytes
+    >>= λ a. content (first / 32) a.0 a.1
 
 -- the bytes behind so many of what a step passes
 abbrev pub times : ℕ → (List ℕ → Option (List ℕ)) → List ℕ → Option (List ℕ)
@@ -33,7 +36,8 @@ scalars_behind n bytes = times n scalar_behind bytes
 
 -- a list is passed with its items, which are no lists
 abbrev pub item_content_behind : ℕ → ℕ → List ℕ → Option (List ℕ)
-item_content_behind major n bytes = if major == 4 then scalars_behind n bytes else content_behind major n bytes
+item_content_behind major n bytes = if major == 4 then scalars_behind n bytes
+    else content_behind major n bytes
 
 -- the bytes behind an item of a row
 unfoldable pub item_behind : List ℕ → Option (List ℕ)

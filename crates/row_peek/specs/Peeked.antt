@@ -11,7 +11,8 @@ is_of_repo (Row.Synced did whole moment) = true
 is_of_repo (Row.Operated o) = false
 is_of_repo (Row.Carried c) = false
 
--- The account that a row names, whether its event is of a commit or a sync, and that event, which is its only one.
+-- The account that a row names, whether its event is of a commit or a sync, and that event, which
+-- is its only one.
 pub record IsPeekOf (row : Row) (s : Peeked) : Type 0 where
   pub did : s.did.now ≡ did_of_row row
   pub of_repo : s.of_repo ≡ is_of_repo row

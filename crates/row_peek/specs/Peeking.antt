@@ -1,4 +1,5 @@
--- What a row sends out, found by its items' places (own). That it is what the row sends out, where one stands in front, is proved of it.
+-- What a row sends out, found by its items' places (own). That it is what the row sends out, where
+-- one stands in front, is proved of it.
 use Rattle.std.specs.Prelude.{ℕ, ◌==◌, Bool, true, false, nat_le, if◌then◌else◌, List, [], ◌∷◌, Option, Some, None, option_map}
 use Rattle.at_cbor.specs.declared.major.Major.{Major}
 use Rattle.at_cbor.specs.Taking.{◌>>=◌, number_at, string_at, text_from_front}
@@ -32,9 +33,9 @@ whole_at (first ∷ bytes) = if first == WHOLE then whole_items_at bytes else No
 -- from the number of a taken message's event on
 unfoldable pub outcome_at : ℕ → List ℕ → Option (Bool × (ℕ × List ℕ))
 outcome_at kind bytes =
-    number_at Major.Unsigned bytes >>= λ seq.
-    string_at seq.1 >>= λ message.
-    if seq.0 == 0 then (item_behind message.1 >>= λ rest. whole_at rest >>= λ fetched. Some (true, fetched)) else Some (nat_le kind 2, (seq.0, message.0))
+    number_at Major.Unsigned bytes >>= λ seq. string_at seq.1 >>= λ message. if seq.0 == 0
+    then (item_behind message.1 >>= λ rest. whole_at rest >>= λ fetched. Some (true, fetched))
+    else Some (nat_le kind 2, (seq.0, message.0))
 
 -- a taken message, from its host on
 unfoldable pub taken_at : List ℕ → Option Seen
@@ -47,7 +48,8 @@ taken_at bytes =
 
 -- a repository that was fetched at an operator's command, from its account on
 unfoldable pub synced_at : List ℕ → Option Seen
-synced_at bytes = text_from_front bytes >>= λ did. whole_at did.1 >>= λ event. Some (did.0, (true, event))
+synced_at bytes = text_from_front bytes >>= λ did. whole_at did.1
+    >>= λ event. Some (did.0, (true, event))
 
 -- an operator's command, from its account on
 unfoldable pub operated_at : List ℕ → Option Seen

@@ -105,7 +105,8 @@ fn behind_list(bytes: &[u8]) -> Option<&[u8]>
 
 /// The bytes behind the row at the front of bytes. It may be None where no row stands there.
 pub fn behind_row(bytes: &[u8]) -> Option<&[u8]>
-    ensures { (row : Row) (rest : List ℕ) → is_row row ≡ true → bytes.now ≡ row_encoding row ++ rest → option_map (λ r. r.now) result ≡ Some rest }
+    ensures { (row : Row) (rest : List ℕ) → is_row row ≡ true
+        → bytes.now ≡ row_encoding row ++ rest → option_map (λ r. r.now) result ≡ Some rest }
 {
     behind_list(bytes)
 }
@@ -135,7 +136,8 @@ fn behind_ended_list(bytes: &[u8]) -> Option<&[u8]>
 /// The bytes behind the row at the front of bytes, where it ends as a row of a body does: with the bytes, or where another list begins.
 pub fn behind_ended_row(bytes: &[u8]) -> Option<&[u8]>
     ensures found { option_map (λ rest. rest.now) result ≡ ended_row bytes.now }
-    ensures row { (row : Row) (more : List Row) → is_row row ≡ true → bytes.now ≡ row_encoding row ++ encoded_rows more → option_map (λ rest. rest.now) result ≡ Some (encoded_rows more) }
+    ensures row { (row : Row) (more : List Row) → is_row row ≡ true → bytes.now ≡ row_encoding row
+        ++ encoded_rows more → option_map (λ rest. rest.now) result ≡ Some (encoded_rows more) }
 {
     behind_ended_list(bytes)
 }

@@ -124,7 +124,8 @@ fn peek_at(bytes: &[u8]) -> Option<Peeked<'_>>
 /// What is seen of the row at the front of bytes. None where it sends no event out, and it may be where no row stands there.
 pub fn peek(bytes: &[u8]) -> Option<Peeked<'_>>
     ensures found { option_map seen result ≡ peeked_at bytes.now }
-    ensures sees { (row : Row) (rest : List ℕ) → is_row row ≡ true → bytes.now ≡ row_encoding row ++ rest → Sees row result }
+    ensures sees { (row : Row) (rest : List ℕ) → is_row row ≡ true
+        → bytes.now ≡ row_encoding row ++ rest → Sees row result }
     ensures within { IfSome result (λ seen. length seen.message.now ≤ length bytes.now) }
 {
     peek_at(bytes)

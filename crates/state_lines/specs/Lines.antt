@@ -1,4 +1,5 @@
--- The lines of an account and of hosts (own): links and revisions are their texts, numbers are decimal, parts are separated by one blank, and each line ends in a line feed.
+-- The lines of an account and of hosts (own): links and revisions are their texts, numbers are
+-- decimal, parts are separated by one blank, and each line ends in a line feed.
 use Rattle.std.specs.Prelude.{ℕ, Bool, true, false, not, ◌&&◌, ◌==◌, List, [], ◌∷◌, ◌++◌, length, Option, Some, None, codes, decimal, if◌then◌else◌}
 use Rattle.std.specs.Char.{is_ascii_graphic}
 use Rattle.std.specs.List.{flat_map}
@@ -9,7 +10,8 @@ use Rattle.at_syntax.specs.Tid.{digits_of}
 use Rattle.account_state.specs.State.{State}
 use Rattle.account_state.specs.declared.repo.Repo.{Repo}
 
--- a byte of a status: a visible one of ASCII but `%` as it is, and each other one as `%` and its two upper-case hexadecimal digits
+-- a byte of a status: a visible one of ASCII but `%` as it is, and each other one as `%` and its
+-- two upper-case hexadecimal digits
 abbrev pub shown_byte : ℕ → List ℕ
 shown_byte b = if is_ascii_graphic b && not (b == percent_sign) then b ∷ []
     else percent_encode_byte b
@@ -39,7 +41,8 @@ abbrev pub good_words : Head → List ℕ
 good_words head =
     codes "good " ++ (digits_of head.rev ++ (link_word head.data_root ++ link_word head.commit))
 
--- its repository: nothing, the newest commit, or the revision behind which commits were lost, `-` where there is none
+-- its repository: nothing, the newest commit, or the revision behind which commits were lost, `-`
+-- where there is none
 abbrev pub repo_words : Repo → List ℕ
 repo_words Repo.Missing = codes "none"
 repo_words (Repo.Good head) = good_words head

@@ -1,4 +1,5 @@
--- The life of a machine that has a store: calls, failed calls, cuts, readings of its events, openings, and crashes at any moment of them (own).
+-- The life of a machine that has a store: calls, failed calls, cuts, readings of its events,
+-- openings, and crashes at any moment of them (own).
 use Rattle.std.specs.Prelude.{◌≡◌, ◌≢◌, ◌⊎◌, ◌+◌, ◌<◌, ℕ, Bool, true, List, [], ◌∷◌, Option, Some, None, Result, Ok, Err, IsTrue, OnErr}
 use Rattle.std.proofs.Common.{inl, inr}
 use Rattle.relay_disk.specs.Disk.{View, IsSettled}
@@ -138,7 +139,8 @@ module _ {D : Type 0} (view : D → View) (tells : Bool) where
     pub beside : disk_of (other_side s.side) now ≡ disk_of (other_side s.side) old
     pub store : now.store ≡ open_after fault s_now
 
-  -- Events of the open store were given out, or not: the disk of its side was only read, as `next_after` promises, and the other one is as it was.
+  -- Events of the open store were given out, or not: the disk of its side was only read, as
+  -- `next_after` promises, and the other one is as it was.
   pub record Rereads (s : StoreState) (old now : Machine D) : Type 0 where
     pub reread : IsReread tells s (view (disk_of s.side old)) (view (disk_of s.side now))
     pub beside : disk_of (other_side s.side) now ≡ disk_of (other_side s.side) old
@@ -150,7 +152,8 @@ module _ {D : Type 0} (view : D → View) (tells : Bool) where
     pub opened : Opened tells (view old.one) (view old.two) (view now.one) (view now.two) result
     pub store : now.store ≡ store_in result
 
-  -- The machine stops at some moments between old and now, and starts again with bytes that a crash there left on each disk.
+  -- The machine stops at some moments between old and now, and starts again with bytes that a crash
+  -- there left on each disk.
   pub record Crashes (old now next : Machine D) : Type 0 where
     pub no_store : next.store ≡ None
     pub first : List ℕ
@@ -166,7 +169,8 @@ fault_cut (Ok done) = None
 fault_cut (Err fault) = Some fault
 
 module _ {D : Type 0} (view : D → View) (tells : Bool) where
-  -- The journal was to be cut at a number, on the disk of the store's side and the other, as `cut` promises.
+  -- The journal was to be cut at a number, on the disk of the store's side and the other, as `cut`
+  -- promises.
   pub record CutAs (s s_now : StoreState) (number : ℕ) (disk other disk_now other_now : D)
       (result : Result CutDone StoreFault) : Type 0 where
     pub may : ((why : Refusal) → result ≢ Ok (CutDone.Refused why)) → IsTrue tells → (J : List Row)
@@ -186,7 +190,8 @@ module _ {D : Type 0} (view : D → View) (tells : Bool) where
 
 -- Lives in which journals are cut at numbers that pass.
 module _ {D : Type 0} (view : D → View) (tells : Bool) (passes : ℕ → Bool) where
-  -- A cut of the open store's journal at one of these numbers, done or failed. One that is refused touches nothing, and is no step.
+  -- A cut of the open store's journal at one of these numbers, done or failed. One that is refused
+  -- touches nothing, and is no step.
   pub record Cuts (s : StoreState) (old now : Machine D) : Type 0 where
     pub s_now : StoreState
     pub number : ℕ
@@ -199,7 +204,8 @@ module _ {D : Type 0} (view : D → View) (tells : Bool) (passes : ℕ → Bool)
         (disk_of s.side now) (disk_of (other_side s.side) now) result
     pub store : now.store ≡ open_after (fault_cut result) s_now
 
-  -- a call of the store that is open, or a cut, or a reading of its events, or an opening where none is
+  -- a call of the store that is open, or a cut, or a reading of its events, or an opening where
+  -- none is
   abbrev pub GoesFrom : Option StoreState → Machine D → Machine D → Type 0
   GoesFrom None old now = Opens view tells old now
   GoesFrom (Some s) old now = Calls view tells s old now

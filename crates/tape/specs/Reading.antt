@@ -29,18 +29,27 @@ Ends old before new after = Stays old before new after × (after ≡ []) × (tak
 
 -- What is answered, of a source that tells what it has left.
 abbrev pub IsNext : Tape → List ℕ → Tape → List ℕ → Result (Option Record) TapeFault → Type 0
-IsNext old before new after (Ok (Some r)) = Shows (coming old before) (found r.host r.message (coming new after))
-IsNext old before new after (Ok None) = Shows (coming old before) nothing × Ends old before new after
-IsNext old before new after (Err (TapeFault.Torn place)) = Shows (coming old before) cut × Ends old before new after
-IsNext old before new after (Err (TapeFault.BadName place)) = Shows (held new) bad_name × Stays old before new after
-IsNext old before new after (Err (TapeFault.TooLong place)) = Shows (held new) too_long × Stays old before new after
-IsNext old before new after (Err TapeFault.Failed) = NeedsMore (held new) × Stays old before new after
-IsNext old before new after (Err TapeFault.Budget) = NeedsMore (held new) × (taken new ≡ new.most) × Stays old before new after
+IsNext old before new after (Ok (Some r)) =
+    Shows (coming old before) (found r.host r.message (coming new after))
+IsNext old before new after (Ok None) =
+    Shows (coming old before) nothing × Ends old before new after
+IsNext old before new after (Err (TapeFault.Torn place)) =
+    Shows (coming old before) cut × Ends old before new after
+IsNext old before new after (Err (TapeFault.BadName place)) =
+    Shows (held new) bad_name × Stays old before new after
+IsNext old before new after (Err (TapeFault.TooLong place)) =
+    Shows (held new) too_long × Stays old before new after
+IsNext old before new after (Err TapeFault.Failed) =
+    NeedsMore (held new) × Stays old before new after
+IsNext old before new after (Err TapeFault.Budget) =
+    NeedsMore (held new) × (taken new ≡ new.most) × Stays old before new after
 IsNext old before new after (Err TapeFault.Memory) = Stays old before new after
 
--- Where the reader is then, of every source: behind a record, and else where it was. A place that is told is where it was.
+-- Where the reader is then, of every source: behind a record, and else where it was. A place that
+-- is told is where it was.
 abbrev pub IsPlaced : ℕ → ℕ → Result (Option Record) TapeFault → Type 0
-IsPlaced old new (Ok (Some r)) = IsRecord r.host r.message × (r.place ≡ old) × (new ≡ old + length (record_bytes r.host r.message))
+IsPlaced old new (Ok (Some r)) = IsRecord r.host r.message × (r.place ≡ old)
+    × (new ≡ old + length (record_bytes r.host r.message))
 IsPlaced old new (Ok None) = new ≡ old
 IsPlaced old new (Err (TapeFault.Torn place)) = (place ≡ old) × (new ≡ old)
 IsPlaced old new (Err (TapeFault.BadName place)) = (place ≡ old) × (new ≡ old)
@@ -50,7 +59,8 @@ IsPlaced old new (Err TapeFault.Budget) = new ≡ old
 IsPlaced old new (Err TapeFault.Memory) = new ≡ old
 
 -- a call may answer this: some reader and some source behind it
-pub record MayAnswer (old : Tape) (before : List ℕ) (answer : Result (Option Record) TapeFault) : Type 0 where
+pub record MayAnswer (old : Tape) (before : List ℕ)
+    (answer : Result (Option Record) TapeFault) : Type 0 where
   pub new : Tape
   pub after : List ℕ
   pub next : IsNext old before new after answer

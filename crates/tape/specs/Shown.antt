@@ -21,11 +21,16 @@ pub record HasLongMessage (bytes : List ℕ) : Type 0 where
   pub long : LONGEST_FEED_MESSAGE < size
   pub fits : size < 2 ^ 32
 
--- the bytes end inside a record: in its name, behind it in the length of the message, or in the message
+-- the bytes end inside a record: in its name, behind it in the length of the message, or in the
+-- message
 pub data EndsInRecord (bytes : List ℕ) : Type 0 where
-  in_name : (count : ℕ) (front : List ℕ) → bytes ≡ count ∷ front → length front < count → EndsInRecord bytes
-  in_length : (name front : List ℕ) → is_host name ≡ true → bytes ≡ with_name name front → length front < 4 → EndsInRecord bytes
-  in_message : (name : List ℕ) (size : ℕ) (front : List ℕ) → is_host name ≡ true → size ≤ LONGEST_FEED_MESSAGE → bytes ≡ with_name name (sized size front) → length front < size → EndsInRecord bytes
+  in_name : (count : ℕ) (front : List ℕ) → bytes ≡ count ∷ front
+      → length front < count → EndsInRecord bytes
+  in_length : (name front : List ℕ) → is_host name ≡ true
+      → bytes ≡ with_name name front → length front < 4 → EndsInRecord bytes
+  in_message : (name : List ℕ) (size : ℕ) (front : List ℕ) → is_host name ≡ true
+      → size ≤ LONGEST_FEED_MESSAGE → bytes ≡ with_name name (sized size front)
+      → length front < size → EndsInRecord bytes
 
 -- no bytes; a record (its host, its message) and what stands behind it; or a fault
 pub data Shown : Type 0 where
@@ -37,7 +42,8 @@ pub data Shown : Type 0 where
 
 abbrev pub Shows : List ℕ → Shown → Type 0
 Shows bytes nothing = bytes ≡ []
-Shows bytes (found host message rest) = IsRecord host message × (bytes ≡ record_bytes host message ++ rest)
+Shows bytes (found host message rest) =
+    IsRecord host message × (bytes ≡ record_bytes host message ++ rest)
 Shows bytes bad_name = HasBadName bytes
 Shows bytes too_long = HasLongMessage bytes
 Shows bytes cut = EndsInRecord bytes

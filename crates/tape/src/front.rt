@@ -43,7 +43,8 @@ pub(crate) fn read_front(alloc: Global, bytes: &[u8], place: u64) -> Result<Fron
 fn read_message(alloc: Global, host: &str, bytes: &[u8], place: u64) -> Result<Front, Memory>
     requires { is_host host.now ≡ true }
     ensures front { IfOk result (λ front. IsFront place front (behind_name host.now bytes.now)) }
-    ensures longer { IfOk result (λ front. IsLonger (1 + length host.now + length bytes.now) front) }
+    ensures longer { IfOk result
+        (λ front. IsLonger (1 + length host.now + length bytes.now) front) }
 {
     let Some((size, rest)) = bytes.split_first_chunk::<4>() else {
         return Ok(Front::More(LONGEST_HEAD));

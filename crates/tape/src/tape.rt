@@ -51,13 +51,16 @@ impl Tape {
     /// record's name is looked at when it is whole, and the length of its message when that is whole. Running out of memory may
     /// stand in place of every answer, and a failed read in place of every answer that needs more bytes.
     pub fn next<I: Source>(&mut self, source: &mut I) -> Result<Option<Record>, TapeFault>
-        ensures next { IsTrue I.tells → IsNext self.old (I.left source.old) self.new (I.left source.new) result }
+        ensures next { IsTrue I.tells
+            → IsNext self.old (I.left source.old) self.new (I.left source.new) result }
         ensures placed { IsPlaced self.old.place self.new.place result }
         ensures most { self.new.most ≡ self.old.most }
         ensures counts { I.faults source.old ≤ I.faults source.new }
         ensures steady { OnOk result (I.faults source.new ≡ I.faults source.old) }
-        ensures no_fault { IfErr result (λ fault. fault ≢ TapeFault.Failed → I.faults source.new ≡ I.faults source.old) }
-        ensures failed { IsErrOf result TapeFault.Failed → Rose (I.faults source.old) (I.faults source.new) }
+        ensures no_fault { IfErr result
+            (λ fault. fault ≢ TapeFault.Failed → I.faults source.new ≡ I.faults source.old) }
+        ensures failed { IsErrOf result TapeFault.Failed
+            → Rose (I.faults source.old) (I.faults source.new) }
     {
         'pieces: loop {
             let total = match self.front()? {
@@ -86,9 +89,12 @@ impl Tape {
 
     // Lets go of the record that stands at the front of what was taken.
     fn pass(&mut self, record: &Record)
-        requires { (rest : List ℕ) × (held self.old ≡ record_bytes record.now.host record.now.message ++ rest) }
-        ensures held { held self.old ≡ record_bytes record.now.host record.now.message ++ held self.new }
-        ensures place { self.new.place ≡ self.old.place + length (record_bytes record.now.host record.now.message) }
+        requires { (rest : List ℕ)
+            × (held self.old ≡ record_bytes record.now.host record.now.message ++ rest) }
+        ensures held { held self.old ≡ record_bytes record.now.host record.now.message
+            ++ held self.new }
+        ensures place { self.new.place ≡ self.old.place
+            + length (record_bytes record.now.host record.now.message) }
         ensures most { self.new.most ≡ self.old.most }
     {
         let size = LENGTHS + record.host.len() + record.message.len();
@@ -100,19 +106,23 @@ impl Tape {
     fn take_piece<I: Source>(&mut self, source: &mut I, total: usize) -> Result<usize, TapeFault>
         requires more { length (held self.old) < total }
         requires most { total ≤ LONGEST_RECORD }
-        ensures stays { IsTrue I.tells → coming self.new (I.left source.new) ≡ coming self.old (I.left source.old) }
+        ensures stays { IsTrue I.tells
+            → coming self.new (I.left source.new) ≡ coming self.old (I.left source.old) }
         ensures same { OnErr result (held self.new ≡ held self.old) }
         ensures count { IfOk result (λ n. length (held self.new) ≡ length (held self.old) + n) }
         ensures end { IfOk result (λ n. IsTrue I.tells → n ≡ 0 → I.left source.new ≡ []) }
         ensures before { OnOk result (self.old.place + length (held self.old) < self.old.most) }
-        ensures spent { IsErrOf result TapeFault.Budget → self.old.place + length (held self.old) ≡ self.old.most }
+        ensures spent { IsErrOf result TapeFault.Budget
+            → self.old.place + length (held self.old) ≡ self.old.most }
         ensures cause { IfErr result HasNoPiece }
         ensures place { self.new.place ≡ self.old.place }
         ensures most { self.new.most ≡ self.old.most }
         ensures counts { I.faults source.old ≤ I.faults source.new }
         ensures steady { OnOk result (I.faults source.new ≡ I.faults source.old) }
-        ensures no_fault { IfErr result (λ fault. fault ≢ TapeFault.Failed → I.faults source.new ≡ I.faults source.old) }
-        ensures failed { IsErrOf result TapeFault.Failed → Rose (I.faults source.old) (I.faults source.new) }
+        ensures no_fault { IfErr result
+            (λ fault. fault ≢ TapeFault.Failed → I.faults source.new ≡ I.faults source.old) }
+        ensures failed { IsErrOf result TapeFault.Failed
+            → Rose (I.faults source.old) (I.faults source.new) }
     {
         let left = self.most - self.place - self.window.len() as u64;
         if left == 0 {

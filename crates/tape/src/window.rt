@@ -110,7 +110,8 @@ impl ReadAhead {
     pub fn read_from<I: Source>(&mut self, source: &mut I, most: usize) -> Result<usize, Failed>
         requires some { 0 < most }
         requires fits { most ≤ spare_of self.old }
-        ensures taken { OnOk result (IsTrue I.tells → items self.new ++ I.left source.new ≡ items self.old ++ I.left source.old) }
+        ensures taken { OnOk result (IsTrue I.tells
+            → items self.new ++ I.left source.new ≡ items self.old ++ I.left source.old) }
         ensures kept { OnErr result (IsTrue I.tells → I.left source.new ≡ I.left source.old) }
         ensures same { OnErr result (items self.new ≡ items self.old) }
         ensures count { IfOk result (λ n. length (items self.new) ≡ length (items self.old) + n) }

@@ -1,4 +1,5 @@
--- The two merges of a trial (own): what four hosts send in a made history, in its order, and host after host.
+-- The two merges of a trial (own): what four hosts send in a made history, in its order, and host
+-- after host.
 use Rattle.std.specs.Prelude.{ℕ, Bool, true, List, [], ◌++◌, Option, Some, None}
 use Rattle.std.specs.List.{filter}
 use Rattle.std.specs.Str.{bytes_eq}
@@ -29,9 +30,15 @@ by_host sent = those (Some (host_of 0)) sent
     ++ (those (Some (host_of 1)) sent ++
     (those (Some (host_of 2)) sent ++ those (Some (host_of 3)) sent))
 
--- A world in which every host is the home of whom it tells of, and every signature is good. There is no repository to fetch, and the clock stands at 0.
+-- A world in which every host is the home of whom it tells of, and every signature is good. There
+-- is no repository to fetch, and the clock stands at 0.
 abbrev pub trusting : World
-trusting = record { moment = λ host frame. 0; home = λ did host. true; verdict = λ e. true; fetch = λ did least moment. absent }
+trusting = record {
+  moment = λ host frame. 0;
+  home = λ did host. true;
+  verdict = λ e. true;
+  fetch = λ did least moment. absent;
+}
 
 -- From the empty journal, in that world, the messages make the rows.
 abbrev pub IsRunOf : Sent → List Row → Type 0

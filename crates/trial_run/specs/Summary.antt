@@ -44,7 +44,8 @@ AreShownSame J K = (a : ℕ) → a < 16 → IsShownSame a J K
 abbrev pub word : List ℕ → ℕ → List ℕ
 word text n = text ++ decimal n
 
--- the first line: how the history was drawn, how many accounts have a commit, how many numbers were given, and how many keys there are
+-- the first line: how the history was drawn, how many accounts have a commit, how many numbers were
+-- given, and how many keys there are
 abbrev pub first_line : ℕ → ℕ → ℕ → List Row → List ℕ
 first_line start n keys J = word (codes "trial ") start
     ++ (word (codes " ") n ++ (word (codes " accounts ") (known_below 16 J)

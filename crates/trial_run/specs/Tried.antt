@@ -20,7 +20,8 @@ pub record AreMerges (start n : ℕ) (ones others : List Row) : Type 0 where
   pub one : IsRunOf (history start n).messages ones
   pub other : IsRunOf (by_host (history start n).messages) others
 
--- So they were, and the summary of the first was written, whole, or a front of it where a call of the output failed.
+-- So they were, and the summary of the first was written, whole, or a front of it where a call of
+-- the output failed.
 pub record TrialCameTo (Writes : List ℕ → Type 0) (Holds : List Row → List Row → Type 0)
     (start n : ℕ) : Type 0 where
   pub ones : List Row
@@ -29,7 +30,8 @@ pub record TrialCameTo (Writes : List ℕ → Type 0) (Holds : List Row → List
   pub written : Writes (summary start n (history start n).keys ones)
   pub holds : Holds ones others
 
--- What a trial of a history does with two empty disks, which hold these bytes in the end, and with the output.
+-- What a trial of a history does with two empty disks, which hold these bytes in the end, and with
+-- the output.
 abbrev pub Tried : Bool → ℕ → ℕ → List ℕ → List ℕ → List ℕ → List ℕ → TrialEnd → Type 0
 Tried output_tells start n first second old new TrialEnd.Done =
     TrialCameTo (λ text. IsTrue output_tells

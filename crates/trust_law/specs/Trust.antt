@@ -14,7 +14,8 @@ use Rattle.relay_step.specs.Steps.{Step, AreSteps, rows}
 abbrev pub Trusts : Panel → Type 0
 Trusts panel = (name : List ℕ) → panel name ≡ trusting
 
--- Steps between judges who say yes to everything, and who say so still behind them, make rows that show it.
+-- Steps between judges who say yes to everything, and who say so still behind them, make rows that
+-- show it.
 abbrev pub TrustingStepsShow : Type 0
 TrustingStepsShow = (checks : Checks) → OpensRight checks
     → (clock_tells repos_tell : Bool) (J : List Row) (ended : List (List ℕ)) (old new : Around)

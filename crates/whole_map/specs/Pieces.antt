@@ -42,13 +42,16 @@ begins_by k (Hole l c ∷ s) = false
 
 -- the pieces up to a place begin with k or below it, and those from there on above it
 abbrev pub IsCountBegun : List ℕ → List (List Item) → ℕ → Type 0
-IsCountBegun k ps n = (n ≤ length ps) × IsPartitionPoint (λ p. begins_by k p ≡ true) (λ p. begins_by k p ≡ false) ps n
+IsCountBegun k ps n = (n ≤ length ps)
+    × IsPartitionPoint (λ p. begins_by k p ≡ true) (λ p. begins_by k p ≡ false) ps n
 
--- the piece at a place is where k stands, or would stand: what is read or put at k in all of the map is read or put there
+-- the piece at a place is where k stands, or would stand: what is read or put at k in all of the
+-- map is read or put there
 pub record IsPlace (k : List ℕ) (ps : List (List Item)) (at : ℕ) : Type 0 where
   pub low : at < length ps
   pub value : (p : List Item) → p ≡ slice_index_or ps at p → value_at k (flatten ps) ≡ value_at k p
-  pub edit : (p : List Item) → p ≡ slice_index_or ps at p → (o : Option (List ℕ)) → put k o (flatten ps) ≡ flatten (set ps at (put k o p))
+  pub edit : (p : List Item) → p ≡ slice_index_or ps at p → (o : Option (List ℕ))
+      → put k o (flatten ps) ≡ flatten (set ps at (put k o p))
 
 -- the item with another link
 abbrev pub with_link : Item → List ℕ → Item

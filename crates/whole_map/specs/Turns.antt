@@ -1,4 +1,5 @@
--- Operations in two turns: the creates first, which take memory and can be taken back, and then the updates and deletes, which take none.
+-- Operations in two turns: the creates first, which take memory and can be taken back, and then the
+-- updates and deletes, which take none.
 use Rattle.std.specs.Prelude.{◌≡◌, ℕ, List, [], ◌∷◌, Option, Some, None}
 use Rattle.mst_list.specs.declared.item.Item.{Item}
 use Rattle.mst_list.specs.declared.op.Op.{Op}

@@ -101,7 +101,8 @@ fn behind_answer(
     request: &ClientRequest<'_>,
     bytes: &[u8],
 ) -> Result<Option<Vec<u8>>, Fault>
-    ensures answered { IfOk result (λ behind. IfSome behind (λ rest. IsAnswered bytes.now request.now rest.items)) }
+    ensures answered { IfOk result
+        (λ behind. IfSome behind (λ rest. IsAnswered bytes.now request.now rest.items)) }
 {
     let mut spans = [EMPTY_HEADER_SPAN; MOST_FIELDS];
     let found = match parse_response(bytes, &mut spans) {

@@ -130,7 +130,8 @@ impl Frames {
     fn add(&mut self, size: u64) -> Result<(), Fault>
         ensures counted { OnOk result (self.new.frames ≡ self.old.frames + 1) }
         ensures few { OnOk result (self.new.frames ≤ MOST_FRAMES) }
-        ensures counted_empty { size ≡ 0 → OnOk result (self.new.empty_frames ≡ self.old.empty_frames + 1) }
+        ensures counted_empty { size ≡ 0
+            → OnOk result (self.new.empty_frames ≡ self.old.empty_frames + 1) }
         ensures few_empty { size ≡ 0 → OnOk result (self.new.empty_frames ≤ MOST_EMPTY_FRAMES) }
         ensures added { OnOk result (self.new.message ≡ self.old.message + size) }
         ensures short { OnOk result (self.new.message ≤ self.new.longest) }

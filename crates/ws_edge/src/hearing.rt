@@ -66,7 +66,8 @@ fn listen<S: Read + Write + OpenStream + Drop, R: RandomSource + Clock + Copy>(
     room: &mut Octets,
     sign_answers: bool,
 ) -> Result<Heard, Fault>
-    ensures within { IfOk result (λ heard. heard ≡ Heard.Message → length room.new ≤ LONGEST_FEED_MESSAGE) }
+    ensures within { IfOk result
+        (λ heard. heard ≡ Heard.Message → length room.new ≤ LONGEST_FEED_MESSAGE) }
 {
     for _ in 0..MOST_SIGNS + 1 {
         let heard = hear(session, room)?;
@@ -82,7 +83,8 @@ fn hear<S: Read + Write + OpenStream + Drop, R: RandomSource + Clock + Copy>(
     session: &mut Session<S, R>,
     room: &mut Octets,
 ) -> Result<Heard, Fault>
-    ensures within { IfOk result (λ heard. heard ≡ Heard.Message → length room.new ≤ LONGEST_FEED_MESSAGE) }
+    ensures within { IfOk result
+        (λ heard. heard ≡ Heard.Message → length room.new ≤ LONGEST_FEED_MESSAGE) }
 {
     match session.read() {
         Ok(Message::Close(_)) => {
@@ -111,9 +113,12 @@ fn fault_of(error: Error) -> Fault {
 
 // Hands a message on: a binary one as its bytes, a text as no bytes.
 fn hand_on(message: &Message, room: &mut Octets) -> Result<Heard, Fault>
-    ensures bytes { (bytes : List ℕ) → content_of message.now ≡ binary bytes → OnOk result (room.new ≡ bytes) }
-    ensures text { (words : List ℕ) → content_of message.now ≡ text words → OnOk result (room.new ≡ []) }
-    ensures within { IfOk result (λ heard. heard ≡ Heard.Message → length room.new ≤ LONGEST_FEED_MESSAGE) }
+    ensures bytes { (bytes : List ℕ) → content_of message.now ≡ binary bytes
+        → OnOk result (room.new ≡ bytes) }
+    ensures text { (words : List ℕ) → content_of message.now ≡ text words
+        → OnOk result (room.new ≡ []) }
+    ensures within { IfOk result
+        (λ heard. heard ≡ Heard.Message → length room.new ≤ LONGEST_FEED_MESSAGE) }
 {
     room.clear();
     match message {

@@ -93,7 +93,8 @@ fn read_request<S: Read>(alloc: Global, stream: &mut S) -> Result<Asked, Fault> 
 
 // What these bytes ask for, or `None` where the head isn't whole.
 fn asked_by(alloc: Global, bytes: &[u8]) -> Result<Option<Asked>, Fault>
-    ensures asked { IfOk result (λ asked. IfSome asked (λ a. IsAsked bytes.now a.target a.answer.items a.behind.items)) }
+    ensures asked { IfOk result
+        (λ asked. IfSome asked (λ a. IsAsked bytes.now a.target a.answer.items a.behind.items)) }
 {
     let mut fields = [EMPTY_HEADER_SPAN; MOST_FIELDS];
     let Some(found) = request_in(bytes, &mut fields)? else {

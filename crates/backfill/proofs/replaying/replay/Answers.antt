@@ -1,8 +1,10 @@
-use Rattle.std.proofs.Common.{◌++◌, ◌∙◌, ⊎_elim, inl, inr, arith, subst}
+use Rattle.std.proofs.Common.{◌++◌, ◌∙◌, ⊎_elim, inl, inr, max, arith, subst}
 use Rattle.std.specs.Prelude.{Some}
 use Rattle.backfill.specs.Served.{served}
 use Rattle.backfill.specs.Writing.{IsOfReading}
 use Rattle.backfill.specs.declared.replay_fault.ReplayFault.{ReplayFault}
+use Rattle.backfill.proofs.Damage.{finished_damage}
+use Rattle.backfill.proofs.Upto.{upto_all}
 use Rattle.backfill.proofs.Waiting.{adds_all, after_finish, finished_steady}
 use Rattle.backfill.proofs.replaying.replay.Goals as goal
 
@@ -27,3 +29,16 @@ returns-clause-memory_steady g c = λ is. ⊎_elim
     (λ same. c.finish.ensures.memory_steady is ∙ c.write_served-written.ensures.out_steady (λ output. absurd cc))
     (λ output. absurd cc)
     (c.finish.ensures.same ReplayFault.Memory is)
+
+pub returns-clause-upto : goal.returns-clause-upto
+returns-clause-upto g c = after_finish c.write_served-written.result c.finish.result _ _ _ c.finish.ensures.same c.write_served-written.ensures.upto c.finish.ensures.all
+    (λ f is of. absurd (subst IsOfReading is of))
+    (λ f adds all of told held holds t low. ⊎_elim
+    (λ whole. inl (upto_all (served held (Some c.args.cursor)) held.shown (max c.args.cursor (g.E.Events.given_upto c.write_served-written.new.events)) (g.O.Sink.written c.args.out.now) c.new-gathered.result (g.O.Sink.written c.write_served-written.new.out ++ c.write_served-written.new.gathered) (g.O.Sink.written c.finish.new.out)
+    c.new-gathered.ensures (adds of told held holds t low) (whole t)))
+    (λ rose. inr (omega (arith, rose, c.write_served-written.ensures.counts)))
+    (all of))
+
+pub returns-clause-damaged : goal.returns-clause-damaged
+returns-clause-damaged g c =
+    c.write_served-written.ensures.damaged ∙ finished_damage (g.E.Events.damage c.args.events.now) c.write_served-written.result c.finish.result c.finish.ensures.count c.finish.ensures.same c.finish.ensures.damage_told

@@ -1,4 +1,4 @@
-use Rattle.std.proofs.Common.{◌≡◌, ◌∙◌, ◌+◌, ◌++◌, ◌∷◌, [], List, drop, inl, ⊎_elim, Some, None, arith, refl, sym, ap, subst, length-drop}
+use Rattle.std.proofs.Common.{◌≡◌, ◌∙◌, ◌+◌, ◌++◌, ◌∷◌, [], List, drop, length, inl, ⊎_elim, Some, None, arith, refl, sym, ap, subst, length-drop}
 use Rattle.std.proofs.lemmas.List.{drop_all}
 use Rattle.at_syntax.specs.Host.{is_host}
 use Rattle.relay_step.specs.Around.{Around, around}
@@ -10,6 +10,7 @@ use Rattle.relay_store.specs.declared.outcome.Outcome.{Outcome}
 use Rattle.relay_store.proofs.Asks.{nothing_here, nothing_in_vain}
 use Rattle.relay_store.proofs.Gathers.{at_next, at_start, gathering_ends, gathering_more, host_at, stops_here, stops_in_vain, stops_late}
 use Rattle.relay_store.proofs.Nexts.{next_none, next_nothing}
+use Rattle.relay_store.proofs.Spent.{late_not_authority, spent_vain}
 use Rattle.relay_store.proofs.gathering.gather.Goals as goal
 
 pub group-init : goal.group-init
@@ -34,7 +35,7 @@ returns-then-is_err-clause-stopped g c =
     let a : Around = around (g.P.Judges.panel c.args.judges.now) (g.C.Clock.moments c.args.clock.now) (g.R.Repos.repository c.args.repos.now) in
     let b : Around = around (g.P.Judges.panel c.group.judges) (g.C.Clock.moments c.group.clock) (g.R.Repos.repository c.group.repos) in
     subst (λ (os : List Outcome). Stopped g.C.Clock.tells g.R.Repos.tells c.args.log.now c.args.group.now c.args.core.now c.group.core c.args.window.now.places c.group.window.places c.group.pending a b os (Some StoreFault.Memory)) (sym c.reserve.ensures.items)
-    (stops_here _ _ _ _ _ _ _ _ _ _ _ _ _ c.group.invariant.taken (Some StoreFault.Memory) (omega arith) (λ none. let no : ⊥ = cc in absurd no) (λ x. nothing_in_vain _ _ x x _ (nothing_here _ _ x)) tt (next_none _ _ _ _ _ _ StoreFault.Memory tt))
+    (stops_here _ _ _ _ _ _ _ _ _ _ _ _ _ c.group.invariant.taken (Some StoreFault.Memory) (omega arith) (λ none. let no : ⊥ = cc in absurd no) (λ failed none. let no : ⊥ = omega (arith, ap length none, length-drop c.group.message-index c.args.group.now, c.group-test.true) in no) (λ x. nothing_in_vain _ _ x x _ (nothing_here _ _ x)) tt (next_none _ _ _ _ _ _ StoreFault.Memory tt))
 
 pub returns-in-Err-clause-stopped : goal.returns-in-Err-clause-stopped
 returns-in-Err-clause-stopped g c =
@@ -83,7 +84,7 @@ group-preserved g c =
 
 pub returns-clause-stopped : goal.returns-clause-stopped
 returns-clause-stopped g c =
-    stops_here _ _ _ _ _ _ _ _ _ _ _ _ _ c.group.invariant.taken None refl (λ none. inl (drop_all c.group.message-index c.args.group.now c.group-test.false)) (λ x. nothing_here _ _ x) tt (next_nothing _ _ _ _ _ _)
+    stops_here _ _ _ _ _ _ _ _ _ _ _ _ _ c.group.invariant.taken None refl (λ none. inl (drop_all c.group.message-index c.args.group.now c.group-test.false)) (λ failed. absurd (failed refl)) (λ x. nothing_here _ _ x) tt (next_nothing _ _ _ _ _ _)
 
 pub returns-then-is_err-clause-clock_steady : goal.returns-then-is_err-clause-clock_steady
 returns-then-is_err-clause-clock_steady g c = λ other. c.group.invariant.clock_steady
@@ -120,3 +121,20 @@ returns-clause-repos_steady g c = λ other. c.group.invariant.repos_steady
 
 pub returns-clause-unspent : goal.returns-clause-unspent
 returns-clause-unspent g c = λ other. c.group.invariant.unspent
+
+pub returns-then-is_err-clause-spent : goal.returns-then-is_err-clause-spent
+returns-then-is_err-clause-spent g c = λ is. let no : ⊥ = cc in absurd no
+
+pub returns-in-Err-clause-spent : goal.returns-in-Err-clause-spent
+returns-in-Err-clause-spent g c = λ is.
+    let same : c.in-Err.fault ≡ StoreFault.Authority = cc in
+    ⊎_elim
+    (λ vain. spent_vain _ _ _ _ _ _ _ _ c.in-Err.fault vain same)
+    (λ late. absurd (late_not_authority _ _ _ c.in-Err.fault late.2 same))
+    c.in-Err.ensures.prepared.1
+
+pub returns-then-is_end-clause-spent : goal.returns-then-is_end-clause-spent
+returns-then-is_end-clause-spent g c = λ is. let no : ⊥ = cc in absurd no
+
+pub returns-clause-spent : goal.returns-clause-spent
+returns-clause-spent g c = λ is. let no : ⊥ = cc in absurd no

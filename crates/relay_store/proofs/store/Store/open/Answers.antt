@@ -10,8 +10,10 @@ use Rattle.relay_store.proofs.store.Store.open.Goals as goal
 pub returns-in-Err-clause-opened : goal.returns-in-Err-clause-opened
 returns-in-Err-clause-opened g c = record {
   keeps = tt;
+  picked = tt;
   side = tt;
   beside = tt;
+  only_read = tt;
   moments = λ tells journals. journals_leave _ _ _ _ journals (c.open_pair.ensures.moments tells (pair_images (g.D.Disk.view c.args.disk.now) (g.D.Disk.view c.args.other.now) journals));
   read = λ fault is no_disk tells.
       let same : c.from.result ≡ fault = cc in
@@ -31,8 +33,10 @@ returns-in-Err-clause-bad_log g c = λ p is tells.
 pub returns-in_err-load_side-clause-opened : goal.returns-in_err-load_side-clause-opened
 returns-in_err-load_side-clause-opened g c = record {
   keeps = search rules;
+  picked = search rules;
   side = search rules;
   beside = search rules;
+  only_read = search rules;
   moments = λ tells journals.
       then_read _ _ _ _ _ _ (g.met.D.Disk.is_disk _) (g.met.D.Disk.is_disk _) (journals_leave _ _ _ _ journals (c.open_pair.ensures.moments tells (pair_images (g.D.Disk.view c.args.disk.now) (g.D.Disk.view c.args.other.now) journals))) c.load_side.ensures.one c.load_side.ensures.two;
   read = λ fault is no_disk tells.
@@ -62,8 +66,10 @@ returns-clause-opened g c = record {
       let held = c.in-Ok.ensures.holds tells in
       opened_journal c.in-Ok.found.0 c.in-Ok.found.1 c.load_side.new.core c.load_side.new.window.places (g.D.Disk.view c.args.disk.now) (g.D.Disk.view c.args.other.now) (g.D.Disk.view c.load_side.new.one) (g.D.Disk.view c.load_side.new.two)
       held.0 held.1 (c.load_side.ensures.holds tells held.0 held.2) (c.in_ok-load_side.ensures.loaded tells held.0 held.2);
+  picked = c.in-Ok.ensures.picked;
   side = λ tells. side_stays c.in-Ok.found.0 _ _ _ _ (c.in-Ok.ensures.side tells) c.load_side.ensures.one c.load_side.ensures.two;
   beside = side_again (other_side c.in-Ok.found.0) _ _ _ _ _ _ (g.met.D.Disk.is_disk _) (g.met.D.Disk.is_disk _) c.in-Ok.ensures.beside c.load_side.ensures.one c.load_side.ensures.two;
+  only_read = λ tells made. side_again c.in-Ok.found.0 _ _ _ _ _ _ (g.met.D.Disk.is_disk _) (g.met.D.Disk.is_disk _) (c.in-Ok.ensures.only_read tells made) c.load_side.ensures.one c.load_side.ensures.two;
   moments = λ tells journals.
       then_read _ _ _ _ _ _ (g.met.D.Disk.is_disk _) (g.met.D.Disk.is_disk _) (journals_leave _ _ _ _ journals (c.open_pair.ensures.moments tells (pair_images (g.D.Disk.view c.args.disk.now) (g.D.Disk.view c.args.other.now) journals))) c.load_side.ensures.one c.load_side.ensures.two;
   read = λ fault is no_disk tells. let no : ⊥ = cc in absurd no;

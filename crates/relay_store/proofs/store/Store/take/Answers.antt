@@ -8,10 +8,11 @@ use Rattle.relay_store.proofs.Batched.{batched, batched_fails_as, batched_none, 
 use Rattle.relay_store.proofs.Commits.{nothing_added, nothing_leaves}
 use Rattle.relay_store.proofs.Gathers.{at_start, gathering_last, late_not_disk, stops_in_vain, stops_late, vain_not_disk}
 use Rattle.relay_store.proofs.Rooms.{behind_none}
+use Rattle.relay_store.proofs.Spent.{late_not_authority, spent_vain}
 use Rattle.relay_store.proofs.store.Store.take.Goals as goal
 
 pub returns-in-Err-clause-batched : goal.returns-in-Err-clause-batched
-returns-in-Err-clause-batched g c = λ J of. batched_none g.D.Disk.view _ _ _ J _ _ _ _ _ c.args.disk.now _ [] refl (g.met.D.Disk.is_disk c.args.disk.now) of
+returns-in-Err-clause-batched g c = λ J of. batched_none g.D.Disk.view _ _ _ J _ _ _ _ _ c.args.disk.now _ [] refl (omega arith) (g.met.D.Disk.is_disk c.args.disk.now) of
 
 pub returns-in-Err-prepare-clause-batched : goal.returns-in-Err-prepare-clause-batched
 returns-in-Err-prepare-clause-batched g c =
@@ -117,3 +118,40 @@ pub returns-in-Err-commit-clause-unspent : goal.returns-in-Err-commit-clause-uns
 returns-in-Err-commit-clause-unspent g c = λ not.
     let failed : Some c.in-Err-commit.fault ≡ Some StoreFault.Disk = search rules in
     absurd (not failed)
+
+pub returns-in-Err-clause-spent : goal.returns-in-Err-clause-spent
+returns-in-Err-clause-spent g c = λ is. let no : ⊥ = cc in absurd no
+
+pub returns-in-Err-prepare-clause-spent : goal.returns-in-Err-prepare-clause-spent
+returns-in-Err-prepare-clause-spent g c = λ is.
+    let same : c.in-Err-prepare.fault ≡ StoreFault.Authority = cc in
+    ⊎_elim
+    (λ vain. spent_vain _ _ _ _ _ _ _ _ c.in-Err-prepare.fault vain same)
+    (λ late. absurd (late_not_authority _ _ _ c.in-Err-prepare.fault late.2 same))
+    c.in-Err-prepare.ensures.prepared.1
+
+pub returns-in-Ok-commit-clause-spent : goal.returns-in-Ok-commit-clause-spent
+returns-in-Ok-commit-clause-spent g c = λ is. let no : ⊥ = cc in absurd no
+
+pub returns-in-Err-commit-clause-spent : goal.returns-in-Err-commit-clause-spent
+returns-in-Err-commit-clause-spent g c = λ is.
+    let failed : Some c.in-Err-commit.fault ≡ Some StoreFault.Disk = search rules in
+    let no : ⊥ = cc in
+    absurd no
+
+pub returns-in-Err-clause-disk_alone : goal.returns-in-Err-clause-disk_alone
+returns-in-Err-clause-disk_alone g c = λ is. let no : ⊥ = cc in absurd no
+
+pub returns-in-Err-prepare-clause-disk_alone : goal.returns-in-Err-prepare-clause-disk_alone
+returns-in-Err-prepare-clause-disk_alone g c = λ is.
+    absurd (⊎_elim (λ vain. vain_not_disk c.in-Err-prepare.fault vain.of_asking is) (λ late. late_not_disk _ _ _ c.in-Err-prepare.fault late.2 is) c.in-Err-prepare.ensures.prepared.1)
+
+pub returns-in-Ok-commit-clause-disk_alone : goal.returns-in-Ok-commit-clause-disk_alone
+returns-in-Ok-commit-clause-disk_alone g c = λ is. let no : ⊥ = cc in absurd no
+
+pub returns-in-Err-commit-clause-disk_alone : goal.returns-in-Err-commit-clause-disk_alone
+returns-in-Err-commit-clause-disk_alone g c = λ is. (
+  c.in-Ok-prepare.ensures.clock_steady (λ err. absurd cc),
+  c.in-Ok-prepare.ensures.repos_steady (λ err. absurd cc),
+  c.in-Ok-prepare.ensures.unspent (λ err. absurd cc),
+)

@@ -1,7 +1,7 @@
 use Rattle.std.proofs.Common.{rules, ◌≡◌, Some}
 use Rattle.relay_store.specs.Store.{seen_in}
 use Rattle.relay_store.specs.declared.fault.StoreFault.{StoreFault}
-use Rattle.relay_store.proofs.Batched.{answers_all, answers_few, batched, batched_fails_as, batched_none, few_rows, has_rows, of_kept}
+use Rattle.relay_store.proofs.Batched.{answers_all, answers_few, batched, batched_fails_as, batched_none, disk_failed, few_rows, has_rows, of_kept}
 use Rattle.relay_store.proofs.store.Store.take_all.Goals as goal
 
 pub commit-requires-clause-rows : goal.commit-requires-clause-rows
@@ -14,7 +14,7 @@ pub commit-requires-clause-fits : goal.commit-requires-clause-fits
 commit-requires-clause-fits g c = c.gather-fault.ensures.stopped.gathered.fits
 
 pub returns-in-Err-clause-batched : goal.returns-in-Err-clause-batched
-returns-in-Err-clause-batched g c = λ J of. batched_none g.D.Disk.view _ _ _ J c.args.group.now _ _ _ _ c.args.disk.now _ _ c.new-outcomes.ensures.items (g.met.D.Disk.is_disk c.args.disk.now) of
+returns-in-Err-clause-batched g c = λ J of. batched_none g.D.Disk.view _ _ _ J c.args.group.now _ _ _ _ c.args.disk.now _ _ c.new-outcomes.ensures.items c.requires.some (g.met.D.Disk.is_disk c.args.disk.now) of
 
 pub returns-in-Ok-commit-clause-batched : goal.returns-in-Ok-commit-clause-batched
 returns-in-Ok-commit-clause-batched g c =
@@ -72,3 +72,24 @@ pub returns-in-Err-commit-clause-unspent : goal.returns-in-Err-commit-clause-uns
 returns-in-Err-commit-clause-unspent g c = λ not.
     let failed : Some c.in-Err-commit.fault ≡ Some StoreFault.Disk = search rules in
     absurd (not failed)
+
+pub returns-in-Err-clause-spent : goal.returns-in-Err-clause-spent
+returns-in-Err-clause-spent g c = λ is. let no : ⊥ = cc in absurd no
+
+pub returns-in-Err-commit-clause-spent : goal.returns-in-Err-commit-clause-spent
+returns-in-Err-commit-clause-spent g c = λ is.
+    let failed : Some c.in-Err-commit.fault ≡ Some StoreFault.Disk = search rules in
+    let no : ⊥ = cc in
+    absurd no
+
+pub returns-in-Err-clause-disk_failed : goal.returns-in-Err-clause-disk_failed
+returns-in-Err-clause-disk_failed g c = λ is. let no : ⊥ = cc in absurd no
+
+pub returns-in-Ok-commit-clause-disk_failed : goal.returns-in-Ok-commit-clause-disk_failed
+returns-in-Ok-commit-clause-disk_failed g c = λ is. absurd (c.gather-fault.ensures.no_disk is)
+
+pub returns-in-Err-commit-clause-disk_failed : goal.returns-in-Err-commit-clause-disk_failed
+returns-in-Err-commit-clause-disk_failed g c = λ is.
+    disk_failed _ _ _ _ _ _ _ _ _ _ _ _ _ c.gather-fault.ensures.stopped c.args.self.now.side g.D.Disk.view g.D.Disk.tells c.args.disk.now c.commit.new.disk c.commit.new.log
+    (λ tells J rows has on. c.commit.ensures.moments tells J rows _ _ has on) c.commit.ensures.format c.commit.ensures.untouched
+    _ (λ clock repos authority. (c.gather-fault.ensures.clock_steady clock, c.gather-fault.ensures.repos_steady repos, c.gather-fault.ensures.unspent authority))
