@@ -169,7 +169,7 @@ accepts checks a after b last host e t c trails trusted is =
 
 -- ---- the induction
 
-about_parts : (b : Bool) (test : Row → Bool) (row : Row) (rows : List Row) → list_all test (cond b (row ∷ rows) rows) ≡ true → (b ≡ true → test row ≡ true) × (list_all test rows ≡ true)
+pub about_parts : (b : Bool) (test : Row → Bool) (row : Row) (rows : List Row) → list_all test (cond b (row ∷ rows) rows) ≡ true → (b ≡ true → test row ≡ true) × (list_all test rows ≡ true)
 about_parts true test row rows h = let both = and_parts (test row) (list_all test rows) h in (λ named. both.0, both.1)
 about_parts false test row rows h = (λ named. absurd cc, h)
 

@@ -1,4 +1,5 @@
--- A relay behind a relay: what the one sends of its journal, taken as messages of one host, and what the other makes of it (own).
+-- A relay behind a relay: what the one sends of its journal, taken as messages of one host, and
+-- what the other makes of it (own).
 use Rattle.std.specs.Prelude.{◌≡◌, ◌≢◌, ⊤, ℕ, Bool, true, false, not, ◌||◌, nat_lt, List, [], ◌∷◌, ◌++◌, map, Option, Some, None, Ok, if◌then◌else◌}
 use Rattle.std.specs.List.{list_all, filter}
 use Rattle.at_event.specs.Frames.{frame_of}
@@ -66,13 +67,16 @@ raises last (Row.Taken t) = fetch_raises last t.fetched
 raises last (Row.Synced did whole moment) = is_raised last whole.head.rev
 raises last row = true
 
--- Behind the journal J, each row that names the DID and takes a repository over raises its revision.
+-- Behind the journal J, each row that names the DID and takes a repository over raises its
+-- revision.
 abbrev pub AllRaise : List ℕ → List Row → List Row → Type 0
 AllRaise did J [] = ⊤
 AllRaise did J (row ∷ rows) = (names did (did_of_row row) ≡ true
     → raises (last_rev (account did J).repo) row ≡ true) × AllRaise did (J ++ row ∷ []) rows
 
--- What a DID has in both journals: in the one its whole history, all of it shown, with rising revisions; in the other nothing, before these rows, none of which is refused for a revision far ahead of the clock.
+-- What a DID has in both journals: in the one its whole history, all of it shown, with rising
+-- revisions; in the other nothing, before these rows, none of which is refused for a revision far
+-- ahead of the clock.
 pub record CanFollow (did : List ℕ) (shows : Row → Bool) (one two rows : List Row) : Type 0 where
   pub uncut : all_about did (λ row. not (is_carried_row row)) one ≡ true
   pub shown : all_about did (withholds_nothing shows) one ≡ true
@@ -98,7 +102,8 @@ AcceptAll [] (row ∷ rows) = ⊥
 AcceptAll (event ∷ others) [] = ⊥
 AcceptAll (event ∷ others) (row ∷ rows) = AcceptsEvent event row × AcceptAll others rows
 
--- What comes of it: the rows that name the DID accept its events, one each, all of them and in order; and unless its repository was lost, both journals know the same of it.
+-- What comes of it: the rows that name the DID accept its events, one each, all of them and in
+-- order; and unless its repository was lost, both journals know the same of it.
 pub record FollowsAll (did : List ℕ) (one two rows : List Row) : Type 0 where
   pub accepted : AcceptAll (events (rows_about did one)) (rows_about did rows)
   pub repo : ((rev : Option ℕ) → (account did one).repo ≢ Repo.Lost rev)

@@ -1,4 +1,5 @@
--- Journals that a relay made: behind the rows before it, each row is what comes of a message or of an operator's command (own).
+-- Journals that a relay made: behind the rows before it, each row is what comes of a message or of
+-- an operator's command (own).
 use Rattle.std.specs.Prelude.{◌≡◌, ⊤, ◌⊎◌, ℕ, ◌+◌, List, [], ◌∷◌, ◌++◌, Option, None}
 use Rattle.at_cid.specs.Link.{IsBytes}
 use Rattle.at_event.specs.Events.{IsEvent}
@@ -21,7 +22,8 @@ use Rattle.relay_core.specs.Rows.{event_taken, faulty_taken}
 use Rattle.relay_core.specs.Table.{event_lines}
 use Rattle.relay_core.specs.declared.answers.Answers.{Answers}
 
--- the answers to all questions, where a row keeps this moment, or none, since rows were once made without one
+-- the answers to all questions, where a row keeps this moment, or none, since rows were once made
+-- without one
 abbrev pub answers_at : Checks → ℕ → State → Seen → Outside → Option ℕ → Answers
 answers_at checks last a e o moment = record (answers checks last a e o) { moment = moment }
 
@@ -35,7 +37,8 @@ event_taken_at checks last a host e o moment =
     event_taken last host e (decision_for a e.body o.fetched (refusal_at checks a e o moment))
     (answers_at checks last a e o moment)
 
--- The bytes of some repository of the DID, not below the least revision, come to this head, and to this block of its commit.
+-- The bytes of some repository of the DID, not below the least revision, come to this head, and to
+-- this block of its commit.
 pub record IsOfRepository (did : List ℕ) (least : Option ℕ) (head : Head)
     (block : List ℕ) : Type 0 where
   pub bytes : List ℕ
@@ -86,7 +89,8 @@ pub record IsOfTakedown (J : List Row) (o : Operated) : Type 0 where
   pub allowed : operate_refusal (account o.did J) o.down ≡ None
   pub is : o ≡ operated_as (last_seq J) (account o.did J) o.did o.down time o.moment
 
--- Behind the journal J, the row is what comes of a message or of an operator's command, or it was carried over a cut.
+-- Behind the journal J, the row is what comes of a message or of an operator's command, or it was
+-- carried over a cut.
 abbrev pub IsGiven : Checks → List Row → Row → Type 0
 IsGiven checks J (Row.Taken t) = IsOfEvent checks J t ⊎ IsOfFaulty t
 IsGiven checks J (Row.Synced did whole moment) = IsOfSync J did whole

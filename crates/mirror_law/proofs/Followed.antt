@@ -1,5 +1,5 @@
 -- What a row makes of the open chain, and its message of what is held.
-use Rattle.std.proofs.Common.{◌≡◌, ◌≢◌, ℕ, Bool, true, false, not, ◌&&◌, ◌||◌, cond, List, [], ◌∷◌, Option, Some, None, Ok, refl, sym, subst, arith}
+use Rattle.std.proofs.Common.{◌≡◌, ℕ, Bool, true, false, not, ◌&&◌, ◌||◌, cond, List, [], ◌∷◌, Option, Some, None, Ok, refl, sym, subst, arith}
 use Rattle.std.proofs.lemmas.Bool.{and_parts, eqb-true}
 use Rattle.std.proofs.lemmas.Bool.Decides.{nat_tests}
 use Rattle.std.specs.Prelude.{◌==◌, nat_lt}
@@ -40,6 +40,7 @@ use Rattle.mirror.specs.declared.holding.Holding.{Holding}
 use Rattle.relay_law.specs.Heads.{EffectGives, GivesHead, GivesItsHead}
 use Rattle.mirror_law.specs.Open.{OpenChain, base, opened_by}
 use Rattle.mirror_law.proofs.After.{after_own}
+use Rattle.mirror_law.proofs.Sends.{nonzero}
 use Rattle.mirror_law.proofs.Stepped.{HoldsChain, commit_step, sync_step}
 
 -- ---- what a row that was accepted has, and one that was refused
@@ -124,9 +125,6 @@ quiet repositories did m e (Body.Sync y) held next reads own says h one two = ab
 quiet repositories did m e Body.Identity held next reads own says h one two = after_own repositories did m e Body.Identity held next reads own says h
 quiet repositories did m e (Body.Account a) held next reads own says h one two = after_own repositories did m e (Body.Account a) held next reads own says h
 
-nonzero : (n : ℕ) → n == 0 ≡ false → n ≢ 0
-nonzero n h = grind (arith, nat_tests)
-
 -- what a row of an event sends, by whether it has no number
 abbrev sends_by : Bool → Taken → Fetched → List (List ℕ)
 sends_by silent t f = messages_of (cond silent (events_of f) ((t.seq, t.message) ∷ []))
@@ -191,7 +189,7 @@ by_effect repositories t a chain held next is faithful (Effect.Repo head) kind k
 lost_follows : (repositories : Repositories) (a : State) (r : Refusal) (chain : OpenChain) (held : Holding) → HoldsChain repositories a.repo chain held → HoldsChain repositories (lost a (Some r)).repo chain held
 lost_follows repositories a r chain held follows =
     elim (loses (code_of r)) as (λ b. HoldsChain repositories (cond b (record a { repo = Repo.Lost (last_rev a.repo) }) a).repo chain held) [
-      | true ↦ λ s t begins replay. let i = follows s t begins replay in (i.0, i.1, tt)
+      | true ↦ λ s t begins replay. let i = follows s t begins replay in (i.0, i.1, tt, i.3)
       | false ↦ follows
     ]
 
@@ -239,7 +237,7 @@ carried_goes repositories b a chain held next start follows is CarriedRepo.Missi
     subst P start (stays repositories a.repo chain held next is follows)
 carried_goes repositories b a chain held next start follows is (CarriedRepo.Good head) = λ s t begins. absurd begins
 carried_goes repositories b a chain held next start follows is (CarriedRepo.Lost rev) =
-    λ s t begins replay. let i = stays repositories a.repo chain held next is follows s t begins replay in (i.0, i.1, tt)
+    λ s t begins replay. let i = stays repositories a.repo chain held next is follows s t begins replay in (i.0, i.1, tt, i.3)
 
 pub row_goes : (repositories : Repositories) (J : List Row) (row : Row) (chain : OpenChain) (held next : Holding) → is_row row ≡ true → IsFaithful row → GivesItsHead J row
     → (is_account row ≡ true → (account (did_of_row row) J).repo ≡ Repo.Missing) → Goes repositories (account (did_of_row row) J) row chain held next

@@ -5,6 +5,10 @@ pub mod Replayed
 pub mod After
 pub mod Stepped
 pub mod Followed
+pub mod Frames
+pub mod Sends
+pub mod Revs
+pub mod Roots
 pub mod Mirroring
 pub mod Sent
 pub mod Written

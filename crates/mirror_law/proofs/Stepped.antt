@@ -1,6 +1,6 @@
 -- What the messages of accepted events make of what is held, where it was the map to which the open chain replays.
 use Rattle.std.proofs.Common.{◌≡◌, ℕ, Bool, true, false, not, ◌&&◌, ◌||◌, is_some, List, [], ◌∷◌, ◌++◌, Option, Some, None, Ok, refl, ap, sym, ◌∙◌, subst}
-use Rattle.std.proofs.lemmas.Bool.{and_parts, true≢false, eqb-true, not-false}
+use Rattle.std.proofs.lemmas.Bool.{and_parts, or_parts, true≢false, eqb-true, not-false}
 use Rattle.std.specs.List.{list_all, list_any}
 use Rattle.at_event.specs.Events.{IsEvent}
 use Rattle.at_event.specs.Frames.{frame_of}
@@ -29,8 +29,8 @@ use Rattle.mirror.specs.Held.{Continues, IsAfterCommit, IsAfterSync, is_edit, st
 use Rattle.mirror.specs.Repository.{Repositories, Answers}
 use Rattle.mirror.specs.declared.holding.Holding.{Holding}
 use Rattle.relay_law.specs.Heads.{CommitGives}
-use Rattle.mirror_law.specs.Mirrored.{IsFirstMap, IsSync, Replay}
-use Rattle.mirror_law.specs.Open.{OpenChain, base}
+use Rattle.mirror_law.specs.Mirrored.{IsFirstMap, IsLastRev, IsSync, Replay}
+use Rattle.mirror_law.specs.Open.{Beginning, OpenChain, base}
 use Rattle.mirror_law.proofs.Once.{answers_once, plays_once}
 use Rattle.mirror_law.proofs.Replayed.{replay_more}
 
@@ -40,9 +40,10 @@ IsRevOf Repo.Missing rev = rev ≡ None
 IsRevOf (Repo.Good head) rev = rev ≡ Some head.rev
 IsRevOf (Repo.Lost last) rev = Unit {0}
 
--- what is held is the map to which the open chain replays, whichever map it began with
+-- what is held is the map to which the open chain replays, at its revision, whichever map it began with
 abbrev pub HoldsChain : Repositories → Repo → OpenChain → Holding → Type 0
-HoldsChain repositories repo chain held = (s t : List Item) → IsFirstMap repositories chain.began s → Replay s chain.commits t → (rev : Option ℕ) × (held ≡ Holding.Mapped rev t) × IsRevOf repo rev
+HoldsChain repositories repo chain held = (s t : List Item) → IsFirstMap repositories chain.began s → Replay s chain.commits t
+    → (rev : Option ℕ) × (held ≡ Holding.Mapped rev t) × IsRevOf repo rev × IsLastRev chain.began chain.commits rev
 
 -- ---- a message is read once
 
@@ -58,17 +59,13 @@ sync_is a b e = cc
 pub same_event : (m : List ℕ) (a b : Seen) → frame_of m ≡ Ok (Frame.Event a) → frame_of m ≡ Ok (Frame.Event b) → a ≡ b
 same_event m a b p q = frame_is a b (sym p ∙ q)
 
-same_commit : (m : List ℕ) (e : Seen) (c d : CommitEvent) → frame_of m ≡ Ok (Frame.Event e) → e.body ≡ Body.Commit c → IsCommit m d → d ≡ c
+pub same_commit : (m : List ℕ) (e : Seen) (c d : CommitEvent) → frame_of m ≡ Ok (Frame.Event e) → e.body ≡ Body.Commit c → IsCommit m d → d ≡ c
 same_commit m e c d reads body is = commit_is d c (sym is.says ∙ ap (λ (x : Seen). x.body) (same_event m is.event e is.reads reads) ∙ body)
 
-same_sync : (m : List ℕ) (e : Seen) (y z : SyncEvent) → frame_of m ≡ Ok (Frame.Event e) → e.body ≡ Body.Sync y → IsSync m z → z ≡ y
+pub same_sync : (m : List ℕ) (e : Seen) (y z : SyncEvent) → frame_of m ≡ Ok (Frame.Event e) → e.body ≡ Body.Sync y → IsSync m z → z ≡ y
 same_sync m e y z reads body is = sync_is z y (sym is.says ∙ ap (λ (x : Seen). x.body) (same_event m is.event e is.reads reads) ∙ body)
 
 -- ---- an accepted commit continues the map
-
-or_parts : (a b : Bool) → a || b ≡ false → (a ≡ false) × (b ≡ false)
-or_parts true b h = absurd cc
-or_parts false b h = (refl, h)
 
 none_is : {A : Type 0} (o : Option A) → is_some o ≡ false → o ≡ None
 none_is None h = refl
@@ -127,11 +124,21 @@ continues e c repo head rev s t is body gives held plays =
       plays = plays;
     }
 
-committed : (c : CommitEvent) (rev : Option ℕ) (s t : List Item) (head : Head) (next : Holding) → Continues c rev s t → head.rev ≡ c.rev → IsAfterCommit c (Holding.Mapped rev s) next
-    → (r : Option ℕ) × (next ≡ Holding.Mapped r t) × IsRevOf (Repo.Good head) r
-committed c rev s t head (Holding.Mapped now u) cont is after =
-    (now, ap (λ (x : List Item). Holding.Mapped now x) (plays_once s (edits_of c) u t after.1.plays cont.plays), after.0 ∙ ap (λ (n : ℕ). Some n) (sym is))
-committed c rev s t head Holding.Waiting cont is after = absurd (after t cont)
+-- the last commit gives the chain's revision
+last_more : (began : Beginning) (ks : List (List ℕ × List ℕ)) (k : List ℕ × List ℕ) (c : CommitEvent) (rev : Option ℕ) → IsCommit k.0 c → rev ≡ Some c.rev → IsLastRev began (ks ++ k ∷ []) rev
+last_more began [] k c rev is at = (c, is, at)
+last_more began (j ∷ []) k c rev is at = (c, is, at)
+last_more began (j ∷ (i ∷ ks)) k c rev is at = last_more began (i ∷ ks) k c rev is at
+
+committed : (chain : OpenChain) (m : List ℕ) (c : CommitEvent) (rev : Option ℕ) (s t : List Item) (head : Head) (next : Holding) → IsCommit m c → Continues c rev s t → head.rev ≡ c.rev → IsAfterCommit c (Holding.Mapped rev s) next
+    → (r : Option ℕ) × (next ≡ Holding.Mapped r t) × IsRevOf (Repo.Good head) r × IsLastRev chain.began (chain.commits ++ (m, head.data_root) ∷ []) r
+committed chain m c rev s t head (Holding.Mapped now u) is_commit cont is after = (
+  now,
+  ap (λ (x : List Item). Holding.Mapped now x) (plays_once s (edits_of c) u t after.1.plays cont.plays),
+  after.0 ∙ ap (λ (n : ℕ). Some n) (sym is),
+  last_more chain.began chain.commits (m, head.data_root) c now is_commit after.0,
+)
+committed chain m c rev s t head Holding.Waiting is_commit cont is after = absurd (after t cont)
 
 pub commit_step : (repositories : Repositories) (repo : Repo) (chain : OpenChain) (held next : Holding) (m : List ℕ) (head : Head) (e : Seen) (c : CommitEvent) → IsEvent e → frame_of m ≡ Ok (Frame.Event e) → e.body ≡ Body.Commit c
     → CommitGives repo head c → HoldsChain repositories repo chain held → IsAfterCommit c held next
@@ -142,18 +149,22 @@ commit_step repositories repo chain held next m head e c is reads body gives fol
     let P : CommitEvent → Type 0 = λ x. GoesTo more.0 x head.data_root t in
     let goes = subst P (same_commit m e c more.2.0 reads body more.2.1) more.2.2 in
     let Q : Holding → Type 0 = λ x. IsAfterCommit c x next in
-    committed c before.0 more.0 t head next (continues e c repo head before.0 more.0 t is body gives before.2 goes.plays) gives.gives.rev_is (subst Q before.1 after)
+    committed chain m c before.0 more.0 t head next (record { event = e; reads = reads; says = body }) (continues e c repo head before.0 more.0 t is body gives before.2 goes.plays) gives.gives.rev_is (subst Q before.1 after)
 
 -- ---- a `#sync` begins a chain
 
-synced : (repositories : Repositories) (y : SyncEvent) (s t : List Item) (head : Head) (next : Holding) → Answers repositories y s → t ≡ s → head.rev ≡ y.rev → IsAfterSync repositories y next
-    → (r : Option ℕ) × (next ≡ Holding.Mapped r t) × IsRevOf (Repo.Good head) r
-synced repositories y s t head (Holding.Mapped now u) answers last is after =
-    (now, ap (λ (x : List Item). Holding.Mapped now x) (answers_once repositories y u s after.1 answers ∙ sym last), after.0 ∙ ap (λ (n : ℕ). Some n) (sym is))
-synced repositories y s t head Holding.Waiting answers last is after = absurd (after s answers)
+synced : (repositories : Repositories) (m : List ℕ) (y : SyncEvent) (s t : List Item) (head : Head) (next : Holding) → IsSync m y → Answers repositories y s → t ≡ s → head.rev ≡ y.rev → IsAfterSync repositories y next
+    → (r : Option ℕ) × (next ≡ Holding.Mapped r t) × IsRevOf (Repo.Good head) r × IsLastRev (base head.data_root (m ∷ [])) [] r
+synced repositories m y s t head (Holding.Mapped now u) is_sync answers last is after = (
+  now,
+  ap (λ (x : List Item). Holding.Mapped now x) (answers_once repositories y u s after.1 answers ∙ sym last),
+  after.0 ∙ ap (λ (n : ℕ). Some n) (sym is),
+  (y, is_sync, after.0),
+)
+synced repositories m y s t head Holding.Waiting is_sync answers last is after = absurd (after s answers)
 
 pub sync_step : (repositories : Repositories) (next : Holding) (m : List ℕ) (head : Head) (e : Seen) (y : SyncEvent) → frame_of m ≡ Ok (Frame.Event e) → e.body ≡ Body.Sync y → head.rev ≡ y.rev → IsAfterSync repositories y next
     → HoldsChain repositories (Repo.Good head) (record { began = base head.data_root (m ∷ []); commits = [] }) next
 sync_step repositories next m head e y reads body rev after = λ s t begins last.
     let P : SyncEvent → Type 0 = λ x. Answers repositories x s in
-    synced repositories y s t head next (subst P (same_sync m e y begins.sync reads body begins.is) begins.answers) last rev after
+    synced repositories m y s t head next (record { event = e; reads = reads; says = body }) (subst P (same_sync m e y begins.sync reads body begins.is) begins.answers) last rev after

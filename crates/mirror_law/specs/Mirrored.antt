@@ -1,5 +1,5 @@
 -- A mirror beside the journal whose stream it reads (own).
-use Rattle.std.specs.Prelude.{◌≡◌, ℕ, true, List, [], ◌∷◌, Option, Ok}
+use Rattle.std.specs.Prelude.{◌≡◌, ℕ, List, [], ◌∷◌, Option, Some, None, Ok}
 use Rattle.at_car.specs.Blocks.{BlockMap}
 use Rattle.at_event.specs.Frames.{frame_of}
 use Rattle.at_event.specs.Seen.{Seen}
@@ -7,15 +7,15 @@ use Rattle.at_event.specs.declared.event.Body.{Body}
 use Rattle.at_event.specs.declared.event.CommitEvent.{CommitEvent}
 use Rattle.at_event.specs.declared.event.SyncEvent.{SyncEvent}
 use Rattle.at_event.specs.declared.frame.Frame.{Frame}
+use Rattle.at_event.specs.declared.head.Head.{Head}
 use Rattle.backfill.specs.Served.{messages_of}
 use Rattle.mst_list.specs.declared.item.Item.{Item}
 use Rattle.mst_list.specs.Edits.{Plays}
 use Rattle.mst_node.specs.Trees.{root}
-use Rattle.relay_row.specs.Folds.{did_of_row, names}
 use Rattle.relay_row.specs.declared.row.Row.{Row}
 use Rattle.commit_check.specs.Step.{edits_of}
 use Rattle.relay_law.specs.Sound.{BlocksAreApart, GoesTo, HasBlocks, IsCommit}
-use Rattle.relay_store.specs.Shown.{is_shown, shown_of}
+use Rattle.relay_store.specs.Shown.{shown_of}
 use Rattle.mirror.specs.Held.{IsHeld}
 use Rattle.mirror.specs.Repository.{Repositories, Answers}
 use Rattle.mirror.specs.declared.holding.Holding.{Holding}
@@ -24,12 +24,6 @@ use Rattle.mirror_law.specs.Open.{Beginning, empty, base, OpenChain, beginning_r
 -- what the rows send to a stream, as the journal J stands
 abbrev pub sent : List Row → List Row → List (List ℕ)
 sent J rows = messages_of (shown_of J rows)
-
--- none of a DID's rows among these is withheld, as the journal J stands
-abbrev pub NoneWithheld : List Row → List ℕ → List Row → Type 0
-NoneWithheld J did [] = Unit {0}
-NoneWithheld J did (row ∷ rows) =
-    (names did (did_of_row row) ≡ true → is_shown J row ≡ true) × NoneWithheld J did rows
 
 -- a message is read as a `#sync`
 pub record IsSync (message : List ℕ) (sync : SyncEvent) : Type 0 where
@@ -67,12 +61,39 @@ Replay s (k ∷ ks) t =
     (c : CommitEvent) × (middle : List Item)
     × IsCommit k.0 c × GoesTo s c k.1 middle × Replay middle ks t
 
--- The chain replays from s, and what is held behind the messages is the map that it replays to, whose
--- tree has the `data` of its last commit as root. So the account isn't waiting.
+-- the revision at which a chain begins: none where it began empty, else that of its base
+abbrev pub IsFirstRev : Beginning → Option ℕ → Type 0
+IsFirstRev empty rev = rev ≡ None
+IsFirstRev (base r (message ∷ [])) rev =
+    (sync : SyncEvent) × IsSync message sync × (rev ≡ Some sync.rev)
+IsFirstRev (base r messages) rev = ⊥
+
+-- the revision of a chain: that of the last of its commits, or where it has none, that at which it
+-- begins
+abbrev pub IsLastRev : Beginning → List (List ℕ × List ℕ) → Option ℕ → Type 0
+IsLastRev began [] rev = IsFirstRev began rev
+IsLastRev began (k ∷ []) rev = (c : CommitEvent) × IsCommit k.0 c × (rev ≡ Some c.rev)
+IsLastRev began (k ∷ (next ∷ ks)) rev = IsLastRev began (next ∷ ks) rev
+
+-- The chain replays from s, and what is held after the messages is the map that it replays to, at
+-- the chain's revision. The map's tree has the `data` of the last commit as root. So an account
+-- whose chain has a commit or a base isn't waiting, and one whose chain began empty and has no
+-- commits is as at the start: the empty map, without a revision.
 pub record IsMirrored (repositories : Repositories) (did : List ℕ) (messages : List (List ℕ))
     (chain : OpenChain) (s : List Item) : Type 0 where
   pub map : List Item
+  pub rev : Option ℕ
   pub replayed : Replay s chain.commits map
   pub rooted : root map ≡ root_behind (beginning_root chain.began) chain.commits
+  pub last : IsLastRev chain.began chain.commits rev
   pub held : (holding : Holding) → IsHeld repositories did messages holding
-      → (rev : Option ℕ) × (holding ≡ Holding.Mapped rev map)
+      → holding ≡ Holding.Mapped rev map
+
+-- What is held after the messages is a map at the revision of this head, whose tree has the head's
+-- `data` as root.
+pub record HoldsHead (repositories : Repositories) (did : List ℕ) (messages : List (List ℕ))
+    (head : Head) : Type 0 where
+  pub map : List Item
+  pub rooted : root map ≡ head.data_root
+  pub held : (holding : Holding) → IsHeld repositories did messages holding
+      → holding ≡ Holding.Mapped (Some head.rev) map

@@ -5,5 +5,6 @@
 mod laws;
 
 pub use laws::{
-    chains_end_open, mirrors_hold_chains, one_is_held, streams_are_sent, written_are_mirrored,
+    chains_end_open, mirrors_hold_chains, mirrors_hold_heads, one_is_held, streams_are_sent,
+    written_are_sent,
 };

@@ -5,4 +5,5 @@ pub mod Ordered
 pub mod Walking
 pub mod Printed
 pub mod Chained
+pub mod HeadsTold
 pub mod Stopping

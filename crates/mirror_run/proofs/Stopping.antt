@@ -19,6 +19,7 @@ use Rattle.mirror_run.specs.declared.end.MirrorEnd.{MirrorEnd}
 use Rattle.mirror_run.specs.declared.reader.MessageReader.{MessageReader}
 use Rattle.mirror_run.specs.declared.reader.StreamFault.{StreamFault}
 use Rattle.mirror_run.proofs.Chained.{holds_chains}
+use Rattle.mirror_run.proofs.HeadsTold.{tells_heads}
 use Rattle.mirror_run.proofs.Fronts.{length_frame, one_message}
 use Rattle.mirror_run.proofs.Ordered.{dids_ascend, dids_of, dids_told}
 
@@ -181,7 +182,10 @@ module _ (input_tells tell : Bool) (repositories : Repositories) (input : List �
     split = t.split;
     left = λ told. left_late limit end late;
     written = λ told. written end old new late (h told (dids_of t.messages) dids_known);
-    chains = λ told done. holds_chains repositories input [] t.messages t.good (t.split told) refl;
+    chains = λ told done. holds_chains repositories input t.messages t.good (t.split told);
+    heads = λ told shown known done.
+        let P : MirrorEnd → Type 0 = λ e. IsTextWritten e whole_text old new in
+        tells_heads tell repositories input old new t.messages whole_text known t.good (t.split told) is_text (subst P done (h shown (dids_of t.messages) dids_known));
   }
 
 pub late_caused : (read write repos : Type 0) (end : MirrorEnd) → IsLate end → (end ≡ MirrorEnd.WriteFault → write) → IsCausedBy read write repos end
@@ -213,6 +217,7 @@ mirrored_front input_tells output_tells tell limit repositories input old end s 
   left = s.left;
   written = λ told. unwritten tell repositories end s.messages old early;
   chains = λ told done. absurd (subst IsEarly done early);
+  heads = λ told shown known done. absurd (subst IsEarly done early);
 }
 
 pub early_caused : (read write repos : Type 0) (end : MirrorEnd) → IsEarly end → IsCausedBy read ⊥ repos end → IsCausedBy read write repos end

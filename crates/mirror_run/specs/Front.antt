@@ -1,4 +1,5 @@
--- What a reader of a stream's front sees, as a function of the bytes. No public clause cites this file.
+-- What a reader of a stream's front sees, as a function of the bytes. No public clause cites this
+-- file.
 use Rattle.std.specs.Prelude.{◌≡◌, ◌≤◌, ◌<◌, ◌^◌, ℕ, List, [], ◌++◌, length, take, drop, nat_lt, if◌then◌else◌}
 use Rattle.std.specs.Int.{from_be_bytes, to_be_bytes, w32}
 use Rattle.backfill.specs.Writing.{stream_frame}
@@ -49,7 +50,8 @@ IsFront (Front.Message m) shown = shown ≡ found m (rest_of shown)
 IsFront Front.TooLong shown = shown ≡ too_long
 IsFront (Front.More total) shown = shown ≡ cut
 
--- a message that isn't whole has more bytes than these, and no more than a record of a tape may have
+-- a message that isn't whole has more bytes than these, and no more than a record of a tape may
+-- have
 abbrev pub IsLonger : ℕ → Front → Type 0
 IsLonger length (Front.More total) = (length < total) × (total ≤ LONGEST_RECORD)
 IsLonger length front = Unit {0}

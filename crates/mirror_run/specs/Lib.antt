@@ -4,6 +4,7 @@ pub mod Reading
 pub mod Lines
 pub mod Ends
 pub mod Chains
+pub mod Heads
 pub mod Mirrored
 pub mod Taking
 pub mod Printing

@@ -1,4 +1,5 @@
--- The lines of a mirror (own): parts are separated by one blank, numbers are decimal, and each line ends in a line feed.
+-- The lines of a mirror (own): parts are separated by one blank, numbers are decimal, and each line
+-- ends in a line feed.
 use Rattle.std.specs.Prelude.{ℕ, List, ◌∷◌, ◌++◌, [], length, Option, Some, None, codes, decimal}
 use Rattle.at_cid.specs.Text.{text_of}
 use Rattle.at_syntax.specs.Tid.{digits_of}

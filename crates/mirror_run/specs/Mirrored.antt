@@ -10,6 +10,7 @@ use Rattle.mirror.specs.Held.{IsHeld}
 use Rattle.mirror.specs.Repository.{Repositories}
 use Rattle.mirror.specs.declared.holding.Holding.{Holding}
 use Rattle.mirror_run.specs.Chains.{HoldsChains}
+use Rattle.mirror_run.specs.Heads.{TellsHeads}
 use Rattle.mirror_run.specs.Lines.{mirror_end_line, mirror_line}
 use Rattle.mirror_run.specs.Stream.{AreGood, EndsInMessage, IsBadBehind, event_count, tell_of}
 use Rattle.mirror_run.specs.declared.end.MirrorEnd.{MirrorEnd}
@@ -35,8 +36,8 @@ AreLines tell repositories messages (did ∷ dids) text =
     (held : Holding) × (rest : List ℕ) × (IsTrue tell → IsHeld repositories did messages held)
     × (text ≡ mirror_line did held ++ rest) × AreLines tell repositories messages dids rest
 
--- The text has a line for each DID of which the messages have a commit or a `#sync`, in ascending order, and then the number
--- of events.
+-- The text has a line for each DID of which the messages have a commit or a `#sync`, in ascending
+-- order, and then the number of events.
 pub record IsMirrorText (tell : Bool) (repositories : Repositories) (messages : List (List ℕ))
     (text : List ℕ) : Type 0 where
   pub dids : List (List ℕ)
@@ -46,8 +47,8 @@ pub record IsMirrorText (tell : Bool) (repositories : Repositories) (messages : 
   pub are : AreLines tell repositories messages dids lines
   pub whole : text ≡ lines ++ mirror_end_line (event_count messages)
 
--- The whole text was written where all was done, and a front of it where writing failed. Where memory ran out nothing was
--- written, or a front of it. At every other end nothing was.
+-- The whole text was written where all was done, and a front of it where writing failed. Where
+-- memory ran out nothing was written, or a front of it. At every other end nothing was.
 abbrev pub IsMirrorWritten : Bool → Repositories → MirrorEnd → List (List ℕ) → List ℕ → List ℕ
     → Type 0
 IsMirrorWritten tell repositories MirrorEnd.Done messages old new =
@@ -59,8 +60,8 @@ IsMirrorWritten tell repositories MirrorEnd.Memory messages old new =
     × AddsFront old new text)
 IsMirrorWritten tell repositories end messages old new = new ≡ old
 
--- What stands in the input behind the messages that were taken, by how it ended: nothing; what can't be taken, at its place;
--- or more than may be taken, of which a front of a message was.
+-- What stands in the input behind the messages that were taken, by how it ended: nothing; what
+-- can't be taken, at its place; or more than may be taken, of which a front of a message was.
 abbrev pub IsRestLeft : ℕ → MirrorEnd → List (List ℕ) → List ℕ → Type 0
 IsRestLeft limit MirrorEnd.Done messages rest = rest ≡ []
 IsRestLeft limit MirrorEnd.WriteFault messages rest = rest ≡ []
@@ -71,8 +72,8 @@ IsRestLeft limit MirrorEnd.TooLong messages rest =
     × (length (with_length messages) + length part ≡ limit)
 IsRestLeft limit end messages rest = ⊤
 
--- A stream was mirrored, of which at most so many bytes may be taken: these messages at its front were taken, and their text
--- was written.
+-- A stream was mirrored, of which at most so many bytes may be taken: these messages at its front
+-- were taken, and their text was written.
 pub record Mirrored (input_tells output_tells repositories_tell : Bool) (limit : ℕ)
     (repositories : Repositories)
     (input old new : List ℕ) (end : MirrorEnd) : Type 0 where
@@ -84,3 +85,5 @@ pub record Mirrored (input_tells output_tells repositories_tell : Bool) (limit :
   pub written : IsTrue output_tells
       → IsMirrorWritten repositories_tell repositories end messages old new
   pub chains : IsTrue input_tells → end ≡ MirrorEnd.Done → HoldsChains repositories input messages
+  pub heads : IsTrue input_tells → IsTrue output_tells → IsTrue repositories_tell
+      → end ≡ MirrorEnd.Done → TellsHeads repositories input old new

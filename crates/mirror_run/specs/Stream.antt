@@ -1,4 +1,5 @@
--- Streams of messages, each after its length in four bytes, and how far a mirror can take them (own).
+-- Streams of messages, each after its length in four bytes, and how far a mirror can take them
+-- (own).
 use Rattle.std.specs.Prelude.{◌≡◌, ◌≢◌, ◌≤◌, ◌<◌, ℕ, Bool, true, false, List, [], ◌∷◌, ◌++◌, length, filter, Result, Ok, Err}
 use Rattle.std.specs.Int.{to_be_bytes, w32}
 use Rattle.std.specs.List.{list_any}

@@ -1,4 +1,5 @@
--- What a mirror holds after the messages that were taken of a stream. No public clause cites this file.
+-- What a mirror holds after the messages that were taken of a stream. No public clause cites this
+-- file.
 use Rattle.std.specs.Prelude.{◌≡◌, ℕ, Bool, false, List, [], ◌++◌, length, IsTrue}
 use Rattle.backfill.specs.Writing.{with_length}
 use Rattle.mirror.specs.Held.{IsHeld}
@@ -11,7 +12,8 @@ use Rattle.mirror_run.specs.declared.end.MirrorEnd.{MirrorEnd}
 use Rattle.mirror_run.specs.declared.reader.StreamFault.{StreamFault}
 use Rattle.mirror.specs.declared.fault.MirrorFault.{MirrorFault}
 
--- The messages at the front of the input were taken up to a place, with so many events, and this is left.
+-- The messages at the front of the input were taken up to a place, with so many events, and this is
+-- left.
 pub record HasTaken (input_tells repositories_tell : Bool) (repositories : Repositories)
     (input left : List ℕ) (place : ℕ)
     (mirror : Mirror) (events : ℕ) : Type 0 where
