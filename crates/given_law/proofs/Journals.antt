@@ -123,7 +123,7 @@ module _ (checks : Checks) (J K : List Row) (given : AreGiven checks [] J) where
   synced_on : SyncsAccount J K → Given K
   synced_on m = row_added m.row m.now (synced_given checks m.old m.new J m.did m.time m.moment m.repository m.row m.short m.bytes m.made)
 
-  cut_given : (number : ℕ) → IsCut J number K → Given K
+  pub cut_given : (number : ℕ) → IsCut J number K → Given K
   cut_given number cut =
       let same : ComesToSame cut.front cut.carried = record { accounts = λ did. sym (cut.over.accounts did); last = sym cut.last } in
       let others = rows_behind checks cut.others cut.front cut.carried same (rest_given checks cut.front cut.others [] (subst Given cut.whole given)) in

@@ -12,7 +12,8 @@ use Rattle.relay_step.specs.declared.command.CommandAnswer.{CommandAnswer}
 use Rattle.chain_law.specs.Given.{AreGiven, IsGiven}
 use Rattle.given_law.specs.Made.{AreOfBytes, IsOfBytes, GiveBytes, ComeByCommands}
 
--- Behind rows that are given, the rows of steps are given, where the repositories that tell give bytes.
+-- Behind rows that are given, the rows of steps are given, where the repositories that tell give
+-- bytes.
 abbrev pub StepsAreGiven : Type 0
 StepsAreGiven = (checks : Checks) (clock_tells repos_tell : Bool) (J : List Row)
     (ended : List (List ℕ)) (old new : Around) (steps : List Step)

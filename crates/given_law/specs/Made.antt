@@ -24,7 +24,8 @@ IsOfBytes repository = (bytes : List ℕ) → repository ≡ Some bytes → IsBy
 abbrev pub GiveBytes : (List ℕ → Option (List ℕ)) → Type 0
 GiveBytes repository = (did : List ℕ) → IsOfBytes (repository did)
 
--- Messages were taken behind the journal J. It holds the rows that they made, or the first of them, where a crash took the others.
+-- Messages were taken behind the journal J. It holds the rows that they made, or the first of them,
+-- where a crash took the others.
 pub record TakesMessages (checks : Checks) (J K : List Row) : Type 0 where
   pub clock_tells : Bool
   pub repos_tell : Bool
@@ -66,7 +67,8 @@ pub record SyncsAccount (J K : List Row) : Type 0 where
   pub made : IsSyncedNow old J did time moment (Some repository) (CommandAnswer.Made row) new
   pub now : K ≡ J ++ row ∷ []
 
--- The journal K comes from J by a command: messages that are taken, an operator's word on an account, or a cut.
+-- The journal K comes from J by a command: messages that are taken, an operator's word on an
+-- account, or a cut.
 abbrev pub ComesByCommand : Checks → List Row → List Row → Type 0
 ComesByCommand checks J K = TakesMessages checks J K
     ⊎ (ChangesAccount J K ⊎ (SyncsAccount J K ⊎ ((number : ℕ) × IsCut J number K)))

@@ -1,19 +1,20 @@
 //! The line of what was answered to an operator.
 
-ghost use Rattle.std.specs.Prelude.{◌≡◌, ◌≢◌, ◌≤◌, ◌++◌, ◌∷◌, [], IsTrue, IfOk, OnOk, OnErr};
+ghost use Rattle.std.specs.Prelude.{◌≡◌, ◌≤◌, ◌⊎◌, ◌++◌, ◌∷◌, [], IsTrue, IfOk, OnOk, OnErr};
 ghost use Rattle.at_cid.specs.Counts.{Rose};
 ghost use Rattle.relay_io.specs.Streams.{AddsFront};
-ghost use Rattle.relay_run.specs.Ends.{IsWritten};
 ghost use Rattle.report_lines.specs.Lines.{numbered};
 ghost use Rattle.relay_run.specs.Lines.{IsEndOf, done_text};
+ghost use Rattle.run_base.specs.Counts.{Counted};
+ghost use Rattle.run_base.specs.Ends.{Writes};
 
-use crate::end::RunEnd;
 use at_cid::{Memory, Octets};
 use at_event::Refusal;
 use itoa::Buffer;
 use relay_io::{Failed, Sink, write_all};
-use relay_store::{Done, StoreFault};
+use relay_store::Done;
 use report_lines::add_refusal;
+use run_base::Status;
 use std::alloc::Global;
 
 // A word and a number.
@@ -67,32 +68,32 @@ fn refused_line(alloc: Global, refusal: &Refusal) -> Result<Octets, Memory>
 }
 
 // The line of a refusal, for which memory is taken.
-pub(crate) fn answer_refused<O: Sink>(alloc: Global, refusal: &Refusal, out: &mut O) -> RunEnd
+pub(crate) fn answer_refused<O: Sink>(alloc: Global, refusal: &Refusal, out: &mut O) -> Status
     ensures ends { IsEndOf (Done.Refused refusal.now) result }
-    ensures written { IsTrue O.tells → IsWritten result (done_text (Done.Refused refusal.now))
+    ensures written { IsTrue O.tells → Writes result [] (done_text (Done.Refused refusal.now))
         (O.written out.old) (O.written out.new) }
-    ensures failed { result ≡ RunEnd.WriteFault → Rose (O.faults out.old) (O.faults out.new) }
-    ensures counts { O.faults out.old ≤ O.faults out.new }
-    ensures steady { result ≢ RunEnd.WriteFault → O.faults out.new ≡ O.faults out.old }
+    ensures quiet { IsTrue O.tells → result ≡ Status.Memory
+        → O.written out.new ≡ O.written out.old }
+    ensures counts { Counted (result ≡ Status.WriteFault) (O.faults out.old) (O.faults out.new) }
 {
     let line = match refused_line(alloc, refusal) {
         Ok(line) => line,
-        Err(_) => return RunEnd::Fault(StoreFault::Memory),
+        Err(_) => return Status::Memory,
     };
     match write_all(out, line.as_slice()) {
-        Ok(()) => RunEnd::Refused(refusal.code()),
-        Err(_) => RunEnd::WriteFault,
+        Ok(()) => Status::Refused(refusal.code()),
+        Err(_) => Status::WriteFault,
     }
 }
 
 // Memory is taken for a refusal alone: behind a row that was added nothing fails but the output.
-pub(crate) fn answer<O: Sink>(alloc: Global, done: &Done, out: &mut O) -> RunEnd
+pub(crate) fn answer<O: Sink>(alloc: Global, done: &Done, out: &mut O) -> Status
     ensures ends { IsEndOf done.now result }
-    ensures written { IsTrue O.tells → IsWritten result (done_text done.now) (O.written out.old)
+    ensures written { IsTrue O.tells → Writes result [] (done_text done.now) (O.written out.old)
         (O.written out.new) }
-    ensures failed { result ≡ RunEnd.WriteFault → Rose (O.faults out.old) (O.faults out.new) }
-    ensures counts { O.faults out.old ≤ O.faults out.new }
-    ensures steady { result ≢ RunEnd.WriteFault → O.faults out.new ≡ O.faults out.old }
+    ensures quiet { IsTrue O.tells → result ≡ Status.Memory
+        → O.written out.new ≡ O.written out.old }
+    ensures counts { Counted (result ≡ Status.WriteFault) (O.faults out.old) (O.faults out.new) }
 {
     let written = match done {
         Done::Event(seq) => write_last(out, b"event ", *seq),
@@ -100,7 +101,20 @@ pub(crate) fn answer<O: Sink>(alloc: Global, done: &Done, out: &mut O) -> RunEnd
         Done::Refused(refusal) => return answer_refused(alloc, refusal, out),
     };
     match written {
-        Ok(()) => RunEnd::Done,
-        Err(_) => RunEnd::WriteFault,
+        Ok(()) => Status::Done,
+        Err(_) => Status::WriteFault,
+    }
+}
+
+// Writes a text.
+pub(crate) fn show<O: Sink>(text: &[u8], out: &mut O) -> Status
+    ensures ends { (result ≡ Status.Done) ⊎ (result ≡ Status.WriteFault) }
+    ensures written { IsTrue O.tells → Writes result [] text.now (O.written out.old)
+        (O.written out.new) }
+    ensures counts { Counted (result ≡ Status.WriteFault) (O.faults out.old) (O.faults out.new) }
+{
+    match write_all(out, text) {
+        Ok(()) => Status::Done,
+        Err(_) => Status::WriteFault,
     }
 }

@@ -1,15 +1,8 @@
-//! The commands on the journal of two disks, each from opening to its last line.
+//! The commands on the journal of two disks that an operator gives, each from opening to its last line.
 #![tactic(auto)]
 
 mod answering;
-mod cutting;
-mod end;
-mod operating;
-mod showing;
-mod syncing;
+mod commands;
+mod cut_line;
 
-pub use cutting::cut;
-pub use end::RunEnd;
-pub use operating::operate;
-pub use showing::{account, hosts};
-pub use syncing::sync;
+pub use commands::Commands;

@@ -1,0 +1,12 @@
+use Rattle.std.proofs.Common.{[], ◌∷◌, ◌++◌, codes}
+use Rattle.report_lines.specs.Lines.{numbered}
+use Rattle.relay_store.proofs.Writing.{front_of_first, front_of_second}
+use Rattle.relay_run.proofs.cut_line.write_cut.Goals as goal
+
+pub returns-clause-front : goal.returns-clause-front
+returns-clause-front g c = λ told.
+    front_of_second (g.O.Sink.written c.args.out.now) (g.O.Sink.written c.write_number.new.out) (g.O.Sink.written c.write_bounds.new.out) (numbered (codes "cut ") c.args.seq) (numbered (codes " oldest ") c.args.oldest ++ (numbered (codes " last ") c.args.last ++ 10 ∷ [])) (c.in_ok-write_number.ensures.written told) (c.write_bounds.ensures.front told)
+
+pub returns-in_err-write_number-clause-front : goal.returns-in_err-write_number-clause-front
+returns-in_err-write_number-clause-front g c = λ told.
+    front_of_first (g.O.Sink.written c.args.out.now) (g.O.Sink.written c.write_number.new.out) (numbered (codes "cut ") c.args.seq) (numbered (codes " oldest ") c.args.oldest ++ (numbered (codes " last ") c.args.last ++ 10 ∷ [])) (c.write_number.ensures.front told)

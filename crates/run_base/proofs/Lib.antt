@@ -1,0 +1,3 @@
+pub mod AfterCut
+pub mod Ended
+pub mod Reading
