@@ -1,5 +1,5 @@
 -- What a relay behind a relay does where a pair of disks isn't opened.
-use Rattle.std.proofs.Common.{◌≡◌, ◌≢◌, ◌≤◌, ⊎_elim, inl, inr, ℕ, List, [], Bool, Ok, Err, IsTrue, refl, arith, subst, sym}
+use Rattle.std.proofs.Common.{◌≡◌, ◌≢◌, ◌≤◌, ⊎_elim, inl, inr, ℕ, List, [], Bool, Ok, Err, IsTrue, refl, arith, subst, sym, ap}
 use Rattle.at_authority.specs.Trusting.{trusting}
 use Rattle.relay_disk.specs.Disk.{View, IsDisk}
 use Rattle.relay_disk.proofs.Moments.{read_left, still_here}
@@ -10,18 +10,20 @@ use Rattle.relay_store.specs.Opening.{IsOfReading, Opened}
 use Rattle.relay_store.specs.declared.fault.StoreFault.{StoreFault}
 use Rattle.relay_store.specs.declared.store.Store.{Store}
 use Rattle.relay_store.proofs.Beside.{leaves_stand, opened_leaves}
+use Rattle.run_base.proofs.Reading.{opened_read}
 use Rattle.take_run.specs.Causes.{Failures, failures}
 use Rattle.take_run.specs.Ends.{end_of_store as tape_end_of}
 use Rattle.take_run.specs.Tells.{Tells}
 use Rattle.take_run.specs.Ingested.{Unopened, pair_scene}
 use Rattle.take_run.proofs.WholeIngested.{unopened}
-use Rattle.serve_run.specs.Replayed.{OnlyRead}
-use Rattle.serve_run.proofs.Reading.{read_opened}
+use Rattle.serve_run.specs.Replayed.{StandAgain}
+use Rattle.serve_run.proofs.Reading.{again_opened}
 use Rattle.chain_run.specs.Chained.{ChainRan}
 use Rattle.chain_run.specs.Ends.{BothOpened, end_of_store, end_of_taking}
 use Rattle.chain_run.specs.Places.{ChainCaused, ChainEndShows, PairFailed, PairSteady, Place}
 use Rattle.chain_run.specs.declared.end.ChainEnd.{ChainEnd}
 use Rattle.chain_run.proofs.Endings.{completes, first_shows, opening_causes, second_shows}
+use Rattle.chain_run.proofs.Faults.{both_still}
 use Rattle.chain_run.proofs.Telling.{first_fails_told, second_fails_told}
 
 ends_opening : (fault : StoreFault) → end_of_store fault ≡ end_of_taking (tape_end_of fault)
@@ -60,7 +62,7 @@ untouched fault reading J one two first second around failed written = record {
 }
 
 first_unread : (tells : Bool) (one two one_now two_now : View) (fault : StoreFault) (J : List Row) → IsDisk one_now → IsDisk two_now → Opened tells one two one_now two_now (Err fault) → IsTrue tells → IsOfReading fault
-    → OnlyRead J (BothOpened (end_of_store fault)) one two one_now two_now
+    → StandAgain J (BothOpened (end_of_store fault)) one two one_now two_now
 first_unread tells one two one_now two_now fault J first second opened told reading = record {
   stands = ⊎_elim (λ was. absurd (not_opened fault reading was)) (λ stands. leaves_stand J one two one_now two_now first second (opened_leaves tells one two one_now two_now (Err fault) opened told J stands));
   crashes = λ stands. opened_leaves tells one two one_now two_now (Err fault) opened told J stands;
@@ -85,6 +87,8 @@ module _ (t : Tells) (host : List ℕ) (most : ℕ) (old : Place) (c d : View) (
       caused = first_caused;
       told = first_fails_told old c d fault reading steady;
       counts = record { first = c_more; first_other = d_more; second = omega arith; second_other = omega arith; repos = omega arith; clock = omega arith; output = omega arith };
+      only_read = λ told not. inl (opened.read fault refl (λ is. not (ap end_of_store is)) told);
+      beside = λ told not. inl (both_still old.second old.second_other);
       complete = λ told one two none. completes _ _ _ _ (end_of_store fault) old first_caused (first_shows fault old reading (λ p is. bad p is told)) one two none;
     }
 
@@ -113,11 +117,13 @@ module _ (t : Tells) (host : List ℕ) (most : ℕ) (old : Place) (c d : View) (
             ends_opening fault,
             unopened t.disk old.second old.second_other e f fault two (around (λ name. trusting) old.moments old.repository) (failures old.failed.repos old.failed.clock 0) [] old.written (tape_end_of fault) e_is f_is unopened_so told reading refl,
           );
-      first = λ told one image. read_opened t.disk old.first old.first_other c d c d source (BothOpened (end_of_store fault)) one c_is d_is opened told image (still_here c) (still_here d);
+      first = λ told one image. again_opened t.disk old.first old.first_other c d c d source (BothOpened (end_of_store fault)) one c_is d_is opened told image (still_here c) (still_here d);
       shows = second_shown;
       caused = second_caused;
       told = second_fails_told old c d e f fault first_same steady;
       counts = record { first = c_more; first_other = d_more; second = e_more; second_other = f_more; repos = omega arith; clock = omega arith; output = omega arith };
+      only_read = λ told not. inr (opened_read t.disk old.first old.first_other c d source opened told);
+      beside = λ told not. inl (unopened_so.read fault refl (λ is. not (ap end_of_store is)) told);
       complete = λ told one two none. completes _ _ _ _ (end_of_store fault) old second_caused (second_shown told) one two none;
     }
 

@@ -28,7 +28,8 @@ end_of_taking TakeEnd.WriteFault = ChainEnd.WriteFault
 end_of_taking (TakeEnd.Store fault) = end_of_store fault
 end_of_taking end = ChainEnd.Memory
 
--- the ends of taking messages that were read before: no bad place, no limit of bytes and no failed read
+-- the ends of taking messages that were read before: no bad place, no limit of bytes and no failed
+-- read
 abbrev pub IsOfMessages : TakeEnd → Type 0
 IsOfMessages (TakeEnd.Bad place) = ⊥
 IsOfMessages TakeEnd.TooLong = ⊥
@@ -66,7 +67,8 @@ IsCausedBy disk write repos clock ChainEnd.Repos = repos
 IsCausedBy disk write repos clock ChainEnd.Clock = clock
 IsCausedBy disk write repos clock end = ⊤
 
--- the ends that no failure brings: all was taken, memory ran out, the log is full, or the numbers have ended
+-- the ends that no failure brings: all was taken, memory ran out, the log is full, or the numbers
+-- have ended
 abbrev pub MayEnd : ChainEnd → Type 0
 MayEnd ChainEnd.Done = ⊤
 MayEnd ChainEnd.Memory = ⊤

@@ -17,7 +17,9 @@ use Rattle.take_run.specs.Feeds.{AreOf, bytes_of_messages}
 use Rattle.chain_law.specs.Given.{AreGiven}
 use Rattle.chain_law.specs.Chained.{CanFollow, FollowsAll}
 
--- Where a host that is new to a journal sent all that a relay serves of another one, or up to its end, and the rows show that whoever was asked said yes, the accounts follow as the law of a relay behind a relay has it.
+-- Where a host that is new to a journal sent all that a relay serves of another one, or up to its
+-- end, and the rows show that whoever was asked said yes, the accounts follow as the law of a relay
+-- behind a relay has it.
 abbrev pub ServedFollow : Type 0
 ServedFollow = (checks : Checks) → OpensRight checks → LinksRight checks
     → (one two : List Row) (host did : List ℕ) (steps : List Step) (rest : List (List ℕ))

@@ -16,7 +16,8 @@ use Rattle.take_run.specs.declared.end.TakeEnd.{TakeEnd}
 use Rattle.chain_run.specs.Ends.{IsCausedBy, end_of_feed}
 use Rattle.chain_run.specs.declared.end.ChainEnd.{ChainEnd}
 
--- how often the repositories, the clock and the output have failed; the views of the disks say it of them
+-- how often the repositories, the clock and the output have failed; the views of the disks say it
+-- of them
 pub record FailureCounts : Type 0 where
   pub repos : ℕ
   pub clock : ℕ
@@ -25,7 +26,8 @@ pub record FailureCounts : Type 0 where
 abbrev pub failure_counts : ℕ → ℕ → ℕ → FailureCounts
 failure_counts repos clock output = record { repos = repos; clock = clock; output = output }
 
--- the two disks of the first relay and those of the second; what the clock and the repositories tell; what is written; and what has failed
+-- the two disks of the first relay and those of the second; what the clock and the repositories
+-- tell; what is written; and what has failed
 pub record Place : Type 1 where
   pub first : View
   pub first_other : View
@@ -38,10 +40,19 @@ pub record Place : Type 1 where
 
 abbrev pub place : View → View → View → View → List ℕ → (List ℕ → Option (List ℕ)) → List ℕ
     → FailureCounts → Place
-place first first_other second second_other moments repository written failed =
-    record { first = first; first_other = first_other; second = second; second_other = second_other; moments = moments; repository = repository; written = written; failed = failed }
+place first first_other second second_other moments repository written failed = record {
+  first = first;
+  first_other = first_other;
+  second = second;
+  second_other = second_other;
+  moments = moments;
+  repository = repository;
+  written = written;
+  failed = failed;
+}
 
--- what the second relay takes its messages with: its disks, judges that say yes to everything, the clock, the repositories and the output
+-- what the second relay takes its messages with: its disks, judges that say yes to everything, the
+-- clock, the repositories and the output
 abbrev pub second_scene : Place → PairScene
 second_scene p = pair_scene p.second p.second_other
     (around (λ name. trusting) p.moments p.repository) (failures p.failed.repos p.failed.clock 0) []
@@ -86,8 +97,8 @@ PairOnlyRead one two one_now two_now = (PairFailed one two one_now two_now → �
 abbrev pub PairSteady : View → View → View → View → Type 0
 PairSteady one two one_now two_now = (one_now.faults ≡ one.faults) × (two_now.faults ≡ two.faults)
 
--- A part that taking into this pair uses, and that failed, is what the end of it speaks of. Behind some ends a failure of what a
--- message asks can stay untold.
+-- A part that taking into this pair uses, and that failed, is what the end of it speaks of. Behind
+-- some ends a failure of what a message asks can stay untold.
 pub record TakingTold (one two one_now two_now : View) (old new : FailureCounts)
     (end : TakeEnd) : Type 0 where
   pub disks : end ≢ disk_failed → PairSteady one two one_now two_now
@@ -95,7 +106,8 @@ pub record TakingTold (one two one_now two_now : View) (old new : FailureCounts)
   pub repos : HidesNone end → end ≢ TakeEnd.Store StoreFault.Repos → new.repos ≡ old.repos
   pub clock : HidesNone end → end ≢ TakeEnd.Store StoreFault.Clock → new.clock ≡ old.clock
 
--- A part that failed is what the end speaks of, as that of following a feed whose calls read the first disks.
+-- A part that failed is what the end speaks of, as that of following a feed whose calls read the
+-- first disks.
 pub record ChainTold (old new : Place) (end : ChainEnd) : Type 0 where
   pub taking : TakeEnd
   pub is : end ≡ end_of_feed taking

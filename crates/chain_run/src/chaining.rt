@@ -81,7 +81,8 @@ fn take_on<E: Events, D: Disk, P: Judges, R: Repos, C: Clock, O: Sink>(
         (Rose 0 0) (Rose (O.faults out.old) (O.faults out.new))
         (Rose (R.faults repos.old) (R.faults repos.new))
         (Rose (C.faults clock.old) (C.faults clock.new)) end) }
-    ensures told { TakingTold (D.view disk.old) (D.view other.old) (D.view disk.new) (D.view other.new)
+    ensures told { TakingTold (D.view disk.old)
+        (D.view other.old) (D.view disk.new) (D.view other.new)
         (failure_counts (R.faults repos.old) (C.faults clock.old) (O.faults out.old))
         (failure_counts (R.faults repos.new) (C.faults clock.new) (O.faults out.new))
         (taking_end result) }
@@ -167,7 +168,8 @@ fn chain_from<D: Disk, P: Judges, R: Repos, C: Clock, O: Sink>(
         (Rose 0 0) (Rose (O.faults out.old) (O.faults out.new))
         (Rose (R.faults repos.old) (R.faults repos.new))
         (Rose (C.faults clock.old) (C.faults clock.new)) end) }
-    ensures told { TakingTold (D.view disk.old) (D.view other.old) (D.view disk.new) (D.view other.new)
+    ensures told { TakingTold (D.view disk.old)
+        (D.view other.old) (D.view disk.new) (D.view other.new)
         (failure_counts (R.faults repos.old) (C.faults clock.old) (O.faults out.old))
         (failure_counts (R.faults repos.new) (C.faults clock.new) (O.faults out.new))
         (taking_end result) }
@@ -243,7 +245,8 @@ fn chain_sides<D: Disk, P: Judges, R: Repos, C: Clock, O: Sink>(
         (Rose 0 0) (Rose (O.faults out.old) (O.faults out.new))
         (Rose (R.faults repos.old) (R.faults repos.new))
         (Rose (C.faults clock.old) (C.faults clock.new)) end) }
-    ensures told { TakingTold (D.view second.old) (D.view second_other.old) (D.view second.new) (D.view second_other.new)
+    ensures told { TakingTold (D.view second.old) (D.view second_other.old)
+        (D.view second.new) (D.view second_other.new)
         (failure_counts (R.faults repos.old) (C.faults clock.old) (O.faults out.old))
         (failure_counts (R.faults repos.new) (C.faults clock.new) (O.faults out.new))
         (taking_end result) }

@@ -16,12 +16,12 @@ lines_in collection events = flat_map (λ e. lines_read collection (frame_of e.1
 abbrev pub lines_above : Option (List ℕ) → ℕ → List Event → List ℕ
 lines_above collection seq events = lines_in collection (rising_above seq events)
 
--- The lines of the first of these events were written, and no line in part.
-pub record AddsLines (collection : Option (List ℕ)) (events : List Event) (old new : List ℕ)
-    : Type 0 where
+-- Of the events above one number the lines of those up to another one were written, and no line of
+-- the others.
+pub record AddsLines (collection : Option (List ℕ)) (events : List Event) (seq upto : ℕ)
+    (old new : List ℕ) : Type 0 where
   pub written : List Event
-  pub left : List Event
-  pub split : events ≡ written ++ left
+  pub split : rising_above seq events ≡ written ++ rising_above upto events
   pub bytes : new ≡ old ++ lines_in collection written
 
 -- all of a text was written, or a front of it where a fault came

@@ -3,9 +3,8 @@ use Rattle.std.specs.Prelude.{◌≢◌, ℕ, Bool, List, Option, IsTrue}
 use Rattle.relay_row.specs.declared.row.Row.{Row}
 use Rattle.relay_store.specs.Shown.{held_by}
 use Rattle.relay_store.specs.Pairs.{PairView}
-use Rattle.backfill.specs.Served.{rising_above}
 use Rattle.serve_run.specs.Ends.{ServeOpened}
-use Rattle.serve_run.specs.Replayed.{IsReplayed, OnlyRead}
+use Rattle.serve_run.specs.Replayed.{IsReplayed, StandAgain}
 use Rattle.serve_run.specs.declared.end.ServeEnd.{ServeEnd}
 use Rattle.lines_run.specs.Lines.{AddsLines, lines_above}
 
@@ -16,6 +15,6 @@ pub record LinesWritten (output_tells : Bool) (J : List Row) (collection : Optio
   pub written : IsTrue output_tells
       → IsReplayed end (lines_above collection cursor (held_by J).shown) old.written new.written
   -- unless the output failed, no line was written in part
-  pub whole : IsTrue output_tells → end ≢ ServeEnd.WriteFault
-      → AddsLines collection (rising_above cursor (held_by J).shown) old.written new.written
-  pub read : OnlyRead J (ServeOpened end) old.one old.two new.one new.two
+  pub whole : IsTrue output_tells → end ≢ ServeEnd.WriteFault → (n : ℕ)
+      × AddsLines collection (held_by J).shown cursor n old.written new.written
+  pub again : StandAgain J (ServeOpened end) old.one old.two new.one new.two

@@ -1,6 +1,6 @@
 //! The command that writes operations as lines of JSON, from opening to its last line.
 
-ghost use Rattle.std.specs.Prelude.{◌≡◌, ◌≢◌, ◌≤◌, ◌⊎◌, ℕ, List, IsTrue, option_map};
+ghost use Rattle.std.specs.Prelude.{◌≡◌, ◌≢◌, ◌≤◌, ◌⊎◌, ℕ, List, IsTrue, max, option_map};
 ghost use Rattle.at_cid.specs.Counts.{Rose};
 ghost use Rattle.event_window.specs.Held.{Held};
 ghost use Rattle.relay_disk.specs.Disk.{Goes, Same};
@@ -12,8 +12,8 @@ ghost use Rattle.relay_store.specs.Opening.{BothOnlyRead};
 ghost use Rattle.relay_store.specs.Shown.{held_by};
 ghost use Rattle.relay_store.specs.Store.{IsKept, Keeps, seen_in};
 ghost use Rattle.relay_store.specs.Pairs.{pair_view};
-ghost use Rattle.backfill.specs.Served.{rising_above};
-ghost use Rattle.serve_run.specs.Ends.{IsCausedBy, ServeEndShows, ServeMayEnd};
+ghost use Rattle.run_base.specs.Reading.{AtMostLogMade};
+ghost use Rattle.serve_run.specs.Ends.{IsCausedBy, IsOfDisks, ServeEndShows, ServeMayEnd, damage_told};
 ghost use Rattle.serve_run.specs.Replayed.{IsReplayed};
 ghost use Rattle.serve_run.specs.declared.end.ServeEnd.{ServeEnd};
 ghost use Rattle.lines_run.specs.Lines.{AddsLines, lines_above};
@@ -43,8 +43,13 @@ fn lines_of_events<E: Events, O: Sink>(
         (O.written out.old) (O.written out.new) }
     ensures whole { IsTrue E.tells → (held : Held) → E.holds events.old held → IsTrue O.tells
         → result ≢ ServeEnd.WriteFault
-        → AddsLines (option_map (λ text. text.now) collection.entry)
-        (rising_above cursor held.shown) (O.written out.old) (O.written out.new) }
+        → (n : ℕ) × AddsLines (option_map (λ text. text.now) collection.entry) held.shown cursor n
+        (O.written out.old) (O.written out.new) }
+    ensures upto { IsOfDisks result → IsTrue E.tells → (held : Held) → E.holds events.old held
+        → IsTrue O.tells → E.given_upto events.old ≤ cursor
+        → AddsLines (option_map (λ text. text.now) collection.entry) held.shown cursor
+        (max cursor (E.given_upto events.new)) (O.written out.old) (O.written out.new) }
+    ensures damaged { E.damage events.new ≡ damage_told (E.damage events.old) result }
     ensures later { E.later events.old events.new }
     ensures disk { result ≡ ServeEnd.Disk → Rose (E.faults events.old) (E.faults events.new) }
     ensures event_steady { result ≢ ServeEnd.Disk → E.faults events.new ≡ E.faults events.old }
@@ -78,8 +83,8 @@ fn lines_from<D: Disk, O: Sink>(
     ensures whole { IsTrue D.tells → (J : List TheRow)
         → Keeps J (seen_in store.now) (D.view disk.old) → IsTrue O.tells
         → result ≢ ServeEnd.WriteFault
-        → AddsLines (option_map (λ text. text.now) collection.entry)
-        (rising_above cursor (held_by J).shown) (O.written out.old) (O.written out.new) }
+        → (n : ℕ) × AddsLines (option_map (λ text. text.now) collection.entry) (held_by J).shown
+        cursor n (O.written out.old) (O.written out.new) }
     ensures goes { Goes Same (D.view disk.old) (D.view disk.new) }
     ensures disk { result ≡ ServeEnd.Disk
         → Rose (D.view disk.old).faults (D.view disk.new).faults }
@@ -115,8 +120,8 @@ fn lines_on<D: Disk, O: Sink>(
     ensures whole { IsTrue D.tells → (J : List TheRow) → Keeps J (seen_in store.now)
         (view_of_side (seen_in store.now).side (D.view disk.old) (D.view other.old))
         → IsTrue O.tells → result ≢ ServeEnd.WriteFault
-        → AddsLines (option_map (λ text. text.now) collection.entry)
-        (rising_above cursor (held_by J).shown) (O.written out.old) (O.written out.new) }
+        → (n : ℕ) × AddsLines (option_map (λ text. text.now) collection.entry) (held_by J).shown
+        cursor n (O.written out.old) (O.written out.new) }
     ensures one { Goes Same (D.view disk.old) (D.view disk.new) }
     ensures two { Goes Same (D.view other.old) (D.view other.new) }
     ensures disk { result ≡ ServeEnd.Disk
@@ -165,6 +170,10 @@ pub fn lines<D: Disk, O: Sink>(
         → (result ≢ ServeEnd.Disk
         → BothOnlyRead (D.view disk.old) (D.view other.old) (D.view disk.new) (D.view other.new))
         × (out.new ≡ out.old) }
+
+    // Disks that hold one are only read too, except where a log is made.
+    ensures only_read { IsTrue D.tells → result ≢ ServeEnd.Disk
+        → AtMostLogMade (D.view disk.old) (D.view other.old) (D.view disk.new) (D.view other.new) }
 
     // A count of faults rose where the end speaks of one, and where none rose, all is done.
     ensures caused { IsCausedBy (Rose (D.view disk.old).faults (D.view disk.new).faults

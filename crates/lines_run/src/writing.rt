@@ -1,11 +1,12 @@
 //! Writing the lines of events, one after another.
 
-ghost use Rattle.std.specs.Prelude.{◌≡◌, ◌≢◌, ◌≤◌, ◌<◌, ◌++◌, ℕ, List, IsTrue, IfOk, IfErr, IfSome, OnOk, OnErr, Err, option_map};
+ghost use Rattle.std.specs.Prelude.{◌≡◌, ◌≢◌, ◌≤◌, ◌<◌, ◌++◌, ℕ, List, IsTrue, IfOk, IfErr, IfSome, OnOk, OnErr, Err, max, option_map};
 ghost use Rattle.at_cid.specs.Counts.{Rose};
 ghost use Rattle.at_event.specs.Frames.{frame_of};
 ghost use Rattle.event_window.specs.Held.{Held, IsNext};
 ghost use Rattle.relay_io.specs.Streams.{AddsFront};
-ghost use Rattle.backfill.specs.Served.{rising_above};
+ghost use Rattle.backfill.specs.Faults.{damage_replayed};
+ghost use Rattle.backfill.specs.Writing.{IsOfReading};
 ghost use Rattle.backfill.specs.declared.replay_fault.ReplayFault.{ReplayFault};
 ghost use Rattle.json_lines.specs.Lines.{lines_read};
 ghost use Rattle.lines_run.specs.Lines.{AddsLines, IsOfEvents, IsOfOutput, IsWritten, lines_above};
@@ -38,6 +39,9 @@ fn next_above<E: Events>(
     ensures event_steady { result ≢ Err ReplayFault.Disk
         → E.faults events.new ≡ E.faults events.old }
     ensures counts { E.faults events.old ≤ E.faults events.new }
+    ensures given { IfOk result (λ found. IfSome found (λ n. E.given_upto events.new ≡ n)) }
+    ensures none_given { OnErr result (E.given_upto events.new ≡ E.given_upto events.old) }
+    ensures damaged { E.damage events.new ≡ damage_replayed (E.damage events.old) result }
     ensures no_bad_log { (place : ℕ) → result ≡ Err (ReplayFault.BadLog place)
         → IsTrue E.tells → (held : Held) → E.holds events.old held → ⊥ }
 {
@@ -100,8 +104,17 @@ pub fn write_lines<E: Events, O: Sink>(
     // Unless the output failed, no line is written in part.
     ensures whole { IsTrue E.tells → (held : Held) → E.holds events.old held → IsTrue O.tells
         → result ≢ Err ReplayFault.Output
-        → AddsLines (option_map (λ text. text.now) collection.entry)
-        (rising_above cursor held.shown) (O.written out.old) (O.written out.new) }
+        → (n : ℕ) × AddsLines (option_map (λ text. text.now) collection.entry) held.shown cursor n
+        (O.written out.old) (O.written out.new) }
+
+    // Where reading ends it, the lines of each event that was given are written, if none above the
+    // cursor was given before.
+    ensures upto { IfErr result (λ f. IsOfReading f
+        → IsTrue E.tells → (held : Held) → E.holds events.old held → IsTrue O.tells
+        → E.given_upto events.old ≤ cursor
+        → AddsLines (option_map (λ text. text.now) collection.entry) held.shown cursor
+        (max cursor (E.given_upto events.new)) (O.written out.old) (O.written out.new)) }
+    ensures damaged { E.damage events.new ≡ damage_replayed (E.damage events.old) result }
     ensures same { IsTrue E.tells → (held : Held) → E.holds events.old held
         → E.holds events.new held }
     ensures later { E.later events.old events.new }

@@ -4,16 +4,17 @@ use Rattle.std.proofs.lemmas.List.{append-nil}
 use Rattle.relay_row.specs.declared.row.Row.{Row}
 use Rattle.relay_store.specs.Journals.{IsPairImageOf}
 use Rattle.relay_store.specs.declared.fault.StoreFault.{StoreFault}
-use Rattle.serve_run.specs.Ends.{IsCausedBy, ServeEndShows, ServeMayEnd, end_of_opening}
+use Rattle.serve_run.specs.Ends.{IsCausedBy, IsOfDisks, ServeEndShows, ServeMayEnd, end_of_opening}
+use Rattle.serve_run.specs.Guests.{AreLinesWritten}
 use Rattle.serve_run.specs.declared.end.ServeEnd.{ServeEnd}
 use Rattle.query_run.specs.AtWire.{AtWire}
-use Rattle.query_run.specs.Ends.{IsOfAnswering, IsOfDisks}
-use Rattle.query_run.specs.Queried.{AreRequestsWritten, RequestsAreTaken, Queried}
+use Rattle.query_run.specs.Ends.{IsOfAnswering}
+use Rattle.query_run.specs.Queried.{RequestsAreTaken, Queried}
 use Rattle.query_run.specs.Rounds.{queries_end_line}
 
 -- ---- disks that weren't opened
 
-none_written : (fault : StoreFault) (old : List ℕ) → AreRequestsWritten (end_of_opening fault) [] (queries_end_line 0) old old
+none_written : (fault : StoreFault) (old : List ℕ) → AreLinesWritten (end_of_opening fault) [] (queries_end_line 0) old old
 none_written StoreFault.Disk old = sym (append-nil old)
 none_written (StoreFault.BadLog p) old = sym (append-nil old)
 none_written (StoreFault.Full e) old = (0, omega arith, sym (append-nil old))

@@ -11,8 +11,8 @@ use Rattle.backfill.proofs.Framing.{front_of_first, front_of_second, front_whole
 use Rattle.query_run.specs.AtWire.{AtWire}
 use Rattle.query_run.specs.Ends.{IsOfWire}
 use Rattle.serve_run.specs.Ends.{IsUnwritten}
-use Rattle.serve_run.specs.Guests.{end_in}
-use Rattle.query_run.specs.Queried.{Answered, AreRequestsWritten, RequestsAreTaken, Comes, IsStill, IsUnreplied, Queried, Replied}
+use Rattle.serve_run.specs.Guests.{AreLinesWritten, end_in}
+use Rattle.query_run.specs.Queried.{Answered, RequestsAreTaken, Comes, IsStill, IsUnreplied, Queried, Replied}
 use Rattle.query_run.specs.Rounds.{RoundsAreCounted, AreReplies, IsSendCounted, Round, queries_end_line, exchanges_of, round_lines, request_line, requests_of, sent_of, told_of}
 use Rattle.serve_run.specs.declared.end.ServeEnd.{ServeEnd}
 
@@ -59,7 +59,7 @@ lines_more n (q ∷ rounds) r =
 
 -- ---- how lines that aren't written end
 
-unwritten_by : (end : ServeEnd) → IsUnwritten end → (lines last before after : List ℕ) → AddsFront before after (lines ++ last) → AreRequestsWritten end lines last before after
+unwritten_by : (end : ServeEnd) → IsUnwritten end → (lines last before after : List ℕ) → AddsFront before after (lines ++ last) → AreLinesWritten end lines last before after
 unwritten_by ServeEnd.Done of lines last before after front = absurd of
 unwritten_by ServeEnd.WriteFault of lines last before after front = front
 unwritten_by ServeEnd.Next of lines last before after front = absurd of
@@ -78,7 +78,7 @@ unwritten_taken tells ServeEnd.Memory of most rounds left = omega arith
 module _ (tells told : Bool) (J : List Row) (most n : ℕ) (first now : AtWire) (before after : List ℕ) (is : IsQuerying tells told J most n first now before after) where
   -- ---- no more come
 
-  wire_written : (end : ServeEnd) → IsOfWire end → after ≡ before ++ round_lines 0 is.rounds → AreRequestsWritten end (round_lines 0 is.rounds) (queries_end_line (length is.rounds)) before after
+  wire_written : (end : ServeEnd) → IsOfWire end → after ≡ before ++ round_lines 0 is.rounds → AreLinesWritten end (round_lines 0 is.rounds) (queries_end_line (length is.rounds)) before after
   wire_written ServeEnd.Done of written = absurd of
   wire_written ServeEnd.WriteFault of written = absurd of
   wire_written ServeEnd.Next of written = written
@@ -234,7 +234,7 @@ module _ (tells told : Bool) (J : List Row) (most n : ℕ) (first now : AtWire) 
           requests = λ t. is.requests t ∙ ap (λ (l : List (List ℕ)). requests_of is.rounds ++ l) ((comes t).0 ∙ ap (λ (l : List (List ℕ)). room ∷ l) (sym left));
           exchanges = λ t. sent ∙ (comes t).1 ∙ ap (λ (l : List Exchange). l ++ Exchange.Came room ∷ []) (is.exchanges t) ∙ append_assoc first.exchanges (exchanges_of is.rounds) (Exchange.Came room ∷ []);
           counted = counted_still new failed;
-          written = λ t. subst (λ (e : ServeEnd). AreRequestsWritten e (round_lines 0 is.rounds) (queries_end_line (length is.rounds)) before last) (sym none.0)
+          written = λ t. subst (λ (e : ServeEnd). AreLinesWritten e (round_lines 0 is.rounds) (queries_end_line (length is.rounds)) before last) (sym none.0)
               (front_of_first before last (round_lines 0 is.rounds) (queries_end_line (length is.rounds)) (front_whole before last (round_lines 0 is.rounds) (none.1.1 ∙ is.written t)));
           taken = subst (λ (e : ServeEnd). RequestsAreTaken tells e most is.rounds (room ∷ []) new.requests) (sym none.0) (omega arith);
         }

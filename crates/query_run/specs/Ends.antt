@@ -14,9 +14,3 @@ IsOfAnswering ServeEnd.WriteFault = ⊤
 IsOfAnswering ServeEnd.Next = ⊤
 IsOfAnswering ServeEnd.Memory = ⊤
 IsOfAnswering end = ⊥
-
--- the disks failed, or are no image of a journal
-abbrev pub IsOfDisks : ServeEnd → Type 0
-IsOfDisks ServeEnd.Disk = ⊤
-IsOfDisks (ServeEnd.BadLog place) = ⊤
-IsOfDisks end = ⊥

@@ -6,15 +6,8 @@ use Rattle.relay_row.specs.declared.row.Row.{Row}
 use Rattle.relay_query.specs.Replies.{IsReplyTo}
 use Rattle.query_run.specs.AtWire.{AtWire}
 use Rattle.query_run.specs.Rounds.{RoundsAreCounted, AreReplies, IsSendCounted, Round, queries_end_line, exchanges_of, round_lines, request_line, requests_of, sent_of, told_of}
+use Rattle.serve_run.specs.Guests.{AreLinesWritten}
 use Rattle.serve_run.specs.declared.end.ServeEnd.{ServeEnd}
-
--- The lines of the requests and the last line: whole where all was done, a front of them where they
--- couldn't be written or memory ran out, and else all but the last.
-abbrev pub AreRequestsWritten : ServeEnd → List ℕ → List ℕ → List ℕ → List ℕ → Type 0
-AreRequestsWritten ServeEnd.Done lines last old new = new ≡ old ++ (lines ++ last)
-AreRequestsWritten ServeEnd.WriteFault lines last old new = AddsFront old new (lines ++ last)
-AreRequestsWritten ServeEnd.Memory lines last old new = AddsFront old new (lines ++ last)
-AreRequestsWritten end lines last old new = new ≡ old ++ lines
 
 -- Which requests were taken: where all was done so many, or all that came; none where the disks
 -- weren't opened. One came that wasn't answered only where memory ran out.
@@ -42,7 +35,7 @@ pub record Queried (wire_tells output_tells : Bool) (count : ℕ) (J : List Row)
       → wire_now.exchanges ≡ wire.exchanges ++ (exchanges_of rounds ++ map Exchange.Came cut)
   pub counted : RoundsAreCounted wire.faults rounds wire_now.faults
   pub written : IsTrue output_tells
-      → AreRequestsWritten end (round_lines 0 rounds) (queries_end_line (length rounds)) old new
+      → AreLinesWritten end (round_lines 0 rounds) (queries_end_line (length rounds)) old new
   pub taken : RequestsAreTaken wire_tells end count rounds cut wire_now.requests
 
 -- ---- one of them

@@ -8,9 +8,9 @@ ghost use Rattle.relay_store.specs.Journals.{IsPairImageOf};
 ghost use Rattle.relay_store.specs.Opening.{BothOnlyRead};
 ghost use Rattle.relay_store.specs.Pairs.{pair_view};
 ghost use Rattle.query_run.specs.AtWire.{at_wire};
-ghost use Rattle.query_run.specs.Ends.{IsOfDisks};
 ghost use Rattle.query_run.specs.OfDisks.{AnsweredBy};
-ghost use Rattle.serve_run.specs.Ends.{IsCausedBy, ServeEndShows, ServeMayEnd};
+ghost use Rattle.run_base.specs.Reading.{AtMostLogMade};
+ghost use Rattle.serve_run.specs.Ends.{IsCausedBy, IsOfDisks, ServeEndShows, ServeMayEnd};
 ghost use Rattle.serve_run.specs.declared.end.ServeEnd.{ServeEnd};
 
 use crate::answering::answer_all;
@@ -50,6 +50,10 @@ pub fn query<D: Disk, W: Wire, O: Sink>(
         → (result ≢ ServeEnd.Disk
         → BothOnlyRead (D.view disk.old) (D.view other.old) (D.view disk.new) (D.view other.new))
         × (wire.new ≡ wire.old) × (out.new ≡ out.old) }
+
+    // Disks that hold one are only read too, except where a log is made.
+    ensures only_read { IsTrue D.tells → result ≢ ServeEnd.Disk
+        → AtMostLogMade (D.view disk.old) (D.view other.old) (D.view disk.new) (D.view other.new) }
 
     // A count of faults rose where the end speaks of one, and where none rose, all is done.
     ensures caused { IsCausedBy (Rose (D.view disk.old).faults (D.view disk.new).faults

@@ -14,7 +14,8 @@ pub record AreHost (words : List (List ℕ)) (host : List ℕ) : Type 0 where
   pub words_are : words ≡ host ∷ []
   pub is_name : IsTrue (is_host host)
 
--- What the first relay serves behind the host's cursor was taken as messages of the host, in logs of at most 2^40 bytes, and it ended so.
+-- What the first relay serves behind the host's cursor was taken as messages of the host, in logs
+-- of at most 2^40 bytes, and it ended so.
 pub record Ran (t : Tells) (host : List ℕ) (old new : Place) (status : ChainStatus) : Type 0 where
   pub end : ChainEnd
   pub status_is : status ≡ status_of end

@@ -5,10 +5,10 @@ use Rattle.serve_run.specs.Ends.{IsCausedBy}
 use Rattle.serve_run.specs.declared.end.ServeEnd.{ServeEnd}
 use Rattle.take_run.specs.Causes.{EndsByTape, HidesNone}
 use Rattle.take_run.specs.declared.end.TakeEnd.{TakeEnd}
+use Rattle.run_base.specs.declared.status.Status.{Status}
 use Rattle.relay_cli.specs.Ran.{may_hide_asked, may_hide_input, may_hide_output}
 use Rattle.relay_cli.specs.Statuses.{status_of_feed, status_of_serving, status_of_tape}
 use Rattle.relay_cli.specs.declared.command.Command.{Command}
-use Rattle.relay_cli.specs.declared.status.Status.{Status}
 
 -- what is said of a command and its status is said of what they are
 pub of_command : (f : Command → Status → Bool) (command kind : Command) (status end : Status) → command ≡ kind → status ≡ end → f command status ≡ false → f kind end ≡ false

@@ -1,12 +1,9 @@
 -- Commands that are equal, and operators' commands as texts that are equal.
 use Rattle.std.proofs.Common.{◌≡◌, ℕ, Bool, List, Option, subst, sym}
 use Rattle.account_state.specs.Folds.{account}
-use Rattle.relay_run.specs.Ends.{IsCausedBy}
-use Rattle.relay_run.specs.declared.end.RunEnd.{RunEnd}
-use Rattle.relay_store.specs.declared.fault.StoreFault.{StoreFault}
 use Rattle.state_lines.specs.Lines.{account_text}
-use Rattle.relay_cli.specs.declared.status.Status.{Status}
 use Rattle.relay_disk.specs.Disk.{View}
+use Rattle.run_base.specs.declared.status.Status.{Status}
 use Rattle.relay_cli.specs.declared.command.Command.{Command}
 use Rattle.relay_cli.specs.Ran.{Ran}
 use Rattle.relay_cli.specs.Runs.{AreLinesGiven, HasRun, IsFollowed, IsShown, RanOperated, IsSynced, Place, OutsideTells}
@@ -21,10 +18,6 @@ operated_of did given time told down t old new status same at done =
 
 pub synced_of : (did given time told : List ℕ) (t : OutsideTells) (old new : Place) (status : Status) → given ≡ did → told ≡ time → IsSynced given told t old new status → IsSynced did time t old new status
 synced_of did given time told t old new status same at done = subst (λ (x : List ℕ). IsSynced x time t old new status) same (subst (λ (y : List ℕ). IsSynced given y t old new status) at done)
-
--- no authority is left where that ended it
-pub spent_by : (disk write spent repos clock : Type 0) (end : RunEnd) → IsCausedBy disk write spent repos clock end → end ≡ RunEnd.Fault StoreFault.Authority → spent
-spent_by disk write spent repos clock end caused is = subst (IsCausedBy disk write spent repos clock) is caused
 
 pub followed_of : (host given : List ℕ) (count : ℕ) (t : OutsideTells) (old new : Place) (status : Status) → given ≡ host → IsFollowed given count t old new status → IsFollowed host count t old new status
 followed_of host given count t old new status same done = subst (λ (x : List ℕ). IsFollowed x count t old new status) same done

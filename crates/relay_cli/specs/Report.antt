@@ -1,4 +1,5 @@
--- The lines that are written, own: links as their texts, numbers in decimal, and a line feed at the end.
+-- The lines that are written, own: links as their texts, numbers in decimal, and a line feed at the
+-- end.
 use Rattle.std.specs.Prelude.{ℕ, List, [], ◌∷◌, ◌++◌, codes, decimal}
 use Rattle.at_cid.specs.Text.{text_of}
 use Rattle.relay_core.specs.Report.{refused_of}

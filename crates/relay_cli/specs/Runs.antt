@@ -1,7 +1,8 @@
 -- What a run of a command does to the outside (own).
-use Rattle.std.specs.Prelude.{◌≡◌, ◌≢◌, ⊤, Option, ℕ, ◌+◌, ◌≤◌, ◌<◌, Bool, true, false, List, [], ◌++◌, length, IsTrue, ◌⊎◌}
+use Rattle.std.specs.Prelude.{◌≡◌, Option, ℕ, ◌+◌, ◌≤◌, ◌<◌, Bool, true, false, List, [], ◌++◌, length, IsTrue, ◌⊎◌}
+use Rattle.at_authority.specs.Panels.{IsSpent}
 use Rattle.at_cid.specs.Counts.{Rose}
-use Rattle.at_authority.specs.Panels.{IsSpent, Panel}
+use Rattle.at_syntax.specs.Did.{method_of}
 use Rattle.account_state.specs.Folds.{account}
 use Rattle.host_state.specs.Folds.{hosts}
 use Rattle.take_run.specs.Causes.{failures}
@@ -19,20 +20,17 @@ use Rattle.mirror_run.specs.Mirrored.{Mirrored}
 use Rattle.mirror_run.specs.Stream.{BeginWith, IsBadBehind}
 use Rattle.mirror_run.specs.declared.end.MirrorEnd.{MirrorEnd}
 use Rattle.query_run.specs.AtWire.{AtWire}
-use Rattle.query_run.specs.Ends.{IsOfDisks}
 use Rattle.query_run.specs.OfDisks.{AnsweredBy}
-use Rattle.relay_run.specs.Cutting.{IsOfCutting, WasCut}
-use Rattle.relay_run.specs.Ends.{IsOfShowing, IsQuiet as IsQuietEnd, RunEndShows as HadJournal}
+use Rattle.relay_run.specs.Cutting.{WasCut}
+use Rattle.relay_run.specs.Lines.{MayEndCutting, MayEndOperating, MayEndShowing, MayEndSyncing}
 use Rattle.relay_store.specs.Pairs.{PairView, pair_view}
 use Rattle.relay_run.specs.Shown.{TextShown}
 use Rattle.relay_run.specs.Behind.{WasOperated, WasSynced}
-use Rattle.relay_run.specs.declared.end.RunEnd.{RunEnd}
-use Rattle.relay_step.specs.Around.{Around}
-use Rattle.relay_store.specs.Journals.{IsPairImageOf}
-use Rattle.relay_store.specs.Opening.{BothOnlyRead}
-use Rattle.relay_store.specs.declared.fault.StoreFault.{StoreFault}
+use Rattle.run_base.specs.Ends.{AreOnlyRead, Ended, HoldsJournal}
+use Rattle.run_base.specs.Place.{Faults, Place as Parts, Tells, at_place, counts, tells_of}
+use Rattle.run_base.specs.declared.status.Status.{Status}
 use Rattle.serve_run.specs.AtDoor.{AtDoor}
-use Rattle.serve_run.specs.Ends.{IsDoorCount, ServeMayEnd, ServeEndShows as ServeHadJournal}
+use Rattle.serve_run.specs.Ends.{IsDoorCount, IsOfDisks, ServeMayEnd, ServeEndShows as ServeHadJournal}
 use Rattle.serve_run.specs.Guests.{ServedAt}
 use Rattle.serve_run.specs.Replayed.{Replayed}
 use Rattle.serve_run.specs.declared.end.ServeEnd.{ServeEnd}
@@ -45,9 +43,8 @@ use Rattle.trial_run.specs.Tried.{Tried}
 use Rattle.trial_run.specs.declared.end.TrialEnd.{TrialEnd}
 use Rattle.relay_cli.specs.declared.command.Command.{Command}
 use Rattle.relay_store.specs.declared.limits.TheConstants.{LONGEST}
-use Rattle.relay_cli.specs.declared.status.Status.{Status}
 use Rattle.relay_cli.specs.declared.verdict.CheckVerdict.{CheckVerdict}
-use Rattle.relay_cli.specs.Statuses.{status_of, status_of_feed, status_of_mirror, status_of_query, status_of_run, status_of_serving, status_of_tape, status_of_trial}
+use Rattle.relay_cli.specs.Statuses.{status_of, status_of_feed, status_of_mirror, status_of_query, status_of_serving, status_of_tape, status_of_trial}
 use Rattle.relay_cli.specs.Report.{check_line}
 use Rattle.relay_cli.specs.Verdicts.{IsVerdict}
 
@@ -61,8 +58,14 @@ pub record Streams : Type 0 where
   pub write_faults : ℕ
 
 abbrev pub streams : Bool → List ℕ → ℕ → Bool → List ℕ → ℕ → Streams
-streams input_told left read_faults output_told written write_faults =
-    record { input_told = input_told; left = left; read_faults = read_faults; output_told = output_told; written = written; write_faults = write_faults }
+streams input_told left read_faults output_told written write_faults = record {
+  input_told = input_told;
+  left = left;
+  read_faults = read_faults;
+  output_told = output_told;
+  written = written;
+  write_faults = write_faults;
+}
 
 -- nothing was written
 abbrev pub WroteNothing : Streams → Streams → Type 0
@@ -112,201 +115,211 @@ pub record OutsideTells : Type 0 where
   pub wire : Bool
 
 abbrev pub outside_tells : Bool → Bool → Bool → Bool → Bool → Bool → Bool → Bool → OutsideTells
-outside_tells disk clock repos input output feed door wire =
-    record { disk = disk; clock = clock; repos = repos; input = input; output = output; feed = feed; door = door; wire = wire }
+outside_tells disk clock repos input output feed door wire = record {
+  disk = disk;
+  clock = clock;
+  repos = repos;
+  input = input;
+  output = output;
+  feed = feed;
+  door = door;
+  wire = wire;
+}
 
--- How often each object of a run has failed; of the wire, to give the next request.
-pub record Faults : Type 0 where
-  pub disk : ℕ
-  pub other : ℕ
-  pub repos : ℕ
-  pub clock : ℕ
-  pub input : ℕ
-  pub output : ℕ
-  pub feed : ℕ
-  pub door : ℕ
-  pub wire : ℕ
+-- of those that an operator's command is handed
+abbrev pub parts_tell : OutsideTells → Tells
+parts_tell t = tells_of t.disk t.clock t.repos t.output
 
+-- how often each object of a run has failed; of the wire, to give the next request
 abbrev pub faults : ℕ → ℕ → ℕ → ℕ → ℕ → ℕ → ℕ → ℕ → ℕ → Faults
-faults disk other repos clock input output feed door wire =
-    record { disk = disk; other = other; repos = repos; clock = clock; input = input; output = output; feed = feed; door = door; wire = wire }
+faults one two repos clock output input feed door wire = record {
+  one = one;
+  two = two;
+  repos = repos;
+  clock = clock;
+  output = output;
+  input = input;
+  feed = feed;
+  door = door;
+  wire = wire;
+}
 
--- no count fell
-pub record Kept (old new : Faults) : Type 0 where
-  pub disk : old.disk ≤ new.disk
-  pub other : old.other ≤ new.other
-  pub repos : old.repos ≤ new.repos
-  pub clock : old.clock ≤ new.clock
-  pub input : old.input ≤ new.input
-  pub output : old.output ≤ new.output
-  pub feed : old.feed ≤ new.feed
-  pub door : old.door ≤ new.door
-  pub wire : old.wire ≤ new.wire
-
--- a status that speaks of a failure comes only where a count rose
-abbrev pub Caused : Status → Faults → Faults → Type 0
-Caused Status.Disk old new = Rose old.disk new.disk ⊎ Rose old.other new.other
-Caused Status.Repos old new = Rose old.repos new.repos
-Caused Status.Clock old new = Rose old.clock new.clock
-Caused Status.ReadFault old new = Rose old.input new.input
-Caused Status.WriteFault old new = Rose old.output new.output
-Caused Status.Feed old new = Rose old.feed new.feed
-Caused Status.Door old new = Rose old.door new.door
-Caused Status.Wire old new = Rose old.wire new.wire
-Caused status old new = ⊤
-
--- What the objects of a run hold at one moment: the two disks; what the judges, the clock and the repositories tell; what is left of the input, and what is written; what the feed gives of each host behind each number, and what is left of the stream that is open; who comes to the door, and what happened there; the requests of the wire, and what happened on it; and how often each has failed.
+-- What the objects of a run hold at one moment: the two disks, what the judges, the clock and the
+-- repositories tell, what is written, and how often each object has failed (its parts); what is
+-- left of the input; what the feed gives of each host behind each number, and what is left of the
+-- stream that is open; who comes to the door, and what happened there; the requests of the wire,
+-- and what happened on it.
 pub record Place : Type 1 where
-  pub one : View
-  pub two : View
-  pub around : Around
+  pub parts : Parts
   pub left : List ℕ
-  pub written : List ℕ
   pub given : List ℕ → ℕ → List (List ℕ)
   pub coming : List (List ℕ)
   pub door : AtDoor
   pub wire : AtWire
-  pub failed : Faults
 
-abbrev pub place : View → View → Around → List ℕ → List ℕ → (List ℕ → ℕ → List (List ℕ))
-    → List (List ℕ) → AtDoor → AtWire → Faults → Place
-place one two around left written given coming door wire failed =
-    record { one = one; two = two; around = around; left = left; written = written; given = given; coming = coming; door = door; wire = wire; failed = failed }
+abbrev pub place : Parts → List ℕ → (List ℕ → ℕ → List (List ℕ)) → List (List ℕ) → AtDoor → AtWire
+    → Place
+place parts left given coming door wire = record {
+  parts = parts;
+  left = left;
+  given = given;
+  coming = coming;
+  door = door;
+  wire = wire;
+}
+
+-- the parts as an operator's command sees them: it is handed no input, feed, door or wire, so that
+-- these count 0
+abbrev pub handed : Parts → Parts
+handed p = at_place p.one p.two p.around p.written
+    (counts p.failed.one p.failed.two p.failed.repos p.failed.clock p.failed.output)
+
+-- the input and the output
+abbrev pub streams_at : OutsideTells → Place → Streams
+streams_at t p =
+    streams t.input p.left p.parts.failed.input t.output p.parts.written p.parts.failed.output
 
 -- the two disks and what is written
 abbrev pub disks : Place → PairView
-disks p = pair_view p.one p.two p.written
+disks p = pair_view p.parts.one p.parts.two p.parts.written
 
 -- and all that taking a tape moves
 abbrev pub whole_input : Place → PairScene
-whole_input p = pair_scene p.one p.two p.around
-    (failures p.failed.repos p.failed.clock p.failed.input) p.left p.written
+whole_input p = pair_scene p.parts.one p.parts.two p.parts.around
+    (failures p.parts.failed.repos p.parts.failed.clock p.parts.failed.input) p.left p.parts.written
 
--- The pair of disks is the image of no journal.
-abbrev pub HoldsNoJournal : Place → Type 0
-HoldsNoJournal p = (J : List Row) → IsPairImageOf J p.one.content p.two.content → ⊥
-
--- Nothing was done: nothing is written, taken, sent or asked, and unless a disk failed the two were only read.
+-- Nothing was done: nothing is written, taken, sent or asked, and unless a disk failed the two were
+-- only read.
 pub record NothingDone (old new : Place) (status : Status) : Type 0 where
-  pub disks_read : status ≢ Status.Disk → BothOnlyRead old.one old.two new.one new.two
-  pub around : new.around ≡ old.around
+  pub disks_read : AreOnlyRead status old.parts new.parts
+  pub around : new.parts.around ≡ old.parts.around
   pub left : new.left ≡ old.left
-  pub written : new.written ≡ old.written
+  pub written : new.parts.written ≡ old.parts.written
   pub given : new.given ≡ old.given
   pub coming : new.coming ≡ old.coming
   pub door : new.door ≡ old.door
   pub wire : new.wire ≡ old.wire
 
--- Some method has no authority left.
-abbrev pub HasSpent : Panel → Type 0
-HasSpent panel = (method : List ℕ) × IsSpent (panel method)
-
 -- what a command does with the journal of the two disks, where they tell it
 abbrev pub OnJournal : OutsideTells → Place → (List Row → Type 0) → Type 0
-OnJournal t p Does = IsTrue t.disk → (J : List Row) → IsPairImageOf J p.one.content p.two.content
-    → Does J
+OnJournal t p Does = (J : List Row) → HoldsJournal (parts_tell t) J p.parts → Does J
 
--- A command on the journal ended so. The status is that of its end; the end tells what the disks were, and after a fault of the store nothing was written.
-pub record Ended (t : OutsideTells) (old new : Place) (status : Status)
-    (Does : RunEnd → Type 0) : Type 0 where
-  pub end : RunEnd
-  pub status_is : status ≡ status_of_run end
-  pub had : IsTrue t.disk → HadJournal end old.one.content old.two.content
-  pub quiet : IsTrue t.output → IsQuietEnd end old.written new.written
-  pub does : Does end
+-- An operator's command ended with one of its statuses, which says what a status says of the parts
+-- that it was handed; the input wasn't read; and this came of the journal.
+pub record Commanded (t : OutsideTells) (old new : Place) (status : Status)
+    (May : Status → Type 0) (Came : List Row → Type 0) : Type 0 where
+  pub may : May status
+  pub ended : Ended (parts_tell t) (handed old.parts) (handed new.parts) status
+  pub unread : new.left ≡ old.left
+  pub came : OnJournal t old Came
 
--- a text of the journal is shown, and nothing else is asked or read
+-- a text of the journal is shown, and nothing else is asked
 abbrev pub IsShown : (List Row → List ℕ) → OutsideTells → Place → Place → Status → Type 0
-IsShown text t old new status = Ended t old new status (λ end. IsOfShowing end
-    × ((new.around ≡ old.around) × ((new.left ≡ old.left)
-    × OnJournal t old (λ J. TextShown t.output J (text J) (disks old) (disks new) end))))
+IsShown text t old new status = (new.parts.around ≡ old.parts.around)
+    × Commanded t old new status MayEndShowing (λ J. TextShown (parts_tell t) LONGEST J (text J)
+    (handed old.parts) (handed new.parts) status)
 
--- an account is taken down or restored at a time, of which the clock is asked; no authority is asked, so none is missing
+-- an account is taken down or restored at a time, of which the clock is asked; no authority is
+-- asked, so none is missing
 abbrev pub RanOperated : List ℕ → Bool → List ℕ → OutsideTells → Place → Place → Status → Type 0
-RanOperated did down time t old new status = Ended t old new status (λ end.
-    (end ≢ RunEnd.Fault StoreFault.Authority) × (new.around.panel ≡ old.around.panel)
-    × ((new.left ≡ old.left) × OnJournal t old
-    (λ J. WasOperated t.output t.clock LONGEST J did down time
-    old.around.moments new.around.moments (disks old) (disks new) end)))
+RanOperated did down time t old new status =
+    (new.parts.around.panel ≡ old.parts.around.panel)
+    × Commanded t old new status MayEndOperating (λ J. WasOperated (parts_tell t) LONGEST J
+    did down time (handed old.parts) (handed new.parts) status)
 
--- an account's repository is fetched and taken over at a time, of which judges, clock and repositories are asked
+-- an account's repository is fetched and taken over at a time, of which judges, clock and
+-- repositories are asked; where authorities are missing, they are those of the account's method
 abbrev pub IsSynced : List ℕ → List ℕ → OutsideTells → Place → Place → Status → Type 0
-IsSynced did time t old new status = Ended t old new status (λ end. (new.left ≡ old.left)
-    × OnJournal t old (λ J. WasSynced t.output t.clock t.repos LONGEST J did time
-    old.around new.around (disks old) (disks new) end))
+IsSynced did time t old new status =
+    (status ≡ Status.Authority → IsSpent (new.parts.around.panel (method_of did)))
+    × Commanded t old new status MayEndSyncing (λ J. WasSynced (parts_tell t) LONGEST J
+    did time (handed old.parts) (handed new.parts) status)
 
--- the journal is cut at a number, and nothing else is asked or read
+-- the parts with other disks, which are seen so
+abbrev pub with_disks : {D : Type 0} → (D → View) → Parts → D × D → Parts
+with_disks view p pair = record p { one = view pair.0; two = view pair.1 }
+
+-- the journal is cut at a number, and nothing else is asked
 abbrev pub RanCut : {D : Type 0} → (D → View) → ℕ → OutsideTells → Place → Place → Status → Type 0
-RanCut view seq t old new status = Ended t old new status (λ end. IsOfCutting end
-    × ((new.around ≡ old.around) × ((new.left ≡ old.left)
-    × OnJournal t old (λ J. WasCut view t.output LONGEST J seq (disks old) (disks new) end))))
+RanCut view seq t old new status = (new.parts.around ≡ old.parts.around)
+    × Commanded t old new status MayEndCutting (λ J. WasCut (with_disks view old.parts)
+    (parts_tell t) LONGEST J seq (handed old.parts) (handed new.parts) status)
 
 -- no count rose
 abbrev pub IsFlawless : Faults → Faults → Type 0
-IsFlawless old new = NoneOf (Rose old.disk new.disk
-    ⊎ Rose old.other new.other) (Rose old.input new.input) (Rose old.output new.output)
+IsFlawless old new = NoneOf (Rose old.one new.one
+    ⊎ Rose old.two new.two) (Rose old.input new.input) (Rose old.output new.output)
     (Rose old.repos new.repos) (Rose old.clock new.clock)
 
--- A tape was to be taken into the journal. The disks weren't opened, or it was taken and ended so; and the end tells what the disks were.
+-- A tape was to be taken into the journal. The disks weren't opened, or it was taken and ended so;
+-- and the end tells what the disks were.
 pub record IsIngested (t : OutsideTells) (old new : Place) (status : Status) : Type 0 where
   pub end : TakeEnd
   pub status_is : status ≡ status_of_tape end
-  pub had : IsTrue t.disk → TapeHadJournal end old.one.content old.two.content
+  pub had : IsTrue t.disk → TapeHadJournal end old.parts.one.content old.parts.two.content
   pub does : OnJournal t old (λ J. Unopened J (whole_input old) (whole_input new) end
       ⊎ Ingested (tape_tells t.disk t.clock t.repos t.output) t.input LONGEST LONGEST J
       (whole_input old) (whole_input new) end)
-  -- a whole tape is taken where nothing fails, unless memory runs out, the log is full, or the numbers or the authorities end
+  -- a whole tape is taken where nothing fails, unless memory runs out, the log is full, or the
+  -- numbers or the authorities end
   pub complete : OnJournal t old (λ J. IsTrue t.input → (messages : List Message)
       → AreRecords messages → old.left ≡ encoded_records messages
-      → length (encoded_records messages) < LONGEST → IsFlawless old.failed new.failed → MayEnd end)
+      → length (encoded_records messages) < LONGEST
+      → IsFlawless old.parts.failed new.parts.failed → MayEnd end)
 
 -- all that following a host moves but the feed
 abbrev pub all_but_feed : Place → PairScene
-all_but_feed p = pair_scene p.one p.two p.around (failures p.failed.repos p.failed.clock 0) []
-    p.written
+all_but_feed p = pair_scene p.parts.one p.parts.two p.parts.around
+    (failures p.parts.failed.repos p.parts.failed.clock 0) [] p.parts.written
 
 -- no count rose, with the feed's in the place of the input's
 abbrev pub IsFlawlessFeed : Faults → Faults → Type 0
-IsFlawlessFeed old new = NoneOf (Rose old.disk new.disk
-    ⊎ Rose old.other new.other) (Rose old.feed new.feed) (Rose old.output new.output)
+IsFlawlessFeed old new = NoneOf (Rose old.one new.one
+    ⊎ Rose old.two new.two) (Rose old.feed new.feed) (Rose old.output new.output)
     (Rose old.repos new.repos) (Rose old.clock new.clock)
 
--- A host was to be followed. The disks weren't opened, or messages of its feed were taken into the journal, and it ended so.
+-- A host was to be followed. The disks weren't opened, or messages of its feed were taken into the
+-- journal, and it ended so.
 pub record IsFollowed (host : List ℕ) (count : ℕ) (t : OutsideTells) (old new : Place)
     (status : Status) : Type 0 where
   pub end : TakeEnd
   pub status_is : status ≡ status_of_feed end
   pub of_feed : IsOfFeed end
-  pub had : IsTrue t.disk → TapeHadJournal end old.one.content old.two.content
+  pub had : IsTrue t.disk → TapeHadJournal end old.parts.one.content old.parts.two.content
   pub unread : new.left ≡ old.left
   pub does : OnJournal t old (λ J. (Unopened J (all_but_feed old) (all_but_feed new) end
       × (new.coming ≡ old.coming))
       ⊎ Followed (tape_tells t.disk t.clock t.repos t.output) t.feed host LONGEST count
       (old.given host) new.coming J (all_but_feed old) (all_but_feed new) end)
-  -- it is done where nothing fails, unless memory runs out, the log is full, or the numbers or the authorities end
-  pub complete : OnJournal t old (λ J. IsFlawlessFeed old.failed new.failed → MayEnd end)
+  -- it is done where nothing fails, unless memory runs out, the log is full, or the numbers or the
+  -- authorities end
+  pub complete : OnJournal t old
+      (λ J. IsFlawlessFeed old.parts.failed new.parts.failed → MayEnd end)
 
--- Events were to be given out, and nothing else was asked or read. The end tells what the disks were.
+-- Events were to be given out, and nothing else was asked or read. The end tells what the disks
+-- were.
 pub record IsGivenOut (t : OutsideTells) (old new : Place) (status : Status)
     (Does : ServeEnd → Type 0) : Type 0 where
   pub end : ServeEnd
   pub status_is : status ≡ status_of_serving end
-  pub had : IsTrue t.disk → ServeHadJournal end old.one.content old.two.content
-  pub unasked : new.around ≡ old.around
+  pub had : IsTrue t.disk → ServeHadJournal end old.parts.one.content old.parts.two.content
+  pub unasked : new.parts.around ≡ old.parts.around
   pub unread : new.left ≡ old.left
   pub does : Does end
 
--- A trial was run on two disks of its own, which hold these bytes in the end; of what was handed in it has the output alone.
-pub record IsTried (start count : ℕ) (t : OutsideTells) (old new : Place) (status : Status) : Type 0 where
+-- A trial was run on two disks of its own, which hold these bytes in the end; of what was handed in
+-- it has the output alone.
+pub record IsTried (start count : ℕ) (t : OutsideTells) (old new : Place) (status : Status)
+    : Type 0 where
   pub end : TrialEnd
   pub status_is : status ≡ status_of_trial end
   pub first : List ℕ
   pub second : List ℕ
-  pub tried : Tried t.output start count first second old.written new.written end
+  pub tried : Tried t.output start count first second old.parts.written new.parts.written end
 
 -- no count rose of the disks and of the output
 abbrev pub IsFlawlessText : Faults → Faults → Type 0
-IsFlawlessText old new = (Rose old.disk new.disk ⊎ Rose old.other new.other → ⊥)
+IsFlawlessText old new = (Rose old.one new.one ⊎ Rose old.two new.two → ⊥)
     × (Rose old.output new.output → ⊥)
 
 -- the lines of operations are written, and all of them where no count rose, unless memory runs out
@@ -314,21 +327,24 @@ abbrev pub AreLinesGiven : ℕ → Option (List ℕ) → OutsideTells → Place 
 AreLinesGiven cursor collection t old new status =
     IsGivenOut t old new status (λ end. OnJournal t old (λ J.
     LinesWritten t.output J collection cursor (disks old) (disks new) end
-    × (IsFlawlessText old.failed new.failed → ServeMayEnd end)))
+    × (IsFlawlessText old.parts.failed new.parts.failed → ServeMayEnd end)))
 
--- Requests were to be answered by the journal, and nothing else was asked or read. The end tells what the disks were; where they failed or have no journal no request was taken and nothing was written.
-pub record IsQueried (count : ℕ) (t : OutsideTells) (old new : Place) (status : Status) : Type 0 where
+-- Requests were to be answered by the journal, and nothing else was asked or read. The end tells
+-- what the disks were; where they failed or have no journal no request was taken and nothing was
+-- written.
+pub record IsQueried (count : ℕ) (t : OutsideTells) (old new : Place) (status : Status)
+    : Type 0 where
   pub end : ServeEnd
   pub status_is : status ≡ status_of_query end
-  pub had : IsTrue t.disk → ServeHadJournal end old.one.content old.two.content
-  pub quiet : IsOfDisks end → (new.wire ≡ old.wire) × (new.written ≡ old.written)
-  pub unasked : new.around ≡ old.around
+  pub had : IsTrue t.disk → ServeHadJournal end old.parts.one.content old.parts.two.content
+  pub quiet : IsOfDisks end → (new.wire ≡ old.wire) × (new.parts.written ≡ old.parts.written)
+  pub unasked : new.parts.around ≡ old.parts.around
   pub unread : new.left ≡ old.left
   pub does : OnJournal t old (λ J. AnsweredBy J t.wire t.output count old.wire new.wire (disks old)
       (disks new) end)
   -- all is done where no count rose, unless memory runs out
-  pub complete : OnJournal t old (λ J. IsFlawlessText old.failed new.failed
-      → (Rose old.failed.wire new.failed.wire → ⊥) → ServeMayEnd end)
+  pub complete : OnJournal t old (λ J. IsFlawlessText old.parts.failed new.parts.failed
+      → (Rose old.parts.failed.wire new.parts.failed.wire → ⊥) → ServeMayEnd end)
 
 -- no count rose of what a mirror uses
 abbrev pub IsFlawlessMirror : Faults → Faults → Type 0
@@ -339,14 +355,16 @@ IsFlawlessMirror old new = NoMirrorCause (Rose old.input new.input) (Rose old.ou
 pub record IsMirroredFrom (t : OutsideTells) (old new : Place) (status : Status) : Type 0 where
   pub end : MirrorEnd
   pub status_is : status ≡ status_of_mirror end
-  pub does : Mirrored t.input t.output t.repos LONGEST old.around.repository old.left old.written
-      new.written end
-  -- a whole stream is mirrored where nothing fails, unless memory runs out; of another the place is told
-  pub complete : IsTrue t.input → length old.left < LONGEST → IsFlawlessMirror old.failed new.failed
-      → (messages : List (List ℕ)) → BeginWith old.left messages [] → MirrorMayEnd end
-  pub bad : IsTrue t.input → length old.left < LONGEST → IsFlawlessMirror old.failed new.failed
-      → (messages : List (List ℕ)) → (rest : List ℕ) → BeginWith old.left messages rest
-      → IsBadBehind messages rest
+  pub does : Mirrored t.input t.output t.repos LONGEST old.parts.around.repository old.left
+      old.parts.written new.parts.written end
+  -- a whole stream is mirrored where nothing fails, unless memory runs out; of another the place is
+  -- told
+  pub complete : IsTrue t.input → length old.left < LONGEST
+      → IsFlawlessMirror old.parts.failed new.parts.failed → (messages : List (List ℕ))
+      → BeginWith old.left messages [] → MirrorMayEnd end
+  pub bad : IsTrue t.input → length old.left < LONGEST
+      → IsFlawlessMirror old.parts.failed new.parts.failed → (messages : List (List ℕ))
+      → (rest : List ℕ) → BeginWith old.left messages rest → IsBadBehind messages rest
       → (end ≡ MirrorEnd.BadStream (length (with_length messages))) ⊎ (end ≡ MirrorEnd.Memory)
 
 -- whether a command works on the journal
@@ -386,9 +404,7 @@ uses_wire command = false
 abbrev pub HasRun : {D : Type 0} → (D → View) → OutsideTells → Place → Place → Status → Command
     → Type 0
 HasRun view t old new status Command.Check =
-    Checked LONGEST_FEED_MESSAGE
-    (streams t.input old.left old.failed.input t.output old.written old.failed.output)
-    (streams t.input new.left new.failed.input t.output new.written new.failed.output) status
+    Checked LONGEST_FEED_MESSAGE (streams_at t old) (streams_at t new) status
 HasRun view t old new status Command.Ingest = IsIngested t old new status
 HasRun view t old new status (Command.Account did) =
     IsShown (λ J. account_text did (account did J)) t old new status
@@ -405,9 +421,9 @@ HasRun view t old new status (Command.Follow host count) =
     IsFollowed host count t old new status
 HasRun view t old new status (Command.Replay cursor) =
     IsGivenOut t old new status (λ end. OnJournal t old (λ J. Replayed t.output
-    (Rose old.failed.output new.failed.output) J cursor (disks old) (disks new) end))
+    (Rose old.parts.failed.output new.parts.failed.output) J cursor (disks old) (disks new) end))
 HasRun view t old new status (Command.Serve count) =
-    IsGivenOut t old new status (λ end. IsDoorCount old.failed.door new.failed.door end
+    IsGivenOut t old new status (λ end. IsDoorCount old.parts.failed.door new.parts.failed.door end
     × OnJournal t old (λ J. ServedAt t.door t.output count J old.door new.door
     (disks old) (disks new) end))
 HasRun view t old new status (Command.Trial start count) = IsTried start count t old new status

@@ -1,58 +1,17 @@
--- The numbers that the program ends with, own.
-use Rattle.std.specs.Prelude.{ℕ}
+-- The status of a run by the end of what it did, own.
 use Rattle.at_event.specs.Refusals.{code_of}
 use Rattle.mirror_run.specs.declared.end.MirrorEnd.{MirrorEnd}
-use Rattle.relay_run.specs.declared.end.RunEnd.{RunEnd}
-use Rattle.relay_store.specs.declared.fault.StoreFault.{StoreFault}
+use Rattle.run_base.specs.Statuses.{status_of_fault}
+use Rattle.run_base.specs.declared.status.Status.{Status}
 use Rattle.serve_run.specs.declared.end.ServeEnd.{ServeEnd}
 use Rattle.take_run.specs.declared.end.TakeEnd.{TakeEnd}
 use Rattle.trial_run.specs.declared.end.TrialEnd.{TrialEnd}
-use Rattle.relay_cli.specs.declared.status.Status.{Status}
 use Rattle.relay_cli.specs.declared.verdict.CheckVerdict.{CheckVerdict}
-
-abbrev pub code_of_status : Status → ℕ
-code_of_status Status.Done = 0
-code_of_status (Status.BadTape place) = 1
-code_of_status Status.Usage = 2
-code_of_status Status.ReadFault = 3
-code_of_status Status.WriteFault = 4
-code_of_status Status.Disk = 5
-code_of_status Status.Authority = 6
-code_of_status Status.Repos = 7
-code_of_status Status.Feed = 8
-code_of_status Status.Door = 9
-code_of_status (Status.BadLog place) = 10
-code_of_status (Status.Full end) = 11
-code_of_status Status.SeqEnd = 12
-code_of_status Status.TooLong = 13
-code_of_status Status.Memory = 14
-code_of_status (Status.Refused code) = 15
-code_of_status Status.Clock = 17
-code_of_status (Status.BadStream place) = 18
-code_of_status Status.Wire = 19
 
 -- how a run ends that came to this verdict
 abbrev pub status_of : CheckVerdict → Status
 status_of (CheckVerdict.Accepted from to ops) = Status.Done
 status_of (CheckVerdict.Refused refusal) = Status.Refused (code_of refusal)
-
--- for a fault of the store
-abbrev pub status_of_fault : StoreFault → Status
-status_of_fault StoreFault.Disk = Status.Disk
-status_of_fault (StoreFault.BadLog place) = Status.BadLog place
-status_of_fault (StoreFault.Full end) = Status.Full end
-status_of_fault StoreFault.SeqEnd = Status.SeqEnd
-status_of_fault StoreFault.Authority = Status.Authority
-status_of_fault StoreFault.Repos = Status.Repos
-status_of_fault StoreFault.Memory = Status.Memory
-status_of_fault StoreFault.Clock = Status.Clock
-
--- of a command that shows the journal, or takes an operator's command
-abbrev pub status_of_run : RunEnd → Status
-status_of_run RunEnd.Done = Status.Done
-status_of_run (RunEnd.Refused code) = Status.Refused code
-status_of_run RunEnd.WriteFault = Status.WriteFault
-status_of_run (RunEnd.Fault fault) = status_of_fault fault
 
 -- of a tape
 abbrev pub status_of_tape : TakeEnd → Status

@@ -12,9 +12,10 @@ use Rattle.commit_check.specs.Checking.{IsAccepted, IsCoveredAlone, IsRefusedWit
 use Rattle.relay_core.specs.declared.limits.TheConstants.{LONGEST_MESSAGE}
 use Rattle.relay_cli.specs.declared.verdict.CheckVerdict.{CheckVerdict}
 
--- A commit is accepted where no refusal applies, and then its operations replay on every map with the root that they start from.
--- It is refused with the first refusal that applies, and with no other; a commit to which none applies isn't, nor one whose
--- operations play and whose blocks cover them.
+-- A commit is accepted where no refusal applies, and then its operations replay on every map with
+-- the root that they start from. It is refused with the first refusal that applies, and with no
+-- other; a commit to which none applies isn't, nor one whose operations play and whose blocks cover
+-- them.
 abbrev pub JudgesCommit : CommitEvent → CheckVerdict → Type 0
 JudgesCommit e (CheckVerdict.Accepted from to ops) = IsAccepted e from to × Replays e from to
     × (ops ≡ length e.ops) × ((refusal : Refusal) → IsRefusedWith e refusal → ⊥)
@@ -36,7 +37,8 @@ abbrev pub JudgesBody : Seen → Body → CheckVerdict → Type 0
 JudgesBody event (Body.Commit e) verdict = JudgesSized (is_too_long event) e verdict
 JudgesBody event body verdict = verdict ≡ CheckVerdict.Refused Refusal.NotCommit
 
--- an event with a field that is missing or of another form is a bad one, and every other message is no commit
+-- an event with a field that is missing or of another form is a bad one, and every other message is
+-- no commit
 abbrev pub JudgesFrame : Result Frame FrameFault → CheckVerdict → Type 0
 JudgesFrame (Ok (Frame.Event event)) verdict = JudgesBody event event.body verdict
 JudgesFrame (Ok (Frame.Faulty seq)) verdict = verdict ≡ CheckVerdict.Refused Refusal.BadEvent

@@ -4,8 +4,8 @@ ghost use Rattle.relay_cli.specs.Runs.{Checked, streams};
 
 use crate::judging::judge;
 use crate::report::report;
-use crate::status::Status;
 use relay_io::{ReadFault, Sink, Source, read_to_end, write_all};
+use run_base::Status;
 use std::alloc::Global;
 
 /// Reads the whole input as one message of at most `limit` bytes, and writes what it comes to.

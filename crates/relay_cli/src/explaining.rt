@@ -2,12 +2,12 @@
 
 use crate::arguments::number_from;
 use crate::command::{MOST, MOST_TRIED};
-use crate::status::Status;
 use crate::verb::{Verb, verb_from};
 use at_cid::NUMBERS;
 use at_form::LONGEST_SHORT_TEXT;
 use at_syntax::{collection_ok, did_ok, host_ok};
 use os_edge::Reporter;
+use run_base::Status;
 use std::fmt::{self, Display, Formatter};
 
 /// What an argument has to be.

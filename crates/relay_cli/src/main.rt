@@ -32,8 +32,8 @@ use program_parts::{
     ArgumentsFault, ProgressSink, ProgressSource, Texts, read_arguments, write_text,
 };
 use relay_disk::FileDisk;
+pub use run_base::Status;
 pub use running::relay;
-pub use status::Status;
 use std::cell::Cell;
 use std::process::ExitCode;
 use times::remark_on_time;
@@ -45,16 +45,6 @@ const TEXTS: Texts = Texts {
     help: HELP,
     version: VERSION,
 };
-
-impl From<Unopened> for Status {
-    fn from(fault: Unopened) -> Status {
-        match fault {
-            Unopened::Disk => Status::Disk,
-            Unopened::Older => Status::BadLog(0),
-            Unopened::Memory => Status::Memory,
-        }
-    }
-}
 
 // The disks of a folder's journal, opened as the command needs them; empty ones in memory for a
 // command that has no use for a journal.
@@ -159,7 +149,7 @@ fn run(reporter: Reporter, words: &[String]) -> Status {
     match explain(reporter, folder.as_str(), words) {
         Ok(verb) => match run_in(reporter, folder.as_str(), verb, words) {
             Ok(status) => status,
-            Err(fault) => Status::from(fault),
+            Err(fault) => status::of_unopened(fault),
         },
         Err(status) => status,
     }

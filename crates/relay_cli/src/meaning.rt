@@ -1,7 +1,7 @@
 //! What the end of a run means.
 
-use crate::status::Status;
 use os_edge::Reporter;
+use run_base::Status;
 use std::fmt::{self, Display, Formatter};
 use ws_edge::Fault;
 

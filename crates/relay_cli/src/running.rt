@@ -1,15 +1,16 @@
 //! The top call.
-ghost use Rattle.std.specs.Prelude.{◌≡◌, ◌⊎◌, ℕ, IsTrue, map, option_map, string_bytes, false};
+ghost use Rattle.std.specs.Prelude.{◌≡◌, ◌⊎◌, map, option_map, string_bytes, false};
 ghost use Rattle.relay_step.specs.Around.{around};
 ghost use Rattle.relay_cli.specs.Commands.{IsInForm, IsEncoded};
 ghost use Rattle.query_run.specs.AtWire.{at_wire};
 ghost use Rattle.serve_run.specs.AtDoor.{at_door};
 ghost use Rattle.relay_cli.specs.Ran.{HasCauses, Ran};
-ghost use Rattle.relay_cli.specs.Runs.{faults, is_on_journal, place, outside_tells, uses_door, uses_feed, uses_input, uses_repos, uses_wire};
+ghost use Rattle.relay_cli.specs.Runs.{faults, is_on_journal, outside_tells, place, uses_door, uses_feed, uses_input, uses_repos, uses_wire};
+ghost use Rattle.run_base.specs.Place.{at_place};
 
 use crate::checking::check;
 use crate::command::{Command, command_from};
-use crate::status::Status;
+use crate::status;
 use crate::words_fault::WordsFault;
 use at_authority::Judges;
 use at_cid::Words;
@@ -18,8 +19,9 @@ use mirror_run::mirror;
 use query_run::query;
 use relay_disk::Disk;
 use relay_io::{Clock, Door, Feed, LONGEST_FEED_MESSAGE, Repos, Sink, Source, Wire};
-use relay_run::{account, cut, hosts, operate, sync};
+use relay_run::Commands;
 use relay_store::LONGEST;
+use run_base::{Asked, Outside, Pair, Status};
 use serve_run::{replay, serve};
 use std::alloc::Global;
 use take_run::{follow, ingest};
@@ -41,26 +43,27 @@ pub fn relay<P: Judges, F: Feed, R: Repos, D: Disk, I: Source, O: Sink, G: Door,
     wire: &mut W,
 ) -> Status
     // What the words say is done, unless memory runs out for the words.
-    ensures ran { let tells = outside_tells D.tells C.tells R.tells I.tells O.tells F.tells G.tells W.tells in
-        let before = place (D.view disk.old) (D.view other.old)
+    ensures ran { let tells =
+        outside_tells D.tells C.tells R.tells I.tells O.tells F.tells G.tells W.tells in
+        let before = place (at_place (D.view disk.old) (D.view other.old)
         (around (P.panel panel.old) (C.moments clock.old) (R.repository repos.old))
-        (I.left input.old) (O.written out.old) (F.behind feed.old) (F.left feed.old)
+        (O.written out.old) (faults (D.view disk.old).faults (D.view other.old).faults
+        (R.faults repos.old) (C.faults clock.old) (O.faults out.old) (I.faults input.old)
+        (F.faults feed.old) (G.faults door.old) (W.faults wire.old)))
+        (I.left input.old) (F.behind feed.old) (F.left feed.old)
         (at_door (G.guests door.old) (G.turns door.old) (G.session_faults door.old))
-        (at_wire (W.requests wire.old) (W.exchanges wire.old) (W.send_faults wire.old))
-        (faults (D.view disk.old).faults (D.view other.old).faults (R.faults repos.old)
-        (C.faults clock.old) (I.faults input.old) (O.faults out.old) (F.faults feed.old)
-        (G.faults door.old) (W.faults wire.old)) in
-        let after = place (D.view disk.new) (D.view other.new)
+        (at_wire (W.requests wire.old) (W.exchanges wire.old) (W.send_faults wire.old)) in
+        let after = place (at_place (D.view disk.new) (D.view other.new)
         (around (P.panel panel.new) (C.moments clock.new) (R.repository repos.new))
-        (I.left input.new) (O.written out.new) (F.behind feed.new) (F.left feed.new)
+        (O.written out.new) (faults (D.view disk.new).faults (D.view other.new).faults
+        (R.faults repos.new) (C.faults clock.new) (O.faults out.new) (I.faults input.new)
+        (F.faults feed.new) (G.faults door.new) (W.faults wire.new)))
+        (I.left input.new) (F.behind feed.new) (F.left feed.new)
         (at_door (G.guests door.new) (G.turns door.new) (G.session_faults door.new))
-        (at_wire (W.requests wire.new) (W.exchanges wire.new) (W.send_faults wire.new))
-        (faults (D.view disk.new).faults (D.view other.new).faults (R.faults repos.new)
-        (C.faults clock.new) (I.faults input.new) (O.faults out.new) (F.faults feed.new)
-        (G.faults door.new) (W.faults wire.new)) in
+        (at_wire (W.requests wire.new) (W.exchanges wire.new) (W.send_faults wire.new)) in
         ((command : Command) → IsEncoded (map string_bytes words.now) command
         → Ran D.view tells before after result command
-        × HasCauses result before.failed after.failed)
+        × HasCauses result before.parts after.parts)
         ⊎ ((result ≡ Status.Memory) × (panel.new ≡ panel.old) × (repos.new ≡ repos.old)
         × (disk.new ≡ disk.old) × (other.new ≡ other.old) × (input.new ≡ input.old)
         × (out.new ≡ out.old) × (clock.new ≡ clock.old) × (feed.new ≡ feed.old)
@@ -123,23 +126,24 @@ fn run<P: Judges, F: Feed, R: Repos, D: Disk, I: Source, O: Sink, G: Door, C: Cl
     wire: &mut W,
 ) -> Status
     requires form { IsInForm command.now }
-    ensures ran { let tells = outside_tells D.tells C.tells R.tells I.tells O.tells F.tells G.tells W.tells in
-        let before = place (D.view disk.old) (D.view other.old)
+    ensures ran { let tells =
+        outside_tells D.tells C.tells R.tells I.tells O.tells F.tells G.tells W.tells in
+        let before = place (at_place (D.view disk.old) (D.view other.old)
         (around (P.panel panel.old) (C.moments clock.old) (R.repository repos.old))
-        (I.left input.old) (O.written out.old) (F.behind feed.old) (F.left feed.old)
+        (O.written out.old) (faults (D.view disk.old).faults (D.view other.old).faults
+        (R.faults repos.old) (C.faults clock.old) (O.faults out.old) (I.faults input.old)
+        (F.faults feed.old) (G.faults door.old) (W.faults wire.old)))
+        (I.left input.old) (F.behind feed.old) (F.left feed.old)
         (at_door (G.guests door.old) (G.turns door.old) (G.session_faults door.old))
-        (at_wire (W.requests wire.old) (W.exchanges wire.old) (W.send_faults wire.old))
-        (faults (D.view disk.old).faults (D.view other.old).faults (R.faults repos.old)
-        (C.faults clock.old) (I.faults input.old) (O.faults out.old) (F.faults feed.old)
-        (G.faults door.old) (W.faults wire.old)) in
-        let after = place (D.view disk.new) (D.view other.new)
+        (at_wire (W.requests wire.old) (W.exchanges wire.old) (W.send_faults wire.old)) in
+        let after = place (at_place (D.view disk.new) (D.view other.new)
         (around (P.panel panel.new) (C.moments clock.new) (R.repository repos.new))
-        (I.left input.new) (O.written out.new) (F.behind feed.new) (F.left feed.new)
+        (O.written out.new) (faults (D.view disk.new).faults (D.view other.new).faults
+        (R.faults repos.new) (C.faults clock.new) (O.faults out.new) (I.faults input.new)
+        (F.faults feed.new) (G.faults door.new) (W.faults wire.new)))
+        (I.left input.new) (F.behind feed.new) (F.left feed.new)
         (at_door (G.guests door.new) (G.turns door.new) (G.session_faults door.new))
-        (at_wire (W.requests wire.new) (W.exchanges wire.new) (W.send_faults wire.new))
-        (faults (D.view disk.new).faults (D.view other.new).faults (R.faults repos.new)
-        (C.faults clock.new) (I.faults input.new) (O.faults out.new) (F.faults feed.new)
-        (G.faults door.new) (W.faults wire.new)) in
+        (at_wire (W.requests wire.new) (W.exchanges wire.new) (W.send_faults wire.new)) in
         Ran D.view tells before after result command.now }
     ensures alone { is_on_journal command.now ≡ false
         → (panel.new ≡ panel.old) × (disk.new ≡ disk.old) × (other.new ≡ other.old)
@@ -150,58 +154,121 @@ fn run<P: Judges, F: Feed, R: Repos, D: Disk, I: Source, O: Sink, G: Door, C: Cl
     ensures unasked_door { uses_door command.now ≡ false → door.new ≡ door.old }
     ensures unasked_wire { uses_wire command.now ≡ false → wire.new ≡ wire.old }
     ensures no_usage { result ≡ Status.Usage → ⊥ }
-    ensures counted { let failed = faults (D.view disk.old).faults (D.view other.old).faults
-        (R.faults repos.old) (C.faults clock.old) (I.faults input.old) (O.faults out.old)
-        (F.faults feed.old) (G.faults door.old) (W.faults wire.old) in
-        let failed_now = faults (D.view disk.new).faults (D.view other.new).faults
-        (R.faults repos.new) (C.faults clock.new) (I.faults input.new) (O.faults out.new)
-        (F.faults feed.new) (G.faults door.new) (W.faults wire.new) in
-        HasCauses result failed failed_now }
+    ensures counted { let before = at_place (D.view disk.old) (D.view other.old)
+        (around (P.panel panel.old) (C.moments clock.old) (R.repository repos.old))
+        (O.written out.old) (faults (D.view disk.old).faults (D.view other.old).faults
+        (R.faults repos.old) (C.faults clock.old) (O.faults out.old) (I.faults input.old)
+        (F.faults feed.old) (G.faults door.old) (W.faults wire.old)) in
+        let after = at_place (D.view disk.new) (D.view other.new)
+        (around (P.panel panel.new) (C.moments clock.new) (R.repository repos.new))
+        (O.written out.new) (faults (D.view disk.new).faults (D.view other.new).faults
+        (R.faults repos.new) (C.faults clock.new) (O.faults out.new) (I.faults input.new)
+        (F.faults feed.new) (G.faults door.new) (W.faults wire.new)) in
+        HasCauses result before after }
 {
     match command {
         Command::Check => check(alloc, LONGEST_FEED_MESSAGE, input, out),
-        Command::Ingest => Status::from(ingest(
+        Command::Ingest => status::of_tape(ingest(
             alloc, LONGEST, LONGEST, disk, other, panel, repos, clock, input, out,
         )),
-        Command::Account(did) => {
-            Status::from(account(alloc, LONGEST, disk, other, did.as_str(), out))
+        Command::Account(did) => Outside {
+            pair: Pair {
+                one: disk,
+                two: other,
+            },
+            asked: Asked {
+                judges: panel,
+                repos,
+                clock,
+            },
+            out,
         }
-        Command::Hosts => Status::from(hosts(alloc, LONGEST, disk, other, out)),
-        Command::Takedown(did, time) => {
-            let (did, time) = (did.as_str(), time.as_str());
-            Status::from(operate(alloc, LONGEST, disk, other, did, true, time, clock, out))
+        .account(alloc, LONGEST, did.as_str()),
+        Command::Hosts => Outside {
+            pair: Pair {
+                one: disk,
+                two: other,
+            },
+            asked: Asked {
+                judges: panel,
+                repos,
+                clock,
+            },
+            out,
         }
-        Command::Restore(did, time) => {
-            let (did, time) = (did.as_str(), time.as_str());
-            Status::from(operate(alloc, LONGEST, disk, other, did, false, time, clock, out))
+        .hosts(alloc, LONGEST),
+        Command::Takedown(did, time) => Outside {
+            pair: Pair {
+                one: disk,
+                two: other,
+            },
+            asked: Asked {
+                judges: panel,
+                repos,
+                clock,
+            },
+            out,
         }
-        Command::Sync(did, time) => {
-            let (did, time) = (did.as_str(), time.as_str());
-            Status::from(sync(
-                alloc, LONGEST, disk, other, did, time, panel, repos, clock, out,
-            ))
+        .operate(alloc, LONGEST, did.as_str(), true, time.as_str()),
+        Command::Restore(did, time) => Outside {
+            pair: Pair {
+                one: disk,
+                two: other,
+            },
+            asked: Asked {
+                judges: panel,
+                repos,
+                clock,
+            },
+            out,
         }
+        .operate(alloc, LONGEST, did.as_str(), false, time.as_str()),
+        Command::Sync(did, time) => Outside {
+            pair: Pair {
+                one: disk,
+                two: other,
+            },
+            asked: Asked {
+                judges: panel,
+                repos,
+                clock,
+            },
+            out,
+        }
+        .sync(alloc, LONGEST, did.as_str(), time.as_str()),
         Command::Follow(host, count) => {
             let host = host.as_str();
-            Status::of_following(follow(
+            status::of_feed(follow(
                 alloc, LONGEST, host, *count, disk, other, panel, repos, clock, feed, out,
             ))
         }
-        Command::Cut(seq) => Status::from(cut(alloc, LONGEST, disk, other, *seq, out)),
+        Command::Cut(seq) => Outside {
+            pair: Pair {
+                one: disk,
+                two: other,
+            },
+            asked: Asked {
+                judges: panel,
+                repos,
+                clock,
+            },
+            out,
+        }
+        .cut(alloc, LONGEST, *seq),
         Command::Replay(cursor) => {
-            Status::from(replay(alloc, LONGEST, disk, other, *cursor, out))
+            status::of_serving(replay(alloc, LONGEST, disk, other, *cursor, out))
         }
         Command::Serve(count) => {
-            Status::from(serve(alloc, LONGEST, *count, disk, other, door, out))
+            status::of_serving(serve(alloc, LONGEST, *count, disk, other, door, out))
         }
-        Command::Trial(start, count) => Status::from(trial(alloc, *start, *count, out)),
-        Command::Mirror => Status::from(mirror(alloc, LONGEST, input, repos, out)),
+        Command::Trial(start, count) => status::of_trial(trial(alloc, *start, *count, out)),
+        Command::Mirror => status::of_mirror(mirror(alloc, LONGEST, input, repos, out)),
         Command::Query(count) => {
-            Status::of_answering(query(alloc, LONGEST, *count, disk, other, wire, out))
+            status::of_query(query(alloc, LONGEST, *count, disk, other, wire, out))
         }
         Command::Lines(cursor, collection) => {
             let collection = text_in(collection);
-            Status::from(lines(alloc, LONGEST, disk, other, *cursor, collection, out))
+            status::of_serving(lines(alloc, LONGEST, disk, other, *cursor, collection, out))
         }
     }
 }

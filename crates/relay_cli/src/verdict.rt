@@ -2,9 +2,9 @@
 ghost use Rattle.std.specs.Prelude.{◌≡◌};
 ghost use Rattle.relay_cli.specs.Statuses.{status_of};
 
-use crate::status::Status;
 use at_cid::Cid;
 use at_event::Refusal;
+use run_base::Status;
 
 /// What a message comes to by itself.
 #[derive(Clone, Copy, Debug, PartialEq, Eq)]

@@ -1,14 +1,15 @@
 -- How commands end that give events out.
-use Rattle.std.proofs.Common.{◌≡◌, ◌≢◌, ◌⊎◌, inl, ℕ, List, [], refl, sym, subst, ◌∙◌, Bool, Result, Err, IsTrue, ap}
+use Rattle.std.proofs.Common.{◌≡◌, ◌≢◌, ◌⊎◌, inl, ℕ, List, [], refl, sym, subst, ◌∙◌, Bool, Option, Result, Err, IsTrue, ap}
 use Rattle.std.proofs.lemmas.List.{append-nil}
 use Rattle.relay_io.specs.Streams.{AddsFront}
 use Rattle.relay_row.specs.declared.row.Row.{Row}
 use Rattle.relay_store.specs.Journals.{IsBadPairJournalAt, IsPairImageOf}
 use Rattle.relay_store.specs.declared.fault.StoreFault.{StoreFault}
 use Rattle.relay_store.specs.declared.store.Store.{Store}
+use Rattle.backfill.specs.Faults.{damage_replayed}
 use Rattle.backfill.specs.Writing.{AddsMessages, IsOfReading}
 use Rattle.backfill.specs.declared.replay_fault.ReplayFault.{ReplayFault}
-use Rattle.serve_run.specs.Ends.{ServeMayEnd, ServeOpened, ServeEndShows, end_of_opening, end_of_replay}
+use Rattle.serve_run.specs.Ends.{IsOfDisks, ServeMayEnd, ServeOpened, ServeEndShows, damage_told, end_of_opening, end_of_replay}
 use Rattle.serve_run.specs.Replayed.{IsReplayed, IsUnbroken}
 use Rattle.serve_run.specs.declared.end.ServeEnd.{ServeEnd}
 use Rattle.relay_disk.specs.Disk.{View}
@@ -144,3 +145,25 @@ nothing_broken ServeEnd.Next failed messages bytes = tt
 nothing_broken ServeEnd.Disk failed messages bytes = inl (adds_nothing messages bytes)
 nothing_broken (ServeEnd.BadLog p) failed messages bytes = inl (adds_nothing messages bytes)
 nothing_broken ServeEnd.Memory failed messages bytes = tt
+
+-- ---- of reading
+
+of_reading : (fault : ReplayFault) → IsOfDisks (end_of_replay fault) → IsOfReading fault
+of_reading ReplayFault.Output of = of
+of_reading ReplayFault.Disk of = of
+of_reading ReplayFault.Memory of = of
+of_reading (ReplayFault.BadLog p) of = of
+
+-- the disks ended it where reading failed
+pub reading_failed : (fault : ReplayFault) (end : ServeEnd) → end ≡ end_of_replay fault → IsOfDisks end → IsOfReading fault
+reading_failed fault end is of = of_reading fault (subst IsOfDisks is of)
+
+damage_of : (A : Type 0) (before : Option ℕ) (fault : ReplayFault) → damage_replayed {A = A} before (Err fault) ≡ damage_told before (end_of_replay fault)
+damage_of A before ReplayFault.Output = refl
+damage_of A before ReplayFault.Disk = refl
+damage_of A before ReplayFault.Memory = refl
+damage_of A before (ReplayFault.BadLog p) = refl
+
+-- the end tells of the damage that was found
+pub tells_damage : (A : Type 0) (before now : Option ℕ) (fault : ReplayFault) (end : ServeEnd) → end ≡ end_of_replay fault → now ≡ damage_replayed {A = A} before (Err fault) → now ≡ damage_told before end
+tells_damage A before now fault end is found = found ∙ damage_of A before fault ∙ ap (λ (e : ServeEnd). damage_told before e) (sym is)

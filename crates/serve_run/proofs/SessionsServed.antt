@@ -1,15 +1,16 @@
 -- What a guest was sent, and what comes of it.
-use Rattle.std.proofs.Common.{◌≡◌, ◌∙◌, ◌⊎◌, inl, inr, ℕ, ◌-◌, List, [], ◌∷◌, ◌++◌, length, Bool, true, false, Option, Some, None, Result, Ok, Err, IsTrue, OnOk, refl, sym, ap, arith, length-append, subst}
+use Rattle.std.proofs.Common.{◌≡◌, ◌∙◌, ◌⊎◌, inl, inr, ℕ, ◌-◌, List, [], ◌∷◌, ◌++◌, length, Bool, true, false, Option, Some, None, Result, Ok, Err, IsTrue, IfErr, OnOk, refl, sym, ap, arith, length-append, subst}
 use Rattle.std.proofs.lemmas.List.{append-nil}
 use Rattle.event_window.specs.Held.{Held}
 use Rattle.relay_io.specs.declared.door.Turn.{Turn}
+use Rattle.backfill.specs.Faults.{damage_served}
 use Rattle.backfill.specs.Served.{is_future, notice, served, served_events}
 use Rattle.backfill.specs.Serving.{IsCountOf, Serves, sendings}
 use Rattle.backfill.specs.declared.serve_fault.ServeFault.{ServeFault}
 use Rattle.backfill.specs.declared.serving.Served.{Served}
 use Rattle.backfill.specs.declared.target_fault.TargetFault.{TargetFault}
 use Rattle.serve_run.specs.AtDoor.{SessionServed}
-use Rattle.serve_run.specs.Ends.{IsSessionCount, end_of_serving}
+use Rattle.serve_run.specs.Ends.{IsSessionCount, damage_told, end_of_serving}
 use Rattle.serve_run.specs.Sessions.{IsCounted, came_of, ending_of, session_of}
 use Rattle.serve_run.specs.declared.end.ServeEnd.{ServeEnd}
 use Rattle.serve_run.specs.declared.session.Session.{Session}
@@ -108,3 +109,23 @@ unserved fault = Err fault
 
 pub serving_disk : (fault : ServeFault) → unserved fault ≡ unserved ServeFault.Disk → end_of_serving fault ≡ end_of_serving ServeFault.Disk
 serving_disk fault is = let same : fault ≡ ServeFault.Disk = cc in ap end_of_serving same
+
+end_damage : (before now : Option ℕ) (fault : ServeFault) → now ≡ damage_served {A = Served} before (Err fault) → IfErr (end_of_serving fault) (λ end. now ≡ damage_told before end)
+end_damage before now (ServeFault.Door n) found = tt
+end_damage before now ServeFault.Disk found = found
+end_damage before now ServeFault.Memory found = found
+end_damage before now (ServeFault.BadLog p) found = found
+
+-- the end tells of the damage that was found
+pub serving_damage : (before now : Option ℕ) (fault : ServeFault) (result : Result Session ServeEnd) → result ≡ end_of_serving fault → now ≡ damage_served {A = Served} before (Err fault) → IfErr result (λ end. now ≡ damage_told before end)
+serving_damage before now fault result is found = subst (λ (r : Result Session ServeEnd). IfErr r (λ end. now ≡ damage_told before end)) (sym is) (end_damage before now fault found)
+
+no_damage : (before now : Option ℕ) (fault : ServeFault) → now ≡ damage_served {A = Served} before (Err fault) → OnOk (end_of_serving fault) (now ≡ before)
+no_damage before now (ServeFault.Door n) found = found
+no_damage before now ServeFault.Disk found = tt
+no_damage before now ServeFault.Memory found = tt
+no_damage before now (ServeFault.BadLog p) found = tt
+
+-- a session that failed met none
+pub serving_undamaged : (before now : Option ℕ) (fault : ServeFault) (result : Result Session ServeEnd) → result ≡ end_of_serving fault → now ≡ damage_served {A = Served} before (Err fault) → OnOk result (now ≡ before)
+serving_undamaged before now fault result is found = subst (λ (r : Result Session ServeEnd). OnOk r (now ≡ before)) (sym is) (no_damage before now fault found)

@@ -45,6 +45,17 @@ ServeEndShows ServeEnd.Memory one two = ⊤
 ServeEndShows (ServeEnd.BadLog place) one two = IsBadPairJournalAt place one two
 ServeEndShows end one two = (J : List Row) × IsPairImageOf J one two
 
+-- the disks ended it: one failed, or they are no image of a journal
+abbrev pub IsOfDisks : ServeEnd → Type 0
+IsOfDisks ServeEnd.Disk = ⊤
+IsOfDisks (ServeEnd.BadLog place) = ⊤
+IsOfDisks end = ⊥
+
+-- where damage was found last, once a command came to this end
+abbrev pub damage_told : Option ℕ → ServeEnd → Option ℕ
+damage_told before (ServeEnd.BadLog place) = Some place
+damage_told before end = before
+
 -- the cause of an end: a count of faults rose, of the door or the wire where the next one didn't
 -- come
 abbrev pub IsCausedBy : Type 0 → Type 0 → Type 0 → ServeEnd → Type 0

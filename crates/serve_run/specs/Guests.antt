@@ -7,7 +7,7 @@ use Rattle.relay_store.specs.Shown.{held_by}
 use Rattle.relay_store.specs.Pairs.{PairView}
 use Rattle.serve_run.specs.AtDoor.{AtDoor, SessionIsBroken, NobodyComes, IsStill, Visited}
 use Rattle.serve_run.specs.Ends.{ServeOpened}
-use Rattle.serve_run.specs.Replayed.{OnlyRead}
+use Rattle.serve_run.specs.Replayed.{StandAgain}
 use Rattle.serve_run.specs.Sessions.{Visit, sessions_end_line, lines_behind}
 use Rattle.serve_run.specs.declared.end.ServeEnd.{ServeEnd}
 
@@ -16,8 +16,8 @@ abbrev pub end_in : Result (Unit {0}) ServeEnd → ServeEnd
 end_in (Ok done) = ServeEnd.Done
 end_in (Err end) = end
 
--- The lines of the sessions and the last line: whole where all was done, a front of them where they
--- couldn't be written or memory ran out, and else all but the last.
+-- Lines and a last one: whole where all was done, a front of them where they couldn't be written or
+-- memory ran out, and else all but the last.
 abbrev pub AreLinesWritten : ServeEnd → List ℕ → List ℕ → List ℕ → List ℕ → Type 0
 AreLinesWritten ServeEnd.Done lines last old new = new ≡ old ++ (lines ++ last)
 AreLinesWritten ServeEnd.WriteFault lines last old new = AddsFront old new (lines ++ last)
@@ -54,4 +54,4 @@ pub record ServedAt (door_tells output_tells : Bool) (count : ℕ) (J : List Row
     (door door_now : AtDoor) (old new : PairView) (end : ServeEnd) : Type 0 where
   pub served : GuestsServed door_tells output_tells count
       (held_by J) door door_now old.written new.written end
-  pub read : OnlyRead J (ServeOpened end) old.one old.two new.one new.two
+  pub again : StandAgain J (ServeOpened end) old.one old.two new.one new.two

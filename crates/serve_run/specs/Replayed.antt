@@ -12,11 +12,12 @@ use Rattle.backfill.specs.Writing.{AddsMessages, with_length}
 use Rattle.serve_run.specs.Ends.{ServeOpened}
 use Rattle.serve_run.specs.declared.end.ServeEnd.{ServeEnd}
 
--- The two disks, which have the journal J, were only read.
-pub record OnlyRead (J : List Row) (opened : Type 0) (one two one_now two_now : View) : Type 0 where
-  -- once they were opened they stand for the journal, and where they stood for it they do again
+-- The two disks stand for the journal J again.
+pub record StandAgain (J : List Row) (opened : Type 0) (one two one_now two_now : View)
+    : Type 0 where
+  -- so they do once they were opened, and where they stood for it before
   pub stands : opened ⊎ StandsFor J one two → StandsFor J one_now two_now
-  -- and then, whatever moments a crash strikes the two at, it leaves the journal
+  -- and where they did, whatever moments a crash strikes the two at, it leaves the journal
   pub crashes : StandsFor J one two → PairLeavesOnly (IsPairImageOf J) one one_now two two_now
 
 -- the whole text was written where all was done, and else a front of it
@@ -39,4 +40,4 @@ pub record Replayed (output_tells : Bool) (failed : Type 0) (J : List Row) (curs
       (with_length (served (held_by J) (Some cursor))) old.written new.written
   pub unbroken : IsTrue output_tells
       → IsUnbroken end failed (served (held_by J) (Some cursor)) old.written new.written
-  pub read : OnlyRead J (ServeOpened end) old.one old.two new.one new.two
+  pub again : StandAgain J (ServeOpened end) old.one old.two new.one new.two

@@ -11,7 +11,7 @@ ghost use Rattle.relay_store.specs.Store.{IsKept, Keeps, seen_in};
 ghost use Rattle.relay_io.specs.Guests.{does_wait};
 ghost use Rattle.backfill.specs.Target.{cursor_in};
 ghost use Rattle.serve_run.specs.AtDoor.{GuestAccepted, Received, SessionServed, at_door};
-ghost use Rattle.serve_run.specs.Ends.{IsDoorCount, IsGuestCount, IsOfAccepting, IsOfSession, IsSessionCount, end_of_serving};
+ghost use Rattle.serve_run.specs.Ends.{IsDoorCount, IsGuestCount, IsOfAccepting, IsOfSession, IsSessionCount, damage_told, end_of_serving};
 ghost use Rattle.serve_run.specs.Sessions.{IsCounted, came_of, ending_of};
 
 use crate::end::ServeEnd;
@@ -66,6 +66,9 @@ fn serve_events<E: Events, G: Door>(
     ensures few { IfErr result (λ end. IsOfSession end) }
     ensures disk { result ≡ Err ServeEnd.Disk → Rose (E.faults events.old) (E.faults events.new) }
     ensures event_steady { result ≢ Err ServeEnd.Disk → E.faults events.new ≡ E.faults events.old }
+    ensures damaged { IfErr result
+        (λ end. E.damage events.new ≡ damage_told (E.damage events.old) end) }
+    ensures undamaged { OnOk result (E.damage events.new ≡ E.damage events.old) }
     ensures no_bad_log { (place : ℕ) → result ≡ Err (ServeEnd.BadLog place) → IsTrue E.tells
         → (held : Held) → E.holds events.old held → ⊥ }
     ensures counts { G.faults door.new ≡ G.faults door.old }

@@ -1,6 +1,6 @@
 //! The command that writes what a guest would be sent.
 
-ghost use Rattle.std.specs.Prelude.{◌≡◌, ◌≢◌, ◌≤◌, ◌⊎◌, ℕ, List, Some, IsTrue, false};
+ghost use Rattle.std.specs.Prelude.{◌≡◌, ◌≢◌, ◌≤◌, ◌⊎◌, ℕ, List, Some, IsTrue, false, max};
 ghost use Rattle.at_cid.specs.Counts.{Rose};
 ghost use Rattle.event_window.specs.Held.{Held};
 ghost use Rattle.relay_disk.specs.Disk.{Goes, Same};
@@ -13,8 +13,9 @@ ghost use Rattle.relay_store.specs.Shown.{held_by};
 ghost use Rattle.relay_store.specs.Store.{IsKept, Keeps, seen_in};
 ghost use Rattle.relay_store.specs.Pairs.{pair_view};
 ghost use Rattle.backfill.specs.Served.{served, served_events};
-ghost use Rattle.backfill.specs.Writing.{with_length, has_long};
-ghost use Rattle.serve_run.specs.Ends.{IsCausedBy, ServeEndShows};
+ghost use Rattle.backfill.specs.Writing.{AddsUpto, with_length, has_long};
+ghost use Rattle.run_base.specs.Reading.{AtMostLogMade};
+ghost use Rattle.serve_run.specs.Ends.{IsCausedBy, IsOfDisks, ServeEndShows, damage_told};
 ghost use Rattle.serve_run.specs.Replayed.{IsReplayed, IsUnbroken, Replayed};
 
 use crate::end::ServeEnd;
@@ -39,6 +40,11 @@ fn replay_events<E: Events, O: Sink>(
     ensures unbroken { IsTrue E.tells → (held : Held) → E.holds events.old held → IsTrue O.tells
         → IsUnbroken result (Rose (O.faults out.old) (O.faults out.new)) (served held (Some cursor))
         (O.written out.old) (O.written out.new) }
+    ensures upto { IsOfDisks result → IsTrue E.tells → (held : Held) → E.holds events.old held
+        → IsTrue O.tells → E.given_upto events.old ≤ cursor
+        → AddsUpto (served held (Some cursor)) held.shown (max cursor (E.given_upto events.new))
+        (O.written out.old) (O.written out.new) ⊎ Rose (O.faults out.old) (O.faults out.new) }
+    ensures damaged { E.damage events.new ≡ damage_told (E.damage events.old) result }
     ensures later { E.later events.old events.new }
     ensures disk { result ≡ ServeEnd.Disk → Rose (E.faults events.old) (E.faults events.new) }
     ensures failed { result ≡ ServeEnd.WriteFault → Rose (O.faults out.old) (O.faults out.new) }
@@ -165,6 +171,11 @@ pub fn replay<D: Disk, O: Sink>(
         → (result ≢ ServeEnd.Disk
         → BothOnlyRead (D.view disk.old) (D.view other.old) (D.view disk.new) (D.view other.new))
         × (out.new ≡ out.old) }
+
+    // Disks that hold one are only read too, except where a log is made.
+    ensures only_read { IsTrue D.tells → result ≢ ServeEnd.Disk
+        → AtMostLogMade (D.view disk.old) (D.view other.old) (D.view disk.new) (D.view other.new) }
+
     ensures caused { IsCausedBy (Rose (D.view disk.old).faults (D.view disk.new).faults
         ⊎ Rose (D.view other.old).faults (D.view other.new).faults)
         (Rose (O.faults out.old) (O.faults out.new)) ⊥ result }

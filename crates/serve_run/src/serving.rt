@@ -11,6 +11,7 @@ ghost use Rattle.relay_store.specs.Opening.{BothOnlyRead};
 ghost use Rattle.relay_store.specs.Shown.{held_by};
 ghost use Rattle.relay_store.specs.Store.{IsKept, Keeps, seen_in};
 ghost use Rattle.relay_store.specs.Pairs.{pair_view};
+ghost use Rattle.run_base.specs.Reading.{AtMostLogMade};
 ghost use Rattle.serve_run.specs.AtDoor.{at_door};
 ghost use Rattle.serve_run.specs.Ends.{IsCausedBy, IsDoorCount, ServeEndShows};
 ghost use Rattle.serve_run.specs.Guests.{GuestsServed, ServedAt, end_in};
@@ -97,6 +98,11 @@ pub fn serve<D: Disk, G: Door, O: Sink>(
         → (result ≢ ServeEnd.Disk
         → BothOnlyRead (D.view disk.old) (D.view other.old) (D.view disk.new) (D.view other.new))
         × (door.new ≡ door.old) × (out.new ≡ out.old) }
+
+    // Disks that hold one are only read too, except where a log is made.
+    ensures only_read { IsTrue D.tells → result ≢ ServeEnd.Disk
+        → AtMostLogMade (D.view disk.old) (D.view other.old) (D.view disk.new) (D.view other.new) }
+
     ensures caused { IsCausedBy (Rose (D.view disk.old).faults (D.view disk.new).faults
         ⊎ Rose (D.view other.old).faults (D.view other.new).faults)
         (Rose (O.faults out.old) (O.faults out.new))

@@ -1,5 +1,5 @@
 -- What a batch is to a run, and a message that is skipped.
-use Rattle.std.proofs.Common.{◌≡◌, ◌≢◌, ◌⊎◌, inl, inr, ⊎_elim, ℕ, ◌≤◌, ◌<◌, Bool, true, false, List, [], ◌∷◌, ◌++◌, length, map, take, drop, get_or, Option, Some, None, IsTrue, refl, ap, ◌∙◌, sym, subst, arith, append_assoc, length-append}
+use Rattle.std.proofs.Common.{◌≡◌, ◌≢◌, ◌⊎◌, inl, inr, ⊎_elim, ℕ, ◌≤◌, ◌<◌, Bool, true, false, List, [], ◌∷◌, ◌++◌, length, map, take, drop, get_or, Option, Some, None, IsTrue, refl, ap, ◌∙◌, sym, subst, arith, append_assoc}
 use Rattle.std.proofs.lemmas.List.{append-nil, take_at, length-map}
 use Rattle.std.proofs.Math.Seq.{take-length}
 use Rattle.relay_disk.specs.Disk.{View, IsDisk}
@@ -85,23 +85,10 @@ disk_next C R core (m ∷ behind) old new = tt
 pub whole_front : (old now text : List ℕ) → now ≡ old ++ text → AddsFront old now text
 whole_front old now text is = (length text, omega arith, is ∙ ap (λ (l : List ℕ). old ++ l) (sym (take-length text)))
 
-pub none_added : (old text : List ℕ) → AddsFront old old text
-none_added old text = (0, omega arith, sym (append-nil old))
-
--- a message is left over where not all have an outcome
-left_over : (group : List Message) (steps extra : List Step) (behind : List Message) (n : ℕ) → group ≡ messages_sent (steps ++ extra) ++ behind → n ≡ length steps → n ≢ length group → (extra ≢ []) ⊎ (behind ≢ [])
-left_over group steps [] behind n front count fewer = inr (λ none.
-    let all : n ≡ length group = omega (
-      arith,
-      count,
-      ap length front,
-      length-append (messages_sent (steps ++ [])) behind,
-      sent_length (steps ++ []),
-      ap length (append-nil steps),
-      ap length none,
-    ) in
-    fewer all)
-left_over group steps (s ∷ extra) behind n front count fewer = inl (λ none. let no : ⊥ = cc in no)
+-- a message is left over where none has a step left over
+left_over : (extra : List Step) (behind : List Message) → (extra ≡ [] → behind ≢ []) → (extra ≢ []) ⊎ (behind ≢ [])
+left_over [] behind left = inr (left refl)
+left_over (s ∷ extra) behind left = inl (λ none. let no : ⊥ = cc in no)
 
 -- ---- a batch
 
@@ -222,32 +209,32 @@ module _ {D : Type 0} (view : D → View) (t : Tells) (J : List Row) (group : Li
 -- a fault of the store stops it, once the lines are written
 pub batch_stops : {D : Type 0} (view : D → View) (t : Tells) (J : List Row) (group : List Message) (s u : StoreScene D) (outcomes : List Outcome) (fault : StoreFault) → Batched view t.disk t.clock t.repos J group s u outcomes (Some fault)
     → (tally : Tally) → AreLive tally.ended.items group → (fs fs_now : Failures) → IsDisk (view u.disk) → IsTrue s.store.log.is_open → (fault ≡ StoreFault.Disk → u.store.log.is_open ≡ false)
-    → (fault ≢ StoreFault.Disk → AreTold (end_of_store fault) fs fs_now s.around.panel u.around.panel) → (fault ≡ StoreFault.Memory → length outcomes ≢ length group)
+    → (fault ≢ StoreFault.Disk → AreTold (end_of_store fault) fs fs_now s.around.panel u.around.panel)
     → (after : Tally) (w x : List ℕ) → (IsTrue t.output → x ≡ w ++ text_of (answered group outcomes))
     → Stopped view t J group (point s.store tally s.disk s.around fs w) (point u.store after u.disk u.around fs_now x) (end_of_store fault)
-batch_stops view t J group s u outcomes StoreFault.Disk b tally live fs fs_now is_disk is_open closed told fewer after w x written = stops_failed view t J group s u outcomes (Some StoreFault.Disk) b tally live fs fs_now refl is_disk is_open (closed refl) after w x written
-batch_stops view t J group s u outcomes (StoreFault.BadLog place) b tally live fs fs_now is_disk is_open closed told fewer after w x written = absurd b.which
-batch_stops view t J group s u outcomes (StoreFault.Full e) b tally live fs fs_now is_disk is_open closed told fewer after w x written =
+batch_stops view t J group s u outcomes StoreFault.Disk b tally live fs fs_now is_disk is_open closed told after w x written = stops_failed view t J group s u outcomes (Some StoreFault.Disk) b tally live fs fs_now refl is_disk is_open (closed refl) after w x written
+batch_stops view t J group s u outcomes (StoreFault.BadLog place) b tally live fs fs_now is_disk is_open closed told after w x written = absurd b.which
+batch_stops view t J group s u outcomes (StoreFault.Full e) b tally live fs fs_now is_disk is_open closed told after w x written =
     let not : Some (StoreFault.Full e) ≢ Some StoreFault.Disk = λ is. let no : ⊥ = cc in no in
     stops_kept view t J group s u outcomes (Some (StoreFault.Full e)) b tally live fs fs_now not after w x (TakeEnd.Store (StoreFault.Full e)) tt refl b.which b.asked.stops b.next written
     (b.full.0, b.full.1, full_behind s.store.log u.store.log (rows b.steps) b.full.0 e (b.end not) b.most b.full.2) (λ short. told (λ is. let no : ⊥ = cc in no)) tt
-batch_stops view t J group s u outcomes StoreFault.SeqEnd b tally live fs fs_now is_disk is_open closed told fewer after w x written =
+batch_stops view t J group s u outcomes StoreFault.SeqEnd b tally live fs fs_now is_disk is_open closed told after w x written =
     stops_kept view t J group s u outcomes (Some StoreFault.SeqEnd) b tally live fs fs_now (λ is. let no : ⊥ = cc in no) after w x (TakeEnd.Store StoreFault.SeqEnd) tt refl b.which b.asked.stops b.next written tt
     (λ short. told (λ is. let no : ⊥ = cc in no)) tt
-batch_stops view t J group s u outcomes StoreFault.Authority b tally live fs fs_now is_disk is_open closed told fewer after w x written =
+batch_stops view t J group s u outcomes StoreFault.Authority b tally live fs fs_now is_disk is_open closed told after w x written =
     stops_kept view t J group s u outcomes (Some StoreFault.Authority) b tally live fs fs_now (λ is. let no : ⊥ = cc in no) after w x (TakeEnd.Store StoreFault.Authority) tt refl b.which b.asked.stops b.next written tt
     (λ short. told (λ is. let no : ⊥ = cc in no)) tt
-batch_stops view t J group s u outcomes StoreFault.Repos b tally live fs fs_now is_disk is_open closed told fewer after w x written =
+batch_stops view t J group s u outcomes StoreFault.Repos b tally live fs fs_now is_disk is_open closed told after w x written =
     stops_kept view t J group s u outcomes (Some StoreFault.Repos) b tally live fs fs_now (λ is. let no : ⊥ = cc in no) after w x (TakeEnd.Store StoreFault.Repos) tt refl b.which b.asked.stops b.next written tt
     (λ short. told (λ is. let no : ⊥ = cc in no)) tt
-batch_stops view t J group s u outcomes StoreFault.Clock b tally live fs fs_now is_disk is_open closed told fewer after w x written =
+batch_stops view t J group s u outcomes StoreFault.Clock b tally live fs fs_now is_disk is_open closed told after w x written =
     stops_kept view t J group s u outcomes (Some StoreFault.Clock) b tally live fs fs_now (λ is. let no : ⊥ = cc in no) after w x (TakeEnd.Store StoreFault.Clock) tt refl b.which b.asked.stops b.next written tt
     (λ short. told (λ is. let no : ⊥ = cc in no)) tt
-batch_stops view t J group s u outcomes StoreFault.Memory b tally live fs fs_now is_disk is_open closed told fewer after w x written =
+batch_stops view t J group s u outcomes StoreFault.Memory b tally live fs fs_now is_disk is_open closed told after w x written =
     let not : Some StoreFault.Memory ≢ Some StoreFault.Disk = λ is. let no : ⊥ = cc in no in
     stops_kept view t J group s u outcomes (Some StoreFault.Memory) b tally live fs fs_now not after w x TakeEnd.Memory tt refl b.which b.asked.stops (none_next t.clock t.repos u.store.core b.behind b.asked.mid u.around)
     (λ told. whole_front w x (text_of (answered group outcomes)) (written told)) tt (λ short. told (λ is. let no : ⊥ = cc in no))
-    (inr (left_over group b.steps b.extra b.behind (length outcomes) b.front (many_steps view t J group s u outcomes (Some StoreFault.Memory) b tally live fs fs_now not) (fewer refl)))
+    (inr (left_over b.extra b.behind (b.left (λ is. let no : ⊥ = cc in no) not)))
 
 module _ {D : Type 0} (view : D → View) (t : Tells) (J : List Row) (group : List Message) (s u : StoreScene D) (outcomes : List Outcome) (b : Batched view t.disk t.clock t.repos J group s u outcomes None) where
   as_many : length outcomes ≡ length b.steps
@@ -298,12 +285,12 @@ module _ {D : Type 0} (view : D → View) (t : Tells) (J : List Row) (group : Li
   live_unwritten some end one written nothing = batch_unwritten view t J group s u os fault of_slice tally live fs fs_now some after w x end one written nothing
 
   pub live_stops : (f : StoreFault) → fault ≡ Some f → IsDisk (view u.disk) → IsTrue s.store.log.is_open → (fault ≡ Some StoreFault.Disk → u.store.log.is_open ≡ false)
-      → (f ≢ StoreFault.Disk → AreTold (end_of_store f) fs fs_now s.around.panel u.around.panel) → (f ≡ StoreFault.Memory → length os ≢ length group)
+      → (f ≢ StoreFault.Disk → AreTold (end_of_store f) fs fs_now s.around.panel u.around.panel)
       → (IsTrue t.output → x ≡ w ++ text_of (answered group os)) → (end : TakeEnd) → end ≡ end_of_store f
       → Stopped view t J group (point s.store tally s.disk s.around fs w) (point u.store after u.disk u.around fs_now x) end
-  live_stops f is is_disk is_open closed told fewer written end end_is =
+  live_stops f is is_disk is_open closed told written end end_is =
       subst (λ (e : TakeEnd). Stopped view t J group (point s.store tally s.disk s.around fs w) (point u.store after u.disk u.around fs_now x) e) (sym end_is)
-      (batch_stops view t J group s u os f (subst (λ (g : Option StoreFault). Batched view t.disk t.clock t.repos J group s u os g) is of_slice) tally live fs fs_now is_disk is_open (λ disk. closed (is ∙ ap Some disk)) told fewer after w x written)
+      (batch_stops view t J group s u os f (subst (λ (g : Option StoreFault). Batched view t.disk t.clock t.repos J group s u os g) is of_slice) tally live fs fs_now is_disk is_open (λ disk. closed (is ∙ ap Some disk)) told after w x written)
 
   pub live_goes : fault ≡ None → IsNoted (answered group os) tally after → (IsTrue t.output → x ≡ w ++ text_of (answered group os)) → (n : ℕ) → n ≡ length os → NoneFailed fs fs_now s.around.panel u.around.panel
       → Going view t J (take n group) (point s.store tally s.disk s.around fs w) (point u.store after u.disk u.around fs_now x)

@@ -48,7 +48,7 @@ use Rattle.take_run.proofs.Batches.{none_next, whole_front}
 use Rattle.take_run.proofs.Counts.{given_is, lines_are, refused_is, said_length}
 use Rattle.take_run.proofs.Joining.{before_more, front_behind}
 use Rattle.take_run.proofs.Records.{records_front}
-use Rattle.take_run.proofs.Sounds.{covered_get_through, sounds, stays_faithful}
+use Rattle.take_run.proofs.Sounds.{covered_get_through, sounds, stays_faithful, stays_given}
 use Rattle.take_run.proofs.Telling.{none_told}
 
 -- ---- by the end
@@ -208,6 +208,7 @@ taken_stopped view t input_tells limit J xs a c before after i i_now end h none 
       read_told = λ not no_read. absurd (not (before_more end _ _ h.extra h.behind short h.before));
       sound = sounds J all mine h.journal are;
       faithful = stays_faithful J all mine h.journal are (steps_give t.clock t.repos J a.around h.mid all h.journal h.asked);
+      given = stays_given t.clock t.repos J a.around h.mid all mine are h.asked;
       covered = covered_get_through J [] all mine are;
     }
 
@@ -268,6 +269,7 @@ taken_going view t input_tells limit J xs a b before after now i i_now end quiet
       read_told = λ not. still;
       sound = sounds J (steps ++ []) mine journal are;
       faithful = stays_faithful J (steps ++ []) mine journal are (steps_give t.clock t.repos J a.around b.around (steps ++ []) journal asked);
+      given = stays_given t.clock t.repos J a.around b.around (steps ++ []) mine are asked;
       covered = covered_get_through J [] (steps ++ []) mine are;
     }
 

@@ -13,6 +13,7 @@ pub mod Ending
 pub mod WholeGroups
 pub mod FeedSteps
 pub mod Telling
+pub mod Spent
 pub mod Grammar
 pub mod Endings
 pub mod NextMessage

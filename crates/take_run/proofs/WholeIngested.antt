@@ -131,6 +131,7 @@ module _ {D : Type 0} (view : D → View) (is_disk : (x : D) → IsDisk (view x)
       read_told = taken.read_told;
       sound = taken.sound;
       faithful = taken.faithful;
+      given = taken.given;
       covered = taken.covered;
     }
 

@@ -1,7 +1,7 @@
 -- The counts of faults, and which end shows which (own).
-use Rattle.std.specs.Prelude.{◌≡◌, ◌≢◌, ℕ, ◌≤◌}
+use Rattle.std.specs.Prelude.{◌≡◌, ◌≢◌, ℕ, ◌≤◌, List}
 use Rattle.at_cid.specs.Counts.{Rose}
-use Rattle.at_authority.specs.Panels.{Panel}
+use Rattle.at_authority.specs.Panels.{IsSpent, Panel}
 use Rattle.relay_step.specs.Causes.{SpendsNone}
 use Rattle.relay_store.specs.declared.fault.StoreFault.{StoreFault}
 use Rattle.take_run.specs.declared.end.TakeEnd.{TakeEnd}
@@ -63,6 +63,11 @@ Caused (TakeEnd.Store StoreFault.Repos) old new = Rose old.repos new.repos
 Caused (TakeEnd.Store StoreFault.Clock) old new = Rose old.clock new.clock
 Caused end old new = Unit {0}
 
+-- one that speaks of authorities comes only where all of some method have fallen
+abbrev pub AuthoritySpent : TakeEnd → Panel → Type 0
+AuthoritySpent end panel = end ≡ TakeEnd.Store StoreFault.Authority
+    → (method : List ℕ) × IsSpent (panel method)
+
 -- no count but the input's rose, and no authorities ended
 pub record Unmoved (old new : Faults) (panel panel_now : Panel) : Type 0 where
   pub disk : new.disk ≡ old.disk
@@ -71,8 +76,8 @@ pub record Unmoved (old new : Faults) (panel panel_now : Panel) : Type 0 where
   pub output : new.output ≡ old.output
   pub unspent : SpendsNone panel panel_now
 
--- Behind such an end no fault of the clock, of a repository or of the authorities stays untold. Where the disk failed, or the report
--- couldn't be made or written, one can have come before.
+-- Behind such an end no fault of the clock, of a repository or of the authorities stays untold.
+-- Where the disk failed, or the report couldn't be made or written, one can have come before.
 abbrev pub HidesNone : TakeEnd → Type 0
 HidesNone TakeEnd.WriteFault = ⊥
 HidesNone TakeEnd.Memory = ⊥

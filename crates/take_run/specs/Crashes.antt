@@ -21,11 +21,15 @@ pub record IsSoFar (format : Format) (J rows : List Row) (bytes : List ℕ) : Ty
 abbrev pub IsOnTheWay : Format → List Row → List Row → List Row → List ℕ → Type 0
 IsOnTheWay format J rows under c = IsSoFar format J rows c ⊎ IsLogOf format ((J ++ rows) ++ under) c
 
--- no row was added, and the log ends where it did; or, with its closed gate, it ends at the most, or before
+-- no row was added, and the log ends where it did; or, with its closed gate, it ends at the most,
+-- or before
 abbrev pub HadRoom : List Row → LogState → LogState → Type 0
 HadRoom rows old new = ((rows ≡ []) × (new.end ≡ old.end)) ⊎ (new.end + 1 ≤ new.most)
 
--- What the disk holds, on which the store kept the journal J before: unless it failed, J with the rows of the steps. A crash at any moment since leaves J with some of those rows in front, or with all of them and those of the body under way; one now leaves all of them, with those under way or without.
+-- What the disk holds, on which the store kept the journal J before: unless it failed, J with the
+-- rows of the steps. A crash at any moment since leaves J with some of those rows in front, or with
+-- all of them and those of the body under way; one now leaves all of them, with those under way or
+-- without.
 pub record Leaves (J rows under : List Row) (old : StoreState) (was : View) (new : StoreState)
     (now : View) (end : TakeEnd) : Type 0 where
   pub keeps : end ≢ disk_failed → Keeps (J ++ rows) new now

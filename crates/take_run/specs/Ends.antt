@@ -33,7 +33,9 @@ abbrev pub AreUnder : TakeEnd → List Step → Type 0
 AreUnder (TakeEnd.Store StoreFault.Disk) under = Unit {0}
 AreUnder end under = under ≡ []
 
--- Which ends leave a step whose row is in no body: where the log is full, the one that found no room; where the report couldn't be written, memory ran out or the disk failed, one at most; and else none. A log that is open isn't bad, and running out of memory is an end of its own.
+-- Which ends leave a step whose row is in no body: where the log is full, the one that found no
+-- room; where the report couldn't be written, memory ran out or the disk failed, one at most; and
+-- else none. A log that is open isn't bad, and running out of memory is an end of its own.
 abbrev pub AreExtraAt : TakeEnd → List Step → Type 0
 AreExtraAt TakeEnd.WriteFault extra = length extra ≤ 1
 AreExtraAt TakeEnd.Memory extra = length extra ≤ 1
@@ -48,7 +50,8 @@ AreTaken TakeEnd.Memory behind = Unit {0}
 AreTaken (TakeEnd.Store fault) behind = Unit {0}
 AreTaken end behind = behind ≡ []
 
--- what was asked behind the steps: nothing where the tape has ended it or a step is left over, and else for the next message that was read, in vain
+-- what was asked behind the steps: nothing where the tape has ended it or a step is left over, and
+-- else for the next message that was read, in vain
 abbrev pub StopsAsking : Bool → Bool → TakeEnd → List Step → List Message → Around → Around → Type 0
 StopsAsking clock_tells repos_tell TakeEnd.WriteFault extra behind old new =
     AsksBehind clock_tells repos_tell extra behind old new
@@ -70,7 +73,8 @@ abbrev pub fault_in : TakeEnd → Option StoreFault
 fault_in (TakeEnd.Store fault) = Some fault
 fault_in end = None
 
--- What is written: the whole report where it is done, its lines and its last line; a front of it where the report couldn't be written or memory ran out; and else its lines.
+-- What is written: the whole report where it is done, its lines and its last line; a front of it
+-- where the report couldn't be written or memory ran out; and else its lines.
 abbrev pub IsReportWritten : TakeEnd → List ℕ → List ℕ → List ℕ → List ℕ → Type 0
 IsReportWritten TakeEnd.Done lines last old new = new ≡ old ++ (lines ++ last)
 IsReportWritten TakeEnd.WriteFault lines last old new = AddsFront old new (lines ++ last)
@@ -82,7 +86,8 @@ abbrev pub LackLines : (List Step → List ℕ) → List Step → List ℕ → L
 LackLines lines steps old new = (front : List Step) × (others : List Step)
     × (steps ≡ front ++ others) × (others ≢ []) × (new ≡ old ++ lines front)
 
--- It ended before the steps were done with: the output failed at their lines, memory ran out before all lines were written, or the disk failed before rows were durable.
+-- It ended before the steps were done with: the output failed at their lines, memory ran out before
+-- all lines were written, or the disk failed before rows were durable.
 abbrev pub StopsShort : (List Step → List ℕ) → Bool → TakeEnd → List Step → List Row → List ℕ
     → List ℕ → Type 0
 StopsShort lines output_tells TakeEnd.WriteFault steps under old new = IsTrue output_tells
@@ -92,7 +97,8 @@ StopsShort lines output_tells TakeEnd.Memory steps under old new = IsTrue output
 StopsShort lines output_tells (TakeEnd.Store StoreFault.Disk) steps under old new = under ≢ []
 StopsShort lines output_tells end steps under old new = ⊥
 
--- Or before the messages that were read were done with: one is left over, or a fault of the store ended it.
+-- Or before the messages that were read were done with: one is left over, or a fault of the store
+-- ended it.
 abbrev pub StopsBefore : TakeEnd → Type 0 → List Step → List Message → Type 0
 StopsBefore TakeEnd.WriteFault short extra behind = short
 StopsBefore TakeEnd.Memory short extra behind = short ⊎ ((extra ≢ []) ⊎ (behind ≢ []))

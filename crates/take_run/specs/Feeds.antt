@@ -25,7 +25,8 @@ abbrev pub NoneBehindEnd : List Step → Type 0
 NoneBehindEnd [] = Unit {0}
 NoneBehindEnd (s ∷ steps) = (s.decided ≢ after_end) × NoneBehindEnd steps
 
--- Which ends a feed brings. It is done where so many messages were taken, the feed has no more, or the host has ended; and its messages have no bad place and no limit of bytes.
+-- Which ends a feed brings. It is done where so many messages were taken, the feed has no more, or
+-- the host has ended; and its messages have no bad place and no limit of bytes.
 abbrev pub IsFeedEnd : Bool → List ℕ → ℕ → List Step → List (List ℕ) → TakeEnd → Type 0
 IsFeedEnd feed_tells host most steps rest TakeEnd.Done = (length steps ≡ most)
     ⊎ ((IsTrue feed_tells → rest ≡ []) ⊎ (has_ended (ended_by_all steps []) host ≡ true))
@@ -38,7 +39,8 @@ abbrev pub IsLeftOf : TakeEnd → List (List ℕ) → List (List ℕ) → Type 0
 IsLeftOf TakeEnd.ReadFault rest left = (left ≡ rest) ⊎ (left ≡ [])
 IsLeftOf end rest left = left ≡ rest
 
--- The messages are those in front of what the feed gives of the host, `most` of them at most, and it ended so.
+-- The messages are those in front of what the feed gives of the host, `most` of them at most, and
+-- it ended so.
 pub record IsOnFeed (feed_tells : Bool) (host : List ℕ) (most : ℕ) (given left : List (List ℕ))
     (steps : List Step) (messages : List Message) (end : TakeEnd) : Type 0 where
   pub hosts : AreOf host messages
@@ -49,7 +51,8 @@ pub record IsOnFeed (feed_tells : Bool) (host : List ℕ) (most : ℕ) (given le
   pub live : NoneBehindEnd steps
   pub ends : IsFeedEnd feed_tells host most steps rest end
 
--- Messages of a feed were taken behind the journal J as those of a tape are, and ended so: as a tape that isn't told, in which nothing is said of the input.
+-- Messages of a feed were taken behind the journal J as those of a tape are, and ended so: as a
+-- tape that isn't told, in which nothing is said of the input.
 pub record TakenOfFeed {D : Type 0} (view : D → View) (t : Tells) (feed_tells : Bool)
     (host : List ℕ) (most : ℕ) (given left : List (List ℕ)) (J : List Row) (old new : Scene D)
     (end : TakeEnd) : Type 0 where

@@ -8,7 +8,8 @@ use Rattle.take_run.specs.Tells.{Tells}
 use Rattle.take_run.specs.Ingested.{Ingested, PairScene}
 use Rattle.take_run.specs.declared.end.TakeEnd.{TakeEnd}
 
--- Messages of a host's feed were taken into the journal J of two disks, `count` at most, and ended so.
+-- Messages of a host's feed were taken into the journal J of two disks, `count` at most, and ended
+-- so.
 pub record Followed (t : Tells) (feed_tells : Bool) (host : List ℕ) (most count : ℕ)
     (given : ℕ → List (List ℕ)) (left : List (List ℕ)) (J : List Row) (old new : PairScene)
     (end : TakeEnd) : Type 0 where

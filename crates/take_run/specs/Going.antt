@@ -1,4 +1,5 @@
--- A part of a run: what it does to the store, the disk, the judges and the output, in a form that goes on by one part after another (own). No public clause cites this file.
+-- A part of a run: what it does to the store, the disk, the judges and the output, in a form that
+-- goes on by one part after another (own). No public clause cites this file.
 use Rattle.std.specs.Prelude.{◌≡◌, ◌≢◌, ℕ, List, [], ◌++◌, IsTrue}
 use Rattle.relay_disk.specs.Disk.{View}
 use Rattle.relay_disk.specs.Moments.{LeavesOnly}
@@ -43,13 +44,15 @@ point store tally disk around failures written = record {
   written = written;
 }
 
--- The disk kept the journal J, and keeps it with these rows. A crash at any moment leaves some of them.
+-- The disk kept the journal J, and keeps it with these rows. A crash at any moment leaves some of
+-- them.
 pub record Keeping (J rows : List Row) (old : StoreState) (was : View) (new : StoreState)
     (now : View) : Type 0 where
   pub keeps : Keeps (J ++ rows) new now
   pub moments : LeavesOnly (IsSoFar old.log.format J rows) was now
 
--- All of the messages were taken behind the journal J: their rows stand on the disk, and their lines are written.
+-- All of the messages were taken behind the journal J: their rows stand on the disk, and their
+-- lines are written.
 pub record Going {D : Type 0} (view : D → View) (t : Tells) (J : List Row) (messages : List Message)
     (old new : Point D) : Type 0 where
   pub steps : List Step

@@ -10,8 +10,10 @@ use Rattle.relay_core.specs.Report.{end_line}
 use Rattle.relay_law.specs.Heads.{IsFaithfulJournal}
 use Rattle.relay_law.specs.Right.{LinksRight}
 use Rattle.relay_law.specs.Sound.{IsSound}
+use Rattle.chain_law.specs.Given.{AreGiven}
 use Rattle.relay_step.specs.Around.{Around, AllAsked}
 use Rattle.relay_step.specs.Steps.{Step, AreSteps, messages, rows}
+use Rattle.given_law.specs.Made.{GiveBytes}
 use Rattle.relay_store.specs.Batches.{messages_sent}
 use Rattle.relay_store.specs.Journals.{IsPairImageOf}
 use Rattle.relay_store.specs.Opening.{IsOfReading}
@@ -28,7 +30,8 @@ use Rattle.take_run.specs.declared.end.TakeEnd.{TakeEnd}
 use Rattle.relay_store.specs.Pairs.{IsOneOfPair, StandsFor}
 use Rattle.take_run.specs.NextMessage.{IsNextEnd}
 
--- The two disks, what the judges, the clock and the repositories tell, how often parts have failed, what is left of the input, and what is written, at one moment.
+-- The two disks, what the judges, the clock and the repositories tell, how often parts have failed,
+-- what is left of the input, and what is written, at one moment.
 pub record PairScene : Type 1 where
   pub one : View
   pub two : View
@@ -58,7 +61,8 @@ pub record IsPairSoFar (J rows : List Row) (c d : List ℕ) : Type 0 where
 abbrev pub IsPairOnTheWay : List Row → List Row → List Row → List ℕ → List ℕ → Type 0
 IsPairOnTheWay J rows under c d = IsPairSoFar J rows c d ⊎ IsPairImageOf ((J ++ rows) ++ under) c d
 
--- The disks weren't opened: nothing was taken, asked or written and nothing else failed, and where they stood for the journal J they do again, at each moment of a crash.
+-- The disks weren't opened: nothing was taken, asked or written and nothing else failed, and where
+-- they stood for the journal J they do again, at each moment of a crash.
 pub record Unopened (J : List Row) (old new : PairScene) (end : TakeEnd) : Type 0 where
   pub fault : StoreFault
   pub is : end ≡ end_of_store fault
@@ -71,10 +75,12 @@ pub record Unopened (J : List Row) (old new : PairScene) (end : TakeEnd) : Type 
   pub crashes : StandsFor J old.one old.two
       → PairLeavesOnly (IsPairImageOf J) old.one new.one old.two new.two
 
--- A tape, of which at most `limit` bytes may be taken, was taken into the journal J of two disks, and ended so.
+-- A tape, of which at most `limit` bytes may be taken, was taken into the journal J of two disks,
+-- and ended so.
 pub record Ingested (t : Tells) (input_tells : Bool) (most limit : ℕ) (J : List Row)
     (old new : PairScene) (end : TakeEnd) : Type 0 where
-  -- the steps that are answered, those of a body that was under way when a disk failed, and one whose row found no room or no memory
+  -- the steps that are answered, those of a body that was under way when a disk failed, and one
+  -- whose row found no room or no memory
   pub steps : List Step
   pub under : List Step
   pub extra : List Step
@@ -84,7 +90,8 @@ pub record Ingested (t : Tells) (input_tells : Bool) (most limit : ℕ) (J : Lis
   pub are : (checks : Checks) → OpensRight checks → LinksRight checks
       → AreSteps checks J [] (steps ++ (under ++ extra))
   pub journal : IsJournal (J ++ rows (steps ++ (under ++ extra)))
-  -- their messages, and behind them those that were read and not taken, are the records at the front of the input
+  -- their messages, and behind them those that were read and not taken, are the records at the
+  -- front of the input
   pub behind : List Message
   pub all : AreTaken end behind
   pub records : AreRecords (messages_sent (steps ++ (under ++ extra)) ++ behind)
@@ -92,12 +99,14 @@ pub record Ingested (t : Tells) (input_tells : Bool) (most limit : ℕ) (J : Lis
       (messages_sent (steps ++ (under ++ extra)) ++ behind) end
   -- unless a disk failed, the two stand for the journal with the rows of the steps
   pub stands : end ≢ disk_failed → StandsFor (J ++ rows steps) new.one new.two
-  -- Whatever moments a crash strikes the two at, it leaves the journal with some of the rows, or all and those of the body under way, and at the end with all.
+  -- Whatever moments a crash strikes the two at, it leaves the journal with some of the rows, or
+  -- all and those of the body under way, and at the end with all.
   pub crashes : StandsFor J old.one old.two
       → PairLeavesOnly (IsPairOnTheWay J (rows steps) (rows under)) old.one new.one old.two new.two
   pub left : (c d : List ℕ) → new.one.may_leave c → new.two.may_leave d
       → IsOneOfPair (J ++ rows steps) (rows under) c d
-  -- the log that is picked had room for all rows that were added, and is full only where it has none for the row of the step left over
+  -- the log that is picked had room for all rows that were added, and is full only where it has
+  -- none for the row of the step left over
   pub room : end ≢ disk_failed → (rows steps ≡ [])
       ⊎ PairHasRoom most (J ++ rows steps) new.one.content new.two.content
   pub full : FullOnly (λ row e. PairHasNoRoom most
@@ -105,20 +114,29 @@ pub record Ingested (t : Tells) (input_tells : Bool) (most limit : ℕ) (J : Lis
   -- what is written is the report of the steps
   pub written : IsTrue t.output → IsReportWritten end (lines_of steps)
       (end_line J (messages steps) (rows steps)) old.written new.written
-  -- what was asked: of each step what it shows, and for one more message, where no step is left over, what came to nothing
+  -- what was asked: of each step what it shows, and for one more message, where no step is left
+  -- over, what came to nothing
   pub mid : Around
   pub asked : AllAsked t.clock t.repos J old.around (steps ++ (under ++ extra)) mid
   pub stops : StopsAsking t.clock t.repos end extra behind mid new.around
   pub next : IsNextEnd t (J ++ rows steps) behind mid new.around end
-  -- Of the repositories, the clock and the authorities none failed but what ended it, unless it stopped short. The input failed only where that ended it, unless it stopped before.
+  -- Of the repositories, the clock and the authorities none failed but what ended it, unless it
+  -- stopped short. The input failed only where that ended it, unless it stopped before.
   pub told : (StopsShort lines_of t.output end steps (rows under) old.written new.written → ⊥)
       → AreTold end old.failures new.failures old.around.panel new.around.panel
   pub read_told : (StopsBefore end
       (StopsShort lines_of t.output end steps (rows under) old.written new.written) extra behind
       → ⊥) → end ≢ TakeEnd.ReadFault → new.failures.input ≡ old.failures.input
-  -- with the rows of any of the steps in front a sound journal stays sound, and a faithful one faithful; and a covered commit gets through
+  -- with the rows of any of the steps in front a sound journal stays sound, and a faithful one
+  -- faithful
   pub sound : (front others : List Step) → steps ++ (under ++ extra) ≡ front ++ others → IsSound J
       → IsSound (J ++ rows front)
   pub faithful : (front others : List Step) → steps ++ (under ++ extra) ≡ front ++ others
       → IsFaithfulJournal J → IsFaithfulJournal (J ++ rows front)
+  -- and one of which each row is given stays that, where the repositories that tell give bytes
+  pub given : (checks : Checks) → OpensRight checks → LinksRight checks
+      → (IsTrue t.repos → GiveBytes old.around.repository)
+      → (front others : List Step) → steps ++ (under ++ extra) ≡ front ++ others
+      → AreGiven checks [] J → AreGiven checks [] (J ++ rows front)
+  -- a covered commit gets through
   pub covered : CoveredGetThrough J (steps ++ (under ++ extra))

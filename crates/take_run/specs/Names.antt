@@ -1,4 +1,5 @@
--- The names by which the hosts that have ended are looked up (own). No public clause cites this file.
+-- The names by which the hosts that have ended are looked up (own). No public clause cites this
+-- file.
 use Rattle.std.specs.Prelude.{◌≡◌, ℕ, List, String}
 use Rattle.std.specs.BTreeSet.{BTreeSet, contains_text}
 use Rattle.std.specs.Global.{Global}

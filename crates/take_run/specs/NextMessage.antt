@@ -21,8 +21,8 @@ use Rattle.relay_store.specs.declared.message.Message.{Message}
 use Rattle.take_run.specs.Tells.{Tells}
 use Rattle.take_run.specs.declared.end.TakeEnd.{TakeEnd}
 
--- The numbers end behind the journal J: the one behind the last is none, and a message would give it by
--- this row, for answers that were given.
+-- The numbers end behind the journal J: the one behind the last is none, and a message would give
+-- it by this row, for answers that were given.
 pub record MessageEndsNumbers (t : Tells) (J : List Row) (old : Around) (m : Message)
     (new : Around) : Type 0 where
   pub event : Seen
@@ -36,8 +36,9 @@ pub record MessageEndsNumbers (t : Tells) (J : List Row) (old : Around) (m : Mes
   pub gives : seq_in (Row.Taken taken) ≡ last_seq J + 1
   pub ends : NUMBERS ≤ last_seq J + 1
 
--- All authorities of the method of the account that a message names have fallen, and the judges are asked:
--- behind the journal J the event stands above its host's cursor, and its outgoing message isn't too long.
+-- All authorities of the method of the account that a message names have fallen, and the judges are
+-- asked: behind the journal J the event stands above its host's cursor, and its outgoing message
+-- isn't too long.
 pub record MessageIsSpent (J : List Row) (m : Message) (panel : Panel) : Type 0 where
   pub event : Seen
   pub is : frame_of m.bytes ≡ Ok (Frame.Event event)
@@ -50,7 +51,8 @@ abbrev pub OfNext : (Message → Type 0) → List Message → Type 0
 OfNext P [] = ⊥
 OfNext P (m ∷ behind) = P m
 
--- for the next message the numbers end behind this journal, or no authority is left, where that ended it
+-- for the next message the numbers end behind this journal, or no authority is left, where that
+-- ended it
 abbrev pub IsNextEnd : Tells → List Row → List Message → Around → Around → TakeEnd → Type 0
 IsNextEnd t K behind old new (TakeEnd.Store StoreFault.SeqEnd) =
     OfNext (λ m. MessageEndsNumbers t K old m new) behind

@@ -12,7 +12,8 @@ TakeEndShows (TakeEnd.Store StoreFault.Disk) one two = ⊤
 TakeEndShows (TakeEnd.Store (StoreFault.BadLog place)) one two = IsBadPairJournalAt place one two
 TakeEndShows end one two = (J : List Row) × IsPairImageOf J one two
 
--- the ends that no failure brings: all was taken, memory ran out, the log is full, or the numbers or the authorities have ended
+-- the ends that no failure brings: all was taken, memory ran out, the log is full, or the numbers
+-- or the authorities have ended
 abbrev pub MayEnd : TakeEnd → Type 0
 MayEnd TakeEnd.Done = ⊤
 MayEnd TakeEnd.Memory = ⊤

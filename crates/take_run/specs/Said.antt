@@ -1,4 +1,5 @@
--- What was answered to messages, and what is kept of it for the report (own). No public clause cites this file.
+-- What was answered to messages, and what is kept of it for the report (own). No public clause
+-- cites this file.
 use Rattle.std.specs.Prelude.{◌≡◌, ℕ, ◌+◌, true, false, List, [], ◌∷◌, ◌++◌, length, map, Option, Some, None, if◌then◌else◌}
 use Rattle.relay_core.specs.Report.{over_line}
 use Rattle.relay_core.specs.Runs.{has_ended}

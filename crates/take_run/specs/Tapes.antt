@@ -16,11 +16,15 @@ abbrev pub AreRecords : List Message → Type 0
 AreRecords [] = Unit {0}
 AreRecords (m ∷ messages) = IsRecord m.host m.bytes × IsBytes m.bytes × AreRecords messages
 
--- bytes at whose front a record is at fault: its name is no host's, its message is too long, or they end inside it
+-- bytes at whose front a record is at fault: its name is no host's, its message is too long, or
+-- they end inside it
 abbrev pub ShowsFault : List ℕ → Type 0
 ShowsFault bytes = Shows bytes bad_name ⊎ (Shows bytes too_long ⊎ Shows bytes cut)
 
--- What ends a tape behind records of so many bytes, of which this part was taken behind them, and that is left. Where it is done there is nothing more, and the limit wasn't reached. At a bad place what stands behind the records shows a fault, and the place is where they end. Where a read failed or the limit was reached, the part is none, or that of a record that is cut.
+-- What ends a tape behind records of so many bytes, of which this part was taken behind them, and
+-- that is left. Where it is done there is nothing more, and the limit wasn't reached. At a bad
+-- place what stands behind the records shows a fault, and the place is where they end. Where a read
+-- failed or the limit was reached, the part is none, or that of a record that is cut.
 abbrev pub EndsTape : ℕ → ℕ → List ℕ → List ℕ → TakeEnd → Type 0
 EndsTape limit size part after TakeEnd.Done = (part ≡ []) × (after ≡ []) × (size < limit)
 EndsTape limit size part after (TakeEnd.Bad place) = ShowsFault (part ++ after) × (place ≡ size)
@@ -28,7 +32,8 @@ EndsTape limit size part after TakeEnd.ReadFault = NeedsMore part
 EndsTape limit size part after TakeEnd.TooLong = NeedsMore part × (size + length part ≡ limit)
 EndsTape limit size part after end = Unit {0}
 
--- Of an input, before and after: the records of the messages stand at its front, and behind them this part was taken, which is `limit` bytes in all at most.
+-- Of an input, before and after: the records of the messages stand at its front, and behind them
+-- this part was taken, which is `limit` bytes in all at most.
 pub record IsOnTape (limit : ℕ) (before after : List ℕ) (messages : List Message) (end : TakeEnd)
     : Type 0 where
   pub part : List ℕ

@@ -1,13 +1,12 @@
 //! Taking a group of messages, with their lines.
 
-ghost use Rattle.std.specs.Prelude.{◌≡◌, ◌≢◌, ◌≤◌, ◌<◌, ◌+◌, ◌^◌, true, false, Some, List, OnOk, IfOk, IfErr, IsTrue, length, take};
+ghost use Rattle.std.specs.Prelude.{◌≡◌, ◌≤◌, ◌<◌, ◌+◌, ◌^◌, List, OnOk, IfOk, IfErr, IsTrue, length, take};
 ghost use Rattle.relay_row.specs.declared.limits.TheConstants.{MOST_ROWS};
 ghost use Rattle.relay_row.specs.declared.row.Row.{Row as TheRow};
 ghost use Rattle.relay_step.specs.Around.{around};
 ghost use Rattle.relay_store.specs.Store.{IsKept, IsOf, seen_in};
 ghost use Rattle.relay_store.specs.Taking.{AreOfHosts};
-ghost use Rattle.relay_store.specs.declared.fault.StoreFault.{StoreFault as TheFault};
-ghost use Rattle.take_run.specs.Causes.{Caused, Kept, Told, Unmoved, failures, faults};
+ghost use Rattle.take_run.specs.Causes.{AuthoritySpent, Caused, Kept, Told, Unmoved, failures, faults};
 ghost use Rattle.take_run.specs.Going.{Going, Stopped, point};
 ghost use Rattle.take_run.specs.Stops.{IsStop};
 ghost use Rattle.take_run.specs.Tells.{tells};
@@ -20,21 +19,8 @@ use crate::tally::Tally;
 use at_authority::Judges;
 use relay_disk::Disk;
 use relay_io::{Clock, Repos, Sink};
-use relay_store::{Batch, Message, Store, StoreFault};
+use relay_store::{Message, Store};
 use std::alloc::Global;
-
-// Whether memory ran out though no message is left over, which the store doesn't exclude.
-fn leaves_none(batch: &Batch, group: &[Message]) -> bool
-    ensures spent { result ≡ true → (batch.now.fault ≡ Some TheFault.Memory)
-        × (length batch.now.outcomes.items ≡ length group.now) }
-    ensures left { result ≡ false → batch.now.fault ≡ Some TheFault.Memory
-        → length batch.now.outcomes.items ≢ length group.now }
-{
-    match batch.fault {
-        Some(StoreFault::Memory) => batch.outcomes.len() == group.len(),
-        _ => false,
-    }
-}
 
 // Takes messages of hosts that haven't ended, writes the lines of those that are answered, and says how many those are.
 fn take_live<D: Disk, P: Judges, R: Repos, C: Clock, O: Sink>(
@@ -100,12 +86,9 @@ fn take_live<D: Disk, P: Judges, R: Repos, C: Clock, O: Sink>(
         Told end (faults (D.view disk.old).faults (R.faults repos.old) (C.faults clock.old) 0
         (O.faults out.old)) (faults (D.view disk.new).faults (R.faults repos.new)
         (C.faults clock.new) 0 (O.faults out.new)) (P.panel judges.old) (P.panel judges.new)) }
+    ensures spent { IfErr result (λ end. AuthoritySpent end (P.panel judges.new)) }
 {
     let batch = store.take_all(alloc, disk, group, judges, repos, clock);
-    // Where memory runs out, a message is left over, or else the lines are.
-    if leaves_none(&batch, group) {
-        return Err(TakeEnd::Memory);
-    }
     let outcomes = batch.outcomes.as_slice();
     match answer(alloc, group, outcomes, tally, out) {
         Ok(()) => {}
@@ -184,6 +167,7 @@ fn take_some<D: Disk, P: Judges, R: Repos, C: Clock, O: Sink>(
         Told end (faults (D.view disk.old).faults (R.faults repos.old) (C.faults clock.old) 0
         (O.faults out.old)) (faults (D.view disk.new).faults (R.faults repos.new)
         (C.faults clock.new) 0 (O.faults out.new)) (P.panel judges.old) (P.panel judges.new)) }
+    ensures spent { IfErr result (λ end. AuthoritySpent end (P.panel judges.new)) }
 {
     if live == 0 {
         return match skip(alloc, group[0].host.as_str(), tally, out) {
@@ -253,6 +237,7 @@ pub fn take_group<D: Disk, P: Judges, R: Repos, C: Clock, O: Sink>(
         Told end (faults (D.view disk.old).faults (R.faults repos.old) (C.faults clock.old) 0
         (O.faults out.old)) (faults (D.view disk.new).faults (R.faults repos.new)
         (C.faults clock.new) 0 (O.faults out.new)) (P.panel judges.old) (P.panel judges.new)) }
+    ensures spent { IfErr result (λ end. AuthoritySpent end (P.panel judges.new)) }
 {
     let mut done = 0;
     let mut live = live_front(group, tally);

@@ -7,7 +7,7 @@ ghost use Rattle.relay_row.specs.Folds.{cursor};
 ghost use Rattle.relay_row.specs.declared.row.Row.{Row as TheRow};
 ghost use Rattle.relay_step.specs.Around.{around};
 ghost use Rattle.relay_store.specs.Store.{IsKept, IsOf, seen_in};
-ghost use Rattle.take_run.specs.Causes.{Caused, Kept, Told, failures, faults};
+ghost use Rattle.take_run.specs.Causes.{AuthoritySpent, Caused, Kept, Told, failures, faults};
 ghost use Rattle.take_run.specs.Feeds.{TakenOfFeed};
 ghost use Rattle.take_run.specs.Following.{IsNextOf, IsUnread};
 ghost use Rattle.take_run.specs.PairEnds.{IsOfFeed};
@@ -112,6 +112,7 @@ fn take_open<D: Disk, P: Judges, R: Repos, C: Clock, F: Feed, O: Sink>(
         (C.faults clock.old) 0 (O.faults out.old))
         (faults (D.view disk.new).faults (R.faults repos.new) (C.faults clock.new) 0
         (O.faults out.new)) (P.panel judges.old) (P.panel judges.new) }
+    ensures spent { AuthoritySpent result (P.panel judges.new) }
 {
     'messages: for _ in 0..most {
         let message = match read_next(alloc, host, tally, feed) {
@@ -173,6 +174,7 @@ pub fn take_feed<D: Disk, P: Judges, R: Repos, C: Clock, F: Feed, O: Sink>(
         (C.faults clock.old) 0 (O.faults out.old))
         (faults (D.view disk.new).faults (R.faults repos.new) (C.faults clock.new) 0
         (O.faults out.new)) (P.panel judges.old) (P.panel judges.new) }
+    ensures spent { AuthoritySpent result (P.panel judges.new) }
 {
     let mut tally = Tally::new(alloc);
     match feed.open(host, store.core().cursor(host)) {

@@ -14,7 +14,8 @@ ghost use Rattle.relay_store.specs.Opening.{BothOnlyRead};
 ghost use Rattle.relay_store.specs.Store.{IsKept, IsOf, seen_in};
 ghost use Rattle.relay_store.specs.declared.fault.StoreFault.{StoreFault};
 ghost use Rattle.relay_store.specs.Pairs.{of_pair};
-ghost use Rattle.take_run.specs.Causes.{HidesNone, failures};
+ghost use Rattle.run_base.specs.Reading.{AtMostLogWritten};
+ghost use Rattle.take_run.specs.Causes.{AuthoritySpent, HidesNone, failures};
 ghost use Rattle.take_run.specs.Tells.{tells};
 ghost use Rattle.take_run.specs.Feeds.{TakenOfFeed};
 ghost use Rattle.take_run.specs.Taken.{scene};
@@ -80,6 +81,7 @@ fn take_on<D: Disk, P: Judges, R: Repos, C: Clock, F: Feed, O: Sink>(
         → C.faults clock.new ≡ C.faults clock.old }
     ensures unspent { HidesNone result → result ≢ TheEnd.Store StoreFault.Authority
         → SpendsNone (P.panel judges.old) (P.panel judges.new) }
+    ensures spent { AuthoritySpent result (P.panel judges.new) }
     ensures steady { result ≢ TheEnd.ReadFault → F.faults feed.new ≡ F.faults feed.old }
     ensures disk_counts { (D.view disk.old).faults ≤ (D.view disk.new).faults }
     ensures other_counts { (D.view other.old).faults ≤ (D.view other.new).faults }
@@ -140,6 +142,10 @@ pub fn follow<D: Disk, P: Judges, R: Repos, C: Clock, F: Feed, O: Sink>(
         → BothOnlyRead (D.view disk.old) (D.view other.old) (D.view disk.new) (D.view other.new))
         × (judges.new ≡ judges.old) × (repos.new ≡ repos.old) × (clock.new ≡ clock.old)
         × (feed.new ≡ feed.old) × (out.new ≡ out.old) }
+    // The disk that doesn't have the log is only read.
+    ensures beside { IsTrue D.tells → result ≢ TheEnd.Store StoreFault.Disk
+        → AtMostLogWritten (D.view disk.old) (D.view other.old)
+        (D.view disk.new) (D.view other.new) }
     ensures caused { IsCausedBy (Rose (D.view disk.old).faults (D.view disk.new).faults
         ⊎ Rose (D.view other.old).faults (D.view other.new).faults)
         (Rose (F.faults feed.old) (F.faults feed.new)) (Rose (O.faults out.old) (O.faults out.new))
@@ -155,6 +161,7 @@ pub fn follow<D: Disk, P: Judges, R: Repos, C: Clock, F: Feed, O: Sink>(
         → C.faults clock.new ≡ C.faults clock.old }
     ensures unspent { HidesNone result → result ≢ TheEnd.Store StoreFault.Authority
         → SpendsNone (P.panel judges.old) (P.panel judges.new) }
+    ensures spent { AuthoritySpent result (P.panel judges.new) }
     ensures steady { result ≢ TheEnd.ReadFault → F.faults feed.new ≡ F.faults feed.old }
 
     // It is done, unless memory runs out, the log is full, or the numbers or the authorities end.

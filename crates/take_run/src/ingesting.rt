@@ -13,7 +13,8 @@ ghost use Rattle.relay_store.specs.Store.{IsKept, IsOf, seen_in};
 ghost use Rattle.relay_store.specs.declared.fault.StoreFault.{StoreFault};
 ghost use Rattle.relay_store.specs.declared.message.Message.{Message as TheMessage};
 ghost use Rattle.relay_store.specs.Pairs.{of_pair};
-ghost use Rattle.take_run.specs.Causes.{EndsByTape, HidesNone, failures};
+ghost use Rattle.run_base.specs.Reading.{AtMostLogWritten};
+ghost use Rattle.take_run.specs.Causes.{AuthoritySpent, EndsByTape, HidesNone, failures};
 ghost use Rattle.take_run.specs.Tells.{tells};
 ghost use Rattle.take_run.specs.Taken.{Taken, scene};
 ghost use Rattle.take_run.specs.Tapes.{AreRecords, encoded_records};
@@ -75,6 +76,7 @@ fn take_on<D: Disk, P: Judges, R: Repos, C: Clock, I: Source, O: Sink>(
         → C.faults clock.new ≡ C.faults clock.old }
     ensures unspent { HidesNone result → result ≢ TakeEnd.Store StoreFault.Authority
         → SpendsNone (P.panel judges.old) (P.panel judges.new) }
+    ensures spent { AuthoritySpent result (P.panel judges.new) }
     ensures disk_counts { (D.view disk.old).faults ≤ (D.view disk.new).faults }
     ensures other_counts { (D.view other.old).faults ≤ (D.view other.new).faults }
     ensures repos_count { R.faults repos.old ≤ R.faults repos.new }
@@ -126,6 +128,10 @@ pub fn ingest<D: Disk, P: Judges, R: Repos, C: Clock, I: Source, O: Sink>(
         → BothOnlyRead (D.view disk.old) (D.view other.old) (D.view disk.new) (D.view other.new))
         × (judges.new ≡ judges.old) × (repos.new ≡ repos.old) × (clock.new ≡ clock.old)
         × (input.new ≡ input.old) × (out.new ≡ out.old) }
+    // The disk that doesn't have the log is only read.
+    ensures beside { IsTrue D.tells → result ≢ TakeEnd.Store StoreFault.Disk
+        → AtMostLogWritten (D.view disk.old) (D.view other.old)
+        (D.view disk.new) (D.view other.new) }
     ensures caused { IsCausedBy (Rose (D.view disk.old).faults (D.view disk.new).faults
         ⊎ Rose (D.view other.old).faults (D.view other.new).faults)
         (Rose (I.faults input.old) (I.faults input.new))
@@ -143,6 +149,7 @@ pub fn ingest<D: Disk, P: Judges, R: Repos, C: Clock, I: Source, O: Sink>(
         → C.faults clock.new ≡ C.faults clock.old }
     ensures unspent { HidesNone result → result ≢ TakeEnd.Store StoreFault.Authority
         → SpendsNone (P.panel judges.old) (P.panel judges.new) }
+    ensures spent { AuthoritySpent result (P.panel judges.new) }
 
     // A whole tape is taken, unless memory runs out, the log is full, or the numbers or the authorities end.
     ensures complete { IsTrue D.tells → IsTrue I.tells → (J : List TheRow)

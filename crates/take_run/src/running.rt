@@ -4,7 +4,7 @@ ghost use Rattle.std.specs.Prelude.{◌≡◌, ◌<◌, ◌^◌, List, IsTrue};
 ghost use Rattle.relay_row.specs.declared.row.Row.{Row as TheRow};
 ghost use Rattle.relay_step.specs.Around.{around};
 ghost use Rattle.relay_store.specs.Store.{IsKept, IsOf, seen_in};
-ghost use Rattle.take_run.specs.Causes.{Caused, EndsByTape, Kept, Told, failures, faults};
+ghost use Rattle.take_run.specs.Causes.{AuthoritySpent, Caused, EndsByTape, Kept, Told, failures, faults};
 ghost use Rattle.take_run.specs.Tells.{tells};
 ghost use Rattle.take_run.specs.Taken.{Taken, scene};
 
@@ -60,6 +60,7 @@ pub fn take_tape<D: Disk, P: Judges, R: Repos, C: Clock, I: Source, O: Sink>(
         (C.faults clock.old) 0 (O.faults out.old))
         (faults (D.view disk.new).faults (R.faults repos.new) (C.faults clock.new) 0
         (O.faults out.new)) (P.panel judges.old) (P.panel judges.new) }
+    ensures spent { AuthoritySpent result (P.panel judges.new) }
     ensures input_steady { EndsByTape result → I.faults input.new ≡ I.faults input.old }
 {
     let mut tape = Tape::new(alloc, limit);

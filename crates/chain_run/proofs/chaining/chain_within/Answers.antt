@@ -1,9 +1,10 @@
-use Rattle.std.proofs.Common.{◌≡◌, Err, true, arith, ap, refl}
+use Rattle.std.proofs.Common.{◌≡◌, Err, inr, true, arith, ap, refl}
 use Rattle.std.specs.Prelude.{Some}
 use Rattle.at_authority.specs.Trusting.{trusting}
 use Rattle.backfill.specs.Served.{served}
 use Rattle.relay_step.specs.Around.{around}
 use Rattle.relay_store.specs.Shown.{held_by}
+use Rattle.run_base.proofs.Reading.{other_read}
 use Rattle.take_run.specs.Causes.{failures}
 use Rattle.take_run.specs.Tells.{tells}
 use Rattle.relay_store.proofs.Beside.{opened_keeps}
@@ -48,6 +49,9 @@ returns-in-Err-open g c = record {
   no_second_journal = λ told none. (λ whole. c.in-Err-open.ensures.opened.read c.in-Err-open.fault refl (λ is. whole (c.in-Err-open.ensures.disk (ap Err is))) told, refl, refl, refl);
 }
 
+pub chain_sides-taken-requires-clause-source : goal.chain_sides-taken-requires-clause-source
+chain_sides-taken-requires-clause-source g c = λ told. let kept = c.in-Ok.ensures.opened.keeps told in (kept.0, kept.2)
+
 pub chain_sides-taken-requires-clause-on : goal.chain_sides-taken-requires-clause-on
 chain_sides-taken-requires-clause-on g c = λ told. let kept = c.in-Ok-open.ensures.opened.keeps told in (kept.0, kept.2)
 
@@ -59,7 +63,7 @@ returns g c =
     let taken = c.chain_sides-taken.result in
     record {
       ran =
-          ran told_by c.args.host.now c.args.most _ _ c.in-Ok.source (view c.open.new.disk) (view c.open.new.other) (view c.open-2.new.disk) (view c.open-2.new.other) (is_disk c.open.new.disk) (is_disk c.open.new.other)
+          ran told_by c.args.host.now c.args.most _ _ c.in-Ok.source (view c.open.new.disk) (view c.open.new.other) (view c.open-2.new.disk) (view c.open-2.new.other) (is_disk c.args.first.now) (is_disk c.args.first_other.now) (is_disk c.open.new.disk) (is_disk c.open.new.other)
           c.in-Ok.ensures.opened c.chain_sides-taken.ensures.one c.chain_sides-taken.ensures.two c.in-Ok.ensures.counts.0 c.in-Ok.ensures.counts.1 c.in-Ok-open.ensures.counts.0 c.in-Ok-open.ensures.counts.1
           taken c.chain_sides-taken.ensures.first_disk c.chain_sides-taken.ensures.no_bad_log c.chain_sides-taken.ensures.caused
           (λ told. let kept = c.in-Ok-open.ensures.opened.keeps told in (kept.0, kept.1))
@@ -74,6 +78,7 @@ returns g c =
                 (around (λ name. trusting) (g.C.Clock.moments c.chain_sides-taken.new.clock) (g.R.Repos.repository c.chain_sides-taken.new.repos)) (failures (g.R.Repos.faults c.chain_sides-taken.new.repos) (g.C.Clock.faults c.chain_sides-taken.new.clock) 0) (g.O.Sink.written c.args.out.now) (g.O.Sink.written c.chain_sides-taken.new.out)
                 (taking_end taken) events.taken,
           ))
+          (λ told. inr (other_read view c.args.second.now c.args.second_other.now c.open-2.new.disk c.open-2.new.other c.chain_sides-taken.new.second c.chain_sides-taken.new.second_other g.D.Disk.tells c.in-Ok-open.store c.in-Ok-open.ensures.opened told c.chain_sides-taken.ensures.beside))
           (record {
             first = omega (arith, c.in-Ok.ensures.counts.0, c.chain_sides-taken.ensures.one.counts);
             first_other = omega (arith, c.in-Ok.ensures.counts.1, c.chain_sides-taken.ensures.two.counts);

@@ -7,9 +7,8 @@ use Rattle.relay_store.proofs.Beside.{opened_keeps}
 use Rattle.serve_run.specs.Ends.{ServeOpened, ServeEndShows}
 use Rattle.serve_run.specs.declared.end.ServeEnd.{ServeEnd}
 use Rattle.serve_run.proofs.Ending.{image_shows, nothing_written, opening_read, opening_shows, opening_steady, unopened_may}
-use Rattle.serve_run.proofs.Reading.{read_opened, read_unopened}
+use Rattle.serve_run.proofs.Reading.{again_opened, again_unopened, read_opened, read_unopened}
 use Rattle.lines_run.specs.Lines.{lines_above}
-use Rattle.backfill.specs.Served.{rising_above}
 use Rattle.lines_run.proofs.Lining.{adds_no_line}
 use Rattle.lines_run.proofs.Ending.{either_behind, may_end}
 use Rattle.lines_run.proofs.command.lines.Goals as goal
@@ -20,7 +19,7 @@ returns-in-Ok-clause-written g c = λ told J image. record {
       (opened_keeps g.D.Disk.tells (g.D.Disk.view c.args.disk.now) (g.D.Disk.view c.args.other.now) (g.D.Disk.view c.open.new.disk) (g.D.Disk.view c.open.new.other) c.in-Ok.store c.in-Ok.ensures.opened told J image);
   whole = c.lines_on.ensures.whole told J
       (opened_keeps g.D.Disk.tells (g.D.Disk.view c.args.disk.now) (g.D.Disk.view c.args.other.now) (g.D.Disk.view c.open.new.disk) (g.D.Disk.view c.open.new.other) c.in-Ok.store c.in-Ok.ensures.opened told J image);
-  read = read_opened g.D.Disk.tells (g.D.Disk.view c.args.disk.now) (g.D.Disk.view c.args.other.now) (g.D.Disk.view c.open.new.disk) (g.D.Disk.view c.open.new.other) (g.D.Disk.view c.lines_on.new.disk) (g.D.Disk.view c.lines_on.new.other)
+  again = again_opened g.D.Disk.tells (g.D.Disk.view c.args.disk.now) (g.D.Disk.view c.args.other.now) (g.D.Disk.view c.open.new.disk) (g.D.Disk.view c.open.new.other) (g.D.Disk.view c.lines_on.new.disk) (g.D.Disk.view c.lines_on.new.other)
       c.in-Ok.store (ServeOpened c.lines_on.result) J (g.met.D.Disk.is_disk c.open.new.disk) (g.met.D.Disk.is_disk c.open.new.other) c.in-Ok.ensures.opened told image c.lines_on.ensures.one c.lines_on.ensures.two;
 }
 
@@ -36,8 +35,8 @@ returns-in-Ok-clause-complete g c = λ told J image no_disk no_write.
 pub returns-in-Err-clause-written : goal.returns-in-Err-clause-written
 returns-in-Err-clause-written g c = λ told J image. record {
   written = λ _. nothing_written c.in-Err.fault c.of_opening.result (lines_above (option_map (λ text. text.now) c.args.collection) c.args.cursor (held_by J).shown) (g.O.Sink.written c.args.out.now) c.of_opening.ensures (0, omega arith, sym (append-nil (g.O.Sink.written c.args.out.now)));
-  whole = λ _ _. adds_no_line (option_map (λ text. text.now) c.args.collection) (rising_above c.args.cursor (held_by J).shown) (g.O.Sink.written c.args.out.now);
-  read = read_unopened g.D.Disk.tells (g.D.Disk.view c.args.disk.now) (g.D.Disk.view c.args.other.now) (g.D.Disk.view c.open.new.disk) (g.D.Disk.view c.open.new.other) c.in-Err.fault c.of_opening.result J
+  whole = λ _ _. (c.args.cursor, adds_no_line (option_map (λ text. text.now) c.args.collection) (held_by J).shown c.args.cursor (g.O.Sink.written c.args.out.now));
+  again = again_unopened g.D.Disk.tells (g.D.Disk.view c.args.disk.now) (g.D.Disk.view c.args.other.now) (g.D.Disk.view c.open.new.disk) (g.D.Disk.view c.open.new.other) c.in-Err.fault c.of_opening.result J
       (g.met.D.Disk.is_disk c.open.new.disk) (g.met.D.Disk.is_disk c.open.new.other) c.in-Err.ensures.opened told c.of_opening.ensures;
 }
 
@@ -68,3 +67,10 @@ returns-in-Ok-clause-disks_steady g c = λ no.
     let opened = c.in-Ok.ensures.steady (λ is. absurd cc) in
     let read = c.lines_on.ensures.disks_steady no in
     (read.0 ∙ opened.0, read.1 ∙ opened.1)
+
+pub returns-in-Ok-clause-only_read : goal.returns-in-Ok-clause-only_read
+returns-in-Ok-clause-only_read g c = λ told no. read_opened g.D.Disk.tells (g.D.Disk.view c.args.disk.now) (g.D.Disk.view c.args.other.now) (g.D.Disk.view c.open.new.disk) (g.D.Disk.view c.open.new.other) (g.D.Disk.view c.lines_on.new.disk) (g.D.Disk.view c.lines_on.new.other)
+    c.in-Ok.store (g.met.D.Disk.is_disk c.args.disk.now) (g.met.D.Disk.is_disk c.args.other.now) c.in-Ok.ensures.opened told c.lines_on.ensures.one c.lines_on.ensures.two
+
+pub returns-in-Err-clause-only_read : goal.returns-in-Err-clause-only_read
+returns-in-Err-clause-only_read g c = read_unopened g.D.Disk.tells (g.D.Disk.view c.args.disk.now) (g.D.Disk.view c.args.other.now) (g.D.Disk.view c.open.new.disk) (g.D.Disk.view c.open.new.other) c.in-Err.fault c.of_opening.result c.in-Err.ensures.opened c.of_opening.ensures

@@ -1,6 +1,6 @@
 use Rattle.std.proofs.Common.{◌∙◌, Err, sym, ap}
 use Rattle.std.specs.Prelude.{option_map}
-use Rattle.serve_run.proofs.Ending.{fault_written, replay_bad}
+use Rattle.serve_run.proofs.Ending.{fault_written, reading_failed, replay_bad, tells_damage}
 use Rattle.lines_run.specs.Lines.{lines_above}
 use Rattle.lines_run.proofs.Ending.{disk_end, output_end}
 use Rattle.lines_run.proofs.command.lines_of_events.Goals as goal
@@ -24,3 +24,9 @@ returns-in-Err-clause-no_bad_log g c = λ place is.
 
 pub returns-in-Err-clause-event_steady : goal.returns-in-Err-clause-event_steady
 returns-in-Err-clause-event_steady g c = λ no. c.in-Err.ensures.event_steady (λ is. no (c.of_replay.ensures ∙ disk_end c.in-Err.fault is))
+
+pub returns-in-Err-clause-upto : goal.returns-in-Err-clause-upto
+returns-in-Err-clause-upto g c = λ of. c.in-Err.ensures.upto (reading_failed c.in-Err.fault c.of_replay.result c.of_replay.ensures of)
+
+pub returns-in-Err-clause-damaged : goal.returns-in-Err-clause-damaged
+returns-in-Err-clause-damaged g c = tells_damage (Unit {0}) (g.E.Events.damage c.args.events.now) _ c.in-Err.fault c.of_replay.result c.of_replay.ensures c.in-Err.ensures.damaged

@@ -1,12 +1,13 @@
-use Rattle.std.proofs.Common.{rules, ◌≡◌, ◌∙◌, ◌++◌, ℕ, List, Option, Err, arith, sym, ap, subst}
+use Rattle.std.proofs.Common.{rules, ◌≡◌, ◌∙◌, ◌++◌, ◌<◌, ℕ, List, Option, IfSome, Err, max, arith, sym, ap, subst}
 use Rattle.std.specs.Prelude.{option_map}
 use Rattle.event_window.specs.Held.{IsNext}
 use Rattle.relay_io.specs.Streams.{AddsFront}
 use Rattle.at_event.specs.Frames.{frame_of}
 use Rattle.json_lines.specs.Lines.{lines_read}
-use Rattle.backfill.specs.Served.{rising_above}
+use Rattle.backfill.proofs.Damage.{replayed_none}
+use Rattle.backfill.proofs.Upto.{greater_right}
 use Rattle.lines_run.specs.Lines.{AddsLines}
-use Rattle.lines_run.proofs.Lining.{lining_broken, lining_done, lining_more, lining_stopped, lining_whole, written_err}
+use Rattle.lines_run.proofs.Lining.{damage_handed, lining_broken, lining_done, lining_more, lining_stopped, lining_upto, lining_whole, no_bad_output, not_of_output, on_fault, written_err}
 use Rattle.lines_run.proofs.writing.write_lines.Goals as goal
 
 pub returns-in_err-number-clause-written : goal.returns-in_err-number-clause-written
@@ -35,6 +36,14 @@ events-preserved g c = record {
       lining_more _ _ _ _ _ _ _ (c.events.invariant.lining told held holds) c.in-Some.number c.next_above.new.room (g.O.Sink.written c.write_message.new.out) next
       (λ t. subst (λ (m : List ℕ). g.O.Sink.written c.write_message.new.out ≡ g.O.Sink.written c.events.out ++ lines_read (option_map (λ text. text.now) c.args.collection) (frame_of m)) c.as_slice.ensures.value (c.in_ok-write_message.ensures.written t));
   steady = c.in_ok-write_message.ensures.steady ∙ c.events.invariant.steady;
+  damaged = c.in_ok-number.ensures.damaged ∙ c.events.invariant.damaged;
+  rising =
+      let above = subst (λ (found : Option ℕ). IfSome found (λ n. c.events.last < n)) c.in-Some.is c.in_ok-number.ensures.above in
+      omega (arith, above, c.events.invariant.rising);
+  given = λ low.
+      let above = subst (λ (found : Option ℕ). IfSome found (λ n. c.events.last < n)) c.in-Some.is c.in_ok-number.ensures.above in
+      let upto = subst (λ (found : Option ℕ). IfSome found (λ n. g.E.Events.given_upto c.next_above.new.events ≡ n)) c.in-Some.is c.in_ok-number.ensures.given in
+      greater_right c.args.cursor (g.E.Events.given_upto c.next_above.new.events) (omega (arith, above, c.events.invariant.rising, upto)) ∙ upto;
 }
 
 pub returns-clause-written : goal.returns-clause-written
@@ -44,13 +53,38 @@ returns-clause-written g c = λ told held holds writes.
     lining_done _ _ _ _ _ _ _ (c.events.invariant.lining told held holds) next writes
 
 pub returns-in_err-number-clause-whole : goal.returns-in_err-number-clause-whole
-returns-in_err-number-clause-whole g c = λ told held holds writes other. lining_whole _ _ _ _ _ _ _ (c.events.invariant.lining told held holds) writes
+returns-in_err-number-clause-whole g c = λ told held holds writes other. (c.events.last, lining_whole _ _ _ _ _ _ _ (c.events.invariant.lining told held holds) writes)
 
 pub returns-in_err-write_message-clause-whole : goal.returns-in_err-write_message-clause-whole
 returns-in_err-write_message-clause-whole g c = λ told held holds writes other.
-    let same : c.from_residual-in_err-write_message.result ≡ Err c.in_err-write_message.field-0.0 = search rules in
-    subst (λ out. AddsLines (option_map (λ text. text.now) c.args.collection) (rising_above c.args.cursor held.shown) (g.O.Sink.written c.args.out.now) (g.O.Sink.written out))
-    (sym (c.in_err-write_message.ensures.no_fault (λ is. other (same ∙ ap Err is)))) (lining_whole _ _ _ _ _ _ _ (c.events.invariant.lining told held holds) writes)
+    let same : c.from_residual-in_err-write_message.result ≡ Err c.in_err-write_message.field-0.0 = search rules in (
+      c.events.last,
+      subst (λ out. AddsLines (option_map (λ text. text.now) c.args.collection) held.shown c.args.cursor c.events.last (g.O.Sink.written c.args.out.now) (g.O.Sink.written out))
+          (sym (c.in_err-write_message.ensures.no_fault (λ is. other (same ∙ ap Err is)))) (lining_whole _ _ _ _ _ _ _ (c.events.invariant.lining told held holds) writes),
+    )
 
 pub returns-clause-whole : goal.returns-clause-whole
-returns-clause-whole g c = λ told held holds writes other. lining_whole _ _ _ _ _ _ _ (c.events.invariant.lining told held holds) writes
+returns-clause-whole g c = λ told held holds writes other. (c.events.last, lining_whole _ _ _ _ _ _ _ (c.events.invariant.lining told held holds) writes)
+
+pub returns-in_err-number-clause-upto : goal.returns-in_err-number-clause-upto
+returns-in_err-number-clause-upto g c =
+    on_fault _ c.from_residual.result c.in_err-number.field-0.0 (search rules)
+    (λ of told held holds writes low. lining_upto _ _ _ _ _ _ _ (c.events.invariant.lining told held holds) _
+    (ap (λ (n : ℕ). max c.args.cursor n) c.in_err-number.ensures.none_given ∙ c.events.invariant.given low) writes)
+
+pub returns-in_err-write_message-clause-upto : goal.returns-in_err-write_message-clause-upto
+returns-in_err-write_message-clause-upto g c =
+    on_fault _ c.from_residual-in_err-write_message.result c.in_err-write_message.field-0.0 (search rules)
+    (λ of. absurd (not_of_output c.in_err-write_message.field-0.0 c.in_err-write_message.ensures.few of))
+
+pub returns-in_err-number-clause-damaged : goal.returns-in_err-number-clause-damaged
+returns-in_err-number-clause-damaged g c =
+    damage_handed (Option ℕ) (g.E.Events.damage c.args.events.now) _ _ c.in_err-number.field-0.0 c.from_residual.result (search rules) c.in_err-number.ensures.damaged c.events.invariant.damaged
+
+pub returns-in_err-write_message-clause-damaged : goal.returns-in_err-write_message-clause-damaged
+returns-in_err-write_message-clause-damaged g c =
+    replayed_none (g.E.Events.damage c.args.events.now) _ c.in_err-write_message.field-0.0 c.from_residual-in_err-write_message.result (search rules)
+    (no_bad_output c.in_err-write_message.field-0.0 c.in_err-write_message.ensures.few) (c.in_ok-number.ensures.damaged ∙ c.events.invariant.damaged)
+
+pub returns-clause-damaged : goal.returns-clause-damaged
+returns-clause-damaged g c = c.in_ok-number.ensures.damaged ∙ c.events.invariant.damaged

@@ -4,7 +4,7 @@ use Rattle.relay_core.specs.Entries.{Holds}
 use Rattle.relay_core.specs.declared.journal_state.Core.{Core}
 use Rattle.relay_store.proofs.Images.{no_journal}
 use Rattle.relay_store.proofs.Beside.{opened_keeps}
-use Rattle.serve_run.proofs.Reading.{read_opened, read_unopened}
+use Rattle.serve_run.proofs.Reading.{again_opened, again_unopened, read_opened, read_unopened}
 use Rattle.query_run.specs.AtWire.{at_wire}
 use Rattle.serve_run.specs.Ends.{ServeEndShows, ServeOpened}
 use Rattle.serve_run.specs.Guests.{end_in}
@@ -17,7 +17,7 @@ pub returns-in-Err-clause-answered : goal.returns-in-Err-clause-answered
 returns-in-Err-clause-answered g c = λ told J image. record {
   queried = queried_unopened g.W.Wire.tells g.O.Sink.tells c.args.count J (at_wire (g.W.Wire.requests c.args.wire.now) (g.W.Wire.exchanges c.args.wire.now) (g.W.Wire.send_faults c.args.wire.now)) (g.O.Sink.written c.args.out.now)
       c.in-Err.fault c.of_opening.result c.of_opening.ensures;
-  read = read_unopened g.D.Disk.tells (g.D.Disk.view c.args.disk.now) (g.D.Disk.view c.args.other.now) (g.D.Disk.view c.open.new.disk) (g.D.Disk.view c.open.new.other) c.in-Err.fault c.of_opening.result J
+  again = again_unopened g.D.Disk.tells (g.D.Disk.view c.args.disk.now) (g.D.Disk.view c.args.other.now) (g.D.Disk.view c.open.new.disk) (g.D.Disk.view c.open.new.other) c.in-Err.fault c.of_opening.result J
       (g.met.D.Disk.is_disk c.open.new.disk) (g.met.D.Disk.is_disk c.open.new.other) c.in-Err.ensures.opened told c.of_opening.ensures;
 }
 
@@ -35,7 +35,7 @@ pub returns-in-Ok-answer_all-clause-answered : goal.returns-in-Ok-answer_all-cla
 returns-in-Ok-answer_all-clause-answered g c = λ told J image. record {
   queried = c.in-Ok-answer_all.ensures.queried J (subst (λ (x : Core). Holds x J) (sym c.core.ensures)
       (opened_keeps g.D.Disk.tells (g.D.Disk.view c.args.disk.now) (g.D.Disk.view c.args.other.now) (g.D.Disk.view c.open.new.disk) (g.D.Disk.view c.open.new.other) c.in-Ok.store c.in-Ok.ensures.opened told J image).core);
-  read = read_opened g.D.Disk.tells (g.D.Disk.view c.args.disk.now) (g.D.Disk.view c.args.other.now) (g.D.Disk.view c.open.new.disk) (g.D.Disk.view c.open.new.other) (g.D.Disk.view c.open.new.disk) (g.D.Disk.view c.open.new.other)
+  again = again_opened g.D.Disk.tells (g.D.Disk.view c.args.disk.now) (g.D.Disk.view c.args.other.now) (g.D.Disk.view c.open.new.disk) (g.D.Disk.view c.open.new.other) (g.D.Disk.view c.open.new.disk) (g.D.Disk.view c.open.new.other)
       c.in-Ok.store (ServeOpened ServeEnd.Done) J (g.met.D.Disk.is_disk c.open.new.disk) (g.met.D.Disk.is_disk c.open.new.other) c.in-Ok.ensures.opened told image
       (still_here (g.D.Disk.view c.open.new.disk)) (still_here (g.D.Disk.view c.open.new.other));
 }
@@ -49,7 +49,7 @@ pub returns-clause-answered : goal.returns-clause-answered
 returns-clause-answered g c = λ told J image. record {
   queried = c.in-Err-answer_all.ensures.queried J (subst (λ (x : Core). Holds x J) (sym c.core.ensures)
       (opened_keeps g.D.Disk.tells (g.D.Disk.view c.args.disk.now) (g.D.Disk.view c.args.other.now) (g.D.Disk.view c.open.new.disk) (g.D.Disk.view c.open.new.other) c.in-Ok.store c.in-Ok.ensures.opened told J image).core);
-  read = read_opened g.D.Disk.tells (g.D.Disk.view c.args.disk.now) (g.D.Disk.view c.args.other.now) (g.D.Disk.view c.open.new.disk) (g.D.Disk.view c.open.new.other) (g.D.Disk.view c.open.new.disk) (g.D.Disk.view c.open.new.other)
+  again = again_opened g.D.Disk.tells (g.D.Disk.view c.args.disk.now) (g.D.Disk.view c.args.other.now) (g.D.Disk.view c.open.new.disk) (g.D.Disk.view c.open.new.other) (g.D.Disk.view c.open.new.disk) (g.D.Disk.view c.open.new.other)
       c.in-Ok.store (ServeOpened c.in-Err-answer_all.end) J (g.met.D.Disk.is_disk c.open.new.disk) (g.met.D.Disk.is_disk c.open.new.other) c.in-Ok.ensures.opened told image
       (still_here (g.D.Disk.view c.open.new.disk)) (still_here (g.D.Disk.view c.open.new.other));
 }
@@ -97,3 +97,14 @@ returns-clause-no_journal g c = λ told none. let kept = c.in-Ok.ensures.opened.
 
 pub returns-in-Err-clause-disks_steady : goal.returns-in-Err-clause-disks_steady
 returns-in-Err-clause-disks_steady g c = opening_steady c.in-Err.fault c.of_opening.result _ c.of_opening.ensures c.in-Err.ensures.steady
+
+pub returns-in-Ok-answer_all-clause-only_read : goal.returns-in-Ok-answer_all-clause-only_read
+returns-in-Ok-answer_all-clause-only_read g c = λ told no. read_opened g.D.Disk.tells (g.D.Disk.view c.args.disk.now) (g.D.Disk.view c.args.other.now) (g.D.Disk.view c.open.new.disk) (g.D.Disk.view c.open.new.other) (g.D.Disk.view c.open.new.disk) (g.D.Disk.view c.open.new.other)
+    c.in-Ok.store (g.met.D.Disk.is_disk c.args.disk.now) (g.met.D.Disk.is_disk c.args.other.now) c.in-Ok.ensures.opened told (still_here (g.D.Disk.view c.open.new.disk)) (still_here (g.D.Disk.view c.open.new.other))
+
+pub returns-clause-only_read : goal.returns-clause-only_read
+returns-clause-only_read g c = λ told no. read_opened g.D.Disk.tells (g.D.Disk.view c.args.disk.now) (g.D.Disk.view c.args.other.now) (g.D.Disk.view c.open.new.disk) (g.D.Disk.view c.open.new.other) (g.D.Disk.view c.open.new.disk) (g.D.Disk.view c.open.new.other)
+    c.in-Ok.store (g.met.D.Disk.is_disk c.args.disk.now) (g.met.D.Disk.is_disk c.args.other.now) c.in-Ok.ensures.opened told (still_here (g.D.Disk.view c.open.new.disk)) (still_here (g.D.Disk.view c.open.new.other))
+
+pub returns-in-Err-clause-only_read : goal.returns-in-Err-clause-only_read
+returns-in-Err-clause-only_read g c = read_unopened g.D.Disk.tells (g.D.Disk.view c.args.disk.now) (g.D.Disk.view c.args.other.now) (g.D.Disk.view c.open.new.disk) (g.D.Disk.view c.open.new.other) c.in-Err.fault c.of_opening.result c.in-Err.ensures.opened c.of_opening.ensures

@@ -1,12 +1,17 @@
-use Rattle.std.proofs.Common.{◌∙◌, ap, false, refl, sym, true}
+use Rattle.std.proofs.Common.{◌∙◌, ap, arith, false, refl, sym, true}
 use Rattle.query_run.specs.AtWire.{at_wire}
 use Rattle.relay_step.specs.Around.{around}
+use Rattle.run_base.specs.Place.{the_clock, the_judges, the_output, the_repos}
+use Rattle.run_base.specs.declared.status.Status.{Status}
 use Rattle.serve_run.specs.AtDoor.{at_door}
-use Rattle.relay_cli.proofs.Asking.{check_asks_none, cutting_asks_none, mirror_asks_none, off_journal, query_asks_none, run_spent, serving_asks_none, showing_asks_none, takes_none, trial_asks_none}
-use Rattle.relay_cli.proofs.Words.{followed_of, lines_run_as, operated_of, run_as, shown_of, spent_by, synced_of}
+use Rattle.relay_cli.proofs.Asking.{not_so, reads_none, reads_rowless, rowless}
+use Rattle.relay_cli.proofs.Causing.{caused_check, caused_feed, caused_mirror, caused_query, caused_serving, caused_tape, caused_trial}
+use Rattle.relay_cli.proofs.Handed.{at_parts, causes_at, causes_handed, cut_seen, parts_same, ran_at, told_handed}
+use Rattle.relay_cli.proofs.Words.{followed_of, lines_run_as, operated_of, run_as, shown_of, synced_of}
 use Rattle.relay_cli.proofs.Telling.{ends_by_tape, feed_quiet, none_next, of_command, replay_quiet, tape_hides_none}
-use Rattle.relay_cli.specs.Ran.{may_hide_asked, may_hide_input}
-use Rattle.relay_cli.specs.Statuses.{status_of_feed, status_of_mirror, status_of_query, status_of_run, status_of_serving, status_of_tape, status_of_trial}
+use Rattle.relay_cli.specs.Ran.{adds_rows, may_hide_asked, may_hide_input}
+use Rattle.relay_cli.specs.Runs.{is_on_journal}
+use Rattle.relay_cli.specs.Statuses.{status_of_feed, status_of_mirror, status_of_query, status_of_serving, status_of_tape, status_of_trial}
 use Rattle.relay_cli.specs.declared.command.Command.{Command}
 use Rattle.relay_cli.proofs.running.run.Goals as goal
 
@@ -24,35 +29,53 @@ returns-in-Check-clause-ran g c = record {
     input = λ hidden not. c.check.ensures.input_steady not;
     output = λ hidden not. c.check.ensures.out_steady not;
   };
-  spent = λ other is. absurd (check_asks_none _ _ _ c.check.result c.check.ensures.checked is);
-  no_journal = λ told on. absurd (off_journal _ _ c.in-Check.is refl on);
+  beside = λ told on. absurd (not_so adds_rows _ _ c.in-Check.is refl on);
+  only_read = λ told on. absurd (reads_none _ _ _ c.in-Check.is refl on);
+  no_journal = λ none on. absurd (not_so is_on_journal _ _ c.in-Check.is refl on);
 }
+
+pub returns-in-Check-clause-counted : goal.returns-in-Check-clause-counted
+returns-in-Check-clause-counted g c = (
+  caused_check _ _ _ _ _ _ (λ rose. rose) (λ rose. rose) c.check.ensures.checked,
+  record {
+    one = omega arith;
+    two = omega arith;
+    repos = omega arith;
+    clock = omega arith;
+    output = c.check.ensures.out_counts;
+    input = c.check.ensures.in_counts;
+    feed = omega arith;
+    door = omega arith;
+    wire = omega arith;
+  },
+)
 
 pub returns-in-Ingest-clause-ran : goal.returns-in-Ingest-clause-ran
 returns-in-Ingest-clause-ran g c = record {
   does = run_as _ _ _ _ _ _ _ _ c.in-Ingest.is (record {
     end = c.ingest.result;
-    status_is = c.from.ensures;
+    status_is = c.of_tape.ensures;
     had = c.ingest.ensures.shows;
-    does = c.ingest.ensures.ingested;
-    complete = λ told J image input. c.ingest.ensures.complete told input J image;
+    does = λ J holds. c.ingest.ensures.ingested holds.0 J holds.1;
+    complete = λ J holds input. c.ingest.ensures.complete holds.0 input J holds.1;
   });
   told = record {
-    disks = λ not. c.ingest.ensures.disks_steady (λ e. not (c.from.ensures ∙ ap status_of_tape e));
+    disks = λ not. c.ingest.ensures.disks_steady (λ e. not (c.of_tape.ensures ∙ ap status_of_tape e));
     feed = λ not. refl;
     door = λ not. refl;
     wire = λ not. refl;
-    clock = λ hidden not. c.ingest.ensures.clock_steady (tape_hides_none c.ingest.result (of_command may_hide_asked _ Command.Ingest _ _ c.in-Ingest.is c.from.ensures hidden)) (λ e. not (c.from.ensures ∙ ap status_of_tape e));
-    repos = λ hidden not. c.ingest.ensures.repos_steady (tape_hides_none c.ingest.result (of_command may_hide_asked _ Command.Ingest _ _ c.in-Ingest.is c.from.ensures hidden)) (λ e. not (c.from.ensures ∙ ap status_of_tape e));
-    unspent = λ hidden not. c.ingest.ensures.unspent (tape_hides_none c.ingest.result (of_command may_hide_asked _ Command.Ingest _ _ c.in-Ingest.is c.from.ensures hidden)) (λ e. not (c.from.ensures ∙ ap status_of_tape e));
-    input = λ hidden not. c.ingest.ensures.input_steady (ends_by_tape c.ingest.result (of_command may_hide_input _ Command.Ingest _ _ c.in-Ingest.is c.from.ensures hidden));
-    output = λ hidden not. c.ingest.ensures.out_steady (λ e. not (c.from.ensures ∙ ap status_of_tape e));
+    clock = λ hidden not. c.ingest.ensures.clock_steady (tape_hides_none c.ingest.result (of_command may_hide_asked _ Command.Ingest _ _ c.in-Ingest.is c.of_tape.ensures hidden)) (λ e. not (c.of_tape.ensures ∙ ap status_of_tape e));
+    repos = λ hidden not. c.ingest.ensures.repos_steady (tape_hides_none c.ingest.result (of_command may_hide_asked _ Command.Ingest _ _ c.in-Ingest.is c.of_tape.ensures hidden)) (λ e. not (c.of_tape.ensures ∙ ap status_of_tape e));
+    unspent = λ hidden not. c.ingest.ensures.unspent (tape_hides_none c.ingest.result (of_command may_hide_asked _ Command.Ingest _ _ c.in-Ingest.is c.of_tape.ensures hidden)) (λ e. not (c.of_tape.ensures ∙ ap status_of_tape e));
+    input = λ hidden not. c.ingest.ensures.input_steady (ends_by_tape c.ingest.result (of_command may_hide_input _ Command.Ingest _ _ c.in-Ingest.is c.of_tape.ensures hidden));
+    output = λ hidden not. c.ingest.ensures.out_steady (λ e. not (c.of_tape.ensures ∙ ap status_of_tape e));
   };
-  spent = λ other. absurd (takes_none _ _ c.in-Ingest.is refl other);
-  no_journal = λ told on none.
-      let alone = c.ingest.ensures.no_journal told none in
+  beside = λ told on not. c.ingest.ensures.beside told (λ e. not (c.of_tape.ensures ∙ ap status_of_tape e));
+  only_read = λ told on. absurd (reads_none _ _ _ c.in-Ingest.is refl on);
+  no_journal = λ none on.
+      let alone = c.ingest.ensures.no_journal none.0 none.1 in
       record {
-        disks_read = λ not. alone.0 (λ e. not (c.from.ensures ∙ ap status_of_tape e));
+        disks_read = λ not. alone.0 (λ e. not (c.of_tape.ensures ∙ ap status_of_tape e));
         around = λ i. around (g.P.Judges.panel (alone.1 i)) (g.C.Clock.moments (alone.3 i)) (g.R.Repos.repository (alone.2 i));
         left = ap g.I.Source.left alone.4;
         written = ap g.O.Sink.written alone.5;
@@ -63,208 +86,211 @@ returns-in-Ingest-clause-ran g c = record {
       };
 }
 
+pub returns-in-Ingest-clause-counted : goal.returns-in-Ingest-clause-counted
+returns-in-Ingest-clause-counted g c = (
+  caused_tape c.ingest.result _ _ _ c.of_tape.ensures c.ingest.ensures.caused c.ingest.ensures.spent,
+  record {
+    one = c.ingest.ensures.disk_counts;
+    two = c.ingest.ensures.other_counts;
+    repos = c.ingest.ensures.repos_count;
+    clock = c.ingest.ensures.clock_counts;
+    output = c.ingest.ensures.out_counts;
+    input = c.ingest.ensures.input_counts;
+    feed = omega arith;
+    door = omega arith;
+    wire = omega arith;
+  },
+)
+
 pub returns-in-Account-clause-ran : goal.returns-in-Account-clause-ran
-returns-in-Account-clause-ran g c = record {
-  does = run_as _ _ _ _ _ _ _ _ c.in-Account.is (shown_of _ _ _ _ _ _ c.as_str.ensures.value (record {
-    end = c.account.result;
-    status_is = c.from-in-Account.ensures;
-    had = c.account.ensures.shows;
-    quiet = c.account.ensures.quiet;
-    does = (c.account.ensures.few, (refl, (refl, c.account.ensures.shown)));
-  }));
-  told = record {
-    disks = λ not. c.account.ensures.disks_steady (λ e. not (c.from-in-Account.ensures ∙ ap status_of_run e));
-    feed = λ not. refl;
-    door = λ not. refl;
-    wire = λ not. refl;
-    clock = λ hidden not. refl;
-    repos = λ hidden not. refl;
-    unspent = λ hidden not name s. s;
-    input = λ hidden not. refl;
-    output = λ hidden not. c.account.ensures.out_steady (λ e. not (c.from-in-Account.ensures ∙ ap status_of_run e));
-  };
-  spent = λ other is. absurd (showing_asks_none c.account.result c.account.ensures.few (run_spent c.account.result (sym c.from-in-Account.ensures ∙ is)));
-  no_journal = λ told on none.
-      let alone = c.account.ensures.no_journal told none in
+returns-in-Account-clause-ran g c = ran_at _ _ _ _ _ _ _ _ _ _ _ _ (parts_same g.D.Disk.view g.P.Judges.panel g.C.Clock.moments g.R.Repos.repository g.O.Sink.written g.R.Repos.faults g.C.Clock.faults g.O.Sink.faults (g.I.Source.faults c.args.input.now) (g.F.Feed.faults c.args.feed.now) (g.G.Door.faults c.args.door.now) (g.W.Wire.faults c.args.wire.now) (c.disk-1.given.1 (sym c.account.ensures.later.pair.one)) (c.other-1.given.1 (sym c.account.ensures.later.pair.two)) (c.panel-1.given.1 (sym c.account.ensures.later.asked.judges)) (c.repos-1.given.1 (sym c.account.ensures.later.asked.repos)) (c.clock-1.given.1 (sym c.account.ensures.later.asked.clock)) (c.out-1.given.1 (sym c.account.ensures.later.out))) (record {
+  does = run_as _ _ _ _ _ _ _ _ c.in-Account.is (shown_of _ _ _ _ _ _ c.as_str.ensures.value (
+    (λ i. around (g.P.Judges.panel (c.account.ensures.unasked.0 i)) (g.C.Clock.moments (c.account.ensures.unasked.2 i)) (g.R.Repos.repository (c.account.ensures.unasked.1 i))),
+    record {
+      may = c.account.ensures.may;
+      ended = c.account.ensures.ended;
+      unread = refl;
+      came = c.account.ensures.ran;
+    },
+  ));
+  told = told_handed _ _ _ _ (record { input = refl; feed = refl; door = refl; wire = refl }) c.account.ensures.ended.told;
+  beside = λ told on. absurd (not_so adds_rows _ _ c.in-Account.is refl on);
+  only_read = λ told on. c.account.ensures.only_read told;
+  no_journal = λ none on.
+      let alone = c.account.ensures.no_journal none in
       record {
-        disks_read = λ not. alone.0 (λ e. not (c.from-in-Account.ensures ∙ ap status_of_run e));
-        around = refl;
+        disks_read = alone.0;
+        around = λ i. around (g.P.Judges.panel (alone.1 the_judges i)) (g.C.Clock.moments (alone.1 the_clock i)) (g.R.Repos.repository (alone.1 the_repos i));
         left = refl;
-        written = ap g.O.Sink.written alone.1;
+        written = ap g.O.Sink.written (alone.1 the_output);
         given = refl;
         coming = refl;
         door = refl;
         wire = refl;
       };
-}
+})
+
+pub returns-in-Account-clause-counted : goal.returns-in-Account-clause-counted
+returns-in-Account-clause-counted g c = causes_at _ _ _ _ (parts_same g.D.Disk.view g.P.Judges.panel g.C.Clock.moments g.R.Repos.repository g.O.Sink.written g.R.Repos.faults g.C.Clock.faults g.O.Sink.faults (g.I.Source.faults c.args.input.now) (g.F.Feed.faults c.args.feed.now) (g.G.Door.faults c.args.door.now) (g.W.Wire.faults c.args.wire.now) (c.disk-1.given.1 (sym c.account.ensures.later.pair.one)) (c.other-1.given.1 (sym c.account.ensures.later.pair.two)) (c.panel-1.given.1 (sym c.account.ensures.later.asked.judges)) (c.repos-1.given.1 (sym c.account.ensures.later.asked.repos)) (c.clock-1.given.1 (sym c.account.ensures.later.asked.clock)) (c.out-1.given.1 (sym c.account.ensures.later.out))) (causes_handed _ _ _ (record { input = refl; feed = refl; door = refl; wire = refl }) c.account.ensures.ended.caused c.account.ensures.later.counts)
 
 pub returns-in-Hosts-clause-ran : goal.returns-in-Hosts-clause-ran
-returns-in-Hosts-clause-ran g c = record {
-  does = run_as _ _ _ _ _ _ _ _ c.in-Hosts.is (record {
-    end = c.hosts.result;
-    status_is = c.from-in-Hosts.ensures;
-    had = c.hosts.ensures.shows;
-    quiet = c.hosts.ensures.quiet;
-    does = (c.hosts.ensures.few, (refl, (refl, c.hosts.ensures.shown)));
-  });
-  told = record {
-    disks = λ not. c.hosts.ensures.disks_steady (λ e. not (c.from-in-Hosts.ensures ∙ ap status_of_run e));
-    feed = λ not. refl;
-    door = λ not. refl;
-    wire = λ not. refl;
-    clock = λ hidden not. refl;
-    repos = λ hidden not. refl;
-    unspent = λ hidden not name s. s;
-    input = λ hidden not. refl;
-    output = λ hidden not. c.hosts.ensures.out_steady (λ e. not (c.from-in-Hosts.ensures ∙ ap status_of_run e));
-  };
-  spent = λ other is. absurd (showing_asks_none c.hosts.result c.hosts.ensures.few (run_spent c.hosts.result (sym c.from-in-Hosts.ensures ∙ is)));
-  no_journal = λ told on none.
-      let alone = c.hosts.ensures.no_journal told none in
+returns-in-Hosts-clause-ran g c = ran_at _ _ _ _ _ _ _ _ _ _ _ _ (parts_same g.D.Disk.view g.P.Judges.panel g.C.Clock.moments g.R.Repos.repository g.O.Sink.written g.R.Repos.faults g.C.Clock.faults g.O.Sink.faults (g.I.Source.faults c.args.input.now) (g.F.Feed.faults c.args.feed.now) (g.G.Door.faults c.args.door.now) (g.W.Wire.faults c.args.wire.now) (c.disk-in-Hosts-1.given.1 (sym c.hosts.ensures.later.pair.one)) (c.other-in-Hosts-1.given.1 (sym c.hosts.ensures.later.pair.two)) (c.panel-in-Hosts-1.given.1 (sym c.hosts.ensures.later.asked.judges)) (c.repos-in-Hosts-1.given.1 (sym c.hosts.ensures.later.asked.repos)) (c.clock-in-Hosts-1.given.1 (sym c.hosts.ensures.later.asked.clock)) (c.out-in-Hosts-1.given.1 (sym c.hosts.ensures.later.out))) (record {
+  does = run_as _ _ _ _ _ _ _ _ c.in-Hosts.is (
+    (λ i. around (g.P.Judges.panel (c.hosts.ensures.unasked.0 i)) (g.C.Clock.moments (c.hosts.ensures.unasked.2 i)) (g.R.Repos.repository (c.hosts.ensures.unasked.1 i))),
+    record {
+      may = c.hosts.ensures.may;
+      ended = c.hosts.ensures.ended;
+      unread = refl;
+      came = c.hosts.ensures.ran;
+    },
+  );
+  told = told_handed _ _ _ _ (record { input = refl; feed = refl; door = refl; wire = refl }) c.hosts.ensures.ended.told;
+  beside = λ told on. absurd (not_so adds_rows _ _ c.in-Hosts.is refl on);
+  only_read = λ told on. c.hosts.ensures.only_read told;
+  no_journal = λ none on.
+      let alone = c.hosts.ensures.no_journal none in
       record {
-        disks_read = λ not. alone.0 (λ e. not (c.from-in-Hosts.ensures ∙ ap status_of_run e));
-        around = refl;
+        disks_read = alone.0;
+        around = λ i. around (g.P.Judges.panel (alone.1 the_judges i)) (g.C.Clock.moments (alone.1 the_clock i)) (g.R.Repos.repository (alone.1 the_repos i));
         left = refl;
-        written = ap g.O.Sink.written alone.1;
+        written = ap g.O.Sink.written (alone.1 the_output);
         given = refl;
         coming = refl;
         door = refl;
         wire = refl;
       };
-}
+})
+
+pub returns-in-Hosts-clause-counted : goal.returns-in-Hosts-clause-counted
+returns-in-Hosts-clause-counted g c = causes_at _ _ _ _ (parts_same g.D.Disk.view g.P.Judges.panel g.C.Clock.moments g.R.Repos.repository g.O.Sink.written g.R.Repos.faults g.C.Clock.faults g.O.Sink.faults (g.I.Source.faults c.args.input.now) (g.F.Feed.faults c.args.feed.now) (g.G.Door.faults c.args.door.now) (g.W.Wire.faults c.args.wire.now) (c.disk-in-Hosts-1.given.1 (sym c.hosts.ensures.later.pair.one)) (c.other-in-Hosts-1.given.1 (sym c.hosts.ensures.later.pair.two)) (c.panel-in-Hosts-1.given.1 (sym c.hosts.ensures.later.asked.judges)) (c.repos-in-Hosts-1.given.1 (sym c.hosts.ensures.later.asked.repos)) (c.clock-in-Hosts-1.given.1 (sym c.hosts.ensures.later.asked.clock)) (c.out-in-Hosts-1.given.1 (sym c.hosts.ensures.later.out))) (causes_handed _ _ _ (record { input = refl; feed = refl; door = refl; wire = refl }) c.hosts.ensures.ended.caused c.hosts.ensures.later.counts)
 
 pub returns-in-Takedown-clause-ran : goal.returns-in-Takedown-clause-ran
-returns-in-Takedown-clause-ran g c = record {
-  does = run_as _ _ _ _ _ _ _ _ c.in-Takedown.is (operated_of _ _ _ _ true _ _ _ _ c.as_str-did.ensures.value c.as_str-time.ensures.value (record {
-    end = c.operate.result;
-    status_is = c.from-in-Takedown.ensures;
-    had = c.operate.ensures.shows;
-    quiet = c.operate.ensures.quiet;
-    does = (spent_by _ _ _ _ _ c.operate.result c.operate.ensures.caused, refl, (refl, c.operate.ensures.ran));
-  }));
-  told = record {
-    disks = λ not. c.operate.ensures.disks_steady (λ e. not (c.from-in-Takedown.ensures ∙ ap status_of_run e));
-    feed = λ not. refl;
-    door = λ not. refl;
-    wire = λ not. refl;
-    clock = λ hidden not. c.operate.ensures.clock_steady (λ e. not (c.from-in-Takedown.ensures ∙ ap status_of_run e));
-    repos = λ hidden not. refl;
-    unspent = λ hidden not name s. s;
-    input = λ hidden not. refl;
-    output = λ hidden not. c.operate.ensures.out_steady (λ e. not (c.from-in-Takedown.ensures ∙ ap status_of_run e));
-  };
-  spent = λ other is. absurd (spent_by _ _ _ _ _ c.operate.result c.operate.ensures.caused (run_spent c.operate.result (sym c.from-in-Takedown.ensures ∙ is)));
-  no_journal = λ told on none.
-      let alone = c.operate.ensures.no_journal told none in
+returns-in-Takedown-clause-ran g c = ran_at _ _ _ _ _ _ _ _ _ _ _ _ (parts_same g.D.Disk.view g.P.Judges.panel g.C.Clock.moments g.R.Repos.repository g.O.Sink.written g.R.Repos.faults g.C.Clock.faults g.O.Sink.faults (g.I.Source.faults c.args.input.now) (g.F.Feed.faults c.args.feed.now) (g.G.Door.faults c.args.door.now) (g.W.Wire.faults c.args.wire.now) (c.disk-in-Takedown-1.given.1 (sym c.operate.ensures.later.pair.one)) (c.other-in-Takedown-1.given.1 (sym c.operate.ensures.later.pair.two)) (c.panel-in-Takedown-1.given.1 (sym c.operate.ensures.later.asked.judges)) (c.repos-in-Takedown-1.given.1 (sym c.operate.ensures.later.asked.repos)) (c.clock-in-Takedown-1.given.1 (sym c.operate.ensures.later.asked.clock)) (c.out-in-Takedown-1.given.1 (sym c.operate.ensures.later.out))) (record {
+  does = run_as _ _ _ _ _ _ _ _ c.in-Takedown.is (operated_of _ _ _ _ true _ _ _ _ c.as_str-in-Takedown.ensures.value c.as_str-in-Takedown-2.ensures.value (
+    ap g.P.Judges.panel c.operate.ensures.unasked.0,
+    record {
+      may = c.operate.ensures.may;
+      ended = c.operate.ensures.ended;
+      unread = refl;
+      came = c.operate.ensures.ran;
+    },
+  ));
+  told = told_handed _ _ _ _ (record { input = refl; feed = refl; door = refl; wire = refl }) c.operate.ensures.ended.told;
+  beside = λ told on. c.operate.ensures.beside told;
+  only_read = λ told on not.
+      let rowless_end = reads_rowless _ _ _ c.in-Takedown.is refl on in
+      c.operate.ensures.unwritten told not (rowless _ Status.Done refl rowless_end) (rowless _ Status.WriteFault refl rowless_end);
+  no_journal = λ none on.
+      let alone = c.operate.ensures.no_journal none in
       record {
-        disks_read = λ not. alone.0 (λ e. not (c.from-in-Takedown.ensures ∙ ap status_of_run e));
-        around = ap (λ clock. around (g.P.Judges.panel c.args.panel.now) (g.C.Clock.moments clock) (g.R.Repos.repository c.args.repos.now)) alone.1;
+        disks_read = alone.0;
+        around = λ i. around (g.P.Judges.panel (alone.1 the_judges i)) (g.C.Clock.moments (alone.1 the_clock i)) (g.R.Repos.repository (alone.1 the_repos i));
         left = refl;
-        written = ap g.O.Sink.written alone.2;
+        written = ap g.O.Sink.written (alone.1 the_output);
         given = refl;
         coming = refl;
         door = refl;
         wire = refl;
       };
-}
+})
+
+pub returns-in-Takedown-clause-counted : goal.returns-in-Takedown-clause-counted
+returns-in-Takedown-clause-counted g c = causes_at _ _ _ _ (parts_same g.D.Disk.view g.P.Judges.panel g.C.Clock.moments g.R.Repos.repository g.O.Sink.written g.R.Repos.faults g.C.Clock.faults g.O.Sink.faults (g.I.Source.faults c.args.input.now) (g.F.Feed.faults c.args.feed.now) (g.G.Door.faults c.args.door.now) (g.W.Wire.faults c.args.wire.now) (c.disk-in-Takedown-1.given.1 (sym c.operate.ensures.later.pair.one)) (c.other-in-Takedown-1.given.1 (sym c.operate.ensures.later.pair.two)) (c.panel-in-Takedown-1.given.1 (sym c.operate.ensures.later.asked.judges)) (c.repos-in-Takedown-1.given.1 (sym c.operate.ensures.later.asked.repos)) (c.clock-in-Takedown-1.given.1 (sym c.operate.ensures.later.asked.clock)) (c.out-in-Takedown-1.given.1 (sym c.operate.ensures.later.out))) (causes_handed _ _ _ (record { input = refl; feed = refl; door = refl; wire = refl }) c.operate.ensures.ended.caused c.operate.ensures.later.counts)
 
 pub returns-in-Restore-clause-ran : goal.returns-in-Restore-clause-ran
-returns-in-Restore-clause-ran g c = record {
-  does = run_as _ _ _ _ _ _ _ _ c.in-Restore.is (operated_of _ _ _ _ false _ _ _ _ c.as_str-did-in-Restore.ensures.value c.as_str-time-in-Restore.ensures.value (record {
-    end = c.operate-in-Restore.result;
-    status_is = c.from-in-Restore.ensures;
-    had = c.operate-in-Restore.ensures.shows;
-    quiet = c.operate-in-Restore.ensures.quiet;
-    does = (spent_by _ _ _ _ _ c.operate-in-Restore.result c.operate-in-Restore.ensures.caused, refl, (refl, c.operate-in-Restore.ensures.ran));
-  }));
-  told = record {
-    disks = λ not. c.operate-in-Restore.ensures.disks_steady (λ e. not (c.from-in-Restore.ensures ∙ ap status_of_run e));
-    feed = λ not. refl;
-    door = λ not. refl;
-    wire = λ not. refl;
-    clock = λ hidden not. c.operate-in-Restore.ensures.clock_steady (λ e. not (c.from-in-Restore.ensures ∙ ap status_of_run e));
-    repos = λ hidden not. refl;
-    unspent = λ hidden not name s. s;
-    input = λ hidden not. refl;
-    output = λ hidden not. c.operate-in-Restore.ensures.out_steady (λ e. not (c.from-in-Restore.ensures ∙ ap status_of_run e));
-  };
-  spent = λ other is. absurd (spent_by _ _ _ _ _ c.operate-in-Restore.result c.operate-in-Restore.ensures.caused (run_spent c.operate-in-Restore.result (sym c.from-in-Restore.ensures ∙ is)));
-  no_journal = λ told on none.
-      let alone = c.operate-in-Restore.ensures.no_journal told none in
+returns-in-Restore-clause-ran g c = ran_at _ _ _ _ _ _ _ _ _ _ _ _ (parts_same g.D.Disk.view g.P.Judges.panel g.C.Clock.moments g.R.Repos.repository g.O.Sink.written g.R.Repos.faults g.C.Clock.faults g.O.Sink.faults (g.I.Source.faults c.args.input.now) (g.F.Feed.faults c.args.feed.now) (g.G.Door.faults c.args.door.now) (g.W.Wire.faults c.args.wire.now) (c.disk-in-Restore-1.given.1 (sym c.operate-in-Restore.ensures.later.pair.one)) (c.other-in-Restore-1.given.1 (sym c.operate-in-Restore.ensures.later.pair.two)) (c.panel-in-Restore-1.given.1 (sym c.operate-in-Restore.ensures.later.asked.judges)) (c.repos-in-Restore-1.given.1 (sym c.operate-in-Restore.ensures.later.asked.repos)) (c.clock-in-Restore-1.given.1 (sym c.operate-in-Restore.ensures.later.asked.clock)) (c.out-in-Restore-1.given.1 (sym c.operate-in-Restore.ensures.later.out))) (record {
+  does = run_as _ _ _ _ _ _ _ _ c.in-Restore.is (operated_of _ _ _ _ false _ _ _ _ c.as_str-in-Restore.ensures.value c.as_str-in-Restore-2.ensures.value (
+    ap g.P.Judges.panel c.operate-in-Restore.ensures.unasked.0,
+    record {
+      may = c.operate-in-Restore.ensures.may;
+      ended = c.operate-in-Restore.ensures.ended;
+      unread = refl;
+      came = c.operate-in-Restore.ensures.ran;
+    },
+  ));
+  told = told_handed _ _ _ _ (record { input = refl; feed = refl; door = refl; wire = refl }) c.operate-in-Restore.ensures.ended.told;
+  beside = λ told on. c.operate-in-Restore.ensures.beside told;
+  only_read = λ told on not.
+      let rowless_end = reads_rowless _ _ _ c.in-Restore.is refl on in
+      c.operate-in-Restore.ensures.unwritten told not (rowless _ Status.Done refl rowless_end) (rowless _ Status.WriteFault refl rowless_end);
+  no_journal = λ none on.
+      let alone = c.operate-in-Restore.ensures.no_journal none in
       record {
-        disks_read = λ not. alone.0 (λ e. not (c.from-in-Restore.ensures ∙ ap status_of_run e));
-        around = ap (λ clock. around (g.P.Judges.panel c.args.panel.now) (g.C.Clock.moments clock) (g.R.Repos.repository c.args.repos.now)) alone.1;
+        disks_read = alone.0;
+        around = λ i. around (g.P.Judges.panel (alone.1 the_judges i)) (g.C.Clock.moments (alone.1 the_clock i)) (g.R.Repos.repository (alone.1 the_repos i));
         left = refl;
-        written = ap g.O.Sink.written alone.2;
+        written = ap g.O.Sink.written (alone.1 the_output);
         given = refl;
         coming = refl;
         door = refl;
         wire = refl;
       };
-}
+})
+
+pub returns-in-Restore-clause-counted : goal.returns-in-Restore-clause-counted
+returns-in-Restore-clause-counted g c = causes_at _ _ _ _ (parts_same g.D.Disk.view g.P.Judges.panel g.C.Clock.moments g.R.Repos.repository g.O.Sink.written g.R.Repos.faults g.C.Clock.faults g.O.Sink.faults (g.I.Source.faults c.args.input.now) (g.F.Feed.faults c.args.feed.now) (g.G.Door.faults c.args.door.now) (g.W.Wire.faults c.args.wire.now) (c.disk-in-Restore-1.given.1 (sym c.operate-in-Restore.ensures.later.pair.one)) (c.other-in-Restore-1.given.1 (sym c.operate-in-Restore.ensures.later.pair.two)) (c.panel-in-Restore-1.given.1 (sym c.operate-in-Restore.ensures.later.asked.judges)) (c.repos-in-Restore-1.given.1 (sym c.operate-in-Restore.ensures.later.asked.repos)) (c.clock-in-Restore-1.given.1 (sym c.operate-in-Restore.ensures.later.asked.clock)) (c.out-in-Restore-1.given.1 (sym c.operate-in-Restore.ensures.later.out))) (causes_handed _ _ _ (record { input = refl; feed = refl; door = refl; wire = refl }) c.operate-in-Restore.ensures.ended.caused c.operate-in-Restore.ensures.later.counts)
 
 pub returns-in-Sync-clause-ran : goal.returns-in-Sync-clause-ran
-returns-in-Sync-clause-ran g c = record {
-  does = run_as _ _ _ _ _ _ _ _ c.in-Sync.is (synced_of _ _ _ _ _ _ _ _ c.as_str-did-in-Sync.ensures.value c.as_str-time-in-Sync.ensures.value (record {
-    end = c.sync.result;
-    status_is = c.from-in-Sync.ensures;
-    had = c.sync.ensures.shows;
-    quiet = c.sync.ensures.quiet;
-    does = (refl, c.sync.ensures.ran);
-  }));
-  told = record {
-    disks = λ not. c.sync.ensures.disks_steady (λ e. not (c.from-in-Sync.ensures ∙ ap status_of_run e));
-    feed = λ not. refl;
-    door = λ not. refl;
-    wire = λ not. refl;
-    clock = λ hidden not. c.sync.ensures.clock_steady (λ e. not (c.from-in-Sync.ensures ∙ ap status_of_run e));
-    repos = λ hidden not. c.sync.ensures.repos_steady (λ e. not (c.from-in-Sync.ensures ∙ ap status_of_run e));
-    unspent = λ hidden not. c.sync.ensures.unspent (λ e. not (c.from-in-Sync.ensures ∙ ap status_of_run e));
-    input = λ hidden not. refl;
-    output = λ hidden not. c.sync.ensures.out_steady (λ e. not (c.from-in-Sync.ensures ∙ ap status_of_run e));
-  };
-  spent = λ other is. (_, spent_by _ _ _ _ _ c.sync.result c.sync.ensures.caused (run_spent c.sync.result (sym c.from-in-Sync.ensures ∙ is)));
-  no_journal = λ told on none.
-      let alone = c.sync.ensures.no_journal told none in
+returns-in-Sync-clause-ran g c = ran_at _ _ _ _ _ _ _ _ _ _ _ _ (parts_same g.D.Disk.view g.P.Judges.panel g.C.Clock.moments g.R.Repos.repository g.O.Sink.written g.R.Repos.faults g.C.Clock.faults g.O.Sink.faults (g.I.Source.faults c.args.input.now) (g.F.Feed.faults c.args.feed.now) (g.G.Door.faults c.args.door.now) (g.W.Wire.faults c.args.wire.now) (c.disk-in-Sync-1.given.1 (sym c.sync.ensures.later.pair.one)) (c.other-in-Sync-1.given.1 (sym c.sync.ensures.later.pair.two)) (c.panel-in-Sync-1.given.1 (sym c.sync.ensures.later.asked.judges)) (c.repos-in-Sync-1.given.1 (sym c.sync.ensures.later.asked.repos)) (c.clock-in-Sync-1.given.1 (sym c.sync.ensures.later.asked.clock)) (c.out-in-Sync-1.given.1 (sym c.sync.ensures.later.out))) (record {
+  does = run_as _ _ _ _ _ _ _ _ c.in-Sync.is (synced_of _ _ _ _ _ _ _ _ c.as_str-in-Sync.ensures.value c.as_str-in-Sync-2.ensures.value (
+    c.sync.ensures.spent,
+    record {
+      may = c.sync.ensures.may;
+      ended = c.sync.ensures.ended;
+      unread = refl;
+      came = c.sync.ensures.ran;
+    },
+  ));
+  told = told_handed _ _ _ _ (record { input = refl; feed = refl; door = refl; wire = refl }) c.sync.ensures.ended.told;
+  beside = λ told on. c.sync.ensures.beside told;
+  only_read = λ told on not.
+      let rowless_end = reads_rowless _ _ _ c.in-Sync.is refl on in
+      c.sync.ensures.unwritten told not (rowless _ Status.Done refl rowless_end) (rowless _ Status.WriteFault refl rowless_end);
+  no_journal = λ none on.
+      let alone = c.sync.ensures.no_journal none in
       record {
-        disks_read = λ not. alone.0 (λ e. not (c.from-in-Sync.ensures ∙ ap status_of_run e));
-        around = λ i. around (g.P.Judges.panel (alone.1 i)) (g.C.Clock.moments (alone.3 i)) (g.R.Repos.repository (alone.2 i));
+        disks_read = alone.0;
+        around = λ i. around (g.P.Judges.panel (alone.1 the_judges i)) (g.C.Clock.moments (alone.1 the_clock i)) (g.R.Repos.repository (alone.1 the_repos i));
         left = refl;
-        written = ap g.O.Sink.written alone.4;
+        written = ap g.O.Sink.written (alone.1 the_output);
         given = refl;
         coming = refl;
         door = refl;
         wire = refl;
       };
-}
+})
+
+pub returns-in-Sync-clause-counted : goal.returns-in-Sync-clause-counted
+returns-in-Sync-clause-counted g c = causes_at _ _ _ _ (parts_same g.D.Disk.view g.P.Judges.panel g.C.Clock.moments g.R.Repos.repository g.O.Sink.written g.R.Repos.faults g.C.Clock.faults g.O.Sink.faults (g.I.Source.faults c.args.input.now) (g.F.Feed.faults c.args.feed.now) (g.G.Door.faults c.args.door.now) (g.W.Wire.faults c.args.wire.now) (c.disk-in-Sync-1.given.1 (sym c.sync.ensures.later.pair.one)) (c.other-in-Sync-1.given.1 (sym c.sync.ensures.later.pair.two)) (c.panel-in-Sync-1.given.1 (sym c.sync.ensures.later.asked.judges)) (c.repos-in-Sync-1.given.1 (sym c.sync.ensures.later.asked.repos)) (c.clock-in-Sync-1.given.1 (sym c.sync.ensures.later.asked.clock)) (c.out-in-Sync-1.given.1 (sym c.sync.ensures.later.out))) (causes_handed _ _ _ (record { input = refl; feed = refl; door = refl; wire = refl }) c.sync.ensures.ended.caused c.sync.ensures.later.counts)
 
 pub returns-in-Follow-clause-ran : goal.returns-in-Follow-clause-ran
 returns-in-Follow-clause-ran g c = record {
   does = run_as _ _ _ _ _ _ _ _ c.in-Follow.is (followed_of _ _ _ _ _ _ _ c.as_str-host.ensures.value (record {
     end = c.follow.result;
-    status_is = c.of_following.ensures;
+    status_is = c.of_feed.ensures;
     of_feed = c.follow.ensures.of_feed;
     had = c.follow.ensures.shows;
     unread = refl;
-    does = c.follow.ensures.followed;
-    complete = λ told J image. c.follow.ensures.complete told J image;
+    does = λ J holds. c.follow.ensures.followed holds.0 J holds.1;
+    complete = λ J holds. c.follow.ensures.complete holds.0 J holds.1;
   }));
   told = record {
-    disks = λ not. c.follow.ensures.disks_steady (λ e. not (c.of_following.ensures ∙ ap status_of_feed e));
-    feed = λ not. c.follow.ensures.steady (λ e. not (c.of_following.ensures ∙ ap status_of_feed e));
+    disks = λ not. c.follow.ensures.disks_steady (λ e. not (c.of_feed.ensures ∙ ap status_of_feed e));
+    feed = λ not. c.follow.ensures.steady (λ e. not (c.of_feed.ensures ∙ ap status_of_feed e));
     door = λ not. refl;
     wire = λ not. refl;
-    clock = λ hidden not. c.follow.ensures.clock_steady (feed_quiet _ _ _ _ c.follow.result c.in-Follow.is c.of_following.ensures hidden) (λ e. not (c.of_following.ensures ∙ ap status_of_feed e));
-    repos = λ hidden not. c.follow.ensures.repos_steady (feed_quiet _ _ _ _ c.follow.result c.in-Follow.is c.of_following.ensures hidden) (λ e. not (c.of_following.ensures ∙ ap status_of_feed e));
-    unspent = λ hidden not. c.follow.ensures.unspent (feed_quiet _ _ _ _ c.follow.result c.in-Follow.is c.of_following.ensures hidden) (λ e. not (c.of_following.ensures ∙ ap status_of_feed e));
+    clock = λ hidden not. c.follow.ensures.clock_steady (feed_quiet _ _ _ _ c.follow.result c.in-Follow.is c.of_feed.ensures hidden) (λ e. not (c.of_feed.ensures ∙ ap status_of_feed e));
+    repos = λ hidden not. c.follow.ensures.repos_steady (feed_quiet _ _ _ _ c.follow.result c.in-Follow.is c.of_feed.ensures hidden) (λ e. not (c.of_feed.ensures ∙ ap status_of_feed e));
+    unspent = λ hidden not. c.follow.ensures.unspent (feed_quiet _ _ _ _ c.follow.result c.in-Follow.is c.of_feed.ensures hidden) (λ e. not (c.of_feed.ensures ∙ ap status_of_feed e));
     input = λ hidden not. refl;
-    output = λ hidden not. c.follow.ensures.out_steady (λ e. not (c.of_following.ensures ∙ ap status_of_feed e));
+    output = λ hidden not. c.follow.ensures.out_steady (λ e. not (c.of_feed.ensures ∙ ap status_of_feed e));
   };
-  spent = λ other. absurd (takes_none _ _ c.in-Follow.is refl other);
-  no_journal = λ told on none.
-      let alone = c.follow.ensures.no_journal told none in
+  beside = λ told on not. c.follow.ensures.beside told (λ e. not (c.of_feed.ensures ∙ ap status_of_feed e));
+  only_read = λ told on. absurd (reads_none _ _ _ c.in-Follow.is refl on);
+  no_journal = λ none on.
+      let alone = c.follow.ensures.no_journal none.0 none.1 in
       record {
-        disks_read = λ not. alone.0 (λ e. not (c.of_following.ensures ∙ ap status_of_feed e));
+        disks_read = λ not. alone.0 (λ e. not (c.of_feed.ensures ∙ ap status_of_feed e));
         around = λ i. around (g.P.Judges.panel (alone.1 i)) (g.C.Clock.moments (alone.3 i)) (g.R.Repos.repository (alone.2 i));
         left = refl;
         written = ap g.O.Sink.written alone.5;
@@ -275,53 +301,65 @@ returns-in-Follow-clause-ran g c = record {
       };
 }
 
+pub returns-in-Follow-clause-counted : goal.returns-in-Follow-clause-counted
+returns-in-Follow-clause-counted g c = (
+  caused_feed c.follow.result _ _ _ c.of_feed.ensures c.follow.ensures.caused c.follow.ensures.spent,
+  record {
+    one = c.follow.ensures.disk_counts;
+    two = c.follow.ensures.other_counts;
+    repos = c.follow.ensures.repos_count;
+    clock = c.follow.ensures.clock_counts;
+    output = c.follow.ensures.out_counts;
+    input = omega arith;
+    feed = c.follow.ensures.feed_counts;
+    door = omega arith;
+    wire = omega arith;
+  },
+)
+
 pub returns-in-Cut-clause-ran : goal.returns-in-Cut-clause-ran
-returns-in-Cut-clause-ran g c = record {
-  does = run_as _ _ _ _ _ _ _ _ c.in-Cut.is (record {
-    end = c.cut.result;
-    status_is = c.from-in-Cut.ensures;
-    had = c.cut.ensures.shows;
-    quiet = c.cut.ensures.quiet;
-    does = (c.cut.ensures.few, (refl, (refl, c.cut.ensures.cut)));
-  });
-  told = record {
-    disks = λ not. c.cut.ensures.disks_steady (λ e. not (c.from-in-Cut.ensures ∙ ap status_of_run e));
-    feed = λ not. refl;
-    door = λ not. refl;
-    wire = λ not. refl;
-    clock = λ hidden not. refl;
-    repos = λ hidden not. refl;
-    unspent = λ hidden not name s. s;
-    input = λ hidden not. refl;
-    output = λ hidden not. c.cut.ensures.out_steady (λ e. not (c.from-in-Cut.ensures ∙ ap status_of_run e));
-  };
-  spent = λ other is. absurd (cutting_asks_none c.cut.result c.cut.ensures.few (run_spent c.cut.result (sym c.from-in-Cut.ensures ∙ is)));
-  no_journal = λ told on none.
-      let alone = c.cut.ensures.no_journal told none in
+returns-in-Cut-clause-ran g c = ran_at _ _ _ _ _ _ _ _ _ _ _ _ (parts_same g.D.Disk.view g.P.Judges.panel g.C.Clock.moments g.R.Repos.repository g.O.Sink.written g.R.Repos.faults g.C.Clock.faults g.O.Sink.faults (g.I.Source.faults c.args.input.now) (g.F.Feed.faults c.args.feed.now) (g.G.Door.faults c.args.door.now) (g.W.Wire.faults c.args.wire.now) (c.disk-in-Cut-1.given.1 (sym c.cut.ensures.later.pair.one)) (c.other-in-Cut-1.given.1 (sym c.cut.ensures.later.pair.two)) (c.panel-in-Cut-1.given.1 (sym c.cut.ensures.later.asked.judges)) (c.repos-in-Cut-1.given.1 (sym c.cut.ensures.later.asked.repos)) (c.clock-in-Cut-1.given.1 (sym c.cut.ensures.later.asked.clock)) (c.out-in-Cut-1.given.1 (sym c.cut.ensures.later.out))) (record {
+  does = run_as _ _ _ _ _ _ _ _ c.in-Cut.is (
+    (λ i. around (g.P.Judges.panel (c.cut.ensures.unasked.0 i)) (g.C.Clock.moments (c.cut.ensures.unasked.2 i)) (g.R.Repos.repository (c.cut.ensures.unasked.1 i))),
+    record {
+      may = c.cut.ensures.may;
+      ended = c.cut.ensures.ended;
+      unread = refl;
+      came = λ J holds. cut_seen g.D.Disk.view g.P.Judges.panel g.C.Clock.moments g.R.Repos.repository g.O.Sink.written g.R.Repos.faults g.C.Clock.faults g.O.Sink.faults (at_parts g.D.Disk.view g.P.Judges.panel g.C.Clock.moments g.R.Repos.repository g.O.Sink.written g.R.Repos.faults g.C.Clock.faults g.O.Sink.faults (g.I.Source.faults c.args.input.now) (g.F.Feed.faults c.args.feed.now) (g.G.Door.faults c.args.door.now) (g.W.Wire.faults c.args.wire.now) c.args.disk.now c.args.other.now c.args.panel.now c.args.repos.now c.args.clock.now c.args.out.now) _ _ J _ _ _ _ (c.cut.ensures.ran J holds);
+    },
+  );
+  told = told_handed _ _ _ _ (record { input = refl; feed = refl; door = refl; wire = refl }) c.cut.ensures.ended.told;
+  beside = λ told on. absurd (not_so adds_rows _ _ c.in-Cut.is refl on);
+  only_read = λ told on. absurd (reads_none _ _ _ c.in-Cut.is refl on);
+  no_journal = λ none on.
+      let alone = c.cut.ensures.no_journal none in
       record {
-        disks_read = λ not. alone.0 (λ e. not (c.from-in-Cut.ensures ∙ ap status_of_run e));
-        around = refl;
+        disks_read = alone.0;
+        around = λ i. around (g.P.Judges.panel (alone.1 the_judges i)) (g.C.Clock.moments (alone.1 the_clock i)) (g.R.Repos.repository (alone.1 the_repos i));
         left = refl;
-        written = ap g.O.Sink.written alone.1;
+        written = ap g.O.Sink.written (alone.1 the_output);
         given = refl;
         coming = refl;
         door = refl;
         wire = refl;
       };
-}
+})
+
+pub returns-in-Cut-clause-counted : goal.returns-in-Cut-clause-counted
+returns-in-Cut-clause-counted g c = causes_at _ _ _ _ (parts_same g.D.Disk.view g.P.Judges.panel g.C.Clock.moments g.R.Repos.repository g.O.Sink.written g.R.Repos.faults g.C.Clock.faults g.O.Sink.faults (g.I.Source.faults c.args.input.now) (g.F.Feed.faults c.args.feed.now) (g.G.Door.faults c.args.door.now) (g.W.Wire.faults c.args.wire.now) (c.disk-in-Cut-1.given.1 (sym c.cut.ensures.later.pair.one)) (c.other-in-Cut-1.given.1 (sym c.cut.ensures.later.pair.two)) (c.panel-in-Cut-1.given.1 (sym c.cut.ensures.later.asked.judges)) (c.repos-in-Cut-1.given.1 (sym c.cut.ensures.later.asked.repos)) (c.clock-in-Cut-1.given.1 (sym c.cut.ensures.later.asked.clock)) (c.out-in-Cut-1.given.1 (sym c.cut.ensures.later.out))) (causes_handed _ _ _ (record { input = refl; feed = refl; door = refl; wire = refl }) c.cut.ensures.ended.caused c.cut.ensures.later.counts)
 
 pub returns-in-Replay-clause-ran : goal.returns-in-Replay-clause-ran
 returns-in-Replay-clause-ran g c = record {
   does = run_as _ _ _ _ _ _ _ _ c.in-Replay.is (record {
     end = c.replay.result;
-    status_is = c.from-in-Replay.ensures;
+    status_is = c.of_serving.ensures;
     had = c.replay.ensures.shows;
     unasked = refl;
     unread = refl;
-    does = c.replay.ensures.replayed;
+    does = λ J holds. c.replay.ensures.replayed holds.0 J holds.1;
   });
   told = record {
-    disks = λ not. c.replay.ensures.disks_steady (λ e. not (c.from-in-Replay.ensures ∙ ap status_of_serving e));
+    disks = λ not. c.replay.ensures.disks_steady (λ e. not (c.of_serving.ensures ∙ ap status_of_serving e));
     feed = λ not. refl;
     door = λ not. refl;
     wire = λ not. refl;
@@ -329,13 +367,14 @@ returns-in-Replay-clause-ran g c = record {
     repos = λ hidden not. refl;
     unspent = λ hidden not name s. s;
     input = λ hidden not. refl;
-    output = replay_quiet _ _ _ c.replay.result _ c.in-Replay.is c.from-in-Replay.ensures (none_next _ _ c.replay.result c.replay.ensures.caused) c.replay.ensures.out_steady c.replay.ensures.memory_steady;
+    output = replay_quiet _ _ _ c.replay.result _ c.in-Replay.is c.of_serving.ensures (none_next _ _ c.replay.result c.replay.ensures.caused) c.replay.ensures.out_steady c.replay.ensures.memory_steady;
   };
-  spent = λ other is. absurd (serving_asks_none c.replay.result (sym c.from-in-Replay.ensures ∙ is));
-  no_journal = λ told on none.
-      let alone = c.replay.ensures.no_journal told none in
+  beside = λ told on. absurd (not_so adds_rows _ _ c.in-Replay.is refl on);
+  only_read = λ told on not. c.replay.ensures.only_read told (λ e. not (c.of_serving.ensures ∙ ap status_of_serving e));
+  no_journal = λ none on.
+      let alone = c.replay.ensures.no_journal none.0 none.1 in
       record {
-        disks_read = λ not. alone.0 (λ e. not (c.from-in-Replay.ensures ∙ ap status_of_serving e));
+        disks_read = λ not. alone.0 (λ e. not (c.of_serving.ensures ∙ ap status_of_serving e));
         around = refl;
         left = refl;
         written = ap g.O.Sink.written alone.1;
@@ -346,32 +385,49 @@ returns-in-Replay-clause-ran g c = record {
       };
 }
 
+pub returns-in-Replay-clause-counted : goal.returns-in-Replay-clause-counted
+returns-in-Replay-clause-counted g c = (
+  caused_serving _ c.replay.result _ _ _ (λ no. absurd no) c.of_serving.ensures c.replay.ensures.caused,
+  record {
+    one = c.replay.ensures.disk_counts;
+    two = c.replay.ensures.other_counts;
+    repos = omega arith;
+    clock = omega arith;
+    output = c.replay.ensures.out_counts;
+    input = omega arith;
+    feed = omega arith;
+    door = omega arith;
+    wire = omega arith;
+  },
+)
+
 pub returns-in-Serve-clause-ran : goal.returns-in-Serve-clause-ran
 returns-in-Serve-clause-ran g c = record {
   does = run_as _ _ _ _ _ _ _ _ c.in-Serve.is (record {
     end = c.serve.result;
-    status_is = c.from-in-Serve.ensures;
+    status_is = c.of_serving-in-Serve.ensures;
     had = c.serve.ensures.shows;
     unasked = refl;
     unread = refl;
-    does = (c.serve.ensures.door_count, c.serve.ensures.served);
+    does = (c.serve.ensures.door_count, λ J holds. c.serve.ensures.served holds.0 J holds.1);
   });
   told = record {
-    disks = λ not. c.serve.ensures.disks_steady (λ e. not (c.from-in-Serve.ensures ∙ ap status_of_serving e));
+    disks = λ not. c.serve.ensures.disks_steady (λ e. not (c.of_serving-in-Serve.ensures ∙ ap status_of_serving e));
     feed = λ not. refl;
-    door = λ not. c.serve.ensures.door_steady (λ e. not (c.from-in-Serve.ensures ∙ ap status_of_serving e));
+    door = λ not. c.serve.ensures.door_steady (λ e. not (c.of_serving-in-Serve.ensures ∙ ap status_of_serving e));
     wire = λ not. refl;
     clock = λ hidden not. refl;
     repos = λ hidden not. refl;
     unspent = λ hidden not name s. s;
     input = λ hidden not. refl;
-    output = λ hidden not. c.serve.ensures.out_steady (λ e. not (c.from-in-Serve.ensures ∙ ap status_of_serving e));
+    output = λ hidden not. c.serve.ensures.out_steady (λ e. not (c.of_serving-in-Serve.ensures ∙ ap status_of_serving e));
   };
-  spent = λ other is. absurd (serving_asks_none c.serve.result (sym c.from-in-Serve.ensures ∙ is));
-  no_journal = λ told on none.
-      let alone = c.serve.ensures.no_journal told none in
+  beside = λ told on. absurd (not_so adds_rows _ _ c.in-Serve.is refl on);
+  only_read = λ told on not. c.serve.ensures.only_read told (λ e. not (c.of_serving-in-Serve.ensures ∙ ap status_of_serving e));
+  no_journal = λ none on.
+      let alone = c.serve.ensures.no_journal none.0 none.1 in
       record {
-        disks_read = λ not. alone.0 (λ e. not (c.from-in-Serve.ensures ∙ ap status_of_serving e));
+        disks_read = λ not. alone.0 (λ e. not (c.of_serving-in-Serve.ensures ∙ ap status_of_serving e));
         around = refl;
         left = refl;
         written = ap g.O.Sink.written alone.2;
@@ -382,11 +438,27 @@ returns-in-Serve-clause-ran g c = record {
       };
 }
 
+pub returns-in-Serve-clause-counted : goal.returns-in-Serve-clause-counted
+returns-in-Serve-clause-counted g c = (
+  caused_serving _ c.serve.result _ _ _ (λ rose. rose) c.of_serving-in-Serve.ensures c.serve.ensures.caused,
+  record {
+    one = c.serve.ensures.disk_counts;
+    two = c.serve.ensures.other_counts;
+    repos = omega arith;
+    clock = omega arith;
+    output = c.serve.ensures.out_counts;
+    input = omega arith;
+    feed = omega arith;
+    door = c.serve.ensures.door_counts;
+    wire = omega arith;
+  },
+)
+
 pub returns-in-Trial-clause-ran : goal.returns-in-Trial-clause-ran
 returns-in-Trial-clause-ran g c = record {
   does = run_as _ _ _ _ _ _ _ _ c.in-Trial.is (record {
     end = c.trial.result;
-    status_is = c.from-in-Trial.ensures;
+    status_is = c.of_trial.ensures;
     first = c.trial.ensures.tried.0;
     second = c.trial.ensures.tried.1;
     tried = c.trial.ensures.tried.2;
@@ -400,17 +472,34 @@ returns-in-Trial-clause-ran g c = record {
     repos = λ hidden not. refl;
     unspent = λ hidden not name s. s;
     input = λ hidden not. refl;
-    output = λ hidden not. c.trial.ensures.out_steady (λ e. not (c.from-in-Trial.ensures ∙ ap status_of_trial e));
+    output = λ hidden not. c.trial.ensures.out_steady (λ e. not (c.of_trial.ensures ∙ ap status_of_trial e));
   };
-  spent = λ other is. absurd (trial_asks_none c.trial.result (sym c.from-in-Trial.ensures ∙ is));
-  no_journal = λ told on. absurd (off_journal _ _ c.in-Trial.is refl on);
+  beside = λ told on. absurd (not_so adds_rows _ _ c.in-Trial.is refl on);
+  only_read = λ told on. absurd (reads_none _ _ _ c.in-Trial.is refl on);
+  no_journal = λ none on. absurd (not_so is_on_journal _ _ c.in-Trial.is refl on);
 }
+
+pub returns-in-Trial-clause-counted : goal.returns-in-Trial-clause-counted
+returns-in-Trial-clause-counted g c = (
+  caused_trial c.trial.result _ _ _ c.of_trial.ensures c.trial.ensures.failed,
+  record {
+    one = omega arith;
+    two = omega arith;
+    repos = omega arith;
+    clock = omega arith;
+    output = c.trial.ensures.counts;
+    input = omega arith;
+    feed = omega arith;
+    door = omega arith;
+    wire = omega arith;
+  },
+)
 
 pub returns-in-Mirror-clause-ran : goal.returns-in-Mirror-clause-ran
 returns-in-Mirror-clause-ran g c = record {
   does = run_as _ _ _ _ _ _ _ _ c.in-Mirror.is (record {
     end = c.mirror.result;
-    status_is = c.from-in-Mirror.ensures;
+    status_is = c.of_mirror.ensures;
     does = c.mirror.ensures.mirrored;
     complete = c.mirror.ensures.complete;
     bad = c.mirror.ensures.bad;
@@ -421,43 +510,61 @@ returns-in-Mirror-clause-ran g c = record {
     door = λ not. refl;
     wire = λ not. refl;
     clock = λ hidden not. refl;
-    repos = λ hidden not. c.mirror.ensures.repos_steady (λ e. not (c.from-in-Mirror.ensures ∙ ap status_of_mirror e));
+    repos = λ hidden not. c.mirror.ensures.repos_steady (λ e. not (c.of_mirror.ensures ∙ ap status_of_mirror e));
     unspent = λ hidden not name s. s;
-    input = λ hidden not. c.mirror.ensures.input_steady (λ e. not (c.from-in-Mirror.ensures ∙ ap status_of_mirror e));
-    output = λ hidden not. c.mirror.ensures.out_steady (λ e. not (c.from-in-Mirror.ensures ∙ ap status_of_mirror e));
+    input = λ hidden not. c.mirror.ensures.input_steady (λ e. not (c.of_mirror.ensures ∙ ap status_of_mirror e));
+    output = λ hidden not. c.mirror.ensures.out_steady (λ e. not (c.of_mirror.ensures ∙ ap status_of_mirror e));
   };
-  spent = λ other is. absurd (mirror_asks_none c.mirror.result (sym c.from-in-Mirror.ensures ∙ is));
-  no_journal = λ told on. absurd (off_journal _ _ c.in-Mirror.is refl on);
+  beside = λ told on. absurd (not_so adds_rows _ _ c.in-Mirror.is refl on);
+  only_read = λ told on. absurd (reads_none _ _ _ c.in-Mirror.is refl on);
+  no_journal = λ none on. absurd (not_so is_on_journal _ _ c.in-Mirror.is refl on);
 }
+
+pub returns-in-Mirror-clause-counted : goal.returns-in-Mirror-clause-counted
+returns-in-Mirror-clause-counted g c = (
+  caused_mirror c.mirror.result _ _ _ c.of_mirror.ensures c.mirror.ensures.caused,
+  record {
+    one = omega arith;
+    two = omega arith;
+    repos = c.mirror.ensures.repos_count;
+    clock = omega arith;
+    output = c.mirror.ensures.out_counts;
+    input = c.mirror.ensures.input_counts;
+    feed = omega arith;
+    door = omega arith;
+    wire = omega arith;
+  },
+)
 
 pub returns-in-Query-clause-ran : goal.returns-in-Query-clause-ran
 returns-in-Query-clause-ran g c = record {
   does = run_as _ _ _ _ _ _ _ _ c.in-Query.is (record {
     end = c.query.result;
-    status_is = c.of_answering.ensures;
+    status_is = c.of_query.ensures;
     had = c.query.ensures.shows;
     quiet = λ is. let same = c.query.ensures.quiet is in (ap (λ wire. at_wire (g.W.Wire.requests wire) (g.W.Wire.exchanges wire) (g.W.Wire.send_faults wire)) same.0, ap g.O.Sink.written same.1);
     unasked = refl;
     unread = refl;
-    does = c.query.ensures.answered;
-    complete = λ told J image flawless wire. c.query.ensures.complete told J image flawless.0 flawless.1 wire;
+    does = λ J holds. c.query.ensures.answered holds.0 J holds.1;
+    complete = λ J holds flawless wire. c.query.ensures.complete holds.0 J holds.1 flawless.0 flawless.1 wire;
   });
   told = record {
-    disks = λ not. c.query.ensures.disks_steady (λ e. not (c.of_answering.ensures ∙ ap status_of_query e));
+    disks = λ not. c.query.ensures.disks_steady (λ e. not (c.of_query.ensures ∙ ap status_of_query e));
     feed = λ not. refl;
     door = λ not. refl;
-    wire = λ not. c.query.ensures.wire_steady (λ e. not (c.of_answering.ensures ∙ ap status_of_query e));
+    wire = λ not. c.query.ensures.wire_steady (λ e. not (c.of_query.ensures ∙ ap status_of_query e));
     clock = λ hidden not. refl;
     repos = λ hidden not. refl;
     unspent = λ hidden not name s. s;
     input = λ hidden not. refl;
-    output = λ hidden not. c.query.ensures.out_steady (λ e. not (c.of_answering.ensures ∙ ap status_of_query e));
+    output = λ hidden not. c.query.ensures.out_steady (λ e. not (c.of_query.ensures ∙ ap status_of_query e));
   };
-  spent = λ other is. absurd (query_asks_none c.query.result (sym c.of_answering.ensures ∙ is));
-  no_journal = λ told on none.
-      let alone = c.query.ensures.no_journal told none in
+  beside = λ told on. absurd (not_so adds_rows _ _ c.in-Query.is refl on);
+  only_read = λ told on not. c.query.ensures.only_read told (λ e. not (c.of_query.ensures ∙ ap status_of_query e));
+  no_journal = λ none on.
+      let alone = c.query.ensures.no_journal none.0 none.1 in
       record {
-        disks_read = λ not. alone.0 (λ e. not (c.of_answering.ensures ∙ ap status_of_query e));
+        disks_read = λ not. alone.0 (λ e. not (c.of_query.ensures ∙ ap status_of_query e));
         around = refl;
         left = refl;
         written = ap g.O.Sink.written alone.2;
@@ -468,18 +575,34 @@ returns-in-Query-clause-ran g c = record {
       };
 }
 
+pub returns-in-Query-clause-counted : goal.returns-in-Query-clause-counted
+returns-in-Query-clause-counted g c = (
+  caused_query c.query.result _ _ _ c.of_query.ensures c.query.ensures.caused,
+  record {
+    one = c.query.ensures.disk_counts;
+    two = c.query.ensures.other_counts;
+    repos = omega arith;
+    clock = omega arith;
+    output = c.query.ensures.out_counts;
+    input = omega arith;
+    feed = omega arith;
+    door = omega arith;
+    wire = c.query.ensures.wire_counts;
+  },
+)
+
 pub returns-in-Lines-clause-ran : goal.returns-in-Lines-clause-ran
 returns-in-Lines-clause-ran g c = record {
   does = lines_run_as _ _ _ _ _ _ _ _ _ _ c.in-Lines.is c.text_in-collection.ensures (record {
     end = c.lines.result;
-    status_is = c.from-in-Lines.ensures;
+    status_is = c.of_serving-in-Lines.ensures;
     had = c.lines.ensures.shows;
     unasked = refl;
     unread = refl;
-    does = λ told J image. (c.lines.ensures.written told J image, λ flawless. c.lines.ensures.complete told J image flawless.0 flawless.1);
+    does = λ J holds. (c.lines.ensures.written holds.0 J holds.1, λ flawless. c.lines.ensures.complete holds.0 J holds.1 flawless.0 flawless.1);
   });
   told = record {
-    disks = λ not. c.lines.ensures.disks_steady (λ e. not (c.from-in-Lines.ensures ∙ ap status_of_serving e));
+    disks = λ not. c.lines.ensures.disks_steady (λ e. not (c.of_serving-in-Lines.ensures ∙ ap status_of_serving e));
     feed = λ not. refl;
     door = λ not. refl;
     wire = λ not. refl;
@@ -487,13 +610,14 @@ returns-in-Lines-clause-ran g c = record {
     repos = λ hidden not. refl;
     unspent = λ hidden not name s. s;
     input = λ hidden not. refl;
-    output = λ hidden not. c.lines.ensures.out_steady (λ e. not (c.from-in-Lines.ensures ∙ ap status_of_serving e));
+    output = λ hidden not. c.lines.ensures.out_steady (λ e. not (c.of_serving-in-Lines.ensures ∙ ap status_of_serving e));
   };
-  spent = λ other is. absurd (serving_asks_none c.lines.result (sym c.from-in-Lines.ensures ∙ is));
-  no_journal = λ told on none.
-      let alone = c.lines.ensures.no_journal told none in
+  beside = λ told on. absurd (not_so adds_rows _ _ c.in-Lines.is refl on);
+  only_read = λ told on not. c.lines.ensures.only_read told (λ e. not (c.of_serving-in-Lines.ensures ∙ ap status_of_serving e));
+  no_journal = λ none on.
+      let alone = c.lines.ensures.no_journal none.0 none.1 in
       record {
-        disks_read = λ not. alone.0 (λ e. not (c.from-in-Lines.ensures ∙ ap status_of_serving e));
+        disks_read = λ not. alone.0 (λ e. not (c.of_serving-in-Lines.ensures ∙ ap status_of_serving e));
         around = refl;
         left = refl;
         written = ap g.O.Sink.written alone.1;
@@ -503,3 +627,19 @@ returns-in-Lines-clause-ran g c = record {
         wire = refl;
       };
 }
+
+pub returns-in-Lines-clause-counted : goal.returns-in-Lines-clause-counted
+returns-in-Lines-clause-counted g c = (
+  caused_serving _ c.lines.result _ _ _ (λ no. absurd no) c.of_serving-in-Lines.ensures c.lines.ensures.caused,
+  record {
+    one = c.lines.ensures.disk_counts;
+    two = c.lines.ensures.other_counts;
+    repos = omega arith;
+    clock = omega arith;
+    output = c.lines.ensures.out_counts;
+    input = omega arith;
+    feed = omega arith;
+    door = omega arith;
+    wire = omega arith;
+  },
+)

@@ -1,5 +1,5 @@
 use Rattle.std.proofs.Common.{◌≡◌, ◌∙◌, Err, false, sym, ap}
-use Rattle.serve_run.proofs.SessionsServed.{came_counted, served_fault, served_whole, serving_bad, serving_counts, serving_disk, serving_over}
+use Rattle.serve_run.proofs.SessionsServed.{came_counted, served_fault, served_whole, serving_bad, serving_counts, serving_damage, serving_disk, serving_over, serving_undamaged}
 use Rattle.serve_run.proofs.accepting.serve_events.Goals as goal
 
 pub returns-in-Ok-clause-session_served : goal.returns-in-Ok-clause-session_served
@@ -31,3 +31,9 @@ returns-in-Err-clause-closed g c =
 
 pub returns-in-Err-clause-event_steady : goal.returns-in-Err-clause-event_steady
 returns-in-Err-clause-event_steady g c = λ no. c.in-Err.ensures.event_steady (λ is. no (c.session_after.ensures ∙ serving_disk c.in-Err.fault is))
+
+pub returns-in-Err-clause-damaged : goal.returns-in-Err-clause-damaged
+returns-in-Err-clause-damaged g c = serving_damage (g.E.Events.damage c.args.events.now) _ c.in-Err.fault c.session_after.result c.session_after.ensures c.in-Err.ensures.damaged
+
+pub returns-in-Err-clause-undamaged : goal.returns-in-Err-clause-undamaged
+returns-in-Err-clause-undamaged g c = serving_undamaged (g.E.Events.damage c.args.events.now) _ c.in-Err.fault c.session_after.result c.session_after.ensures c.in-Err.ensures.damaged

@@ -8,7 +8,7 @@ use Rattle.relay_store.proofs.Beside.{opened_keeps}
 use Rattle.serve_run.specs.Ends.{ServeOpened, ServeEndShows}
 use Rattle.serve_run.specs.declared.end.ServeEnd.{ServeEnd}
 use Rattle.serve_run.proofs.Ending.{image_shows, nothing_broken, nothing_written, opening_read, opening_shows, opening_steady}
-use Rattle.serve_run.proofs.Reading.{read_opened, read_unopened}
+use Rattle.serve_run.proofs.Reading.{again_opened, again_unopened, read_opened, read_unopened}
 use Rattle.serve_run.proofs.Short.{none_too_long}
 use Rattle.serve_run.proofs.replaying.replay.Goals as goal
 
@@ -18,7 +18,7 @@ returns-in-Ok-clause-replayed g c = λ told J image. record {
       (opened_keeps g.D.Disk.tells (g.D.Disk.view c.args.disk.now) (g.D.Disk.view c.args.other.now) (g.D.Disk.view c.open.new.disk) (g.D.Disk.view c.open.new.other) c.in-Ok.store c.in-Ok.ensures.opened told J image);
   unbroken = c.replay_on.ensures.unbroken told J
       (opened_keeps g.D.Disk.tells (g.D.Disk.view c.args.disk.now) (g.D.Disk.view c.args.other.now) (g.D.Disk.view c.open.new.disk) (g.D.Disk.view c.open.new.other) c.in-Ok.store c.in-Ok.ensures.opened told J image);
-  read = read_opened g.D.Disk.tells (g.D.Disk.view c.args.disk.now) (g.D.Disk.view c.args.other.now) (g.D.Disk.view c.open.new.disk) (g.D.Disk.view c.open.new.other) (g.D.Disk.view c.replay_on.new.disk) (g.D.Disk.view c.replay_on.new.other)
+  again = again_opened g.D.Disk.tells (g.D.Disk.view c.args.disk.now) (g.D.Disk.view c.args.other.now) (g.D.Disk.view c.open.new.disk) (g.D.Disk.view c.open.new.other) (g.D.Disk.view c.replay_on.new.disk) (g.D.Disk.view c.replay_on.new.other)
       c.in-Ok.store (ServeOpened c.replay_on.result) J (g.met.D.Disk.is_disk c.open.new.disk) (g.met.D.Disk.is_disk c.open.new.other) c.in-Ok.ensures.opened told image c.replay_on.ensures.one c.replay_on.ensures.two;
 }
 
@@ -37,7 +37,7 @@ pub returns-in-Err-clause-replayed : goal.returns-in-Err-clause-replayed
 returns-in-Err-clause-replayed g c = λ told J image. record {
   written = λ _. nothing_written c.in-Err.fault c.of_opening.result (with_length (served (held_by J) (Some c.args.cursor))) (g.O.Sink.written c.args.out.now) c.of_opening.ensures (0, omega arith, sym (append-nil (g.O.Sink.written c.args.out.now)));
   unbroken = λ _. nothing_broken c.of_opening.result _ (served (held_by J) (Some c.args.cursor)) (g.O.Sink.written c.args.out.now);
-  read = read_unopened g.D.Disk.tells (g.D.Disk.view c.args.disk.now) (g.D.Disk.view c.args.other.now) (g.D.Disk.view c.open.new.disk) (g.D.Disk.view c.open.new.other) c.in-Err.fault c.of_opening.result J
+  again = again_unopened g.D.Disk.tells (g.D.Disk.view c.args.disk.now) (g.D.Disk.view c.args.other.now) (g.D.Disk.view c.open.new.disk) (g.D.Disk.view c.open.new.other) c.in-Err.fault c.of_opening.result J
       (g.met.D.Disk.is_disk c.open.new.disk) (g.met.D.Disk.is_disk c.open.new.other) c.in-Err.ensures.opened told c.of_opening.ensures;
 }
 
@@ -63,3 +63,10 @@ returns-in-Ok-clause-disks_steady g c = λ no.
     let opened = c.in-Ok.ensures.steady (λ is. absurd cc) in
     let read = c.replay_on.ensures.disks_steady no in
     (read.0 ∙ opened.0, read.1 ∙ opened.1)
+
+pub returns-in-Ok-clause-only_read : goal.returns-in-Ok-clause-only_read
+returns-in-Ok-clause-only_read g c = λ told no. read_opened g.D.Disk.tells (g.D.Disk.view c.args.disk.now) (g.D.Disk.view c.args.other.now) (g.D.Disk.view c.open.new.disk) (g.D.Disk.view c.open.new.other) (g.D.Disk.view c.replay_on.new.disk) (g.D.Disk.view c.replay_on.new.other)
+    c.in-Ok.store (g.met.D.Disk.is_disk c.args.disk.now) (g.met.D.Disk.is_disk c.args.other.now) c.in-Ok.ensures.opened told c.replay_on.ensures.one c.replay_on.ensures.two
+
+pub returns-in-Err-clause-only_read : goal.returns-in-Err-clause-only_read
+returns-in-Err-clause-only_read g c = read_unopened g.D.Disk.tells (g.D.Disk.view c.args.disk.now) (g.D.Disk.view c.args.other.now) (g.D.Disk.view c.open.new.disk) (g.D.Disk.view c.open.new.other) c.in-Err.fault c.of_opening.result c.in-Err.ensures.opened c.of_opening.ensures

@@ -1,8 +1,8 @@
-use Rattle.std.proofs.Common.{◌∙◌, Err, sym, ap}
+use Rattle.std.proofs.Common.{◌∙◌, ℕ, Err, sym, ap}
 use Rattle.std.specs.Prelude.{Some}
 use Rattle.backfill.specs.Served.{served}
 use Rattle.backfill.specs.Writing.{with_length}
-use Rattle.serve_run.proofs.Ending.{fault_unbroken, fault_written, replay_bad, replay_disk, replay_memory, replay_undone}
+use Rattle.serve_run.proofs.Ending.{fault_unbroken, fault_written, reading_failed, replay_bad, replay_disk, replay_memory, replay_undone, tells_damage}
 use Rattle.serve_run.proofs.replaying.replay_events.Goals as goal
 
 pub returns-in-Ok-clause-written : goal.returns-in-Ok-clause-written
@@ -28,3 +28,9 @@ returns-in-Err-clause-out_steady g c = λ is. absurd (replay_undone c.in-Err.fau
 
 pub returns-in-Err-clause-memory_steady : goal.returns-in-Err-clause-memory_steady
 returns-in-Err-clause-memory_steady g c = λ is. c.in-Err.ensures.memory_steady (replay_memory c.in-Err.fault (sym c.of_replay.ensures ∙ is))
+
+pub returns-in-Err-clause-upto : goal.returns-in-Err-clause-upto
+returns-in-Err-clause-upto g c = λ of. c.in-Err.ensures.upto (reading_failed c.in-Err.fault c.of_replay.result c.of_replay.ensures of)
+
+pub returns-in-Err-clause-damaged : goal.returns-in-Err-clause-damaged
+returns-in-Err-clause-damaged g c = tells_damage ℕ (g.E.Events.damage c.args.events.now) _ c.in-Err.fault c.of_replay.result c.of_replay.ensures c.in-Err.ensures.damaged

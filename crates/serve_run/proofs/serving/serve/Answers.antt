@@ -7,14 +7,14 @@ use Rattle.serve_run.specs.Guests.{end_in}
 use Rattle.serve_run.specs.declared.end.ServeEnd.{ServeEnd}
 use Rattle.serve_run.proofs.Counting.{door_same, opening_door, served_unopened}
 use Rattle.serve_run.proofs.Ending.{image_shows, opening_read, opening_shows, opening_steady}
-use Rattle.serve_run.proofs.Reading.{read_opened, read_unopened}
+use Rattle.serve_run.proofs.Reading.{again_opened, again_unopened, read_opened, read_unopened}
 use Rattle.serve_run.proofs.serving.serve.Goals as goal
 
 pub returns-in-Err-clause-served : goal.returns-in-Err-clause-served
 returns-in-Err-clause-served g c = λ told J image. record {
   served = served_unopened g.G.Door.tells g.O.Sink.tells c.args.count (held_by J) (at_door (g.G.Door.guests c.args.door.now) (g.G.Door.turns c.args.door.now) (g.G.Door.session_faults c.args.door.now)) (g.O.Sink.written c.args.out.now)
       c.in-Err.fault c.of_opening.result c.of_opening.ensures;
-  read = read_unopened g.D.Disk.tells (g.D.Disk.view c.args.disk.now) (g.D.Disk.view c.args.other.now) (g.D.Disk.view c.open.new.disk) (g.D.Disk.view c.open.new.other) c.in-Err.fault c.of_opening.result J
+  again = again_unopened g.D.Disk.tells (g.D.Disk.view c.args.disk.now) (g.D.Disk.view c.args.other.now) (g.D.Disk.view c.open.new.disk) (g.D.Disk.view c.open.new.other) c.in-Err.fault c.of_opening.result J
       (g.met.D.Disk.is_disk c.open.new.disk) (g.met.D.Disk.is_disk c.open.new.other) c.in-Err.ensures.opened told c.of_opening.ensures;
 }
 
@@ -27,7 +27,7 @@ pub returns-in-Ok-serve_guests-clause-served : goal.returns-in-Ok-serve_guests-c
 returns-in-Ok-serve_guests-clause-served g c = λ told J image. record {
   served = c.in-Ok-serve_guests.ensures.served told J
       (opened_keeps g.D.Disk.tells (g.D.Disk.view c.args.disk.now) (g.D.Disk.view c.args.other.now) (g.D.Disk.view c.open.new.disk) (g.D.Disk.view c.open.new.other) c.in-Ok.store c.in-Ok.ensures.opened told J image);
-  read = read_opened g.D.Disk.tells (g.D.Disk.view c.args.disk.now) (g.D.Disk.view c.args.other.now) (g.D.Disk.view c.open.new.disk) (g.D.Disk.view c.open.new.other) (g.D.Disk.view c.serve_guests.new.disk) (g.D.Disk.view c.serve_guests.new.other)
+  again = again_opened g.D.Disk.tells (g.D.Disk.view c.args.disk.now) (g.D.Disk.view c.args.other.now) (g.D.Disk.view c.open.new.disk) (g.D.Disk.view c.open.new.other) (g.D.Disk.view c.serve_guests.new.disk) (g.D.Disk.view c.serve_guests.new.other)
       c.in-Ok.store (ServeOpened ServeEnd.Done) J (g.met.D.Disk.is_disk c.open.new.disk) (g.met.D.Disk.is_disk c.open.new.other) c.in-Ok.ensures.opened told image c.serve_guests.ensures.one c.serve_guests.ensures.two;
 }
 
@@ -35,9 +35,14 @@ pub returns-clause-served : goal.returns-clause-served
 returns-clause-served g c = λ told J image. record {
   served = c.in-Err-serve_guests.ensures.served told J
       (opened_keeps g.D.Disk.tells (g.D.Disk.view c.args.disk.now) (g.D.Disk.view c.args.other.now) (g.D.Disk.view c.open.new.disk) (g.D.Disk.view c.open.new.other) c.in-Ok.store c.in-Ok.ensures.opened told J image);
-  read = read_opened g.D.Disk.tells (g.D.Disk.view c.args.disk.now) (g.D.Disk.view c.args.other.now) (g.D.Disk.view c.open.new.disk) (g.D.Disk.view c.open.new.other) (g.D.Disk.view c.serve_guests.new.disk) (g.D.Disk.view c.serve_guests.new.other)
+  again = again_opened g.D.Disk.tells (g.D.Disk.view c.args.disk.now) (g.D.Disk.view c.args.other.now) (g.D.Disk.view c.open.new.disk) (g.D.Disk.view c.open.new.other) (g.D.Disk.view c.serve_guests.new.disk) (g.D.Disk.view c.serve_guests.new.other)
       c.in-Ok.store (ServeOpened c.in-Err-serve_guests.end) J (g.met.D.Disk.is_disk c.open.new.disk) (g.met.D.Disk.is_disk c.open.new.other) c.in-Ok.ensures.opened told image c.serve_guests.ensures.one c.serve_guests.ensures.two;
 }
+
+pub returns-in-Ok-serve_guests-clause-shows : goal.returns-in-Ok-serve_guests-clause-shows
+returns-in-Ok-serve_guests-clause-shows g c = λ told.
+    let kept = c.in-Ok.ensures.opened.keeps told in
+    (kept.0, kept.1)
 
 pub returns-clause-shows : goal.returns-clause-shows
 returns-clause-shows g c = λ told.
@@ -80,3 +85,14 @@ returns-clause-out_steady g c = λ no. c.in-Err-serve_guests.ensures.out_steady 
 
 pub returns-clause-door_steady : goal.returns-clause-door_steady
 returns-clause-door_steady g c = door_same c.in-Err-serve_guests.end _ _ c.in-Err-serve_guests.ensures.door_count
+
+pub returns-in-Ok-serve_guests-clause-only_read : goal.returns-in-Ok-serve_guests-clause-only_read
+returns-in-Ok-serve_guests-clause-only_read g c = λ told no. read_opened g.D.Disk.tells (g.D.Disk.view c.args.disk.now) (g.D.Disk.view c.args.other.now) (g.D.Disk.view c.open.new.disk) (g.D.Disk.view c.open.new.other) (g.D.Disk.view c.serve_guests.new.disk) (g.D.Disk.view c.serve_guests.new.other)
+    c.in-Ok.store (g.met.D.Disk.is_disk c.args.disk.now) (g.met.D.Disk.is_disk c.args.other.now) c.in-Ok.ensures.opened told c.serve_guests.ensures.one c.serve_guests.ensures.two
+
+pub returns-clause-only_read : goal.returns-clause-only_read
+returns-clause-only_read g c = λ told no. read_opened g.D.Disk.tells (g.D.Disk.view c.args.disk.now) (g.D.Disk.view c.args.other.now) (g.D.Disk.view c.open.new.disk) (g.D.Disk.view c.open.new.other) (g.D.Disk.view c.serve_guests.new.disk) (g.D.Disk.view c.serve_guests.new.other)
+    c.in-Ok.store (g.met.D.Disk.is_disk c.args.disk.now) (g.met.D.Disk.is_disk c.args.other.now) c.in-Ok.ensures.opened told c.serve_guests.ensures.one c.serve_guests.ensures.two
+
+pub returns-in-Err-clause-only_read : goal.returns-in-Err-clause-only_read
+returns-in-Err-clause-only_read g c = read_unopened g.D.Disk.tells (g.D.Disk.view c.args.disk.now) (g.D.Disk.view c.args.other.now) (g.D.Disk.view c.open.new.disk) (g.D.Disk.view c.open.new.other) c.in-Err.fault c.of_opening.result c.in-Err.ensures.opened c.of_opening.ensures

@@ -1,24 +1,11 @@
-use Rattle.std.proofs.Common.{◌≢◌, inr, Some, List, sym, subst, ap, ◌∙◌, arith, length, refl, take}
-use Rattle.relay_store.specs.declared.fault.StoreFault.{StoreFault}
-use Rattle.relay_store.specs.declared.outcome.Outcome.{Outcome}
+use Rattle.std.proofs.Common.{Some, ap, ◌∙◌, arith, length, refl, take}
 use Rattle.take_run.proofs.Answers.{answered_few, some_answered}
-use Rattle.take_run.specs.Said.{answered, text_of}
-use Rattle.take_run.specs.declared.end.TakeEnd.{TakeEnd}
-use Rattle.take_run.proofs.Batches.{live_goes, live_stops, live_unwritten, none_added}
+use Rattle.take_run.specs.Said.{answered}
+use Rattle.take_run.proofs.Batches.{live_goes, live_stops, live_unwritten}
 use Rattle.take_run.proofs.Living.{ended_grows}
+use Rattle.take_run.proofs.Spent.{store_spent, unwritten_spent}
 use Rattle.take_run.proofs.Telling.{batch_are_told, batch_none_failed, batch_told, batch_unmoved, batch_unwritten_told, store_stops, unwritten_stops}
 use Rattle.take_run.proofs.batching.take_live.Goals as goal
-
-pub returns-then-leaves_none-clause-stopped : goal.returns-then-leaves_none-clause-stopped
-returns-then-leaves_none-clause-stopped g c = λ J of.
-    let spent = c.leaves_none.ensures.spent c.if-leaves_none.true in
-    live_unwritten g.D.Disk.view _ J c.args.group.now _ _ _ _ (c.take_all-batch.ensures.batched J of) c.take_all-batch.result.outcomes.items refl c.args.tally.now c.requires.live _ _ _ _ _
-    (omega (arith, spent.1, c.requires.some)) TakeEnd.Memory (inr refl) (λ told. none_added (g.O.Sink.written c.args.out.now) (text_of (answered c.args.group.now c.take_all-batch.result.outcomes.items))) (λ is told. refl)
-
-pub returns-then-leaves_none-clause-told : goal.returns-then-leaves_none-clause-told
-returns-then-leaves_none-clause-told g c =
-    batch_told c.take_all-batch.result.fault _ _ _ _ _ _ _ _ _ _ c.take_all-batch.ensures.disk_steady c.take_all-batch.ensures.clock_steady c.take_all-batch.ensures.repos_steady c.take_all-batch.ensures.unspent
-    StoreFault.Memory (c.leaves_none.ensures.spent c.if-leaves_none.true).0 TakeEnd.Memory refl refl
 
 pub returns-in-Err-clause-stopped : goal.returns-in-Err-clause-stopped
 returns-in-Err-clause-stopped g c = λ J of.
@@ -49,7 +36,6 @@ returns-clause-stopped g c = λ J of.
     live_stops g.D.Disk.view _ J c.args.group.now _ _ _ _ (c.take_all-batch.ensures.batched J of) c.as_slice-outcomes.result.now c.as_slice-outcomes.ensures.value c.args.tally.now c.requires.live _ _ _ _ _
     c.in-Some.fault c.in-Some.is (g.met.D.Disk.is_disk _) c.requires.open c.take_all-batch.ensures.closed
     (batch_are_told c.take_all-batch.result.fault _ _ _ _ _ _ c.take_all-batch.ensures.clock_steady c.take_all-batch.ensures.repos_steady c.take_all-batch.ensures.unspent c.in-Some.fault c.in-Some.is)
-    (λ is. subst (λ (l : List Outcome). length l ≢ length c.args.group.now) (sym c.as_slice-outcomes.ensures.value) (c.leaves_none.ensures.left c.if-leaves_none.false (c.in-Some.is ∙ ap Some is)))
     c.in-Ok.ensures.written c.of_store.result c.of_store.ensures
 
 pub returns-in-Err-clause-stop : goal.returns-in-Err-clause-stop
@@ -74,3 +60,9 @@ returns-clause-told g c =
 
 pub returns-in-None-clause-ends : goal.returns-in-None-clause-ends
 returns-in-None-clause-ends g c = ap (take (length c.args.tally.now.ended.items)) c.in-Ok.ensures.noted.ends ∙ ended_grows c.args.tally.now.ended.items (answered c.args.group.now c.as_slice-outcomes.result.now)
+
+pub returns-in-Err-clause-spent : goal.returns-in-Err-clause-spent
+returns-in-Err-clause-spent g c = unwritten_spent c.in-Err.end _ c.in-Err.ensures.front.0
+
+pub returns-clause-spent : goal.returns-clause-spent
+returns-clause-spent g c = store_spent c.in-Some.fault c.of_store.result _ c.of_store.ensures (λ is. c.take_all-batch.ensures.spent (c.in-Some.is ∙ ap Some is))

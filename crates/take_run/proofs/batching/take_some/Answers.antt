@@ -11,6 +11,7 @@ use Rattle.take_run.proofs.Groups.{hosts_front}
 use Rattle.take_run.proofs.Joining.{stops_longer}
 use Rattle.take_run.proofs.Living.{ended_grows, first_ended}
 use Rattle.take_run.proofs.Telling.{told_written, unmoved_but_written, unmoved_here, unwritten_stops}
+use Rattle.take_run.proofs.Spent.{unwritten_spent}
 use Rattle.take_run.proofs.batching.take_some.Goals as goal
 
 pub returns-in-Ok-clause-recorded : goal.returns-in-Ok-clause-recorded
@@ -57,3 +58,6 @@ returns-in-Err-clause-told g c =
 
 pub returns-in-Ok-clause-ends : goal.returns-in-Ok-clause-ends
 returns-in-Ok-clause-ends g c = ap (take (length c.args.tally.now.ended.items)) c.in-Ok.ensures.noted.ends ∙ ended_grows c.args.tally.now.ended.items ((c.as_str.result.now, None) ∷ [])
+
+pub returns-in-Err-clause-spent : goal.returns-in-Err-clause-spent
+returns-in-Err-clause-spent g c = unwritten_spent c.in-Err.end _ c.in-Err.ensures.front.0

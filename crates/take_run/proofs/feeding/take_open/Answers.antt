@@ -2,6 +2,7 @@ use Rattle.std.proofs.Common.{refl, arith, inl, inr, ◌∙◌}
 use Rattle.take_run.proofs.FeedSteps.{follow_fails, follow_finishes, follow_stops, follows_on, left_same, starts_following}
 use Rattle.take_run.proofs.Endings.{finished_of_feed, stop_of_feed, unread_of_feed}
 use Rattle.take_run.proofs.Telling.{told_on, told_written, unmoved_here, unmoved_on}
+use Rattle.take_run.proofs.Spent.{finished_spent, unread_spent}
 use Rattle.take_run.proofs.feeding.take_open.Goals as goal
 
 pub messages-init : goal.messages-init
@@ -74,3 +75,12 @@ returns-in-Err-take_group-clause-of_feed g c = stop_of_feed c.in-Err-take_group.
 
 pub returns-clause-of_feed : goal.returns-clause-of_feed
 returns-clause-of_feed g c = finished_of_feed c.finish-2.result _ _ _ _ c.finish-2.ensures.ends
+
+pub returns-in-Ok-None-clause-spent : goal.returns-in-Ok-None-clause-spent
+returns-in-Ok-None-clause-spent g c = finished_spent c.finish.result _ _ _ _ _ c.finish.ensures.ends
+
+pub returns-in-Err-clause-spent : goal.returns-in-Err-clause-spent
+returns-in-Err-clause-spent g c = unread_spent c.in-Err.end _ c.in-Err.ensures.unread.0
+
+pub returns-clause-spent : goal.returns-clause-spent
+returns-clause-spent g c = finished_spent c.finish-2.result _ _ _ _ _ c.finish-2.ensures.ends

@@ -2,6 +2,7 @@ use Rattle.std.proofs.Common.{◌≡◌, ◌⊎◌, inl, inr, [], Err, refl, sym
 use Rattle.at_cid.specs.Counts.{Rose}
 use Rattle.relay_step.specs.Around.{around}
 use Rattle.relay_store.specs.declared.fault.StoreFault.{StoreFault}
+use Rattle.run_base.proofs.Reading.{other_read}
 use Rattle.take_run.specs.Causes.{failures}
 use Rattle.take_run.specs.Ends.{end_of_store}
 use Rattle.take_run.specs.Tells.{tells}
@@ -10,6 +11,7 @@ use Rattle.take_run.specs.PairEnds.{IsCausedBy, IsOfFeed, MayEnd, TakeEndShows}
 use Rattle.take_run.proofs.Endings.{image_shows, none_later, opening_causes, opening_completes, opening_read, opening_shows, store_of_feed}
 use Rattle.take_run.proofs.WholeFollowed.{completes, followed_on, never_failed}
 use Rattle.take_run.proofs.WholeIngested.{opened_of, unopened}
+use Rattle.take_run.proofs.Spent.{opening_spent}
 use Rattle.take_run.proofs.following.follow.Goals as goal
 
 pub returns-in-Err-clause-followed : goal.returns-in-Err-clause-followed
@@ -88,3 +90,14 @@ returns-clause-disks_steady g c = λ not.
     let opened = c.in-Ok.ensures.steady (λ is. never_failed _ is) in
     let taken = c.take_on.ensures.disks_steady not in
     (taken.0 ∙ opened.0, taken.1 ∙ opened.1)
+
+pub returns-in-Err-clause-spent : goal.returns-in-Err-clause-spent
+returns-in-Err-clause-spent g c = opening_spent c.in-Err.fault c.of_store.result _ c.of_store.ensures (c.in-Err.ensures.few c.in-Err.fault refl)
+
+pub returns-in-Err-clause-beside : goal.returns-in-Err-clause-beside
+returns-in-Err-clause-beside g c = λ told not.
+    inl (opening_read g.D.Disk.tells (g.D.Disk.view c.args.disk.now) (g.D.Disk.view c.args.other.now) (g.D.Disk.view c.open.new.disk) (g.D.Disk.view c.open.new.other) c.in-Err.fault c.of_store.result c.in-Err.ensures.opened c.of_store.ensures told not)
+
+pub returns-clause-beside : goal.returns-clause-beside
+returns-clause-beside g c = λ told not.
+    inr (other_read g.D.Disk.view c.args.disk.now c.args.other.now c.open.new.disk c.open.new.other c.take_on.new.disk c.take_on.new.other g.D.Disk.tells c.in-Ok.store c.in-Ok.ensures.opened told c.take_on.ensures.beside)

@@ -3,6 +3,7 @@ use Rattle.relay_store.specs.Taking.{AreOfHosts}
 use Rattle.take_run.proofs.Records.{as_long, of_hosts}
 use Rattle.take_run.proofs.WholeGroups.{reads_on, starts_reading, tape_ends, tape_finishes, tape_stops}
 use Rattle.take_run.proofs.Telling.{read_on, read_steady, read_told, stop_not_by_tape, told_on, told_written, unmoved_here, unmoved_on}
+use Rattle.take_run.proofs.Spent.{finished_spent, tape_spent}
 use Rattle.take_run.proofs.running.take_tape.Goals as goal
 
 pub groups-init : goal.groups-init
@@ -92,3 +93,9 @@ returns-in-Nothing-clause-input_steady g c = λ by. read_on c.read_group-group.r
 pub returns-in-Fault-clause-input_steady : goal.returns-in-Fault-clause-input_steady
 returns-in-Fault-clause-input_steady g c = λ by.
     read_told c.read_group-group.result.rest c.in-Fault.fault _ _ c.in-Fault.is c.read_group-group.ensures.failed c.of_tape.result c.of_tape.ensures by ∙ c.groups.invariant.still
+
+pub returns-in-Nothing-clause-spent : goal.returns-in-Nothing-clause-spent
+returns-in-Nothing-clause-spent g c = finished_spent c.finish.result _ _ _ _ _ c.finish.ensures.ends
+
+pub returns-in-Fault-clause-spent : goal.returns-in-Fault-clause-spent
+returns-in-Fault-clause-spent g c = tape_spent c.in-Fault.fault c.of_tape.result _ c.of_tape.ensures
