@@ -25,26 +25,52 @@ def all_edits():
         yield path, crates / path.parent.name
 
 
+class Fault(Exception):
+    """Why an edit can't be applied."""
+
+
+def pairs_of(path):
+    """An edit's pairs: a file of the crate, the text that stands there, and what comes in its place."""
+    pairs, file, old = [], None, None
+    for line in path.read_text().splitlines():
+        word, _, rest = line.partition(":")
+        rest = rest.removeprefix(" ")
+        if word == "file":
+            file = rest
+        elif word == "old" and file is not None and old is None:
+            old = rest
+        elif word == "new" and old is not None:
+            pairs.append((file, old, rest))
+            old = None
+        elif word in ("old", "new"):
+            raise Fault(f"a line `{word}:` out of its place")
+    if old is not None or not pairs:
+        raise Fault("no pair of `old:` and `new:`")
+    return pairs
+
+
+def applied(path, crate, texts):
+    """The texts of files of the crate, by their paths in it, with an edit applied to them or to those that stand."""
+    texts = dict(texts)
+    for file, old, new in pairs_of(path):
+        if file not in texts:
+            if not (crate / file).is_file():
+                raise Fault(f"no file {file}")
+            texts[file] = (crate / file).read_text()
+        if (times := texts[file].count(old)) != 1:
+            raise Fault(f"the text stands {times} times in {file}: {old}")
+        if old == new:
+            raise Fault(f"it changes nothing of {file}")
+        texts[file] = texts[file].replace(old, new)
+    return texts
+
+
 def fault_of(path, crate):
     """Why an edit can't be applied to its crate, or None."""
-    file, text, old = None, None, None
-    for line in path.read_text().splitlines():
-        word, _, rest = line.partition(": ")
-        if word == "file":
-            file = crate / rest
-            if not file.is_file():
-                return f"no file {rest}"
-            text = file.read_text()
-        elif word == "old":
-            old = rest
-            if text is None:
-                return "no line `file:` before the first `old:`"
-            if (times := text.count(old)) != 1:
-                return f"the text stands {times} times in {file.relative_to(crate)}: {old}"
-        elif word == "new" and old is not None:
-            text, old = text.replace(old, rest), None
-    if text is None or old is not None:
-        return "no pair of `old:` and `new:`"
+    try:
+        applied(path, crate, {})
+    except Fault as fault:
+        return str(fault)
     return None
 
 
