@@ -7,8 +7,8 @@ import re
 from pages import Page, runs
 
 TOP = pathlib.Path(__file__).resolve().parents[2]
-TOP_CRATES = ("relay_cli", "relay_chain", "program_parts", "os_edge", "take_run", "relay_run", "serve_run", "query_run",
-              "lines_run", "mirror_run", "chain_run", "trial_run")
+TOP_CRATES = ("relay_cli", "relay_chain", "program_parts", "os_edge", "run_base", "take_run", "relay_run", "serve_run",
+              "query_run", "lines_run", "mirror_run", "chain_run", "trial_run")
 HELP_CRATES = ("relay_cli", "relay_chain", "program_parts", "os_edge")  # whose texts are printed
 # What stands after "tells" where it means "reports". Of an object that contracts see through one says that it tells what it
 # holds, or tells nothing: that is a word of the glossary (docs/CONTRIBUTING.md).
@@ -18,7 +18,7 @@ BANNED = (
     (r"\bso many\b", "a number, or its name"),
     (r"\bbut for\b", "except, or unless"),
     (r"\b(?:is|are|was|were|be|been|being) told\b", "is reported, gets, is sent"),
-    (rf"\btells?\b(?= (?:{OBJECT})\b)(?! (?:\w+ ){{0,3}}apart)", "reports, returns, shows"),
+    (rf"\btells?\b(?= (?:{OBJECT})\b)(?! (?:\w+ ){{0,3}}apart)(?! the time\b)", "reports, returns, shows"),
     (r"\bbehind\b", "after"),
 )
 CITATIONS = (
