@@ -2,8 +2,8 @@
 use Rattle.std.specs.Prelude.{◌≡◌, ◌≢◌, ◌⊎◌, ℕ, List, [], ◌∷◌, ◌++◌, map, Bool, true, false, not, ◌&&◌, ◌||◌, ◌==◌, is_some, Option, Some, None}
 use Rattle.std.specs.FinMap as finite
 use Rattle.std.specs.List.{list_any}
-use Rattle.std.specs.Str.{bytes_eq}
 use Rattle.at_car.specs.Blocks.{BlockMap}
+use Rattle.at_car.specs.Sifting.{is_root}
 use Rattle.at_event.specs.declared.event.CommitEvent.{CommitEvent}
 use Rattle.at_event.specs.declared.ops.Action.{Action}
 use Rattle.at_event.specs.declared.ops.EventOp.{EventOp}
@@ -44,16 +44,12 @@ abbrev pub is_since : Option ℕ → ℕ → Bool
 is_since None rev = false
 is_since (Some since) rev = since == rev
 
-abbrev pub is_data : Option (List ℕ) → List ℕ → Bool
-is_data None later = false
-is_data (Some prev) later = bytes_eq prev later
-
 -- the event doesn't follow on what is expected: an account that is lost, another revision or `data`
 -- than the last ones, or any where there was none
 abbrev pub strays : CommitEvent → Expect → Bool
 strays e Expect.Start = is_some e.since
-    || (is_some e.prev_data && not (is_data e.prev_data empty_root))
-strays e (Expect.After head) = not (is_since e.since head.rev && is_data e.prev_data head.data_root)
+    || (is_some e.prev_data && not (is_root e.prev_data empty_root))
+strays e (Expect.After head) = not (is_since e.since head.rev && is_root e.prev_data head.data_root)
 strays e Expect.Lost = true
 
 -- there is a gap before the event

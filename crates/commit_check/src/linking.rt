@@ -8,7 +8,8 @@ ghost use Rattle.event_checks.specs.Table.{field_lines};
 ghost use Rattle.commit_check.specs.Linking.{IsUnlinked};
 ghost use Rattle.commit_check.specs.Opening.{IsOpened};
 ghost use Rattle.commit_check.specs.Refusing.{IsMemory, IsUnjudged, RefusesWith};
-ghost use Rattle.commit_check.specs.Step.{edits_of, IsCoveredBy, Leads, ReplaysBy, is_data, is_gap, is_since, lacks_prev, root_before, strays};
+ghost use Rattle.commit_check.specs.Step.{edits_of, IsCoveredBy, Leads, ReplaysBy, is_gap, is_since, lacks_prev, root_before, strays};
+ghost use Rattle.at_car.specs.Sifting.{is_root};
 ghost use Rattle.commit_check.specs.declared.expect.Expect.{Expect};
 ghost use Rattle.commit_check.specs.declared.fault.CheckFault.{CheckFault};
 
@@ -32,8 +33,8 @@ fn is_rev(since: Option<Tid>, rev: Tid) -> bool
     }
 }
 
-fn is_data(prev_data: Option<Cid>, root: Cid) -> bool
-    ensures { result ≡ is_data prev_data root }
+fn is_root(prev_data: Option<Cid>, root: Cid) -> bool
+    ensures { result ≡ is_root prev_data root }
 {
     match prev_data {
         Some(prev_data) => prev_data == root,
@@ -63,10 +64,10 @@ fn strays(event: &CommitEvent, expect: &Expect) -> bool
     match expect {
         Expect::Start => {
             event.since.is_some()
-                || (event.prev_data.is_some() && !is_data(event.prev_data, empty_root()))
+                || (event.prev_data.is_some() && !is_root(event.prev_data, empty_root()))
         }
         Expect::After(head) => {
-            !(is_rev(event.since, head.rev) && is_data(event.prev_data, head.data_root))
+            !(is_rev(event.since, head.rev) && is_root(event.prev_data, head.data_root))
         }
         Expect::Lost => true,
     }

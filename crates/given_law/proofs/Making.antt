@@ -30,7 +30,8 @@ use Rattle.relay_core.specs.Rows.{fetched_of}
 use Rattle.relay_core.specs.Runs.{IsMadeBy}
 use Rattle.relay_core.specs.Shown.{found_in, or_zero, shown}
 use Rattle.relay_step.specs.Around.{Around, AllAsked, SameRepositories}
-use Rattle.relay_step.specs.Fetching.{AreBytes, IsFetched, IsFetchedAs, IsFetchedFrom, IsFetchedTold, Where, found_by, is_good, told_where}
+use Rattle.relay_step.specs.Fetching.{AreBytes, IsFetched, IsFetchedAs, IsFetchedFrom, IsFetchedTold, found_by, is_good, told_where}
+use Rattle.relay_io.specs.Choices.{WhereElse}
 use Rattle.relay_step.specs.Operators.{IsFetchCommand, IsSyncedBy}
 use Rattle.relay_step.specs.declared.command.CommandAnswer.{CommandAnswer}
 use Rattle.relay_step.specs.Steps.{Step, Decided, after_end, skipped, recorded, AreSteps, IsDecidedAs, ended_decided, message_of, rows, rows_decided}
@@ -111,7 +112,7 @@ asked_so (Some r) f whole same = record { refusal = r; is = refl; lost = lost_so
 some_is : (t u : Taken) → Some t ≡ Some u → t ≡ u
 some_is t u same = cc
 
-where_held : (b : Bool) (A B : Type 0) → IsTrue b → Where b A B → A
+where_held : (b : Bool) (A B : Type 0) → IsTrue b → WhereElse b A B → A
 where_held true A B is held = held
 where_held false A B is held = absurd cc
 

@@ -5,7 +5,7 @@ use Rattle.std.specs.BTreeMap.{get_by_text}
 use Rattle.std.specs.Option.{is_some, unwrap_or}
 use Rattle.std.specs.Str.{bytes_eq}
 use Rattle.std.proofs.lemmas.Slice.Eq.{bytes_eq-Decides}
-use Rattle.mirror.specs.Held.{WhereElse}
+use Rattle.relay_io.specs.Choices.{WhereElse}
 use Rattle.mirror.specs.State.{at_start, held_by, is_known}
 use Rattle.mirror.specs.Taken.{IsChanged, IsSame, step_of}
 use Rattle.mirror.specs.declared.holding.Holding.{Holding}

@@ -14,6 +14,7 @@ use Rattle.at_event.specs.declared.ops.Action.{Action}
 use Rattle.at_event.specs.declared.ops.EventOp.{EventOp}
 use Rattle.commit_check.specs.Step.{edits_of}
 use Rattle.mst_list.specs.declared.item.Item.{Item}
+use Rattle.relay_io.specs.Choices.{WhereElse}
 use Rattle.mst_list.specs.Edits.{Plays, AreApart, AreFormedOps}
 use Rattle.mirror.specs.Repository.{Repositories, Answers}
 use Rattle.mirror.specs.declared.holding.Holding.{Holding}
@@ -58,10 +59,6 @@ IsAfterBody repositories (Body.Commit c) old new = IsAfterCommit c old new
 IsAfterBody repositories (Body.Sync sync) old new = IsAfterSync repositories sync new
 IsAfterBody repositories Body.Identity old new = new ≡ old
 IsAfterBody repositories (Body.Account a) old new = new ≡ old
-
-abbrev pub WhereElse : Bool → Type 0 → Type 0 → Type 0
-WhereElse true here there = here
-WhereElse false here there = there
 
 -- and so do events of other accounts
 abbrev pub IsAfterEvent : Repositories → List ℕ → Seen → Holding → Holding → Type 0

@@ -1,12 +1,14 @@
 -- What one message makes of a mirror.
 use Rattle.std.specs.Prelude.{◌≡◌, ℕ, Bool, true, false, not, ◌&&◌, ◌||◌, List, length, nat_lt, IsTrue, Result, Ok, Err}
 use Rattle.std.specs.Str.{bytes_eq}
+use Rattle.at_event.specs.Bodies.{has_blocks}
 use Rattle.at_event.specs.Frames.{frame_of}
 use Rattle.at_event.specs.Seen.{Seen}
 use Rattle.at_event.specs.declared.event.Body.{Body}
 use Rattle.at_event.specs.declared.frame.Frame.{Frame}
 use Rattle.at_event.specs.declared.frame.FrameFault.{FrameFault}
-use Rattle.mirror.specs.Held.{IsAfter, IsAfterEvent, WhereElse}
+use Rattle.mirror.specs.Held.{IsAfter, IsAfterEvent}
+use Rattle.relay_io.specs.Choices.{WhereElse}
 use Rattle.mirror.specs.Repository.{Repositories}
 use Rattle.mirror.specs.State.{held_by, is_known}
 use Rattle.mirror.specs.declared.holding.Holding.{Holding}
@@ -30,13 +32,6 @@ last_behind last (Ok Frame.Info) = last
 last_behind last (Ok Frame.Error) = last
 last_behind last (Ok Frame.Unknown) = last
 last_behind last (Err fault) = last
-
--- a commit or a `#sync`
-abbrev pub is_repo_body : Body → Bool
-is_repo_body (Body.Commit c) = true
-is_repo_body (Body.Sync sync) = true
-is_repo_body Body.Identity = false
-is_repo_body (Body.Account a) = false
 
 abbrev pub is_sync : Body → Bool
 is_sync (Body.Commit c) = false
@@ -63,7 +58,7 @@ step_by true held = step_of held
 step_by false held = Step.Passed
 
 abbrev pub IsStep : Mirror → Result Frame FrameFault → Step → Type 0
-IsStep m (Ok (Frame.Event e)) step = step ≡ step_by (is_repo_body e.body) (held_by m e.did)
+IsStep m (Ok (Frame.Event e)) step = step ≡ step_by (has_blocks e.body) (held_by m e.did)
 IsStep m other step = step ≡ Step.Passed
 
 -- A message was taken: of each account what it makes is held, and the last number is its own. Only
@@ -79,7 +74,7 @@ pub record IsTaken (tells : Bool) (repositories : Repositories) (old new : Mirro
       → IsAfter repositories did message (held_by old did) (held_by new did)
   pub known : (did : List ℕ)
       → is_known new did ≡ (is_known old did
-      || is_such_event_of is_repo_body did (frame_of message))
+      || is_such_event_of has_blocks did (frame_of message))
   pub came : IsStep new (frame_of message) step
 
 -- The same of an event.
@@ -90,8 +85,8 @@ pub record IsTakenEvent (tells : Bool) (repositories : Repositories) (old new : 
   pub held : (did : List ℕ) → (IsTrue (is_sync e.body && bytes_eq did e.did) → IsTrue tells)
       → IsAfterEvent repositories did e (held_by old did) (held_by new did)
   pub known : (did : List ℕ)
-      → is_known new did ≡ (is_known old did || (is_repo_body e.body && bytes_eq did e.did))
-  pub came : step ≡ step_by (is_repo_body e.body) (held_by new e.did)
+      → is_known new did ≡ (is_known old did || (has_blocks e.body && bytes_eq did e.did))
+  pub came : step ≡ step_by (has_blocks e.body) (held_by new e.did)
 
 -- Of the account of a DID something else is held, and of no other.
 pub record IsChanged (did : List ℕ) (change : Holding → Holding → Type 0) (old new : Mirror)

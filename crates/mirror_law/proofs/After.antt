@@ -7,7 +7,8 @@ use Rattle.at_event.specs.Seen.{Seen}
 use Rattle.at_event.specs.declared.event.Body.{Body}
 use Rattle.at_event.specs.declared.frame.Frame.{Frame}
 use Rattle.at_event.specs.declared.frame.FrameFault.{FrameFault}
-use Rattle.mirror.specs.Held.{IsAfter, IsAfterBody, IsAfterEvent, IsAfterFrame, IsHeldFrom, WhereElse}
+use Rattle.mirror.specs.Held.{IsAfter, IsAfterBody, IsAfterEvent, IsAfterFrame, IsHeldFrom}
+use Rattle.relay_io.specs.Choices.{WhereElse}
 use Rattle.mirror.specs.Repository.{Repositories}
 use Rattle.mirror.specs.declared.holding.Holding.{Holding}
 

@@ -9,7 +9,8 @@ use Rattle.at_event.specs.declared.frame.Frame.{Frame}
 use Rattle.at_event.specs.declared.frame.FrameFault.{FrameFault}
 use Rattle.commit_check.specs.Step.{edits_of}
 use Rattle.mst_list.specs.declared.item.Item.{Item}
-use Rattle.mirror.specs.Held.{IsAfterBody, IsAfterCommit, IsAfterFrame, IsAfterSync, IsHeldFrom, WhereElse}
+use Rattle.mirror.specs.Held.{IsAfterBody, IsAfterCommit, IsAfterFrame, IsAfterSync, IsHeldFrom}
+use Rattle.relay_io.specs.Choices.{WhereElse}
 use Rattle.mirror.specs.Repository.{Repositories}
 use Rattle.mirror.specs.declared.holding.Holding.{Holding}
 use Rattle.mirror_law.specs.Laws.{OneIsHeld}

@@ -21,7 +21,8 @@ use Rattle.mst_list.specs.declared.item.Item.{Item}
 use Rattle.mst_list.specs.Edits.{Plays}
 use Rattle.account_state.specs.Folds.{last_rev}
 use Rattle.account_state.specs.declared.repo.Repo.{Repo}
-use Rattle.commit_check.specs.Step.{edits_of, is_change, is_data, is_gap, is_since, lacks_prev, strays, empty_root}
+use Rattle.commit_check.specs.Step.{edits_of, is_change, is_gap, is_since, lacks_prev, strays, empty_root}
+use Rattle.at_car.specs.Sifting.{is_root}
 use Rattle.commit_check.proofs.Formed.{edits_formed}
 use Rattle.relay_law.specs.Right.{expect_of}
 use Rattle.relay_law.specs.Sound.{IsCommit, GoesTo}
@@ -77,11 +78,11 @@ rev_is (Some n) r h = ap (λ (k : ℕ). Some k) (eqb-true n r h)
 
 since_is : (c : CommitEvent) (repo : Repo) (rev : Option ℕ) → is_gap c (expect_of repo) ≡ false → IsRevOf repo rev → c.since ≡ rev
 since_is c Repo.Missing rev gap is =
-    let strays_not = (or_parts (is_some c.since || (is_some c.prev_data && not (is_data c.prev_data empty_root))) (list_any lacks_prev c.ops) gap).0 in
-    none_is c.since (or_parts (is_some c.since) (is_some c.prev_data && not (is_data c.prev_data empty_root)) strays_not).0 ∙ sym is
+    let strays_not = (or_parts (is_some c.since || (is_some c.prev_data && not (is_root c.prev_data empty_root))) (list_any lacks_prev c.ops) gap).0 in
+    none_is c.since (or_parts (is_some c.since) (is_some c.prev_data && not (is_root c.prev_data empty_root)) strays_not).0 ∙ sym is
 since_is c (Repo.Good head) rev gap is =
-    let strays_not = (or_parts (not (is_since c.since head.rev && is_data c.prev_data head.data_root)) (list_any lacks_prev c.ops) gap).0 in
-    rev_is c.since head.rev (and_parts (is_since c.since head.rev) (is_data c.prev_data head.data_root) (not-false (is_since c.since head.rev && is_data c.prev_data head.data_root) strays_not)).0 ∙ sym is
+    let strays_not = (or_parts (not (is_since c.since head.rev && is_root c.prev_data head.data_root)) (list_any lacks_prev c.ops) gap).0 in
+    rev_is c.since head.rev (and_parts (is_since c.since head.rev) (is_root c.prev_data head.data_root) (not-false (is_since c.since head.rev && is_root c.prev_data head.data_root) strays_not)).0 ∙ sym is
 since_is c (Repo.Lost last) rev gap is = absurd (true≢false (or_parts true (list_any lacks_prev c.ops) gap).0)
 
 one_stated : (a : Action) (was now : Bool) → has_links a now was ≡ true → is_change a && not was ≡ false → states_edit a was now ≡ true

@@ -4,10 +4,10 @@ use Rattle.mst_list.specs.declared.item.Item.{Item}
 use Rattle.mst_list.specs.declared.op.Op.{Op}
 use Rattle.mst_list.specs.Lists.{IsMap}
 use Rattle.mst_list.specs.Edits.{before, after, value_at, with_value, put}
+use Rattle.mst_list.specs.Maps.{edited}
 use Rattle.mst_list.proofs.Places.{rebuilt}
 use Rattle.at_form.proofs.Held.{some_same}
 use Rattle.relay_gen.specs.Draws.{next, drawn}
-use Rattle.relay_gen.specs.Drafts.{played}
 use Rattle.relay_gen.specs.Commits.{Commit, generated_commit, commits_from, keys_from, last_of, last_generated, generated_map, generated_ops}
 use Rattle.relay_gen.specs.States.{AreBefore, AreOlder, CanPlay, Repository, repository_of}
 use Rattle.relay_gen.proofs.Older.{AreOpsOlder, IsGood, drafted_good, older_more, older_played}
@@ -44,7 +44,7 @@ length_put k o s =
     length_value k None = omega arith
     length_value k (Some v) = omega arith
 
-length_played : (s : List Item) (ops : List Op) → length (played s ops) ≤ length s + length ops
+length_played : (s : List Item) (ops : List Op) → length (edited s ops) ≤ length s + length ops
 length_played s [] = omega arith
 length_played s (op ∷ ops) = let one = length_put op.key op.now s in let rest = length_played (put op.key op.now s) ops in omega arith
 

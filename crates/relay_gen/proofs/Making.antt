@@ -1,10 +1,11 @@
 -- A making goes on by a commit.
 use Rattle.std.proofs.Common.{◌≡◌, ◌≢◌, ℕ, zero, suc, ◌*◌, ◌%◌, ◌<◌, ◌==◌, true, false, cond, List, [], ◌∷◌, length, set, slice_get, slice_index, slice_index_or, is_some, refl, sym, ap, ◌∙◌, Option, Some, None, arith}
 use Rattle.mst_list.specs.declared.op.Op.{Op}
+use Rattle.mst_list.specs.Maps.{edited}
 use Rattle.mst_node.proofs.Layers.{eqb_no, eqb_yes}
 use Rattle.at_form.proofs.Held.{some_same}
 use Rattle.relay_gen.specs.Draws.{next, drawn}
-use Rattle.relay_gen.specs.Drafts.{Draft, drafted, played}
+use Rattle.relay_gen.specs.Drafts.{Draft, drafted}
 use Rattle.relay_gen.specs.Commits.{Commit, Drawn, generated_commit, last_of, last_generated, generated_map, generated_ops, past_of, with_commit}
 use Rattle.relay_gen.specs.Messages.{message}
 use Rattle.relay_gen.specs.Names.{generated_did}
@@ -73,15 +74,15 @@ ops_drawn (Some c) i x draft some none = some refl
 
 -- the message that is made is that of the commit
 pub message_same : (i : ℕ) (d : Drawn) (a : ℕ) (did : List ℕ) (seq rev : ℕ) (r : Repository) (ops : List Op) → a ≡ drawn 16 (next d.state) → did ≡ generated_did a → seq ≡ suc (last_generated (drawn 16 (next d.state) % 4) d.commits) → rev ≡ i * 1024 → r ≡ repository_of (last_of (drawn 16 (next d.state)) d.commits) → ops ≡ (generated_ops (last_of (drawn 16 (next d.state)) d.commits) i (next d.state)).ops
-    → commit_message did seq rev r.past ops (played r.map ops) ≡ message (generated_commit i (drawn 16 (next d.state)) d.commits (generated_ops (last_of (drawn 16 (next d.state)) d.commits) i (next d.state)).ops)
+    → commit_message did seq rev r.past ops (edited r.map ops) ≡ message (generated_commit i (drawn 16 (next d.state)) d.commits (generated_ops (last_of (drawn 16 (next d.state)) d.commits) i (next d.state)).ops)
 unfolding message
 message_same i d a did seq rev r ops ea ed es er eR eo =
     let b = drawn 16 (next d.state) in let o = last_of b d.commits in let D = generated_did b in let S = suc (last_generated (b % 4) d.commits) in
-    ap (λ x. commit_message x seq rev r.past ops (played r.map ops)) (ed ∙ ap generated_did ea)
-    ∙ ap (λ x. commit_message D x rev r.past ops (played r.map ops)) es
-    ∙ ap (λ x. commit_message D S x r.past ops (played r.map ops)) er
-    ∙ ap (λ (x : Repository). commit_message D S (i * 1024) x.past ops (played x.map ops)) eR
-    ∙ ap (λ x. commit_message D S (i * 1024) (past_of o) x (played (generated_map o) x)) eo
+    ap (λ x. commit_message x seq rev r.past ops (edited r.map ops)) (ed ∙ ap generated_did ea)
+    ∙ ap (λ x. commit_message D x rev r.past ops (edited r.map ops)) es
+    ∙ ap (λ x. commit_message D S x r.past ops (edited r.map ops)) er
+    ∙ ap (λ (x : Repository). commit_message D S (i * 1024) x.past ops (edited x.map ops)) eR
+    ∙ ap (λ x. commit_message D S (i * 1024) (past_of o) x (edited (generated_map o) x)) eo
 
 -- the value at a place
 pub got : (xs : List Repository) (i : ℕ) (r other : Repository) → slice_get xs i ≡ Some other → r ≡ slice_index_or xs i r → r ≡ other

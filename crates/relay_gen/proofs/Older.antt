@@ -11,13 +11,14 @@ use Rattle.mst_list.specs.declared.item.Item.TheVariants.{Key, Hole}
 use Rattle.mst_list.specs.declared.op.Op.{Op}
 use Rattle.mst_list.specs.Lists.{AllAbove, Ascends, AreFormed, IsKey, IsMap}
 use Rattle.mst_list.specs.Edits.{by_order, before, after, value_at, with_value, put, IsNewTo, AreApart, IsFormedOp, AreFormedOps}
+use Rattle.mst_list.specs.Maps.{AllApply, edited}
 use Rattle.mst_list.proofs.Formed.{ops_more}
 use Rattle.mst_list.proofs.Places.{rebuilt}
 use Rattle.std.proofs.lemmas.Slice.Eq.{bytes_eq-Decides}
 use Rattle.relay_gen.specs.Draws.{next, drawn}
 use Rattle.relay_gen.specs.Names.{generated_path, generated_value}
-use Rattle.relay_gen.specs.Drafts.{Draft, creation, drafted, played, with_drawn, with_edit, with_more, with_op}
-use Rattle.relay_gen.specs.States.{AllApply, AreOlder}
+use Rattle.relay_gen.specs.Drafts.{Draft, creation, drafted, with_drawn, with_edit, with_more, with_op}
+use Rattle.relay_gen.specs.States.{AreOlder}
 use Rattle.relay_gen.proofs.Ascending.{path_less}
 use Rattle.relay_gen.proofs.Texts.{path_key}
 use Rattle.relay_gen.proofs.Plays.{apart_more}
@@ -192,7 +193,7 @@ older_put n k o s l old =
     older_joined n (before k s) (with_value k o ++ after k s) parts.0 (older_joined n (with_value k o) (after k s) (older_value n k o l) (older_parts n (with_value k (value_at k s)) (after k s) parts.1).1)
 
 -- paths stay of numbers below one
-pub older_played : (n : ℕ) (s : List Item) (ops : List Op) → AreOlder n s → AreOpsOlder n ops → AreOlder n (played s ops)
+pub older_played : (n : ℕ) (s : List Item) (ops : List Op) → AreOlder n s → AreOpsOlder n ops → AreOlder n (edited s ops)
 older_played n s [] o l = o
 older_played n s (op ∷ ops) o l = older_played n (put op.key op.now s) ops (older_put n op.key op.now s l.0 o) l.1
 

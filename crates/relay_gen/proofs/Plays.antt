@@ -5,13 +5,13 @@ use Rattle.mst_list.specs.declared.item.Item.TheVariants.{Key, Hole}
 use Rattle.mst_list.specs.declared.op.Op.{Op}
 use Rattle.mst_list.specs.Lists.{IsMap, KeysOnly}
 use Rattle.mst_list.specs.Edits.{before, after, value_at, with_value, put, undone, EndsInHole, StartsWithHole, IsClear, GuardedBy, IsGuarded, AllAgree, IsNewTo, AreApart, IsFormedOp, AreFormedOps}
+use Rattle.mst_list.specs.Maps.{AllApply, edited}
 use Rattle.mst_list.proofs.Fills.{formed_value, keys_only_parts}
 use Rattle.mst_list.proofs.Places.{rebuilt}
 use Rattle.mst_list.proofs.Undo.{map_put}
-use Rattle.relay_gen.specs.Drafts.{played}
 use Rattle.relay_gen.specs.declared.records.Change.{Change}
 use Rattle.relay_gen.specs.Records.{op_of}
-use Rattle.relay_gen.specs.States.{AllApply, turned_of}
+use Rattle.relay_gen.specs.States.{turned_of}
 
 abbrev turn : Op → Op
 turn op = record { key = op.key; was = op.now; now = op.was }
@@ -20,7 +20,7 @@ undone_last : (F : List Item) (X : List Op) (op : Op) → undone F (X ++ op ∷ 
 undone_last F [] op = refl
 undone_last F (x ∷ X) op = ap (put x.key x.was) (undone_last F X op)
 
-pub undone_turned : (ops : List Op) (s : List Item) → undone s (turned_of ops) ≡ played s ops
+pub undone_turned : (ops : List Op) (s : List Item) → undone s (turned_of ops) ≡ edited s ops
 undone_turned [] s = refl
 undone_turned (op ∷ ops) s = undone_last s (turned_of ops) (turn op) ∙ undone_turned ops (put op.key op.now s)
 
@@ -88,7 +88,7 @@ length_turned [] = refl
 length_turned (op ∷ ops) = let n = length-append (turned_of ops) (turn op ∷ []) in let m = length_turned ops in omega arith
 
 -- a map is left
-pub played_map : (s : List Item) (ops : List Op) → IsMap s → AreFormedOps ops → IsMap (played s ops)
+pub played_map : (s : List Item) (ops : List Op) → IsMap s → AreFormedOps ops → IsMap (edited s ops)
 played_map s [] m f = m
 played_map s (op ∷ ops) m f = played_map (put op.key op.now s) ops (map_put op.key op.now s (formed_value op.key op.now f.0.0 f.0.2) m) f.1
 

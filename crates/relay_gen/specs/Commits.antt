@@ -2,10 +2,11 @@
 use Rattle.std.specs.Prelude.{ℕ, zero, suc, ◌+◌, ◌*◌, ◌%◌, ◌==◌, if◌then◌else◌, List, [], ◌∷◌, length, Option, Some, None}
 use Rattle.mst_list.specs.declared.item.Item.{Item}
 use Rattle.mst_list.specs.declared.op.Op.{Op}
+use Rattle.mst_list.specs.Maps.{edited}
 use Rattle.mst_node.specs.Trees.{root}
 use Rattle.relay_gen.specs.declared.past.Past.{Past}
 use Rattle.relay_gen.specs.Draws.{next, drawn}
-use Rattle.relay_gen.specs.Drafts.{Draft, drafted, played}
+use Rattle.relay_gen.specs.Drafts.{Draft, drafted}
 
 -- a commit of an account, its number in the stream of its host, and the map that it leaves
 pub record Commit : Type 0 where
@@ -53,7 +54,7 @@ generated_commit i a commits ops = record {
   rev = i * 1024;
   past = past_of (last_of a commits);
   ops = ops;
-  map = played (generated_map (last_of a commits)) ops;
+  map = edited (generated_map (last_of a commits)) ops;
 }
 
 -- Behind others commit i: its account is drawn, and then its operations are.

@@ -5,7 +5,6 @@ use Rattle.std.specs.Str.{bytes_eq}
 use Rattle.mst_list.specs.declared.item.Item.{Item}
 use Rattle.mst_list.specs.declared.item.Item.TheVariants.{Key}
 use Rattle.mst_list.specs.declared.op.Op.{Op}
-use Rattle.mst_list.specs.Edits.{put}
 use Rattle.relay_gen.specs.Draws.{next, drawn}
 use Rattle.relay_gen.specs.Names.{generated_path, generated_value}
 
@@ -50,8 +49,3 @@ with_more s i j (suc left) d = with_more s i (suc j) left (with_drawn s i j d)
 -- the operations of commit i to the map s: one to four are drawn
 abbrev pub drafted : List Item → ℕ → ℕ → Draft
 drafted s i x = with_more s i 0 (1 + drawn 4 (next x)) (record { ops = []; state = next x })
-
--- the map after the operations, one after another
-abbrev pub played : List Item → List Op → List Item
-played s [] = s
-played s (op ∷ ops) = played (put op.key op.now s) ops

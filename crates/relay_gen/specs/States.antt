@@ -4,7 +4,8 @@ use Rattle.mst_list.specs.declared.item.Item.{Item}
 use Rattle.mst_list.specs.declared.item.Item.TheVariants.{Key, Hole}
 use Rattle.mst_list.specs.declared.op.Op.{Op}
 use Rattle.mst_list.specs.Lists.{IsMap}
-use Rattle.mst_list.specs.Edits.{value_at, AreApart, AreFormedOps}
+use Rattle.mst_list.specs.Edits.{AreApart, AreFormedOps}
+use Rattle.mst_list.specs.Maps.{AllApply, edited}
 use Rattle.relay_gen.specs.declared.past.Past.{Past}
 use Rattle.relay_gen.specs.Commits.{Commit, Drawn, last_of, last_generated, generated_map, past_of}
 use Rattle.relay_gen.specs.Names.{generated_path}
@@ -13,7 +14,6 @@ use Rattle.at_event.specs.declared.kind.EventKind.{EventKind}
 use Rattle.at_event.specs.Writing.{event_message}
 use Rattle.mst_node.specs.Trees.{root}
 use Rattle.relay_gen.specs.Covers.{blocks_given}
-use Rattle.relay_gen.specs.Drafts.{played}
 use Rattle.relay_gen.specs.Messages.{car_with, message, generated_object, payload_of}
 
 -- the map of an account, and its last commit
@@ -23,11 +23,6 @@ pub record Repository : Type 0 where
 
 abbrev pub repository_of : Option Commit → Repository
 repository_of o = record { map = generated_map o; past = past_of o }
-
--- each operation's key has in the map the value that the operation names, or none
-abbrev pub AllApply : List Item → List Op → Type 0
-AllApply s [] = Unit {0}
-AllApply s (op ∷ ops) = (value_at op.key s ≡ op.was) × AllApply s ops
 
 -- the operations can be played on the map, in any order
 pub record CanPlay (s : List Item) (ops : List Op) : Type 0 where
@@ -67,8 +62,8 @@ turned_of (op ∷ ops) = turned_of ops ++ record { key = op.key; was = op.now; n
 -- the repository after a commit
 abbrev pub after_commit : ℕ → List Item → List Op → Repository
 after_commit rev s ops = record {
-  map = played s ops;
-  past = Some (record { rev = rev; data_root = root (played s ops) });
+  map = edited s ops;
+  past = Some (record { rev = rev; data_root = root (edited s ops) });
 }
 
 -- the message of a commit that left the map t

@@ -3,8 +3,8 @@
 ghost use Rattle.std.specs.Prelude.{◌≡◌, ◌<◌, ◌≤◌, ◌^◌, [], None, is_some, length, map, OnOk, IfOk};
 ghost use Rattle.mst_list.specs.Edits.{AreFormedOps};
 ghost use Rattle.mst_list.specs.Lists.{KeysOnly};
+ghost use Rattle.mst_list.specs.Maps.{edited};
 ghost use Rattle.relay_gen.specs.Covers.{blocks_given};
-ghost use Rattle.relay_gen.specs.Drafts.{played};
 ghost use Rattle.relay_gen.specs.Messages.{car_with};
 ghost use Rattle.relay_gen.specs.Records.{item_of, op_of};
 ghost use Rattle.relay_gen.specs.States.{CanPlay, after_commit, commit_message, turned_of};
@@ -68,7 +68,7 @@ fn turned(alloc: Global, changes: &[Change]) -> Result<OpList, Memory>
 fn changed(alloc: Global, tree: StubTree, changes: &[Change]) -> Result<StubTree, Memory>
     requires keys_only { KeysOnly tree }
     requires can { CanPlay tree (map op_of changes.now) }
-    ensures { IfOk result (λ left. left ≡ played tree (map op_of changes.now)) }
+    ensures { IfOk result (λ left. left ≡ edited tree (map op_of changes.now)) }
 {
     let ops = turned(alloc, changes)?;
     match undo(alloc, tree, &ops) {
@@ -142,7 +142,7 @@ impl Account {
             (self.new ≡ after_commit rev self.old.map (map op_of changes.now)) }
         ensures message { IfOk result (λ message. message
             ≡ commit_message did.now seq rev self.old.past (map op_of changes.now)
-            (played self.old.map (map op_of changes.now))) }
+            (edited self.old.map (map op_of changes.now))) }
     {
         let tree = mem::replace(&mut self.tree, StubTree::from_top(None));
         let records = mem::replace(&mut self.records, Vec::new(alloc));
@@ -177,8 +177,8 @@ fn play(
     requires same { tree ≡ map item_of records.items }
     requires can { CanPlay tree (map op_of changes.now) }
     ensures records { IfOk result (λ p. map item_of p.0.items
-        ≡ played tree (map op_of changes.now)) }
-    ensures tree { IfOk result (λ p. p.1 ≡ played tree (map op_of changes.now)) }
+        ≡ edited tree (map op_of changes.now)) }
+    ensures tree { IfOk result (λ p. p.1 ≡ edited tree (map op_of changes.now)) }
 {
     let tree = changed(alloc, tree, changes)?;
     put_all(&mut records, changes)?;

@@ -3,7 +3,7 @@
 ghost use Rattle.std.specs.Prelude.{◌≡◌, ◌≤◌, length, map, slice_get, OnOk};
 ghost use Rattle.mst_list.specs.Lists.{Ascends};
 ghost use Rattle.mst_list.specs.Edits.{before, put};
-ghost use Rattle.relay_gen.specs.Drafts.{played};
+ghost use Rattle.mst_list.specs.Maps.{edited};
 ghost use Rattle.relay_gen.specs.Records.{has_path, item_of, op_of, is_below};
 
 use at_cid::{Cid, Memory, Words, compare};
@@ -80,7 +80,7 @@ pub(crate) fn put(records: &mut Vec<Record>, path: &Words, value: Option<Cid>) -
 pub(crate) fn put_all(records: &mut Vec<Record>, changes: &[Change]) -> Result<(), Memory>
     requires { Ascends (map item_of records.old.items) }
     ensures { OnOk result (map item_of records.new.items
-        ≡ played (map item_of records.old.items) (map op_of changes.now)) }
+        ≡ edited (map item_of records.old.items) (map op_of changes.now)) }
 {
     for change in changes {
         put(records, &change.path, change.now)?;

@@ -9,5 +9,6 @@ pub mod MemoryMessages
 pub mod MemoryGuests
 pub mod Repositories
 pub mod MemoryRepos
+pub mod Choices
 pub mod Exchanges
 pub mod MemoryExchanges

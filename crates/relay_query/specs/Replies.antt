@@ -17,32 +17,25 @@ use Rattle.account_state.specs.declared.repo.Repo.{Repo}
 use Rattle.relay_query.specs.Accounts.{Named, is_available, is_repo_good, status_name}
 use Rattle.relay_query.specs.Bodies.{commit_value, page_value, status_value}
 
--- a reply: its status code with the reason phrase, and its body
-abbrev pub Reply : Type 0
-Reply = List ℕ × Data
-
-abbrev pub ok : Data → Reply
+-- A reply is its status code with the reason phrase, and its body.
+abbrev pub ok : Data → List ℕ × Data
 ok value = (codes "200 OK", value)
 
 abbrev pub error_value : List ℕ → Data
 error_value name = object_with ((codes "error", string name) ∷ [])
 
 -- an error of this name
-abbrev pub bad_request : List ℕ → Reply
+abbrev pub bad_request : List ℕ → List ℕ × Data
 bad_request name = (codes "400 Bad Request", error_value name)
 
-abbrev pub not_found : Reply
+abbrev pub not_found : List ℕ × Data
 not_found = (codes "404 Not Found", error_value (codes "NotFound"))
 
-abbrev pub invalid_request : Reply
+abbrev pub invalid_request : List ℕ × Data
 invalid_request = bad_request (codes "InvalidRequest")
 
-abbrev pub repo_not_found : Reply
+abbrev pub repo_not_found : List ℕ × Data
 repo_not_found = bad_request (codes "RepoNotFound")
-
--- the pairs of a query, still encoded
-abbrev pub Pairs : Type 0
-Pairs = List (List ℕ × List ℕ)
 
 -- ---- the list of accounts
 
@@ -66,14 +59,14 @@ cursor_param (Some text) = if is_did text then Some text else None
 abbrev pub listed : List ℕ → List Named → List Named
 listed cursor accounts = filter (λ a. is_repo_good a.1.repo && is_before cursor a.0) accounts
 
-abbrev pub page_reply : List Named → Option ℕ → Option (List ℕ) → Reply
+abbrev pub page_reply : List Named → Option ℕ → Option (List ℕ) → List ℕ × Data
 page_reply accounts None cursor = invalid_request
 page_reply accounts (Some limit) None = invalid_request
 page_reply accounts (Some limit) (Some cursor) = ok (page_value limit (listed cursor accounts))
 
 -- ---- one account
 
-abbrev pub status_reply : List ℕ → Option State → Reply
+abbrev pub status_reply : List ℕ → Option State → List ℕ × Data
 status_reply did None = repo_not_found
 status_reply did (Some a) = ok (status_value did a)
 
@@ -86,12 +79,12 @@ error_of (Some status) =
     else (if bytes_eq status (codes "deactivated") then codes "RepoDeactivated"
     else codes "RepoNotFound"))
 
-abbrev pub latest_commit_reply : Repo → Reply
+abbrev pub latest_commit_reply : Repo → List ℕ × Data
 latest_commit_reply Repo.Missing = repo_not_found
 latest_commit_reply (Repo.Good head) = ok (commit_value head)
 latest_commit_reply (Repo.Lost rev) = repo_not_found
 
-abbrev pub commit_reply : Option State → Reply
+abbrev pub commit_reply : Option State → List ℕ × Data
 commit_reply None = repo_not_found
 commit_reply (Some a) =
     if is_available a then latest_commit_reply a.repo else bad_request (error_of (status_name a))
@@ -101,14 +94,14 @@ abbrev pub did_param : Option (List ℕ) → Option (List ℕ)
 did_param None = None
 did_param (Some text) = if is_did text then Some text else None
 
-abbrev pub about : (List ℕ → Reply) → Option (List ℕ) → Reply
+abbrev pub about : (List ℕ → List ℕ × Data) → Option (List ℕ) → List ℕ × Data
 about reply None = invalid_request
 about reply (Some did) = reply did
 
 -- ---- a request
 
--- the reply to a query at a path
-abbrev pub reply_at : List Row → List ℕ → Pairs → Reply
+-- the reply to a query at a path, of pairs that are still encoded
+abbrev pub reply_at : List Row → List ℕ → List (List ℕ × List ℕ) → List ℕ × Data
 reply_at rows path pairs =
     if bytes_eq path (codes "/xrpc/com.atproto.sync.listRepos")
     then page_reply (accounts rows)
@@ -123,7 +116,7 @@ reply_at rows path pairs =
     else not_found))
 
 -- the reply to a method and a target
-abbrev pub reply_to : List Row → List ℕ → List ℕ → Reply
+abbrev pub reply_to : List Row → List ℕ → List ℕ → List ℕ × Data
 reply_to rows method target =
     if bytes_eq method (codes "GET")
     then reply_at rows (path_of target) (raw_pairs (query_of target)) else invalid_request
@@ -136,7 +129,7 @@ head_text code size =
     ++ codes "\r\nConnection: close\r\n\r\n")))
 
 -- the bytes of a reply: its head, and the JSON text of its body
-abbrev pub reply_text : Reply → List ℕ
+abbrev pub reply_text : List ℕ × Data → List ℕ
 reply_text (code, body) = head_text code (length (json_text body)) ++ json_text body
 
 -- The reply to a request: by the head that it begins with, of at most 64 header fields, or that of

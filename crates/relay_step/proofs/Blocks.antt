@@ -25,7 +25,8 @@ use Rattle.relay_law.specs.Heads.{FetchesGive, FoundGives}
 use Rattle.relay_law.proofs.Blocks.{whole_block}
 use Rattle.relay_law.proofs.Sounding.{decided_formed}
 use Rattle.relay_step.specs.Around.{Around, AllAsked}
-use Rattle.relay_step.specs.Fetching.{IsFetched, IsFetchedAs, IsFetchedFrom, IsFetchedTold, Where, found_by, is_good, told_where}
+use Rattle.relay_step.specs.Fetching.{IsFetched, IsFetchedAs, IsFetchedFrom, IsFetchedTold, found_by, is_good, told_where}
+use Rattle.relay_io.specs.Choices.{WhereElse}
 use Rattle.relay_step.specs.Steps.{Decided, Step, after_end, skipped, recorded, rows, rows_decided}
 
 -- ---- one fetch
@@ -65,7 +66,7 @@ fetched_due (Some r) t h =
     (and_parts (is_fetched (loses (code_of r)) (is_timed t.moment) t.fetched) _ four.1).0
 
 due_gives : (due timed : Bool) (o : Option (Option (List ℕ))) (did : List ℕ) (least : Option ℕ) (moment : ℕ) (f : Fetched) (calls : List Call) → is_fetched due timed f ≡ true
-    → Where due (IsFetchedAs o did least moment (found_in f) calls) (calls ≡ []) → FoundGives (found_in f)
+    → WhereElse due (IsFetchedAs o did least moment (found_in f) calls) (calls ≡ []) → FoundGives (found_in f)
 due_gives true timed o did least moment f calls is from = fetched_gives o did least moment (found_in f) calls from
 due_gives false timed o did least moment Fetched.NotAsked calls is from = tt
 due_gives false timed o did least moment Fetched.Absent calls is from = tt

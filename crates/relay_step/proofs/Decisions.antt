@@ -26,7 +26,7 @@ use Rattle.relay_core.specs.declared.decision.Next.{Next}
 use Rattle.relay_core.specs.declared.decision.Pass.{Pass}
 use Rattle.relay_core.proofs.Agreeing.{next_decided}
 use Rattle.relay_law.specs.Formed.{IsOpenedAs}
-use Rattle.relay_step.specs.Questions.{has_blocks}
+use Rattle.at_event.specs.Bodies.{has_blocks}
 use Rattle.relay_step.proofs.Calls.{ended}
 
 -- ---- what is decided, by the walk

@@ -36,7 +36,8 @@ use Rattle.relay_law.specs.Formed.{AreAnswersTo, IsOpenedAs}
 use Rattle.relay_law.specs.Right.{LinksRight}
 use Rattle.relay_step.specs.Around.{Around, AskedOf, IsTimed}
 use Rattle.relay_step.specs.Asked.{event_calls, home_calls, verdict_calls}
-use Rattle.relay_step.specs.Fetching.{IsFetched, IsFetchedAs, Where, told_where}
+use Rattle.relay_step.specs.Fetching.{IsFetched, IsFetchedAs, told_where}
+use Rattle.relay_io.specs.Choices.{WhereElse}
 use Rattle.relay_step.specs.Messages.{EndsNumbers, IsAskedOf as AskedAround, IsDecided}
 use Rattle.relay_step.specs.Questions.{IsLinkAnswer, IsTimedSo, calls_told, is_unlinked}
 use Rattle.relay_step.specs.Steps.{recorded}
@@ -79,7 +80,7 @@ is_fetched tells last a e repository J moment None (Some g) what f fetch same so
     none_some q h = absurd cc
 is_fetched tells last a e repository J moment (Some r) None what f fetch same so due fit = go (loses (code_of r)) (due r refl)
   where
-    go : (b : Bool) → (b ≡ true → ◌≢◌ {A = Option Fetched} None None) → Where b (IsFetchedAs (told_where tells (repository e.did)) e.did (last_rev (account e.did J).repo) moment f fetch) (fetch ≡ [])
+    go : (b : Bool) → (b ≡ true → ◌≢◌ {A = Option Fetched} None None) → WhereElse b (IsFetchedAs (told_where tells (repository e.did)) e.did (last_rev (account e.did J).repo) moment f fetch) (fetch ≡ [])
     go true none = absurd (none refl refl)
     go false none = so.1
 is_fetched tells last a e repository J moment (Some r) (Some g) what f fetch same so due fit =
@@ -88,7 +89,7 @@ is_fetched tells last a e repository J moment (Some r) (Some g) what f fetch sam
     let there : IsFetchedAs (told_where tells (repository e.did)) e.did (last_rev (account e.did J).repo) moment f fetch =
     subst (λ (w : Found). IsFetchedAs (told_where tells (repository e.did)) e.did (last_rev (account e.did J).repo) moment w fetch) (sym (fit (λ none. absurd cc)))
     (subst (λ (s : State). IsFetchedAs (told_where tells (repository e.did)) e.did (last_rev s.repo) moment what fetch) same so.told) in
-    subst (λ b. Where b (IsFetchedAs (told_where tells (repository e.did)) e.did (last_rev (account e.did J).repo) moment f fetch) (fetch ≡ [])) (sym lost) there
+    subst (λ b. WhereElse b (IsFetchedAs (told_where tells (repository e.did)) e.did (last_rev (account e.did J).repo) moment f fetch) (fetch ≡ [])) (sym lost) there
   where
     some_same : (p q : Refusal) → Some q ≡ Some p → p ≡ q
     some_same p q h = cc

@@ -22,7 +22,8 @@ use Rattle.relay_core.specs.declared.decision.Next.{Next}
 use Rattle.relay_core.proofs.Asking.{ask_open}
 use Rattle.relay_law.specs.Formed.{IsOpenedAs}
 use Rattle.relay_step.specs.Asked.{signed_by, verdict_call}
-use Rattle.relay_step.specs.Questions.{AreAsked, IsJudgedLate, IsLinkAnswer, IsReadFor, IsReadOf, IsRenewedFirst, IsTimedSo, NoneAsked, SkippedBefore, has_blocks, home_told, is_commit, open_count, refresh_told, verdict_told}
+use Rattle.relay_step.specs.Questions.{AreAsked, IsJudgedLate, IsLinkAnswer, IsReadFor, IsReadOf, IsRenewedFirst, IsTimedSo, NoneAsked, SkippedBefore, home_told, is_commit, open_count, refresh_told, verdict_told}
+use Rattle.at_event.specs.Bodies.{has_blocks}
 use Rattle.account_state.specs.declared.repo.Repo.{Repo}
 use Rattle.relay_step.specs.declared.reading.Read.{Read}
 use Rattle.relay_step.specs.Commands.{IsNow}

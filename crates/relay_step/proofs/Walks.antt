@@ -15,7 +15,8 @@ use Rattle.relay_core.specs.declared.answers.Answers.{Answers}
 use Rattle.relay_core.specs.declared.answers.Question.{Question}
 use Rattle.relay_core.specs.declared.decision.Next.{Next}
 use Rattle.relay_core.specs.declared.decision.Pass.{Pass}
-use Rattle.relay_step.specs.Questions.{SkippedBefore, has_blocks, is_commit, length_line}
+use Rattle.relay_step.specs.Questions.{SkippedBefore, is_commit, length_line}
+use Rattle.at_event.specs.Bodies.{has_blocks}
 
 -- ---- what is next, by the walk
 

@@ -6,6 +6,7 @@ use Rattle.at_authority.specs.Queries.{asks_verdict}
 use Rattle.at_cid.specs.Link.{IsBytes}
 use Rattle.at_event.specs.Refusals.{code_of}
 use Rattle.at_event.specs.declared.refusal.Refusal.{Refusal}
+use Rattle.relay_io.specs.Choices.{WhereElse}
 use Rattle.relay_row.specs.Rules.{loses}
 use Rattle.relay_row.specs.declared.row.Row.{Row}
 use Rattle.account_state.specs.Folds.{account, last_rev}
@@ -78,17 +79,12 @@ pub record AnsweredFetch (repository : Option (Option (List ℕ))) (did : List �
   pub fetched : IsFetchedAs repository did least moment f calls
   pub made : AreCalls old calls new
 
--- the one where a test holds, the other where it doesn't
-abbrev pub Where : Bool → Type 0 → Type 0 → Type 0
-Where true held other = held
-Where false held other = other
-
 -- What is fetched behind a refusal: the account's repository where it loses its account, beside the
 -- last revision before the row, and else nothing.
 abbrev pub IsFetched : Bool → (List ℕ → Option (List ℕ)) → List Row → List ℕ → Option Refusal → ℕ
     → Found → List Call → Type 0
 IsFetched repos_tell repository J did None moment f calls = calls ≡ []
-IsFetched repos_tell repository J did (Some r) moment f calls = Where (loses (code_of r))
+IsFetched repos_tell repository J did (Some r) moment f calls = WhereElse (loses (code_of r))
     (IsFetchedAs (told_where repos_tell (repository did)) did (last_rev (account did J).repo)
     moment f calls)
     (calls ≡ [])

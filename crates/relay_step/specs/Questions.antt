@@ -113,12 +113,6 @@ is_commit (Body.Sync s) = false
 is_commit Body.Identity = false
 is_commit (Body.Account b) = false
 
-abbrev pub has_blocks : Body → Bool
-has_blocks (Body.Commit c) = true
-has_blocks (Body.Sync s) = true
-has_blocks Body.Identity = false
-has_blocks (Body.Account b) = false
-
 -- what was read of an event's blocks
 abbrev pub IsReadOf : Body → Read → Type 0
 IsReadOf (Body.Commit c) (Read.Commit opened) = IsOpened c opened

@@ -10,7 +10,8 @@ ghost use Rattle.relay_law.specs.Formed.{IsOpenedAs};
 ghost use Rattle.relay_law.specs.Right.{expect_of};
 ghost use Rattle.relay_step.specs.Asked.{signed_by, verdict_call};
 ghost use Rattle.relay_step.specs.Causes.{IsCause, SpendsNone};
-ghost use Rattle.relay_step.specs.Questions.{IsLinkAnswer, IsReadFor, IsReadOf, has_blocks, is_commit};
+ghost use Rattle.relay_step.specs.Questions.{IsLinkAnswer, IsReadFor, IsReadOf, is_commit};
+ghost use Rattle.at_event.specs.Bodies.{has_blocks};
 ghost use Rattle.relay_step.specs.declared.fault.StepFault.{StepFault as Fault};
 
 use crate::fault::StepFault;
