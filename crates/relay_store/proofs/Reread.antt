@@ -4,11 +4,10 @@ use Rattle.std.specs.Prelude.{◌==◌, if◌then◌else◌, map, nat_le, nat_lt
 use Rattle.std.specs.Bool.{beq}
 use Rattle.std.specs.List.{list_all}
 use Rattle.std.proofs.lemmas.Bool.{and_parts, eqb-true, ltb-true}
-use Rattle.event_window.specs.Held.{Event, Held, IsNext, first_or, oldest_of}
+use Rattle.event_window.specs.Held.{Event, IsNext, first_or, oldest_of}
 use Rattle.event_window.specs.Window.{AreAbove, all_above}
 use Rattle.event_window.specs.declared.place.Place.{Place}
 use Rattle.relay_disk.specs.Disk.{View}
-use Rattle.gate_log.specs.Log.{HoldsBodies as HasBodies}
 use Rattle.at_event.specs.Refusals.{code_of}
 use Rattle.at_event.specs.declared.refusal.Refusal.{Refusal}
 use Rattle.relay_row.specs.Folds.{events, events_in, events_of, folded, last_after, last_seq, seq_in, first_seq}
@@ -21,8 +20,8 @@ use Rattle.at_cid.specs.declared.limits.TheConstants.{NUMBERS}
 use Rattle.relay_row.specs.declared.operated.Operated.{Operated}
 use Rattle.relay_row.specs.declared.row.Row.{Row}
 use Rattle.relay_row.specs.declared.taken.Taken.{Taken}
-use Rattle.relay_store.specs.Events.{AllStand, HasEvents, IsFirst, IsBufferOf, BufferState}
-use Rattle.relay_store.specs.Journals.{bytes_of, joined}
+use Rattle.relay_store.specs.Events.{AllStand, IsFirst}
+use Rattle.relay_store.specs.Journals.{joined}
 use Rattle.relay_store.specs.Places.{number_in}
 use Rattle.relay_store.specs.Shown.{held_by, is_shown, shown_of}
 use Rattle.relay_store.specs.Store.{StoreState, Keeps}
@@ -200,13 +199,3 @@ module _ (J : List Row) (s : StoreState) (v : View) (keeps : Keeps J s v) where
   oldest_is =
       sym (first_stands s.log.format keeps.bodies s.window (sent J) (last_seq J + 1) all_stand)
       ∙ ap (λ (es : List Event). first_or (map (λ (e : Event). e.0) es) (last_seq J + 1)) (events_sent J keeps.are.journal.formed)
-
--- the bodies are still there
-pub still_kept : (J : List Row) (s : StoreState) (v w : View) (keeps : Keeps J s v) → HasBodies (bytes_of keeps.bodies) s.log w → Keeps J s w
-still_kept J s v w keeps holds = record { bodies = keeps.bodies; are = keeps.are; holds = holds; core = keeps.core; window = keeps.window }
-
--- and so are the events, whichever buffer was read last
-pub still_has : (J : List Row) (s : StoreState) (v w : View) (buffer : BufferState) (held : Held) (keeps : Keeps J s v) → HasBodies (bytes_of keeps.bodies) s.log w → held ≡ held_by J
-    → IsBufferOf s.log.format keeps.bodies buffer → HasEvents s w buffer held
-unfolding still_kept
-still_has J s v w buffer held keeps holds is fits = (J, still_kept J s v w keeps holds, is, fits)

@@ -1,7 +1,6 @@
 -- Faults of the log and of steps as the store's, and the numbers of faults (own).
 use Rattle.std.specs.Prelude.{⊤, ℕ}
 use Rattle.gate_log.specs.declared.fault.LogFault.{LogFault}
-use Rattle.relay_step.specs.declared.fault.StepFault.{StepFault}
 use Rattle.relay_store.specs.declared.fault.StoreFault.{StoreFault}
 
 abbrev pub of_log : LogFault → StoreFault
@@ -9,13 +8,6 @@ of_log LogFault.Disk = StoreFault.Disk
 of_log (LogFault.BadLog place) = StoreFault.BadLog place
 of_log (LogFault.Full end) = StoreFault.Full end
 of_log LogFault.Memory = StoreFault.Memory
-
-abbrev pub of_step : StepFault → StoreFault
-of_step StepFault.SeqEnd = StoreFault.SeqEnd
-of_step StepFault.Authority = StoreFault.Authority
-of_step StepFault.Repos = StoreFault.Repos
-of_step StepFault.Clock = StoreFault.Clock
-of_step StepFault.Memory = StoreFault.Memory
 
 abbrev pub number_of : StoreFault → ℕ
 number_of StoreFault.Disk = 1

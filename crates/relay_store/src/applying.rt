@@ -35,7 +35,7 @@ fn note(window: &mut Window, place: Place)
 
 /// Takes one more row, which stands at this index of the body at this place. What is kept is taken out of the row. Where memory
 /// runs out, what is known stays as it was.
-pub(crate) fn learn_row(
+pub fn learn_row(
     core: &mut Core,
     window: &mut Window,
     place: u64,

@@ -15,7 +15,7 @@ use gate_log::{Log, LogFault};
 use relay_disk::Disk;
 
 /// Puts the body at this place into a room, and answers the place of the next one.
-pub(crate) fn read_body<D: Disk>(
+pub fn read_body<D: Disk>(
     log: &Log,
     disk: &mut D,
     place: u64,

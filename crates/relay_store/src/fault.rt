@@ -4,7 +4,6 @@ ghost use Rattle.std.specs.Prelude.{◌≡◌};
 
 use at_cid::Memory;
 use gate_log::LogFault;
-use relay_step::StepFault;
 use thiserror::Error;
 
 /// Why a call of the store failed.
@@ -77,22 +76,6 @@ impl From<LogFault> for StoreFault {
             LogFault::BadLog(place) => StoreFault::BadLog(place),
             LogFault::Full(end) => StoreFault::Full(end),
             LogFault::Memory => StoreFault::Memory,
-        }
-    }
-}
-
-impl From<StepFault> for StoreFault {
-    ghost use Rattle.relay_store.specs.Faults.{of_step};
-
-    ghost from_gives = { λ step fault. fault ≡ of_step step };
-
-    fn from(fault: StepFault) -> StoreFault {
-        match fault {
-            StepFault::SeqEnd => StoreFault::SeqEnd,
-            StepFault::Authority => StoreFault::Authority,
-            StepFault::Repos => StoreFault::Repos,
-            StepFault::Clock => StoreFault::Clock,
-            StepFault::Memory => StoreFault::Memory,
         }
     }
 }

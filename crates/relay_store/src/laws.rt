@@ -1,9 +1,7 @@
-//! Laws of images of journals and of lines, each the contract of a function that does nothing.
+//! Laws of images of journals, each the contract of a function that does nothing.
 
 ghost use Rattle.std.specs.Prelude.{◌≡◌, List, ℕ};
 ghost use Rattle.relay_row.specs.declared.row.Row.{Row};
-ghost use Rattle.relay_store.specs.Lines.{LinesReport};
-ghost use Rattle.relay_store.specs.ShownMessages.{ShownAsRead};
 ghost use Rattle.relay_store.specs.Journals.{IsBadPairJournalAt, IsPairImageOf};
 
 /// The bytes of two disks are an image of one journal at most.
@@ -18,18 +16,8 @@ pub fn faults_are_no_journals()
         → IsBadPairJournalAt place one two → ⊥ }
 {}
 
-/// The lines of what was answered to a run are those of its report.
-pub fn lines_are_the_reports()
-    ensures { LinesReport }
-{}
-
 /// Two disks show a fault at one place at most.
 pub fn faults_have_one_place()
     ensures { (place other : ℕ) (one two : List ℕ) → IsBadPairJournalAt place one two
         → IsBadPairJournalAt other one two → place ≡ other }
-{}
-
-/// What is shown of a faithful journal's events follows from their messages alone.
-pub fn events_are_shown_as_read()
-    ensures { ShownAsRead }
 {}

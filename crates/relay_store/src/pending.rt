@@ -14,13 +14,16 @@ use std::mem;
 
 /// The rows of a body under way, as they are encoded, behind the room for what stands ahead of them.
 #[derive(Drop)]
-pub(crate) struct Pending {
-    pub(crate) body: Octets,
-    pub(crate) count: usize,
+pub struct Pending {
+    /// The bytes.
+    pub body: Octets,
+    /// How many rows there are.
+    pub count: usize,
 }
 
 impl Pending {
-    pub(crate) fn new(alloc: Global) -> Pending {
+    /// No rows, and no room yet.
+    pub fn new(alloc: Global) -> Pending {
         Pending {
             body: Octets::new(alloc),
             count: 0,
@@ -28,7 +31,7 @@ impl Pending {
     }
 
     /// Drops what was put together.
-    pub(crate) fn start(&mut self) -> Result<(), Memory>
+    pub fn start(&mut self) -> Result<(), Memory>
         ensures { OnOk result (HasRows [] self.new) }
     {
         self.count = 0;
@@ -36,7 +39,7 @@ impl Pending {
     }
 
     /// Drops the bytes behind so many. Takes no memory.
-    pub(crate) fn cut_back(&mut self, alloc: Global, len: usize)
+    pub fn cut_back(&mut self, alloc: Global, len: usize)
         ensures { self.new ≡ cut_to len self.old }
     {
         let mut bytes = mem::replace(&mut self.body, Octets::new(alloc)).into_vec();
@@ -46,7 +49,7 @@ impl Pending {
 }
 
 /// The front of a list of so many rows, with a byte behind it where it has one alone.
-pub(crate) fn list_front(count: usize) -> [u8; HEAD]
+pub fn list_front(count: usize) -> [u8; HEAD]
     requires { count ≤ MOST_ROWS }
     ensures { take (length (front_of Major.List count)) result ≡ front_of Major.List count }
 {
@@ -57,7 +60,7 @@ pub(crate) fn list_front(count: usize) -> [u8; HEAD]
 }
 
 /// How long it is.
-pub(crate) fn list_front_len(count: usize) -> usize
+pub fn list_front_len(count: usize) -> usize
     requires { count ≤ MOST_ROWS }
     ensures len { result ≡ length (front_of Major.List count) }
     ensures short { result ≤ HEAD }

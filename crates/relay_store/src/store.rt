@@ -8,14 +8,19 @@ use host_state::Hosts;
 use relay_core::Core;
 
 /// A journal on the log of a pair of disks, which are handed to each call, and what is known of it: the state, and where the events
-/// stand.
+/// stand. Its parts are for what takes, gives out and cuts: their contracts say which journal it has then.
 #[derive(Drop)]
 pub struct Store {
-    pub(crate) log: Log,
-    pub(crate) side: Side,
-    pub(crate) core: Core,
-    pub(crate) window: Window,
-    pub(crate) pending: Pending,
+    /// The log.
+    pub log: Log,
+    /// The disk of the pair that it is on.
+    pub side: Side,
+    /// The state.
+    pub core: Core,
+    /// Where the events stand.
+    pub window: Window,
+    /// The body that is put together.
+    pub pending: Pending,
 }
 
 impl Store {
@@ -56,7 +61,7 @@ impl Store {
     }
 
     /// The least number that it holds, and where it holds none, the one behind the last.
-    pub(crate) fn oldest(&self) -> u64
+    pub fn oldest(&self) -> u64
         ensures { self.now.core.last < NUMBERS
             → result ≡ first_or (map (λ (p : ThePlace). p.seq) self.now.window.places)
             (self.now.core.last + 1) }

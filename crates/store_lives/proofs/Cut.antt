@@ -9,10 +9,10 @@ use Rattle.gate_log.specs.declared.picking.Side.TheVariants.{One, Two}
 use Rattle.at_event.specs.declared.refusal.Refusal.{Refusal}
 use Rattle.relay_row.specs.declared.row.Row.{Row}
 use Rattle.cut_law.specs.Cut.{MayCut, cut}
-use Rattle.relay_store.specs.Cutting.{IsEitherBeside}
+use Rattle.store_cut.specs.Cutting.{IsEitherBeside}
 use Rattle.relay_store.specs.Journals.{IsPairImageOf}
 use Rattle.relay_store.specs.Store.{StoreState, Keeps}
-use Rattle.relay_store.specs.declared.cutting.CutDone.{CutDone}
+use Rattle.store_cut.specs.declared.cutting.CutDone.{CutDone}
 use Rattle.relay_store.specs.declared.fault.StoreFault.{StoreFault}
 use Rattle.store_lives.specs.Lives.{Machine, CutAs, Cuts, disk_of, fault_cut}
 

@@ -14,8 +14,8 @@ use Rattle.cut_law.proofs.Changing.{comes_cut, comes_itself, comes_longer}
 use Rattle.relay_step.specs.declared.command.CommandAnswer.{CommandAnswer}
 use Rattle.relay_store.specs.Journals.{IsOneOf, IsPairImageOf, IsPairJournalOfOne, LeavesPairJournals}
 use Rattle.relay_store.specs.Store.{StoreState, IsOf, Keeps, seen_in}
-use Rattle.relay_store.specs.Commands.{CommandDone}
-use Rattle.relay_store.specs.declared.done.Done.{Done}
+use Rattle.store_take.specs.Commands.{CommandDone}
+use Rattle.store_take.specs.declared.done.Done.{Done}
 use Rattle.relay_store.specs.declared.fault.StoreFault.{StoreFault}
 use Rattle.relay_store.specs.declared.store.Store.{Store}
 use Rattle.relay_store.proofs.Images.{kept_log, same_kept, same_pair_journal}

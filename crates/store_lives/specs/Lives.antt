@@ -18,17 +18,17 @@ use Rattle.relay_step.specs.Causes.{CameToNothing, OneTaken}
 use Rattle.relay_step.specs.Steps.{rows}
 use Rattle.relay_step.specs.Commands.{OperatedAt, SyncedAt, rows_commanded}
 use Rattle.relay_step.specs.declared.command.CommandAnswer.{CommandAnswer}
-use Rattle.relay_store.specs.Batches.{Batched, scene}
-use Rattle.relay_store.specs.Cutting.{IsEitherBeside}
-use Rattle.relay_store.specs.declared.cutting.CutDone.{CutDone}
+use Rattle.store_take.specs.Batches.{Batched, scene}
+use Rattle.store_cut.specs.Cutting.{IsEitherBeside}
+use Rattle.store_cut.specs.declared.cutting.CutDone.{CutDone}
 use Rattle.relay_store.specs.Opening.{Opened}
-use Rattle.relay_store.specs.Rereading.{IsReread}
+use Rattle.store_read.specs.Rereading.{IsReread}
 use Rattle.relay_store.specs.Store.{StoreState, IsOf, Keeps, seen_in}
-use Rattle.relay_store.specs.Commands.{CommandDone, added}
-use Rattle.relay_store.specs.declared.done.Done.{Done}
+use Rattle.store_take.specs.Commands.{CommandDone, added}
+use Rattle.store_take.specs.declared.done.Done.{Done}
 use Rattle.relay_store.specs.declared.fault.StoreFault.{StoreFault}
-use Rattle.relay_store.specs.declared.message.Message.{Message}
-use Rattle.relay_store.specs.declared.outcome.Outcome.{Outcome}
+use Rattle.store_take.specs.declared.message.Message.{Message}
+use Rattle.store_take.specs.declared.outcome.Outcome.{Outcome}
 use Rattle.relay_store.specs.declared.store.Store.{Store}
 
 -- A machine between two calls: the store, where one is open, and the pair of disks.

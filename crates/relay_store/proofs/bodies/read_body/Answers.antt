@@ -5,7 +5,7 @@ use Rattle.gate_log.specs.Log.{HoldsBodies as HasBodies}
 use Rattle.relay_row.specs.Bodies.{IsBody, rows_body}
 use Rattle.relay_row.specs.declared.row.Row.{Row}
 use Rattle.relay_store.specs.Journals.{bytes_of}
-use Rattle.relay_store.proofs.Searching.{body_inside}
+use Rattle.relay_store.proofs.InBodies.{body_inside}
 use Rattle.relay_store.proofs.Standing.{bytes_joined}
 use Rattle.relay_store.proofs.bodies.read_body.Goals as goal
 

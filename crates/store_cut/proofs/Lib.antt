@@ -1,0 +1,9 @@
+pub mod Shorts
+pub mod Rewritten
+pub mod CutFronts
+pub mod Carried
+pub mod ShortCarried
+pub mod Recopied
+pub mod CutPairs
+pub mod KeptNumbers
+pub mod Ordering

@@ -1,0 +1,3 @@
+pub mod Rereading
+pub mod Rewriting
+pub mod Cutting

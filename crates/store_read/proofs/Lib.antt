@@ -1,0 +1,4 @@
+pub mod Buffering
+pub mod Reread
+pub mod Searching
+pub mod ShownMessages

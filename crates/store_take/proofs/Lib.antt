@@ -1,0 +1,12 @@
+pub mod Rooms
+pub mod MessagesApart
+pub mod Commits
+pub mod Turns
+pub mod Asks
+pub mod Runs
+pub mod Nexts
+pub mod Spent
+pub mod Gathers
+pub mod Batched
+pub mod Linework
+pub mod CommandDone
