@@ -9,7 +9,7 @@ use Rattle.relay_step.specs.Around.{Around}
 use Rattle.relay_store.specs.Journals.{IsPairImageOf}
 use Rattle.relay_store.specs.Opening.{IsOfReading, Opened}
 use Rattle.relay_store.specs.Pairs.{StandsFor}
-use Rattle.relay_store.specs.declared.cutting.CutDone.{CutDone}
+use Rattle.store_cut.specs.declared.cutting.CutDone.{CutDone}
 use Rattle.relay_store.specs.declared.fault.StoreFault.{StoreFault}
 use Rattle.relay_store.specs.declared.store.Store.{Store}
 use Rattle.relay_store.proofs.Beside.{leaves_stand, opened_leaves}

@@ -6,13 +6,13 @@ use Rattle.relay_disk.specs.Disk.{View}
 use Rattle.relay_row.specs.declared.row.Row.{Row}
 use Rattle.relay_step.specs.Causes.{SpendsNone}
 use Rattle.relay_step.specs.declared.command.CommandAnswer.{CommandAnswer}
-use Rattle.relay_store.specs.Commands.{CommandDone, IsAnswer, IsOfOperating}
+use Rattle.store_take.specs.Commands.{CommandDone, IsAnswer, IsOfOperating}
 use Rattle.relay_store.specs.Opening.{IsOfReading}
-use Rattle.relay_store.specs.Rewriting.{IsOfRewriting}
+use Rattle.store_cut.specs.Rewriting.{IsOfRewriting}
 use Rattle.relay_store.specs.Store.{StoreState}
-use Rattle.relay_store.specs.Taking.{ComesOfAsking}
-use Rattle.relay_store.specs.declared.cutting.CutDone.{CutDone}
-use Rattle.relay_store.specs.declared.done.Done.{Done}
+use Rattle.store_take.specs.Taking.{ComesOfAsking}
+use Rattle.store_cut.specs.declared.cutting.CutDone.{CutDone}
+use Rattle.store_take.specs.declared.done.Done.{Done}
 use Rattle.relay_store.specs.declared.fault.StoreFault.{StoreFault}
 use Rattle.run_base.specs.Counts.{Counted}
 use Rattle.run_base.specs.Deeds.{by_end}

@@ -12,7 +12,7 @@ use Rattle.relay_step.specs.Around.{Around}
 use Rattle.relay_step.specs.Commands.{rows_commanded}
 use Rattle.relay_step.specs.declared.command.CommandAnswer.{CommandAnswer}
 use Rattle.given_law.specs.Made.{GiveBytes}
-use Rattle.relay_store.specs.Commands.{IsAnswer, CommandDone, Commanded, added, done_of, done_row}
+use Rattle.store_take.specs.Commands.{IsAnswer, CommandDone, Commanded, added, done_of, done_row}
 use Rattle.relay_store.specs.Faults.{IsCause}
 use Rattle.relay_store.specs.Journals.{IsOneOf, IsPairImageOf}
 use Rattle.relay_store.specs.Opening.{IsOfReading, Opened}
@@ -20,8 +20,8 @@ use Rattle.relay_store.specs.Pairs.{IsOneOfPair, StandsFor, of_pair}
 use Rattle.relay_store.specs.PendingBodies.{IsFull}
 use Rattle.relay_store.specs.Room.{PairHasNoRoom, PairHasRoom}
 use Rattle.relay_store.specs.Store.{IsOf, Keeps, StoreState, seen_in}
-use Rattle.relay_store.specs.Taking.{ComesOfAsking}
-use Rattle.relay_store.specs.declared.done.Done.{Done}
+use Rattle.store_take.specs.Taking.{ComesOfAsking}
+use Rattle.store_take.specs.declared.done.Done.{Done}
 use Rattle.relay_store.specs.declared.fault.StoreFault.{StoreFault}
 use Rattle.relay_store.specs.declared.store.Store.{Store}
 use Rattle.relay_store.proofs.Beside.{both_same, kept_fronts, kept_stands, leaves_on, leaves_stand, one_beside, opened_keeps, opened_leaves, run_on, stands_on, view_now, view_on}

@@ -4,10 +4,10 @@ use Rattle.at_event.specs.Refusals.{code_of}
 use Rattle.relay_row.specs.declared.row.Row.{Row}
 use Rattle.relay_step.specs.Commands.{rows_commanded}
 use Rattle.relay_step.specs.declared.command.CommandAnswer.{CommandAnswer}
-use Rattle.relay_store.specs.Commands.{done_of}
+use Rattle.store_take.specs.Commands.{done_of}
 use Rattle.relay_store.specs.Opening.{IsOfReading}
 use Rattle.relay_store.specs.Room.{PairHasNoRoom}
-use Rattle.relay_store.specs.Taking.{ComesOfAsking}
+use Rattle.store_take.specs.Taking.{ComesOfAsking}
 use Rattle.relay_store.specs.declared.fault.StoreFault.{StoreFault}
 use Rattle.run_base.specs.Deeds.{Came, Deed, OnDisks, WasOpened, adds, answered, by_end, in_vain, reads, unopened}
 use Rattle.run_base.specs.Place.{Place, Tells}

@@ -7,7 +7,7 @@ use Rattle.relay_law.specs.Carried.{AreOfKnown}
 use Rattle.cut_law.specs.Cut.{MayCut, cut}
 use Rattle.relay_store.specs.Journals.{IsPairImageOf}
 use Rattle.relay_store.specs.Opening.{IsOfReading}
-use Rattle.relay_store.specs.declared.cutting.CutDone.{CutDone}
+use Rattle.store_cut.specs.declared.cutting.CutDone.{CutDone}
 use Rattle.relay_store.specs.declared.fault.StoreFault.{StoreFault}
 use Rattle.run_base.specs.Cutting.{IsAnswerOf, IsUnwritten}
 use Rattle.run_base.specs.Deeds.{Came, Deed, OnDisks, WasOpened, answered, in_vain, unopened}

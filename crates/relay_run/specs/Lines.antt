@@ -3,8 +3,8 @@
 use Rattle.std.specs.Prelude.{◌≡◌, ◌⊎◌, ⊤, ℕ, List, [], ◌∷◌, ◌++◌, codes}
 use Rattle.at_event.specs.Refusals.{code_of}
 use Rattle.relay_core.specs.Report.{refused_of}
-use Rattle.relay_store.specs.declared.cutting.CutDone.{CutDone}
-use Rattle.relay_store.specs.declared.done.Done.{Done}
+use Rattle.store_cut.specs.declared.cutting.CutDone.{CutDone}
+use Rattle.store_take.specs.declared.done.Done.{Done}
 use Rattle.report_lines.specs.Lines.{numbered}
 use Rattle.run_base.specs.declared.status.Status.{Status}
 

@@ -12,10 +12,10 @@ use at_cid::{Memory, Octets};
 use at_event::Refusal;
 use itoa::Buffer;
 use relay_io::{Failed, Sink, write_all};
-use relay_store::Done;
 use report_lines::add_refusal;
 use run_base::Status;
 use std::alloc::Global;
+use store_take::Done;
 
 // A word and a number.
 pub(crate) fn write_number<O: Sink>(out: &mut O, command: &[u8], number: u64) -> Result<(), Failed>

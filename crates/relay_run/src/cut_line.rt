@@ -10,9 +10,9 @@ ghost use Rattle.run_base.specs.Ends.{Writes};
 
 use crate::answering::{answer_refused, write_last, write_number};
 use relay_io::{Failed, Sink};
-use relay_store::CutDone;
 use run_base::Status;
 use std::alloc::Global;
+use store_cut::CutDone;
 
 fn write_bounds<O: Sink>(out: &mut O, oldest: u64, last: u64) -> Result<(), Failed>
     ensures written { OnOk result (IsTrue O.tells

@@ -13,13 +13,13 @@ use Rattle.gate_log.specs.declared.picking.Side.{Side}
 use Rattle.gate_log.specs.declared.picking.Side.TheVariants.{One, Two}
 use Rattle.relay_row.specs.declared.row.Row.{Row}
 use Rattle.cut_law.specs.Cut.{MayCut, cut}
-use Rattle.relay_store.specs.Cutting.{IsEitherBeside, IsUncut}
+use Rattle.store_cut.specs.Cutting.{IsEitherBeside, IsUncut}
 use Rattle.relay_store.specs.Journals.{IsPairImageOf, bytes_of}
 use Rattle.relay_store.specs.Pairs.{StandsFor}
-use Rattle.relay_store.specs.Rewriting.{RewriteHasNoRoom, IsOfRewriting, singles}
+use Rattle.store_cut.specs.Rewriting.{RewriteHasNoRoom, IsOfRewriting, singles}
 use Rattle.relay_store.specs.Room.{PairHasRoom}
 use Rattle.relay_store.specs.Store.{Keeps, StoreState}
-use Rattle.relay_store.specs.declared.cutting.CutDone.{CutDone}
+use Rattle.store_cut.specs.declared.cutting.CutDone.{CutDone}
 use Rattle.relay_store.specs.declared.fault.StoreFault.{StoreFault}
 use Rattle.relay_store.proofs.Beside.{kept_front, kept_stands}
 use Rattle.run_base.specs.Cutting.{CutCame, IsAnswerOf, IsOfFormat, IsUnwritten, IsWrittenAnew}

@@ -115,7 +115,7 @@ fault_not_refused code StoreFault.Repos is = cc
 fault_not_refused code StoreFault.Memory is = cc
 fault_not_refused code StoreFault.Clock is = cc
 
-fault_caused : (fault : StoreFault) (old new : Place) → (fault ≡ StoreFault.Disk → Rose old.failed.one new.failed.one ⊎ Rose old.failed.two new.failed.two)
+pub fault_caused : (fault : StoreFault) (old new : Place) → (fault ≡ StoreFault.Disk → Rose old.failed.one new.failed.one ⊎ Rose old.failed.two new.failed.two)
     → (fault ≡ StoreFault.Authority → (method : List ℕ) × IsSpent (new.around.panel method)) → (fault ≡ StoreFault.Repos → Rose old.failed.repos new.failed.repos) → (fault ≡ StoreFault.Clock → Rose old.failed.clock new.failed.clock)
     → Caused (status_of_fault fault) old new
 fault_caused StoreFault.Disk old new disk spent repos clock = disk refl

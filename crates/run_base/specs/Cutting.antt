@@ -9,13 +9,13 @@ use Rattle.gate_log.specs.declared.picking.Side.{Side}
 use Rattle.relay_row.specs.Folds.{last_seq}
 use Rattle.relay_row.specs.declared.row.Row.{Row}
 use Rattle.cut_law.specs.Cut.{MayCut, cut}
-use Rattle.relay_store.specs.Cutting.{IsUncut}
+use Rattle.store_cut.specs.Cutting.{IsUncut}
 use Rattle.relay_store.specs.Journals.{bytes_of}
 use Rattle.relay_store.specs.Pairs.{StandsFor}
-use Rattle.relay_store.specs.Rewriting.{RewriteHasNoRoom, end_behind, singles}
+use Rattle.store_cut.specs.Rewriting.{RewriteHasNoRoom, end_behind, singles}
 use Rattle.relay_store.specs.Room.{PairHasRoom}
 use Rattle.relay_store.specs.Shown.{held_by}
-use Rattle.relay_store.specs.declared.cutting.CutDone.{CutDone}
+use Rattle.store_cut.specs.declared.cutting.CutDone.{CutDone}
 use Rattle.relay_store.specs.declared.fault.StoreFault.{StoreFault}
 
 -- The log of two disks is of this format.

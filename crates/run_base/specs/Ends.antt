@@ -64,6 +64,20 @@ pub record Told (status : Status) (old new : Place) : Type 0 where
   pub door : status ≢ Status.Door → new.failed.door ≡ old.failed.door
   pub wire : status ≢ Status.Wire → new.failed.wire ≡ old.failed.wire
 
+-- The same, but where a failure of who is asked, or of the input, may have come before what the status speaks of.
+pub record ToldBut (hidden unread : Type 0) (status : Status) (old new : Place) : Type 0 where
+  pub disks : status ≢ Status.Disk
+      → (new.failed.one ≡ old.failed.one) × (new.failed.two ≡ old.failed.two)
+  pub unspent : (hidden → ⊥) → status ≢ Status.Authority
+      → SpendsNone old.around.panel new.around.panel
+  pub repos : (hidden → ⊥) → status ≢ Status.Repos → new.failed.repos ≡ old.failed.repos
+  pub clock : (hidden → ⊥) → status ≢ Status.Clock → new.failed.clock ≡ old.failed.clock
+  pub output : status ≢ Status.WriteFault → new.failed.output ≡ old.failed.output
+  pub input : (unread → ⊥) → status ≢ Status.ReadFault → new.failed.input ≡ old.failed.input
+  pub feed : status ≢ Status.Feed → new.failed.feed ≡ old.failed.feed
+  pub door : new.failed.door ≡ old.failed.door
+  pub wire : new.failed.wire ≡ old.failed.wire
+
 -- ---- what was written
 
 -- Lines and a last one: all of it at a good end, a front where a call of the output failed or memory ran out, and else all but

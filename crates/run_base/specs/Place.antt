@@ -79,6 +79,17 @@ abbrev pub at_place : View → View → Around → List ℕ → Faults → Place
 at_place one two around written failed =
     record { one = one; two = two; around = around; written = written; failed = failed }
 
+-- the same, with how often the input has failed, or the feed
+abbrev pub with_input : ℕ → Place → Place
+with_input n p = record p {
+  failed = record p.failed { input = n };
+}
+
+abbrev pub with_feed : ℕ → Place → Place
+with_feed n p = record p {
+  failed = record p.failed { feed = n };
+}
+
 -- ---- of the parts as one value
 
 -- the disk of a pair that is on this side
@@ -112,6 +123,10 @@ stays_of the_judges old new = new.asked.judges.now ≡ old.asked.judges.now
 stays_of the_repos old new = new.asked.repos.now ≡ old.asked.repos.now
 stays_of the_clock old new = new.asked.clock.now ≡ old.asked.clock.now
 stays_of the_output old new = new.out.now ≡ old.out.now
+
+-- the disk of this side is the very object that it was
+abbrev pub rests_of : {D P R C O : Type 0} → Side → Outside D P R C O → Outside D P R C O → Type 0
+rests_of side old new = disk_of side new.pair ≡ disk_of side old.pair
 
 -- the same two disks
 pub record SamePair {D : Type 0} (old new : Pair D) : Type 0 where

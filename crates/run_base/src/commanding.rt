@@ -8,7 +8,7 @@ ghost use Rattle.relay_row.specs.declared.row.Row.{Row as TheRow};
 ghost use Rattle.relay_step.specs.Asked.{AskedInVain};
 ghost use Rattle.relay_step.specs.Causes.{CameToNothing, OneTaken, SpendsNone};
 ghost use Rattle.relay_step.specs.Commands.{EndsBehind, EndsFetched, OperatedAt, SpentFetching, SyncedAt};
-ghost use Rattle.relay_store.specs.Commands.{CommandDone, IsOfOperating};
+ghost use Rattle.store_take.specs.Commands.{CommandDone, IsOfOperating};
 ghost use Rattle.relay_store.specs.Store.{IsKept, IsOf, seen_in};
 ghost use Rattle.relay_store.specs.declared.fault.StoreFault.{StoreFault as TheFault};
 ghost use Rattle.run_base.specs.Counts.{Counted, CountedPair};
@@ -20,11 +20,12 @@ use at_authority::Judges;
 use gate_log::Side;
 use relay_disk::Disk;
 use relay_io::{Clock, Repos};
-use relay_store::{Done, Store, StoreFault};
+use relay_store::{Store, StoreFault};
 use std::alloc::Global;
+use store_take::{Done, operate, sync_now};
 
 impl<D: Disk> Pair<'_, '_, D> {
-    /// Takes an account down or restores it, as `Store::operate` does, on the disk of the store's side. The clock alone is asked.
+    /// Takes an account down or restores it, as `store_take::operate` does, on the disk of the store's side. The clock alone is asked.
     pub fn operate<P, R, C: Clock>(
         &mut self,
         alloc: Global,
@@ -65,12 +66,12 @@ impl<D: Disk> Pair<'_, '_, D> {
         ensures same_asked { SameAsked asked.old asked.new }
     {
         match store.side() {
-            Side::One => store.operate(alloc, self.one, did, down, time, asked.clock),
-            Side::Two => store.operate(alloc, self.two, did, down, time, asked.clock),
+            Side::One => operate(store, alloc, self.one, did, down, time, asked.clock),
+            Side::Two => operate(store, alloc, self.two, did, down, time, asked.clock),
         }
     }
 
-    /// Fetches an account's repository and takes it over, as `Store::sync_now` does, on the disk of the store's side.
+    /// Fetches an account's repository and takes it over, as `store_take::sync_now` does, on the disk of the store's side.
     pub fn sync_now<P: Judges, R: Repos, C: Clock>(
         &mut self,
         alloc: Global,
@@ -117,7 +118,8 @@ impl<D: Disk> Pair<'_, '_, D> {
         ensures same_asked { SameAsked asked.old asked.new }
     {
         match store.side() {
-            Side::One => store.sync_now(
+            Side::One => sync_now(
+                store,
                 alloc,
                 self.one,
                 did,
@@ -126,7 +128,8 @@ impl<D: Disk> Pair<'_, '_, D> {
                 asked.repos,
                 asked.clock,
             ),
-            Side::Two => store.sync_now(
+            Side::Two => sync_now(
+                store,
                 alloc,
                 self.two,
                 did,

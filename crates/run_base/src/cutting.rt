@@ -7,7 +7,7 @@ ghost use Rattle.gate_log.specs.Pick.{LeavesSide, view_of_side};
 ghost use Rattle.relay_disk.specs.Moments.{PairLeavesOnly, TimeGoesOn};
 ghost use Rattle.relay_row.specs.declared.row.Row.{Row as TheRow};
 ghost use Rattle.relay_store.specs.Journals.{IsPairImageOf};
-ghost use Rattle.relay_store.specs.Rewriting.{IsOfRewriting};
+ghost use Rattle.store_cut.specs.Rewriting.{IsOfRewriting};
 ghost use Rattle.relay_store.specs.Store.{IsKept, Keeps, seen_in};
 ghost use Rattle.relay_store.specs.declared.fault.StoreFault.{StoreFault as TheFault};
 ghost use Rattle.run_base.specs.Counts.{CountedPair};
@@ -17,11 +17,12 @@ ghost use Rattle.run_base.specs.Place.{SamePair};
 use crate::pair::Pair;
 use gate_log::Side;
 use relay_disk::Disk;
-use relay_store::{CutDone, Store, StoreFault};
+use relay_store::{Store, StoreFault};
 use std::alloc::Global;
+use store_cut::{CutDone, cut};
 
 impl<D: Disk> Pair<'_, '_, D> {
-    /// Takes the events up to a number out of the journal, as `Store::cut` does, from the disk of the store's side onto the other.
+    /// Takes the events up to a number out of the journal, as `store_cut::cut` does, from the disk of the store's side onto the other.
     pub fn cut(&mut self, alloc: Global, store: &mut Store, seq: u64) -> Result<CutDone, StoreFault>
         requires open { IsTrue (seen_in store.old).log.is_open }
         requires on { IsTrue D.tells → IsKept (seen_in store.old)
@@ -52,8 +53,8 @@ impl<D: Disk> Pair<'_, '_, D> {
         ensures same { SamePair self.old self.new }
     {
         match store.side() {
-            Side::One => store.cut(alloc, self.one, self.two, seq),
-            Side::Two => store.cut(alloc, self.two, self.one, seq),
+            Side::One => cut(store, alloc, self.one, self.two, seq),
+            Side::Two => cut(store, alloc, self.two, self.one, seq),
         }
     }
 }

@@ -1,5 +1,6 @@
 //! What contracts see of the outside.
-ghost use Rattle.run_base.specs.Place.{Part, Place, Tells, IsLater, faults_of, place_of, stays_of, tells_of};
+ghost use Rattle.run_base.specs.Place.{Part, Place, Tells, IsLater, faults_of, place_of, rests_of, stays_of, tells_of};
+ghost use Rattle.gate_log.specs.declared.picking.Side.{Side as TheSide};
 
 use crate::outside::Outside;
 use at_authority::Judges;
@@ -17,6 +18,9 @@ pub trait Seen {
     /// This part is what it was.
     ghost stays: { Part → Self → Self → Type 0 };
 
+    /// The disk of this side is the very object that it was.
+    ghost rests: { TheSide → Self → Self → Type 0 };
+
     /// The same parts, later: no count of failures fell.
     ghost later: { Self → Self → Type 0 };
 }
@@ -29,6 +33,8 @@ impl<D: Disk, P: Judges, R: Repos, C: Clock, O: Sink> Seen
         R.faults C.faults O.faults };
 
     ghost stays = { stays_of };
+
+    ghost rests = { rests_of };
 
     ghost later = { IsLater (faults_of D.view R.faults C.faults O.faults) };
 }

@@ -1,13 +1,14 @@
 //! Messages of hosts taken, on the disk that the store is open on.
 
-ghost use Rattle.std.specs.Prelude.{◌≡◌, ◌≢◌, ◌≤◌, ◌⊎◌, [], Some, None, List, length, IsTrue};
+ghost use Rattle.std.specs.Prelude.{◌≡◌, ◌≢◌, ◌≤◌, ◌⊎◌, [], Some, None, ℕ, List, length, false, IsTrue};
+ghost use Rattle.at_authority.specs.Panels.{IsSpent};
 ghost use Rattle.gate_log.specs.Pick.{other_side, view_of_side};
 ghost use Rattle.relay_row.specs.declared.limits.TheConstants.{MOST_ROWS};
 ghost use Rattle.relay_row.specs.declared.row.Row.{Row as TheRow};
 ghost use Rattle.relay_step.specs.Causes.{SpendsNone};
-ghost use Rattle.relay_store.specs.Batches.{Batched, HasEnd, scene};
+ghost use Rattle.store_take.specs.Batches.{Batched, DiskFailed, HasEnd, scene};
 ghost use Rattle.relay_store.specs.Store.{IsKept, IsOf, seen_in};
-ghost use Rattle.relay_store.specs.Taking.{AreOfHosts};
+ghost use Rattle.store_take.specs.Taking.{AreOfHosts};
 ghost use Rattle.run_base.specs.Counts.{CountedBut, CountedPair};
 ghost use Rattle.run_base.specs.Place.{SameAsked, SamePair, around_of, disk_of};
 
@@ -17,11 +18,12 @@ use at_authority::Judges;
 use gate_log::Side;
 use relay_disk::Disk;
 use relay_io::{Clock, Repos};
-use relay_store::{Batch, Message, Store, StoreFault};
+use relay_store::{Store, StoreFault};
 use std::alloc::Global;
+use store_take::{Batch, Message, take_all};
 
 impl<D: Disk> Pair<'_, '_, D> {
-    /// Takes 1 to 64 messages in order, as `Store::take_all` does, on the disk of the store's side.
+    /// Takes 1 to 64 messages in order, as `store_take::take_all` does, on the disk of the store's side.
     pub fn take_all<P: Judges, R: Repos, C: Clock>(
         &mut self,
         alloc: Global,
@@ -70,11 +72,27 @@ impl<D: Disk> Pair<'_, '_, D> {
         ensures unspent { result.fault ≢ Some StoreFault.Disk
             → result.fault ≢ Some StoreFault.Authority
             → SpendsNone (P.panel asked.old.judges.now) (P.panel asked.new.judges.now) }
+        ensures spent { result.fault ≡ Some StoreFault.Authority
+            → (method : List ℕ) × IsSpent (P.panel asked.new.judges.now method) }
+        ensures disk_failed { let side = (seen_in store.old).side in
+            let old = around_of P.panel C.moments R.repository asked.old in
+            let new = around_of P.panel C.moments R.repository asked.new in
+            result.fault ≡ Some StoreFault.Disk
+            → (J : List TheRow) → IsOf J (seen_in store.old).core
+            → DiskFailed D.view D.tells C.tells R.tells J group.now
+            (scene (seen_in store.old) (disk_of side self.old) old)
+            (scene (seen_in store.new) (disk_of side self.new) new)
+            ((C.faults asked.new.clock.now ≡ C.faults asked.old.clock.now)
+            × (R.faults asked.new.repos.now ≡ R.faults asked.old.repos.now)
+            × SpendsNone (P.panel asked.old.judges.now) (P.panel asked.new.judges.now)) }
+        ensures closed { result.fault ≡ Some StoreFault.Disk
+            → (seen_in store.new).log.is_open ≡ false }
         ensures same { SamePair self.old self.new }
         ensures same_asked { SameAsked asked.old asked.new }
     {
         match store.side() {
-            Side::One => store.take_all(
+            Side::One => take_all(
+                store,
                 alloc,
                 self.one,
                 group,
@@ -82,7 +100,8 @@ impl<D: Disk> Pair<'_, '_, D> {
                 asked.repos,
                 asked.clock,
             ),
-            Side::Two => store.take_all(
+            Side::Two => take_all(
+                store,
                 alloc,
                 self.two,
                 group,

@@ -2,11 +2,11 @@
 use Rattle.std.proofs.Common.{◌≡◌, ◌⊎◌, ⊎_elim, ◌<◌, ◌≤◌, ℕ, ◌+◌, List, [], ◌∷◌, ◌++◌, length, drop, get_or, map, suc, zero, Some, refl, ap, ◌∙◌, sym, subst, arith, append_assoc, length-append}
 use Rattle.std.proofs.lemmas.List.{append-nil, drop_all}
 use Rattle.relay_step.specs.Steps.{Step}
-use Rattle.relay_store.specs.Batches.{HasEnd, messages_sent}
-use Rattle.relay_store.specs.Lines.{line_of}
-use Rattle.relay_store.specs.Outcomes.{outcome_of}
-use Rattle.relay_store.specs.declared.message.Message.{Message}
-use Rattle.relay_store.specs.declared.outcome.Outcome.{Outcome}
+use Rattle.store_take.specs.Batches.{HasEnd, messages_sent}
+use Rattle.store_take.specs.Lines.{line_of}
+use Rattle.store_take.specs.Outcomes.{outcome_of}
+use Rattle.store_take.specs.declared.message.Message.{Message}
+use Rattle.store_take.specs.declared.outcome.Outcome.{Outcome}
 use Rattle.take_run.specs.declared.tally.Tally.{Tally}
 use Rattle.take_run.specs.Said.{Said, IsNoted, answered, ended_in, ended_said, given, line_said, refused, said, text_of}
 

@@ -26,10 +26,10 @@ use Rattle.relay_core.specs.Table.{did_of}
 use Rattle.relay_core.specs.declared.answers.Answers.{Answers}
 use Rattle.relay_core.specs.declared.decision.Decision.{Decision}
 use Rattle.relay_step.specs.Steps.{Step, Decided, after_end, skipped, recorded, AreSteps, IsDecidedAs, ended_decided, message_of, messages, rows, rows_decided}
-use Rattle.relay_store.specs.Lines.{line_of}
-use Rattle.relay_store.specs.Outcomes.{fetch_in, outcome_as, outcome_decided, skipped_outcome, taken_outcome}
-use Rattle.relay_store.specs.declared.outcome.Outcome.{Outcome}
-use Rattle.relay_store.proofs.Linework.{lines_report}
+use Rattle.store_take.specs.Lines.{line_of}
+use Rattle.store_take.specs.Outcomes.{fetch_in, outcome_as, outcome_decided, skipped_outcome, taken_outcome}
+use Rattle.store_take.specs.declared.outcome.Outcome.{Outcome}
+use Rattle.store_take.proofs.Linework.{lines_report}
 use Rattle.take_run.specs.Lines.{line_decided, lines_of}
 use Rattle.take_run.specs.Said.{given, gives, gives_fetched, line_said, refused, refuses, said, text_of}
 

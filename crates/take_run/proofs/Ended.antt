@@ -14,10 +14,10 @@ use Rattle.relay_core.specs.Report.{ended_by}
 use Rattle.relay_core.specs.Runs.{has_ended, skipped_by}
 use Rattle.relay_core.specs.declared.decision.Pass.{Pass}
 use Rattle.relay_step.specs.Steps.{Step, Decided, after_end, skipped, recorded, AreSteps, IsDecidedAs, ended_decided, ended_by_all, message_of, rows_decided}
-use Rattle.relay_store.specs.Batches.{is_end, messages_sent}
-use Rattle.relay_store.specs.Outcomes.{outcome_as, outcome_decided, skipped_outcome, taken_outcome}
-use Rattle.relay_store.specs.declared.message.Message.{Message}
-use Rattle.relay_store.specs.declared.outcome.Outcome.{Outcome}
+use Rattle.store_take.specs.Batches.{is_end, messages_sent}
+use Rattle.store_take.specs.Outcomes.{outcome_as, outcome_decided, skipped_outcome, taken_outcome}
+use Rattle.store_take.specs.declared.message.Message.{Message}
+use Rattle.store_take.specs.declared.outcome.Outcome.{Outcome}
 use Rattle.take_run.specs.Said.{AreLive, ended_in, ended_said, said, said_to}
 use Rattle.take_run.proofs.Names.{last_first}
 

@@ -1,74 +1,30 @@
--- Messages of a feed, one behind another, and the ways in which taking them ends.
-use Rattle.std.proofs.Common.{◌≡◌, ◌≢◌, ◌≤◌, ◌<◌, ◌⊎◌, inl, inr, ℕ, ◌+◌, Bool, true, false, List, [], ◌∷◌, ◌++◌, length, IsTrue, refl, ap, ◌∙◌, sym, subst, arith, append_assoc, length-append, Some}
+-- Messages of a host, one behind another, and the ways in which taking them ends.
+use Rattle.std.proofs.Common.{◌≡◌, ◌≢◌, ◌≤◌, ◌<◌, ◌⊎◌, inl, inr, ℕ, ◌+◌, true, false, List, [], ◌∷◌, ◌++◌, length, IsTrue, refl, ap, ◌∙◌, sym, subst, arith, append_assoc, length-append, Some}
 use Rattle.std.proofs.lemmas.List.{append-nil, length-map}
-use Rattle.at_cid.specs.Counts.{Rose}
 use Rattle.relay_disk.specs.Disk.{View, IsDisk}
 use Rattle.relay_row.specs.declared.row.Row.{Row}
 use Rattle.relay_core.specs.Decide.{Checks}
 use Rattle.relay_core.specs.Report.{end_line}
 use Rattle.relay_core.specs.Runs.{has_ended}
 use Rattle.relay_law.proofs.Choosing.{some_right}
+use Rattle.relay_step.specs.Around.{Around}
 use Rattle.relay_step.specs.Steps.{Step, Decided, AreSteps, IsDecidedAs, after_end, ended_by_all, message_of, messages, rows}
-use Rattle.relay_store.specs.Batches.{messages_sent}
-use Rattle.relay_store.specs.Lines.{end_line_of}
-use Rattle.relay_store.specs.Store.{IsOf}
-use Rattle.relay_store.specs.declared.message.Message.{Message}
-use Rattle.tape.specs.declared.fault.TapeFault.{TapeFault}
-use Rattle.take_run.specs.Causes.{Caused, faults}
+use Rattle.store_take.specs.Batches.{messages_sent}
+use Rattle.relay_store.specs.Store.{IsOf, StoreState}
+use Rattle.store_take.specs.declared.message.Message.{Message}
+use Rattle.run_base.specs.Ends.{ToldBut, Writes}
+use Rattle.run_base.specs.Place.{Faults, Tells}
+use Rattle.run_base.specs.declared.status.Status.{Status}
+use Rattle.take_run.specs.Ends.{IsStop}
+use Rattle.take_run.specs.Feeds.{AreOf, IsLeft, NoneBehindEnd, bytes_of_messages}
+use Rattle.take_run.specs.Going.{Going, IsNext, NothingFailed, Point, Stopped, StreamTaken, live}
 use Rattle.take_run.specs.Lines.{lines_of}
-use Rattle.take_run.specs.Ends.{IsReportWritten, end_of_tape}
-use Rattle.take_run.specs.Feeds.{AreOf, IsFeedEnd, IsLeftOf, IsOnFeed, NoneBehindEnd, TakenOfFeed, bytes_of_messages}
-use Rattle.take_run.specs.Following.{IsNextOf, IsUnread}
-use Rattle.take_run.specs.Going.{Going, Point, Stopped}
-use Rattle.take_run.specs.Stops.{Finished, IsStop}
-use Rattle.take_run.specs.Taken.{Scene, Taken, scene}
 use Rattle.take_run.specs.Tapes.{AreRecords}
-use Rattle.take_run.specs.Tells.{Tells}
-use Rattle.take_run.specs.declared.end.TakeEnd.{TakeEnd}
+use Rattle.take_run.specs.declared.tally.Tally.{Tally}
 use Rattle.take_run.proofs.Ended.{ends_alike}
-use Rattle.take_run.proofs.Ending.{Takes, fault_written, going_takes, last_behind, line_of_run, lines_of_run, quiet_finished, quiet_tape, stopped_takes, taken_going, taken_stopped, with_input}
+use Rattle.take_run.proofs.Ending.{IsQuiet, all_messages, ended_at, quiet_ran, quiet_taken, stopped_ran, stopped_taken, taken_at}
 use Rattle.take_run.proofs.Joining.{going_more, going_more_steps, going_stops, going_stops_steps, nothing_taken, nothing_taken_steps, of_going}
 use Rattle.take_run.proofs.Records.{records_joined}
-
--- ---- by the end
-
-not_told : {A : Type 0} → IsTrue false → A
-not_told told = let none : ⊥ = cc in absurd none
-
-pub left_same : (end : TakeEnd) (rest left : List (List ℕ)) → left ≡ rest → IsLeftOf end rest left
-left_same TakeEnd.ReadFault rest left is = inl is
-left_same TakeEnd.Done rest left is = is
-left_same (TakeEnd.Bad place) rest left is = is
-left_same TakeEnd.WriteFault rest left is = is
-left_same TakeEnd.TooLong rest left is = is
-left_same (TakeEnd.Store fault) rest left is = is
-left_same TakeEnd.Memory rest left is = is
-
-stop_ends : (feed_tells : Bool) (host : List ℕ) (most : ℕ) (steps : List Step) (rest : List (List ℕ)) (end : TakeEnd) → IsStop end → IsFeedEnd feed_tells host most steps rest end
-stop_ends feed_tells host most steps rest TakeEnd.WriteFault stop = tt
-stop_ends feed_tells host most steps rest TakeEnd.Memory stop = tt
-stop_ends feed_tells host most steps rest (TakeEnd.Store fault) stop = tt
-stop_ends feed_tells host most steps rest end stop = absurd stop
-
-finished_ends : (feed_tells : Bool) (host : List ℕ) (most : ℕ) (steps : List Step) (rest : List (List ℕ)) (end : TakeEnd) (line : List ℕ) (told : Bool) (old now : List ℕ) → Finished end line told old now
-    → IsFeedEnd feed_tells host most steps rest TakeEnd.Done → IsFeedEnd feed_tells host most steps rest end
-finished_ends feed_tells host most steps rest TakeEnd.Done line told old now finished why = why
-finished_ends feed_tells host most steps rest TakeEnd.WriteFault line told old now finished why = tt
-finished_ends feed_tells host most steps rest TakeEnd.Memory line told old now finished why = tt
-finished_ends feed_tells host most steps rest end line told old now finished why = absurd finished
-
-pub unread_caused : (end : TakeEnd) (d d_now r r_now c c_now i i_now o o_now : ℕ) → IsUnread end → (end ≡ TakeEnd.ReadFault → Rose i i_now) → Caused end (faults d r c i o) (faults d_now r_now c_now i_now o_now)
-unread_caused end d d_now r r_now c c_now i i_now o o_now (inl is) rose = subst (λ (e : TakeEnd). Caused e (faults d r c i o) (faults d_now r_now c_now i_now o_now)) (sym is) (rose is)
-unread_caused end d d_now r r_now c c_now i i_now o o_now (inr is) rose = subst (λ (e : TakeEnd). Caused e (faults d r c i o) (faults d_now r_now c_now i_now o_now)) (sym is) tt
-
--- what was taken, of steps and messages that are on the feed
-taken_of_feed : {D : Type 0} (view : D → View) (t : Tells) (feed_tells : Bool) (host : List ℕ) (most : ℕ) (given left : List (List ℕ)) (J : List Row) (old new : Scene D) (end : TakeEnd) (steps : List Step) (behind : List Message) (taken : Taken view t false 0 J old new end)
-    → Takes taken steps behind → IsOnFeed feed_tells host most given left steps (messages_sent steps ++ behind) end → TakenOfFeed view t feed_tells host most given left J old new end
-taken_of_feed view t feed_tells host most given left J old new end steps behind taken takes on = record {
-  taken = taken;
-  feed = subst (λ (l : List Step). IsOnFeed feed_tells host most given left l (messages_sent l ++ taken.behind) end) (sym takes.0)
-      (subst (λ (l : List Message). IsOnFeed feed_tells host most given left steps (messages_sent steps ++ l) end) (sym takes.1) on);
-}
 
 -- ---- lists
 
@@ -102,56 +58,65 @@ live_one checks K ended (s ∷ (u ∷ steps)) m behind is are live = let no : �
 -- ---- what was taken so far
 
 -- a part of a run with no step behind the end of its host
-abbrev pub LiveGoing : {D : Type 0} → (D → View) → Tells → List Row → List Message → Point D → Point D → Type 0
-LiveGoing view t J xs a b = (going : Going view t J xs a b) × NoneBehindEnd going.steps
+abbrev pub LiveGoing : Tells → List Row → List Message → Point → Point → Type 0
+LiveGoing t J xs a b = (going : Going t J xs a b) × NoneBehindEnd going.steps
 
--- the first messages of what the feed gives, so many, were taken
-pub record IsFollowing (feed_tells : Bool) (host : List ℕ) (given left : List (List ℕ)) {D : Type 0} (view : D → View) (t : Tells) (a b : Point D) (n : ℕ) : Type 0 where
+-- the first messages of what a host gives, so many, were taken
+pub record IsFollowing (host : List ℕ) (before after : List (List ℕ) → Type 0) (t : Tells) (a b : Point) (n : ℕ) : Type 0 where
   pub read : List Message
-  pub split : IsTrue feed_tells → given ≡ bytes_of_messages read ++ left
+  pub split : (given : List (List ℕ)) → before given → (rest : List (List ℕ)) × after rest × (given ≡ bytes_of_messages read ++ rest)
   pub hosts : AreOf host read
   pub records : AreRecords read
   pub count : length read ≡ n
-  pub going : (J : List Row) → IsOf J a.store.core → LiveGoing view t J read a b
+  pub going : (J : List Row) → IsOf J a.store.core → LiveGoing t J read a b
 
-pub starts_following : (feed_tells : Bool) (host : List ℕ) (given : List (List ℕ)) {D : Type 0} (view : D → View) (t : Tells) (a : Point D) → IsDisk (view a.disk) → IsFollowing feed_tells host given given view t a a 0
-starts_following feed_tells host given view t a is_disk = record {
+pub starts_following : (host : List ℕ) (before after : List (List ℕ) → Type 0) (t : Tells) (a : Point) → IsDisk (live a) → ((given : List (List ℕ)) → before given → after given) → IsFollowing host before after t a a 0
+starts_following host before after t a is_disk still = record {
   read = [];
-  split = λ told. refl;
+  split = λ given is. (given, still given is, refl);
   hosts = tt;
   records = tt;
   count = refl;
-  going = λ J of. (nothing_taken view t J a is_disk of, subst NoneBehindEnd (sym (nothing_taken_steps view t J a is_disk of)) tt);
+  going = λ J of. (nothing_taken t J a is_disk of, subst NoneBehindEnd (sym (nothing_taken_steps t J a is_disk of)) tt);
 }
 
-module _ (feed_tells : Bool) (host : List ℕ) (given left : List (List ℕ)) {D : Type 0} (view : D → View) (t : Tells) (a b : Point D) (n : ℕ) (so_far : IsFollowing feed_tells host given left view t a b n) where
+module _ (host : List ℕ) (before mid : List (List ℕ) → Type 0) (t : Tells) (a b : Point) (n : ℕ) (so_far : IsFollowing host before mid t a b n) where
   -- the next message
-  module _ (m : Message) (after : List (List ℕ)) (next : IsNextOf feed_tells host b.tally.ended.items (Some m) left after) where
-    more_read : IsTrue feed_tells → given ≡ bytes_of_messages (so_far.read ++ m ∷ []) ++ after
-    more_read told = so_far.split told ∙ ap (λ (l : List (List ℕ)). bytes_of_messages so_far.read ++ l) (next.4 told) ∙ sym (append_assoc (bytes_of_messages so_far.read) (m.bytes ∷ []) after)
-        ∙ ap (λ (l : List (List ℕ)). l ++ after) (sym (bytes_joined so_far.read (m ∷ [])))
+  module _ (m : Message) (after : List (List ℕ) → Type 0) (next : IsNext host b.tally.ended.items (Some m) mid after) where
+    abbrev read_now : List Message
+    read_now = so_far.read ++ m ∷ []
 
-    more_hosts : AreOf host (so_far.read ++ m ∷ [])
-    more_hosts = of_joined host so_far.read (m ∷ []) so_far.hosts (next.0, tt)
-
-    more_records : AreRecords (so_far.read ++ m ∷ [])
-    more_records = records_joined so_far.read (m ∷ []) so_far.records (next.1, next.2, tt)
-
-    live : has_ended b.tally.ended.items m.host ≡ false
-    live = subst (λ (h : List ℕ). has_ended b.tally.ended.items h ≡ false) (sym next.0) next.3
-
-    more_going : (c : Point D) → ((K : List Row) → IsOf K b.store.core → Going view t K (m ∷ []) b c) → (J : List Row) → IsOf J a.store.core → LiveGoing view t J (so_far.read ++ m ∷ []) a c
-    more_going c recorded J of =
-        let one = so_far.going J of in
-        let two = recorded (J ++ rows one.0.steps) (of_going view t J so_far.read a b one.0) in (
-          going_more view t J so_far.read a b one.0 (m ∷ []) c two,
-          subst NoneBehindEnd (sym (going_more_steps view t J so_far.read a b one.0 (m ∷ []) c two)) (live_joined one.0.steps two.steps one.1
-              (live_one some_right.0 (J ++ rows one.0.steps) b.tally.ended.items two.steps m [] (sym two.of ∙ sym (append-nil (messages_sent two.steps))) (two.are some_right.0 some_right.1 some_right.2) live)),
+    more_read : (given : List (List ℕ)) → before given → (rest : List (List ℕ)) × after rest × (given ≡ bytes_of_messages read_now ++ rest)
+    more_read given is =
+        let was = so_far.split given is in
+        let one = next.4 was.0 was.1 in (
+          one.0,
+          one.1,
+          was.2 ∙ ap (λ (l : List (List ℕ)). bytes_of_messages so_far.read ++ l) one.2 ∙ sym (append_assoc (bytes_of_messages so_far.read) (m.bytes ∷ []) one.0)
+              ∙ ap (λ (l : List (List ℕ)). l ++ one.0) (sym (bytes_joined so_far.read (m ∷ []))),
         )
 
-    pub follows_on : (c : Point D) → ((K : List Row) → IsOf K b.store.core → Going view t K (m ∷ []) b c) → IsFollowing feed_tells host given after view t a c (n + 1)
+    more_hosts : AreOf host read_now
+    more_hosts = of_joined host so_far.read (m ∷ []) so_far.hosts (next.0, tt)
+
+    more_records : AreRecords read_now
+    more_records = records_joined so_far.read (m ∷ []) so_far.records (next.1, next.2, tt)
+
+    not_ended : has_ended b.tally.ended.items m.host ≡ false
+    not_ended = subst (λ (h : List ℕ). has_ended b.tally.ended.items h ≡ false) (sym next.0) next.3
+
+    more_going : (c : Point) → ((K : List Row) → IsOf K b.store.core → Going t K (m ∷ []) b c) → (J : List Row) → IsOf J a.store.core → LiveGoing t J read_now a c
+    more_going c recorded J of =
+        let one = so_far.going J of in
+        let two = recorded (J ++ rows one.0.steps) (of_going t J so_far.read a b one.0) in (
+          going_more t J so_far.read a b one.0 (m ∷ []) c two,
+          subst NoneBehindEnd (sym (going_more_steps t J so_far.read a b one.0 (m ∷ []) c two)) (live_joined one.0.steps two.steps one.1
+              (live_one some_right.0 (J ++ rows one.0.steps) b.tally.ended.items two.steps m [] (sym two.of ∙ sym (append-nil (messages_sent two.steps))) (two.are some_right.0 some_right.1 some_right.2) not_ended)),
+        )
+
+    pub follows_on : (c : Point) → ((K : List Row) → IsOf K b.store.core → Going t K (m ∷ []) b c) → IsFollowing host before after t a c (n + 1)
     follows_on c recorded = record {
-      read = so_far.read ++ m ∷ [];
+      read = read_now;
       split = more_read;
       hosts = more_hosts;
       records = more_records;
@@ -159,115 +124,95 @@ module _ (feed_tells : Bool) (host : List ℕ) (given left : List (List ℕ)) {D
       going = more_going c recorded;
     }
 
-    stop_live : (J : List Row) (of : IsOf J a.store.core) (c : Point D) (end : TakeEnd) (two : Stopped view t (J ++ rows (so_far.going J of).0.steps) (m ∷ []) b c end)
-        → NoneBehindEnd (((so_far.going J of).0.steps ++ two.steps) ++ (two.under ++ two.extra))
-    stop_live J of c end two =
-        let one = so_far.going J of in
-        subst NoneBehindEnd (sym (append_assoc one.0.steps two.steps (two.under ++ two.extra)))
-        (live_joined one.0.steps (two.steps ++ (two.under ++ two.extra)) one.1
-        (live_one some_right.0 (J ++ rows one.0.steps) b.tally.ended.items (two.steps ++ (two.under ++ two.extra)) m two.behind two.front (two.are some_right.0 some_right.1 some_right.2) live))
-
     -- taking it stops
-    pub follow_stops : (most : ℕ) → n < most → (J : List Row) (of : IsOf J a.store.core) → a.tally.ended.items ≡ [] → (c : Point D) (end : TakeEnd) → ((K : List Row) → IsOf K b.store.core → Stopped view t K (m ∷ []) b c end)
-        → TakenOfFeed view t feed_tells host most given after J (scene a.store a.disk a.around (with_input a.failures 0) [] a.written) (scene c.store c.disk c.around (with_input c.failures 0) [] c.written) end
-    follow_stops most below J of none c end stopped =
+    pub follow_stops : (count : ℕ) → n < count → (J : List Row) → IsOf J a.store.core → a.tally.ended.items ≡ [] → NothingFailed a.place b.place → (c : Point) (status : Status) → IsStop status → ((K : List Row) → IsOf K b.store.core → Stopped t K (m ∷ []) b c status)
+        → StreamTaken t host count J a c before after status
+    follow_stops count below J of none nothing c status stop stopped =
         let one = so_far.going J of in
-        let two = stopped (J ++ rows one.0.steps) (of_going view t J so_far.read a b one.0) in
-        let stop = going_stops view t J so_far.read (m ∷ []) a b one.0 c end two in
-        let all = stop.steps ++ (stop.under ++ stop.extra) in
-        taken_of_feed view t feed_tells host most given after J _ _ end all stop.behind (taken_stopped view t false 0 J (so_far.read ++ m ∷ []) a c [] [] 0 0 end stop none more_records (λ told. not_told told))
-        (stopped_takes view t false 0 J (so_far.read ++ m ∷ []) a c [] [] 0 0 end stop none more_records (λ told. not_told told))
-        (record {
-          hosts = subst (AreOf host) stop.front more_hosts;
-          few = omega (arith, below, so_far.count, ap length stop.front, length-append so_far.read (m ∷ []));
-          rest = after;
-          front = λ told. more_read told ∙ ap (λ (l : List Message). bytes_of_messages l ++ after) stop.front;
-          behind = λ told. left_same end after after refl;
-          live = subst NoneBehindEnd (sym (going_stops_steps view t J so_far.read (m ∷ []) a b one.0 c end two)) (stop_live J of c end two);
-          ends = stop_ends feed_tells host most all after end stop.stop;
-        })
+        let two = stopped (J ++ rows one.0.steps) (of_going t J so_far.read a b one.0) in
+        let h = going_stops t J so_far.read (m ∷ []) a b one.0 nothing c status two in
+        let s = two.taken in
+        let ends : NoneBehindEnd ((one.0.steps ++ s.steps) ++ (s.under ++ s.extra)) = subst NoneBehindEnd (sym (append_assoc one.0.steps s.steps (s.under ++ s.extra)))
+        (live_joined one.0.steps (s.steps ++ (s.under ++ s.extra)) one.1
+        (live_one some_right.0 (J ++ rows one.0.steps) b.tally.ended.items (s.steps ++ (s.under ++ s.extra)) m s.behind two.front (s.are some_right.0 some_right.1 some_right.2) not_ended)) in
+        record {
+          taken = stopped_taken t J read_now a c status stop h none more_records;
+          ran = stopped_ran t J read_now a c status stop h none more_records;
+          stream = record {
+            hosts = subst (AreOf host) h.front more_hosts;
+            few = omega (arith, below, so_far.count, ap length h.front, length-append so_far.read (m ∷ []));
+            live = subst NoneBehindEnd (sym (going_stops_steps t J so_far.read (m ∷ []) a b one.0 nothing c status two)) ends;
+            front = λ given is.
+                let more = more_read given is in
+                (more.0, more.1, more.2 ∙ ap (λ (l : List Message). bytes_of_messages l ++ more.0) h.front, λ done. absurd (subst IsStop done stop));
+          };
+        }
 
-  module _ (most : ℕ) (few : n ≤ most) (J : List Row) (of : IsOf J a.store.core) (none : a.tally.ended.items ≡ []) (after : List (List ℕ)) where
-    all_taken : messages_sent ((so_far.going J of).0.steps ++ []) ++ [] ≡ so_far.read
-    all_taken = append-nil _ ∙ ap messages_sent (append-nil (so_far.going J of).0.steps) ∙ (so_far.going J of).0.of
+  -- no message is left, or none was read
+  module _ (count : ℕ) (few : n ≤ count) (J : List Row) (of : IsOf J a.store.core) (none : a.tally.ended.items ≡ []) (store : StoreState) (tally : Tally) (one two : View) (around : Around) (w now : List ℕ) (failed failed_now : Faults)
+      (is : b ≡ taken_at t J so_far.read a store tally one two around w now failed failed_now) where
+    abbrev last_point : Point
+    last_point = taken_at t J so_far.read a store tally one two around w now failed failed_now
 
-    as_many : length (so_far.going J of).0.steps ≡ n
-    as_many = sym (length-map (so_far.going J of).0.steps _) ∙ ap length (so_far.going J of).0.of ∙ so_far.count
+    so_going : LiveGoing t J so_far.read a last_point
+    so_going = subst (LiveGoing t J so_far.read a) is (so_far.going J of)
 
-    whole : (end : TakeEnd) → (IsTrue feed_tells → IsLeftOf end left after) → IsFeedEnd feed_tells host most ((so_far.going J of).0.steps ++ []) left end
-        → IsOnFeed feed_tells host most given after ((so_far.going J of).0.steps ++ []) (messages_sent ((so_far.going J of).0.steps ++ []) ++ []) end
-    whole end behind ends = record {
-      hosts = subst (AreOf host) (sym all_taken) so_far.hosts;
-      few = omega (arith, ap length all_taken, so_far.count, few);
-      rest = left;
-      front = λ told. so_far.split told ∙ ap (λ (l : List Message). bytes_of_messages l ++ left) (sym all_taken);
-      behind = behind;
-      live = subst NoneBehindEnd (sym (append-nil (so_far.going J of).0.steps)) (so_far.going J of).1;
-      ends = ends;
-    }
+    as_many : length (so_going.0.steps ++ []) ≡ n
+    as_many = ap length (append-nil so_going.0.steps) ∙ sym (length-map so_going.0.steps _) ∙ ap length so_going.0.of ∙ so_far.count
 
-    host_ended : has_ended b.tally.ended.items host ≡ true → has_ended (ended_by_all ((so_far.going J of).0.steps ++ []) []) host ≡ true
-    host_ended is =
-        let going = (so_far.going J of).0 in
+    host_ended : has_ended tally.ended.items host ≡ true → has_ended (ended_by_all (so_going.0.steps ++ []) []) host ≡ true
+    host_ended over =
+        let going = so_going.0 in
         ap (λ (l : List Step). has_ended (ended_by_all l []) host) (append-nil going.steps)
         ∙ sym (ends_alike some_right.0 J a.tally.ended.items a.tally.ended.items [] going.steps (λ name. ap (λ (e : List (List ℕ)). has_ended e name) none) (going.are some_right.0 some_right.1 some_right.2) host)
-        ∙ ap (λ (e : List (List ℕ)). has_ended e host) (sym going.noted.ends) ∙ is
+        ∙ ap (λ (e : List (List ℕ)). has_ended e host) (sym going.noted.ends) ∙ over
 
-    -- why it is done
-    done : (n ≡ most) ⊎ ((IsTrue feed_tells → left ≡ []) ⊎ (has_ended b.tally.ended.items host ≡ true)) → IsFeedEnd feed_tells host most ((so_far.going J of).0.steps ++ []) left TakeEnd.Done
-    done (inl all) = inl (ap length (append-nil (so_far.going J of).0.steps) ∙ as_many ∙ all)
-    done (inr (inl no_more)) = inr (inl no_more)
-    done (inr (inr over)) = inr (inr (host_ended over))
+    why_done : (left : List (List ℕ)) → (n ≡ count) ⊎ ((left ≡ []) ⊎ (has_ended tally.ended.items host ≡ true)) → (length (so_going.0.steps ++ []) ≡ count) ⊎ ((left ≡ []) ⊎ (has_ended (ended_by_all (so_going.0.steps ++ []) []) host ≡ true))
+    why_done left (inl all) = inl (as_many ∙ all)
+    why_done left (inr (inl no_more)) = inr (inl no_more)
+    why_done left (inr (inr over)) = inr (inr (host_ended over))
 
-    -- it is done, and the last line is written, or isn't
-    pub follow_finishes : a.tally.messages ≡ 0 → a.tally.events ≡ 0 → a.tally.refused ≡ 0 → (last : ℕ) → last ≡ b.store.core.last → (end : TakeEnd) (now : List ℕ)
-        → Finished end (end_line_of b.tally.messages b.tally.events b.tally.refused last) t.output b.written now → (IsTrue feed_tells → after ≡ left)
-        → (n ≡ most) ⊎ ((IsTrue feed_tells → left ≡ []) ⊎ (has_ended b.tally.ended.items host ≡ true))
-        → TakenOfFeed view t feed_tells host most given after J (scene a.store a.disk a.around (with_input a.failures 0) [] a.written) (scene b.store b.disk b.around (with_input b.failures 0) [] now) end
-    follow_finishes m e r last last_is end now finished same why =
-        let going = (so_far.going J of).0 in
-        let line : end_line_of b.tally.messages b.tally.events b.tally.refused last ≡ end_line J (messages going.steps) (rows going.steps) =
-        ap (λ (k : ℕ). end_line_of b.tally.messages b.tally.events b.tally.refused k) last_is ∙ line_of_run view t J so_far.read a b going m e r in
-        let finished_so : Finished end (end_line J (messages going.steps) (rows going.steps)) t.output b.written now = subst (λ (l : List ℕ). Finished end l t.output b.written now) line finished in
-        let quiet = quiet_finished end _ t.output b.written now finished in
-        let written : IsTrue t.output → IsReportWritten end (lines_of going.steps) (end_line J (messages going.steps) (rows going.steps)) a.written now = λ told. last_behind end _ (lines_of going.steps) t.output a.written b.written now finished_so (lines_of_run view t J so_far.read a b going) told in
-        taken_of_feed view t feed_tells host most given after J _ _ end (going.steps ++ []) [] (taken_going view t false 0 J so_far.read a b [] [] now 0 0 end quiet (λ not. refl) going none so_far.records (λ told. not_told told) written)
-        (going_takes view t false 0 J so_far.read a b [] [] now 0 0 end quiet (λ not. refl) going none so_far.records (λ told. not_told told) written)
-        (whole end (λ told. left_same end left after (same told)) (finished_ends feed_tells host most _ left end _ t.output b.written now finished (done why)))
+    pub follow_ends : NothingFailed a.place last_point.place → (status : Status) → IsQuiet status → (after : List (List ℕ) → Type 0) → ((left : List (List ℕ)) → mid left → after left × (status ≡ Status.Done → (n ≡ count) ⊎ ((left ≡ []) ⊎ (has_ended tally.ended.items host ≡ true))))
+        → ((X : Type 0) → ToldBut X ⊥ status last_point.place (ended_at t J so_far.read a store tally one two around w now failed failed_now).place)
+        → ((h : Going t J so_far.read a last_point) → IsTrue t.output → Writes status (lines_of h.steps) (end_line J (messages h.steps) (rows h.steps)) a.place.written now)
+        → StreamTaken t host count J a (ended_at t J so_far.read a store tally one two around w now failed failed_now) before after status
+    follow_ends nothing status quiet after why told writes =
+        let h = so_going.0 in
+        let all = all_messages t J so_far.read a store tally one two around w now failed failed_now h none so_far.records nothing status quiet told (writes h) in
+        record {
+          taken = quiet_taken t J so_far.read a store tally one two around w now failed failed_now h none so_far.records nothing status quiet told (writes h);
+          ran = quiet_ran t J so_far.read a store tally one two around w now failed failed_now h none so_far.records nothing status quiet told (writes h);
+          stream = record {
+            hosts = subst (AreOf host) all so_far.hosts;
+            few = omega (arith, ap length all, so_far.count, few);
+            live = subst NoneBehindEnd (sym (append-nil h.steps)) so_going.1;
+            front = λ given was.
+                let left = so_far.split given was in
+                let because = why left.0 left.1 in
+                (left.0, because.0, left.2 ∙ ap (λ (l : List Message). bytes_of_messages l ++ left.0) all, λ done. why_done left.0 (because.1 done));
+          };
+        }
 
-    unread : (fault : TapeFault) → ((all : List Step) → IsFeedEnd feed_tells host most all left (end_of_tape fault)) → (IsTrue feed_tells → IsLeftOf (end_of_tape fault) left after)
-        → TakenOfFeed view t feed_tells host most given after J (scene a.store a.disk a.around (with_input a.failures 0) [] a.written) (scene b.store b.disk b.around (with_input b.failures 0) [] b.written) (end_of_tape fault)
-    unread fault ends behind =
-        let going = (so_far.going J of).0 in
-        let written : IsTrue t.output → IsReportWritten (end_of_tape fault) (lines_of going.steps) (end_line J (messages going.steps) (rows going.steps)) a.written b.written = λ told. fault_written fault _ (end_line J (messages going.steps) (rows going.steps)) a.written b.written (lines_of_run view t J so_far.read a b going told) in
-        taken_of_feed view t feed_tells host most given after J _ _ (end_of_tape fault) (going.steps ++ []) [] (taken_going view t false 0 J so_far.read a b [] [] b.written 0 0 (end_of_tape fault) (quiet_tape fault) (λ not. refl) going none so_far.records (λ told. not_told told) written)
-        (going_takes view t false 0 J so_far.read a b [] [] b.written 0 0 (end_of_tape fault) (quiet_tape fault) (λ not. refl) going none so_far.records (λ told. not_told told) written)
-        (whole (end_of_tape fault) behind (ends (going.steps ++ [])))
+-- ---- the stream of a feed
 
-    -- the feed failed, or memory ran out
-    pub follow_fails : (end : TakeEnd) → IsUnread end → (IsTrue feed_tells → IsLeftOf end left after)
-        → TakenOfFeed view t feed_tells host most given after J (scene a.store a.disk a.around (with_input a.failures 0) [] a.written) (scene b.store b.disk b.around (with_input b.failures 0) [] b.written) end
-    follow_fails end (inl is) behind =
-        subst (TakenOfFeed view t feed_tells host most given after J (scene a.store a.disk a.around (with_input a.failures 0) [] a.written) (scene b.store b.disk b.around (with_input b.failures 0) [] b.written)) (sym is)
-        (unread TapeFault.Failed (λ all. tt) (λ told. subst (λ (e : TakeEnd). IsLeftOf e left after) is (behind told)))
-    follow_fails end (inr is) behind =
-        subst (TakenOfFeed view t feed_tells host most given after J (scene a.store a.disk a.around (with_input a.failures 0) [] a.written) (scene b.store b.disk b.around (with_input b.failures 0) [] b.written)) (sym is)
-        (unread TapeFault.Memory (λ all. tt) (λ told. subst (λ (e : TakeEnd). IsLeftOf e left after) is (behind told)))
+pub left_same : (status : Status) (left rest : List (List ℕ)) → left ≡ rest → IsLeft status left rest
+left_same Status.Feed left rest is = inl is
+left_same status left rest is = is
 
--- ---- opening
+-- what is said of a value is said of the same one
+pub value_at : {F A : Type 0} (of : F → A) (x y : F) → x ≡ y → of x ≡ of y
+value_at of x y same = ap of same
 
--- what the stream gives is what the feed gives behind the cursor
-pub feed_opened : {D : Type 0} (view : D → View) (t : Tells) (feed_tells : Bool) (host : List ℕ) (most : ℕ) (given opened left : List (List ℕ)) (J : List Row) (old new : Scene D) (end : TakeEnd) → (IsTrue feed_tells → opened ≡ given)
-    → TakenOfFeed view t feed_tells host most opened left J old new end → TakenOfFeed view t feed_tells host most given left J old new end
-feed_opened view t feed_tells host most given opened left J old new end is h = record {
+-- a stream as another one that gives the same
+pub stream_as : (t : Tells) (host : List ℕ) (count : ℕ) (J : List Row) (a c : Point) (before after old new : List (List ℕ) → Type 0) (status : Status) → ((given : List (List ℕ)) → old given → before given) → ((rest : List (List ℕ)) → after rest → new rest)
+    → StreamTaken t host count J a c before after status → StreamTaken t host count J a c old new status
+stream_as t host count J a c before after old new status from to h = record {
   taken = h.taken;
-  feed = record {
-    hosts = h.feed.hosts;
-    few = h.feed.few;
-    rest = h.feed.rest;
-    front = λ told. sym (is told) ∙ h.feed.front told;
-    behind = h.feed.behind;
-    live = h.feed.live;
-    ends = h.feed.ends;
+  ran = h.ran;
+  stream = record {
+    hosts = h.stream.hosts;
+    few = h.stream.few;
+    live = h.stream.live;
+    front = λ given is. let front = h.stream.front given (from given is) in (front.0, to front.0 front.1, front.2, front.3);
   };
 }

@@ -1,10 +1,11 @@
 -- A tape of records alone shows no fault behind any of them.
-use Rattle.std.proofs.Common.{◌≡◌, ◌∙◌, inl, inr, ℕ, List, [], ◌∷◌, ◌++◌, refl, sym, ap, subst, append_assoc}
-use Rattle.relay_store.specs.declared.message.Message.{Message}
+use Rattle.std.proofs.Common.{◌≡◌, ◌≢◌, ◌∙◌, ◌<◌, ◌+◌, inl, inr, ℕ, List, [], ◌∷◌, ◌++◌, length, refl, sym, ap, subst, arith, append_assoc, length-append}
+use Rattle.store_take.specs.declared.message.Message.{Message}
 use Rattle.tape.specs.Format.{record_bytes}
 use Rattle.tape.specs.Shown.{Shown, Shows, nothing, found, bad_name, too_long, cut}
 use Rattle.tape.proofs.Lawful.{one_thing}
-use Rattle.take_run.specs.Tapes.{AreRecords, ShowsFault, encoded_records}
+use Rattle.run_base.specs.declared.status.Status.{Status}
+use Rattle.take_run.specs.Tapes.{AreRecords, EndsTape, IsOnTape, ShowsFault, encoded_records}
 
 abbrev rest_in : Shown → List ℕ → List ℕ
 rest_in (found host message rest) other = rest
@@ -57,3 +58,15 @@ pub no_fault : (xs T : List Message) (rest : List ℕ) → AreRecords xs → Are
 no_fault xs T rest are all is fault =
     let more = rest_of xs T rest are all is in
     faultless more.0 more.1 (subst ShowsFault more.2 fault)
+
+-- what was read ahead of a limit is shorter than the whole
+not_so_long : (limit : ℕ) (before after part front : List ℕ) → before ≡ front ++ (part ++ after) → length front + length part ≡ limit → length before < limit → ⊥
+not_so_long limit before after part front is reached short = omega (arith, ap length is, length-append front (part ++ after), length-append part after, reached, short)
+
+-- a tape of records alone ends at no bad place, and within its limit
+pub tape_whole : (limit : ℕ) (before after : List ℕ) (xs T : List Message) (status : Status) → IsOnTape limit before after xs status → AreRecords xs → AreRecords T → before ≡ encoded_records T → length (encoded_records T) < limit
+    → ((place : ℕ) → status ≢ Status.BadTape place) × (status ≢ Status.TooLong)
+tape_whole limit before after xs T status on are all is short = (
+  λ place at. no_fault xs T (on.part ++ after) are all (sym is ∙ on.front) (subst (EndsTape limit (length (encoded_records xs)) on.part after) at on.ends).0,
+  λ at. not_so_long limit before after on.part (encoded_records xs) on.front (subst (EndsTape limit (length (encoded_records xs)) on.part after) at on.ends).1 (subst (λ (l : List ℕ). length l < limit) (sym is) short),
+)

@@ -1,5 +1,5 @@
 -- One part of a run behind another.
-use Rattle.std.proofs.Common.{◌≡◌, inl, inr, ⊎_elim, ℕ, ◌+◌, Bool, false, IsTrue, List, [], ◌∷◌, ◌++◌, length, take, Option, Some, None, refl, ap, ◌∙◌, sym, subst, arith, append_assoc, length-append}
+use Rattle.std.proofs.Common.{◌≡◌, inl, inr, ⊎_elim, ℕ, ◌+◌, Bool, false, IsTrue, List, [], ◌∷◌, ◌++◌, length, take, refl, ap, ◌∙◌, sym, subst, arith, append_assoc, length-append}
 use Rattle.std.proofs.lemmas.List.{append-nil}
 use Rattle.std.proofs.Math.Seq.{take-append-add}
 use Rattle.relay_disk.specs.Disk.{View, IsDisk}
@@ -12,30 +12,30 @@ use Rattle.relay_row.specs.declared.row.Row.{Row}
 use Rattle.relay_core.specs.Decide.{Checks}
 use Rattle.relay_core.specs.Entries.{Holds}
 use Rattle.relay_core.specs.Opening.{OpensRight}
-use Rattle.relay_core.specs.declared.journal_state.Core.{Core}
 use Rattle.relay_law.specs.Right.{LinksRight}
 use Rattle.relay_step.specs.Around.{Around, AllAsked}
 use Rattle.relay_step.specs.Causes.{CameToNothing}
 use Rattle.relay_step.specs.Steps.{Step, rows, AreSteps, ended_by_all}
 use Rattle.relay_step.proofs.Steps.{steps_join}
-use Rattle.relay_store.specs.Batches.{AsksBehind, EndsNext, InVain, messages_sent}
+use Rattle.store_take.specs.Batches.{AsksBehind, InVain, messages_sent}
 use Rattle.relay_store.specs.Journals.{IsLogOf, IsOneOf}
 use Rattle.relay_store.specs.Store.{IsOf, Keeps, StoreState}
-use Rattle.relay_store.specs.declared.fault.StoreFault.{StoreFault}
-use Rattle.relay_store.specs.declared.message.Message.{Message}
-use Rattle.relay_store.proofs.Asks.{all_joined, nothing_here, nothing_in_vain}
+use Rattle.store_take.specs.declared.message.Message.{Message}
+use Rattle.store_take.proofs.Asks.{all_joined, nothing_here, nothing_in_vain}
 use Rattle.relay_store.proofs.Images.{kept_log}
-use Rattle.relay_store.proofs.Runs.{rows_joined, sent_joined}
-use Rattle.take_run.specs.Crashes.{HadRoom, IsSoFar, Leaves}
-use Rattle.take_run.specs.Ends.{StopsAsking, StopsBefore, StopsShort, fault_in}
-use Rattle.take_run.specs.Stops.{IsReported}
-use Rattle.take_run.specs.Going.{Going, Keeping, Point, Stopped}
-use Rattle.take_run.specs.Tells.{Tells}
-use Rattle.take_run.specs.Said.{IsNoted, Said, said, said_to, text_for, text_of}
-use Rattle.take_run.specs.declared.end.TakeEnd.{TakeEnd}
-use Rattle.take_run.proofs.Answers.{noted_more, noted_none, text_joined}
+use Rattle.store_take.proofs.Runs.{rows_joined, sent_joined}
+use Rattle.run_base.specs.Ends.{Writes}
+use Rattle.run_base.specs.Place.{Tells}
+use Rattle.run_base.specs.declared.status.Status.{Status}
+use Rattle.take_run.specs.Crashes.{HadRoom, IsSoFar, Keeping, Leaves}
+use Rattle.take_run.specs.Ends.{IsStop, StopsBefore, StopsShort}
+use Rattle.take_run.specs.Going.{Going, NothingFailed, Point, Stopped, live}
+use Rattle.take_run.specs.Lines.{line_decided, lines_of}
+use Rattle.take_run.specs.NextMessage.{NextEnds, OfNext}
+use Rattle.take_run.specs.Said.{IsNoted, Said, said, said_to}
+use Rattle.take_run.proofs.Answers.{noted_more, noted_none}
 use Rattle.take_run.proofs.Ended.{SameEnded, ends_alike, steps_same}
-use Rattle.take_run.proofs.Telling.{are_told_on, none_failed, none_failed_on}
+use Rattle.take_run.proofs.Telling.{stop_not_source, told_on, told_weaker}
 
 -- ---- lists
 
@@ -43,8 +43,9 @@ pub said_joined : (steps others : List Step) → said (steps ++ others) ≡ said
 said_joined [] others = refl
 said_joined (s ∷ steps) others = ap (λ (l : List Said). said_to s ∷ l) (said_joined steps others)
 
-text_for_joined : (steps others : List Step) → text_for (steps ++ others) ≡ text_for steps ++ text_for others
-text_for_joined steps others = ap text_of (said_joined steps others) ∙ text_joined (said steps) (said others)
+pub lines_joined : (steps others : List Step) → lines_of (steps ++ others) ≡ lines_of steps ++ lines_of others
+lines_joined [] others = refl
+lines_joined (s ∷ steps) others = ap (λ (l : List ℕ). line_decided s s.decided ++ l) (lines_joined steps others) ∙ sym (append_assoc (line_decided s s.decided) (lines_of steps) (lines_of others))
 
 -- journals with the rows of steps
 pub journal_joined : (J : List Row) (steps others : List Step) → (J ++ rows steps) ++ rows others ≡ J ++ rows (steps ++ others)
@@ -59,7 +60,7 @@ module _ (format : Format) (J : List Row) where
   pub so_far_all : (rows : List Row) (c : List ℕ) → IsLogOf format (J ++ rows) c → IsSoFar format J rows c
   so_far_all rows c log = record { front = rows; others = []; split = sym (append-nil rows); log = log }
 
-  pub so_far_front : (xs ys : List Row) (c : List ℕ) → IsSoFar format J xs c → IsSoFar format J (xs ++ ys) c
+  so_far_front : (xs ys : List Row) (c : List ℕ) → IsSoFar format J xs c → IsSoFar format J (xs ++ ys) c
   so_far_front xs ys c h = record {
     front = h.front;
     others = h.others ++ ys;
@@ -67,7 +68,7 @@ module _ (format : Format) (J : List Row) where
     log = h.log;
   }
 
-  pub so_far_behind : (xs ys : List Row) (c : List ℕ) → IsSoFar format (J ++ xs) ys c → IsSoFar format J (xs ++ ys) c
+  so_far_behind : (xs ys : List Row) (c : List ℕ) → IsSoFar format (J ++ xs) ys c → IsSoFar format J (xs ++ ys) c
   so_far_behind xs ys c h = record {
     front = xs ++ h.front;
     others = h.others;
@@ -83,8 +84,8 @@ nothing_kept J s v is_disk keeps = record {
   moments = no_call _ v is_disk (λ c left. so_far_none s.log.format J [] c (kept_log J s v keeps c left));
 }
 
-pub nothing_taken : {D : Type 0} (view : D → View) (t : Tells) (J : List Row) (a : Point D) → IsDisk (view a.disk) → IsOf J a.store.core → Going view t J [] a a
-nothing_taken view t J a is_disk of =
+pub nothing_taken : (t : Tells) (J : List Row) (a : Point) → IsDisk (live a) → IsOf J a.store.core → Going t J [] a a
+nothing_taken t J a is_disk of =
     let same : J ++ [] ≡ J = append-nil J in
     record {
       steps = [];
@@ -92,24 +93,23 @@ nothing_taken view t J a is_disk of =
       are = λ checks opens links. tt;
       journal = subst IsJournal (sym same) of.journal;
       known = subst (Holds a.store.core) (sym same) of.holds;
-      on_disk = λ told keeps. nothing_kept J a.store (view a.disk) is_disk keeps;
+      on_disk = λ told keeps. nothing_kept J a.store (live a) is_disk keeps;
       format = refl;
       most = refl;
       room = inl (refl, refl);
       noted = noted_none a.tally;
-      written = λ told. sym (append-nil a.written);
-      asked = nothing_here t.clock t.repos a.around;
-      steady = none_failed a.failures a.around.panel;
+      written = λ told. sym (append-nil a.place.written);
+      asked = nothing_here t.clock t.repos a.place.around;
     }
 
-pub nothing_taken_steps : {D : Type 0} (view : D → View) (t : Tells) (J : List Row) (a : Point D) (is_disk : IsDisk (view a.disk)) (of : IsOf J a.store.core) → (nothing_taken view t J a is_disk of).steps ≡ []
+pub nothing_taken_steps : (t : Tells) (J : List Row) (a : Point) (is_disk : IsDisk (live a)) (of : IsOf J a.store.core) → (nothing_taken t J a is_disk of).steps ≡ []
 unfolding nothing_taken
-nothing_taken_steps view t J a is_disk of = refl
+nothing_taken_steps t J a is_disk of = refl
 
 -- ---- more behind
 
-pub of_going : {D : Type 0} (view : D → View) (t : Tells) (J : List Row) (messages : List Message) (a b : Point D) (one : Going view t J messages a b) → IsOf (J ++ rows one.steps) b.store.core
-of_going view t J messages a b one = record { holds = one.known; journal = one.journal }
+pub of_going : (t : Tells) (J : List Row) (messages : List Message) (a b : Point) (one : Going t J messages a b) → IsOf (J ++ rows one.steps) b.store.core
+of_going t J messages a b one = record { holds = one.known; journal = one.journal }
 
 keeping_more : (J xs ys : List Row) (s m u : StoreState) (v w z : View) → m.log.format ≡ s.log.format → Keeping J xs s v m w → Keeping (J ++ xs) ys m w u z → Keeping J (xs ++ ys) s v u z
 keeping_more J xs ys s m u v w z same one two = record {
@@ -125,7 +125,7 @@ room_more xs ys a b c same (inl none) (inl two) = inl (ap (λ (l : List Row). l 
 room_more xs ys a b c same (inr one) (inl two) = inr (omega (arith, one, two.1, same))
 room_more xs ys a b c same one (inr two) = inr two
 
-module _ {D : Type 0} (view : D → View) (t : Tells) (J : List Row) (messages : List Message) (a b : Point D) (one : Going view t J messages a b) where
+module _ (t : Tells) (J : List Row) (messages : List Message) (a b : Point) (one : Going t J messages a b) where
   -- where steps go on
   go_on : (checks : Checks) → OpensRight checks → LinksRight checks → (steps : List Step) → AreSteps checks (J ++ rows one.steps) b.tally.ended.items steps → AreSteps checks J a.tally.ended.items (one.steps ++ steps)
   go_on checks opens links steps are =
@@ -137,7 +137,7 @@ module _ {D : Type 0} (view : D → View) (t : Tells) (J : List Row) (messages :
             are,
       )
 
-  pub going_more : (others : List Message) (c : Point D) → Going view t (J ++ rows one.steps) others b c → Going view t J (messages ++ others) a c
+  pub going_more : (others : List Message) (c : Point) → Going t (J ++ rows one.steps) others b c → Going t J (messages ++ others) a c
   going_more others c two =
       let xs = one.steps in
       let ys = two.steps in
@@ -149,28 +149,26 @@ module _ {D : Type 0} (view : D → View) (t : Tells) (J : List Row) (messages :
         known = subst (Holds c.store.core) (journal_joined J xs ys) two.known;
         on_disk = λ told keeps.
             let first = one.on_disk told keeps in
-            subst (λ (l : List Row). Keeping J l a.store (view a.disk) c.store (view c.disk)) (sym (rows_joined xs ys))
-            (keeping_more J (rows xs) (rows ys) a.store b.store c.store (view a.disk) (view b.disk) (view c.disk) one.format first (two.on_disk told first.keeps));
+            subst (λ (l : List Row). Keeping J l a.store (live a) c.store (live c)) (sym (rows_joined xs ys))
+            (keeping_more J (rows xs) (rows ys) a.store b.store c.store (live a) (live b) (live c) one.format first (two.on_disk told first.keeps));
         format = two.format ∙ one.format;
         most = two.most ∙ one.most;
         room = subst (λ (l : List Row). HadRoom l a.store.log c.store.log) (sym (rows_joined xs ys))
             (room_more (rows xs) (rows ys) a.store.log b.store.log c.store.log two.most one.room two.room);
         noted = subst (λ (x : List Said). IsNoted x a.tally c.tally) (sym (said_joined xs ys)) (noted_more (said xs) (said ys) a.tally b.tally c.tally one.noted two.noted);
-        written = λ told. two.written told ∙ ap (λ (l : List ℕ). l ++ text_of (said ys)) (one.written told)
-            ∙ append_assoc a.written (text_of (said xs)) (text_of (said ys))
-            ∙ ap (λ (l : List ℕ). a.written ++ l) (sym (text_joined (said xs) (said ys)) ∙ ap text_of (sym (said_joined xs ys)));
-        asked = all_joined t.clock t.repos J a.around b.around c.around xs ys one.asked two.asked;
-        steady = none_failed_on a.failures b.failures c.failures a.around.panel b.around.panel c.around.panel one.steady two.steady;
+        written = λ told. two.written told ∙ ap (λ (l : List ℕ). l ++ lines_of ys) (one.written told)
+            ∙ append_assoc a.place.written (lines_of xs) (lines_of ys) ∙ ap (λ (l : List ℕ). a.place.written ++ l) (sym (lines_joined xs ys));
+        asked = all_joined t.clock t.repos J a.place.around b.place.around c.place.around xs ys one.asked two.asked;
       }
 
-  pub going_more_steps : (others : List Message) (c : Point D) (two : Going view t (J ++ rows one.steps) others b c) → (going_more others c two).steps ≡ one.steps ++ two.steps
+  pub going_more_steps : (others : List Message) (c : Point) (two : Going t (J ++ rows one.steps) others b c) → (going_more others c two).steps ≡ one.steps ++ two.steps
   unfolding going_more
   going_more_steps others c two = refl
 
 -- ---- a stop behind
 
-leaves_behind : (J xs ys under : List Row) (s m u : StoreState) (v w z : View) (end : TakeEnd) → m.log.format ≡ s.log.format → Keeping J xs s v m w → Leaves (J ++ xs) ys under m w u z end → Leaves J (xs ++ ys) under s v u z end
-leaves_behind J xs ys under s m u v w z end format one two =
+leaves_behind : (J xs ys under : List Row) (s m u : StoreState) (v w z : View) (status : Status) → m.log.format ≡ s.log.format → Keeping J xs s v m w → Leaves (J ++ xs) ys under m w u z status → Leaves J (xs ++ ys) under s v u z status
+leaves_behind J xs ys under s m u v w z status format one two =
     let whole : (J ++ xs) ++ ys ≡ J ++ (xs ++ ys) = append_assoc J xs ys in
     record {
       keeps = λ not. subst (λ (K : List Row). Keeps K u z) whole (two.keeps not);
@@ -182,85 +180,105 @@ leaves_behind J xs ys under s m u v w z end format one two =
       left = λ c now. subst (λ (K : List Row). IsOneOf s.log.format K under c) whole (subst (λ (f : Format). IsOneOf f ((J ++ xs) ++ ys) under c) format (two.left c now));
     }
 
-pub front_behind : (old mid now t u : List ℕ) → mid ≡ old ++ t → AddsFront mid now u → AddsFront old now (t ++ u)
-front_behind old mid now t u is h = (
-  length t + h.0,
-  omega (arith, h.1, length-append t u),
-  h.2 ∙ ap (λ (l : List ℕ). l ++ take h.0 u) is ∙ append_assoc old t (take h.0 u) ∙ ap (λ (l : List ℕ). old ++ l) (sym (take-append-add t u h.0)),
+pub front_behind : (old mid now x y : List ℕ) → mid ≡ old ++ x → AddsFront mid now y → AddsFront old now (x ++ y)
+front_behind old mid now x y is h = (
+  length x + h.0,
+  omega (arith, h.1, length-append x y),
+  h.2 ∙ ap (λ (l : List ℕ). l ++ take h.0 y) is ∙ append_assoc old x (take h.0 y) ∙ ap (λ (l : List ℕ). old ++ l) (sym (take-append-add x y h.0)),
 )
 
--- what is reported of a text is reported of one more in front
-report_behind : (end : TakeEnd) (old mid now t u : List ℕ) → mid ≡ old ++ t → IsReported end u mid now → IsReported end (t ++ u) old now
-report_behind TakeEnd.WriteFault old mid now t u is h = front_behind old mid now t u is h
-report_behind TakeEnd.Memory old mid now t u is h = front_behind old mid now t u is h
-report_behind end old mid now t u is h = h ∙ ap (λ (l : List ℕ). l ++ u) is ∙ append_assoc old t u
+-- what is written of lines is written of some more in front
+pub writes_behind : (status : Status) (old mid now x y last : List ℕ) → mid ≡ old ++ x → Writes status y last mid now → Writes status (x ++ y) last old now
+writes_behind status old mid now x y last is wrote = by status wrote
+  where
+    whole : (z : List ℕ) → now ≡ mid ++ (y ++ z) → now ≡ old ++ ((x ++ y) ++ z)
+    whole z h = h ∙ ap (λ (l : List ℕ). l ++ (y ++ z)) is ∙ append_assoc old x (y ++ z) ∙ ap (λ (l : List ℕ). old ++ l) (sym (append_assoc x y z))
+
+    front : AddsFront mid now (y ++ last) → AddsFront old now ((x ++ y) ++ last)
+    front h = subst (AddsFront old now) (sym (append_assoc x y last)) (front_behind old mid now x (y ++ last) is h)
+
+    lines : now ≡ mid ++ y → now ≡ old ++ (x ++ y)
+    lines h = h ∙ ap (λ (l : List ℕ). l ++ y) is ∙ append_assoc old x y
+
+    by : (s : Status) → Writes s y last mid now → Writes s (x ++ y) last old now
+    by Status.Done h = whole last h
+    by (Status.Refused code) h = whole last h
+    by Status.WriteFault h = front h
+    by Status.Memory h = front h
+    by s h = lines h
 
 -- what stopped short stops short behind other steps
-short_behind : (tells : Bool) (end : TakeEnd) (xs ys : List Step) (under : List Row) (old mid now : List ℕ) → (IsTrue tells → mid ≡ old ++ text_for xs) → StopsShort text_for tells end ys under mid now → StopsShort text_for tells end (xs ++ ys) under old now
-short_behind tells TakeEnd.WriteFault xs ys under old mid now so_far short = λ told.
-    subst (λ (l : List ℕ). AddsFront old now l) (sym (text_for_joined xs ys)) (front_behind old mid now (text_for xs) (text_for ys) (so_far told) (short told))
-short_behind tells TakeEnd.Memory xs ys under old mid now so_far short = λ told.
+short_behind : (tells : Bool) (status : Status) (xs ys under : List Step) (behind : List Message) (old mid now : List ℕ) → (IsTrue tells → mid ≡ old ++ lines_of xs) → StopsShort tells status ys under behind mid now → StopsShort tells status (xs ++ ys) under behind old now
+short_behind tells Status.WriteFault xs ys under behind old mid now so_far short = λ told.
+    subst (λ (l : List ℕ). AddsFront old now l) (sym (lines_joined xs ys)) (front_behind old mid now (lines_of xs) (lines_of ys) (so_far told) (short told))
+short_behind tells Status.Memory xs ys under behind old mid now so_far short = λ told.
     let lack = short told in (
       xs ++ lack.0,
       lack.1,
       ap (λ (l : List Step). xs ++ l) lack.2 ∙ sym (append_assoc xs lack.0 lack.1),
       lack.3,
-      lack.4 ∙ ap (λ (l : List ℕ). l ++ text_for lack.0) (so_far told) ∙ append_assoc old (text_for xs) (text_for lack.0) ∙ ap (λ (l : List ℕ). old ++ l) (sym (text_for_joined xs lack.0)),
+      lack.4 ∙ ap (λ (l : List ℕ). l ++ lines_of lack.0) (so_far told) ∙ append_assoc old (lines_of xs) (lines_of lack.0) ∙ ap (λ (l : List ℕ). old ++ l) (sym (lines_joined xs lack.0)),
     )
-short_behind tells (TakeEnd.Store StoreFault.Disk) xs ys under old mid now so_far short = short
-short_behind tells end xs ys under old mid now so_far short = absurd short
+short_behind tells Status.Disk xs ys under behind old mid now so_far short = short
+short_behind tells status xs ys under behind old mid now so_far short = absurd short
 
-pub before_more : (end : TakeEnd) (one two : Type 0) (extra : List Step) (behind : List Message) → (one → two) → StopsBefore end one extra behind → StopsBefore end two extra behind
-before_more TakeEnd.WriteFault one two extra behind more before = more before
-before_more TakeEnd.Memory one two extra behind more (inl short) = inl (more short)
-before_more TakeEnd.Memory one two extra behind more (inr left) = inr left
-before_more (TakeEnd.Store fault) one two extra behind more before = tt
-before_more end one two extra behind more before = absurd before
+before_more : (status : Status) (one two : Type 0) (under extra : List Step) (behind : List Message) → (one → two) → StopsBefore status one under extra behind → StopsBefore status two under extra behind
+before_more Status.WriteFault one two under extra behind more before = more before
+before_more status one two under extra behind more (inl short) = inl (more short)
+before_more status one two under extra behind more (inr left) = inr left
 
-module _ {D : Type 0} (view : D → View) (t : Tells) (J : List Row) (messages others : List Message) (a b : Point D) (one : Going view t J messages a b) where
-  pub going_stops : (c : Point D) (end : TakeEnd) → Stopped view t (J ++ rows one.steps) others b c end → Stopped view t J (messages ++ others) a c end
-  going_stops c end two =
+module _ (t : Tells) (J : List Row) (messages others : List Message) (a b : Point) (one : Going t J messages a b) (none : NothingFailed a.place b.place) where
+  pub going_stops : (c : Point) (status : Status) → Stopped t (J ++ rows one.steps) others b c status → Stopped t J (messages ++ others) a c status
+  going_stops c status stop =
+      let two = stop.taken in
       let xs = one.steps in
       let ys = two.steps in
       let more = two.under ++ two.extra in
       let all : (xs ++ ys) ++ more ≡ xs ++ (ys ++ more) = append_assoc xs ys more in
-      let short : StopsShort text_for t.output end ys (rows two.under) b.written c.written → StopsShort text_for t.output end (xs ++ ys) (rows two.under) a.written c.written = λ h.
-      short_behind t.output end xs ys (rows two.under) a.written b.written c.written one.written h in
+      let short : StopsShort t.output status ys two.under two.behind b.place.written c.place.written → StopsShort t.output status (xs ++ ys) two.under two.behind a.place.written c.place.written = λ h.
+      short_behind t.output status xs ys two.under two.behind a.place.written b.place.written c.place.written one.written h in
       record {
-        steps = xs ++ ys;
-        under = two.under;
-        extra = two.extra;
-        behind = two.behind;
-        stop = two.stop;
-        which_under = two.which_under;
-        which_extra = two.which_extra;
-        front = ap (λ (l : List Message). messages ++ l) two.front ∙ sym (append_assoc messages (messages_sent (ys ++ more)) two.behind)
+        taken = record {
+          steps = xs ++ ys;
+          under = two.under;
+          extra = two.extra;
+          behind = two.behind;
+          good = two.good;
+          which_under = two.which_under;
+          few_extra = two.few_extra;
+          which_extra = two.which_extra;
+          all = two.all;
+          are = λ checks opens links. subst (λ (l : List Step). AreSteps checks J a.tally.ended.items l) (sym all) (go_on t J messages a b one checks opens links (ys ++ more) (two.are checks opens links));
+          journal = subst IsJournal (journal_joined J xs (ys ++ more) ∙ ap (λ (l : List Step). J ++ rows l) (sym all)) two.journal;
+          mid = two.mid;
+          asked = subst (λ (l : List Step). AllAsked t.clock t.repos J a.place.around l two.mid) (sym all) (all_joined t.clock t.repos J a.place.around b.place.around two.mid xs (ys ++ more) one.asked two.asked);
+          stops = two.stops;
+          still = two.still;
+          next = subst (λ (K : List Row). NextEnds t K two.behind two.mid c.place.around status) (journal_joined J xs ys) two.next;
+          told = told_on _ ⊥ status a.place b.place c.place none (told_weaker _ _ ⊥ ⊥ status b.place c.place short (λ no. no) two.told);
+        };
+        front = ap (λ (l : List Message). messages ++ l) stop.front ∙ sym (append_assoc messages (messages_sent (ys ++ more)) two.behind)
             ∙ ap (λ (l : List Message). l ++ two.behind) (ap (λ (l : List Message). l ++ messages_sent (ys ++ more)) (sym one.of) ∙ sym (sent_joined xs (ys ++ more)) ∙ ap messages_sent (sym all));
-        are = λ checks opens links. subst (λ (l : List Step). AreSteps checks J a.tally.ended.items l) (sym all) (go_on view t J messages a b one checks opens links (ys ++ more) (two.are checks opens links));
-        journal = subst IsJournal (journal_joined J xs (ys ++ more) ∙ ap (λ (l : List Step). J ++ rows l) (sym all)) two.journal;
-        known = λ not. subst (Holds c.store.core) (journal_joined J xs ys) (two.known not);
-        on_disk = λ told keeps.
-            let first = one.on_disk told keeps in
-            subst (λ (l : List Row). Leaves J l (rows two.under) a.store (view a.disk) c.store (view c.disk) end) (sym (rows_joined xs ys))
-            (leaves_behind J (rows xs) (rows ys) (rows two.under) a.store b.store c.store (view a.disk) (view b.disk) (view c.disk) end one.format first (two.on_disk told first.keeps));
-        format = two.format ∙ one.format;
-        most = two.most ∙ one.most;
-        room = λ not. subst (λ (l : List Row). HadRoom l a.store.log c.store.log) (sym (rows_joined xs ys))
-            (room_more (rows xs) (rows ys) a.store.log b.store.log c.store.log two.most one.room (two.room not));
-        full = two.full;
-        written = λ told. subst (λ (x : List ℕ). IsReported end x a.written c.written) (sym (text_joined (said xs) (said ys)) ∙ ap text_of (sym (said_joined xs ys)))
-            (report_behind end a.written b.written c.written (text_of (said xs)) (text_of (said ys)) (one.written told) (two.written told));
-        mid = two.mid;
-        asked = subst (λ (l : List Step). AllAsked t.clock t.repos J a.around l two.mid) (sym all) (all_joined t.clock t.repos J a.around b.around two.mid xs (ys ++ more) one.asked two.asked);
-        stops = two.stops;
-        next = two.next;
-        told = λ not. are_told_on end a.failures b.failures c.failures a.around.panel b.around.panel c.around.panel one.steady (two.told (λ h. not (short h)));
-        before = before_more end _ _ two.extra two.behind short two.before;
+        store = record {
+          known = λ not. subst (Holds c.store.core) (journal_joined J xs ys) (stop.store.known not);
+          on_disk = λ told keeps.
+              let first = one.on_disk told keeps in
+              subst (λ (l : List Row). Leaves J l (rows two.under) a.store (live a) c.store (live c) status) (sym (rows_joined xs ys))
+              (leaves_behind J (rows xs) (rows ys) (rows two.under) a.store b.store c.store (live a) (live b) (live c) status one.format first (stop.store.on_disk told first.keeps));
+          format = stop.store.format ∙ one.format;
+          most = stop.store.most ∙ one.most;
+          room = λ not. subst (λ (l : List Row). HadRoom l a.store.log c.store.log) (sym (rows_joined xs ys))
+              (room_more (rows xs) (rows ys) a.store.log b.store.log c.store.log stop.store.most one.room (stop.store.room not));
+          full = stop.store.full;
+        };
+        written = λ told. subst (λ (l : List ℕ). Writes status l [] a.place.written c.place.written) (sym (lines_joined xs ys))
+            (writes_behind status a.place.written b.place.written c.place.written (lines_of xs) (lines_of ys) [] (one.written told) (stop.written told));
+        before = before_more status _ _ two.under two.extra two.behind short stop.before;
       }
 
-  pub going_stops_steps : (c : Point D) (end : TakeEnd) (two : Stopped view t (J ++ rows one.steps) others b c end) → (going_stops c end two).steps ++ ((going_stops c end two).under ++ (going_stops c end two).extra) ≡ (one.steps ++ two.steps) ++ (two.under ++ two.extra)
+  pub going_stops_steps : (c : Point) (status : Status) (two : Stopped t (J ++ rows one.steps) others b c status) → (going_stops c status two).taken.steps ++ ((going_stops c status two).taken.under ++ (going_stops c status two).taken.extra) ≡ (one.steps ++ two.taken.steps) ++ (two.taken.under ++ two.taken.extra)
   unfolding going_stops
-  going_stops_steps c end two = refl
+  going_stops_steps c status two = refl
 
 -- ---- more messages behind those of a stop
 
@@ -276,62 +294,53 @@ asks_longer : (C R : Bool) (extra : List Step) (mid new : Around) (xs ys : List 
 asks_longer C R [] mid new xs ys asks = came_longer C R mid new xs ys asks
 asks_longer C R (s ∷ extra) mid new xs ys asks = asks
 
-stops_asking_longer : (C R : Bool) (end : TakeEnd) (extra : List Step) (mid new : Around) (xs ys : List Message) → StopsAsking C R end extra xs mid new → StopsAsking C R end extra (xs ++ ys) mid new
-stops_asking_longer C R TakeEnd.WriteFault extra mid new xs ys stops = asks_longer C R extra mid new xs ys stops
-stops_asking_longer C R TakeEnd.Memory extra mid new xs ys stops = asks_longer C R extra mid new xs ys stops
-stops_asking_longer C R (TakeEnd.Store fault) extra mid new xs ys stops = asks_longer C R extra mid new xs ys stops
-stops_asking_longer C R end extra mid new xs ys stops = stops
-
-next_longer : (C R : Bool) (core : Core) (xs ys : List Message) (old new : Around) (fault : Option StoreFault) → EndsNext C R core xs old new fault → EndsNext C R core (xs ++ ys) old new fault
-next_longer C R core [] ys old new (Some StoreFault.SeqEnd) next = absurd next
-next_longer C R core [] ys old new (Some StoreFault.Authority) next = absurd next
-next_longer C R core [] [] old new fault next = next
-next_longer C R core [] (m ∷ ys) old new None next = tt
-next_longer C R core [] (m ∷ ys) old new (Some StoreFault.Disk) next = tt
-next_longer C R core [] (m ∷ ys) old new (Some (StoreFault.BadLog place)) next = tt
-next_longer C R core [] (m ∷ ys) old new (Some (StoreFault.Full e)) next = tt
-next_longer C R core [] (m ∷ ys) old new (Some StoreFault.Repos) next = tt
-next_longer C R core [] (m ∷ ys) old new (Some StoreFault.Memory) next = tt
-next_longer C R core [] (m ∷ ys) old new (Some StoreFault.Clock) next = tt
-next_longer C R core (m ∷ xs) ys old new (Some StoreFault.SeqEnd) next = next
-next_longer C R core (m ∷ xs) ys old new (Some StoreFault.Authority) next = next
-next_longer C R core (m ∷ xs) ys old new fault next = tt
+of_longer : (P : Message → Type 0) (xs ys : List Message) → OfNext P xs → OfNext P (xs ++ ys)
+of_longer P [] ys next = absurd next
+of_longer P (m ∷ xs) ys next = next
 
 none_in_front : (xs ys : List Message) → xs ++ ys ≡ [] → xs ≡ []
 none_in_front [] ys is = refl
 none_in_front (m ∷ xs) ys is = let no : ⊥ = cc in absurd no
 
-before_longer : (end : TakeEnd) (short : Type 0) (extra : List Step) (xs ys : List Message) → StopsBefore end short extra xs → StopsBefore end short extra (xs ++ ys)
-before_longer TakeEnd.WriteFault short extra xs ys before = before
-before_longer TakeEnd.Memory short extra xs ys (inl is) = inl is
-before_longer TakeEnd.Memory short extra xs ys (inr (inl some)) = inr (inl some)
-before_longer TakeEnd.Memory short extra xs ys (inr (inr some)) = inr (inr (λ none. some (none_in_front xs ys none)))
-before_longer (TakeEnd.Store fault) short extra xs ys before = tt
-before_longer end short extra xs ys before = absurd before
+short_longer : (tells : Bool) (status : Status) (steps under : List Step) (xs ys : List Message) (old now : List ℕ) → StopsShort tells status steps under xs old now → StopsShort tells status steps under (xs ++ ys) old now
+short_longer tells Status.WriteFault steps under xs ys old now short = short
+short_longer tells Status.Memory steps under xs ys old now short = short
+short_longer tells Status.Disk steps under xs ys old now short = (short.0, λ none. short.1 (none_in_front xs ys none))
+short_longer tells status steps under xs ys old now short = absurd short
 
-pub stops_longer : {D : Type 0} (view : D → View) (t : Tells) (J : List Row) (xs ys whole : List Message) (a c : Point D) (end : TakeEnd) → whole ≡ xs ++ ys → Stopped view t J xs a c end → Stopped view t J whole a c end
-stops_longer view t J xs ys whole a c end is h = record {
-  steps = h.steps;
-  under = h.under;
-  extra = h.extra;
-  behind = h.behind ++ ys;
-  stop = h.stop;
-  which_under = h.which_under;
-  which_extra = h.which_extra;
-  front = is ∙ ap (λ (l : List Message). l ++ ys) h.front ∙ append_assoc (messages_sent (h.steps ++ (h.under ++ h.extra))) h.behind ys;
-  are = h.are;
-  journal = h.journal;
-  known = h.known;
-  on_disk = h.on_disk;
-  format = h.format;
-  most = h.most;
-  room = h.room;
-  full = h.full;
-  written = h.written;
-  mid = h.mid;
-  asked = h.asked;
-  stops = stops_asking_longer t.clock t.repos end h.extra h.mid c.around h.behind ys h.stops;
-  next = next_longer t.clock t.repos c.store.core h.behind ys h.mid c.around (fault_in end) h.next;
-  told = h.told;
-  before = before_longer end _ h.extra h.behind ys h.before;
-}
+before_longer : (status : Status) (one two : Type 0) (under extra : List Step) (xs ys : List Message) → (one → two) → StopsBefore status one under extra xs → StopsBefore status two under extra (xs ++ ys)
+before_longer Status.WriteFault one two under extra xs ys more before = more before
+before_longer status one two under extra xs ys more (inl short) = inl (more short)
+before_longer status one two under extra xs ys more (inr (inl some)) = inr (inl some)
+before_longer status one two under extra xs ys more (inr (inr (inl some))) = inr (inr (inl some))
+before_longer status one two under extra xs ys more (inr (inr (inr some))) = inr (inr (inr (λ none. some (none_in_front xs ys none))))
+
+pub stops_longer : (t : Tells) (J : List Row) (xs ys whole : List Message) (a c : Point) (status : Status) → IsStop status → whole ≡ xs ++ ys → Stopped t J xs a c status → Stopped t J whole a c status
+stops_longer t J xs ys whole a c status stop is h =
+    let s = h.taken in
+    let short = short_longer t.output status s.steps s.under s.behind ys a.place.written c.place.written in
+    record {
+      taken = record {
+        steps = s.steps;
+        under = s.under;
+        extra = s.extra;
+        behind = s.behind ++ ys;
+        good = s.good;
+        which_under = s.which_under;
+        few_extra = s.few_extra;
+        which_extra = s.which_extra;
+        all = λ source. absurd (stop_not_source status stop source);
+        are = s.are;
+        journal = s.journal;
+        mid = s.mid;
+        asked = s.asked;
+        stops = asks_longer t.clock t.repos s.extra s.mid c.place.around s.behind ys s.stops;
+        still = s.still;
+        next = record { numbers = λ at. of_longer _ s.behind ys (s.next.numbers at); spent = λ at. of_longer _ s.behind ys (s.next.spent at) };
+        told = told_weaker _ _ ⊥ ⊥ status a.place c.place short (λ no. no) s.told;
+      };
+      front = is ∙ ap (λ (l : List Message). l ++ ys) h.front ∙ append_assoc (messages_sent (s.steps ++ (s.under ++ s.extra))) s.behind ys;
+      store = h.store;
+      written = h.written;
+      before = before_longer status _ _ s.under s.extra s.behind ys short h.before;
+    }

@@ -4,8 +4,8 @@ use Rattle.std.specs.Prelude.{if◌then◌else◌}
 use Rattle.std.proofs.lemmas.List.{take-append-drop, take-append-le, take-take, take_more, drop-drop}
 use Rattle.std.proofs.Math.Seq.{take-length}
 use Rattle.relay_core.specs.Runs.{has_ended}
-use Rattle.relay_store.specs.Batches.{is_end}
-use Rattle.relay_store.specs.declared.message.Message.{Message}
+use Rattle.store_take.specs.Batches.{is_end}
+use Rattle.store_take.specs.declared.message.Message.{Message}
 use Rattle.take_run.specs.Said.{Said, AreLive, FirstHasEnded, ended_in}
 use Rattle.take_run.proofs.Names.{ended_parts}
 

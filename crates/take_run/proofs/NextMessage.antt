@@ -1,5 +1,5 @@
 -- Why taking messages ends before the next one, from what the store says by its state.
-use Rattle.std.proofs.Common.{◌≡◌, ◌≢◌, ◌∙◌, ℕ, ◌≤◌, ◌+◌, List, [], ◌∷◌, None, Result, Ok, Err, refl, ap, subst}
+use Rattle.std.proofs.Common.{◌≡◌, ◌≢◌, ◌∙◌, ℕ, ◌≤◌, ◌+◌, List, [], ◌∷◌, None, Some, Result, Ok, Err, refl, ap, subst}
 use Rattle.at_authority.specs.Panels.{Panel}
 use Rattle.at_cid.specs.declared.limits.TheConstants.{NUMBERS}
 use Rattle.at_event.specs.Frames.{frame_of}
@@ -15,19 +15,13 @@ use Rattle.relay_core.specs.declared.journal_state.Core.{Core}
 use Rattle.relay_step.specs.Around.{Around}
 use Rattle.relay_step.specs.Causes.{IsSpentFor}
 use Rattle.relay_step.specs.Messages.{EndsNumbers}
-use Rattle.relay_store.specs.Batches.{EndsNext}
+use Rattle.store_take.specs.Batches.{EndsNext}
 use Rattle.relay_store.specs.declared.fault.StoreFault.{StoreFault}
-use Rattle.relay_store.specs.declared.message.Message.{Message}
-use Rattle.take_run.specs.Ends.{disk_failed, fault_in}
-use Rattle.take_run.specs.Tells.{Tells}
-use Rattle.take_run.specs.declared.end.TakeEnd.{TakeEnd}
-use Rattle.take_run.specs.NextMessage.{IsNextEnd, MessageEndsNumbers, MessageIsSpent, OfNext}
-
-seq_not : TakeEnd.Store StoreFault.SeqEnd ≡ disk_failed → ⊥
-seq_not is = cc
-
-authority_not : TakeEnd.Store StoreFault.Authority ≡ disk_failed → ⊥
-authority_not is = cc
+use Rattle.store_take.specs.declared.message.Message.{Message}
+use Rattle.run_base.specs.Place.{Tells}
+use Rattle.run_base.specs.Statuses.{status_of_fault}
+use Rattle.run_base.specs.declared.status.Status.{Status}
+use Rattle.take_run.specs.NextMessage.{MessageEndsNumbers, MessageIsSpent, NextEnds, OfNext}
 
 module _ (core : Core) (K : List Row) (holds : Holds core K) where
   above_cursor : (host : List ℕ) (frame : Frame) → passed (cursor_in core host) frame ≡ None → passed (cursor host K) frame ≡ None
@@ -56,26 +50,25 @@ module _ (core : Core) (K : List Row) (holds : Holds core K) where
   message_is_spent m (Ok Frame.Error) panel is spent = absurd spent
   message_is_spent m (Err fault) panel is spent = absurd spent
 
-  numbers_next : (t : Tells) (behind : List Message) (old new : Around) → EndsNext t.clock t.repos core behind old new (fault_in (TakeEnd.Store StoreFault.SeqEnd)) → OfNext (λ m. MessageEndsNumbers t K old m new) behind
+  numbers_next : (t : Tells) (behind : List Message) (old new : Around) → EndsNext t.clock t.repos core behind old new (Some StoreFault.SeqEnd) → OfNext (λ m. MessageEndsNumbers t K old m new) behind
   numbers_next t [] old new next = absurd next
   numbers_next t (m ∷ behind) old new next = message_ends t old m new next
 
-  spent_next : (t : Tells) (behind : List Message) (old new : Around) → EndsNext t.clock t.repos core behind old new (fault_in (TakeEnd.Store StoreFault.Authority)) → OfNext (λ m. MessageIsSpent K m new.panel) behind
+  spent_next : (t : Tells) (behind : List Message) (old new : Around) → EndsNext t.clock t.repos core behind old new (Some StoreFault.Authority) → OfNext (λ m. MessageIsSpent K m new.panel) behind
   spent_next t [] old new next = absurd next
   spent_next t (m ∷ behind) old new next = message_is_spent m (frame_of m.bytes) new.panel refl next
 
-pub next_end : (t : Tells) (K : List Row) (core : Core) (behind : List Message) (old new : Around) (end : TakeEnd) → (end ≢ disk_failed → Holds core K) → EndsNext t.clock t.repos core behind old new (fault_in end) → IsNextEnd t K behind old new end
-next_end t K core behind old new (TakeEnd.Store StoreFault.SeqEnd) known next = numbers_next core K (known seq_not) t behind old new next
-next_end t K core behind old new (TakeEnd.Store StoreFault.Authority) known next = spent_next core K (known authority_not) t behind old new next
-next_end t K core behind old new (TakeEnd.Store StoreFault.Disk) known next = tt
-next_end t K core behind old new (TakeEnd.Store (StoreFault.BadLog p)) known next = tt
-next_end t K core behind old new (TakeEnd.Store (StoreFault.Full e)) known next = tt
-next_end t K core behind old new (TakeEnd.Store StoreFault.Repos) known next = tt
-next_end t K core behind old new (TakeEnd.Store StoreFault.Memory) known next = tt
-next_end t K core behind old new (TakeEnd.Store StoreFault.Clock) known next = tt
-next_end t K core behind old new TakeEnd.Done known next = tt
-next_end t K core behind old new (TakeEnd.Bad place) known next = tt
-next_end t K core behind old new TakeEnd.ReadFault known next = tt
-next_end t K core behind old new TakeEnd.WriteFault known next = tt
-next_end t K core behind old new TakeEnd.TooLong known next = tt
-next_end t K core behind old new TakeEnd.Memory known next = tt
+-- no status that speaks of the next message
+pub none_ends : (t : Tells) (K : List Row) (behind : List Message) (old new : Around) (status : Status) → status ≢ Status.SeqEnd → status ≢ Status.Authority → NextEnds t K behind old new status
+none_ends t K behind old new status numbers spent = record { numbers = λ is. absurd (numbers is); spent = λ is. absurd (spent is) }
+
+-- a fault of the store
+pub next_ends : (t : Tells) (K : List Row) (core : Core) (behind : List Message) (old new : Around) (fault : StoreFault) → Holds core K → EndsNext t.clock t.repos core behind old new (Some fault) → NextEnds t K behind old new (status_of_fault fault)
+next_ends t K core behind old new StoreFault.SeqEnd known next = record { numbers = λ _. numbers_next core K known t behind old new next; spent = λ is. absurd cc }
+next_ends t K core behind old new StoreFault.Authority known next = record { numbers = λ is. absurd cc; spent = λ _. spent_next core K known t behind old new next }
+next_ends t K core behind old new StoreFault.Disk known next = none_ends t K behind old new Status.Disk (λ is. cc) (λ is. cc)
+next_ends t K core behind old new (StoreFault.BadLog p) known next = none_ends t K behind old new (Status.BadLog p) (λ is. cc) (λ is. cc)
+next_ends t K core behind old new (StoreFault.Full e) known next = none_ends t K behind old new (Status.Full e) (λ is. cc) (λ is. cc)
+next_ends t K core behind old new StoreFault.Repos known next = none_ends t K behind old new Status.Repos (λ is. cc) (λ is. cc)
+next_ends t K core behind old new StoreFault.Memory known next = none_ends t K behind old new Status.Memory (λ is. cc) (λ is. cc)
+next_ends t K core behind old new StoreFault.Clock known next = none_ends t K behind old new Status.Clock (λ is. cc) (λ is. cc)

@@ -5,8 +5,8 @@ use Rattle.std.specs.List.{list_all}
 use Rattle.std.proofs.lemmas.List.{append-nil, length-take, length-drop}
 use Rattle.at_cid.specs.Counts.{Rose}
 use Rattle.at_syntax.specs.Host.{is_host}
-use Rattle.relay_store.specs.Taking.{AreOfHosts}
-use Rattle.relay_store.specs.declared.message.Message.{Message}
+use Rattle.store_take.specs.Taking.{AreOfHosts}
+use Rattle.store_take.specs.declared.message.Message.{Message}
 use Rattle.tape.specs.Format.{record_bytes}
 use Rattle.tape.specs.Reading.{coming, held, taken, IsNext, IsPlaced}
 use Rattle.tape.specs.Shown.{Shows, cut}

@@ -1,5 +1,5 @@
--- A journal stays sound, faithful and given with the rows of steps, and a covered commit gets through.
-use Rattle.std.proofs.Common.{◌≡◌, Bool, ℕ, ◌+◌, ◌<◌, true, false, List, [], ◌∷◌, ◌++◌, map, Option, Some, None, Result, Ok, refl, ap, ◌∙◌, sym, subst, arith, IsTrue}
+-- A journal stays sound and faithful with the rows of steps, and a covered commit gets through.
+use Rattle.std.proofs.Common.{◌≡◌, ℕ, ◌+◌, ◌<◌, true, false, List, [], ◌∷◌, ◌++◌, map, Option, Some, None, Result, Ok, refl, ap, ◌∙◌, sym, subst, arith}
 use Rattle.std.specs.Prelude.{if◌then◌else◌, nat_le, nat_lt}
 use Rattle.std.specs.List.{AllByRecursion}
 use Rattle.std.proofs.lemmas.Bool.Decides.{nat_tests}
@@ -38,15 +38,10 @@ use Rattle.relay_law.proofs.Choosing.{some_right}
 use Rattle.relay_law.proofs.Completing.{covered_accepted}
 use Rattle.relay_law.proofs.Sent.{stores_sound}
 use Rattle.relay_law.proofs.Staying.{stay_faithful}
-use Rattle.chain_law.specs.Given.{AreGiven}
-use Rattle.relay_step.specs.Around.{Around, AllAsked}
 use Rattle.relay_step.specs.Steps.{Step, Decided, after_end, skipped, recorded, AreSteps, IsDecidedAs, ended_decided, message_of, messages, rows, rows_decided}
 use Rattle.relay_step.proofs.Steps.{steps_join, steps_run}
-use Rattle.given_law.specs.Made.{AreOfBytes, GiveBytes}
-use Rattle.given_law.proofs.Making.{steps_given}
-use Rattle.relay_store.specs.Batches.{messages_sent}
-use Rattle.relay_store.proofs.Asks.{nothing_here}
-use Rattle.relay_store.proofs.Runs.{sent_joined}
+use Rattle.store_take.specs.Batches.{messages_sent}
+use Rattle.store_take.proofs.Runs.{sent_joined}
 use Rattle.take_run.specs.Covered.{CoveredGetThrough, GetsThrough, IsGood}
 use Rattle.take_run.specs.Tapes.{AreRecords}
 use Rattle.take_run.proofs.Counts.{same_taken}
@@ -110,27 +105,6 @@ stays_faithful J steps all journal are gives front others split faithful =
     let is = in_front J steps all journal are front others split in
     let given : FetchesGive (rows front) = fetched_front front others (subst (λ (l : List Step). FetchesGive (rows l)) split gives) in
     stay_faithful.run J (pairs front) (rows front) faithful is.bytes is.journal given is.run
-
--- ---- given journals
-
-steps_bytes : (steps : List Step) → AreRecords (messages_sent steps) → AreOfBytes steps
-steps_bytes [] all = tt
-steps_bytes (s ∷ steps) all = (all.1, steps_bytes steps all.2)
-
--- what was asked for the steps in front
-asked_front : (clock_tells repos_tell : Bool) (J : List Row) (old new : Around) (front others : List Step) → AllAsked clock_tells repos_tell J old (front ++ others) new → (mid : Around) × AllAsked clock_tells repos_tell J old front mid
-asked_front clock_tells repos_tell J old new [] others asked = (old, nothing_here clock_tells repos_tell old)
-asked_front clock_tells repos_tell J old new (s ∷ front) others asked =
-    let rest = asked_front clock_tells repos_tell (J ++ rows_decided s.decided) asked.0 new front others asked.2 in
-    (rest.0, (asked.0, asked.1, rest.1))
-
-pub stays_given : (clock_tells repos_tell : Bool) (J : List Row) (old new : Around) (steps : List Step) → AreRecords (messages_sent steps) → AllAre J steps → AllAsked clock_tells repos_tell J old steps new
-    → (checks : Checks) → OpensRight checks → LinksRight checks → (IsTrue repos_tell → GiveBytes old.repository) → (front others : List Step) → steps ≡ front ++ others → AreGiven checks [] J → AreGiven checks [] (J ++ rows front)
-stays_given clock_tells repos_tell J old new steps all are asked checks opens links bytes front others split given =
-    let here = asked_front clock_tells repos_tell J old new front others (subst (λ (l : List Step). AllAsked clock_tells repos_tell J old l new) split asked) in
-    let records : AreRecords (messages_sent front) = records_front (messages_sent front) (messages_sent others) (subst AreRecords (ap messages_sent split ∙ sent_joined front others) all) in
-    steps_given checks clock_tells repos_tell J [] old here.0 front bytes (steps_bytes front records) given
-    ((steps_join checks J [] front others).0 (subst (λ (l : List Step). AreSteps checks J [] l) split (are checks opens links))).0 here.1
 
 -- ---- covered commits
 

@@ -1,198 +1,478 @@
--- Which counts are as they were, by how it ended.
-use Rattle.std.proofs.Common.{◌≡◌, ◌≢◌, ◌<◌, ◌⊎◌, inl, inr, ℕ, Option, Some, None, List, [], length, refl, sym, ap, ◌∙◌, subst, arith}
-use Rattle.at_authority.specs.Panels.{Panel}
+-- Which failures are told, whatever the journal.
+use Rattle.std.proofs.Common.{◌≡◌, ◌≢◌, ◌⊎◌, inl, inr, ℕ, List, Option, Some, None, Result, Ok, Err, refl, sym, ap, ◌∙◌, subst}
+use Rattle.at_authority.specs.Panels.{IsSpent}
+use Rattle.at_cid.specs.Counts.{Rose}
+use Rattle.relay_step.specs.Around.{Around}
 use Rattle.relay_step.specs.Causes.{SpendsNone}
+use Rattle.relay_store.specs.Opening.{IsOfReading}
 use Rattle.relay_store.specs.declared.fault.StoreFault.{StoreFault}
-use Rattle.relay_store.specs.declared.outcome.Outcome.{Outcome}
 use Rattle.tape.specs.declared.fault.TapeFault.{TapeFault}
-use Rattle.take_run.specs.Causes.{AreTold, EndsByTape, Failures, HidesNone, NoneFailed, Told, Unmoved, failures, faults}
-use Rattle.take_run.specs.Ends.{end_of_store, end_of_tape}
+use Rattle.run_base.specs.Counts.{Counted, CountedBut, CountedPair}
+use Rattle.run_base.specs.Ends.{Caused, ToldBut}
+use Rattle.run_base.specs.Place.{Faults, Place, with_feed, with_input}
+use Rattle.run_base.specs.Statuses.{status_of_fault}
+use Rattle.run_base.specs.declared.status.Status.{Status}
+use Rattle.run_base.proofs.Ended.{SameBeside, fault_caused, other_status}
+use Rattle.take_run.specs.Ends.{FaultsTold, IsFinished, IsOfSource, IsStop, IsUnread, IsUnwritten, MayHideAsked, MayHideInput, MayEndFollowing, MayEndIngesting, status_of_tape}
+use Rattle.take_run.specs.Going.{NothingFailed}
 use Rattle.take_run.specs.Groups.{ReadFailed}
-use Rattle.take_run.specs.Stops.{IsStop, IsUnwritten}
-use Rattle.take_run.specs.declared.end.TakeEnd.{TakeEnd}
 use Rattle.take_run.specs.declared.group.Rest.{Rest}
 
--- ---- which ends are stops
+-- ---- which statuses
 
-pub unwritten_stops : (end : TakeEnd) → IsUnwritten end → IsStop end
-unwritten_stops end (inl is) = subst (λ (e : TakeEnd). IsStop e) (sym is) tt
-unwritten_stops end (inr is) = subst (λ (e : TakeEnd). IsStop e) (sym is) tt
+pub fault_stops : (fault : StoreFault) (status : Status) → status ≡ status_of_fault fault → IsStop status
+fault_stops fault status is = subst IsStop (sym is) (at fault)
+  where
+    at : (f : StoreFault) → IsStop (status_of_fault f)
+    at StoreFault.Disk = tt
+    at (StoreFault.BadLog p) = tt
+    at (StoreFault.Full e) = tt
+    at StoreFault.SeqEnd = tt
+    at StoreFault.Authority = tt
+    at StoreFault.Repos = tt
+    at StoreFault.Memory = tt
+    at StoreFault.Clock = tt
 
-store_stops_at : (fault : StoreFault) → IsStop (end_of_store fault)
-store_stops_at StoreFault.Disk = tt
-store_stops_at (StoreFault.BadLog place) = tt
-store_stops_at (StoreFault.Full e) = tt
-store_stops_at StoreFault.SeqEnd = tt
-store_stops_at StoreFault.Authority = tt
-store_stops_at StoreFault.Repos = tt
-store_stops_at StoreFault.Clock = tt
-store_stops_at StoreFault.Memory = tt
+pub unwritten_stops : (status : Status) → IsUnwritten status → IsStop status
+unwritten_stops Status.WriteFault is = tt
+unwritten_stops Status.Memory is = tt
+unwritten_stops status is = absurd is
 
-pub store_stops : (fault : StoreFault) (end : TakeEnd) → end ≡ end_of_store fault → IsStop end
-store_stops fault end is = subst (λ (e : TakeEnd). IsStop e) (sym is) (store_stops_at fault)
+pub stop_not_source : (status : Status) → IsStop status → IsOfSource status → ⊥
+stop_not_source Status.Done stop source = stop
+stop_not_source (Status.BadTape p) stop source = stop
+stop_not_source Status.ReadFault stop source = stop
+stop_not_source Status.TooLong stop source = stop
+stop_not_source Status.Feed stop source = stop
+stop_not_source status stop source = source
 
--- what stops it isn't the tape
-pub stop_not_by_tape : (end : TakeEnd) → IsStop end → EndsByTape end → ⊥
-stop_not_by_tape TakeEnd.Done stop by = stop
-stop_not_by_tape (TakeEnd.Bad place) stop by = stop
-stop_not_by_tape TakeEnd.ReadFault stop by = by
-stop_not_by_tape TakeEnd.WriteFault stop by = by
-stop_not_by_tape TakeEnd.TooLong stop by = stop
-stop_not_by_tape (TakeEnd.Store fault) stop by = by
-stop_not_by_tape TakeEnd.Memory stop by = by
+-- of a tape
+pub stop_ingests : (status : Status) → IsStop status → MayEndIngesting status
+stop_ingests Status.Done stop = tt
+stop_ingests (Status.BadTape p) stop = tt
+stop_ingests Status.ReadFault stop = tt
+stop_ingests Status.TooLong stop = tt
+stop_ingests status stop = stop
 
-unwritten_hides : (end : TakeEnd) → IsUnwritten end → HidesNone end → ⊥
-unwritten_hides end (inl is) none = subst (λ (e : TakeEnd). HidesNone e) is none
-unwritten_hides end (inr is) none = subst (λ (e : TakeEnd). HidesNone e) is none
+pub finish_ingests : (status : Status) → IsFinished status → MayEndIngesting status
+finish_ingests Status.Done is = tt
+finish_ingests Status.WriteFault is = tt
+finish_ingests Status.Memory is = tt
+finish_ingests status is = absurd is
 
--- ---- the count of the input, by what follows on a group
+pub tape_ingests : (fault : TapeFault) → MayEndIngesting (status_of_tape fault)
+tape_ingests (TapeFault.Torn p) = tt
+tape_ingests (TapeFault.BadName p) = tt
+tape_ingests (TapeFault.TooLong p) = tt
+tape_ingests TapeFault.Failed = tt
+tape_ingests TapeFault.Budget = tt
+tape_ingests TapeFault.Memory = tt
+
+-- and of a host
+pub stop_follows : (status : Status) → IsStop status → MayEndFollowing status
+stop_follows Status.Done stop = tt
+stop_follows Status.Feed stop = tt
+stop_follows status stop = stop
+
+pub finish_follows : (status : Status) → IsFinished status → MayEndFollowing status
+finish_follows Status.Done is = tt
+finish_follows Status.WriteFault is = tt
+finish_follows Status.Memory is = tt
+finish_follows status is = absurd is
+
+pub unread_follows : (status : Status) → IsUnread status → MayEndFollowing status
+unread_follows Status.Feed is = tt
+unread_follows Status.Memory is = tt
+unread_follows status is = absurd is
+
+-- ---- counts that are as they were
+
+pub same_faults : (f g : Faults) → (g.one ≡ f.one) × (g.two ≡ f.two) → g.repos ≡ f.repos → g.clock ≡ f.clock → SameBeside f g → g ≡ f
+same_faults f g disks repos clock same = λ i. record {
+  one = disks.0 i;
+  two = disks.1 i;
+  repos = repos i;
+  clock = clock i;
+  output = same.output i;
+  input = same.input i;
+  feed = same.feed i;
+  door = same.door i;
+  wire = same.wire i;
+}
+
+pub nothing_here : (p : Place) → NothingFailed p p
+nothing_here p = record { counts = refl; unspent = λ _ spent. spent }
+
+pub nothing_on : (p q r : Place) → NothingFailed p q → NothingFailed q r → NothingFailed p r
+nothing_on p q r one two = record { counts = two.counts ∙ one.counts; unspent = λ name spent. one.unspent name (two.unspent name spent) }
+
+-- with a count of the input or of the feed that stands
+pub input_still : (p q : Place) (i j : ℕ) → NothingFailed p q → j ≡ i → NothingFailed (with_input i p) (with_input j q)
+input_still p q i j none same = record { counts = (λ k. record (none.counts k) { input = same k }); unspent = none.unspent }
+
+pub feed_still : (p q : Place) (i j : ℕ) → NothingFailed p q → j ≡ i → NothingFailed (with_feed i p) (with_feed j q)
+feed_still p q i j none same = record { counts = (λ k. record (none.counts k) { feed = same k }); unspent = none.unspent }
+
+-- ---- one part after another
+
+pub told_on : (X Y : Type 0) (status : Status) (p q r : Place) → NothingFailed p q → ToldBut X Y status q r → ToldBut X Y status p r
+told_on X Y status p q r none told = record {
+  disks = λ not. ((told.disks not).0 ∙ ap (λ (f : Faults). f.one) none.counts, (told.disks not).1 ∙ ap (λ (f : Faults). f.two) none.counts);
+  unspent = λ shown not name spent. none.unspent name (told.unspent shown not name spent);
+  repos = λ shown not. told.repos shown not ∙ ap (λ (f : Faults). f.repos) none.counts;
+  clock = λ shown not. told.clock shown not ∙ ap (λ (f : Faults). f.clock) none.counts;
+  output = λ not. told.output not ∙ ap (λ (f : Faults). f.output) none.counts;
+  input = λ shown not. told.input shown not ∙ ap (λ (f : Faults). f.input) none.counts;
+  feed = λ not. told.feed not ∙ ap (λ (f : Faults). f.feed) none.counts;
+  door = told.door ∙ ap (λ (f : Faults). f.door) none.counts;
+  wire = told.wire ∙ ap (λ (f : Faults). f.wire) none.counts;
+}
+
+pub told_weaker : (X X' Y Y' : Type 0) (status : Status) (p q : Place) → (X → X') → (Y → Y') → ToldBut X Y status p q → ToldBut X' Y' status p q
+told_weaker X X' Y Y' status p q asked input told = record {
+  disks = told.disks;
+  unspent = λ shown. told.unspent (λ x. shown (asked x));
+  repos = λ shown. told.repos (λ x. shown (asked x));
+  clock = λ shown. told.clock (λ x. shown (asked x));
+  output = told.output;
+  input = λ shown. told.input (λ y. shown (input y));
+  feed = told.feed;
+  door = told.door;
+  wire = told.wire;
+}
+
+pub nothing_told : (X Y : Type 0) (status : Status) (p q : Place) → NothingFailed p q → ToldBut X Y status p q
+nothing_told X Y status p q none = told_on X Y status p q q none (record {
+  disks = λ _. (refl, refl);
+  unspent = λ _ _ _ spent. spent;
+  repos = λ _ _. refl;
+  clock = λ _ _. refl;
+  output = λ _. refl;
+  input = λ _ _. refl;
+  feed = λ _. refl;
+  door = refl;
+  wire = refl;
+})
+
+caused_on : (status : Status) (p q r : Place) → q.failed ≡ p.failed → Caused status q r → Caused status p r
+caused_on Status.Disk p q r same (inl rose) = inl (subst (λ (f : Faults). Rose f.one r.failed.one) same rose)
+caused_on Status.Disk p q r same (inr rose) = inr (subst (λ (f : Faults). Rose f.two r.failed.two) same rose)
+caused_on Status.Repos p q r same rose = subst (λ (f : Faults). Rose f.repos r.failed.repos) same rose
+caused_on Status.Clock p q r same rose = subst (λ (f : Faults). Rose f.clock r.failed.clock) same rose
+caused_on Status.WriteFault p q r same rose = subst (λ (f : Faults). Rose f.output r.failed.output) same rose
+caused_on Status.ReadFault p q r same rose = subst (λ (f : Faults). Rose f.input r.failed.input) same rose
+caused_on Status.Feed p q r same rose = subst (λ (f : Faults). Rose f.feed r.failed.feed) same rose
+caused_on Status.Door p q r same rose = subst (λ (f : Faults). Rose f.door r.failed.door) same rose
+caused_on Status.Wire p q r same rose = subst (λ (f : Faults). Rose f.wire r.failed.wire) same rose
+caused_on Status.Authority p q r same spent = spent
+caused_on status p q r same caused = tt
+
+pub faults_on : (Y : Type 0) (status : Status) (p q r : Place) → NothingFailed p q → FaultsTold Y q r status → FaultsTold Y p r status
+faults_on Y status p q r none ends = record { caused = caused_on status p q r none.counts ends.caused; told = told_on _ Y status p q r none ends.told }
+
+-- a stop is none of the input's, and none of the feed's
+stop_caused : (status : Status) (p q : Place) (i j : ℕ) → IsStop status → Caused status p q → Caused status (with_input i p) (with_input j q)
+stop_caused Status.WriteFault p q i j stop caused = caused
+stop_caused Status.Disk p q i j stop caused = caused
+stop_caused (Status.BadLog at) p q i j stop caused = caused
+stop_caused Status.Authority p q i j stop caused = caused
+stop_caused Status.Repos p q i j stop caused = caused
+stop_caused (Status.Full e) p q i j stop caused = caused
+stop_caused Status.SeqEnd p q i j stop caused = caused
+stop_caused Status.Memory p q i j stop caused = caused
+stop_caused Status.Clock p q i j stop caused = caused
+stop_caused status p q i j stop caused = absurd stop
+
+stop_caused_feed : (status : Status) (p q : Place) (i j : ℕ) → IsStop status → Caused status p q → Caused status (with_feed i p) (with_feed j q)
+stop_caused_feed Status.WriteFault p q i j stop caused = caused
+stop_caused_feed Status.Disk p q i j stop caused = caused
+stop_caused_feed (Status.BadLog at) p q i j stop caused = caused
+stop_caused_feed Status.Authority p q i j stop caused = caused
+stop_caused_feed Status.Repos p q i j stop caused = caused
+stop_caused_feed (Status.Full e) p q i j stop caused = caused
+stop_caused_feed Status.SeqEnd p q i j stop caused = caused
+stop_caused_feed Status.Memory p q i j stop caused = caused
+stop_caused_feed Status.Clock p q i j stop caused = caused
+stop_caused_feed status p q i j stop caused = absurd stop
+
+stop_hides : (status : Status) → IsStop status → MayHideInput status
+stop_hides Status.Done stop = absurd stop
+stop_hides (Status.BadTape p) stop = absurd stop
+stop_hides Status.TooLong stop = absurd stop
+stop_hides status stop = tt
+
+pub stop_with_input : (status : Status) (p q : Place) (i j : ℕ) → IsStop status → FaultsTold ⊥ p q status → FaultsTold (MayHideInput status) (with_input i p) (with_input j q) status
+stop_with_input status p q i j stop ends = record {
+  caused = stop_caused status p q i j stop ends.caused;
+  told = record {
+    disks = ends.told.disks;
+    unspent = ends.told.unspent;
+    repos = ends.told.repos;
+    clock = ends.told.clock;
+    output = ends.told.output;
+    input = λ shown. absurd (shown (stop_hides status stop));
+    feed = ends.told.feed;
+    door = ends.told.door;
+    wire = ends.told.wire;
+  };
+}
+
+pub stop_with_feed : (status : Status) (p q : Place) (i j : ℕ) → IsStop status → j ≡ i → FaultsTold ⊥ p q status → FaultsTold ⊥ (with_feed i p) (with_feed j q) status
+stop_with_feed status p q i j stop same ends = record {
+  caused = stop_caused_feed status p q i j stop ends.caused;
+  told = record {
+    disks = ends.told.disks;
+    unspent = ends.told.unspent;
+    repos = ends.told.repos;
+    clock = ends.told.clock;
+    output = ends.told.output;
+    input = ends.told.input;
+    feed = λ _. same;
+    door = ends.told.door;
+    wire = ends.told.wire;
+  };
+}
+
+-- ---- at a line
+
+-- no part but the output has another count, and no method lost the last of its authorities
+pub record OnlyWrote (p q : Place) : Type 0 where
+  disks : (q.failed.one ≡ p.failed.one) × (q.failed.two ≡ p.failed.two)
+  unspent : SpendsNone p.around.panel q.around.panel
+  repos : q.failed.repos ≡ p.failed.repos
+  clock : q.failed.clock ≡ p.failed.clock
+  input : q.failed.input ≡ p.failed.input
+  feed : q.failed.feed ≡ p.failed.feed
+  door : q.failed.door ≡ p.failed.door
+  wire : q.failed.wire ≡ p.failed.wire
+
+finish_caused : (status : Status) (p q : Place) → IsFinished status → (status ≡ Status.WriteFault → Rose p.failed.output q.failed.output) → Caused status p q
+finish_caused Status.Done p q is rose = tt
+finish_caused Status.WriteFault p q is rose = rose refl
+finish_caused Status.Memory p q is rose = tt
+finish_caused status p q is rose = absurd is
+
+pub wrote_told : (X Y : Type 0) (status : Status) (p q : Place) → OnlyWrote p q → Counted (status ≡ Status.WriteFault) p.failed.output q.failed.output → ToldBut X Y status p q
+wrote_told X Y status p q only output = record {
+  disks = λ _. only.disks;
+  unspent = λ _ _. only.unspent;
+  repos = λ _ _. only.repos;
+  clock = λ _ _. only.clock;
+  output = output.steady;
+  input = λ _ _. only.input;
+  feed = λ _. only.feed;
+  door = only.door;
+  wire = only.wire;
+}
+
+pub finish_faults : (Y : Type 0) (status : Status) (p q : Place) → IsFinished status → OnlyWrote p q → Counted (status ≡ Status.WriteFault) p.failed.output q.failed.output → FaultsTold Y p q status
+finish_faults Y status p q is only output = record { caused = finish_caused status p q is output.rose; told = wrote_told _ Y status p q only output }
+
+pub unwritten_finishes : (status : Status) → IsUnwritten status → IsFinished status
+unwritten_finishes Status.WriteFault is = tt
+unwritten_finishes Status.Memory is = tt
+unwritten_finishes status is = absurd is
+
+unwritten_hides : (status : Status) → IsUnwritten status → MayHideAsked status
+unwritten_hides Status.WriteFault is = tt
+unwritten_hides Status.Memory is = tt
+unwritten_hides status is = absurd is
+
+abbrev pub failed_as : {A : Type 0} → Status → Result A Status
+failed_as status = Err status
+
+abbrev status_or : {A : Type 0} → Status → Result A Status → Status
+status_or other (Err status) = status
+status_or other done = other
+
+-- the count of an answer that is a status
+pub counted_status : {A : Type 0} (status other : Status) (old new : ℕ) → Counted (failed_as {A = A} status ≡ failed_as other) old new → Counted (status ≡ other) old new
+counted_status status other old new c = record { rose = λ is. c.rose (ap failed_as is); steady = λ not. c.steady (λ is. not (ap (status_or status) is)); kept = c.kept }
+
+-- an answer isn't a fault
+pub done_not : {A : Type 0} {x : A} (status : Status) → Ok x ≡ failed_as status → ⊥
+done_not status is = cc
+
+pub done_not_fault : {A : Type 0} {x : A} (fault : StoreFault) → ◌≡◌ {A = Result A StoreFault} (Ok x) (Err fault) → ⊥
+done_not_fault fault is = cc
+
+pub only_output : (p q : Place) → q.around ≡ p.around → (q.failed.one ≡ p.failed.one) → (q.failed.two ≡ p.failed.two) → q.failed.repos ≡ p.failed.repos → q.failed.clock ≡ p.failed.clock → q.failed.input ≡ p.failed.input → q.failed.feed ≡ p.failed.feed → q.failed.door ≡ p.failed.door
+    → q.failed.wire ≡ p.failed.wire → OnlyWrote p q
+only_output p q around one two repos clock input feed door wire = record {
+  disks = (one, two);
+  unspent = λ name spent. subst (λ (a : Around). IsSpent (a.panel name)) around spent;
+  repos = repos;
+  clock = clock;
+  input = input;
+  feed = feed;
+  door = door;
+  wire = wire;
+}
+
+-- nothing failed where lines alone were written
+pub wrote_nothing : (p q : Place) → OnlyWrote p q → q.failed.output ≡ p.failed.output → NothingFailed p q
+wrote_nothing p q only output = record {
+  counts = same_faults p.failed q.failed only.disks only.repos only.clock (record { output = output; input = only.input; feed = only.feed; door = only.door; wire = only.wire });
+  unspent = only.unspent;
+}
+
+-- ---- what was asked of the store
+
+module _ (fault : Option StoreFault) (p q : Place) (disks : CountedPair (fault ≡ Some StoreFault.Disk) p.failed.one p.failed.two q.failed.one q.failed.two)
+    (repos : CountedBut (fault ≡ Some StoreFault.Disk) (fault ≡ Some StoreFault.Repos) p.failed.repos q.failed.repos) (clock : CountedBut (fault ≡ Some StoreFault.Disk) (fault ≡ Some StoreFault.Clock) p.failed.clock q.failed.clock)
+    (unspent : fault ≢ Some StoreFault.Disk → fault ≢ Some StoreFault.Authority → SpendsNone p.around.panel q.around.panel) (input : q.failed.input ≡ p.failed.input) (feed : q.failed.feed ≡ p.failed.feed) (door : q.failed.door ≡ p.failed.door) (wire : q.failed.wire ≡ p.failed.wire) where
+  none_not : (f : StoreFault) → fault ≡ None → fault ≢ Some f
+  none_not f none is = let no : ⊥ = cc in no
+
+  -- no fault came
+  pub batch_nothing : fault ≡ None → q.failed.output ≡ p.failed.output → NothingFailed p q
+  batch_nothing none output = record {
+    counts = same_faults p.failed q.failed (disks.steady (none_not StoreFault.Disk none)) (repos.steady (none_not StoreFault.Disk none) (none_not StoreFault.Repos none)) (clock.steady (none_not StoreFault.Disk none) (none_not StoreFault.Clock none))
+        (record { output = output; input = input; feed = feed; door = door; wire = wire });
+    unspent = unspent (none_not StoreFault.Disk none) (none_not StoreFault.Authority none);
+  }
+
+  -- one came
+  module _ (f : StoreFault) (is : fault ≡ Some f) (status : Status) (at : status ≡ status_of_fault f) where
+    same_as : (g : StoreFault) → fault ≡ Some g → f ≡ g
+    same_as g other = cc
+
+    not_as : (g : StoreFault) → status ≢ status_of_fault g → fault ≢ Some g
+    not_as g not other = other_status f g status at not (same_as g other)
+
+    pub batch_told : (Y : Type 0) → q.failed.output ≡ p.failed.output → ToldBut (f ≡ StoreFault.Disk) Y status p q
+    batch_told Y output = record {
+      disks = λ not. disks.steady (not_as StoreFault.Disk not);
+      unspent = λ shown not. unspent (λ disk. shown (same_as StoreFault.Disk disk)) (not_as StoreFault.Authority not);
+      repos = λ shown not. repos.steady (λ disk. shown (same_as StoreFault.Disk disk)) (not_as StoreFault.Repos not);
+      clock = λ shown not. clock.steady (λ disk. shown (same_as StoreFault.Disk disk)) (not_as StoreFault.Clock not);
+      output = λ _. output;
+      input = λ _ _. input;
+      feed = λ _. feed;
+      door = door;
+      wire = wire;
+    }
+
+    pub batch_faults : (fault ≡ Some StoreFault.Authority → (method : List ℕ) × IsSpent (q.around.panel method)) → q.failed.output ≡ p.failed.output → FaultsTold ⊥ p q status
+    batch_faults spent output = record {
+      caused = subst (λ (s : Status). Caused s p q) (sym at)
+          (fault_caused f p q (λ e. disks.rose (is ∙ ap Some e)) (λ e. spent (is ∙ ap Some e)) (λ e. repos.rose (is ∙ ap Some e)) (λ e. clock.rose (is ∙ ap Some e)));
+      told = told_weaker _ _ _ _ status p q (λ disk. subst MayHideAsked (sym (at ∙ ap status_of_fault disk)) tt) (λ no. no) (batch_told ⊥ output);
+    }
+
+  -- its lines couldn't be written
+  pub unwritten_told : (X Y : Type 0) (status : Status) → X → fault ≢ Some StoreFault.Disk → Counted (status ≡ Status.WriteFault) p.failed.output q.failed.output → ToldBut X Y status p q
+  unwritten_told X Y status hidden not output = record {
+    disks = λ _. disks.steady not;
+    unspent = λ shown. absurd (shown hidden);
+    repos = λ shown. absurd (shown hidden);
+    clock = λ shown. absurd (shown hidden);
+    output = output.steady;
+    input = λ _ _. input;
+    feed = λ _. feed;
+    door = door;
+    wire = wire;
+  }
+
+  pub unwritten_faults : (status : Status) → IsUnwritten status → fault ≢ Some StoreFault.Disk → Counted (status ≡ Status.WriteFault) p.failed.output q.failed.output → FaultsTold ⊥ p q status
+  unwritten_faults status one not output = record {
+    caused = finish_caused status p q (unwritten_finishes status one) output.rose;
+    told = unwritten_told (MayHideAsked status) ⊥ status (unwritten_hides status one) not output;
+  }
+
+-- ---- what is read
 
 pub read_on : (rest : Rest) (before now : ℕ) → ReadFailed rest before now → (rest ≡ Rest.More) ⊎ (rest ≡ Rest.Nothing) → now ≡ before
 read_on rest before now read (inl is) = subst (λ (r : Rest). ReadFailed r before now) is read
 read_on rest before now read (inr is) = subst (λ (r : Rest). ReadFailed r before now) is read
 
-fault_told : (fault : TapeFault) (before now : ℕ) → ReadFailed (Rest.Fault fault) before now → EndsByTape (end_of_tape fault) → now ≡ before
-fault_told (TapeFault.Torn place) before now read by = read
-fault_told (TapeFault.BadName place) before now read by = read
-fault_told (TapeFault.TooLong place) before now read by = read
-fault_told TapeFault.Failed before now read by = absurd by
-fault_told TapeFault.Budget before now read by = read
-fault_told TapeFault.Memory before now read by = read
+-- a fault of the tape
+module _ (before now : ℕ) where
+  tape_told : (fault : TapeFault) → ReadFailed (Rest.Fault fault) before now → status_of_tape fault ≢ Status.ReadFault → now ≡ before
+  tape_told (TapeFault.Torn place) read not = read
+  tape_told (TapeFault.BadName place) read not = read
+  tape_told (TapeFault.TooLong place) read not = read
+  tape_told TapeFault.Failed read not = absurd (not refl)
+  tape_told TapeFault.Budget read not = read
+  tape_told TapeFault.Memory read not = read
 
-pub read_told : (rest : Rest) (fault : TapeFault) (before now : ℕ) → rest ≡ Rest.Fault fault → ReadFailed rest before now → (end : TakeEnd) → end ≡ end_of_tape fault → EndsByTape end → now ≡ before
-read_told rest fault before now is read end end_is by =
-    fault_told fault before now (subst (λ (r : Rest). ReadFailed r before now) is read) (subst (λ (e : TakeEnd). EndsByTape e) end_is by)
+  tape_caused : (p : Place) (fault : TapeFault) → ReadFailed (Rest.Fault fault) before now → Caused (status_of_tape fault) (with_input before p) (with_input now p)
+  tape_caused p (TapeFault.Torn place) read = tt
+  tape_caused p (TapeFault.BadName place) read = tt
+  tape_caused p (TapeFault.TooLong place) read = tt
+  tape_caused p TapeFault.Failed read = read
+  tape_caused p TapeFault.Budget read = tt
+  tape_caused p TapeFault.Memory read = tt
 
-fault_steady : (fault : TapeFault) (before now : ℕ) → ReadFailed (Rest.Fault fault) before now → end_of_tape fault ≢ TakeEnd.ReadFault → now ≡ before
-fault_steady (TapeFault.Torn place) before now read not = read
-fault_steady (TapeFault.BadName place) before now read not = read
-fault_steady (TapeFault.TooLong place) before now read not = read
-fault_steady TapeFault.Failed before now read not = absurd (not refl)
-fault_steady TapeFault.Budget before now read not = read
-fault_steady TapeFault.Memory before now read not = read
+  module _ (rest : Rest) (fault : TapeFault) (is : rest ≡ Rest.Fault fault) (read : ReadFailed rest before now) (status : Status) (at : status ≡ status_of_tape fault) where
+    read_is : ReadFailed (Rest.Fault fault) before now
+    read_is = subst (λ (r : Rest). ReadFailed r before now) is read
 
-pub read_steady : (rest : Rest) (fault : TapeFault) (before now : ℕ) → rest ≡ Rest.Fault fault → ReadFailed rest before now → (end : TakeEnd) → end ≡ end_of_tape fault → end ≢ TakeEnd.ReadFault → now ≡ before
-read_steady rest fault before now is read end end_is not =
-    fault_steady fault before now (subst (λ (r : Rest). ReadFailed r before now) is read) (λ other. not (end_is ∙ other))
+    pub tape_steady : status ≢ Status.ReadFault → now ≡ before
+    tape_steady not = tape_told fault read_is (λ other. not (at ∙ other))
 
--- ---- what the end speaks of
+    pub tape_faults : (p : Place) (Y : Type 0) → FaultsTold Y (with_input before p) (with_input now p) status
+    tape_faults p Y = record {
+      caused = subst (λ (s : Status). Caused s (with_input before p) (with_input now p)) (sym at) (tape_caused p fault read_is);
+      told = record {
+        disks = λ _. (refl, refl);
+        unspent = λ _ _ _ spent. spent;
+        repos = λ _ _. refl;
+        clock = λ _ _. refl;
+        output = λ _. refl;
+        input = λ _ not. tape_steady not;
+        feed = λ _. refl;
+        door = refl;
+        wire = refl;
+      };
+    }
 
-pub none_failed : (fs : Failures) (p : Panel) → NoneFailed fs fs p p
-none_failed fs p = record { repos = refl; clock = refl; unspent = λ name spent. spent }
+-- a fault of the stream
+feed_caused : (status : Status) (p : Place) (before now : ℕ) → IsUnread status → Counted (status ≡ Status.Feed) before now → Caused status (with_feed before p) (with_feed now p)
+feed_caused Status.Feed p before now is count = count.rose refl
+feed_caused Status.Memory p before now is count = tt
+feed_caused status p before now is count = absurd is
 
-pub none_failed_on : (fs mid now : Failures) (p p_mid p_now : Panel) → NoneFailed fs mid p p_mid → NoneFailed mid now p_mid p_now → NoneFailed fs now p p_now
-none_failed_on fs mid now p p_mid p_now one two = record {
-  repos = two.repos ∙ one.repos;
-  clock = two.clock ∙ one.clock;
-  unspent = λ name spent. one.unspent name (two.unspent name spent);
+pub unread_faults : (status : Status) (p : Place) (before now : ℕ) → IsUnread status → Counted (status ≡ Status.Feed) before now → FaultsTold ⊥ (with_feed before p) (with_feed now p) status
+unread_faults status p before now is count = record {
+  caused = feed_caused status p before now is count;
+  told = record {
+    disks = λ _. (refl, refl);
+    unspent = λ _ _ _ spent. spent;
+    repos = λ _ _. refl;
+    clock = λ _ _. refl;
+    output = λ _. refl;
+    input = λ _ _. refl;
+    feed = count.steady;
+    door = refl;
+    wire = refl;
+  };
 }
 
-pub none_told : (end : TakeEnd) (fs now : Failures) (p p_now : Panel) → NoneFailed fs now p p_now → AreTold end fs now p p_now
-none_told end fs now p p_now none = record { repos = λ not. none.repos; clock = λ not. none.clock; unspent = λ not. none.unspent }
+-- ---- opening
 
-pub are_told_on : (end : TakeEnd) (fs mid now : Failures) (p p_mid p_now : Panel) → NoneFailed fs mid p p_mid → AreTold end mid now p_mid p_now → AreTold end fs now p p_now
-are_told_on end fs mid now p p_mid p_now one told = record {
-  repos = λ not. told.repos not ∙ one.repos;
-  clock = λ not. told.clock not ∙ one.clock;
-  unspent = λ not name spent. one.unspent name (told.unspent not name spent);
+-- it came to nothing
+pub opening_faults : (Y : Type 0) (fault : StoreFault) (status : Status) (p q : Place) → status ≡ status_of_fault fault → IsOfReading fault → CountedPair (fault ≡ StoreFault.Disk) p.failed.one p.failed.two q.failed.one q.failed.two → q.around ≡ p.around → q.failed.repos ≡ p.failed.repos → q.failed.clock ≡ p.failed.clock
+    → SameBeside p.failed q.failed → FaultsTold Y p q status
+opening_faults Y fault status p q is of disks around repos clock same = record {
+  caused = subst (λ (s : Status). Caused s p q) (sym is)
+      (fault_caused fault p q disks.rose (λ at. absurd (subst IsOfReading at of)) (λ at. absurd (subst IsOfReading at of)) (λ at. absurd (subst IsOfReading at of)));
+  told = record {
+    disks = λ not. disks.steady (other_status fault StoreFault.Disk status is not);
+    unspent = λ _ _ name spent. subst (λ (a : Around). IsSpent (a.panel name)) around spent;
+    repos = λ _ _. repos;
+    clock = λ _ _. clock;
+    output = λ _. same.output;
+    input = λ _ _. same.input;
+    feed = λ _. same.feed;
+    door = same.door;
+    wire = same.wire;
+  };
 }
 
--- ---- nothing was done
-
-module _ (d r c o : ℕ) (p : Panel) where
-  pub unmoved_here : Unmoved (faults d r c 0 o) (faults d r c 0 o) p p
-  unmoved_here = record { disk = refl; repos = refl; clock = refl; output = refl; unspent = λ name spent. spent }
-
-  -- but that lines were written, or not
-  pub unmoved_but_written : (o_now : ℕ) → o_now ≡ o → Unmoved (faults d r c 0 o) (faults d r c 0 o_now) p p
-  unmoved_but_written o_now same = record { disk = refl; repos = refl; clock = refl; output = same; unspent = λ name spent. spent }
-
--- ---- one part after another
-
-module _ (d d_mid r r_mid c c_mid o o_mid : ℕ) (p p_mid : Panel) (was : Unmoved (faults d r c 0 o) (faults d_mid r_mid c_mid 0 o_mid) p p_mid) where
-  pub unmoved_on : (d_now r_now c_now o_now : ℕ) (p_now : Panel) → Unmoved (faults d_mid r_mid c_mid 0 o_mid) (faults d_now r_now c_now 0 o_now) p_mid p_now → Unmoved (faults d r c 0 o) (faults d_now r_now c_now 0 o_now) p p_now
-  unmoved_on d_now r_now c_now o_now p_now now = record {
-    disk = now.disk ∙ was.disk;
-    repos = now.repos ∙ was.repos;
-    clock = now.clock ∙ was.clock;
-    output = now.output ∙ was.output;
-    unspent = λ name spent. was.unspent name (now.unspent name spent);
-  }
-
-  pub told_on : (end : TakeEnd) (d_now r_now c_now o_now : ℕ) (p_now : Panel) → Told end (faults d_mid r_mid c_mid 0 o_mid) (faults d_now r_now c_now 0 o_now) p_mid p_now → Told end (faults d r c 0 o) (faults d_now r_now c_now 0 o_now) p p_now
-  told_on end d_now r_now c_now o_now p_now told = record {
-    disk = λ not. told.disk not ∙ was.disk;
-    output = λ not. told.output not ∙ was.output;
-    repos = λ none not. told.repos none not ∙ was.repos;
-    clock = λ none not. told.clock none not ∙ was.clock;
-    unspent = λ none not name spent. was.unspent name (told.unspent none not name spent);
-  }
-
-  -- then it ended, at the output's fault alone with a count that rose
-  pub told_written : (end : TakeEnd) (o_now : ℕ) → (end ≢ TakeEnd.WriteFault → o_now ≡ o_mid) → Told end (faults d r c 0 o) (faults d_mid r_mid c_mid 0 o_now) p p_mid
-  told_written end o_now steady = record {
-    disk = λ not. was.disk;
-    output = λ not. steady not ∙ was.output;
-    repos = λ none not. was.repos;
-    clock = λ none not. was.clock;
-    unspent = λ none not. was.unspent;
-  }
-
--- ---- a batch
-
-module _ (fault : Option StoreFault) (d d_now r r_now c c_now o o_now : ℕ) (p p_now : Panel) (disk_steady : fault ≢ Some StoreFault.Disk → d_now ≡ d)
-    (clock_steady : fault ≢ Some StoreFault.Disk → fault ≢ Some StoreFault.Clock → c_now ≡ c) (repos_steady : fault ≢ Some StoreFault.Disk → fault ≢ Some StoreFault.Repos → r_now ≡ r)
-    (unspent : fault ≢ Some StoreFault.Disk → fault ≢ Some StoreFault.Authority → SpendsNone p p_now) where
-  -- its lines couldn't be written
-  pub batch_unwritten_told : (outcomes os : List Outcome) → os ≡ outcomes → 0 < length os → (fault ≡ Some StoreFault.Disk → outcomes ≡ []) → (end : TakeEnd) → IsUnwritten end → (end ≢ TakeEnd.WriteFault → o_now ≡ o)
-      → Told end (faults d r c 0 o) (faults d_now r_now c_now 0 o_now) p p_now
-  batch_unwritten_told outcomes os same some unanswered end one steady = record {
-    disk = λ not. disk_steady (λ is. absurd (omega (arith, some, ap length same, ap length (unanswered is))));
-    output = steady;
-    repos = λ none not. absurd (unwritten_hides end one none);
-    clock = λ none not. absurd (unwritten_hides end one none);
-    unspent = λ none not. absurd (unwritten_hides end one none);
-  }
-
-  -- it came to an end
-  pub batch_unmoved : fault ≡ None → o_now ≡ o → Unmoved (faults d r c 0 o) (faults d_now r_now c_now 0 o_now) p p_now
-  batch_unmoved is same = record {
-    disk = disk_steady (λ other. let no : ⊥ = cc in no);
-    repos = repos_steady (λ other. let no : ⊥ = cc in no) (λ other. let no : ⊥ = cc in no);
-    clock = clock_steady (λ other. let no : ⊥ = cc in no) (λ other. let no : ⊥ = cc in no);
-    output = same;
-    unspent = unspent (λ other. let no : ⊥ = cc in no) (λ other. let no : ⊥ = cc in no);
-  }
-
-  -- a fault of the store stopped it
-  pub batch_told : (f : StoreFault) → fault ≡ Some f → (end : TakeEnd) → end ≡ end_of_store f → o_now ≡ o → Told end (faults d r c 0 o) (faults d_now r_now c_now 0 o_now) p p_now
-  batch_told f is end end_is same =
-      let at : (g : StoreFault) → fault ≡ Some g → end ≡ end_of_store g = λ g other. let one : f ≡ g = cc in end_is ∙ ap end_of_store one in
-      let not_disk : HidesNone end → fault ≢ Some StoreFault.Disk = λ none other. subst (λ (e : TakeEnd). HidesNone e) (at StoreFault.Disk other) none in
-      record {
-        disk = λ not. disk_steady (λ other. not (at StoreFault.Disk other));
-        output = λ not. same;
-        repos = λ none not. repos_steady (not_disk none) (λ other. not (at StoreFault.Repos other));
-        clock = λ none not. clock_steady (not_disk none) (λ other. not (at StoreFault.Clock other));
-        unspent = λ none not. unspent (not_disk none) (λ other. not (at StoreFault.Authority other));
-      }
-
--- the same, of what was asked alone
-module _ (fault : Option StoreFault) (r r_now c c_now : ℕ) (p p_now : Panel) (clock_steady : fault ≢ Some StoreFault.Disk → fault ≢ Some StoreFault.Clock → c_now ≡ c)
-    (repos_steady : fault ≢ Some StoreFault.Disk → fault ≢ Some StoreFault.Repos → r_now ≡ r) (unspent : fault ≢ Some StoreFault.Disk → fault ≢ Some StoreFault.Authority → SpendsNone p p_now) where
-  pub batch_none_failed : fault ≡ None → NoneFailed (failures r c 0) (failures r_now c_now 0) p p_now
-  batch_none_failed is = record {
-    repos = repos_steady (λ other. let no : ⊥ = cc in no) (λ other. let no : ⊥ = cc in no);
-    clock = clock_steady (λ other. let no : ⊥ = cc in no) (λ other. let no : ⊥ = cc in no);
-    unspent = unspent (λ other. let no : ⊥ = cc in no) (λ other. let no : ⊥ = cc in no);
-  }
-
-  pub batch_are_told : (f : StoreFault) → fault ≡ Some f → f ≢ StoreFault.Disk → AreTold (end_of_store f) (failures r c 0) (failures r_now c_now 0) p p_now
-  batch_are_told f is not_disk =
-      let at : (g : StoreFault) → fault ≡ Some g → end_of_store f ≡ end_of_store g = λ g other. let one : f ≡ g = cc in ap end_of_store one in
-      let disk : fault ≢ Some StoreFault.Disk = λ other. let one : f ≡ StoreFault.Disk = cc in not_disk one in
-      record {
-        repos = λ not. repos_steady disk (λ other. not (at StoreFault.Repos other));
-        clock = λ not. clock_steady disk (λ other. not (at StoreFault.Clock other));
-        unspent = λ not. unspent disk (λ other. not (at StoreFault.Authority other));
-      }
+-- or to a store
+pub opened_nothing : (p q : Place) → (q.failed.one ≡ p.failed.one) × (q.failed.two ≡ p.failed.two) → q.around ≡ p.around → q.failed.repos ≡ p.failed.repos → q.failed.clock ≡ p.failed.clock → SameBeside p.failed q.failed → NothingFailed p q
+opened_nothing p q disks around repos clock same = record {
+  counts = same_faults p.failed q.failed disks repos clock same;
+  unspent = λ name spent. subst (λ (a : Around). IsSpent (a.panel name)) around spent;
+}

@@ -1,106 +1,133 @@
--- How taking a tape ends, and what each end leaves (own).
-use Rattle.std.specs.Prelude.{◌≡◌, ◌≢◌, ◌⊎◌, ◌≤◌, ℕ, Bool, List, [], ◌∷◌, ◌++◌, length, Option, Some, None, IsTrue}
+-- How taking messages ends, and what each end leaves (own).
+use Rattle.std.specs.Prelude.{◌≡◌, ◌≢◌, ◌⊎◌, ⊤, Bool, List, [], ◌++◌, ℕ, Result, Ok, Err, IsTrue}
 use Rattle.relay_io.specs.Streams.{AddsFront}
-use Rattle.relay_row.specs.declared.row.Row.{Row}
-use Rattle.relay_step.specs.Around.{Around, AskedNothing}
-use Rattle.relay_step.specs.Steps.{Step}
-use Rattle.relay_store.specs.Batches.{AreExtra, AsksBehind}
-use Rattle.relay_store.specs.declared.fault.StoreFault.{StoreFault}
-use Rattle.relay_store.specs.declared.message.Message.{Message}
+use Rattle.relay_step.specs.Steps.{Step, rows}
+use Rattle.store_take.specs.declared.message.Message.{Message}
 use Rattle.tape.specs.declared.fault.TapeFault.{TapeFault}
-use Rattle.take_run.specs.declared.end.TakeEnd.{TakeEnd}
+use Rattle.run_base.specs.Place.{Place}
+use Rattle.run_base.specs.Ends.{Caused, ToldBut}
+use Rattle.run_base.specs.declared.status.Status.{Status}
+use Rattle.take_run.specs.Lines.{lines_of}
 
--- the end that a fault of the store brings
-abbrev pub end_of_store : StoreFault → TakeEnd
-end_of_store StoreFault.Memory = TakeEnd.Memory
-end_of_store fault = TakeEnd.Store fault
+-- the status that a fault of the tape brings
+abbrev pub status_of_tape : TapeFault → Status
+status_of_tape (TapeFault.Torn place) = Status.BadTape place
+status_of_tape (TapeFault.BadName place) = Status.BadTape place
+status_of_tape (TapeFault.TooLong place) = Status.BadTape place
+status_of_tape TapeFault.Failed = Status.ReadFault
+status_of_tape TapeFault.Budget = Status.TooLong
+status_of_tape TapeFault.Memory = Status.Memory
 
--- the end that a fault of the tape brings
-abbrev pub end_of_tape : TapeFault → TakeEnd
-end_of_tape (TapeFault.Torn place) = TakeEnd.Bad place
-end_of_tape (TapeFault.BadName place) = TakeEnd.Bad place
-end_of_tape (TapeFault.TooLong place) = TakeEnd.Bad place
-end_of_tape TapeFault.Failed = TakeEnd.ReadFault
-end_of_tape TapeFault.Budget = TakeEnd.TooLong
-end_of_tape TapeFault.Memory = TakeEnd.Memory
+-- ---- which statuses may come
 
--- the end that a failure of the disk brings
-abbrev pub disk_failed : TakeEnd
-disk_failed = TakeEnd.Store StoreFault.Disk
+-- once the disks were opened: what stopped it
+abbrev pub IsStop : Status → Type 0
+IsStop Status.WriteFault = ⊤
+IsStop Status.Disk = ⊤
+IsStop (Status.BadLog place) = ⊤
+IsStop Status.Authority = ⊤
+IsStop Status.Repos = ⊤
+IsStop (Status.Full end) = ⊤
+IsStop Status.SeqEnd = ⊤
+IsStop Status.Memory = ⊤
+IsStop Status.Clock = ⊤
+IsStop status = ⊥
 
--- steps of a body under way are left only where the disk failed
-abbrev pub AreUnder : TakeEnd → List Step → Type 0
-AreUnder (TakeEnd.Store StoreFault.Disk) under = Unit {0}
-AreUnder end under = under ≡ []
+-- or where the messages come from ended it
+abbrev pub IsOfSource : Status → Type 0
+IsOfSource Status.Done = ⊤
+IsOfSource (Status.BadTape place) = ⊤
+IsOfSource Status.ReadFault = ⊤
+IsOfSource Status.TooLong = ⊤
+IsOfSource Status.Feed = ⊤
+IsOfSource status = ⊥
 
--- Which ends leave a step whose row is in no body: where the log is full, the one that found no
--- room; where the report couldn't be written, memory ran out or the disk failed, one at most; and
--- else none. A log that is open isn't bad, and running out of memory is an end of its own.
-abbrev pub AreExtraAt : TakeEnd → List Step → Type 0
-AreExtraAt TakeEnd.WriteFault extra = length extra ≤ 1
-AreExtraAt TakeEnd.Memory extra = length extra ≤ 1
-AreExtraAt (TakeEnd.Store StoreFault.Memory) extra = ⊥
-AreExtraAt (TakeEnd.Store fault) extra = AreExtra (Some fault) extra
-AreExtraAt end extra = extra ≡ []
+-- lines couldn't be written, or memory ran out for them
+abbrev pub IsUnwritten : Status → Type 0
+IsUnwritten Status.WriteFault = ⊤
+IsUnwritten Status.Memory = ⊤
+IsUnwritten status = ⊥
 
--- the tape has ended it: all messages that were read were taken
-abbrev pub AreTaken : TakeEnd → List Message → Type 0
-AreTaken TakeEnd.WriteFault behind = Unit {0}
-AreTaken TakeEnd.Memory behind = Unit {0}
-AreTaken (TakeEnd.Store fault) behind = Unit {0}
-AreTaken end behind = behind ≡ []
+-- or the last line was written
+abbrev pub IsFinished : Status → Type 0
+IsFinished Status.Done = ⊤
+IsFinished status = IsUnwritten status
 
--- what was asked behind the steps: nothing where the tape has ended it or a step is left over, and
--- else for the next message that was read, in vain
-abbrev pub StopsAsking : Bool → Bool → TakeEnd → List Step → List Message → Around → Around → Type 0
-StopsAsking clock_tells repos_tell TakeEnd.WriteFault extra behind old new =
-    AsksBehind clock_tells repos_tell extra behind old new
-StopsAsking clock_tells repos_tell TakeEnd.Memory extra behind old new =
-    AsksBehind clock_tells repos_tell extra behind old new
-StopsAsking clock_tells repos_tell (TakeEnd.Store fault) extra behind old new =
-    AsksBehind clock_tells repos_tell extra behind old new
-StopsAsking clock_tells repos_tell end extra behind old new =
-    AskedNothing clock_tells repos_tell old new
+-- the stream gave no answer, or memory ran out
+abbrev pub IsUnread : Status → Type 0
+IsUnread Status.Feed = ⊤
+IsUnread Status.Memory = ⊤
+IsUnread status = ⊥
 
--- the log is full only where the row of the step that is left over has no room in it
-abbrev pub FullOnly : (Row → ℕ → Type 0) → List Row → TakeEnd → Type 0
-FullOnly no_room extra (TakeEnd.Store (StoreFault.Full e)) = (row : Row) × (extra ≡ row ∷ [])
-    × no_room row e
-FullOnly no_room extra end = Unit {0}
+-- how a part ended: in order, where it has an answer
+abbrev pub status_in : {A : Type 0} → Result A Status → Status
+status_in (Ok done) = Status.Done
+status_in (Err status) = status
 
--- the store's fault that ended it
-abbrev pub fault_in : TakeEnd → Option StoreFault
-fault_in (TakeEnd.Store fault) = Some fault
-fault_in end = None
+-- of a tape, whatever the disks
+abbrev pub MayEndIngesting : Status → Type 0
+MayEndIngesting Status.Done = ⊤
+MayEndIngesting (Status.BadTape place) = ⊤
+MayEndIngesting Status.ReadFault = ⊤
+MayEndIngesting Status.TooLong = ⊤
+MayEndIngesting status = IsStop status
 
--- What is written: the whole report where it is done, its lines and its last line; a front of it
--- where the report couldn't be written or memory ran out; and else its lines.
-abbrev pub IsReportWritten : TakeEnd → List ℕ → List ℕ → List ℕ → List ℕ → Type 0
-IsReportWritten TakeEnd.Done lines last old new = new ≡ old ++ (lines ++ last)
-IsReportWritten TakeEnd.WriteFault lines last old new = AddsFront old new (lines ++ last)
-IsReportWritten TakeEnd.Memory lines last old new = AddsFront old new (lines ++ last)
-IsReportWritten end lines last old new = new ≡ old ++ lines
+-- and of a feed
+abbrev pub MayEndFollowing : Status → Type 0
+MayEndFollowing Status.Done = ⊤
+MayEndFollowing Status.Feed = ⊤
+MayEndFollowing status = IsStop status
+
+-- ---- what is left
+
+-- the step that came last was taken, and its row may be in no body
+abbrev pub MayLeave : Status → Type 0
+MayLeave Status.WriteFault = ⊤
+MayLeave Status.Disk = ⊤
+MayLeave (Status.Full end) = ⊤
+MayLeave Status.Memory = ⊤
+MayLeave status = ⊥
 
 -- only the lines of the first of the steps were written, and not of all
-abbrev pub LackLines : (List Step → List ℕ) → List Step → List ℕ → List ℕ → Type 0
-LackLines lines steps old new = (front : List Step) × (others : List Step)
-    × (steps ≡ front ++ others) × (others ≢ []) × (new ≡ old ++ lines front)
+abbrev pub LackLines : List Step → List ℕ → List ℕ → Type 0
+LackLines steps old new = (front : List Step) × (others : List Step)
+    × (steps ≡ front ++ others) × (others ≢ []) × (new ≡ old ++ lines_of front)
 
 -- It ended before the steps were done with: the output failed at their lines, memory ran out before
--- all lines were written, or the disk failed before rows were durable.
-abbrev pub StopsShort : (List Step → List ℕ) → Bool → TakeEnd → List Step → List Row → List ℕ
-    → List ℕ → Type 0
-StopsShort lines output_tells TakeEnd.WriteFault steps under old new = IsTrue output_tells
-    → AddsFront old new (lines steps)
-StopsShort lines output_tells TakeEnd.Memory steps under old new = IsTrue output_tells
-    → LackLines lines steps old new
-StopsShort lines output_tells (TakeEnd.Store StoreFault.Disk) steps under old new = under ≢ []
-StopsShort lines output_tells end steps under old new = ⊥
+-- all lines were written, or a disk failed at a body that further messages were to come after.
+abbrev pub StopsShort : Bool → Status → List Step → List Step → List Message → List ℕ → List ℕ
+    → Type 0
+StopsShort output_tells Status.WriteFault steps under behind old new = IsTrue output_tells
+    → AddsFront old new (lines_of steps)
+StopsShort output_tells Status.Memory steps under behind old new = IsTrue output_tells
+    → LackLines steps old new
+StopsShort output_tells Status.Disk steps under behind old new = (rows under ≢ []) × (behind ≢ [])
+StopsShort output_tells status steps under behind old new = ⊥
 
--- Or before the messages that were read were done with: one is left over, or a fault of the store
--- ended it.
-abbrev pub StopsBefore : TakeEnd → Type 0 → List Step → List Message → Type 0
-StopsBefore TakeEnd.WriteFault short extra behind = short
-StopsBefore TakeEnd.Memory short extra behind = short ⊎ ((extra ≢ []) ⊎ (behind ≢ []))
-StopsBefore (TakeEnd.Store fault) short extra behind = Unit {0}
-StopsBefore end short extra behind = ⊥
+-- Or before the messages that were read were done with: a step or a message is left over.
+abbrev pub StopsBefore : Status → Type 0 → List Step → List Step → List Message → Type 0
+StopsBefore Status.WriteFault short under extra behind = short
+StopsBefore status short under extra behind = short
+    ⊎ ((under ≢ []) ⊎ ((extra ≢ []) ⊎ (behind ≢ [])))
+
+-- ---- what stays untold
+
+-- after these a failure of who was asked may
+abbrev pub MayHideAsked : Status → Type 0
+MayHideAsked Status.WriteFault = ⊤
+MayHideAsked Status.Disk = ⊤
+MayHideAsked Status.Memory = ⊤
+MayHideAsked status = ⊥
+
+-- and one of the input, unless its own bytes ended it
+abbrev pub MayHideInput : Status → Type 0
+MayHideInput Status.Done = ⊥
+MayHideInput (Status.BadTape place) = ⊥
+MayHideInput Status.TooLong = ⊥
+MayHideInput status = ⊤
+
+-- Which failures are told: the status has its cause, and what else failed is told, but where a failure
+-- of who was asked can be hidden, or one of the input where this holds.
+pub record FaultsTold (unread : Type 0) (old new : Place) (status : Status) : Type 0 where
+  pub caused : Caused status old new
+  pub told : ToldBut (MayHideAsked status) unread status old new

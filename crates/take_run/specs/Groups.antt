@@ -1,7 +1,7 @@
 -- Groups of records that are read (own). No public clause cites this file.
 use Rattle.std.specs.Prelude.{◌≡◌, ◌<◌, ℕ, ◌+◌, List, [], ◌∷◌, ◌++◌, length}
 use Rattle.at_cid.specs.Counts.{Rose}
-use Rattle.relay_store.specs.declared.message.Message.{Message}
+use Rattle.store_take.specs.declared.message.Message.{Message}
 use Rattle.tape.specs.Reading.{coming, held, taken}
 use Rattle.tape.specs.Shown.{NeedsMore}
 use Rattle.tape.specs.declared.fault.TapeFault.{TapeFault}
@@ -13,7 +13,7 @@ use Rattle.take_run.specs.declared.group.Rest.{Rest}
 abbrev pub AreRead : Tape → List ℕ → List Message → List ℕ → Type 0
 AreRead old before group rest = coming old before ≡ encoded_records group ++ rest
 
--- what follows on a group, where the reader is behind it and this is left of the source
+-- what follows on a group, where the reader is after it and this is left of the source
 abbrev pub FollowsOn : Tape → List ℕ → Rest → Type 0
 FollowsOn new after Rest.More = Unit {0}
 FollowsOn new after Rest.Nothing = (held new ≡ []) × (after ≡ []) × (taken new < new.most)

@@ -1,5 +1,5 @@
 -- Why taking messages ends before the next one (own).
-use Rattle.std.specs.Prelude.{◌≡◌, ⊤, ◌+◌, ◌≤◌, List, [], ◌∷◌, None, Ok}
+use Rattle.std.specs.Prelude.{◌≡◌, ◌+◌, ◌≤◌, List, [], ◌∷◌, None, Ok}
 use Rattle.at_authority.specs.Panels.{Panel, IsSpent}
 use Rattle.at_cid.specs.declared.limits.TheConstants.{NUMBERS}
 use Rattle.at_event.specs.Frames.{frame_of}
@@ -16,12 +16,11 @@ use Rattle.relay_law.specs.Right.{LinksRight}
 use Rattle.relay_step.specs.Around.{Around}
 use Rattle.relay_step.specs.Messages.{AskedFor}
 use Rattle.relay_step.specs.Questions.{length_line}
-use Rattle.relay_store.specs.declared.fault.StoreFault.{StoreFault}
-use Rattle.relay_store.specs.declared.message.Message.{Message}
-use Rattle.take_run.specs.Tells.{Tells}
-use Rattle.take_run.specs.declared.end.TakeEnd.{TakeEnd}
+use Rattle.store_take.specs.declared.message.Message.{Message}
+use Rattle.run_base.specs.Place.{Tells}
+use Rattle.run_base.specs.declared.status.Status.{Status}
 
--- The numbers end behind the journal J: the one behind the last is none, and a message would give
+-- The numbers end after the journal J: the one after the last is none, and a message would give
 -- it by this row, for answers that were given.
 pub record MessageEndsNumbers (t : Tells) (J : List Row) (old : Around) (m : Message)
     (new : Around) : Type 0 where
@@ -37,7 +36,7 @@ pub record MessageEndsNumbers (t : Tells) (J : List Row) (old : Around) (m : Mes
   pub ends : NUMBERS ≤ last_seq J + 1
 
 -- All authorities of the method of the account that a message names have fallen, and the judges are
--- asked: behind the journal J the event stands above its host's cursor, and its outgoing message
+-- asked: after the journal J the event stands above its host's cursor, and its outgoing message
 -- isn't too long.
 pub record MessageIsSpent (J : List Row) (m : Message) (panel : Panel) : Type 0 where
   pub event : Seen
@@ -51,11 +50,9 @@ abbrev pub OfNext : (Message → Type 0) → List Message → Type 0
 OfNext P [] = ⊥
 OfNext P (m ∷ behind) = P m
 
--- for the next message the numbers end behind this journal, or no authority is left, where that
+-- after the journal K the numbers end for the next message, or no authority is left, where that
 -- ended it
-abbrev pub IsNextEnd : Tells → List Row → List Message → Around → Around → TakeEnd → Type 0
-IsNextEnd t K behind old new (TakeEnd.Store StoreFault.SeqEnd) =
-    OfNext (λ m. MessageEndsNumbers t K old m new) behind
-IsNextEnd t K behind old new (TakeEnd.Store StoreFault.Authority) =
-    OfNext (λ m. MessageIsSpent K m new.panel) behind
-IsNextEnd t K behind old new end = ⊤
+pub record NextEnds (t : Tells) (K : List Row) (behind : List Message) (old new : Around)
+    (status : Status) : Type 0 where
+  pub numbers : status ≡ Status.SeqEnd → OfNext (λ m. MessageEndsNumbers t K old m new) behind
+  pub spent : status ≡ Status.Authority → OfNext (λ m. MessageIsSpent K m new.panel) behind

@@ -4,12 +4,12 @@ use Rattle.std.specs.Prelude.{◌≡◌, ℕ, ◌+◌, true, false, List, [], �
 use Rattle.relay_core.specs.Report.{over_line}
 use Rattle.relay_core.specs.Runs.{has_ended}
 use Rattle.relay_step.specs.Steps.{Step}
-use Rattle.relay_store.specs.Batches.{is_end}
-use Rattle.relay_store.specs.Lines.{line_of}
-use Rattle.relay_store.specs.Outcomes.{outcome_of}
-use Rattle.relay_store.specs.declared.message.Message.{Message}
-use Rattle.relay_store.specs.declared.outcome.Fetch.{Fetch}
-use Rattle.relay_store.specs.declared.outcome.Outcome.{Outcome}
+use Rattle.store_take.specs.Batches.{is_end}
+use Rattle.store_take.specs.Lines.{line_of}
+use Rattle.store_take.specs.Outcomes.{outcome_of}
+use Rattle.store_take.specs.declared.message.Message.{Message}
+use Rattle.store_take.specs.declared.outcome.Fetch.{Fetch}
+use Rattle.store_take.specs.declared.outcome.Outcome.{Outcome}
 use Rattle.take_run.specs.declared.tally.Tally.{Tally}
 
 -- a host, and what was answered to a message of it: nothing where it ended before
@@ -40,16 +40,12 @@ abbrev pub text_of : List Said → List ℕ
 text_of [] = []
 text_of (x ∷ xs) = line_said x ++ text_of xs
 
--- the lines of what was answered to steps
-abbrev pub text_for : List Step → List ℕ
-text_for steps = text_of (said steps)
-
--- the hosts that have ended, in the order of their ends, behind an answer
+-- the hosts that have ended, in the order of their ends, after an answer
 abbrev pub ended_said : List (List ℕ) → Said → List (List ℕ)
 ended_said ended (host, None) = ended
 ended_said ended (host, Some o) = if is_end o then ended ++ host ∷ [] else ended
 
--- and behind answers
+-- and after answers
 abbrev pub ended_in : List (List ℕ) → List Said → List (List ℕ)
 ended_in ended [] = ended
 ended_in ended (x ∷ xs) = ended_in (ended_said ended x) xs

@@ -1,113 +1,110 @@
--- What taking a tape does.
-use Rattle.std.specs.Prelude.{◌≡◌, ◌≢◌, ℕ, Bool, List, [], ◌++◌, IsTrue}
-use Rattle.relay_disk.specs.Disk.{View}
+-- What messages come to that are taken into the journal of two disks (own).
+use Rattle.std.specs.Prelude.{◌≡◌, ◌≢◌, ◌≤◌, ⊤, ℕ, List, [], ◌∷◌, ◌++◌, length}
+use Rattle.relay_disk.specs.Moments.{PairLeavesOnly}
 use Rattle.relay_row.specs.Journal.{IsJournal}
 use Rattle.relay_row.specs.declared.row.Row.{Row}
 use Rattle.relay_core.specs.Decide.{Checks}
-use Rattle.relay_core.specs.Entries.{Holds}
 use Rattle.relay_core.specs.Opening.{OpensRight}
 use Rattle.relay_core.specs.Report.{end_line}
 use Rattle.relay_law.specs.Heads.{IsFaithfulJournal}
 use Rattle.relay_law.specs.Right.{LinksRight}
 use Rattle.relay_law.specs.Sound.{IsSound}
-use Rattle.chain_law.specs.Given.{AreGiven}
-use Rattle.relay_step.specs.Around.{Around, AllAsked}
-use Rattle.relay_step.specs.Steps.{Step, messages, rows, AreSteps}
-use Rattle.given_law.specs.Made.{GiveBytes}
-use Rattle.relay_store.specs.Batches.{EndsNext, messages_sent}
-use Rattle.relay_store.specs.PendingBodies.{IsFull}
-use Rattle.relay_store.specs.Store.{StoreState, Keeps}
-use Rattle.relay_store.specs.declared.message.Message.{Message}
-use Rattle.take_run.specs.Causes.{AreTold, Failures}
+use Rattle.relay_step.specs.Around.{Around, AllAsked, AskedNothing}
+use Rattle.relay_step.specs.Steps.{Step, AreSteps, messages, rows}
+use Rattle.store_take.specs.Batches.{AsksBehind, messages_sent}
+use Rattle.relay_store.specs.Opening.{IsOfReading}
+use Rattle.relay_store.specs.Pairs.{IsOneOfPair}
+use Rattle.relay_store.specs.Room.{PairHasNoRoom}
+use Rattle.relay_store.specs.declared.fault.StoreFault.{StoreFault}
+use Rattle.store_take.specs.declared.message.Message.{Message}
+use Rattle.run_base.specs.Deeds.{Deed, OnDisks, reads}
+use Rattle.run_base.specs.Ends.{ToldBut}
+use Rattle.run_base.specs.Place.{Place, Tells}
+use Rattle.run_base.specs.Statuses.{status_of_fault}
+use Rattle.run_base.specs.declared.status.Status.{Status}
 use Rattle.take_run.specs.Covered.{CoveredGetThrough}
+use Rattle.take_run.specs.Crashes.{IsPairOnTheWay}
+use Rattle.take_run.specs.Ends.{IsOfSource, MayLeave, StopsShort}
 use Rattle.take_run.specs.Lines.{lines_of}
-use Rattle.take_run.specs.Crashes.{HadRoom, Leaves}
-use Rattle.take_run.specs.Ends.{AreExtraAt, AreTaken, AreUnder, FullOnly, IsReportWritten, StopsAsking, StopsBefore, StopsShort, disk_failed, fault_in}
-use Rattle.take_run.specs.Tells.{Tells}
-use Rattle.take_run.specs.Tapes.{AreRecords, IsOnTape}
-use Rattle.take_run.specs.declared.end.TakeEnd.{TakeEnd}
+use Rattle.take_run.specs.NextMessage.{NextEnds}
+use Rattle.take_run.specs.Tapes.{AreRecords}
 
--- a store, its disk, what the judges, the clock and the repositories tell, how often parts have
--- failed, what is left of the input, and what is written
-pub record Scene (D : Type 0) : Type 0 where
-  pub store : StoreState
-  pub disk : D
-  pub around : Around
-  pub failures : Failures
-  pub left : List ℕ
-  pub written : List ℕ
-
--- the same, of its parts
-abbrev pub scene : {D : Type 0} → StoreState → D → Around → Failures → List ℕ → List ℕ → Scene D
-scene store disk around failures left written = record {
-  store = store;
-  disk = disk;
-  around = around;
-  failures = failures;
-  left = left;
-  written = written;
-}
-
--- A tape, of which at most `limit` bytes may be taken, was taken behind the journal J, and ended
--- so.
-pub record Taken {D : Type 0} (view : D → View) (t : Tells) (input_tells : Bool) (limit : ℕ)
-    (J : List Row) (old new : Scene D) (end : TakeEnd) : Type 0 where
-  -- the steps that are answered, those of a body that was under way when the disk failed, and one
-  -- whose row found no room or no memory
+-- The steps that messages came to after the journal J, where these hosts had ended.
+pub record StepsTaken (t : Tells) (J : List Row) (ended : List (List ℕ)) (old new : Place)
+    (status : Status) : Type 0 where
+  -- the steps that are answered, those of a body that was under way when a disk failed, one whose
+  -- row is in no body, and the messages that were read and not taken
   pub steps : List Step
   pub under : List Step
   pub extra : List Step
-  pub which_under : AreUnder end under
-  pub which_extra : AreExtraAt end extra
-  -- each is what comes of its message behind the rows before it
-  pub are : (checks : Checks) → OpensRight checks → LinksRight checks
-      → AreSteps checks J [] (steps ++ (under ++ extra))
-  pub journal : IsJournal (J ++ rows (steps ++ (under ++ extra)))
-  -- their messages, and behind them those that were read and not taken, are the records at the
-  -- front of the input
   pub behind : List Message
-  pub all : AreTaken end behind
-  pub records : AreRecords (messages_sent (steps ++ (under ++ extra)) ++ behind)
-  pub from : IsTrue input_tells → IsOnTape limit old.left new.left
-      (messages_sent (steps ++ (under ++ extra)) ++ behind) end
-  -- the store knows the rows of the steps, and where the disk had the journal J it has it with
-  -- them; so much is left at each moment of a crash
-  pub known : end ≢ disk_failed → Holds new.store.core (J ++ rows steps)
-  pub on_disk : IsTrue t.disk → Keeps J old.store (view old.disk)
-      → Leaves J (rows steps) (rows under) old.store (view old.disk) new.store (view new.disk) end
-  pub format : new.store.log.format ≡ old.store.log.format
-  pub most : new.store.log.most ≡ old.store.log.most
-  -- the log had room for all rows that were added, and is full only where it has none for the row
-  -- of the step left over
-  pub room : end ≢ disk_failed → HadRoom (rows steps) old.store.log new.store.log
-  pub full : FullOnly (IsFull new.store.log []) (rows extra) end
-  -- what is written is the report of the steps
-  pub written : IsTrue t.output → IsReportWritten end (lines_of steps)
-      (end_line J (messages steps) (rows steps)) old.written new.written
-  -- what was asked: of each step what it shows, and for one more message, where no step is left
-  -- over, what came to nothing
+  -- a log that is open isn't bad
+  pub good : (place : ℕ) → status ≢ Status.BadLog place
+  pub which_under : status ≢ Status.Disk → under ≡ []
+  pub few_extra : length extra ≤ 1
+  pub which_extra : (MayLeave status → ⊥) → extra ≡ []
+  pub all : IsOfSource status → behind ≡ []
+  -- each is what comes of its message after the rows before it
+  pub are : (checks : Checks) → OpensRight checks → LinksRight checks
+      → AreSteps checks J ended (steps ++ (under ++ extra))
+  pub journal : IsJournal (J ++ rows (steps ++ (under ++ extra)))
+  -- What was asked: of each step what it shows, and for one more message, where no step is left
+  -- over, what came to nothing. Where the messages had come to their end nothing more was.
   pub mid : Around
   pub asked : AllAsked t.clock t.repos J old.around (steps ++ (under ++ extra)) mid
-  pub stops : StopsAsking t.clock t.repos end extra behind mid new.around
-  -- for the next message the numbers have ended, or no authority is left, where that ended it
-  pub next : EndsNext t.clock t.repos new.store.core behind mid new.around (fault_in end)
-  -- Of the repositories, the clock and the authorities none failed but what ended it, unless it
-  -- stopped short. The input failed only where that ended it, unless it stopped before.
-  pub told : (StopsShort lines_of t.output end steps (rows under) old.written new.written → ⊥)
-      → AreTold end old.failures new.failures old.around.panel new.around.panel
-  pub read_told : (StopsBefore end
-      (StopsShort lines_of t.output end steps (rows under) old.written new.written) extra behind
-      → ⊥) → end ≢ TakeEnd.ReadFault → new.failures.input ≡ old.failures.input
+  pub stops : AsksBehind t.clock t.repos extra behind mid new.around
+  pub still : IsOfSource status → AskedNothing t.clock t.repos mid new.around
+  pub next : NextEnds t (J ++ rows steps) behind mid new.around status
+  -- who is asked failed only where that ended it, unless it stopped short
+  pub told : ToldBut (StopsShort t.output status steps under behind old.written new.written) ⊥
+      status old new
+
+abbrev pub all_steps : {t : Tells} {J : List Row} {ended : List (List ℕ)} {old new : Place}
+    {status : Status} → StepsTaken t J ended old new status → List Step
+all_steps s = s.steps ++ (s.under ++ s.extra)
+
+-- all messages that were read
+abbrev pub all_read : {t : Tells} {J : List Row} {ended : List (List ℕ)} {old new : Place}
+    {status : Status} → StepsTaken t J ended old new status → List Message
+all_read s = messages_sent (all_steps s) ++ s.behind
+
+-- the rows of all steps are meant, those of the answered ones stand on the disks at the end, and a
+-- line is written for each of those, and a last one
+abbrev pub takes : {t : Tells} {J : List Row} {ended : List (List ℕ)} {old new : Place}
+    {status : Status} → StepsTaken t J ended old new status → Deed
+takes {J = J} s = record {
+  meant = J ++ rows (all_steps s);
+  sound_by = ⊤;
+  after = J ++ rows s.steps;
+  way = λ one one_now two two_now.
+      PairLeavesOnly (IsPairOnTheWay J (rows s.steps) (rows s.under)) one one_now two two_now;
+  lines = lines_of s.steps;
+  last = end_line J (messages s.steps) (rows s.steps);
+}
+
+-- What the steps come to on two disks.
+pub record Took (t : Tells) (most : ℕ) (J : List Row) (old new : Place) (status : Status)
+    (s : StepsTaken t J [] old new status) : Type 0 where
+  pub records : AreRecords (all_read s)
+  pub does : OnDisks t most J ⊤ (takes s) old new status
+  -- at the end a crash leaves all rows, with those of the body under way or without
+  pub left : (c d : List ℕ) → new.one.may_leave c → new.two.may_leave d
+      → IsOneOfPair (J ++ rows s.steps) (rows s.under) c d
+  -- the log is full only where it has no room for the row of the step left over
+  pub full : (e : ℕ) → status ≡ Status.Full e → (row : Row) × (rows s.extra ≡ row ∷ [])
+      × PairHasNoRoom most (J ++ rows s.steps) row e new.one.content new.two.content
   -- with the rows of any of the steps in front a sound journal stays sound, and a faithful one
-  -- faithful
-  pub sound : (front others : List Step) → steps ++ (under ++ extra) ≡ front ++ others → IsSound J
+  -- faithful; and a covered commit gets through
+  pub sound : (front others : List Step) → all_steps s ≡ front ++ others → IsSound J
       → IsSound (J ++ rows front)
-  pub faithful : (front others : List Step) → steps ++ (under ++ extra) ≡ front ++ others
+  pub faithful : (front others : List Step) → all_steps s ≡ front ++ others
       → IsFaithfulJournal J → IsFaithfulJournal (J ++ rows front)
-  -- and one of which each row is given stays that, where the repositories that tell give bytes
-  pub given : (checks : Checks) → OpensRight checks → LinksRight checks
-      → (IsTrue t.repos → GiveBytes old.around.repository)
-      → (front others : List Step) → steps ++ (under ++ extra) ≡ front ++ others
-      → AreGiven checks [] J → AreGiven checks [] (J ++ rows front)
-  -- a covered commit gets through
-  pub covered : CoveredGetThrough J (steps ++ (under ++ extra))
+  pub covered : CoveredGetThrough J (all_steps s)
+
+-- The disks weren't opened, and are read alone.
+pub record Unopened (t : Tells) (most : ℕ) (J : List Row) (old new : Place) (status : Status)
+    : Type 0 where
+  pub fault : StoreFault
+  pub is : status ≡ status_of_fault fault
+  pub of_reading : IsOfReading fault
+  pub does : OnDisks t most J ⊥ (reads J []) old new status

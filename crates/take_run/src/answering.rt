@@ -1,20 +1,19 @@
 //! Lines of the report, as messages are answered.
 
-ghost use Rattle.std.specs.Prelude.{◌≡◌, ◌≢◌, ◌≤◌, ◌<◌, ◌+◌, ◌^◌, [], ◌∷◌, ◌++◌, None, OnOk, OnErr, IfOk, IfErr, IsTrue, length};
-ghost use Rattle.at_cid.specs.Counts.{Rose};
-ghost use Rattle.relay_io.specs.Streams.{AddsFront};
+ghost use Rattle.std.specs.Prelude.{◌≡◌, ◌≤◌, ◌<◌, ◌+◌, ◌^◌, [], ◌∷◌, ◌++◌, None, Err, OnOk, OnErr, IfOk, IfErr, IsTrue, length};
 ghost use Rattle.relay_core.specs.Report.{over_line};
-ghost use Rattle.relay_store.specs.Lines.{end_line_of};
-ghost use Rattle.take_run.specs.Stops.{IsUnwritten, Finished};
+ghost use Rattle.store_take.specs.Lines.{end_line_of};
+ghost use Rattle.run_base.specs.Counts.{Counted};
+ghost use Rattle.run_base.specs.Ends.{Writes};
+ghost use Rattle.take_run.specs.Ends.{IsFinished, IsUnwritten, status_in};
 ghost use Rattle.take_run.specs.Said.{IsNoted, answered, text_of};
-ghost use Rattle.take_run.specs.declared.end.TakeEnd.{TakeEnd as TheEnd};
 
-use crate::end::TakeEnd;
 use crate::tally::Tally;
 use at_cid::{Memory, Octets};
 use relay_io::{Sink, write_all};
-use relay_store::{Message, Outcome, end_line, line};
+use run_base::Status;
 use std::alloc::Global;
+use store_take::{Message, Outcome, end_line, line};
 
 // Notes the answers to the first messages of a group, and adds their lines.
 fn note_all(
@@ -39,20 +38,16 @@ fn note_all(
 }
 
 // Writes lines.
-fn write_lines<O: Sink>(out: &mut O, text: &Octets) -> Result<(), TakeEnd>
-    ensures written { OnOk result (IsTrue O.tells
-        → O.written out.new ≡ O.written out.old ++ text.now) }
-    ensures front { IfErr result (λ end. (end ≡ TakeEnd.WriteFault)
-        × (IsTrue O.tells → AddsFront (O.written out.old) (O.written out.new) text.now)) }
-    ensures counts { O.faults out.old ≤ O.faults out.new }
-    ensures failed { OnErr result (Rose (O.faults out.old) (O.faults out.new)) }
-    ensures steady { OnOk result (O.faults out.new ≡ O.faults out.old) }
-    ensures no_fault { IfErr result (λ end. end ≢ TheEnd.WriteFault
-        → O.faults out.new ≡ O.faults out.old) }
+fn write_lines<O: Sink>(out: &mut O, text: &Octets) -> Result<(), Status>
+    ensures written { IsTrue O.tells
+        → Writes (status_in result) [] text.now (O.written out.old) (O.written out.new) }
+    ensures unwritten { IfErr result (λ status. status ≡ Status.WriteFault) }
+    ensures counts { Counted (result ≡ Err Status.WriteFault)
+        (O.faults out.old) (O.faults out.new) }
 {
     match write_all(out, text.as_slice()) {
         Ok(()) => Ok(()),
-        Err(_) => Err(TakeEnd::WriteFault),
+        Err(_) => Err(Status::WriteFault),
     }
 }
 
@@ -63,24 +58,18 @@ pub(crate) fn answer<O: Sink>(
     outcomes: &[Outcome],
     tally: &mut Tally,
     out: &mut O,
-) -> Result<(), TakeEnd>
+) -> Result<(), Status>
     requires few { length outcomes.now ≤ length group.now }
     requires room { tally.old.messages + length group.now ≤ 2 ^ 63 }
     ensures noted { OnOk result (IsNoted (answered group.now outcomes.now) tally.old tally.new) }
-    ensures written { OnOk result (IsTrue O.tells
-        → O.written out.new ≡ O.written out.old ++ text_of (answered group.now outcomes.now)) }
+    ensures written { IsTrue O.tells → Writes (status_in result) []
+        (text_of (answered group.now outcomes.now)) (O.written out.old) (O.written out.new) }
     ensures some { OnErr result (0 < length outcomes.now) }
-    ensures front { IfErr result (λ end. IsUnwritten end
-        × (IsTrue O.tells → AddsFront (O.written out.old) (O.written out.new)
-        (text_of (answered group.now outcomes.now)))) }
-    ensures nothing { IfErr result (λ end. end ≡ TheEnd.Memory → IsTrue O.tells
-        → O.written out.new ≡ O.written out.old) }
-    ensures counts { O.faults out.old ≤ O.faults out.new }
-    ensures caused { IfErr result (λ end. end ≡ TakeEnd.WriteFault
-        → Rose (O.faults out.old) (O.faults out.new)) }
-    ensures steady { OnOk result (O.faults out.new ≡ O.faults out.old) }
-    ensures no_fault { IfErr result (λ end. end ≢ TheEnd.WriteFault
-        → O.faults out.new ≡ O.faults out.old) }
+    ensures unwritten { IfErr result IsUnwritten }
+    ensures nothing { result ≡ Err Status.Memory → IsTrue O.tells
+        → O.written out.new ≡ O.written out.old }
+    ensures counts { Counted (result ≡ Err Status.WriteFault)
+        (O.faults out.old) (O.faults out.new) }
 {
     if outcomes.is_empty() {
         return Ok(());
@@ -88,7 +77,7 @@ pub(crate) fn answer<O: Sink>(
     let mut text = Octets::new(alloc);
     match note_all(alloc, group, outcomes, tally, &mut text) {
         Ok(()) => {}
-        Err(_) => return Err(TakeEnd::Memory),
+        Err(_) => return Err(Status::Memory),
     }
     write_lines(out, &text)
 }
@@ -109,39 +98,32 @@ pub(crate) fn skip<O: Sink>(
     host: &str,
     tally: &mut Tally,
     out: &mut O,
-) -> Result<(), TakeEnd>
+) -> Result<(), Status>
     requires room { tally.old.messages < 2 ^ 63 }
     ensures noted { OnOk result (IsNoted ((host.now, None) ∷ []) tally.old tally.new) }
-    ensures written { OnOk result (IsTrue O.tells
-        → O.written out.new ≡ O.written out.old ++ over_line host.now) }
-    ensures front { IfErr result (λ end. IsUnwritten end
-        × (IsTrue O.tells → AddsFront (O.written out.old) (O.written out.new)
-        (over_line host.now))) }
-    ensures nothing { IfErr result (λ end. end ≡ TheEnd.Memory → IsTrue O.tells
-        → O.written out.new ≡ O.written out.old) }
-    ensures counts { O.faults out.old ≤ O.faults out.new }
-    ensures caused { IfErr result (λ end. end ≡ TakeEnd.WriteFault
-        → Rose (O.faults out.old) (O.faults out.new)) }
-    ensures steady { OnOk result (O.faults out.new ≡ O.faults out.old) }
-    ensures no_fault { IfErr result (λ end. end ≢ TheEnd.WriteFault
-        → O.faults out.new ≡ O.faults out.old) }
+    ensures written { IsTrue O.tells → Writes (status_in result) [] (over_line host.now)
+        (O.written out.old) (O.written out.new) }
+    ensures unwritten { IfErr result IsUnwritten }
+    ensures nothing { result ≡ Err Status.Memory → IsTrue O.tells
+        → O.written out.new ≡ O.written out.old }
+    ensures counts { Counted (result ≡ Err Status.WriteFault)
+        (O.faults out.old) (O.faults out.new) }
 {
     let text = match line_over(alloc, host) {
         Ok(text) => text,
-        Err(_) => return Err(TakeEnd::Memory),
+        Err(_) => return Err(Status::Memory),
     };
     tally.skip();
     write_lines(out, &text)
 }
 
 /// Writes the last line, beside the journal's last number, and says how that ended.
-pub fn finish<O: Sink>(alloc: Global, last: u64, tally: &Tally, out: &mut O) -> TakeEnd
-    ensures ends { Finished result
-        (end_line_of tally.now.messages tally.now.events tally.now.refused last) O.tells
+pub(crate) fn finish<O: Sink>(alloc: Global, last: u64, tally: &Tally, out: &mut O) -> Status
+    ensures ends { IsFinished result }
+    ensures written { IsTrue O.tells → Writes result []
+        (end_line_of tally.now.messages tally.now.events tally.now.refused last)
         (O.written out.old) (O.written out.new) }
-    ensures counts { O.faults out.old ≤ O.faults out.new }
-    ensures caused { result ≡ TakeEnd.WriteFault → Rose (O.faults out.old) (O.faults out.new) }
-    ensures steady { result ≢ TheEnd.WriteFault → O.faults out.new ≡ O.faults out.old }
+    ensures counts { Counted (result ≡ Status.WriteFault) (O.faults out.old) (O.faults out.new) }
 {
     let mut text = Octets::new(alloc);
     match end_line(
@@ -153,10 +135,10 @@ pub fn finish<O: Sink>(alloc: Global, last: u64, tally: &Tally, out: &mut O) -> 
         &mut text,
     ) {
         Ok(()) => {}
-        Err(_) => return TakeEnd::Memory,
+        Err(_) => return Status::Memory,
     }
     match write_lines(out, &text) {
-        Ok(()) => TakeEnd::Done,
-        Err(end) => end,
+        Ok(()) => Status::Done,
+        Err(status) => status,
     }
 }

@@ -3,14 +3,14 @@
 ghost use Rattle.std.specs.Prelude.{◌≡◌, ◌≤◌, ◌<◌, ◌+◌, IsTrue, length};
 ghost use Rattle.relay_io.specs.declared.feed.TheConstants.{LONGEST_FEED_MESSAGE};
 ghost use Rattle.relay_row.specs.declared.limits.TheConstants.{MOST_ROWS};
-ghost use Rattle.relay_store.specs.Batches.{message_from};
+ghost use Rattle.store_take.specs.Batches.{message_from};
 ghost use Rattle.take_run.specs.Groups.{IsGroup, ReadFailed, bytes_together};
 ghost use Rattle.take_run.specs.Tapes.{AreRecords, encoded_records};
 
 use relay_io::{LONGEST_FEED_MESSAGE, Source};
 use relay_row::MOST_ROWS;
-use relay_store::Message;
 use std::alloc::Global;
+use store_take::Message;
 use tape::{Record, Tape, TapeFault};
 
 /// What follows on a group.

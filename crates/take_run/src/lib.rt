@@ -3,20 +3,20 @@
 
 mod answering;
 mod batching;
+mod commands;
 mod end;
-mod feeding;
-mod following;
 mod group;
-mod ingesting;
 mod live;
-mod running;
+mod run;
+mod stream;
+mod streaming;
 mod tally;
+mod taping;
 
-pub use answering::finish;
-pub use batching::take_group;
-pub use end::TakeEnd;
-pub use feeding::take_feed;
-pub use following::follow;
-pub use ingesting::ingest;
-pub use running::take_tape;
+pub use batching::Batches;
+pub use commands::Takes;
+pub use run::Run;
+pub use stream::{OpenFeed, Stream};
+pub use streaming::Streams;
 pub use tally::Tally;
+pub use taping::Tapes;

@@ -6,7 +6,7 @@ ghost use Rattle.take_run.specs.Said.{AreLive, FirstHasEnded};
 
 use crate::tally::Tally;
 use at_cid::Words;
-use relay_store::Message;
+use store_take::Message;
 
 /// How many messages there are in front of the first whose host has ended.
 pub(crate) fn live_front(group: &[Message], tally: &Tally) -> usize

@@ -4,9 +4,9 @@ ghost use Rattle.std.specs.Prelude.{◌≡◌, ◌≤◌, ◌<◌, ◌^◌, [], 
 ghost use Rattle.take_run.specs.Names.{AreNamesOf};
 
 use at_cid::{Memory, Words};
-use relay_store::{Fetch, Outcome};
 use std::alloc::Global;
 use std::collections::BTreeSet;
+use store_take::{Fetch, Outcome};
 
 /// The hosts that have ended, in the order of their ends, and how many messages there were, how many numbers were given and how
 /// many messages were refused. A host is looked up by its name, at the logarithm of the number of those that have ended.

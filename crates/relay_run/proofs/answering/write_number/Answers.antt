@@ -1,6 +1,6 @@
 use Rattle.std.proofs.Common.{ℕ, List, ◌∙◌, subst, decimal}
 use Rattle.relay_io.specs.Streams.{AddsFront}
-use Rattle.relay_store.proofs.Writing.{front_of_second}
+use Rattle.report_lines.proofs.Writing.{front_of_second}
 use Rattle.relay_run.proofs.answering.write_number.Goals as goal
 
 pub returns-clause-front : goal.returns-clause-front

@@ -1,6 +1,6 @@
 use Rattle.std.proofs.Common.{[], ◌∷◌, ◌++◌, codes}
 use Rattle.report_lines.specs.Lines.{numbered}
-use Rattle.relay_store.proofs.Writing.{front_of_first, front_of_second}
+use Rattle.report_lines.proofs.Writing.{front_of_first, front_of_second}
 use Rattle.relay_run.proofs.cut_line.write_cut.Goals as goal
 
 pub returns-clause-front : goal.returns-clause-front

@@ -2,11 +2,11 @@ use Rattle.std.proofs.Common.{◌≡◌, ◌<◌, ℕ, zero, suc, refl, List, []
 use Rattle.at_cid.specs.Link.{IsBytes}
 use Rattle.tape.specs.Format.{record_bytes, IsRecord}
 use Rattle.tape.specs.Reading.{coming}
-use Rattle.relay_store.specs.Batches.{message_from}
+use Rattle.store_take.specs.Batches.{message_from}
 use Rattle.take_run.specs.declared.group.Rest.{Rest}
 use Rattle.take_run.specs.Groups.{AreRead, IsGroup, bytes_together}
 use Rattle.take_run.specs.Tapes.{AreRecords, encoded_records}
-use Rattle.relay_store.specs.declared.message.Message.{Message}
+use Rattle.store_take.specs.declared.message.Message.{Message}
 use Rattle.take_run.proofs.Records.{as_long, bytes_one, place_one, read_failed, read_fault, read_none, read_one, records_joined}
 use Rattle.take_run.proofs.group.read_group.Goals as goal
 use Rattle.take_run.proofs.group.read_group.Goals.{then-reading-test+else-size-lt-LONGEST_FEED_MESSAGE, else-reading-test}

@@ -1,5 +1,5 @@
 use Rattle.std.proofs.Common.{sym, ap, ◌∙◌}
-use Rattle.relay_store.specs.declared.message.Message.{Message}
+use Rattle.store_take.specs.declared.message.Message.{Message}
 use Rattle.take_run.proofs.Living.{live_more}
 use Rattle.take_run.proofs.live.live_front.Goals as goal
 

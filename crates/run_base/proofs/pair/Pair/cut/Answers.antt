@@ -28,18 +28,18 @@ returns-in-One-clause-came g c = λ told J keeps.
     (λ oldest last is.
     let anew = c.cut.ensures.anew oldest last is in
     let keeps_now = c.cut.ensures.keeps oldest last is told J here in
-    let leaves = second_now c.args.store.now.side c.in-One.ensures (g.D.Disk.view c.cut.new.disk) (g.D.Disk.view c.cut.new.other) c.cut.new.self.side anew.0 (c.cut.ensures.live oldest last is told) in
+    let leaves = second_now c.args.store.now.side c.in-One.ensures (g.D.Disk.view c.cut.new.disk) (g.D.Disk.view c.cut.new.other) c.cut.new.store.side anew.0 (c.cut.ensures.live oldest last is told) in
     let picked = leaves (g.D.Disk.view c.cut.new.disk).content (g.D.Disk.view c.cut.new.other).content (g.met.D.Disk.is_disk c.cut.new.disk).possible (g.met.D.Disk.is_disk c.cut.new.other).possible in (
       (
         (c.cut.ensures.may (cut_not c.cut.result oldest last is) told J here).0,
         (c.cut.ensures.told oldest last is told J here).0,
         (c.cut.ensures.told oldest last is told J here).1,
-        written_anew One c.args.store.now.log.most (cut J c.args.seq) c.args.store.now.log.format c.cut.new.self.log (g.D.Disk.view c.cut.new.disk).content (g.D.Disk.view c.cut.new.other).content (g.D.Disk.view c.cut.new.other) picked
+        written_anew One c.args.store.now.log.most (cut J c.args.seq) c.args.store.now.log.format c.cut.new.store.log (g.D.Disk.view c.cut.new.disk).content (g.D.Disk.view c.cut.new.other).content (g.D.Disk.view c.cut.new.other) picked
             (kept_front J (seen_in c.args.store.now) (g.D.Disk.view c.cut.new.disk) (g.met.D.Disk.is_disk c.cut.new.disk) (c.cut.ensures.kept told J here)) refl
             anew.1 anew.2 (c.cut.ensures.room oldest last is told) (c.cut.ensures.bodies oldest last is told J here),
       ),
-      kept_stands Two (cut J c.args.seq) (seen_in c.cut.new.self) (g.D.Disk.view c.cut.new.disk) (g.D.Disk.view c.cut.new.other) (g.met.D.Disk.is_disk c.cut.new.disk) (g.met.D.Disk.is_disk c.cut.new.other) leaves keeps_now,
-      pair_has_room (cut J c.args.seq) (seen_in c.cut.new.self) Two (g.D.Disk.view c.cut.new.disk) (g.D.Disk.view c.cut.new.other) keeps_now picked c.args.store.now.log.most anew.2 (omega (arith, c.cut.ensures.room oldest last is told)),
+      kept_stands Two (cut J c.args.seq) (seen_in c.cut.new.store) (g.D.Disk.view c.cut.new.disk) (g.D.Disk.view c.cut.new.other) (g.met.D.Disk.is_disk c.cut.new.disk) (g.met.D.Disk.is_disk c.cut.new.other) leaves keeps_now,
+      pair_has_room (cut J c.args.seq) (seen_in c.cut.new.store) Two (g.D.Disk.view c.cut.new.disk) (g.D.Disk.view c.cut.new.other) keeps_now picked c.args.store.now.log.most anew.2 (omega (arith, c.cut.ensures.room oldest last is told)),
     ))
     (λ f is. (
       (c.cut.ensures.may (err_not c.cut.result f is) told J here).0,
@@ -65,18 +65,18 @@ returns-in-Two-clause-came g c = λ told J keeps.
     (λ oldest last is.
     let anew = c.cut-in-Two.ensures.anew oldest last is in
     let keeps_now = c.cut-in-Two.ensures.keeps oldest last is told J here in
-    let leaves = first_now c.args.store.now.side c.in-Two.ensures (g.D.Disk.view c.cut-in-Two.new.other) (g.D.Disk.view c.cut-in-Two.new.disk) c.cut-in-Two.new.self.side anew.0 (c.cut-in-Two.ensures.live oldest last is told) in
+    let leaves = first_now c.args.store.now.side c.in-Two.ensures (g.D.Disk.view c.cut-in-Two.new.other) (g.D.Disk.view c.cut-in-Two.new.disk) c.cut-in-Two.new.store.side anew.0 (c.cut-in-Two.ensures.live oldest last is told) in
     let picked = leaves (g.D.Disk.view c.cut-in-Two.new.other).content (g.D.Disk.view c.cut-in-Two.new.disk).content (g.met.D.Disk.is_disk c.cut-in-Two.new.other).possible (g.met.D.Disk.is_disk c.cut-in-Two.new.disk).possible in (
       (
         (c.cut-in-Two.ensures.may (cut_not c.cut-in-Two.result oldest last is) told J here).0,
         (c.cut-in-Two.ensures.told oldest last is told J here).0,
         (c.cut-in-Two.ensures.told oldest last is told J here).1,
-        written_anew Two c.args.store.now.log.most (cut J c.args.seq) c.args.store.now.log.format c.cut-in-Two.new.self.log (g.D.Disk.view c.cut-in-Two.new.other).content (g.D.Disk.view c.cut-in-Two.new.disk).content (g.D.Disk.view c.cut-in-Two.new.other) picked
+        written_anew Two c.args.store.now.log.most (cut J c.args.seq) c.args.store.now.log.format c.cut-in-Two.new.store.log (g.D.Disk.view c.cut-in-Two.new.other).content (g.D.Disk.view c.cut-in-Two.new.disk).content (g.D.Disk.view c.cut-in-Two.new.other) picked
             (kept_front J (seen_in c.args.store.now) (g.D.Disk.view c.cut-in-Two.new.disk) (g.met.D.Disk.is_disk c.cut-in-Two.new.disk) (c.cut-in-Two.ensures.kept told J here)) refl
             anew.1 anew.2 (c.cut-in-Two.ensures.room oldest last is told) (c.cut-in-Two.ensures.bodies oldest last is told J here),
       ),
-      kept_stands One (cut J c.args.seq) (seen_in c.cut-in-Two.new.self) (g.D.Disk.view c.cut-in-Two.new.other) (g.D.Disk.view c.cut-in-Two.new.disk) (g.met.D.Disk.is_disk c.cut-in-Two.new.other) (g.met.D.Disk.is_disk c.cut-in-Two.new.disk) leaves keeps_now,
-      pair_has_room (cut J c.args.seq) (seen_in c.cut-in-Two.new.self) One (g.D.Disk.view c.cut-in-Two.new.other) (g.D.Disk.view c.cut-in-Two.new.disk) keeps_now picked c.args.store.now.log.most anew.2 (omega (arith, c.cut-in-Two.ensures.room oldest last is told)),
+      kept_stands One (cut J c.args.seq) (seen_in c.cut-in-Two.new.store) (g.D.Disk.view c.cut-in-Two.new.other) (g.D.Disk.view c.cut-in-Two.new.disk) (g.met.D.Disk.is_disk c.cut-in-Two.new.other) (g.met.D.Disk.is_disk c.cut-in-Two.new.disk) leaves keeps_now,
+      pair_has_room (cut J c.args.seq) (seen_in c.cut-in-Two.new.store) One (g.D.Disk.view c.cut-in-Two.new.other) (g.D.Disk.view c.cut-in-Two.new.disk) keeps_now picked c.args.store.now.log.most anew.2 (omega (arith, c.cut-in-Two.ensures.room oldest last is told)),
     ))
     (λ f is. (
       (c.cut-in-Two.ensures.may (err_not c.cut-in-Two.result f is) told J here).0,
