@@ -1,15 +1,15 @@
 -- A host that sends all that a relay serves behind its cursor is a relay behind which another one runs again.
-use Rattle.std.proofs.Common.{◌≡◌, ◌≢◌, ◌⊎◌, inl, inr, ◌∙◌, ℕ, ◌+◌, ◌≤◌, ◌&&◌, Bool, true, false, List, [], ◌∷◌, ◌++◌, map, Some, None, Option, Result, Ok, cond, nat_le, refl, sym, ap, subst, arith}
+use Rattle.std.proofs.Common.{◌≡◌, ◌≢◌, ◌⊎◌, inl, inr, ◌∙◌, ℕ, ◌+◌, ◌≤◌, ◌&&◌, Bool, true, false, List, [], ◌∷◌, ◌++◌, map, Some, None, Result, Ok, cond, refl, sym, ap, subst, arith}
 use Rattle.std.specs.Prelude.{nat_lt}
 use Rattle.std.specs.List.{filter, list_all}
-use Rattle.std.proofs.lemmas.Bool.{le-ltb, false≢true}
+use Rattle.std.proofs.lemmas.Bool.{le-ltb}
 use Rattle.std.proofs.lemmas.List.{append-nil}
 use Rattle.at_event.specs.Frames.{frame_of}
 use Rattle.at_event.specs.declared.frame.Frame.{Frame}
 use Rattle.at_event.specs.declared.frame.FrameFault.{FrameFault}
 use Rattle.backfill.specs.Laws.{AreRising}
 use Rattle.backfill.specs.Notices.{outdated_cursor}
-use Rattle.backfill.specs.Served.{following, messages_of, notice_of, rising_above, served, standing_of}
+use Rattle.backfill.specs.Served.{following, messages_of, notice_of, served, standing_of}
 use Rattle.backfill.specs.declared.standing.Standing.{Standing}
 use Rattle.backfill.proofs.Rising.{greater}
 use Rattle.event_window.specs.Held.{Event, Held, oldest_of}
@@ -25,10 +25,10 @@ use Rattle.relay_core.specs.declared.decision.Pass.{Pass}
 use Rattle.relay_law.specs.Right.{LinksRight}
 use Rattle.relay_step.specs.Steps.{AreSteps, Decided, IsDecidedAs, Step, after_end, ended_by_all, ended_decided, recorded, rows, rows_decided, skipped}
 use Rattle.relay_step.proofs.Steps.{steps_run}
-use Rattle.relay_store.specs.Batches.{messages_sent}
+use Rattle.store_take.specs.Batches.{messages_sent}
 use Rattle.relay_store.specs.Shown.{held_by, is_shown, shown_of}
 use Rattle.take_run.specs.Feeds.{AreOf, bytes_of_messages}
-use Rattle.chain_law.specs.Again.{CanGoOn, GoesOn, HasTaken, RunsOn, events_above}
+use Rattle.chain_law.specs.Again.{CanGoOn, GoesOn, HasTaken, events_above}
 use Rattle.chain_law.specs.Chained.{AreReadEvents, events_shown, sent_by}
 use Rattle.chain_law.specs.Given.{AreGiven}
 use Rattle.chain_law.proofs.Again.{go_on, lasts_rise}

@@ -11,13 +11,13 @@ use Rattle.relay_row.specs.Journal.{IsJournal}
 use Rattle.relay_row.specs.declared.row.Row.{Row}
 use Rattle.relay_row.proofs.Journals.{fronts, lasts_joined}
 use Rattle.relay_step.specs.Steps.{Step}
-use Rattle.relay_store.specs.Batches.{messages_sent}
+use Rattle.store_take.specs.Batches.{messages_sent}
 use Rattle.relay_store.specs.Shown.{held_by, is_shown, shown_of}
-use Rattle.relay_store.specs.declared.message.Message.{Message}
+use Rattle.store_take.specs.declared.message.Message.{Message}
 use Rattle.relay_store.proofs.Reread.{last_fits}
 use Rattle.relay_store.proofs.Standing.{one_event}
 use Rattle.take_run.specs.Feeds.{bytes_of_messages}
-use Rattle.chain_run.specs.declared.taking.TheConstants.{MOST_SERVED}
+use Rattle.chain_run.specs.declared.journals.TheConstants.{MOST_SERVED}
 
 -- ---- the numbers of a journal's events
 

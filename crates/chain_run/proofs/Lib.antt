@@ -1,9 +1,8 @@
-pub mod Faults
 pub mod Few
 pub mod Serving
 pub mod Again
-pub mod Endings
 pub mod Telling
-pub mod Openings
+pub mod Showing
+pub mod FirstPair
 pub mod AsFeed
-pub mod Ran
+pub mod SecondPair

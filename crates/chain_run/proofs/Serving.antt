@@ -24,7 +24,7 @@ use Rattle.relay_core.specs.declared.decision.Pass.{Pass}
 use Rattle.relay_law.specs.Right.{LinksRight}
 use Rattle.relay_step.specs.Steps.{Step, Decided, after_end, skipped, recorded, AreSteps, IsDecidedAs, ended_by_all, ended_decided, message_of, messages, rows, rows_decided}
 use Rattle.relay_step.proofs.Steps.{steps_run}
-use Rattle.relay_store.specs.Batches.{messages_sent}
+use Rattle.store_take.specs.Batches.{messages_sent}
 use Rattle.relay_store.specs.Shown.{held_by, is_shown, shown_of}
 use Rattle.take_run.specs.Feeds.{AreOf, bytes_of_messages}
 use Rattle.chain_law.specs.Chained.{events_shown, sent_by, raises, AreReadEvents}

@@ -9,23 +9,21 @@ use Rattle.relay_core.specs.Runs.{Run, has_ended}
 use Rattle.relay_law.specs.Faithful.{AreFaithful}
 use Rattle.relay_law.specs.Right.{LinksRight}
 use Rattle.relay_step.specs.Steps.{Step, ended_by_all, messages, rows}
-use Rattle.relay_store.specs.Batches.{messages_sent}
-use Rattle.relay_store.specs.Journals.{IsPairImageOf}
+use Rattle.store_take.specs.Batches.{messages_sent}
 use Rattle.relay_store.specs.Shown.{held_by, is_shown}
+use Rattle.run_base.specs.Ends.{HoldsJournal}
+use Rattle.run_base.specs.Place.{NoneFell, Place, Tells}
 use Rattle.run_base.specs.Reading.{AtMostLogMade, AtMostLogWritten}
+use Rattle.run_base.specs.declared.status.Status.{Status}
 use Rattle.take_run.specs.Feeds.{bytes_of_messages}
-use Rattle.take_run.specs.Tells.{Tells}
-use Rattle.take_run.specs.declared.end.TakeEnd.{TakeEnd}
-use Rattle.take_run.specs.Ingested.{PairScene, Unopened}
-use Rattle.take_run.specs.Followed.{Followed}
-use Rattle.serve_run.specs.Replayed.{StandAgain}
+use Rattle.take_run.specs.Ingested.{Followed}
+use Rattle.take_run.specs.Taken.{Unopened}
 use Rattle.chain_law.specs.Again.{CanGoOn, GoesOn, HasTaken}
 use Rattle.chain_law.specs.Chained.{CanFollow, FollowsAll}
 use Rattle.chain_law.specs.Given.{AreGiven}
-use Rattle.chain_run.specs.Ends.{BothOpened, MayEnd, end_of_feed, end_of_taking}
-use Rattle.chain_run.specs.Places.{ChainCaused, ChainEndShows, ChainTold, CountsKept, HoldsJournal, IsFlawless, Place, second_scene}
-use Rattle.chain_run.specs.declared.end.ChainEnd.{ChainEnd}
-use Rattle.chain_run.specs.declared.taking.TheConstants.{MOST_SERVED}
+use Rattle.chain_run.specs.Disks.{AnyRose, BothShow, CountedOf, Disks, HaveJournal, StandAgain}
+use Rattle.chain_run.specs.Ends.{BothOpened, ChainTold, MayEndChaining, MayEndWithoutFailure, read_as}
+use Rattle.chain_run.specs.declared.journals.TheConstants.{MOST_SERVED}
 
 -- Of a journal that a relay made, served to another one in which the host is new: the accounts
 -- whose whole history the one shows, and that the other didn't know, follow.
@@ -50,58 +48,57 @@ AllTaken host given steps = (given ≡ bytes_of_messages (messages_sent steps))
     × (has_ended (ended_by_all steps []) host ≡ true))
 
 -- What the journal `one` serves behind the host's cursor was taken into the journal `two` of two
--- disks, and ended so.
-pub record Chained (t : Tells) (host : List ℕ) (most : ℕ) (one two : List Row) (old new : PairScene)
-    (end : TakeEnd) : Type 0 where
+-- disks, and taking it ended so.
+pub record Chained (t : Tells) (host : List ℕ) (most : ℕ) (one two : List Row) (old new : Place)
+    (taking : Status) : Type 0 where
   pub left : List (List ℕ)
   -- the messages were taken as those of a feed that gives what is served
-  pub followed : Followed t true host most MOST_SERVED
-      (λ n. served (held_by one) (Some n)) left two old new end
+  pub followed : Followed t true host most MOST_SERVED two old new
+      (λ n. served (held_by one) (Some n)) left taking
   -- the rows behind the journal `two` are those of a run over them
   pub run : (checks : Checks) → OpensRight checks → LinksRight checks
       → Run checks two (messages followed.taken.steps) (rows followed.taken.steps)
   -- where it is done they are all that is served, or all up to the host's end
-  pub all : end ≡ TakeEnd.Done → AllTaken host
+  pub all : taking ≡ Status.Done → AllTaken host
       (served (held_by one) (Some (cursor host two))) followed.taken.steps
   -- what the rows send out is read as that
   pub faithful : AreFaithful two → AreFaithful (two ++ rows followed.taken.steps)
   -- and the accounts follow
-  pub law : end ≡ TakeEnd.Done → AccountsFollow host one two (rows followed.taken.steps)
+  pub law : taking ≡ Status.Done → AccountsFollow host one two (rows followed.taken.steps)
   -- run after run
-  pub again : end ≡ TakeEnd.Done → host ≢ [] → AccountsGoOn host one two (rows followed.taken.steps)
+  pub again : taking ≡ Status.Done → host ≢ []
+      → AccountsGoOn host one two (rows followed.taken.steps)
 
--- One of the two pairs wasn't opened; or both were, and what the first serves was taken into the
--- journal `two` of the second.
-abbrev pub IsChained : Tells → List ℕ → ℕ → List Row → Place → Place → ChainEnd → Type 0
-IsChained t host most two old new end =
-    ((e : TakeEnd) × (end ≡ end_of_taking e) × Unopened two (second_scene old) (second_scene new) e)
-    ⊎ ((one : List Row) × IsPairImageOf one old.first.content old.first_other.content
-    × (e : TakeEnd) × (end ≡ end_of_feed e)
-    × Chained t host most one two (second_scene old) (second_scene new) e)
+-- One of the two pairs wasn't opened, and nothing else was touched; or both were, and what the
+-- first serves was taken into the journal `two` of the second.
+abbrev pub IsChained : Tells → List ℕ → ℕ → List Row → Disks → Place → Place → Type 0 → Status
+    → Type 0
+IsChained t host most two first old new untouched status =
+    (Unopened t most two old new status × untouched)
+    ⊎ ((one : List Row) × HaveJournal one first × (taking : Status) × (status ≡ read_as taking)
+    × Chained t host most one two old new taking)
 
 -- A relay behind a relay ran, and ended so.
-pub record ChainRan (t : Tells) (host : List ℕ) (most : ℕ) (old new : Place)
-    (end : ChainEnd) : Type 0 where
+pub record ChainRan (t : Tells) (host : List ℕ) (most : ℕ) (first first_now : Disks)
+    (old new : Place) (untouched : Type 0) (status : Status) : Type 0 where
   -- the second journal has the rows of what was taken
-  pub chained : IsTrue t.disk → (two : List Row)
-      → IsPairImageOf two old.second.content old.second_other.content
-      → IsChained t host most two old new end
+  pub chained : IsTrue first.tells → (two : List Row) → HoldsJournal t two old
+      → IsChained t host most two first old new untouched status
   -- the disks of the first were only read
-  pub first : IsTrue t.disk → (one : List Row)
-      → IsPairImageOf one old.first.content old.first_other.content
-      → StandAgain one (BothOpened end) old.first old.first_other new.first new.first_other
-  -- the end tells what the disks were; what it speaks of failed, and what failed it speaks of; and
-  -- no count fell
-  pub shows : IsTrue t.disk → ChainEndShows end old
-  pub caused : ChainCaused old new end
-  pub told : ChainTold old new end
-  pub counts : CountsKept old new
+  pub still : IsTrue first.tells → (one : List Row) → HaveJournal one first
+      → StandAgain one (BothOpened status) first first_now
+  -- which statuses come, what the disks were by the status, what failed by it, and no count fell
+  pub may : MayEndChaining status
+  pub shows : IsTrue first.tells → IsTrue t.disk → BothShow status first old
+  pub told : ChainTold (CountedOf first first_now) old new status
+  pub counts : NoneFell old.failed new.failed
   -- unless a disk failed, of the first pair at most a log was made, and of the second at most the
   -- log was written
-  pub only_read : IsTrue t.disk → end ≢ ChainEnd.Disk
-      → AtMostLogMade old.first old.first_other new.first new.first_other
-  pub beside : IsTrue t.disk → end ≢ ChainEnd.Disk
-      → AtMostLogWritten old.second old.second_other new.second new.second_other
+  pub only_read : IsTrue first.tells → status ≢ Status.Disk
+      → AtMostLogMade first.one first.two first_now.one first_now.two
+  pub beside : IsTrue t.disk → status ≢ Status.Disk
+      → AtMostLogWritten old.one old.two new.one new.two
   -- it is done, unless a count rose, memory ran out, the log is full, or the numbers have ended
-  pub complete : IsTrue t.disk → HoldsJournal old.first old.first_other
-      → HoldsJournal old.second old.second_other → IsFlawless old new → MayEnd end
+  pub complete : IsTrue first.tells → (one : List Row) → HaveJournal one first
+      → (two : List Row) → HoldsJournal t two old
+      → (AnyRose first first_now old.failed new.failed → ⊥) → MayEndWithoutFailure status

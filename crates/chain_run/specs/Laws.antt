@@ -11,7 +11,7 @@ use Rattle.relay_core.specs.Runs.{has_ended}
 use Rattle.relay_core.specs.Shown.{says_yes}
 use Rattle.relay_law.specs.Right.{LinksRight}
 use Rattle.relay_step.specs.Steps.{Step, AreSteps, ended_by_all, rows}
-use Rattle.relay_store.specs.Batches.{messages_sent}
+use Rattle.store_take.specs.Batches.{messages_sent}
 use Rattle.relay_store.specs.Shown.{held_by, is_shown}
 use Rattle.take_run.specs.Feeds.{AreOf, bytes_of_messages}
 use Rattle.chain_law.specs.Given.{AreGiven}

@@ -1,5 +1,6 @@
 pub mod Ends
-pub mod Places
+pub mod Streams
+pub mod Disks
 pub mod Taking
 pub mod Laws
 pub mod Chained

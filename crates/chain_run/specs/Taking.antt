@@ -1,14 +1,15 @@
--- Messages taken one by one, as those that a feed gives are (own).
-use Rattle.std.specs.Prelude.{ℕ, true, List}
-use Rattle.relay_disk.specs.Disk.{View}
+-- Messages that were read of a journal, taken one by one (own). No public clause cites this file.
+use Rattle.std.specs.Prelude.{◌≡◌, ⊤, ℕ, List}
 use Rattle.relay_row.specs.declared.row.Row.{Row}
-use Rattle.take_run.specs.Feeds.{TakenOfFeed}
-use Rattle.take_run.specs.Taken.{Scene}
-use Rattle.take_run.specs.Tells.{Tells}
-use Rattle.take_run.specs.declared.end.TakeEnd.{TakeEnd}
+use Rattle.run_base.specs.Place.{Tells}
+use Rattle.run_base.specs.declared.status.Status.{Status}
+use Rattle.take_run.specs.Going.{Point, StreamTaken}
+use Rattle.chain_run.specs.Ends.{read_as}
+use Rattle.chain_run.specs.declared.journals.TheConstants.{MOST_SERVED}
 
--- Messages were taken that are those in front of these, as those of a feed are.
-pub record TakenOfEvents {D : Type 0} (view : D → View) (t : Tells) (host : List ℕ) (most : ℕ)
-    (given : List (List ℕ)) (J : List Row) (old new : Scene D) (end : TakeEnd) : Type 0 where
-  pub left : List (List ℕ)
-  pub taken : TakenOfFeed view t true host most given left J old new end
+-- those in front of these were, as those of a feed are
+pub record TakenOf (t : Tells) (host : List ℕ) (given : List (List ℕ)) (J : List Row)
+    (old new : Point) (status : Status) : Type 0 where
+  pub taking : Status
+  pub is : status ≡ read_as taking
+  pub taken : StreamTaken t host MOST_SERVED J old new (λ all. all ≡ given) (λ rest. ⊤) taking

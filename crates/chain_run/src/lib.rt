@@ -1,12 +1,11 @@
 //! What one relay serves of its journal, taken into the journal of another, from opening to the last line of the report.
 #![tactic(auto)]
 
-mod chaining;
-mod end;
+mod commands;
+mod journals;
 mod laws;
-mod taking;
+mod stream;
 
-pub use chaining::chain_within;
-pub use end::ChainEnd;
+pub use commands::Chains;
+pub use journals::MOST_SERVED;
 pub use laws::served_follow;
-pub use taking::MOST_SERVED;

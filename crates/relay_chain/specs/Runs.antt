@@ -1,22 +1,20 @@
--- What the program does with its words (own).
-use Rattle.std.specs.Prelude.{◌≡◌, ℕ, List, [], ◌∷◌, IsTrue}
+-- The words of the program, and what the second relay works on (own).
+use Rattle.std.specs.Prelude.{◌≡◌, ℕ, List, [], ◌∷◌, IsTrue, Option}
+use Rattle.at_authority.specs.Trusting.{trusting}
 use Rattle.at_syntax.specs.Host.{is_host}
-use Rattle.relay_store.specs.declared.limits.TheConstants.{LONGEST}
-use Rattle.take_run.specs.Tells.{Tells}
-use Rattle.chain_run.specs.Chained.{ChainRan}
-use Rattle.chain_run.specs.Places.{Place}
-use Rattle.chain_run.specs.declared.end.ChainEnd.{ChainEnd}
-use Rattle.relay_chain.specs.Statuses.{status_of}
-use Rattle.relay_chain.specs.declared.status.ChainStatus.{ChainStatus}
+use Rattle.relay_disk.specs.Disk.{View}
+use Rattle.relay_step.specs.Around.{around}
+use Rattle.run_base.specs.Place.{Place, at_place, counts}
 
 -- the words are the name of a host alone
 pub record AreHost (words : List (List ℕ)) (host : List ℕ) : Type 0 where
   pub words_are : words ≡ host ∷ []
   pub is_name : IsTrue (is_host host)
 
--- What the first relay serves behind the host's cursor was taken as messages of the host, in logs
--- of at most 2^40 bytes, and it ended so.
-pub record Ran (t : Tells) (host : List ℕ) (old new : Place) (status : ChainStatus) : Type 0 where
-  pub end : ChainEnd
-  pub status_is : status ≡ status_of end
-  pub ran : ChainRan t host LONGEST old new end
+-- the second relay's disks, what its clock and its repositories tell, what is written, and how
+-- often these have failed; whoever is asked for homes and signatures says yes
+abbrev pub second_place : View → View → List ℕ → (List ℕ → Option (List ℕ)) → List ℕ
+    → ℕ → ℕ → ℕ → Place
+second_place one two moments repository written repos clock output = at_place one two
+    (around (λ name. trusting) moments repository) written
+    (counts one.faults two.faults repos clock output)

@@ -4,7 +4,6 @@
 mod help;
 mod meaning;
 mod running;
-mod status;
 
 use at_cid::Memory;
 use at_syntax::host_ok;
@@ -16,8 +15,8 @@ use os_edge::{
 };
 use program_parts::{ArgumentsFault, ProgressSink, Texts, read_arguments, write_text};
 use relay_disk::FileDisk;
+use run_base::Status;
 pub use running::chain;
-pub use status::ChainStatus;
 use std::cell::Cell;
 use std::process::ExitCode;
 
@@ -27,13 +26,12 @@ const TEXTS: Texts = Texts {
     version: VERSION,
 };
 
-impl From<Unopened> for ChainStatus {
-    fn from(fault: Unopened) -> ChainStatus {
-        match fault {
-            Unopened::Disk => ChainStatus::Disk,
-            Unopened::Older => ChainStatus::BadLog(0),
-            Unopened::Memory => ChainStatus::Memory,
-        }
+// How it ends where a real object can't be made.
+fn status_of(fault: Unopened) -> Status {
+    match fault {
+        Unopened::Disk => Status::Disk,
+        Unopened::Older => Status::BadLog(0),
+        Unopened::Memory => Status::Memory,
     }
 }
 
@@ -43,7 +41,7 @@ fn run_in(
     first: &str,
     second: &str,
     words: &[String],
-) -> Result<ChainStatus, Unopened> {
+) -> Result<Status, Unopened> {
     let rt = *reporter.rt();
     let alloc = rt.alloc();
     are_apart(alloc, reporter, first, second)?;
@@ -78,34 +76,34 @@ fn run_in(
 }
 
 // Runs the program with these words.
-fn run(reporter: Reporter, words: &[String]) -> ChainStatus {
+fn run(reporter: Reporter, words: &[String]) -> Status {
     if let Some(text) = TEXTS.asked(words) {
         return match write_text(reporter, text) {
-            Ok(()) => ChainStatus::Done,
-            Err(_) => ChainStatus::WriteFault,
+            Ok(()) => Status::Done,
+            Err(_) => Status::WriteFault,
         };
     }
     let [first, second, words @ ..] = words else {
         reporter.show(&HELP);
-        return ChainStatus::Usage;
+        return Status::Usage;
     };
     if first.is_empty() || second.is_empty() {
         reporter.report("usage", &"the name of a folder is empty");
-        return ChainStatus::Usage;
+        return Status::Usage;
     }
     if !is_host(words) {
         reporter.report(
             "usage: relay_chain DIR1 DIR2 HOST",
             &"HOST is the name of a host, alone",
         );
-        return ChainStatus::Usage;
+        return Status::Usage;
     }
     match run_in(reporter, first.as_str(), second.as_str(), words) {
         Ok(status) => {
             report_end(reporter, second.as_str(), status);
             status
         }
-        Err(fault) => ChainStatus::from(fault),
+        Err(fault) => status_of(fault),
     }
 }
 
@@ -118,32 +116,32 @@ fn is_host(words: &[String]) -> bool {
 }
 
 // Runs the program, once the standard descriptors are held.
-fn run_held(reporter: Reporter) -> ChainStatus {
+fn run_held(reporter: Reporter) -> Status {
     match hold_descriptors(reporter.rt()) {
         Ok(closed) if !closed.output => {}
         Ok(_) => {
             reporter.report("standard output", &"it is closed");
-            return ChainStatus::WriteFault;
+            return Status::WriteFault;
         }
         Err(error) => {
             reporter.report("standard streams", &error);
-            return ChainStatus::WriteFault;
+            return Status::WriteFault;
         }
     }
     match read_arguments(reporter.rt()) {
         Ok(words) => run(reporter, words.as_slice()),
         Err(ArgumentsFault::NotText) => {
             reporter.report("usage", &"a word is no UTF-8 text");
-            ChainStatus::Usage
+            Status::Usage
         }
-        Err(ArgumentsFault::Memory) => ChainStatus::Memory,
+        Err(ArgumentsFault::Memory) => Status::Memory,
     }
 }
 
 fn main(rt: HostRuntime) -> ExitCode {
     let status = match Reporter::new(rt, "relay_chain") {
         Ok(reporter) => run_held(reporter),
-        Err(Memory) => ChainStatus::Memory,
+        Err(Memory) => Status::Memory,
     };
     ExitCode::from(status.code())
 }
