@@ -27,6 +27,7 @@ use relay_io::Sink;
 use relay_store::Store;
 use serve_run::ServeEnd;
 use std::alloc::Global;
+use store_read::events;
 
 // Writes the lines of these events.
 fn lines_of_events<E: Events, O: Sink>(
@@ -96,7 +97,7 @@ fn lines_from<D: Disk, O: Sink>(
     ensures no_bad_log { (place : ℕ) → result ≡ ServeEnd.BadLog place → IsTrue D.tells → ⊥ }
     ensures counts { O.faults out.old ≤ O.faults out.new }
 {
-    let mut events = store.events(alloc, disk);
+    let mut events = events(store, alloc, disk);
     lines_of_events(alloc, &mut events, cursor, collection, out)
 }
 

@@ -13,7 +13,7 @@ use Rattle.relay_row.specs.declared.row.Row.{Row}
 use Rattle.relay_store.specs.Journals.{bytes_of}
 use Rattle.relay_store.specs.Store.{Keeps, StoreState}
 use Rattle.relay_store.specs.declared.fault.StoreFault.{StoreFault}
-use Rattle.relay_store.proofs.Writing.{front_of_first, front_of_second}
+use Rattle.report_lines.proofs.Writing.{front_of_first, front_of_second}
 use Rattle.serve_run.specs.AtDoor.{AtDoor, NobodyComes, IsStill, GuestAccepted, Visited}
 use Rattle.serve_run.specs.Ends.{IsCausedBy, IsDoorCount, IsOfAccepting, IsOfSession, IsUnwritten, end_of_opening}
 use Rattle.serve_run.specs.Guests.{GuestsServed, IsBehind, AreLinesWritten, end_in}

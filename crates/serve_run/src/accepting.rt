@@ -23,6 +23,7 @@ use relay_disk::Disk;
 use relay_io::{Door, DoorFault, Guest};
 use relay_store::Store;
 use std::alloc::Global;
+use store_read::events;
 
 // What comes of a guest who was sent all that is to be sent.
 fn session_of(last: u64, cursor: Option<u64>, served: Served) -> Session
@@ -109,7 +110,7 @@ fn serve_store<D: Disk, G: Door>(
     ensures counts { G.faults door.new ≡ G.faults door.old }
     ensures session_counts { G.session_faults door.old ≤ G.session_faults door.new }
 {
-    let mut events = store.events(alloc, disk);
+    let mut events = events(store, alloc, disk);
     serve_events(alloc, &mut events, cursor, door)
 }
 

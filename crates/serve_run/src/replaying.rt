@@ -25,6 +25,7 @@ use relay_disk::Disk;
 use relay_io::Sink;
 use relay_store::Store;
 use std::alloc::Global;
+use store_read::events;
 
 // Writes the messages of these events.
 fn replay_events<E: Events, O: Sink>(
@@ -92,7 +93,7 @@ fn replay_from<D: Disk, O: Sink>(
     ensures out_steady { result ≡ ServeEnd.Done → O.faults out.new ≡ O.faults out.old }
     ensures memory_steady { result ≡ ServeEnd.Memory → O.faults out.new ≡ O.faults out.old }
 {
-    let mut events = store.events(alloc, disk);
+    let mut events = events(store, alloc, disk);
     replay_events(alloc, &mut events, cursor, out)
 }
 
