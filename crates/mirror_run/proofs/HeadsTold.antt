@@ -19,10 +19,12 @@ use Rattle.relay_row.specs.declared.row.Row.{Row}
 use Rattle.account_state.specs.Folds.{account}
 use Rattle.account_state.specs.declared.repo.Repo.{Repo}
 use Rattle.relay_store.specs.Shown.{held_by}
-use Rattle.mirror.specs.Held.{IsAfterBody, IsAfterFrame, IsHeld, IsHeldFrom, WhereElse}
+use Rattle.mirror.specs.Held.{IsAfterBody, IsAfterFrame, IsHeld, IsHeldFrom}
+use Rattle.relay_io.specs.Choices.{WhereElse}
 use Rattle.mirror.specs.Repository.{Repositories}
 use Rattle.mirror.specs.State.{map_held}
-use Rattle.mirror.specs.Taken.{is_repo_body, is_such_event_of}
+use Rattle.mirror.specs.Taken.{is_such_event_of}
+use Rattle.at_event.specs.Bodies.{has_blocks}
 use Rattle.mirror.specs.declared.holding.Holding.{Holding}
 use Rattle.mirror_law.specs.Laws.{MayBeMirrored}
 use Rattle.mirror_law.specs.Mirrored.{HoldsHead, sent}
@@ -31,23 +33,23 @@ use Rattle.mirror_law.proofs.Sent.{streams_sent}
 use Rattle.mirror_law.proofs.Written.{written_sent}
 use Rattle.mirror_run.specs.Heads.{AreLinesWhole, TellsHead, TellsHeads, head_line}
 use Rattle.mirror_run.specs.Lines.{held_words, mirror_end_line, mirror_line}
-use Rattle.mirror_run.specs.Mirrored.{AreLines, IsMirrorText, is_among}
+use Rattle.mirror_run.specs.Mirrored.{AreLines, IsMirrorText}
 use Rattle.mirror_run.specs.Stream.{AreGood, event_count, tell_of}
 use Rattle.mirror_run.proofs.Chained.{are_frames}
 
 -- ---- of an account that no message tells of, what is held stays
 
-untold_body : (repositories : Repositories) (body : Body) (held : Holding) → is_repo_body body && true ≡ false → IsAfterBody repositories body held held
+untold_body : (repositories : Repositories) (body : Body) (held : Holding) → has_blocks body && true ≡ false → IsAfterBody repositories body held held
 untold_body repositories (Body.Commit c) held h = absurd cc
 untold_body repositories (Body.Sync sync) held h = absurd cc
 untold_body repositories Body.Identity held h = refl
 untold_body repositories (Body.Account a) held h = refl
 
-untold_where : (repositories : Repositories) (body : Body) (held : Holding) (own : Bool) → is_repo_body body && own ≡ false → WhereElse own (IsAfterBody repositories body held held) (held ≡ held)
+untold_where : (repositories : Repositories) (body : Body) (held : Holding) (own : Bool) → has_blocks body && own ≡ false → WhereElse own (IsAfterBody repositories body held held) (held ≡ held)
 untold_where repositories body held true h = untold_body repositories body held h
 untold_where repositories body held false h = refl
 
-untold_frame : (repositories : Repositories) (did : List ℕ) (read : Result Frame FrameFault) (held : Holding) → is_such_event_of is_repo_body did read ≡ false → IsAfterFrame repositories did read held held
+untold_frame : (repositories : Repositories) (did : List ℕ) (read : Result Frame FrameFault) (held : Holding) → is_such_event_of has_blocks did read ≡ false → IsAfterFrame repositories did read held held
 untold_frame repositories did (Ok (Frame.Event e)) held h = untold_where repositories e.body held (bytes_eq did e.did) h
 untold_frame repositories did (Ok (Frame.Faulty seq)) held h = refl
 untold_frame repositories did (Ok Frame.Info) held h = refl
@@ -58,7 +60,7 @@ untold_frame repositories did (Err fault) held h = refl
 untold : (repositories : Repositories) (did : List ℕ) (messages : List (List ℕ)) (held : Holding) → tell_of did messages ≡ false → IsHeldFrom repositories did held messages held
 untold repositories did [] held h = refl
 untold repositories did (m ∷ messages) held h =
-    let both = or_parts (is_such_event_of is_repo_body did (frame_of m)) (tell_of did messages) h in
+    let both = or_parts (is_such_event_of has_blocks did (frame_of m)) (tell_of did messages) h in
     (held, untold_frame repositories did (frame_of m) held both.0, untold repositories did messages held both.1)
 
 unmapped : (rev : ℕ) (map : List Item) → Holding.Mapped None [] ≡ Holding.Mapped (Some rev) map → ⊥
@@ -93,7 +95,7 @@ record HasLine (repositories : Repositories) (messages : List (List ℕ)) (did l
   split : lines ≡ before ++ (mirror_line did held ++ after)
   whole : AreLinesWhole before
 
-has_line : (tell : Bool) (repositories : Repositories) (messages : List (List ℕ)) (did : List ℕ) → IsTrue tell → (dids : List (List ℕ)) (lines : List ℕ) → AreLines tell repositories messages dids lines → is_among dids did ≡ true → HasLine repositories messages did lines
+has_line : (tell : Bool) (repositories : Repositories) (messages : List (List ℕ)) (did : List ℕ) → IsTrue tell → (dids : List (List ℕ)) (lines : List ℕ) → AreLines tell repositories messages dids lines → list_any (bytes_eq did) dids ≡ true → HasLine repositories messages did lines
 has_line tell repositories messages did tells [] lines are among = absurd cc
 has_line tell repositories messages did tells (name ∷ dids) lines (held, rest, is_held, split, more) among =
     elim (bytes_eq did name) as (λ b. bytes_eq did name ≡ b → b || list_any (bytes_eq did) dids ≡ true → HasLine repositories messages did lines) [

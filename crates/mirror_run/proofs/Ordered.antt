@@ -1,14 +1,20 @@
 -- The DIDs of which messages have a commit or a `#sync`, in ascending order.
 use Rattle.std.proofs.Common.{◌≡◌, ℕ, Bool, true, false, cond, ◌||◌, ◌&&◌, Ordering, Less, Equal, Greater, List, [], ◌∷◌, Result, Ok, Err, refl, sym, ap, subst, ◌∙◌}
+use Rattle.std.specs.List.{list_any}
 use Rattle.std.specs.Str.{bytes_eq}
 use Rattle.at_cid.specs.Order.{key_cmp}
 use Rattle.at_cid.proofs.Order.{cmp_below, cmp_exact, cmp_trans}
 use Rattle.at_event.specs.Frames.{frame_of}
 use Rattle.at_event.specs.declared.frame.Frame.{Frame}
 use Rattle.at_event.specs.declared.frame.FrameFault.{FrameFault}
-use Rattle.mirror.specs.Taken.{is_such_event_of, is_repo_body}
-use Rattle.mirror_run.specs.Mirrored.{AllBehind, Ascend, is_among}
+use Rattle.mirror.specs.Taken.{is_such_event_of}
+use Rattle.at_event.specs.Bodies.{has_blocks}
+use Rattle.mirror_run.specs.Mirrored.{AllBehind, Ascend}
 use Rattle.mirror_run.specs.Stream.{tell_of}
+
+-- a name is among these
+abbrev pub is_among : List (List ℕ) → List ℕ → Bool
+is_among dids did = list_any (bytes_eq did) dids
 
 -- a name is put among others in order
 abbrev pub placed : Ordering → List ℕ → List ℕ → List (List ℕ) → List (List ℕ) → List (List ℕ)
@@ -64,7 +70,7 @@ ascend_named did (d ∷ dids) h = of (ascend_named did dids h.1) (key_cmp did d)
 
 -- the DIDs that messages tell of
 abbrev pub with_told : Result Frame FrameFault → List (List ℕ) → List (List ℕ)
-with_told (Ok (Frame.Event e)) dids = cond (is_repo_body e.body) (with_name e.did dids) dids
+with_told (Ok (Frame.Event e)) dids = cond (has_blocks e.body) (with_name e.did dids) dids
 with_told (Ok (Frame.Faulty seq)) dids = dids
 with_told (Ok Frame.Info) dids = dids
 with_told (Ok Frame.Error) dids = dids
@@ -75,8 +81,8 @@ abbrev pub dids_of : List (List ℕ) → List (List ℕ)
 dids_of [] = []
 dids_of (m ∷ messages) = with_told (frame_of m) (dids_of messages)
 
-among_told : (f : Result Frame FrameFault) (dids : List (List ℕ)) (x : List ℕ) → is_among (with_told f dids) x ≡ (is_such_event_of is_repo_body x f || is_among dids x)
-among_told (Ok (Frame.Event e)) dids x = of (is_repo_body e.body)
+among_told : (f : Result Frame FrameFault) (dids : List (List ℕ)) (x : List ℕ) → is_among (with_told f dids) x ≡ (is_such_event_of has_blocks x f || is_among dids x)
+among_told (Ok (Frame.Event e)) dids x = of (has_blocks e.body)
   where
     of : (b : Bool) → is_among (cond b (with_name e.did dids) dids) x ≡ ((b && bytes_eq x e.did) || is_among dids x)
     of true = among_named e.did dids x
@@ -88,7 +94,7 @@ among_told (Ok Frame.Unknown) dids x = refl
 among_told (Err fault) dids x = refl
 
 ascend_told : (f : Result Frame FrameFault) (dids : List (List ℕ)) → Ascend dids → Ascend (with_told f dids)
-ascend_told (Ok (Frame.Event e)) dids h = of (is_repo_body e.body)
+ascend_told (Ok (Frame.Event e)) dids h = of (has_blocks e.body)
   where
     of : (b : Bool) → Ascend (cond b (with_name e.did dids) dids)
     of true = ascend_named e.did dids h
@@ -102,7 +108,7 @@ ascend_told (Err fault) dids h = h
 pub dids_told : (messages : List (List ℕ)) (did : List ℕ) → is_among (dids_of messages) did ≡ tell_of did messages
 dids_told [] did = refl
 dids_told (m ∷ messages) did =
-    among_told (frame_of m) (dids_of messages) did ∙ ap (λ (b : Bool). is_such_event_of is_repo_body did (frame_of m) || b) (dids_told messages did)
+    among_told (frame_of m) (dids_of messages) did ∙ ap (λ (b : Bool). is_such_event_of has_blocks did (frame_of m) || b) (dids_told messages did)
 
 pub dids_ascend : (messages : List (List ℕ)) → Ascend (dids_of messages)
 dids_ascend [] = tt

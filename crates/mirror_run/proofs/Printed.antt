@@ -1,12 +1,13 @@
 -- What is written of a text that goes out in pieces.
-use Rattle.std.proofs.Common.{◌≡◌, ℕ, List, [], ◌∷◌, ◌++◌, length, take, drop, refl, sym, ap, subst, ◌∙◌, arith, append_assoc, length-append, Less, true, false}
+use Rattle.std.proofs.Common.{◌≡◌, inl, inr, ℕ, List, [], ◌∷◌, ◌++◌, length, take, drop, refl, sym, ap, subst, ◌∙◌, arith, append_assoc, length-append, Less, true, false}
 use Rattle.std.proofs.lemmas.List.{append-nil, take_at, take-append-drop}
 use Rattle.at_cid.specs.Order.{key_cmp}
 use Rattle.relay_io.specs.Streams.{AddsFront}
 use Rattle.mirror.specs.State.{is_known}
 use Rattle.mirror.specs.declared.keeping.Mirror.{Mirror}
-use Rattle.mirror_run.specs.Printing.{AreKnown, IsLate, IsTextWritten, IsUnwritten, Moves, line_in, lines_in}
-use Rattle.mirror_run.specs.declared.end.MirrorEnd.{MirrorEnd}
+use Rattle.run_base.specs.Ends.{Writes}
+use Rattle.run_base.specs.declared.status.Status.{Status}
+use Rattle.mirror_run.specs.Printing.{AreKnown, IsLate, IsUnwritten, Moves, line_in, lines_in}
 use Rattle.mirror_run.proofs.Walking.{IsWalking, lines_more, lines_split, next_left, none_left, starts}
 
 -- a front was added that is all but this
@@ -90,42 +91,35 @@ module _ (mirror : Mirror) (dids : List (List ℕ)) (last old now waiting : List
         ∙ append_assoc p.moves.done text (lines_in mirror n.others)) h
 
 -- the lines, and behind them the last one
-pub ended : (end : MirrorEnd) (lines waiting last old mid new : List ℕ) → Moves old mid lines waiting → IsTextWritten end (waiting ++ last) mid new → IsTextWritten end (lines ++ last) old new
-ended MirrorEnd.Done lines waiting last old mid new m h =
-    h ∙ ap (λ (l : List ℕ). l ++ (waiting ++ last)) m.added ∙ append_assoc old m.done (waiting ++ last)
-    ∙ ap (λ (l : List ℕ). old ++ l) (sym (append_assoc m.done waiting last) ∙ ap (λ (l : List ℕ). l ++ last) (sym m.split))
-ended MirrorEnd.WriteFault lines waiting last old mid new m h =
-    adds_more old mid new m.done (waiting ++ last) [] (lines ++ last) m.added
-    (ap (λ (l : List ℕ). l ++ last) m.split ∙ append_assoc m.done waiting last ∙ ap (λ (l : List ℕ). m.done ++ l) (sym (append-nil (waiting ++ last)))) h
-ended MirrorEnd.Memory lines waiting last old mid new m h =
-    adds_more old mid new m.done (waiting ++ last) [] (lines ++ last) m.added
-    (ap (λ (l : List ℕ). l ++ last) m.split ∙ append_assoc m.done waiting last ∙ ap (λ (l : List ℕ). m.done ++ l) (sym (append-nil (waiting ++ last)))) h
-ended (MirrorEnd.BadStream place) lines waiting last old mid new m h = absurd h
-ended MirrorEnd.ReadFault lines waiting last old mid new m h = absurd h
-ended MirrorEnd.Repos lines waiting last old mid new m h = absurd h
-ended MirrorEnd.TooLong lines waiting last old mid new m h = absurd h
+module _ (lines waiting last old mid new : List ℕ) (m : Moves old mid lines waiting) where
+  all_ended : new ≡ mid ++ (waiting ++ last) → new ≡ old ++ (lines ++ last)
+  all_ended h =
+      h ∙ ap (λ (l : List ℕ). l ++ (waiting ++ last)) m.added ∙ append_assoc old m.done (waiting ++ last)
+      ∙ ap (λ (l : List ℕ). old ++ l) (sym (append_assoc m.done waiting last) ∙ ap (λ (l : List ℕ). l ++ last) (sym m.split))
+
+  front_ended : AddsFront mid new (waiting ++ last) → AddsFront old new (lines ++ last)
+  front_ended h =
+      adds_more old mid new m.done (waiting ++ last) [] (lines ++ last) m.added
+      (ap (λ (l : List ℕ). l ++ last) m.split ∙ append_assoc m.done waiting last ∙ ap (λ (l : List ℕ). m.done ++ l) (sym (append-nil (waiting ++ last)))) h
+
+abbrev TextWritten : List ℕ → List ℕ → List ℕ → Status → Type 0
+TextWritten text old new status = Writes status [] text old new
+
+pub ended : (status : Status) (lines waiting last old mid new : List ℕ) → IsLate status → Moves old mid lines waiting → Writes status [] (waiting ++ last) mid new → Writes status [] (lines ++ last) old new
+ended status lines waiting last old mid new (inl is) m h =
+    subst (TextWritten (lines ++ last) old new) (sym is) (all_ended lines waiting last old mid new m (subst (TextWritten (waiting ++ last) mid new) is h))
+ended status lines waiting last old mid new (inr (inl is)) m h =
+    subst (TextWritten (lines ++ last) old new) (sym is) (front_ended lines waiting last old mid new m (subst (TextWritten (waiting ++ last) mid new) is h))
+ended status lines waiting last old mid new (inr (inr is)) m h =
+    subst (TextWritten (lines ++ last) old new) (sym is) (front_ended lines waiting last old mid new m (subst (TextWritten (waiting ++ last) mid new) is h))
 
 -- a front of the lines is one of the text
 longer : (old new lines last : List ℕ) → AddsFront old new lines → AddsFront old new (lines ++ last)
 longer old new lines last h = adds_more old old new [] lines last (lines ++ last) (sym (append-nil old)) refl h
 
-pub unended : (end : MirrorEnd) (lines last old new : List ℕ) → IsUnwritten end → AddsFront old new lines → IsTextWritten end (lines ++ last) old new
-unended MirrorEnd.Done lines last old new h front = absurd h
-unended MirrorEnd.WriteFault lines last old new h front = longer old new lines last front
-unended MirrorEnd.Memory lines last old new h front = longer old new lines last front
-unended (MirrorEnd.BadStream place) lines last old new h front = absurd h
-unended MirrorEnd.ReadFault lines last old new h front = absurd h
-unended MirrorEnd.Repos lines last old new h front = absurd h
-unended MirrorEnd.TooLong lines last old new h front = absurd h
-
-pub late : (end : MirrorEnd) → IsUnwritten end → IsLate end
-late MirrorEnd.Done h = tt
-late MirrorEnd.WriteFault h = tt
-late MirrorEnd.Memory h = tt
-late (MirrorEnd.BadStream place) h = h
-late MirrorEnd.ReadFault h = h
-late MirrorEnd.Repos h = h
-late MirrorEnd.TooLong h = h
+pub unended : (status : Status) (lines last old new : List ℕ) → IsUnwritten status → AddsFront old new lines → Writes status [] (lines ++ last) old new
+unended status lines last old new (inl is) front = subst (TextWritten (lines ++ last) old new) (sym is) (longer old new lines last front)
+unended status lines last old new (inr is) front = subst (TextWritten (lines ++ last) old new) (sym is) (longer old new lines last front)
 
 -- a front of nothing
 pub nothing_added : (old text : List ℕ) → AddsFront old old text

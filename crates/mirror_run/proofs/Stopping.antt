@@ -1,5 +1,6 @@
 -- How taking a stream stops, and that a stream is taken in one way.
-use Rattle.std.proofs.Common.{◌≡◌, ◌≤◌, ◌<◌, ◌⊎◌, ℕ, ◌+◌, Bool, true, false, List, [], ◌∷◌, ◌++◌, length, Err, IsTrue, refl, sym, ap, subst, ◌∙◌, inl, inr, arith, append_assoc, length-append}
+use Rattle.std.proofs.Common.{◌≡◌, ◌≤◌, ◌<◌, ◌⊎◌, ℕ, ◌+◌, Bool, true, false, List, [], ◌∷◌, ◌++◌, length, Result, Ok, Err, IsTrue, refl, sym, ap, subst, ◌∙◌, inl, inr, arith, append_assoc, length-append}
+use Rattle.std.proofs.lemmas.List.{append-nil}
 use Rattle.at_event.specs.Frames.{frame_of}
 use Rattle.backfill.specs.Writing.{stream_frame, with_length}
 use Rattle.relay_io.specs.declared.feed.TheConstants.{LONGEST_FEED_MESSAGE}
@@ -8,20 +9,23 @@ use Rattle.mirror.specs.State.{held_by}
 use Rattle.mirror.specs.Taken.{is_bad, last_behind}
 use Rattle.mirror.specs.declared.fault.MirrorFault.{MirrorFault}
 use Rattle.mirror.specs.declared.keeping.Mirror.{Mirror}
-use Rattle.mirror_run.specs.Ends.{IsCausedBy, MirrorMayEnd, NoMirrorCause}
+use Rattle.run_base.specs.Counts.{Counted}
+use Rattle.run_base.specs.Ends.{Writes}
+use Rattle.run_base.specs.declared.status.Status.{Status}
+use Rattle.mirror_run.specs.Ends.{MayEndBad, MayEndMirroring, MayEndWhole}
 use Rattle.mirror_run.specs.Lines.{mirror_end_line}
-use Rattle.mirror_run.specs.Mirrored.{AreLines, IsRestLeft, IsMirrorText, IsMirrorWritten, Mirrored}
-use Rattle.mirror_run.specs.Printing.{AreKnown, IsLate, IsTextWritten, lines_in}
+use Rattle.mirror_run.specs.Mirrored.{AreLines, IsRestLeft, IsMirrorText, Mirrored}
+use Rattle.mirror_run.specs.Printing.{AreKnown, IsLate, lines_in}
 use Rattle.mirror_run.specs.Reading.{HasNoMessage, IsNext, IsSpent, coming}
 use Rattle.mirror_run.specs.Stream.{AreGood, BeginWith, IsBadBehind, IsBadFrom, last_seq_behind}
-use Rattle.mirror_run.specs.Taking.{HasStopped, HasTaken, IsEarly, end_of_mirror, end_of_stream}
-use Rattle.mirror_run.specs.declared.end.MirrorEnd.{MirrorEnd}
+use Rattle.mirror_run.specs.Taking.{HasStopped, HasTaken, HasTakenAll, IsEarly, status_of_message, status_of_stream}
 use Rattle.mirror_run.specs.declared.reader.MessageReader.{MessageReader}
 use Rattle.mirror_run.specs.declared.reader.StreamFault.{StreamFault}
 use Rattle.mirror_run.proofs.Chained.{holds_chains}
 use Rattle.mirror_run.proofs.HeadsTold.{tells_heads}
 use Rattle.mirror_run.proofs.Fronts.{length_frame, one_message}
 use Rattle.mirror_run.proofs.Ordered.{dids_ascend, dids_of, dids_told}
+use Rattle.mirror_run.proofs.Printed.{nothing_added}
 
 -- behind these messages nothing is left, or what can't be taken
 abbrev pub Stops : ℕ → List (List ℕ) → List ℕ → Type 0
@@ -54,27 +58,27 @@ one_way last (m ∷ ms) (n ∷ ns) rest more g h is s t =
 
 -- how it stops behind what was taken
 module _ (input_tells tell : Bool) (repositories : Repositories) (limit : ℕ) (input left : List ℕ) (place : ℕ) (mirror : Mirror) (events : ℕ) (t : HasTaken input_tells tell repositories input left place mirror events) where
-  stopped : (end : MirrorEnd) → (IsTrue input_tells → IsRestLeft limit end t.messages left) → HasStopped input_tells limit input end
-  stopped end is = record { messages = t.messages; rest = left; good = t.good; split = t.split; left = is }
+  stopped : (status : Status) → (IsTrue input_tells → IsRestLeft limit status t.messages left) → HasStopped input_tells tell repositories limit input status
+  stopped status is = record { left = left; place = place; mirror = mirror; events = events; taken = t; rest = is }
 
   no_message_bad : HasNoMessage left → IsBadBehind t.messages left
   no_message_bad h = record { some = h.some; none = λ m more is short. absurd (h.none m more is short) }
 
-  pub bad_stopped : (IsTrue input_tells → HasNoMessage left) → HasStopped input_tells limit input (MirrorEnd.BadStream place)
-  bad_stopped h = stopped (MirrorEnd.BadStream place) (λ told. (t.place_is, no_message_bad (h told)))
+  pub bad_stopped : (IsTrue input_tells → HasNoMessage left) → HasStopped input_tells tell repositories limit input (Status.BadStream place)
+  bad_stopped h = stopped (Status.BadStream place) (λ told. (t.place_is, no_message_bad (h told)))
 
-  pub spent_stopped : (IsTrue input_tells → IsSpent place limit left) → HasStopped input_tells limit input MirrorEnd.TooLong
-  spent_stopped h = stopped MirrorEnd.TooLong (λ told.
+  pub spent_stopped : (IsTrue input_tells → IsSpent place limit left) → HasStopped input_tells tell repositories limit input Status.TooLong
+  spent_stopped h = stopped Status.TooLong (λ told.
       let s = h told in (s.part, s.after, s.split, s.ends, ap (λ n. n + length s.part) (sym t.place_is) ∙ s.whole))
 
-  pub read_stopped : HasStopped input_tells limit input MirrorEnd.ReadFault
-  read_stopped = stopped MirrorEnd.ReadFault (λ told. tt)
+  pub read_stopped : HasStopped input_tells tell repositories limit input Status.ReadFault
+  read_stopped = stopped Status.ReadFault (λ told. tt)
 
-  pub memory_stopped : HasStopped input_tells limit input MirrorEnd.Memory
-  memory_stopped = stopped MirrorEnd.Memory (λ told. tt)
+  pub memory_stopped : HasStopped input_tells tell repositories limit input Status.Memory
+  memory_stopped = stopped Status.Memory (λ told. tt)
 
-  pub repos_stopped : HasStopped input_tells limit input MirrorEnd.Repos
-  repos_stopped = stopped MirrorEnd.Repos (λ told. tt)
+  pub repos_stopped : HasStopped input_tells tell repositories limit input Status.Repos
+  repos_stopped = stopped Status.Repos (λ told. tt)
 
   -- a message that can't be taken
   bad_message : (m after : List ℕ) → length m ≤ LONGEST_FEED_MESSAGE → left ≡ stream_frame m ++ after → is_bad mirror.last (frame_of m) ≡ true → IsBadBehind t.messages left
@@ -85,22 +89,18 @@ module _ (input_tells tell : Bool) (repositories : Repositories) (limit : ℕ) (
         subst (λ (x : List ℕ). is_bad (last_seq_behind 0 t.messages) (frame_of x) ≡ true) (sym one.0) (ap (λ l. is_bad l (frame_of m)) (sym t.last) ∙ bad);
   }
 
-  pub message_stopped : (m after : List ℕ) → length m ≤ LONGEST_FEED_MESSAGE → (IsTrue input_tells → left ≡ stream_frame m ++ after) → is_bad mirror.last (frame_of m) ≡ true
-      → HasStopped input_tells limit input (MirrorEnd.BadStream place)
-  message_stopped m after short is bad = stopped (MirrorEnd.BadStream place) (λ told. (t.place_is, bad_message m after short (is told) bad))
-
-  pub mirror_stopped : (fault : MirrorFault) (m after : List ℕ) → length m ≤ LONGEST_FEED_MESSAGE → (IsTrue input_tells → left ≡ stream_frame m ++ after)
-      → (fault ≡ MirrorFault.BadMessage → is_bad mirror.last (frame_of m) ≡ true) → HasStopped input_tells limit input (end_of_mirror fault place)
-  mirror_stopped MirrorFault.BadMessage m after short is bad = message_stopped m after short is (bad refl)
-  mirror_stopped MirrorFault.Repos m after short is bad = repos_stopped
-  mirror_stopped MirrorFault.Memory m after short is bad = memory_stopped
+  pub message_stopped : (fault : MirrorFault) (m after : List ℕ) → length m ≤ LONGEST_FEED_MESSAGE → (IsTrue input_tells → left ≡ stream_frame m ++ after)
+      → (fault ≡ MirrorFault.BadMessage → is_bad mirror.last (frame_of m) ≡ true) → HasStopped input_tells tell repositories limit input (status_of_message fault place)
+  message_stopped MirrorFault.BadMessage m after short is bad = stopped (Status.BadStream place) (λ told. (t.place_is, bad_message m after short (is told) (bad refl)))
+  message_stopped MirrorFault.Repos m after short is bad = repos_stopped
+  message_stopped MirrorFault.Memory m after short is bad = memory_stopped
 
 -- a reader that gave no message
 pub stream_stopped : (input_tells tell : Bool) (repositories : Repositories) (limit : ℕ) (input : List ℕ) (reader new : MessageReader) (before after : List ℕ) (place : ℕ) (mirror : Mirror) (events : ℕ)
     → HasTaken input_tells tell repositories input (coming reader before) reader.place mirror events → place ≡ reader.place → reader.most ≡ limit
-    → (fault : StreamFault) → (IsTrue input_tells → IsNext reader before new after (Err fault)) → HasStopped input_tells limit input (end_of_stream fault place)
+    → (fault : StreamFault) → (IsTrue input_tells → IsNext reader before new after (Err fault)) → HasStopped input_tells tell repositories limit input (status_of_stream fault place)
 stream_stopped input_tells tell repositories limit input reader new before after place mirror events t at most StreamFault.Bad h =
-    subst (λ n. HasStopped input_tells limit input (MirrorEnd.BadStream n)) (sym at)
+    subst (λ n. HasStopped input_tells tell repositories limit input (Status.BadStream n)) (sym at)
     (bad_stopped input_tells tell repositories limit input (coming reader before) reader.place mirror events t h)
 stream_stopped input_tells tell repositories limit input reader new before after place mirror events t at most StreamFault.Failed h =
     read_stopped input_tells tell repositories limit input (coming reader before) reader.place mirror events t
@@ -110,41 +110,31 @@ stream_stopped input_tells tell repositories limit input reader new before after
 stream_stopped input_tells tell repositories limit input reader new before after place mirror events t at most StreamFault.Memory h =
     memory_stopped input_tells tell repositories limit input (coming reader before) reader.place mirror events t
 
-pub stream_early : (fault : StreamFault) (place : ℕ) → IsEarly (end_of_stream fault place)
-stream_early StreamFault.Bad place = tt
-stream_early StreamFault.Failed place = tt
-stream_early StreamFault.Limit place = tt
-stream_early StreamFault.Memory place = tt
+pub stream_early : (fault : StreamFault) (place : ℕ) → IsEarly (status_of_stream fault place)
+stream_early StreamFault.Bad place = inl (place, refl)
+stream_early StreamFault.Failed place = inr (inr (inl refl))
+stream_early StreamFault.Limit place = inr (inl refl)
+stream_early StreamFault.Memory place = inr (inr (inr (inr refl)))
 
-pub mirror_early : (fault : MirrorFault) (place : ℕ) → IsEarly (end_of_mirror fault place)
-mirror_early MirrorFault.BadMessage place = tt
-mirror_early MirrorFault.Repos place = tt
-mirror_early MirrorFault.Memory place = tt
+pub message_early : (fault : MirrorFault) (place : ℕ) → IsEarly (status_of_message fault place)
+message_early MirrorFault.BadMessage place = inl (place, refl)
+message_early MirrorFault.Repos place = inr (inr (inr (inl refl)))
+message_early MirrorFault.Memory place = inr (inr (inr (inr refl)))
 
-pub stream_caused : (read repos : Type 0) (fault : StreamFault) (place : ℕ) → (fault ≡ StreamFault.Failed → read) → IsCausedBy read ⊥ repos (end_of_stream fault place)
-stream_caused read repos StreamFault.Bad place h = tt
-stream_caused read repos StreamFault.Failed place h = h refl
-stream_caused read repos StreamFault.Limit place h = tt
-stream_caused read repos StreamFault.Memory place h = tt
+-- ---- the text of a mirror
 
-pub mirror_caused : (read repos : Type 0) (fault : MirrorFault) (place : ℕ) → (fault ≡ MirrorFault.Repos → repos) → IsCausedBy read ⊥ repos (end_of_mirror fault place)
-mirror_caused read repos MirrorFault.BadMessage place h = tt
-mirror_caused read repos MirrorFault.Repos place h = h refl
-mirror_caused read repos MirrorFault.Memory place h = tt
-
--- the text of a mirror
-module _ (input_tells tell : Bool) (repositories : Repositories) (input : List ℕ) (place : ℕ) (mirror : Mirror) (events : ℕ) (t : HasTaken input_tells tell repositories input [] place mirror events) where
+module _ (input_tells tell : Bool) (repositories : Repositories) (input left : List ℕ) (place : ℕ) (mirror : Mirror) (events : ℕ) (t : HasTaken input_tells tell repositories input left place mirror events) where
   lines_are : (dids : List (List ℕ)) → AreLines tell repositories t.messages dids (lines_in mirror dids)
   lines_are [] = refl
   lines_are (did ∷ dids) = (held_by mirror did, lines_in mirror dids, λ told. t.held told did, refl, lines_are dids)
 
-  pub dids_known : AreKnown mirror (dids_of t.messages)
+  dids_known : AreKnown mirror (dids_of t.messages)
   dids_known = record { ascend = dids_ascend t.messages; known = λ did. dids_told t.messages did ∙ sym (t.known did) }
 
-  abbrev pub whole_text : List ℕ
+  abbrev whole_text : List ℕ
   whole_text = lines_in mirror (dids_of t.messages) ++ mirror_end_line events
 
-  pub is_text : IsMirrorText tell repositories t.messages whole_text
+  is_text : IsMirrorText tell repositories t.messages whole_text
   is_text = record {
     dids = dids_of t.messages;
     lines = lines_in mirror (dids_of t.messages);
@@ -154,127 +144,190 @@ module _ (input_tells tell : Bool) (repositories : Repositories) (input : List �
     whole = ap (λ n. lines_in mirror (dids_of t.messages) ++ mirror_end_line n) t.count;
   }
 
-  written : (end : MirrorEnd) (old new : List ℕ) → IsLate end → IsTextWritten end whole_text old new → IsMirrorWritten tell repositories end t.messages old new
-  written MirrorEnd.Done old new late h = (whole_text, is_text, h)
-  written MirrorEnd.WriteFault old new late h = (whole_text, is_text, h)
-  written MirrorEnd.Memory old new late h = inr (whole_text, is_text, h)
-  written (MirrorEnd.BadStream p) old new late h = absurd late
-  written MirrorEnd.ReadFault old new late h = absurd late
-  written MirrorEnd.Repos old new late h = absurd late
-  written MirrorEnd.TooLong old new late h = absurd late
+-- ---- what a short input of which nothing is hidden comes to
 
-  left_late : (limit : ℕ) (end : MirrorEnd) → IsLate end → IsRestLeft limit end t.messages []
-  left_late limit MirrorEnd.Done late = refl
-  left_late limit MirrorEnd.WriteFault late = refl
-  left_late limit MirrorEnd.Memory late = tt
-  left_late limit (MirrorEnd.BadStream p) late = absurd late
-  left_late limit MirrorEnd.ReadFault late = absurd late
-  left_late limit MirrorEnd.Repos late = absurd late
-  left_late limit MirrorEnd.TooLong late = absurd late
+abbrev IsEnd : Status → Type 0
+IsEnd status = IsLate status ⊎ IsEarly status
 
-  pub mirrored_all : (output_tells : Bool) (limit : ℕ) (end : MirrorEnd) (old new : List ℕ) → IsLate end
-      → (IsTrue output_tells → (dids : List (List ℕ)) → AreKnown mirror dids → IsTextWritten end (lines_in mirror dids ++ mirror_end_line events) old new)
-      → Mirrored input_tells output_tells tell limit repositories input old new end
-  mirrored_all output_tells limit end old new late h = record {
-    messages = t.messages;
-    rest = [];
-    good = t.good;
-    split = t.split;
-    left = λ told. left_late limit end late;
-    written = λ told. written end old new late (h told (dids_of t.messages) dids_known);
-    chains = λ told done. holds_chains repositories input t.messages t.good (t.split told);
-    heads = λ told shown known done.
-        let P : MirrorEnd → Type 0 = λ e. IsTextWritten e whole_text old new in
-        tells_heads tell repositories input old new t.messages whole_text known t.good (t.split told) is_text (subst P done (h shown (dids_of t.messages) dids_known));
-  }
+may : (status : Status) → IsEnd status → MayEndMirroring status
+may status (inl (inl is)) = subst MayEndMirroring (sym is) tt
+may status (inl (inr (inl is))) = subst MayEndMirroring (sym is) tt
+may status (inl (inr (inr is))) = subst MayEndMirroring (sym is) tt
+may status (inr (inl (place, is))) = subst MayEndMirroring (sym is) tt
+may status (inr (inr (inl is))) = subst MayEndMirroring (sym is) tt
+may status (inr (inr (inr (inl is)))) = subst MayEndMirroring (sym is) tt
+may status (inr (inr (inr (inr (inl is))))) = subst MayEndMirroring (sym is) tt
+may status (inr (inr (inr (inr (inr is))))) = subst MayEndMirroring (sym is) tt
 
-pub late_caused : (read write repos : Type 0) (end : MirrorEnd) → IsLate end → (end ≡ MirrorEnd.WriteFault → write) → IsCausedBy read write repos end
-late_caused read write repos MirrorEnd.Done late h = tt
-late_caused read write repos MirrorEnd.WriteFault late h = h refl
-late_caused read write repos MirrorEnd.Memory late h = tt
-late_caused read write repos (MirrorEnd.BadStream p) late h = absurd late
-late_caused read write repos MirrorEnd.ReadFault late h = absurd late
-late_caused read write repos MirrorEnd.Repos late h = absurd late
-late_caused read write repos MirrorEnd.TooLong late h = absurd late
+pub may_late : (status : Status) → IsLate status → MayEndMirroring status
+may_late status late = may status (inl late)
 
--- where it stopped nothing was written
-unwritten : (tell : Bool) (repositories : Repositories) (end : MirrorEnd) (messages : List (List ℕ)) (old : List ℕ) → IsEarly end → IsMirrorWritten tell repositories end messages old old
-unwritten tell repositories MirrorEnd.Done messages old early = absurd early
-unwritten tell repositories MirrorEnd.WriteFault messages old early = absurd early
-unwritten tell repositories MirrorEnd.Memory messages old early = inl refl
-unwritten tell repositories (MirrorEnd.BadStream p) messages old early = refl
-unwritten tell repositories MirrorEnd.ReadFault messages old early = refl
-unwritten tell repositories MirrorEnd.Repos messages old early = refl
-unwritten tell repositories MirrorEnd.TooLong messages old early = refl
+pub may_early : (status : Status) → IsEarly status → MayEndMirroring status
+may_early status early = may status (inr early)
 
-pub mirrored_front : (input_tells output_tells tell : Bool) (limit : ℕ) (repositories : Repositories) (input old : List ℕ) (end : MirrorEnd) → HasStopped input_tells limit input end → IsEarly end
-    → Mirrored input_tells output_tells tell limit repositories input old old end
-mirrored_front input_tells output_tells tell limit repositories input old end s early = record {
-  messages = s.messages;
-  rest = s.rest;
-  good = s.good;
-  split = s.split;
-  left = s.left;
-  written = λ told. unwritten tell repositories end s.messages old early;
-  chains = λ told done. absurd (subst IsEarly done early);
-  heads = λ told shown known done. absurd (subst IsEarly done early);
-}
-
-pub early_caused : (read write repos : Type 0) (end : MirrorEnd) → IsEarly end → IsCausedBy read ⊥ repos end → IsCausedBy read write repos end
-early_caused read write repos MirrorEnd.Done early h = absurd early
-early_caused read write repos MirrorEnd.WriteFault early h = absurd early
-early_caused read write repos MirrorEnd.Memory early h = tt
-early_caused read write repos (MirrorEnd.BadStream p) early h = tt
-early_caused read write repos MirrorEnd.ReadFault early h = h
-early_caused read write repos MirrorEnd.Repos early h = h
-early_caused read write repos MirrorEnd.TooLong early h = tt
-
--- what a whole input of which no call failed comes to
 module _ (limit : ℕ) (input : List ℕ) (messages ms : List (List ℕ)) (rest left : List ℕ) (begin : BeginWith input messages rest) (good : AreGood 0 ms) (split : input ≡ with_length ms ++ left) (short : length input < limit) where
   same : Stops 0 ms left → Stops 0 messages rest → (ms ≡ messages) × (left ≡ rest)
   same s t = one_way 0 ms messages left rest good begin.good (sym split ∙ begin.split) s t
 
-  not_spent : IsRestLeft limit MirrorEnd.TooLong ms left → ⊥
+  not_spent : IsRestLeft limit Status.TooLong ms left → ⊥
   not_spent h =
       absurd (omega (arith, short, ap length split, length-append (with_length ms) left, ap length h.2, length-append h.0 h.1, h.4))
 
-  pub may_end : (read write repos : Type 0) → NoMirrorCause read write repos → (end : MirrorEnd) → IsCausedBy read write repos end → IsRestLeft limit end ms left → rest ≡ [] → MirrorMayEnd end
-  may_end read write repos none MirrorEnd.Done cause is whole = tt
-  may_end read write repos none MirrorEnd.Memory cause is whole = tt
-  may_end read write repos none (MirrorEnd.BadStream p) cause is whole = absurd (is.1.some ((same (inr is.1) (inl whole)).1 ∙ whole))
-  may_end read write repos none MirrorEnd.ReadFault cause is whole = absurd (none.no_read cause)
-  may_end read write repos none MirrorEnd.WriteFault cause is whole = absurd (none.no_write cause)
-  may_end read write repos none MirrorEnd.Repos cause is whole = absurd (none.no_repos cause)
-  may_end read write repos none MirrorEnd.TooLong cause is whole = absurd (not_spent is)
+  module _ (status : Status) (is_left : IsRestLeft limit status ms left) where
+    left_at : (s : Status) → status ≡ s → IsRestLeft limit s ms left
+    left_at s is = subst (λ (x : Status). IsRestLeft limit x ms left) is is_left
 
-  pub ends_bad : (read write repos : Type 0) → NoMirrorCause read write repos → (end : MirrorEnd) → IsCausedBy read write repos end → IsRestLeft limit end ms left → IsBadBehind messages rest
-      → (end ≡ MirrorEnd.BadStream (length (with_length messages))) ⊎ (end ≡ MirrorEnd.Memory)
-  ends_bad read write repos none MirrorEnd.Done cause is bad = absurd (bad.some (sym (same (inl is) (inr bad)).1 ∙ is))
-  ends_bad read write repos none MirrorEnd.Memory cause is bad = inr refl
-  ends_bad read write repos none (MirrorEnd.BadStream p) cause is bad =
-      inl (ap MirrorEnd.BadStream (is.0 ∙ ap (λ (l : List (List ℕ)). length (with_length l)) (same (inr is.1) (inr bad)).0))
-  ends_bad read write repos none MirrorEnd.ReadFault cause is bad = absurd (none.no_read cause)
-  ends_bad read write repos none MirrorEnd.WriteFault cause is bad = absurd (none.no_write cause)
-  ends_bad read write repos none MirrorEnd.Repos cause is bad = absurd (none.no_repos cause)
-  ends_bad read write repos none MirrorEnd.TooLong cause is bad = absurd (not_spent is)
+    as_whole : (s : Status) → status ≡ s → MayEndWhole s → MayEndWhole status
+    as_whole s is h = subst MayEndWhole (sym is) h
 
--- of what was mirrored
-pub complete_of : (input_tells output_tells tell : Bool) (limit : ℕ) (repositories : Repositories) (input old new : List ℕ) (end : MirrorEnd) → Mirrored input_tells output_tells tell limit repositories input old new end
-    → IsTrue input_tells → length input < limit → (read write repos : Type 0) → NoMirrorCause read write repos → IsCausedBy read write repos end → (messages : List (List ℕ)) → BeginWith input messages [] → MirrorMayEnd end
-complete_of input_tells output_tells tell limit repositories input old new end m told short read write repos none cause messages begin =
-    may_end limit input messages m.messages [] m.rest begin m.good (m.split told) short read write repos none end cause (m.left told) refl
+    pub ends_whole : rest ≡ [] → IsEnd status → MayEndWhole status
+    ends_whole whole (inl (inl is)) = as_whole Status.Done is tt
+    ends_whole whole (inl (inr (inl is))) = as_whole Status.WriteFault is tt
+    ends_whole whole (inl (inr (inr is))) = as_whole Status.Memory is tt
+    ends_whole whole (inr (inl (place, is))) =
+        let at = left_at (Status.BadStream place) is in absurd (at.1.some ((same (inr at.1) (inl whole)).1 ∙ whole))
+    ends_whole whole (inr (inr (inl is))) = absurd (not_spent (left_at Status.TooLong is))
+    ends_whole whole (inr (inr (inr (inl is)))) = as_whole Status.ReadFault is tt
+    ends_whole whole (inr (inr (inr (inr (inl is))))) = as_whole Status.Repos is tt
+    ends_whole whole (inr (inr (inr (inr (inr is))))) = as_whole Status.Memory is tt
 
-pub bad_of : (input_tells output_tells tell : Bool) (limit : ℕ) (repositories : Repositories) (input old new : List ℕ) (end : MirrorEnd) → Mirrored input_tells output_tells tell limit repositories input old new end
-    → IsTrue input_tells → length input < limit → (read write repos : Type 0) → NoMirrorCause read write repos → IsCausedBy read write repos end → (messages : List (List ℕ)) (rest : List ℕ) → BeginWith input messages rest → IsBadBehind messages rest
-    → (end ≡ MirrorEnd.BadStream (length (with_length messages))) ⊎ (end ≡ MirrorEnd.Memory)
-bad_of input_tells output_tells tell limit repositories input old new end m told short read write repos none cause messages rest begin bad =
-    ends_bad limit input messages m.messages rest m.rest begin m.good (m.split told) short read write repos none end cause (m.left told) bad
+    as_bad : (s : Status) → status ≡ s → MayEndBad (length (with_length messages)) s → MayEndBad (length (with_length messages)) status
+    as_bad s is h = subst (λ (x : Status). MayEndBad (length (with_length messages)) x) (sym is) h
 
--- ---- counts that stand
+    -- nothing is left
+    not_all : IsBadBehind messages rest → left ≡ [] → ⊥
+    not_all bad none = bad.some (sym (same (inl none) (inr bad)).1 ∙ none)
 
--- a fault of a read, or of the repositories, brings the end that speaks of it
-pub read_failed : (fault : StreamFault) (place : ℕ) → fault ≡ StreamFault.Failed → end_of_stream fault place ≡ MirrorEnd.ReadFault
-read_failed fault place is = ap (λ (f : StreamFault). end_of_stream f place) is
+    pub ends_bad : IsBadBehind messages rest → IsEnd status → MayEndBad (length (with_length messages)) status
+    ends_bad bad (inl (inl is)) = absurd (not_all bad (left_at Status.Done is))
+    ends_bad bad (inl (inr (inl is))) = absurd (not_all bad (left_at Status.WriteFault is))
+    ends_bad bad (inl (inr (inr is))) = as_bad Status.Memory is tt
+    ends_bad bad (inr (inl (place, is))) =
+        let at = left_at (Status.BadStream place) is in
+        as_bad (Status.BadStream place) is (at.0 ∙ ap (λ (l : List (List ℕ)). length (with_length l)) (same (inr at.1) (inr bad)).0)
+    ends_bad bad (inr (inr (inl is))) = absurd (not_spent (left_at Status.TooLong is))
+    ends_bad bad (inr (inr (inr (inl is)))) = as_bad Status.ReadFault is tt
+    ends_bad bad (inr (inr (inr (inr (inl is))))) = as_bad Status.Repos is tt
+    ends_bad bad (inr (inr (inr (inr (inr is))))) = as_bad Status.Memory is tt
 
-pub repos_failed : (fault : MirrorFault) (place : ℕ) → fault ≡ MirrorFault.Repos → end_of_mirror fault place ≡ MirrorEnd.Repos
-repos_failed fault place is = ap (λ (f : MirrorFault). end_of_mirror f place) is
+-- ---- together
+
+left_late : (limit : ℕ) (status : Status) (messages : List (List ℕ)) → IsLate status → IsRestLeft limit status messages []
+left_late limit status messages (inl is) = subst (λ (s : Status). IsRestLeft limit s messages []) (sym is) refl
+left_late limit status messages (inr (inl is)) = subst (λ (s : Status). IsRestLeft limit s messages []) (sym is) refl
+left_late limit status messages (inr (inr is)) = subst (λ (s : Status). IsRestLeft limit s messages []) (sym is) tt
+
+pub mirrored_all : (input_tells output_tells tell : Bool) (limit : ℕ) (repositories : Repositories) (input old new : List ℕ) (status : Status) (mirror : Mirror) (events : ℕ)
+    → HasTakenAll input_tells tell repositories input mirror events → IsLate status
+    → (IsTrue output_tells → (dids : List (List ℕ)) → AreKnown mirror dids → Writes status [] (lines_in mirror dids ++ mirror_end_line events) old new)
+    → Mirrored input_tells output_tells tell limit repositories input old new status
+mirrored_all input_tells output_tells tell limit repositories input old new status mirror events (place, t) late h =
+    let text = whole_text input_tells tell repositories input [] place mirror events t in
+    let is = is_text input_tells tell repositories input [] place mirror events t in
+    let wrote : IsTrue output_tells → Writes status [] text old new = λ told. h told (dids_of t.messages) (dids_known input_tells tell repositories input [] place mirror events t) in
+    let left = left_late limit status t.messages late in
+    record {
+      messages = t.messages;
+      rest = [];
+      good = t.good;
+      split = t.split;
+      left = λ told. left;
+      written = λ told. (text, is, wrote told);
+      whole = λ told short all begin. ends_whole limit input all t.messages [] [] begin t.good (t.split told) short status left refl (inl late);
+      bad = λ told short front behind begin bad. ends_bad limit input front t.messages behind [] begin t.good (t.split told) short status left bad (inl late);
+      chains = λ told done. holds_chains repositories input t.messages t.good (t.split told);
+      heads = λ told shown known done.
+          tells_heads tell repositories input old new t.messages text known t.good (t.split told) is (subst (λ (s : Status). Writes s [] text old new) done (wrote shown));
+    }
+
+-- where it stopped nothing was written
+unwritten : (status : Status) (text old : List ℕ) → IsEarly status → Writes status [] text old old
+unwritten status text old (inl (place, is)) = subst (λ (s : Status). Writes s [] text old old) (sym is) (sym (append-nil old))
+unwritten status text old (inr (inl is)) = subst (λ (s : Status). Writes s [] text old old) (sym is) (sym (append-nil old))
+unwritten status text old (inr (inr (inl is))) = subst (λ (s : Status). Writes s [] text old old) (sym is) (sym (append-nil old))
+unwritten status text old (inr (inr (inr (inl is)))) = subst (λ (s : Status). Writes s [] text old old) (sym is) (sym (append-nil old))
+unwritten status text old (inr (inr (inr (inr is)))) = subst (λ (s : Status). Writes s [] text old old) (sym is) (nothing_added old text)
+
+-- it didn't stop where all was done
+early_not_done : (status : Status) → IsEarly status → status ≡ Status.Done → ⊥
+early_not_done status (inl (place, is)) done = let no : Status.BadStream place ≡ Status.Done = sym is ∙ done in absurd cc
+early_not_done status (inr (inl is)) done = let no : Status.TooLong ≡ Status.Done = sym is ∙ done in absurd cc
+early_not_done status (inr (inr (inl is))) done = let no : Status.ReadFault ≡ Status.Done = sym is ∙ done in absurd cc
+early_not_done status (inr (inr (inr (inl is)))) done = let no : Status.Repos ≡ Status.Done = sym is ∙ done in absurd cc
+early_not_done status (inr (inr (inr (inr is)))) done = let no : Status.Memory ≡ Status.Done = sym is ∙ done in absurd cc
+
+pub mirrored_front : (input_tells output_tells tell : Bool) (limit : ℕ) (repositories : Repositories) (input old : List ℕ) (status : Status) → HasStopped input_tells tell repositories limit input status → IsEarly status
+    → Mirrored input_tells output_tells tell limit repositories input old old status
+mirrored_front input_tells output_tells tell limit repositories input old status s early =
+    let t = s.taken in
+    let text = whole_text input_tells tell repositories input s.left s.place s.mirror s.events t in
+    record {
+      messages = t.messages;
+      rest = s.left;
+      good = t.good;
+      split = t.split;
+      left = s.rest;
+      written = λ told. (text, is_text input_tells tell repositories input s.left s.place s.mirror s.events t, unwritten status text old early);
+      whole = λ told short all begin. ends_whole limit input all t.messages [] s.left begin t.good (t.split told) short status (s.rest told) refl (inr early);
+      bad = λ told short front behind begin bad. ends_bad limit input front t.messages behind s.left begin t.good (t.split told) short status (s.rest told) bad (inr early);
+      chains = λ told done. absurd (early_not_done status early done);
+      heads = λ told shown known done. absurd (early_not_done status early done);
+    }
+
+-- ---- counts of failures
+
+-- a count that stands, of a part that the answer doesn't speak of
+pub stands : (told : Type 0) (old new : ℕ) → new ≡ old → (told → ⊥) → Counted told old new
+stands told old new same not = record { rose = λ is. absurd (not is); steady = λ _. same; kept = omega (arith, same) }
+
+-- of a part whose failure the answer speaks of
+pub counted_as : (failed told : Type 0) (old mid new : ℕ) → mid ≡ old → (told → failed) → (failed → told) → Counted failed mid new → Counted told old new
+counted_as failed told old mid new same back forth c =
+    subst (λ (n : ℕ). Counted told n new) same (record { rose = λ is. c.rose (back is); steady = λ not. c.steady (λ is. not (forth is)); kept = c.kept })
+
+abbrev pub failed_by : {A E : Type 0} → E → Result A E
+failed_by e = Err e
+
+abbrev error_or : {A E : Type 0} → E → Result A E → E
+error_or other (Ok x) = other
+error_or other (Err e) = e
+
+pub same_error : {A E : Type 0} (one other : E) → failed_by {A = A} one ≡ failed_by other → one ≡ other
+same_error one other is = ap (error_or one) is
+
+-- a fault of a read, or of the repositories, brings the status that speaks of it, and nothing else does
+read_fault : (fault : StreamFault) (place : ℕ) → status_of_stream fault place ≡ Status.ReadFault → fault ≡ StreamFault.Failed
+read_fault StreamFault.Bad place is = let no : ⊥ = cc in absurd no
+read_fault StreamFault.Failed place is = refl
+read_fault StreamFault.Limit place is = let no : ⊥ = cc in absurd no
+read_fault StreamFault.Memory place is = let no : ⊥ = cc in absurd no
+
+pub no_repos_fault : (fault : StreamFault) (place : ℕ) → status_of_stream fault place ≡ Status.Repos → ⊥
+no_repos_fault StreamFault.Bad place is = cc
+no_repos_fault StreamFault.Failed place is = cc
+no_repos_fault StreamFault.Limit place is = cc
+no_repos_fault StreamFault.Memory place is = cc
+
+repos_fault : (fault : MirrorFault) (place : ℕ) → status_of_message fault place ≡ Status.Repos → fault ≡ MirrorFault.Repos
+repos_fault MirrorFault.BadMessage place is = let no : ⊥ = cc in absurd no
+repos_fault MirrorFault.Repos place is = refl
+repos_fault MirrorFault.Memory place is = let no : ⊥ = cc in absurd no
+
+pub no_read_fault : (fault : MirrorFault) (place : ℕ) → status_of_message fault place ≡ Status.ReadFault → ⊥
+no_read_fault MirrorFault.BadMessage place is = cc
+no_read_fault MirrorFault.Repos place is = cc
+no_read_fault MirrorFault.Memory place is = cc
+
+pub read_counted : {A B : Type 0} (fault : StreamFault) (place : ℕ) (status : Status) (old mid new : ℕ) → status ≡ status_of_stream fault place → mid ≡ old
+    → Counted (failed_by {A = A} fault ≡ failed_by StreamFault.Failed) mid new → Counted (failed_by {A = B} status ≡ failed_by Status.ReadFault) old new
+read_counted fault place status old mid new is same c =
+    counted_as _ _ old mid new same
+    (λ told. ap failed_by (read_fault fault place (sym is ∙ same_error status Status.ReadFault told)))
+    (λ failed. ap failed_by (is ∙ ap (λ (f : StreamFault). status_of_stream f place) (same_error fault StreamFault.Failed failed))) c
+
+pub repos_counted : {A B : Type 0} (fault : MirrorFault) (place : ℕ) (status : Status) (old mid new : ℕ) → status ≡ status_of_message fault place → mid ≡ old
+    → Counted (failed_by {A = A} fault ≡ failed_by MirrorFault.Repos) mid new → Counted (failed_by {A = B} status ≡ failed_by Status.Repos) old new
+repos_counted fault place status old mid new is same c =
+    counted_as _ _ old mid new same
+    (λ told. ap failed_by (repos_fault fault place (sym is ∙ same_error status Status.Repos told)))
+    (λ failed. ap failed_by (is ∙ ap (λ (f : MirrorFault). status_of_message f place) (same_error fault MirrorFault.Repos failed))) c

@@ -16,7 +16,8 @@ use Rattle.relay_io.specs.declared.feed.TheConstants.{LONGEST_FEED_MESSAGE}
 use Rattle.mirror.specs.Held.{IsAfter, IsHeldFrom}
 use Rattle.mirror.specs.Repository.{Repositories}
 use Rattle.mirror.specs.State.{at_start, held_by, is_known}
-use Rattle.mirror.specs.Taken.{IsTaken, is_such_event_of, is_bad, is_repo_body, last_behind}
+use Rattle.mirror.specs.Taken.{IsTaken, is_such_event_of, is_bad, last_behind}
+use Rattle.at_event.specs.Bodies.{has_blocks}
 use Rattle.mirror.specs.declared.holding.Holding.{Holding}
 use Rattle.mirror.specs.declared.keeping.Mirror.{Mirror}
 use Rattle.mirror.specs.declared.step.Step.{Step}
@@ -51,11 +52,11 @@ or_none : (a : Bool) → (a || false) ≡ a
 or_none true = refl
 or_none false = refl
 
-tell_more : (did : List ℕ) (messages : List (List ℕ)) (m : List ℕ) → tell_of did (messages ++ m ∷ []) ≡ (tell_of did messages || is_such_event_of is_repo_body did (frame_of m))
-tell_more did [] m = or_none (is_such_event_of is_repo_body did (frame_of m))
+tell_more : (did : List ℕ) (messages : List (List ℕ)) (m : List ℕ) → tell_of did (messages ++ m ∷ []) ≡ (tell_of did messages || is_such_event_of has_blocks did (frame_of m))
+tell_more did [] m = or_none (is_such_event_of has_blocks did (frame_of m))
 tell_more did (k ∷ messages) m =
-    ap (λ (b : Bool). is_such_event_of is_repo_body did (frame_of k) || b) (tell_more did messages m)
-    ∙ or_last (is_such_event_of is_repo_body did (frame_of k)) (tell_of did messages) (is_such_event_of is_repo_body did (frame_of m))
+    ap (λ (b : Bool). is_such_event_of has_blocks did (frame_of k) || b) (tell_more did messages m)
+    ∙ or_last (is_such_event_of has_blocks did (frame_of k)) (tell_of did messages) (is_such_event_of has_blocks did (frame_of m))
 
 abbrev pub counted : Bool → ℕ
 counted b = cond b 1 0
@@ -104,11 +105,11 @@ and_no : (b c : Bool) → c ≡ false → (b && c) ≡ false
 and_no true c h = h
 and_no false c h = refl
 
-pub about_named : (m : List ℕ) → IsBytes m → is_such_event_of is_repo_body [] (frame_of m) ≡ false
+pub about_named : (m : List ℕ) → IsBytes m → is_such_event_of has_blocks [] (frame_of m) ≡ false
 about_named m bytes = of (frame_of m) refl
   where
-    of : (f : Result Frame FrameFault) → frame_of m ≡ f → is_such_event_of is_repo_body [] f ≡ false
-    of (Ok (Frame.Event e)) is = and_no (is_repo_body e.body) (bytes_eq [] e.did) (named_did e.did (events_formed e (frames_events m e bytes is)).did)
+    of : (f : Result Frame FrameFault) → frame_of m ≡ f → is_such_event_of has_blocks [] f ≡ false
+    of (Ok (Frame.Event e)) is = and_no (has_blocks e.body) (bytes_eq [] e.did) (named_did e.did (events_formed e (frames_events m e bytes is)).did)
     of (Ok Frame.Info) is = refl
     of (Ok (Frame.Faulty seq)) is = refl
     of (Ok Frame.Error) is = refl
@@ -133,8 +134,8 @@ taken_more input_tells tell repositories now input left left_new place place_new
       last = taken.last ∙ ap (λ n. last_behind n (frame_of m)) t.last ∙ sym (last_more 0 t.messages m);
       held = λ told did. held_more repositories did (Holding.Mapped None []) t.messages (held_by old did) m (held_by new did) (t.held told did)
           (subst (λ (r : Repositories). IsAfter r did m (held_by old did) (held_by new did)) (λ i d. same told d i) (taken.held did (λ h. told)));
-      known = λ did. taken.known did ∙ ap (λ (b : Bool). b || is_such_event_of is_repo_body did (frame_of m)) (t.known did) ∙ sym (tell_more did t.messages m);
-      named = tell_more [] t.messages m ∙ ap (λ (b : Bool). b || is_such_event_of is_repo_body [] (frame_of m)) t.named ∙ about_named m bytes;
+      known = λ did. taken.known did ∙ ap (λ (b : Bool). b || is_such_event_of has_blocks did (frame_of m)) (t.known did) ∙ sym (tell_more did t.messages m);
+      named = tell_more [] t.messages m ∙ ap (λ (b : Bool). b || is_such_event_of has_blocks [] (frame_of m)) t.named ∙ about_named m bytes;
       count = events_is ∙ ap (λ n. n + counted (ltb old.last new.last)) t.count
           ∙ ap (λ (b : Bool). event_count t.messages + counted b) (rises_at old.last new.last (frame_of m) taken.good taken.last) ∙ sym (count_more t.messages m);
     }

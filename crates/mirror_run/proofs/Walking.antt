@@ -12,9 +12,9 @@ use Rattle.at_cid.specs.Order.{key_cmp}
 use Rattle.at_cid.proofs.Order.{cmp_above, cmp_below, cmp_exact, cmp_same, cmp_trans}
 use Rattle.mirror.specs.State.{is_known}
 use Rattle.mirror.specs.declared.keeping.Mirror.{Mirror}
-use Rattle.mirror_run.specs.Mirrored.{AllBehind, Ascend, is_among}
+use Rattle.mirror_run.specs.Mirrored.{AllBehind, Ascend}
 use Rattle.mirror_run.specs.Printing.{AreKnown, line_in, lines_in}
-use Rattle.mirror_run.proofs.Ordered.{behind_all}
+use Rattle.mirror_run.proofs.Ordered.{behind_all, is_among}
 
 -- the order and the test of sameness
 same_of : (a b : List ℕ) → bytes_eq a b ≡ is_eq (key_cmp a b)

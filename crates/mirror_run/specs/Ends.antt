@@ -1,22 +1,27 @@
 -- How mirroring a stream ends (own).
-use Rattle.std.specs.Prelude.{⊤}
-use Rattle.mirror_run.specs.declared.end.MirrorEnd.{MirrorEnd}
+use Rattle.std.specs.Prelude.{◌≡◌, ⊤, ℕ}
+use Rattle.run_base.specs.declared.status.Status.{Status}
 
--- the ends that a good stream comes to where nothing fails
-abbrev pub MirrorMayEnd : MirrorEnd → Type 0
-MirrorMayEnd MirrorEnd.Done = ⊤
-MirrorMayEnd MirrorEnd.Memory = ⊤
-MirrorMayEnd end = ⊥
+-- a call of the input or of the repositories failed, or memory ran out
+abbrev pub IsFault : Status → Type 0
+IsFault Status.ReadFault = ⊤
+IsFault Status.Repos = ⊤
+IsFault Status.Memory = ⊤
+IsFault status = ⊥
 
--- the cause of an end that speaks of a failure
-abbrev pub IsCausedBy : Type 0 → Type 0 → Type 0 → MirrorEnd → Type 0
-IsCausedBy read write repos MirrorEnd.ReadFault = read
-IsCausedBy read write repos MirrorEnd.WriteFault = write
-IsCausedBy read write repos MirrorEnd.Repos = repos
-IsCausedBy read write repos end = ⊤
+-- how a stream may end of which each message can be taken
+abbrev pub MayEndWhole : Status → Type 0
+MayEndWhole Status.Done = ⊤
+MayEndWhole Status.WriteFault = ⊤
+MayEndWhole status = IsFault status
 
--- none of these has happened
-pub record NoMirrorCause (read write repos : Type 0) : Type 0 where
-  pub no_read : read → ⊥
-  pub no_write : write → ⊥
-  pub no_repos : repos → ⊥
+-- and one of which what stands from this place on can't be taken
+abbrev pub MayEndBad : ℕ → Status → Type 0
+MayEndBad from (Status.BadStream place) = place ≡ from
+MayEndBad from status = IsFault status
+
+-- and any stream
+abbrev pub MayEndMirroring : Status → Type 0
+MayEndMirroring (Status.BadStream place) = ⊤
+MayEndMirroring Status.TooLong = ⊤
+MayEndMirroring status = MayEndWhole status

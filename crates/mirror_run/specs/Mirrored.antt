@@ -1,19 +1,20 @@
 -- What mirroring a stream does (own).
-use Rattle.std.specs.Prelude.{◌≡◌, ◌⊎◌, ⊤, ℕ, ◌+◌, Bool, List, [], ◌∷◌, ◌++◌, length, IsTrue}
+use Rattle.std.specs.Prelude.{◌≡◌, ◌<◌, ⊤, ℕ, ◌+◌, Bool, List, [], ◌∷◌, ◌++◌, length, IsTrue}
 use Rattle.std.specs.declared.cmp.Ordering.TheVariants.{Less}
 use Rattle.std.specs.List.{list_any}
 use Rattle.std.specs.Str.{bytes_eq}
 use Rattle.at_cid.specs.Order.{key_cmp}
 use Rattle.backfill.specs.Writing.{with_length}
-use Rattle.relay_io.specs.Streams.{AddsFront}
 use Rattle.mirror.specs.Held.{IsHeld}
 use Rattle.mirror.specs.Repository.{Repositories}
 use Rattle.mirror.specs.declared.holding.Holding.{Holding}
+use Rattle.run_base.specs.Ends.{Writes}
+use Rattle.run_base.specs.declared.status.Status.{Status}
 use Rattle.mirror_run.specs.Chains.{HoldsChains}
+use Rattle.mirror_run.specs.Ends.{MayEndBad, MayEndWhole}
 use Rattle.mirror_run.specs.Heads.{TellsHeads}
 use Rattle.mirror_run.specs.Lines.{mirror_end_line, mirror_line}
-use Rattle.mirror_run.specs.Stream.{AreGood, EndsInMessage, IsBadBehind, event_count, tell_of}
-use Rattle.mirror_run.specs.declared.end.MirrorEnd.{MirrorEnd}
+use Rattle.mirror_run.specs.Stream.{AreGood, BeginWith, EndsInMessage, IsBadBehind, event_count, tell_of}
 
 -- a name stands before each of these, in the order of bytes
 abbrev pub AllBehind : List ℕ → List (List ℕ) → Type 0
@@ -24,10 +25,6 @@ AllBehind did (d ∷ dids) = (key_cmp did d ≡ Less) × AllBehind did dids
 abbrev pub Ascend : List (List ℕ) → Type 0
 Ascend [] = Unit {0}
 Ascend (did ∷ dids) = AllBehind did dids × Ascend dids
-
--- a name is among these
-abbrev pub is_among : List (List ℕ) → List ℕ → Bool
-is_among dids did = list_any (bytes_eq did) dids
 
 -- the lines of DIDs, by what is held of each behind the messages
 abbrev pub AreLines : Bool → Repositories → List (List ℕ) → List (List ℕ) → List ℕ → Type 0
@@ -43,47 +40,49 @@ pub record IsMirrorText (tell : Bool) (repositories : Repositories) (messages : 
   pub dids : List (List ℕ)
   pub lines : List ℕ
   pub ascend : Ascend dids
-  pub told : (did : List ℕ) → is_among dids did ≡ tell_of did messages
+  pub told : (did : List ℕ) → list_any (bytes_eq did) dids ≡ tell_of did messages
   pub are : AreLines tell repositories messages dids lines
   pub whole : text ≡ lines ++ mirror_end_line (event_count messages)
 
--- The whole text was written where all was done, and a front of it where writing failed. Where
--- memory ran out nothing was written, or a front of it. At every other end nothing was.
-abbrev pub IsMirrorWritten : Bool → Repositories → MirrorEnd → List (List ℕ) → List ℕ → List ℕ
+-- The whole text was written where all was done, and a front of it where writing failed or memory
+-- ran out. At every other end nothing was.
+abbrev pub IsMirrorWritten : Bool → Repositories → Status → List (List ℕ) → List ℕ → List ℕ
     → Type 0
-IsMirrorWritten tell repositories MirrorEnd.Done messages old new =
-    (text : List ℕ) × IsMirrorText tell repositories messages text × (new ≡ old ++ text)
-IsMirrorWritten tell repositories MirrorEnd.WriteFault messages old new =
-    (text : List ℕ) × IsMirrorText tell repositories messages text × AddsFront old new text
-IsMirrorWritten tell repositories MirrorEnd.Memory messages old new =
-    (new ≡ old) ⊎ ((text : List ℕ) × IsMirrorText tell repositories messages text
-    × AddsFront old new text)
-IsMirrorWritten tell repositories end messages old new = new ≡ old
+IsMirrorWritten tell repositories status messages old new =
+    (text : List ℕ) × IsMirrorText tell repositories messages text × Writes status [] text old new
 
 -- What stands in the input behind the messages that were taken, by how it ended: nothing; what
 -- can't be taken, at its place; or more than may be taken, of which a front of a message was.
-abbrev pub IsRestLeft : ℕ → MirrorEnd → List (List ℕ) → List ℕ → Type 0
-IsRestLeft limit MirrorEnd.Done messages rest = rest ≡ []
-IsRestLeft limit MirrorEnd.WriteFault messages rest = rest ≡ []
-IsRestLeft limit (MirrorEnd.BadStream place) messages rest =
+abbrev pub IsRestLeft : ℕ → Status → List (List ℕ) → List ℕ → Type 0
+IsRestLeft limit Status.Done messages rest = rest ≡ []
+IsRestLeft limit Status.WriteFault messages rest = rest ≡ []
+IsRestLeft limit (Status.BadStream place) messages rest =
     (place ≡ length (with_length messages)) × IsBadBehind messages rest
-IsRestLeft limit MirrorEnd.TooLong messages rest =
+IsRestLeft limit Status.TooLong messages rest =
     (part : List ℕ) × (after : List ℕ) × (rest ≡ part ++ after) × EndsInMessage part
     × (length (with_length messages) + length part ≡ limit)
-IsRestLeft limit end messages rest = ⊤
+IsRestLeft limit status messages rest = ⊤
 
 -- A stream was mirrored, of which at most so many bytes may be taken: these messages at its front
 -- were taken, and their text was written.
 pub record Mirrored (input_tells output_tells repositories_tell : Bool) (limit : ℕ)
     (repositories : Repositories)
-    (input old new : List ℕ) (end : MirrorEnd) : Type 0 where
+    (input old new : List ℕ) (status : Status) : Type 0 where
   pub messages : List (List ℕ)
   pub rest : List ℕ
   pub good : AreGood 0 messages
   pub split : IsTrue input_tells → input ≡ with_length messages ++ rest
-  pub left : IsTrue input_tells → IsRestLeft limit end messages rest
+  pub left : IsTrue input_tells → IsRestLeft limit status messages rest
   pub written : IsTrue output_tells
-      → IsMirrorWritten repositories_tell repositories end messages old new
-  pub chains : IsTrue input_tells → end ≡ MirrorEnd.Done → HoldsChains repositories input messages
+      → IsMirrorWritten repositories_tell repositories status messages old new
+  -- a short stream: a whole one is taken, unless a call fails or memory runs out
+  pub whole : IsTrue input_tells → length input < limit → (all : List (List ℕ))
+      → BeginWith input all [] → MayEndWhole status
+  -- and of another the place is told from which on it can't be taken
+  pub bad : IsTrue input_tells → length input < limit → (front : List (List ℕ)) (behind : List ℕ)
+      → BeginWith input front behind → IsBadBehind front behind
+      → MayEndBad (length (with_length front)) status
+  pub chains : IsTrue input_tells → status ≡ Status.Done
+      → HoldsChains repositories input messages
   pub heads : IsTrue input_tells → IsTrue output_tells → IsTrue repositories_tell
-      → end ≡ MirrorEnd.Done → TellsHeads repositories input old new
+      → status ≡ Status.Done → TellsHeads repositories input old new

@@ -8,7 +8,8 @@ use Rattle.at_event.specs.declared.frame.Frame.{Frame}
 use Rattle.at_event.specs.declared.frame.FrameFault.{FrameFault}
 use Rattle.backfill.specs.Writing.{stream_frame, with_length}
 use Rattle.relay_io.specs.declared.feed.TheConstants.{LONGEST_FEED_MESSAGE}
-use Rattle.mirror.specs.Taken.{is_such_event_of, is_bad, is_repo_body, last_behind}
+use Rattle.mirror.specs.Taken.{is_such_event_of, is_bad, last_behind}
+use Rattle.at_event.specs.Bodies.{has_blocks}
 
 -- each message is short, and none is bad behind those before it
 abbrev pub AreGood : ℕ → List (List ℕ) → Type 0
@@ -59,4 +60,4 @@ event_count messages = length (filter (λ m. is_event (frame_of m)) messages)
 
 -- a commit or a `#sync` of the DID is among them
 abbrev pub tell_of : List ℕ → List (List ℕ) → Bool
-tell_of did messages = list_any (λ m. is_such_event_of is_repo_body did (frame_of m)) messages
+tell_of did messages = list_any (λ m. is_such_event_of has_blocks did (frame_of m)) messages

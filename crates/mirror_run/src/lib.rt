@@ -9,5 +9,4 @@ mod printing;
 mod reader;
 mod taking;
 
-pub use end::MirrorEnd;
 pub use mirroring::mirror;

@@ -1,17 +1,18 @@
 //! The lines of a mirror on an output.
 
-ghost use Rattle.std.specs.Prelude.{◌≡◌, ◌≢◌, ◌≤◌, ◌++◌, ℕ, List, [], false, IsTrue, IfOk, IfErr, OnOk, OnErr, Err};
-ghost use Rattle.at_cid.specs.Counts.{Rose};
+ghost use Rattle.std.specs.Prelude.{◌≡◌, ◌++◌, ℕ, List, [], false, IsTrue, IsErr, IfOk, IfErr, OnOk, OnErr, Err};
 ghost use Rattle.relay_io.specs.Streams.{AddsFront};
 ghost use Rattle.mirror.specs.State.{is_known};
 ghost use Rattle.mirror_run.specs.Lines.{mirror_end_line};
-ghost use Rattle.mirror_run.specs.Printing.{AreKnown, IsLate, IsTextWritten, IsUnwritten, Moves, line_in, lines_in};
+ghost use Rattle.mirror_run.specs.Printing.{AreKnown, IsLate, IsUnwritten, Moves, line_in, lines_in};
+ghost use Rattle.run_base.specs.Counts.{Counted};
+ghost use Rattle.run_base.specs.Ends.{Writes};
 
-use crate::end::MirrorEnd;
 use crate::line::{end_line, map_line, waiting_line};
 use at_cid::{Memory, Octets};
 use mirror::Mirror;
-use relay_io::{Sink, write_all};
+use relay_io::{Failed, Sink, write_all};
+use run_base::Status;
 use std::alloc::Global;
 
 /// As many bytes are written together.
@@ -36,26 +37,20 @@ fn add_account(alloc: Global, mirror: &Mirror, did: &str, text: &mut Octets) -> 
 }
 
 // Writes what waits, where that is so much.
-fn write_some<O: Sink>(out: &mut O, text: &mut Octets, enough: usize) -> Result<(), MirrorEnd>
+fn write_some<O: Sink>(out: &mut O, text: &mut Octets, enough: usize) -> Result<(), Failed>
     ensures moved { OnOk result (IsTrue O.tells
         → Moves (O.written out.old) (O.written out.new) text.old text.new) }
-    ensures front { IfErr result (λ end. (end ≡ MirrorEnd.WriteFault)
-        × (IsTrue O.tells → AddsFront (O.written out.old) (O.written out.new) text.old)) }
+    ensures front { OnErr result (IsTrue O.tells
+        → AddsFront (O.written out.old) (O.written out.new) text.old) }
     ensures all { OnOk result (enough ≡ 0 → text.new ≡ []) }
-    ensures counts { O.faults out.old ≤ O.faults out.new }
-    ensures steady { OnOk result (O.faults out.new ≡ O.faults out.old) }
-    ensures failed { OnErr result (Rose (O.faults out.old) (O.faults out.new)) }
+    ensures counts { Counted (IsErr result) (O.faults out.old) (O.faults out.new) }
 {
     if text.len() < enough {
         return Ok(());
     }
-    match write_all(out, text.as_slice()) {
-        Ok(()) => {
-            text.clear();
-            Ok(())
-        }
-        Err(_) => Err(MirrorEnd::WriteFault),
-    }
+    write_all(out, text.as_slice())?;
+    text.clear();
+    Ok(())
 }
 
 // Writes the line of each account, the last of which wait as text.
@@ -64,19 +59,17 @@ fn write_accounts<O: Sink>(
     mirror: &Mirror,
     out: &mut O,
     text: &mut Octets,
-) -> Result<(), MirrorEnd>
+) -> Result<(), Status>
     requires start { text.old ≡ [] }
     requires named { is_known mirror.now [] ≡ false }
     ensures written { OnOk result (IsTrue O.tells → (dids : List (List ℕ))
         → AreKnown mirror.now dids
         → Moves (O.written out.old) (O.written out.new) (lines_in mirror.now dids) text.new) }
-    ensures front { IfErr result (λ end. IsUnwritten end × (IsTrue O.tells
+    ensures front { IfErr result (λ status. IsUnwritten status × (IsTrue O.tells
         → (dids : List (List ℕ)) → AreKnown mirror.now dids
         → AddsFront (O.written out.old) (O.written out.new) (lines_in mirror.now dids))) }
-    ensures counts { O.faults out.old ≤ O.faults out.new }
-    ensures steady { result ≢ Err MirrorEnd.WriteFault → O.faults out.new ≡ O.faults out.old }
-    ensures failed { IfErr result (λ end. end ≡ MirrorEnd.WriteFault
-        → Rose (O.faults out.old) (O.faults out.new)) }
+    ensures counts { Counted (result ≡ Err Status.WriteFault)
+        (O.faults out.old) (O.faults out.new) }
 {
     let mut last = "";
     'accounts: loop {
@@ -85,37 +78,34 @@ fn write_accounts<O: Sink>(
         };
         match add_account(alloc, mirror, did, text) {
             Ok(()) => {}
-            Err(_) => return Err(MirrorEnd::Memory),
+            Err(_) => return Err(Status::Memory),
         }
         match write_some(out, text, PIECE) {
             Ok(()) => {}
-            Err(end) => return Err(end),
+            Err(_) => return Err(Status::WriteFault),
         }
         last = did;
     }
 }
 
 // Writes what waits, and behind it the last line.
-fn write_end<O: Sink>(alloc: Global, events: u64, out: &mut O, text: &mut Octets) -> MirrorEnd
-    ensures written { IsTrue O.tells → IsTextWritten result (text.old ++ mirror_end_line events)
+fn write_end<O: Sink>(alloc: Global, events: u64, out: &mut O, text: &mut Octets) -> Status
+    ensures written { IsTrue O.tells → Writes result [] (text.old ++ mirror_end_line events)
         (O.written out.old) (O.written out.new) }
     ensures wrote { IsLate result }
-    ensures counts { O.faults out.old ≤ O.faults out.new }
-    ensures steady { result ≢ MirrorEnd.WriteFault → O.faults out.new ≡ O.faults out.old }
-    ensures failed { result ≡ MirrorEnd.WriteFault
-        → Rose (O.faults out.old) (O.faults out.new) }
+    ensures counts { Counted (result ≡ Status.WriteFault) (O.faults out.old) (O.faults out.new) }
 {
     let line = match end_line(alloc, events) {
         Ok(line) => line,
-        Err(_) => return MirrorEnd::Memory,
+        Err(_) => return Status::Memory,
     };
     match text.extend(line.as_slice()) {
         Ok(()) => {}
-        Err(_) => return MirrorEnd::Memory,
+        Err(_) => return Status::Memory,
     }
     match write_some(out, text, 0) {
-        Ok(()) => MirrorEnd::Done,
-        Err(end) => end,
+        Ok(()) => Status::Done,
+        Err(_) => Status::WriteFault,
     }
 }
 
@@ -125,20 +115,17 @@ pub(crate) fn write_text<O: Sink>(
     mirror: &Mirror,
     events: u64,
     out: &mut O,
-) -> MirrorEnd
+) -> Status
     requires named { is_known mirror.now [] ≡ false }
     ensures written { IsTrue O.tells → (dids : List (List ℕ)) → AreKnown mirror.now dids
-        → IsTextWritten result (lines_in mirror.now dids ++ mirror_end_line events)
+        → Writes result [] (lines_in mirror.now dids ++ mirror_end_line events)
         (O.written out.old) (O.written out.new) }
     ensures wrote { IsLate result }
-    ensures counts { O.faults out.old ≤ O.faults out.new }
-    ensures steady { result ≢ MirrorEnd.WriteFault → O.faults out.new ≡ O.faults out.old }
-    ensures failed { result ≡ MirrorEnd.WriteFault
-        → Rose (O.faults out.old) (O.faults out.new) }
+    ensures counts { Counted (result ≡ Status.WriteFault) (O.faults out.old) (O.faults out.new) }
 {
     let mut text = Octets::new(alloc);
     match write_accounts(alloc, mirror, out, &mut text) {
         Ok(()) => write_end(alloc, events, out, &mut text),
-        Err(end) => end,
+        Err(status) => status,
     }
 }

@@ -1,11 +1,11 @@
 //! Reading a stream.
 
-ghost use Rattle.std.specs.Prelude.{◌≡◌, ◌≢◌, ◌≤◌, ◌<◌, ◌+◌, ◌++◌, [], length, List, ℕ, IsTrue, IfOk, IfErr, OnOk, OnErr, IsErrOf, Err};
-ghost use Rattle.at_cid.specs.Counts.{Rose};
+ghost use Rattle.std.specs.Prelude.{◌≡◌, ◌≤◌, ◌<◌, ◌+◌, ◌++◌, [], length, List, ℕ, IsTrue, IfOk, IfErr, OnOk, OnErr, IsErrOf, Err};
 ghost use Rattle.backfill.specs.Writing.{stream_frame};
 ghost use Rattle.tape.specs.ReadAhead.{items};
 ghost use Rattle.tape.specs.declared.record.TheConstants.{LONGEST_RECORD};
 ghost use Rattle.mirror_run.specs.Front.{IsLonger, ShowsFront};
+ghost use Rattle.run_base.specs.Counts.{Counted};
 
 use crate::front::{Front, LENGTH, read_front};
 use at_cid::{Memory, Octets};
@@ -96,11 +96,8 @@ impl MessageReader {
             → IsNext self.old (I.left source.old) self.new (I.left source.new) result }
         ensures placed { IsPlaced self.old.place self.new.place result }
         ensures most { self.new.most ≡ self.old.most }
-        ensures counts { I.faults source.old ≤ I.faults source.new }
-        ensures failed { IsErrOf result StreamFault.Failed
-            → Rose (I.faults source.old) (I.faults source.new) }
-        ensures steady { result ≢ Err StreamFault.Failed
-            → I.faults source.new ≡ I.faults source.old }
+        ensures counts { Counted (result ≡ Err StreamFault.Failed)
+            (I.faults source.old) (I.faults source.new) }
     {
         'pieces: loop {
             let total = match self.front()? {
@@ -153,11 +150,8 @@ impl MessageReader {
         ensures cause { IfErr result HasNoPiece }
         ensures place { self.new.place ≡ self.old.place }
         ensures most { self.new.most ≡ self.old.most }
-        ensures counts { I.faults source.old ≤ I.faults source.new }
-        ensures failed { IsErrOf result StreamFault.Failed
-            → Rose (I.faults source.old) (I.faults source.new) }
-        ensures steady { result ≢ Err StreamFault.Failed
-            → I.faults source.new ≡ I.faults source.old }
+        ensures counts { Counted (result ≡ Err StreamFault.Failed)
+            (I.faults source.old) (I.faults source.new) }
     {
         let left = self.most - self.place - self.window.len() as u64;
         if left == 0 {

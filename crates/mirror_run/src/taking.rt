@@ -1,14 +1,14 @@
 //! Taking a whole stream into a mirror.
 
-ghost use Rattle.std.specs.Prelude.{◌≡◌, ◌≢◌, ◌≤◌, ◌<◌, ◌^◌, ℕ, List, IsTrue, IfOk, IfErr, Err};
-ghost use Rattle.at_cid.specs.Counts.{Rose};
-ghost use Rattle.mirror_run.specs.Ends.{IsCausedBy};
+ghost use Rattle.std.specs.Prelude.{◌≡◌, ◌<◌, ◌^◌, ℕ, List, IsTrue, IfOk, IfErr, Err};
 ghost use Rattle.mirror_run.specs.Taking.{HasStopped, HasTakenAll, IsEarly};
+ghost use Rattle.run_base.specs.Counts.{Counted};
 
-use crate::end::MirrorEnd;
+use crate::end::{of_message, of_stream};
 use crate::reader::MessageReader;
 use mirror::Mirror;
 use relay_io::{Repos, Source};
+use run_base::Status;
 use std::alloc::Global;
 
 /// What a stream came to.
@@ -25,21 +25,19 @@ pub(crate) fn take_stream<I: Source, R: Repos>(
     limit: u64,
     input: &mut I,
     repos: &mut R,
-) -> Result<Taken, MirrorEnd>
+) -> Result<Taken, Status>
     requires { limit < 2 ^ 63 }
     ensures taken { IfOk result (λ t. HasTakenAll I.tells R.tells (R.repository repos.old)
         (I.left input.old) t.mirror t.events) }
-    ensures stopped { IfErr result (HasStopped I.tells limit (I.left input.old)) }
+    ensures stopped { IfErr result (HasStopped I.tells R.tells (R.repository repos.old) limit
+        (I.left input.old)) }
     ensures early { IfErr result IsEarly }
-    ensures caused { IfErr result (IsCausedBy (Rose (I.faults input.old) (I.faults input.new)) ⊥
-        (Rose (R.faults repos.old) (R.faults repos.new))) }
     ensures repositories { IsTrue R.tells → (did : List ℕ)
         → R.repository repos.new did ≡ R.repository repos.old did }
-    ensures input_counts { I.faults input.old ≤ I.faults input.new }
-    ensures repos_count { R.faults repos.old ≤ R.faults repos.new }
-    ensures input_steady { result ≢ Err MirrorEnd.ReadFault
-        → I.faults input.new ≡ I.faults input.old }
-    ensures repos_steady { result ≢ Err MirrorEnd.Repos → R.faults repos.new ≡ R.faults repos.old }
+    ensures input { Counted (result ≡ Err Status.ReadFault)
+        (I.faults input.old) (I.faults input.new) }
+    ensures repos { Counted (result ≡ Err Status.Repos)
+        (R.faults repos.old) (R.faults repos.new) }
 {
     let mut reader = MessageReader::new(alloc, limit);
     let mut mirror = Mirror::new(alloc);
@@ -49,12 +47,12 @@ pub(crate) fn take_stream<I: Source, R: Repos>(
         let message = match reader.next(input) {
             Ok(Some(message)) => message,
             Ok(None) => return Ok(Taken { mirror, events }),
-            Err(fault) => return Err(MirrorEnd::of_stream(fault, place)),
+            Err(fault) => return Err(of_stream(fault, place)),
         };
         let last = mirror.last_seq();
         match mirror.take(message.as_slice(), repos) {
             Ok(_) => {}
-            Err(fault) => return Err(MirrorEnd::of_mirror(fault, place)),
+            Err(fault) => return Err(of_message(fault, place)),
         }
         if last < mirror.last_seq() {
             events += 1;

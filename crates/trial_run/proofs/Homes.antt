@@ -11,7 +11,7 @@ use Rattle.relay_gen.specs.Laws.{IsOfItsHost}
 use Rattle.relay_gen.specs.Names.{generated_did, host_of}
 use Rattle.relay_gen.proofs.Honest.{own_messages}
 use Rattle.relay_law.specs.Calls.{as_read}
-use Rattle.relay_law.specs.Merges.{IsOf, TellsOf, Names, OneHome}
+use Rattle.relay_law.specs.Merges.{TellsOf, Names, OneHome}
 use Rattle.relay_gen.specs.declared.history.TheConstants.{MOST_MESSAGES}
 use Rattle.trial_run.specs.Merging.{Sent, trusting}
 use Rattle.trial_run.specs.Taking.{AreStrings}

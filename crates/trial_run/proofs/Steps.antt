@@ -26,13 +26,13 @@ use Rattle.relay_law.specs.Right.{LinksRight}
 use Rattle.relay_law.proofs.Choosing.{some_right}
 use Rattle.relay_step.specs.Around.{Around, around, Asked, AllAsked, AskedNothing, IsTimed}
 use Rattle.relay_step.specs.Steps.{Decided, after_end, skipped, recorded, Step, AreSteps, IsDecidedAs, ended_by_all, ended_decided, message_of, rows, rows_decided}
-use Rattle.relay_store.specs.Batches.{Batched, message_from, scene, messages_sent}
-use Rattle.relay_store.specs.Outcomes.{outcome_of, outcome_decided, skipped_outcome, outcome_as}
+use Rattle.store_take.specs.Batches.{Batched, message_from, scene, messages_sent}
+use Rattle.store_take.specs.Outcomes.{outcome_of, outcome_decided, skipped_outcome, outcome_as}
 use Rattle.at_authority.specs.Panels.{Panel}
 use Rattle.relay_store.specs.Store.{Keeps, StoreState, seen_in}
-use Rattle.relay_store.specs.declared.message.Message.{Message}
-use Rattle.relay_store.specs.declared.outcome.Outcome.{Outcome}
-use Rattle.relay_store.proofs.Runs.{ended_joined, rows_one, steps_one}
+use Rattle.store_take.specs.declared.message.Message.{Message}
+use Rattle.store_take.specs.declared.outcome.Outcome.{Outcome}
+use Rattle.store_take.proofs.Runs.{ended_joined, rows_one, steps_one}
 use Rattle.trial_run.specs.declared.merging.Merge.{Merge}
 use Rattle.trial_run.specs.Merging.{Sent}
 use Rattle.trial_run.specs.Taking.{yes, sent_by, AreStrings, IsTrusted, AllTrusted, IsMerged}

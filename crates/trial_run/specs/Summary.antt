@@ -1,5 +1,5 @@
 -- What a trial writes (own): numbers are decimal, and each line ends in a line feed.
-use Rattle.std.specs.Prelude.{◌≡◌, ◌<◌, ℕ, zero, suc, ◌+◌, List, [], ◌∷◌, ◌++◌, codes, decimal}
+use Rattle.std.specs.Prelude.{◌≡◌, ◌<◌, ℕ, zero, suc, ◌+◌, List, [], ◌∷◌, ◌++◌, codes}
 use Rattle.at_cid.specs.Link.{cid}
 use Rattle.at_cid.specs.Text.{text_of}
 use Rattle.account_state.specs.Folds.{account}
@@ -7,6 +7,7 @@ use Rattle.account_state.specs.declared.repo.Repo.{Repo}
 use Rattle.relay_gen.specs.Names.{generated_did}
 use Rattle.relay_row.specs.Folds.{last_seq}
 use Rattle.relay_row.specs.declared.row.Row.{Row}
+use Rattle.report_lines.specs.Lines.{numbered}
 use Rattle.state_lines.specs.Lines.{account_text}
 
 -- 1 for a repository whose last commit is known
@@ -40,16 +41,12 @@ IsShownSame a J K = account_text (generated_did a) (account (generated_did a) J)
 abbrev pub AreShownSame : List Row → List Row → Type 0
 AreShownSame J K = (a : ℕ) → a < 16 → IsShownSame a J K
 
--- a word and a number
-abbrev pub word : List ℕ → ℕ → List ℕ
-word text n = text ++ decimal n
-
 -- the first line: how the history was drawn, how many accounts have a commit, how many numbers were
 -- given, and how many keys there are
 abbrev pub first_line : ℕ → ℕ → ℕ → List Row → List ℕ
-first_line start n keys J = word (codes "trial ") start
-    ++ (word (codes " ") n ++ (word (codes " accounts ") (known_below 16 J)
-    ++ (word (codes " events ") (last_seq J) ++ (word (codes " keys ") keys ++ 10 ∷ []))))
+first_line start n keys J = numbered (codes "trial ") start
+    ++ (numbered (codes " ") n ++ (numbered (codes " accounts ") (known_below 16 J)
+    ++ (numbered (codes " events ") (last_seq J) ++ (numbered (codes " keys ") keys ++ 10 ∷ []))))
 
 -- that both merges came to the same accounts; and the link over the roots of all trees
 abbrev pub summary : ℕ → ℕ → ℕ → List Row → List ℕ

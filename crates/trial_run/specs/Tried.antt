@@ -1,13 +1,13 @@
 -- What a trial does (own).
-use Rattle.std.specs.Prelude.{◌≡◌, ⊤, ℕ, Bool, List, ◌++◌, IsTrue}
+use Rattle.std.specs.Prelude.{◌≡◌, ⊤, ℕ, Bool, List, [], IsTrue}
 use Rattle.gate_log.specs.Image.{IsImage}
-use Rattle.relay_io.specs.Streams.{AddsFront}
 use Rattle.relay_row.specs.declared.row.Row.{Row}
 use Rattle.relay_store.specs.Journals.{AreBodiesOf, bytes_of}
 use Rattle.relay_gen.specs.Histories.{history}
+use Rattle.run_base.specs.Ends.{Writes}
+use Rattle.run_base.specs.declared.status.Status.{Status}
 use Rattle.trial_run.specs.Merging.{IsRunOf, by_host}
 use Rattle.trial_run.specs.Summary.{summary}
-use Rattle.trial_run.specs.declared.end.TrialEnd.{TrialEnd}
 
 -- The bytes are an image of bodies whose rows, joined, are the journal.
 pub record IsImageOf (J : List Row) (bytes : List ℕ) : Type 0 where
@@ -20,22 +20,27 @@ pub record AreMerges (start n : ℕ) (ones others : List Row) : Type 0 where
   pub one : IsRunOf (history start n).messages ones
   pub other : IsRunOf (by_host (history start n).messages) others
 
--- So they were, and the summary of the first was written, whole, or a front of it where a call of
--- the output failed.
-pub record TrialCameTo (Writes : List ℕ → Type 0) (Holds : List Row → List Row → Type 0)
-    (start n : ℕ) : Type 0 where
+-- So they were; the summary of the first was written so; and these bytes are images of the two.
+pub record TrialCameTo (IsWritten : List ℕ → Type 0) (start n : ℕ) (first second : List ℕ)
+    : Type 0 where
   pub ones : List Row
   pub others : List Row
   pub are : AreMerges start n ones others
-  pub written : Writes (summary start n (history start n).keys ones)
-  pub holds : Holds ones others
+  pub written : IsWritten (summary start n (history start n).keys ones)
+  pub first_holds : IsImageOf ones first
+  pub second_holds : IsImageOf others second
 
 -- What a trial of a history does with two empty disks, which hold these bytes in the end, and with
--- the output.
-abbrev pub Tried : Bool → ℕ → ℕ → List ℕ → List ℕ → List ℕ → List ℕ → TrialEnd → Type 0
-Tried output_tells start n first second old new TrialEnd.Done =
-    TrialCameTo (λ text. IsTrue output_tells
-    → new ≡ old ++ text) (λ ones others. IsImageOf ones first × IsImageOf others second) start n
-Tried output_tells start n first second old new TrialEnd.WriteFault =
-    TrialCameTo (λ text. IsTrue output_tells → AddsFront old new text) (λ ones others. ⊤) start n
-Tried output_tells start n first second old new TrialEnd.Memory = IsTrue output_tells → new ≡ old
+-- the output: its summary was written, whole where it is done, and a front of it where a call of
+-- the output failed. Where memory ran out nothing was.
+abbrev pub Tried : Bool → ℕ → ℕ → List ℕ → List ℕ → List ℕ → List ℕ → Status → Type 0
+Tried output_tells start n first second old new Status.Memory = IsTrue output_tells → new ≡ old
+Tried output_tells start n first second old new status =
+    TrialCameTo (λ text. IsTrue output_tells → Writes status [] text old new) start n first second
+
+-- how it may end
+abbrev pub MayEndTrying : Status → Type 0
+MayEndTrying Status.Done = ⊤
+MayEndTrying Status.WriteFault = ⊤
+MayEndTrying Status.Memory = ⊤
+MayEndTrying status = ⊥

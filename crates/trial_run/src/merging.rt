@@ -13,8 +13,9 @@ use gate_log::Side;
 use relay_disk::MemoryDisk;
 use relay_gen::{History, host_of};
 use relay_io::{LONGEST_FEED_MESSAGE, ListClock, MemoryRepos};
-use relay_store::{LONGEST, Outcome, Store};
+use relay_store::{LONGEST, Store};
 use std::alloc::Global;
+use store_take::{Outcome, take};
 
 /// Room for the calls of a disk that opening makes, or taking a message.
 const CALLS: usize = 16;
@@ -92,7 +93,16 @@ impl Merge {
         }
         disk.reserve(CALLS, message.len().saturating_add(AROUND))?;
         let (store, repos, clock) = (&mut self.store, &mut self.repos, &mut self.clock);
-        match store.take(alloc, disk, host, message, &mut TrustAll, repos, clock) {
+        match take(
+            store,
+            alloc,
+            disk,
+            host,
+            message,
+            &mut TrustAll,
+            repos,
+            clock,
+        ) {
             Ok(Outcome::Event(_, _)) => Ok(()),
             // The histories are honest, and every event of them goes out: there is no other outcome.
             Ok(_) | Err(_) => Err(Memory),

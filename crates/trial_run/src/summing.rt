@@ -6,7 +6,8 @@ ghost use Rattle.relay_core.specs.Entries.{Holds};
 ghost use Rattle.relay_gen.specs.Names.{generated_did};
 ghost use Rattle.relay_row.specs.Folds.{last_seq};
 ghost use Rattle.relay_row.specs.declared.row.Row.{Row as TheRow};
-ghost use Rattle.trial_run.specs.Summary.{AreShownSame, IsShownSame, first_line, known_below, one_known, root_of_repo, roots_below, summary, word};
+ghost use Rattle.report_lines.specs.Lines.{numbered};
+ghost use Rattle.trial_run.specs.Summary.{AreShownSame, IsShownSame, first_line, known_below, one_known, root_of_repo, roots_below, summary};
 
 use account_state::{Account, Repo};
 use at_cid::{Memory, Octets, cid_of};
@@ -20,7 +21,7 @@ use std::alloc::Global;
 const ACCOUNTS: u8 = 16;
 
 fn add_word(line: &mut Octets, text: &[u8], number: u64) -> Result<(), Memory>
-    ensures { OnOk result (line.new ≡ line.old ++ word text.now number) }
+    ensures { OnOk result (line.new ≡ line.old ++ numbered text.now number) }
 {
     line.extend(text)?;
     add_number(line, number)

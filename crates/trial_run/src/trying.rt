@@ -1,7 +1,6 @@
 //! A trial of merges.
 
-ghost use Rattle.std.specs.Prelude.{◌≡◌, ◌≢◌, ◌≤◌, [], List, ℕ, length, IfOk};
-ghost use Rattle.at_cid.specs.Counts.{Rose};
+ghost use Rattle.std.specs.Prelude.{◌≡◌, ◌≤◌, [], List, ℕ, length, IfOk};
 ghost use Rattle.relay_disk.specs.MemoryView.{memory_view};
 ghost use Rattle.relay_gen.specs.Histories.{history as history_of};
 ghost use Rattle.relay_gen.specs.declared.history.TheConstants.{MOST_MESSAGES};
@@ -11,9 +10,9 @@ ghost use Rattle.relay_row.specs.declared.row.Row.{Row as TheRow};
 ghost use Rattle.trial_run.specs.Summary.{summary};
 ghost use Rattle.trial_run.specs.Taking.{IsMerged};
 ghost use Rattle.trial_run.specs.Merging.{by_host};
-ghost use Rattle.trial_run.specs.Tried.{TrialCameTo, IsImageOf, Tried};
+ghost use Rattle.run_base.specs.Counts.{Counted};
+ghost use Rattle.trial_run.specs.Tried.{MayEndTrying, TrialCameTo, Tried};
 
-use crate::end::TrialEnd;
 use crate::merging::Merge;
 use crate::summing::{are_same, sum_up};
 use at_cid::{Memory, Octets};
@@ -21,6 +20,7 @@ use relay_disk::MemoryDisk;
 use relay_gen::{History, make};
 use relay_io::{Sink, write_all};
 use relay_store::Store;
+use run_base::Status;
 use std::alloc::Global;
 
 // The history that is drawn from a number, of so many messages.
@@ -99,9 +99,8 @@ fn try_both(
     requires most { n ≤ MOST_MESSAGES }
     requires first { (memory_view first.old).content ≡ [] }
     requires second { (memory_view second.old).content ≡ [] }
-    ensures { IfOk result (λ text. TrialCameTo (λ whole. text ≡ whole)
-        (λ ones others. IsImageOf ones (memory_view first.new).content
-        × IsImageOf others (memory_view second.new).content) start n) }
+    ensures { IfOk result (λ text. TrialCameTo (λ whole. text ≡ whole) start n
+        (memory_view first.new).content (memory_view second.new).content) }
 {
     let history = drawn(alloc, start, n)?;
     let one = in_order(alloc, first, &history, n)?;
@@ -121,42 +120,40 @@ pub fn trial_on<O: Sink>(
     first: &mut MemoryDisk,
     second: &mut MemoryDisk,
     out: &mut O,
-) -> TrialEnd
+) -> Status
     requires least { 1 ≤ n }
     requires most { n ≤ MOST_MESSAGES }
     requires first { (memory_view first.old).content ≡ [] }
     requires second { (memory_view second.old).content ≡ [] }
     ensures tried { Tried O.tells start n (memory_view first.new).content
         (memory_view second.new).content (O.written out.old) (O.written out.new) result }
-    ensures failed { result ≡ TrialEnd.WriteFault → Rose (O.faults out.old) (O.faults out.new) }
-    ensures counts { O.faults out.old ≤ O.faults out.new }
-    ensures out_steady { result ≢ TrialEnd.WriteFault → O.faults out.new ≡ O.faults out.old }
+    ensures may { MayEndTrying result }
+    ensures out { Counted (result ≡ Status.WriteFault) (O.faults out.old) (O.faults out.new) }
 {
     let text = match try_both(alloc, start, n, first, second) {
         Ok(text) => text,
-        Err(_) => return TrialEnd::Memory,
+        Err(_) => return Status::Memory,
     };
     match write_all(out, text.as_slice()) {
-        Ok(()) => TrialEnd::Done,
-        Err(_) => TrialEnd::WriteFault,
+        Ok(()) => Status::Done,
+        Err(_) => Status::WriteFault,
     }
 }
 
 /// The same, of at most 100,000 messages, on two disks that it makes.
-pub fn trial<O: Sink>(alloc: Global, start: u64, n: u64, out: &mut O) -> TrialEnd
+pub fn trial<O: Sink>(alloc: Global, start: u64, n: u64, out: &mut O) -> Status
     requires least { 1 ≤ n }
     requires most { n ≤ MOST_MESSAGES }
     ensures tried { (first second : List ℕ)
         × Tried O.tells start n first second (O.written out.old) (O.written out.new) result }
-    ensures failed { result ≡ TrialEnd.WriteFault → Rose (O.faults out.old) (O.faults out.new) }
-    ensures counts { O.faults out.old ≤ O.faults out.new }
-    ensures out_steady { result ≢ TrialEnd.WriteFault → O.faults out.new ≡ O.faults out.old }
+    ensures may { MayEndTrying result }
+    ensures out { Counted (result ≡ Status.WriteFault) (O.faults out.old) (O.faults out.new) }
 {
     let (Ok(mut first), Ok(mut second)) = (
         MemoryDisk::new(alloc, &[], &[]),
         MemoryDisk::new(alloc, &[], &[]),
     ) else {
-        return TrialEnd::Memory;
+        return Status::Memory;
     };
     trial_on(alloc, start, n as u32, &mut first, &mut second, out)
 }

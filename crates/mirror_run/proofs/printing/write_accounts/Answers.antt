@@ -1,6 +1,5 @@
-use Rattle.std.proofs.Common.{◌∙◌, refl, sym, subst, arith, rules}
+use Rattle.std.proofs.Common.{◌∙◌, refl, inl, inr, rules}
 use Rattle.std.specs.String.{string_bytes}
-use Rattle.mirror_run.specs.Printing.{IsUnwritten}
 use Rattle.mirror_run.proofs.Printed.{printed_all, printed_part, printed_so_far, printing_more, printing_starts}
 use Rattle.mirror_run.proofs.Walking.{fewer_behind}
 use Rattle.mirror_run.proofs.printing.write_accounts.Goals as goal
@@ -9,7 +8,6 @@ pub accounts-init : goal.accounts-init
 accounts-init g c = (
   record {
     printing = λ told dids are. printing_starts c.args.mirror.now dids _ c.args.text.now c.requires.named c.requires.start are;
-    counts = omega arith;
     steady = refl;
   },
   search rules,
@@ -21,16 +19,16 @@ returns-in_default-clause-written g c = λ told dids are.
 
 pub returns-in-Err-clause-front : goal.returns-in-Err-clause-front
 returns-in-Err-clause-front g c = (
-  tt,
+  inr refl,
   λ told dids are. printed_so_far c.args.mirror.now dids c.accounts.last.now _ _ _ (c.accounts.invariant.0.printing told dids are),
 )
 
 pub returns-in-Err-write_some-clause-front : goal.returns-in-Err-write_some-clause-front
 returns-in-Err-write_some-clause-front g c = (
-  subst IsUnwritten (sym c.in-Err-write_some.ensures.front.0) tt,
+  inl refl,
   λ told dids are.
       printed_part c.args.mirror.now dids c.accounts.last.now _ _ _ (c.accounts.invariant.0.printing told dids are) c.in-Some.did.now c.in-Some.ensures.found c.in-Some.ensures.above c.in-Some.ensures.least
-      c.add_account.new.text c.in-Ok.ensures _ (c.in-Err-write_some.ensures.front.1 told),
+      c.add_account.new.text c.in-Ok.ensures _ (c.in-Err-write_some.ensures.front told),
 )
 
 pub accounts-smaller : goal.accounts-smaller
@@ -43,8 +41,7 @@ accounts-preserved g c = (
     printing = λ told dids are.
         printing_more c.args.mirror.now dids c.accounts.last.now _ _ _ (c.accounts.invariant.0.printing told dids are) c.in-Some.did.now c.in-Some.ensures.found c.in-Some.ensures.above c.in-Some.ensures.least
         c.add_account.new.text c.in-Ok.ensures _ _ (c.in-Ok-write_some.ensures.moved told);
-    counts = omega (arith, c.accounts.invariant.0.counts, c.in-Ok-write_some.ensures.counts);
-    steady = c.in-Ok-write_some.ensures.steady ∙ c.accounts.invariant.0.steady;
+    steady = c.in-Ok-write_some.ensures.counts.steady (λ is. absurd cc) ∙ c.accounts.invariant.0.steady;
   },
   search rules,
 )

@@ -1,6 +1,6 @@
 use denote.Shadow.{shadow}
 use denote.Text.{Utf8}
-use Rattle.std.proofs.Common.{◌≡◌, ◌≤◌, ℕ, List, IsTrue}
+use Rattle.std.proofs.Common.{◌≡◌, ℕ, List, IsTrue}
 use Rattle.std.specs.String.{string_bytes}
 use Rattle.mirror_run.specs.Printing.{AreKnown}
 use Rattle.mirror_run.proofs.Printed.{IsPrinting}
@@ -12,7 +12,6 @@ invariant-accounts g l =
     let written = g.O.Sink.written in
     record {
       printing : IsTrue g.O.Sink.tells → (dids : List (List ℕ)) → AreKnown l.mirror dids → IsPrinting l.mirror dids l.last (written l.fn.out) (written l.out) l.text;
-      counts : g.O.Sink.faults l.fn.out ≤ g.O.Sink.faults l.out;
       steady : g.O.Sink.faults l.out ≡ g.O.Sink.faults l.fn.out;
     } × shadow (Utf8 l.last)
 

@@ -12,10 +12,8 @@ invariant-messages g l =
       most : l.reader.most ≡ l.limit;
       few : l.events ≤ l.reader.place;
       repositories : IsTrue g.R.Repos.tells → (did : List ℕ) → repository l.repos did ≡ repository l.fn.repos did;
-      input : g.I.Source.faults l.fn.input ≤ g.I.Source.faults l.input;
-      repos : g.R.Repos.faults l.fn.repos ≤ g.R.Repos.faults l.repos;
-      input_steady : g.I.Source.faults l.input ≡ g.I.Source.faults l.fn.input;
-      repos_steady : g.R.Repos.faults l.repos ≡ g.R.Repos.faults l.fn.repos;
+      input : g.I.Source.faults l.input ≡ g.I.Source.faults l.fn.input;
+      repos : g.R.Repos.faults l.repos ≡ g.R.Repos.faults l.fn.repos;
     }
 
 abbrev pub decreases-messages : goal.decreases-messages

@@ -1,5 +1,4 @@
 use Rattle.std.proofs.Common.{◌++◌, List, ℕ, ap, ◌∙◌}
-use Rattle.at_cid.specs.Link.{cid}
 use Rattle.trial_run.specs.Summary.{first_line, roots_below}
 use Rattle.trial_run.proofs.Sums.{put_together}
 use Rattle.trial_run.proofs.summing.sum_up.Goals as goal

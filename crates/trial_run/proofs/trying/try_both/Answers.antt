@@ -28,5 +28,6 @@ returns c =
       are = are;
       written = c.in_ok-text.ensures (rows a.steps) (rows b.steps) (subst (λ (s : Store). Holds s.core (rows a.steps)) (sym c.store.ensures) a.keeps.core) (subst (λ (s : Store). Holds s.core (rows b.steps)) (sym c.store-2.ensures) b.keeps.core) (same_accounts start n c.requires.most a.strings (rows a.steps) (rows b.steps) are)
           ∙ ap (λ (k : ℕ). summary start n k (rows a.steps)) (c.keys.ensures ∙ ap (λ (h : History). h.keys) made);
-      holds = (stored (history start n).messages one v a, stored (by_host (history start n).messages) other w b);
+      first_holds = stored (history start n).messages one v a;
+      second_holds = stored (by_host (history start n).messages) other w b;
     }

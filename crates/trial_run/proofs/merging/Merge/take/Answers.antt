@@ -7,7 +7,7 @@ use Rattle.trial_run.proofs.merging.Merge.take.Goals as goal
 pub returns-in-Ok-Event : goal.returns-in-Ok-Event
 returns-in-Ok-Event c = λ before m.
     let keeps = kept_again (rows m.steps) (seen_in c.args.self.now.store) (memory_view c.args.disk.now) (memory_view c.reserve.new.self) c.reserve.ensures.as_before m.keeps in
-    let n = next c.args.self.now before (memory_view c.args.disk.now) m memory_view c.reserve.new.self c.take.new.disk _ _ _ _ _ (seen_in c.take.new.self) c.args.host.now c.args.message.now c.in-Ok-Event.field-0 c.in-Ok-Event.field-0-0 c.in-Ok-Event.field-0-1 c.in-Ok-Event.field-0-is
+    let n = next c.args.self.now before (memory_view c.args.disk.now) m memory_view c.reserve.new.self c.take.new.disk _ _ _ _ _ (seen_in c.take.new.store) c.args.host.now c.args.message.now c.in-Ok-Event.field-0 c.in-Ok-Event.field-0-0 c.in-Ok-Event.field-0-1 c.in-Ok-Event.field-0-is
     m.none _ m.moments keeps (c.in-Ok-Event.ensures.batched (rows m.steps) (record { holds = m.keeps.core; journal = m.keeps.are.journal })) in
     record {
       steps = n.steps;

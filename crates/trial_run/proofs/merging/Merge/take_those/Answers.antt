@@ -1,4 +1,4 @@
-use Rattle.std.proofs.Common.{◌≡◌, ◌++◌, ◌∷◌, [], ◌+◌, ◌-◌, true, false, take, option_map, refl, sym, ◌∙◌, arith}
+use Rattle.std.proofs.Common.{◌≡◌, ◌++◌, ◌∷◌, [], ◌+◌, ◌-◌, true, take, option_map, refl, sym, ◌∙◌, arith}
 use Rattle.trial_run.specs.Merging.{those}
 use Rattle.trial_run.proofs.Orders.{those_more, those_same, with_message}
 use Rattle.trial_run.proofs.Steps.{moved}
