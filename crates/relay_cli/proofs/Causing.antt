@@ -2,68 +2,20 @@
 use Rattle.std.proofs.Common.{◌≡◌, ◌⊎◌, ℕ, refl, subst, sym}
 use Rattle.std.specs.Prelude.{⊤}
 use Rattle.at_cid.specs.Counts.{Rose}
-use Rattle.mirror_run.specs.Ends.{IsCausedBy as MirrorCaused}
-use Rattle.mirror_run.specs.declared.end.MirrorEnd.{MirrorEnd}
-use Rattle.relay_store.specs.declared.fault.StoreFault.{StoreFault}
+use Rattle.mirror_run.specs.Ends.{MayEndMirroring}
+use Rattle.run_base.specs.Counts.{Counted}
 use Rattle.run_base.specs.Ends.{Caused}
 use Rattle.run_base.specs.Place.{Place as Parts}
 use Rattle.run_base.specs.declared.status.Status.{Status}
 use Rattle.serve_run.specs.Ends.{IsCausedBy as ServeCaused}
 use Rattle.serve_run.specs.declared.end.ServeEnd.{ServeEnd}
-use Rattle.take_run.specs.Causes.{AuthoritySpent}
-use Rattle.take_run.specs.PairEnds.{IsCausedBy as TakeCaused}
-use Rattle.take_run.specs.declared.end.TakeEnd.{TakeEnd}
-use Rattle.trial_run.specs.declared.end.TrialEnd.{TrialEnd}
+use Rattle.trial_run.specs.Tried.{MayEndTrying}
 use Rattle.relay_cli.specs.Runs.{Checked, Streams}
-use Rattle.relay_cli.specs.Statuses.{status_of, status_of_feed, status_of_mirror, status_of_query, status_of_serving, status_of_tape, status_of_trial}
+use Rattle.relay_cli.specs.Statuses.{status_of, status_of_query, status_of_serving}
 use Rattle.relay_cli.specs.declared.verdict.CheckVerdict.{CheckVerdict}
 
 abbrev DiskRose : Parts → Parts → Type 0
 DiskRose old new = Rose old.failed.one new.failed.one ⊎ Rose old.failed.two new.failed.two
-
-abbrev TapeCaused : Parts → Parts → TakeEnd → Type 0
-TapeCaused old new = TakeCaused (DiskRose old new) (Rose old.failed.input new.failed.input) (Rose old.failed.output new.failed.output) (Rose old.failed.repos new.failed.repos) (Rose old.failed.clock new.failed.clock)
-
-pub caused_tape : (end : TakeEnd) (status : Status) (old new : Parts) → status ≡ status_of_tape end → TapeCaused old new end → AuthoritySpent end new.around.panel → Caused status old new
-caused_tape end status old new is caused spent = subst (λ s. Caused s old new) (sym is) (by end caused spent)
-  where
-    by : (e : TakeEnd) → TapeCaused old new e → AuthoritySpent e new.around.panel → Caused (status_of_tape e) old new
-    by TakeEnd.Done caused spent = tt
-    by (TakeEnd.Bad place) caused spent = tt
-    by TakeEnd.ReadFault caused spent = caused
-    by TakeEnd.WriteFault caused spent = caused
-    by TakeEnd.TooLong caused spent = tt
-    by (TakeEnd.Store StoreFault.Disk) caused spent = caused
-    by (TakeEnd.Store (StoreFault.BadLog place)) caused spent = tt
-    by (TakeEnd.Store (StoreFault.Full end)) caused spent = tt
-    by (TakeEnd.Store StoreFault.SeqEnd) caused spent = tt
-    by (TakeEnd.Store StoreFault.Authority) caused spent = spent refl
-    by (TakeEnd.Store StoreFault.Repos) caused spent = caused
-    by (TakeEnd.Store StoreFault.Memory) caused spent = tt
-    by (TakeEnd.Store StoreFault.Clock) caused spent = caused
-    by TakeEnd.Memory caused spent = tt
-
-abbrev FeedCaused : Parts → Parts → TakeEnd → Type 0
-FeedCaused old new = TakeCaused (DiskRose old new) (Rose old.failed.feed new.failed.feed) (Rose old.failed.output new.failed.output) (Rose old.failed.repos new.failed.repos) (Rose old.failed.clock new.failed.clock)
-
-pub caused_feed : (end : TakeEnd) (status : Status) (old new : Parts) → status ≡ status_of_feed end → FeedCaused old new end → AuthoritySpent end new.around.panel → Caused status old new
-caused_feed end status old new is caused spent = subst (λ s. Caused s old new) (sym is) (by end caused spent)
-  where
-    by : (e : TakeEnd) → FeedCaused old new e → AuthoritySpent e new.around.panel → Caused (status_of_feed e) old new
-    by TakeEnd.Done caused spent = tt
-    by (TakeEnd.Bad place) caused spent = tt
-    by TakeEnd.ReadFault caused spent = caused
-    by TakeEnd.WriteFault caused spent = caused
-    by TakeEnd.TooLong caused spent = tt
-    by (TakeEnd.Store StoreFault.Disk) caused spent = caused
-    by (TakeEnd.Store (StoreFault.BadLog place)) caused spent = tt
-    by (TakeEnd.Store (StoreFault.Full end)) caused spent = tt
-    by (TakeEnd.Store StoreFault.SeqEnd) caused spent = tt
-    by (TakeEnd.Store StoreFault.Authority) caused spent = spent refl
-    by (TakeEnd.Store StoreFault.Repos) caused spent = caused
-    by (TakeEnd.Store StoreFault.Memory) caused spent = tt
-    by (TakeEnd.Store StoreFault.Clock) caused spent = caused
-    by TakeEnd.Memory caused spent = tt
 
 abbrev DoorCaused : Type 0 → Parts → Parts → ServeEnd → Type 0
 DoorCaused next old new = ServeCaused (DiskRose old new) (Rose old.failed.output new.failed.output) next
@@ -90,28 +42,51 @@ caused_query end status old new is caused = subst (λ s. Caused s old new) (sym 
     by (ServeEnd.BadLog place) caused = tt
     by ServeEnd.Memory caused = tt
 
-abbrev StreamCaused : Parts → Parts → MirrorEnd → Type 0
-StreamCaused old new = MirrorCaused (Rose old.failed.input new.failed.input) (Rose old.failed.output new.failed.output) (Rose old.failed.repos new.failed.repos)
+pub caused_mirror : (status : Status) (old new : Parts) → MayEndMirroring status
+    → Counted (status ≡ Status.ReadFault) old.failed.input new.failed.input
+    → Counted (status ≡ Status.Repos) old.failed.repos new.failed.repos
+    → Counted (status ≡ Status.WriteFault) old.failed.output new.failed.output → Caused status old new
+caused_mirror Status.Done old new may input repos output = tt
+caused_mirror (Status.BadTape place) old new may input repos output = absurd may
+caused_mirror Status.Usage old new may input repos output = absurd may
+caused_mirror Status.ReadFault old new may input repos output = input.rose refl
+caused_mirror Status.WriteFault old new may input repos output = output.rose refl
+caused_mirror Status.Disk old new may input repos output = absurd may
+caused_mirror Status.Authority old new may input repos output = absurd may
+caused_mirror Status.Repos old new may input repos output = repos.rose refl
+caused_mirror Status.Feed old new may input repos output = absurd may
+caused_mirror Status.Door old new may input repos output = absurd may
+caused_mirror (Status.BadLog place) old new may input repos output = absurd may
+caused_mirror (Status.Full end) old new may input repos output = absurd may
+caused_mirror Status.SeqEnd old new may input repos output = absurd may
+caused_mirror Status.TooLong old new may input repos output = tt
+caused_mirror Status.Memory old new may input repos output = tt
+caused_mirror (Status.Refused code) old new may input repos output = absurd may
+caused_mirror Status.Clock old new may input repos output = absurd may
+caused_mirror (Status.BadStream place) old new may input repos output = tt
+caused_mirror Status.Wire old new may input repos output = absurd may
 
-pub caused_mirror : (end : MirrorEnd) (status : Status) (old new : Parts) → status ≡ status_of_mirror end → StreamCaused old new end → Caused status old new
-caused_mirror end status old new is caused = subst (λ s. Caused s old new) (sym is) (by end caused)
-  where
-    by : (e : MirrorEnd) → StreamCaused old new e → Caused (status_of_mirror e) old new
-    by MirrorEnd.Done caused = tt
-    by (MirrorEnd.BadStream place) caused = tt
-    by MirrorEnd.ReadFault caused = caused
-    by MirrorEnd.WriteFault caused = caused
-    by MirrorEnd.Repos caused = caused
-    by MirrorEnd.TooLong caused = tt
-    by MirrorEnd.Memory caused = tt
-
-pub caused_trial : (end : TrialEnd) (status : Status) (old new : Parts) → status ≡ status_of_trial end → (end ≡ TrialEnd.WriteFault → Rose old.failed.output new.failed.output) → Caused status old new
-caused_trial end status old new is failed = subst (λ s. Caused s old new) (sym is) (by end failed)
-  where
-    by : (e : TrialEnd) → (e ≡ TrialEnd.WriteFault → Rose old.failed.output new.failed.output) → Caused (status_of_trial e) old new
-    by TrialEnd.Done failed = tt
-    by TrialEnd.WriteFault failed = failed refl
-    by TrialEnd.Memory failed = tt
+pub caused_trial : (status : Status) (old new : Parts) → MayEndTrying status
+    → Counted (status ≡ Status.WriteFault) old.failed.output new.failed.output → Caused status old new
+caused_trial Status.Done old new may output = tt
+caused_trial (Status.BadTape place) old new may output = absurd may
+caused_trial Status.Usage old new may output = absurd may
+caused_trial Status.ReadFault old new may output = absurd may
+caused_trial Status.WriteFault old new may output = output.rose refl
+caused_trial Status.Disk old new may output = absurd may
+caused_trial Status.Authority old new may output = absurd may
+caused_trial Status.Repos old new may output = absurd may
+caused_trial Status.Feed old new may output = absurd may
+caused_trial Status.Door old new may output = absurd may
+caused_trial (Status.BadLog place) old new may output = absurd may
+caused_trial (Status.Full end) old new may output = absurd may
+caused_trial Status.SeqEnd old new may output = absurd may
+caused_trial Status.TooLong old new may output = absurd may
+caused_trial Status.Memory old new may output = tt
+caused_trial (Status.Refused code) old new may output = absurd may
+caused_trial Status.Clock old new may output = absurd may
+caused_trial (Status.BadStream place) old new may output = absurd may
+caused_trial Status.Wire old new may output = absurd may
 
 -- the status of a verdict
 abbrev OfVerdict : Status → Type 0

@@ -1,41 +1,34 @@
 -- What a run promises whatever its command: what the command does, and which failures its status
 -- tells (own).
-use Rattle.std.specs.Prelude.{◌≡◌, ◌≢◌, Bool, true, false, IsTrue}
+use Rattle.std.specs.Prelude.{◌≡◌, ◌≢◌, ⊤, Bool, true, false, IsTrue}
 use Rattle.relay_disk.specs.Disk.{View}
 use Rattle.relay_step.specs.Causes.{SpendsNone}
 use Rattle.run_base.specs.Ends.{Caused, HoldsNone}
 use Rattle.run_base.specs.Place.{NoneFell, Place as Parts}
 use Rattle.run_base.specs.Reading.{AtMostLogMade, AtMostLogWritten}
 use Rattle.run_base.specs.declared.status.Status.{Status}
+use Rattle.take_run.specs.Ends.{MayHideAsked, MayHideInput}
 use Rattle.relay_cli.specs.Runs.{HasRun, NothingDone, OutsideTells, Place, is_on_journal, parts_tell}
 use Rattle.relay_cli.specs.declared.command.Command.{Command}
 
 -- Whether a failure of the clock or of the repositories, or authorities that ended, may stand
 -- untold: of messages that were taken before, and whose report or rows then failed themselves.
-abbrev pub may_hide_asked : Command → Status → Bool
-may_hide_asked Command.Ingest Status.WriteFault = true
-may_hide_asked Command.Ingest Status.Disk = true
-may_hide_asked Command.Ingest Status.Memory = true
-may_hide_asked (Command.Follow host count) Status.WriteFault = true
-may_hide_asked (Command.Follow host count) Status.Disk = true
-may_hide_asked (Command.Follow host count) Status.Memory = true
-may_hide_asked command status = false
+abbrev pub HidesAsked : Command → Status → Type 0
+HidesAsked Command.Ingest status = MayHideAsked status
+HidesAsked (Command.Follow host count) status = MayHideAsked status
+HidesAsked command status = ⊥
 
--- Whether a failure of the input may stand untold: a tape is read ahead of the messages that end
--- the run.
-abbrev pub may_hide_input : Command → Status → Bool
-may_hide_input Command.Ingest Status.Done = false
-may_hide_input Command.Ingest (Status.BadTape place) = false
-may_hide_input Command.Ingest Status.TooLong = false
-may_hide_input Command.Ingest status = true
-may_hide_input command status = false
+-- Whether a failure of the input may: a tape is read ahead of the messages that end the run.
+abbrev pub HidesInput : Command → Status → Type 0
+HidesInput Command.Ingest status = MayHideInput status
+HidesInput command status = ⊥
 
--- Whether a failure of the output may stand untold: what was read before a fault of the journal is
--- still written.
-abbrev pub may_hide_output : Command → Status → Bool
-may_hide_output (Command.Replay cursor) Status.Disk = true
-may_hide_output (Command.Replay cursor) (Status.BadLog at) = true
-may_hide_output command status = false
+-- Whether a failure of the output may: what was read before a fault of the journal is still
+-- written.
+abbrev pub HidesOutput : Command → Status → Type 0
+HidesOutput (Command.Replay cursor) Status.Disk = ⊤
+HidesOutput (Command.Replay cursor) (Status.BadLog at) = ⊤
+HidesOutput command status = ⊥
 
 -- A part that failed, and authorities that ended, are what the status speaks of.
 pub record Told (command : Command) (old new : Parts) (status : Status) : Type 0 where
@@ -44,15 +37,15 @@ pub record Told (command : Command) (old new : Parts) (status : Status) : Type 0
   pub feed : status ≢ Status.Feed → new.failed.feed ≡ old.failed.feed
   pub door : status ≢ Status.Door → new.failed.door ≡ old.failed.door
   pub wire : status ≢ Status.Wire → new.failed.wire ≡ old.failed.wire
-  pub clock : may_hide_asked command status ≡ false → status ≢ Status.Clock
+  pub clock : (HidesAsked command status → ⊥) → status ≢ Status.Clock
       → new.failed.clock ≡ old.failed.clock
-  pub repos : may_hide_asked command status ≡ false → status ≢ Status.Repos
+  pub repos : (HidesAsked command status → ⊥) → status ≢ Status.Repos
       → new.failed.repos ≡ old.failed.repos
-  pub unspent : may_hide_asked command status ≡ false → status ≢ Status.Authority
+  pub unspent : (HidesAsked command status → ⊥) → status ≢ Status.Authority
       → SpendsNone old.around.panel new.around.panel
-  pub input : may_hide_input command status ≡ false → status ≢ Status.ReadFault
+  pub input : (HidesInput command status → ⊥) → status ≢ Status.ReadFault
       → new.failed.input ≡ old.failed.input
-  pub output : may_hide_output command status ≡ false → status ≢ Status.WriteFault
+  pub output : (HidesOutput command status → ⊥) → status ≢ Status.WriteFault
       → new.failed.output ≡ old.failed.output
 
 -- A status that speaks of a failure comes only where a count of failures rose, one that speaks of

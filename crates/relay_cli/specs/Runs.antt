@@ -1,24 +1,20 @@
 -- What a run of a command does to the outside (own).
-use Rattle.std.specs.Prelude.{◌≡◌, Option, ℕ, ◌+◌, ◌≤◌, ◌<◌, Bool, true, false, List, [], ◌++◌, length, IsTrue, ◌⊎◌}
+use Rattle.std.specs.Prelude.{◌≡◌, ◌≢◌, Option, ℕ, ◌+◌, ◌≤◌, ◌<◌, Bool, true, false, List, [], ◌++◌, length, IsTrue, ◌⊎◌}
 use Rattle.at_authority.specs.Panels.{IsSpent}
 use Rattle.at_cid.specs.Counts.{Rose}
 use Rattle.at_syntax.specs.Did.{method_of}
 use Rattle.account_state.specs.Folds.{account}
 use Rattle.host_state.specs.Folds.{hosts}
-use Rattle.take_run.specs.Causes.{failures}
-use Rattle.take_run.specs.PairEnds.{IsOfFeed, MayEnd, NoneOf, TakeEndShows as TapeHadJournal}
-use Rattle.take_run.specs.Followed.{Followed}
-use Rattle.take_run.specs.Ingested.{Ingested, PairScene, Unopened, pair_scene}
+use Rattle.take_run.specs.Ends.{MayEndFollowing, MayEndIngesting}
+use Rattle.take_run.specs.Ingested.{Followed, Ingested, input_at}
+use Rattle.take_run.specs.Taken.{Unopened}
 use Rattle.relay_disk.specs.Disk.{View}
 use Rattle.relay_io.specs.Streams.{AddsFront}
 use Rattle.relay_io.specs.declared.feed.TheConstants.{LONGEST_FEED_MESSAGE}
 use Rattle.relay_row.specs.declared.row.Row.{Row}
-use Rattle.backfill.specs.Writing.{with_length}
 use Rattle.lines_run.specs.OfDisks.{LinesWritten}
-use Rattle.mirror_run.specs.Ends.{MirrorMayEnd, NoMirrorCause}
+use Rattle.mirror_run.specs.Ends.{MayEndMirroring}
 use Rattle.mirror_run.specs.Mirrored.{Mirrored}
-use Rattle.mirror_run.specs.Stream.{BeginWith, IsBadBehind}
-use Rattle.mirror_run.specs.declared.end.MirrorEnd.{MirrorEnd}
 use Rattle.query_run.specs.AtWire.{AtWire}
 use Rattle.query_run.specs.OfDisks.{AnsweredBy}
 use Rattle.relay_run.specs.Cutting.{WasCut}
@@ -26,7 +22,7 @@ use Rattle.relay_run.specs.Lines.{MayEndCutting, MayEndOperating, MayEndShowing,
 use Rattle.relay_store.specs.Pairs.{PairView, pair_view}
 use Rattle.relay_run.specs.Shown.{TextShown}
 use Rattle.relay_run.specs.Behind.{WasOperated, WasSynced}
-use Rattle.run_base.specs.Ends.{AreOnlyRead, Ended, HoldsJournal}
+use Rattle.run_base.specs.Ends.{AreOnlyRead, HoldsJournal, IsQuiet, Shows}
 use Rattle.run_base.specs.Place.{Faults, Place as Parts, Tells, at_place, counts, tells_of}
 use Rattle.run_base.specs.declared.status.Status.{Status}
 use Rattle.serve_run.specs.AtDoor.{AtDoor}
@@ -35,16 +31,13 @@ use Rattle.serve_run.specs.Guests.{ServedAt}
 use Rattle.serve_run.specs.Replayed.{Replayed}
 use Rattle.serve_run.specs.declared.end.ServeEnd.{ServeEnd}
 use Rattle.state_lines.specs.Lines.{account_text, hosts_text}
-use Rattle.relay_store.specs.declared.message.Message.{Message}
-use Rattle.take_run.specs.Tells.{tells as tape_tells}
+use Rattle.store_take.specs.declared.message.Message.{Message}
 use Rattle.take_run.specs.Tapes.{AreRecords, encoded_records}
-use Rattle.take_run.specs.declared.end.TakeEnd.{TakeEnd}
-use Rattle.trial_run.specs.Tried.{Tried}
-use Rattle.trial_run.specs.declared.end.TrialEnd.{TrialEnd}
+use Rattle.trial_run.specs.Tried.{MayEndTrying, Tried}
 use Rattle.relay_cli.specs.declared.command.Command.{Command}
 use Rattle.relay_store.specs.declared.limits.TheConstants.{LONGEST}
 use Rattle.relay_cli.specs.declared.verdict.CheckVerdict.{CheckVerdict}
-use Rattle.relay_cli.specs.Statuses.{status_of, status_of_feed, status_of_mirror, status_of_query, status_of_serving, status_of_tape, status_of_trial}
+use Rattle.relay_cli.specs.Statuses.{status_of, status_of_query, status_of_serving}
 use Rattle.relay_cli.specs.Report.{check_line}
 use Rattle.relay_cli.specs.Verdicts.{IsVerdict}
 
@@ -126,7 +119,7 @@ outside_tells disk clock repos input output feed door wire = record {
   wire = wire;
 }
 
--- of those that an operator's command is handed
+-- of those that a command on the journal is handed
 abbrev pub parts_tell : OutsideTells → Tells
 parts_tell t = tells_of t.disk t.clock t.repos t.output
 
@@ -168,8 +161,8 @@ place parts left given coming door wire = record {
   wire = wire;
 }
 
--- the parts as an operator's command sees them: it is handed no input, feed, door or wire, so that
--- these count 0
+-- the parts that a command on the journal is handed as one value: no input, feed, door or wire is
+-- among them, so that these count 0
 abbrev pub handed : Parts → Parts
 handed p = at_place p.one p.two p.around p.written
     (counts p.failed.one p.failed.two p.failed.repos p.failed.clock p.failed.output)
@@ -183,40 +176,46 @@ streams_at t p =
 abbrev pub disks : Place → PairView
 disks p = pair_view p.parts.one p.parts.two p.parts.written
 
--- and all that taking a tape moves
-abbrev pub whole_input : Place → PairScene
-whole_input p = pair_scene p.parts.one p.parts.two p.parts.around
-    (failures p.parts.failed.repos p.parts.failed.clock p.parts.failed.input) p.left p.parts.written
-
--- Nothing was done: nothing is written, taken, sent or asked, and unless a disk failed the two were
--- only read.
-pub record NothingDone (old new : Place) (status : Status) : Type 0 where
-  pub disks_read : AreOnlyRead status old.parts new.parts
+-- Of the disks alone something was asked: nothing was written, taken or sent, nobody was asked, and
+-- no other part failed.
+pub record IsUntouched (old new : Place) : Type 0 where
   pub around : new.parts.around ≡ old.parts.around
-  pub left : new.left ≡ old.left
   pub written : new.parts.written ≡ old.parts.written
+  pub failed : new.parts.failed
+      ≡ record old.parts.failed { one = new.parts.failed.one; two = new.parts.failed.two }
+  pub left : new.left ≡ old.left
   pub given : new.given ≡ old.given
   pub coming : new.coming ≡ old.coming
   pub door : new.door ≡ old.door
   pub wire : new.wire ≡ old.wire
 
+-- nothing was done, and unless a disk failed the two were only read
+abbrev pub NothingDone : Place → Place → Status → Type 0
+NothingDone old new status = AreOnlyRead status old.parts new.parts × IsUntouched old new
+
 -- what a command does with the journal of the two disks, where they tell it
 abbrev pub OnJournal : OutsideTells → Place → (List Row → Type 0) → Type 0
 OnJournal t p Does = (J : List Row) → HoldsJournal (parts_tell t) J p.parts → Does J
 
--- An operator's command ended with one of its statuses, which says what a status says of the parts
--- that it was handed; the input wasn't read; and this came of the journal.
-pub record Commanded (t : OutsideTells) (old new : Place) (status : Status)
+-- A command on the journal ended with one of its statuses, which says what the disks held; and this
+-- came of their journal.
+pub record Commanded (t : OutsideTells) (old : Place) (status : Status)
     (May : Status → Type 0) (Came : List Row → Type 0) : Type 0 where
   pub may : May status
-  pub ended : Ended (parts_tell t) (handed old.parts) (handed new.parts) status
-  pub unread : new.left ≡ old.left
+  pub shows : IsTrue t.disk → Shows status old.parts.one.content old.parts.two.content
   pub came : OnJournal t old Came
+
+-- So did an operator's: it reads no input, and writes nothing after a fault of the store.
+pub record ByOperator (t : OutsideTells) (old new : Place) (status : Status)
+    (May : Status → Type 0) (Came : List Row → Type 0) : Type 0 where
+  pub commanded : Commanded t old status May Came
+  pub unread : new.left ≡ old.left
+  pub quiet : IsTrue t.output → IsQuiet status old.parts.written new.parts.written
 
 -- a text of the journal is shown, and nothing else is asked
 abbrev pub IsShown : (List Row → List ℕ) → OutsideTells → Place → Place → Status → Type 0
 IsShown text t old new status = (new.parts.around ≡ old.parts.around)
-    × Commanded t old new status MayEndShowing (λ J. TextShown (parts_tell t) LONGEST J (text J)
+    × ByOperator t old new status MayEndShowing (λ J. TextShown (parts_tell t) LONGEST J (text J)
     (handed old.parts) (handed new.parts) status)
 
 -- an account is taken down or restored at a time, of which the clock is asked; no authority is
@@ -224,7 +223,7 @@ IsShown text t old new status = (new.parts.around ≡ old.parts.around)
 abbrev pub RanOperated : List ℕ → Bool → List ℕ → OutsideTells → Place → Place → Status → Type 0
 RanOperated did down time t old new status =
     (new.parts.around.panel ≡ old.parts.around.panel)
-    × Commanded t old new status MayEndOperating (λ J. WasOperated (parts_tell t) LONGEST J
+    × ByOperator t old new status MayEndOperating (λ J. WasOperated (parts_tell t) LONGEST J
     did down time (handed old.parts) (handed new.parts) status)
 
 -- an account's repository is fetched and taken over at a time, of which judges, clock and
@@ -232,7 +231,7 @@ RanOperated did down time t old new status =
 abbrev pub IsSynced : List ℕ → List ℕ → OutsideTells → Place → Place → Status → Type 0
 IsSynced did time t old new status =
     (status ≡ Status.Authority → IsSpent (new.parts.around.panel (method_of did)))
-    × Commanded t old new status MayEndSyncing (λ J. WasSynced (parts_tell t) LONGEST J
+    × ByOperator t old new status MayEndSyncing (λ J. WasSynced (parts_tell t) LONGEST J
     did time (handed old.parts) (handed new.parts) status)
 
 -- the parts with other disks, which are seen so
@@ -242,59 +241,34 @@ with_disks view p pair = record p { one = view pair.0; two = view pair.1 }
 -- the journal is cut at a number, and nothing else is asked
 abbrev pub RanCut : {D : Type 0} → (D → View) → ℕ → OutsideTells → Place → Place → Status → Type 0
 RanCut view seq t old new status = (new.parts.around ≡ old.parts.around)
-    × Commanded t old new status MayEndCutting (λ J. WasCut (with_disks view old.parts)
+    × ByOperator t old new status MayEndCutting (λ J. WasCut (with_disks view old.parts)
     (parts_tell t) LONGEST J seq (handed old.parts) (handed new.parts) status)
 
--- no count rose
-abbrev pub IsFlawless : Faults → Faults → Type 0
-IsFlawless old new = NoneOf (Rose old.one new.one
-    ⊎ Rose old.two new.two) (Rose old.input new.input) (Rose old.output new.output)
-    (Rose old.repos new.repos) (Rose old.clock new.clock)
+-- the disks weren't opened, and nothing else was done
+abbrev pub WasUnopened : OutsideTells → List Row → Place → Place → Status → Type 0
+WasUnopened t J old new status =
+    Unopened (parts_tell t) LONGEST J (handed old.parts) (handed new.parts) status
+    × IsUntouched old new
 
--- A tape was to be taken into the journal. The disks weren't opened, or it was taken and ended so;
--- and the end tells what the disks were.
+-- A tape was to be taken into the journal: the disks weren't opened, or it was taken and ended so. A
+-- whole tape shows no fault, and isn't too long: where nothing fails it is taken, unless memory runs
+-- out, the log is full, or the numbers or the authorities end.
 pub record IsIngested (t : OutsideTells) (old new : Place) (status : Status) : Type 0 where
-  pub end : TakeEnd
-  pub status_is : status ≡ status_of_tape end
-  pub had : IsTrue t.disk → TapeHadJournal end old.parts.one.content old.parts.two.content
-  pub does : OnJournal t old (λ J. Unopened J (whole_input old) (whole_input new) end
-      ⊎ Ingested (tape_tells t.disk t.clock t.repos t.output) t.input LONGEST LONGEST J
-      (whole_input old) (whole_input new) end)
-  -- a whole tape is taken where nothing fails, unless memory runs out, the log is full, or the
-  -- numbers or the authorities end
-  pub complete : OnJournal t old (λ J. IsTrue t.input → (messages : List Message)
+  pub commanded : Commanded t old status MayEndIngesting (λ J. WasUnopened t J old new status
+      ⊎ Ingested (parts_tell t) t.input LONGEST LONGEST J (handed old.parts) (handed new.parts)
+      (input_at old.left old.parts.failed.input) (input_at new.left new.parts.failed.input) status)
+  pub whole : OnJournal t old (λ J. IsTrue t.input → (messages : List Message)
       → AreRecords messages → old.left ≡ encoded_records messages
       → length (encoded_records messages) < LONGEST
-      → IsFlawless old.parts.failed new.parts.failed → MayEnd end)
+      → ((at : ℕ) → status ≢ Status.BadTape at) × (status ≢ Status.TooLong))
 
--- all that following a host moves but the feed
-abbrev pub all_but_feed : Place → PairScene
-all_but_feed p = pair_scene p.parts.one p.parts.two p.parts.around
-    (failures p.parts.failed.repos p.parts.failed.clock 0) [] p.parts.written
-
--- no count rose, with the feed's in the place of the input's
-abbrev pub IsFlawlessFeed : Faults → Faults → Type 0
-IsFlawlessFeed old new = NoneOf (Rose old.one new.one
-    ⊎ Rose old.two new.two) (Rose old.feed new.feed) (Rose old.output new.output)
-    (Rose old.repos new.repos) (Rose old.clock new.clock)
-
--- A host was to be followed. The disks weren't opened, or messages of its feed were taken into the
--- journal, and it ended so.
-pub record IsFollowed (host : List ℕ) (count : ℕ) (t : OutsideTells) (old new : Place)
-    (status : Status) : Type 0 where
-  pub end : TakeEnd
-  pub status_is : status ≡ status_of_feed end
-  pub of_feed : IsOfFeed end
-  pub had : IsTrue t.disk → TapeHadJournal end old.parts.one.content old.parts.two.content
-  pub unread : new.left ≡ old.left
-  pub does : OnJournal t old (λ J. (Unopened J (all_but_feed old) (all_but_feed new) end
-      × (new.coming ≡ old.coming))
-      ⊎ Followed (tape_tells t.disk t.clock t.repos t.output) t.feed host LONGEST count
-      (old.given host) new.coming J (all_but_feed old) (all_but_feed new) end)
-  -- it is done where nothing fails, unless memory runs out, the log is full, or the numbers or the
-  -- authorities end
-  pub complete : OnJournal t old
-      (λ J. IsFlawlessFeed old.parts.failed new.parts.failed → MayEnd end)
+-- a host was to be followed: the disks weren't opened, or messages of its feed were taken into the
+-- journal, and it ended so; the input isn't read
+abbrev pub IsFollowed : List ℕ → ℕ → OutsideTells → Place → Place → Status → Type 0
+IsFollowed host count t old new status = (new.left ≡ old.left)
+    × Commanded t old status MayEndFollowing (λ J. WasUnopened t J old new status
+    ⊎ Followed (parts_tell t) t.feed host LONGEST count J (handed old.parts) (handed new.parts)
+    (old.given host) new.coming status)
 
 -- Events were to be given out, and nothing else was asked or read. The end tells what the disks
 -- were.
@@ -309,13 +283,9 @@ pub record IsGivenOut (t : OutsideTells) (old new : Place) (status : Status)
 
 -- A trial was run on two disks of its own, which hold these bytes in the end; of what was handed in
 -- it has the output alone.
-pub record IsTried (start count : ℕ) (t : OutsideTells) (old new : Place) (status : Status)
-    : Type 0 where
-  pub end : TrialEnd
-  pub status_is : status ≡ status_of_trial end
-  pub first : List ℕ
-  pub second : List ℕ
-  pub tried : Tried t.output start count first second old.parts.written new.parts.written end
+abbrev pub IsTried : ℕ → ℕ → OutsideTells → Place → Place → Status → Type 0
+IsTried start count t old new status = MayEndTrying status × ((first second : List ℕ)
+    × Tried t.output start count first second old.parts.written new.parts.written status)
 
 -- no count rose of the disks and of the output
 abbrev pub IsFlawlessText : Faults → Faults → Type 0
@@ -346,26 +316,11 @@ pub record IsQueried (count : ℕ) (t : OutsideTells) (old new : Place) (status 
   pub complete : OnJournal t old (λ J. IsFlawlessText old.parts.failed new.parts.failed
       → (Rose old.parts.failed.wire new.parts.failed.wire → ⊥) → ServeMayEnd end)
 
--- no count rose of what a mirror uses
-abbrev pub IsFlawlessMirror : Faults → Faults → Type 0
-IsFlawlessMirror old new = NoMirrorCause (Rose old.input new.input) (Rose old.output new.output)
-    (Rose old.repos new.repos)
-
--- The stream on the input was to be mirrored, and ended so.
-pub record IsMirroredFrom (t : OutsideTells) (old new : Place) (status : Status) : Type 0 where
-  pub end : MirrorEnd
-  pub status_is : status ≡ status_of_mirror end
-  pub does : Mirrored t.input t.output t.repos LONGEST old.parts.around.repository old.left
-      old.parts.written new.parts.written end
-  -- a whole stream is mirrored where nothing fails, unless memory runs out; of another the place is
-  -- told
-  pub complete : IsTrue t.input → length old.left < LONGEST
-      → IsFlawlessMirror old.parts.failed new.parts.failed → (messages : List (List ℕ))
-      → BeginWith old.left messages [] → MirrorMayEnd end
-  pub bad : IsTrue t.input → length old.left < LONGEST
-      → IsFlawlessMirror old.parts.failed new.parts.failed → (messages : List (List ℕ))
-      → (rest : List ℕ) → BeginWith old.left messages rest → IsBadBehind messages rest
-      → (end ≡ MirrorEnd.BadStream (length (with_length messages))) ⊎ (end ≡ MirrorEnd.Memory)
+-- the stream on the input was to be mirrored, and ended so
+abbrev pub IsMirroredFrom : OutsideTells → Place → Place → Status → Type 0
+IsMirroredFrom t old new status = MayEndMirroring status
+    × Mirrored t.input t.output t.repos LONGEST old.parts.around.repository old.left
+    old.parts.written new.parts.written status
 
 -- whether a command works on the journal
 abbrev pub is_on_journal : Command → Bool

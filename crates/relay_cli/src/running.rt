@@ -24,7 +24,7 @@ use relay_store::LONGEST;
 use run_base::{Asked, Outside, Pair, Status};
 use serve_run::{replay, serve};
 use std::alloc::Global;
-use take_run::{follow, ingest};
+use take_run::Takes;
 use trial_run::trial;
 
 /// Does what the words say.
@@ -168,9 +168,19 @@ fn run<P: Judges, F: Feed, R: Repos, D: Disk, I: Source, O: Sink, G: Door, C: Cl
 {
     match command {
         Command::Check => check(alloc, LONGEST_FEED_MESSAGE, input, out),
-        Command::Ingest => status::of_tape(ingest(
-            alloc, LONGEST, LONGEST, disk, other, panel, repos, clock, input, out,
-        )),
+        Command::Ingest => Outside {
+            pair: Pair {
+                one: disk,
+                two: other,
+            },
+            asked: Asked {
+                judges: panel,
+                repos,
+                clock,
+            },
+            out,
+        }
+        .ingest(alloc, LONGEST, LONGEST, input),
         Command::Account(did) => Outside {
             pair: Pair {
                 one: disk,
@@ -236,12 +246,19 @@ fn run<P: Judges, F: Feed, R: Repos, D: Disk, I: Source, O: Sink, G: Door, C: Cl
             out,
         }
         .sync(alloc, LONGEST, did.as_str(), time.as_str()),
-        Command::Follow(host, count) => {
-            let host = host.as_str();
-            status::of_feed(follow(
-                alloc, LONGEST, host, *count, disk, other, panel, repos, clock, feed, out,
-            ))
+        Command::Follow(host, count) => Outside {
+            pair: Pair {
+                one: disk,
+                two: other,
+            },
+            asked: Asked {
+                judges: panel,
+                repos,
+                clock,
+            },
+            out,
         }
+        .follow(alloc, LONGEST, host.as_str(), *count, feed),
         Command::Cut(seq) => Outside {
             pair: Pair {
                 one: disk,
@@ -261,8 +278,8 @@ fn run<P: Judges, F: Feed, R: Repos, D: Disk, I: Source, O: Sink, G: Door, C: Cl
         Command::Serve(count) => {
             status::of_serving(serve(alloc, LONGEST, *count, disk, other, door, out))
         }
-        Command::Trial(start, count) => status::of_trial(trial(alloc, *start, *count, out)),
-        Command::Mirror => status::of_mirror(mirror(alloc, LONGEST, input, repos, out)),
+        Command::Trial(start, count) => trial(alloc, *start, *count, out),
+        Command::Mirror => mirror(alloc, LONGEST, input, repos, out),
         Command::Query(count) => {
             status::of_query(query(alloc, LONGEST, *count, disk, other, wire, out))
         }

@@ -19,8 +19,10 @@ use event_window::{Events, EventsFault};
 use relay_disk::Disk;
 use relay_io::{ListClock, MemoryRepos};
 use relay_row::MOST_ROWS;
-use relay_store::{Batch, Done, Fetch, Message, Outcome, Store, StoreFault, end_line, line};
+use relay_store::{Store, StoreFault};
 use report_lines::add_refusal;
+use store_read::events;
+use store_take::{Batch, Done, Fetch, Message, Outcome, end_line, line, take_all};
 use vector_lines::Case;
 
 /// An open store, and what it asks; whether a line was answered, and the counts of the messages since the last line of an end.
@@ -108,7 +110,8 @@ fn take(case: &mut Case<'_>, sitting: &mut Sitting, disk: &mut FileInMemory) {
     let host = case.part(" ");
     let bytes = case.bytes(" ");
     if sitting.store.is_open() && host_ok(host) {
-        let taken = sitting.store.take(
+        let taken = store_take::take(
+            &mut sitting.store,
             case.alloc,
             disk,
             host,
@@ -146,7 +149,8 @@ fn take_group(case: &mut Case<'_>, sitting: &mut Sitting, disk: &mut FileInMemor
     let messages = messages_of(case);
     let group = &messages.as_slice()[..messages.len().min(MOST_ROWS)];
     if sitting.store.is_open() && !group.is_empty() && are_of_hosts(group) {
-        let batch = sitting.store.take_all(
+        let batch = take_all(
+            &mut sitting.store,
             case.alloc,
             disk,
             group,
@@ -180,9 +184,15 @@ fn operate(case: &mut Case<'_>, sitting: &mut Sitting, disk: &mut FileInMemory, 
     let time = case.part(" ");
     if sitting.store.is_open() && may_be_said(did, time) {
         let clock = &mut sitting.clock;
-        let done = sitting
-            .store
-            .operate(case.alloc, disk, did, down, time, clock);
+        let done = store_take::operate(
+            &mut sitting.store,
+            case.alloc,
+            disk,
+            did,
+            down,
+            time,
+            clock,
+        );
         say_done(case, sitting, done);
     }
 }
@@ -191,7 +201,8 @@ fn sync_now(case: &mut Case<'_>, sitting: &mut Sitting, disk: &mut FileInMemory)
     let did = case.part(" ");
     let time = case.part(" ");
     if sitting.store.is_open() && may_be_said(did, time) {
-        let done = sitting.store.sync_now(
+        let done = store_take::sync_now(
+            &mut sitting.store,
             case.alloc,
             disk,
             did,
@@ -241,7 +252,7 @@ fn next_of<D: Disk>(case: &mut Case<'_>, store: &Store, disk: &mut D, seq: u64)
         return case.say("closed");
     }
     let mut room = Octets::new(case.alloc);
-    let mut reader = store.events(case.alloc, disk);
+    let mut reader = events(store, case.alloc, disk);
     let ends = (reader.oldest(), reader.last_seq());
     let found = reader.next_after(seq, &mut room);
     say_next(case, ends, found, room.as_slice());

@@ -1,18 +1,17 @@
-use Rattle.std.proofs.Common.{◌∙◌, ap, arith, false, refl, sym, true}
+use Rattle.std.proofs.Common.{◌∙◌, ⊎_elim, ap, arith, false, inl, inr, refl, sym, true}
 use Rattle.query_run.specs.AtWire.{at_wire}
 use Rattle.relay_step.specs.Around.{around}
 use Rattle.run_base.specs.Place.{the_clock, the_judges, the_output, the_repos}
 use Rattle.run_base.specs.declared.status.Status.{Status}
 use Rattle.serve_run.specs.AtDoor.{at_door}
-use Rattle.relay_cli.proofs.Asking.{not_so, reads_none, reads_rowless, rowless}
-use Rattle.relay_cli.proofs.Causing.{caused_check, caused_feed, caused_mirror, caused_query, caused_serving, caused_tape, caused_trial}
-use Rattle.relay_cli.proofs.Handed.{at_parts, causes_at, causes_handed, cut_seen, parts_same, ran_at, told_handed}
-use Rattle.relay_cli.proofs.Words.{followed_of, lines_run_as, operated_of, run_as, shown_of, synced_of}
-use Rattle.relay_cli.proofs.Telling.{ends_by_tape, feed_quiet, none_next, of_command, replay_quiet, tape_hides_none}
-use Rattle.relay_cli.specs.Ran.{adds_rows, may_hide_asked, may_hide_input}
-use Rattle.relay_cli.specs.Runs.{is_on_journal}
-use Rattle.relay_cli.specs.Statuses.{status_of_feed, status_of_mirror, status_of_query, status_of_serving, status_of_tape, status_of_trial}
-use Rattle.relay_cli.specs.declared.command.Command.{Command}
+use Rattle.relay_cli.proofs.Asking.{not_so, off, reads_none, reads_rowless, rowless}
+use Rattle.relay_cli.proofs.Causing.{caused_check, caused_mirror, caused_query, caused_serving, caused_trial}
+use Rattle.relay_cli.proofs.Handed.{at_parts, causes_at, causes_feed, causes_handed, causes_tape, cut_seen, parts_same, ran_at, told_feed, told_handed, told_tape, untouched}
+use Rattle.relay_cli.proofs.Words.{followed_of, lines_run_as, operated_of, ran_as, run_as, shown_of, synced_of}
+use Rattle.relay_cli.proofs.Telling.{none_next, replay_quiet}
+use Rattle.relay_cli.specs.Ran.{adds_rows}
+use Rattle.relay_cli.specs.Runs.{faults, is_on_journal}
+use Rattle.relay_cli.specs.Statuses.{status_of_query, status_of_serving}
 use Rattle.relay_cli.proofs.running.run.Goals as goal
 
 pub returns-in-Check-clause-ran : goal.returns-in-Check-clause-ran
@@ -51,66 +50,41 @@ returns-in-Check-clause-counted g c = (
 )
 
 pub returns-in-Ingest-clause-ran : goal.returns-in-Ingest-clause-ran
-returns-in-Ingest-clause-ran g c = record {
-  does = run_as _ _ _ _ _ _ _ _ c.in-Ingest.is (record {
-    end = c.ingest.result;
-    status_is = c.of_tape.ensures;
-    had = c.ingest.ensures.shows;
-    does = λ J holds. c.ingest.ensures.ingested holds.0 J holds.1;
-    complete = λ J holds input. c.ingest.ensures.complete holds.0 input J holds.1;
-  });
-  told = record {
-    disks = λ not. c.ingest.ensures.disks_steady (λ e. not (c.of_tape.ensures ∙ ap status_of_tape e));
-    feed = λ not. refl;
-    door = λ not. refl;
-    wire = λ not. refl;
-    clock = λ hidden not. c.ingest.ensures.clock_steady (tape_hides_none c.ingest.result (of_command may_hide_asked _ Command.Ingest _ _ c.in-Ingest.is c.of_tape.ensures hidden)) (λ e. not (c.of_tape.ensures ∙ ap status_of_tape e));
-    repos = λ hidden not. c.ingest.ensures.repos_steady (tape_hides_none c.ingest.result (of_command may_hide_asked _ Command.Ingest _ _ c.in-Ingest.is c.of_tape.ensures hidden)) (λ e. not (c.of_tape.ensures ∙ ap status_of_tape e));
-    unspent = λ hidden not. c.ingest.ensures.unspent (tape_hides_none c.ingest.result (of_command may_hide_asked _ Command.Ingest _ _ c.in-Ingest.is c.of_tape.ensures hidden)) (λ e. not (c.of_tape.ensures ∙ ap status_of_tape e));
-    input = λ hidden not. c.ingest.ensures.input_steady (ends_by_tape c.ingest.result (of_command may_hide_input _ Command.Ingest _ _ c.in-Ingest.is c.of_tape.ensures hidden));
-    output = λ hidden not. c.ingest.ensures.out_steady (λ e. not (c.of_tape.ensures ∙ ap status_of_tape e));
+returns-in-Ingest-clause-ran g c = ran_at _ _ _ _ _ _ _ _ _ _ _ _ (parts_same g.D.Disk.view g.P.Judges.panel g.C.Clock.moments g.R.Repos.repository g.O.Sink.written g.R.Repos.faults g.C.Clock.faults g.O.Sink.faults _ (g.F.Feed.faults c.args.feed.now) (g.G.Door.faults c.args.door.now) (g.W.Wire.faults c.args.wire.now) (c.disk-1.given.1 (sym c.ingest.ensures.later.pair.one)) (c.other-1.given.1 (sym c.ingest.ensures.later.pair.two)) (c.panel-1.given.1 (sym c.ingest.ensures.later.asked.judges)) (c.repos-1.given.1 (sym c.ingest.ensures.later.asked.repos)) (c.clock-1.given.1 (sym c.ingest.ensures.later.asked.clock)) (c.out-1.given.1 (sym c.ingest.ensures.later.out))) (ran_as _ _ _ _ _ _ _ _ c.in-Ingest.is (record {
+  does = record {
+    commanded = record {
+      may = c.ingest.ensures.may;
+      shows = c.ingest.ensures.shows;
+      came = λ J holds. ⊎_elim (λ alone. inl (
+        alone.0,
+        untouched g.D.Disk.view g.P.Judges.panel g.C.Clock.moments g.R.Repos.repository g.O.Sink.written g.R.Repos.faults g.C.Clock.faults g.O.Sink.faults (alone.2 the_judges) (alone.2 the_repos) (alone.2 the_clock) (alone.2 the_output) (ap g.I.Source.faults alone.1) refl refl refl (ap g.I.Source.left alone.1) refl refl refl refl,
+      )) inr (c.ingest.ensures.ran J holds);
+    };
+    whole = c.ingest.ensures.whole;
   };
-  beside = λ told on not. c.ingest.ensures.beside told (λ e. not (c.of_tape.ensures ∙ ap status_of_tape e));
-  only_read = λ told on. absurd (reads_none _ _ _ c.in-Ingest.is refl on);
+  told = told_tape _ _ _ refl refl refl c.ingest.ensures.faults;
+  beside = λ told on. c.ingest.ensures.beside told;
+  only_read = λ told on. absurd (off on);
   no_journal = λ none on.
-      let alone = c.ingest.ensures.no_journal none.0 none.1 in
-      record {
-        disks_read = λ not. alone.0 (λ e. not (c.of_tape.ensures ∙ ap status_of_tape e));
-        around = λ i. around (g.P.Judges.panel (alone.1 i)) (g.C.Clock.moments (alone.3 i)) (g.R.Repos.repository (alone.2 i));
-        left = ap g.I.Source.left alone.4;
-        written = ap g.O.Sink.written alone.5;
-        given = refl;
-        coming = refl;
-        door = refl;
-        wire = refl;
-      };
-}
+      let alone = c.ingest.ensures.no_journal none in
+      (alone.0, untouched g.D.Disk.view g.P.Judges.panel g.C.Clock.moments g.R.Repos.repository g.O.Sink.written g.R.Repos.faults g.C.Clock.faults g.O.Sink.faults (alone.2 the_judges) (alone.2 the_repos) (alone.2 the_clock) (alone.2 the_output) (ap g.I.Source.faults alone.1) refl refl refl (ap g.I.Source.left alone.1) refl refl refl refl);
+}))
 
 pub returns-in-Ingest-clause-counted : goal.returns-in-Ingest-clause-counted
-returns-in-Ingest-clause-counted g c = (
-  caused_tape c.ingest.result _ _ _ c.of_tape.ensures c.ingest.ensures.caused c.ingest.ensures.spent,
-  record {
-    one = c.ingest.ensures.disk_counts;
-    two = c.ingest.ensures.other_counts;
-    repos = c.ingest.ensures.repos_count;
-    clock = c.ingest.ensures.clock_counts;
-    output = c.ingest.ensures.out_counts;
-    input = c.ingest.ensures.input_counts;
-    feed = omega arith;
-    door = omega arith;
-    wire = omega arith;
-  },
-)
+returns-in-Ingest-clause-counted g c = causes_at _ _ _ _ (parts_same g.D.Disk.view g.P.Judges.panel g.C.Clock.moments g.R.Repos.repository g.O.Sink.written g.R.Repos.faults g.C.Clock.faults g.O.Sink.faults _ (g.F.Feed.faults c.args.feed.now) (g.G.Door.faults c.args.door.now) (g.W.Wire.faults c.args.wire.now) (c.disk-1.given.1 (sym c.ingest.ensures.later.pair.one)) (c.other-1.given.1 (sym c.ingest.ensures.later.pair.two)) (c.panel-1.given.1 (sym c.ingest.ensures.later.asked.judges)) (c.repos-1.given.1 (sym c.ingest.ensures.later.asked.repos)) (c.clock-1.given.1 (sym c.ingest.ensures.later.asked.clock)) (c.out-1.given.1 (sym c.ingest.ensures.later.out))) (causes_tape _ _ _ refl refl refl c.ingest.ensures.faults c.ingest.ensures.later.counts c.ingest.ensures.input_counts)
 
 pub returns-in-Account-clause-ran : goal.returns-in-Account-clause-ran
-returns-in-Account-clause-ran g c = ran_at _ _ _ _ _ _ _ _ _ _ _ _ (parts_same g.D.Disk.view g.P.Judges.panel g.C.Clock.moments g.R.Repos.repository g.O.Sink.written g.R.Repos.faults g.C.Clock.faults g.O.Sink.faults (g.I.Source.faults c.args.input.now) (g.F.Feed.faults c.args.feed.now) (g.G.Door.faults c.args.door.now) (g.W.Wire.faults c.args.wire.now) (c.disk-1.given.1 (sym c.account.ensures.later.pair.one)) (c.other-1.given.1 (sym c.account.ensures.later.pair.two)) (c.panel-1.given.1 (sym c.account.ensures.later.asked.judges)) (c.repos-1.given.1 (sym c.account.ensures.later.asked.repos)) (c.clock-1.given.1 (sym c.account.ensures.later.asked.clock)) (c.out-1.given.1 (sym c.account.ensures.later.out))) (record {
+returns-in-Account-clause-ran g c = ran_at _ _ _ _ _ _ _ _ _ _ _ _ (parts_same g.D.Disk.view g.P.Judges.panel g.C.Clock.moments g.R.Repos.repository g.O.Sink.written g.R.Repos.faults g.C.Clock.faults g.O.Sink.faults (g.I.Source.faults c.args.input.now) (g.F.Feed.faults c.args.feed.now) (g.G.Door.faults c.args.door.now) (g.W.Wire.faults c.args.wire.now) (c.disk-in-Account-1.given.1 (sym c.account.ensures.later.pair.one)) (c.other-in-Account-1.given.1 (sym c.account.ensures.later.pair.two)) (c.panel-in-Account-1.given.1 (sym c.account.ensures.later.asked.judges)) (c.repos-in-Account-1.given.1 (sym c.account.ensures.later.asked.repos)) (c.clock-in-Account-1.given.1 (sym c.account.ensures.later.asked.clock)) (c.out-in-Account-1.given.1 (sym c.account.ensures.later.out))) (record {
   does = run_as _ _ _ _ _ _ _ _ c.in-Account.is (shown_of _ _ _ _ _ _ c.as_str.ensures.value (
     (λ i. around (g.P.Judges.panel (c.account.ensures.unasked.0 i)) (g.C.Clock.moments (c.account.ensures.unasked.2 i)) (g.R.Repos.repository (c.account.ensures.unasked.1 i))),
     record {
-      may = c.account.ensures.may;
-      ended = c.account.ensures.ended;
+      commanded = record {
+        may = c.account.ensures.may;
+        shows = c.account.ensures.ended.shows;
+        came = c.account.ensures.ran;
+      };
       unread = refl;
-      came = c.account.ensures.ran;
+      quiet = c.account.ensures.ended.quiet;
     },
   ));
   told = told_handed _ _ _ _ (record { input = refl; feed = refl; door = refl; wire = refl }) c.account.ensures.ended.told;
@@ -118,30 +92,24 @@ returns-in-Account-clause-ran g c = ran_at _ _ _ _ _ _ _ _ _ _ _ _ (parts_same g
   only_read = λ told on. c.account.ensures.only_read told;
   no_journal = λ none on.
       let alone = c.account.ensures.no_journal none in
-      record {
-        disks_read = alone.0;
-        around = λ i. around (g.P.Judges.panel (alone.1 the_judges i)) (g.C.Clock.moments (alone.1 the_clock i)) (g.R.Repos.repository (alone.1 the_repos i));
-        left = refl;
-        written = ap g.O.Sink.written (alone.1 the_output);
-        given = refl;
-        coming = refl;
-        door = refl;
-        wire = refl;
-      };
+      (alone.0, untouched g.D.Disk.view g.P.Judges.panel g.C.Clock.moments g.R.Repos.repository g.O.Sink.written g.R.Repos.faults g.C.Clock.faults g.O.Sink.faults (alone.1 the_judges) (alone.1 the_repos) (alone.1 the_clock) (alone.1 the_output) refl refl refl refl refl refl refl refl refl);
 })
 
 pub returns-in-Account-clause-counted : goal.returns-in-Account-clause-counted
-returns-in-Account-clause-counted g c = causes_at _ _ _ _ (parts_same g.D.Disk.view g.P.Judges.panel g.C.Clock.moments g.R.Repos.repository g.O.Sink.written g.R.Repos.faults g.C.Clock.faults g.O.Sink.faults (g.I.Source.faults c.args.input.now) (g.F.Feed.faults c.args.feed.now) (g.G.Door.faults c.args.door.now) (g.W.Wire.faults c.args.wire.now) (c.disk-1.given.1 (sym c.account.ensures.later.pair.one)) (c.other-1.given.1 (sym c.account.ensures.later.pair.two)) (c.panel-1.given.1 (sym c.account.ensures.later.asked.judges)) (c.repos-1.given.1 (sym c.account.ensures.later.asked.repos)) (c.clock-1.given.1 (sym c.account.ensures.later.asked.clock)) (c.out-1.given.1 (sym c.account.ensures.later.out))) (causes_handed _ _ _ (record { input = refl; feed = refl; door = refl; wire = refl }) c.account.ensures.ended.caused c.account.ensures.later.counts)
+returns-in-Account-clause-counted g c = causes_at _ _ _ _ (parts_same g.D.Disk.view g.P.Judges.panel g.C.Clock.moments g.R.Repos.repository g.O.Sink.written g.R.Repos.faults g.C.Clock.faults g.O.Sink.faults (g.I.Source.faults c.args.input.now) (g.F.Feed.faults c.args.feed.now) (g.G.Door.faults c.args.door.now) (g.W.Wire.faults c.args.wire.now) (c.disk-in-Account-1.given.1 (sym c.account.ensures.later.pair.one)) (c.other-in-Account-1.given.1 (sym c.account.ensures.later.pair.two)) (c.panel-in-Account-1.given.1 (sym c.account.ensures.later.asked.judges)) (c.repos-in-Account-1.given.1 (sym c.account.ensures.later.asked.repos)) (c.clock-in-Account-1.given.1 (sym c.account.ensures.later.asked.clock)) (c.out-in-Account-1.given.1 (sym c.account.ensures.later.out))) (causes_handed _ _ _ (record { input = refl; feed = refl; door = refl; wire = refl }) c.account.ensures.ended.caused c.account.ensures.later.counts)
 
 pub returns-in-Hosts-clause-ran : goal.returns-in-Hosts-clause-ran
 returns-in-Hosts-clause-ran g c = ran_at _ _ _ _ _ _ _ _ _ _ _ _ (parts_same g.D.Disk.view g.P.Judges.panel g.C.Clock.moments g.R.Repos.repository g.O.Sink.written g.R.Repos.faults g.C.Clock.faults g.O.Sink.faults (g.I.Source.faults c.args.input.now) (g.F.Feed.faults c.args.feed.now) (g.G.Door.faults c.args.door.now) (g.W.Wire.faults c.args.wire.now) (c.disk-in-Hosts-1.given.1 (sym c.hosts.ensures.later.pair.one)) (c.other-in-Hosts-1.given.1 (sym c.hosts.ensures.later.pair.two)) (c.panel-in-Hosts-1.given.1 (sym c.hosts.ensures.later.asked.judges)) (c.repos-in-Hosts-1.given.1 (sym c.hosts.ensures.later.asked.repos)) (c.clock-in-Hosts-1.given.1 (sym c.hosts.ensures.later.asked.clock)) (c.out-in-Hosts-1.given.1 (sym c.hosts.ensures.later.out))) (record {
   does = run_as _ _ _ _ _ _ _ _ c.in-Hosts.is (
     (λ i. around (g.P.Judges.panel (c.hosts.ensures.unasked.0 i)) (g.C.Clock.moments (c.hosts.ensures.unasked.2 i)) (g.R.Repos.repository (c.hosts.ensures.unasked.1 i))),
     record {
-      may = c.hosts.ensures.may;
-      ended = c.hosts.ensures.ended;
+      commanded = record {
+        may = c.hosts.ensures.may;
+        shows = c.hosts.ensures.ended.shows;
+        came = c.hosts.ensures.ran;
+      };
       unread = refl;
-      came = c.hosts.ensures.ran;
+      quiet = c.hosts.ensures.ended.quiet;
     },
   );
   told = told_handed _ _ _ _ (record { input = refl; feed = refl; door = refl; wire = refl }) c.hosts.ensures.ended.told;
@@ -149,16 +117,7 @@ returns-in-Hosts-clause-ran g c = ran_at _ _ _ _ _ _ _ _ _ _ _ _ (parts_same g.D
   only_read = λ told on. c.hosts.ensures.only_read told;
   no_journal = λ none on.
       let alone = c.hosts.ensures.no_journal none in
-      record {
-        disks_read = alone.0;
-        around = λ i. around (g.P.Judges.panel (alone.1 the_judges i)) (g.C.Clock.moments (alone.1 the_clock i)) (g.R.Repos.repository (alone.1 the_repos i));
-        left = refl;
-        written = ap g.O.Sink.written (alone.1 the_output);
-        given = refl;
-        coming = refl;
-        door = refl;
-        wire = refl;
-      };
+      (alone.0, untouched g.D.Disk.view g.P.Judges.panel g.C.Clock.moments g.R.Repos.repository g.O.Sink.written g.R.Repos.faults g.C.Clock.faults g.O.Sink.faults (alone.1 the_judges) (alone.1 the_repos) (alone.1 the_clock) (alone.1 the_output) refl refl refl refl refl refl refl refl refl);
 })
 
 pub returns-in-Hosts-clause-counted : goal.returns-in-Hosts-clause-counted
@@ -169,10 +128,13 @@ returns-in-Takedown-clause-ran g c = ran_at _ _ _ _ _ _ _ _ _ _ _ _ (parts_same 
   does = run_as _ _ _ _ _ _ _ _ c.in-Takedown.is (operated_of _ _ _ _ true _ _ _ _ c.as_str-in-Takedown.ensures.value c.as_str-in-Takedown-2.ensures.value (
     ap g.P.Judges.panel c.operate.ensures.unasked.0,
     record {
-      may = c.operate.ensures.may;
-      ended = c.operate.ensures.ended;
+      commanded = record {
+        may = c.operate.ensures.may;
+        shows = c.operate.ensures.ended.shows;
+        came = c.operate.ensures.ran;
+      };
       unread = refl;
-      came = c.operate.ensures.ran;
+      quiet = c.operate.ensures.ended.quiet;
     },
   ));
   told = told_handed _ _ _ _ (record { input = refl; feed = refl; door = refl; wire = refl }) c.operate.ensures.ended.told;
@@ -182,16 +144,7 @@ returns-in-Takedown-clause-ran g c = ran_at _ _ _ _ _ _ _ _ _ _ _ _ (parts_same 
       c.operate.ensures.unwritten told not (rowless _ Status.Done refl rowless_end) (rowless _ Status.WriteFault refl rowless_end);
   no_journal = λ none on.
       let alone = c.operate.ensures.no_journal none in
-      record {
-        disks_read = alone.0;
-        around = λ i. around (g.P.Judges.panel (alone.1 the_judges i)) (g.C.Clock.moments (alone.1 the_clock i)) (g.R.Repos.repository (alone.1 the_repos i));
-        left = refl;
-        written = ap g.O.Sink.written (alone.1 the_output);
-        given = refl;
-        coming = refl;
-        door = refl;
-        wire = refl;
-      };
+      (alone.0, untouched g.D.Disk.view g.P.Judges.panel g.C.Clock.moments g.R.Repos.repository g.O.Sink.written g.R.Repos.faults g.C.Clock.faults g.O.Sink.faults (alone.1 the_judges) (alone.1 the_repos) (alone.1 the_clock) (alone.1 the_output) refl refl refl refl refl refl refl refl refl);
 })
 
 pub returns-in-Takedown-clause-counted : goal.returns-in-Takedown-clause-counted
@@ -202,10 +155,13 @@ returns-in-Restore-clause-ran g c = ran_at _ _ _ _ _ _ _ _ _ _ _ _ (parts_same g
   does = run_as _ _ _ _ _ _ _ _ c.in-Restore.is (operated_of _ _ _ _ false _ _ _ _ c.as_str-in-Restore.ensures.value c.as_str-in-Restore-2.ensures.value (
     ap g.P.Judges.panel c.operate-in-Restore.ensures.unasked.0,
     record {
-      may = c.operate-in-Restore.ensures.may;
-      ended = c.operate-in-Restore.ensures.ended;
+      commanded = record {
+        may = c.operate-in-Restore.ensures.may;
+        shows = c.operate-in-Restore.ensures.ended.shows;
+        came = c.operate-in-Restore.ensures.ran;
+      };
       unread = refl;
-      came = c.operate-in-Restore.ensures.ran;
+      quiet = c.operate-in-Restore.ensures.ended.quiet;
     },
   ));
   told = told_handed _ _ _ _ (record { input = refl; feed = refl; door = refl; wire = refl }) c.operate-in-Restore.ensures.ended.told;
@@ -215,16 +171,7 @@ returns-in-Restore-clause-ran g c = ran_at _ _ _ _ _ _ _ _ _ _ _ _ (parts_same g
       c.operate-in-Restore.ensures.unwritten told not (rowless _ Status.Done refl rowless_end) (rowless _ Status.WriteFault refl rowless_end);
   no_journal = λ none on.
       let alone = c.operate-in-Restore.ensures.no_journal none in
-      record {
-        disks_read = alone.0;
-        around = λ i. around (g.P.Judges.panel (alone.1 the_judges i)) (g.C.Clock.moments (alone.1 the_clock i)) (g.R.Repos.repository (alone.1 the_repos i));
-        left = refl;
-        written = ap g.O.Sink.written (alone.1 the_output);
-        given = refl;
-        coming = refl;
-        door = refl;
-        wire = refl;
-      };
+      (alone.0, untouched g.D.Disk.view g.P.Judges.panel g.C.Clock.moments g.R.Repos.repository g.O.Sink.written g.R.Repos.faults g.C.Clock.faults g.O.Sink.faults (alone.1 the_judges) (alone.1 the_repos) (alone.1 the_clock) (alone.1 the_output) refl refl refl refl refl refl refl refl refl);
 })
 
 pub returns-in-Restore-clause-counted : goal.returns-in-Restore-clause-counted
@@ -235,10 +182,13 @@ returns-in-Sync-clause-ran g c = ran_at _ _ _ _ _ _ _ _ _ _ _ _ (parts_same g.D.
   does = run_as _ _ _ _ _ _ _ _ c.in-Sync.is (synced_of _ _ _ _ _ _ _ _ c.as_str-in-Sync.ensures.value c.as_str-in-Sync-2.ensures.value (
     c.sync.ensures.spent,
     record {
-      may = c.sync.ensures.may;
-      ended = c.sync.ensures.ended;
+      commanded = record {
+        may = c.sync.ensures.may;
+        shows = c.sync.ensures.ended.shows;
+        came = c.sync.ensures.ran;
+      };
       unread = refl;
-      came = c.sync.ensures.ran;
+      quiet = c.sync.ensures.ended.quiet;
     },
   ));
   told = told_handed _ _ _ _ (record { input = refl; feed = refl; door = refl; wire = refl }) c.sync.ensures.ended.told;
@@ -248,84 +198,48 @@ returns-in-Sync-clause-ran g c = ran_at _ _ _ _ _ _ _ _ _ _ _ _ (parts_same g.D.
       c.sync.ensures.unwritten told not (rowless _ Status.Done refl rowless_end) (rowless _ Status.WriteFault refl rowless_end);
   no_journal = λ none on.
       let alone = c.sync.ensures.no_journal none in
-      record {
-        disks_read = alone.0;
-        around = λ i. around (g.P.Judges.panel (alone.1 the_judges i)) (g.C.Clock.moments (alone.1 the_clock i)) (g.R.Repos.repository (alone.1 the_repos i));
-        left = refl;
-        written = ap g.O.Sink.written (alone.1 the_output);
-        given = refl;
-        coming = refl;
-        door = refl;
-        wire = refl;
-      };
+      (alone.0, untouched g.D.Disk.view g.P.Judges.panel g.C.Clock.moments g.R.Repos.repository g.O.Sink.written g.R.Repos.faults g.C.Clock.faults g.O.Sink.faults (alone.1 the_judges) (alone.1 the_repos) (alone.1 the_clock) (alone.1 the_output) refl refl refl refl refl refl refl refl refl);
 })
 
 pub returns-in-Sync-clause-counted : goal.returns-in-Sync-clause-counted
 returns-in-Sync-clause-counted g c = causes_at _ _ _ _ (parts_same g.D.Disk.view g.P.Judges.panel g.C.Clock.moments g.R.Repos.repository g.O.Sink.written g.R.Repos.faults g.C.Clock.faults g.O.Sink.faults (g.I.Source.faults c.args.input.now) (g.F.Feed.faults c.args.feed.now) (g.G.Door.faults c.args.door.now) (g.W.Wire.faults c.args.wire.now) (c.disk-in-Sync-1.given.1 (sym c.sync.ensures.later.pair.one)) (c.other-in-Sync-1.given.1 (sym c.sync.ensures.later.pair.two)) (c.panel-in-Sync-1.given.1 (sym c.sync.ensures.later.asked.judges)) (c.repos-in-Sync-1.given.1 (sym c.sync.ensures.later.asked.repos)) (c.clock-in-Sync-1.given.1 (sym c.sync.ensures.later.asked.clock)) (c.out-in-Sync-1.given.1 (sym c.sync.ensures.later.out))) (causes_handed _ _ _ (record { input = refl; feed = refl; door = refl; wire = refl }) c.sync.ensures.ended.caused c.sync.ensures.later.counts)
 
 pub returns-in-Follow-clause-ran : goal.returns-in-Follow-clause-ran
-returns-in-Follow-clause-ran g c = record {
-  does = run_as _ _ _ _ _ _ _ _ c.in-Follow.is (followed_of _ _ _ _ _ _ _ c.as_str-host.ensures.value (record {
-    end = c.follow.result;
-    status_is = c.of_feed.ensures;
-    of_feed = c.follow.ensures.of_feed;
-    had = c.follow.ensures.shows;
-    unread = refl;
-    does = λ J holds. c.follow.ensures.followed holds.0 J holds.1;
-    complete = λ J holds. c.follow.ensures.complete holds.0 J holds.1;
-  }));
-  told = record {
-    disks = λ not. c.follow.ensures.disks_steady (λ e. not (c.of_feed.ensures ∙ ap status_of_feed e));
-    feed = λ not. c.follow.ensures.steady (λ e. not (c.of_feed.ensures ∙ ap status_of_feed e));
-    door = λ not. refl;
-    wire = λ not. refl;
-    clock = λ hidden not. c.follow.ensures.clock_steady (feed_quiet _ _ _ _ c.follow.result c.in-Follow.is c.of_feed.ensures hidden) (λ e. not (c.of_feed.ensures ∙ ap status_of_feed e));
-    repos = λ hidden not. c.follow.ensures.repos_steady (feed_quiet _ _ _ _ c.follow.result c.in-Follow.is c.of_feed.ensures hidden) (λ e. not (c.of_feed.ensures ∙ ap status_of_feed e));
-    unspent = λ hidden not. c.follow.ensures.unspent (feed_quiet _ _ _ _ c.follow.result c.in-Follow.is c.of_feed.ensures hidden) (λ e. not (c.of_feed.ensures ∙ ap status_of_feed e));
-    input = λ hidden not. refl;
-    output = λ hidden not. c.follow.ensures.out_steady (λ e. not (c.of_feed.ensures ∙ ap status_of_feed e));
-  };
-  beside = λ told on not. c.follow.ensures.beside told (λ e. not (c.of_feed.ensures ∙ ap status_of_feed e));
-  only_read = λ told on. absurd (reads_none _ _ _ c.in-Follow.is refl on);
+returns-in-Follow-clause-ran g c = ran_at _ _ _ _ _ _ _ _ _ _ _ _ (parts_same g.D.Disk.view g.P.Judges.panel g.C.Clock.moments g.R.Repos.repository g.O.Sink.written g.R.Repos.faults g.C.Clock.faults g.O.Sink.faults (g.I.Source.faults c.args.input.now) _ (g.G.Door.faults c.args.door.now) (g.W.Wire.faults c.args.wire.now) (c.disk-in-Follow-1.given.1 (sym c.follow.ensures.later.pair.one)) (c.other-in-Follow-1.given.1 (sym c.follow.ensures.later.pair.two)) (c.panel-in-Follow-1.given.1 (sym c.follow.ensures.later.asked.judges)) (c.repos-in-Follow-1.given.1 (sym c.follow.ensures.later.asked.repos)) (c.clock-in-Follow-1.given.1 (sym c.follow.ensures.later.asked.clock)) (c.out-in-Follow-1.given.1 (sym c.follow.ensures.later.out))) (ran_as _ _ _ _ _ _ _ _ c.in-Follow.is (record {
+  does = followed_of _ _ _ _ _ _ _ c.as_str-in-Follow.ensures.value (
+    refl,
+    record {
+      may = c.follow.ensures.may;
+      shows = c.follow.ensures.shows;
+      came = λ J holds. ⊎_elim (λ alone. inl (
+        alone.0,
+        untouched g.D.Disk.view g.P.Judges.panel g.C.Clock.moments g.R.Repos.repository g.O.Sink.written g.R.Repos.faults g.C.Clock.faults g.O.Sink.faults (alone.2 the_judges) (alone.2 the_repos) (alone.2 the_clock) (alone.2 the_output) refl (ap g.F.Feed.faults alone.1) refl refl refl (ap g.F.Feed.behind alone.1) (ap g.F.Feed.left alone.1) refl refl,
+      )) inr (c.follow.ensures.ran J holds);
+    },
+  );
+  told = told_feed _ _ _ _ _ refl refl refl c.follow.ensures.faults;
+  beside = λ told on. c.follow.ensures.beside told;
+  only_read = λ told on. absurd (off on);
   no_journal = λ none on.
-      let alone = c.follow.ensures.no_journal none.0 none.1 in
-      record {
-        disks_read = λ not. alone.0 (λ e. not (c.of_feed.ensures ∙ ap status_of_feed e));
-        around = λ i. around (g.P.Judges.panel (alone.1 i)) (g.C.Clock.moments (alone.3 i)) (g.R.Repos.repository (alone.2 i));
-        left = refl;
-        written = ap g.O.Sink.written alone.5;
-        given = ap g.F.Feed.behind alone.4;
-        coming = ap g.F.Feed.left alone.4;
-        door = refl;
-        wire = refl;
-      };
-}
+      let alone = c.follow.ensures.no_journal none in
+      (alone.0, untouched g.D.Disk.view g.P.Judges.panel g.C.Clock.moments g.R.Repos.repository g.O.Sink.written g.R.Repos.faults g.C.Clock.faults g.O.Sink.faults (alone.2 the_judges) (alone.2 the_repos) (alone.2 the_clock) (alone.2 the_output) refl (ap g.F.Feed.faults alone.1) refl refl refl (ap g.F.Feed.behind alone.1) (ap g.F.Feed.left alone.1) refl refl);
+}))
 
 pub returns-in-Follow-clause-counted : goal.returns-in-Follow-clause-counted
-returns-in-Follow-clause-counted g c = (
-  caused_feed c.follow.result _ _ _ c.of_feed.ensures c.follow.ensures.caused c.follow.ensures.spent,
-  record {
-    one = c.follow.ensures.disk_counts;
-    two = c.follow.ensures.other_counts;
-    repos = c.follow.ensures.repos_count;
-    clock = c.follow.ensures.clock_counts;
-    output = c.follow.ensures.out_counts;
-    input = omega arith;
-    feed = c.follow.ensures.feed_counts;
-    door = omega arith;
-    wire = omega arith;
-  },
-)
+returns-in-Follow-clause-counted g c = causes_at _ _ _ _ (parts_same g.D.Disk.view g.P.Judges.panel g.C.Clock.moments g.R.Repos.repository g.O.Sink.written g.R.Repos.faults g.C.Clock.faults g.O.Sink.faults (g.I.Source.faults c.args.input.now) _ (g.G.Door.faults c.args.door.now) (g.W.Wire.faults c.args.wire.now) (c.disk-in-Follow-1.given.1 (sym c.follow.ensures.later.pair.one)) (c.other-in-Follow-1.given.1 (sym c.follow.ensures.later.pair.two)) (c.panel-in-Follow-1.given.1 (sym c.follow.ensures.later.asked.judges)) (c.repos-in-Follow-1.given.1 (sym c.follow.ensures.later.asked.repos)) (c.clock-in-Follow-1.given.1 (sym c.follow.ensures.later.asked.clock)) (c.out-in-Follow-1.given.1 (sym c.follow.ensures.later.out))) (causes_feed _ _ _ refl refl refl c.follow.ensures.faults c.follow.ensures.later.counts c.follow.ensures.feed_counts)
 
 pub returns-in-Cut-clause-ran : goal.returns-in-Cut-clause-ran
 returns-in-Cut-clause-ran g c = ran_at _ _ _ _ _ _ _ _ _ _ _ _ (parts_same g.D.Disk.view g.P.Judges.panel g.C.Clock.moments g.R.Repos.repository g.O.Sink.written g.R.Repos.faults g.C.Clock.faults g.O.Sink.faults (g.I.Source.faults c.args.input.now) (g.F.Feed.faults c.args.feed.now) (g.G.Door.faults c.args.door.now) (g.W.Wire.faults c.args.wire.now) (c.disk-in-Cut-1.given.1 (sym c.cut.ensures.later.pair.one)) (c.other-in-Cut-1.given.1 (sym c.cut.ensures.later.pair.two)) (c.panel-in-Cut-1.given.1 (sym c.cut.ensures.later.asked.judges)) (c.repos-in-Cut-1.given.1 (sym c.cut.ensures.later.asked.repos)) (c.clock-in-Cut-1.given.1 (sym c.cut.ensures.later.asked.clock)) (c.out-in-Cut-1.given.1 (sym c.cut.ensures.later.out))) (record {
   does = run_as _ _ _ _ _ _ _ _ c.in-Cut.is (
     (λ i. around (g.P.Judges.panel (c.cut.ensures.unasked.0 i)) (g.C.Clock.moments (c.cut.ensures.unasked.2 i)) (g.R.Repos.repository (c.cut.ensures.unasked.1 i))),
     record {
-      may = c.cut.ensures.may;
-      ended = c.cut.ensures.ended;
+      commanded = record {
+        may = c.cut.ensures.may;
+        shows = c.cut.ensures.ended.shows;
+        came = λ J holds. cut_seen g.D.Disk.view g.P.Judges.panel g.C.Clock.moments g.R.Repos.repository g.O.Sink.written g.R.Repos.faults g.C.Clock.faults g.O.Sink.faults (at_parts g.D.Disk.view g.P.Judges.panel g.C.Clock.moments g.R.Repos.repository g.O.Sink.written g.R.Repos.faults g.C.Clock.faults g.O.Sink.faults (g.I.Source.faults c.args.input.now) (g.F.Feed.faults c.args.feed.now) (g.G.Door.faults c.args.door.now) (g.W.Wire.faults c.args.wire.now) c.args.disk.now c.args.other.now c.args.panel.now c.args.repos.now c.args.clock.now c.args.out.now) _ _ J _ _ _ _ (c.cut.ensures.ran J holds);
+      };
       unread = refl;
-      came = λ J holds. cut_seen g.D.Disk.view g.P.Judges.panel g.C.Clock.moments g.R.Repos.repository g.O.Sink.written g.R.Repos.faults g.C.Clock.faults g.O.Sink.faults (at_parts g.D.Disk.view g.P.Judges.panel g.C.Clock.moments g.R.Repos.repository g.O.Sink.written g.R.Repos.faults g.C.Clock.faults g.O.Sink.faults (g.I.Source.faults c.args.input.now) (g.F.Feed.faults c.args.feed.now) (g.G.Door.faults c.args.door.now) (g.W.Wire.faults c.args.wire.now) c.args.disk.now c.args.other.now c.args.panel.now c.args.repos.now c.args.clock.now c.args.out.now) _ _ J _ _ _ _ (c.cut.ensures.ran J holds);
+      quiet = c.cut.ensures.ended.quiet;
     },
   );
   told = told_handed _ _ _ _ (record { input = refl; feed = refl; door = refl; wire = refl }) c.cut.ensures.ended.told;
@@ -333,16 +247,7 @@ returns-in-Cut-clause-ran g c = ran_at _ _ _ _ _ _ _ _ _ _ _ _ (parts_same g.D.D
   only_read = λ told on. absurd (reads_none _ _ _ c.in-Cut.is refl on);
   no_journal = λ none on.
       let alone = c.cut.ensures.no_journal none in
-      record {
-        disks_read = alone.0;
-        around = λ i. around (g.P.Judges.panel (alone.1 the_judges i)) (g.C.Clock.moments (alone.1 the_clock i)) (g.R.Repos.repository (alone.1 the_repos i));
-        left = refl;
-        written = ap g.O.Sink.written (alone.1 the_output);
-        given = refl;
-        coming = refl;
-        door = refl;
-        wire = refl;
-      };
+      (alone.0, untouched g.D.Disk.view g.P.Judges.panel g.C.Clock.moments g.R.Repos.repository g.O.Sink.written g.R.Repos.faults g.C.Clock.faults g.O.Sink.faults (alone.1 the_judges) (alone.1 the_repos) (alone.1 the_clock) (alone.1 the_output) refl refl refl refl refl refl refl refl refl);
 })
 
 pub returns-in-Cut-clause-counted : goal.returns-in-Cut-clause-counted
@@ -372,17 +277,19 @@ returns-in-Replay-clause-ran g c = record {
   beside = λ told on. absurd (not_so adds_rows _ _ c.in-Replay.is refl on);
   only_read = λ told on not. c.replay.ensures.only_read told (λ e. not (c.of_serving.ensures ∙ ap status_of_serving e));
   no_journal = λ none on.
-      let alone = c.replay.ensures.no_journal none.0 none.1 in
-      record {
-        disks_read = λ not. alone.0 (λ e. not (c.of_serving.ensures ∙ ap status_of_serving e));
-        around = refl;
-        left = refl;
-        written = ap g.O.Sink.written alone.1;
-        given = refl;
-        coming = refl;
-        door = refl;
-        wire = refl;
-      };
+      let alone = c.replay.ensures.no_journal none.0 none.1 in (
+        λ not. alone.0 (λ e. not (c.of_serving.ensures ∙ ap status_of_serving e)),
+        record {
+          around = refl;
+          written = ap g.O.Sink.written alone.1;
+          failed = λ i. faults (g.D.Disk.view c.replay.new.disk).faults (g.D.Disk.view c.replay.new.other).faults (g.R.Repos.faults c.args.repos.now) (g.C.Clock.faults c.args.clock.now) (g.O.Sink.faults (alone.1 i)) (g.I.Source.faults c.args.input.now) (g.F.Feed.faults c.args.feed.now) (g.G.Door.faults c.args.door.now) (g.W.Wire.faults c.args.wire.now);
+          left = refl;
+          given = refl;
+          coming = refl;
+          door = refl;
+          wire = refl;
+        },
+      );
 }
 
 pub returns-in-Replay-clause-counted : goal.returns-in-Replay-clause-counted
@@ -425,17 +332,19 @@ returns-in-Serve-clause-ran g c = record {
   beside = λ told on. absurd (not_so adds_rows _ _ c.in-Serve.is refl on);
   only_read = λ told on not. c.serve.ensures.only_read told (λ e. not (c.of_serving-in-Serve.ensures ∙ ap status_of_serving e));
   no_journal = λ none on.
-      let alone = c.serve.ensures.no_journal none.0 none.1 in
-      record {
-        disks_read = λ not. alone.0 (λ e. not (c.of_serving-in-Serve.ensures ∙ ap status_of_serving e));
-        around = refl;
-        left = refl;
-        written = ap g.O.Sink.written alone.2;
-        given = refl;
-        coming = refl;
-        door = ap (λ door. at_door (g.G.Door.guests door) (g.G.Door.turns door) (g.G.Door.session_faults door)) alone.1;
-        wire = refl;
-      };
+      let alone = c.serve.ensures.no_journal none.0 none.1 in (
+        λ not. alone.0 (λ e. not (c.of_serving-in-Serve.ensures ∙ ap status_of_serving e)),
+        record {
+          around = refl;
+          written = ap g.O.Sink.written alone.2;
+          failed = λ i. faults (g.D.Disk.view c.serve.new.disk).faults (g.D.Disk.view c.serve.new.other).faults (g.R.Repos.faults c.args.repos.now) (g.C.Clock.faults c.args.clock.now) (g.O.Sink.faults (alone.2 i)) (g.I.Source.faults c.args.input.now) (g.F.Feed.faults c.args.feed.now) (g.G.Door.faults (alone.1 i)) (g.W.Wire.faults c.args.wire.now);
+          left = refl;
+          given = refl;
+          coming = refl;
+          door = ap (λ door. at_door (g.G.Door.guests door) (g.G.Door.turns door) (g.G.Door.session_faults door)) alone.1;
+          wire = refl;
+        },
+      );
 }
 
 pub returns-in-Serve-clause-counted : goal.returns-in-Serve-clause-counted
@@ -456,13 +365,7 @@ returns-in-Serve-clause-counted g c = (
 
 pub returns-in-Trial-clause-ran : goal.returns-in-Trial-clause-ran
 returns-in-Trial-clause-ran g c = record {
-  does = run_as _ _ _ _ _ _ _ _ c.in-Trial.is (record {
-    end = c.trial.result;
-    status_is = c.of_trial.ensures;
-    first = c.trial.ensures.tried.0;
-    second = c.trial.ensures.tried.1;
-    tried = c.trial.ensures.tried.2;
-  });
+  does = run_as _ _ _ _ _ _ _ _ c.in-Trial.is (c.trial.ensures.may, c.trial.ensures.tried);
   told = record {
     disks = λ not. (refl, refl);
     feed = λ not. refl;
@@ -472,7 +375,7 @@ returns-in-Trial-clause-ran g c = record {
     repos = λ hidden not. refl;
     unspent = λ hidden not name s. s;
     input = λ hidden not. refl;
-    output = λ hidden not. c.trial.ensures.out_steady (λ e. not (c.of_trial.ensures ∙ ap status_of_trial e));
+    output = λ hidden not. c.trial.ensures.out.steady not;
   };
   beside = λ told on. absurd (not_so adds_rows _ _ c.in-Trial.is refl on);
   only_read = λ told on. absurd (reads_none _ _ _ c.in-Trial.is refl on);
@@ -481,13 +384,13 @@ returns-in-Trial-clause-ran g c = record {
 
 pub returns-in-Trial-clause-counted : goal.returns-in-Trial-clause-counted
 returns-in-Trial-clause-counted g c = (
-  caused_trial c.trial.result _ _ _ c.of_trial.ensures c.trial.ensures.failed,
+  caused_trial c.trial.result _ _ c.trial.ensures.may c.trial.ensures.out,
   record {
     one = omega arith;
     two = omega arith;
     repos = omega arith;
     clock = omega arith;
-    output = c.trial.ensures.counts;
+    output = c.trial.ensures.out.kept;
     input = omega arith;
     feed = omega arith;
     door = omega arith;
@@ -497,23 +400,17 @@ returns-in-Trial-clause-counted g c = (
 
 pub returns-in-Mirror-clause-ran : goal.returns-in-Mirror-clause-ran
 returns-in-Mirror-clause-ran g c = record {
-  does = run_as _ _ _ _ _ _ _ _ c.in-Mirror.is (record {
-    end = c.mirror.result;
-    status_is = c.of_mirror.ensures;
-    does = c.mirror.ensures.mirrored;
-    complete = c.mirror.ensures.complete;
-    bad = c.mirror.ensures.bad;
-  });
+  does = run_as _ _ _ _ _ _ _ _ c.in-Mirror.is (c.mirror.ensures.may, c.mirror.ensures.mirrored);
   told = record {
     disks = λ not. (refl, refl);
     feed = λ not. refl;
     door = λ not. refl;
     wire = λ not. refl;
     clock = λ hidden not. refl;
-    repos = λ hidden not. c.mirror.ensures.repos_steady (λ e. not (c.of_mirror.ensures ∙ ap status_of_mirror e));
+    repos = λ hidden not. c.mirror.ensures.repos.steady not;
     unspent = λ hidden not name s. s;
-    input = λ hidden not. c.mirror.ensures.input_steady (λ e. not (c.of_mirror.ensures ∙ ap status_of_mirror e));
-    output = λ hidden not. c.mirror.ensures.out_steady (λ e. not (c.of_mirror.ensures ∙ ap status_of_mirror e));
+    input = λ hidden not. c.mirror.ensures.input.steady not;
+    output = λ hidden not. c.mirror.ensures.out.steady not;
   };
   beside = λ told on. absurd (not_so adds_rows _ _ c.in-Mirror.is refl on);
   only_read = λ told on. absurd (reads_none _ _ _ c.in-Mirror.is refl on);
@@ -522,14 +419,14 @@ returns-in-Mirror-clause-ran g c = record {
 
 pub returns-in-Mirror-clause-counted : goal.returns-in-Mirror-clause-counted
 returns-in-Mirror-clause-counted g c = (
-  caused_mirror c.mirror.result _ _ _ c.of_mirror.ensures c.mirror.ensures.caused,
+  caused_mirror c.mirror.result _ _ c.mirror.ensures.may c.mirror.ensures.input c.mirror.ensures.repos c.mirror.ensures.out,
   record {
     one = omega arith;
     two = omega arith;
-    repos = c.mirror.ensures.repos_count;
+    repos = c.mirror.ensures.repos.kept;
     clock = omega arith;
-    output = c.mirror.ensures.out_counts;
-    input = c.mirror.ensures.input_counts;
+    output = c.mirror.ensures.out.kept;
+    input = c.mirror.ensures.input.kept;
     feed = omega arith;
     door = omega arith;
     wire = omega arith;
@@ -562,17 +459,19 @@ returns-in-Query-clause-ran g c = record {
   beside = λ told on. absurd (not_so adds_rows _ _ c.in-Query.is refl on);
   only_read = λ told on not. c.query.ensures.only_read told (λ e. not (c.of_query.ensures ∙ ap status_of_query e));
   no_journal = λ none on.
-      let alone = c.query.ensures.no_journal none.0 none.1 in
-      record {
-        disks_read = λ not. alone.0 (λ e. not (c.of_query.ensures ∙ ap status_of_query e));
-        around = refl;
-        left = refl;
-        written = ap g.O.Sink.written alone.2;
-        given = refl;
-        coming = refl;
-        door = refl;
-        wire = ap (λ wire. at_wire (g.W.Wire.requests wire) (g.W.Wire.exchanges wire) (g.W.Wire.send_faults wire)) alone.1;
-      };
+      let alone = c.query.ensures.no_journal none.0 none.1 in (
+        λ not. alone.0 (λ e. not (c.of_query.ensures ∙ ap status_of_query e)),
+        record {
+          around = refl;
+          written = ap g.O.Sink.written alone.2;
+          failed = λ i. faults (g.D.Disk.view c.query.new.disk).faults (g.D.Disk.view c.query.new.other).faults (g.R.Repos.faults c.args.repos.now) (g.C.Clock.faults c.args.clock.now) (g.O.Sink.faults (alone.2 i)) (g.I.Source.faults c.args.input.now) (g.F.Feed.faults c.args.feed.now) (g.G.Door.faults c.args.door.now) (g.W.Wire.faults (alone.1 i));
+          left = refl;
+          given = refl;
+          coming = refl;
+          door = refl;
+          wire = ap (λ wire. at_wire (g.W.Wire.requests wire) (g.W.Wire.exchanges wire) (g.W.Wire.send_faults wire)) alone.1;
+        },
+      );
 }
 
 pub returns-in-Query-clause-counted : goal.returns-in-Query-clause-counted
@@ -615,17 +514,19 @@ returns-in-Lines-clause-ran g c = record {
   beside = λ told on. absurd (not_so adds_rows _ _ c.in-Lines.is refl on);
   only_read = λ told on not. c.lines.ensures.only_read told (λ e. not (c.of_serving-in-Lines.ensures ∙ ap status_of_serving e));
   no_journal = λ none on.
-      let alone = c.lines.ensures.no_journal none.0 none.1 in
-      record {
-        disks_read = λ not. alone.0 (λ e. not (c.of_serving-in-Lines.ensures ∙ ap status_of_serving e));
-        around = refl;
-        left = refl;
-        written = ap g.O.Sink.written alone.1;
-        given = refl;
-        coming = refl;
-        door = refl;
-        wire = refl;
-      };
+      let alone = c.lines.ensures.no_journal none.0 none.1 in (
+        λ not. alone.0 (λ e. not (c.of_serving-in-Lines.ensures ∙ ap status_of_serving e)),
+        record {
+          around = refl;
+          written = ap g.O.Sink.written alone.1;
+          failed = λ i. faults (g.D.Disk.view c.lines.new.disk).faults (g.D.Disk.view c.lines.new.other).faults (g.R.Repos.faults c.args.repos.now) (g.C.Clock.faults c.args.clock.now) (g.O.Sink.faults (alone.1 i)) (g.I.Source.faults c.args.input.now) (g.F.Feed.faults c.args.feed.now) (g.G.Door.faults c.args.door.now) (g.W.Wire.faults c.args.wire.now);
+          left = refl;
+          given = refl;
+          coming = refl;
+          door = refl;
+          wire = refl;
+        },
+      );
 }
 
 pub returns-in-Lines-clause-counted : goal.returns-in-Lines-clause-counted
