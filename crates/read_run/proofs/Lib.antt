@@ -1,0 +1,10 @@
+pub mod Ending
+pub mod Reading
+pub mod EventsRead
+pub mod Messages
+pub mod Short
+pub mod SessionsServed
+pub mod Accepts
+pub mod Counting
+pub mod Querying
+pub mod Lining

@@ -1,0 +1,12 @@
+pub mod Ends
+pub mod Events
+pub mod Picking
+pub mod OnRead
+pub mod Replayed
+pub mod Sessions
+pub mod AtDoor
+pub mod Guests
+pub mod AtWire
+pub mod Rounds
+pub mod Queried
+pub mod Lines
