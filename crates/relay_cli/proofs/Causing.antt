@@ -7,40 +7,10 @@ use Rattle.run_base.specs.Counts.{Counted}
 use Rattle.run_base.specs.Ends.{Caused}
 use Rattle.run_base.specs.Place.{Place as Parts}
 use Rattle.run_base.specs.declared.status.Status.{Status}
-use Rattle.serve_run.specs.Ends.{IsCausedBy as ServeCaused}
-use Rattle.serve_run.specs.declared.end.ServeEnd.{ServeEnd}
 use Rattle.trial_run.specs.Tried.{MayEndTrying}
 use Rattle.relay_cli.specs.Runs.{Checked, Streams}
-use Rattle.relay_cli.specs.Statuses.{status_of, status_of_query, status_of_serving}
+use Rattle.relay_cli.specs.Statuses.{status_of}
 use Rattle.relay_cli.specs.declared.verdict.CheckVerdict.{CheckVerdict}
-
-abbrev DiskRose : Parts → Parts → Type 0
-DiskRose old new = Rose old.failed.one new.failed.one ⊎ Rose old.failed.two new.failed.two
-
-abbrev DoorCaused : Type 0 → Parts → Parts → ServeEnd → Type 0
-DoorCaused next old new = ServeCaused (DiskRose old new) (Rose old.failed.output new.failed.output) next
-
-pub caused_serving : (next : Type 0) (end : ServeEnd) (status : Status) (old new : Parts) → (next → Rose old.failed.door new.failed.door) → status ≡ status_of_serving end → DoorCaused next old new end → Caused status old new
-caused_serving next end status old new door is caused = subst (λ s. Caused s old new) (sym is) (by end caused)
-  where
-    by : (e : ServeEnd) → DoorCaused next old new e → Caused (status_of_serving e) old new
-    by ServeEnd.Done caused = tt
-    by ServeEnd.WriteFault caused = caused
-    by ServeEnd.Next caused = door caused
-    by ServeEnd.Disk caused = caused
-    by (ServeEnd.BadLog place) caused = tt
-    by ServeEnd.Memory caused = tt
-
-pub caused_query : (end : ServeEnd) (status : Status) (old new : Parts) → status ≡ status_of_query end → DoorCaused (Rose old.failed.wire new.failed.wire) old new end → Caused status old new
-caused_query end status old new is caused = subst (λ s. Caused s old new) (sym is) (by end caused)
-  where
-    by : (e : ServeEnd) → DoorCaused (Rose old.failed.wire new.failed.wire) old new e → Caused (status_of_query e) old new
-    by ServeEnd.Done caused = tt
-    by ServeEnd.WriteFault caused = caused
-    by ServeEnd.Next caused = caused
-    by ServeEnd.Disk caused = caused
-    by (ServeEnd.BadLog place) caused = tt
-    by ServeEnd.Memory caused = tt
 
 pub caused_mirror : (status : Status) (old new : Parts) → MayEndMirroring status
     → Counted (status ≡ Status.ReadFault) old.failed.input new.failed.input

@@ -1,22 +1,24 @@
 -- A command that is handed its parts as one value, among all the parts of a run.
-use Rattle.std.proofs.Common.{◌≡◌, ◌≤◌, ℕ, List, Option, ap, arith, subst, sym}
-use Rattle.at_authority.specs.Panels.{Panel}
+use Rattle.std.proofs.Common.{◌≡◌, ◌≤◌, ℕ, List, Option, arith, subst, sym}
+use Rattle.at_authority.specs.Panels.{IsSpent, Panel}
 use Rattle.at_cid.specs.Counts.{Rose}
-use Rattle.query_run.specs.AtWire.{AtWire}
+use Rattle.read_run.specs.AtWire.{AtWire, with_wire}
 use Rattle.relay_disk.specs.Disk.{View}
 use Rattle.relay_row.specs.declared.row.Row.{Row}
 use Rattle.relay_run.specs.Cutting.{LeavesOpened, WasCut, cut_deed}
-use Rattle.relay_step.specs.Around.{around}
+use Rattle.relay_step.specs.Around.{Around, around}
 use Rattle.store_cut.specs.declared.cutting.CutDone.{CutDone}
 use Rattle.run_base.specs.Deeds.{Came, Deed, OnDisks, WasOpened, answered, in_vain, unopened}
 use Rattle.run_base.specs.Ends.{Caused, Told as EndTold}
 use Rattle.run_base.specs.Place.{NoneFell, Place as Parts, Tells, at_place, place_of, with_feed, with_input}
 use Rattle.run_base.specs.declared.outside.Outside.{Outside}
 use Rattle.run_base.specs.declared.status.Status.{Status}
-use Rattle.serve_run.specs.AtDoor.{AtDoor}
+use Rattle.read_run.specs.AtDoor.{AtDoor, with_door}
+use Rattle.read_run.specs.Ends.{IsOfDisks, ReadEnded}
 use Rattle.take_run.specs.Ends.{FaultsTold, MayHideInput}
+use Rattle.relay_cli.proofs.Telling.{replay_hides}
 use Rattle.relay_cli.specs.Ran.{HasCauses, Ran, Told}
-use Rattle.relay_cli.specs.Runs.{IsUntouched, OutsideTells, Place, faults, handed, place, with_disks}
+use Rattle.relay_cli.specs.Runs.{IsUntouched, OutsideTells, Place, faults, handed, place, with_counts, with_disks}
 use Rattle.relay_cli.specs.declared.command.Command.{Command}
 
 -- the input, the feed, the door and the wire failed no more often
@@ -51,18 +53,15 @@ ran_at view t old new now left given coming door wire status command same ran =
 pub causes_at : (status : Status) (old new now : Parts) → now ≡ new → HasCauses status old new → HasCauses status old now
 causes_at status old new now same causes = subst (λ (p : Parts). HasCauses status old p) (sym same) causes
 
--- what is no disk is as it was where the objects are
-pub untouched : {D P R C O : Type 0} (view : D → View) (panel : P → Panel) (moments : C → List ℕ) (repository : R → List ℕ → Option (List ℕ)) (written : O → List ℕ) (repos_failed : R → ℕ) (clock_failed : C → ℕ) (out_failed : O → ℕ)
-    {one one_now two two_now : D} {judges judges_now : P} {repos repos_now : R} {clock clock_now : C} {out out_now : O} {input input_now feed feed_now door door_now wire wire_now : ℕ}
-    {left left_now : List ℕ} {given given_now : List ℕ → ℕ → List (List ℕ)} {coming coming_now : List (List ℕ)} {turns turns_now : AtDoor} {exchanges exchanges_now : AtWire}
-    → judges_now ≡ judges → repos_now ≡ repos → clock_now ≡ clock → out_now ≡ out → input_now ≡ input → feed_now ≡ feed → door_now ≡ door → wire_now ≡ wire
-    → left_now ≡ left → given_now ≡ given → coming_now ≡ coming → turns_now ≡ turns → exchanges_now ≡ exchanges
-    → IsUntouched (place (at_parts view panel moments repository written repos_failed clock_failed out_failed input feed door wire one two judges repos clock out) left given coming turns exchanges)
-    (place (at_parts view panel moments repository written repos_failed clock_failed out_failed input_now feed_now door_now wire_now one_now two_now judges_now repos_now clock_now out_now) left_now given_now coming_now turns_now exchanges_now)
-untouched view panel moments repository written repos_failed clock_failed out_failed {one_now = one_now} {two_now = two_now} judges repos clock out input feed door wire left given coming turns exchanges = record {
-  around = λ i. around (panel (judges i)) (moments (clock i)) (repository (repos i));
-  written = ap written out;
-  failed = λ i. faults (view one_now).faults (view two_now).faults (repos_failed (repos i)) (clock_failed (clock i)) (out_failed (out i)) (input i) (feed i) (door i) (wire i);
+-- all but the disks is as it was
+pub idle : (old new : Place) → new.parts.around ≡ old.parts.around → new.parts.written ≡ old.parts.written
+    → new.parts.failed.repos ≡ old.parts.failed.repos → new.parts.failed.clock ≡ old.parts.failed.clock → new.parts.failed.output ≡ old.parts.failed.output
+    → new.parts.failed.input ≡ old.parts.failed.input → new.parts.failed.feed ≡ old.parts.failed.feed → new.parts.failed.door ≡ old.parts.failed.door → new.parts.failed.wire ≡ old.parts.failed.wire
+    → new.left ≡ old.left → new.given ≡ old.given → new.coming ≡ old.coming → new.door ≡ old.door → new.wire ≡ old.wire → IsUntouched old new
+idle old new around written repos clock output input feed door wire left given coming turns exchanges = record {
+  around = around;
+  written = written;
+  failed = λ i. faults new.parts.failed.one new.parts.failed.two (repos i) (clock i) (output i) (input i) (feed i) (door i) (wire i);
   left = left;
   given = given;
   coming = coming;
@@ -118,35 +117,85 @@ told_feed host count old new status input door wire ends = record {
   output = λ hidden. ends.told.output;
 }
 
+-- of guests at the door, of requests of the wire, and of a replay, whose output may have failed too where the disks ended it
+pub told_door : (count : ℕ) (old new : Parts) (status : Status) → new.failed.input ≡ old.failed.input → new.failed.feed ≡ old.failed.feed → new.failed.wire ≡ old.failed.wire
+    → EndTold status (with_door old.failed.door (handed old)) (with_door new.failed.door (handed new)) → Told (Command.Serve count) old new status
+told_door count old new status input feed wire told = record {
+  disks = told.disks;
+  feed = λ not. feed;
+  door = told.door;
+  wire = λ not. wire;
+  clock = λ hidden. told.clock;
+  repos = λ hidden. told.repos;
+  unspent = λ hidden. told.unspent;
+  input = λ hidden not. input;
+  output = λ hidden. told.output;
+}
+
+pub told_wire : (count : ℕ) (old new : Parts) (status : Status) → new.failed.input ≡ old.failed.input → new.failed.feed ≡ old.failed.feed → new.failed.door ≡ old.failed.door
+    → EndTold status (with_wire old.failed.wire (handed old)) (with_wire new.failed.wire (handed new)) → Told (Command.Query count) old new status
+told_wire count old new status input feed door told = record {
+  disks = told.disks;
+  feed = λ not. feed;
+  door = λ not. door;
+  wire = told.wire;
+  clock = λ hidden. told.clock;
+  repos = λ hidden. told.repos;
+  unspent = λ hidden. told.unspent;
+  input = λ hidden not. input;
+  output = λ hidden. told.output;
+}
+
+pub told_replay : (t : Tells) (cursor : ℕ) (old new : Parts) (status : Status) → UncountedKept old new → new.failed.clock ≡ old.failed.clock → new.failed.repos ≡ old.failed.repos → new.around ≡ old.around
+    → ReadEnded (IsOfDisks status) t (handed old) (handed new) status → Told (Command.Replay cursor) old new status
+told_replay t cursor old new status same clock repos around ended = record {
+  disks = ended.disks;
+  feed = λ not. same.feed;
+  door = λ not. same.door;
+  wire = λ not. same.wire;
+  clock = λ hidden not. clock;
+  repos = λ hidden not. repos;
+  unspent = λ hidden not name s. subst (λ (a : Around). IsSpent (a.panel name)) around s;
+  input = λ hidden not. same.input;
+  output = λ hidden. (ended.told (λ of. hidden (replay_hides cursor status of))).output;
+}
+
 -- ---- and which of them rose
 
 none_rose : Rose 0 0 → ⊥
 none_rose rose = omega (arith, rose)
 
-caused_handed : (status : Status) (old new : Parts) (input input_now feed feed_now : ℕ) → (Rose input input_now → Rose old.failed.input new.failed.input) → (Rose feed feed_now → Rose old.failed.feed new.failed.feed)
-    → Caused status (with_feed feed (with_input input (handed old))) (with_feed feed_now (with_input input_now (handed new))) → Caused status old new
-caused_handed Status.Done old new m n p q read came caused = caused
-caused_handed (Status.BadTape place) old new m n p q read came caused = caused
-caused_handed Status.Usage old new m n p q read came caused = caused
-caused_handed Status.ReadFault old new m n p q read came caused = read caused
-caused_handed Status.WriteFault old new m n p q read came caused = caused
-caused_handed Status.Disk old new m n p q read came caused = caused
-caused_handed Status.Authority old new m n p q read came caused = caused
-caused_handed Status.Repos old new m n p q read came caused = caused
-caused_handed Status.Feed old new m n p q read came caused = came caused
-caused_handed Status.Door old new m n p q read came caused = absurd (none_rose caused)
-caused_handed (Status.BadLog place) old new m n p q read came caused = caused
-caused_handed (Status.Full end) old new m n p q read came caused = caused
-caused_handed Status.SeqEnd old new m n p q read came caused = caused
-caused_handed Status.TooLong old new m n p q read came caused = caused
-caused_handed Status.Memory old new m n p q read came caused = caused
-caused_handed (Status.Refused code) old new m n p q read came caused = caused
-caused_handed Status.Clock old new m n p q read came caused = caused
-caused_handed (Status.BadStream place) old new m n p q read came caused = caused
-caused_handed Status.Wire old new m n p q read came caused = absurd (none_rose caused)
+-- of the parts that are handed as one value, with the counts of the others
+abbrev Counting : Status → ℕ → ℕ → ℕ → ℕ → ℕ → ℕ → ℕ → ℕ → Parts → Parts → Type 0
+Counting status input input_now feed feed_now door door_now wire wire_now old new =
+    Caused status (with_counts input feed door wire (handed old)) (with_counts input_now feed_now door_now wire_now (handed new))
 
-none_fell : (old new : Parts) → NoneFell (handed old).failed (handed new).failed → old.failed.input ≤ new.failed.input → old.failed.feed ≤ new.failed.feed → new.failed.door ≡ old.failed.door → new.failed.wire ≡ old.failed.wire
-    → NoneFell old.failed new.failed
+caused_counting : (status : Status) (old new : Parts) (input input_now feed feed_now door door_now wire wire_now : ℕ)
+    → (Rose input input_now → Rose old.failed.input new.failed.input) → (Rose feed feed_now → Rose old.failed.feed new.failed.feed)
+    → (Rose door door_now → Rose old.failed.door new.failed.door) → (Rose wire wire_now → Rose old.failed.wire new.failed.wire)
+    → Counting status input input_now feed feed_now door door_now wire wire_now old new → Caused status old new
+caused_counting Status.Done old new a b c d e f g h read came met sent caused = caused
+caused_counting (Status.BadTape place) old new a b c d e f g h read came met sent caused = caused
+caused_counting Status.Usage old new a b c d e f g h read came met sent caused = caused
+caused_counting Status.ReadFault old new a b c d e f g h read came met sent caused = read caused
+caused_counting Status.WriteFault old new a b c d e f g h read came met sent caused = caused
+caused_counting Status.Disk old new a b c d e f g h read came met sent caused = caused
+caused_counting Status.Authority old new a b c d e f g h read came met sent caused = caused
+caused_counting Status.Repos old new a b c d e f g h read came met sent caused = caused
+caused_counting Status.Feed old new a b c d e f g h read came met sent caused = came caused
+caused_counting Status.Door old new a b c d e f g h read came met sent caused = met caused
+caused_counting (Status.BadLog place) old new a b c d e f g h read came met sent caused = caused
+caused_counting (Status.Full end) old new a b c d e f g h read came met sent caused = caused
+caused_counting Status.SeqEnd old new a b c d e f g h read came met sent caused = caused
+caused_counting Status.TooLong old new a b c d e f g h read came met sent caused = caused
+caused_counting Status.Memory old new a b c d e f g h read came met sent caused = caused
+caused_counting (Status.Refused code) old new a b c d e f g h read came met sent caused = caused
+caused_counting Status.Clock old new a b c d e f g h read came met sent caused = caused
+caused_counting (Status.BadStream place) old new a b c d e f g h read came met sent caused = caused
+caused_counting Status.Wire old new a b c d e f g h read came met sent caused = sent caused
+
+none_fell : (old new : Parts) → NoneFell (handed old).failed (handed new).failed → old.failed.input ≤ new.failed.input → old.failed.feed ≤ new.failed.feed
+    → old.failed.door ≤ new.failed.door → old.failed.wire ≤ new.failed.wire → NoneFell old.failed new.failed
 none_fell old new kept input feed door wire = record {
   one = kept.one;
   two = kept.two;
@@ -155,28 +204,50 @@ none_fell old new kept input feed door wire = record {
   output = kept.output;
   input = input;
   feed = feed;
-  door = omega (arith, door);
-  wire = omega (arith, wire);
+  door = door;
+  wire = wire;
 }
+
+none : {A : Type 0} → Rose 0 0 → A
+none rose = absurd (none_rose rose)
+
+kept_of : (before now : ℕ) → now ≡ before → before ≤ now
+kept_of before now same = omega (arith, same)
 
 pub causes_handed : (status : Status) (old new : Parts) → UncountedKept old new → Caused status (handed old) (handed new) → NoneFell (handed old).failed (handed new).failed → HasCauses status old new
 causes_handed status old new same caused kept = (
-  caused_handed status old new 0 0 0 0 (λ rose. absurd (none_rose rose)) (λ rose. absurd (none_rose rose)) caused,
-  none_fell old new kept (omega (arith, same.input)) (omega (arith, same.feed)) same.door same.wire,
+  caused_counting status old new 0 0 0 0 0 0 0 0 none none none none caused,
+  none_fell old new kept (kept_of _ _ same.input) (kept_of _ _ same.feed) (kept_of _ _ same.door) (kept_of _ _ same.wire),
 )
 
 pub causes_tape : (status : Status) (old new : Parts) → new.failed.feed ≡ old.failed.feed → new.failed.door ≡ old.failed.door → new.failed.wire ≡ old.failed.wire → TapeTold old new status → NoneFell (handed old).failed (handed new).failed → old.failed.input ≤ new.failed.input
     → HasCauses status old new
 causes_tape status old new feed door wire ends kept input = (
-  caused_handed status old new old.failed.input new.failed.input 0 0 (λ rose. rose) (λ rose. absurd (none_rose rose)) ends.caused,
-  none_fell old new kept input (omega (arith, feed)) door wire,
+  caused_counting status old new old.failed.input new.failed.input 0 0 0 0 0 0 (λ rose. rose) none none none ends.caused,
+  none_fell old new kept input (kept_of _ _ feed) (kept_of _ _ door) (kept_of _ _ wire),
 )
 
 pub causes_feed : (status : Status) (old new : Parts) → new.failed.input ≡ old.failed.input → new.failed.door ≡ old.failed.door → new.failed.wire ≡ old.failed.wire → FeedTold old new status → NoneFell (handed old).failed (handed new).failed → old.failed.feed ≤ new.failed.feed
     → HasCauses status old new
 causes_feed status old new input door wire ends kept feed = (
-  caused_handed status old new 0 0 old.failed.feed new.failed.feed (λ rose. absurd (none_rose rose)) (λ rose. rose) ends.caused,
-  none_fell old new kept (omega (arith, input)) feed door wire,
+  caused_counting status old new 0 0 old.failed.feed new.failed.feed 0 0 0 0 none (λ rose. rose) none none ends.caused,
+  none_fell old new kept (kept_of _ _ input) feed (kept_of _ _ door) (kept_of _ _ wire),
+)
+
+pub causes_door : (status : Status) (old new : Parts) → new.failed.input ≡ old.failed.input → new.failed.feed ≡ old.failed.feed → new.failed.wire ≡ old.failed.wire
+    → Caused status (with_door old.failed.door (handed old)) (with_door new.failed.door (handed new)) → NoneFell (handed old).failed (handed new).failed → old.failed.door ≤ new.failed.door
+    → HasCauses status old new
+causes_door status old new input feed wire caused kept door = (
+  caused_counting status old new 0 0 0 0 old.failed.door new.failed.door 0 0 none none (λ rose. rose) none caused,
+  none_fell old new kept (kept_of _ _ input) (kept_of _ _ feed) door (kept_of _ _ wire),
+)
+
+pub causes_wire : (status : Status) (old new : Parts) → new.failed.input ≡ old.failed.input → new.failed.feed ≡ old.failed.feed → new.failed.door ≡ old.failed.door
+    → Caused status (with_wire old.failed.wire (handed old)) (with_wire new.failed.wire (handed new)) → NoneFell (handed old).failed (handed new).failed → old.failed.wire ≤ new.failed.wire
+    → HasCauses status old new
+causes_wire status old new input feed door caused kept wire = (
+  caused_counting status old new 0 0 0 0 0 0 old.failed.wire new.failed.wire none none none (λ rose. rose) caused,
+  none_fell old new kept (kept_of _ _ input) (kept_of _ _ feed) (kept_of _ _ door) wire,
 )
 
 -- the same deed, whose way is another one

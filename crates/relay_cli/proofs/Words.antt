@@ -1,4 +1,4 @@
--- Commands that are equal, and operators' commands as texts that are equal.
+-- What a command does, on texts that are equal.
 use Rattle.std.proofs.Common.{◌≡◌, ℕ, Bool, List, Option, subst, sym}
 use Rattle.account_state.specs.Folds.{account}
 use Rattle.state_lines.specs.Lines.{account_text}
@@ -6,7 +6,7 @@ use Rattle.relay_disk.specs.Disk.{View}
 use Rattle.run_base.specs.declared.status.Status.{Status}
 use Rattle.relay_cli.specs.declared.command.Command.{Command}
 use Rattle.relay_cli.specs.Ran.{Ran}
-use Rattle.relay_cli.specs.Runs.{AreLinesGiven, HasRun, IsFollowed, IsShown, RanOperated, IsSynced, Place, OutsideTells}
+use Rattle.relay_cli.specs.Runs.{AreLinesGiven, IsFollowed, IsShown, RanOperated, IsSynced, Place, OutsideTells}
 
 pub shown_of : (did given : List ℕ) (t : OutsideTells) (old new : Place) (status : Status) → given ≡ did
     → IsShown (λ J. account_text given (account given J)) t old new status → IsShown (λ J. account_text did (account did J)) t old new status
@@ -22,17 +22,9 @@ synced_of did given time told t old new status same at done = subst (λ (x : Lis
 pub followed_of : (host given : List ℕ) (count : ℕ) (t : OutsideTells) (old new : Place) (status : Status) → given ≡ host → IsFollowed given count t old new status → IsFollowed host count t old new status
 followed_of host given count t old new status same done = subst (λ (x : List ℕ). IsFollowed x count t old new status) same done
 
--- what a command does that is this one
-pub run_as : (D : Type 0) (view : D → View) (t : OutsideTells) (old new : Place) (status : Status) (command one : Command) → command ≡ one → HasRun view t old new status one → HasRun view t old new status command
-run_as D view t old new status command one same done = subst (λ (x : Command). HasRun view t old new status x) (sym same) done
+pub lines_of : (cursor : ℕ) (collection given : Option (List ℕ)) (t : OutsideTells) (old new : Place) (status : Status) → given ≡ collection → AreLinesGiven cursor given t old new status → AreLinesGiven cursor collection t old new status
+lines_of cursor collection given t old new status same done = subst (λ (x : Option (List ℕ)). AreLinesGiven cursor x t old new status) same done
 
--- and where its collection is a text that is equal
-pub lines_run_as : (D : Type 0) (view : D → View) (t : OutsideTells) (old new : Place) (status : Status) (command : Command) (cursor : ℕ) (collection given : Option (List ℕ))
-    → command ≡ Command.Lines cursor collection → given ≡ collection → AreLinesGiven cursor given t old new status → HasRun view t old new status command
-lines_run_as D view t old new status command cursor collection given is same done =
-    run_as D view t old new status command (Command.Lines cursor collection) is
-    (subst (λ (x : Option (List ℕ)). AreLinesGiven cursor x t old new status) same done)
-
--- and what a run promises of it
+-- what a run promises of a command that is this one
 pub ran_as : (D : Type 0) (view : D → View) (t : OutsideTells) (old new : Place) (status : Status) (command one : Command) → command ≡ one → Ran view t old new status one → Ran view t old new status command
 ran_as D view t old new status command one same done = subst (λ (x : Command). Ran view t old new status x) (sym same) done

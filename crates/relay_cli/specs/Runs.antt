@@ -12,24 +12,22 @@ use Rattle.relay_disk.specs.Disk.{View}
 use Rattle.relay_io.specs.Streams.{AddsFront}
 use Rattle.relay_io.specs.declared.feed.TheConstants.{LONGEST_FEED_MESSAGE}
 use Rattle.relay_row.specs.declared.row.Row.{Row}
-use Rattle.lines_run.specs.OfDisks.{LinesWritten}
 use Rattle.mirror_run.specs.Ends.{MayEndMirroring}
 use Rattle.mirror_run.specs.Mirrored.{Mirrored}
-use Rattle.query_run.specs.AtWire.{AtWire}
-use Rattle.query_run.specs.OfDisks.{AnsweredBy}
 use Rattle.relay_run.specs.Cutting.{WasCut}
 use Rattle.relay_run.specs.Lines.{MayEndCutting, MayEndOperating, MayEndShowing, MayEndSyncing}
-use Rattle.relay_store.specs.Pairs.{PairView, pair_view}
 use Rattle.relay_run.specs.Shown.{TextShown}
 use Rattle.relay_run.specs.Behind.{WasOperated, WasSynced}
 use Rattle.run_base.specs.Ends.{AreOnlyRead, HoldsJournal, IsQuiet, Shows}
 use Rattle.run_base.specs.Place.{Faults, Place as Parts, Tells, at_place, counts, tells_of}
 use Rattle.run_base.specs.declared.status.Status.{Status}
-use Rattle.serve_run.specs.AtDoor.{AtDoor}
-use Rattle.serve_run.specs.Ends.{IsDoorCount, IsOfDisks, ServeMayEnd, ServeEndShows as ServeHadJournal}
-use Rattle.serve_run.specs.Guests.{ServedAt}
-use Rattle.serve_run.specs.Replayed.{Replayed}
-use Rattle.serve_run.specs.declared.end.ServeEnd.{ServeEnd}
+use Rattle.read_run.specs.AtDoor.{AtDoor}
+use Rattle.read_run.specs.AtWire.{AtWire}
+use Rattle.read_run.specs.Ends.{IsOfDisks, MayEndQuerying, MayEndReading, MayEndServing}
+use Rattle.read_run.specs.Guests.{ServedAt}
+use Rattle.read_run.specs.Lines.{LinesWritten}
+use Rattle.read_run.specs.Queried.{AnsweredBy}
+use Rattle.read_run.specs.Replayed.{Replayed}
 use Rattle.state_lines.specs.Lines.{account_text, hosts_text}
 use Rattle.store_take.specs.declared.message.Message.{Message}
 use Rattle.take_run.specs.Tapes.{AreRecords, encoded_records}
@@ -37,7 +35,7 @@ use Rattle.trial_run.specs.Tried.{MayEndTrying, Tried}
 use Rattle.relay_cli.specs.declared.command.Command.{Command}
 use Rattle.relay_store.specs.declared.limits.TheConstants.{LONGEST}
 use Rattle.relay_cli.specs.declared.verdict.CheckVerdict.{CheckVerdict}
-use Rattle.relay_cli.specs.Statuses.{status_of, status_of_query, status_of_serving}
+use Rattle.relay_cli.specs.Statuses.{status_of}
 use Rattle.relay_cli.specs.Report.{check_line}
 use Rattle.relay_cli.specs.Verdicts.{IsVerdict}
 
@@ -137,6 +135,12 @@ faults one two repos clock output input feed door wire = record {
   wire = wire;
 }
 
+-- the parts, with how often the input, the feed, the door and the wire have failed
+abbrev pub with_counts : ℕ → ℕ → ℕ → ℕ → Parts → Parts
+with_counts input feed door wire p = record p {
+  failed = record p.failed { input = input; feed = feed; door = door; wire = wire };
+}
+
 -- What the objects of a run hold at one moment: the two disks, what the judges, the clock and the
 -- repositories tell, what is written, and how often each object has failed (its parts); what is
 -- left of the input; what the feed gives of each host behind each number, and what is left of the
@@ -161,6 +165,15 @@ place parts left given coming door wire = record {
   wire = wire;
 }
 
+-- what the objects of a run hold, by what is seen of each: of the parts that are one value, of the
+-- input, of the feed, of the door and of the wire
+abbrev pub place_seen : {S I F G W : Type 0} → (S → Parts) → (I → List ℕ) → (I → ℕ)
+    → (F → List ℕ → ℕ → List (List ℕ)) → (F → List (List ℕ)) → (F → ℕ)
+    → (G → AtDoor) → (G → ℕ) → (W → AtWire) → (W → ℕ) → S → I → F → G → W → Place
+place_seen parts left inputs given coming feeds door doors wire wires s i f g w = place
+    (with_counts (inputs i) (feeds f) (doors g) (wires w) (parts s))
+    (left i) (given f) (coming f) (door g) (wire w)
+
 -- the parts that a command on the journal is handed as one value: no input, feed, door or wire is
 -- among them, so that these count 0
 abbrev pub handed : Parts → Parts
@@ -171,10 +184,6 @@ handed p = at_place p.one p.two p.around p.written
 abbrev pub streams_at : OutsideTells → Place → Streams
 streams_at t p =
     streams t.input p.left p.parts.failed.input t.output p.parts.written p.parts.failed.output
-
--- the two disks and what is written
-abbrev pub disks : Place → PairView
-disks p = pair_view p.parts.one p.parts.two p.parts.written
 
 -- Of the disks alone something was asked: nothing was written, taken or sent, nobody was asked, and
 -- no other part failed.
@@ -270,51 +279,43 @@ IsFollowed host count t old new status = (new.left ≡ old.left)
     ⊎ Followed (parts_tell t) t.feed host LONGEST count J (handed old.parts) (handed new.parts)
     (old.given host) new.coming status)
 
--- Events were to be given out, and nothing else was asked or read. The end tells what the disks
--- were.
-pub record IsGivenOut (t : OutsideTells) (old new : Place) (status : Status)
-    (Does : ServeEnd → Type 0) : Type 0 where
-  pub end : ServeEnd
-  pub status_is : status ≡ status_of_serving end
-  pub had : IsTrue t.disk → ServeHadJournal end old.parts.one.content old.parts.two.content
+-- The journal was to be read, and nobody was asked, and no input was read.
+pub record IsRead (t : OutsideTells) (old new : Place) (status : Status)
+    (May : Status → Type 0) (Came : List Row → Type 0) : Type 0 where
+  pub commanded : Commanded t old status May Came
   pub unasked : new.parts.around ≡ old.parts.around
   pub unread : new.left ≡ old.left
-  pub does : Does end
+
+-- the messages that are served after this cursor are written
+abbrev pub IsReplayed : ℕ → OutsideTells → Place → Place → Status → Type 0
+IsReplayed cursor t old new status = IsRead t old new status MayEndReading (λ J.
+    Replayed (parts_tell t) LONGEST J cursor (handed old.parts) (handed new.parts) status)
+
+-- guests are served
+abbrev pub IsServed : ℕ → OutsideTells → Place → Place → Status → Type 0
+IsServed count t old new status = IsRead t old new status MayEndServing (λ J.
+    ServedAt (parts_tell t) t.door LONGEST count J old.door new.door
+    (handed old.parts) (handed new.parts) status)
+
+-- requests are answered; where the disks ended it none was taken, and nothing was written
+abbrev pub IsQueried : ℕ → OutsideTells → Place → Place → Status → Type 0
+IsQueried count t old new status =
+    (IsOfDisks status → (new.wire ≡ old.wire) × (new.parts.written ≡ old.parts.written))
+    × IsRead t old new status MayEndQuerying (λ J.
+    AnsweredBy (parts_tell t) t.wire LONGEST count J old.wire new.wire
+    (handed old.parts) (handed new.parts) status)
+
+-- the lines of operations are written
+abbrev pub AreLinesGiven : ℕ → Option (List ℕ) → OutsideTells → Place → Place → Status → Type 0
+AreLinesGiven cursor collection t old new status = IsRead t old new status MayEndReading (λ J.
+    LinesWritten (parts_tell t) LONGEST J collection cursor
+    (handed old.parts) (handed new.parts) status)
 
 -- A trial was run on two disks of its own, which hold these bytes in the end; of what was handed in
 -- it has the output alone.
 abbrev pub IsTried : ℕ → ℕ → OutsideTells → Place → Place → Status → Type 0
 IsTried start count t old new status = MayEndTrying status × ((first second : List ℕ)
     × Tried t.output start count first second old.parts.written new.parts.written status)
-
--- no count rose of the disks and of the output
-abbrev pub IsFlawlessText : Faults → Faults → Type 0
-IsFlawlessText old new = (Rose old.one new.one ⊎ Rose old.two new.two → ⊥)
-    × (Rose old.output new.output → ⊥)
-
--- the lines of operations are written, and all of them where no count rose, unless memory runs out
-abbrev pub AreLinesGiven : ℕ → Option (List ℕ) → OutsideTells → Place → Place → Status → Type 0
-AreLinesGiven cursor collection t old new status =
-    IsGivenOut t old new status (λ end. OnJournal t old (λ J.
-    LinesWritten t.output J collection cursor (disks old) (disks new) end
-    × (IsFlawlessText old.parts.failed new.parts.failed → ServeMayEnd end)))
-
--- Requests were to be answered by the journal, and nothing else was asked or read. The end tells
--- what the disks were; where they failed or have no journal no request was taken and nothing was
--- written.
-pub record IsQueried (count : ℕ) (t : OutsideTells) (old new : Place) (status : Status)
-    : Type 0 where
-  pub end : ServeEnd
-  pub status_is : status ≡ status_of_query end
-  pub had : IsTrue t.disk → ServeHadJournal end old.parts.one.content old.parts.two.content
-  pub quiet : IsOfDisks end → (new.wire ≡ old.wire) × (new.parts.written ≡ old.parts.written)
-  pub unasked : new.parts.around ≡ old.parts.around
-  pub unread : new.left ≡ old.left
-  pub does : OnJournal t old (λ J. AnsweredBy J t.wire t.output count old.wire new.wire (disks old)
-      (disks new) end)
-  -- all is done where no count rose, unless memory runs out
-  pub complete : OnJournal t old (λ J. IsFlawlessText old.parts.failed new.parts.failed
-      → (Rose old.parts.failed.wire new.parts.failed.wire → ⊥) → ServeMayEnd end)
 
 -- the stream on the input was to be mirrored, and ended so
 abbrev pub IsMirroredFrom : OutsideTells → Place → Place → Status → Type 0
@@ -374,13 +375,8 @@ HasRun view t old new status (Command.Sync did time) =
 HasRun view t old new status (Command.Cut seq) = RanCut view seq t old new status
 HasRun view t old new status (Command.Follow host count) =
     IsFollowed host count t old new status
-HasRun view t old new status (Command.Replay cursor) =
-    IsGivenOut t old new status (λ end. OnJournal t old (λ J. Replayed t.output
-    (Rose old.parts.failed.output new.parts.failed.output) J cursor (disks old) (disks new) end))
-HasRun view t old new status (Command.Serve count) =
-    IsGivenOut t old new status (λ end. IsDoorCount old.parts.failed.door new.parts.failed.door end
-    × OnJournal t old (λ J. ServedAt t.door t.output count J old.door new.door
-    (disks old) (disks new) end))
+HasRun view t old new status (Command.Replay cursor) = IsReplayed cursor t old new status
+HasRun view t old new status (Command.Serve count) = IsServed count t old new status
 HasRun view t old new status (Command.Trial start count) = IsTried start count t old new status
 HasRun view t old new status Command.Mirror = IsMirroredFrom t old new status
 HasRun view t old new status (Command.Query count) = IsQueried count t old new status

@@ -4,12 +4,13 @@
 ghost use Rattle.std.specs.Prelude.{◌≤◌, All, IfOk, length};
 ghost use Rattle.relay_io.specs.declared.wire.TheConstants.{LONGEST_REQUEST};
 
+use at_authority::TrustAll;
 use at_cid::{Memory, Octets};
-use lines_run::lines;
-use query_run::query;
+use read_run::Reads;
 use relay_disk::MemoryDisk;
-use relay_io::{Exchange, LONGEST_REQUEST, MemorySink, MemoryWire};
+use relay_io::{Exchange, LONGEST_REQUEST, ListClock, MemoryRepos, MemorySink, MemoryWire};
 use relay_store::LONGEST;
+use run_base::{Asked, Outside, Pair};
 use std::alloc::Global;
 use std::fs;
 use vector_lines::Case;
@@ -85,38 +86,83 @@ fn sink_of(case: &mut Case<'_>) -> Option<MemorySink> {
     case.gave(MemorySink::new(case.alloc, ROOM, STEP, failing.as_slice()))
 }
 
+// All that a command uses: a row's disk and output, an empty second disk, a clock that stands at 0, and no repositories.
+#[derive(Drop)]
+struct Parts {
+    one: MemoryDisk,
+    two: MemoryDisk,
+    judges: TrustAll,
+    repos: MemoryRepos,
+    clock: ListClock,
+    out: MemorySink,
+}
+
+impl Parts {
+    // The parts as a command is handed them.
+    fn outside(
+        &mut self,
+    ) -> Outside<'_, '_, '_, '_, '_, '_, MemoryDisk, TrustAll, MemoryRepos, ListClock, MemorySink> {
+        Outside {
+            pair: Pair {
+                one: &mut self.one,
+                two: &mut self.two,
+            },
+            asked: Asked {
+                judges: &mut self.judges,
+                repos: &mut self.repos,
+                clock: &mut self.clock,
+            },
+            out: &mut self.out,
+        }
+    }
+}
+
+// The parts with this disk, and with the output of a row's next part.
+fn parts_with(case: &mut Case<'_>, one: MemoryDisk) -> Option<Parts> {
+    let out = sink_of(case);
+    let two = disk_with(case, &[], &[]);
+    let repos = case.gave(MemoryRepos::new(case.alloc, Vec::new(case.alloc), 1, &[]));
+    let clock = case.gave(ListClock::new(case.alloc, &[0], &[]));
+    match (two, repos, clock, out) {
+        (Some(two), Some(repos), Some(clock), Some(out)) => Some(Parts {
+            one,
+            two,
+            judges: TrustAll,
+            repos,
+            clock,
+            out,
+        }),
+        (_, _, _, _) => None,
+    }
+}
+
 /// Answers `DISK ; FAILING CALLS ; CURSOR ; COLLECTION or - ; FAILING WRITES = END ; LINES`.
 pub fn lines_run(case: &mut Case<'_>, log: &[u8]) {
-    if let Some(mut disk) = disk_of(case, log) {
+    if let Some(disk) = disk_of(case, log) {
         let cursor = case.number(" ; ");
         let collection = case.part_or_none(" ; ");
-        let out = sink_of(case);
-        let other = disk_with(case, &[], &[]);
-        if let (Some(mut out), Some(mut other)) = (out, other) {
-            let end = lines(
-                case.alloc, LONGEST, &mut disk, &mut other, cursor, collection, &mut out,
-            );
+        if let Some(mut parts) = parts_with(case, disk) {
+            let end = parts
+                .outside()
+                .lines(case.alloc, LONGEST, cursor, collection);
             case.say_named(&end);
             case.say(" ; ");
-            say_written(case, out.content());
+            say_written(case, parts.out.content());
         }
     }
 }
 
 /// Answers `DISK ; FAILING CALLS ; COUNT ; FAILING WRITES ; FAILING NEXTS ; FAILING SENDS ; REQUESTS = END ; LINES ; EXCHANGES`.
 pub fn query_run(case: &mut Case<'_>, log: &[u8]) {
-    if let Some(mut disk) = disk_of(case, log) {
+    if let Some(disk) = disk_of(case, log) {
         let count = case.number(" ; ");
-        let out = sink_of(case);
+        let parts = parts_with(case, disk);
         let wire = wire_of(case);
-        let other = disk_with(case, &[], &[]);
-        if let (Some(mut out), Some(mut wire), Some(mut other)) = (out, wire, other) {
-            let end = query(
-                case.alloc, LONGEST, count, &mut disk, &mut other, &mut wire, &mut out,
-            );
+        if let (Some(mut parts), Some(mut wire)) = (parts, wire) {
+            let end = parts.outside().query(case.alloc, LONGEST, count, &mut wire);
             case.say_named(&end);
             case.say(" ; ");
-            say_written(case, out.content());
+            say_written(case, parts.out.content());
             case.say(" ;");
             for exchange in wire.exchanges() {
                 say_exchange(case, exchange);
