@@ -123,7 +123,7 @@ class Specs:
         own = {name.split(".")[1] for name in self.modules}
         keys = {self.standing(key) for module in self.modules.values() for key in module.names.values()}
         return sorted(key for key in keys if key not in self.definitions and key[0].split(".")[1] in own
-                      and key[0].split(".")[2:3] == ["specs"] and ".declared." not in f"{key[0]}.")
+                      and key[0].split(".")[2:3] == ["specs"] and not {"declared", "contracts"} & {*key[0].split(".")})
 
     def lines(self, keys) -> int:
         return sum(len(self.definitions[key].lines) for key in keys)

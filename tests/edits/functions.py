@@ -4,7 +4,7 @@ import re
 from dataclasses import dataclass
 
 HEAD = re.compile(r"^( *)(?:pub(?:\([^)]*\))? )?(?:const )?fn (\w+)", re.MULTILINE)
-IMPL = re.compile(r"^impl(?:<(?P<bound>[^{]*?)>)? (?:(?P<trait>[\w:]+(?:<.*>)?) for )?(?P<type>[\w:]+)", re.MULTILINE)
+IMPL = re.compile(r"^impl(?:<(?P<bound>[^{]*?)>)? (?:(?P<trait>[\w:]+(?:<.*>)?)\s+for )?(?P<type>[\w:]+)", re.MULTILINE)
 CYCLE = re.compile(r"#\[cycle\((\w+)\)\]")
 NAME = re.compile(r"\w+")
 
@@ -33,11 +33,16 @@ def declaring(crate: pathlib.Path, name: str) -> "str | None":
 
 
 def block_name(impl: re.Match) -> str:
-    """What the prover names an `impl` by: its type, then its trait, then what the trait is given."""
-    trait, _, given = re.sub(r"'\w+(?:, )?", "", impl["trait"] or "").partition("<")
-    words = [each.partition("<")[0] for each in given.removesuffix(">").split(", ") if each]
+    """What the prover names an `impl` by: its type and what that is given, then its trait and what that is given."""
     bound = NAME.findall(impl["bound"] or "")
-    return impl["type"].rpartition("::")[2] + trait.rpartition("::")[2] + "".join(each for each in words if each not in bound)
+    of = re.match(r"<[^{]*>", impl.string[impl.end():])
+
+    def named(text: str) -> str:
+        name, _, given = re.sub(r"'\w+(?:, )?", "", text).partition("<")
+        words = [each.partition("<")[0] for each in given.removesuffix(">").split(", ") if each]
+        return name.rpartition("::")[2] + "".join(each for each in words if each not in bound)
+
+    return named(impl["type"] + (of[0] if of else "")) + named(impl["trait"] or "")
 
 
 def function_of(crate: pathlib.Path, file: str, text: str, head: re.Match) -> Function:
@@ -59,5 +64,8 @@ def function_at(crate: pathlib.Path, file: str, text: str, start: int, end: int)
     opened = re.compile(rf"^{head[1]}(?:\S.*)?\{{$", re.MULTILINE).search(text, head.start())
     closed = opened and re.compile(rf"^{head[1]}\}}$", re.MULTILINE).search(text, opened.end())
     if closed is None or start < opened.end() or end > closed.start():
+        return None
+    # a method of a trait that has no body: what was found is past the end of the trait
+    if head[1] and re.compile(r"^\S", re.MULTILINE).search(text, head.end(), opened.start()):
         return None
     return function_of(crate, file, text, head)

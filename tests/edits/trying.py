@@ -4,6 +4,7 @@ The crate as it stands has a library, or is proved first as far as the edits tou
 together, since a caller is proved by the contracts of what it calls: one whose function waits for the proof of another is
 tried again. Where the prover refuses stored answers alone, these are taken out, and its search tries their goals.
 """
+import os
 import pathlib
 import shutil
 import tempfile
@@ -95,7 +96,8 @@ def functions_of(path: pathlib.Path, crate: pathlib.Path) -> "list[Function]":
     for file, old, new in pairs_of(path):
         text = texts.get(file) or (crate / file).read_text()
         start = text.index(old)
-        found.add(function_at(crate, file, text, start, start + len(old)))
+        same = len(os.path.commonprefix((old, new)))
+        found.add(function_at(crate, file, text, start + same, start + len(old)))
         texts[file] = text.replace(old, new)
     return [] if None in found else sorted(found, key=lambda each: each.path)
 
