@@ -198,6 +198,8 @@ class Tries:
             trial.result = Result(REFUSED, "(the prover ended at its limit)")
         elif is_alone:
             trial.result = Result(NOT_TRIED, next(each.verdict for each in said.values() if not each.is_proved))
+        else:
+            trial.is_alone = True
 
     def without(self, trial: Trial, refused: "list[Refused]") -> "Result | None":
         """Takes the refused answers out of the files of proofs, for the next check. An invariant that no longer fits is the result,
