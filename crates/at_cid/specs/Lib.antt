@@ -7,4 +7,5 @@ pub mod Order
 pub mod OrderLaws
 pub mod Counts
 pub mod Distinct
+pub mod Lengths
 pub mod Laws

@@ -1,10 +1,9 @@
 -- Which failures are told, and which statuses come, by what reading kept.
 use Rattle.std.proofs.Common.{◌≡◌, ◌≢◌, ◌≤◌, ◌∙◌, inl, inr, ℕ, Bool, Option, Some, None, IsTrue, refl, sym, ap, subst, arith}
-use Rattle.at_cid.specs.Counts.{Rose}
+use Rattle.at_cid.specs.Counts.{Rose, Counted, CountedPair}
 use Rattle.event_window.specs.declared.fault.EventsFault.{EventsFault}
 use Rattle.relay_store.specs.Opening.{IsOfReading}
 use Rattle.relay_store.specs.declared.fault.StoreFault.{StoreFault}
-use Rattle.run_base.specs.Counts.{Counted, CountedPair}
 use Rattle.run_base.specs.Ends.{Caused, ToldBut}
 use Rattle.run_base.specs.Place.{Place, with_feed}
 use Rattle.run_base.specs.Statuses.{status_of_fault}

@@ -1,12 +1,11 @@
 -- The two disks of the first relay, which are only read (own).
 use Rattle.std.specs.Prelude.{◌⊎◌, Bool, List}
-use Rattle.at_cid.specs.Counts.{Rose}
+use Rattle.at_cid.specs.Counts.{Rose, CountedPair}
 use Rattle.relay_disk.specs.Disk.{View}
 use Rattle.relay_disk.specs.Moments.{PairLeavesOnly}
 use Rattle.relay_row.specs.declared.row.Row.{Row}
 use Rattle.relay_store.specs.Journals.{IsBadPairJournalAt, IsPairImageOf}
 use Rattle.relay_store.specs.Pairs.{StandsFor}
-use Rattle.run_base.specs.Counts.{CountedPair}
 use Rattle.run_base.specs.Ends.{Shows}
 use Rattle.run_base.specs.Place.{Faults, Place}
 use Rattle.run_base.specs.declared.pair.Pair.{Pair}

@@ -11,7 +11,7 @@ ghost use Rattle.relay_row.specs.declared.row.Row.{Row as TheRow};
 ghost use Rattle.relay_store.specs.Opening.{BothOnlyRead};
 ghost use Rattle.relay_store.specs.Shown.{held_by};
 ghost use Rattle.relay_store.specs.Store.{IsKept, IsOf, Keeps, seen_in};
-ghost use Rattle.run_base.specs.Counts.{Counted};
+ghost use Rattle.at_cid.specs.Counts.{Counted};
 ghost use Rattle.run_base.specs.Place.{SamePair};
 ghost use Rattle.take_run.specs.Going.{IsNew, IsReady, at};
 ghost use Rattle.chain_run.specs.Disks.{CountedOf, disks_of};

@@ -4,7 +4,8 @@ use Rattle.relay_disk.specs.Disk.{View, Goes, Same, IsSettled, IsSynced}
 use Rattle.relay_disk.proofs.Moments.{unchanged}
 use Rattle.gate_log.specs.declared.limits.TheConstants.{BEFORE_BODY}
 use Rattle.gate_log.specs.declared.format.Format.{Format}
-use Rattle.gate_log.specs.Image.{made, front, behind_gate, IsMade}
+use Rattle.gate_log.specs.Image.{made, front, IsMade}
+use Rattle.at_cid.specs.Lengths.{length_prefixed}
 use Rattle.gate_log.specs.Crash.{Stands}
 use Rattle.gate_log.specs.Log.{LogState, HoldsBodies, place_behind}
 use Rattle.gate_log.proofs.Append.{made-push}
@@ -16,7 +17,7 @@ first_place log = ap length (sym (append-nil (front log.format)))
 -- the next behind the one before
 pub next_place : (log : LogState) (before : List (List ℕ)) (body : List ℕ) → place_behind log (before ++ body ∷ []) ≡ place_behind log before + BEFORE_BODY + length body
 next_place log before body =
-    omega (arith, ap length (made-push log.format before body), length-append (made log.format before) (1 ∷ behind_gate body), length-append body [])
+    omega (arith, ap length (made-push log.format before body), length-append (made log.format before) (1 ∷ length_prefixed body), length-append body [])
 
 -- and the end behind the last
 pub end_place : (log : LogState) (bodies : List (List ℕ)) (v : View) → HoldsBodies bodies log v → log.end ≡ place_behind log bodies

@@ -4,7 +4,8 @@ use Rattle.std.proofs.lemmas.List.{append-nil}
 use Rattle.relay_disk.specs.Disk.{View, Goes, IsDisk, Torn, written}
 use Rattle.relay_disk.specs.Moments.{LeavesOnly}
 use Rattle.gate_log.specs.declared.limits.TheConstants.{BEFORE_BODY, BODY_LENGTHS}
-use Rattle.gate_log.specs.Image.{made, records, behind_gate, AreShort}
+use Rattle.gate_log.specs.Image.{made, records, AreShort}
+use Rattle.at_cid.specs.Lengths.{length_prefixed}
 use Rattle.gate_log.specs.Build.{BuildState, Builds, HasBuilt, IsClosed}
 use Rattle.gate_log.proofs.Append.{made-append, made-push, records-push, AreShort-push}
 use Rattle.gate_log.proofs.Closed.{builds_long, closed_still, more_built}
@@ -12,13 +13,13 @@ use Rattle.gate_log.proofs.Closed.{builds_long, closed_still, more_built}
 module _ (bodies : List (List ℕ)) (build : BuildState) (v : View) (has : HasBuilt bodies build v) where
   -- one more waits
   pub held_more : (body : List ℕ) → length body < BODY_LENGTHS → (now : BuildState)
-      → now ≡ record build { end = build.end + BEFORE_BODY + length body; waiting = build.waiting ++ 1 ∷ behind_gate body } → HasBuilt (bodies ++ body ∷ []) now v
+      → now ≡ record build { end = build.end + BEFORE_BODY + length body; waiting = build.waiting ++ 1 ∷ length_prefixed body } → HasBuilt (bodies ++ body ∷ []) now v
   held_more body is_short now is = subst (λ (b : BuildState). HasBuilt (bodies ++ body ∷ []) b v) (sym is) (record {
     on_disk = has.on_disk;
     held = has.held ++ body ∷ [];
     split = ap (λ (l : List (List ℕ)). l ++ body ∷ []) has.split ∙ append_assoc has.on_disk has.held (body ∷ []);
-    waits = ap (λ (l : List ℕ). l ++ 1 ∷ behind_gate body) has.waits ∙ sym (records-push has.held body);
-    ends = omega (arith, has.ends, ap length (made-push build.format bodies body), length-append (made build.format bodies) (1 ∷ behind_gate body));
+    waits = ap (λ (l : List ℕ). l ++ 1 ∷ length_prefixed body) has.waits ∙ sym (records-push has.held body);
+    ends = omega (arith, has.ends, ap length (made-push build.format bodies body), length-append (made build.format bodies) (1 ∷ length_prefixed body));
     short = AreShort-push bodies body has.short is_short;
     built = has.built;
   })

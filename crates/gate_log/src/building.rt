@@ -3,7 +3,8 @@ ghost use Rattle.std.specs.Prelude.{◌≡◌, ◌≤◌, ◌<◌, ◌+◌, ◌�
 ghost use Rattle.at_cid.specs.Counts.{Rose};
 ghost use Rattle.relay_disk.specs.Disk.{IsSettled, IsSynced};
 ghost use Rattle.relay_disk.specs.Moments.{LeavesOnly};
-ghost use Rattle.gate_log.specs.Image.{front, behind_gate, generation};
+ghost use Rattle.gate_log.specs.Image.{front, generation};
+ghost use Rattle.at_cid.specs.Lengths.{length_prefixed};
 ghost use Rattle.gate_log.specs.Crash.{Stands};
 ghost use Rattle.gate_log.specs.Log.{HoldsBodies, IsOn};
 ghost use Rattle.gate_log.specs.Build.{HasBuilt, IsBuiltOn, Builds, IsClosed, IsIdle, IsFormerOrIdle, IsClosedOrMade};
@@ -152,7 +153,7 @@ fn front_behind(alloc: Global, generation: u64) -> Result<Vec<u8>, Memory>
 // Puts a record with its gate open behind what is in a room, and leaves room for a closed gate behind it.
 fn put_open_record(room: &mut Vec<u8>, body: &[u8]) -> Result<(), Memory>
     requires short { length body.now < BODY_LENGTHS }
-    ensures record { OnOk result (room.new.items ≡ room.old.items ++ 1 ∷ behind_gate body.now) }
+    ensures record { OnOk result (room.new.items ≡ room.old.items ++ 1 ∷ length_prefixed body.now) }
     ensures spare { OnOk result (length room.new.items < vec_capacity room.new) }
     ensures untouched { OnErr result (room.new.items ≡ room.old.items) }
     ensures capacity { vec_capacity room.old ≤ vec_capacity room.new }
@@ -292,7 +293,7 @@ impl Build {
         requires fits { self.old.end + AROUND_BODY + length body.now ≤ self.old.most }
         ensures held { OnOk result (self.new ≡ record self.old {
           end = self.old.end + BEFORE_BODY + length body.now;
-          waiting = self.old.waiting ++ 1 ∷ behind_gate body.now;
+          waiting = self.old.waiting ++ 1 ∷ length_prefixed body.now;
         }) }
         ensures untouched { OnErr result (self.new ≡ self.old) }
     {

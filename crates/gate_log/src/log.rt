@@ -4,7 +4,8 @@ ghost use Rattle.at_cid.specs.Counts.{Rose};
 ghost use Rattle.relay_disk.specs.Disk.{Goes, Same, IsSynced};
 ghost use Rattle.relay_disk.specs.Moments.{LeavesOnly};
 ghost use Rattle.relay_disk.specs.declared.disk.TheConstants.{SIZES};
-ghost use Rattle.gate_log.specs.Image.{generation, IsImage, IsUnmade, IsBadAt, behind_gate};
+ghost use Rattle.gate_log.specs.Image.{generation, IsImage, IsUnmade, IsBadAt};
+ghost use Rattle.at_cid.specs.Lengths.{length_prefixed};
 ghost use Rattle.gate_log.specs.Crash.{IsImageOfOne, IsBeforeOrAfter, IsNew, LeavesImages, LeavesNew};
 ghost use Rattle.gate_log.specs.Log.{HoldsBodies, IsOn, place_behind};
 ghost use Rattle.gate_log.specs.PendingBodies.{body_in};
@@ -52,7 +53,7 @@ impl Model for Log {
 fn put_record(room: &mut Vec<u8>, body: &[u8])
     requires room { length body.now + BEFORE_BODY ≤ vec_capacity room.old }
     requires short { length body.now < BODY_LENGTHS }
-    ensures record { room.new.items ≡ behind_gate body.now ++ 0 ∷ [] }
+    ensures record { room.new.items ≡ length_prefixed body.now ++ 0 ∷ [] }
     ensures capacity { vec_capacity room.old ≤ vec_capacity room.new }
 {
     room.clear();

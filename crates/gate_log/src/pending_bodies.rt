@@ -3,7 +3,7 @@ ghost use Rattle.std.specs.Prelude.{◌≡◌, ◌≤◌, ◌<◌, ◌+◌, ◌+
 ghost use Rattle.at_cid.specs.Counts.{Rose};
 ghost use Rattle.relay_disk.specs.Moments.{LeavesOnly};
 ghost use Rattle.relay_disk.specs.declared.disk.TheConstants.{SIZES};
-ghost use Rattle.gate_log.specs.Image.{behind_gate};
+ghost use Rattle.at_cid.specs.Lengths.{length_prefixed};
 ghost use Rattle.gate_log.specs.Crash.{Stands, IsBeforeOrAfter};
 ghost use Rattle.gate_log.specs.PendingBodies.{body_in};
 ghost use Rattle.gate_log.specs.declared.limits.TheConstants.{BEFORE_BODY, BODY_LENGTHS};
@@ -34,7 +34,7 @@ pub fn lay_ahead(head: &[u8], room: &mut Octets) -> usize
     requires begun { AHEAD ≤ length room.old }
     requires head { length head.now ≤ HEAD }
     requires short { length (body_in head.now room.old) < BODY_LENGTHS }
-    ensures laid { drop result room.new ≡ behind_gate (body_in head.now room.old) }
+    ensures laid { drop result room.new ≡ length_prefixed (body_in head.now room.old) }
     ensures within { result ≤ length room.new }
     ensures same { length room.new ≡ length room.old }
 {
@@ -59,11 +59,11 @@ pub fn add_from_room<D: Disk>(
     requires below { gate + 2 + length room.old < SIZES }
     requires within { start ≤ length room.old }
     ensures added { OnOk result (IsTrue D.tells → (bodies : List (List ℕ)) (body : List ℕ)
-        → drop start room.old ≡ behind_gate body → length body < BODY_LENGTHS
+        → drop start room.old ≡ length_prefixed body → length body < BODY_LENGTHS
         → Stands format bodies gate (D.view disk.old) → Stands format
         (bodies ++ body ∷ []) (gate + BEFORE_BODY + length body) (D.view disk.new)) }
     ensures moments { IsTrue D.tells → (bodies : List (List ℕ)) (body : List ℕ)
-        → drop start room.old ≡ behind_gate body → length body < BODY_LENGTHS
+        → drop start room.old ≡ length_prefixed body → length body < BODY_LENGTHS
         → Stands format bodies gate (D.view disk.old)
         → LeavesOnly (IsBeforeOrAfter format bodies body) (D.view disk.old) (D.view disk.new) }
     ensures steady { OnOk result ((D.view disk.new).faults ≡ (D.view disk.old).faults) }

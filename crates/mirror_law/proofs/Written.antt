@@ -3,7 +3,8 @@ use Rattle.std.proofs.Common.{◌≡◌, ℕ, List, [], ◌∷◌, ◌++◌, len
 use Rattle.at_event.specs.declared.frame.Frame.{Frame}
 use Rattle.event_window.specs.Held.{Event}
 use Rattle.backfill.specs.Served.{messages_of}
-use Rattle.backfill.specs.Writing.{stream_frame, with_length}
+use Rattle.backfill.specs.Writing.{with_length}
+use Rattle.at_cid.specs.Lengths.{length_prefixed}
 use Rattle.relay_law.specs.Heads.{IsFaithfulJournal}
 use Rattle.relay_law.proofs.Staying.{stay_faithful}
 use Rattle.relay_store.specs.Shown.{shown_of}
@@ -11,8 +12,8 @@ use Rattle.mirror_law.specs.Laws.{AreFrames, WrittenAreSent}
 use Rattle.mirror_law.proofs.Frames.{next_frame}
 use Rattle.mirror_law.proofs.Sends.{AreSent, all_sent}
 
-none_framed : (x r : List ℕ) → [] ≡ stream_frame x ++ r → ⊥
-none_framed x r is = let long : 0 ≡ length (stream_frame x ++ r) = ap (λ (l : List ℕ). length l) is in absurd cc
+none_framed : (x r : List ℕ) → [] ≡ length_prefixed x ++ r → ⊥
+none_framed x r is = let long : 0 ≡ length (length_prefixed x ++ r) = ap (λ (l : List ℕ). length l) is in absurd cc
 
 sent_once : (messages : List (List ℕ)) (events : List Event) → AreFrames messages → AreSent events → with_length messages ≡ with_length (messages_of events) → messages ≡ messages_of events
 sent_once [] [] frames sent is = refl

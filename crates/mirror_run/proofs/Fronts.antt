@@ -5,7 +5,7 @@ use Rattle.std.proofs.lemmas.Nat.{be_bytes_4, from_be_bytes-to_be_bytes_4}
 use Rattle.std.proofs.lemmas.Bool.{ltb-true, ltb-false, lt-ltb, le-ltb}
 use Rattle.std.specs.Int.{to_be_bytes, from_be_bytes, w32}
 use Rattle.at_cid.specs.Link.{IsBytes}
-use Rattle.backfill.specs.Writing.{stream_frame}
+use Rattle.at_cid.specs.Lengths.{length_prefixed}
 use Rattle.relay_io.specs.declared.feed.TheConstants.{LONGEST_FEED_MESSAGE}
 use Rattle.mirror_run.specs.Stream.{in_length, in_message}
 use Rattle.mirror_run.specs.declared.front.Front.{Front}
@@ -17,7 +17,7 @@ IsBytes-take (suc n) [] h i = h i
 IsBytes-take (suc n) (b ∷ bytes) h zero = h 0
 IsBytes-take (suc n) (b ∷ bytes) h (suc i) = IsBytes-take n bytes (λ k. h (suc k)) i
 
-pub length_frame : (m : List ℕ) → length (stream_frame m) ≡ 4 + length m
+pub length_frame : (m : List ℕ) → length (length_prefixed m) ≡ 4 + length m
 length_frame m = omega (arith, length-append (to_be_bytes w32 (length m)) m)
 
 sized_front : (size : ℕ) (rest : List ℕ) → size < 2 ^ 32 → front_of (to_be_bytes w32 size ++ rest) ≡ message_of size rest
@@ -100,11 +100,11 @@ more_long bytes more h = record {
 }
 
 -- bytes show no message and something else
-pub not_long : (bytes m more : List ℕ) → Shows bytes too_long → bytes ≡ stream_frame m ++ more → length m ≤ LONGEST_FEED_MESSAGE → ⊥
+pub not_long : (bytes m more : List ℕ) → Shows bytes too_long → bytes ≡ length_prefixed m ++ more → length m ≤ LONGEST_FEED_MESSAGE → ⊥
 not_long bytes m more h is short =
     let e : too_long ≡ found m more = sym (seen bytes too_long h) ∙ seen bytes (found m more) (short, is) in absurd cc
 
-pub not_cut : (bytes m more : List ℕ) → Shows bytes cut → bytes ≡ stream_frame m ++ more → length m ≤ LONGEST_FEED_MESSAGE → ⊥
+pub not_cut : (bytes m more : List ℕ) → Shows bytes cut → bytes ≡ length_prefixed m ++ more → length m ≤ LONGEST_FEED_MESSAGE → ⊥
 not_cut bytes m more h is short =
     let e : cut ≡ found m more = sym (seen bytes cut h) ∙ seen bytes (found m more) (short, is) in absurd cc
 
@@ -114,7 +114,7 @@ message_in (found m rest) = m
 message_in too_long = []
 message_in cut = []
 
-pub one_message : (m n rest more : List ℕ) → length m ≤ LONGEST_FEED_MESSAGE → length n ≤ LONGEST_FEED_MESSAGE → stream_frame m ++ rest ≡ stream_frame n ++ more → (m ≡ n) × (rest ≡ more)
+pub one_message : (m n rest more : List ℕ) → length m ≤ LONGEST_FEED_MESSAGE → length n ≤ LONGEST_FEED_MESSAGE → length_prefixed m ++ rest ≡ length_prefixed n ++ more → (m ≡ n) × (rest ≡ more)
 one_message m n rest more short_m short_n is =
-    let e : found m rest ≡ found n more = sym (seen (stream_frame m ++ rest) (found m rest) (short_m, refl)) ∙ seen (stream_frame m ++ rest) (found n more) (short_n, is) in
+    let e : found m rest ≡ found n more = sym (seen (length_prefixed m ++ rest) (found m rest) (short_m, refl)) ∙ seen (length_prefixed m ++ rest) (found n more) (short_n, is) in
     (ap message_in e, ap rest_of e)

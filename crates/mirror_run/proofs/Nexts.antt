@@ -1,7 +1,7 @@
 -- What follows where no message was at hand: no more bytes were to be had, or no more came; and where one was.
 use Rattle.std.proofs.Common.{◌≡◌, ◌≢◌, ℕ, ◌+◌, List, [], ◌∷◌, ◌++◌, length, take, Option, Some, None, Result, Ok, Err, refl, sym, ap, subst, ◌∙◌, arith, append_assoc}
 use Rattle.std.proofs.lemmas.List.{append-nil, take_at}
-use Rattle.backfill.specs.Writing.{stream_frame}
+use Rattle.at_cid.specs.Lengths.{length_prefixed}
 use Rattle.mirror_run.specs.declared.reader.StreamFault.{StreamFault}
 use Rattle.mirror_run.specs.declared.reader.MessageReader.{MessageReader}
 use Rattle.mirror_run.specs.Front.{too_long, Shows}
@@ -30,8 +30,8 @@ module _ (old now : MessageReader) (before between : List ℕ) (before_is : comi
   pub long_next : (new : MessageReader) (after : List ℕ) → Shows (held now) too_long → IsNext old before new after (Err StreamFault.Bad)
   long_next new after h = subst HasNoMessage before_is (no_message_long (coming now between) (more_long (held now) between h))
 
-  pub message_next : (new : MessageReader) (m : List ℕ) → held now ≡ stream_frame m ++ held new → IsNext old before new between (Ok (Some m))
-  message_next new m is = sym before_is ∙ ap (λ (l : List ℕ). l ++ between) is ∙ append_assoc (stream_frame m) (held new) between
+  pub message_next : (new : MessageReader) (m : List ℕ) → held now ≡ length_prefixed m ++ held new → IsNext old before new between (Ok (Some m))
+  message_next new m is = sym before_is ∙ ap (λ (l : List ℕ). l ++ between) is ∙ append_assoc (length_prefixed m) (held new) between
 
   -- and behind a piece that was to be taken
   module _ (new : MessageReader) (after : List ℕ) (stays : coming new after ≡ coming now between) (ends : EndsInMessage (held now)) where

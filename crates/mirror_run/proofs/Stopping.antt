@@ -2,14 +2,15 @@
 use Rattle.std.proofs.Common.{◌≡◌, ◌≤◌, ◌<◌, ◌⊎◌, ℕ, ◌+◌, Bool, true, false, List, [], ◌∷◌, ◌++◌, length, Result, Ok, Err, IsTrue, refl, sym, ap, subst, ◌∙◌, inl, inr, arith, append_assoc, length-append}
 use Rattle.std.proofs.lemmas.List.{append-nil}
 use Rattle.at_event.specs.Frames.{frame_of}
-use Rattle.backfill.specs.Writing.{stream_frame, with_length}
+use Rattle.backfill.specs.Writing.{with_length}
+use Rattle.at_cid.specs.Lengths.{length_prefixed}
 use Rattle.relay_io.specs.declared.feed.TheConstants.{LONGEST_FEED_MESSAGE}
 use Rattle.mirror.specs.Repository.{Repositories}
 use Rattle.mirror.specs.State.{held_by}
 use Rattle.mirror.specs.Taken.{is_bad, last_behind}
 use Rattle.mirror.specs.declared.fault.MirrorFault.{MirrorFault}
 use Rattle.mirror.specs.declared.keeping.Mirror.{Mirror}
-use Rattle.run_base.specs.Counts.{Counted}
+use Rattle.at_cid.specs.Counts.{Counted}
 use Rattle.run_base.specs.Ends.{Writes}
 use Rattle.run_base.specs.declared.status.Status.{Status}
 use Rattle.mirror_run.specs.Ends.{MayEndBad, MayEndMirroring, MayEndWhole}
@@ -34,23 +35,23 @@ Stops last messages rest = (rest ≡ []) ⊎ IsBadFrom (last_seq_behind last mes
 not_both : (b : Bool) → b ≡ true → b ≡ false → ⊥
 not_both b h k = let e : true ≡ false = sym h ∙ k in absurd cc
 
-some_frame : (m more : List ℕ) → stream_frame m ++ more ≡ [] → ⊥
+some_frame : (m more : List ℕ) → length_prefixed m ++ more ≡ [] → ⊥
 some_frame m more is =
-    let none : 4 + length m + length more ≡ 0 = omega (arith, ap length is, length-append (stream_frame m) more, length_frame m) in absurd (omega (arith, none))
+    let none : 4 + length m + length more ≡ 0 = omega (arith, ap length is, length-append (length_prefixed m) more, length_frame m) in absurd (omega (arith, none))
 
-goes_on : (last : ℕ) (m rest more : List ℕ) → length m ≤ LONGEST_FEED_MESSAGE → is_bad last (frame_of m) ≡ false → rest ≡ stream_frame m ++ more → Stops last [] rest → ⊥
+goes_on : (last : ℕ) (m rest more : List ℕ) → length m ≤ LONGEST_FEED_MESSAGE → is_bad last (frame_of m) ≡ false → rest ≡ length_prefixed m ++ more → Stops last [] rest → ⊥
 goes_on last m rest more short good is (inl none) = some_frame m more (sym is ∙ none)
 goes_on last m rest more short good is (inr bad) = not_both (is_bad last (frame_of m)) (bad.none m more is short) good
 
 pub one_way : (last : ℕ) (ms ns : List (List ℕ)) (rest more : List ℕ) → AreGood last ms → AreGood last ns → with_length ms ++ rest ≡ with_length ns ++ more → Stops last ms rest → Stops last ns more → (ms ≡ ns) × (rest ≡ more)
 one_way last [] [] rest more g h is s t = (refl, is)
 one_way last [] (n ∷ ns) rest more g h is s t =
-    absurd (goes_on last n rest (with_length ns ++ more) h.0 h.1 (is ∙ append_assoc (stream_frame n) (with_length ns) more) s)
+    absurd (goes_on last n rest (with_length ns ++ more) h.0 h.1 (is ∙ append_assoc (length_prefixed n) (with_length ns) more) s)
 one_way last (m ∷ ms) [] rest more g h is s t =
-    absurd (goes_on last m more (with_length ms ++ rest) g.0 g.1 (sym is ∙ append_assoc (stream_frame m) (with_length ms) rest) t)
+    absurd (goes_on last m more (with_length ms ++ rest) g.0 g.1 (sym is ∙ append_assoc (length_prefixed m) (with_length ms) rest) t)
 one_way last (m ∷ ms) (n ∷ ns) rest more g h is s t =
     let first = one_message m n (with_length ms ++ rest) (with_length ns ++ more) g.0 h.0
-    (sym (append_assoc (stream_frame m) (with_length ms) rest) ∙ is ∙ append_assoc (stream_frame n) (with_length ns) more) in
+    (sym (append_assoc (length_prefixed m) (with_length ms) rest) ∙ is ∙ append_assoc (length_prefixed n) (with_length ns) more) in
     let others = one_way (last_behind last (frame_of m)) ms ns rest more g.2
     (subst (λ (x : List ℕ). AreGood (last_behind last (frame_of x)) ns) (sym first.0) h.2) first.1 s
     (subst (λ (x : List ℕ). Stops (last_behind last (frame_of x)) ns more) (sym first.0) t) in
@@ -81,7 +82,7 @@ module _ (input_tells tell : Bool) (repositories : Repositories) (limit : ℕ) (
   repos_stopped = stopped Status.Repos (λ told. tt)
 
   -- a message that can't be taken
-  bad_message : (m after : List ℕ) → length m ≤ LONGEST_FEED_MESSAGE → left ≡ stream_frame m ++ after → is_bad mirror.last (frame_of m) ≡ true → IsBadBehind t.messages left
+  bad_message : (m after : List ℕ) → length m ≤ LONGEST_FEED_MESSAGE → left ≡ length_prefixed m ++ after → is_bad mirror.last (frame_of m) ≡ true → IsBadBehind t.messages left
   bad_message m after short is bad = record {
     some = λ none. some_frame m after (sym is ∙ none);
     none = λ n more other short_n.
@@ -89,7 +90,7 @@ module _ (input_tells tell : Bool) (repositories : Repositories) (limit : ℕ) (
         subst (λ (x : List ℕ). is_bad (last_seq_behind 0 t.messages) (frame_of x) ≡ true) (sym one.0) (ap (λ l. is_bad l (frame_of m)) (sym t.last) ∙ bad);
   }
 
-  pub message_stopped : (fault : MirrorFault) (m after : List ℕ) → length m ≤ LONGEST_FEED_MESSAGE → (IsTrue input_tells → left ≡ stream_frame m ++ after)
+  pub message_stopped : (fault : MirrorFault) (m after : List ℕ) → length m ≤ LONGEST_FEED_MESSAGE → (IsTrue input_tells → left ≡ length_prefixed m ++ after)
       → (fault ≡ MirrorFault.BadMessage → is_bad mirror.last (frame_of m) ≡ true) → HasStopped input_tells tell repositories limit input (status_of_message fault place)
   message_stopped MirrorFault.BadMessage m after short is bad = stopped (Status.BadStream place) (λ told. (t.place_is, bad_message m after short (is told) (bad refl)))
   message_stopped MirrorFault.Repos m after short is bad = repos_stopped

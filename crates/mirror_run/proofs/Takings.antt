@@ -11,7 +11,8 @@ use Rattle.at_event.specs.Frames.{frame_of}
 use Rattle.at_event.specs.declared.frame.Frame.{Frame}
 use Rattle.at_event.specs.declared.frame.FrameFault.{FrameFault}
 use Rattle.at_event.proofs.Formed.{events_formed, frames_events}
-use Rattle.backfill.specs.Writing.{stream_frame, with_length}
+use Rattle.backfill.specs.Writing.{with_length}
+use Rattle.at_cid.specs.Lengths.{length_prefixed}
 use Rattle.relay_io.specs.declared.feed.TheConstants.{LONGEST_FEED_MESSAGE}
 use Rattle.mirror.specs.Held.{IsAfter, IsHeldFrom}
 use Rattle.mirror.specs.Repository.{Repositories}
@@ -26,10 +27,10 @@ use Rattle.mirror_run.specs.Reading.{coming, held}
 use Rattle.mirror_run.specs.Taking.{HasTaken}
 use Rattle.mirror_run.specs.declared.reader.MessageReader.{MessageReader}
 
-pub frames_more : (messages : List (List ℕ)) (m : List ℕ) → with_length (messages ++ m ∷ []) ≡ with_length messages ++ stream_frame m
-frames_more [] m = append-nil (stream_frame m)
+pub frames_more : (messages : List (List ℕ)) (m : List ℕ) → with_length (messages ++ m ∷ []) ≡ with_length messages ++ length_prefixed m
+frames_more [] m = append-nil (length_prefixed m)
 frames_more (k ∷ messages) m =
-    ap (λ (l : List ℕ). stream_frame k ++ l) (frames_more messages m) ∙ sym (append_assoc (stream_frame k) (with_length messages) (stream_frame m))
+    ap (λ (l : List ℕ). length_prefixed k ++ l) (frames_more messages m) ∙ sym (append_assoc (length_prefixed k) (with_length messages) (length_prefixed m))
 
 good_more : (last : ℕ) (messages : List (List ℕ)) (m : List ℕ) → AreGood last messages → length m ≤ LONGEST_FEED_MESSAGE → is_bad (last_seq_behind last messages) (frame_of m) ≡ false → AreGood last (messages ++ m ∷ [])
 good_more last [] m h short good = (short, good, tt)
@@ -118,8 +119,8 @@ about_named m bytes = of (frame_of m) refl
 
 -- one message more
 pub taken_more : (input_tells tell : Bool) (repositories now : Repositories) (input left left_new : List ℕ) (place place_new : ℕ) (old new : Mirror) (events events_new : ℕ) (m : List ℕ) (step : Step)
-    → HasTaken input_tells tell repositories input left place old events → (IsTrue input_tells → left ≡ stream_frame m ++ left_new) → length m ≤ LONGEST_FEED_MESSAGE → IsBytes m
-    → place_new ≡ place + length (stream_frame m) → IsTaken tell now old new m step → (IsTrue tell → (did : List ℕ) → now did ≡ repositories did) → events_new ≡ events + counted (ltb old.last new.last)
+    → HasTaken input_tells tell repositories input left place old events → (IsTrue input_tells → left ≡ length_prefixed m ++ left_new) → length m ≤ LONGEST_FEED_MESSAGE → IsBytes m
+    → place_new ≡ place + length (length_prefixed m) → IsTaken tell now old new m step → (IsTrue tell → (did : List ℕ) → now did ≡ repositories did) → events_new ≡ events + counted (ltb old.last new.last)
     → HasTaken input_tells tell repositories input left_new place_new new events_new
 taken_more input_tells tell repositories now input left left_new place place_new old new events events_new m step t left_is short bytes place_is taken same events_is =
     let last_is : last_seq_behind 0 t.messages ≡ old.last = sym t.last in
@@ -128,8 +129,8 @@ taken_more input_tells tell repositories now input left left_new place place_new
       messages = t.messages ++ m ∷ [];
       good = good_more 0 t.messages m t.good short behind;
       split = λ told. t.split told ∙ ap (λ (l : List ℕ). with_length t.messages ++ l) (left_is told)
-          ∙ sym (append_assoc (with_length t.messages) (stream_frame m) left_new) ∙ ap (λ (l : List ℕ). l ++ left_new) (sym (frames_more t.messages m));
-      place_is = place_is ∙ ap (λ n. n + length (stream_frame m)) t.place_is ∙ sym (length-append (with_length t.messages) (stream_frame m))
+          ∙ sym (append_assoc (with_length t.messages) (length_prefixed m) left_new) ∙ ap (λ (l : List ℕ). l ++ left_new) (sym (frames_more t.messages m));
+      place_is = place_is ∙ ap (λ n. n + length (length_prefixed m)) t.place_is ∙ sym (length-append (with_length t.messages) (length_prefixed m))
           ∙ ap length (sym (frames_more t.messages m));
       last = taken.last ∙ ap (λ n. last_behind n (frame_of m)) t.last ∙ sym (last_more 0 t.messages m);
       held = λ told did. held_more repositories did (Holding.Mapped None []) t.messages (held_by old did) m (held_by new did) (t.held told did)

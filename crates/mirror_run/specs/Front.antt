@@ -2,7 +2,7 @@
 -- file.
 use Rattle.std.specs.Prelude.{◌≡◌, ◌≤◌, ◌<◌, ◌^◌, ℕ, List, [], ◌++◌, length, take, drop, nat_lt, if◌then◌else◌}
 use Rattle.std.specs.Int.{from_be_bytes, to_be_bytes, w32}
-use Rattle.backfill.specs.Writing.{stream_frame}
+use Rattle.at_cid.specs.Lengths.{length_prefixed}
 use Rattle.relay_io.specs.declared.feed.TheConstants.{LONGEST_FEED_MESSAGE}
 use Rattle.tape.specs.declared.record.TheConstants.{LONGEST_RECORD}
 use Rattle.mirror_run.specs.declared.front.Front.{Front}
@@ -24,7 +24,7 @@ pub record HasLongMessage (bytes : List ℕ) : Type 0 where
 
 abbrev pub Shows : List ℕ → Shown → Type 0
 Shows bytes (found message rest) = (length message ≤ LONGEST_FEED_MESSAGE)
-    × (bytes ≡ stream_frame message ++ rest)
+    × (bytes ≡ length_prefixed message ++ rest)
 Shows bytes too_long = HasLongMessage bytes
 Shows bytes cut = EndsInMessage bytes
 

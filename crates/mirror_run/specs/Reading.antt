@@ -1,6 +1,6 @@
 -- What a reader of a stream answers. No public clause cites this file.
 use Rattle.std.specs.Prelude.{◌≡◌, ◌≢◌, ◌≤◌, ⊤, ℕ, ◌+◌, List, [], ◌++◌, length, Option, Some, None, Result, Ok, Err}
-use Rattle.backfill.specs.Writing.{stream_frame}
+use Rattle.at_cid.specs.Lengths.{length_prefixed}
 use Rattle.relay_io.specs.declared.feed.TheConstants.{LONGEST_FEED_MESSAGE}
 use Rattle.tape.specs.ReadAhead.{items}
 use Rattle.mirror_run.specs.Stream.{EndsInMessage}
@@ -22,7 +22,7 @@ taken reader = reader.place + length (held reader)
 -- Something is there, and no whole message at its front that is short enough.
 pub record HasNoMessage (bytes : List ℕ) : Type 0 where
   pub some : bytes ≢ []
-  pub none : (m more : List ℕ) → bytes ≡ stream_frame m ++ more → length m ≤ LONGEST_FEED_MESSAGE
+  pub none : (m more : List ℕ) → bytes ≡ length_prefixed m ++ more → length m ≤ LONGEST_FEED_MESSAGE
       → ⊥
 
 -- As many bytes as may be were taken, and they end inside a message.
@@ -36,7 +36,8 @@ pub record IsSpent (place most : ℕ) (bytes : List ℕ) : Type 0 where
 -- What is answered, of a source that tells what it has left.
 abbrev pub IsNext : MessageReader → List ℕ → MessageReader → List ℕ
     → Result (Option (List ℕ)) StreamFault → Type 0
-IsNext old before new after (Ok (Some m)) = coming old before ≡ stream_frame m ++ coming new after
+IsNext old before new after (Ok (Some m)) =
+    coming old before ≡ length_prefixed m ++ coming new after
 IsNext old before new after (Ok None) = coming old before ≡ []
 IsNext old before new after (Err StreamFault.Bad) = HasNoMessage (coming old before)
 IsNext old before new after (Err StreamFault.Failed) = ⊤
@@ -46,7 +47,7 @@ IsNext old before new after (Err StreamFault.Memory) = ⊤
 -- Where the reader is then, of every source: behind a message, and else where it was.
 abbrev pub IsPlaced : ℕ → ℕ → Result (Option (List ℕ)) StreamFault → Type 0
 IsPlaced old new (Ok (Some m)) = (length m ≤ LONGEST_FEED_MESSAGE)
-    × (new ≡ old + length (stream_frame m))
+    × (new ≡ old + length (length_prefixed m))
 IsPlaced old new (Ok None) = new ≡ old
 IsPlaced old new (Err fault) = new ≡ old
 

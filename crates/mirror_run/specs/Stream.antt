@@ -6,7 +6,8 @@ use Rattle.std.specs.List.{list_any}
 use Rattle.at_event.specs.Frames.{frame_of}
 use Rattle.at_event.specs.declared.frame.Frame.{Frame}
 use Rattle.at_event.specs.declared.frame.FrameFault.{FrameFault}
-use Rattle.backfill.specs.Writing.{stream_frame, with_length}
+use Rattle.backfill.specs.Writing.{with_length}
+use Rattle.at_cid.specs.Lengths.{length_prefixed}
 use Rattle.relay_io.specs.declared.feed.TheConstants.{LONGEST_FEED_MESSAGE}
 use Rattle.mirror.specs.Taken.{is_such_event_of, is_bad, last_behind}
 use Rattle.at_event.specs.Bodies.{has_blocks}
@@ -31,7 +32,7 @@ pub record BeginWith (bytes : List ℕ) (messages : List (List ℕ)) (rest : Lis
 -- Something is left, and no whole message at its front that can be taken behind this number.
 pub record IsBadFrom (last : ℕ) (rest : List ℕ) : Type 0 where
   pub some : rest ≢ []
-  pub none : (m more : List ℕ) → rest ≡ stream_frame m ++ more → length m ≤ LONGEST_FEED_MESSAGE
+  pub none : (m more : List ℕ) → rest ≡ length_prefixed m ++ more → length m ≤ LONGEST_FEED_MESSAGE
       → is_bad last (frame_of m) ≡ true
 
 -- the same behind messages

@@ -3,7 +3,7 @@
 ghost use Rattle.std.specs.Prelude.{◌≡◌, ◌<◌, ◌^◌};
 ghost use Rattle.mirror_run.specs.Ends.{MayEndMirroring};
 ghost use Rattle.mirror_run.specs.Mirrored.{Mirrored};
-ghost use Rattle.run_base.specs.Counts.{Counted};
+ghost use Rattle.at_cid.specs.Counts.{Counted};
 
 use crate::printing::write_text;
 use crate::taking::take_stream;

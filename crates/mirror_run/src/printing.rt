@@ -5,7 +5,7 @@ ghost use Rattle.relay_io.specs.Streams.{AddsFront};
 ghost use Rattle.mirror.specs.State.{is_known};
 ghost use Rattle.mirror_run.specs.Lines.{mirror_end_line};
 ghost use Rattle.mirror_run.specs.Printing.{AreKnown, IsLate, IsUnwritten, Moves, line_in, lines_in};
-ghost use Rattle.run_base.specs.Counts.{Counted};
+ghost use Rattle.at_cid.specs.Counts.{Counted};
 ghost use Rattle.run_base.specs.Ends.{Writes};
 
 use crate::line::{end_line, map_line, waiting_line};

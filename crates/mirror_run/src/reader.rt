@@ -1,11 +1,11 @@
 //! Reading a stream.
 
 ghost use Rattle.std.specs.Prelude.{◌≡◌, ◌≤◌, ◌<◌, ◌+◌, ◌++◌, [], length, List, ℕ, IsTrue, IfOk, IfErr, OnOk, OnErr, IsErrOf, Err};
-ghost use Rattle.backfill.specs.Writing.{stream_frame};
+ghost use Rattle.at_cid.specs.Lengths.{length_prefixed};
 ghost use Rattle.tape.specs.ReadAhead.{items};
 ghost use Rattle.tape.specs.declared.record.TheConstants.{LONGEST_RECORD};
 ghost use Rattle.mirror_run.specs.Front.{IsLonger, ShowsFront};
-ghost use Rattle.run_base.specs.Counts.{Counted};
+ghost use Rattle.at_cid.specs.Counts.{Counted};
 
 use crate::front::{Front, LENGTH, read_front};
 use at_cid::{Memory, Octets};
@@ -125,9 +125,9 @@ impl MessageReader {
 
     // Lets go of the message that stands at the front of what was taken.
     fn pass(&mut self, message: &Octets)
-        requires { (rest : List ℕ) × (held self.old ≡ stream_frame message.now ++ rest) }
-        ensures held { held self.old ≡ stream_frame message.now ++ held self.new }
-        ensures place { self.new.place ≡ self.old.place + length (stream_frame message.now) }
+        requires { (rest : List ℕ) × (held self.old ≡ length_prefixed message.now ++ rest) }
+        ensures held { held self.old ≡ length_prefixed message.now ++ held self.new }
+        ensures place { self.new.place ≡ self.old.place + length (length_prefixed message.now) }
         ensures most { self.new.most ≡ self.old.most }
     {
         let size = LENGTH + message.len();

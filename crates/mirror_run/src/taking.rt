@@ -2,7 +2,7 @@
 
 ghost use Rattle.std.specs.Prelude.{◌≡◌, ◌<◌, ◌^◌, ℕ, List, IsTrue, IfOk, IfErr, Err};
 ghost use Rattle.mirror_run.specs.Taking.{HasStopped, HasTakenAll, IsEarly};
-ghost use Rattle.run_base.specs.Counts.{Counted};
+ghost use Rattle.at_cid.specs.Counts.{Counted};
 
 use crate::end::{of_message, of_stream};
 use crate::reader::MessageReader;

@@ -113,7 +113,7 @@ fn read_tree(
     if !parts_fit(inner, low, high, &left, rest.as_slice()) {
         return Err(ReadFault::BadNode(link));
     }
-    let branch = read_branch(alloc, blocks, inner, low, high, left, rest, link)?;
+    let branch = read_branch(alloc, blocks, inner, low, high, (left, rest), link)?;
     Ok(Below::Tree(Box::new(alloc, branch)?))
 }
 
@@ -154,7 +154,8 @@ fn read_rights(
     Ok(())
 }
 
-/// The node at a layer, between two keys, that the block under a link encodes.
+/// The node at a layer, between two keys, that the block under a link encodes, from its parts: what hangs left of all its keys,
+/// and its entries.
 #[cycle(read)]
 #[inline(always)]
 pub(crate) fn read_branch(
@@ -163,23 +164,23 @@ pub(crate) fn read_branch(
     layer: u8,
     low: Option<&[u8]>,
     high: Option<&[u8]>,
-    left: Option<Cid>,
-    parts: Rest,
+    parts: (Option<Cid>, Rest),
     link: Cid,
 ) -> Result<Branch, ReadFault>
-    requires kind { IsChildLink left }
-    requires lowest { layer ≡ 0 → left ≡ None }
-    requires hang { AllHang layer (entries_of parts.items) }
-    requires bare { list_all is_bare parts.items ≡ true }
-    requires link_is { link ≡ cid (node_bytes left (entries_of parts.items)) }
+    requires kind { IsChildLink parts.0 }
+    requires lowest { layer ≡ 0 → parts.0 ≡ None }
+    requires hang { AllHang layer (entries_of parts.1.items) }
+    requires bare { list_all is_bare parts.1.items ≡ true }
+    requires link_is { link ≡ cid (node_bytes parts.0 (entries_of parts.1.items)) }
     ensures gives { Gives (λ branch. branch.items) link_at_fault result
         (parts_of (part_at in_part node_of blocks.now layer) (option_map (λ k. k.now) low.entry)
-        (option_map (λ k. k.now) high.entry) (left, entries_of parts.items)) }
+        (option_map (λ k. k.now) high.entry) (parts.0, entries_of parts.1.items)) }
     ensures layer { IfOk result (λ branch. branch.layer ≡ layer) }
     ensures link { IfOk result (λ branch. cid (encode_layer branch.layer branch.items) ≡ link) }
-    ensures at { is_some_node (left, entries_of parts.items) ≡ true → IfOk result IsAtLayer }
+    ensures at { is_some_node (parts.0, entries_of parts.1.items) ≡ true
+        → IfOk result IsAtLayer }
 {
-    let mut rest = parts;
+    let (left, mut rest) = parts;
     let first_high = next_key(high, rest.as_slice());
     let first = read_below(alloc, blocks, layer, low, first_high, &left)?;
     read_rights(alloc, blocks, layer, high, &mut rest)?;

@@ -69,7 +69,7 @@ fn view_parts(
     if parts.is_empty() {
         return Ok(StubTree::from_top(None));
     }
-    let branch = match read_branch(alloc, blocks, layer, None, None, left, parts, root) {
+    let branch = match read_branch(alloc, blocks, layer, None, None, (left, parts), root) {
         Ok(branch) => branch,
         Err(fault) => return Err(fault_of(fault)),
     };

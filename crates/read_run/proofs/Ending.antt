@@ -1,6 +1,6 @@
 -- How commands end that only read a journal.
 use Rattle.std.proofs.Common.{◌≡◌, ◌≢◌, ◌∙◌, ◌⊎◌, inl, inr, ◌++◌, ℕ, List, [], IsTrue, refl, sym, ap, subst, arith, append_assoc}
-use Rattle.at_cid.specs.Counts.{Rose}
+use Rattle.at_cid.specs.Counts.{Rose, Counted, CountedPair}
 use Rattle.relay_io.specs.Streams.{AddsFront}
 use Rattle.relay_row.specs.declared.row.Row.{Row}
 use Rattle.relay_step.specs.Causes.{SpendsNone}
@@ -8,7 +8,6 @@ use Rattle.relay_store.specs.Journals.{IsBadPairJournalAt, IsPairImageOf}
 use Rattle.relay_store.specs.Opening.{IsOfReading}
 use Rattle.relay_store.specs.declared.fault.StoreFault.{StoreFault}
 use Rattle.backfill.proofs.Framing.{front_of_first, front_of_second, front_whole}
-use Rattle.run_base.specs.Counts.{Counted, CountedPair}
 use Rattle.run_base.specs.Ends.{Caused, Shows, Writes}
 use Rattle.run_base.specs.Place.{Place, Tells}
 use Rattle.run_base.specs.Statuses.{status_of_fault}

@@ -1,6 +1,6 @@
 -- What reading leaves of events, call by call.
 use Rattle.std.proofs.Common.{◌≡◌, ◌≢◌, ◌∙◌, ◌≤◌, ℕ, Bool, Option, Result, Err, IsTrue, refl, sym, ap, subst, arith}
-use Rattle.at_cid.specs.Counts.{Rose}
+use Rattle.at_cid.specs.Counts.{Rose, Counted}
 use Rattle.event_window.specs.Held.{Held, damage_after}
 use Rattle.event_window.specs.declared.fault.EventsFault.{EventsFault}
 use Rattle.relay_disk.specs.Disk.{View, Goes, Same}
@@ -8,7 +8,6 @@ use Rattle.backfill.specs.Faults.{damage_replayed, damage_served}
 use Rattle.backfill.specs.declared.replay_fault.ReplayFault.{ReplayFault}
 use Rattle.backfill.specs.declared.serve_fault.ServeFault.{ServeFault}
 use Rattle.backfill.specs.declared.serving.Served.{Served}
-use Rattle.run_base.specs.Counts.{Counted}
 use Rattle.run_base.specs.declared.status.Status.{Status}
 use Rattle.read_run.specs.Ends.{IsFinished, damage_told, session_after, status_in, status_of_events, status_of_replay}
 use Rattle.read_run.specs.Events.{WasRead, WereRead}

@@ -6,10 +6,9 @@ use Rattle.relay_io.specs.Streams.{AddsFront}
 use Rattle.backfill.specs.Served.{served}
 use Rattle.backfill.specs.Writing.{AddsMessages, IsOfReading, with_length}
 use Rattle.backfill.specs.declared.replay_fault.ReplayFault.{ReplayFault}
-use Rattle.run_base.specs.Counts.{CountedBut}
+use Rattle.at_cid.specs.Counts.{CountedBut, Rose}
 use Rattle.run_base.specs.Ends.{Writes}
 use Rattle.run_base.specs.declared.status.Status.{Status}
-use Rattle.at_cid.specs.Counts.{Rose}
 use Rattle.read_run.specs.Ends.{IsOfDisks, MayEndReading, status_of_replay}
 use Rattle.read_run.specs.Replayed.{IsReplay}
 use Rattle.read_run.proofs.EventsRead.{unreplayed}

@@ -15,7 +15,7 @@ use Rattle.relay_store.specs.declared.store.Store.{Store}
 use Rattle.relay_store.specs.Pairs.{StandsFor}
 use Rattle.relay_store.proofs.Beside.{kept_stands, leaves_stand, opened_keeps, opened_leaves}
 use Rattle.relay_store.proofs.Images.{no_journal}
-use Rattle.run_base.specs.Counts.{Counted, CountedPair}
+use Rattle.at_cid.specs.Counts.{Counted, CountedPair}
 use Rattle.run_base.specs.Ends.{Writes}
 use Rattle.run_base.specs.Place.{Place, SamePair, Tells, disk_of}
 use Rattle.run_base.specs.Reading.{AtMostLogMade}

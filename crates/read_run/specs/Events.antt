@@ -2,7 +2,7 @@
 use Rattle.std.specs.Prelude.{◌≡◌, ℕ, Bool, Option, IsTrue}
 use Rattle.event_window.specs.Held.{Held}
 use Rattle.relay_disk.specs.Disk.{View, Goes, Same}
-use Rattle.run_base.specs.Counts.{Counted}
+use Rattle.at_cid.specs.Counts.{Counted}
 use Rattle.run_base.specs.declared.status.Status.{Status}
 use Rattle.read_run.specs.Ends.{damage_told}
 

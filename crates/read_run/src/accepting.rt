@@ -3,7 +3,7 @@
 ghost use Rattle.std.specs.Prelude.{◌≡◌, ◌≤◌, ◌⊎◌, ◌++◌, List, Err, false, IsTrue, IfOk, IfErr, IfSome, OnOk};
 ghost use Rattle.event_window.specs.Held.{Held};
 ghost use Rattle.backfill.specs.Target.{cursor_in};
-ghost use Rattle.run_base.specs.Counts.{Counted};
+ghost use Rattle.at_cid.specs.Counts.{Counted};
 ghost use Rattle.read_run.specs.AtDoor.{GuestAccepted, SessionServed, at_door};
 ghost use Rattle.read_run.specs.Ends.{IsUnmet, IsUnread, session_after as after, status_in};
 ghost use Rattle.read_run.specs.Events.{WereRead};

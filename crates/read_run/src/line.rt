@@ -1,7 +1,7 @@
 //! Lines, as they are written.
 
 ghost use Rattle.std.specs.Prelude.{◌≡◌, [], Err, IfErr, IsTrue};
-ghost use Rattle.run_base.specs.Counts.{Counted};
+ghost use Rattle.at_cid.specs.Counts.{Counted};
 ghost use Rattle.run_base.specs.Ends.{Writes};
 ghost use Rattle.read_run.specs.Ends.{IsFinished, IsUnwritten, status_in};
 

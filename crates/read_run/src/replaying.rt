@@ -1,14 +1,13 @@
 //! What a guest would be sent, as bytes.
 
 ghost use Rattle.std.specs.Prelude.{◌≡◌, ◌≤◌, ◌⊎◌, List, Some, IsTrue, max};
-ghost use Rattle.at_cid.specs.Counts.{Rose};
+ghost use Rattle.at_cid.specs.Counts.{Rose, CountedBut};
 ghost use Rattle.event_window.specs.Held.{Held};
 ghost use Rattle.relay_row.specs.declared.row.Row.{Row as TheRow};
 ghost use Rattle.relay_store.specs.Shown.{held_by};
 ghost use Rattle.relay_store.specs.Store.{IsKept, Keeps, seen_in};
 ghost use Rattle.backfill.specs.Served.{served};
 ghost use Rattle.backfill.specs.Writing.{AddsUpto};
-ghost use Rattle.run_base.specs.Counts.{CountedBut};
 ghost use Rattle.run_base.specs.Ends.{Writes};
 ghost use Rattle.read_run.specs.Ends.{IsOfDisks, MayEndReading};
 ghost use Rattle.read_run.specs.Events.{WasRead, WereRead};

@@ -1,7 +1,7 @@
 //! The lines of requests.
 
 ghost use Rattle.std.specs.Prelude.{◌≡◌, [], IfErr, IfOk, IsTrue, Err};
-ghost use Rattle.run_base.specs.Counts.{Counted};
+ghost use Rattle.at_cid.specs.Counts.{Counted};
 ghost use Rattle.run_base.specs.Ends.{Writes};
 ghost use Rattle.read_run.specs.Ends.{IsFinished, IsUnwritten, status_in};
 ghost use Rattle.read_run.specs.Rounds.{queries_end_line, request_line};

@@ -5,7 +5,7 @@ ghost use Rattle.event_window.specs.Held.{Held};
 ghost use Rattle.relay_row.specs.declared.row.Row.{Row as TheRow};
 ghost use Rattle.relay_store.specs.Shown.{held_by};
 ghost use Rattle.relay_store.specs.Store.{IsKept, Keeps, seen_in};
-ghost use Rattle.run_base.specs.Counts.{Counted};
+ghost use Rattle.at_cid.specs.Counts.{Counted};
 ghost use Rattle.run_base.specs.Ends.{Writes};
 ghost use Rattle.read_run.specs.AtDoor.{at_door};
 ghost use Rattle.read_run.specs.Ends.{MayEndServing};

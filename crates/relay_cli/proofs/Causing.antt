@@ -1,9 +1,8 @@
 -- The cause of an end is that of its status.
 use Rattle.std.proofs.Common.{◌≡◌, ◌⊎◌, ℕ, refl, subst, sym}
 use Rattle.std.specs.Prelude.{⊤}
-use Rattle.at_cid.specs.Counts.{Rose}
+use Rattle.at_cid.specs.Counts.{Rose, Counted}
 use Rattle.mirror_run.specs.Ends.{MayEndMirroring}
-use Rattle.run_base.specs.Counts.{Counted}
 use Rattle.run_base.specs.Ends.{Caused}
 use Rattle.run_base.specs.Place.{Place as Parts}
 use Rattle.run_base.specs.declared.status.Status.{Status}

@@ -8,6 +8,7 @@ use Rattle.at_cbor.specs.declared.major.Major.{Major}
 use Rattle.at_cbor.specs.Item.{Item}
 use Rattle.at_cbor.specs.Encoding.{front_of, encoding, info_of, IsText, IsString}
 use Rattle.at_cbor.proofs.Fronts.{form_0}
+use Rattle.at_event.specs.Writing.{number_item as number}
 use Rattle.at_event.specs.Refusals.{code_of, plain_refusal}
 use Rattle.at_event.specs.declared.head.Head.{Head}
 use Rattle.at_event.specs.declared.refusal.Refusal.{Refusal}
@@ -15,7 +16,7 @@ use Rattle.relay_row.specs.declared.fetched.Whole.{Whole}
 use Rattle.relay_row.specs.declared.fetched.Fetched.{Fetched}
 use Rattle.relay_row.specs.declared.taken.Effect.{Effect}
 use Rattle.relay_row.specs.declared.carried.CarriedRepo.{CarriedRepo}
-use Rattle.relay_row.specs.Items.{number, rev_text, list, or_null, if_there, head_items, whole_items, code, detail_items, effect_item, fetched_item, repo_item}
+use Rattle.relay_row.specs.Items.{rev_text, list, or_null, if_there, head_items, whole_items, code, detail_items, effect_item, fetched_item, repo_item}
 use Rattle.relay_row.specs.Rules.{is_number, is_positive, is_moment, are_bytes, is_text, is_string, is_cid, is_rev, is_rev_or_none, is_node_kind, is_node, is_head, is_empty, is_message, is_status, is_whole, is_detail, is_repo_number, is_repo}
 use Rattle.relay_row.specs.Readers.{Reading, ◌>>=◌, behind, give, number_at, count_at, or_null_at}
 use Rattle.relay_row.specs.Reading.{head_at, whole_items_at, whole_at, plain, one_detail, two_details, detail_at, account_effect, effect_of, effect_at, number_or_whole, fetched_at, repo_of, repo_at, moment_at}

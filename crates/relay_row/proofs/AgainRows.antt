@@ -9,6 +9,7 @@ use Rattle.at_cbor.specs.Item.{Item}
 use Rattle.at_cbor.specs.Encoding.{front_of, encoding, IsText}
 use Rattle.at_syntax.specs.Did.{is_did}
 use Rattle.at_syntax.specs.Host.{is_host}
+use Rattle.at_event.specs.Writing.{number_item as number}
 use Rattle.at_event.proofs.Texts.{ascii_text}
 use Rattle.at_event.specs.Refusals.{code_of}
 use Rattle.at_event.specs.declared.refusal.Refusal.{Refusal}
@@ -19,7 +20,7 @@ use Rattle.relay_row.specs.declared.taken.Effect.{Effect}
 use Rattle.relay_row.specs.declared.fetched.Fetched.{Fetched}
 use Rattle.relay_row.specs.declared.carried.Carried.{Carried}
 use Rattle.relay_row.specs.declared.row.Row.{Row}
-use Rattle.relay_row.specs.Items.{number, list, if_there, code, detail_items, carried_items, row_items}
+use Rattle.relay_row.specs.Items.{list, if_there, code, detail_items, carried_items, row_items}
 use Rattle.relay_row.specs.Bodies.{row_encoding, encoded_rows, rows_body, IsBody}
 use Rattle.relay_row.specs.Rules.{is_number, is_positive, is_moment, is_text, is_empty, is_message, is_status, is_whole, is_detail, loses, is_repo_number, is_fetched, is_nothing, is_effect, is_timed, is_head, is_accepted, is_refused, is_decided, is_about, names_host, names_did, is_taken, is_operated, is_repo, is_carried, is_row}
 use Rattle.relay_row.specs.Readers.{Reading, behind, give, count_at}

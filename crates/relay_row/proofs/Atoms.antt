@@ -11,7 +11,8 @@ use Rattle.at_cbor.proofs.Steps.{chosen}
 use Rattle.at_syntax.specs.Tid.{tid_of, is_tid, tid_value, digits_of}
 use Rattle.at_syntax.proofs.Tids.{tid_again, written_read}
 use Rattle.at_syntax.proofs.Texts.{digits_ascii, digits_utf8}
-use Rattle.relay_row.specs.Items.{number, rev_text, or_null}
+use Rattle.at_event.specs.Writing.{number_item as number}
+use Rattle.relay_row.specs.Items.{rev_text, or_null}
 use Rattle.relay_row.specs.Readers.{number_in, below, rev_in, null_or, number_at, byte_at, place_at, text_at, bytes_at, bool_at, link_at, rev_at, null_or_rev_at, null_or_text_at}
 use Rattle.relay_row.proofs.Steps.{some_is, Sound, Tells, formed_sound, formed_again}
 use Rattle.relay_row.specs.declared.limits.TheConstants.{PLACES}

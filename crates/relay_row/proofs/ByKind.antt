@@ -13,7 +13,7 @@ use Rattle.at_cbor.specs.Taking.{number_at as front_at, string_at, text_from_fro
 use Rattle.at_cbor.proofs.Steps.{Takes, chosen}
 use Rattle.at_cbor.proofs.Taken.{number_takes, number_again, string_takes, string_short, string_again, text_takes, text_again, link_takes, link_again, item_taken, item_taken_again}
 use Rattle.at_syntax.specs.Tid.{tid_of}
-use Rattle.relay_row.specs.Items.{number}
+use Rattle.at_event.specs.Writing.{number_item as number}
 use Rattle.relay_row.specs.Readers.{Reading, behind, give, given, item_at, formed, number_in, below, tid_from, rev_in, null_or, number_at, byte_at, place_at, text_at, bytes_at, bool_at, link_at, rev_at, null_or_rev_at, null_or_text_at}
 use Rattle.relay_row.proofs.Steps.{some_is, found, behind_some, given_some, Tells, formed_again}
 use Rattle.relay_row.proofs.Atoms.{tells_number, tells_text, tells_bytes, tells_bool, tells_link}

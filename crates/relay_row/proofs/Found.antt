@@ -7,13 +7,14 @@ use Rattle.at_cbor.specs.Item.{Item, items_of}
 use Rattle.at_cbor.specs.Encoding.{front_of, encoding, items_encoding}
 use Rattle.at_cbor.proofs.Steps.{Takes, Takes-then, chosen}
 use Rattle.at_cbor.proofs.Fronts.{form_0}
+use Rattle.at_event.specs.Writing.{number_item as number}
 use Rattle.at_event.specs.Refusals.{code_of, found_in, plain_refusal, plain_refusals}
 use Rattle.at_event.specs.declared.refusal.Refusal.{Refusal}
 use Rattle.relay_row.specs.declared.fetched.Fetched.{Fetched}
 use Rattle.relay_row.specs.declared.taken.Effect.{Effect}
 use Rattle.relay_row.specs.declared.carried.CarriedRepo.{CarriedRepo}
 use Rattle.std.specs.Prelude.{option_map}
-use Rattle.relay_row.specs.Items.{number, rev_text, list, or_null, if_there, head_items, whole_items, code, detail_items, effect_item, fetched_item, repo_item}
+use Rattle.relay_row.specs.Items.{rev_text, list, or_null, if_there, head_items, whole_items, code, detail_items, effect_item, fetched_item, repo_item}
 use Rattle.relay_row.specs.Readers.{Reading, behind, give, given, count_at, or_null_at}
 use Rattle.relay_row.specs.Reading.{head_at, whole_items_at, whole_at, plain, one_detail, two_details, details, detail_at, account_effect, effect_of, effect_at, number_or_whole, fetched_at, repo_of, repo_at, moment_at}
 use Rattle.relay_row.proofs.Steps.{some_is, found, pair_parts, Sound, step, none_taken, given_some}

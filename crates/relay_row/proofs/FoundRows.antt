@@ -8,12 +8,13 @@ use Rattle.at_cbor.specs.declared.major.Major.{Major}
 use Rattle.at_cbor.specs.Item.{Item}
 use Rattle.at_cbor.specs.Encoding.{front_of, encoding}
 use Rattle.at_cbor.proofs.Steps.{Takes}
+use Rattle.at_event.specs.Writing.{number_item as number}
 use Rattle.relay_row.specs.declared.taken.Taken.{Taken}
 use Rattle.relay_row.specs.declared.operated.Operated.{Operated}
 use Rattle.relay_row.specs.declared.carried.CarriedAccount.{CarriedAccount}
 use Rattle.relay_row.specs.declared.carried.Carried.{Carried}
 use Rattle.relay_row.specs.declared.row.Row.{Row}
-use Rattle.relay_row.specs.Items.{number, list, carried_items, row_items}
+use Rattle.relay_row.specs.Items.{list, carried_items, row_items}
 use Rattle.relay_row.specs.Bodies.{row_encoding, encoded_rows, rows_body, IsBody}
 use Rattle.relay_row.specs.Rules.{is_row}
 use Rattle.relay_row.specs.Readers.{give}

@@ -4,10 +4,10 @@ ghost use Rattle.std.specs.Prelude.{◌≡◌, ◌++◌, ◌+◌, ◌<◌, ◌�
 ghost use Rattle.at_cbor.specs.declared.major.Major.{Major};
 ghost use Rattle.at_cbor.specs.Item.{Item, items_of};
 ghost use Rattle.at_cbor.specs.Encoding.{front_of, encoding, items_encoding};
-ghost use Rattle.at_event.specs.Writing.{out_of};
+ghost use Rattle.at_event.specs.Writing.{out_of, number_item as number};
 ghost use Rattle.relay_row.specs.Bodies.{row_encoding, encoded_rows, rows_body};
 ghost use Rattle.relay_row.specs.NewRow.{HasNumber, message_of, with_message};
-ghost use Rattle.relay_row.specs.Items.{number, rev_text, list, or_null, if_there, head_items, whole_items, code, detail_items, effect_item, fetched_item, repo_item, carried_items, row_items};
+ghost use Rattle.relay_row.specs.Items.{rev_text, list, or_null, if_there, head_items, whole_items, code, detail_items, effect_item, fetched_item, repo_item, carried_items, row_items};
 ghost use Rattle.at_cid.specs.declared.limits.TheConstants.{NUMBERS};
 ghost use Rattle.relay_row.specs.declared.row.Row.{Row};
 

@@ -14,7 +14,7 @@ use Rattle.store_take.specs.Taking.{ComesOfAsking}
 use Rattle.store_cut.specs.declared.cutting.CutDone.{CutDone}
 use Rattle.store_take.specs.declared.done.Done.{Done}
 use Rattle.relay_store.specs.declared.fault.StoreFault.{StoreFault}
-use Rattle.run_base.specs.Counts.{Counted}
+use Rattle.at_cid.specs.Counts.{Counted}
 use Rattle.run_base.specs.Deeds.{by_end}
 use Rattle.run_base.specs.Statuses.{status_of_fault}
 use Rattle.run_base.specs.declared.status.Status.{Status}

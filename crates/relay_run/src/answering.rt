@@ -1,11 +1,10 @@
 //! The line of what was answered to an operator.
 
 ghost use Rattle.std.specs.Prelude.{◌≡◌, ◌≤◌, ◌⊎◌, ◌++◌, ◌∷◌, [], IsTrue, IfOk, OnOk, OnErr};
-ghost use Rattle.at_cid.specs.Counts.{Rose};
+ghost use Rattle.at_cid.specs.Counts.{Rose, Counted};
 ghost use Rattle.relay_io.specs.Streams.{AddsFront};
 ghost use Rattle.report_lines.specs.Lines.{numbered};
 ghost use Rattle.relay_run.specs.Lines.{IsEndOf, done_text};
-ghost use Rattle.run_base.specs.Counts.{Counted};
 ghost use Rattle.run_base.specs.Ends.{Writes};
 
 use at_cid::{Memory, Octets};

@@ -1,11 +1,10 @@
 //! The line of what cutting the journal came to.
 
 ghost use Rattle.std.specs.Prelude.{◌≡◌, ◌≤◌, ◌⊎◌, ◌++◌, ◌∷◌, [], codes, IsTrue, OnOk, OnErr};
-ghost use Rattle.at_cid.specs.Counts.{Rose};
+ghost use Rattle.at_cid.specs.Counts.{Rose, Counted};
 ghost use Rattle.relay_io.specs.Streams.{AddsFront};
 ghost use Rattle.relay_run.specs.Lines.{EndsCut, cut_text};
 ghost use Rattle.report_lines.specs.Lines.{numbered};
-ghost use Rattle.run_base.specs.Counts.{Counted};
 ghost use Rattle.run_base.specs.Ends.{Writes};
 
 use crate::answering::{answer_refused, write_last, write_number};

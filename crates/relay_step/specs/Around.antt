@@ -10,6 +10,7 @@ use Rattle.relay_row.specs.declared.row.Row.{Row}
 use Rattle.relay_step.specs.Asked.{step_calls}
 use Rattle.relay_step.specs.Fetching.{IsFetchedTold}
 use Rattle.relay_step.specs.Steps.{Decided, after_end, skipped, recorded, Step, rows_decided}
+use Rattle.relay_step.specs.declared.asked.Asked.{Asked}
 
 -- what the parts tell: the authorities of each method, the moments to come, and each DID's
 -- repository
@@ -24,6 +25,18 @@ around panel moments repository = record {
   moments = moments;
   repository = repository;
 }
+
+-- what those tell who are asked
+abbrev pub around_of : {P R C : Type 0} → (P → Panel) → (C → List ℕ)
+    → (R → List ℕ → Option (List ℕ)) → Asked P R C → Around
+around_of panel moments repository a =
+    around (panel a.judges.now) (moments a.clock.now) (repository a.repos.now)
+
+-- the same who are asked
+pub record SameAsked {P R C : Type 0} (old new : Asked P R C) : Type 0 where
+  pub judges : new.judges.ghost_name ≡ old.judges.ghost_name
+  pub repos : new.repos.ghost_name ≡ old.repos.ghost_name
+  pub clock : new.clock.ghost_name ≡ old.clock.ghost_name
 
 -- a step that makes a row takes one moment, and keeps it; one that makes none takes none
 abbrev pub IsTimed : List ℕ → Decided → List ℕ → Type 0
@@ -47,8 +60,8 @@ pub record AskedOf (clock_tells repos_tell : Bool) (J : List Row) (old : Around)
   pub same : IsTrue repos_tell → SameRepositories old.repository new.repository
 
 -- What one step behind the journal J asked, and was told.
-abbrev pub Asked : Bool → Bool → List Row → Around → Step → Around → Type 0
-Asked clock_tells repos_tell J old s new =
+abbrev pub OneAsked : Bool → Bool → List Row → Around → Step → Around → Type 0
+OneAsked clock_tells repos_tell J old s new =
     AskedOf clock_tells repos_tell J old s.host (frame_of s.bytes) s.decided new
 
 -- nothing was asked
@@ -61,5 +74,5 @@ pub record AskedNothing (clock_tells repos_tell : Bool) (old new : Around) : Typ
 abbrev pub AllAsked : Bool → Bool → List Row → Around → List Step → Around → Type 0
 AllAsked clock_tells repos_tell J old [] new = AskedNothing clock_tells repos_tell old new
 AllAsked clock_tells repos_tell J old (s ∷ steps) new =
-    (mid : Around) × Asked clock_tells repos_tell J old s mid
+    (mid : Around) × OneAsked clock_tells repos_tell J old s mid
     × AllAsked clock_tells repos_tell (J ++ rows_decided s.decided) mid steps new

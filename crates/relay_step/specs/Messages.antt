@@ -18,7 +18,7 @@ use Rattle.relay_core.specs.Opening.{OpensRight}
 use Rattle.relay_core.specs.declared.decision.Pass.{Pass}
 use Rattle.relay_core.specs.declared.journal_state.Core.{Core}
 use Rattle.relay_law.specs.Right.{LinksRight}
-use Rattle.relay_step.specs.Around.{Around, Asked, AskedOf, SameRepositories}
+use Rattle.relay_step.specs.Around.{Around, AskedOf, OneAsked, SameRepositories}
 use Rattle.relay_step.specs.Asked.{event_calls}
 use Rattle.relay_step.specs.Commands.{IsNow}
 use Rattle.relay_step.specs.Fetching.{IsFetched}
@@ -69,7 +69,7 @@ IsAskedOf clock_tells repos_tell c old host frame t new = (J : List Row) → Hol
 -- This was asked around in a step.
 abbrev pub IsAsked : Bool → Bool → Core → Around → Step → Around → Type 0
 IsAsked clock_tells repos_tell c old s new = (J : List Row) → Holds c J
-    → Asked clock_tells repos_tell J old s new
+    → OneAsked clock_tells repos_tell J old s new
 
 -- With these rows a journal is one still.
 abbrev pub KeepsJournal : Core → List Row → Type 0

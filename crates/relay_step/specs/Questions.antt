@@ -8,6 +8,7 @@ use Rattle.at_event.specs.Seen.{Seen}
 use Rattle.at_event.specs.Writing.{out_length}
 use Rattle.at_event.specs.declared.event.Body.{Body}
 use Rattle.at_event.specs.declared.event.CommitEvent.{CommitEvent}
+use Rattle.at_event.specs.declared.frame.Frame.{Frame}
 use Rattle.at_event.specs.declared.head.Head.{Head}
 use Rattle.at_event.specs.declared.refusal.Refusal.{Refusal}
 use Rattle.event_checks.specs.Lines.{first_of}
@@ -19,11 +20,13 @@ use Rattle.commit_check.specs.Step.{is_gap, root_before}
 use Rattle.commit_check.specs.Opening.{IsOpened}
 use Rattle.repo_sync.specs.Sync.{IsSynced}
 use Rattle.relay_core.specs.Decide.{Checks, as_result}
-use Rattle.relay_core.specs.Table.{no_answers, when, is_ahead}
+use Rattle.relay_core.specs.Entries.{account_in, cursor_in}
+use Rattle.relay_core.specs.Table.{next_of, no_answers, when, is_ahead}
 use Rattle.relay_core.specs.Laws.{is_open}
 use Rattle.relay_core.specs.declared.answers.Answers.{Answers}
 use Rattle.relay_core.specs.declared.answers.Question.{Question}
 use Rattle.relay_core.specs.declared.decision.Next.{Next}
+use Rattle.relay_core.specs.declared.journal_state.Core.{Core}
 use Rattle.relay_core.specs.declared.limits.TheConstants.{LONGEST_MESSAGE}
 use Rattle.relay_law.specs.Formed.{AreAnswersTo}
 use Rattle.relay_law.specs.Right.{LinksRight, expect_of}
@@ -136,6 +139,17 @@ pub record AreAsked (clock_tells : Bool) (last cursor : ℕ) (a : State) (host :
       → IsLinkAnswer a.repo e answer
   pub unfetched : x.fetched ≡ None
   pub above : (moment : ℕ) → x.moment ≡ Some moment → nat_le e.seq cursor ≡ false
+
+-- and of an event of a host, by what is known of both
+abbrev pub AreAskedAbout : Bool → Core → List ℕ → Seen → Answers → Panel → List ℕ → Panel → List ℕ
+    → Type 0
+AreAskedAbout clock_tells c host e x old moments new left =
+    AreAsked clock_tells c.last (cursor_in c host) (account_in c e.did) host e x
+    old moments new left
+
+-- what comes next then
+abbrev pub next_about : Core → List ℕ → Seen → Answers → Next
+next_about c host e x = next_of (cursor_in c host) (account_in c e.did) (Frame.Event e) x
 
 abbrev pub is_fetch : Question → Bool
 is_fetch Question.Fetch = true

@@ -18,7 +18,6 @@ use Rattle.relay_core.specs.Entries.{account_in, cursor_in}
 use Rattle.relay_core.specs.Rows.{event_taken, faulty_taken, goes_out}
 use Rattle.relay_core.specs.Sending.{IsSendable}
 use Rattle.relay_core.specs.Shown.{or_zero}
-use Rattle.relay_core.specs.Table.{next_of}
 use Rattle.relay_core.specs.declared.answers.Answers.{Answers}
 use Rattle.relay_core.specs.declared.decision.Decision.{Decision}
 use Rattle.relay_core.specs.declared.decision.Next.{Next}
@@ -27,7 +26,7 @@ use Rattle.relay_law.specs.Formed.{AreAnswersTo, IsFetchedBehind, IsOpenedAs}
 use Rattle.relay_step.specs.Around.{Around, AskedNothing, SameRepositories}
 use Rattle.relay_step.specs.Fetching.{AnsweredFetch, IsFetchedAs, told_where}
 use Rattle.relay_step.specs.Messages.{pass_of, skipped_as}
-use Rattle.relay_step.specs.Questions.{IsLinkAnswer, IsTidy, IsTimedSo, calls_told}
+use Rattle.relay_step.specs.Questions.{IsLinkAnswer, IsTidy, IsTimedSo, calls_told, next_about}
 use Rattle.relay_step.specs.Commands.{IsNow}
 use Rattle.relay_step.specs.declared.decided.Decided.{Decided as Outcome}
 
@@ -53,7 +52,7 @@ IsFetchedSo repos_tell last a e repository moment refusal (Some fetched) what fe
 pub record EventAnswered (clock_tells repos_tell : Bool) (c : Core) (host : List ℕ) (e : Seen)
     (x : Answers) (d : Decision) (what : Found) (old new : Around) : Type 0 where
   pub fetch : List Call
-  pub done : next_of (cursor_in c host) (account_in c e.did) (Frame.Event e) x ≡ Next.Done d
+  pub done : next_about c host e x ≡ Next.Done d
   pub fetched : IsFetchedSo repos_tell c.last (account_in c e.did) e old.repository
       (or_zero x.moment) d.refusal x.fetched what fetch
   pub calls : AreCalls old.panel (calls_told host e x ++ fetch) new.panel
@@ -93,8 +92,7 @@ pub record LostRecorded (repos_tell : Bool) (c : Core) (host : List ℕ) (e : Se
   pub d : Decision
   pub what : Found
   pub fetch : List Call
-  pub done : next_of (cursor_in c host) (account_in c e.did) (Frame.Event e)
-      (record x { fetched = Some f }) ≡ Next.Done d
+  pub done : next_about c host e (record x { fetched = Some f }) ≡ Next.Done d
   pub taken : told ≡ Outcome.Recorded (event_taken c.last host e d (record x { fetched = Some f }))
   pub number : goes_out d.refusal d.held ≡ true → c.last + 1 < NUMBERS
   pub sendable : IsSendable c.last e what

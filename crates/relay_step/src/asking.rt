@@ -4,15 +4,13 @@ ghost use Rattle.std.specs.Prelude.{◌≡◌, ◌≢◌, ◌≤◌, ◌<◌, �
 ghost use Rattle.at_cid.specs.Counts.{Rose};
 ghost use Rattle.at_syntax.specs.Did.{is_did};
 ghost use Rattle.at_authority.specs.Panels.{Panel};
-ghost use Rattle.at_event.specs.Writing.{out_length};
 ghost use Rattle.at_event.specs.declared.frame.Frame.{Frame as AFrame};
-ghost use Rattle.relay_core.specs.Entries.{account_in, cursor_in, state_in};
-ghost use Rattle.relay_core.specs.Table.{next_of};
+ghost use Rattle.relay_core.specs.Entries.{account_in, state_in};
 ghost use Rattle.relay_core.specs.declared.decision.Next.{Next as ANext};
 ghost use Rattle.relay_step.specs.Asked.{AskedInVain};
 ghost use Rattle.relay_step.specs.Causes.{IsCause, IsSpentFor, OneTaken, SpendsNone};
 ghost use Rattle.relay_step.specs.Fetches.{AskedPlain};
-ghost use Rattle.relay_step.specs.Questions.{AreAsked, IsReadFor, is_fetch, is_last, open_count};
+ghost use Rattle.relay_step.specs.Questions.{AreAskedAbout, IsReadFor, is_fetch, is_last, next_about, open_count};
 
 use crate::fault::StepFault;
 use crate::outside::{ask_home, ask_moment, ask_refresh};
@@ -41,6 +39,13 @@ pub(crate) fn repo_of(core: &Core, did: &str) -> Repo
     repo_in(core.account(did))
 }
 
+// The account of an event, where a row names it.
+fn account_of<'core>(core: &'core Core, event: &Event) -> Option<&'core Account>
+    ensures { state_in result ≡ account_in core.now event.now.did }
+{
+    core.account(event.did.as_str())
+}
+
 // Whether the account's repository is asked for.
 fn is_fetch(question: Question) -> bool
     ensures { result ≡ is_fetch question }
@@ -48,45 +53,52 @@ fn is_fetch(question: Question) -> bool
     matches!(question, Question::Fetch)
 }
 
+// An event of a host that is asked about, and what is known of its account's repository.
+#[derive(Drop)]
+struct Inquiry<'core, 'host, 'event> {
+    core: &'core Core,
+    host: &'host str,
+    event: &'event Event,
+    repo: Repo,
+}
+
 /// Asks the question that comes next about an event, but for that of its account's repository.
 fn ask_one<P: Judges, C: Clock>(
     alloc: Global,
-    core: &Core,
-    host: &str,
-    event: &Event,
-    repo: &Repo,
+    inquiry: &Inquiry<'_, '_, '_>,
     question: Question,
     answers: &mut Answers,
     read: &mut Read,
     judges: &mut P,
     clock: &mut C,
 ) -> Result<(), StepFault>
-    requires asks { next_of (cursor_in core.now host.now) (account_in core.now event.now.did)
-        (AFrame.Event event.now) answers.old ≡ ANext.Ask question }
-    requires repo { repo.now ≡ (account_in core.now event.now.did).repo }
+    requires asks { next_about inquiry.now.core.now inquiry.now.host.now inquiry.now.event.now
+        answers.old ≡ ANext.Ask question }
+    requires repo { inquiry.now.repo
+        ≡ (account_in inquiry.now.core.now inquiry.now.event.now.did).repo }
     requires other { is_fetch question ≡ false }
-    requires read { IsReadFor event.now.body answers.old.opened read.old }
-    requires did { IsTrue (is_did event.now.did) }
+    requires read { IsReadFor inquiry.now.event.now.body answers.old.opened read.old }
+    requires did { IsTrue (is_did inquiry.now.event.now.did) }
     ensures asked { OnOk result ((old : Panel) (moments : List ℕ)
-        → AreAsked C.tells core.now.last (cursor_in core.now host.now)
-        (account_in core.now event.now.did) host.now event.now answers.old old moments
-        (P.panel judges.old) (C.moments clock.old)
-        → AreAsked C.tells core.now.last (cursor_in core.now host.now)
-        (account_in core.now event.now.did) host.now event.now answers.new old moments
-        (P.panel judges.new) (C.moments clock.new)) }
-    ensures read { OnOk result (IsReadFor event.now.body answers.new.opened read.new) }
+        → AreAskedAbout C.tells inquiry.now.core.now inquiry.now.host.now inquiry.now.event.now
+        answers.old old moments (P.panel judges.old) (C.moments clock.old)
+        → AreAskedAbout C.tells inquiry.now.core.now inquiry.now.host.now inquiry.now.event.now
+        answers.new old moments (P.panel judges.new) (C.moments clock.new)) }
+    ensures read { OnOk result (IsReadFor inquiry.now.event.now.body answers.new.opened read.new) }
     ensures fewer { OnOk result (open_count answers.new < open_count answers.old) }
-    ensures in_vain { OnErr result
-        (AskedPlain (P.panel judges.old) event.now.did (P.panel judges.new)) }
+    ensures in_vain { OnErr result (AskedPlain (P.panel judges.old) inquiry.now.event.now.did
+        (P.panel judges.new)) }
     ensures kept { OnErr result (IsTrue C.tells → C.moments clock.new ≡ C.moments clock.old) }
-    ensures caused { IfErr result
-        (IsCause ⊥ (IsSpentFor core.now host.now (Ok (AFrame.Event event.now))
-        (P.panel judges.new)) ⊥ (Rose (C.faults clock.old) (C.faults clock.new))) }
+    ensures caused { IfErr result (IsCause ⊥
+        (IsSpentFor inquiry.now.core.now inquiry.now.host.now
+        (Ok (AFrame.Event inquiry.now.event.now)) (P.panel judges.new))
+        ⊥ (Rose (C.faults clock.old) (C.faults clock.new))) }
     ensures counts { C.faults clock.old ≤ C.faults clock.new }
     ensures unspent { result ≢ Err StepFault.Authority
         → SpendsNone (P.panel judges.old) (P.panel judges.new) }
     ensures steady { result ≢ Err StepFault.Clock → C.faults clock.new ≡ C.faults clock.old }
 {
+    let event = inquiry.event;
     let did = event.did.as_str();
     match question {
         Question::Moment => {
@@ -98,11 +110,11 @@ fn ask_one<P: Judges, C: Clock>(
             answers.refreshed = true;
         }
         Question::Home => {
-            let is_home = ask_home(judges, did, host)?;
+            let is_home = ask_home(judges, did, inquiry.host)?;
             answers.home = Some(is_home);
         }
         Question::Open => {
-            let (answer, blocks) = open(alloc, &event.body, last_rev(repo))?;
+            let (answer, blocks) = open(alloc, &event.body, last_rev(&inquiry.repo))?;
             answers.opened = Some(answer);
             *read = blocks;
         }
@@ -111,7 +123,7 @@ fn ask_one<P: Judges, C: Clock>(
             answers.verdict = Some(good);
         }
         Question::Link => {
-            let follows = follow(alloc, event, read, repo)?;
+            let follows = follow(alloc, event, read, &inquiry.repo)?;
             answers.linked = Some(follows);
         }
         Question::Fetch => unreachable!(),
@@ -119,31 +131,19 @@ fn ask_one<P: Judges, C: Clock>(
     Ok(())
 }
 
-// Asks all that is to be known of an event before it is decided, or before its account's repository is fetched, where the
-// host's cursor, the account and its repository, and how long the event goes out at most, are known.
-fn ask_known<P: Judges, C: Clock>(
+/// Asks all that is to be known of an event before it is decided, or before its account's repository is fetched.
+pub(crate) fn ask_all<P: Judges, C: Clock>(
     alloc: Global,
     core: &Core,
     host: &str,
     event: &Event,
-    cursor: u64,
-    account: Option<&Account>,
-    repo: &Repo,
-    len: u64,
     judges: &mut P,
     clock: &mut C,
 ) -> Result<(Next, Answers), StepFault>
-    requires cursor { cursor ≡ cursor_in core.now host.now }
-    requires account { state_in account ≡ account_in core.now event.now.did }
-    requires repo { repo.now ≡ (account_in core.now event.now.did).repo }
-    requires len { len ≡ out_length event.now }
     requires did { IsTrue (is_did event.now.did) }
-    ensures asked { IfOk result (λ x. AreAsked C.tells core.now.last (cursor_in core.now host.now)
-        (account_in core.now event.now.did) host.now event.now x.1 (P.panel judges.old)
-        (C.moments clock.old) (P.panel judges.new) (C.moments clock.new)) }
-    ensures next { IfOk result (λ x. x.0
-        ≡ next_of (cursor_in core.now host.now) (account_in core.now event.now.did)
-        (AFrame.Event event.now) x.1) }
+    ensures asked { IfOk result (λ x. AreAskedAbout C.tells core.now host.now event.now x.1
+        (P.panel judges.old) (C.moments clock.old) (P.panel judges.new) (C.moments clock.new)) }
+    ensures next { IfOk result (λ x. x.0 ≡ next_about core.now host.now event.now x.1) }
     ensures last { IfOk result (λ x. is_last x.0 ≡ true) }
     ensures in_vain { OnErr result
         (AskedInVain (P.panel judges.old) event.now.did (P.panel judges.new)) }
@@ -157,6 +157,15 @@ fn ask_known<P: Judges, C: Clock>(
         → SpendsNone (P.panel judges.old) (P.panel judges.new) }
     ensures steady { result ≢ Err StepFault.Clock → C.faults clock.new ≡ C.faults clock.old }
 {
+    let account = account_of(core, event);
+    let cursor = core.cursor(host);
+    let len = out_len(event);
+    let inquiry = Inquiry {
+        core,
+        host,
+        event,
+        repo: repo_in(account),
+    };
     let mut answers = Answers::new();
     let mut read = Read::Nothing;
     'asking: loop {
@@ -167,10 +176,7 @@ fn ask_known<P: Judges, C: Clock>(
                 }
                 match ask_one(
                     alloc,
-                    core,
-                    host,
-                    event,
-                    repo,
+                    &inquiry,
                     question,
                     &mut answers,
                     &mut read,
@@ -184,41 +190,4 @@ fn ask_known<P: Judges, C: Clock>(
             next => return Ok((next, answers)),
         }
     }
-}
-
-/// Asks all that is to be known of an event before it is decided, or before its account's repository is fetched.
-pub(crate) fn ask_all<P: Judges, C: Clock>(
-    alloc: Global,
-    core: &Core,
-    host: &str,
-    event: &Event,
-    judges: &mut P,
-    clock: &mut C,
-) -> Result<(Next, Answers), StepFault>
-    requires did { IsTrue (is_did event.now.did) }
-    ensures asked { IfOk result (λ x. AreAsked C.tells core.now.last (cursor_in core.now host.now)
-        (account_in core.now event.now.did) host.now event.now x.1 (P.panel judges.old)
-        (C.moments clock.old) (P.panel judges.new) (C.moments clock.new)) }
-    ensures next { IfOk result (λ x. x.0
-        ≡ next_of (cursor_in core.now host.now) (account_in core.now event.now.did)
-        (AFrame.Event event.now) x.1) }
-    ensures last { IfOk result (λ x. is_last x.0 ≡ true) }
-    ensures in_vain { OnErr result
-        (AskedInVain (P.panel judges.old) event.now.did (P.panel judges.new)) }
-    ensures moments { OnErr result (IsTrue C.tells
-        → OneTaken (C.moments clock.old) (C.moments clock.new)) }
-    ensures caused { IfErr result
-        (IsCause ⊥ (IsSpentFor core.now host.now (Ok (AFrame.Event event.now))
-        (P.panel judges.new)) ⊥ (Rose (C.faults clock.old) (C.faults clock.new))) }
-    ensures counts { C.faults clock.old ≤ C.faults clock.new }
-    ensures unspent { result ≢ Err StepFault.Authority
-        → SpendsNone (P.panel judges.old) (P.panel judges.new) }
-    ensures steady { result ≢ Err StepFault.Clock → C.faults clock.new ≡ C.faults clock.old }
-{
-    let account = core.account(event.did.as_str());
-    let repo = repo_in(account);
-    let (cursor, len) = (core.cursor(host), out_len(event));
-    ask_known(
-        alloc, core, host, event, cursor, account, &repo, len, judges, clock,
-    )
 }

@@ -6,13 +6,14 @@ ghost use Rattle.at_syntax.specs.Host.{is_host};
 ghost use Rattle.at_event.specs.Formed.{IsFormedFrame};
 ghost use Rattle.at_event.specs.Frames.{frame_of};
 ghost use Rattle.at_event.specs.declared.frame.Frame.{Frame as AFrame};
-ghost use Rattle.relay_step.specs.Around.{around};
+ghost use Rattle.relay_step.specs.Around.{SameAsked, around_of};
 ghost use Rattle.relay_step.specs.Asked.{AskedInVain};
 ghost use Rattle.relay_step.specs.Causes.{AskedInVainOf, CameToNothing, IsCause, IsSpentFor, OneTaken, SpendsNone};
 ghost use Rattle.relay_step.specs.Messages.{EndsNumbers, IsAsked, IsAskedOf, IsDecided, IsSkippedAs, KeepsJournal, told_as};
 ghost use Rattle.relay_step.specs.Steps.{rows_decided, step_of};
 ghost use Rattle.relay_step.specs.Taking.{EventDecided, OtherDecided, is_event};
 
+use crate::asked::Asked;
 use crate::asking::ask_all;
 use crate::decided::{Decided, Skipped, skip};
 use crate::fault::StepFault;
@@ -33,39 +34,39 @@ fn decide_event<P: Judges, R: Repos, C: Clock>(
     core: &Core,
     host: &str,
     event: Event,
-    judges: &mut P,
-    repos: &mut R,
-    clock: &mut C,
+    asked: &mut Asked<P, R, C>,
 ) -> Result<Decided, StepFault>
-    ensures told { IfOk result (λ told.
-        EventDecided C.tells R.tells core.now host.now event told
-        (around (P.panel judges.old) (C.moments clock.old) (R.repository repos.old))
-        (around (P.panel judges.new) (C.moments clock.new) (R.repository repos.new))) }
-    ensures in_vain { OnErr result (CameToNothing C.tells R.tells
-        (AskedInVain (P.panel judges.old) event.did (P.panel judges.new))
-        (around (P.panel judges.old) (C.moments clock.old) (R.repository repos.old))
-        (around (P.panel judges.new) (C.moments clock.new) (R.repository repos.new))) }
-    ensures caused { IfErr result
-        (IsCause (EndsNumbers C.tells R.tells core.now
-        (around (P.panel judges.old) (C.moments clock.old) (R.repository repos.old)) host.now
-        (Ok (AFrame.Event event)) (around (P.panel judges.new) (C.moments clock.new)
-        (R.repository repos.new)))
-        (IsSpentFor core.now host.now (Ok (AFrame.Event event)) (P.panel judges.new))
-        (Rose (R.faults repos.old) (R.faults repos.new))
-        (Rose (C.faults clock.old) (C.faults clock.new))) }
-    ensures clock_counts { C.faults clock.old ≤ C.faults clock.new }
-    ensures repos_count { R.faults repos.old ≤ R.faults repos.new }
+    ensures told { let old = around_of P.panel C.moments R.repository asked.old in
+        let new = around_of P.panel C.moments R.repository asked.new in
+        IfOk result (λ told.
+        EventDecided C.tells R.tells core.now host.now event told old new) }
+    ensures in_vain { let old = around_of P.panel C.moments R.repository asked.old in
+        let new = around_of P.panel C.moments R.repository asked.new in
+        OnErr result (CameToNothing C.tells R.tells
+        (AskedInVain old.panel event.did new.panel) old new) }
+    ensures caused { let old = around_of P.panel C.moments R.repository asked.old in
+        let new = around_of P.panel C.moments R.repository asked.new in
+        let frame = Ok (AFrame.Event event) in
+        IfErr result (IsCause (EndsNumbers C.tells R.tells core.now old host.now frame new)
+        (IsSpentFor core.now host.now frame new.panel)
+        (Rose (R.faults asked.old.repos.now) (R.faults asked.new.repos.now))
+        (Rose (C.faults asked.old.clock.now) (C.faults asked.new.clock.now))) }
+    ensures clock_counts { C.faults asked.old.clock.now ≤ C.faults asked.new.clock.now }
+    ensures repos_count { R.faults asked.old.repos.now ≤ R.faults asked.new.repos.now }
     ensures unspent { result ≢ Err StepFault.Authority
-        → SpendsNone (P.panel judges.old) (P.panel judges.new) }
-    ensures clock_steady { result ≢ Err StepFault.Clock → C.faults clock.new ≡ C.faults clock.old }
-    ensures repos_steady { result ≢ Err StepFault.Repos → R.faults repos.new ≡ R.faults repos.old }
+        → SpendsNone (P.panel asked.old.judges.now) (P.panel asked.new.judges.now) }
+    ensures clock_steady { result ≢ Err StepFault.Clock
+        → C.faults asked.new.clock.now ≡ C.faults asked.old.clock.now }
+    ensures repos_steady { result ≢ Err StepFault.Repos
+        → R.faults asked.new.repos.now ≡ R.faults asked.old.repos.now }
+    ensures same { SameAsked asked.old asked.new }
 {
     event.ghost_event();
-    let (next, answers) = ask_all(alloc, core, host, &event, judges, clock)?;
+    let (next, answers) = ask_all(alloc, core, host, &event, asked.judges, asked.clock)?;
     match next {
         Next::Pass(_) => Ok(Decided::Skipped(Skipped::Old(event.seq))),
         Next::Done(decision) => take(alloc, core, host, event, &decision, answers),
-        Next::Ask(_) => take_lost(alloc, core, host, event, answers, judges, repos),
+        Next::Ask(_) => take_lost(alloc, core, host, event, answers, asked.judges, asked.repos),
     }
 }
 
@@ -108,47 +109,47 @@ fn decide_frame<P: Judges, R: Repos, C: Clock>(
     core: &Core,
     host: &str,
     frame: Frame,
-    judges: &mut P,
-    repos: &mut R,
-    clock: &mut C,
+    asked: &mut Asked<P, R, C>,
 ) -> Result<Decided, StepFault>
     requires host { IsTrue (is_host host.now) }
     requires frame { IsFormedFrame frame }
     ensures told { IfOk result (λ told. IsDecided core.now host.now (Ok frame) (told_as told)) }
     ensures passed { IfOk result (IsSkippedAs (Ok frame)) }
-    ensures asked { IfOk result (λ told.
-        IsAskedOf C.tells R.tells core.now
-        (around (P.panel judges.old) (C.moments clock.old) (R.repository repos.old)) host.now
-        (Ok frame) (told_as told)
-        (around (P.panel judges.new) (C.moments clock.new) (R.repository repos.new))) }
+    ensures asked { let old = around_of P.panel C.moments R.repository asked.old in
+        let new = around_of P.panel C.moments R.repository asked.new in
+        IfOk result (λ told.
+        IsAskedOf C.tells R.tells core.now old host.now (Ok frame) (told_as told) new) }
     ensures formed { IfOk result (λ told. KeepsJournal core.now (rows_decided (told_as told))) }
-    ensures in_vain { OnErr result (CameToNothing C.tells R.tells
-        (AskedInVainOf (P.panel judges.old) (Ok frame) (P.panel judges.new))
-        (around (P.panel judges.old) (C.moments clock.old) (R.repository repos.old))
-        (around (P.panel judges.new) (C.moments clock.new) (R.repository repos.new))) }
-    ensures caused { IfErr result
-        (IsCause (EndsNumbers C.tells R.tells core.now
-        (around (P.panel judges.old) (C.moments clock.old) (R.repository repos.old)) host.now
-        (Ok frame) (around (P.panel judges.new) (C.moments clock.new) (R.repository repos.new)))
-        (IsSpentFor core.now host.now (Ok frame) (P.panel judges.new))
-        (Rose (R.faults repos.old) (R.faults repos.new))
-        (Rose (C.faults clock.old) (C.faults clock.new))) }
-    ensures clock_counts { C.faults clock.old ≤ C.faults clock.new }
-    ensures repos_count { R.faults repos.old ≤ R.faults repos.new }
+    ensures in_vain { let old = around_of P.panel C.moments R.repository asked.old in
+        let new = around_of P.panel C.moments R.repository asked.new in
+        OnErr result (CameToNothing C.tells R.tells
+        (AskedInVainOf old.panel (Ok frame) new.panel) old new) }
+    ensures caused { let old = around_of P.panel C.moments R.repository asked.old in
+        let new = around_of P.panel C.moments R.repository asked.new in
+        IfErr result
+        (IsCause (EndsNumbers C.tells R.tells core.now old host.now (Ok frame) new)
+        (IsSpentFor core.now host.now (Ok frame) new.panel)
+        (Rose (R.faults asked.old.repos.now) (R.faults asked.new.repos.now))
+        (Rose (C.faults asked.old.clock.now) (C.faults asked.new.clock.now))) }
+    ensures clock_counts { C.faults asked.old.clock.now ≤ C.faults asked.new.clock.now }
+    ensures repos_count { R.faults asked.old.repos.now ≤ R.faults asked.new.repos.now }
     ensures unspent { result ≢ Err StepFault.Authority
-        → SpendsNone (P.panel judges.old) (P.panel judges.new) }
-    ensures clock_steady { result ≢ Err StepFault.Clock → C.faults clock.new ≡ C.faults clock.old }
-    ensures repos_steady { result ≢ Err StepFault.Repos → R.faults repos.new ≡ R.faults repos.old }
+        → SpendsNone (P.panel asked.old.judges.now) (P.panel asked.new.judges.now) }
+    ensures clock_steady { result ≢ Err StepFault.Clock
+        → C.faults asked.new.clock.now ≡ C.faults asked.old.clock.now }
+    ensures repos_steady { result ≢ Err StepFault.Repos
+        → R.faults asked.new.repos.now ≡ R.faults asked.old.repos.now }
+    ensures same { SameAsked asked.old asked.new }
 {
     made_rows_are_formed();
     ghost_text(host);
     match frame {
         Frame::Event(event) => {
             event.ghost_event();
-            decide_event(alloc, core, host, event, judges, repos, clock)
+            decide_event(alloc, core, host, event, asked)
         }
         other @ (Frame::Faulty(_) | Frame::Info | Frame::Error | Frame::Unknown) => {
-            decide_other(alloc, core, host, other, clock)
+            decide_other(alloc, core, host, other, asked.clock)
         }
     }
 }
@@ -160,9 +161,7 @@ pub fn decide_message<P: Judges, R: Repos, C: Clock>(
     core: &Core,
     host: &str,
     message: &[u8],
-    judges: &mut P,
-    repos: &mut R,
-    clock: &mut C,
+    asked: &mut Asked<P, R, C>,
 ) -> Result<Decided, StepFault>
     requires host { IsTrue (is_host host.now) }
     // Behind each journal for which the state stands, this is what comes of the message.
@@ -171,35 +170,36 @@ pub fn decide_message<P: Judges, R: Repos, C: Clock>(
     // Where it makes no row, it says why, as the message reads.
     ensures passed { IfOk result (IsSkippedAs (frame_of message.now)) }
     // This was asked around, and nothing else.
-    ensures asked { IfOk result (λ told.
-        IsAsked C.tells R.tells core.now
-        (around (P.panel judges.old) (C.moments clock.old) (R.repository repos.old))
-        (step_of host.now message.now (told_as told))
-        (around (P.panel judges.new) (C.moments clock.new) (R.repository repos.new))) }
+    ensures asked { let old = around_of P.panel C.moments R.repository asked.old in
+        let new = around_of P.panel C.moments R.repository asked.new in
+        IfOk result (λ told.
+        IsAsked C.tells R.tells core.now old (step_of host.now message.now (told_as told)) new) }
     // With its row, a journal is one still.
     ensures formed { IfOk result (λ told. KeepsJournal core.now (rows_decided (told_as told))) }
     // Where it fails.
-    ensures in_vain { OnErr result (CameToNothing C.tells R.tells
-        (AskedInVainOf (P.panel judges.old) (frame_of message.now) (P.panel judges.new))
-        (around (P.panel judges.old) (C.moments clock.old) (R.repository repos.old))
-        (around (P.panel judges.new) (C.moments clock.new) (R.repository repos.new))) }
-    ensures caused { IfErr result
-        (IsCause (EndsNumbers C.tells R.tells core.now
-        (around (P.panel judges.old) (C.moments clock.old) (R.repository repos.old)) host.now
-        (frame_of message.now) (around (P.panel judges.new) (C.moments clock.new)
-        (R.repository repos.new)))
-        (IsSpentFor core.now host.now (frame_of message.now) (P.panel judges.new))
-        (Rose (R.faults repos.old) (R.faults repos.new))
-        (Rose (C.faults clock.old) (C.faults clock.new))) }
-    ensures clock_counts { C.faults clock.old ≤ C.faults clock.new }
-    ensures repos_count { R.faults repos.old ≤ R.faults repos.new }
+    ensures in_vain { let old = around_of P.panel C.moments R.repository asked.old in
+        let new = around_of P.panel C.moments R.repository asked.new in
+        OnErr result (CameToNothing C.tells R.tells
+        (AskedInVainOf old.panel (frame_of message.now) new.panel) old new) }
+    ensures caused { let old = around_of P.panel C.moments R.repository asked.old in
+        let new = around_of P.panel C.moments R.repository asked.new in
+        let frame = frame_of message.now in
+        IfErr result (IsCause (EndsNumbers C.tells R.tells core.now old host.now frame new)
+        (IsSpentFor core.now host.now frame new.panel)
+        (Rose (R.faults asked.old.repos.now) (R.faults asked.new.repos.now))
+        (Rose (C.faults asked.old.clock.now) (C.faults asked.new.clock.now))) }
+    ensures clock_counts { C.faults asked.old.clock.now ≤ C.faults asked.new.clock.now }
+    ensures repos_count { R.faults asked.old.repos.now ≤ R.faults asked.new.repos.now }
     ensures unspent { result ≢ Err StepFault.Authority
-        → SpendsNone (P.panel judges.old) (P.panel judges.new) }
-    ensures clock_steady { result ≢ Err StepFault.Clock → C.faults clock.new ≡ C.faults clock.old }
-    ensures repos_steady { result ≢ Err StepFault.Repos → R.faults repos.new ≡ R.faults repos.old }
+        → SpendsNone (P.panel asked.old.judges.now) (P.panel asked.new.judges.now) }
+    ensures clock_steady { result ≢ Err StepFault.Clock
+        → C.faults asked.new.clock.now ≡ C.faults asked.old.clock.now }
+    ensures repos_steady { result ≢ Err StepFault.Repos
+        → R.faults asked.new.repos.now ≡ R.faults asked.old.repos.now }
+    ensures same { SameAsked asked.old asked.new }
 {
     match read_frame(alloc, message) {
-        Ok(frame) => decide_frame(alloc, core, host, frame, judges, repos, clock),
+        Ok(frame) => decide_frame(alloc, core, host, frame, asked),
         Err(FrameFault::BadFrame) => Ok(Decided::Skipped(Skipped::BadFrame)),
         Err(FrameFault::NoSeq) => Ok(Decided::Skipped(Skipped::NoSeq)),
         Err(FrameFault::Memory) => Err(StepFault::Memory),

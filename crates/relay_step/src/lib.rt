@@ -2,6 +2,7 @@
 //! question at a time, and what it comes to is a row, or the reason why there is none. No disk is touched.
 #![tactic(auto)]
 
+mod asked;
 mod asking;
 mod command;
 mod decided;
@@ -16,6 +17,7 @@ mod reading;
 mod syncing;
 mod taking;
 
+pub use asked::Asked;
 pub use command::CommandAnswer;
 pub use decided::{Decided, Skipped};
 pub use deciding::decide_message;

@@ -5,11 +5,12 @@ ghost use Rattle.at_cid.specs.Counts.{Rose};
 ghost use Rattle.at_syntax.specs.Did.{is_did};
 ghost use Rattle.at_form.specs.declared.forms.TheConstants.{LONGEST_SHORT_TEXT};
 ghost use Rattle.relay_step.specs.Asked.{AskedInVain};
-ghost use Rattle.relay_step.specs.Around.{around};
+ghost use Rattle.relay_step.specs.Around.{SameAsked, around_of};
 ghost use Rattle.relay_step.specs.Causes.{CameToNothing, IsCause, SpendsNone};
 ghost use Rattle.relay_step.specs.Messages.{KeepsJournal};
 ghost use Rattle.relay_step.specs.Commands.{EndsFetched, SpentFetching, SyncedAt, rows_commanded};
 
+use crate::asked::Asked;
 use crate::asking::repo_of;
 use crate::command::CommandAnswer;
 use crate::fault::StepFault;
@@ -31,43 +32,42 @@ pub fn sync_now<P: Judges, R: Repos, C: Clock>(
     core: &Core,
     did: &str,
     time: &str,
-    judges: &mut P,
-    repos: &mut R,
-    clock: &mut C,
+    asked: &mut Asked<P, R, C>,
 ) -> Result<CommandAnswer, StepFault>
     requires did { IsTrue (is_did did.now) }
     requires time { length time.now ≤ LONGEST_SHORT_TEXT }
-    ensures synced { IfOk result (λ command.
-        SyncedAt C.tells R.tells core.now did.now time.now
-        (around (P.panel judges.old) (C.moments clock.old) (R.repository repos.old))
-        command (around (P.panel judges.new) (C.moments clock.new) (R.repository repos.new))) }
+    ensures synced { let old = around_of P.panel C.moments R.repository asked.old in
+        let new = around_of P.panel C.moments R.repository asked.new in
+        IfOk result (λ command.
+        SyncedAt C.tells R.tells core.now did.now time.now old command new) }
     ensures formed { IfOk result (λ command. KeepsJournal core.now (rows_commanded command)) }
-    ensures in_vain { OnErr result (CameToNothing C.tells R.tells
-        (AskedInVain (P.panel judges.old) did.now (P.panel judges.new))
-        (around (P.panel judges.old) (C.moments clock.old) (R.repository repos.old))
-        (around (P.panel judges.new) (C.moments clock.new) (R.repository repos.new))) }
-    ensures caused { IfErr result (IsCause
-        (EndsFetched C.tells R.tells core.now did.now
-        (around (P.panel judges.old) (C.moments clock.old) (R.repository repos.old))
-        (around (P.panel judges.new) (C.moments clock.new) (R.repository repos.new)))
-        (SpentFetching C.tells R.tells core.now did.now
-        (around (P.panel judges.old) (C.moments clock.old) (R.repository repos.old))
-        (around (P.panel judges.new) (C.moments clock.new) (R.repository repos.new)))
-        (Rose (R.faults repos.old) (R.faults repos.new))
-        (Rose (C.faults clock.old) (C.faults clock.new))) }
-    ensures clock_counts { C.faults clock.old ≤ C.faults clock.new }
-    ensures repos_count { R.faults repos.old ≤ R.faults repos.new }
+    ensures in_vain { let old = around_of P.panel C.moments R.repository asked.old in
+        let new = around_of P.panel C.moments R.repository asked.new in
+        OnErr result (CameToNothing C.tells R.tells
+        (AskedInVain old.panel did.now new.panel) old new) }
+    ensures caused { let old = around_of P.panel C.moments R.repository asked.old in
+        let new = around_of P.panel C.moments R.repository asked.new in
+        IfErr result
+        (IsCause (EndsFetched C.tells R.tells core.now did.now old new)
+        (SpentFetching C.tells R.tells core.now did.now old new)
+        (Rose (R.faults asked.old.repos.now) (R.faults asked.new.repos.now))
+        (Rose (C.faults asked.old.clock.now) (C.faults asked.new.clock.now))) }
+    ensures clock_counts { C.faults asked.old.clock.now ≤ C.faults asked.new.clock.now }
+    ensures repos_count { R.faults asked.old.repos.now ≤ R.faults asked.new.repos.now }
     ensures unspent { result ≢ Err StepFault.Authority
-        → SpendsNone (P.panel judges.old) (P.panel judges.new) }
-    ensures clock_steady { result ≢ Err StepFault.Clock → C.faults clock.new ≡ C.faults clock.old }
-    ensures repos_steady { result ≢ Err StepFault.Repos → R.faults repos.new ≡ R.faults repos.old }
+        → SpendsNone (P.panel asked.old.judges.now) (P.panel asked.new.judges.now) }
+    ensures clock_steady { result ≢ Err StepFault.Clock
+        → C.faults asked.new.clock.now ≡ C.faults asked.old.clock.now }
+    ensures repos_steady { result ≢ Err StepFault.Repos
+        → R.faults asked.new.repos.now ≡ R.faults asked.old.repos.now }
+    ensures same { SameAsked asked.old asked.new }
 {
-    let moment = ask_moment(clock)?;
+    let moment = ask_moment(asked.clock)?;
     if let Some(refusal) = core.sync_refusal(did) {
         return Ok(CommandAnswer::Refused(refusal));
     }
     let least = last_rev(&repo_of(core, did));
-    let found = fetch(alloc, did, least, moment, judges, repos)?;
+    let found = fetch(alloc, did, least, moment, asked.judges, asked.repos)?;
     let fetched = make(alloc, core, did, time, found)?;
     if let Some(refusal) = fetch_refusal(&fetched) {
         return Ok(CommandAnswer::Refused(refusal));

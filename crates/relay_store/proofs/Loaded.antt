@@ -4,7 +4,8 @@ use Rattle.std.proofs.lemmas.List.{append-nil}
 use Rattle.event_window.specs.declared.place.Place.{Place}
 use Rattle.gate_log.specs.declared.format.Format.{Format}
 use Rattle.gate_log.specs.declared.limits.TheConstants.{BEFORE_BODY}
-use Rattle.gate_log.specs.Image.{made, front, records, behind_gate}
+use Rattle.gate_log.specs.Image.{made, front, records}
+use Rattle.at_cid.specs.Lengths.{length_prefixed}
 use Rattle.gate_log.proofs.Append.{records-append, made-push}
 use Rattle.relay_row.specs.Bodies.{rows_body, IsBody}
 use Rattle.relay_row.specs.Journal.{IsJournal}
@@ -42,7 +43,7 @@ pub no_split : (before after : List (List ℕ)) (body : List ℕ) → [] ≡ bef
 no_split before after body split = omega (arith, ap length split, length-append before (body ∷ after))
 
 pub some_records : (body : List ℕ) (after : List (List ℕ)) → 0 < length (records (body ∷ after))
-some_records body after = omega (arith, length-append (behind_gate body) (records after))
+some_records body after = omega (arith, length-append (length_prefixed body) (records after))
 
 a_body_of : (rows : List Row) (body : List ℕ) → IsBody rows body → IsBody rows (rows_body rows)
 a_body_of rows body is = record { some = is.some; few = is.few; formed = is.formed; made = refl }
@@ -80,7 +81,7 @@ module _ (format : Format) (bodies : List (List ℕ)) (place : ℕ) (state : Cor
           before = f.before ++ rows ∷ [];
           rest = after;
           split = split_here ∙ sym (append_assoc (bytes_of f.before) (body ∷ []) after) ∙ ap (λ (bs : List (List ℕ)). bs ++ after) (sym pushed);
-          here = omega (arith, applied.0, f.here, ap (λ (bs : List (List ℕ)). length (made format bs)) pushed, ap length (made-push format (bytes_of f.before) body), length-append (made format (bytes_of f.before)) (1 ∷ behind_gate body));
+          here = omega (arith, applied.0, f.here, ap (λ (bs : List (List ℕ)). length (made format bs)) pushed, ap length (made-push format (bytes_of f.before) body), length-append (made format (bytes_of f.before)) (1 ∷ length_prefixed body));
           each = each_push f.before rows f.each (a_body_of rows body applied.1.is);
           journal = subst IsJournal (sym (joined_push f.before rows)) applied.1.journal;
           core = subst (Holds state_now) (sym (joined_push f.before rows)) applied.1.core;

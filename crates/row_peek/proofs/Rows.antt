@@ -7,6 +7,7 @@ use Rattle.at_cbor.specs.Item.{Item}
 use Rattle.at_cbor.specs.Encoding.{IsText, IsString}
 use Rattle.at_cbor.proofs.Taken.{number_again}
 use Rattle.at_syntax.specs.Tid.{digits_of}
+use Rattle.at_event.specs.Writing.{number_item as number}
 use Rattle.at_event.specs.declared.head.Head.{Head}
 use Rattle.at_event.specs.declared.refusal.Refusal.{Refusal}
 use Rattle.relay_row.specs.declared.taken.Taken.{Taken}
@@ -16,7 +17,7 @@ use Rattle.relay_row.specs.declared.fetched.Fetched.{Fetched}
 use Rattle.relay_row.specs.declared.carried.CarriedRepo.{CarriedRepo}
 use Rattle.relay_row.specs.declared.carried.Carried.{Carried}
 use Rattle.relay_row.specs.declared.row.Row.{Row}
-use Rattle.relay_row.specs.Items.{number, rev_text, list, or_null, if_there, head_items, whole_items, code, detail_items, effect_item, fetched_item, repo_item, carried_items, row_items}
+use Rattle.relay_row.specs.Items.{rev_text, list, or_null, if_there, head_items, whole_items, code, detail_items, effect_item, fetched_item, repo_item, carried_items, row_items}
 use Rattle.relay_row.specs.Bodies.{row_encoding}
 use Rattle.relay_row.specs.Rules.{is_number, is_positive, is_moment, is_rev, is_node, is_cid, is_head, is_message, is_status, is_whole, is_detail, is_refused, is_decided, is_about, names_host, names_did, is_taken, is_operated, is_repo, is_carried, is_row}
 use Rattle.relay_row.proofs.Atoms.{IsTextOrNone}

@@ -10,6 +10,7 @@ use Rattle.at_cbor.specs.Encoding.{info_of, tail_of, front_of, encoding, IsText}
 use Rattle.at_cbor.specs.Taking.{◌>>=◌}
 use Rattle.at_cbor.proofs.Fronts.{form_0}
 use Rattle.at_cbor.proofs.Taken.{number_again, string_again, text_again}
+use Rattle.at_event.specs.Writing.{number_item as number}
 use Rattle.relay_row.specs.declared.taken.Taken.{Taken}
 use Rattle.relay_row.specs.declared.fetched.Whole.{Whole}
 use Rattle.relay_row.specs.declared.fetched.Fetched.{Fetched}
@@ -17,7 +18,7 @@ use Rattle.relay_row.specs.declared.operated.Operated.{Operated}
 use Rattle.relay_row.specs.declared.carried.Carried.{Carried}
 use Rattle.relay_row.specs.declared.row.Row.{Row}
 use Rattle.relay_row.specs.Folds.{did_of_row, events_of, events_in}
-use Rattle.relay_row.specs.Items.{number, rev_text, list, if_there, code, detail_items, whole_items, effect_item, fetched_item, row_items}
+use Rattle.relay_row.specs.Items.{rev_text, list, if_there, code, detail_items, whole_items, effect_item, fetched_item, row_items}
 use Rattle.relay_row.specs.Bodies.{row_encoding}
 use Rattle.relay_row.specs.Rules.{is_positive, is_moment, is_message, is_whole, is_timed, names_did, is_taken, is_operated, is_row}
 use Rattle.relay_row.proofs.Again.{then_encode, list_then, message_fits, FitsFetched, repo_number_small}

@@ -3,7 +3,7 @@ use Rattle.std.proofs.Common.{◌≡◌, ◌≢◌, ◌∙◌, ◌⊎◌, inl, i
 use Rattle.std.specs.Prelude.{⊤}
 use Rattle.std.proofs.lemmas.List.{append-nil}
 use Rattle.at_authority.specs.Panels.{IsSpent}
-use Rattle.at_cid.specs.Counts.{Rose}
+use Rattle.at_cid.specs.Counts.{Rose, Counted, CountedPair}
 use Rattle.relay_disk.specs.Disk.{View}
 use Rattle.relay_io.specs.Streams.{AddsFront}
 use Rattle.relay_row.specs.declared.row.Row.{Row}
@@ -11,7 +11,6 @@ use Rattle.relay_step.specs.Causes.{SpendsNone}
 use Rattle.relay_store.specs.Journals.{IsBadPairJournalAt, IsPairImageOf}
 use Rattle.relay_store.specs.Opening.{BothOnlyRead, IsOfReading, Opened}
 use Rattle.relay_store.specs.declared.fault.StoreFault.{StoreFault}
-use Rattle.run_base.specs.Counts.{Counted, CountedPair}
 use Rattle.run_base.specs.Deeds.{by_end}
 use Rattle.run_base.specs.Ends.{Caused, Ended, IsQuiet, Shows, Writes}
 use Rattle.run_base.specs.Place.{Faults, Part, Place, Tells, stays_of, the_clock, the_judges, the_output, the_repos}

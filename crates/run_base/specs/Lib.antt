@@ -1,4 +1,3 @@
-pub mod Counts
 pub mod Place
 pub mod Statuses
 pub mod Reading

@@ -2,10 +2,9 @@
 use Rattle.std.specs.Prelude.{◌≡◌, ◌≤◌, ℕ, Bool, List, Option}
 use Rattle.at_authority.specs.Panels.{Panel}
 use Rattle.relay_disk.specs.Disk.{View}
-use Rattle.relay_step.specs.Around.{Around}
+use Rattle.relay_step.specs.Around.{Around, SameAsked, around_of}
 use Rattle.relay_store.specs.Pairs.{of_pair}
 use Rattle.gate_log.specs.declared.picking.Side.{Side}
-use Rattle.run_base.specs.declared.asked.Asked.{Asked}
 use Rattle.run_base.specs.declared.outside.Outside.{Outside}
 use Rattle.run_base.specs.declared.pair.Pair.{Pair}
 
@@ -96,14 +95,6 @@ with_feed n p = record p {
 abbrev pub disk_of : {D : Type 0} → Side → Pair D → D
 disk_of side p = of_pair side p.one.now p.two.now
 
-abbrev pub around_of : {P R C : Type 0} → (P → Panel) → (C → List ℕ)
-    → (R → List ℕ → Option (List ℕ)) → Asked P R C → Around
-around_of panel moments repository a = record {
-  panel = panel a.judges.now;
-  moments = moments a.clock.now;
-  repository = repository a.repos.now;
-}
-
 abbrev pub faults_of : {D P R C O : Type 0} → (D → View) → (R → ℕ) → (C → ℕ) → (O → ℕ)
     → Outside D P R C O → Faults
 faults_of view repos clock output o = counts
@@ -132,12 +123,6 @@ rests_of side old new = disk_of side new.pair ≡ disk_of side old.pair
 pub record SamePair {D : Type 0} (old new : Pair D) : Type 0 where
   pub one : new.one.ghost_name ≡ old.one.ghost_name
   pub two : new.two.ghost_name ≡ old.two.ghost_name
-
--- the same who are asked
-pub record SameAsked {P R C : Type 0} (old new : Asked P R C) : Type 0 where
-  pub judges : new.judges.ghost_name ≡ old.judges.ghost_name
-  pub repos : new.repos.ghost_name ≡ old.repos.ghost_name
-  pub clock : new.clock.ghost_name ≡ old.clock.ghost_name
 
 -- The same parts, none of which has a lower count of failures.
 pub record IsLater {D P R C O : Type 0} (faults : Outside D P R C O → Faults)

@@ -6,20 +6,21 @@ ghost use Rattle.at_syntax.specs.Did.{is_did};
 ghost use Rattle.gate_log.specs.Pick.{other_side, view_of_side};
 ghost use Rattle.relay_row.specs.declared.row.Row.{Row as TheRow};
 ghost use Rattle.relay_step.specs.Asked.{AskedInVain};
+ghost use Rattle.relay_step.specs.Around.{SameAsked, around_of};
 ghost use Rattle.relay_step.specs.Causes.{CameToNothing, OneTaken, SpendsNone};
 ghost use Rattle.relay_step.specs.Commands.{EndsBehind, EndsFetched, OperatedAt, SpentFetching, SyncedAt};
 ghost use Rattle.store_take.specs.Commands.{CommandDone, IsOfOperating};
 ghost use Rattle.relay_store.specs.Store.{IsKept, IsOf, seen_in};
 ghost use Rattle.relay_store.specs.declared.fault.StoreFault.{StoreFault as TheFault};
-ghost use Rattle.run_base.specs.Counts.{Counted, CountedPair};
-ghost use Rattle.run_base.specs.Place.{SameAsked, SamePair, around_of, disk_of};
+ghost use Rattle.at_cid.specs.Counts.{Counted, CountedPair};
+ghost use Rattle.run_base.specs.Place.{SamePair, disk_of};
 
-use crate::asked::Asked;
 use crate::pair::Pair;
 use at_authority::Judges;
 use gate_log::Side;
 use relay_disk::Disk;
 use relay_io::{Clock, Repos};
+use relay_step::Asked;
 use relay_store::{Store, StoreFault};
 use std::alloc::Global;
 use store_take::{Done, operate, sync_now};
@@ -118,26 +119,8 @@ impl<D: Disk> Pair<'_, '_, D> {
         ensures same_asked { SameAsked asked.old asked.new }
     {
         match store.side() {
-            Side::One => sync_now(
-                store,
-                alloc,
-                self.one,
-                did,
-                time,
-                asked.judges,
-                asked.repos,
-                asked.clock,
-            ),
-            Side::Two => sync_now(
-                store,
-                alloc,
-                self.two,
-                did,
-                time,
-                asked.judges,
-                asked.repos,
-                asked.clock,
-            ),
+            Side::One => sync_now(store, alloc, self.one, did, time, asked),
+            Side::Two => sync_now(store, alloc, self.two, did, time, asked),
         }
     }
 }

@@ -10,7 +10,7 @@ ghost use Rattle.relay_store.specs.Journals.{IsPairImageOf};
 ghost use Rattle.store_cut.specs.Rewriting.{IsOfRewriting};
 ghost use Rattle.relay_store.specs.Store.{IsKept, Keeps, seen_in};
 ghost use Rattle.relay_store.specs.declared.fault.StoreFault.{StoreFault as TheFault};
-ghost use Rattle.run_base.specs.Counts.{CountedPair};
+ghost use Rattle.at_cid.specs.Counts.{CountedPair};
 ghost use Rattle.run_base.specs.Cutting.{CutCame};
 ghost use Rattle.run_base.specs.Place.{SamePair};
 

@@ -5,7 +5,7 @@ ghost use Rattle.gate_log.specs.declared.limits.TheConstants.{LAST_END};
 ghost use Rattle.relay_store.specs.Journals.{IsBadPairJournalAt};
 ghost use Rattle.relay_store.specs.Opening.{IsOfReading, Opened};
 ghost use Rattle.relay_store.specs.declared.fault.StoreFault.{StoreFault as TheFault};
-ghost use Rattle.run_base.specs.Counts.{CountedPair};
+ghost use Rattle.at_cid.specs.Counts.{CountedPair};
 ghost use Rattle.run_base.specs.Place.{SamePair};
 
 use crate::pair::Pair;

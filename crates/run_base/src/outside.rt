@@ -1,7 +1,7 @@
 //! All that a command on a journal may use.
 
-use crate::asked::Asked;
 use crate::pair::Pair;
+use relay_step::Asked;
 
 /// The disks, who is asked, and the output.
 #[derive(Drop)]

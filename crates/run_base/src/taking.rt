@@ -5,19 +5,20 @@ ghost use Rattle.at_authority.specs.Panels.{IsSpent};
 ghost use Rattle.gate_log.specs.Pick.{other_side, view_of_side};
 ghost use Rattle.relay_row.specs.declared.limits.TheConstants.{MOST_ROWS};
 ghost use Rattle.relay_row.specs.declared.row.Row.{Row as TheRow};
+ghost use Rattle.relay_step.specs.Around.{SameAsked, around_of};
 ghost use Rattle.relay_step.specs.Causes.{SpendsNone};
 ghost use Rattle.store_take.specs.Batches.{Batched, DiskFailed, HasEnd, scene};
 ghost use Rattle.relay_store.specs.Store.{IsKept, IsOf, seen_in};
 ghost use Rattle.store_take.specs.Taking.{AreOfHosts};
-ghost use Rattle.run_base.specs.Counts.{CountedBut, CountedPair};
-ghost use Rattle.run_base.specs.Place.{SameAsked, SamePair, around_of, disk_of};
+ghost use Rattle.at_cid.specs.Counts.{CountedPair, CountedBut};
+ghost use Rattle.run_base.specs.Place.{SamePair, disk_of};
 
-use crate::asked::Asked;
 use crate::pair::Pair;
 use at_authority::Judges;
 use gate_log::Side;
 use relay_disk::Disk;
 use relay_io::{Clock, Repos};
+use relay_step::Asked;
 use relay_store::{Store, StoreFault};
 use std::alloc::Global;
 use store_take::{Batch, Message, take_all};
@@ -91,24 +92,8 @@ impl<D: Disk> Pair<'_, '_, D> {
         ensures same_asked { SameAsked asked.old asked.new }
     {
         match store.side() {
-            Side::One => take_all(
-                store,
-                alloc,
-                self.one,
-                group,
-                asked.judges,
-                asked.repos,
-                asked.clock,
-            ),
-            Side::Two => take_all(
-                store,
-                alloc,
-                self.two,
-                group,
-                asked.judges,
-                asked.repos,
-                asked.clock,
-            ),
+            Side::One => take_all(store, alloc, self.one, group, asked),
+            Side::Two => take_all(store, alloc, self.two, group, asked),
         }
     }
 }

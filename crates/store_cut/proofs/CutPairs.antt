@@ -153,3 +153,13 @@ few_is f (inr is) = subst IsOfRewriting (sym is) tt
 pub on_err_at : {T E P : Type 0} (r : Result T E) (f : E) → r ≡ Err f → OnErr r P → P
 on_err_at (Ok x) f is h = absurd cc
 on_err_at (Err e) f is h = h
+
+-- where the log holds the bodies that it held, the store keeps its journal
+pub still_keeps : (J : List Row) (s : StoreState) (v w : View) → Keeps J s v → ((bodies : List (List ℕ)) → HasBodies bodies s.log v → HasBodies bodies s.log w) → Keeps J s w
+still_keeps J s v w keeps holds = record {
+  bodies = keeps.bodies;
+  are = keeps.are;
+  holds = holds (bytes_of keeps.bodies) keeps.holds;
+  core = keeps.core;
+  window = keeps.window;
+}

@@ -1,4 +1,5 @@
 pub mod Shorts
+pub mod Counting
 pub mod Rewritten
 pub mod CutFronts
 pub mod Carried

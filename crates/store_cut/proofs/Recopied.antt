@@ -4,7 +4,8 @@ use Rattle.std.specs.List.{list_all}
 use Rattle.std.proofs.lemmas.Bool.{cases_lt}
 use Rattle.std.proofs.lemmas.List.{append-nil, drop_all}
 use Rattle.relay_disk.specs.Disk.{View, Goes, Same}
-use Rattle.gate_log.specs.Image.{made, records, behind_gate}
+use Rattle.gate_log.specs.Image.{made, records}
+use Rattle.at_cid.specs.Lengths.{length_prefixed}
 use Rattle.gate_log.specs.Log.{LogState, IsOn}
 use Rattle.gate_log.specs.Log.{HoldsBodies as HasBodies}
 use Rattle.gate_log.specs.declared.format.Format.{Format}
@@ -45,7 +46,7 @@ module _ (format : Format) (done rest : List (List Row)) (place : ℕ) (here : p
 
   pub next_there : (there : List Row) (next : ℕ) → next ≡ place + BEFORE_BODY + length (rows_body there) → next ≡ length (made format (bytes_of (done ++ there ∷ [])))
   next_there there next is =
-      omega (arith, is, here, ap (λ (bs : List (List ℕ)). length (made format bs)) (bytes_push done there), ap length (made-push format (bytes_of done) (rows_body there)), length-append (made format (bytes_of done)) (1 ∷ behind_gate (rows_body there)))
+      omega (arith, is, here, ap (λ (bs : List (List ℕ)). length (made format bs)) (bytes_push done there), ap length (made-push format (bytes_of done) (rows_body there)), length-append (made format (bytes_of done)) (1 ∷ length_prefixed (rows_body there)))
 
 pub split_more : (all done rest : List (List Row)) (there : List Row) (more : List (List Row)) → all ≡ done ++ rest → rest ≡ there ∷ more → all ≡ (done ++ there ∷ []) ++ more
 split_more all done rest there more split is = split ∙ ap (λ (bs : List (List Row)). done ++ bs) is ∙ sym (append_assoc done (there ∷ []) more)

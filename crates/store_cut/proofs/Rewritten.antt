@@ -7,7 +7,8 @@ use Rattle.relay_disk.specs.Disk.{View, IsDisk}
 use Rattle.relay_disk.specs.Moments.{LeavesOnly}
 use Rattle.relay_disk.proofs.Moments.{joined as run_on, no_call}
 use Rattle.gate_log.specs.Build.{BuildState, HasBuilt, IsBuiltOn, IsClosed}
-use Rattle.gate_log.specs.Image.{made, records, behind_gate}
+use Rattle.gate_log.specs.Image.{made, records}
+use Rattle.at_cid.specs.Lengths.{length_prefixed}
 use Rattle.gate_log.specs.declared.fault.LogFault.{LogFault}
 use Rattle.gate_log.specs.declared.format.Format.{Format}
 use Rattle.gate_log.specs.declared.limits.TheConstants.{AROUND_BODY, BEFORE_BODY}
@@ -58,7 +59,7 @@ made_end format before rows end here =
     omega (arith, here, ap (λ (bs : List (List ℕ)). length (made format bs)) (bytes_joined before (singles rows)), length_made format (bytes_of before) (bytes_of (singles rows)))
 
 one_end : (end : ℕ) (row : Row) → end_behind end (row ∷ []) ≡ end + BEFORE_BODY + length (rows_body (row ∷ []))
-one_end end row = omega (arith, ap length (append-nil (behind_gate (rows_body (row ∷ [])))))
+one_end end row = omega (arith, ap length (append-nil (length_prefixed (rows_body (row ∷ [])))))
 
 module _ (tells : Bool) where
   pub copied_none : (r : Rewrite) (v : View) → IsDisk v → (IsTrue tells → IsBuiltOn v r.build) → IsCopied tells [] r r v v

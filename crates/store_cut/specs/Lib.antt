@@ -1,3 +1,4 @@
 pub mod Rereading
 pub mod Rewriting
 pub mod Cutting
+pub mod Anew

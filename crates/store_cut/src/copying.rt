@@ -1,17 +1,16 @@
 //! Copying the rows behind a place of a log into one that is being built.
 
-ghost use Rattle.std.specs.Prelude.{◌≡◌, ◌≢◌, ◌≤◌, ◌<◌, ◌+◌, ◌⊎◌, ◌++◌, ◌∷◌, ℕ, List, length, drop, IsTrue, OnOk, OnErr};
-ghost use Rattle.at_cid.specs.Counts.{Rose};
+ghost use Rattle.std.specs.Prelude.{◌≡◌, ◌+◌, ◌++◌, ℕ, List, drop, Err, IsTrue, OnOk};
+ghost use Rattle.at_cid.specs.Counts.{CountedPair};
 ghost use Rattle.relay_disk.specs.Disk.{Goes, Same};
 ghost use Rattle.relay_disk.specs.Moments.{LeavesOnly};
-ghost use Rattle.gate_log.specs.Image.{made};
-ghost use Rattle.gate_log.specs.Log.{HoldsBodies as HasBodies, IsOn};
+ghost use Rattle.gate_log.specs.Log.{IsOn};
 ghost use Rattle.gate_log.specs.Build.{IsBuiltOn, IsClosed};
 ghost use Rattle.relay_row.specs.Journal.{IsJournal};
 ghost use Rattle.relay_row.specs.declared.row.Row.{Row as TheRow};
 ghost use Rattle.relay_core.specs.Entries.{Holds};
-ghost use Rattle.relay_store.specs.Journals.{AllBodies, bytes_of, joined};
-ghost use Rattle.store_cut.specs.Rereading.{IsOfSome};
+ghost use Rattle.relay_store.specs.Journals.{joined};
+ghost use Rattle.store_cut.specs.Rereading.{IsOfSome, OfBodiesFrom, OfBodyAt, StillHolds};
 ghost use Rattle.store_cut.specs.Rewriting.{CopiedAs, RewriteHasNoRoom, IsOfRewriting};
 ghost use Rattle.relay_store.specs.declared.fault.StoreFault.{StoreFault as TheFault};
 
@@ -35,35 +34,22 @@ fn copy_bodies<D: Disk>(
 ) -> Result<(), StoreFault>
     requires log { IsTrue D.tells → IsOn (D.view disk.old) log.now }
     requires build { IsTrue D.tells → IsBuiltOn (D.view other.old) rewrite.old.build }
-    ensures copied { OnOk result (CopiedAs D.tells (λ rows. IsTrue D.tells
-        → (before after : List (List TheRow)) → AllBodies (before ++ after)
-        → HasBodies (bytes_of (before ++ after)) log.now (D.view disk.old)
-        → from ≡ length (made log.now.format (bytes_of before)) → rows ≡ joined after)
+    ensures copied { OnOk result (CopiedAs D.tells (λ rows.
+        OfBodiesFrom D.tells log.now (D.view disk.old) from (λ before after. rows ≡ joined after))
         rewrite.old rewrite.new (D.view other.old) (D.view other.new)) }
     ensures known { OnOk result (IsOfSome rewrite.old.core → IsOfSome rewrite.new.core) }
-    ensures full { (e : ℕ) → result ≡ Err (StoreFault.Full e) → IsTrue D.tells
-        → (before after : List (List TheRow)) → AllBodies (before ++ after)
-        → HasBodies (bytes_of (before ++ after)) log.now (D.view disk.old)
-        → from ≡ length (made log.now.format (bytes_of before))
-        → RewriteHasNoRoom rewrite.old.build.end rewrite.old.build.most (joined after) e }
-    ensures no_bad_log { (p : ℕ) → result ≡ Err (StoreFault.BadLog p) → IsTrue D.tells
-        → (before after : List (List TheRow)) → AllBodies (before ++ after)
-        → HasBodies (bytes_of (before ++ after)) log.now (D.view disk.old)
-        → from ≡ length (made log.now.format (bytes_of before))
-        → (J : List TheRow) → Holds rewrite.old.core J → IsJournal (J ++ joined after) → ⊥ }
+    ensures full { (e : ℕ) → result ≡ Err (StoreFault.Full e)
+        → OfBodiesFrom D.tells log.now (D.view disk.old) from (λ before after.
+        RewriteHasNoRoom rewrite.old.build.end rewrite.old.build.most (joined after) e) }
+    ensures no_bad_log { (p : ℕ) → result ≡ Err (StoreFault.BadLog p)
+        → OfBodiesFrom D.tells log.now (D.view disk.old) from (λ before after.
+        (J : List TheRow) → Holds rewrite.old.core J → IsJournal (J ++ joined after) → ⊥) }
     ensures run { IsTrue D.tells → LeavesOnly IsClosed (D.view other.old) (D.view other.new) }
     ensures goes { Goes Same (D.view disk.old) (D.view disk.new) }
-    ensures holds { IsTrue D.tells → (bodies : List (List ℕ))
-        → HasBodies bodies log.now (D.view disk.old) → HasBodies bodies log.now (D.view disk.new) }
-    ensures disk { result ≡ Err StoreFault.Disk
-        → Rose (D.view disk.old).faults (D.view disk.new).faults
-        ⊎ Rose (D.view other.old).faults (D.view other.new).faults }
-    ensures steady { OnOk result (((D.view disk.new).faults ≡ (D.view disk.old).faults)
-        × ((D.view other.new).faults ≡ (D.view other.old).faults)) }
-    ensures no_fault { OnErr result (result ≢ Err StoreFault.Disk
-        → ((D.view disk.new).faults ≡ (D.view disk.old).faults)
-        × ((D.view other.new).faults ≡ (D.view other.old).faults)) }
-    ensures counts { (D.view other.old).faults ≤ (D.view other.new).faults }
+    ensures holds { StillHolds D.tells log.now (D.view disk.old) (D.view disk.new) }
+    ensures counts { CountedPair (result ≡ Err StoreFault.Disk)
+        (D.view disk.old).faults (D.view other.old).faults
+        (D.view disk.new).faults (D.view other.new).faults }
     ensures few { (f : TheFault) → result ≡ Err f → IsOfRewriting f }
 {
     let mut place = from;
@@ -86,41 +72,25 @@ pub(crate) fn copy_behind<D: Disk>(
 ) -> Result<(), StoreFault>
     requires log { IsTrue D.tells → IsOn (D.view disk.old) log.now }
     requires build { IsTrue D.tells → IsBuiltOn (D.view other.old) rewrite.old.build }
-    ensures copied { OnOk result (CopiedAs D.tells (λ rows. IsTrue D.tells
-        → (before : List (List TheRow)) (there : List TheRow) (after : List (List TheRow))
-        → AllBodies (before ++ there ∷ after)
-        → HasBodies (bytes_of (before ++ there ∷ after)) log.now (D.view disk.old)
-        → last.place ≡ length (made log.now.format (bytes_of before))
-        → rows ≡ drop (last.index + 1) there ++ joined after)
+    ensures copied { OnOk result (CopiedAs D.tells (λ rows.
+        OfBodyAt D.tells log.now (D.view disk.old) last.place (λ before there after.
+        rows ≡ drop (last.index + 1) there ++ joined after))
         rewrite.old rewrite.new (D.view other.old) (D.view other.new)) }
     ensures known { OnOk result (IsOfSome rewrite.old.core → IsOfSome rewrite.new.core) }
-    ensures full { (e : ℕ) → result ≡ Err (StoreFault.Full e) → IsTrue D.tells
-        → (before : List (List TheRow)) (there : List TheRow) (after : List (List TheRow))
-        → AllBodies (before ++ there ∷ after)
-        → HasBodies (bytes_of (before ++ there ∷ after)) log.now (D.view disk.old)
-        → last.place ≡ length (made log.now.format (bytes_of before))
-        → RewriteHasNoRoom rewrite.old.build.end rewrite.old.build.most
-        (drop (last.index + 1) there ++ joined after) e }
-    ensures no_bad_log { (p : ℕ) → result ≡ Err (StoreFault.BadLog p) → IsTrue D.tells
-        → (before : List (List TheRow)) (there : List TheRow) (after : List (List TheRow))
-        → AllBodies (before ++ there ∷ after)
-        → HasBodies (bytes_of (before ++ there ∷ after)) log.now (D.view disk.old)
-        → last.place ≡ length (made log.now.format (bytes_of before))
-        → (J : List TheRow) → Holds rewrite.old.core J
-        → IsJournal (J ++ (drop (last.index + 1) there ++ joined after)) → ⊥ }
+    ensures full { (e : ℕ) → result ≡ Err (StoreFault.Full e)
+        → OfBodyAt D.tells log.now (D.view disk.old) last.place (λ before there after.
+        RewriteHasNoRoom rewrite.old.build.end rewrite.old.build.most
+        (drop (last.index + 1) there ++ joined after) e) }
+    ensures no_bad_log { (p : ℕ) → result ≡ Err (StoreFault.BadLog p)
+        → OfBodyAt D.tells log.now (D.view disk.old) last.place (λ before there after.
+        (J : List TheRow) → Holds rewrite.old.core J
+        → IsJournal (J ++ (drop (last.index + 1) there ++ joined after)) → ⊥) }
     ensures run { IsTrue D.tells → LeavesOnly IsClosed (D.view other.old) (D.view other.new) }
     ensures goes { Goes Same (D.view disk.old) (D.view disk.new) }
-    ensures holds { IsTrue D.tells → (bodies : List (List ℕ))
-        → HasBodies bodies log.now (D.view disk.old) → HasBodies bodies log.now (D.view disk.new) }
-    ensures disk { result ≡ Err StoreFault.Disk
-        → Rose (D.view disk.old).faults (D.view disk.new).faults
-        ⊎ Rose (D.view other.old).faults (D.view other.new).faults }
-    ensures steady { OnOk result (((D.view disk.new).faults ≡ (D.view disk.old).faults)
-        × ((D.view other.new).faults ≡ (D.view other.old).faults)) }
-    ensures no_fault { OnErr result (result ≢ Err StoreFault.Disk
-        → ((D.view disk.new).faults ≡ (D.view disk.old).faults)
-        × ((D.view other.new).faults ≡ (D.view other.old).faults)) }
-    ensures counts { (D.view other.old).faults ≤ (D.view other.new).faults }
+    ensures holds { StillHolds D.tells log.now (D.view disk.old) (D.view disk.new) }
+    ensures counts { CountedPair (result ≡ Err StoreFault.Disk)
+        (D.view disk.old).faults (D.view other.old).faults
+        (D.view disk.new).faults (D.view other.new).faults }
     ensures few { (f : TheFault) → result ≡ Err f → IsOfRewriting f }
 {
     let mut room = Vec::new(alloc);

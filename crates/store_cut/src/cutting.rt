@@ -1,11 +1,10 @@
 //! Cutting a store's journal.
 
-ghost use Rattle.std.specs.Prelude.{◌≡◌, ◌≢◌, ◌≤◌, ◌<◌, ◌+◌, ◌⊎◌, ◌++◌, ◌∷◌, [], ℕ, List, length, map, true, false, IsTrue, IfOk, OnOk, OnErr};
-ghost use Rattle.at_cid.specs.Counts.{Rose};
+ghost use Rattle.std.specs.Prelude.{◌≡◌, ◌≢◌, ◌≤◌, ◌<◌, ◌+◌, ◌⊎◌, [], ℕ, List, length, true, false, IsTrue, IfOk, OnOk, OnErr};
+ghost use Rattle.at_cid.specs.Counts.{CountedPair, Rose};
 ghost use Rattle.at_event.specs.declared.refusal.Refusal.{Refusal as TheRefusal};
 ghost use Rattle.event_window.specs.Held.{oldest_of};
 ghost use Rattle.event_window.specs.Window.{IsLastUpto};
-ghost use Rattle.event_window.specs.declared.place.Place.{Place as ThePlace};
 ghost use Rattle.relay_disk.specs.Disk.{Goes, Same};
 ghost use Rattle.relay_disk.specs.Moments.{LeavesOnly, PairLeavesOnly, TimeGoesOn};
 ghost use Rattle.gate_log.specs.Image.{front, generation};
@@ -18,13 +17,13 @@ ghost use Rattle.relay_row.specs.Folds.{last_seq};
 ghost use Rattle.relay_row.specs.declared.row.Row.{Row as TheRow};
 ghost use Rattle.relay_core.specs.Entries.{Holds};
 ghost use Rattle.cut_law.specs.Cut.{MayCut, cut};
-ghost use Rattle.store_cut.specs.Cutting.{IsEitherBeside, IsUncut, kept_above};
+ghost use Rattle.store_cut.specs.Cutting.{IsEitherBeside, IsUncut};
+ghost use Rattle.store_cut.specs.Anew.{CutHasNoRoom, HasKept, IsAnew, LeavesEither, OfCut, next_format};
 ghost use Rattle.relay_store.specs.Journals.{bytes_of};
-ghost use Rattle.store_cut.specs.Rereading.{IsOfSomeCut};
+ghost use Rattle.store_cut.specs.Rereading.{IsOfSomeCut, StillHolds};
 ghost use Rattle.store_cut.specs.Rewriting.{CopiedAs, RewriteHasNoRoom, IsOfRewriting, singles};
 ghost use Rattle.relay_store.specs.Shown.{held_by};
-ghost use Rattle.relay_store.specs.Store.{IsKept, Keeps, seen, seen_in};
-ghost use Rattle.store_cut.specs.declared.cutting.CutDone.{CutDone as TheDone};
+ghost use Rattle.relay_store.specs.Store.{IsKept, Keeps, seen_in};
 ghost use Rattle.relay_store.specs.declared.fault.StoreFault.{StoreFault as TheFault};
 
 use crate::carrying::carry;
@@ -115,34 +114,22 @@ fn fill<D: Disk>(
 ) -> Result<(), StoreFault>
     requires on { IsTrue D.tells → IsOn (D.view disk.old) store.now.log }
     requires build { IsTrue D.tells → IsBuiltOn (D.view other.old) rewrite.old.build }
-    ensures copied { OnOk result (CopiedAs D.tells (λ rows. IsTrue D.tells
-        → (J : List TheRow) (c : ℕ) → Keeps J (seen_in store.now) (D.view disk.old)
-        → IsLastUpto c last store.now.window.places
-        → rows ≡ cut J c) rewrite.old rewrite.new (D.view other.old) (D.view other.new)) }
+    ensures copied { OnOk result (CopiedAs D.tells (λ rows.
+        OfCut D.tells (seen_in store.now) (D.view disk.old) last (λ J c. rows ≡ cut J c))
+        rewrite.old rewrite.new (D.view other.old) (D.view other.new)) }
     ensures known { OnOk result (Holds rewrite.old.core [] → IsOfSomeCut rewrite.new.core) }
-    ensures full { (e : ℕ) → result ≡ Err (StoreFault.Full e) → IsTrue D.tells
-        → (J : List TheRow) (c : ℕ) → Keeps J (seen_in store.now) (D.view disk.old)
-        → IsLastUpto c last store.now.window.places
-        → RewriteHasNoRoom rewrite.old.build.end rewrite.old.build.most (cut J c) e }
-    ensures no_bad_log { (p : ℕ) → result ≡ Err (StoreFault.BadLog p) → IsTrue D.tells
-        → (J : List TheRow) (c : ℕ)
-        → Keeps J (seen_in store.now) (D.view disk.old)
-        → IsLastUpto c last store.now.window.places → c ≤ last_seq J
-        → Holds rewrite.old.core [] → ⊥ }
+    ensures full { (e : ℕ) → result ≡ Err (StoreFault.Full e)
+        → OfCut D.tells (seen_in store.now) (D.view disk.old) last (λ J c.
+        RewriteHasNoRoom rewrite.old.build.end rewrite.old.build.most (cut J c) e) }
+    ensures no_bad_log { (p : ℕ) → result ≡ Err (StoreFault.BadLog p)
+        → OfCut D.tells (seen_in store.now) (D.view disk.old) last (λ J c. c ≤ last_seq J
+        → Holds rewrite.old.core [] → ⊥) }
     ensures run { IsTrue D.tells → LeavesOnly IsClosed (D.view other.old) (D.view other.new) }
     ensures goes { Goes Same (D.view disk.old) (D.view disk.new) }
-    ensures holds { IsTrue D.tells → (bodies : List (List ℕ))
-        → HasBodies bodies store.now.log (D.view disk.old)
-        → HasBodies bodies store.now.log (D.view disk.new) }
-    ensures disk { result ≡ Err StoreFault.Disk
-        → Rose (D.view disk.old).faults (D.view disk.new).faults
-        ⊎ Rose (D.view other.old).faults (D.view other.new).faults }
-    ensures steady { OnOk result (((D.view disk.new).faults ≡ (D.view disk.old).faults)
-        × ((D.view other.new).faults ≡ (D.view other.old).faults)) }
-    ensures no_fault { OnErr result (result ≢ Err StoreFault.Disk
-        → ((D.view disk.new).faults ≡ (D.view disk.old).faults)
-        × ((D.view other.new).faults ≡ (D.view other.old).faults)) }
-    ensures counts { (D.view other.old).faults ≤ (D.view other.new).faults }
+    ensures holds { StillHolds D.tells store.now.log (D.view disk.old) (D.view disk.new) }
+    ensures counts { CountedPair (result ≡ Err StoreFault.Disk)
+        (D.view disk.old).faults (D.view other.old).faults
+        (D.view disk.new).faults (D.view other.new).faults }
     ensures few { (f : TheFault) → result ≡ Err f → IsOfRewriting f }
 {
     let front = fold_upto(alloc, &store.log, disk, last)?;
@@ -152,14 +139,10 @@ fn fill<D: Disk>(
 
 // Whether what was written anew has the last number that was kept, and of the events' those that are above a number.
 fn has_kept(store: &Store, seq: u64, rewrite: &Rewrite) -> bool
-    ensures kept { result ≡ true →
-        (map (λ (p : ThePlace). p.seq) rewrite.now.window.places
-        ≡ kept_above seq store.now.window.places)
-        × (rewrite.now.core.last ≡ store.now.core.last) }
-    ensures lost { result ≡ false →
-        (map (λ (p : ThePlace). p.seq) rewrite.now.window.places
-        ≡ kept_above seq store.now.window.places)
-        × (rewrite.now.core.last ≡ store.now.core.last) → ⊥ }
+    ensures kept { result ≡ true
+        → HasKept seq (seen_in store.now) rewrite.now.core rewrite.now.window.places }
+    ensures lost { result ≡ false
+        → HasKept seq (seen_in store.now) rewrite.now.core rewrite.now.window.places → ⊥ }
 {
     rewrite.core.last_seq() == store.core.last_seq()
         && have_kept(rewrite.window.as_slice(), seq, store.window.as_slice())
@@ -176,63 +159,24 @@ fn write_anew<D: Disk>(
 ) -> Result<Anew, StoreFault>
     requires on { IsTrue D.tells → IsOn (D.view disk.old) store.now.log }
     requires generation { generation store.now.log.format + 1 < NUMBERS }
-    ensures log { IfOk result (λ anew.
-        (anew.log.format ≡ Format.Two (generation store.now.log.format + 1))
-        × (anew.log.most ≡ store.now.log.most)
-        × IsTrue anew.log.is_open) }
-    ensures room { IfOk result (λ anew. IsTrue D.tells → (J : List TheRow) (c : ℕ)
-        → Keeps J (seen_in store.now) (D.view disk.old)
-        → IsLastUpto c last store.now.window.places → anew.log.end < anew.log.most) }
-    ensures bodies { IfOk result (λ anew. IsTrue D.tells → (J : List TheRow) (c : ℕ)
-        → Keeps J (seen_in store.now) (D.view disk.old)
-        → IsLastUpto c last store.now.window.places
-        → HasBodies (bytes_of (singles (cut J c))) anew.log (D.view other.new)) }
-    ensures known { IfOk result (λ anew. IsOfSomeCut anew.core) }
-    ensures numbers { IfOk result (λ anew.
-        (map (λ (p : ThePlace). p.seq) anew.window.places
-        ≡ kept_above seq store.now.window.places)
-        × (anew.core.last ≡ store.now.core.last)) }
-    ensures keeps { IfOk result (λ anew. IsTrue D.tells → (J : List TheRow) (c : ℕ)
-        → Keeps J (seen_in store.now) (D.view disk.old)
-        → IsLastUpto c last store.now.window.places → c ≤ last_seq J → (side : Side)
-        → Keeps (cut J c) (seen anew.log side anew.core anew.window.places)
-        (D.view other.new)) }
-    ensures moments { IsTrue D.tells → (J : List TheRow) (c : ℕ)
-        → Keeps J (seen_in store.now) (D.view disk.old)
-        → IsLastUpto c last store.now.window.places → c ≤ last_seq J → (side : Side)
-        → LeavesLive side (D.view disk.old) (D.view other.old)
-        → PairLeavesOnly (IsEitherBeside side J (cut J c)) (D.view disk.old) (D.view disk.new)
-        (D.view other.old) (D.view other.new) }
-    ensures time { IsTrue D.tells → TimeGoesOn (D.view other.old) (D.view other.new) }
+    ensures anew { IfOk result (λ anew. IsAnew D.tells (seen_in store.now) (D.view disk.old) last
+        seq anew (D.view other.new)) }
+    ensures leaves { LeavesEither D.tells (seen_in store.now) last
+        (D.view disk.old) (D.view disk.new) (D.view other.old) (D.view other.new) }
     ensures live { OnOk result (IsTrue D.tells → (side : Side)
         → LeavesLive (other_side side) (D.view other.new) (D.view disk.new)) }
     ensures as_before { OnErr result (result ≢ Err StoreFault.Disk → IsTrue D.tells
-        → (side : Side)
-        → LeavesLive side (D.view disk.old) (D.view other.old)
+        → (side : Side) → LeavesLive side (D.view disk.old) (D.view other.old)
         → LeavesLive side (D.view disk.new) (D.view other.new)) }
-    ensures goes { Goes Same (D.view disk.old) (D.view disk.new) }
-    ensures holds { IsTrue D.tells → (bodies : List (List ℕ))
-        → HasBodies bodies store.now.log (D.view disk.old)
-        → HasBodies bodies store.now.log (D.view disk.new) }
-    ensures full { (e : ℕ) → result ≡ Err (StoreFault.Full e) → IsTrue D.tells
-        → (J : List TheRow) (c : ℕ) → Keeps J (seen_in store.now) (D.view disk.old)
-        → IsLastUpto c last store.now.window.places
-        → RewriteHasNoRoom (length
-        (front (Format.Two (generation store.now.log.format + 1)))) store.now.log.most
-        (cut J c) e }
+    ensures full { (e : ℕ) → result ≡ Err (StoreFault.Full e)
+        → OfCut D.tells (seen_in store.now) (D.view disk.old) last (λ J c.
+        CutHasNoRoom (seen_in store.now) J c e) }
     ensures no_bad_log { (p : ℕ) → result ≡ Err (StoreFault.BadLog p) → IsTrue D.tells
-        → (J : List TheRow)
-        → Keeps J (seen_in store.now) (D.view disk.old)
+        → (J : List TheRow) → Keeps J (seen_in store.now) (D.view disk.old)
         → IsLastUpto seq last store.now.window.places → seq ≤ last_seq J → ⊥ }
-    ensures disk { result ≡ Err StoreFault.Disk
-        → Rose (D.view disk.old).faults (D.view disk.new).faults
-        ⊎ Rose (D.view other.old).faults (D.view other.new).faults }
-    ensures steady { OnOk result (((D.view disk.new).faults ≡ (D.view disk.old).faults)
-        × ((D.view other.new).faults ≡ (D.view other.old).faults)) }
-    ensures no_fault { OnErr result (result ≢ Err StoreFault.Disk
-        → ((D.view disk.new).faults ≡ (D.view disk.old).faults)
-        × ((D.view other.new).faults ≡ (D.view other.old).faults)) }
-    ensures counts { (D.view other.old).faults ≤ (D.view other.new).faults }
+    ensures counts { CountedPair (result ≡ Err StoreFault.Disk)
+        (D.view disk.old).faults (D.view other.old).faults
+        (D.view disk.new).faults (D.view other.new).faults }
     ensures few { (f : TheFault) → result ≡ Err f → IsOfRewriting f }
 {
     let mut rewrite = begin(alloc, &store.log, other)?;
@@ -303,12 +247,10 @@ pub fn cut<D: Disk>(
         → IsOfSomeCut store.new.core }
     // Of any disk: the events that are left have the numbers that were kept of them.
     ensures numbers { (oldest last : ℕ) → result ≡ Ok (CutDone.Cut oldest last)
-        → (map (λ (p : ThePlace). p.seq) store.new.window.places
-        ≡ kept_above seq store.old.window.places)
-        × (store.new.core.last ≡ store.old.core.last) }
+        → HasKept seq (seen_in store.old) store.new.core store.new.window.places }
     ensures anew { (oldest last : ℕ) → result ≡ Ok (CutDone.Cut oldest last)
         → (store.new.side ≡ other_side store.old.side)
-        × (store.new.log.format ≡ Format.Two (generation store.old.log.format + 1))
+        × (store.new.log.format ≡ next_format (seen_in store.old))
         × (store.new.log.most ≡ store.old.log.most) }
     ensures room { (oldest last : ℕ) → result ≡ Ok (CutDone.Cut oldest last) → IsTrue D.tells
         → store.new.log.end < store.new.log.most }
@@ -341,9 +283,7 @@ pub fn cut<D: Disk>(
     ensures counts { (D.view other.old).faults ≤ (D.view other.new).faults }
     ensures full { (e : ℕ) → result ≡ Err (StoreFault.Full e) → IsTrue D.tells
         → (J : List TheRow) → Keeps J (seen_in store.old) (D.view disk.old)
-        → RewriteHasNoRoom (length
-        (front (Format.Two (generation store.old.log.format + 1)))) store.old.log.most
-        (cut J seq) e }
+        → CutHasNoRoom (seen_in store.old) J seq e }
     ensures no_bad_log { (p : ℕ) → result ≡ Err (StoreFault.BadLog p) → IsTrue D.tells → ⊥ }
     ensures few { (f : TheFault) → result ≡ Err f → IsOfRewriting f }
 {

@@ -14,7 +14,7 @@ use Rattle.relay_row.specs.declared.row.Row.{Row}
 use Rattle.account_state.specs.Folds.{account, last_rev}
 use Rattle.relay_core.specs.Decide.{Found}
 use Rattle.relay_core.specs.Shown.{found_in, or_zero}
-use Rattle.relay_step.specs.Around.{Around, Asked, AskedNothing, AllAsked, IsTimed, SameRepositories}
+use Rattle.relay_step.specs.Around.{Around, OneAsked, AskedNothing, AllAsked, IsTimed, SameRepositories}
 use Rattle.relay_step.specs.Asked.{step_calls}
 use Rattle.relay_step.specs.Causes.{AskedInVainOf, CameToNothing}
 use Rattle.relay_step.specs.Fetching.{IsFetched, IsFetchedAs, IsFetchedTold, told_where}
@@ -51,7 +51,7 @@ fetched_from tells old mid J (skipped pass) calls same fetched = fetched
 fetched_from tells old mid J (recorded t) calls same fetched = fetched_for tells old mid J t.did t.refusal (or_zero t.moment) (found_in t.fetched) calls same fetched
 
 -- what was asked behind nothing
-asked_from : (clock_tells repos_tell : Bool) (J : List Row) (a b c : Around) (s : Step) → AskedNothing clock_tells repos_tell a b → Asked clock_tells repos_tell J b s c → Asked clock_tells repos_tell J a s c
+asked_from : (clock_tells repos_tell : Bool) (J : List Row) (a b c : Around) (s : Step) → AskedNothing clock_tells repos_tell a b → OneAsked clock_tells repos_tell J b s c → OneAsked clock_tells repos_tell J a s c
 asked_from clock_tells repos_tell J a b c s none asked = record {
   fetch = asked.fetch;
   fetched = fetched_from repos_tell a.repository b.repository J s.decided asked.fetch none.same asked.fetched;
@@ -75,7 +75,7 @@ all_joined clock_tells repos_tell J a b c (s ∷ steps) others one two = (
       (subst (λ (j : List Row). AllAsked clock_tells repos_tell j b others c) (sym (append_assoc J (rows_decided s.decided) (rows steps))) two),
 )
 
-pub all_one : (clock_tells repos_tell : Bool) (J : List Row) (a b c : Around) (steps : List Step) (s : Step) → AllAsked clock_tells repos_tell J a steps b → Asked clock_tells repos_tell (J ++ rows steps) b s c
+pub all_one : (clock_tells repos_tell : Bool) (J : List Row) (a b c : Around) (steps : List Step) (s : Step) → AllAsked clock_tells repos_tell J a steps b → OneAsked clock_tells repos_tell (J ++ rows steps) b s c
     → AllAsked clock_tells repos_tell J a (steps ++ s ∷ []) c
 all_one clock_tells repos_tell J a b c steps s one asked = all_joined clock_tells repos_tell J a b c steps (s ∷ []) one (c, asked, nothing_here clock_tells repos_tell c)
 

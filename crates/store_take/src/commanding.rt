@@ -1,6 +1,6 @@
 //! Operators' commands taken.
 
-ghost use Rattle.std.specs.Prelude.{◌≡◌, ◌≢◌, ◌≤◌, ◌<◌, ◌++◌, [], ⊤, List, length, false, Err, IsTrue, IfOk, IfErr, OnOk, OnErr};
+ghost use Rattle.std.specs.Prelude.{◌≡◌, ◌≢◌, ◌≤◌, ◌<◌, ◌++◌, [], List, length, false, Err, IsTrue, IfOk, IfErr, OnOk, OnErr};
 ghost use Rattle.at_cid.specs.Counts.{Rose};
 ghost use Rattle.at_syntax.specs.Did.{is_did};
 ghost use Rattle.at_form.specs.declared.forms.TheConstants.{LONGEST_SHORT_TEXT};
@@ -8,7 +8,7 @@ ghost use Rattle.gate_log.specs.declared.pending_bodies.TheConstants.{AHEAD};
 ghost use Rattle.relay_row.specs.Journal.{IsJournal};
 ghost use Rattle.relay_row.specs.declared.limits.TheConstants.{MOST_ROWS};
 ghost use Rattle.relay_row.specs.declared.row.Row.{Row as TheRow};
-ghost use Rattle.relay_step.specs.Around.{around};
+ghost use Rattle.relay_step.specs.Around.{SameAsked, around_of};
 ghost use Rattle.relay_step.specs.Asked.{AskedInVain};
 ghost use Rattle.relay_step.specs.Causes.{CameToNothing, OneTaken, SpendsNone};
 ghost use Rattle.relay_step.specs.Commands.{EndsBehind, EndsFetched, OperatedAt, SpentFetching, SyncedAt, rows_commanded};
@@ -29,7 +29,7 @@ use relay_core::Core;
 use relay_disk::Disk;
 use relay_io::{Clock, Repos};
 use relay_row::Row;
-use relay_step::CommandAnswer;
+use relay_step::{Asked, CommandAnswer};
 use relay_store::{Pending, Store, StoreFault};
 use std::alloc::Global;
 
@@ -167,56 +167,52 @@ pub fn sync_now<D: Disk, P: Judges, R: Repos, C: Clock>(
     disk: &mut D,
     did: &str,
     time: &str,
-    judges: &mut P,
-    repos: &mut R,
-    clock: &mut C,
+    asked: &mut Asked<P, R, C>,
 ) -> Result<Done, StoreFault>
     requires open { IsTrue store.old.log.is_open }
     requires on { IsTrue D.tells → IsKept (seen_in store.old) (D.view disk.old) }
     requires did { IsTrue (is_did did.now) }
     requires time { length time.now ≤ LONGEST_SHORT_TEXT }
-    ensures commanded { (J : List TheRow) → IsOf J store.old.core → CommandDone D.view D.tells J
-        (λ command. SyncedAt C.tells R.tells store.old.core did.now time.now
-        (around (P.panel judges.old) (C.moments clock.old) (R.repository repos.old)) command
-        (around (P.panel judges.new) (C.moments clock.new) (R.repository repos.new)))
-        (CameToNothing C.tells R.tells
-        (AskedInVain (P.panel judges.old) did.now (P.panel judges.new))
-        (around (P.panel judges.old) (C.moments clock.old) (R.repository repos.old))
-        (around (P.panel judges.new) (C.moments clock.new) (R.repository repos.new)))
+    ensures commanded { let old = around_of P.panel C.moments R.repository asked.old in
+        let new = around_of P.panel C.moments R.repository asked.new in
+        (J : List TheRow) → IsOf J store.old.core → CommandDone D.view D.tells J
+        (λ command. SyncedAt C.tells R.tells store.old.core did.now time.now old command new)
+        (CameToNothing C.tells R.tells (AskedInVain old.panel did.now new.panel) old new)
         (seen_in store.old) (seen_in store.new) disk.old disk.new result }
     ensures open { result ≢ Err StoreFault.Disk → IsTrue store.new.log.is_open }
     ensures closed { result ≡ Err StoreFault.Disk → store.new.log.is_open ≡ false }
     ensures disk { result ≡ Err StoreFault.Disk
         → Rose (D.view disk.old).faults (D.view disk.new).faults }
     ensures clock { result ≡ Err StoreFault.Clock
-        → Rose (C.faults clock.old) (C.faults clock.new) }
+        → Rose (C.faults asked.old.clock.now) (C.faults asked.new.clock.now) }
     ensures repos { result ≡ Err StoreFault.Repos
-        → Rose (R.faults repos.old) (R.faults repos.new) }
+        → Rose (R.faults asked.old.repos.now) (R.faults asked.new.repos.now) }
     ensures spent { result ≡ Err StoreFault.Authority
         → SpentFetching C.tells R.tells store.old.core did.now
-        (around (P.panel judges.old) (C.moments clock.old) (R.repository repos.old))
-        (around (P.panel judges.new) (C.moments clock.new) (R.repository repos.new)) }
+        (around_of P.panel C.moments R.repository asked.old)
+        (around_of P.panel C.moments R.repository asked.new) }
     ensures seq_end { result ≡ Err StoreFault.SeqEnd
         → EndsFetched C.tells R.tells store.old.core did.now
-        (around (P.panel judges.old) (C.moments clock.old) (R.repository repos.old))
-        (around (P.panel judges.new) (C.moments clock.new) (R.repository repos.new)) }
+        (around_of P.panel C.moments R.repository asked.old)
+        (around_of P.panel C.moments R.repository asked.new) }
     ensures disk_counts { (D.view disk.old).faults ≤ (D.view disk.new).faults }
-    ensures clock_counts { C.faults clock.old ≤ C.faults clock.new }
-    ensures repos_count { R.faults repos.old ≤ R.faults repos.new }
+    ensures clock_counts { C.faults asked.old.clock.now ≤ C.faults asked.new.clock.now }
+    ensures repos_count { R.faults asked.old.repos.now ≤ R.faults asked.new.repos.now }
     ensures disk_steady { result ≢ Err StoreFault.Disk
         → (D.view disk.new).faults ≡ (D.view disk.old).faults }
     ensures clock_steady { result ≢ Err StoreFault.Clock
-        → C.faults clock.new ≡ C.faults clock.old }
+        → C.faults asked.new.clock.now ≡ C.faults asked.old.clock.now }
     ensures repos_steady { result ≢ Err StoreFault.Repos
-        → R.faults repos.new ≡ R.faults repos.old }
+        → R.faults asked.new.repos.now ≡ R.faults asked.old.repos.now }
     ensures unspent { result ≢ Err StoreFault.Authority
-        → SpendsNone (P.panel judges.old) (P.panel judges.new) }
+        → SpendsNone (P.panel asked.old.judges.now) (P.panel asked.new.judges.now) }
+    ensures same { SameAsked asked.old asked.new }
 {
     match store.pending.start() {
         Ok(()) => {}
         Err(_) => return Err(StoreFault::Memory),
     }
-    match relay_step::sync_now(alloc, &store.core, did, time, judges, repos, clock) {
+    match relay_step::sync_now(alloc, &store.core, did, time, asked) {
         Ok(command) => run_command(store, alloc, disk, command),
         Err(fault) => Err(of_step(fault)),
     }

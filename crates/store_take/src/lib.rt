@@ -3,6 +3,7 @@
 #![tactic(auto)]
 
 mod adding;
+mod batch;
 mod commanding;
 mod committing;
 mod done;
@@ -15,10 +16,11 @@ mod outcome;
 mod preparing;
 mod taking;
 
+pub use batch::Batch;
 pub use commanding::{operate, sync_now};
 pub use done::Done;
 pub use laws::lines_are_the_reports;
 pub use lines::{end_line, line};
 pub use message::Message;
 pub use outcome::{End, Fetch, Outcome};
-pub use taking::{Batch, take, take_all};
+pub use taking::{take, take_all};

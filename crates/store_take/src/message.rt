@@ -10,3 +10,10 @@ pub struct Message {
     /// What it sent.
     pub bytes: Octets,
 }
+
+/// A message that is lent.
+#[derive(Clone, Copy)]
+pub(crate) struct MessageRef<'a> {
+    pub host: &'a str,
+    pub bytes: &'a [u8],
+}

@@ -1,14 +1,13 @@
 //! One message decided, and its row taken, ahead of the disk.
 
-ghost use Rattle.std.specs.Prelude.{◌≡◌, ◌≢◌, ◌≤◌, ◌<◌, ℕ, length, IsTrue, IfOk, IfErr, OnOk, OnErr, Some, Result, Err};
+ghost use Rattle.std.specs.Prelude.{◌≡◌, ◌≢◌, ◌≤◌, ◌<◌, length, IsTrue, IfOk, IfErr, OnOk, OnErr, Some, Result, Err};
 ghost use Rattle.at_cid.specs.Counts.{Rose};
-ghost use Rattle.at_event.specs.Frames.{frame_of};
 ghost use Rattle.at_event.specs.declared.frame.Frame.{Frame as TheFrame};
 ghost use Rattle.at_event.specs.declared.frame.FrameFault.{FrameFault as TheFrameFault};
 ghost use Rattle.at_syntax.specs.Host.{is_host};
 ghost use Rattle.gate_log.specs.declared.pending_bodies.TheConstants.{AHEAD};
 ghost use Rattle.relay_row.specs.declared.limits.TheConstants.{MOST_ROWS};
-ghost use Rattle.relay_step.specs.Around.{around};
+ghost use Rattle.relay_step.specs.Around.{SameAsked, around_of};
 ghost use Rattle.relay_step.specs.Causes.{SpendsNone};
 ghost use Rattle.relay_step.specs.Messages.{IsSkippedAs, told_as};
 ghost use Rattle.relay_step.specs.Steps.{rows_decided};
@@ -19,6 +18,7 @@ ghost use Rattle.store_take.specs.Taking.{AreAdded, IsTooLate, Prepared};
 
 use crate::adding::add_new_row;
 use crate::fault::of_step;
+use crate::message::MessageRef;
 use crate::outcome::{End, Fetch, Outcome};
 use at_authority::Judges;
 use event_window::Window;
@@ -26,7 +26,7 @@ use gate_log::Log;
 use relay_core::Core;
 use relay_io::{Clock, Repos};
 use relay_row::{Fetched, Taken};
-use relay_step::{Decided, Skipped, decide_message};
+use relay_step::{Asked, Decided, Skipped, decide_message};
 use relay_store::{Pending, StoreFault};
 use std::alloc::Global;
 
@@ -108,32 +108,34 @@ pub(crate) fn prepare<P: Judges, R: Repos, C: Clock>(
     core: &mut Core,
     window: &mut Window,
     pending: &mut Pending,
-    host: &str,
-    message: &[u8],
-    judges: &mut P,
-    repos: &mut R,
-    clock: &mut C,
+    message: MessageRef<'_>,
+    asked: &mut Asked<P, R, C>,
 ) -> Result<Outcome, StoreFault>
-    requires host { IsTrue (is_host host.now) }
+    requires host { IsTrue (is_host message.host.now) }
     requires few { pending.old.count < MOST_ROWS }
     requires begun { AHEAD ≤ length pending.old.body }
     requires fits { Fits log.now pending.old }
     ensures begun { AHEAD ≤ length pending.new.body }
     ensures fits { Fits log.now pending.new }
-    ensures prepared { Prepared C.tells R.tells log.now host.now message.now
+    ensures prepared { let old = around_of P.panel C.moments R.repository asked.old in
+        let new = around_of P.panel C.moments R.repository asked.new in
+        Prepared C.tells R.tells log.now message.entry.host.now message.entry.bytes.now
         core.old core.new window.old.places window.new.places pending.old pending.new
-        (around (P.panel judges.old) (C.moments clock.old) (R.repository repos.old))
-        (around (P.panel judges.new) (C.moments clock.new) (R.repository repos.new)) result }
-    ensures risen { IfErr result (IsRisen (Rose (R.faults repos.old) (R.faults repos.new))
-        (Rose (C.faults clock.old) (C.faults clock.new))) }
-    ensures clock_counts { C.faults clock.old ≤ C.faults clock.new }
-    ensures repos_count { R.faults repos.old ≤ R.faults repos.new }
-    ensures clock_steady { result ≢ Err StoreFault.Clock → C.faults clock.new ≡ C.faults clock.old }
-    ensures repos_steady { result ≢ Err StoreFault.Repos → R.faults repos.new ≡ R.faults repos.old }
+        old new result }
+    ensures risen { IfErr result
+        (IsRisen (Rose (R.faults asked.old.repos.now) (R.faults asked.new.repos.now))
+        (Rose (C.faults asked.old.clock.now) (C.faults asked.new.clock.now))) }
+    ensures clock_counts { C.faults asked.old.clock.now ≤ C.faults asked.new.clock.now }
+    ensures repos_count { R.faults asked.old.repos.now ≤ R.faults asked.new.repos.now }
+    ensures clock_steady { result ≢ Err StoreFault.Clock
+        → C.faults asked.new.clock.now ≡ C.faults asked.old.clock.now }
+    ensures repos_steady { result ≢ Err StoreFault.Repos
+        → R.faults asked.new.repos.now ≡ R.faults asked.old.repos.now }
     ensures unspent { result ≢ Err StoreFault.Authority
-        → SpendsNone (P.panel judges.old) (P.panel judges.new) }
+        → SpendsNone (P.panel asked.old.judges.now) (P.panel asked.new.judges.now) }
+    ensures same { SameAsked asked.old asked.new }
 {
-    match decide_message(alloc, core, host, message, judges, repos, clock) {
+    match decide_message(alloc, core, message.host, message.bytes, asked) {
         Ok(told) => take_decided(alloc, log, core, window, pending, told),
         Err(fault) => Err(of_step(fault)),
     }

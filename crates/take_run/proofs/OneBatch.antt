@@ -19,7 +19,7 @@ use Rattle.relay_core.specs.Opening.{OpensRight}
 use Rattle.relay_core.specs.Runs.{has_ended}
 use Rattle.relay_law.specs.Right.{LinksRight}
 use Rattle.relay_law.proofs.Choosing.{some_right}
-use Rattle.relay_step.specs.Around.{Around, AllAsked, Asked}
+use Rattle.relay_step.specs.Around.{Around, AllAsked, OneAsked}
 use Rattle.relay_step.specs.Causes.{SpendsNone}
 use Rattle.relay_step.specs.Steps.{Step, after_end, rows, step_of, AreSteps}
 use Rattle.relay_step.proofs.Steps.{steps_join}
@@ -501,7 +501,7 @@ pub first_in : (group : List Message) (m : Message) → 1 ≤ length group → g
 first_in [] m some is = absurd (omega (arith, some))
 first_in (x ∷ group) m some is = ap (λ (y : Message). y ∷ group) is
 
-skipped_asked : (C R : Bool) (J : List Row) (m : Message) (a : Around) → Asked C R J a (passed m) a
+skipped_asked : (C R : Bool) (J : List Row) (m : Message) (a : Around) → OneAsked C R J a (passed m) a
 skipped_asked C R J m a = record {
   fetch = [];
   fetched = refl;

@@ -1,13 +1,12 @@
 -- Which failures are told, whatever the journal.
 use Rattle.std.proofs.Common.{◌≡◌, ◌≢◌, ◌⊎◌, inl, inr, ℕ, List, Option, Some, None, Result, Ok, Err, refl, sym, ap, ◌∙◌, subst}
 use Rattle.at_authority.specs.Panels.{IsSpent}
-use Rattle.at_cid.specs.Counts.{Rose}
+use Rattle.at_cid.specs.Counts.{Rose, Counted, CountedPair, CountedBut}
 use Rattle.relay_step.specs.Around.{Around}
 use Rattle.relay_step.specs.Causes.{SpendsNone}
 use Rattle.relay_store.specs.Opening.{IsOfReading}
 use Rattle.relay_store.specs.declared.fault.StoreFault.{StoreFault}
 use Rattle.tape.specs.declared.fault.TapeFault.{TapeFault}
-use Rattle.run_base.specs.Counts.{Counted, CountedBut, CountedPair}
 use Rattle.run_base.specs.Ends.{Caused, ToldBut}
 use Rattle.run_base.specs.Place.{Faults, Place, with_feed, with_input}
 use Rattle.run_base.specs.Statuses.{status_of_fault}

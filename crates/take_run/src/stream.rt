@@ -4,7 +4,7 @@ ghost use Rattle.std.specs.Prelude.{◌≡◌, ◌≤◌, ⊤, List, ℕ, length
 ghost use Rattle.relay_io.specs.Messages.{Gives};
 ghost use Rattle.relay_io.specs.declared.feed.FeedFault.{FeedFault as TheFault};
 ghost use Rattle.relay_io.specs.declared.feed.TheConstants.{LONGEST_FEED_MESSAGE};
-ghost use Rattle.run_base.specs.Counts.{Counted};
+ghost use Rattle.at_cid.specs.Counts.{Counted};
 
 use at_cid::Octets;
 use relay_io::{Feed, FeedFault};

@@ -6,7 +6,7 @@ ghost use Rattle.gate_log.specs.Pick.{other_side};
 ghost use Rattle.relay_row.specs.Folds.{cursor};
 ghost use Rattle.relay_row.specs.declared.row.Row.{Row as TheRow};
 ghost use Rattle.relay_store.specs.Store.{IsOf, seen_in};
-ghost use Rattle.run_base.specs.Counts.{Counted};
+ghost use Rattle.at_cid.specs.Counts.{Counted};
 ghost use Rattle.run_base.specs.Place.{with_feed};
 ghost use Rattle.take_run.specs.Ends.{FaultsTold, IsUnread, MayEndFollowing};
 ghost use Rattle.take_run.specs.Feeds.{IsLeft};

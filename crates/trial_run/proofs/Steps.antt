@@ -24,7 +24,7 @@ use Rattle.relay_core.specs.Shown.{shown, shows_home, shows_verdict, found_in, o
 use Rattle.relay_io.specs.Moments.{first_moment, later_moments}
 use Rattle.relay_law.specs.Right.{LinksRight}
 use Rattle.relay_law.proofs.Choosing.{some_right}
-use Rattle.relay_step.specs.Around.{Around, around, Asked, AllAsked, AskedNothing, IsTimed}
+use Rattle.relay_step.specs.Around.{Around, around, OneAsked, AllAsked, AskedNothing, IsTimed}
 use Rattle.relay_step.specs.Steps.{Decided, after_end, skipped, recorded, Step, AreSteps, IsDecidedAs, ended_by_all, ended_decided, message_of, rows, rows_decided}
 use Rattle.store_take.specs.Batches.{Batched, message_from, scene, messages_sent}
 use Rattle.store_take.specs.Outcomes.{outcome_of, outcome_decided, skipped_outcome, outcome_as}
@@ -119,7 +119,7 @@ one_step steps extra behind host bytes o n m is none front answers =
 
 -- ---- what it asked
 
-asked_one : (C R : Bool) (J : List Row) (old new : Around) (steps : List Step) (s : Step) → steps ≡ s ∷ [] → AllAsked C R J old steps new → (mid : Around) × Asked C R J old s mid × AskedNothing C R mid new
+asked_one : (C R : Bool) (J : List Row) (old new : Around) (steps : List Step) (s : Step) → steps ≡ s ∷ [] → AllAsked C R J old steps new → (mid : Around) × OneAsked C R J old s mid × AskedNothing C R mid new
 asked_one C R J old new steps s is asked = subst (λ (l : List Step). AllAsked C R J old l new) is asked
 
 pub timed : (moments left : List ℕ) (told : Decided) (made : Made told) → moments ≡ 0 ∷ [] → IsTimed moments told left → (made.t.moment ≡ Some 0) × (left ≡ 0 ∷ [])

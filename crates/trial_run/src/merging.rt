@@ -13,6 +13,7 @@ use gate_log::Side;
 use relay_disk::MemoryDisk;
 use relay_gen::{History, host_of};
 use relay_io::{LONGEST_FEED_MESSAGE, ListClock, MemoryRepos};
+use relay_step::Asked;
 use relay_store::{LONGEST, Store};
 use std::alloc::Global;
 use store_take::{Outcome, take};
@@ -92,17 +93,12 @@ impl Merge {
             return Err(Memory);
         }
         disk.reserve(CALLS, message.len().saturating_add(AROUND))?;
-        let (store, repos, clock) = (&mut self.store, &mut self.repos, &mut self.clock);
-        match take(
-            store,
-            alloc,
-            disk,
-            host,
-            message,
-            &mut TrustAll,
-            repos,
-            clock,
-        ) {
+        let mut asked = Asked {
+            judges: &mut TrustAll,
+            repos: &mut self.repos,
+            clock: &mut self.clock,
+        };
+        match take(&mut self.store, alloc, disk, host, message, &mut asked) {
             Ok(Outcome::Event(_, _)) => Ok(()),
             // The histories are honest, and every event of them goes out: there is no other outcome.
             Ok(_) | Err(_) => Err(Memory),

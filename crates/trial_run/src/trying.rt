@@ -10,7 +10,7 @@ ghost use Rattle.relay_row.specs.declared.row.Row.{Row as TheRow};
 ghost use Rattle.trial_run.specs.Summary.{summary};
 ghost use Rattle.trial_run.specs.Taking.{IsMerged};
 ghost use Rattle.trial_run.specs.Merging.{by_host};
-ghost use Rattle.run_base.specs.Counts.{Counted};
+ghost use Rattle.at_cid.specs.Counts.{Counted};
 ghost use Rattle.trial_run.specs.Tried.{MayEndTrying, TrialCameTo, Tried};
 
 use crate::merging::Merge;

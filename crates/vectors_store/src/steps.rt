@@ -19,6 +19,7 @@ use event_window::{Events, EventsFault};
 use relay_disk::Disk;
 use relay_io::{ListClock, MemoryRepos};
 use relay_row::MOST_ROWS;
+use relay_step::Asked;
 use relay_store::{Store, StoreFault};
 use report_lines::add_refusal;
 use store_read::events;
@@ -110,15 +111,18 @@ fn take(case: &mut Case<'_>, sitting: &mut Sitting, disk: &mut FileInMemory) {
     let host = case.part(" ");
     let bytes = case.bytes(" ");
     if sitting.store.is_open() && host_ok(host) {
+        let mut asked = Asked {
+            judges: &mut sitting.panel,
+            repos: &mut sitting.repos,
+            clock: &mut sitting.clock,
+        };
         let taken = store_take::take(
             &mut sitting.store,
             case.alloc,
             disk,
             host,
             bytes.as_slice(),
-            &mut sitting.panel,
-            &mut sitting.repos,
-            &mut sitting.clock,
+            &mut asked,
         );
         match taken {
             Ok(outcome) => say_outcome(case, sitting, host, &outcome),
@@ -149,15 +153,12 @@ fn take_group(case: &mut Case<'_>, sitting: &mut Sitting, disk: &mut FileInMemor
     let messages = messages_of(case);
     let group = &messages.as_slice()[..messages.len().min(MOST_ROWS)];
     if sitting.store.is_open() && !group.is_empty() && are_of_hosts(group) {
-        let batch = take_all(
-            &mut sitting.store,
-            case.alloc,
-            disk,
-            group,
-            &mut sitting.panel,
-            &mut sitting.repos,
-            &mut sitting.clock,
-        );
+        let mut asked = Asked {
+            judges: &mut sitting.panel,
+            repos: &mut sitting.repos,
+            clock: &mut sitting.clock,
+        };
+        let batch = take_all(&mut sitting.store, case.alloc, disk, group, &mut asked);
         say_batch(case, sitting, group, &batch);
     }
 }
@@ -201,15 +202,18 @@ fn sync_now(case: &mut Case<'_>, sitting: &mut Sitting, disk: &mut FileInMemory)
     let did = case.part(" ");
     let time = case.part(" ");
     if sitting.store.is_open() && may_be_said(did, time) {
+        let mut asked = Asked {
+            judges: &mut sitting.panel,
+            repos: &mut sitting.repos,
+            clock: &mut sitting.clock,
+        };
         let done = store_take::sync_now(
             &mut sitting.store,
             case.alloc,
             disk,
             did,
             time,
-            &mut sitting.panel,
-            &mut sitting.repos,
-            &mut sitting.clock,
+            &mut asked,
         );
         say_done(case, sitting, done);
     }

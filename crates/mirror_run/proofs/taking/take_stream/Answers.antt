@@ -1,6 +1,6 @@
 use Rattle.std.proofs.Common.{◌≡◌, ◌≤◌, ◌+◌, ℕ, List, ◌++◌, length, Err, sym, ap, subst, ◌∙◌, arith}
 use Rattle.at_cid.specs.Link.{IsBytes}
-use Rattle.backfill.specs.Writing.{stream_frame}
+use Rattle.at_cid.specs.Lengths.{length_prefixed}
 use Rattle.relay_io.specs.declared.feed.TheConstants.{LONGEST_FEED_MESSAGE}
 use Rattle.mirror_run.specs.Reading.{coming}
 use Rattle.run_base.specs.declared.status.Status.{Status}
@@ -26,7 +26,7 @@ returns-in-Err-take-clause-stopped g c =
     subst (λ (s : Status). HasStopped g.I.Source.tells g.R.Repos.tells (g.R.Repos.repository c.args.repos.now) c.args.limit (g.I.Source.left c.args.input.now) s) (sym (c.of_message.ensures ∙ ap (λ n. status_of_message c.in-Err-take.fault n) c.place-place.ensures.value))
     (message_stopped g.I.Source.tells g.R.Repos.tells (g.R.Repos.repository c.args.repos.now) c.args.limit (g.I.Source.left c.args.input.now) (coming c.messages.reader (g.I.Source.left c.messages.input)) c.messages.reader.place
     c.messages.mirror c.messages.events c.messages.invariant.taken c.in-Err-take.fault m after short
-    (λ told. (rw c.in-Ok-Some.field-0-is at (c.in-Ok-Some.ensures.next told)) ∙ ap (λ (l : List ℕ). stream_frame l ++ after) (sym c.as_slice.ensures.value))
+    (λ told. (rw c.in-Ok-Some.field-0-is at (c.in-Ok-Some.ensures.next told)) ∙ ap (λ (l : List ℕ). length_prefixed l ++ after) (sym c.as_slice.ensures.value))
     (λ is. c.in-Err-take.ensures.bad (ap Err is)))
 
 pub messages-preserved : goal.messages-preserved
@@ -35,13 +35,13 @@ messages-preserved g c =
     let after : List ℕ = coming c.next.new.self (g.I.Source.left c.next.new.source) in
     let placed = rw c.in-Ok-Some.field-0-is at c.in-Ok-Some.ensures.placed in
     let short : length m ≤ LONGEST_FEED_MESSAGE = subst (λ (l : List ℕ). length l ≤ LONGEST_FEED_MESSAGE) (sym c.as_slice.ensures.value) placed.0 in
-    let place_is : c.next.new.self.place ≡ c.messages.reader.place + length (stream_frame m) =
-    placed.1 ∙ ap (λ (l : List ℕ). c.messages.reader.place + length (stream_frame l)) (sym c.as_slice.ensures.value) in
+    let place_is : c.next.new.self.place ≡ c.messages.reader.place + length (length_prefixed m) =
+    placed.1 ∙ ap (λ (l : List ℕ). c.messages.reader.place + length (length_prefixed l)) (sym c.as_slice.ensures.value) in
     record {
       taken = taken_more g.I.Source.tells g.R.Repos.tells (g.R.Repos.repository c.args.repos.now) (g.R.Repos.repository c.messages.repos) (g.I.Source.left c.args.input.now)
           (coming c.messages.reader (g.I.Source.left c.messages.input)) after c.messages.reader.place c.next.new.self.place c.messages.mirror c.take.new.self c.messages.events c.if-last-last_seq.events m c.in-Ok.field-0
           c.messages.invariant.taken
-          (λ told. (rw c.in-Ok-Some.field-0-is at (c.in-Ok-Some.ensures.next told)) ∙ ap (λ (l : List ℕ). stream_frame l ++ after) (sym c.as_slice.ensures.value))
+          (λ told. (rw c.in-Ok-Some.field-0-is at (c.in-Ok-Some.ensures.next told)) ∙ ap (λ (l : List ℕ). length_prefixed l ++ after) (sym c.as_slice.ensures.value))
           short (subst IsBytes (sym c.as_slice.ensures.value) c.as_slice.ensures.bytes) place_is c.in-Ok.ensures.taken c.messages.invariant.repositories
           (elim c.if-last-last_seq.branch [
             | then-last-last_seq w ↦

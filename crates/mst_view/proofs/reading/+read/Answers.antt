@@ -100,16 +100,16 @@ read_branch-invariant_of-result t c =
     record {
       first_lies = c.in_ok-first.ensures.lies;
       all_at = c.in_ok-read_rights.ensures.at;
-      kept_is = link_of_parts c.args.layer c.in_ok-first.first c.read_rights.new.rest.items c.args.left (entries_of c.args.parts.items) c.args.link c.in_ok-first.ensures.lies c.in_ok-read_rights.ensures.at c.in_ok-first.ensures.keeps c.in_ok-read_rights.ensures.keeps c.requires.link_is;
+      kept_is = link_of_parts c.args.layer c.in_ok-first.first c.read_rights.new.rest.items c.args.parts.0 (entries_of c.args.parts.1.items) c.args.link c.in_ok-first.ensures.lies c.in_ok-read_rights.ensures.at c.in_ok-first.ensures.keeps c.in_ok-read_rights.ensures.keeps c.requires.link_is;
     }
 
 pub read_branch-returns-clause-link : goal.read_branch-returns-clause-link
 read_branch-returns-clause-link t c =
-    sym (link_of_parts c.args.layer c.in_ok-first.first c.read_rights.new.rest.items c.args.left (entries_of c.args.parts.items) c.args.link c.in_ok-first.ensures.lies c.in_ok-read_rights.ensures.at c.in_ok-first.ensures.keeps c.in_ok-read_rights.ensures.keeps c.requires.link_is)
+    sym (link_of_parts c.args.layer c.in_ok-first.first c.read_rights.new.rest.items c.args.parts.0 (entries_of c.args.parts.1.items) c.args.link c.in_ok-first.ensures.lies c.in_ok-read_rights.ensures.at c.in_ok-first.ensures.keeps c.in_ok-read_rights.ensures.keeps c.requires.link_is)
 
 pub read_branch-returns-clause-at : goal.read_branch-returns-clause-at
 read_branch-returns-clause-at t c =
-    λ some. at_layer c.args.layer c.in_ok-first.first c.read_rights.new.rest.items c.in_ok-first.ensures.lies c.in_ok-read_rights.ensures.at (some_items c.args.layer c.in_ok-first.first c.read_rights.new.rest.items c.args.left (entries_of c.args.parts.items) c.in_ok-first.ensures.lies c.in_ok-first.ensures.keeps c.in_ok-read_rights.ensures.keeps some)
+    λ some. at_layer c.args.layer c.in_ok-first.first c.read_rights.new.rest.items c.in_ok-first.ensures.lies c.in_ok-read_rights.ensures.at (some_items c.args.layer c.in_ok-first.first c.read_rights.new.rest.items c.args.parts.0 (entries_of c.args.parts.1.items) c.in_ok-first.ensures.lies c.in_ok-first.ensures.keeps c.in_ok-read_rights.ensures.keeps some)
 
 pub read_rights-parts-preserved-in-Empty : goal.read_rights-parts-preserved-in-Empty
 read_rights-parts-preserved-in-Empty t c =

@@ -19,8 +19,8 @@ returns-in-Event-clause-told g c =
 
 pub returns-in-Event-clause-asked : goal.returns-in-Event-clause-asked
 returns-in-Event-clause-asked g c =
-    let old = around (g.P.Judges.panel c.args.judges.now) (g.C.Clock.moments c.args.clock.now) (g.R.Repos.repository c.args.repos.now) in
-    let new = around (g.P.Judges.panel c.decide_event.new.judges) (g.C.Clock.moments c.decide_event.new.clock) (g.R.Repos.repository c.decide_event.new.repos) in
+    let old = around (g.P.Judges.panel c.args.asked.now.judges.now) (g.C.Clock.moments c.args.asked.now.clock.now) (g.R.Repos.repository c.args.asked.now.repos.now) in
+    let new = around (g.P.Judges.panel c.decide_event.new.asked.judges.now) (g.C.Clock.moments c.decide_event.new.asked.clock.now) (g.R.Repos.repository c.decide_event.new.asked.repos.now) in
     let P : Frame → Type 0 = λ f. IfOk c.decide_event.result (λ t. IsAskedOf g.C.Clock.tells g.R.Repos.tells c.args.core.now old c.args.host.now (Ok f) (told_as t) new) in
     subst P (sym c.in-Event.is) (if_ok c.decide_event.result _ _ (λ t. asked_event g.C.Clock.tells g.R.Repos.tells c.args.core.now c.args.host.now c.in-Event.event t old new) c.decide_event.ensures.told)
 
@@ -31,11 +31,11 @@ returns-in-Event-clause-passed g c =
 
 pub returns-in-Faulty-clause-passed : goal.returns-in-Faulty-clause-passed
 returns-in-Faulty-clause-passed g c =
-    if_ok c.decide_other.result _ _ (λ t. skipped_other g.C.Clock.tells c.args.core.now c.args.host.now c.args.frame t (g.C.Clock.moments c.args.clock.now) (g.C.Clock.moments c.decide_other.new.clock)) c.decide_other.ensures.told
+    if_ok c.decide_other.result _ _ (λ t. skipped_other g.C.Clock.tells c.args.core.now c.args.host.now c.args.frame t (g.C.Clock.moments c.args.asked.now.clock.now) (g.C.Clock.moments c.decide_other.new.clock)) c.decide_other.ensures.told
 
 pub returns-in-Faulty-clause-told : goal.returns-in-Faulty-clause-told
 returns-in-Faulty-clause-told g c =
-    if_ok c.decide_other.result _ _ (λ t. decided_as_other g.C.Clock.tells c.args.core.now c.args.host.now c.args.frame t (g.C.Clock.moments c.args.clock.now) (g.C.Clock.moments c.decide_other.new.clock)) c.decide_other.ensures.told
+    if_ok c.decide_other.result _ _ (λ t. decided_as_other g.C.Clock.tells c.args.core.now c.args.host.now c.args.frame t (g.C.Clock.moments c.args.asked.now.clock.now) (g.C.Clock.moments c.decide_other.new.clock)) c.decide_other.ensures.told
 
 pub returns-in-Event-clause-formed : goal.returns-in-Event-clause-formed
 returns-in-Event-clause-formed g c =
@@ -45,8 +45,8 @@ returns-in-Event-clause-formed g c =
 pub returns-in-Faulty-clause-formed : goal.returns-in-Faulty-clause-formed
 returns-in-Faulty-clause-formed g c =
     let named = and_from (is_text c.args.host.now) (is_host c.args.host.now) (text_tested c.args.host.now (typed_string c.args.host.now c.ghost_text.ensures.bytes c.ghost_text.ensures.length) c.ghost_text.ensures.utf8) c.requires.host in
-    if_ok c.decide_other.result _ _ (λ t is. kept_other g.C.Clock.tells c.args.core.now c.args.host.now c.args.frame t (g.C.Clock.moments c.args.clock.now) (g.C.Clock.moments c.decide_other.new.clock) is c.made_rows_are_formed.ensures c.requires.frame named) c.decide_other.ensures.told
+    if_ok c.decide_other.result _ _ (λ t is. kept_other g.C.Clock.tells c.args.core.now c.args.host.now c.args.frame t (g.C.Clock.moments c.args.asked.now.clock.now) (g.C.Clock.moments c.decide_other.new.clock) is c.made_rows_are_formed.ensures c.requires.frame named) c.decide_other.ensures.told
 
 pub returns-in-Faulty-clause-asked : goal.returns-in-Faulty-clause-asked
 returns-in-Faulty-clause-asked g c =
-    if_ok c.decide_other.result _ _ (λ t. asked_other g.C.Clock.tells g.R.Repos.tells c.args.core.now c.args.host.now c.args.frame t (g.P.Judges.panel c.args.judges.now) (g.C.Clock.moments c.args.clock.now) (g.C.Clock.moments c.decide_other.new.clock) (g.R.Repos.repository c.args.repos.now)) c.decide_other.ensures.told
+    if_ok c.decide_other.result _ _ (λ t. asked_other g.C.Clock.tells g.R.Repos.tells c.args.core.now c.args.host.now c.args.frame t (g.P.Judges.panel c.args.asked.now.judges.now) (g.C.Clock.moments c.args.asked.now.clock.now) (g.C.Clock.moments c.decide_other.new.clock) (g.R.Repos.repository c.args.asked.now.repos.now)) c.decide_other.ensures.told

@@ -1,4 +1,4 @@
-use Rattle.std.proofs.Common.{◌≡◌, ◌∙◌, ◌+◌, ◌∷◌, ◌++◌, [], true, List, Err, min, length, drop, append_assoc, ap, arith, rules, subst, sym}
+use Rattle.std.proofs.Common.{◌≡◌, ◌∙◌, ◌+◌, ◌∷◌, ◌++◌, [], true, List, Err, min, length, drop, append_assoc, ap, arith, refl, rules, subst, sym}
 use Rattle.std.specs.List.{list_all}
 use Rattle.relay_disk.proofs.Moments.{no_call}
 use Rattle.gate_log.specs.Build.{IsClosed}
@@ -9,6 +9,7 @@ use Rattle.relay_row.specs.declared.row.Row.{Row}
 use Rattle.relay_store.specs.Journals.{AllBodies, bytes_of, joined}
 use Rattle.store_cut.specs.Rewriting.{AllShort, RewriteHasNoRoom}
 use Rattle.relay_store.specs.declared.fault.StoreFault.{StoreFault}
+use Rattle.store_cut.proofs.Counting.{counted_behind, counted_none, counted_one, counted_two}
 use Rattle.store_cut.proofs.Ordering.{formed_dropped}
 use Rattle.store_cut.proofs.Recopied.{drop_least, next_there, some_more}
 use Rattle.store_cut.proofs.Rewritten.{copied_both, no_room_behind, no_room_front, on_ok_as, reading_is}
@@ -114,3 +115,20 @@ returns-clause-no_bad_log g c = λ p is tells before there after each held here 
     c.copy_bodies.ensures.no_bad_log p is tells (before ++ there ∷ []) after each_now held_now start
     (J ++ c.in-Ok.behind.items) (c.in_ok-put_rows.ensures.copied.core J first)
     (subst (λ (l : List Row). IsJournal ((J ++ l) ++ joined after)) (sym behind) (subst IsJournal (sym (append_assoc J (drop (c.args.last.index + 1) there) (joined after))) journal))
+
+pub returns-in_err-rows-clause-counts : goal.returns-in_err-rows-clause-counts
+returns-in_err-rows-clause-counts g c =
+    let is : c.from_residual.result ≡ Err c.in_err-rows.field-0.0 = search rules in
+    counted_one _ _ _ _ _ refl (λ failed. c.in_err-rows.ensures.disk (sym is ∙ failed)) (λ not. c.in_err-rows.ensures.no_fault (λ e. not (is ∙ e))) c.body_at.ensures.goes.counts
+
+pub returns-in_default-clause-counts : goal.returns-in_default-clause-counts
+returns-in_default-clause-counts g c = counted_none _ _ _ _ _ (λ e. absurd cc) c.in_ok-rows.ensures.steady refl
+
+pub returns-in_err-put_rows-clause-counts : goal.returns-in_err-put_rows-clause-counts
+returns-in_err-put_rows-clause-counts g c =
+    let is : c.from_residual-in_err-put_rows.result ≡ Err c.in_err-put_rows.field-0.0 = search rules in
+    counted_behind _ _ _ _ _ _ _ c.in_ok-rows.ensures.steady refl
+    (counted_two _ _ _ _ _ refl (λ failed. c.in_err-put_rows.ensures.disk (sym is ∙ failed)) (λ not. c.in_err-put_rows.ensures.no_fault (λ e. not (is ∙ e))) c.put_rows.ensures.counts)
+
+pub returns-clause-counts : goal.returns-clause-counts
+returns-clause-counts g c = counted_behind _ _ _ _ _ _ _ c.in_ok-rows.ensures.steady c.in_ok-put_rows.ensures.copied.steady c.copy_bodies.ensures.counts

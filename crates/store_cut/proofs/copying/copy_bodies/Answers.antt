@@ -1,4 +1,4 @@
-use Rattle.std.proofs.Common.{◌≡◌, ◌∙◌, ◌++◌, [], List, Err, ap, append_assoc, inr, refl, arith, rules, subst, sym}
+use Rattle.std.proofs.Common.{◌≡◌, ◌∙◌, ◌++◌, [], List, Err, ap, append_assoc, refl, arith, rules, subst, sym}
 use Rattle.relay_disk.proofs.Moments.{joined, still_again, still_here}
 use Rattle.gate_log.specs.Log.{HoldsBodies as HasBodies}
 use Rattle.relay_row.specs.Journal.{IsJournal}
@@ -7,6 +7,7 @@ use Rattle.relay_store.specs.Journals.{AllBodies, bytes_of}
 use Rattle.relay_store.specs.Journals.{joined as rows_of}
 use Rattle.store_cut.specs.Rewriting.{RewriteHasNoRoom}
 use Rattle.relay_store.specs.declared.fault.StoreFault.{StoreFault}
+use Rattle.store_cut.proofs.Counting.{counted_behind, counted_none, counted_one, counted_two}
 use Rattle.store_cut.proofs.Recopied.{IsRecopied, recopied_all, recopied_more, recopied_none, recopied_rows, recopied_split, recopied_there, some_more}
 use Rattle.store_cut.proofs.Rewritten.{copied_both, copied_none, no_room_behind, no_room_front, reading_is}
 use Rattle.relay_store.proofs.InBodies.{each_at}
@@ -63,9 +64,6 @@ returns-in_err-rows-clause-no_bad_log g c = λ p failed_is tells before after ea
 pub returns-in_err-rows-clause-run : goal.returns-in_err-rows-clause-run
 returns-in_err-rows-clause-run g c = c.bodies.invariant.copied.run
 
-pub returns-in_err-rows-clause-counts : goal.returns-in_err-rows-clause-counts
-returns-in_err-rows-clause-counts g c = omega (arith, c.bodies.invariant.copied.steady)
-
 pub returns-in_err-rows-clause-goes : goal.returns-in_err-rows-clause-goes
 returns-in_err-rows-clause-goes g c = still_again _ _ _ (g.met.D.Disk.is_disk _) c.bodies.invariant.goes c.body_at.ensures.goes
 
@@ -74,14 +72,6 @@ returns-in_err-put_rows-clause-goes g c = still_again _ _ _ (g.met.D.Disk.is_dis
 
 pub returns-in_err-put_rows-clause-run : goal.returns-in_err-put_rows-clause-run
 returns-in_err-put_rows-clause-run g c = λ tells. joined _ _ _ _ (c.bodies.invariant.copied.run tells) (c.put_rows.ensures.run tells)
-
-pub returns-in_err-put_rows-clause-counts : goal.returns-in_err-put_rows-clause-counts
-returns-in_err-put_rows-clause-counts g c = omega (arith, c.bodies.invariant.copied.steady, c.put_rows.ensures.counts)
-
-pub returns-in_err-put_rows-clause-disk : goal.returns-in_err-put_rows-clause-disk
-returns-in_err-put_rows-clause-disk g c = λ is.
-    let failed : c.put_rows.result ≡ Err StoreFault.Disk = search rules in
-    inr (omega (arith, c.bodies.invariant.copied.steady, c.put_rows.ensures.disk failed))
 
 pub returns-in_err-put_rows-clause-full : goal.returns-in_err-put_rows-clause-full
 returns-in_err-put_rows-clause-full g c = λ e failed_is tells before after each held is.
@@ -106,9 +96,6 @@ returns-clause-copied g c = (
 
 pub returns-clause-run : goal.returns-clause-run
 returns-clause-run g c = c.bodies.invariant.copied.run
-
-pub returns-clause-counts : goal.returns-clause-counts
-returns-clause-counts g c = omega (arith, c.bodies.invariant.copied.steady)
 
 pub returns-in_err-rows-clause-full : goal.returns-in_err-rows-clause-full
 returns-in_err-rows-clause-full g c = λ e is.
@@ -143,3 +130,18 @@ returns-in_err-put_rows-clause-few g c = λ f is.
 
 pub returns-clause-known : goal.returns-clause-known
 returns-clause-known g c = c.bodies.invariant.known
+
+pub returns-in_err-rows-clause-counts : goal.returns-in_err-rows-clause-counts
+returns-in_err-rows-clause-counts g c =
+    let is : c.from_residual.result ≡ Err c.in_err-rows.field-0.0 = search rules in
+    counted_behind _ _ _ _ _ _ _ c.bodies.invariant.steady c.bodies.invariant.copied.steady
+    (counted_one _ _ _ _ _ refl (λ failed. c.in_err-rows.ensures.disk (sym is ∙ failed)) (λ not. c.in_err-rows.ensures.no_fault (λ e. not (is ∙ e))) c.body_at.ensures.goes.counts)
+
+pub returns-in_err-put_rows-clause-counts : goal.returns-in_err-put_rows-clause-counts
+returns-in_err-put_rows-clause-counts g c =
+    let is : c.from_residual-in_err-put_rows.result ≡ Err c.in_err-put_rows.field-0.0 = search rules in
+    counted_behind _ _ _ _ _ _ _ (c.in_ok-rows.ensures.steady ∙ c.bodies.invariant.steady) c.bodies.invariant.copied.steady
+    (counted_two _ _ _ _ _ refl (λ failed. c.in_err-put_rows.ensures.disk (sym is ∙ failed)) (λ not. c.in_err-put_rows.ensures.no_fault (λ e. not (is ∙ e))) c.put_rows.ensures.counts)
+
+pub returns-clause-counts : goal.returns-clause-counts
+returns-clause-counts g c = counted_none _ _ _ _ _ (λ e. absurd cc) c.bodies.invariant.steady c.bodies.invariant.copied.steady

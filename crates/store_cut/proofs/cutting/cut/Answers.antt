@@ -9,7 +9,7 @@ use Rattle.cut_law.specs.Cut.{cut}
 use Rattle.store_cut.specs.Cutting.{IsUncut}
 use Rattle.relay_store.specs.declared.fault.StoreFault.{StoreFault}
 use Rattle.store_cut.proofs.CutFronts.{kept_none}
-use Rattle.store_cut.proofs.CutPairs.{may_at, still_pair}
+use Rattle.store_cut.proofs.CutPairs.{may_at, still_keeps, still_pair}
 use Rattle.relay_store.proofs.Reread.{last_fits, oldest_is, window_rises}
 use Rattle.store_cut.proofs.cutting.cut.Goals as goal
 
@@ -64,7 +64,7 @@ pub returns-in-Ok-clause-moments : goal.returns-in-Ok-clause-moments
 returns-in-Ok-clause-moments g c = λ tells J keeps.
     let last = keeps.core.last in
     let held : c.args.seq ≤ last_seq J = omega (arith, c.if-seq-last_seq.false, c.last_seq.ensures, last) in
-    c.write_anew.ensures.moments tells J c.args.seq keeps (c.in-Some.ensures.last (window_rises J _ _ keeps)) held c.args.store.now.side (c.requires.live tells)
+    c.write_anew.ensures.leaves.moments tells J c.args.seq keeps (c.in-Some.ensures.last (window_rises J _ _ keeps)) held c.args.store.now.side (c.requires.live tells)
 
 pub returns-in-Err-Disk-clause-may : goal.returns-in-Err-Disk-clause-may
 returns-in-Err-Disk-clause-may g c = λ no tells J keeps.
@@ -76,7 +76,7 @@ pub returns-in-Err-Disk-clause-moments : goal.returns-in-Err-Disk-clause-moments
 returns-in-Err-Disk-clause-moments g c = λ tells J keeps.
     let last = keeps.core.last in
     let held : c.args.seq ≤ last_seq J = omega (arith, c.if-seq-last_seq.false, c.last_seq.ensures, last) in
-    c.write_anew.ensures.moments tells J c.args.seq keeps (c.in-Some.ensures.last (window_rises J _ _ keeps)) held c.args.store.now.side (c.requires.live tells)
+    c.write_anew.ensures.leaves.moments tells J c.args.seq keeps (c.in-Some.ensures.last (window_rises J _ _ keeps)) held c.args.store.now.side (c.requires.live tells)
 
 pub returns-in-Err-clause-may : goal.returns-in-Err-clause-may
 returns-in-Err-clause-may g c = λ no tells J keeps.
@@ -88,19 +88,19 @@ pub returns-in-Err-clause-moments : goal.returns-in-Err-clause-moments
 returns-in-Err-clause-moments g c = λ tells J keeps.
     let last = keeps.core.last in
     let held : c.args.seq ≤ last_seq J = omega (arith, c.if-seq-last_seq.false, c.last_seq.ensures, last) in
-    c.write_anew.ensures.moments tells J c.args.seq keeps (c.in-Some.ensures.last (window_rises J _ _ keeps)) held c.args.store.now.side (c.requires.live tells)
+    c.write_anew.ensures.leaves.moments tells J c.args.seq keeps (c.in-Some.ensures.last (window_rises J _ _ keeps)) held c.args.store.now.side (c.requires.live tells)
 
 pub returns-in-Ok-clause-keeps : goal.returns-in-Ok-clause-keeps
 returns-in-Ok-clause-keeps g c = λ first behind is tells J keeps.
     let last = keeps.core.last in
     let held : c.args.seq ≤ last_seq J = omega (arith, c.if-seq-last_seq.false, c.last_seq.ensures, last) in
-    c.in-Ok.ensures.keeps tells J c.args.seq keeps (c.in-Some.ensures.last (window_rises J _ _ keeps)) held c.other_side-store.result
+    c.in-Ok.ensures.anew.keeps tells J c.args.seq keeps (c.in-Some.ensures.last (window_rises J _ _ keeps)) held c.other_side-store.result
 
 pub returns-in-Ok-clause-told : goal.returns-in-Ok-clause-told
 returns-in-Ok-clause-told g c = λ first behind is tells J keeps.
     let last = keeps.core.last in
     let held : c.args.seq ≤ last_seq J = omega (arith, c.if-seq-last_seq.false, c.last_seq.ensures, last) in
-    let kept = c.in-Ok.ensures.keeps tells J c.args.seq keeps (c.in-Some.ensures.last (window_rises J _ _ keeps)) held c.other_side-store.result in
+    let kept = c.in-Ok.ensures.anew.keeps tells J c.args.seq keeps (c.in-Some.ensures.last (window_rises J _ _ keeps)) held c.other_side-store.result in
     let fits = last_fits (cut J c.args.seq) kept.are.journal in
     let core = kept.core.last in
     let one : c.oldest.result ≡ first = cc in
@@ -115,7 +115,7 @@ returns-in-Ok-clause-told g c = λ first behind is tells J keeps.
 pub returns-in-Ok-clause-room : goal.returns-in-Ok-clause-room
 returns-in-Ok-clause-room g c = λ first behind is tells.
     let on = c.requires.on tells in
-    c.in-Ok.ensures.room tells on.0 c.args.seq on.1 (c.in-Some.ensures.last (window_rises on.0 _ _ on.1))
+    c.in-Ok.ensures.anew.room tells on.0 c.args.seq on.1 (c.in-Some.ensures.last (window_rises on.0 _ _ on.1))
 
 pub returns-in-Err-clause-full : goal.returns-in-Err-clause-full
 returns-in-Err-clause-full g c = λ e is tells J keeps.
@@ -132,7 +132,7 @@ returns-in-Err-clause-no_bad_log g c = λ p is tells.
 
 pub returns-in-Ok-clause-bodies : goal.returns-in-Ok-clause-bodies
 returns-in-Ok-clause-bodies g c = λ first behind is tells J keeps.
-    c.in-Ok.ensures.bodies tells J c.args.seq keeps (c.in-Some.ensures.last (window_rises J _ _ keeps))
+    c.in-Ok.ensures.anew.bodies tells J c.args.seq keeps (c.in-Some.ensures.last (window_rises J _ _ keeps))
 
 pub returns-then-seq-last_seq-clause-time : goal.returns-then-seq-last_seq-clause-time
 returns-then-seq-last_seq-clause-time g c = λ tells. time_here _ (g.met.D.Disk.is_disk _)
@@ -144,7 +144,63 @@ pub returns-then-generation-clause-time : goal.returns-then-generation-clause-ti
 returns-then-generation-clause-time g c = λ tells. time_here _ (g.met.D.Disk.is_disk _)
 
 pub returns-in-Ok-clause-known : goal.returns-in-Ok-clause-known
-returns-in-Ok-clause-known g c = λ first behind is. c.in-Ok.ensures.known
+returns-in-Ok-clause-known g c = λ first behind is. c.in-Ok.ensures.anew.known
 
 pub returns-in-Ok-clause-numbers : goal.returns-in-Ok-clause-numbers
-returns-in-Ok-clause-numbers g c = λ first behind is. c.in-Ok.ensures.numbers
+returns-in-Ok-clause-numbers g c = λ first behind is. c.in-Ok.ensures.anew.numbers
+
+pub returns-in-Ok-clause-anew : goal.returns-in-Ok-clause-anew
+returns-in-Ok-clause-anew g c = λ first behind is. (c.other_side-store.ensures, c.in-Ok.ensures.anew.format, c.in-Ok.ensures.anew.most)
+
+pub returns-in-Ok-clause-open : goal.returns-in-Ok-clause-open
+returns-in-Ok-clause-open g c = λ not. c.in-Ok.ensures.anew.opened
+
+pub returns-in-Ok-clause-time : goal.returns-in-Ok-clause-time
+returns-in-Ok-clause-time g c = c.write_anew.ensures.leaves.time
+
+pub returns-in-Ok-clause-goes : goal.returns-in-Ok-clause-goes
+returns-in-Ok-clause-goes g c = c.write_anew.ensures.leaves.goes
+
+pub returns-in-Ok-clause-kept : goal.returns-in-Ok-clause-kept
+returns-in-Ok-clause-kept g c = λ tells J keeps. still_keeps J _ _ _ keeps (c.write_anew.ensures.leaves.holds tells)
+
+pub returns-in-Ok-clause-counts : goal.returns-in-Ok-clause-counts
+returns-in-Ok-clause-counts g c = c.write_anew.ensures.counts.two_kept
+
+pub returns-in-Err-Disk-clause-time : goal.returns-in-Err-Disk-clause-time
+returns-in-Err-Disk-clause-time g c = c.write_anew.ensures.leaves.time
+
+pub returns-in-Err-Disk-clause-goes : goal.returns-in-Err-Disk-clause-goes
+returns-in-Err-Disk-clause-goes g c = c.write_anew.ensures.leaves.goes
+
+pub returns-in-Err-Disk-clause-kept : goal.returns-in-Err-Disk-clause-kept
+returns-in-Err-Disk-clause-kept g c = λ tells J keeps. still_keeps J _ _ _ keeps (c.write_anew.ensures.leaves.holds tells)
+
+pub returns-in-Err-Disk-clause-counts : goal.returns-in-Err-Disk-clause-counts
+returns-in-Err-Disk-clause-counts g c = c.write_anew.ensures.counts.two_kept
+
+pub returns-in-Err-clause-time : goal.returns-in-Err-clause-time
+returns-in-Err-clause-time g c = c.write_anew.ensures.leaves.time
+
+pub returns-in-Err-clause-goes : goal.returns-in-Err-clause-goes
+returns-in-Err-clause-goes g c = c.write_anew.ensures.leaves.goes
+
+pub returns-in-Err-clause-kept : goal.returns-in-Err-clause-kept
+returns-in-Err-clause-kept g c = λ tells J keeps. still_keeps J _ _ _ keeps (c.write_anew.ensures.leaves.holds tells)
+
+pub returns-in-Err-clause-counts : goal.returns-in-Err-clause-counts
+returns-in-Err-clause-counts g c = c.write_anew.ensures.counts.two_kept
+
+pub returns-in-Ok-clause-steady : goal.returns-in-Ok-clause-steady
+returns-in-Ok-clause-steady g c = λ not. c.in-Ok.ensures.counts.steady (λ e. absurd cc)
+
+pub returns-in-Err-Disk-clause-disk : goal.returns-in-Err-Disk-clause-disk
+returns-in-Err-Disk-clause-disk g c = λ is.
+    let failed : c.write_anew.result ≡ Err StoreFault.Disk = search rules in
+    c.write_anew.ensures.counts.rose failed
+
+pub returns-in-Err-clause-disk : goal.returns-in-Err-clause-disk
+returns-in-Err-clause-disk g c = λ is. c.in-Err.ensures.counts.rose is
+
+pub returns-in-Err-clause-steady : goal.returns-in-Err-clause-steady
+returns-in-Err-clause-steady g c = λ not. c.in-Err.ensures.counts.steady not

@@ -1,5 +1,4 @@
-use Rattle.std.proofs.Common.{◌≡◌, ◌∙◌, ◌∷◌, ◌++◌, [], List, Err, ap, rules, subst, sym}
-use Rattle.std.proofs.lemmas.Result.{on_err_weaker}
+use Rattle.std.proofs.Common.{◌≡◌, ◌∙◌, ◌∷◌, ◌++◌, [], List, Err, ap, refl, rules, subst, sym}
 use Rattle.relay_disk.proofs.Moments.{joined, no_call, still_again}
 use Rattle.gate_log.specs.Build.{IsClosed}
 use Rattle.gate_log.specs.Log.{HoldsBodies as HasBodies}
@@ -15,6 +14,7 @@ use Rattle.relay_store.specs.Journals.{joined as rows_of}
 use Rattle.store_cut.specs.Rewriting.{RewriteHasNoRoom}
 use Rattle.relay_store.specs.declared.fault.StoreFault.{StoreFault}
 use Rattle.store_cut.proofs.Carried.{cut_is}
+use Rattle.store_cut.proofs.Counting.{counted_behind, counted_one, counted_two}
 use Rattle.store_cut.proofs.CutFronts.{kept_at}
 use Rattle.store_cut.proofs.Rewritten.{adding_is, copied_both, no_room_behind, no_room_front, on_ok_as, reading_is}
 use Rattle.store_cut.proofs.cutting.fill.Goals as goal
@@ -123,7 +123,16 @@ returns-clause-known g c = on_ok_as c.copy_behind.result (λ known empty.
       ),
     )) c.copy_behind.ensures.known
 
-pub returns-clause-no_fault : goal.returns-clause-no_fault
-returns-clause-no_fault g c = on_err_weaker c.copy_behind.result (λ fine other.
-    let behind = fine other in
-    (behind.0 ∙ c.in_ok-front.ensures.steady, behind.1 ∙ c.in_ok-carry.ensures.copied.1.steady)) c.copy_behind.ensures.no_fault
+pub returns-in_err-front-clause-counts : goal.returns-in_err-front-clause-counts
+returns-in_err-front-clause-counts g c =
+    let is : c.from_residual.result ≡ Err c.in_err-front.field-0.0 = search rules in
+    counted_one _ _ _ _ _ refl (λ failed. c.in_err-front.ensures.disk (sym is ∙ failed)) (λ not. c.in_err-front.ensures.no_fault (λ e. not (is ∙ e))) c.fold_upto.ensures.goes.counts
+
+pub returns-in_err-carry-clause-counts : goal.returns-in_err-carry-clause-counts
+returns-in_err-carry-clause-counts g c =
+    let is : c.from_residual-in_err-carry.result ≡ Err c.in_err-carry.field-0.0 = search rules in
+    counted_behind _ _ _ _ _ _ _ c.in_ok-front.ensures.steady refl
+    (counted_two _ _ _ _ _ refl (λ failed. c.in_err-carry.ensures.disk (sym is ∙ failed)) (λ not. c.in_err-carry.ensures.no_fault (λ e. not (is ∙ e))) c.carry.ensures.counts)
+
+pub returns-clause-counts : goal.returns-clause-counts
+returns-clause-counts g c = counted_behind _ _ _ _ _ _ _ c.in_ok-front.ensures.steady c.in_ok-carry.ensures.copied.1.steady c.copy_behind.ensures.counts

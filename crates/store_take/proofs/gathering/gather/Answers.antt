@@ -1,7 +1,7 @@
 use Rattle.std.proofs.Common.{◌≡◌, ◌∙◌, ◌+◌, ◌++◌, ◌∷◌, [], List, drop, length, inl, ⊎_elim, Some, None, arith, refl, sym, ap, subst, length-drop}
 use Rattle.std.proofs.lemmas.List.{drop_all}
 use Rattle.at_syntax.specs.Host.{is_host}
-use Rattle.relay_step.specs.Around.{Around, around}
+use Rattle.relay_step.specs.Around.{Around, around_of}
 use Rattle.store_take.specs.Batches.{message_from}
 use Rattle.store_take.specs.Taking.{IsGathering, Stopped}
 use Rattle.relay_store.specs.declared.fault.StoreFault.{StoreFault}
@@ -14,7 +14,7 @@ use Rattle.store_take.proofs.Spent.{late_not_authority, spent_vain}
 use Rattle.store_take.proofs.gathering.gather.Goals as goal
 
 pub group-init : goal.group-init
-group-init g c = record { taken = at_start _ _ _ _ _ _ _ _ _ c.requires.rows c.requires.no_outcome; clock_counts = omega arith; repos_count = omega arith; clock_steady = refl; repos_steady = refl; unspent = λ name spent. spent }
+group-init g c = record { taken = at_start _ _ _ _ _ _ _ _ _ c.requires.rows c.new-outcomes.ensures.items; clock_counts = omega arith; repos_count = omega arith; clock_steady = refl; repos_steady = refl; unspent = λ name spent. spent; same = record { judges = refl; repos = refl; clock = refl } }
 
 pub prepare-requires-clause-host : goal.prepare-requires-clause-host
 prepare-requires-clause-host g c = ap is_host c.as_str-host.ensures.value ∙ host_at c.args.group.now c.group.message-index c.message-item.result c.requires.hosts c.group-test.true c.message-item.is
@@ -32,15 +32,15 @@ prepare-requires-clause-fits g c = c.group.invariant.taken.gathered.fits
 
 pub returns-then-is_err-clause-stopped : goal.returns-then-is_err-clause-stopped
 returns-then-is_err-clause-stopped g c =
-    let a : Around = around (g.P.Judges.panel c.args.judges.now) (g.C.Clock.moments c.args.clock.now) (g.R.Repos.repository c.args.repos.now) in
-    let b : Around = around (g.P.Judges.panel c.group.judges) (g.C.Clock.moments c.group.clock) (g.R.Repos.repository c.group.repos) in
+    let a : Around = around_of g.P.Judges.panel g.C.Clock.moments g.R.Repos.repository c.args.asked.now in
+    let b : Around = around_of g.P.Judges.panel g.C.Clock.moments g.R.Repos.repository c.group.asked in
     subst (λ (os : List Outcome). Stopped g.C.Clock.tells g.R.Repos.tells c.args.log.now c.args.group.now c.args.core.now c.group.core c.args.window.now.places c.group.window.places c.group.pending a b os (Some StoreFault.Memory)) (sym c.reserve.ensures.items)
     (stops_here _ _ _ _ _ _ _ _ _ _ _ _ _ c.group.invariant.taken (Some StoreFault.Memory) (omega arith) (λ none. let no : ⊥ = cc in absurd no) (λ failed none. let no : ⊥ = omega (arith, ap length none, length-drop c.group.message-index c.args.group.now, c.group-test.true) in no) (λ x. nothing_in_vain _ _ x x _ (nothing_here _ _ x)) tt (next_none _ _ _ _ _ _ StoreFault.Memory tt))
 
 pub returns-in-Err-clause-stopped : goal.returns-in-Err-clause-stopped
 returns-in-Err-clause-stopped g c =
-    let a : Around = around (g.P.Judges.panel c.args.judges.now) (g.C.Clock.moments c.args.clock.now) (g.R.Repos.repository c.args.repos.now) in
-    let b : Around = around (g.P.Judges.panel c.prepare.new.judges) (g.C.Clock.moments c.prepare.new.clock) (g.R.Repos.repository c.prepare.new.repos) in
+    let a : Around = around_of g.P.Judges.panel g.C.Clock.moments g.R.Repos.repository c.args.asked.now in
+    let b : Around = around_of g.P.Judges.panel g.C.Clock.moments g.R.Repos.repository c.prepare.new.asked in
     let m : Message = message_from c.as_str-host.result.now c.as_slice-bytes.result.now in
     let same : m ≡ c.message-item.result = λ i. record { host = c.as_str-host.ensures.value i; bytes = c.as_slice-bytes.ensures.value i } in
     let now = at_next _ _ _ _ c.group.message-index c.message-item.result m _ _ _ _ _ _ _ _ c.group-test.true c.message-item.is same c.group.invariant.taken in
@@ -53,8 +53,8 @@ returns-in-Err-clause-stopped g c =
 
 pub returns-then-is_end-clause-stopped : goal.returns-then-is_end-clause-stopped
 returns-then-is_end-clause-stopped g c =
-    let a : Around = around (g.P.Judges.panel c.args.judges.now) (g.C.Clock.moments c.args.clock.now) (g.R.Repos.repository c.args.repos.now) in
-    let b : Around = around (g.P.Judges.panel c.prepare.new.judges) (g.C.Clock.moments c.prepare.new.clock) (g.R.Repos.repository c.prepare.new.repos) in
+    let a : Around = around_of g.P.Judges.panel g.C.Clock.moments g.R.Repos.repository c.args.asked.now in
+    let b : Around = around_of g.P.Judges.panel g.C.Clock.moments g.R.Repos.repository c.prepare.new.asked in
     let m : Message = message_from c.as_str-host.result.now c.as_slice-bytes.result.now in
     let same : m ≡ c.message-item.result = λ i. record { host = c.as_str-host.ensures.value i; bytes = c.as_slice-bytes.ensures.value i } in
     let now = at_next _ _ _ _ c.group.message-index c.message-item.result m _ _ _ _ _ _ _ _ c.group-test.true c.message-item.is same c.group.invariant.taken in
@@ -65,8 +65,8 @@ returns-then-is_end-clause-stopped g c =
 
 pub group-preserved : goal.group-preserved
 group-preserved g c =
-    let a : Around = around (g.P.Judges.panel c.args.judges.now) (g.C.Clock.moments c.args.clock.now) (g.R.Repos.repository c.args.repos.now) in
-    let b : Around = around (g.P.Judges.panel c.prepare.new.judges) (g.C.Clock.moments c.prepare.new.clock) (g.R.Repos.repository c.prepare.new.repos) in
+    let a : Around = around_of g.P.Judges.panel g.C.Clock.moments g.R.Repos.repository c.args.asked.now in
+    let b : Around = around_of g.P.Judges.panel g.C.Clock.moments g.R.Repos.repository c.prepare.new.asked in
     let m : Message = message_from c.as_str-host.result.now c.as_slice-bytes.result.now in
     let same : m ≡ c.message-item.result = λ i. record { host = c.as_str-host.ensures.value i; bytes = c.as_slice-bytes.ensures.value i } in
     let now = at_next _ _ _ _ c.group.message-index c.message-item.result m _ _ _ _ _ _ _ _ c.group-test.true c.message-item.is same c.group.invariant.taken in
@@ -80,6 +80,11 @@ group-preserved g c =
       clock_steady = c.in-Ok.ensures.clock_steady (λ err. absurd cc) ∙ c.group.invariant.clock_steady;
       repos_steady = c.in-Ok.ensures.repos_steady (λ err. absurd cc) ∙ c.group.invariant.repos_steady;
       unspent = λ name spent. c.group.invariant.unspent name (c.in-Ok.ensures.unspent (λ err. absurd cc) name spent);
+      same = record {
+        judges = c.prepare.ensures.same.judges ∙ c.group.invariant.same.judges;
+        repos = c.prepare.ensures.same.repos ∙ c.group.invariant.same.repos;
+        clock = c.prepare.ensures.same.clock ∙ c.group.invariant.same.clock;
+      };
     }
 
 pub returns-clause-stopped : goal.returns-clause-stopped

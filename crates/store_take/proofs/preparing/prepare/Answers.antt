@@ -2,7 +2,7 @@ use Rattle.std.proofs.Common.{◌≡◌, ◌∙◌, Err, inl, sym, ap, subst}
 use Rattle.std.proofs.lemmas.Result.{IfOk-weaker}
 use Rattle.at_cid.specs.Counts.{Rose}
 use Rattle.at_event.specs.Frames.{frame_of}
-use Rattle.relay_step.specs.Around.{Around, around}
+use Rattle.relay_step.specs.Around.{Around, around_of}
 use Rattle.relay_step.specs.Messages.{told_as}
 use Rattle.relay_step.specs.declared.fault.StepFault.{StepFault}
 use Rattle.relay_store.specs.Faults.{IsRisen}
@@ -14,19 +14,19 @@ use Rattle.store_take.proofs.preparing.prepare.Goals as goal
 
 pub returns-in-Ok-clause-prepared : goal.returns-in-Ok-clause-prepared
 returns-in-Ok-clause-prepared g c =
-    let a : Around = around (g.P.Judges.panel c.args.judges.now) (g.C.Clock.moments c.args.clock.now) (g.R.Repos.repository c.args.repos.now) in
-    let b : Around = around (g.P.Judges.panel c.decide_message.new.judges) (g.C.Clock.moments c.decide_message.new.clock) (g.R.Repos.repository c.decide_message.new.repos) in
-    let taken : IsTaken g.C.Clock.tells g.R.Repos.tells c.args.core.now c.args.host.now c.args.message.now (told_as c.in-Ok.told) a b = record { decided = c.in-Ok.ensures.told; asked = c.in-Ok.ensures.asked; journal = c.in-Ok.ensures.formed } in
-    prepared_by g.C.Clock.tells g.R.Repos.tells c.args.log.now c.args.host.now c.args.message.now _ _ _ _ _ _ a b (told_as c.in-Ok.told) taken c.take_decided.result
-    (IfOk-weaker c.take_decided.result _ _ (λ o is. is (frame_of c.args.message.now) c.in-Ok.ensures.passed) c.take_decided.ensures.ok) c.take_decided.ensures.added c.take_decided.ensures.as_before c.take_decided.ensures.late
+    let a : Around = around_of g.P.Judges.panel g.C.Clock.moments g.R.Repos.repository c.args.asked.now in
+    let b : Around = around_of g.P.Judges.panel g.C.Clock.moments g.R.Repos.repository c.decide_message.new.asked in
+    let taken : IsTaken g.C.Clock.tells g.R.Repos.tells c.args.core.now c.args.message.host.now c.args.message.bytes.now (told_as c.in-Ok.told) a b = record { decided = c.in-Ok.ensures.told; asked = c.in-Ok.ensures.asked; journal = c.in-Ok.ensures.formed } in
+    prepared_by g.C.Clock.tells g.R.Repos.tells c.args.log.now c.args.message.host.now c.args.message.bytes.now _ _ _ _ _ _ a b (told_as c.in-Ok.told) taken c.take_decided.result
+    (IfOk-weaker c.take_decided.result _ _ (λ o is. is (frame_of c.args.message.bytes.now) c.in-Ok.ensures.passed) c.take_decided.ensures.ok) c.take_decided.ensures.added c.take_decided.ensures.as_before c.take_decided.ensures.late
 
 pub returns-in-Err-clause-prepared : goal.returns-in-Err-clause-prepared
 returns-in-Err-clause-prepared g c =
-    let a : Around = around (g.P.Judges.panel c.args.judges.now) (g.C.Clock.moments c.args.clock.now) (g.R.Repos.repository c.args.repos.now) in
-    let b : Around = around (g.P.Judges.panel c.decide_message.new.judges) (g.C.Clock.moments c.decide_message.new.clock) (g.R.Repos.repository c.decide_message.new.repos) in (
+    let a : Around = around_of g.P.Judges.panel g.C.Clock.moments g.R.Repos.repository c.args.asked.now in
+    let b : Around = around_of g.P.Judges.panel g.C.Clock.moments g.R.Repos.repository c.decide_message.new.asked in (
       unchanged_here _ _ _,
-      inl (subst (λ (f : StoreFault). IsInVain g.C.Clock.tells g.R.Repos.tells c.args.core.now c.args.core.now c.args.host.now c.args.message.now a b f) (sym c.of_step.ensures)
-          (vain_of g.C.Clock.tells g.R.Repos.tells c.args.core.now c.args.host.now c.args.message.now a b _ _ c.in-Err.fault c.in-Err.ensures.in_vain c.in-Err.ensures.caused)),
+      inl (subst (λ (f : StoreFault). IsInVain g.C.Clock.tells g.R.Repos.tells c.args.core.now c.args.core.now c.args.message.host.now c.args.message.bytes.now a b f) (sym c.of_step.ensures)
+          (vain_of g.C.Clock.tells g.R.Repos.tells c.args.core.now c.args.message.host.now c.args.message.bytes.now a b _ _ c.in-Err.fault c.in-Err.ensures.in_vain c.in-Err.ensures.caused)),
     )
 
 pub returns-in-Ok-clause-risen : goal.returns-in-Ok-clause-risen
@@ -34,7 +34,7 @@ returns-in-Ok-clause-risen g c = risen_by c.args.log.now c.args.pending.now (tol
 
 pub returns-in-Err-clause-risen : goal.returns-in-Err-clause-risen
 returns-in-Err-clause-risen g c =
-    subst (IsRisen (Rose (g.R.Repos.faults c.args.repos.now) (g.R.Repos.faults c.decide_message.new.repos)) (Rose (g.C.Clock.faults c.args.clock.now) (g.C.Clock.faults c.decide_message.new.clock))) (sym c.of_step.ensures)
+    subst (IsRisen (Rose (g.R.Repos.faults c.args.asked.now.repos.now) (g.R.Repos.faults c.decide_message.new.asked.repos.now)) (Rose (g.C.Clock.faults c.args.asked.now.clock.now) (g.C.Clock.faults c.decide_message.new.asked.clock.now))) (sym c.of_step.ensures)
     (risen_of _ _ _ _ c.in-Err.fault c.in-Err.ensures.caused)
 
 pub returns-in-Ok-clause-clock_steady : goal.returns-in-Ok-clause-clock_steady

@@ -1,5 +1,5 @@
 use Rattle.std.proofs.Common.{rules, ◌≡◌, ◌≢◌, ◌∙◌, [], ◌∷◌, Some, None, ⊎_elim, refl, sym, arith}
-use Rattle.relay_step.specs.Around.{Around, around}
+use Rattle.relay_step.specs.Around.{Around, around_of}
 use Rattle.store_take.specs.Batches.{message_from}
 use Rattle.relay_store.specs.Store.{seen_in}
 use Rattle.relay_store.specs.declared.fault.StoreFault.{StoreFault}
@@ -16,7 +16,7 @@ returns-in-Err-clause-batched g c = λ J of. batched_none g.D.Disk.view _ _ _ J 
 
 pub returns-in-Err-prepare-clause-batched : goal.returns-in-Err-prepare-clause-batched
 returns-in-Err-prepare-clause-batched g c =
-    let a : Around = around (g.P.Judges.panel c.args.judges.now) (g.C.Clock.moments c.args.clock.now) (g.R.Repos.repository c.args.repos.now) in
+    let a : Around = around_of g.P.Judges.panel g.C.Clock.moments g.R.Repos.repository c.args.asked.now in
     let m : Message = message_from c.args.host.now c.args.message.now in
     let now = at_start g.C.Clock.tells g.R.Repos.tells c.args.store.now.log (m ∷ []) c.args.store.now.core c.args.store.now.window.places c.start.new.self a [] c.in-Ok.ensures refl in
     let made = c.in-Err-prepare.ensures.prepared in
@@ -32,7 +32,7 @@ returns-in-Err-prepare-clause-batched g c =
 
 pub commit-requires-clause-rows : goal.commit-requires-clause-rows
 commit-requires-clause-rows g c =
-    let a : Around = around (g.P.Judges.panel c.args.judges.now) (g.C.Clock.moments c.args.clock.now) (g.R.Repos.repository c.args.repos.now) in
+    let a : Around = around_of g.P.Judges.panel g.C.Clock.moments g.R.Repos.repository c.args.asked.now in
     let m : Message = message_from c.args.host.now c.args.message.now in
     let now = at_start g.C.Clock.tells g.R.Repos.tells c.args.store.now.log (m ∷ []) c.args.store.now.core c.args.store.now.window.places c.start.new.self a [] c.in-Ok.ensures refl in
     let made = c.in-Ok-prepare.ensures.prepared in
@@ -41,7 +41,7 @@ commit-requires-clause-rows g c =
 
 pub commit-requires-clause-few : goal.commit-requires-clause-few
 commit-requires-clause-few g c =
-    let a : Around = around (g.P.Judges.panel c.args.judges.now) (g.C.Clock.moments c.args.clock.now) (g.R.Repos.repository c.args.repos.now) in
+    let a : Around = around_of g.P.Judges.panel g.C.Clock.moments g.R.Repos.repository c.args.asked.now in
     let m : Message = message_from c.args.host.now c.args.message.now in
     let now = at_start g.C.Clock.tells g.R.Repos.tells c.args.store.now.log (m ∷ []) c.args.store.now.core c.args.store.now.window.places c.start.new.self a [] c.in-Ok.ensures refl in
     let made = c.in-Ok-prepare.ensures.prepared in
@@ -50,7 +50,7 @@ commit-requires-clause-few g c =
 
 pub returns-in-Ok-commit-clause-batched : goal.returns-in-Ok-commit-clause-batched
 returns-in-Ok-commit-clause-batched g c =
-    let a : Around = around (g.P.Judges.panel c.args.judges.now) (g.C.Clock.moments c.args.clock.now) (g.R.Repos.repository c.args.repos.now) in
+    let a : Around = around_of g.P.Judges.panel g.C.Clock.moments g.R.Repos.repository c.args.asked.now in
     let m : Message = message_from c.args.host.now c.args.message.now in
     let now = at_start g.C.Clock.tells g.R.Repos.tells c.args.store.now.log (m ∷ []) c.args.store.now.core c.args.store.now.window.places c.start.new.self a [] c.in-Ok.ensures refl in
     let made = c.in-Ok-prepare.ensures.prepared in
@@ -68,7 +68,7 @@ returns-in-Ok-commit-clause-on g c = λ not tells.
 
 pub returns-in-Err-commit-clause-batched : goal.returns-in-Err-commit-clause-batched
 returns-in-Err-commit-clause-batched g c =
-    let a : Around = around (g.P.Judges.panel c.args.judges.now) (g.C.Clock.moments c.args.clock.now) (g.R.Repos.repository c.args.repos.now) in
+    let a : Around = around_of g.P.Judges.panel g.C.Clock.moments g.R.Repos.repository c.args.asked.now in
     let m : Message = message_from c.args.host.now c.args.message.now in
     let now = at_start g.C.Clock.tells g.R.Repos.tells c.args.store.now.log (m ∷ []) c.args.store.now.core c.args.store.now.window.places c.start.new.self a [] c.in-Ok.ensures refl in
     let made = c.in-Ok-prepare.ensures.prepared in

@@ -4,7 +4,7 @@ use Rattle.backfill.specs.Served.{served}
 use Rattle.relay_core.specs.Entries.{cursor_in}
 use Rattle.relay_core.specs.declared.journal_state.Core.{Core}
 use Rattle.relay_step.proofs.Taken.{cursor_tells}
-use Rattle.run_base.specs.Counts.{Counted}
+use Rattle.at_cid.specs.Counts.{Counted}
 use Rattle.run_base.specs.Place.{place_of, tells_of}
 use Rattle.take_run.proofs.FeedSteps.{stream_as, value_at}
 use Rattle.chain_run.specs.Ends.{ChainTold}

@@ -1,7 +1,7 @@
 use Rattle.std.proofs.Common.{ℕ, subst, rules}
 use Rattle.at_authority.specs.Trusting.{trusting}
 use Rattle.relay_store.specs.Shown.{held_by}
-use Rattle.run_base.specs.Counts.{Counted}
+use Rattle.at_cid.specs.Counts.{Counted}
 use Rattle.run_base.specs.Place.{place_of}
 use Rattle.take_run.proofs.FeedSteps.{value_at}
 use Rattle.chain_run.specs.Ends.{ChainTold}

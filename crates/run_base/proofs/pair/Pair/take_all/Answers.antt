@@ -1,7 +1,7 @@
 use Rattle.std.proofs.Common.{◌≡◌, sym, subst}
 use Rattle.gate_log.specs.declared.picking.Side.{Side}
 use Rattle.gate_log.specs.declared.picking.Side.TheVariants.{One, Two}
-use Rattle.relay_step.specs.Around.{around}
+use Rattle.relay_step.specs.Around.{around_of}
 use Rattle.relay_step.specs.Causes.{SpendsNone}
 use Rattle.store_take.specs.Batches.{DiskFailed, scene}
 use Rattle.relay_store.specs.Pairs.{of_pair}
@@ -24,15 +24,15 @@ returns-in-Two-clause-on g c = λ other told. let kept = c.take_all-in-Two.ensur
 pub returns-in-One-clause-disk_failed : goal.returns-in-One-clause-disk_failed
 returns-in-One-clause-disk_failed g c = λ failed J of.
     on_one (λ x y. DiskFailed g.D.Disk.view g.D.Disk.tells g.C.Clock.tells g.R.Repos.tells J c.args.group.now
-    (scene (seen_in c.args.store.now) x (around (g.P.Judges.panel c.args.asked.now.judges.now) (g.C.Clock.moments c.args.asked.now.clock.now) (g.R.Repos.repository c.args.asked.now.repos.now)))
-    (scene (seen_in c.take_all.new.store) y (around (g.P.Judges.panel c.take_all.new.judges) (g.C.Clock.moments c.take_all.new.clock) (g.R.Repos.repository c.take_all.new.repos)))
-    ((g.C.Clock.faults c.take_all.new.clock ≡ g.C.Clock.faults c.args.asked.now.clock.now) × (g.R.Repos.faults c.take_all.new.repos ≡ g.R.Repos.faults c.args.asked.now.repos.now) × SpendsNone (g.P.Judges.panel c.args.asked.now.judges.now) (g.P.Judges.panel c.take_all.new.judges)))
+    (scene (seen_in c.args.store.now) x (around_of g.P.Judges.panel g.C.Clock.moments g.R.Repos.repository c.args.asked.now))
+    (scene (seen_in c.take_all.new.store) y (around_of g.P.Judges.panel g.C.Clock.moments g.R.Repos.repository c.take_all.new.asked))
+    ((g.C.Clock.faults c.take_all.new.asked.clock.now ≡ g.C.Clock.faults c.args.asked.now.clock.now) × (g.R.Repos.faults c.take_all.new.asked.repos.now ≡ g.R.Repos.faults c.args.asked.now.repos.now) × SpendsNone (g.P.Judges.panel c.args.asked.now.judges.now) (g.P.Judges.panel c.take_all.new.asked.judges.now)))
     c.args.store.now.side (sym c.in-One.ensures) c.args.self.now.one.now c.args.self.now.two.now c.take_all.new.disk c.args.self.now.two.now (c.take_all.ensures.disk_failed failed J of)
 
 pub returns-in-Two-clause-disk_failed : goal.returns-in-Two-clause-disk_failed
 returns-in-Two-clause-disk_failed g c = λ failed J of.
     on_two (λ x y. DiskFailed g.D.Disk.view g.D.Disk.tells g.C.Clock.tells g.R.Repos.tells J c.args.group.now
-    (scene (seen_in c.args.store.now) x (around (g.P.Judges.panel c.args.asked.now.judges.now) (g.C.Clock.moments c.args.asked.now.clock.now) (g.R.Repos.repository c.args.asked.now.repos.now)))
-    (scene (seen_in c.take_all-in-Two.new.store) y (around (g.P.Judges.panel c.take_all-in-Two.new.judges) (g.C.Clock.moments c.take_all-in-Two.new.clock) (g.R.Repos.repository c.take_all-in-Two.new.repos)))
-    ((g.C.Clock.faults c.take_all-in-Two.new.clock ≡ g.C.Clock.faults c.args.asked.now.clock.now) × (g.R.Repos.faults c.take_all-in-Two.new.repos ≡ g.R.Repos.faults c.args.asked.now.repos.now) × SpendsNone (g.P.Judges.panel c.args.asked.now.judges.now) (g.P.Judges.panel c.take_all-in-Two.new.judges)))
+    (scene (seen_in c.args.store.now) x (around_of g.P.Judges.panel g.C.Clock.moments g.R.Repos.repository c.args.asked.now))
+    (scene (seen_in c.take_all-in-Two.new.store) y (around_of g.P.Judges.panel g.C.Clock.moments g.R.Repos.repository c.take_all-in-Two.new.asked))
+    ((g.C.Clock.faults c.take_all-in-Two.new.asked.clock.now ≡ g.C.Clock.faults c.args.asked.now.clock.now) × (g.R.Repos.faults c.take_all-in-Two.new.asked.repos.now ≡ g.R.Repos.faults c.args.asked.now.repos.now) × SpendsNone (g.P.Judges.panel c.args.asked.now.judges.now) (g.P.Judges.panel c.take_all-in-Two.new.asked.judges.now)))
     c.args.store.now.side (sym c.in-Two.ensures) c.args.self.now.one.now c.args.self.now.two.now c.args.self.now.one.now c.take_all-in-Two.new.disk (c.take_all-in-Two.ensures.disk_failed failed J of)

@@ -6,7 +6,7 @@ use Rattle.relay_core.specs.Table.{next_of}
 use Rattle.relay_core.specs.declared.answers.Answers.{Answers}
 use Rattle.relay_core.specs.declared.decision.Next.{Next}
 use Rattle.relay_step.proofs.Vain.{last_other, vain_with}
-use Rattle.relay_step.proofs.asking.ask_known.Goals as goal
+use Rattle.relay_step.proofs.asking.ask_all.Goals as goal
 
 -- what comes next is told by a cursor and an account that are as those
 next_as : (cursor known : ℕ) (a b : State) (frame : Frame) (answers : Answers) (r : Next) → cursor ≡ known → a ≡ b → r ≡ next_of cursor a frame answers → r ≡ next_of known b frame answers
@@ -15,11 +15,11 @@ next_as cursor known a b frame answers r here same is =
 
 pub returns-then-is_fetch-clause-next : goal.returns-then-is_fetch-clause-next
 returns-then-is_fetch-clause-next g c =
-    next_as c.args.cursor (cursor_in c.args.core.now c.args.host.now) (state_in c.args.account) (account_in c.args.core.now c.args.event.now.did) (Frame.Event c.args.event.now) c.asking.answers (Next.Ask c.in-Ask.question) c.requires.cursor c.requires.account c.in-Ask.ensures
+    next_as c.cursor-cursor.result (cursor_in c.args.core.now c.args.host.now) (state_in c.account_of-account.result) (account_in c.args.core.now c.args.event.now.did) (Frame.Event c.args.event.now) c.asking.answers (Next.Ask c.in-Ask.question) c.cursor-cursor.ensures c.account_of-account.ensures c.in-Ask.ensures
 
 pub ask_one-requires-clause-asks : goal.ask_one-requires-clause-asks
 ask_one-requires-clause-asks g c =
-    sym (next_as c.args.cursor (cursor_in c.args.core.now c.args.host.now) (state_in c.args.account) (account_in c.args.core.now c.args.event.now.did) (Frame.Event c.args.event.now) c.asking.answers (Next.Ask c.in-Ask.question) c.requires.cursor c.requires.account c.in-Ask.ensures)
+    sym (next_as c.cursor-cursor.result (cursor_in c.args.core.now c.args.host.now) (state_in c.account_of-account.result) (account_in c.args.core.now c.args.event.now.did) (Frame.Event c.args.event.now) c.asking.answers (Next.Ask c.in-Ask.question) c.cursor-cursor.ensures c.account_of-account.ensures c.in-Ask.ensures)
 
 pub asking-preserved : goal.asking-preserved
 asking-preserved g c = record {
@@ -37,7 +37,7 @@ returns-in-Err-clause-in_vain g c =
 pub returns-in_default : goal.returns-in_default
 returns-in_default g c = record {
   asked = c.asking.invariant.asked;
-  next = next_as c.args.cursor (cursor_in c.args.core.now c.args.host.now) (state_in c.args.account) (account_in c.args.core.now c.args.event.now.did) (Frame.Event c.args.event.now) c.asking.answers c.next_for_event_of_len.result c.requires.cursor c.requires.account c.next_for_event_of_len.ensures;
+  next = next_as c.cursor-cursor.result (cursor_in c.args.core.now c.args.host.now) (state_in c.account_of-account.result) (account_in c.args.core.now c.args.event.now.did) (Frame.Event c.args.event.now) c.asking.answers c.next_for_event_of_len.result c.cursor-cursor.ensures c.account_of-account.ensures c.next_for_event_of_len.ensures;
   last = last_other c.next_for_event_of_len.result c.in_default.not-Ask;
   in_vain = tt;
   moments = tt;
