@@ -227,6 +227,8 @@ impl FileCalls for JournalFile {
 
     ghost made = { λ _. [] };
 
+    ghost size_told = { λ _. 0 };
+
     fn size(&mut self) -> io::Result<u64> {
         self.reported(self.len())
     }

@@ -9,7 +9,8 @@ use crate::disk::SIZES;
 use crate::{Call, Disk, Failed, FileCalls};
 use std::io;
 
-/// A disk on one file. A call answers `Failed` where the file does, and where a place or a size isn't inside.
+/// A disk on one file. A call answers `Failed` where the file does. A write at a place past the end, and a cut to a size past it,
+/// answer `Failed`, too: the place and the size are compared with the size that the file gives.
 #[derive(Drop)]
 pub struct FileDisk<F: FileCalls> {
     file: F,
@@ -33,7 +34,8 @@ fn answered<T>(answer: io::Result<T>) -> Result<T, Failed> {
 
 // Fails where a place is past the end.
 fn check_inside<F: FileCalls>(file: &mut F, place: u64) -> Result<(), Failed>
-    ensures { IsTrue F.tells → F.made file.new ≡ F.made file.old ++ Call.Size ∷ [] }
+    ensures made { IsTrue F.tells → F.made file.new ≡ F.made file.old ++ Call.Size ∷ [] }
+    ensures inside { OnOk result (IsTrue F.tells → place ≤ F.size_told file.new) }
 {
     if answered(file.size())? < place {
         return Err(Failed);
@@ -42,16 +44,18 @@ fn check_inside<F: FileCalls>(file: &mut F, place: u64) -> Result<(), Failed>
 }
 
 fn write_inside<F: FileCalls>(file: &mut F, place: u64, piece: &[u8]) -> Result<(), Failed>
-    ensures { OnOk result (IsTrue F.tells → F.made file.new ≡ F.made file.old
+    ensures made { OnOk result (IsTrue F.tells → F.made file.new ≡ F.made file.old
         ++ Call.Size ∷ (Call.Write place (length piece.now) ∷ [])) }
+    ensures inside { OnOk result (IsTrue F.tells → place ≤ F.size_told file.new) }
 {
     check_inside(file, place)?;
     answered(file.write_at(place, piece))
 }
 
 fn cut_inside<F: FileCalls>(file: &mut F, size: u64) -> Result<(), Failed>
-    ensures { OnOk result
+    ensures made { OnOk result
         (IsTrue F.tells → F.made file.new ≡ F.made file.old ++ Call.Size ∷ (Call.Cut size ∷ [])) }
+    ensures inside { OnOk result (IsTrue F.tells → size ≤ F.size_told file.new) }
 {
     check_inside(file, size)?;
     answered(file.cut(size))
@@ -103,6 +107,7 @@ impl<F: FileCalls> Disk for FileDisk<F> {
         ensures failed { OnErr result (Rose self.old.faults self.new.faults) }
         ensures calls { OnOk result (IsTrue F.tells → F.made self.new.file ≡ F.made self.old.file
             ++ Call.Size ∷ (Call.Write place (length piece.now) ∷ [])) }
+        ensures inside { OnOk result (IsTrue F.tells → place ≤ F.size_told self.new.file) }
     {
         let answer = write_inside(&mut self.file, place, piece);
         counted(&mut self.faults, answer)
@@ -116,6 +121,7 @@ impl<F: FileCalls> Disk for FileDisk<F> {
         ensures failed { OnErr result (Rose self.old.faults self.new.faults) }
         ensures calls { OnOk result (IsTrue F.tells
             → F.made self.new.file ≡ F.made self.old.file ++ Call.Size ∷ (Call.Cut size ∷ [])) }
+        ensures inside { OnOk result (IsTrue F.tells → size ≤ F.size_told self.new.file) }
     {
         let answer = cut_inside(&mut self.file, size);
         counted(&mut self.faults, answer)
